@@ -1,0 +1,10 @@
+use crate::text::Text;
+
+/// A file in memory (own).
+#[derive(Debug, Drop)]
+pub struct HeldFile {
+    /// The name under which it is fetched.
+    pub name: Text,
+    /// Its bytes.
+    pub bytes: Text,
+}
