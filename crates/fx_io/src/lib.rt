@@ -1,4 +1,11 @@
-//! The ground that every other crate stands on: lists, boxes and texts that contracts see as plain data.
+//! The ground that every other crate stands on, in three parts.
+//!
+//! - Plain data: `Sequence`, `Boxed` and `Text`, which contracts see as a list, a value and bytes.
+//! - `Shelf` and `Sink`: where files come from and where bytes go. Each counts its faults, and a
+//!   fault is answered only where the count rose in the call (`specs/Shelf.antt`, `specs/Sink.antt`,
+//!   `specs/Cause.antt`). `put_all` puts bytes to the last or leaves a proper prefix.
+//! - Their forms: in memory for tests (`MemShelf`, `MemSink`, `specs/Memory.antt`), and over the
+//!   system's files and streams (`FileShelf`, `OutSink`, `ErrSink`), which tell no content.
 #![tactic(auto)]
 
 mod adapters;
@@ -22,3 +29,6 @@ pub use sequence::{Cells, Flags, Longs, Periods, PortSizes, Sequence, Sizes, Tex
 pub use shelf::{FetchFault, Shelf};
 pub use sink::{PutFault, Sink, put_all};
 pub use text::Text;
+
+#[cfg(test)]
+mod tests;
