@@ -1,0 +1,8 @@
+//! The Verilog subset: modules as data, and what they mean.
+#![tactic(auto)]
+
+mod expressions;
+mod modules;
+
+pub use expressions::{BinOp, Expr, Exprs, ShiftOp, Sized, UnOp};
+pub use modules::{Attr, Attrs, ModItem, ModItems, Module, Port, Ports};
