@@ -53,7 +53,10 @@ pub enum ModItem {
         name: Text,
     },
     /// A continuous assignment (IEEE 1364-2005, 6.1).
-    Assign { name: Text, value: Expr },
+    Assign {
+        name: Text,
+        value: Expr,
+    },
     /// What a register takes at a rising edge of `clk` (IEEE 1364-2005, 9.9.2 and 9.2.2): `first` where
     /// `reset` is 1, else `value` where the condition isn't 0 or there is none, else what it has.
     Always {

@@ -1,0 +1,116 @@
+-- The one written text of a module: single spaces between tokens, numbers without leading zeros and
+-- in base ten, each port, item and list of attributes on a line of its own (own; the tokens are those
+-- of IEEE 1364-2005).
+use Rattle.std.specs.Prelude.{ℕ, ◌-◌, ◌==◌, Bool, true, false, if◌then◌else◌, List, [], ◌∷◌, ◌++◌, map, Option, Some, None, codes}
+use Rattle.std.specs.List.{flat_map}
+use Rattle.std.specs.Fmt.{decimal}
+use Rattle.vl_ast.specs.declared.expressions.Sized.{Sized}
+use Rattle.vl_ast.specs.declared.expressions.UnOp.{UnOp}
+use Rattle.vl_ast.specs.declared.expressions.UnOp.TheVariants.{Negate, Invert, IsZero}
+use Rattle.vl_ast.specs.declared.expressions.BinOp.{BinOp}
+use Rattle.vl_ast.specs.declared.expressions.BinOp.TheVariants.{Add, Subtract, Multiply, And, Or, Xor, Equal, NotEqual, Less, LessEqual, Greater, GreaterEqual, Both, Either}
+use Rattle.vl_ast.specs.declared.expressions.ShiftOp.{ShiftOp}
+use Rattle.vl_ast.specs.declared.expressions.ShiftOp.TheVariants.{Left, Right, RightSigned}
+use Rattle.vl_ast.specs.declared.expressions.Expr.{Expr}
+use Rattle.vl_ast.specs.declared.expressions.Expr.TheOpen.{Expr-F}
+use Rattle.vl_ast.specs.declared.expressions.Expr.TheFolds.{fold-Expr}
+use Rattle.vl_ast.specs.declared.modules.Attr.{Attr}
+use Rattle.vl_ast.specs.declared.modules.Port.{Port}
+use Rattle.vl_ast.specs.declared.modules.ModItem.{ModItem}
+use Rattle.vl_ast.specs.declared.modules.ModItem.TheVariants.{Wire, Reg, Assign, Always}
+use Rattle.vl_ast.specs.declared.modules.Module.{Module}
+
+-- the texts in order, with the separator between each two
+abbrev pub joined : List ℕ → List (List ℕ) → List ℕ
+joined separator [] = []
+joined separator (text ∷ texts) = text ++ flat_map (λ more. separator ++ more) texts
+
+abbrev pub unary_text : UnOp → List ℕ
+unary_text Negate = codes "-"
+unary_text Invert = codes "~"
+unary_text IsZero = codes "!"
+
+abbrev pub binary_text : BinOp → List ℕ
+binary_text Add = codes "+"
+binary_text Subtract = codes "-"
+binary_text Multiply = codes "*"
+binary_text And = codes "&"
+binary_text Or = codes "|"
+binary_text Xor = codes "^"
+binary_text Equal = codes "=="
+binary_text NotEqual = codes "!="
+binary_text Less = codes "<"
+binary_text LessEqual = codes "<="
+binary_text Greater = codes ">"
+binary_text GreaterEqual = codes ">="
+binary_text Both = codes "&&"
+binary_text Either = codes "||"
+
+abbrev pub shift_text : ShiftOp → List ℕ
+shift_text Left = codes "<<"
+shift_text Right = codes ">>"
+shift_text RightSigned = codes ">>>"
+
+-- a based number, as 16'sd7
+abbrev pub sized_text : Sized → List ℕ
+sized_text number =
+    decimal number.width ++ codes "'" ++ (if number.signed then codes "s" else []) ++ codes "d" ++ decimal number.bits
+
+-- an expression, where those of its operands are written already
+abbrev pub expr_step : Expr-F (List ℕ) → List ℕ
+expr_step (Expr-F.Name name) = name
+expr_step (Expr-F.Bit name place) = name ++ codes " [" ++ decimal place ++ codes "]"
+expr_step (Expr-F.Part name high low) = name ++ codes " [" ++ decimal high ++ codes ":" ++ decimal low ++ codes "]"
+expr_step (Expr-F.Literal number) = sized_text number
+expr_step (Expr-F.Concat parts) = codes "{" ++ joined (codes ", ") parts ++ codes "}"
+expr_step (Expr-F.Repeat count part) = codes "{" ++ decimal count ++ codes " {" ++ part ++ codes "}}"
+expr_step (Expr-F.AsSigned part) = codes "$signed (" ++ part ++ codes ")"
+expr_step (Expr-F.AsUnsigned part) = codes "$unsigned (" ++ part ++ codes ")"
+expr_step (Expr-F.Unary op part) = codes "(" ++ unary_text op ++ codes " " ++ part ++ codes ")"
+expr_step (Expr-F.Binary op left right) =
+    codes "(" ++ left ++ codes " " ++ binary_text op ++ codes " " ++ right ++ codes ")"
+expr_step (Expr-F.Shift op part amount) =
+    codes "(" ++ part ++ codes " " ++ shift_text op ++ codes " " ++ sized_text amount ++ codes ")"
+expr_step (Expr-F.Choose test yes' no') = codes "(" ++ test ++ codes " ? " ++ yes' ++ codes " : " ++ no' ++ codes ")"
+
+abbrev pub expr_text : Expr → List ℕ
+expr_text = fold-Expr (List ℕ) expr_step
+
+abbrev pub signed_text : Bool → List ℕ
+signed_text signed = if signed then codes "signed " else []
+
+-- one bit has no range
+abbrev pub range_text : ℕ → List ℕ
+range_text width = if width == 1 then [] else codes "[" ++ decimal (width - 1) ++ codes ":0] "
+
+abbrev pub attr_text : Attr → List ℕ
+attr_text attr = attr.name ++ codes " = " ++ decimal attr.value
+
+-- a line of attributes, where there are some
+abbrev pub attrs_text : List ℕ → List Attr → List ℕ
+attrs_text indent [] = []
+attrs_text indent (attr ∷ attrs) =
+    indent ++ codes "(* " ++ joined (codes ", ") (map attr_text (attr ∷ attrs)) ++ codes " *)\n"
+
+abbrev pub port_text : Port → List ℕ
+port_text port =
+    attrs_text (codes "  ") port.attrs ++ (if port.input then codes "  input wire " else codes "  output wire ")
+    ++ signed_text port.signed ++ range_text port.width ++ port.name
+
+-- the condition of a clocked item, with the blank after it
+abbrev pub condition_text : Option Expr → List ℕ
+condition_text None = []
+condition_text (Some condition) = codes "if (" ++ expr_text condition ++ codes ") "
+
+abbrev pub item_text : ModItem → List ℕ
+item_text (Wire signed width name) = codes "wire " ++ signed_text signed ++ range_text width ++ name ++ codes ";\n"
+item_text (Reg signed width name) = codes "reg " ++ signed_text signed ++ range_text width ++ name ++ codes ";\n"
+item_text (Assign name value) = codes "assign " ++ name ++ codes " = " ++ expr_text value ++ codes ";\n"
+item_text (Always name first condition value) =
+    codes "always @ (posedge clk) begin if (reset) " ++ name ++ codes " <= " ++ sized_text first ++ codes "; else "
+    ++ condition_text condition ++ name ++ codes " <= " ++ expr_text value ++ codes "; end\n"
+
+abbrev pub spelling : Module → List ℕ
+spelling m =
+    attrs_text [] m.attrs ++ codes "module " ++ m.name ++ codes " (\n" ++ joined (codes ",\n") (map port_text m.ports)
+    ++ codes "\n);\n" ++ flat_map item_text m.items ++ codes "endmodule\n"
