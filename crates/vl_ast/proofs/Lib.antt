@@ -1,1 +1,2 @@
 mod Header
+mod Values

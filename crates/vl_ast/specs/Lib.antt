@@ -1,1 +1,9 @@
+pub mod Attributes
+pub mod Conditions
+pub mod Context
+pub mod Driven
+pub mod Multiplications
+pub mod Nets
+pub mod Runs
 pub mod Spelling
+pub mod Value

@@ -1,0 +1,25 @@
+-- The numbers that a module and its ports carry as attributes (IEEE 1364-2005, 3.8; the names are own).
+use Rattle.std.specs.Prelude.{ℕ, nat_le, Bool, ◌&&◌, if◌then◌else◌, List, find, bytes_eq, codes, Option, Some, None}
+use Rattle.vl_ast.specs.declared.modules.Attr.{Attr}
+use Rattle.vl_ast.specs.declared.modules.Port.{Port}
+use Rattle.vl_ast.specs.declared.modules.Module.{Module}
+
+abbrev pub value_between : ℕ → ℕ → Option Attr → Option ℕ
+value_between low high None = None
+value_between low high (Some attr) = if nat_le low attr.value && nat_le attr.value high then Some attr.value else None
+
+-- the number of the first attribute of a name, where it is in the range
+abbrev pub attribute : List Attr → List ℕ → ℕ → ℕ → Option ℕ
+attribute attrs name low high = value_between low high (find (λ attr. bytes_eq attr.name name) attrs)
+
+-- how many clocks a base sample takes
+abbrev pub cycles_of : Module → Option ℕ
+cycles_of m = attribute m.attrs (codes "fx_cycles") 1 1024
+
+-- the period of a port in base samples
+abbrev pub period_of : Port → Option ℕ
+period_of port = attribute port.attrs (codes "fx_period") 1 4096
+
+-- how many clocks an output comes after its sample
+abbrev pub latency_of : Port → Option ℕ
+latency_of port = attribute port.attrs (codes "fx_latency") 0 16777216
