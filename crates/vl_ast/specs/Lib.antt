@@ -2,8 +2,11 @@ pub mod Attributes
 pub mod Conditions
 pub mod Context
 pub mod Driven
+pub mod Grammar
 pub mod Multiplications
 pub mod Nets
+pub mod Reserved
 pub mod Runs
 pub mod Spelling
+pub mod Tokens
 pub mod Value

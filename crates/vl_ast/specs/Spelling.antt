@@ -20,10 +20,10 @@ use Rattle.vl_ast.specs.declared.modules.ModItem.{ModItem}
 use Rattle.vl_ast.specs.declared.modules.ModItem.TheVariants.{Wire, Reg, Assign, Always}
 use Rattle.vl_ast.specs.declared.modules.Module.{Module}
 
--- the texts in order, with the separator between each two
-abbrev pub joined : List ℕ → List (List ℕ) → List ℕ
+-- the parts in order, with the separator between each two
+abbrev pub joined : {A : Type 0} → List A → List (List A) → List A
 joined separator [] = []
-joined separator (text ∷ texts) = text ++ flat_map (λ more. separator ++ more) texts
+joined separator (part ∷ parts) = part ++ flat_map (λ more. separator ++ more) parts
 
 abbrev pub unary_text : UnOp → List ℕ
 unary_text Negate = codes "-"
@@ -71,7 +71,8 @@ expr_step (Expr-F.Binary op left right) =
     codes "(" ++ left ++ codes " " ++ binary_text op ++ codes " " ++ right ++ codes ")"
 expr_step (Expr-F.Shift op part amount) =
     codes "(" ++ part ++ codes " " ++ shift_text op ++ codes " " ++ sized_text amount ++ codes ")"
-expr_step (Expr-F.Choose test yes' no') = codes "(" ++ test ++ codes " ? " ++ yes' ++ codes " : " ++ no' ++ codes ")"
+expr_step (Expr-F.Choose test chosen other) =
+    codes "(" ++ test ++ codes " ? " ++ chosen ++ codes " : " ++ other ++ codes ")"
 
 abbrev pub expr_text : Expr → List ℕ
 expr_text = fold-Expr (List ℕ) expr_step
