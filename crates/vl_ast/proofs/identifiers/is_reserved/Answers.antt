@@ -1,0 +1,4 @@
+use Rattle.vl_ast.proofs.identifiers.is_reserved.Goals as goal
+
+pub returns : goal.returns
+returns c = c.is_among.ensures

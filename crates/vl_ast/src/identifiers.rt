@@ -1,0 +1,170 @@
+ghost use Rattle.std.specs.Prelude.{◌≡◌, ◌==◌, ◌||◌, bytes_eq};
+ghost use Rattle.std.specs.List.{list_any, list_all};
+ghost use Rattle.std.specs.Char.{is_ascii_alphabetic, is_ascii_alphanumeric};
+ghost use Rattle.vl_ast.specs.Reserved.{reserved};
+ghost use Rattle.vl_ast.specs.Tokens.{is_identifier};
+
+/// The reserved words (IEEE 1364-2005, annex B).
+const RESERVED: [&str; 124] = [
+    "always",
+    "and",
+    "assign",
+    "automatic",
+    "begin",
+    "buf",
+    "bufif0",
+    "bufif1",
+    "case",
+    "casex",
+    "casez",
+    "cell",
+    "cmos",
+    "config",
+    "deassign",
+    "default",
+    "defparam",
+    "design",
+    "disable",
+    "edge",
+    "else",
+    "end",
+    "endcase",
+    "endconfig",
+    "endfunction",
+    "endgenerate",
+    "endmodule",
+    "endprimitive",
+    "endspecify",
+    "endtable",
+    "endtask",
+    "event",
+    "for",
+    "force",
+    "forever",
+    "fork",
+    "function",
+    "generate",
+    "genvar",
+    "highz0",
+    "highz1",
+    "if",
+    "ifnone",
+    "incdir",
+    "include",
+    "initial",
+    "inout",
+    "input",
+    "instance",
+    "integer",
+    "join",
+    "large",
+    "liblist",
+    "library",
+    "localparam",
+    "macromodule",
+    "medium",
+    "module",
+    "nand",
+    "negedge",
+    "nmos",
+    "nor",
+    "noshowcancelled",
+    "not",
+    "notif0",
+    "notif1",
+    "or",
+    "output",
+    "parameter",
+    "pmos",
+    "posedge",
+    "primitive",
+    "pull0",
+    "pull1",
+    "pulldown",
+    "pullup",
+    "pulsestyle_ondetect",
+    "pulsestyle_onevent",
+    "rcmos",
+    "real",
+    "realtime",
+    "reg",
+    "release",
+    "repeat",
+    "rnmos",
+    "rpmos",
+    "rtran",
+    "rtranif0",
+    "rtranif1",
+    "scalared",
+    "showcancelled",
+    "signed",
+    "small",
+    "specify",
+    "specparam",
+    "strong0",
+    "strong1",
+    "supply0",
+    "supply1",
+    "table",
+    "task",
+    "time",
+    "tran",
+    "tranif0",
+    "tranif1",
+    "tri",
+    "tri0",
+    "tri1",
+    "triand",
+    "trior",
+    "trireg",
+    "unsigned",
+    "use",
+    "uwire",
+    "vectored",
+    "wait",
+    "wand",
+    "weak0",
+    "weak1",
+    "while",
+    "wire",
+    "wor",
+    "xnor",
+    "xor",
+];
+
+/// Whether the bytes are a simple identifier (IEEE 1364-2005, 3.7): a letter or `_`, and then letters,
+/// digits and `_`, and no reserved word.
+pub fn is_identifier(name: &[u8]) -> bool
+    ensures { result ≡ is_identifier name.now }
+{
+    match name {
+        [] => false,
+        [first, others @ ..] => begins_name(*first) && continue_name(others) && !is_reserved(name),
+    }
+}
+
+fn begins_name(byte: u8) -> bool
+    ensures { result ≡ (is_ascii_alphabetic byte || byte == 95) }
+{
+    byte.is_ascii_alphabetic() || byte == b'_'
+}
+
+fn continue_name(bytes: &[u8]) -> bool
+    ensures { result ≡ list_all (λ byte. is_ascii_alphanumeric byte || byte == 95) bytes.now }
+{
+    bytes
+        .iter()
+        .all(|byte| byte.is_ascii_alphanumeric() || *byte == b'_')
+}
+
+fn is_reserved(word: &[u8]) -> bool
+    ensures { result ≡ list_any (bytes_eq word.now) reserved }
+{
+    is_among(word, &RESERVED)
+}
+
+fn is_among(word: &[u8], words: &[&str]) -> bool
+    ensures { result ≡ list_any (λ other. bytes_eq word.now other.now) words.now }
+{
+    words.iter().any(|other| word == other.as_bytes())
+}
