@@ -1,13 +1,13 @@
-// A library with one function.
+//! Writes a module of the Verilog subset as text.
+//!
+//! `write` gives `spelling` of the module, which `vl_ast` defines in `specs/Spelling.antt`.
 #![tactic(auto)]
 
-ghost use Rattle.std.specs.Prelude.{◌≡◌};
-ghost use Rattle.vl_write.specs.Echo.{echo_of};
+mod attributes;
+mod expressions;
+mod items;
+mod pieces;
+mod ports;
+mod writing;
 
-// The `ensures` clause is the contract: what `echo` returns is `echo_of` of its argument, a definition
-// in `specs/Echo.antt`, which a caller's clause can cite too.
-pub fn echo(x: usize) -> usize
-    ensures { result ≡ echo_of x }
-{
-    x
-}
+pub use writing::write;

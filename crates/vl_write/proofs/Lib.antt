@@ -1,0 +1,3 @@
+pub mod Appended
+pub mod Forms
+pub mod Joined

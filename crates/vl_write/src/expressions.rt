@@ -1,0 +1,149 @@
+ghost use Rattle.std.specs.Prelude.{◌≡◌, ◌++◌, OnOk, map, codes, decimal};
+ghost use Rattle.vl_ast.specs.Spelling.{joined, expr_text, unary_text, binary_text, shift_text};
+
+use crate::pieces::{put, put_number, put_sized};
+use fx_io::OutOfMemory;
+use vl_ast::{BinOp, Expr, ShiftOp, UnOp};
+
+fn unary_sign(op: UnOp) -> &'static [u8]
+    ensures { result.now ≡ codes "(" ++ unary_text op ++ codes " " }
+{
+    match op {
+        UnOp::Negate => b"(- ",
+        UnOp::Invert => b"(~ ",
+        UnOp::IsZero => b"(! ",
+    }
+}
+
+fn binary_sign(op: BinOp) -> &'static [u8]
+    ensures { result.now ≡ codes " " ++ binary_text op ++ codes " " }
+{
+    match op {
+        BinOp::Add => b" + ",
+        BinOp::Subtract => b" - ",
+        BinOp::Multiply => b" * ",
+        BinOp::And => b" & ",
+        BinOp::Or => b" | ",
+        BinOp::Xor => b" ^ ",
+        BinOp::Equal => b" == ",
+        BinOp::NotEqual => b" != ",
+        BinOp::Less => b" < ",
+        BinOp::LessEqual => b" <= ",
+        BinOp::Greater => b" > ",
+        BinOp::GreaterEqual => b" >= ",
+        BinOp::Both => b" && ",
+        BinOp::Either => b" || ",
+    }
+}
+
+fn shift_sign(op: ShiftOp) -> &'static [u8]
+    ensures { result.now ≡ codes " " ++ shift_text op ++ codes " " }
+{
+    match op {
+        ShiftOp::Left => b" << ",
+        ShiftOp::Right => b" >> ",
+        ShiftOp::RightSigned => b" >>> ",
+    }
+}
+
+fn put_bit(out: &mut Vec<u8>, name: &[u8], place: u32) -> Result<(), OutOfMemory>
+    ensures { OnOk result (out.new.items ≡ out.old.items ++ (name.now ++ codes " [" ++ decimal place ++ codes "]")) }
+{
+    put(out, name)?;
+    put(out, b" [")?;
+    put_number(out, u128::from(place))?;
+    put(out, b"]")
+}
+
+fn put_part(out: &mut Vec<u8>, name: &[u8], high: u32, low: u32) -> Result<(), OutOfMemory>
+    ensures { OnOk result (out.new.items ≡ out.old.items ++ (name.now ++ codes " [" ++ decimal high ++ codes ":" ++ decimal low ++ codes "]")) }
+{
+    put(out, name)?;
+    put(out, b" [")?;
+    put_number(out, u128::from(high))?;
+    put(out, b":")?;
+    put_number(out, u128::from(low))?;
+    put(out, b"]")
+}
+
+fn put_count(out: &mut Vec<u8>, count: u32) -> Result<(), OutOfMemory>
+    ensures { OnOk result (out.new.items ≡ out.old.items ++ (codes "{" ++ decimal count ++ codes " {")) }
+{
+    put(out, b"{")?;
+    put_number(out, u128::from(count))?;
+    put(out, b" {")
+}
+
+/// Puts an expression. The recursion is as deep as the expression nests.
+#[cycle(expression)]
+pub fn put_expr(out: &mut Vec<u8>, e: &Expr) -> Result<(), OutOfMemory>
+    ensures { OnOk result (out.new.items ≡ out.old.items ++ expr_text e.now) }
+{
+    match e {
+        Expr::Name(name) => put(out, name.bytes()),
+        Expr::Bit(name, place) => put_bit(out, name.bytes(), *place),
+        Expr::Part(name, high, low) => put_part(out, name.bytes(), *high, *low),
+        Expr::Literal(number) => put_sized(out, number),
+        Expr::Concat(parts) => {
+            put(out, b"{")?;
+            put_parts(out, parts.as_slice())?;
+            put(out, b"}")
+        }
+        Expr::Repeat(count, part) => {
+            put_count(out, *count)?;
+            put_expr_and(out, part.get(), b"}}")
+        }
+        Expr::AsSigned(part) => {
+            put(out, b"$signed (")?;
+            put_expr_and(out, part.get(), b")")
+        }
+        Expr::AsUnsigned(part) => {
+            put(out, b"$unsigned (")?;
+            put_expr_and(out, part.get(), b")")
+        }
+        Expr::Unary(op, part) => {
+            put(out, unary_sign(*op))?;
+            put_expr_and(out, part.get(), b")")
+        }
+        Expr::Binary(op, left, right) => {
+            put(out, b"(")?;
+            put_expr_and(out, left.get(), binary_sign(*op))?;
+            put_expr_and(out, right.get(), b")")
+        }
+        Expr::Shift(op, part, amount) => {
+            put(out, b"(")?;
+            put_expr_and(out, part.get(), shift_sign(*op))?;
+            put_sized(out, amount)?;
+            put(out, b")")
+        }
+        Expr::Choose(test, chosen, other) => {
+            put(out, b"(")?;
+            put_expr_and(out, test.get(), b" ? ")?;
+            put_expr_and(out, chosen.get(), b" : ")?;
+            put_expr_and(out, other.get(), b")")
+        }
+    }
+}
+
+#[cycle(expression)]
+fn put_expr_and(out: &mut Vec<u8>, e: &Expr, after: &[u8]) -> Result<(), OutOfMemory>
+    ensures { OnOk result (out.new.items ≡ out.old.items ++ (expr_text e.now ++ after.now)) }
+{
+    put_expr(out, e)?;
+    put(out, after)
+}
+
+#[cycle(expression)]
+fn put_parts(out: &mut Vec<u8>, parts: &[Expr]) -> Result<(), OutOfMemory>
+    ensures { OnOk result (out.new.items ≡ out.old.items ++ joined (codes ", ") (map expr_text parts.now)) }
+{
+    let Some((first, others)) = parts.split_first() else {
+        return Ok(());
+    };
+    put_expr(out, first)?;
+    for part in others {
+        put(out, b", ")?;
+        put_expr(out, part)?;
+    }
+    Ok(())
+}

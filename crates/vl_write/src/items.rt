@@ -1,0 +1,100 @@
+ghost use Rattle.std.specs.Prelude.{◌≡◌, ◌++◌, OnOk, flat_map, codes};
+ghost use Rattle.vl_ast.specs.Spelling.{item_text, condition_text, expr_text, sized_text, signed_text, range_text};
+
+use crate::expressions::put_expr;
+use crate::pieces::{put, put_range, put_signed, put_sized};
+use fx_io::OutOfMemory;
+use vl_ast::{Expr, ModItem, Sized};
+
+fn put_net(
+    out: &mut Vec<u8>,
+    word: &[u8],
+    signed: bool,
+    width: u32,
+    name: &[u8],
+) -> Result<(), OutOfMemory>
+    ensures { OnOk result (out.new.items ≡ out.old.items ++ (word.now ++ signed_text signed ++ range_text width ++ name.now ++ codes ";\n")) }
+{
+    put(out, word)?;
+    put_signed(out, signed)?;
+    put_range(out, width)?;
+    put(out, name)?;
+    put(out, b";\n")
+}
+
+fn put_condition(out: &mut Vec<u8>, condition: &Option<Expr>) -> Result<(), OutOfMemory>
+    ensures { OnOk result (out.new.items ≡ out.old.items ++ condition_text condition.now) }
+{
+    match condition {
+        None => Ok(()),
+        Some(condition) => {
+            put(out, b"if (")?;
+            put_expr(out, condition)?;
+            put(out, b") ")
+        }
+    }
+}
+
+fn put_reset(out: &mut Vec<u8>, name: &[u8], first: &Sized) -> Result<(), OutOfMemory>
+    ensures { OnOk result (out.new.items ≡ out.old.items
+        ++ (codes "always @ (posedge clk) begin if (reset) " ++ name.now ++ codes " <= " ++ sized_text first.now ++ codes "; else ")) }
+{
+    put(out, b"always @ (posedge clk) begin if (reset) ")?;
+    put(out, name)?;
+    put(out, b" <= ")?;
+    put_sized(out, first)?;
+    put(out, b"; else ")
+}
+
+fn put_next(out: &mut Vec<u8>, name: &[u8], value: &Expr) -> Result<(), OutOfMemory>
+    ensures { OnOk result (out.new.items ≡ out.old.items ++ (name.now ++ codes " <= " ++ expr_text value.now ++ codes "; end\n")) }
+{
+    put(out, name)?;
+    put(out, b" <= ")?;
+    put_expr(out, value)?;
+    put(out, b"; end\n")
+}
+
+fn put_item(out: &mut Vec<u8>, item: &ModItem) -> Result<(), OutOfMemory>
+    ensures { OnOk result (out.new.items ≡ out.old.items ++ item_text item.now) }
+{
+    match item {
+        ModItem::Wire {
+            signed,
+            width,
+            name,
+        } => put_net(out, b"wire ", *signed, *width, name.bytes()),
+        ModItem::Reg {
+            signed,
+            width,
+            name,
+        } => put_net(out, b"reg ", *signed, *width, name.bytes()),
+        ModItem::Assign { name, value } => {
+            put(out, b"assign ")?;
+            put(out, name.bytes())?;
+            put(out, b" = ")?;
+            put_expr(out, value)?;
+            put(out, b";\n")
+        }
+        ModItem::Always {
+            name,
+            first,
+            condition,
+            value,
+        } => {
+            put_reset(out, name.bytes(), first)?;
+            put_condition(out, condition)?;
+            put_next(out, name.bytes(), value)
+        }
+    }
+}
+
+/// Puts the items, each on a line of its own.
+pub fn put_items(out: &mut Vec<u8>, items: &[ModItem]) -> Result<(), OutOfMemory>
+    ensures { OnOk result (out.new.items ≡ out.old.items ++ flat_map item_text items.now) }
+{
+    for item in items {
+        put_item(out, item)?;
+    }
+    Ok(())
+}

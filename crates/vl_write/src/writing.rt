@@ -1,0 +1,28 @@
+ghost use Rattle.std.specs.Prelude.{◌≡◌, IfOk};
+ghost use Rattle.vl_ast.specs.Spelling.{spelling};
+
+use crate::attributes::put_attrs;
+use crate::items::put_items;
+use crate::pieces::put;
+use crate::ports::put_ports;
+use fx_io::{OutOfMemory, Text};
+use std::alloc::Global;
+use vl_ast::Module;
+
+/// The written text of a module: single spaces between tokens, numbers without leading zeros and in
+/// base ten, each port, item and list of attributes on a line of its own (own). Its time is linear in
+/// the text. The only error is want of memory.
+pub fn write(alloc: Global, module: &Module) -> Result<Text, OutOfMemory>
+    ensures { IfOk result (λ text. text ≡ spelling «module».now) }
+{
+    let mut out = Vec::new(alloc);
+    put_attrs(&mut out, b"", module.attrs.as_slice())?;
+    put(&mut out, b"module ")?;
+    put(&mut out, module.name.bytes())?;
+    put(&mut out, b" (\n")?;
+    put_ports(&mut out, module.ports.as_slice())?;
+    put(&mut out, b"\n);\n")?;
+    put_items(&mut out, module.items.as_slice())?;
+    put(&mut out, b"endmodule\n")?;
+    Ok(Text::from_vec(out))
+}
