@@ -1,0 +1,86 @@
+-- Facts about single bytes, and cases on tests.
+use Rattle.std.proofs.Common.{◌≡◌, ◌≢◌, ℕ, Bool, true, false, cond, ◌⊎◌, inl, inr, Option, Some, None, refl, sym, ◌∙◌, ap, subst, ⊎_elim, eqb-true}
+use Rattle.std.specs.Prelude.{◌&&◌, ◌||◌, ◌==◌}
+use Rattle.std.proofs.lemmas.Bool.{or_cases, true≢false}
+use Rattle.mdl_text.specs.Bytes.{is_blank, is_name_byte}
+
+-- which case a test takes
+pub cond_cases : {X : Type 0} (t : Bool) (x y z : X) → cond t x y ≡ z → ((t ≡ true) × (x ≡ z)) ⊎ ((t ≡ false) × (y ≡ z))
+cond_cases true x y z h = inl (refl, h)
+cond_cases false x y z h = inr (refl, h)
+
+-- an answer that only one case has
+pub cond_some : {X : Type 0} (t : Bool) (x z : X) → cond t (Some x) None ≡ Some z → (t ≡ true) × (x ≡ z)
+cond_some true x z h = (refl, cc)
+cond_some false x z h = cc
+
+-- which of three cases two tests take
+pub two_tests : {X : Type 0} (s t : Bool) (x y z : X) → ((s ≡ true) × (cond s x (cond t y z) ≡ x)) ⊎ (((t ≡ true) × (cond s x (cond t y z) ≡ y)) ⊎ ((s ≡ false) × (t ≡ false) × (cond s x (cond t y z) ≡ z)))
+two_tests true t x y z = inl (refl, refl)
+two_tests false true x y z = inr (inl (refl, refl))
+two_tests false false x y z = inr (inr (refl, refl, refl))
+
+-- a blank is a space, a tab or a carriage return
+pub blank_cases : (P : ℕ → Type 0) (b : ℕ) → is_blank b ≡ true → P 32 → P 9 → P 13 → P b
+unfolding is_blank
+blank_cases P b h space tab return =
+    let at : (n : ℕ) → (b == n) ≡ true → P n → P b = λ n e p. subst P (sym (eqb-true b n e)) p in
+    ⊎_elim
+    (λ two. ⊎_elim (λ e. at 32 e space) (λ e. at 9 e tab) (or_cases (b == 32) (b == 9) two))
+    (λ e. at 13 e return)
+    (or_cases (b == 32 || b == 9) (b == 13) h)
+
+pub blank_no_name : (b : ℕ) → is_blank b ≡ true → is_name_byte b ≡ false
+unfolding is_name_byte
+blank_no_name b h = blank_cases (λ n. is_name_byte n ≡ false) b h refl refl refl
+
+pub name_no_blank : (b : ℕ) → is_name_byte b ≡ true → is_blank b ≡ false
+name_no_blank b h = elim (is_blank b) as (λ t. is_blank b ≡ t → t ≡ false) [ true ↦ λ e. absurd (true≢false (sym h ∙ blank_no_name b e)) | false ↦ λ _. refl ] refl
+
+-- a byte that passes a test is none that fails it
+pub no_byte : (p : ℕ → Bool) (b n : ℕ) → p b ≡ true → p n ≡ false → (b == n) ≡ false
+no_byte p b n h fails = elim (b == n) as (λ t. (b == n) ≡ t → t ≡ false) [ true ↦ λ e. absurd (true≢false (sym h ∙ ap p (eqb-true b n e) ∙ fails)) | false ↦ λ _. refl ] refl
+
+pub quote_no_blank : is_blank 34 ≡ false
+unfolding is_blank
+quote_no_blank = refl
+
+pub bracket_no_blank : is_blank 91 ≡ false
+unfolding is_blank
+bracket_no_blank = refl
+
+pub hash_no_blank : is_blank 35 ≡ false
+unfolding is_blank
+hash_no_blank = refl
+
+pub opening_no_blank : is_blank 123 ≡ false
+unfolding is_blank
+opening_no_blank = refl
+
+pub closing_no_blank : is_blank 125 ≡ false
+unfolding is_blank
+closing_no_blank = refl
+
+pub newline_no_blank : is_blank 10 ≡ false
+unfolding is_blank
+newline_no_blank = refl
+
+pub quote_no_name : is_name_byte 34 ≡ false
+unfolding is_name_byte
+quote_no_name = refl
+
+pub hash_no_name : is_name_byte 35 ≡ false
+unfolding is_name_byte
+hash_no_name = refl
+
+pub opening_no_name : is_name_byte 123 ≡ false
+unfolding is_name_byte
+opening_no_name = refl
+
+pub closing_no_name : is_name_byte 125 ≡ false
+unfolding is_name_byte
+closing_no_name = refl
+
+pub newline_no_name : is_name_byte 10 ≡ false
+unfolding is_name_byte
+newline_no_name = refl

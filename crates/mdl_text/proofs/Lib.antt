@@ -1,0 +1,4 @@
+pub mod Classes
+pub mod Pieces
+pub mod Quotes
+pub mod Scans

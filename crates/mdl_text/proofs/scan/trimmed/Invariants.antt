@@ -1,0 +1,9 @@
+use Rattle.std.proofs.Common.{◌≡◌, ◌+◌, ◌-◌, length, ◌≤◌, take, drop}
+use Rattle.mdl_text.specs.Plain.{trimmed}
+use Rattle.mdl_text.proofs.scan.trimmed.Given as goal
+
+abbrev pub invariant-loop-end : goal.invariant-loop-end
+invariant-loop-end l = (trimmed (take l.end l.bytes) ≡ trimmed l.bytes) × (l.end ≤ length l.bytes)
+
+abbrev pub decreases-loop-end : goal.decreases-loop-end
+decreases-loop-end l = l.end

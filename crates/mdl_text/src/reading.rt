@@ -1,0 +1,54 @@
+ghost use Rattle.std.specs.Prelude.{◌≡◌, ℕ, List, [], ◌∷◌, IfOk};
+ghost use Rattle.mdl_text.specs.Stands.{Stands};
+ghost use Rattle.mdl_text.specs.Prefix.{IsFaultLine, IfSyntax};
+ghost use Rattle.mdl_text.specs.Plain.{run};
+
+use crate::fault::MdlFault;
+use crate::reader::Reader;
+use crate::tree::{Items, Tree};
+use fx_io::OutOfMemory;
+use memchr::memchr;
+use std::alloc::Global;
+
+/// Reads an MDL text into its tree (own, after the files that Simulink writes).
+///
+/// `MdlFault::Syntax` has the line at which the bytes stop being the beginning of an MDL text, counted from 1.
+pub fn read(alloc: Global, bytes: &[u8]) -> Result<Tree, MdlFault>
+    // The tree is the one that the bytes stand for.
+    ensures found { IfOk result (λ tree. Stands bytes.now tree) }
+    // A fault in the text comes only where the bytes stand for no tree.
+    ensures refused { IfSyntax result (λ _. (tree : Tree) → Stands bytes.now tree → ⊥) }
+    ensures line { IfSyntax result (λ line. IsFaultLine bytes.now line) }
+{
+    let mut reader = Reader::new(alloc);
+    let mut rest = bytes;
+    let mut line = 1;
+    while let Some(end) = memchr(b'\n', rest) {
+        match reader.step(alloc, &rest[..end])? {
+            None => return Err(MdlFault::Syntax { line }),
+            Some(next) => reader = next,
+        }
+        rest = &rest[end + 1..];
+        line += 1;
+    }
+    match last_line(reader, alloc, rest)? {
+        None => Err(MdlFault::Syntax { line }),
+        Some(items) => Ok(Tree { items }),
+    }
+}
+
+/// Reads the last line, and gives the items of the whole text. `None` where the text may not end so.
+fn last_line(reader: Reader, alloc: Global, line: &[u8]) -> Result<Option<Items>, OutOfMemory>
+    ensures { IfOk result (λ items. items ≡ run reader (line.now ∷ [])) }
+{
+    match reader.step(alloc, line)? {
+        None => Ok(None),
+        Some(next) => next.finish(),
+    }
+}
+
+/// The bytes of a text stand for at most one tree.
+pub fn unique()
+    ensures { (bytes : List ℕ) (one other : Tree) → Stands bytes one → Stands bytes other → one ≡ other }
+{
+}

@@ -1,0 +1,72 @@
+ghost use Rattle.std.specs.Prelude.{◌≡◌, length, ◌≤◌, IsTrue};
+ghost use Rattle.std.specs.List.{list_all, prefix_len};
+ghost use Rattle.mdl_text.specs.Bytes.{is_blank, is_name_byte};
+ghost use Rattle.mdl_text.specs.Plain.{unblanked, trimmed};
+
+/// Whether a byte is a space, a tab or a carriage return.
+#[tactic(auto, unfolding(crate::specs::Bytes::is_blank))]
+pub fn is_blank(byte: u8) -> bool
+    ensures { result ≡ is_blank byte }
+{
+    byte == b' ' || byte == b'\t' || byte == b'\r'
+}
+
+/// Whether a byte may stand in a name.
+#[tactic(auto, unfolding(crate::specs::Bytes::is_name_byte))]
+fn is_name_byte(byte: u8) -> bool
+    ensures { result ≡ is_name_byte byte }
+{
+    byte.is_ascii_alphabetic()
+        || byte.is_ascii_digit()
+        || byte == b'_'
+        || byte == b'.'
+        || byte == b'$'
+}
+
+/// Whether all are blanks.
+pub fn are_blanks(bytes: &[u8]) -> bool
+    ensures { result ≡ list_all is_blank bytes.now }
+{
+    for byte in bytes {
+        if !is_blank(*byte) {
+            return false;
+        }
+    }
+    true
+}
+
+/// The bytes from the first that is no blank.
+pub fn unblanked(bytes: &[u8]) -> &[u8]
+    ensures { result.now ≡ unblanked bytes.now }
+{
+    for (i, byte) in bytes.iter().enumerate() {
+        if !is_blank(*byte) {
+            return &bytes[i..];
+        }
+    }
+    &bytes[bytes.len()..]
+}
+
+/// The bytes without the blanks at their end.
+pub fn trimmed(bytes: &[u8]) -> &[u8]
+    ensures { result.now ≡ trimmed bytes.now }
+{
+    let mut end = bytes.len();
+    while end > 0 && is_blank(bytes[end - 1]) {
+        end -= 1;
+    }
+    &bytes[..end]
+}
+
+/// How many bytes from the front on may stand in a name.
+pub fn name_length(bytes: &[u8]) -> usize
+    ensures value { result ≡ prefix_len is_name_byte bytes.now }
+    ensures within { result ≤ length bytes.now }
+{
+    for (i, byte) in bytes.iter().enumerate() {
+        if !is_name_byte(*byte) {
+            return i;
+        }
+    }
+    bytes.len()
+}
