@@ -1,5 +1,5 @@
 -- Facts about single bytes, and cases on tests.
-use Rattle.std.proofs.Common.{◌≡◌, ◌≢◌, ℕ, Bool, true, false, cond, ◌⊎◌, inl, inr, Option, Some, None, refl, sym, ◌∙◌, ap, subst, ⊎_elim, eqb-true}
+use Rattle.std.proofs.Common.{◌≡◌, ◌≢◌, ℕ, Bool, true, false, cond, ◌⊎◌, inl, inr, Option, Some, None, refl, sym, ◌∙◌, ap, subst, ⊎_elim, eqb-true, arith}
 use Rattle.std.specs.Prelude.{◌&&◌, ◌||◌, ◌==◌}
 use Rattle.std.proofs.lemmas.Bool.{or_cases, true≢false}
 use Rattle.mdl_text.specs.Bytes.{is_blank, is_name_byte}
@@ -84,3 +84,18 @@ closing_no_name = refl
 pub newline_no_name : is_name_byte 10 ≡ false
 unfolding is_name_byte
 newline_no_name = refl
+
+pub bracket_no_brace : ◌≢◌ {A = ℕ} 91 123
+bracket_no_brace e = omega (arith, e)
+
+pub quote_no_brace : ◌≢◌ {A = ℕ} 34 123
+quote_no_brace e = omega (arith, e)
+
+pub newline_no_quote : ◌≢◌ {A = ℕ} 10 34
+newline_no_quote e = omega (arith, e)
+
+pub newline_no_opening : ◌≢◌ {A = ℕ} 10 91
+newline_no_opening e = omega (arith, e)
+
+pub newline_no_closing : ◌≢◌ {A = ℕ} 10 93
+newline_no_closing e = omega (arith, e)

@@ -62,7 +62,7 @@ outside_blanks (b ∷ bs) said rest h =
     let parts = and_parts (is_blank b) (list_all is_blank bs) h in
     ap (after_step (bs ++ rest)) (blank_step said b parts.0) ∙ outside_blanks bs said rest parts.1
 
-quote_shape : (chars : List Char) (after rest : List ℕ) → (quoted chars ++ after) ++ rest ≡ 34 ∷ (flat_map char_bytes chars ++ 34 ∷ (after ++ rest))
+pub quote_shape : (chars : List Char) (after rest : List ℕ) → (quoted chars ++ after) ++ rest ≡ 34 ∷ (flat_map char_bytes chars ++ 34 ∷ (after ++ rest))
 quote_shape chars after rest = ap (λ l. 34 ∷ l) (ap (λ l. l ++ rest) (append_assoc (flat_map char_bytes chars) (34 ∷ []) after) ∙ append_assoc (flat_map char_bytes chars) (34 ∷ after) rest)
 
 -- strings are read as what they say

@@ -1,5 +1,5 @@
 -- Blanks at the end of a value.
-use Rattle.std.proofs.Common.{◌≡◌, ℕ, ◌+◌, ◌<◌, ◌-◌, ◌≤◌, length, get_or, take, drop, Bool, true, false, cond, List, [], ◌∷◌, ◌++◌, refl, sym, ◌∙◌, ap, arith, one-add, append-nil}
+use Rattle.std.proofs.Common.{◌≡◌, ℕ, ◌+◌, ◌<◌, ◌-◌, ◌≤◌, length, get_or, take, drop, Bool, true, false, cond, List, [], ◌∷◌, ◌++◌, refl, sym, ◌∙◌, ap, arith, one-add, append-nil, append_assoc, true≢false}
 use Rattle.std.specs.Prelude.{◌&&◌}
 use Rattle.std.specs.List.{list_all, prefix_len}
 use Rattle.std.proofs.lemmas.Bool.{and_parts}
@@ -121,3 +121,61 @@ name_stops (b ∷ bs) = elim (is_name_byte b) as (λ t. is_name_byte b ≡ t →
       true ↦ λ e. rw (one-add) (name_stops bs)
     | false ↦ λ e. e
     ] refl
+
+-- blanks alone leave nothing
+trimmed_none : (bytes : List ℕ) → AreBlanks bytes → trimmed bytes ≡ []
+trimmed_none [] h = refl
+trimmed_none (b ∷ bs) h = ap (λ t. cond t [] (b ∷ trimmed bs)) h
+
+-- the blanks at the end, and what stands before them
+pub record Trim (bytes : List ℕ) : Type 0 where
+  pub after : List ℕ
+  pub blanks : AreBlanks after
+  pub form : bytes ≡ trimmed bytes ++ after
+
+pub trim_split : (bytes : List ℕ) → Trim bytes
+trim_split [] = record { after = []; blanks = refl; form = refl }
+trim_split (b ∷ bs) =
+    let more = trim_split bs in
+    elim (list_all is_blank (b ∷ bs)) as (λ t. list_all is_blank (b ∷ bs) ≡ t → Trim (b ∷ bs)) [
+      true ↦ λ e. record { after = b ∷ bs; blanks = e; form = sym (ap (λ l. l ++ b ∷ bs) (trimmed_none (b ∷ bs) e)) }
+    | false ↦ λ e. record { after = more.after; blanks = more.blanks; form = ap (λ l. b ∷ l) more.form ∙ sym (ap (λ t. cond t [] (b ∷ trimmed bs) ++ more.after) e) }
+    ] refl
+
+-- what is left ends with no blank
+pub record TrimEnd (bytes : List ℕ) : Type 0 where
+  pub front : List ℕ
+  pub last : ℕ
+  pub form : trimmed bytes ≡ front ++ last ∷ []
+  pub stays : is_blank last ≡ false
+
+pub trim_end : (bytes : List ℕ) → list_all is_blank bytes ≡ false → TrimEnd bytes
+trim_end [] h = absurd (true≢false h)
+trim_end (b ∷ bs) h = elim (list_all is_blank bs) as (λ t. list_all is_blank bs ≡ t → TrimEnd (b ∷ bs)) [
+      true ↦ λ e. record {
+        front = [];
+        last = b;
+        form = ap (λ t. cond t [] (b ∷ trimmed bs)) h ∙ ap (λ l. b ∷ l) (trimmed_none bs e);
+        stays = sym (and_true (is_blank b)) ∙ ap (λ t. is_blank b && t) (sym e) ∙ h;
+      }
+    | false ↦ λ e. let more = trim_end bs e in record {
+        front = b ∷ more.front;
+        last = more.last;
+        form = ap (λ t. cond t [] (b ∷ trimmed bs)) h ∙ ap (λ l. b ∷ l) more.form;
+        stays = more.stays;
+      }
+    ] refl
+
+-- a byte that is no blank stays in front
+pub trimmed_first : (b : ℕ) (bs : List ℕ) → is_blank b ≡ false → trimmed (b ∷ bs) ≡ b ∷ trimmed bs
+trimmed_first b bs h = ap (λ t. cond (t && list_all is_blank bs) [] (b ∷ trimmed bs)) h
+
+trimmed_after : (l after : List ℕ) → AreBlanks after → trimmed (l ++ after) ≡ trimmed l
+trimmed_after [] after h = trimmed_none after h
+trimmed_after (x ∷ l) after h =
+    ap (λ t. cond (is_blank x && t) [] (x ∷ trimmed (l ++ after))) (list_all-append is_blank l after ∙ ap (λ t. list_all is_blank l && t) h ∙ and_true _)
+    ∙ ap (λ r. cond (is_blank x && list_all is_blank l) [] (x ∷ r)) (trimmed_after l after h)
+
+-- a value with blanks after it is left alone
+pub trimmed_value : (front : List ℕ) (last : ℕ) (after : List ℕ) → AreBlanks after → is_blank last ≡ false → trimmed ((front ++ last ∷ []) ++ after) ≡ front ++ last ∷ []
+trimmed_value front last after blanks stays = trimmed_after (front ++ last ∷ []) after blanks ∙ trimmed_kept front last stays
