@@ -116,7 +116,7 @@ fresh_bare draft line name value bare =
     ∙ ap (λ v. Some (free (added draft name (Bare v)))) trim
 
 -- the step of a line that goes on with nothing
-run_free : (draft : Draft) (line : List ℕ) (next : Reader) (lines : List (List ℕ)) → fresh draft line ≡ Some next → run (free draft) (line ∷ lines) ≡ run next lines
+pub run_free : (draft : Draft) (line : List ℕ) (next : Reader) (lines : List (List ℕ)) → fresh draft line ≡ Some next → run (free draft) (line ∷ lines) ≡ run next lines
 unfolding step
 run_free draft line next lines e = ap (λ o. option_and_then (λ next. run next lines) o) e
 
@@ -132,10 +132,10 @@ strings_first bytes value are = of are.quotes are.nonempty are.form
 strings_read : (said bytes value : List ℕ) → AreStrings bytes value → strings_from said bytes ≡ Some (said ++ value)
 strings_read said bytes value are = ap (strings Outside said) are.form ∙ outside_quotes are.quotes said are.each ∙ ap (λ v. Some (said ++ v)) (sym are.joined)
 
-abbrev with_strings : Draft → List ℕ → List ℕ → Reader
+abbrev pub with_strings : Draft → List ℕ → List ℕ → Reader
 with_strings draft name said = record { draft = draft; pending = Strings name said }
 
-abbrev with_list : Draft → List ℕ → List ℕ → ℕ → Reader
+abbrev pub with_list : Draft → List ℕ → List ℕ → ℕ → Reader
 with_list draft name said n = record { draft = draft; pending = OpenList name said n }
 
 further_step : (draft : Draft) (name said line value : List ℕ) → IsFurtherText line value → step (with_strings draft name said) line ≡ Some (with_strings draft name (said ++ value))
@@ -155,11 +155,11 @@ run_further (f ∷ fs) draft name said rest each =
     ∙ ap (λ v. run (with_strings draft name v) rest) (append_assoc said f.value (flat_map (λ next. next.value) fs))
 
 -- no further text comes first
-abbrev NoQuote : List (List ℕ) → Type 0
+abbrev pub NoQuote : List (List ℕ) → Type 0
 NoQuote [] = Unit {0}
 NoQuote (line ∷ lines) = begins_with_quote (unblanked line) ≡ false
 
-run_strings_end : (lines : List (List ℕ)) (draft : Draft) (name said : List ℕ) → NoQuote lines → run (with_strings draft name said) lines ≡ run (free (added draft name (Quoted said))) lines
+pub run_strings_end : (lines : List (List ℕ)) (draft : Draft) (name said : List ℕ) → NoQuote lines → run (with_strings draft name said) lines ≡ run (free (added draft name (Quoted said))) lines
 unfolding step finish
 run_strings_end [] draft name said other = refl
 run_strings_end (line ∷ lines) draft name said other = ap (λ t. option_and_then (λ next. run next lines) (cond t (pending_strings draft name (strings_from said (unblanked line))) (fresh (added draft name (Quoted said)) line))) other
@@ -220,10 +220,10 @@ parts_no_quote [] each = tt
 parts_no_quote (part ∷ parts) each = part_no_quote part.lines (part_lines parts) part.says each.0
 
 -- A list whose bytes on this line so far are pre: it was read from them on to where the pieces that are left begin.
-abbrev ReadTo : ℕ → List ℕ → ℕ → Type 0
+abbrev pub ReadTo : ℕ → List ℕ → ℕ → Type 0
 ReadTo n0 pre n = (rest : List ℕ) → list_end (spot_at Outside n0) 0 (pre ++ rest) ≡ list_end (spot_at Outside n) (length pre) rest
 
-abbrev Reads : Draft → List ℕ → List ℕ → ℕ → List ℕ → List Piece → List ℕ → List (List ℕ) → Type 0
+abbrev pub Reads : Draft → List ℕ → List ℕ → ℕ → List ℕ → List Piece → List ℕ → List (List ℕ) → Type 0
 Reads draft name said n0 pre pieces after rest =
     run (with_list draft name said n0) (lines_of (pre ++ (flat_map piece_bytes pieces ++ after)) ++ rest) ≡ run (free (added draft name (Brackets (said ++ (pre ++ flat_map piece_bytes pieces))))) rest
 
@@ -270,7 +270,7 @@ reads_newline draft name said n0 n pre pieces after rest one read reads =
     ∙ reads
     ∙ ap (λ v. run (free (added draft name (Brackets v))) rest) (append_assoc (said ++ pre) (10 ∷ []) later ∙ append_assoc said pre (10 ∷ later))
 
-run_list : (pieces : List Piece) (n n0 : ℕ) (draft : Draft) (name said pre after : List ℕ) (rest : List (List ℕ)) → Closes n pieces → AreBlanks after → IsOneLine pre → ReadTo n0 pre n → Reads draft name said n0 pre pieces after rest
+pub run_list : (pieces : List Piece) (n n0 : ℕ) (draft : Draft) (name said pre after : List ℕ) (rest : List (List ℕ)) → Closes n pieces → AreBlanks after → IsOneLine pre → ReadTo n0 pre n → Reads draft name said n0 pre pieces after rest
 run_list [] n n0 draft name said pre after rest closes blanks one read = absurd closes
 run_list (Opening ∷ pieces) n n0 draft name said pre after rest closes blanks one read =
     reads_more draft name said n0 pre Opening pieces after rest

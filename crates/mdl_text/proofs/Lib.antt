@@ -5,3 +5,4 @@ pub mod Pieces
 pub mod Quotes
 pub mod Scans
 pub mod Sound
+pub mod Whole

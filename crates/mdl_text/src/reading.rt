@@ -1,4 +1,5 @@
-ghost use Rattle.std.specs.Prelude.{◌≡◌, ℕ, List, [], ◌∷◌, IfOk};
+ghost use Rattle.std.specs.Prelude.{◌≡◌, ℕ, List, [], ◌∷◌, ◌++◌, IfOk, MatchOption};
+ghost use Rattle.mdl_text.specs.Bytes.{IsOneLine};
 ghost use Rattle.mdl_text.specs.Stands.{Stands};
 ghost use Rattle.mdl_text.specs.Prefix.{IsFaultLine, IfSyntax};
 ghost use Rattle.mdl_text.specs.Plain.{run};
@@ -23,17 +24,28 @@ pub fn read(alloc: Global, bytes: &[u8]) -> Result<Tree, MdlFault>
     let mut reader = Reader::new(alloc);
     let mut rest = bytes;
     let mut line = 1;
-    while let Some(end) = memchr(b'\n', rest) {
-        match reader.step(alloc, &rest[..end])? {
+    while let Some((next, after)) = split_line(rest) {
+        match reader.step(alloc, next)? {
             None => return Err(MdlFault::Syntax { line }),
-            Some(next) => reader = next,
+            Some(read) => reader = read,
         }
-        rest = &rest[end + 1..];
+        rest = after;
         line += 1;
     }
     match last_line(reader, alloc, rest)? {
         None => Err(MdlFault::Syntax { line }),
         Some(items) => Ok(Tree { items }),
+    }
+}
+
+/// The first line without its newline, and what follows it. `None` where there is no newline.
+fn split_line(text: &[u8]) -> Option<(&[u8], &[u8])>
+    ensures { MatchOption result (IsOneLine text.now)
+        (λ split. IsOneLine split.0.now × (text.now ≡ split.0.now ++ 10 ∷ split.1.now)) }
+{
+    match memchr(b'\n', text) {
+        None => None,
+        Some(end) => Some((&text[..end], &text[end + 1..])),
     }
 }
 
