@@ -1,0 +1,10 @@
+pub mod Bits
+pub mod Carried
+pub mod Different
+pub mod Generated
+pub mod Header
+pub mod Loop
+pub mod Names
+pub mod Running
+pub mod Sayings
+pub mod Texts

@@ -1,0 +1,10 @@
+use Rattle.fx_top.proofs.answer.Answer.report.Goals as goal
+
+pub returns-in-OutOfMemory : goal.returns-in-OutOfMemory
+returns-in-OutOfMemory g c = rw c.in-OutOfMemory.is c.say.ensures.said
+
+pub returns-in-Usage : goal.returns-in-Usage
+returns-in-Usage g c = rw c.in-Usage.is c.say-in-Usage.ensures.said
+
+pub returns-in-CannotWrite : goal.returns-in-CannotWrite
+returns-in-CannotWrite g c = rw c.in-CannotWrite.is c.say-in-CannotWrite.ensures.said

@@ -1,0 +1,32 @@
+-- The status of an answer, and the line that it puts on the stream of messages.
+use Rattle.std.specs.Prelude.{ℕ, List, []}
+use Rattle.fx_top.specs.Command.{Command, Generate}
+use Rattle.fx_top.specs.declared.command.Command.{Command as CommandOf}
+use Rattle.fx_top.specs.declared.command.Command.TheVariants.{Generate as GenerateOf}
+use Rattle.fx_top.specs.declared.answer.Answer.{Answer}
+use Rattle.fx_top.specs.declared.answer.Answer.TheVariants.{Done, OutOfMemory, Usage, CannotRead, CannotWrite, NotMdl, TooLong, NotBuilt}
+use Rattle.fx_top.specs.Messages.{memory_line, usage_line, unread_line, unwritten_line, syntax_line, too_long_line, not_built_line}
+
+abbrev pub status_of : Answer → ℕ
+status_of Done = 0
+status_of OutOfMemory = 1
+status_of Usage = 2
+status_of (CannotRead file) = 3
+status_of CannotWrite = 4
+status_of (NotMdl file line) = 5
+status_of (TooLong file length) = 9
+status_of (NotBuilt file) = 10
+
+abbrev pub line_of : Answer → List ℕ
+line_of Done = []
+line_of OutOfMemory = memory_line
+line_of Usage = usage_line
+line_of (CannotRead file) = unread_line file.now
+line_of CannotWrite = unwritten_line
+line_of (NotMdl file line) = syntax_line file.now line
+line_of (TooLong file length) = too_long_line file.now length
+line_of (NotBuilt file) = not_built_line file.now
+
+-- the command, by the bytes of its words
+abbrev pub named : CommandOf → Command
+named (GenerateOf model) = Generate model.now

@@ -1,0 +1,85 @@
+-- What a written module owes its model: its header, and the bits that its outputs carry.
+use Rattle.std.specs.Prelude.{◌≡◌, ℕ, ◌+◌, ◌*◌, ◌%◌, ◌<◌, ◌≤◌, ◌≤ℤ◌, Bool, true, false, List, [], ◌∷◌, ◌++◌, map, slice_get, codes, Some, ℤ}
+use Rattle.vl_ast.specs.declared.modules.Attr.{Attr}
+use Rattle.vl_ast.specs.declared.modules.Port.{Port}
+use Rattle.vl_ast.specs.declared.modules.Module.{Module}
+use Rattle.vl_ast.specs.Conditions.{BreaksNone}
+use Rattle.vl_ast.specs.Driven.{Driven, bits_of}
+use Rattle.vl_ast.specs.Runs.{Runs}
+
+-- an element of a root input or output: its port's name, the width, sign and range of its type, and its period in base samples
+pub record Element : Type 0 where
+  pub name : List ℕ
+  pub width : ℕ
+  pub signed : Bool
+  pub lowest : ℤ
+  pub highest : ℤ
+  pub period : ℕ
+
+-- an element of a root output: also the latency of its block in base samples, and its declared latency in clocks
+pub record OutputElement : Type 0 where
+  pub element : Element
+  pub lat : ℕ
+  pub latency : ℕ
+
+-- the ports that a module has for a model under a plan of so many clocks per base sample
+pub record Interface : Type 0 where
+  pub cycles : ℕ
+  pub inputs : List Element
+  pub outputs : List OutputElement
+
+abbrev pub attribute_of : List ℕ → ℕ → Attr
+attribute_of name value = record { name = name; value = value }
+
+-- an unsigned input of one bit, without attributes
+abbrev pub bit_input : List ℕ → Port
+bit_input name = record { attrs = []; input = true; signed = false; width = 1; name = name }
+
+abbrev pub input_port : Element → Port
+input_port element = record {
+    attrs = attribute_of (codes "fx_period") element.period ∷ [];
+    input = true;
+    signed = element.signed;
+    width = element.width;
+    name = element.name
+  }
+
+abbrev pub output_port : OutputElement → Port
+output_port output = record {
+    attrs = attribute_of (codes "fx_period") output.element.period ∷ attribute_of (codes "fx_latency") output.latency ∷ [];
+    input = false;
+    signed = output.element.signed;
+    width = output.element.width;
+    name = output.element.name
+  }
+
+-- the module's name, attribute and ports, and that it breaks none of the six conditions
+pub record HasHeader (m : Module) (interface : Interface) : Type 0 where
+  pub name : m.name ≡ codes "fx_model"
+  pub attrs : m.attrs ≡ attribute_of (codes "fx_cycles") interface.cycles ∷ []
+  pub ports : m.ports ≡ bit_input (codes "clk") ∷ bit_input (codes "reset") ∷ (map input_port interface.inputs ++ map output_port interface.outputs)
+  pub sound : BreaksNone m
+
+-- the stimulus gives each input element a number in the range of its type at each of its hits below `samples`
+abbrev pub IsStimulus : Interface → ℕ → (ℕ → ℕ → ℤ) → Type 0
+IsStimulus interface samples stimulus =
+    (place : ℕ) (element : Element) → slice_get interface.inputs place ≡ Some element
+    → (t : ℕ) → t < samples → t % element.period ≡ 0 → (element.lowest ≤ℤ stimulus place t) × (stimulus place t ≤ℤ element.highest)
+
+-- for every stimulus, every start and all rows that run under it: each output element shows at each hit t the bits of
+-- its entry at every clock from t F + latency to the end of its frame that stands among the rows
+pub record CarriesBits (m : Module) (interface : Interface) (entries : (ℕ → ℕ → ℤ) → ℕ → ℕ → ℤ) : Type 0 where
+  pub shows : (samples count last : ℕ) (stimulus : ℕ → ℕ → ℤ) (start : List ℕ → ℕ) (inputs rows : ℕ → List ℕ → ℕ)
+      → IsStimulus interface samples stimulus
+      → Driven m stimulus samples count last inputs
+      → Runs m count start inputs rows
+      → (place : ℕ) (output : OutputElement) → slice_get interface.outputs place ≡ Some output
+      → (t clock : ℕ) → t < samples → t % output.element.period ≡ 0
+      → t * interface.cycles + output.latency ≤ clock → clock < (t + output.lat + output.element.period) * interface.cycles
+      → last + 1 + clock < count
+      → rows (last + 1 + clock) output.element.name ≡ bits_of output.element.width (entries stimulus place t)
+
+-- the module has the ports of the interface, and its outputs carry the entries
+pub record Carries (m : Module) (interface : Interface) (entries : (ℕ → ℕ → ℤ) → ℕ → ℕ → ℤ) : Type 0 where
+  pub header : HasHeader m interface
+  pub bits : CarriesBits m interface entries

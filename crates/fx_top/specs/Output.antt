@@ -1,0 +1,43 @@
+-- The text that a command writes.
+use Rattle.std.specs.Prelude.{◌≡◌, ℕ, List}
+use Rattle.fx_io.specs.Shelf.{Told, Fetched}
+use Rattle.mdl_text.specs.declared.tree.Tree.{Tree}
+use Rattle.mdl_text.specs.Stands.{Stands}
+use Rattle.mdl_text.specs.Prefix.{IsFaultLine}
+use Rattle.vl_ast.specs.declared.modules.Module.{Module}
+use Rattle.vl_ast.specs.Spelling.{spelling}
+use Rattle.fx_top.specs.declared.one_delay.OneDelay.{OneDelay}
+use Rattle.fx_top.specs.Carries.{Carries}
+use Rattle.fx_top.specs.Command.{Command, Generate}
+use Rattle.fx_top.specs.DelayTree.{IsOneDelay}
+use Rattle.fx_top.specs.OneDelay.{delay_interface, delay_entries}
+use Rattle.fx_top.specs.Trouble.{file_limit}
+
+-- the text is the written one of a module that carries the bits of the model of the bytes
+pub record IsVerilogOf (bytes text : List ℕ) : Type 0 where
+  pub tree : Tree
+  pub stands : Stands bytes tree
+  pub delay : OneDelay
+  pub form : IsOneDelay tree delay
+  pub made : Module
+  pub spelled : text ≡ spelling made
+  pub carries : Carries made (delay_interface delay) (delay_entries delay)
+
+-- the bytes are no MDL text
+abbrev pub IsNoText : List ℕ → Type 0
+IsNoText bytes = (tree : Tree) → Stands bytes tree → ⊥
+
+-- the bytes stand for no tree, and stop being the beginning of a text at this line
+pub record IsNotMdl (bytes : List ℕ) (line : ℕ) : Type 0 where
+  pub no_tree : IsNoText bytes
+  pub fault : IsFaultLine bytes line
+
+-- the bytes stand for a tree of another form than those that are built
+pub record IsNotBuilt (bytes : List ℕ) : Type 0 where
+  pub tree : Tree
+  pub stands : Stands bytes tree
+  pub other : (delay : OneDelay) → IsOneDelay tree delay → ⊥
+
+-- the text that a command writes of what was fetched from the shelf
+abbrev pub IsOutput : Command → (List ℕ → Told) → List ℕ → Type 0
+IsOutput (Generate model) held text = (bytes : List ℕ) × (Fetched (held model) file_limit bytes × IsVerilogOf bytes text)

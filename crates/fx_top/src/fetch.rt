@@ -1,0 +1,31 @@
+ghost use Rattle.std.specs.Prelude.{◌≡◌, Some, IfOk, IfErr};
+ghost use Rattle.fx_io.specs.Cause.{Rose};
+ghost use Rattle.fx_io.specs.Shelf.{Fetched};
+ghost use Rattle.fx_top.specs.Trouble.{file_limit};
+ghost use Rattle.fx_top.specs.Fetching.{IsFetchAnswer};
+
+use crate::answer::Answer;
+use fx_io::{FetchFault, Shelf, Text};
+use std::alloc::Global;
+
+/// How many bytes a file has at most.
+const FILE_LIMIT: u64 = 16_777_216;
+
+/// Fetches a file, or answers why it can't be had.
+pub fn fetch_file<'a, S: Shelf>(
+    alloc: Global,
+    file: &'a str,
+    shelf: &mut S,
+) -> Result<Text, Answer<'a>>
+    ensures found { IfOk result (λ bytes. Fetched (S.held shelf.old file.now) file_limit bytes) }
+    ensures told { IfOk result (λ bytes. S.steady shelf.old → S.held shelf.old file.now ≡ Some (Some bytes)) }
+    ensures refused { IfErr result (λ answer. IsFetchAnswer (S.held shelf.old file.now) (S.steady shelf.old)
+        (Rose (S.faults shelf.old) (S.faults shelf.new)) (Rose (S.overlong shelf.old) (S.overlong shelf.new)) file.now answer) }
+{
+    match shelf.fetch(alloc, file, FILE_LIMIT) {
+        Ok(text) => Ok(text),
+        Err(FetchFault::Failed) => Err(Answer::CannotRead { file }),
+        Err(FetchFault::TooLong { length }) => Err(Answer::TooLong { file, length }),
+        Err(FetchFault::OutOfMemory) => Err(Answer::OutOfMemory),
+    }
+}
