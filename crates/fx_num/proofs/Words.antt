@@ -1,0 +1,80 @@
+-- Numbers of words.
+use Rattle.std.proofs.Common.{◌≡◌, ℕ, suc, ◌+◌, ◌-◌, ◌*◌, ◌/◌, ◌%◌, ◌^◌, ◌<◌, ◌≤◌, true, false, ℤ, pos, negsuc, ◌+ℤ◌, ◌*ℤ◌, ap, sym, ◌∙◌, arith, pow_pos, pow_mono, to_z, of_z, zero, Bool, neg_ℤ, bit_and, div-add-mod', FitsSigned, refl, ◌≢◌}
+use Rattle.std.proofs.lemmas.Nat.{and_mask, pow-add, one_shl, pow_below}
+use Rattle.std.specs.Int.{w128}
+use Rattle.std.proofs.lemmas.Int.{to_z-of_z}
+use Rattle.std.proofs.lemmas.Int.{ints}
+use Rattle.fx_num.specs.Word.{IsWord, IsCongruent, IsWrapped}
+use Rattle.fx_num.proofs.Scaled.{double, add-scaled, neg-scaled}
+
+pub IsCongruent-refl : (a : ℤ) (m : ℕ) → IsCongruent a a m
+IsCongruent-refl a m = record { turns = pos 0; equal = omega (arith, ints) }
+
+-- half of a mask
+pub half_mask : (w m : ℕ) → 1 ≤ w → m + 1 ≡ 2 ^ w → m / 2 ≡ 2 ^ (w - 1) - 1
+half_mask w m h e = omega (arith, double w h, pow_pos (w - 1))
+
+pub unsigned_bits : (w n : ℕ) → n < 2 ^ w → IsWrapped (pos n) w false (pos n)
+unsigned_bits w n h = record { in_word = record { low = omega (arith, ints); high = omega (arith, ints) }; congruent = IsCongruent-refl (pos n) (2 ^ w) }
+
+pub small_bits : (w n : ℕ) → n ≤ 2 ^ (w - 1) - 1 → IsWrapped (pos n) w true (pos n)
+small_bits w n h = record { in_word = record { low = omega (arith, ints, pow_pos (w - 1)); high = omega (arith, ints) }; congruent = IsCongruent-refl (pos n) (2 ^ w) }
+
+pub large_bits : (w m n : ℕ) → 1 ≤ w → m + 1 ≡ 2 ^ w → 2 ^ (w - 1) - 1 < n → n ≤ m → IsWrapped (pos n) w true (negsuc (m - n))
+large_bits w m n k e p q = record {
+  in_word = record { low = omega (arith, ints, double w k); high = omega (arith, ints, pow_pos (w - 1)) };
+  congruent = record { turns = negsuc 0; equal = omega (arith, ints) };
+}
+
+-- the number that the highest bits of 128 stand for
+pub read_top : (k : ℕ) → k < 2 ^ 127 → to_z w128 (340282366920938463463374607431768211455 - k) ≡ negsuc k
+read_top k h =
+    let e : 340282366920938463463374607431768211455 - k ≡ 340282366920938463463374607431768211456 - suc k = omega arith in
+    ap (to_z w128) e ∙ to_z-of_z w128 (negsuc k) (record { sfits = h })
+
+-- the width of a word, whatever its sign
+pub word_width : (w : ℕ) (s : Bool) → IsWord w s → (1 ≤ w) × (w ≤ 128)
+word_width w true h = (omega (arith, h.0), h.1)
+word_width w false h = (h.0, omega (arith, h.1))
+
+-- the low bits of a number of 128 bits, in two's complement
+pub low_bits : (v : ℤ) (w m : ℕ) → w ≤ 128 → m + 1 ≡ 2 ^ w → FitsSigned w128 v → IsCongruent (pos (bit_and (of_z w128 v) m)) v (2 ^ w)
+low_bits (pos n) w m h e f =
+    let p : bit_and n m ≡ n % 2 ^ w = ap (bit_and n) (omega arith) ∙ and_mask n w in
+    record { turns = neg_ℤ (pos (n / 2 ^ w)); equal = omega (arith, ints, p, div-add-mod' n (2 ^ w), neg-scaled (n / 2 ^ w) (2 ^ w)) }
+low_bits (negsuc n) w m h e f =
+    let u : ℕ = 340282366920938463463374607431768211456 - suc n in
+    let p : bit_and u m ≡ u % 2 ^ w = ap (bit_and u) (omega arith) ∙ and_mask u w in
+    let k : 128 - w + w ≡ 128 = omega arith in
+    let q : 2 ^ (128 - w) * 2 ^ w ≡ 340282366920938463463374607431768211456 = sym (pow-add 2 (128 - w) w) ∙ ap (λ (i : ℕ). 2 ^ i) k in
+    record {
+      turns = pos (2 ^ (128 - w)) +ℤ neg_ℤ (pos (u / 2 ^ w));
+      equal = omega (arith, ints, p, q, div-add-mod' u (2 ^ w), add-scaled (pos (2 ^ (128 - w))) (neg_ℤ (pos (u / 2 ^ w))) (2 ^ w), neg-scaled (u / 2 ^ w) (2 ^ w), f.sfits);
+    }
+
+-- shifted up by 127 or more, only 0 and, by 127, -1 fit
+pub too_far : (v : ℤ) (by : ℕ) → 127 ≤ by → ¬ (v ≡ pos 0) → (v ≡ negsuc 0 → by ≢ 127) → ¬ FitsSigned w128 (v *ℤ pos (2 ^ by))
+too_far (pos zero) by h z n f = z refl
+too_far (pos (suc a)) by h z n f = let p : 2 ^ 127 ≤ 2 ^ by = pow_mono h in omega (arith, f.sfits)
+too_far (negsuc zero) by h z n f =
+    let q : 128 ≤ by = omega (arith, n refl) in
+    let p : 2 ^ 128 ≤ 2 ^ by = pow_mono q in
+    omega (arith, ints, f)
+too_far (negsuc (suc a)) by h z n f = let p : 2 ^ 127 ≤ 2 ^ by = pow_mono h in omega (arith, ints, f)
+
+-- a mask below 128 bits is a number of 128 bits with a sign
+pub small_mask : (w m : ℕ) → w ≤ 127 → m + 1 ≡ 2 ^ w → (m < 2 ^ 127) × (m ≡ 2 ^ w - 1)
+small_mask w m h e = let p : 2 ^ w ≤ 2 ^ 127 = pow_mono h in omega arith
+
+pub shifted_one : (by : ℕ) → by < 127 → to_z w128 ((1 * 2 ^ by) % 2 ^ 128) ≡ pos (2 ^ by)
+shifted_one by h =
+    let k : by < 128 = omega arith in
+    let e : (1 * 2 ^ by) % 2 ^ 128 ≡ 2 ^ by = one_shl by 128 k in
+    let p : 2 ^ by < 2 ^ 127 = pow_below by 127 h in
+    ap (to_z w128) e ∙ omega (arith, ints)
+
+pub unsigned_word : (s : Bool) (w : ℕ) → s ≡ false → IsWord w s → w ≤ 127
+unsigned_word s w e h = (rw e at h).1
+
+pub signed_word : (s : Bool) (w : ℕ) → s ≡ true → IsWord w s → (2 ≤ w) × (w ≤ 128)
+signed_word s w e h = rw e at h
