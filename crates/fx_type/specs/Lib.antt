@@ -1,0 +1,3 @@
+pub mod FxType
+pub mod FullType
+pub mod Conversion

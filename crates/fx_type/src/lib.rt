@@ -1,0 +1,20 @@
+//! Types of signals: their ranges, the types that hold sums, products and unions, and what
+//! rounding and conversion mean.
+//!
+//! A value is a stored integer; its real value is that integer times 2 to the power minus `frac`.
+//! No call takes memory, and every call that takes a type has the condition that it is valid
+//! (`IsType`). The definitions stand in `specs/`: types and ranges in `FxType.antt`, full types in
+//! `FullType.antt`, rounding, conversion and the stored integer of a decimal in `Conversion.antt`.
+#![tactic(auto)]
+
+mod decimal;
+mod full;
+mod kind;
+mod rounding;
+mod spec;
+
+pub use decimal::Decimal;
+pub use full::TooWide;
+pub use kind::FxType;
+pub use rounding::Rounding;
+pub use spec::TypeSpec;
