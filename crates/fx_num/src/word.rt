@@ -4,6 +4,17 @@ ghost use Rattle.std.specs.Int.{w128};
 ghost use Rattle.std.specs.Option.{SomeIff};
 ghost use Rattle.fx_num.specs.Word.{IsWord, word_lowest, word_highest, InWord, IsCongruent, IsWrapped};
 
+/// Whether a word has this width and sign. Source: own.
+pub fn is_word(width: u8, signed: bool) -> bool
+    ensures { IsTrue result ↔ IsWord width signed }
+{
+    if signed {
+        2 <= width && width <= 128
+    } else {
+        1 <= width && width <= 127
+    }
+}
+
 /// The number whose lowest `width` bits are set.
 fn mask(width: u8) -> u128
     requires low { 1 ≤ width }

@@ -1,3 +1,4 @@
-pub mod FxType
-pub mod FullType
 pub mod Conversion
+pub mod FullType
+pub mod FxType
+pub mod Span

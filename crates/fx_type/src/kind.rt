@@ -1,6 +1,6 @@
 //! The type of a signal, and its range.
-ghost use Rattle.std.specs.Prelude.{◌≡◌};
-ghost use Rattle.fx_type.specs.FxType.{IsType, lowest_of, highest_of};
+ghost use Rattle.std.specs.Prelude.{◌≡◌, ◌↔◌, IsTrue};
+ghost use Rattle.fx_type.specs.FxType.{IsType, is_signed, width_of, frac_of, lowest_of, highest_of};
 
 /// The type of a stored integer.
 ///
@@ -16,6 +16,20 @@ pub enum FxType {
 }
 
 impl FxType {
+    /// Whether the type is valid. Source: own.
+    pub fn is_valid(self) -> bool
+        ensures { IsTrue result ↔ IsType self }
+    {
+        match self {
+            FxType::Num {
+                signed,
+                width,
+                frac,
+            } => fx_num::is_word(width, signed) && -64 <= frac && frac <= 128,
+            FxType::Logical => true,
+        }
+    }
+
     /// The least stored integer. Source: Fixed-Point Designer.
     pub fn lowest(self) -> i128
         requires { IsType self }
@@ -35,6 +49,36 @@ impl FxType {
         match self {
             FxType::Num { signed, width, .. } => fx_num::highest(width, signed),
             FxType::Logical => 1,
+        }
+    }
+
+    /// Whether stored integers may be negative. Source: Fixed-Point Designer.
+    pub fn is_signed(self) -> bool
+        ensures { result ≡ is_signed self }
+    {
+        match self {
+            FxType::Num { signed, .. } => signed,
+            FxType::Logical => false,
+        }
+    }
+
+    /// The number of bits of a stored integer. Source: Fixed-Point Designer.
+    pub fn width(self) -> u8
+        ensures { result ≡ width_of self }
+    {
+        match self {
+            FxType::Num { width, .. } => width,
+            FxType::Logical => 1,
+        }
+    }
+
+    /// The number of bits behind the binary point. Source: Fixed-Point Designer.
+    pub fn frac(self) -> i16
+        ensures { result ≡ frac_of self }
+    {
+        match self {
+            FxType::Num { frac, .. } => frac,
+            FxType::Logical => 0,
         }
     }
 }

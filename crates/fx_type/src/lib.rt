@@ -12,9 +12,11 @@ mod full;
 mod kind;
 mod rounding;
 mod spec;
+#[cfg(test)]
+mod tests;
 
 pub use decimal::Decimal;
-pub use full::TooWide;
+pub use full::{TooWide, full_product, full_sum, union};
 pub use kind::FxType;
 pub use rounding::Rounding;
 pub use spec::TypeSpec;

@@ -1,0 +1,39 @@
+-- The greatest frac of a list of terms.
+use Rattle.std.proofs.Common.{◌≡◌, ℕ, ◌+◌, ◌<◌, ◌≤◌, Bool, true, false, cond, ◌⊎◌, inl, inr, List, take, length, get_or, ℤ, ◌≤ℤ◌, All, Any, ap, sym, ◌∙◌, refl, subst, arith, take_all}
+use Rattle.std.specs.Int.{int_max}
+use Rattle.std.proofs.lemmas.Int.{ints}
+use Rattle.std.proofs.lemmas.List.{get_or_default}
+use Rattle.std.proofs.lemmas.List.Elements.{All-weaker, All-more}
+use Rattle.fx_type.specs.declared.kind.FxType.{FxType}
+use Rattle.fx_type.specs.FxType.{frac_of}
+use Rattle.fx_type.specs.FullType.{Terms, IsGreatestFrac}
+
+-- the greater of two is one of them
+pub int_max_cases : (x y : ℤ) → (int_max x y ≡ x) ⊎ (int_max x y ≡ y)
+int_max_cases x y = cases _
+  where
+    cases : (b : Bool) → (cond b x y ≡ x) ⊎ (cond b x y ≡ y)
+    cases true = inl refl
+    cases false = inr refl
+
+module _ (terms : Terms) (i : ℕ) (d : Bool × FxType) (inside : i < length terms) where
+  pub bound_more : (old f new : ℤ) → All (λ term. frac_of term.1 ≤ℤ old) (take i terms) → f ≡ frac_of (get_or terms i d).1 → old ≤ℤ new → f ≤ℤ new → All (λ term. frac_of term.1 ≤ℤ new) (take (i + 1) terms)
+  bound_more old f new all e p q =
+      All-more (λ term. frac_of term.1 ≤ℤ new) terms i d inside
+      (All-weaker (λ (term : Bool × FxType). frac_of term.1 ≤ℤ old) (λ term. frac_of term.1 ≤ℤ new) (λ term h. omega (arith, ints, h, p)) (take i terms) all)
+      (omega (arith, ints, e, q))
+
+  pub reached_at : (f : ℤ) → f ≡ frac_of (get_or terms i d).1 → Any (λ term. frac_of term.1 ≡ f) terms
+  reached_at f e = (i, get_or terms i d, inside, get_or_default terms i (get_or terms i d) d inside, sym e)
+
+  pub reached_more : (old f new : ℤ) → Any (λ term. frac_of term.1 ≡ old) terms → f ≡ frac_of (get_or terms i d).1 → new ≡ int_max old f → Any (λ term. frac_of term.1 ≡ new) terms
+  reached_more old f new any e m = elim (int_max_cases old f) [
+    | inl k ↦ subst (λ (z : ℤ). Any (λ term. frac_of term.1 ≡ z) terms) (sym (m ∙ k)) any
+    | inr k ↦ reached_at new (m ∙ k ∙ e)
+  ]
+
+pub greatest_of_all : (terms : Terms) (i : ℕ) (g : ℤ) → length terms ≤ i → All (λ term. frac_of term.1 ≤ℤ g) (take i terms) → Any (λ term. frac_of term.1 ≡ g) terms → IsGreatestFrac terms g
+greatest_of_all terms i g h all any = record {
+  bound = subst (λ (xs : Terms). All (λ term. frac_of term.1 ≤ℤ g) xs) (take_all i terms h) all;
+  reached = any;
+}

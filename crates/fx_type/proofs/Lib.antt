@@ -1,0 +1,4 @@
+pub mod Ends
+pub mod Fracs
+pub mod FullTypes
+pub mod Narrow
