@@ -1,0 +1,88 @@
+-- Congruence of shifted numbers.
+use Rattle.std.proofs.Common.{◌≡◌, ℕ, zero, suc, ◌+◌, ◌-◌, ◌*◌, ◌/◌, ◌%◌, ◌^◌, ◌<◌, ◌≤◌, Bool, true, false, ℤ, pos, negsuc, ◌+ℤ◌, ◌*ℤ◌, neg_ℤ, ap, sym, ◌∙◌, refl, subst, arith, of_z, to_z, FitsSigned, div-add-mod', mul_comm, mul_assoc, mod-lt, pow_pos, inl, inr}
+use Rattle.std.specs.Int.{w128}
+use Rattle.std.proofs.lemmas.Int.{ints, to_z-of_z}
+use Rattle.std.proofs.lemmas.Nat.{pow-add}
+use Rattle.std.proofs.lemmas.Bool.{cases_lt}
+use borrow.Author.Differences.{up, down, neg_is}
+use Rattle.fx_num.specs.Word.{InWord, IsCongruent, IsWrapped}
+use Rattle.fx_round.proofs.Rounding.{add-scaled}
+use Rattle.fx_round.proofs.Shifts.{whole_turns}
+
+pub scaled-neg : (a : ℤ) (d : ℕ) → neg_ℤ a *ℤ pos d ≡ neg_ℤ (a *ℤ pos d)
+scaled-neg a d =
+    let p : up (neg_ℤ a) * d ≡ down a * d = ap (λ (n : ℕ). n * d) (neg_is a).0 in
+    let q : down (neg_ℤ a) * d ≡ up a * d = ap (λ (n : ℕ). n * d) (neg_is a).1 in
+    omega (arith, ints)
+
+pub mul-scaled : (t : ℤ) (a b : ℕ) → (t *ℤ pos a) *ℤ pos b ≡ t *ℤ pos (a * b)
+mul-scaled (pos t) a b = ap pos (mul_assoc t a b)
+mul-scaled (negsuc t) a b = scaled-neg (pos (suc t * a)) b ∙ ap (λ (n : ℕ). neg_ℤ (pos n)) (mul_assoc (suc t) a b)
+
+IsCongruent-trans : {a b c : ℤ} (m : ℕ) → IsCongruent a b m → IsCongruent b c m → IsCongruent a c m
+IsCongruent-trans m p q = record {
+  turns = p.turns +ℤ q.turns;
+  equal = let e = add-scaled p.turns q.turns m in omega (arith, ints, p.equal, q.equal, e);
+}
+
+IsCongruent-times : {a b : ℤ} (m d : ℕ) → IsCongruent a b m → IsCongruent (a *ℤ pos d) (b *ℤ pos d) m
+IsCongruent-times {a} {b} m d h = record {
+  turns = h.turns *ℤ pos d;
+  equal =
+      let e = mul-scaled h.turns m d ∙ ap (λ (n : ℕ). h.turns *ℤ pos n) (mul_comm m d) ∙ sym (mul-scaled h.turns d m) in
+      ap (λ (z : ℤ). z *ℤ pos d) h.equal ∙ add-scaled b (h.turns *ℤ pos m) d ∙ ap (λ (z : ℤ). b *ℤ pos d +ℤ z) e;
+}
+
+IsCongruent-part : {a b : ℤ} (k m : ℕ) → IsCongruent a b (k * m) → IsCongruent a b m
+IsCongruent-part {a} {b} k m h = record {
+  turns = h.turns *ℤ pos k;
+  equal = h.equal ∙ ap (λ (z : ℤ). b +ℤ z) (sym (mul-scaled h.turns k m));
+}
+
+remainder_congruent : (a m : ℕ) → IsCongruent (pos (a % m)) (pos a) m
+remainder_congruent a m = record { turns = neg_ℤ (pos (a / m)); equal = omega (arith, ints, scaled-neg (pos (a / m)) m, div-add-mod' a m) }
+
+read_congruent : (n : ℕ) → n < 340282366920938463463374607431768211456 → IsCongruent (to_z w128 n) (pos n) 340282366920938463463374607431768211456
+read_congruent n h = elim (cases_lt n 170141183460469231731687303715884105728) [
+  | inl l ↦ record { turns = pos 0; equal = omega (arith, ints) }
+  | inr g ↦ (let k = 340282366920938463463374607431768211456 - suc n in
+      let f : FitsSigned w128 (negsuc k) = omega (arith, ints) in
+      let b : n ≡ 340282366920938463463374607431768211456 - suc k = omega arith in
+      let e : to_z w128 n ≡ negsuc k = ap (to_z w128) b ∙ to_z-of_z w128 (negsuc k) f in
+      record { turns = negsuc 0; equal = e ∙ omega (arith, ints) })
+]
+
+bits_congruent : (v : ℤ) → FitsSigned w128 v → IsCongruent (pos (of_z w128 v)) v 340282366920938463463374607431768211456
+bits_congruent (pos n) f = record { turns = pos 0; equal = omega (arith, ints) }
+bits_congruent (negsuc n) f = record { turns = pos 1; equal = omega (arith, ints, f.sfits) }
+
+pub shift_congruent : (v : ℤ) (by w : ℕ) → w ≤ 128 → FitsSigned w128 v → IsCongruent (to_z w128 ((of_z w128 v * 2 ^ by) % 340282366920938463463374607431768211456)) (v *ℤ pos (2 ^ by)) (2 ^ w)
+shift_congruent v by w h f =
+    let m : ℕ = 340282366920938463463374607431768211456 in
+    let a = of_z w128 v * 2 ^ by in
+    let r : a % m < m = mod-lt a (omega arith) in
+    let whole : IsCongruent (to_z w128 (a % m)) (v *ℤ pos (2 ^ by)) m =
+    IsCongruent-trans m (read_congruent (a % m) r) (IsCongruent-trans m (remainder_congruent a m) (IsCongruent-times m (2 ^ by) (bits_congruent v f))) in
+    IsCongruent-part (2 ^ (128 - w)) (2 ^ w) (subst (λ (k : ℕ). IsCongruent (to_z w128 (a % m)) (v *ℤ pos (2 ^ by)) k) (sym (whole_turns w h)) whole)
+
+zero_congruent : (v : ℤ) (by w : ℕ) → w ≤ by → IsCongruent (pos 0) (v *ℤ pos (2 ^ by)) (2 ^ w)
+zero_congruent v by w h =
+    let k : by - w + w ≡ by = omega arith in
+    let e : (v *ℤ pos (2 ^ (by - w))) *ℤ pos (2 ^ w) ≡ v *ℤ pos (2 ^ by) =
+    mul-scaled v (2 ^ (by - w)) (2 ^ w) ∙ ap (λ (n : ℕ). v *ℤ pos n) (sym (pow-add 2 (by - w) w) ∙ ap (λ (n : ℕ). 2 ^ n) k) in
+    let z = v *ℤ pos (2 ^ (by - w)) in
+    let n : neg_ℤ z *ℤ pos (2 ^ w) ≡ neg_ℤ (v *ℤ pos (2 ^ by)) = scaled-neg z (2 ^ w) ∙ ap neg_ℤ e in
+    record { turns = neg_ℤ z; equal = sym (ap (λ (y : ℤ). v *ℤ pos (2 ^ by) +ℤ y) n ∙ cancel (v *ℤ pos (2 ^ by))) }
+  where
+    cancel : (y : ℤ) → y +ℤ neg_ℤ y ≡ pos 0
+    cancel y = omega (arith, ints)
+
+zero_in_word : (w : ℕ) (s : Bool) → InWord w s (pos 0)
+zero_in_word w true = record { low = omega (arith, ints); high = omega (arith, ints) }
+zero_in_word w false = record { low = omega (arith, ints); high = omega (arith, ints) }
+
+pub zero_wrapped : (v : ℤ) (by w : ℕ) (s : Bool) → w ≤ by → IsWrapped (v *ℤ pos (2 ^ by)) w s (pos 0)
+zero_wrapped v by w s h = record { in_word = zero_in_word w s; congruent = zero_congruent v by w h }
+
+pub shift_wrapped : (v : ℤ) (by w : ℕ) (s : Bool) (r : ℤ) → w ≤ 128 → FitsSigned w128 v → IsWrapped (to_z w128 ((of_z w128 v * 2 ^ by) % 340282366920938463463374607431768211456)) w s r → IsWrapped (v *ℤ pos (2 ^ by)) w s r
+shift_wrapped v by w s r h f k = record { in_word = k.in_word; congruent = IsCongruent-trans (2 ^ w) k.congruent (shift_congruent v by w h f) }

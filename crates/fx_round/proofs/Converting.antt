@@ -1,0 +1,65 @@
+-- What the steps of a conversion give together.
+use Rattle.std.proofs.Common.{◌≡◌, ℕ, suc, ◌+◌, ◌-◌, ◌*◌, ◌^◌, ◌<◌, ◌≤◌, Bool, true, false, ℤ, pos, negsuc, ◌+ℤ◌, ◌-ℤ◌, ◌*ℤ◌, neg_ℤ, nat_abs, ◌≤ℤ◌, ◌<ℤ◌, ap, sym, ◌∙◌, refl, subst, subst₂, arith}
+use Rattle.std.specs.Int.{int_gap}
+use Rattle.std.proofs.lemmas.Int.{ints}
+use Rattle.fx_num.specs.Word.{IsWord}
+use Rattle.fx_type.specs.declared.kind.FxType.{FxType}
+use Rattle.fx_type.specs.declared.kind.FxType.TheVariants.{Num, Logical}
+use Rattle.fx_type.specs.declared.rounding.Rounding.{Rounding}
+use Rattle.fx_type.specs.declared.rounding.Rounding.TheVariants.{Floor, Ceiling, Zero, Nearest, Round, Convergent}
+use Rattle.fx_type.specs.FxType.{IsType, is_signed, width_of, frac_of}
+use Rattle.fx_type.specs.Conversion.{Rounds, Settles, StoresQuotient, Converts}
+use Rattle.fx_round.specs.declared.split.Part.{Part}
+use Rattle.fx_round.specs.declared.split.Part.TheVariants.{Whole, BelowHalf, Half, AboveHalf}
+use Rattle.fx_round.specs.Split.{IsSplit}
+use Rattle.fx_round.proofs.Rounding.{whole_rounds}
+
+pub type_word : (t : FxType) → IsType t → IsWord (width_of t) (is_signed t)
+type_word (Num s w f) h = h.0
+type_word Logical h = (omega arith, omega arith)
+
+pub word_bound : (w : ℕ) (s : Bool) → IsWord w s → w ≤ 128
+word_bound w true h = h.1
+word_bound w false h = omega (arith, h.1)
+
+pub frac_bounds : (t : FxType) → IsType t → (negsuc 63 ≤ℤ frac_of t) × (frac_of t ≤ℤ pos 128)
+frac_bounds (Num s w f) h = (h.1, h.2)
+frac_bounds Logical h = (omega (arith, ints), omega (arith, ints))
+
+pub gap_is : (a b x : ℤ) → a ≤ℤ b → x ≡ b -ℤ a → nat_abs x ≡ int_gap a b
+gap_is (pos a) (pos b) x h e = omega (arith, ints, h)
+gap_is (pos a) (negsuc b) x h e = absurd (omega (arith, ints, h))
+gap_is (negsuc a) (pos b) x h e = omega (arith, ints, h)
+gap_is (negsuc a) (negsuc b) x h e = omega (arith, ints, h)
+
+pub gap_none : (a b : ℤ) → b ≤ℤ a → int_gap a b ≡ 0
+gap_none (pos a) (pos b) h = omega (arith, ints, h)
+gap_none (pos a) (negsuc b) h = refl
+gap_none (negsuc a) (pos b) h = absurd (omega (arith, ints, h))
+gap_none (negsuc a) (negsuc b) h = omega (arith, ints, h)
+
+-- a whole number is rounded to itself
+pub exact : (mode : Rounding) (q : ℤ) (d : ℕ) → 0 < d → Rounds mode (q *ℤ pos d) d q
+exact mode q d h = whole_rounds (q *ℤ pos d) d q 0 (omega (arith, ints)) h mode refl
+
+times_one : (z : ℤ) → z *ℤ pos 1 ≡ z
+times_one z = omega (arith, ints)
+
+module _ (v : ℤ) (from : FxType) (s : Bool) (w : ℕ) (f : ℤ) (mode : Rounding) (saturate : Bool) (r : ℤ) (by : ℕ) where
+  pub converts_up : by ≡ int_gap (frac_of from) f → int_gap f (frac_of from) ≡ 0 → Settles (Num s w f) saturate (v *ℤ pos (2 ^ by)) r → Converts v from (Num s w f) mode saturate r
+  converts_up up none settled =
+      subst₂ (λ (a b : ℕ). StoresQuotient (v *ℤ pos (2 ^ a)) (2 ^ b) (Num s w f) mode saturate r) up (sym none)
+      (record {
+        rounded = v *ℤ pos (2 ^ by);
+        rounds = subst (λ (z : ℤ). Rounds mode z 1 (v *ℤ pos (2 ^ by))) (times_one (v *ℤ pos (2 ^ by))) (exact mode (v *ℤ pos (2 ^ by)) 1 (omega arith));
+        settles = settled;
+      })
+
+  pub converts_down : (floor : ℤ) (part : Part) (rr : ℤ) → by ≡ int_gap f (frac_of from) → int_gap (frac_of from) f ≡ 0 → IsSplit v (2 ^ by) floor part → ((n : ℤ) (d : ℕ) → IsSplit n d floor part → Rounds mode n d rr) → Settles (Num s w f) saturate rr r → Converts v from (Num s w f) mode saturate r
+  converts_down floor part rr down none split rounds settled =
+      subst₂ (λ (a b : ℕ). StoresQuotient (v *ℤ pos (2 ^ a)) (2 ^ b) (Num s w f) mode saturate r) (sym none) down
+      (record {
+        rounded = rr;
+        rounds = subst (λ (z : ℤ). Rounds mode z (2 ^ by) rr) (sym (times_one v)) (rounds v (2 ^ by) split);
+        settles = settled;
+      })

@@ -1,0 +1,4 @@
+pub mod Congruence
+pub mod Converting
+pub mod Rounding
+pub mod Shifts

@@ -1,0 +1,44 @@
+use Rattle.std.proofs.Common.{◌≡◌, ◌^◌, ◌≤◌, ℕ, ℤ, pos, negsuc, ◌-ℤ◌, ◌*ℤ◌, ◌≤ℤ◌, nat_abs, Bool, FitsSigned, to_z, of_z, arith, sym, ◌∙◌, subst, subst₂, rules}
+use Rattle.std.specs.Int.{w16, w128, int_gap}
+use Rattle.std.proofs.lemmas.Int.{ints, to_z-of_z}
+use Rattle.fx_type.specs.declared.kind.FxType.TheVariants.{Num}
+use Rattle.fx_type.specs.FxType.{IsType, frac_of}
+use Rattle.fx_type.specs.Conversion.{Settles, Converts}
+use Rattle.fx_round.specs.Split.{IsSplit}
+use Rattle.fx_round.proofs.Converting.{frac_bounds, gap_is, gap_none, converts_up, converts_down}
+use Rattle.fx_round.proofs.conversion.convert.Goals as goal
+
+pub overflow_cast-up-else-up-ge0 : goal.overflow_cast-up-else-up-ge0
+overflow_cast-up-else-up-ge0 c =
+    let to_type : IsType (Num c.in-Num.signed c.in-Num.width c.in-Num.frac) = rw c.in-Num.is at c.requires.to in
+    let from_frac = frac_bounds c.args.from c.requires.from in
+    (omega (arith, ints, to_type.1, to_type.2, from_frac, c.frac.ensures), omega (arith, ints, to_type.1, to_type.2, from_frac, c.frac.ensures))
+
+pub returns-then-up-ge0 : goal.returns-then-up-ge0
+returns-then-up-ge0 c =
+    let to_type : IsType (Num c.in-Num.signed c.in-Num.width c.in-Num.frac) = rw c.in-Num.is at c.requires.to in
+    let from_frac = frac_bounds c.args.from c.requires.from in
+    let x = to_z w16 (of_z w16 (to_z w16 (of_z w16 c.in-Num.frac) -ℤ to_z w16 (of_z w16 c.frac.result))) in
+    let difference : x ≡ c.in-Num.frac -ℤ frac_of c.args.from = omega (arith, ints, to_type.1, to_type.2, from_frac, c.frac.ensures) in
+    let order : frac_of c.args.from ≤ℤ c.in-Num.frac = omega (arith, ints, difference, c.if-up-ge0.true) in
+    let v = to_z-of_z w128 c.args.v c.ranges.v in
+    let e = to_z-of_z w128 c.settle_up.result (record { sfits = c.settle_up.type_inv }) in
+    let settled : Settles (Num c.in-Num.signed c.in-Num.width c.in-Num.frac) c.args.saturate (c.args.v *ℤ pos (2 ^ nat_abs x)) c.settle_up.result = rw v at c.settle_up.ensures in
+    rw (c.in-Num.is, e) (converts_up c.args.v c.args.from c.in-Num.signed c.in-Num.width c.in-Num.frac c.args.mode c.args.saturate c.settle_up.result (nat_abs x)
+    (gap_is (frac_of c.args.from) c.in-Num.frac x order difference) (gap_none c.in-Num.frac (frac_of c.args.from) order) settled)
+
+pub returns-else-up-ge0 : goal.returns-else-up-ge0
+returns-else-up-ge0 c =
+    let to_type : IsType (Num c.in-Num.signed c.in-Num.width c.in-Num.frac) = rw c.in-Num.is at c.requires.to in
+    let from_frac = frac_bounds c.args.from c.requires.from in
+    let x = to_z w16 (of_z w16 (pos 0 -ℤ to_z w16 (of_z w16 (to_z w16 (of_z w16 c.in-Num.frac) -ℤ to_z w16 (of_z w16 c.frac.result))))) in
+    let difference : x ≡ frac_of c.args.from -ℤ c.in-Num.frac = omega (arith, ints, to_type.1, to_type.2, from_frac, c.frac.ensures) in
+    let order : c.in-Num.frac ≤ℤ frac_of c.args.from = omega (arith, ints, to_type.1, to_type.2, from_frac, c.frac.ensures, c.if-up-ge0.false) in
+    let v = to_z-of_z w128 c.args.v c.ranges.v in
+    let e = to_z-of_z w128 c.settle.result (record { sfits = c.settle.type_inv }) in
+    let q = to_z-of_z w128 c.rounded.result (record { sfits = c.rounded.type_inv }) in
+    let settled : Settles (Num c.in-Num.signed c.in-Num.width c.in-Num.frac) c.args.saturate c.rounded.result c.settle.result = rw q at c.settle.ensures in
+    let parts : IsSplit c.args.v (2 ^ nat_abs x) c.shifted_down.result.floor c.shifted_down.result.part = rw v at c.shifted_down.ensures.split in
+    rw (c.in-Num.is, e) (converts_down c.args.v c.args.from c.in-Num.signed c.in-Num.width c.in-Num.frac c.args.mode c.args.saturate c.settle.result (nat_abs x)
+    c.shifted_down.result.floor c.shifted_down.result.part c.rounded.result
+    (gap_is c.in-Num.frac (frac_of c.args.from) x order difference) (gap_none (frac_of c.args.from) c.in-Num.frac order) parts c.rounded.ensures settled)

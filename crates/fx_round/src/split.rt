@@ -1,0 +1,127 @@
+//! A number between two whole numbers, and which of them a rounding mode takes.
+ghost use Rattle.std.specs.Prelude.{◌≡◌, ℕ, ◌*◌, ◌^◌, ◌<◌, ◌≤◌, ◌-◌, ℤ, pos, ◌<ℤ◌};
+ghost use Rattle.fx_type.specs.Conversion.{Rounds};
+ghost use Rattle.fx_round.specs.Split.{IsPart, IsSplit, takes_upper};
+
+use fx_type::Rounding;
+
+/// Where a number lies between the whole number below it and the next.
+#[derive(Clone, Copy)]
+pub enum Part {
+    /// It is the lower one.
+    Whole,
+    /// Nearer to the lower one.
+    BelowHalf,
+    /// In the middle.
+    Half,
+    /// Nearer to the upper one.
+    AboveHalf,
+}
+
+/// The whole number below a number, and where the number lies above it.
+#[derive(Clone, Copy)]
+pub struct Split {
+    pub floor: i128,
+    pub part: Part,
+}
+
+/// Where `rest` lies between 0 and `unit`.
+pub fn part_of(rest: u128, unit: u128) -> Part
+    requires unit { unit ≤ 2 ^ 127 }
+    requires below { rest < unit }
+    ensures { IsPart unit rest result }
+{
+    if rest == 0 {
+        Part::Whole
+    } else if 2 * rest < unit {
+        Part::BelowHalf
+    } else if 2 * rest == unit {
+        Part::Half
+    } else {
+        Part::AboveHalf
+    }
+}
+
+/// `v` over 2 to the power `by`.
+pub fn shifted_down(v: i128, by: u32) -> Split
+    requires { 1 ≤ by }
+    ensures room { result.floor <ℤ pos (2 ^ 126) }
+    ensures split { IsSplit v (2 ^ by) result.floor result.part }
+{
+    if by < 128 {
+        let rest = v.cast_unsigned() & ((1 << by) - 1);
+        Split {
+            floor: v >> by,
+            part: part_of(rest, 1 << by),
+        }
+    } else {
+        far_split(v, by)
+    }
+}
+
+/// The same, where the power is above every number of 128 bits.
+fn far_split(v: i128, by: u32) -> Split
+    requires { 128 ≤ by }
+    ensures room { result.floor <ℤ pos (2 ^ 126) }
+    ensures split { IsSplit v (2 ^ by) result.floor result.part }
+{
+    if v > 0 {
+        Split {
+            floor: 0,
+            part: Part::BelowHalf,
+        }
+    } else if v == 0 {
+        Split {
+            floor: 0,
+            part: Part::Whole,
+        }
+    } else if v == i128::MIN && by == 128 {
+        Split {
+            floor: -1,
+            part: Part::Half,
+        }
+    } else {
+        Split {
+            floor: -1,
+            part: Part::AboveHalf,
+        }
+    }
+}
+
+/// Whether the mode takes the upper of the two whole numbers.
+fn takes_upper(mode: Rounding, part: Part, negative: bool, odd: bool) -> bool
+    ensures { result ≡ takes_upper mode part negative odd }
+{
+    match part {
+        Part::Whole => false,
+        Part::BelowHalf => match mode {
+            Rounding::Ceiling => true,
+            Rounding::Zero => negative,
+            _ => false,
+        },
+        Part::Half => match mode {
+            Rounding::Floor => false,
+            Rounding::Ceiling | Rounding::Nearest => true,
+            Rounding::Zero => negative,
+            Rounding::Round => !negative,
+            Rounding::Convergent => odd,
+        },
+        Part::AboveHalf => match mode {
+            Rounding::Floor => false,
+            Rounding::Zero => negative,
+            _ => true,
+        },
+    }
+}
+
+/// The whole number that the mode gives. It is that of every fraction with this split.
+pub fn rounded(split: Split, mode: Rounding) -> i128
+    requires { split.floor <ℤ pos (2 ^ 127 - 1) }
+    ensures { (n : ℤ) (d : ℕ) → IsSplit n d split.floor split.part → Rounds mode n d result }
+{
+    if takes_upper(mode, split.part, split.floor < 0, split.floor % 2 != 0) {
+        split.floor + 1
+    } else {
+        split.floor
+    }
+}
