@@ -41,10 +41,10 @@ module _ (n : ℤ) (d : ℕ) (floor : ℤ) (rest : ℕ) (whole : n ≡ floor *�
   up_high : 0 < rest → RoundsUp n d (floor +ℤ pos 1)
   up_high h = let e = next-scaled floor d in record { at_least = omega (arith, ints, whole, e); previous_below = omega (arith, ints, whole, e) }
 
-  ties_up_low : 2 * rest < d → RoundsTiesUp n d floor
+  pub ties_up_low : 2 * rest < d → RoundsTiesUp n d floor
   ties_up_low h = record { above = omega (arith, ints, whole); at_most = omega (arith, ints, whole) }
 
-  ties_up_high : d ≤ 2 * rest → RoundsTiesUp n d (floor +ℤ pos 1)
+  pub ties_up_high : d ≤ 2 * rest → RoundsTiesUp n d (floor +ℤ pos 1)
   ties_up_high h = let e = next-scaled floor d in record { above = omega (arith, ints, whole, e); at_most = omega (arith, ints, whole, e) }
 
   ties_down_low : 2 * rest ≤ d → RoundsTiesDown n d floor

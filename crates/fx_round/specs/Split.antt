@@ -1,8 +1,9 @@
 -- A number between two whole numbers, as the lower one and the place between them.
-use Rattle.std.specs.Prelude.{◌≡◌, ℕ, ◌*◌, ◌<◌, Bool, true, false, not, ℤ, pos, ◌+ℤ◌, ◌*ℤ◌}
+use Rattle.std.specs.Prelude.{◌≡◌, ℕ, ◌*◌, ◌<◌, Bool, true, false, ℤ, pos, ◌+ℤ◌, ◌*ℤ◌, ◌≤ℤ◌, ◌≤◌, ◌+◌, not, Option, Some, None}
 use Rattle.fx_round.specs.declared.split.Part.{Part}
 use Rattle.fx_round.specs.declared.split.Part.TheVariants.{Whole, BelowHalf, Half, AboveHalf}
 use Rattle.fx_round.specs.declared.split.Split.{Split}
+use Rattle.fx_round.specs.declared.stored.Mixed.{Mixed}
 use Rattle.fx_type.specs.declared.rounding.Rounding.{Rounding}
 use Rattle.fx_type.specs.declared.rounding.Rounding.TheVariants.{Floor, Ceiling, Zero, Nearest, Round, Convergent}
 
@@ -41,3 +42,17 @@ takes_upper Round AboveHalf negative odd = true
 takes_upper Convergent BelowHalf negative odd = false
 takes_upper Convergent Half negative odd = odd
 takes_upper Convergent AboveHalf negative odd = true
+
+-- the split of n / d, which is not negative
+pub record IsMagnitude (n d : ℕ) (split : Split) : Type 0 where
+  pub not_negative : pos 0 ≤ℤ split.floor
+  pub is_split : IsSplit (pos n) d split.floor split.part
+
+-- the split of n / d, or nothing where that is 2 to the power 127 or more
+abbrev pub IsSize : ℕ → ℕ → Option Split → Type 0
+IsSize n d None = 170141183460469231731687303715884105728 * d ≤ n
+IsSize n d (Some split) = IsMagnitude n d split
+
+-- the number with the whole part and rest, over `unit`, counted in units
+abbrev pub mixed_count : Mixed → ℕ → ℕ
+mixed_count mixed unit = mixed.whole * unit + mixed.rest

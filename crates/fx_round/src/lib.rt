@@ -17,5 +17,7 @@
 mod conversion;
 mod settle;
 mod split;
+mod stored;
 
 pub use conversion::convert;
+pub use stored::to_stored;

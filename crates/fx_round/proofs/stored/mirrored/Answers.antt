@@ -1,0 +1,19 @@
+use Rattle.std.proofs.Common.{◌≡◌, ◌-◌, ◌*◌, ◌<◌, ℤ, pos, negsuc, ◌+ℤ◌, ◌-ℤ◌, neg_ℤ, FitsSigned, to_z, of_z, arith, rules}
+use Rattle.std.specs.Int.{w128}
+use Rattle.std.proofs.lemmas.Int.{ints}
+use Rattle.fx_round.specs.declared.split.Part.TheVariants.{BelowHalf, AboveHalf}
+use Rattle.fx_round.specs.Split.{IsPart, IsSplit}
+use Rattle.fx_round.proofs.Sizes.{mirror_split}
+use Rattle.fx_round.proofs.stored.mirrored.Goals as goal
+
+pub returns-in-BelowHalf-clause-split : goal.returns-in-BelowHalf-clause-split
+returns-in-BelowHalf-clause-split c n d s =
+    let f : FitsSigned w128 c.args.split.floor = search rules in
+    let p : IsPart d s.rest BelowHalf = rw c.in-BelowHalf.is at s.is_part in
+    mirror_split n c.args.split.floor _ d c.args.split.part AboveHalf (omega (arith, ints, f, c.requires)) s p.0 (omega (arith, p.0, p.1))
+
+pub returns-in-AboveHalf-clause-split : goal.returns-in-AboveHalf-clause-split
+returns-in-AboveHalf-clause-split c n d s =
+    let f : FitsSigned w128 c.args.split.floor = search rules in
+    let p : IsPart d s.rest AboveHalf = rw c.in-AboveHalf.is at s.is_part in
+    mirror_split n c.args.split.floor _ d c.args.split.part BelowHalf (omega (arith, ints, f, c.requires)) s (omega (arith, p, s.below)) (omega (arith, s.below), omega (arith, p, s.below))
