@@ -15,9 +15,11 @@
 #![tactic(auto)]
 
 mod conversion;
+mod decimal;
 mod settle;
 mod split;
 mod stored;
 
 pub use conversion::convert;
+pub use decimal::{DecimalFault, read_decimal};
 pub use stored::to_stored;

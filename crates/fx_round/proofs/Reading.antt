@@ -1,0 +1,80 @@
+-- Digits of a text.
+use Rattle.std.proofs.Common.{◌≡◌, ℕ, zero, suc, ◌+◌, ◌-◌, ◌*◌, ◌^◌, ◌<◌, ◌≤◌, ◌⊎◌, inl, inr, Bool, true, false, cond, ◌&&◌, List, [], ◌∷◌, ◌++◌, length, get_or, take, drop, min, All, ap, ap₂, sym, ◌∙◌, refl, subst, arith, true≢false, eqb, leb-true, ℤ, pos, ◌-ℤ◌, Result, Ok, Err, Option, Some, None, MatchResult}
+use Rattle.std.specs.Char.{is_ascii_digit, digit_value}
+use Rattle.std.specs.Str.Parse.{digits_value_after}
+use Rattle.std.proofs.lemmas.List.{take_more}
+use Rattle.std.proofs.lemmas.List.Elements.{All-nil, All-cons}
+use Rattle.std.proofs.lemmas.Str.{digit_value_digit}
+use Rattle.fx_round.specs.DecimalText.{front_digits, after_digits, fraction_digits, after_sign, after_fraction, is_minus, exponent_of, whole_digits, fraction_of, all_digits, IsNumeral, IsShort, IsDecimalOf, IsLong, Explains}
+use Rattle.fx_type.specs.declared.decimal.Decimal.{Decimal}
+use Rattle.fx_round.specs.declared.decimal.DecimalFault.{DecimalFault}
+use Rattle.fx_round.specs.declared.decimal.DecimalFault.TheVariants.{NotANumber, TooLong}
+
+both : (a b : Bool) → (a && b) ≡ true → (a ≡ true) × (b ≡ true)
+both true b e = (refl, e)
+both false b e = absurd (true≢false (sym e))
+
+pub digit_range : (c : ℕ) → is_ascii_digit c ≡ true → (48 ≤ c) × (c ≤ 57)
+digit_range c e = let h = both _ _ e in (leb-true 48 c h.0, leb-true c 57 h.1)
+
+pub digit_is : (c : ℕ) → is_ascii_digit c ≡ true → digit_value c + 48 ≡ c
+digit_is c e = digit_value_digit c (digit_range c e)
+
+pub front_split : (xs : List ℕ) (n : ℕ) → n ≤ length xs → ((k : ℕ) → k < n → is_ascii_digit (get_or xs k 0) ≡ true) → ((n ≡ length xs) ⊎ (is_ascii_digit (get_or xs n 0) ≡ false)) → (take n xs ≡ front_digits xs) × (drop n xs ≡ after_digits xs)
+front_split [] zero h all stop = (refl, refl)
+front_split [] (suc n) h all stop = (refl, refl)
+front_split (c ∷ cs) zero h all (inl e) = absurd (omega arith)
+front_split (c ∷ cs) zero h all (inr e) = rw e (refl, refl)
+front_split (c ∷ cs) (suc n) h all stop =
+    let first : is_ascii_digit c ≡ true = all 0 (omega arith) in
+    let rest = front_split cs n (omega arith) (λ k l. all (suc k) (omega arith)) (later stop) in
+    rw first (ap (λ (ys : List ℕ). c ∷ ys) rest.0, rest.1)
+  where
+    later : ((suc n ≡ length (c ∷ cs)) ⊎ (is_ascii_digit (get_or (c ∷ cs) (suc n) 0) ≡ false)) → ((n ≡ length cs) ⊎ (is_ascii_digit (get_or cs n 0) ≡ false))
+    later (inl e) = inl (omega arith)
+    later (inr e) = inr e
+
+abbrev Pass : ℕ → Type 0
+Pass c = is_ascii_digit c ≡ true
+
+pub front_pass : (xs : List ℕ) → All (λ c. is_ascii_digit c ≡ true) (front_digits xs)
+front_pass [] = All-nil Pass
+front_pass (c ∷ cs) = choose (front_pass cs) (is_ascii_digit c) refl
+  where
+    choose : All (λ y. is_ascii_digit y ≡ true) (front_digits cs) → (b : Bool) → is_ascii_digit c ≡ b → All (λ y. is_ascii_digit y ≡ true) (cond b (c ∷ front_digits cs) [])
+    choose rest true e = All-cons Pass c (front_digits cs) e rest
+    choose rest false e = All-nil Pass
+
+pub fraction_pass : (xs : List ℕ) → All (λ c. is_ascii_digit c ≡ true) (fraction_digits xs)
+fraction_pass [] = All-nil Pass
+fraction_pass (c ∷ cs) = choose (eqb c 46)
+  where
+    choose : (b : Bool) → All (λ y. is_ascii_digit y ≡ true) (cond b (front_digits cs) [])
+    choose true = front_pass cs
+    choose false = All-nil Pass
+
+after_push : (n : ℕ) (ds : List ℕ) (c : ℕ) → digits_value_after 10 n (ds ++ (c ∷ [])) ≡ digits_value_after 10 n ds * 10 + digit_value c
+after_push n [] c = refl
+after_push n (d ∷ ds) c = after_push (n * 10 + digit_value d) ds c
+
+pub after_more : (n : ℕ) (ds : List ℕ) (i : ℕ) → i < length ds → digits_value_after 10 n (take (i + 1) ds) ≡ digits_value_after 10 n (take i ds) * 10 + digit_value (get_or ds i 0)
+after_more n ds i h = ap (digits_value_after 10 n) (take_more ds i 0 h) ∙ after_push n (take i ds) (get_or ds i 0)
+
+-- ---- what was read
+pub read_known : (text : List ℕ) (r : Result Decimal DecimalFault) (digits behind : ℕ) (written : ℤ) (negative : Bool)
+    → MatchResult r (λ d. IsShort digits behind written × (d.negative ≡ negative) × (d.digits ≡ digits) × (d.exponent ≡ written -ℤ pos behind)) (λ fault. (fault ≡ TooLong) × (¬ IsShort digits behind written))
+    → negative ≡ is_minus text → digits ≡ min (all_digits text) 1000000000000000000 → behind ≡ length (fraction_of text)
+    → 1 ≤ length (whole_digits text) + length (fraction_of text) → exponent_of (after_fraction (after_digits (after_sign text))) ≡ Some written
+    → MatchResult r (IsDecimalOf text) (Explains text)
+read_known text (Ok d) digits behind written negative (short, n, v, x) en ed eb some e = record {
+  numeral = record { exponent = written; some_digit = some; is_exponent = e };
+  short = record { few_digits = omega (arith, ed, short.few_digits); few_behind = omega (arith, eb, short.few_behind); least = short.least; greatest = short.greatest };
+  negative = n ∙ en;
+  digits = v ∙ omega (arith, ed, short.few_digits);
+  exponent = x ∙ ap (λ (k : ℕ). written -ℤ pos k) eb;
+}
+read_known text (Err fault) digits behind written negative (f, long) en ed eb some e =
+    subst (λ (x : DecimalFault). Explains text x) (sym f) (record {
+      numeral = record { exponent = written; some_digit = some; is_exponent = e };
+      long = λ s. long (record { few_digits = omega (arith, ed, s.few_digits); few_behind = omega (arith, eb, s.few_behind); least = s.least; greatest = s.greatest });
+    })

@@ -1,0 +1,189 @@
+//! Decimals read from text.
+ghost use Rattle.std.specs.Prelude.{◌≡◌, ℕ, ◌^◌, ◌≤◌, ◌↔◌, min, pos, ◌-ℤ◌, MatchResult, IfOk};
+ghost use Rattle.std.specs.List.{AllPass};
+ghost use Rattle.std.specs.Char.{is_ascii_digit};
+ghost use Rattle.std.specs.Str.Parse.{digits_value_after};
+ghost use Rattle.fx_round.specs.DecimalText.{front_digits, after_digits, is_minus, after_sign, fraction_digits, after_fraction, one_or_two, exponent_of, IsShort, IsDecimalOf, IsDecimal, IsDecimalText, IsLong, Explains};
+
+use fx_type::Decimal;
+
+/// The least number of 19 digits.
+const NINETEEN_DIGITS: u64 = 1_000_000_000_000_000_000;
+
+/// The digits that the text begins with, and what follows them.
+fn split_digits(text: &[u8]) -> (&[u8], &[u8])
+    ensures front { result.0.now ≡ front_digits text.now }
+    ensures back { result.1.now ≡ after_digits text.now }
+{
+    for (i, byte) in text.iter().enumerate() {
+        if !byte.is_ascii_digit() {
+            return text.split_at(i);
+        }
+    }
+    text.split_at(text.len())
+}
+
+/// Whether the text begins with a minus sign.
+fn is_minus(text: &[u8]) -> bool
+    ensures { result ≡ is_minus text.now }
+{
+    !text.is_empty() && text[0] == b'-'
+}
+
+/// What follows the text's sign.
+fn after_sign(text: &[u8]) -> &[u8]
+    ensures { result.now ≡ after_sign text.now }
+{
+    if text.is_empty() {
+        text
+    } else if text[0] == b'+' || text[0] == b'-' {
+        &text[1..]
+    } else {
+        text
+    }
+}
+
+/// The digits behind a point, and what follows them.
+fn split_fraction(text: &[u8]) -> (&[u8], &[u8])
+    ensures front { result.0.now ≡ fraction_digits text.now }
+    ensures back { result.1.now ≡ after_fraction text.now }
+{
+    if text.is_empty() {
+        text.split_at(0)
+    } else if text[0] == b'.' {
+        split_digits(&text[1..])
+    } else {
+        text.split_at(0)
+    }
+}
+
+/// The number that one or two digits are.
+fn one_or_two(text: &[u8]) -> Option<u8>
+    ensures { result ≡ one_or_two text.now }
+{
+    if text.len() == 1 && text[0].is_ascii_digit() {
+        Some(text[0] - b'0')
+    } else if text.len() == 2 && text[0].is_ascii_digit() && text[1].is_ascii_digit() {
+        Some((text[0] - b'0') * 10 + (text[1] - b'0'))
+    } else {
+        None
+    }
+}
+
+/// The exponent that the text is.
+fn exponent_of(text: &[u8]) -> Option<i16>
+    ensures { result ≡ exponent_of text.now }
+{
+    if text.is_empty() {
+        return Some(0);
+    }
+    if text[0] != b'e' && text[0] != b'E' {
+        return None;
+    }
+    let written = &text[1..];
+    let size = one_or_two(after_sign(written));
+    match size {
+        Some(n) if is_minus(written) => Some(-i16::from(n)),
+        Some(n) => Some(i16::from(n)),
+        None => None,
+    }
+}
+
+/// The number `start` with further digits behind it, or the least number of 19 digits where it is
+/// that or more.
+fn read_on(start: u64, digits: &[u8]) -> u64
+    requires start { start ≤ 10 ^ 18 }
+    requires digits { AllPass is_ascii_digit digits.now }
+    ensures value { (n : ℕ) → start ≡ min n (10 ^ 18) → result ≡ min (digits_value_after 10 n digits.now) (10 ^ 18) }
+    ensures bound { result ≤ 10 ^ 18 }
+{
+    let mut number = start;
+    for byte in digits {
+        let digit = u64::from(byte.saturating_sub(b'0'));
+        number = (number * 10 + digit).min(NINETEEN_DIGITS);
+    }
+    number
+}
+
+/// Why a text is no decimal.
+#[derive(Clone, Copy, Debug, PartialEq, Eq)]
+pub enum DecimalFault {
+    /// It does not have the form of one.
+    NotANumber,
+    /// It has more than 18 digits behind its leading zeros or behind its point, or an exponent past
+    /// 18 either way.
+    TooLong,
+}
+
+/// The decimal of these parts, if it is short.
+fn decimal_of(
+    negative: bool,
+    digits: u64,
+    behind: usize,
+    written: i16,
+) -> Result<Decimal, DecimalFault>
+    ensures { MatchResult result
+        (λ d. IsShort digits behind written × (d.negative ≡ negative) × (d.digits ≡ digits) × (d.exponent ≡ written -ℤ pos behind))
+        (λ fault. (fault ≡ DecimalFault.TooLong) × (¬ IsShort digits behind written)) }
+{
+    if digits >= NINETEEN_DIGITS {
+        return Err(DecimalFault::TooLong);
+    }
+    if behind > 18 {
+        return Err(DecimalFault::TooLong);
+    }
+    if written < -18 {
+        return Err(DecimalFault::TooLong);
+    }
+    if written > 18 {
+        return Err(DecimalFault::TooLong);
+    }
+    Ok(Decimal {
+        negative,
+        digits,
+        exponent: (written - behind as i16) as i8,
+    })
+}
+
+/// Reads a decimal that is no word.
+fn read_number(text: &[u8]) -> Result<Decimal, DecimalFault>
+    ensures { MatchResult result (IsDecimalOf text.now) (Explains text.now) }
+{
+    let (whole, rest) = split_digits(after_sign(text));
+    let (fraction, tail) = split_fraction(rest);
+    if whole.len() + fraction.len() == 0 {
+        return Err(DecimalFault::NotANumber);
+    }
+    match exponent_of(tail) {
+        None => Err(DecimalFault::NotANumber),
+        Some(written) => {
+            let digits = read_on(read_on(0, whole), fraction);
+            decimal_of(is_minus(text), digits, fraction.len(), written)
+        }
+    }
+}
+
+/// Reads a decimal: an optional sign, digits with at most one point and at least one digit, and
+/// optionally `e` or `E`, an optional sign and one or two digits. `true` is 1 and `false` is 0.
+/// Source: own.
+pub fn read_decimal(text: &[u8]) -> Result<Decimal, DecimalFault>
+    ensures ok { IfOk result (IsDecimal text.now) }
+    ensures not_a_number { (result ≡ Err DecimalFault.NotANumber) ↔ (¬ IsDecimalText text.now) }
+    ensures too_long { (result ≡ Err DecimalFault.TooLong) ↔ IsLong text.now }
+{
+    if text == b"true".as_slice() {
+        Ok(Decimal {
+            negative: false,
+            digits: 1,
+            exponent: 0,
+        })
+    } else if text == b"false".as_slice() {
+        Ok(Decimal {
+            negative: false,
+            digits: 0,
+            exponent: 0,
+        })
+    } else {
+        read_number(text)
+    }
+}
