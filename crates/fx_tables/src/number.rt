@@ -1,0 +1,120 @@
+ghost use Rattle.std.specs.Prelude.{◌≡◌, ◌-◌, ◌^◌, ◌<◌, ◌≤◌, pos, neg_ℤ, IsTrue, true, false, length, MatchOption, min};
+ghost use Rattle.std.specs.List.{list_all};
+ghost use Rattle.std.specs.Char.{is_ascii_digit};
+ghost use Rattle.std.specs.Str.Parse.{digits_value, starts_with_minus};
+ghost use Rattle.fx_tables.specs.Number.{IsMagnitude, IsNumber, IsReading};
+
+/// The most digits of a whole number.
+const MOST_DIGITS: usize = 64;
+/// The most digits whose number surely fits 64 bits.
+const SHORT_DIGITS: usize = 18;
+/// The magnitude of the least number of 128 bits with a sign.
+const GREATEST_MAGNITUDE: u128 = 1 << 127;
+
+/// What a field says as a whole number.
+#[derive(Clone, Copy)]
+pub(crate) enum Whole {
+    /// It is no whole number.
+    Not,
+    /// The number does not fit 128 bits with a sign.
+    Far,
+    /// The number.
+    Near(i128),
+}
+
+/// Reads an optional minus and 1 to 64 digits.
+pub(crate) fn read_whole(text: &[u8]) -> Whole
+    ensures { IsReading text.now result }
+{
+    if has_minus(text) {
+        match read_magnitude(&text[1..]) {
+            None => Whole::Not,
+            Some(magnitude) => negative(magnitude),
+        }
+    } else {
+        match read_magnitude(text) {
+            None => Whole::Not,
+            Some(magnitude) => positive(magnitude),
+        }
+    }
+}
+
+/// Whether a minus stands first.
+fn has_minus(text: &[u8]) -> bool
+    ensures value { result ≡ starts_with_minus text.now }
+    ensures some { IsTrue result → 0 < length text.now }
+{
+    !text.is_empty() && text[0] == b'-'
+}
+
+/// Minus the magnitude.
+fn negative(magnitude: u128) -> Whole
+    ensures { IsNumber (neg_ℤ (pos magnitude)) result }
+{
+    if magnitude < GREATEST_MAGNITUDE {
+        Whole::Near(-(magnitude as i128))
+    } else if magnitude == GREATEST_MAGNITUDE {
+        Whole::Near(i128::MIN)
+    } else {
+        Whole::Far
+    }
+}
+
+/// The magnitude itself.
+fn positive(magnitude: u128) -> Whole
+    ensures { IsNumber (pos magnitude) result }
+{
+    if magnitude < GREATEST_MAGNITUDE {
+        Whole::Near(magnitude as i128)
+    } else {
+        Whole::Far
+    }
+}
+
+/// Reads 1 to 64 digits; a number that does not fit reads as the greatest that does.
+fn read_magnitude(digits: &[u8]) -> Option<u128>
+    ensures { IsMagnitude digits.now result }
+{
+    if digits.is_empty() || digits.len() > MOST_DIGITS {
+        return None;
+    }
+    if digits.len() <= SHORT_DIGITS {
+        match read_short(digits) {
+            None => None,
+            Some(value) => Some(u128::from(value)),
+        }
+    } else {
+        read_long(digits)
+    }
+}
+
+/// Reads up to 18 digits.
+fn read_short(digits: &[u8]) -> Option<u64>
+    requires { length digits.now ≤ 18 }
+    ensures { MatchOption result (list_all is_ascii_digit digits.now ≡ false) (λ value. (list_all is_ascii_digit digits.now ≡ true) × (value ≡ digits_value 10 digits.now)) }
+{
+    let mut value = 0u64;
+    for digit in digits {
+        if !digit.is_ascii_digit() {
+            return None;
+        }
+        value = value * 10 + u64::from(*digit - b'0');
+    }
+    Some(value)
+}
+
+/// Reads digits; a number that does not fit reads as the greatest that does.
+fn read_long(digits: &[u8]) -> Option<u128>
+    ensures { MatchOption result (list_all is_ascii_digit digits.now ≡ false) (λ value. (list_all is_ascii_digit digits.now ≡ true) × (value ≡ min (digits_value 10 digits.now) (2 ^ 128 - 1))) }
+{
+    let mut value = 0u128;
+    for digit in digits {
+        if !digit.is_ascii_digit() {
+            return None;
+        }
+        value = value
+            .saturating_mul(10)
+            .saturating_add(u128::from(*digit - b'0'));
+    }
+    Some(value)
+}

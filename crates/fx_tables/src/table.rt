@@ -1,0 +1,100 @@
+ghost use Rattle.std.specs.Prelude.{◌≡◌, ◌+◌, ◌*◌, ◌<◌, length, slice_get};
+
+use fx_io::{Cells, Sequence};
+use thiserror::Error;
+
+/// What one field of each line holds: an element of an input or an output (own).
+#[derive(Clone, Copy, Debug)]
+pub struct Column {
+    /// The least stored integer.
+    pub low: i128,
+    /// The greatest stored integer.
+    pub high: i128,
+    /// The base samples from one number to the next, at least 1; the first stands at sample 0.
+    pub period: u32,
+}
+
+/// The columns of a table from left to right.
+pub type Columns = Sequence<Column>;
+
+/// The numbers of a table, line by line (own). A cell where no number stands is 0.
+#[derive(Debug, Drop)]
+pub struct Rows {
+    /// How many lines there are, one per base sample.
+    pub lines: u64,
+    /// How many cells each line has.
+    pub columns: u32,
+    /// The cells, line after line.
+    pub cells: Cells,
+    ghost full: { length cells ≡ lines * columns },
+}
+
+impl Rows {
+    /// How many lines there are.
+    pub fn count(&self) -> u64
+        ensures { result ≡ self.now.lines }
+    {
+        self.lines
+    }
+
+    /// The cell of a line and a column, both from 0.
+    pub fn get(&self, row: u64, column: u32) -> i128
+        requires row_is_there { row < self.now.lines }
+        requires column_is_there { column < self.now.columns }
+        ensures { slice_get self.now.cells (row * self.now.columns + column) ≡ Some result }
+    {
+        self.cells.as_slice()[row as usize * self.columns as usize + column as usize]
+    }
+}
+
+/// Why a text is no table, or no plan (own).
+#[derive(Clone, Copy, Debug, PartialEq, Eq, Error)]
+pub enum TableFault {
+    /// A line, from 1, is bad; it is the first.
+    #[error("line {line}: {cause}")]
+    Bad {
+        /// The line, from 1.
+        line: u64,
+        /// The first cause in this line.
+        cause: TableCause,
+    },
+    /// Memory is wanting.
+    #[error("out of memory")]
+    OutOfMemory,
+}
+
+/// What is wrong with a line (own).
+#[derive(Clone, Copy, Debug, PartialEq, Eq, Error)]
+pub enum TableCause {
+    /// The lines up to this one, times the fields of a line, are above 50,000,000.
+    #[error("too many rows")]
+    TooManyRows,
+    /// The line has not one field per column.
+    #[error("field count")]
+    FieldCount,
+    /// A field is neither `-` nor a minus that may lack and 1 to 64 digits.
+    #[error("not a whole number")]
+    NotWhole,
+    /// A number is outside the range of its column.
+    #[error("out of range")]
+    OutOfRange,
+    /// A field is `-` at a sample where its column has a number.
+    #[error("dash at a hit")]
+    DashAtHit,
+    /// A number stands at a sample where its column has none.
+    #[error("number off a hit")]
+    NumberOffHit,
+    /// A line of a plan has no form, or says again what an earlier line says.
+    #[error("plan line")]
+    PlanLine,
+}
+
+impl From<fx_io::OutOfMemory> for TableFault {
+    ghost use Rattle.fx_tables.specs.declared.table.TableFault.TheVariants.{OutOfMemory};
+
+    ghost from_gives = { λ _ fault. fault ≡ OutOfMemory };
+
+    fn from(_refused: fx_io::OutOfMemory) -> TableFault {
+        TableFault::OutOfMemory
+    }
+}
