@@ -1,11 +1,11 @@
 -- How the fields of a line come off one by one.
-use Rattle.std.proofs.Common.{◌≡◌, ℕ, zero, suc, ◌<◌, ◌≤◌, true, false, List, [], ◌∷◌, length, get_or, take, drop, refl, sym, ap, length-drop, inl, inr, ◌∙◌, arith, rules}
+use Rattle.std.proofs.Common.{◌≡◌, ℕ, zero, suc, ◌<◌, ◌≤◌, true, false, List, [], ◌∷◌, length, get_or, take, drop, refl, sym, ap, length-take, inl, inr, ◌∙◌, arith, rules}
 use Rattle.std.specs.Prelude.{filter, ◌⊎◌}
 use Rattle.std.specs.List.{slice_split}
 use Rattle.std.proofs.lemmas.List.Splits.{slice_split-cons_yes}
-use Rattle.std.proofs.lemmas.List.{take_all, drop_all, get_or-drop}
-use Rattle.std.proofs.lemmas.Bool.{cases_lt, false≢true}
-use Rattle.fx_tables.specs.Fields.{is_blank, is_run, fields_of}
+use Rattle.std.proofs.lemmas.List.{take_all, drop_all}
+use Rattle.std.proofs.lemmas.Bool.{cond-true, cond-false, cases_lt, false≢true}
+use Rattle.fx_tables.specs.Fields.{is_blank, after_blanks, is_run, fields_of}
 use Rattle.fx_tables.proofs.SplitLemmas.{slice_split-first, slice_split-whole}
 
 fields_of-blank : (b : ℕ) (line : List ℕ) → is_blank b ≡ true → fields_of (b ∷ line) ≡ fields_of line
@@ -48,27 +48,28 @@ by_place n line some before found (inr whole) =
 pub fields_of-field : (n : ℕ) (line : List ℕ) → 0 < n → n ≤ length line → ((k : ℕ) → k < n → is_blank (get_or line k 0) ≡ false) → (n < length line → is_blank (get_or line n 0) ≡ true) → fields_of line ≡ take n line ∷ fields_of (drop n line)
 fields_of-field n line some fits before found = by_place n line some before found (apart n (length line) fits)
 
--- blanks up to s, and then a run of e bytes
-pub record IsCutAt (line rest : List ℕ) (s e : ℕ) : Type 0 where
-  pub start_within : s ≤ length line
-  pub blanks : (k : ℕ) → k < s → is_blank (get_or line k 0) ≡ true
-  pub start : s < length line → is_blank (get_or line s 0) ≡ false
+pub after_blanks-drop : (n : ℕ) (line : List ℕ) → n ≤ length line → ((k : ℕ) → k < n → is_blank (get_or line k 0) ≡ true) → (n < length line → is_blank (get_or line n 0) ≡ false) → drop n line ≡ after_blanks line
+after_blanks-drop zero [] fits blank found = refl
+after_blanks-drop zero (b ∷ line) fits blank found = sym (cond-false (is_blank b) (after_blanks line) (b ∷ line) (found (omega arith)))
+after_blanks-drop (suc n) [] fits blank found = absurd (omega arith)
+after_blanks-drop (suc n) (b ∷ line) fits blank found =
+    after_blanks-drop n line (omega arith) (λ k h. blank (suc k) (omega arith)) (λ h. found (omega arith))
+    ∙ sym (cond-true (is_blank b) (after_blanks line) (b ∷ line) (blank 0 (omega arith)))
+
+-- a run of e bytes at the start
+pub record IsRunAt (rest : List ℕ) (e : ℕ) : Type 0 where
+  pub start : 0 < length rest → is_blank (get_or rest 0 0) ≡ false
   pub end_within : e ≤ length rest
   pub run : (k : ℕ) → k < e → is_blank (get_or rest k 0) ≡ false
   pub end : e < length rest → is_blank (get_or rest e 0) ≡ true
 
-first_of_rest : (line : List ℕ) (s : ℕ) → get_or (drop s line) 0 0 ≡ get_or line s 0
-first_of_rest line s = get_or-drop s line 0 0 ∙ ap (λ k. get_or line k 0) (omega arith)
+fields_of-none : (rest : List ℕ) → IsRunAt rest 0 → fields_of rest ≡ []
+fields_of-none [] cut = refl
+fields_of-none (b ∷ rest) cut = absurd (false≢true (sym (cut.start (omega arith)) ∙ cut.end (omega arith)))
 
-pub fields_of-none : (line rest : List ℕ) (s : ℕ) → rest ≡ drop s line → IsCutAt line rest s 0 → fields_of line ≡ []
-fields_of-none line [] s is cut = fields_of-drop_blanks s line cut.start_within cut.blanks ∙ ap fields_of (sym is)
-fields_of-none line (b ∷ rest) s is cut =
-    let longer : s < length line = omega (arith, ap length is, length-drop s line) in
-    let first : is_blank (get_or line s 0) ≡ true = ap is_blank (sym (first_of_rest line s) ∙ ap (λ l. get_or l 0 0) (sym is)) ∙ cut.end (omega arith) in
-    absurd (false≢true (sym (cut.start longer) ∙ first))
+pub no_field : (rest : List ℕ) (e : ℕ) → IsRunAt rest e → length (take e rest) ≡ 0 → fields_of rest ≡ []
+no_field rest zero cut none = fields_of-none rest cut
+no_field rest (suc e) cut none = absurd (omega (arith, length-take (suc e) rest, cut.end_within))
 
-pub fields_of-cut : (line rest : List ℕ) (s e : ℕ) → rest ≡ drop s line → 0 < e → IsCutAt line rest s e → fields_of line ≡ take e rest ∷ fields_of (drop e rest)
-fields_of-cut line rest s e is some cut =
-    fields_of-drop_blanks s line cut.start_within cut.blanks
-    ∙ ap fields_of (sym is)
-    ∙ fields_of-field e rest some cut.end_within cut.run cut.end
+pub first_field : (rest : List ℕ) (e : ℕ) → IsRunAt rest e → 0 < length (take e rest) → fields_of rest ≡ take e rest ∷ fields_of (drop e rest)
+first_field rest e cut some = fields_of-field e rest (omega (arith, length-take e rest)) cut.end_within cut.run cut.end

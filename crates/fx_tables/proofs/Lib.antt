@@ -2,5 +2,8 @@ pub mod SplitLemmas
 pub mod FieldsLemmas
 pub mod LinesLemmas
 pub mod NumberLemmas
+pub mod QuotedLemmas
+pub mod DraftLemmas
+pub mod PlanLemmas
 pub mod StimulusLemmas
 pub mod ResponseLemmas

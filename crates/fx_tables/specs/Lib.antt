@@ -4,3 +4,6 @@ pub mod Number
 pub mod Stimulus
 pub mod Response
 pub mod RowText
+pub mod Quoted
+pub mod Plan
+pub mod Draft

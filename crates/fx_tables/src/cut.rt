@@ -1,6 +1,6 @@
-ghost use Rattle.std.specs.Prelude.{◌≡◌, ℕ, ◌+◌, ◌∷◌, ◌<◌, ◌≤◌, [], true, false, length, slice_index, if◌then◌else◌, ◌==◌};
+ghost use Rattle.std.specs.Prelude.{◌≡◌, ℕ, ◌+◌, ◌∷◌, ◌<◌, ◌≤◌, [], true, false, length, drop, slice_index, ◌==◌};
 ghost use Rattle.std.specs.Str.Lines.{lines, strip_carriage_return};
-ghost use Rattle.fx_tables.specs.Fields.{is_blank, fields_of};
+ghost use Rattle.fx_tables.specs.Fields.{is_blank, after_blanks, fields_of};
 
 /// A piece of a text, and what follows it.
 #[derive(Clone, Copy)]
@@ -42,15 +42,25 @@ fn without_return(line: &[u8]) -> &[u8]
 pub(crate) fn cut_field(line: &[u8]) -> Cut<'_>
     ensures none { length result.head.now ≡ 0 → fields_of line.now ≡ [] }
     ensures field { 0 < length result.head.now → fields_of line.now ≡ result.head.now ∷ fields_of result.tail.now }
+    ensures rest { result.tail.now ≡ drop (length result.head.now) (after_blanks line.now) }
     ensures shorter { length result.head.now + length result.tail.now ≤ length line.now }
 {
-    let start = field_start(line);
-    let rest = &line[start..];
+    let rest = skip_blanks(line);
     let end = field_end(rest);
     Cut {
         head: &rest[..end],
         tail: &rest[end..],
     }
+}
+
+/// The line from its first byte that is no blank.
+pub(crate) fn skip_blanks(line: &[u8]) -> &[u8]
+    ensures rest { result.now ≡ after_blanks line.now }
+    ensures same_fields { fields_of result.now ≡ fields_of line.now }
+    ensures start { 0 < length result.now → is_blank (slice_index result.now 0) ≡ false }
+    ensures shorter { length result.now ≤ length line.now }
+{
+    &line[field_start(line)..]
 }
 
 /// Where the first newline stands, or the length.

@@ -1,20 +1,26 @@
 //! The texts beside a model: the stimulus and the response of a run, and the plan of its hardware.
 //!
 //! `read_rows` gives the rows that a stimulus stands for (`IsRows`), or its first bad line with the
-//! first cause there (`stimulus_fault`). `RowText::line` writes one line of a response
-//! (`response_line`). The definitions are in `specs/`: `Fields` and `Whole` on lines and numbers,
-//! `Stimulus` and `Response` on tables.
+//! first cause there (`stimulus_fault`). `read_plan` gives the plan that a text says (`IsPlan`), or
+//! its first bad line (`plan_fault`). `RowText::line` writes one line of a response
+//! (`response_line`). The definitions are in `specs/`: `Fields`, `Whole` and `Quoted` on the parts of
+//! a line, `Stimulus`, `Response` and `Plan` on the three texts.
 #![tactic(auto)]
 
 mod cut;
+mod draft;
+mod entry;
 mod field;
 mod number;
+mod plan;
+mod quoted;
 mod row_text;
 mod rows;
 mod table;
 #[cfg(test)]
 mod tests;
 
+pub use plan::read_plan;
 pub use row_text::RowText;
 pub use rows::read_rows;
 pub use table::{Column, Columns, Rows, TableCause, TableFault};

@@ -89,7 +89,7 @@ fn read_magnitude(digits: &[u8]) -> Option<u128>
 }
 
 /// Reads up to 18 digits.
-fn read_short(digits: &[u8]) -> Option<u64>
+pub(crate) fn read_short(digits: &[u8]) -> Option<u64>
     requires { length digits.now ≤ 18 }
     ensures { MatchOption result (list_all is_ascii_digit digits.now ≡ false) (λ value. (list_all is_ascii_digit digits.now ≡ true) × (value ≡ digits_value 10 digits.now)) }
 {

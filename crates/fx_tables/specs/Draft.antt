@@ -1,0 +1,19 @@
+-- What the lines of a plan have said so far.
+use Rattle.std.specs.Prelude.{◌≡◌, ℕ, List}
+use Rattle.std.specs.List.{list_any, filter_map}
+use Rattle.std.specs.Option.{option_to_list}
+use Rattle.std.specs.Str.{bytes_eq}
+use Rattle.std.specs.Cmp.Lexicographic.{slice_cmp}
+use Rattle.std.specs.Ordering.{nat_cmp}
+use Rattle.std.specs.BTreeSet.{contains}
+use Rattle.std.specs.Prelude.{Vec}
+use Rattle.std.specs.Global.{Global}
+use Rattle.fx_tables.specs.Plan.{cycles_of, multipliers_of, pipeline_of}
+use Rattle.fx_tables.specs.declared.entry.PlanEntry.{PlanEntry}
+use Rattle.fx_tables.specs.declared.draft.Draft.{Draft}
+
+pub record Describes (draft : Draft) (entries : List PlanEntry) : Type 0 where
+  pub clocks : filter_map cycles_of entries ≡ option_to_list draft.cycles
+  pub shared : filter_map multipliers_of entries ≡ option_to_list draft.multipliers
+  pub registers : filter_map pipeline_of entries ≡ draft.pipelines
+  pub paths : (path : Vec ℕ Global) → contains (λ x y. slice_cmp nat_cmp x.items y.items) draft.paths path ≡ list_any (λ other. bytes_eq other.path path.items) draft.pipelines
