@@ -6,4 +6,5 @@ pub mod QuotedLemmas
 pub mod DraftLemmas
 pub mod PlanLemmas
 pub mod StimulusLemmas
+pub mod CellsLemmas
 pub mod ResponseLemmas

@@ -1,6 +1,6 @@
 -- What a stimulus stands for, and its first fault. Samples, lines and columns count from 0; the line
 -- that a fault names counts from 1.
-use Rattle.std.specs.Prelude.{◌≡◌, ℕ, ℤ, pos, Bool, List, [], ◌∷◌, Option, None, Some, ◌+◌, ◌*◌, ◌%◌, ◌==◌, ◌&&◌, not, nat_lt, max, int_le, length, map, slice_index, if◌then◌else◌}
+use Rattle.std.specs.Prelude.{◌≡◌, ℕ, ℤ, pos, Bool, true, false, ◌<◌, slice_get, List, [], ◌∷◌, Option, None, Some, ◌+◌, ◌*◌, ◌%◌, ◌==◌, ◌&&◌, not, nat_lt, max, int_le, length, map, slice_index, if◌then◌else◌}
 use Rattle.std.specs.List.{flat_map}
 use Rattle.std.specs.Option.{option_or}
 use Rattle.std.specs.Str.Lines.{lines}
@@ -82,3 +82,13 @@ pub record IsRows (inputs : List Column) (outputs : ℕ) (text : List ℕ) (rows
   pub line_count : rows.lines ≡ length (lines text)
   pub column_count : rows.columns ≡ length inputs
   pub numbers : rows.cells ≡ flat_map cells_of (lines text)
+
+-- a number in the column's range where it has one, and elsewhere 0
+pub record IsCell (column : Column) (sample : ℕ) (value : ℤ) : Type 0 where
+  pub at_hit : hits_at column.period sample ≡ true → is_in_range column value ≡ true
+  pub elsewhere : hits_at column.period sample ≡ false → value ≡ pos 0
+
+-- each number of the rows is one of its column
+abbrev pub FitsColumns : List Column → Rows → Type 0
+FitsColumns inputs rows =
+    (sample k : ℕ) (column : Column) (value : ℤ) → sample < rows.lines → slice_get inputs k ≡ Some column → slice_get rows.cells (sample * rows.columns + k) ≡ Some value → IsCell column sample value

@@ -1,6 +1,6 @@
 ghost use Rattle.std.specs.Prelude.{◌≡◌, ◌≢◌, ℕ, ◌+◌, ◌^◌, ◌<◌, ◌≤◌, ◌++◌, ◌==◌, nat_le, length, All, OnOk, IfOk, IfErr, if◌then◌else◌};
 ghost use Rattle.fx_tables.specs.Fields.{fields_of};
-ghost use Rattle.fx_tables.specs.Stimulus.{IsRows, stimulus_fault, count_or_fields_fault, fault_or, is_too_large, cells_of};
+ghost use Rattle.fx_tables.specs.Stimulus.{IsRows, FitsColumns, stimulus_fault, count_or_fields_fault, fault_or, is_too_large, cells_of};
 
 use crate::cut::{cut_field, cut_line};
 use crate::field::read_field;
@@ -25,6 +25,8 @@ pub fn read_rows(
     requires periods { All (λ column. 0 < column.period) columns.now }
     requires few_columns { length columns.now < 2 ^ 32 }
     ensures rows { IfOk result (IsRows columns.now outputs bytes.now) }
+    ensures fits { IfOk result (FitsColumns columns.now) }
+    ensures few { IfOk result (λ rows. rows.lines ≤ 50000000) }
     ensures refused { IfErr result (λ fault. fault ≢ TableFault.OutOfMemory → stimulus_fault columns.now outputs bytes.now ≡ Some fault) }
 {
     let most = most_rows(columns.len(), outputs);
