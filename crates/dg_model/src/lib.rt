@@ -1,5 +1,12 @@
 //! The model of a block diagram: its parts, its meaning as equations over samples, and the plan that
 //! says how its hardware is to be built. Each type here is plain data that the layers above share.
+//!
+//! The crate's contract is its definitions, in `specs/`. `Signals`, `Hits` and `Wires` have the words:
+//! functions of a place and a moment, and what drives an input. `Operation` says what an elementwise
+//! operation gives, `Types` and `GainParam` which types a block's row names, `Equation` what each kind
+//! of block gives at a hit, and `Solves` which table of values is the meaning of a diagram. `Library`
+//! says what each kind of block may carry, `Wired` which diagrams are well formed, and `Sound` which
+//! nested ones.
 #![tactic(auto)]
 
 mod diagram;

@@ -1,0 +1,11 @@
+pub mod Equation
+pub mod GainParam
+pub mod Hits
+pub mod Library
+pub mod Operation
+pub mod Signals
+pub mod Solves
+pub mod Sound
+pub mod Types
+pub mod Wired
+pub mod Wires

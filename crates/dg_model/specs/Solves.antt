@@ -1,0 +1,40 @@
+-- The meaning of a diagram: the table of values that its equations allow (Simulink reference, discrete simulation; own where no order or state is named).
+use Rattle.std.specs.Prelude.{◌≡◌, ℕ, ◌<◌, ◌≤◌, Some, slice_get}
+use Rattle.fx_type.specs.FxType.{InRange}
+use Rattle.dg_model.specs.declared.diagram.Diagram.{Diagram}
+use Rattle.dg_model.specs.declared.diagram.Block.{Block}
+use Rattle.dg_model.specs.declared.kind.Kind.{Kind}
+use Rattle.dg_model.specs.declared.kind.Kind.TheVariants.{Inport, Outport}
+use Rattle.dg_model.specs.Signals.{Attributes, Stimulus, Table}
+use Rattle.dg_model.specs.Hits.{Hits, last_hit}
+use Rattle.dg_model.specs.Wires.{width_into}
+use Rattle.dg_model.specs.Equation.{Equation}
+
+-- the stimulus gives each element of each root Inport a number in range at each of its hits below n
+pub record IsStimulus (diagram : Diagram) (attributes : Attributes) (stimulus : Stimulus) (n : ℕ) : Type 0 where
+  pub in_range : (block : ℕ) (b : Block) (number width element t : ℕ) → slice_get diagram.blocks block ≡ Some b → b.kind ≡ Inport number width → element < attributes.width_at block 1 → t < n → Hits (attributes.period_at block) t
+      → InRange (attributes.type_at block 1) (stimulus number element t)
+
+-- the ports at which a table shows a block: its output ports, and port 1 for a root Outport
+abbrev pub shown_ports : Kind → ℕ → ℕ
+shown_ports (Outport number) outputs = 1
+shown_ports _ outputs = outputs
+
+-- how many elements it shows there
+abbrev pub shown_width : Diagram → Attributes → Kind → ℕ → ℕ → ℕ
+shown_width diagram attributes (Outport number) block port = width_into diagram attributes block 1
+shown_width diagram attributes _ block port = attributes.width_at block port
+
+-- the table has an entry of the block at this port and element
+pub record IsShown (diagram : Diagram) (attributes : Attributes) (block : ℕ) (b : Block) (port element : ℕ) : Type 0 where
+  pub block_is : slice_get diagram.blocks block ≡ Some b
+  pub port_from : 1 ≤ port
+  pub port_to : port ≤ shown_ports b.kind b.outputs
+  pub element_below : element < shown_width diagram attributes b.kind block port
+
+-- below base sample n the table's entry at each hit is the equation's value, and between hits that of the last hit
+pub record Solves (diagram : Diagram) (attributes : Attributes) (stimulus : Stimulus) (n : ℕ) (table : Table) : Type 0 where
+  pub at_hits : (block : ℕ) (b : Block) (port element t : ℕ) → IsShown diagram attributes block b port element → t < n → Hits (attributes.period_at block) t
+      → Equation diagram attributes stimulus table block port element t (table block port element t)
+  pub between_hits : (block : ℕ) (b : Block) (port element t : ℕ) → IsShown diagram attributes block b port element → t < n → ¬ Hits (attributes.period_at block) t
+      → table block port element t ≡ table block port element (last_hit (attributes.period_at block) t)
