@@ -1,6 +1,6 @@
 -- What an elementwise operation gives (Simulink reference, Sum, Product, Gain, Switch, Relational Operator, Logical Operator, Data Type Conversion). The exact result is computed without loss and then converted once. That Relational compares exact real values is own.
-use Rattle.std.specs.Prelude.{◌≡◌, ℕ, ◌%◌, ◌≤◌, ◌==◌, ℤ, pos, ◌+ℤ◌, ◌*ℤ◌, int_lt, int_le, Bool, true, false, not, cond, MatchBool, List, [], ◌∷◌, length, slice_index_or, map, zip, filter, All, ⊤}
-use Rattle.std.specs.List.{list_any, list_all, AllZip}
+use Rattle.std.specs.Prelude.{◌≡◌, ℕ, ◌%◌, ◌<◌, ◌≤◌, ◌==◌, ℤ, pos, ◌+ℤ◌, ◌*ℤ◌, int_lt, int_le, Bool, true, false, not, cond, MatchBool, List, [], ◌∷◌, length, slice_index_or, map, zip, filter, All, ⊤}
+use Rattle.std.specs.List.{list_any, list_all}
 use Rattle.std.specs.Int.{int_max}
 use Rattle.std.specs.Ordering.{int_eq}
 use Rattle.fx_type.specs.declared.kind.FxType.{FxType}
@@ -16,6 +16,7 @@ use Rattle.dg_model.specs.declared.kind.Relation.TheVariants.{Eq, Ne, Lt, Le, Ge
 use Rattle.dg_model.specs.declared.kind.Gate.{Gate}
 use Rattle.dg_model.specs.declared.kind.Gate.TheVariants.{And, Or, Nand, Nor, Xor, Nxor, Not}
 use Rattle.dg_model.specs.declared.op.Op.{Op}
+use Rattle.dg_model.specs.declared.op.OpCall.{OpCall}
 use Rattle.dg_model.specs.declared.op.Op.TheVariants.{Sum, Gain, Product, Switch, Relational, Logic, Convert, Pass}
 
 -- an operation with all that its result rests on but the inputs
@@ -27,6 +28,10 @@ pub record Operation : Type 0 where
   pub result : FxType
   pub rounding : Rounding
   pub saturate : Bool
+
+-- what a call of the program asks for
+abbrev pub operation_of : OpCall → Operation
+operation_of call = record { op = call.op; signs = call.signs.now; types = call.types.now; result = call.result; rounding = call.rounding; saturate = call.saturate }
 
 -- r is the number v of a type, converted to the operation's result type
 abbrev pub IsConverted : Operation → ℤ → FxType → ℤ → Type 0
@@ -151,11 +156,12 @@ HasFullType (Relational operator) signs types = (union : FxType) × IsUnion (typ
 HasFullType _ signs types = ⊤
 
 -- the operation may be carried out on these inputs
-pub record CanCarryOut (operation : Operation) (inputs : List ℤ) : Type 0 where
+pub record CanCarryOut (operation : Operation) (values : List ℤ) : Type 0 where
   pub arity : HasArity operation.op (length operation.types)
   pub signs : HasSigns operation.op operation.signs (length operation.types)
   pub types : All IsType operation.types
-  pub in_range : AllZip InRange operation.types inputs
+  pub inputs : length values ≡ length operation.types
+  pub in_range : (input : ℕ) → input < length operation.types → InRange (type_of operation.types input) (value_of values input)
   pub parameters : HasParameters operation.op operation.types
   pub result : IsType operation.result
   pub result_type : HasResultType operation.op operation.types operation.result

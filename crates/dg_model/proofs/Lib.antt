@@ -1,0 +1,12 @@
+mod DelayOfThree
+mod Elements
+mod EnabledAccumulator
+mod EnabledOutput
+mod Examples
+mod FastToSlow
+mod GainTypes
+mod Numbers
+mod Roundings
+mod SlowToFast
+mod SumTypes
+mod Vectors

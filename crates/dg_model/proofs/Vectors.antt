@@ -1,0 +1,84 @@
+-- Signals of several elements: a Mux of two and one elements into a Demux of one and two, a control of two elements, a Constant of two, a scalar that is repeated, and Ground.
+use Rattle.std.proofs.Common.{ℕ, ◌-◌, List, [], ◌∷◌, Some, None, pos, negsuc, get_or, true, false, refl}
+use Rattle.std.proofs.Math.Dec.{lit<}
+use Rattle.fx_type.specs.declared.kind.FxType.TheVariants.{Num}
+use Rattle.dg_model.specs.declared.diagram.Diagram.{Diagram}
+use Rattle.dg_model.specs.declared.kind.Kind.TheVariants.{Inport, Constant, Ground, EnableTest, Mux, Demux, Sum}
+use Rattle.dg_model.specs.declared.op.Op.TheVariants.{Sum as OpSum}
+use Rattle.dg_model.specs.Equation.{Equation}
+use Rattle.dg_model.specs.Signals.{Attributes, Stimulus, Table}
+use Rattle.dg_model.proofs.Examples.{int8, block_of, edge_of, decimal_of, stores_small, kept}
+use Rattle.dg_model.proofs.SumTypes.{two_bytes_full}
+
+-- ---- u (11, 12) and v (13) into a Mux, its three elements into a Demux of one and two
+
+abbrev laid : Diagram
+laid = record {
+  blocks = block_of (Inport 1 2) 0 1 None ∷ block_of (Inport 2 0) 0 1 None ∷ block_of (Mux []) 2 1 None ∷ block_of (Demux (1 ∷ 2 ∷ [])) 1 2 None ∷ [];
+  edges = edge_of 0 1 2 1 ∷ edge_of 1 1 2 2 ∷ edge_of 2 1 3 1 ∷ [];
+}
+
+abbrev laid_widths : List (List ℕ)
+laid_widths = (2 ∷ []) ∷ (1 ∷ []) ∷ (3 ∷ []) ∷ (1 ∷ 2 ∷ []) ∷ []
+
+abbrev laid_attributes : Attributes
+laid_attributes = record { width_at = λ block port. get_or (0 ∷ get_or laid_widths block []) port 0; type_at = λ block port. int8; param_at = λ block. int8; period_at = λ block. Some 1 }
+
+-- by block, port and element
+abbrev laid_table : Table
+laid_table block port element t =
+    get_or (get_or (get_or (((pos 11 ∷ pos 12 ∷ []) ∷ []) ∷ ((pos 13 ∷ []) ∷ []) ∷ ((pos 11 ∷ pos 12 ∷ pos 13 ∷ []) ∷ []) ∷ ((pos 11 ∷ []) ∷ (pos 12 ∷ pos 13 ∷ []) ∷ []) ∷ []) block []) (port - 1) []) element (pos 0)
+
+abbrev laid_stimulus : Stimulus
+laid_stimulus number element t = pos 0
+
+abbrev IsLaid : ℕ → ℕ → ℕ → Type 0
+IsLaid block port element = Equation laid laid_attributes laid_stimulus laid_table block port element 0 (laid_table block port element 0)
+
+mux : IsLaid 2 1 0 × IsLaid 2 1 1 × IsLaid 2 1 2
+mux = ((0, 0, record { signal_is = lit< tt; within = lit< tt; place = refl }, refl), (0, 1, record { signal_is = lit< tt; within = lit< tt; place = refl }, refl), (1, 0, record { signal_is = lit< tt; within = lit< tt; place = refl }, refl))
+
+demux : IsLaid 3 1 0 × IsLaid 3 2 0 × IsLaid 3 2 1
+demux = (refl, refl, refl)
+
+-- ---- a control of two elements enables where one of them is above 0
+
+abbrev controlled : Diagram
+controlled = record { blocks = block_of (Inport 1 2) 0 1 None ∷ block_of EnableTest 1 1 None ∷ []; edges = edge_of 0 1 1 1 ∷ [] }
+
+abbrev controlled_attributes : Attributes
+controlled_attributes = record { width_at = λ block port. get_or (2 ∷ 1 ∷ []) block 0; type_at = λ block port. int8; param_at = λ block. int8; period_at = λ block. Some 1 }
+
+-- 0 and 1 at base sample 0, then -1 and 0
+abbrev controlled_table : Table
+controlled_table block port element t =
+    get_or (get_or (get_or (((pos 0 ∷ pos 1 ∷ []) ∷ (negsuc 0 ∷ pos 0 ∷ []) ∷ []) ∷ ((pos 1 ∷ []) ∷ (pos 0 ∷ []) ∷ []) ∷ []) block []) t []) element (pos 0)
+
+control_of_two : Equation controlled controlled_attributes laid_stimulus controlled_table 1 1 0 0 (pos 1) × Equation controlled controlled_attributes laid_stimulus controlled_table 1 1 0 1 (pos 0)
+control_of_two = (refl, refl)
+
+-- ---- a Constant of 4 and 5, to which a scalar 1 is added, and Ground
+
+abbrev added : Diagram
+added = record {
+  blocks = block_of (Constant (decimal_of 4 (lit< tt) ∷ decimal_of 5 (lit< tt) ∷ [])) 0 1 None ∷ block_of (Constant (decimal_of 1 (lit< tt) ∷ [])) 0 1 None ∷ block_of (Sum (false ∷ false ∷ [])) 2 1 None ∷ block_of Ground 0 1 None ∷ [];
+  edges = edge_of 0 1 2 1 ∷ edge_of 1 1 2 2 ∷ [];
+}
+
+abbrev added_attributes : Attributes
+added_attributes = record { width_at = λ block port. get_or (2 ∷ 1 ∷ 2 ∷ 1 ∷ []) block 0; type_at = λ block port. int8; param_at = λ block. int8; period_at = λ block. None }
+
+abbrev added_table : Table
+added_table block port element t = get_or (get_or ((pos 4 ∷ pos 5 ∷ []) ∷ (pos 1 ∷ []) ∷ (pos 5 ∷ pos 6 ∷ []) ∷ []) block []) element (pos 0)
+
+abbrev IsAdded : ℕ → ℕ → Type 0
+IsAdded block element = Equation added added_attributes laid_stimulus added_table block 1 element 0 (added_table block 1 element 0)
+
+constant : IsAdded 0 0 × IsAdded 0 1 × IsAdded 1 0
+constant = (stores_small 4 (lit< tt) (lit< tt), stores_small 5 (lit< tt) (lit< tt), stores_small 1 (lit< tt) (lit< tt))
+
+sum : IsAdded 2 0 × IsAdded 2 1
+sum = ((OpSum, refl, (Num true 9 (pos 0), two_bytes_full, kept (pos 5) tt tt)), (OpSum, refl, (Num true 9 (pos 0), two_bytes_full, kept (pos 6) tt tt)))
+
+ground : IsAdded 3 0
+ground = refl
