@@ -1,5 +1,5 @@
 -- What an elementwise operation gives (Simulink reference, Sum, Product, Gain, Switch, Relational Operator, Logical Operator, Data Type Conversion). The exact result is computed without loss and then converted once. That Relational compares exact real values is own.
-use Rattle.std.specs.Prelude.{◌≡◌, ℕ, ◌%◌, ◌<◌, ◌≤◌, ◌==◌, ℤ, pos, ◌+ℤ◌, ◌*ℤ◌, int_lt, int_le, Bool, true, false, not, cond, MatchBool, List, [], ◌∷◌, length, slice_index_or, map, zip, filter, All, ⊤}
+use Rattle.std.specs.Prelude.{◌≡◌, ℕ, ◌%◌, ◌<◌, ◌≤◌, ◌==◌, ℤ, pos, ◌+ℤ◌, ◌*ℤ◌, int_lt, int_le, Bool, true, false, not, cond, MatchBool, List, [], ◌∷◌, length, slice_index_or, zip, count_by, All, ⊤}
 use Rattle.std.specs.List.{list_any, list_all}
 use Rattle.std.specs.Int.{int_max}
 use Rattle.std.specs.Ordering.{int_eq}
@@ -63,16 +63,6 @@ abbrev pub compares_values : Relation → FxType → FxType → ℤ → ℤ → 
 compares_values operator a b x y =
     let frac = int_max (frac_of a) (frac_of b) in compares operator (aligned frac a x) (aligned frac b y)
 
--- a gate over truths
-abbrev pub gate_of : Gate → List Bool → Bool
-gate_of And inputs = list_all (λ input. input) inputs
-gate_of Or inputs = list_any (λ input. input) inputs
-gate_of Nand inputs = not (list_all (λ input. input) inputs)
-gate_of Nor inputs = not (list_any (λ input. input) inputs)
-gate_of Xor inputs = (length (filter (λ input. input) inputs) % 2) == 1
-gate_of Nxor inputs = (length (filter (λ input. input) inputs) % 2) == 0
-gate_of Not inputs = not (list_any (λ input. input) inputs)
-
 -- a stored integer as a truth, and a truth as a stored integer
 abbrev pub is_true : ℤ → Bool
 is_true v = not (int_eq v (pos 0))
@@ -80,14 +70,24 @@ is_true v = not (int_eq v (pos 0))
 abbrev pub stored_truth : Bool → ℤ
 stored_truth truth = cond truth (pos 1) (pos 0)
 
+-- a gate over the truth of its inputs
+abbrev pub gate_of : Gate → List ℤ → Bool
+gate_of And inputs = list_all is_true inputs
+gate_of Or inputs = list_any is_true inputs
+gate_of Nand inputs = not (list_all is_true inputs)
+gate_of Nor inputs = not (list_any is_true inputs)
+gate_of Xor inputs = (count_by is_true inputs % 2) == 1
+gate_of Nxor inputs = (count_by is_true inputs % 2) == 0
+gate_of Not inputs = not (list_any is_true inputs)
+
 -- the type with the same stored integers and frac 0
 abbrev pub without_frac : FxType → FxType
 without_frac (Num signed width frac) = Num signed width (pos 0)
 without_frac LogicalType = LogicalType
 
--- the type and the stored integer of an input, from 0
+-- the type and the stored integer of an input, from 0; past the end stand a type of no bits and 0
 abbrev pub type_of : List FxType → ℕ → FxType
-type_of types input = slice_index_or types input LogicalType
+type_of types input = slice_index_or types input (Num false 0 (pos 0))
 
 abbrev pub value_of : List ℤ → ℕ → ℤ
 value_of inputs input = slice_index_or inputs input (pos 0)
@@ -105,7 +105,7 @@ Gives (Switch criterion threshold) operation types inputs r =
     MatchBool (meets criterion threshold (value_of inputs 1)) (IsConverted operation (value_of inputs 0) (type_of types 0) r) (IsConverted operation (value_of inputs 2) (type_of types 2) r)
 Gives (Relational operator) operation types inputs r =
     r ≡ stored_truth (compares_values operator (type_of types 0) (type_of types 1) (value_of inputs 0) (value_of inputs 1))
-Gives (Logic gate) operation types inputs r = r ≡ stored_truth (gate_of gate (map is_true inputs))
+Gives (Logic gate) operation types inputs r = r ≡ stored_truth (gate_of gate inputs)
 Gives (Convert false) operation types inputs r = IsConverted operation (value_of inputs 0) (type_of types 0) r
 Gives (Convert true) operation types inputs r =
     Converts (value_of inputs 0) (without_frac (type_of types 0)) (without_frac operation.result) operation.rounding operation.saturate r
