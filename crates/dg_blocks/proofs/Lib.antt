@@ -1,0 +1,4 @@
+pub mod Fracs
+pub mod Products
+pub mod Ranges
+pub mod Sums

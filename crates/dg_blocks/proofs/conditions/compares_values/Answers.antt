@@ -1,0 +1,29 @@
+use Rattle.std.proofs.Common.{◌≡◌, to_z, of_z, ◌∙◌, refl}
+use Rattle.std.specs.Int.{w16, w128, int_max}
+use Rattle.std.proofs.lemmas.Int.{to_z-of_z}
+use Rattle.fx_type.specs.FxType.{frac_of}
+use Rattle.dg_blocks.proofs.Fracs.{max_high, frac_high}
+use Rattle.dg_blocks.proofs.Ranges.{left_fits, right_fits}
+use Rattle.dg_blocks.proofs.conditions.compares_values.Goals as goal
+use Rattle.dg_blocks.proofs.conditions.compares_values.Goals.{After-max-frac}
+
+-- the greater frac
+max_frac : (c : After-max-frac) → to_z w16 (of_z w16 c.max-frac.result) ≡ int_max (frac_of c.args.a) (frac_of c.args.b)
+max_frac c =
+    let f : to_z w16 (of_z w16 c.frac.result) ≡ c.frac.result = to_z-of_z w16 c.frac.result (record { sfits = c.frac.type_inv }) in
+    let g : to_z w16 (of_z w16 c.frac-2.result) ≡ c.frac-2.result = to_z-of_z w16 c.frac-2.result (record { sfits = c.frac-2.type_inv }) in
+    to_z-of_z w16 c.max-frac.result (record { sfits = c.max-frac.type_inv }) ∙ c.max-frac.ensures.value ∙ rw (f, g, c.frac.ensures, c.frac-2.ensures) refl
+
+pub aligned-requires-clause-fits : goal.aligned-requires-clause-fits
+aligned-requires-clause-fits c =
+    let x : to_z w128 (of_z w128 c.args.x) ≡ c.args.x = to_z-of_z w128 c.args.x c.ranges.x in
+    rw (max_frac (goal.at.aligned-requires-clause-fits c).After-max-frac, x) (left_fits c.args.a c.args.b c.requires.union.0 c.requires.union.1 c.args.x c.requires.left c.requires.x_in_range)
+
+pub aligned-requires-2-clause-high : goal.aligned-requires-2-clause-high
+aligned-requires-2-clause-high c =
+    rw (max_frac (goal.at.aligned-requires-2-clause-high c).After-max-frac) (max_high (frac_of c.args.a) (frac_of c.args.b) _ (frac_high c.args.a c.requires.left) (frac_high c.args.b c.requires.right))
+
+pub aligned-requires-2-clause-fits : goal.aligned-requires-2-clause-fits
+aligned-requires-2-clause-fits c =
+    let y : to_z w128 (of_z w128 c.args.y) ≡ c.args.y = to_z-of_z w128 c.args.y c.ranges.y in
+    rw (max_frac (goal.at.aligned-requires-2-clause-fits c).After-max-frac, y) (right_fits c.args.a c.args.b c.requires.union.0 c.requires.union.1 c.args.y c.requires.right c.requires.y_in_range)

@@ -1,0 +1,21 @@
+use Rattle.std.proofs.Common.{◌≡◌, ◌-ℤ◌, pos, neg_ℤ, to_z, of_z, FitsSigned, ap, sym, ◌∙◌, pow_pos}
+use Rattle.std.specs.Int.{w16, w128, int_gap}
+use Rattle.std.proofs.lemmas.Int.{to_z-of_z}
+use Rattle.fx_type.specs.FxType.{frac_of, aligned}
+use Rattle.fx_type.specs.FullType.{negated_if}
+use Rattle.dg_blocks.proofs.Ranges.{neg-scaled, minus_is, neg_fits}
+use Rattle.dg_blocks.proofs.exact.term.Goals as goal
+
+pub returns-then-negative : goal.returns-then-negative
+returns-then-negative c =
+    let negative = c.if-negative.true in
+    let gap = int_gap (frac_of c.args.kind) c.args.frac in
+    let fits : FitsSigned w128 (neg_ℤ (aligned c.args.frac c.args.kind c.args.v)) = rw negative at c.requires.fits in
+    let minus : pos 0 -ℤ c.args.v ≡ neg_ℤ c.args.v = minus_is c.args.v in
+    let minus_fits : FitsSigned w128 (neg_ℤ c.args.v) = neg_fits c.args.v _ (pow_pos gap) c.ranges.v fits in
+    let r : to_z w128 (of_z w128 c.aligned.result) ≡ c.aligned.result = to_z-of_z w128 c.aligned.result (record { sfits = c.aligned.type_inv }) in
+    let f : to_z w16 (of_z w16 c.args.frac) ≡ c.args.frac = to_z-of_z w16 c.args.frac c.ranges.frac in
+    let v : to_z w128 (of_z w128 c.args.v) ≡ c.args.v = to_z-of_z w128 c.args.v c.ranges.v in
+    let m : to_z w128 (of_z w128 (neg_ℤ c.args.v)) ≡ neg_ℤ c.args.v = to_z-of_z w128 (neg_ℤ c.args.v) minus_fits in
+    let given : c.aligned.result ≡ aligned c.args.frac c.args.kind (neg_ℤ c.args.v) = rw (f, v, minus, m) at c.aligned.ensures in
+    r ∙ given ∙ neg-scaled c.args.v _ ∙ ap (λ s. negated_if s (aligned c.args.frac c.args.kind c.args.v)) (sym negative)

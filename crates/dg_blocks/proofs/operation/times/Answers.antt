@@ -1,0 +1,32 @@
+use Rattle.std.proofs.Common.{◌≡◌, ◌*ℤ◌, ◌+ℤ◌, to_z, of_z, sym, ◌∙◌, refl}
+use Rattle.std.specs.Int.{w16, w128}
+use Rattle.std.proofs.lemmas.Int.{to_z-of_z}
+use Rattle.fx_type.specs.FxType.{frac_of}
+use Rattle.dg_blocks.proofs.Fracs.{frac_low, frac_high, frac_sum}
+use Rattle.dg_blocks.proofs.operation.times.Goals as goal
+use Rattle.dg_blocks.proofs.operation.times.Goals.{After-frac-2}
+
+-- the sum of the fracs is that of the full type
+full_frac : (c : After-frac-2) → to_z w16 (of_z w16 (to_z w16 (of_z w16 c.frac.result) +ℤ to_z w16 (of_z w16 c.frac-2.result))) ≡ frac_of c.requires.full.0
+full_frac c =
+    let full = c.requires.full.0 in
+    let is_full = c.requires.full.1 in
+    let e : frac_of full ≡ c.frac.result +ℤ c.frac-2.result = rw (c.frac.ensures, c.frac-2.ensures) is_full.frac in
+    frac_sum c.frac.result c.frac-2.result (frac_of full) (record { sfits = c.frac.type_inv }) (record { sfits = c.frac-2.type_inv }) e (frac_low full is_full.valid) (frac_high full is_full.valid)
+
+pub settled-requires-clause-low : goal.settled-requires-clause-low
+settled-requires-clause-low c = rw (full_frac (goal.at.settled-requires-clause-low c).After-frac-2) (frac_low c.requires.full.0 c.requires.full.1.valid)
+
+pub settled-requires-clause-high : goal.settled-requires-clause-high
+settled-requires-clause-high c = rw (full_frac (goal.at.settled-requires-clause-high c).After-frac-2) (frac_high c.requires.full.0 c.requires.full.1.valid)
+
+pub returns : goal.returns
+returns c =
+    let full = c.requires.full.0 in
+    let x : to_z w128 (of_z w128 c.args.x) ≡ c.args.x = to_z-of_z w128 c.args.x c.ranges.x in
+    let y : to_z w128 (of_z w128 c.args.y) ≡ c.args.y = to_z-of_z w128 c.args.y c.ranges.y in
+    let p = c.product.result in
+    let product : to_z w128 (of_z w128 p) ≡ c.args.x *ℤ c.args.y = to_z-of_z w128 p (record { sfits = c.product.type_inv }) ∙ c.product.ensures ∙ rw (x, y) refl in
+    let r : to_z w128 (of_z w128 c.settled.result) ≡ c.settled.result = to_z-of_z w128 c.settled.result (record { sfits = c.settled.type_inv }) in
+    let converted = c.settled.ensures full (sym (full_frac (goal.at.returns c).After-frac-2)) in
+    (full, c.requires.full.1, rw r (rw product at converted))

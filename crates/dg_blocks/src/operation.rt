@@ -1,0 +1,105 @@
+//! The result of an operation.
+ghost use Rattle.std.specs.Prelude.{◌≡◌, ◌*ℤ◌};
+ghost use Rattle.fx_type.specs.declared.kind.FxType.{FxType};
+ghost use Rattle.fx_type.specs.FxType.{IsType, InRange};
+ghost use Rattle.fx_type.specs.FullType.{IsFullProduct};
+ghost use Rattle.fx_type.specs.Conversion.{Converts};
+ghost use Rattle.dg_model.specs.Operation.{operation_of, without_frac as without_frac_of, IsConverted, CanCarryOut, OpGives};
+
+use crate::conditions::{compares_values, gate, meets};
+use crate::exact::{greatest_frac, product, settled, signed_sum};
+use dg_model::{Op, OpCall};
+use fx_type::FxType;
+
+/// What the operation gives of these inputs: the exact sum or product converted to the result type,
+/// an input that a Switch takes, or a truth as 0 or 1. Source: Simulink reference, Sum, Gain, Product,
+/// Switch, Relational Operator, Logical Operator, Data Type Conversion.
+pub fn output(call: &OpCall, inputs: &[i128]) -> i128
+    requires { CanCarryOut (operation_of call.now) inputs.now }
+    ensures { OpGives (operation_of call.now) inputs.now result }
+{
+    match call.op {
+        Op::Sum => sum(call, inputs),
+        Op::Gain { coefficient, param } => {
+            times(call, call.types[0], param, inputs[0], coefficient)
+        }
+        Op::Product => times(call, call.types[0], call.types[1], inputs[0], inputs[1]),
+        Op::Switch {
+            criterion,
+            threshold,
+        } => {
+            if meets(criterion, threshold, inputs[1]) {
+                converted(call, inputs[0], call.types[0])
+            } else {
+                converted(call, inputs[2], call.types[2])
+            }
+        }
+        Op::Relational { operator } => {
+            let (a, b) = (call.types[0], call.types[1]);
+            i128::from(compares_values(operator, a, b, inputs[0], inputs[1]))
+        }
+        Op::Logic { operator } => i128::from(gate(operator, inputs)),
+        Op::Convert { stored: false } => converted(call, inputs[0], call.types[0]),
+        Op::Convert { stored: true } => stored_converted(call, inputs[0], call.types[0]),
+        Op::Pass => inputs[0],
+    }
+}
+
+/// A Sum.
+fn sum(call: &OpCall, inputs: &[i128]) -> i128
+    requires can { CanCarryOut (operation_of call.now) inputs.now }
+    requires is_sum { call.now.op ≡ Op.Sum }
+    ensures { OpGives (operation_of call.now) inputs.now result }
+{
+    let frac = greatest_frac(call.types);
+    let exact = signed_sum(call.signs, call.types, inputs, frac);
+    settled(call, exact, frac)
+}
+
+/// A Product or a Gain of two stored integers.
+fn times(call: &OpCall, a: FxType, b: FxType, x: i128, y: i128) -> i128
+    requires left { IsType a }
+    requires right { IsType b }
+    requires x_in_range { InRange a x }
+    requires y_in_range { InRange b y }
+    requires full { (full : FxType) × IsFullProduct a b full }
+    requires result { IsType call.now.result }
+    ensures { (full : FxType) × IsFullProduct a b full × IsConverted (operation_of call.now) (x *ℤ y) full result }
+{
+    settled(call, product(a, b, x, y), a.frac() + b.frac())
+}
+
+/// A stored integer converted to the result type of the call.
+fn converted(call: &OpCall, v: i128, from: FxType) -> i128
+    requires from { IsType from }
+    requires in_range { InRange from v }
+    requires result { IsType call.now.result }
+    ensures { IsConverted (operation_of call.now) v from result }
+{
+    fx_round::convert(v, from, call.result, call.rounding, call.saturate)
+}
+
+/// A stored integer converted with both fracs taken as 0.
+fn stored_converted(call: &OpCall, v: i128, from: FxType) -> i128
+    requires from { IsType from }
+    requires in_range { InRange from v }
+    requires result { IsType call.now.result }
+    ensures { Converts v (without_frac_of from) (without_frac_of call.now.result) call.now.rounding call.now.saturate result }
+{
+    let to = without_frac(call.result);
+    fx_round::convert(v, without_frac(from), to, call.rounding, call.saturate)
+}
+
+/// The type with the same stored integers and frac 0.
+fn without_frac(kind: FxType) -> FxType
+    ensures { result ≡ without_frac_of kind }
+{
+    match kind {
+        FxType::Num { signed, width, .. } => FxType::Num {
+            signed,
+            width,
+            frac: 0,
+        },
+        FxType::Logical => FxType::Logical,
+    }
+}
