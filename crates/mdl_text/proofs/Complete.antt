@@ -20,7 +20,7 @@ use Rattle.mdl_text.specs.Bytes.Piece.{Opening, Closing, String, Other}
 use Rattle.mdl_text.specs.Lines.{IsComment, StartsSection, EndsSection, IsEmptyParameter, GivesParameter, IsBare, IsBareParameter, IsFurtherText, Further, IsQuotedParameter, IsListParameter}
 use Rattle.mdl_text.specs.Stands.{Says, Part, OneLine, HasForm, Builds, Stands}
 use Rattle.mdl_text.specs.Stands.Says.{Nothing, Entry, End}
-use Rattle.mdl_text.specs.Plain.{unblanked, trimmed, strings, strings_from, list_end, list_from, spot_at, added, free, pending_strings, opened, closed, listed_by, listed, valued, after_name, named, fresh_text, fresh, begins_with_quote, step_in, step, if_closed, finish_in, finish, run, start}
+use Rattle.mdl_text.specs.Plain.{unblanked, trimmed, strings, strings_from, list_end, list_from, spot_at, added, free, reader_strings, opened, closed, listed_by, listed, valued, after_name, named, fresh_text, fresh, begins_with_quote, step_in, step, if_closed, finish_in, finish, run, start}
 use Rattle.mdl_text.proofs.Classes.{no_byte, name_no_blank, blank_no_name, quote_no_blank, bracket_no_blank, hash_no_blank, opening_no_blank, closing_no_blank, quote_no_name, hash_no_name, opening_no_name, closing_no_name, bracket_no_brace, quote_no_brace}
 use Rattle.mdl_text.proofs.Scans.{FirstIs, unblanked_after, unblanked_at, unblanked_none, name_length_of, trimmed_value}
 use Rattle.mdl_text.proofs.Quotes.{outside_quotes}
@@ -111,7 +111,7 @@ fresh_bare draft line name value bare =
     let trim : trimmed (is.first ∷ (is.rest ++ bare.after)) ≡ value =
           ap trimmed (sym said ∙ ap (λ l. l ++ bare.after) is.ends) ∙ trimmed_value is.front is.last bare.after bare.blanks_after is.no_blank_last ∙ sym is.ends in
     fresh_value draft line name is.first (is.rest ++ bare.after) (subst (GivesParameter line name) said bare.gives) is.no_blank_first is.no_brace
-    ∙ ap (λ t. cond t (pending_strings draft name (strings_from [] (is.first ∷ (is.rest ++ bare.after)))) (cond (is.first == 91) (listed draft name (91 ∷ []) 0 (is.rest ++ bare.after)) (Some (free (added draft name (Bare (trimmed (is.first ∷ (is.rest ++ bare.after))))))))) (ne_eqb is.first 34 is.no_quote)
+    ∙ ap (λ t. cond t (reader_strings draft name (strings_from [] (is.first ∷ (is.rest ++ bare.after)))) (cond (is.first == 91) (listed draft name (91 ∷ []) 0 (is.rest ++ bare.after)) (Some (free (added draft name (Bare (trimmed (is.first ∷ (is.rest ++ bare.after))))))))) (ne_eqb is.first 34 is.no_quote)
     ∙ ap (λ t. cond t (listed draft name (91 ∷ []) 0 (is.rest ++ bare.after)) (Some (free (added draft name (Bare (trimmed (is.first ∷ (is.rest ++ bare.after)))))))) (ne_eqb is.first 91 is.no_bracket)
     ∙ ap (λ v. Some (free (added draft name (Bare v)))) trim
 
@@ -143,9 +143,9 @@ unfolding step
 further_step draft name said line value is =
     let first = strings_first is.strings value is.are_strings in
     let text : unblanked line ≡ is.strings = ap unblanked (is.form ∙ ap (λ l. is.before ++ l) first.1) ∙ unblanked_at is.before 34 first.0 is.blanks quote_no_blank ∙ sym first.1 in
-    ap (λ l. cond (begins_with_quote l) (pending_strings draft name (strings_from said l)) (fresh (added draft name (Quoted said)) line)) text
-    ∙ ap (λ l. cond (begins_with_quote l) (pending_strings draft name (strings_from said is.strings)) (fresh (added draft name (Quoted said)) line)) first.1
-    ∙ ap (pending_strings draft name) (strings_read said is.strings value is.are_strings)
+    ap (λ l. cond (begins_with_quote l) (reader_strings draft name (strings_from said l)) (fresh (added draft name (Quoted said)) line)) text
+    ∙ ap (λ l. cond (begins_with_quote l) (reader_strings draft name (strings_from said is.strings)) (fresh (added draft name (Quoted said)) line)) first.1
+    ∙ ap (reader_strings draft name) (strings_read said is.strings value is.are_strings)
 
 run_further : (further : List Further) (draft : Draft) (name said : List ℕ) (rest : List (List ℕ)) → AllByRecursion (λ next. IsFurtherText next.line next.value) further → run (with_strings draft name said) (flat_map (λ next. next.line ∷ []) further ++ rest) ≡ run (with_strings draft name (said ++ flat_map (λ next. next.value) further)) rest
 run_further [] draft name said rest each = ap (λ v. run (with_strings draft name v) rest) (sym (append-nil said))
@@ -162,7 +162,7 @@ NoQuote (line ∷ lines) = begins_with_quote (unblanked line) ≡ false
 pub run_strings_end : (lines : List (List ℕ)) (draft : Draft) (name said : List ℕ) → NoQuote lines → run (with_strings draft name said) lines ≡ run (free (added draft name (Quoted said))) lines
 unfolding step finish
 run_strings_end [] draft name said other = refl
-run_strings_end (line ∷ lines) draft name said other = ap (λ t. option_and_then (λ next. run next lines) (cond t (pending_strings draft name (strings_from said (unblanked line))) (fresh (added draft name (Quoted said)) line))) other
+run_strings_end (line ∷ lines) draft name said other = ap (λ t. option_and_then (λ next. run next lines) (cond t (reader_strings draft name (strings_from said (unblanked line))) (fresh (added draft name (Quoted said)) line))) other
 
 name_no_quote : (before name rest : List ℕ) → AreBlanks before → IsName name → begins_with_quote (unblanked (before ++ (name ++ rest))) ≡ false
 name_no_quote before name rest blanks is_name = ap begins_with_quote (unblanked_after before (name ++ rest) blanks) ∙ at name is_name.nonempty is_name.each
@@ -320,7 +320,7 @@ run_quoted draft lines name value rest form other =
     let tail : List (List ℕ) = flat_map (λ next. next.line ∷ []) form.further in
     let read : strings_from [] (34 ∷ first.0) ≡ Some form.said = ap (strings_from []) (sym first.1) ∙ strings_read [] form.strings form.said form.are_strings in
     ap (λ l. run (free draft) (l ++ rest)) form.form
-    ∙ ap (λ o. option_and_then (λ next. run next (tail ++ rest)) o) (fresh_value draft form.line name 34 first.0 (subst (GivesParameter form.line name) first.1 form.gives) quote_no_blank quote_no_brace ∙ ap (pending_strings draft name) read)
+    ∙ ap (λ o. option_and_then (λ next. run next (tail ++ rest)) o) (fresh_value draft form.line name 34 first.0 (subst (GivesParameter form.line name) first.1 form.gives) quote_no_blank quote_no_brace ∙ ap (reader_strings draft name) read)
     ∙ run_further form.further draft name form.said rest form.each
     ∙ ap (λ v. run (with_strings draft name v) rest) (sym form.joined)
     ∙ run_strings_end rest draft name value other

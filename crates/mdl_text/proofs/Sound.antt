@@ -21,7 +21,7 @@ use Rattle.mdl_text.specs.Bytes.Piece.{Other}
 use Rattle.mdl_text.specs.Lines.{IsComment, StartsSection, EndsSection, IsEmptyParameter, GivesParameter, IsBare, IsBareParameter, IsFurtherText, Further, IsQuotedParameter, IsListParameter}
 use Rattle.mdl_text.specs.Stands.{Says, Part, OneLine, HasForm, Builds, Stands}
 use Rattle.mdl_text.specs.Stands.Says.{Nothing, Entry, End}
-use Rattle.mdl_text.specs.Plain.{unblanked, trimmed, strings, strings_from, list_from, spot_at, added, free, pending_strings, opened, closed, listed_by, listed, valued, after_name, named, fresh_text, fresh, begins_with_quote, step_in, step, if_closed, finish_in, finish, run, start}
+use Rattle.mdl_text.specs.Plain.{unblanked, trimmed, strings, strings_from, list_from, spot_at, added, free, reader_strings, opened, closed, listed_by, listed, valued, after_name, named, fresh_text, fresh, begins_with_quote, step_in, step, if_closed, finish_in, finish, run, start}
 use Rattle.mdl_text.proofs.Classes.{cond_cases, cond_some, two_tests, no_byte, quote_no_blank, newline_no_quote, newline_no_opening, newline_no_closing}
 use Rattle.mdl_text.proofs.Scans.{Unblanked, FirstIs, unblanked_split, unblanked_first, name_bytes, trim_split, trim_end, trimmed_first}
 use Rattle.mdl_text.proofs.Quotes.{strings_sound, open_step, quote_shape}
@@ -135,7 +135,7 @@ module _ (draft : Draft) (line : List ℕ) (lines : List (List ℕ)) (items : Li
 
 -- further text, or the first strings of a value, before what follows
 strings_more : (draft : Draft) (name said : List ℕ) (next : Reader) (o : Option (List ℕ)) (lines : List (List ℕ)) (items : List Item)
-    → pending_strings draft name o ≡ Some next → AfterReader next lines items
+    → reader_strings draft name o ≡ Some next → AfterReader next lines items
     → (value : List ℕ) × (o ≡ Some value) × AfterStrings draft name value lines items
 strings_more draft name said next None lines items e after = cc
 strings_more draft name said next (Some value) lines items e after =
@@ -161,7 +161,7 @@ strings_form said bytes value h =
 -- a line of further text
 further_sound : (draft : Draft) (name said line before bytes : List ℕ) (next : Reader) (lines : List (List ℕ)) (items : List Item)
     → AreBlanks before → line ≡ before ++ 34 ∷ bytes
-    → pending_strings draft name (strings_from said (34 ∷ bytes)) ≡ Some next → AfterReader next lines items → AfterStrings draft name said (line ∷ lines) items
+    → reader_strings draft name (strings_from said (34 ∷ bytes)) ≡ Some next → AfterReader next lines items → AfterStrings draft name said (line ∷ lines) items
 further_sound draft name said line before bytes next lines items blanks form e after =
     let more = strings_more draft name said next (strings_from said (34 ∷ bytes)) lines items e after in
     let said_now = strings_form said bytes more.0 more.1 in
@@ -178,7 +178,7 @@ further_sound draft name said line before bytes next lines items blanks form e a
 -- the first line of a quoted value
 quoted_sound : (draft : Draft) (name line bytes : List ℕ) (next : Reader) (lines : List (List ℕ)) (items : List Item)
     → GivesParameter line name (34 ∷ bytes)
-    → pending_strings draft name (strings_from [] (34 ∷ bytes)) ≡ Some next → AfterReader next lines items → AfterFree draft (line ∷ lines) items
+    → reader_strings draft name (strings_from [] (34 ∷ bytes)) ≡ Some next → AfterReader next lines items → AfterFree draft (line ∷ lines) items
 quoted_sound draft name line bytes next lines items gives e after =
     let more = strings_more draft name [] next (strings_from [] (34 ∷ bytes)) lines items e after in
     let said = strings_form [] bytes more.0 more.1 in
@@ -295,7 +295,7 @@ valued_sound draft name line b bytes next lines items one_line stays brace gives
     let bare_reader : Option Reader = Some (free (added draft name (Bare (trimmed (b ∷ bytes))))) in
     ⊎_elim
     (λ quote. let is : b ≡ 34 = eqb-true b 34 quote.0 in
-        quoted_sound draft name line bytes next lines items (subst (λ n. GivesParameter line name (n ∷ bytes)) is gives) (ap (λ n. pending_strings draft name (strings_from [] (n ∷ bytes))) (sym is) ∙ sym quote.1 ∙ e) after)
+        quoted_sound draft name line bytes next lines items (subst (λ n. GivesParameter line name (n ∷ bytes)) is gives) (ap (λ n. reader_strings draft name (strings_from [] (n ∷ bytes))) (sym is) ∙ sym quote.1 ∙ e) after)
     (λ r. ⊎_elim
       (λ bracket. let is : b ≡ 91 = eqb-true b 91 bracket.0 in
           brackets_sound draft name line bytes next lines items one_line (subst (λ n. GivesParameter line name (n ∷ bytes)) is gives) (sym bracket.1 ∙ e) after)
@@ -324,7 +324,7 @@ valued_sound draft name line b bytes next lines items one_line stays brace gives
           }))
           (sym other.2 ∙ e) after)
       r)
-    (two_tests (b == 34) (b == 91) (pending_strings draft name (strings_from [] (b ∷ bytes))) (listed draft name (91 ∷ []) 0 bytes) bare_reader)
+    (two_tests (b == 34) (b == 91) (reader_strings draft name (strings_from [] (b ∷ bytes))) (listed draft name (91 ∷ []) 0 bytes) bare_reader)
 
 -- what follows a name
 after_name_sound : (draft : Draft) (name line before rest between value : List ℕ) (next : Reader) (lines : List (List ℕ)) (items : List Item)
@@ -404,16 +404,16 @@ strings_end draft name said lines items after = record {
 
 after_strings_sound : (draft : Draft) (name said line before text : List ℕ) (next : Reader) (lines : List (List ℕ)) (items : List Item)
     → IsOneLine line → AreBlanks before → line ≡ before ++ text
-    → cond (begins_with_quote text) (pending_strings draft name (strings_from said text)) (fresh (added draft name (Quoted said)) line) ≡ Some next
+    → cond (begins_with_quote text) (reader_strings draft name (strings_from said text)) (fresh (added draft name (Quoted said)) line) ≡ Some next
     → AfterReader next lines items → AfterStrings draft name said (line ∷ lines) items
 after_strings_sound draft name said line before [] next lines items one_line blanks form e after =
     strings_end draft name said (line ∷ lines) items (fresh_sound (added draft name (Quoted said)) line next lines items one_line e after)
 after_strings_sound draft name said line before (b ∷ bytes) next lines items one_line blanks form e after =
     ⊎_elim
     (λ quote. let is : b ≡ 34 = eqb-true b 34 quote.0 in
-        further_sound draft name said line before bytes next lines items blanks (form ∙ ap (λ n. before ++ n ∷ bytes) is) (ap (λ n. pending_strings draft name (strings_from said (n ∷ bytes))) (sym is) ∙ quote.1) after)
+        further_sound draft name said line before bytes next lines items blanks (form ∙ ap (λ n. before ++ n ∷ bytes) is) (ap (λ n. reader_strings draft name (strings_from said (n ∷ bytes))) (sym is) ∙ quote.1) after)
     (λ other. strings_end draft name said (line ∷ lines) items (fresh_sound (added draft name (Quoted said)) line next lines items one_line other.1 after))
-    (cond_cases (b == 34) (pending_strings draft name (strings_from said (b ∷ bytes))) (fresh (added draft name (Quoted said)) line) (Some next) e)
+    (cond_cases (b == 34) (reader_strings draft name (strings_from said (b ∷ bytes))) (fresh (added draft name (Quoted said)) line) (Some next) e)
 
 step_sound : (draft : Draft) (pending : Pending) (line : List ℕ) (next : Reader) (lines : List (List ℕ)) (items : List Item)
     → IsOneLine line → step_in draft pending line ≡ Some next → AfterReader next lines items → After draft pending (line ∷ lines) items

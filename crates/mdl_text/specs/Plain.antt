@@ -79,11 +79,11 @@ abbrev pub list_end : Spot → ℕ → List ℕ → ListEnd
 list_end spot taken [] = line_end spot
 list_end spot taken (byte ∷ bytes) = or_else_closed (taken + 1) (λ next. list_end next (taken + 1) bytes) (spot_step spot byte)
 
--- where a list is closed, at most so many bytes are taken
-abbrev pub TakesAtMost : ℕ → ListEnd → Type 0
-TakesAtMost count (Closed taken) = taken ≤ count
-TakesAtMost count (Open nesting) = Unit {0}
-TakesAtMost count Broken = Unit {0}
+-- at most so many bytes are taken, and at most so many brackets are open beside the first
+abbrev pub IsWithin : ℕ → ℕ → ListEnd → Type 0
+IsWithin count most (Closed taken) = taken ≤ count
+IsWithin count most (Open nesting) = nesting ≤ most
+IsWithin count most Broken = Unit {0}
 
 -- how a list with so many brackets open beside the first goes on over a line
 abbrev pub list_from : ℕ → List ℕ → ListEnd
@@ -100,9 +100,24 @@ free draft = record { draft = draft; pending = Nothing }
 abbrev pub start : Reader
 start = free (record { items = []; depth = 0 })
 
-abbrev pub pending_strings : Draft → List ℕ → Option (List ℕ) → Option Reader
-pending_strings draft name None = None
-pending_strings draft name (Some said) = Some (record { draft = draft; pending = Strings name said })
+-- no more brackets are open beside the first than bytes were read
+abbrev pub IsBounded : Pending → Type 0
+IsBounded Nothing = Unit {0}
+IsBounded (Strings name said) = Unit {0}
+IsBounded (OpenList name said nesting) = nesting ≤ length said
+
+-- the draft with what is pending
+abbrev pub reader_of : Draft → Option Pending → Option Reader
+reader_of draft None = None
+reader_of draft (Some pending) = Some (record { draft = draft; pending = pending })
+
+-- a quoted value, where the strings were read
+abbrev pub pending_strings : List ℕ → Option (List ℕ) → Option Pending
+pending_strings name None = None
+pending_strings name (Some said) = Some (Strings name said)
+
+abbrev pub reader_strings : Draft → List ℕ → Option (List ℕ) → Option Reader
+reader_strings draft name said = reader_of draft (pending_strings name said)
 
 -- a section begins, of which the bytes after its brace are given
 unfoldable pub opened : Draft → List ℕ → List ℕ → Option Reader
@@ -132,7 +147,7 @@ listed draft name said nesting line = listed_by draft name said line (list_from 
 unfoldable pub valued : Draft → List ℕ → List ℕ → Option Reader
 valued draft name [] = None
 valued draft name (byte ∷ bytes) =
-    if byte == 34 then pending_strings draft name (strings_from [] (byte ∷ bytes))
+    if byte == 34 then reader_strings draft name (strings_from [] (byte ∷ bytes))
     else (if byte == 91 then listed draft name (91 ∷ []) 0 bytes
     else Some (free (added draft name (Bare (trimmed (byte ∷ bytes))))))
 
@@ -168,7 +183,7 @@ begins_with_quote (byte ∷ bytes) = byte == 34
 abbrev pub step_in : Draft → Pending → List ℕ → Option Reader
 step_in draft Nothing line = fresh draft line
 step_in draft (Strings name said) line =
-    if begins_with_quote (unblanked line) then pending_strings draft name (strings_from said (unblanked line))
+    if begins_with_quote (unblanked line) then reader_strings draft name (strings_from said (unblanked line))
     else fresh (added draft name (Quoted said)) line
 step_in draft (OpenList name said nesting) line = listed draft name said nesting line
 

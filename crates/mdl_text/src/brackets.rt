@@ -1,8 +1,7 @@
-ghost use Rattle.std.specs.Prelude.{◌≡◌, length, IfOk};
-ghost use Rattle.mdl_text.specs.Plain.{spot_at, spot_step, list_from, TakesAtMost};
+ghost use Rattle.std.specs.Prelude.{◌≡◌, ◌+◌, ◌^◌, ◌<◌, ◌≤◌, length, IfSome};
+ghost use Rattle.mdl_text.specs.Plain.{spot_at, spot_step, list_from, IsWithin};
 
 use crate::strings::Place;
-use fx_io::OutOfMemory;
 
 /// A place in a list: how many brackets are open beside the first, and where beside quotes.
 #[derive(Clone, Copy, Debug, PartialEq, Eq)]
@@ -30,48 +29,46 @@ fn spot_at(place: Place, nesting: u64) -> Spot
 
 /// Reads one byte of a list. `None` at the bracket that closes it.
 #[tactic(auto, unfolding(crate::specs::Plain::spot_step))]
-fn spot_step(spot: Spot, byte: u8) -> Result<Option<Spot>, OutOfMemory>
-    ensures { IfOk result (λ next. next ≡ spot_step spot byte) }
+fn spot_step(spot: Spot, byte: u8) -> Option<Spot>
+    requires { spot.nesting + 1 < 2 ^ 64 }
+    ensures value { result ≡ spot_step spot byte }
+    ensures within { IfSome result (λ next. next.nesting ≤ spot.nesting + 1) }
 {
     let Spot { place, nesting } = spot;
     match place {
         Place::Outside => match byte {
-            b'"' => Ok(Some(spot_at(Place::Inside, nesting))),
-            b'[' => {
-                let deeper = nesting.checked_add(1).ok_or(OutOfMemory)?;
-                Ok(Some(spot_at(Place::Outside, deeper)))
-            }
-            b']' if nesting == 0 => Ok(None),
-            b']' => Ok(Some(spot_at(Place::Outside, nesting - 1))),
-            _ => Ok(Some(spot)),
+            b'"' => Some(spot_at(Place::Inside, nesting)),
+            b'[' => Some(spot_at(Place::Outside, nesting + 1)),
+            b']' if nesting == 0 => None,
+            b']' => Some(spot_at(Place::Outside, nesting - 1)),
+            _ => Some(spot),
         },
         Place::Inside => match byte {
-            b'"' => Ok(Some(spot_at(Place::Outside, nesting))),
-            b'\\' => Ok(Some(spot_at(Place::Escaped, nesting))),
-            _ => Ok(Some(spot)),
+            b'"' => Some(spot_at(Place::Outside, nesting)),
+            b'\\' => Some(spot_at(Place::Escaped, nesting)),
+            _ => Some(spot),
         },
-        Place::Escaped => Ok(Some(spot_at(Place::Inside, nesting))),
+        Place::Escaped => Some(spot_at(Place::Inside, nesting)),
     }
 }
 
 /// How a list with so many brackets open beside the first goes on over a line.
-pub fn list_end(nesting: u64, line: &[u8]) -> Result<ListEnd, OutOfMemory>
-    ensures value { IfOk result (λ end. end ≡ list_from nesting line.now) }
-    ensures within { IfOk result (λ end. TakesAtMost (length line.now) end) }
+pub fn list_end(nesting: u64, line: &[u8]) -> ListEnd
+    requires { nesting + length line.now < 2 ^ 64 }
+    ensures value { result ≡ list_from nesting line.now }
+    ensures within { IsWithin (length line.now) (nesting + length line.now) result }
 {
-    let mut spot = Spot {
-        place: Place::Outside,
-        nesting,
-    };
+    let mut spot = spot_at(Place::Outside, nesting);
     for (i, byte) in line.iter().enumerate() {
-        match spot_step(spot, *byte)? {
-            None => return Ok(ListEnd::Closed { taken: i + 1 }),
+        match spot_step(spot, *byte) {
+            None => return ListEnd::Closed { taken: i + 1 },
             Some(next) => spot = next,
         }
     }
-    Ok(if spot.place == Place::Outside {
-        ListEnd::Open { nesting: spot.nesting }
+    let Spot { place, nesting } = spot;
+    if place == Place::Outside {
+        ListEnd::Open { nesting }
     } else {
         ListEnd::Broken
-    })
+    }
 }

@@ -1,5 +1,5 @@
-ghost use Rattle.std.specs.Prelude.{◌≡◌, [], ◌∷◌, IfOk};
-ghost use Rattle.mdl_text.specs.Plain.{added, free, opened, closed, listed, strings_from, pending_strings, valued, unblanked, after_name, named, fresh, if_closed, start, step, finish};
+ghost use Rattle.std.specs.Prelude.{◌≡◌, ◌≤◌, length, IfOk, OnOk, IfSome, IsTrue, Some, None, if◌then◌else◌};
+ghost use Rattle.mdl_text.specs.Plain.{IsBounded, reader_of, added, opened, closed, listed, valued, after_name, named, fresh, if_closed, unblanked, strings_from, pending_strings, start, step, finish};
 
 use crate::brackets::{list_end, ListEnd};
 use crate::scan::{are_blanks, name_length, trimmed, unblanked};
@@ -7,6 +7,7 @@ use crate::strings::strings;
 use crate::tree::{Item, Items, Value};
 use fx_io::{OutOfMemory, Text};
 use std::alloc::Global;
+use std::mem;
 
 /// The deepest nesting of sections.
 const DEEPEST: u32 = 256;
@@ -37,92 +38,62 @@ pub struct Reader {
 
 impl Draft {
     /// Puts an item at the end.
-    fn added(mut self, name: Text, value: Value) -> Result<Draft, OutOfMemory>
-        ensures { IfOk result (λ draft. draft ≡ added self name value) }
+    fn add(&mut self, name: Text, value: Value) -> Result<(), OutOfMemory>
+        ensures { OnOk result (self.new ≡ added self.old name value) }
     {
         let depth = self.depth;
-        self.items.push(Item { depth, name, value })?;
-        Ok(self)
-    }
-
-    /// Nothing is pending.
-    fn free(self) -> Reader
-        ensures { result ≡ free self }
-    {
-        Reader {
-            draft: self,
-            pending: Pending::Nothing,
-        }
+        self.items.push(Item { depth, name, value })
     }
 
     /// A section begins, of which the bytes after its brace are given.
     #[tactic(auto, unfolding(crate::specs::Plain::opened))]
-    fn opened(self, alloc: Global, name: &[u8], after: &[u8]) -> Result<Option<Reader>, OutOfMemory>
-        ensures { IfOk result (λ next. next ≡ opened self name.now after.now) }
+    fn open(&mut self, alloc: Global, name: &[u8], after: &[u8]) -> Result<Option<Pending>, OutOfMemory>
+        ensures value { IfOk result (λ next. reader_of self.new next ≡ opened self.old name.now after.now) }
+        ensures bounded { IfOk result (λ next. IfSome next IsBounded) }
     {
-        if are_blanks(after) && self.depth < DEEPEST {
-            let mut draft = self.added(Text::copy(alloc, name)?, Value::Section)?;
-            draft.depth += 1;
-            Ok(Some(draft.free()))
-        } else {
-            Ok(None)
+        if !are_blanks(after) || self.depth >= DEEPEST {
+            return Ok(None);
         }
+        self.add(Text::copy(alloc, name)?, Value::Section)?;
+        self.depth += 1;
+        Ok(Some(Pending::Nothing))
     }
 
     /// A section ends, of which the bytes after its brace are given.
     #[tactic(auto, unfolding(crate::specs::Plain::closed))]
-    fn closed(mut self, after: &[u8]) -> Option<Reader>
-        ensures { result ≡ closed self after.now }
+    fn close(&mut self, after: &[u8]) -> Option<Pending>
+        ensures value { reader_of self.new result ≡ closed self.old after.now }
+        ensures bounded { IfSome result IsBounded }
     {
-        if are_blanks(after) && self.depth > 0 {
-            self.depth -= 1;
-            Some(self.free())
-        } else {
-            None
+        if !are_blanks(after) || self.depth == 0 {
+            return None;
         }
-    }
-
-    /// A quoted value, of which the bytes on this line are given.
-    fn quoted(self, name: Text, said: Text, bytes: &[u8]) -> Result<Option<Reader>, OutOfMemory>
-        ensures { IfOk result (λ next. next ≡ pending_strings self name (strings_from said bytes.now)) }
-    {
-        Ok(match strings(said.into_vec(), bytes)? {
-            None => None,
-            Some(said) => Some(Reader {
-                draft: self,
-                pending: Pending::Strings {
-                    name,
-                    said: Text::from_vec(said),
-                },
-            }),
-        })
+        self.depth -= 1;
+        Some(Pending::Nothing)
     }
 
     /// A list goes on over the line.
     #[tactic(auto, unfolding(crate::specs::Plain::listed))]
-    fn listed(self, name: Text, said: Text, nesting: u64, line: &[u8]) -> Result<Option<Reader>, OutOfMemory>
-        ensures { IfOk result (λ next. next ≡ listed self name said nesting line.now) }
+    fn list(&mut self, name: Text, said: Text, nesting: u64, line: &[u8]) -> Result<Option<Pending>, OutOfMemory>
+        requires { nesting ≤ length said }
+        ensures value { IfOk result (λ next. reader_of self.new next ≡ listed self.old name said nesting line.now) }
+        ensures bounded { IfOk result (λ next. IfSome next IsBounded) }
     {
         let mut bytes = said.into_vec();
-        match list_end(nesting, line)? {
+        match list_end(nesting, line) {
             ListEnd::Closed { taken } => {
                 if !are_blanks(&line[taken..]) {
                     return Ok(None);
                 }
                 bytes.extend_from_slice(&line[..taken])?;
-                Ok(Some(self.added(name, Value::List(Text::from_vec(bytes)))?.free()))
+                self.add(name, Value::List(Text::from_vec(bytes)))?;
+                Ok(Some(Pending::Nothing))
             }
             ListEnd::Open { nesting } => {
                 bytes.extend_from_slice(line)?;
                 bytes.push(b'\n')?;
-                Ok(Some(Reader {
-                    draft: self,
-                    pending: Pending::Open {
-                        name,
-                        said: Text::from_vec(bytes),
-                        nesting,
-                    },
-                }))
+                let said = Text::from_vec(bytes);
+                Ok(Some(Pending::Open { name, said, nesting }))
             }
             ListEnd::Broken => Ok(None),
         }
@@ -130,52 +101,47 @@ impl Draft {
 
     /// A parameter with a value, which begins with no blank.
     #[tactic(auto, unfolding(crate::specs::Plain::valued))]
-    fn valued(
-        self,
-        alloc: Global,
-        name: &[u8],
-        value: &[u8],
-    ) -> Result<Option<Reader>, OutOfMemory>
-        ensures { IfOk result (λ next. next ≡ valued self name.now value.now) }
+    fn value(&mut self, alloc: Global, name: &[u8], value: &[u8]) -> Result<Option<Pending>, OutOfMemory>
+        ensures value { IfOk result (λ next. reader_of self.new next ≡ valued self.old name.now value.now) }
+        ensures bounded { IfOk result (λ next. IfSome next IsBounded) }
     {
         let name = Text::copy(alloc, name)?;
         match value {
             [] => Ok(None),
-            [b'"', ..] => self.quoted(name, Text::copy(alloc, b"")?, value),
-            [b'[', after @ ..] => self.listed(name, Text::copy(alloc, b"[")?, 0, after),
+            [b'"', ..] => quoted(name, Text::copy(alloc, b"")?, value),
+            [b'[', after @ ..] => self.list(name, Text::copy(alloc, b"[")?, 0, after),
             _ => {
                 let value = Text::copy(alloc, trimmed(value))?;
-                Ok(Some(self.added(name, Value::Bare(value))?.free()))
+                self.add(name, Value::Bare(value))?;
+                Ok(Some(Pending::Nothing))
             }
         }
     }
 
     /// What follows a name.
-    fn after_name(
-        self,
-        alloc: Global,
-        name: &[u8],
-        rest: &[u8],
-    ) -> Result<Option<Reader>, OutOfMemory>
-        ensures { IfOk result (λ next. next ≡ after_name self name.now rest.now (unblanked rest.now)) }
+    fn after_name(&mut self, alloc: Global, name: &[u8], rest: &[u8]) -> Result<Option<Pending>, OutOfMemory>
+        ensures value { IfOk result (λ next. reader_of self.new next ≡ after_name self.old name.now rest.now (unblanked rest.now)) }
+        ensures bounded { IfOk result (λ next. IfSome next IsBounded) }
     {
         let value = unblanked(rest);
         match value {
             [] => {
                 let name = Text::copy(alloc, name)?;
                 let empty = Text::copy(alloc, b"")?;
-                Ok(Some(self.added(name, Value::Bare(empty))?.free()))
+                self.add(name, Value::Bare(empty))?;
+                Ok(Some(Pending::Nothing))
             }
-            [b'{', after @ ..] => self.opened(alloc, name, after),
+            [b'{', after @ ..] => self.open(alloc, name, after),
             _ if value.len() == rest.len() => Ok(None),
-            _ => self.valued(alloc, name, value),
+            _ => self.value(alloc, name, value),
         }
     }
 
     /// A line that begins with a name.
     #[tactic(auto, unfolding(crate::specs::Plain::named))]
-    fn named(self, alloc: Global, text: &[u8]) -> Result<Option<Reader>, OutOfMemory>
-        ensures { IfOk result (λ next. next ≡ named self text.now) }
+    fn named(&mut self, alloc: Global, text: &[u8]) -> Result<Option<Pending>, OutOfMemory>
+        ensures value { IfOk result (λ next. reader_of self.new next ≡ named self.old text.now) }
+        ensures bounded { IfOk result (λ next. IfSome next IsBounded) }
     {
         let count = name_length(text);
         if count == 0 {
@@ -186,13 +152,14 @@ impl Draft {
 
     /// A line that goes on with nothing.
     #[tactic(auto, unfolding(crate::specs::Plain::fresh))]
-    fn fresh(self, alloc: Global, line: &[u8]) -> Result<Option<Reader>, OutOfMemory>
-        ensures { IfOk result (λ next. next ≡ fresh self line.now) }
+    fn fresh(&mut self, alloc: Global, line: &[u8]) -> Result<Option<Pending>, OutOfMemory>
+        ensures value { IfOk result (λ next. reader_of self.new next ≡ fresh self.old line.now) }
+        ensures bounded { IfOk result (λ next. IfSome next IsBounded) }
     {
         let text = unblanked(line);
         match text {
-            [] | [b'#', ..] => Ok(Some(self.free())),
-            [b'}', after @ ..] => Ok(self.closed(after)),
+            [] | [b'#', ..] => Ok(Some(Pending::Nothing)),
+            [b'}', after @ ..] => Ok(self.close(after)),
             _ => self.named(alloc, text),
         }
     }
@@ -206,33 +173,61 @@ impl Draft {
     }
 }
 
+/// A quoted value after what it said so far, of which the bytes on this line are given.
+fn quoted(name: Text, said: Text, bytes: &[u8]) -> Result<Option<Pending>, OutOfMemory>
+    ensures value { IfOk result (λ next. next ≡ pending_strings name (strings_from said bytes.now)) }
+    ensures bounded { IfOk result (λ next. IfSome next IsBounded) }
+{
+    match strings(said.into_vec(), bytes)? {
+        None => Ok(None),
+        Some(said) => {
+            let said = Text::from_vec(said);
+            Ok(Some(Pending::Strings { name, said }))
+        }
+    }
+}
+
 impl Reader {
     /// Before the first line.
     pub fn new(alloc: Global) -> Reader
         ensures { result ≡ start }
     {
-        Draft {
+        let draft = Draft {
             items: Items::new(alloc),
             depth: 0,
+        };
+        Reader {
+            draft,
+            pending: Pending::Nothing,
         }
-        .free()
     }
 
-    /// Reads the next line. `None` where no text goes on so.
+    /// Reads the next line. Where no text goes on so, it says `false`, and the reader is of no more use.
     #[tactic(auto, unfolding(crate::specs::Plain::step))]
-    pub fn step(self, alloc: Global, line: &[u8]) -> Result<Option<Reader>, OutOfMemory>
-        ensures { IfOk result (λ next. next ≡ step self line.now) }
+    pub fn step(&mut self, alloc: Global, line: &[u8]) -> Result<bool, OutOfMemory>
+        requires { IsBounded self.old.pending }
+        ensures value { IfOk result (λ good. step self.old line.now ≡ (if good then Some self.new else None)) }
+        ensures bounded { IfOk result (λ good. IsTrue good → IsBounded self.new.pending) }
     {
-        let Reader { draft, pending } = self;
-        match pending {
-            Pending::Nothing => draft.fresh(alloc, line),
-            Pending::Open { name, said, nesting } => draft.listed(name, said, nesting, line),
+        let next = match mem::replace(&mut self.pending, Pending::Nothing) {
+            Pending::Nothing => self.draft.fresh(alloc, line)?,
+            Pending::Open { name, said, nesting } => self.draft.list(name, said, nesting, line)?,
             Pending::Strings { name, said } => {
                 let text = unblanked(line);
                 match text {
-                    [b'"', ..] => draft.quoted(name, said, text),
-                    _ => draft.added(name, Value::Quoted(said))?.fresh(alloc, line),
+                    [b'"', ..] => quoted(name, said, text)?,
+                    _ => {
+                        self.draft.add(name, Value::Quoted(said))?;
+                        self.draft.fresh(alloc, line)?
+                    }
                 }
+            }
+        };
+        match next {
+            None => Ok(false),
+            Some(pending) => {
+                self.pending = pending;
+                Ok(true)
             }
         }
     }
@@ -242,10 +237,13 @@ impl Reader {
     pub fn finish(self) -> Result<Option<Items>, OutOfMemory>
         ensures { IfOk result (λ items. items ≡ finish self) }
     {
-        let Reader { draft, pending } = self;
+        let Reader { mut draft, pending } = self;
         match pending {
             Pending::Nothing => Ok(draft.if_closed()),
-            Pending::Strings { name, said } => Ok(draft.added(name, Value::Quoted(said))?.if_closed()),
+            Pending::Strings { name, said } => {
+                draft.add(name, Value::Quoted(said))?;
+                Ok(draft.if_closed())
+            }
             Pending::Open { .. } => Ok(None),
         }
     }

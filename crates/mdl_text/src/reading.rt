@@ -2,7 +2,7 @@ ghost use Rattle.std.specs.Prelude.{◌≡◌, ℕ, List, [], ◌∷◌, ◌++�
 ghost use Rattle.mdl_text.specs.Bytes.{IsOneLine};
 ghost use Rattle.mdl_text.specs.Stands.{Stands};
 ghost use Rattle.mdl_text.specs.Prefix.{IsFaultLine, IfSyntax};
-ghost use Rattle.mdl_text.specs.Plain.{run};
+ghost use Rattle.mdl_text.specs.Plain.{run, IsBounded};
 
 use crate::fault::MdlFault;
 use crate::reader::Reader;
@@ -25,9 +25,8 @@ pub fn read(alloc: Global, bytes: &[u8]) -> Result<Tree, MdlFault>
     let mut rest = bytes;
     let mut line = 1;
     while let Some((next, after)) = split_line(rest) {
-        match reader.step(alloc, next)? {
-            None => return Err(MdlFault::Syntax { line }),
-            Some(read) => reader = read,
+        if !reader.step(alloc, next)? {
+            return Err(MdlFault::Syntax { line });
         }
         rest = after;
         line += 1;
@@ -50,12 +49,14 @@ fn split_line(text: &[u8]) -> Option<(&[u8], &[u8])>
 }
 
 /// Reads the last line, and gives the items of the whole text. `None` where the text may not end so.
-fn last_line(reader: Reader, alloc: Global, line: &[u8]) -> Result<Option<Items>, OutOfMemory>
+fn last_line(mut reader: Reader, alloc: Global, line: &[u8]) -> Result<Option<Items>, OutOfMemory>
+    requires { IsBounded reader.pending }
     ensures { IfOk result (λ items. items ≡ run reader (line.now ∷ [])) }
 {
-    match reader.step(alloc, line)? {
-        None => Ok(None),
-        Some(next) => next.finish(),
+    if reader.step(alloc, line)? {
+        reader.finish()
+    } else {
+        Ok(None)
     }
 }
 

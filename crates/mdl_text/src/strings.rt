@@ -4,6 +4,9 @@ ghost use Rattle.mdl_text.specs.Plain.{string_step, strings_from};
 use crate::scan::is_blank;
 use fx_io::OutOfMemory;
 
+/// Room for so many bytes is made at once.
+const USUAL_LENGTH: usize = 64;
+
 /// Where a byte stands, beside quotes: outside of a string, in one, or after a backslash in one.
 #[derive(Clone, Copy, Debug, PartialEq, Eq)]
 pub enum Place {
@@ -59,6 +62,7 @@ pub fn strings(mut said: Vec<u8>, bytes: &[u8]) -> Result<Option<Vec<u8>>, OutOf
         (strings_from said.items bytes.now ≡ None)
         (λ value. strings_from said.items bytes.now ≡ Some value.items)) }
 {
+    said.reserve(bytes.len().min(USUAL_LENGTH))?;
     let mut place = Place::Outside;
     for byte in bytes {
         match string_step(place, &mut said, *byte)? {
