@@ -1,6 +1,6 @@
 -- Facts about single bytes, and cases on tests.
-use Rattle.std.proofs.Common.{◌≡◌, ◌≢◌, ℕ, Bool, true, false, cond, ◌⊎◌, inl, inr, Option, Some, None, refl, sym, ◌∙◌, ap, subst, ⊎_elim, eqb-true, arith}
-use Rattle.std.specs.Prelude.{◌&&◌, ◌||◌, ◌==◌}
+use Rattle.std.proofs.Common.{◌≡◌, ◌≢◌, ℕ, Bool, true, false, cond, ◌⊎◌, inl, inr, Some, None, refl, sym, ◌∙◌, ap, subst, ⊎_elim, eqb-true, arith}
+use Rattle.std.specs.Prelude.{◌||◌, ◌==◌}
 use Rattle.std.proofs.lemmas.Bool.{or_cases, true≢false}
 use Rattle.mdl_text.specs.Bytes.{is_blank, is_name_byte}
 

@@ -1,31 +1,27 @@
 -- What a text stands for is read from it.
-use Rattle.std.proofs.Common.{◌≡◌, ◌≢◌, ℕ, zero, suc, ◌+◌, ◌-◌, ◌<◌, Bool, true, false, cond, not, List, [], ◌∷◌, ◌++◌, length, take, drop, Option, Some, None, ◌⊎◌, inl, inr, refl, sym, ◌∙◌, ap, subst, ⊎_elim, append_assoc, append-nil, eqb-true, eq-eqb, ne_eqb, flat_map, arith, add-one, option_and_then, length-append, lt-ltb, true≢false}
-use Rattle.std.specs.Prelude.{◌&&◌, ◌==◌, nat_lt}
+use Rattle.std.proofs.Common.{◌≡◌, ◌≢◌, ℕ, zero, suc, ◌+◌, ◌-◌, ◌<◌, true, false, cond, not, List, [], ◌∷◌, ◌++◌, length, take, drop, Some, None, ◌⊎◌, inl, inr, refl, sym, ◌∙◌, ap, subst, append_assoc, append-nil, eqb-true, eq-eqb, ne_eqb, flat_map, arith, add-one, option_and_then, length-append, lt-ltb}
+use Rattle.std.specs.Prelude.{◌==◌, nat_lt}
 use Rattle.std.specs.List.{list_all, prefix_len, AllByRecursion}
-use Rattle.std.proofs.lemmas.Bool.{and_parts, and_from, not-true}
+use Rattle.std.proofs.lemmas.Bool.{and_parts, and_from}
 use Rattle.std.proofs.Math.Seq.{take-append_seam, drop-append_seam, take-append-add, drop-append-add}
 use Rattle.mdl_text.specs.declared.tree.Tree.{Tree}
 use Rattle.mdl_text.specs.declared.tree.Item.{Item}
-use Rattle.mdl_text.specs.declared.tree.Value.{Value}
 use Rattle.mdl_text.specs.declared.tree.Value.TheVariants.{Section, Bare, List as Brackets, Quoted}
-use Rattle.mdl_text.specs.declared.strings.Place.TheVariants.{Outside, Inside, Escaped}
-use Rattle.mdl_text.specs.declared.brackets.ListEnd.{ListEnd}
-use Rattle.mdl_text.specs.declared.brackets.ListEnd.TheVariants.{Closed, Open, Broken}
+use Rattle.mdl_text.specs.declared.strings.Place.TheVariants.{Outside}
 use Rattle.mdl_text.specs.declared.reader.Draft.{Draft}
-use Rattle.mdl_text.specs.declared.reader.Pending.{Pending}
-use Rattle.mdl_text.specs.declared.reader.Pending.TheVariants.{Nothing as Free, Strings, Open as OpenList}
+use Rattle.mdl_text.specs.declared.reader.Pending.TheVariants.{Strings, Open as OpenList}
 use Rattle.mdl_text.specs.declared.reader.Reader.{Reader}
-use Rattle.mdl_text.specs.Bytes.{is_blank, is_name_byte, AreBlanks, IsName, IsOneLine, AreStrings, IsList, lines_of, Piece, piece_bytes, Closes, Quote, quote_value, quote_bytes, quoted}
+use Rattle.mdl_text.specs.Bytes.{is_blank, is_name_byte, AreBlanks, IsName, IsOneLine, AreStrings, lines_of, Piece, piece_bytes, Closes, Quote, quote_bytes, quoted}
 use Rattle.mdl_text.specs.Bytes.Piece.{Opening, Closing, String, Other}
-use Rattle.mdl_text.specs.Lines.{IsComment, StartsSection, EndsSection, IsEmptyParameter, GivesParameter, IsBare, IsBareParameter, IsFurtherText, Further, IsQuotedParameter, IsListParameter}
-use Rattle.mdl_text.specs.Stands.{Says, Part, OneLine, HasForm, Builds, Stands}
+use Rattle.mdl_text.specs.Lines.{IsComment, StartsSection, EndsSection, IsEmptyParameter, GivesParameter, IsBareParameter, IsFurtherText, Further, IsQuotedParameter, IsListParameter}
+use Rattle.mdl_text.specs.Stands.{Says, Part, HasForm, Builds, Stands}
 use Rattle.mdl_text.specs.Stands.Says.{Nothing, Entry, End}
-use Rattle.mdl_text.specs.Plain.{unblanked, trimmed, strings, strings_from, list_end, list_from, spot_at, added, free, reader_strings, opened, closed, listed_by, listed, valued, after_name, named, fresh_text, fresh, begins_with_quote, step_in, step, if_closed, finish_in, finish, run, start}
+use Rattle.mdl_text.specs.Plain.{unblanked, trimmed, strings, strings_from, list_end, spot_at, added, free, reader_strings, opened, closed, listed_by, listed, valued, after_name, named, fresh_text, fresh, begins_with_quote, step, finish, run, start}
 use Rattle.mdl_text.proofs.Classes.{no_byte, name_no_blank, blank_no_name, quote_no_blank, bracket_no_blank, hash_no_blank, opening_no_blank, closing_no_blank, quote_no_name, hash_no_name, opening_no_name, closing_no_name, bracket_no_brace, quote_no_brace}
 use Rattle.mdl_text.proofs.Scans.{FirstIs, unblanked_after, unblanked_at, unblanked_none, name_length_of, trimmed_value}
 use Rattle.mdl_text.proofs.Quotes.{outside_quotes}
 use Rattle.mdl_text.proofs.Pieces.{string_end, opening_end, closing_end, last_end, other_end}
-use Rattle.mdl_text.proofs.LineLaws.{first_line, lines_front, lines_one, lines_next, lines_each, line_parts, line_join, blanks_line, name_line}
+use Rattle.mdl_text.proofs.LineLaws.{first_line, lines_front, lines_one, lines_next, line_join, blanks_line, name_line}
 use Rattle.mdl_text.proofs.Sound.{item}
 
 -- a line of blanks, or a comment
@@ -49,20 +45,20 @@ fresh_name : (draft : Draft) (before name rest : List ℕ) → AreBlanks before 
 unfolding fresh named
 fresh_name draft before name rest blanks is_name stops = ap (fresh_text draft) (unblanked_after before (name ++ rest) blanks) ∙ at name is_name.nonempty is_name.each
   where
-  at : (name : List ℕ) → name ≢ [] → list_all is_name_byte name ≡ true → fresh_text draft (unblanked (name ++ rest)) ≡ after_name draft name rest (unblanked rest)
-  at [] some each = absurd (some refl)
-  at (b ∷ bs) some each =
-      let parts = and_parts (is_name_byte b) (list_all is_name_byte bs) each in
-      let text : List ℕ = (b ∷ bs) ++ rest in
-      let count : prefix_len is_name_byte text ≡ length (b ∷ bs) = name_length_of (b ∷ bs) rest each stops in
-      let positive : (length (b ∷ bs) == 0) ≡ false = ne_eqb _ _ (λ e. omega (arith, e)) in
-      ap (λ t. fresh_text draft (cond t (unblanked (bs ++ rest)) text)) (name_no_blank b parts.0)
-      ∙ ap (λ t. cond t (Some (free draft)) (cond (b == 125) (closed draft (bs ++ rest)) (named draft text))) (no_byte is_name_byte b 35 parts.0 hash_no_name)
-      ∙ ap (λ t. cond t (closed draft (bs ++ rest)) (named draft text)) (no_byte is_name_byte b 125 parts.0 closing_no_name)
-      ∙ ap (λ n. cond (n == 0) None (after_name draft (take n text) (drop n text) (unblanked (drop n text)))) count
-      ∙ ap (λ t. cond t None (after_name draft (take (length (b ∷ bs)) text) (drop (length (b ∷ bs)) text) (unblanked (drop (length (b ∷ bs)) text)))) positive
-      ∙ ap (λ l. after_name draft l (drop (length (b ∷ bs)) text) (unblanked (drop (length (b ∷ bs)) text))) (take-append_seam (b ∷ bs) rest)
-      ∙ ap (λ l. after_name draft (b ∷ bs) l (unblanked l)) (drop-append_seam (b ∷ bs) rest)
+    at : (name : List ℕ) → name ≢ [] → list_all is_name_byte name ≡ true → fresh_text draft (unblanked (name ++ rest)) ≡ after_name draft name rest (unblanked rest)
+    at [] some each = absurd (some refl)
+    at (b ∷ bs) some each =
+        let parts = and_parts (is_name_byte b) (list_all is_name_byte bs) each in
+        let text : List ℕ = (b ∷ bs) ++ rest in
+        let count : prefix_len is_name_byte text ≡ length (b ∷ bs) = name_length_of (b ∷ bs) rest each stops in
+        let positive : (length (b ∷ bs) == 0) ≡ false = ne_eqb _ _ (λ e. omega (arith, e)) in
+        ap (λ t. fresh_text draft (cond t (unblanked (bs ++ rest)) text)) (name_no_blank b parts.0)
+        ∙ ap (λ t. cond t (Some (free draft)) (cond (b == 125) (closed draft (bs ++ rest)) (named draft text))) (no_byte is_name_byte b 35 parts.0 hash_no_name)
+        ∙ ap (λ t. cond t (closed draft (bs ++ rest)) (named draft text)) (no_byte is_name_byte b 125 parts.0 closing_no_name)
+        ∙ ap (λ n. cond (n == 0) None (after_name draft (take n text) (drop n text) (unblanked (drop n text)))) count
+        ∙ ap (λ t. cond t None (after_name draft (take (length (b ∷ bs)) text) (drop (length (b ∷ bs)) text) (unblanked (drop (length (b ∷ bs)) text)))) positive
+        ∙ ap (λ l. after_name draft l (drop (length (b ∷ bs)) text) (unblanked (drop (length (b ∷ bs)) text))) (take-append_seam (b ∷ bs) rest)
+        ∙ ap (λ l. after_name draft (b ∷ bs) l (unblanked l)) (drop-append_seam (b ∷ bs) rest)
 
 -- a name doesn't go on with a blank
 blank_stops : (between rest : List ℕ) → AreBlanks between → FirstIs (λ b. is_name_byte b ≡ false) rest → FirstIs (λ b. is_name_byte b ≡ false) (between ++ rest)
@@ -96,12 +92,13 @@ fresh_value draft line name b bytes gives stays brace =
     ∙ ap (λ t. cond t (opened draft name bytes) (cond (length rest == length (b ∷ bytes)) None (valued draft name (b ∷ bytes)))) (ne_eqb b 123 brace)
     ∙ ap (λ t. cond t None (valued draft name (b ∷ bytes))) longer
   where
-  longer_than : (between : List ℕ) → between ≢ [] → length (between ++ b ∷ bytes) ≡ length (b ∷ bytes) → ⊥
-  longer_than [] some e = some refl
-  longer_than (x ∷ xs) some e = omega (arith, e, length-append xs (b ∷ bytes))
-  stops : (between : List ℕ) → between ≢ [] → AreBlanks between → FirstIs (λ b. is_name_byte b ≡ false) (between ++ b ∷ bytes)
-  stops [] some blanks = absurd (some refl)
-  stops (x ∷ xs) some blanks = blank_no_name x (and_parts (is_blank x) (list_all is_blank xs) blanks).0
+    longer_than : (between : List ℕ) → between ≢ [] → length (between ++ b ∷ bytes) ≡ length (b ∷ bytes) → ⊥
+    longer_than [] some e = some refl
+    longer_than (x ∷ xs) some e = omega (arith, e, length-append xs (b ∷ bytes))
+
+    stops : (between : List ℕ) → between ≢ [] → AreBlanks between → FirstIs (λ b. is_name_byte b ≡ false) (between ++ b ∷ bytes)
+    stops [] some blanks = absurd (some refl)
+    stops (x ∷ xs) some blanks = blank_no_name x (and_parts (is_blank x) (list_all is_blank xs) blanks).0
 
 pub fresh_bare : (draft : Draft) (line name value : List ℕ) → IsBareParameter line name value → fresh draft line ≡ Some (free (added draft name (Bare value)))
 unfolding valued
@@ -109,7 +106,7 @@ fresh_bare draft line name value bare =
     let is = bare.is_bare in
     let said : value ++ bare.after ≡ is.first ∷ (is.rest ++ bare.after) = ap (λ l. l ++ bare.after) is.begins in
     let trim : trimmed (is.first ∷ (is.rest ++ bare.after)) ≡ value =
-          ap trimmed (sym said ∙ ap (λ l. l ++ bare.after) is.ends) ∙ trimmed_value is.front is.last bare.after bare.blanks_after is.no_blank_last ∙ sym is.ends in
+    ap trimmed (sym said ∙ ap (λ l. l ++ bare.after) is.ends) ∙ trimmed_value is.front is.last bare.after bare.blanks_after is.no_blank_last ∙ sym is.ends in
     fresh_value draft line name is.first (is.rest ++ bare.after) (subst (GivesParameter line name) said bare.gives) is.no_blank_first is.no_brace
     ∙ ap (λ t. cond t (reader_strings draft name (strings_from [] (is.first ∷ (is.rest ++ bare.after)))) (cond (is.first == 91) (listed draft name (91 ∷ []) 0 (is.rest ++ bare.after)) (Some (free (added draft name (Bare (trimmed (is.first ∷ (is.rest ++ bare.after))))))))) (ne_eqb is.first 34 is.no_quote)
     ∙ ap (λ t. cond t (listed draft name (91 ∷ []) 0 (is.rest ++ bare.after)) (Some (free (added draft name (Bare (trimmed (is.first ∷ (is.rest ++ bare.after)))))))) (ne_eqb is.first 91 is.no_bracket)
@@ -124,9 +121,9 @@ run_free draft line next lines e = ap (λ o. option_and_then (λ next. run next 
 strings_first : (bytes value : List ℕ) → AreStrings bytes value → (rest : List ℕ) × (bytes ≡ 34 ∷ rest)
 strings_first bytes value are = of are.quotes are.nonempty are.form
   where
-  of : (quotes : List Quote) → quotes ≢ [] → bytes ≡ flat_map quote_bytes quotes → (rest : List ℕ) × (bytes ≡ 34 ∷ rest)
-  of [] some form = absurd (some refl)
-  of (q ∷ qs) some form = (_, form)
+    of : (quotes : List Quote) → quotes ≢ [] → bytes ≡ flat_map quote_bytes quotes → (rest : List ℕ) × (bytes ≡ 34 ∷ rest)
+    of [] some form = absurd (some refl)
+    of (q ∷ qs) some form = (_, form)
 
 -- and are read as what they say
 strings_read : (said bytes value : List ℕ) → AreStrings bytes value → strings_from said bytes ≡ Some (said ++ value)
@@ -167,11 +164,11 @@ run_strings_end (line ∷ lines) draft name said other = ap (λ t. option_and_th
 name_no_quote : (before name rest : List ℕ) → AreBlanks before → IsName name → begins_with_quote (unblanked (before ++ (name ++ rest))) ≡ false
 name_no_quote before name rest blanks is_name = ap begins_with_quote (unblanked_after before (name ++ rest) blanks) ∙ at name is_name.nonempty is_name.each
   where
-  at : (name : List ℕ) → name ≢ [] → list_all is_name_byte name ≡ true → begins_with_quote (unblanked (name ++ rest)) ≡ false
-  at [] some each = absurd (some refl)
-  at (b ∷ bs) some each =
-      let parts = and_parts (is_name_byte b) (list_all is_name_byte bs) each in
-      ap (λ t. begins_with_quote (cond t (unblanked (bs ++ rest)) (b ∷ (bs ++ rest)))) (name_no_blank b parts.0) ∙ no_byte is_name_byte b 34 parts.0 quote_no_name
+    at : (name : List ℕ) → name ≢ [] → list_all is_name_byte name ≡ true → begins_with_quote (unblanked (name ++ rest)) ≡ false
+    at [] some each = absurd (some refl)
+    at (b ∷ bs) some each =
+        let parts = and_parts (is_name_byte b) (list_all is_name_byte bs) each in
+        ap (λ t. begins_with_quote (cond t (unblanked (bs ++ rest)) (b ∷ (bs ++ rest)))) (name_no_blank b parts.0) ∙ no_byte is_name_byte b 34 parts.0 quote_no_name
 
 gives_no_quote : (line name said : List ℕ) → GivesParameter line name said → begins_with_quote (unblanked line) ≡ false
 gives_no_quote line name said gives = ap (λ l. begins_with_quote (unblanked l)) gives.form ∙ name_no_quote gives.before name (gives.between ++ said) gives.blanks gives.is_name
@@ -192,9 +189,9 @@ list_no_quote bytes name said rest gives =
 part_no_quote : (lines rest : List (List ℕ)) (says : Says) → HasForm lines says → NoQuote (lines ++ rest)
 part_no_quote lines rest Nothing form = line_no_quote lines rest form.0 form.1 (of form.0 form.2)
   where
-  of : (line : List ℕ) → (AreBlanks line ⊎ IsComment line) → begins_with_quote (unblanked line) ≡ false
-  of line (inl blanks) = ap begins_with_quote (unblanked_none line blanks)
-  of line (inr comment) = ap begins_with_quote (ap unblanked comment.form ∙ unblanked_at comment.before 35 comment.text comment.blanks hash_no_blank)
+    of : (line : List ℕ) → (AreBlanks line ⊎ IsComment line) → begins_with_quote (unblanked line) ≡ false
+    of line (inl blanks) = ap begins_with_quote (unblanked_none line blanks)
+    of line (inr comment) = ap begins_with_quote (ap unblanked comment.form ∙ unblanked_at comment.before 35 comment.text comment.blanks hash_no_blank)
 part_no_quote lines rest End form =
     let end = form.2 in
     line_no_quote lines rest form.0 form.1 (ap begins_with_quote (ap unblanked end.form ∙ unblanked_at end.before 125 end.after end.blanks closing_no_blank))
@@ -203,9 +200,9 @@ part_no_quote lines rest (Entry name Section) form =
     line_no_quote lines rest form.0 form.1 (ap (λ l. begins_with_quote (unblanked l)) starts.form ∙ name_no_quote starts.before name (starts.between ++ 123 ∷ starts.after) starts.blanks starts.is_name)
 part_no_quote lines rest (Entry name (Bare value)) form = line_no_quote lines rest form.0 form.1 (of form.2)
   where
-  of : ((IsEmptyParameter form.0 name × (value ≡ [])) ⊎ IsBareParameter form.0 name value) → begins_with_quote (unblanked form.0) ≡ false
-  of (inl empty) = ap (λ l. begins_with_quote (unblanked l)) empty.0.form ∙ name_no_quote empty.0.before name empty.0.after empty.0.blanks empty.0.is_name
-  of (inr bare) = gives_no_quote form.0 name (value ++ bare.after) bare.gives
+    of : ((IsEmptyParameter form.0 name × (value ≡ [])) ⊎ IsBareParameter form.0 name value) → begins_with_quote (unblanked form.0) ≡ false
+    of (inl empty) = ap (λ l. begins_with_quote (unblanked l)) empty.0.form ∙ name_no_quote empty.0.before name empty.0.after empty.0.blanks empty.0.is_name
+    of (inr bare) = gives_no_quote form.0 name (value ++ bare.after) bare.gives
 part_no_quote lines rest (Entry name (Quoted value)) form = subst (λ l. NoQuote (l ++ rest)) (sym form.form) (gives_no_quote form.line name form.strings form.gives)
 part_no_quote lines rest (Entry name (Brackets value)) form = subst (λ l. NoQuote (l ++ rest)) (sym form.form) (list_no_quote form.bytes name (value ++ form.after) rest form.gives)
 
@@ -285,10 +282,10 @@ run_list (String chars ∷ pieces) n n0 draft name said pre after rest closes bl
     (run_list pieces n n0 draft name said (pre ++ quoted chars) after rest closes.2 blanks (line_join pre (quoted chars) one closes.1) (read_more n0 n n pre (quoted chars) read (λ more. string_end chars n (length pre) more closes.0)))
 run_list (Other b ∷ pieces) n n0 draft name said pre after rest closes blanks one read =
     elim (b == 10) as (λ t. (b == 10) ≡ t → Reads draft name said n0 pre (Other b ∷ pieces) after rest) [
-      true ↦ λ e. subst (λ x. Reads draft name said n0 pre (Other x ∷ pieces) after rest) (sym (eqb-true b 10 e))
-        (reads_newline draft name said n0 n pre pieces after rest one read (run_list pieces n n draft name ((said ++ pre) ++ 10 ∷ []) [] after rest closes.3 blanks refl (λ more. refl)))
-    | false ↦ λ e. reads_more draft name said n0 pre (Other b) pieces after rest
-        (run_list pieces n n0 draft name said (pre ++ b ∷ []) after rest closes.3 blanks (line_join pre (b ∷ []) one (and_from (not (b == 10)) true (ap not e) refl)) (read_more n0 n n pre (b ∷ []) read (λ more. other_end n (length pre) b more closes.0 closes.1 closes.2)))
+      | true ↦ λ e. subst (λ x. Reads draft name said n0 pre (Other x ∷ pieces) after rest) (sym (eqb-true b 10 e))
+          (reads_newline draft name said n0 n pre pieces after rest one read (run_list pieces n n draft name ((said ++ pre) ++ 10 ∷ []) [] after rest closes.3 blanks refl (λ more. refl)))
+      | false ↦ λ e. reads_more draft name said n0 pre (Other b) pieces after rest
+          (run_list pieces n n0 draft name said (pre ++ b ∷ []) after rest closes.3 blanks (line_join pre (b ∷ []) one (and_from (not (b == 10)) true (ap not e) refl)) (read_more n0 n n pre (b ∷ []) read (λ more. other_end n (length pre) b more closes.0 closes.1 closes.2)))
     ] refl
 
 -- a parameter whose value is a list
@@ -301,7 +298,7 @@ run_brackets draft lines name value rest form =
     let first = first_line tail in
     let pre : List ℕ = gives.before ++ (name ++ (gives.between ++ 91 ∷ [])) in
     let shape : (more : List ℕ) → pre ++ more ≡ gives.before ++ (name ++ (gives.between ++ 91 ∷ more)) =
-          λ more. append_assoc gives.before (name ++ (gives.between ++ 91 ∷ [])) more ∙ ap (λ l. gives.before ++ l) (append_assoc name (gives.between ++ 91 ∷ []) more ∙ ap (λ l. name ++ l) (append_assoc gives.between (91 ∷ []) more)) in
+    λ more. append_assoc gives.before (name ++ (gives.between ++ 91 ∷ [])) more ∙ ap (λ l. gives.before ++ l) (append_assoc name (gives.between ++ 91 ∷ []) more ∙ ap (λ l. name ++ l) (append_assoc gives.between (91 ∷ []) more)) in
     let one : IsOneLine pre = line_join gives.before (name ++ (gives.between ++ 91 ∷ [])) (blanks_line gives.before gives.blanks) (line_join name (gives.between ++ 91 ∷ []) (name_line name gives.is_name.each) (line_join gives.between (91 ∷ []) (blanks_line gives.between gives.blanks_between) refl)) in
     let text : form.bytes ≡ pre ++ tail = gives.form ∙ ap (λ v. gives.before ++ (name ++ (gives.between ++ (v ++ form.after)))) list.form ∙ sym (shape tail) in
     let line : List ℕ = pre ++ first.first in
@@ -355,9 +352,9 @@ run_part draft lines rest (Entry name (Bare value)) says items form builds other
     ∙ run_entry draft rest says (item draft.depth name (Bare value)) draft.depth builds.0 goes builds.2
     ∙ ap (λ l. Some (draft.items ++ l)) (sym builds.1)
   where
-  of : ((IsEmptyParameter form.0 name × (value ≡ [])) ⊎ IsBareParameter form.0 name value) → fresh draft form.0 ≡ Some (free (added draft name (Bare value)))
-  of (inl empty) = fresh_empty draft form.0 name empty.0 ∙ ap (λ v. Some (free (added draft name (Bare v)))) (sym empty.1)
-  of (inr bare) = fresh_bare draft form.0 name value bare
+    of : ((IsEmptyParameter form.0 name × (value ≡ [])) ⊎ IsBareParameter form.0 name value) → fresh draft form.0 ≡ Some (free (added draft name (Bare value)))
+    of (inl empty) = fresh_empty draft form.0 name empty.0 ∙ ap (λ v. Some (free (added draft name (Bare v)))) (sym empty.1)
+    of (inr bare) = fresh_bare draft form.0 name value bare
 run_part draft lines rest (Entry name (Quoted value)) says items form builds other goes =
     run_quoted draft lines name value rest form other
     ∙ run_entry draft rest says (item draft.depth name (Quoted value)) draft.depth builds.0 goes builds.2

@@ -1,6 +1,6 @@
 -- Facts about the lines of a text.
 use Rattle.std.proofs.Common.{◌≡◌, ℕ, Bool, true, false, cond, not, List, [], ◌∷◌, ◌++◌, refl, sym, ◌∙◌, ap, append-nil}
-use Rattle.std.specs.Prelude.{◌&&◌, ◌==◌}
+use Rattle.std.specs.Prelude.{◌==◌}
 use Rattle.std.specs.List.{list_all, AllByRecursion}
 use Rattle.std.proofs.lemmas.Bool.{and_parts, and_from, not-true}
 use Rattle.std.proofs.lemmas.List.Folds.{list_all-append}
@@ -20,9 +20,9 @@ on_first_line b (line ∷ lines) = (b ∷ line, lines, refl)
 pub first_line : (bytes : List ℕ) → FirstLine bytes
 first_line [] = record { first = []; more = []; form = refl }
 first_line (b ∷ bs) = elim (b == 10) as (λ t. (b == 10) ≡ t → FirstLine (b ∷ bs)) [
-      true ↦ λ e. record { first = []; more = lines_of bs; form = ap (λ t. cond t ([] ∷ lines_of bs) (on_first b (lines_of bs))) e }
-    | false ↦ λ e. let f = on_first_line b (lines_of bs) in record { first = f.0; more = f.1; form = ap (λ t. cond t ([] ∷ lines_of bs) (on_first b (lines_of bs))) e ∙ f.2 }
-    ] refl
+  | true ↦ λ e. record { first = []; more = lines_of bs; form = ap (λ t. cond t ([] ∷ lines_of bs) (on_first b (lines_of bs))) e }
+  | false ↦ λ e. let f = on_first_line b (lines_of bs) in record { first = f.0; more = f.1; form = ap (λ t. cond t ([] ∷ lines_of bs) (on_first b (lines_of bs))) e ∙ f.2 }
+] refl
 
 -- bytes with no newline join the line after them
 pub lines_front : (pre rest first : List ℕ) (more : List (List ℕ)) → IsOneLine pre → lines_of rest ≡ first ∷ more → lines_of (pre ++ rest) ≡ (pre ++ first) ∷ more
@@ -46,9 +46,9 @@ on_first_each b (line ∷ lines) h each = (and_from (not (b == 10)) (list_all (�
 pub lines_each : (bytes : List ℕ) → AllByRecursion IsOneLine (lines_of bytes)
 lines_each [] = (refl, tt)
 lines_each (b ∷ bs) = elim (b == 10) as (λ t. (b == 10) ≡ t → AllByRecursion IsOneLine (cond t ([] ∷ lines_of bs) (on_first b (lines_of bs)))) [
-      true ↦ λ e. (refl, lines_each bs)
-    | false ↦ λ e. on_first_each b (lines_of bs) (ap not e) (lines_each bs)
-    ] refl
+  | true ↦ λ e. (refl, lines_each bs)
+  | false ↦ λ e. on_first_each b (lines_of bs) (ap not e) (lines_each bs)
+] refl
 
 one_line_of : (p : ℕ → Bool) (bytes : List ℕ) → p 10 ≡ false → list_all p bytes ≡ true → IsOneLine bytes
 one_line_of p [] h each = refl

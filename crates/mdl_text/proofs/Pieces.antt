@@ -1,5 +1,5 @@
 -- A list, read a byte at a time over a line, is made of pieces, and gives where they close it.
-use Rattle.std.proofs.Common.{◌≡◌, ◌≢◌, ℕ, zero, suc, ◌+◌, ◌-◌, Bool, true, false, cond, not, List, [], ◌∷◌, ◌++◌, length, Option, Some, None, ◌⊎◌, inl, inr, refl, sym, ◌∙◌, ap, subst, ⊎_elim, append_assoc, append-nil, eqb-true, ne_eqb, flat_map, length-append, arith, add-one, sub-one}
+use Rattle.std.proofs.Common.{◌≡◌, ◌≢◌, ℕ, zero, suc, ◌+◌, ◌-◌, Bool, true, false, cond, not, List, [], ◌∷◌, ◌++◌, length, Option, Some, None, ◌⊎◌, inl, inr, refl, sym, ◌∙◌, ap, subst, ⊎_elim, append_assoc, eqb-true, ne_eqb, flat_map, length-append, arith, add-one}
 use Rattle.std.specs.Prelude.{◌&&◌, ◌==◌}
 use Rattle.std.specs.List.{list_all}
 use Rattle.std.proofs.lemmas.Bool.{and_parts, and_from, not-true, eqb-false}
@@ -56,9 +56,9 @@ inside_step n b =
     ⊎_elim
     (λ q. inl (eqb-true b 34 q.0, q.1))
     (λ more. inr (⊎_elim
-      (λ e. inl (eqb-true b 92 e.0, e.1))
-      (λ u. inr (and_from (not (b == 34)) (not (b == 92)) (ap not u.0) (ap not u.1), u.2))
-      more))
+    (λ e. inl (eqb-true b 92 e.0, e.1))
+    (λ u. inr (and_from (not (b == 34)) (not (b == 92)) (ap not u.0) (ap not u.1), u.2))
+    more))
     (two_tests (b == 34) (b == 92) (Some (spot_at Outside n)) (Some (spot_at Escaped n)) (Some (spot_at Inside n)))
 
 quote_step : (n : ℕ) → spot_step (spot_at Outside n) 34 ≡ Some (spot_at Inside n)
@@ -182,11 +182,11 @@ ends_more n m k j piece pieces after Broken leads count ends = tt
 
 outer_more : (n m k j : ℕ) (piece : Piece) (bytes rest : List ℕ) (end : ListEnd) → ((more : List Piece) → Closes m more → Closes n (piece ∷ more)) → j ≡ k + length (piece_bytes piece) → bytes ≡ piece_bytes piece ++ rest → Outer m j rest end → Outer n k bytes end
 outer_more n m k j piece bytes rest end leads count form outer = record {
-    pieces = piece ∷ outer.pieces;
-    after = outer.after;
-    ends = ends_more n m k j piece outer.pieces outer.after end leads count outer.ends;
-    form = form ∙ ap (λ l. piece_bytes piece ++ l) outer.form ∙ sym (append_assoc (piece_bytes piece) (flat_map piece_bytes outer.pieces) outer.after);
-  }
+  pieces = piece ∷ outer.pieces;
+  after = outer.after;
+  ends = ends_more n m k j piece outer.pieces outer.after end leads count outer.ends;
+  form = form ∙ ap (λ l. piece_bytes piece ++ l) outer.form ∙ sym (append_assoc (piece_bytes piece) (flat_map piece_bytes outer.pieces) outer.after);
+}
 
 quoted_one_line : (chars : List Char) → IsOneLine (flat_map char_bytes chars) → IsOneLine (quoted chars)
 quoted_one_line chars h = list_all-append (λ b. not (b == 10)) (flat_map char_bytes chars) (34 ∷ []) ∙ ap (λ t. t && true) h
@@ -222,53 +222,53 @@ list_sound Inside (b ∷ bs) n k end line whole h =
       outer = list_sound Outside bs n (k + 1) end parts.1 whole (ap (after_spot k bs) (sym quote.1) ∙ h);
     })
     (⊎_elim
-      (λ escape. let later = list_sound Escaped bs n (k + 1) end parts.1 whole (ap (after_spot k bs) (sym escape.1) ∙ h) in record {
-        chars = Escape later.byte ∷ later.inner.chars;
-        rest = later.inner.rest;
-        count = later.inner.count;
-        are_chars = later.inner.are_chars;
-        one_line = and_from (not (later.byte == 10)) (list_all (λ byte. not (byte == 10)) (flat_map char_bytes later.inner.chars)) later.other later.inner.one_line;
-        form = ap (λ m. m ∷ bs) escape.0 ∙ ap (λ l. 92 ∷ l) (later.form ∙ ap (λ l. later.byte ∷ l) later.inner.form);
-        counts = later.inner.counts ∙ omega arith;
-        outer = later.inner.outer;
-      })
-      (λ plain. let inner = list_sound Inside bs n (k + 1) end parts.1 whole (ap (after_spot k bs) (sym plain.1) ∙ h) in record {
-        chars = Plain b ∷ inner.chars;
-        rest = inner.rest;
-        count = inner.count;
-        are_chars = and_from (is_char (Plain b)) (list_all is_char inner.chars) plain.0 inner.are_chars;
-        one_line = and_from (not (b == 10)) (list_all (λ byte. not (byte == 10)) (flat_map char_bytes inner.chars)) parts.0 inner.one_line;
-        form = ap (λ l. b ∷ l) inner.form;
-        counts = inner.counts ∙ omega arith;
-        outer = inner.outer;
-      }))
+    (λ escape. let later = list_sound Escaped bs n (k + 1) end parts.1 whole (ap (after_spot k bs) (sym escape.1) ∙ h) in record {
+      chars = Escape later.byte ∷ later.inner.chars;
+      rest = later.inner.rest;
+      count = later.inner.count;
+      are_chars = later.inner.are_chars;
+      one_line = and_from (not (later.byte == 10)) (list_all (λ byte. not (byte == 10)) (flat_map char_bytes later.inner.chars)) later.other later.inner.one_line;
+      form = ap (λ m. m ∷ bs) escape.0 ∙ ap (λ l. 92 ∷ l) (later.form ∙ ap (λ l. later.byte ∷ l) later.inner.form);
+      counts = later.inner.counts ∙ omega arith;
+      outer = later.inner.outer;
+    })
+    (λ plain. let inner = list_sound Inside bs n (k + 1) end parts.1 whole (ap (after_spot k bs) (sym plain.1) ∙ h) in record {
+      chars = Plain b ∷ inner.chars;
+      rest = inner.rest;
+      count = inner.count;
+      are_chars = and_from (is_char (Plain b)) (list_all is_char inner.chars) plain.0 inner.are_chars;
+      one_line = and_from (not (b == 10)) (list_all (λ byte. not (byte == 10)) (flat_map char_bytes inner.chars)) parts.0 inner.one_line;
+      form = ap (λ l. b ∷ l) inner.form;
+      counts = inner.counts ∙ omega arith;
+      outer = inner.outer;
+    }))
     (inside_step n b)
 list_sound Outside (b ∷ bs) n k end line whole h =
     let parts = and_parts (not (b == 10)) (list_all (λ byte. not (byte == 10)) bs) line in
     ⊎_elim
     (λ quote.
-        let inner = list_sound Inside bs n (k + 1) end parts.1 whole (ap (after_spot k bs) (sym quote.1) ∙ h) in
-        outer_more n n k inner.count (String inner.chars) (b ∷ bs) inner.rest end
-        (λ more c. (inner.are_chars, quoted_one_line inner.chars inner.one_line, c))
-        (inner.counts ∙ omega arith)
-        (ap (λ m. m ∷ bs) quote.0 ∙ ap (λ l. 34 ∷ l) (inner.form ∙ sym (append_assoc (flat_map char_bytes inner.chars) (34 ∷ []) inner.rest)))
-        inner.outer)
+    let inner = list_sound Inside bs n (k + 1) end parts.1 whole (ap (after_spot k bs) (sym quote.1) ∙ h) in
+    outer_more n n k inner.count (String inner.chars) (b ∷ bs) inner.rest end
+    (λ more c. (inner.are_chars, quoted_one_line inner.chars inner.one_line, c))
+    (inner.counts ∙ omega arith)
+    (ap (λ m. m ∷ bs) quote.0 ∙ ap (λ l. 34 ∷ l) (inner.form ∙ sym (append_assoc (flat_map char_bytes inner.chars) (34 ∷ []) inner.rest)))
+    inner.outer)
     (λ r. ⊎_elim
-      (λ opening. outer_more n (n + 1) k (k + 1) Opening (b ∷ bs) bs end (λ more c. subst (λ m. Closes m more) (add-one n) c) refl (ap (λ m. m ∷ bs) opening.0)
-        (list_sound Outside bs (n + 1) (k + 1) end parts.1 whole (ap (after_spot k bs) (sym opening.1) ∙ h)))
-      (λ r. ⊎_elim
-        (λ last. record {
-          pieces = Closing ∷ [];
-          after = bs;
-          ends = subst (EndsAs n k (Closing ∷ []) bs) (ap (after_spot k bs) (sym last.2) ∙ h) (subst (λ m. Closes m (Closing ∷ [])) (sym last.1) refl, refl);
-          form = ap (λ m. m ∷ bs) last.0;
-        })
-        (λ r. ⊎_elim
-          (λ closing. outer_more n (n - 1) k (k + 1) Closing (b ∷ bs) bs end (λ more c. closes_down n more closing.1 c) refl (ap (λ m. m ∷ bs) closing.0)
-            (list_sound Outside bs (n - 1) (k + 1) end parts.1 whole (ap (after_spot k bs) (sym closing.2) ∙ h)))
-          (λ other. outer_more n n k (k + 1) (Other b) (b ∷ bs) bs end (λ more c. (other.0, other.1, other.2, c)) refl refl
-            (list_sound Outside bs n (k + 1) end parts.1 whole (ap (after_spot k bs) (sym other.3) ∙ h)))
-          r)
-        r)
-      r)
+    (λ opening. outer_more n (n + 1) k (k + 1) Opening (b ∷ bs) bs end (λ more c. subst (λ m. Closes m more) (add-one n) c) refl (ap (λ m. m ∷ bs) opening.0)
+    (list_sound Outside bs (n + 1) (k + 1) end parts.1 whole (ap (after_spot k bs) (sym opening.1) ∙ h)))
+    (λ r. ⊎_elim
+    (λ last. record {
+      pieces = Closing ∷ [];
+      after = bs;
+      ends = subst (EndsAs n k (Closing ∷ []) bs) (ap (after_spot k bs) (sym last.2) ∙ h) (subst (λ m. Closes m (Closing ∷ [])) (sym last.1) refl, refl);
+      form = ap (λ m. m ∷ bs) last.0;
+    })
+    (λ r. ⊎_elim
+    (λ closing. outer_more n (n - 1) k (k + 1) Closing (b ∷ bs) bs end (λ more c. closes_down n more closing.1 c) refl (ap (λ m. m ∷ bs) closing.0)
+    (list_sound Outside bs (n - 1) (k + 1) end parts.1 whole (ap (after_spot k bs) (sym closing.2) ∙ h)))
+    (λ other. outer_more n n k (k + 1) (Other b) (b ∷ bs) bs end (λ more c. (other.0, other.1, other.2, c)) refl refl
+    (list_sound Outside bs n (k + 1) end parts.1 whole (ap (after_spot k bs) (sym other.3) ∙ h)))
+    r)
+    r)
+    r)
     (outside_step n b)

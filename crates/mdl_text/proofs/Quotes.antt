@@ -1,11 +1,11 @@
 -- The strings of a line, read a byte at a time, are strings, and give what they say.
-use Rattle.std.proofs.Common.{◌≡◌, ◌≢◌, ℕ, Bool, true, false, cond, not, List, [], ◌∷◌, ◌++◌, Option, Some, None, ◌⊎◌, inl, inr, refl, sym, ◌∙◌, ap, subst, ⊎_elim, append_assoc, append-nil, eqb-true, option_and_then, flat_map}
-use Rattle.std.specs.Prelude.{◌&&◌, ◌==◌}
+use Rattle.std.proofs.Common.{◌≡◌, ℕ, true, cond, not, List, [], ◌∷◌, ◌++◌, Option, Some, None, ◌⊎◌, inl, inr, refl, sym, ◌∙◌, ap, ⊎_elim, append_assoc, append-nil, eqb-true, option_and_then, flat_map}
+use Rattle.std.specs.Prelude.{◌==◌}
 use Rattle.std.specs.List.{list_all, AllByRecursion}
 use Rattle.std.proofs.lemmas.Bool.{and_parts, and_from, not-true}
 use Rattle.mdl_text.specs.declared.strings.Place.{Place}
 use Rattle.mdl_text.specs.declared.strings.Place.TheVariants.{Outside, Inside, Escaped}
-use Rattle.mdl_text.specs.Bytes.{is_blank, AreBlanks, Char, is_char, char_bytes, escaped, char_value, quoted, Quote, IsQuote, quote_bytes, quote_value, AreStrings}
+use Rattle.mdl_text.specs.Bytes.{is_blank, AreBlanks, Char, is_char, char_bytes, escaped, char_value, quoted, Quote, IsQuote, quote_bytes, quote_value}
 use Rattle.mdl_text.specs.Bytes.Char.{Plain, Escape}
 use Rattle.mdl_text.specs.Plain.{string_step, strings}
 use Rattle.mdl_text.proofs.Classes.{no_byte, quote_no_blank, two_tests}
@@ -127,9 +127,9 @@ inside_cases said b =
     ⊎_elim
     (λ quote. inl (eqb-true b 34 quote.0, quote.1))
     (λ more. inr (⊎_elim
-      (λ back. inl (eqb-true b 92 back.0, back.1))
-      (λ other. inr (and_from (not (b == 34)) (not (b == 92)) (ap not other.0) (ap not other.1), other.2))
-      more))
+    (λ back. inl (eqb-true b 92 back.0, back.1))
+    (λ other. inr (and_from (not (b == 34)) (not (b == 92)) (ap not other.0) (ap not other.1), other.2))
+    more))
     (two_tests (b == 34) (b == 92) outside escape inside)
 
 -- what is read as strings has their form
@@ -147,15 +147,15 @@ strings_sound Outside (b ∷ bs) said value h = ⊎_elim
       joined = inner.joined;
     })
     (⊎_elim
-      (λ blank. let outer = strings_sound Outside bs said value (ap (after_step bs) (sym blank.1) ∙ h) in record {
-        before = b ∷ outer.before;
-        quotes = outer.quotes;
-        blanks = and_from (is_blank b) (list_all is_blank outer.before) blank.0 outer.blanks;
-        each = outer.each;
-        form = ap (λ l. b ∷ l) outer.form;
-        joined = outer.joined;
-      })
-      (λ none. let no : None ≡ Some value = ap (after_step bs) (sym none) ∙ h in cc))
+    (λ blank. let outer = strings_sound Outside bs said value (ap (after_step bs) (sym blank.1) ∙ h) in record {
+      before = b ∷ outer.before;
+      quotes = outer.quotes;
+      blanks = and_from (is_blank b) (list_all is_blank outer.before) blank.0 outer.blanks;
+      each = outer.each;
+      form = ap (λ l. b ∷ l) outer.form;
+      joined = outer.joined;
+    })
+    (λ none. let no : None ≡ Some value = ap (after_step bs) (sym none) ∙ h in cc))
     (outside_cases said b)
 strings_sound Inside (b ∷ bs) said value h = ⊎_elim
     (λ quote. let outer = strings_sound Outside bs said value (ap (after_step bs) (sym quote.1) ∙ h) in record {
@@ -169,30 +169,30 @@ strings_sound Inside (b ∷ bs) said value h = ⊎_elim
       joined = outer.joined;
     })
     (⊎_elim
-      (λ escape. let later = strings_sound Escaped bs said value (ap (after_step bs) (sym escape.1) ∙ h) in record {
-        chars = Escape later.byte ∷ later.inner.chars;
-        after = later.inner.after;
-        quotes = later.inner.quotes;
-        are_chars = later.inner.are_chars;
-        blanks = later.inner.blanks;
-        each = later.inner.each;
-        form = ap (λ n. n ∷ bs) escape.0 ∙ ap (λ l. 92 ∷ l) (later.form ∙ ap (λ l. later.byte ∷ l) later.inner.form);
-        joined = later.inner.joined ∙ append_assoc said (escaped later.byte) _ ∙ ap (λ l. said ++ l) (sym (append_assoc (escaped later.byte) _ _));
-      })
-      (λ plain. let inner = strings_sound Inside bs (said ++ b ∷ []) value (ap (after_step bs) (sym plain.1) ∙ h) in record {
-        chars = Plain b ∷ inner.chars;
-        after = inner.after;
-        quotes = inner.quotes;
-        are_chars = and_from (is_char (Plain b)) (list_all is_char inner.chars) plain.0 inner.are_chars;
-        blanks = inner.blanks;
-        each = inner.each;
-        form = ap (λ l. b ∷ l) inner.form;
-        joined = inner.joined ∙ append_assoc said (b ∷ []) _;
-      }))
+    (λ escape. let later = strings_sound Escaped bs said value (ap (after_step bs) (sym escape.1) ∙ h) in record {
+      chars = Escape later.byte ∷ later.inner.chars;
+      after = later.inner.after;
+      quotes = later.inner.quotes;
+      are_chars = later.inner.are_chars;
+      blanks = later.inner.blanks;
+      each = later.inner.each;
+      form = ap (λ n. n ∷ bs) escape.0 ∙ ap (λ l. 92 ∷ l) (later.form ∙ ap (λ l. later.byte ∷ l) later.inner.form);
+      joined = later.inner.joined ∙ append_assoc said (escaped later.byte) _ ∙ ap (λ l. said ++ l) (sym (append_assoc (escaped later.byte) _ _));
+    })
+    (λ plain. let inner = strings_sound Inside bs (said ++ b ∷ []) value (ap (after_step bs) (sym plain.1) ∙ h) in record {
+      chars = Plain b ∷ inner.chars;
+      after = inner.after;
+      quotes = inner.quotes;
+      are_chars = and_from (is_char (Plain b)) (list_all is_char inner.chars) plain.0 inner.are_chars;
+      blanks = inner.blanks;
+      each = inner.each;
+      form = ap (λ l. b ∷ l) inner.form;
+      joined = inner.joined ∙ append_assoc said (b ∷ []) _;
+    }))
     (inside_cases said b)
 strings_sound Escaped (b ∷ bs) said value h = record {
-    byte = b;
-    rest = bs;
-    form = refl;
-    inner = strings_sound Inside bs (said ++ escaped b) value (ap (after_step bs) (sym (escaped_step said b)) ∙ h);
-  }
+  byte = b;
+  rest = bs;
+  form = refl;
+  inner = strings_sound Inside bs (said ++ escaped b) value (ap (after_step bs) (sym (escaped_step said b)) ∙ h);
+}

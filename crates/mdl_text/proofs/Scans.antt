@@ -1,5 +1,5 @@
 -- Blanks at the end of a value.
-use Rattle.std.proofs.Common.{◌≡◌, ℕ, ◌+◌, ◌<◌, ◌-◌, ◌≤◌, length, get_or, take, drop, Bool, true, false, cond, List, [], ◌∷◌, ◌++◌, refl, sym, ◌∙◌, ap, arith, one-add, append-nil, append_assoc, true≢false}
+use Rattle.std.proofs.Common.{◌≡◌, ℕ, ◌+◌, ◌<◌, ◌-◌, ◌≤◌, length, get_or, take, drop, Bool, true, false, cond, List, [], ◌∷◌, ◌++◌, refl, sym, ◌∙◌, ap, arith, one-add, append-nil, true≢false}
 use Rattle.std.specs.Prelude.{◌&&◌}
 use Rattle.std.specs.List.{list_all, prefix_len}
 use Rattle.std.proofs.lemmas.Bool.{and_parts}
@@ -66,12 +66,12 @@ unblanked_split [] = record { before = []; blanks = refl; form = refl }
 unblanked_split (b ∷ bs) =
     let more = unblanked_split bs in
     elim (is_blank b) as (λ t. is_blank b ≡ t → Unblanked (b ∷ bs)) [
-      true ↦ λ e. record {
+      | true ↦ λ e. record {
         before = b ∷ more.before;
         blanks = ap (λ t. t && list_all is_blank more.before) e ∙ more.blanks;
         form = ap (λ xs. b ∷ xs) more.form ∙ sym (ap (λ t. b ∷ (more.before ++ cond t (unblanked bs) (b ∷ bs))) e);
       }
-    | false ↦ λ e. record {
+      | false ↦ λ e. record {
         before = [];
         blanks = refl;
         form = sym (ap (λ t. cond t (unblanked bs) (b ∷ bs)) e);
@@ -81,9 +81,9 @@ unblanked_split (b ∷ bs) =
 pub unblanked_first : (line : List ℕ) → FirstIs (λ b. is_blank b ≡ false) (unblanked line)
 unblanked_first [] = tt
 unblanked_first (b ∷ bs) = elim (is_blank b) as (λ t. is_blank b ≡ t → FirstIs (λ b. is_blank b ≡ false) (cond t (unblanked bs) (b ∷ bs))) [
-      true ↦ λ e. unblanked_first bs
-    | false ↦ λ e. e
-    ] refl
+  | true ↦ λ e. unblanked_first bs
+  | false ↦ λ e. e
+] refl
 
 -- blanks at the front are passed over
 pub unblanked_after : (before rest : List ℕ) → AreBlanks before → unblanked (before ++ rest) ≡ unblanked rest
@@ -103,9 +103,9 @@ unblanked_none line h = ap unblanked (sym (append-nil line)) ∙ unblanked_after
 pub name_bytes : (text : List ℕ) → list_all is_name_byte (take (prefix_len is_name_byte text) text) ≡ true
 name_bytes [] = refl
 name_bytes (b ∷ bs) = elim (is_name_byte b) as (λ t. is_name_byte b ≡ t → list_all is_name_byte (take (cond t (1 + prefix_len is_name_byte bs) 0) (b ∷ bs)) ≡ true) [
-      true ↦ λ e. rw (one-add) (ap (λ t. t && list_all is_name_byte (take (prefix_len is_name_byte bs) bs)) e ∙ name_bytes bs)
-    | false ↦ λ e. refl
-    ] refl
+  | true ↦ λ e. rw (one-add) (ap (λ t. t && list_all is_name_byte (take (prefix_len is_name_byte bs) bs)) e ∙ name_bytes bs)
+  | false ↦ λ e. refl
+] refl
 
 pub name_length_of : (name rest : List ℕ) → list_all is_name_byte name ≡ true → FirstIs (λ b. is_name_byte b ≡ false) rest → prefix_len is_name_byte (name ++ rest) ≡ length name
 name_length_of [] [] h stop = refl
@@ -118,9 +118,9 @@ name_length_of (n ∷ ns) rest h stop =
 pub name_stops : (text : List ℕ) → FirstIs (λ b. is_name_byte b ≡ false) (drop (prefix_len is_name_byte text) text)
 name_stops [] = tt
 name_stops (b ∷ bs) = elim (is_name_byte b) as (λ t. is_name_byte b ≡ t → FirstIs (λ b. is_name_byte b ≡ false) (drop (cond t (1 + prefix_len is_name_byte bs) 0) (b ∷ bs))) [
-      true ↦ λ e. rw (one-add) (name_stops bs)
-    | false ↦ λ e. e
-    ] refl
+  | true ↦ λ e. rw (one-add) (name_stops bs)
+  | false ↦ λ e. e
+] refl
 
 -- blanks alone leave nothing
 trimmed_none : (bytes : List ℕ) → AreBlanks bytes → trimmed bytes ≡ []
@@ -138,8 +138,8 @@ trim_split [] = record { after = []; blanks = refl; form = refl }
 trim_split (b ∷ bs) =
     let more = trim_split bs in
     elim (list_all is_blank (b ∷ bs)) as (λ t. list_all is_blank (b ∷ bs) ≡ t → Trim (b ∷ bs)) [
-      true ↦ λ e. record { after = b ∷ bs; blanks = e; form = sym (ap (λ l. l ++ b ∷ bs) (trimmed_none (b ∷ bs) e)) }
-    | false ↦ λ e. record { after = more.after; blanks = more.blanks; form = ap (λ l. b ∷ l) more.form ∙ sym (ap (λ t. cond t [] (b ∷ trimmed bs) ++ more.after) e) }
+      | true ↦ λ e. record { after = b ∷ bs; blanks = e; form = sym (ap (λ l. l ++ b ∷ bs) (trimmed_none (b ∷ bs) e)) }
+      | false ↦ λ e. record { after = more.after; blanks = more.blanks; form = ap (λ l. b ∷ l) more.form ∙ sym (ap (λ t. cond t [] (b ∷ trimmed bs) ++ more.after) e) }
     ] refl
 
 -- what is left ends with no blank
@@ -152,19 +152,19 @@ pub record TrimEnd (bytes : List ℕ) : Type 0 where
 pub trim_end : (bytes : List ℕ) → list_all is_blank bytes ≡ false → TrimEnd bytes
 trim_end [] h = absurd (true≢false h)
 trim_end (b ∷ bs) h = elim (list_all is_blank bs) as (λ t. list_all is_blank bs ≡ t → TrimEnd (b ∷ bs)) [
-      true ↦ λ e. record {
-        front = [];
-        last = b;
-        form = ap (λ t. cond t [] (b ∷ trimmed bs)) h ∙ ap (λ l. b ∷ l) (trimmed_none bs e);
-        stays = sym (and_true (is_blank b)) ∙ ap (λ t. is_blank b && t) (sym e) ∙ h;
-      }
-    | false ↦ λ e. let more = trim_end bs e in record {
-        front = b ∷ more.front;
-        last = more.last;
-        form = ap (λ t. cond t [] (b ∷ trimmed bs)) h ∙ ap (λ l. b ∷ l) more.form;
-        stays = more.stays;
-      }
-    ] refl
+  | true ↦ λ e. record {
+    front = [];
+    last = b;
+    form = ap (λ t. cond t [] (b ∷ trimmed bs)) h ∙ ap (λ l. b ∷ l) (trimmed_none bs e);
+    stays = sym (and_true (is_blank b)) ∙ ap (λ t. is_blank b && t) (sym e) ∙ h;
+  }
+  | false ↦ λ e. let more = trim_end bs e in record {
+    front = b ∷ more.front;
+    last = more.last;
+    form = ap (λ t. cond t [] (b ∷ trimmed bs)) h ∙ ap (λ l. b ∷ l) more.form;
+    stays = more.stays;
+  }
+] refl
 
 -- a byte that is no blank stays in front
 pub trimmed_first : (b : ℕ) (bs : List ℕ) → is_blank b ≡ false → trimmed (b ∷ bs) ≡ b ∷ trimmed bs

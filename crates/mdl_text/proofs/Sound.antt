@@ -1,32 +1,32 @@
 -- What is read is what the text stands for.
-use Rattle.std.proofs.Common.{◌≡◌, ◌≢◌, ℕ, zero, suc, ◌+◌, ◌-◌, ◌<◌, Bool, true, false, cond, not, List, [], ◌∷◌, ◌++◌, length, take, drop, Option, Some, None, ◌⊎◌, inl, inr, refl, sym, ◌∙◌, ap, subst, ⊎_elim, append_assoc, append-nil, eqb-true, eq-eqb, ne_eqb, flat_map, take-append-drop, arith, add-one, option_and_then, ltb-true, true≢false}
+use Rattle.std.proofs.Common.{◌≡◌, ◌≢◌, ℕ, zero, suc, ◌+◌, ◌-◌, ◌<◌, false, cond, List, [], ◌∷◌, ◌++◌, length, take, drop, Option, Some, None, ◌⊎◌, inl, inr, refl, sym, ◌∙◌, ap, subst, ⊎_elim, append_assoc, append-nil, eqb-true, flat_map, take-append-drop, arith, add-one, option_and_then, ltb-true}
 use Rattle.std.specs.Prelude.{◌&&◌, ◌==◌, nat_lt}
 use Rattle.std.specs.List.{list_all, prefix_len, AllByRecursion}
-use Rattle.std.proofs.lemmas.Bool.{and_parts, and_from, not-true, eqb-false, and_left}
-use Rattle.std.proofs.lemmas.List.Folds.{list_all-append, length-prefix_len}
+use Rattle.std.proofs.lemmas.Bool.{and_parts, eqb-false, and_left}
+use Rattle.std.proofs.lemmas.List.Folds.{length-prefix_len}
 use Rattle.std.proofs.lemmas.Grind.{flat_map-append}
 use Rattle.std.proofs.Math.Seq.{take-append_seam, drop-append_seam}
 use Rattle.mdl_text.specs.declared.tree.Item.{Item}
 use Rattle.mdl_text.specs.declared.tree.Value.{Value}
 use Rattle.mdl_text.specs.declared.tree.Value.TheVariants.{Section, Bare, List as Brackets, Quoted}
-use Rattle.mdl_text.specs.declared.strings.Place.TheVariants.{Outside, Inside, Escaped}
+use Rattle.mdl_text.specs.declared.strings.Place.TheVariants.{Outside, Inside}
 use Rattle.mdl_text.specs.declared.brackets.ListEnd.{ListEnd}
 use Rattle.mdl_text.specs.declared.brackets.ListEnd.TheVariants.{Closed, Open, Broken}
 use Rattle.mdl_text.specs.declared.reader.Draft.{Draft}
 use Rattle.mdl_text.specs.declared.reader.Pending.{Pending}
 use Rattle.mdl_text.specs.declared.reader.Pending.TheVariants.{Nothing as Free, Strings, Open as OpenList}
 use Rattle.mdl_text.specs.declared.reader.Reader.{Reader}
-use Rattle.mdl_text.specs.Bytes.{is_blank, is_name_byte, AreBlanks, IsName, IsOneLine, AreStrings, IsList, lines_of, Piece, piece_bytes, Closes, Quote, quote_value, quote_bytes}
+use Rattle.mdl_text.specs.Bytes.{is_blank, is_name_byte, AreBlanks, IsName, IsOneLine, AreStrings, lines_of, Piece, piece_bytes, Closes, Quote, quote_value, quote_bytes}
 use Rattle.mdl_text.specs.Bytes.Piece.{Other}
-use Rattle.mdl_text.specs.Lines.{IsComment, StartsSection, EndsSection, IsEmptyParameter, GivesParameter, IsBare, IsBareParameter, IsFurtherText, Further, IsQuotedParameter, IsListParameter}
-use Rattle.mdl_text.specs.Stands.{Says, Part, OneLine, HasForm, Builds, Stands}
+use Rattle.mdl_text.specs.Lines.{IsComment, StartsSection, IsEmptyParameter, GivesParameter, IsBareParameter, IsFurtherText, Further}
+use Rattle.mdl_text.specs.Stands.{Says, Part, HasForm, Builds, Stands}
 use Rattle.mdl_text.specs.Stands.Says.{Nothing, Entry, End}
-use Rattle.mdl_text.specs.Plain.{unblanked, trimmed, strings, strings_from, list_from, spot_at, added, free, reader_strings, opened, closed, listed_by, listed, valued, after_name, named, fresh_text, fresh, begins_with_quote, step_in, step, if_closed, finish_in, finish, run, start}
-use Rattle.mdl_text.proofs.Classes.{cond_cases, cond_some, two_tests, no_byte, quote_no_blank, newline_no_quote, newline_no_opening, newline_no_closing}
-use Rattle.mdl_text.proofs.Scans.{Unblanked, FirstIs, unblanked_split, unblanked_first, name_bytes, trim_split, trim_end, trimmed_first}
+use Rattle.mdl_text.specs.Plain.{unblanked, trimmed, strings, strings_from, list_from, added, free, reader_strings, opened, closed, listed_by, listed, valued, after_name, named, fresh_text, fresh, begins_with_quote, step_in, step, if_closed, finish_in, finish, run, start}
+use Rattle.mdl_text.proofs.Classes.{cond_cases, cond_some, two_tests, newline_no_quote, newline_no_opening, newline_no_closing}
+use Rattle.mdl_text.proofs.Scans.{FirstIs, unblanked_split, unblanked_first, name_bytes, trim_split, trim_end, trimmed_first}
 use Rattle.mdl_text.proofs.Quotes.{strings_sound, open_step, quote_shape}
 use Rattle.mdl_text.proofs.Pieces.{list_sound}
-use Rattle.mdl_text.proofs.LineLaws.{first_line, lines_each, lines_front, lines_one, lines_next, line_parts, line_join, blanks_line, name_line}
+use Rattle.mdl_text.proofs.LineLaws.{first_line, lines_each, lines_front, lines_one, lines_next, line_parts}
 
 abbrev pub item : ℕ → List ℕ → Value → Item
 item depth name value = record { depth = depth; name = name; value = value }
@@ -80,15 +80,15 @@ after_part : (draft next : Draft) (part : Part) (made : List Item) (lines : List
     → ((says : List Says) (more : List Item) → Builds next.depth says more → Builds draft.depth (part.says ∷ says) (made ++ more))
     → AfterFree next lines items → AfterFree draft (part.lines ++ lines) items
 after_part draft next part made lines items form is builds after = record {
-    more = made ++ after.more;
-    total = after.total ∙ ap (λ l. l ++ after.more) is ∙ append_assoc draft.items made after.more;
-    goes = record {
-      parts = part ∷ after.goes.parts;
-      each = (form, after.goes.each);
-      whole = ap (λ l. part.lines ++ l) after.goes.whole;
-      builds = builds (flat_map (λ part. part.says ∷ []) after.goes.parts) after.more after.goes.builds;
-    };
-  }
+  more = made ++ after.more;
+  total = after.total ∙ ap (λ l. l ++ after.more) is ∙ append_assoc draft.items made after.more;
+  goes = record {
+    parts = part ∷ after.goes.parts;
+    each = (form, after.goes.each);
+    whole = ap (λ l. part.lines ++ l) after.goes.whole;
+    builds = builds (flat_map (λ part. part.says ∷ []) after.goes.parts) after.more after.goes.builds;
+  };
+}
 
 abbrev line_part : List ℕ → Says → Part
 line_part line says = record { lines = line ∷ []; says = says }
@@ -111,9 +111,9 @@ module _ (draft : Draft) (line : List ℕ) (lines : List (List ℕ)) (items : Li
       (λ says more b. ends draft.depth says more (ltb-true 0 draft.depth parts.1) b)
       (subst (λ r. AfterReader r lines items) (sym made.1) after)
     where
-    ends : (depth : ℕ) (says : List Says) (more : List Item) → 0 < depth → Builds (depth - 1) says more → Builds depth (End ∷ says) more
-    ends zero says more positive b = absurd (omega arith)
-    ends (suc depth) says more positive b = let e : suc depth - 1 ≡ depth = omega arith in subst (λ d. Builds d says more) e b
+      ends : (depth : ℕ) (says : List Says) (more : List Item) → 0 < depth → Builds (depth - 1) says more → Builds depth (End ∷ says) more
+      ends zero says more positive b = absurd (omega arith)
+      ends (suc depth) says more positive b = let e : suc depth - 1 ≡ depth = omega arith in subst (λ d. Builds d says more) e b
 
   opened_sound : (name bytes : List ℕ) (next : Reader) → (AreBlanks bytes → StartsSection line name) → opened draft name bytes ≡ Some next → AfterReader next lines items → AfterFree draft (line ∷ lines) items
   unfolding opened
@@ -186,20 +186,20 @@ quoted_sound draft name line bytes next lines items gives e after =
     let whole : List ℕ = more.0 ++ flat_map (λ next. next.value) rest.further in
     let part : Part = record { lines = line ∷ flat_map (λ next. next.line ∷ []) rest.further; says = Entry name (Quoted whole) } in
     let made = after_part draft (added draft name (Quoted whole)) part (item draft.depth name (Quoted whole) ∷ []) rest.rest items
-          (record {
-            line = line;
-            strings = 34 ∷ bytes;
-            said = more.0;
-            further = rest.further;
-            gives = gives;
-            are_strings = subst (AreStrings (34 ∷ bytes)) (sym said.1) said.2;
-            each = rest.each;
-            form = refl;
-            joined = refl;
-          })
-          refl
-          (λ says more b. (more, refl, b))
-          (record { more = rest.more; total = rest.total ∙ sym (append_assoc draft.items (item draft.depth name (Quoted whole) ∷ []) rest.more); goes = rest.goes }) in
+    (record {
+      line = line;
+      strings = 34 ∷ bytes;
+      said = more.0;
+      further = rest.further;
+      gives = gives;
+      are_strings = subst (AreStrings (34 ∷ bytes)) (sym said.1) said.2;
+      each = rest.each;
+      form = refl;
+      joined = refl;
+    })
+    refl
+    (λ says more b. (more, refl, b))
+    (record { more = rest.more; total = rest.total ∙ sym (append_assoc draft.items (item draft.depth name (Quoted whole) ∷ []) rest.more); goes = rest.goes }) in
     subst (λ l. AfterFree draft (line ∷ l) items) (sym rest.form) made
 
 -- a line of a list
@@ -232,7 +232,7 @@ listed_sound draft name said n line next lines items one_line (Open m) ends e af
     let rest = let P : Reader → Type 0 = λ r. AfterReader r lines items in subst P (sym same) after in
     let later : List ℕ = flat_map piece_bytes rest.pieces in
     let all : flat_map piece_bytes (outer.pieces ++ Other 10 ∷ rest.pieces) ≡ line ++ 10 ∷ later =
-          flat_map-append piece_bytes outer.pieces (Other 10 ∷ rest.pieces) ∙ ap (λ l. l ++ 10 ∷ later) (sym is_bytes) in record {
+    flat_map-append piece_bytes outer.pieces (Other 10 ∷ rest.pieces) ∙ ap (λ l. l ++ 10 ∷ later) (sym is_bytes) in record {
       pieces = outer.pieces ++ Other 10 ∷ rest.pieces;
       after = rest.after;
       rest = rest.rest;
@@ -257,7 +257,7 @@ unfolding listed
 brackets_sound draft name line bytes next lines items one_line gives e after =
     let pre : List ℕ = gives.before ++ (name ++ (gives.between ++ 91 ∷ [])) in
     let shape : (rest : List ℕ) → gives.before ++ (name ++ (gives.between ++ 91 ∷ rest)) ≡ pre ++ rest =
-          λ rest. sym (append_assoc gives.before (name ++ (gives.between ++ 91 ∷ [])) rest ∙ ap (λ l. gives.before ++ l) (append_assoc name (gives.between ++ 91 ∷ []) rest ∙ ap (λ l. name ++ l) (append_assoc gives.between (91 ∷ []) rest))) in
+    λ rest. sym (append_assoc gives.before (name ++ (gives.between ++ 91 ∷ [])) rest ∙ ap (λ l. gives.before ++ l) (append_assoc name (gives.between ++ 91 ∷ []) rest ∙ ap (λ l. name ++ l) (append_assoc gives.between (91 ∷ []) rest))) in
     let form : line ≡ pre ++ bytes = gives.form ∙ shape bytes in
     let lines_of_both = line_parts pre bytes (subst IsOneLine form one_line) in
     let list = listed_sound draft name (91 ∷ []) 0 bytes next lines items lines_of_both.1 (list_from 0 bytes) refl e after in
@@ -269,21 +269,21 @@ brackets_sound draft name line bytes next lines items one_line gives e after =
     let more_is : lines ≡ first.more ++ list.rest = cc in
     let text : List ℕ = gives.before ++ (name ++ (gives.between ++ (value ++ list.after))) in
     let text_lines : lines_of text ≡ line ∷ first.more =
-          ap lines_of (shape (inside ++ list.after)) ∙ lines_front pre (inside ++ list.after) first.first first.more lines_of_both.0 first.form
-          ∙ ap (λ l. l ∷ first.more) (ap (λ l. pre ++ l) (sym first_is) ∙ sym form) in
+    ap lines_of (shape (inside ++ list.after)) ∙ lines_front pre (inside ++ list.after) first.first first.more lines_of_both.0 first.form
+    ∙ ap (λ l. l ∷ first.more) (ap (λ l. pre ++ l) (sym first_is) ∙ sym form) in
     let part : Part = record { lines = line ∷ first.more; says = Entry name (Brackets value) } in
     let made = after_part draft (added draft name (Brackets value)) part (item draft.depth name (Brackets value) ∷ []) list.rest items
-          (record {
-            bytes = text;
-            after = list.after;
-            is_list = record { pieces = list.pieces; closes = list.closes; form = refl };
-            blanks_after = list.blanks;
-            gives = gives_more text name gives.before gives.between (value ++ list.after) gives.blanks gives.is_name gives.blanks_between gives.some_between refl;
-            form = sym text_lines;
-          })
-          refl
-          (λ says more b. (more, refl, b))
-          (record { more = list.more; total = list.total ∙ sym (append_assoc draft.items (item draft.depth name (Brackets value) ∷ []) list.more); goes = list.goes }) in
+    (record {
+      bytes = text;
+      after = list.after;
+      is_list = record { pieces = list.pieces; closes = list.closes; form = refl };
+      blanks_after = list.blanks;
+      gives = gives_more text name gives.before gives.between (value ++ list.after) gives.blanks gives.is_name gives.blanks_between gives.some_between refl;
+      form = sym text_lines;
+    })
+    refl
+    (λ says more b. (more, refl, b))
+    (record { more = list.more; total = list.total ∙ sym (append_assoc draft.items (item draft.depth name (Brackets value) ∷ []) list.more); goes = list.goes }) in
     subst (λ l. AfterFree draft (line ∷ l) items) (sym more_is) made
 
 -- a parameter with a value
@@ -295,35 +295,35 @@ valued_sound draft name line b bytes next lines items one_line stays brace gives
     let bare_reader : Option Reader = Some (free (added draft name (Bare (trimmed (b ∷ bytes))))) in
     ⊎_elim
     (λ quote. let is : b ≡ 34 = eqb-true b 34 quote.0 in
-        quoted_sound draft name line bytes next lines items (subst (λ n. GivesParameter line name (n ∷ bytes)) is gives) (ap (λ n. reader_strings draft name (strings_from [] (n ∷ bytes))) (sym is) ∙ sym quote.1 ∙ e) after)
+    quoted_sound draft name line bytes next lines items (subst (λ n. GivesParameter line name (n ∷ bytes)) is gives) (ap (λ n. reader_strings draft name (strings_from [] (n ∷ bytes))) (sym is) ∙ sym quote.1 ∙ e) after)
     (λ r. ⊎_elim
-      (λ bracket. let is : b ≡ 91 = eqb-true b 91 bracket.0 in
-          brackets_sound draft name line bytes next lines items one_line (subst (λ n. GivesParameter line name (n ∷ bytes)) is gives) (sym bracket.1 ∙ e) after)
-      (λ other.
-          let value : List ℕ = trimmed (b ∷ bytes) in
-          let trim = trim_split (b ∷ bytes) in
-          let end = trim_end (b ∷ bytes) (and_left (is_blank b) (list_all is_blank bytes) stays) in
-          bare_sound draft line lines items one_line name value next
-          (inr (record {
-            after = trim.after;
-            blanks_after = trim.blanks;
-            is_bare = record {
-              first = b;
-              rest = trimmed bytes;
-              front = end.front;
-              last = end.last;
-              begins = trimmed_first b bytes stays;
-              no_quote = eqb-false b 34 other.0;
-              no_bracket = eqb-false b 91 other.1;
-              no_brace = eqb-false b 123 brace;
-              no_blank_first = stays;
-              ends = end.form;
-              no_blank_last = end.stays;
-            };
-            gives = subst (GivesParameter line name) trim.form gives;
-          }))
-          (sym other.2 ∙ e) after)
-      r)
+    (λ bracket. let is : b ≡ 91 = eqb-true b 91 bracket.0 in
+    brackets_sound draft name line bytes next lines items one_line (subst (λ n. GivesParameter line name (n ∷ bytes)) is gives) (sym bracket.1 ∙ e) after)
+    (λ other.
+    let value : List ℕ = trimmed (b ∷ bytes) in
+    let trim = trim_split (b ∷ bytes) in
+    let end = trim_end (b ∷ bytes) (and_left (is_blank b) (list_all is_blank bytes) stays) in
+    bare_sound draft line lines items one_line name value next
+    (inr (record {
+      after = trim.after;
+      blanks_after = trim.blanks;
+      is_bare = record {
+        first = b;
+        rest = trimmed bytes;
+        front = end.front;
+        last = end.last;
+        begins = trimmed_first b bytes stays;
+        no_quote = eqb-false b 34 other.0;
+        no_bracket = eqb-false b 91 other.1;
+        no_brace = eqb-false b 123 brace;
+        no_blank_first = stays;
+        ends = end.form;
+        no_blank_last = end.stays;
+      };
+      gives = subst (GivesParameter line name) trim.form gives;
+    }))
+    (sym other.2 ∙ e) after)
+    r)
     (two_tests (b == 34) (b == 91) (reader_strings draft name (strings_from [] (b ∷ bytes))) (listed draft name (91 ∷ []) 0 bytes) bare_reader)
 
 -- what follows a name
@@ -339,14 +339,14 @@ after_name_sound draft name line before rest between (b ∷ bytes) next lines it
     let whole : line ≡ before ++ (name ++ (between ++ b ∷ bytes)) = form ∙ ap (λ l. before ++ (name ++ l)) rest_is in
     ⊎_elim
     (λ brace. opened_sound draft line lines items one_line name bytes next
-      (λ blanks_after. record { before = before; between = between; after = bytes; blanks = blanks; is_name = is_name; blanks_between = blanks_between; blanks_after = blanks_after; form = whole ∙ ap (λ n. before ++ (name ++ (between ++ n ∷ bytes))) (eqb-true b 123 brace.0) })
-      (sym brace.1 ∙ e) after)
+    (λ blanks_after. record { before = before; between = between; after = bytes; blanks = blanks; is_name = is_name; blanks_between = blanks_between; blanks_after = blanks_after; form = whole ∙ ap (λ n. before ++ (name ++ (between ++ n ∷ bytes))) (eqb-true b 123 brace.0) })
+    (sym brace.1 ∙ e) after)
     (λ r. ⊎_elim
-      (λ touching. let no : None ≡ Some next = sym touching.1 ∙ e in cc)
-      (λ apart.
-          let some : between ≢ [] = λ nothing. eqb-false (length rest) (length (b ∷ bytes)) apart.1 (ap length (rest_is ∙ ap (λ l. l ++ b ∷ bytes) nothing)) in
-          valued_sound draft name line b bytes next lines items one_line stays apart.0 (gives_more line name before between (b ∷ bytes) blanks is_name blanks_between some whole) (sym apart.2 ∙ e) after)
-      r)
+    (λ touching. let no : None ≡ Some next = sym touching.1 ∙ e in cc)
+    (λ apart.
+    let some : between ≢ [] = λ nothing. eqb-false (length rest) (length (b ∷ bytes)) apart.1 (ap length (rest_is ∙ ap (λ l. l ++ b ∷ bytes) nothing)) in
+    valued_sound draft name line b bytes next lines items one_line stays apart.0 (gives_more line name before between (b ∷ bytes) blanks is_name blanks_between some whole) (sym apart.2 ∙ e) after)
+    r)
     (two_tests (b == 123) (length rest == length (b ∷ bytes)) (opened draft name bytes) None (valued draft name (b ∷ bytes)))
 
 -- a line that begins with a name
@@ -363,8 +363,8 @@ named_sound draft line before text next lines items one_line blanks form e after
     ⊎_elim
     (λ none. let no : None ≡ Some next = none.1 in cc)
     (λ some. after_name_sound draft name line before rest split.before (unblanked rest) next lines items one_line blanks
-      (record { nonempty = λ empty. eqb-false count 0 some.0 (sym (length-prefix_len is_name_byte text) ∙ ap length empty); each = name_bytes text })
-      split.blanks (form ∙ ap (λ l. before ++ l) (sym (take-append-drop count text))) split.form (unblanked_first rest) some.1 after)
+    (record { nonempty = λ empty. eqb-false count 0 some.0 (sym (length-prefix_len is_name_byte text) ∙ ap length empty); each = name_bytes text })
+    split.blanks (form ∙ ap (λ l. before ++ l) (sym (take-append-drop count text))) split.form (unblanked_first rest) some.1 after)
     (cond_cases (count == 0) None named_next (Some next) e)
 
 fresh_text_sound : (draft : Draft) (line before text : List ℕ) (next : Reader) (lines : List (List ℕ)) (items : List Item)
@@ -375,12 +375,12 @@ fresh_text_sound draft line before [] next lines items one_line blanks form e af
 fresh_text_sound draft line before (b ∷ bytes) next lines items one_line blanks form e after =
     ⊎_elim
     (λ comment. nothing_sound draft line lines items one_line next
-      (inr (record { before = before; text = bytes; blanks = blanks; form = form ∙ ap (λ n. before ++ n ∷ bytes) (eqb-true b 35 comment.0) }))
-      (sym comment.1 ∙ e) after)
+    (inr (record { before = before; text = bytes; blanks = blanks; form = form ∙ ap (λ n. before ++ n ∷ bytes) (eqb-true b 35 comment.0) }))
+    (sym comment.1 ∙ e) after)
     (λ r. ⊎_elim
-      (λ end. closed_sound draft line lines items one_line before bytes next blanks (form ∙ ap (λ n. before ++ n ∷ bytes) (eqb-true b 125 end.0)) (sym end.1 ∙ e) after)
-      (λ other. named_sound draft line before (b ∷ bytes) next lines items one_line blanks form (sym other.2 ∙ e) after)
-      r)
+    (λ end. closed_sound draft line lines items one_line before bytes next blanks (form ∙ ap (λ n. before ++ n ∷ bytes) (eqb-true b 125 end.0)) (sym end.1 ∙ e) after)
+    (λ other. named_sound draft line before (b ∷ bytes) next lines items one_line blanks form (sym other.2 ∙ e) after)
+    r)
     (two_tests (b == 35) (b == 125) (Some (free draft)) (closed draft bytes) (named draft (b ∷ bytes)))
 
 fresh_sound : (draft : Draft) (line : List ℕ) (next : Reader) (lines : List (List ℕ)) (items : List Item)
@@ -393,14 +393,14 @@ fresh_sound draft line next lines items one_line e after =
 -- where no further text comes, the quoted value is whole
 strings_end : (draft : Draft) (name said : List ℕ) (lines : List (List ℕ)) (items : List Item) → AfterFree (added draft name (Quoted said)) lines items → AfterStrings draft name said lines items
 strings_end draft name said lines items after = record {
-    further = [];
-    rest = lines;
-    more = after.more;
-    each = tt;
-    form = refl;
-    total = after.total ∙ append_assoc draft.items (item draft.depth name (Quoted said) ∷ []) after.more ∙ ap (λ v. draft.items ++ item draft.depth name (Quoted v) ∷ after.more) (sym (append-nil said));
-    goes = after.goes;
-  }
+  further = [];
+  rest = lines;
+  more = after.more;
+  each = tt;
+  form = refl;
+  total = after.total ∙ append_assoc draft.items (item draft.depth name (Quoted said) ∷ []) after.more ∙ ap (λ v. draft.items ++ item draft.depth name (Quoted v) ∷ after.more) (sym (append-nil said));
+  goes = after.goes;
+}
 
 after_strings_sound : (draft : Draft) (name said line before text : List ℕ) (next : Reader) (lines : List (List ℕ)) (items : List Item)
     → IsOneLine line → AreBlanks before → line ≡ before ++ text
@@ -411,7 +411,7 @@ after_strings_sound draft name said line before [] next lines items one_line bla
 after_strings_sound draft name said line before (b ∷ bytes) next lines items one_line blanks form e after =
     ⊎_elim
     (λ quote. let is : b ≡ 34 = eqb-true b 34 quote.0 in
-        further_sound draft name said line before bytes next lines items blanks (form ∙ ap (λ n. before ++ n ∷ bytes) is) (ap (λ n. reader_strings draft name (strings_from said (n ∷ bytes))) (sym is) ∙ quote.1) after)
+    further_sound draft name said line before bytes next lines items blanks (form ∙ ap (λ n. before ++ n ∷ bytes) is) (ap (λ n. reader_strings draft name (strings_from said (n ∷ bytes))) (sym is) ∙ quote.1) after)
     (λ other. strings_end draft name said (line ∷ lines) items (fresh_sound (added draft name (Quoted said)) line next lines items one_line other.1 after))
     (cond_cases (b == 34) (reader_strings draft name (strings_from said (b ∷ bytes))) (fresh (added draft name (Quoted said)) line) (Some next) e)
 

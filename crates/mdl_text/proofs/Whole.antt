@@ -1,6 +1,6 @@
 -- How far a text was read, what that says of it, and where it stops.
-use Rattle.std.proofs.Common.{◌≡◌, ◌≢◌, ℕ, zero, suc, ◌+◌, ◌-◌, ◌<◌, ◌≤◌, Bool, true, false, cond, not, List, [], ◌∷◌, ◌++◌, length, take, drop, get_or, Option, Some, None, ◌⊎◌, inl, inr, refl, sym, ◌∙◌, ap, subst, append_assoc, append-nil, eqb-true, flat_map, arith, add-one, one-add, option_and_then, length-append, length-drop, count_by, take-append-drop, drop-cons}
-use Rattle.std.specs.Prelude.{◌&&◌, ◌==◌}
+use Rattle.std.proofs.Common.{◌≡◌, ℕ, zero, suc, ◌+◌, ◌-◌, ◌<◌, ◌≤◌, Bool, true, false, cond, not, List, [], ◌∷◌, ◌++◌, length, take, drop, get_or, Some, None, inl, inr, refl, sym, ◌∙◌, ap, subst, append_assoc, append-nil, eqb-true, flat_map, arith, add-one, option_and_then, length-append, length-drop, count_by, take-append-drop, drop-cons}
+use Rattle.std.specs.Prelude.{◌==◌}
 use Rattle.std.specs.List.{list_all}
 use Rattle.std.proofs.lemmas.Bool.{and_from, and_parts, not-true}
 use Rattle.std.proofs.lemmas.List.Sums.{count_by-le-length, sum_by-append, sum_by-cons}
@@ -81,10 +81,10 @@ closable_in draft (OpenList name said n) =
       rest = bytes ++ 10 ∷ ends draft.depth;
       items = whole.items;
       reads =
-        ap (run reader) (lines_next bytes (ends draft.depth) (closings_line n))
-        ∙ ap (λ l. run reader (l ++ more)) (sym (ap lines_of (append-nil bytes) ∙ lines_one bytes (closings_line n)))
-        ∙ run_list (closings n) n n draft name said [] [] more (closings_close n) refl refl (λ more. refl)
-        ∙ run_ends draft.depth whole.items;
+          ap (run reader) (lines_next bytes (ends draft.depth) (closings_line n))
+          ∙ ap (λ l. run reader (l ++ more)) (sym (ap lines_of (append-nil bytes) ∙ lines_one bytes (closings_line n)))
+          ∙ run_list (closings n) n n draft name said [] [] more (closings_close n) refl refl (λ more. refl)
+          ∙ run_ends draft.depth whole.items;
     }
 
 closable : (reader : Reader) → Closable reader
@@ -132,12 +132,12 @@ module _ (bytes rest : List ℕ) (reader : Reader) (line : ℕ) (reached : Reach
 
     pub reached_next : (after_line : Reader) → step reader next ≡ Some after_line → Reached bytes after after_line (line + 1)
     reached_next after_line is = record {
-        before = reached.before ++ (next ++ 10 ∷ []);
-        whole = whole_line;
-        lines = inr (reached.before ++ next, sym (append_assoc reached.before next (10 ∷ [])));
-        number = omega (arith, reached.number, count_append reached.before (next ++ 10 ∷ []), count_append next (10 ∷ []), count_none next one);
-        reads = λ more. reads_line more ∙ ap (λ o. option_and_then (λ r. run r (lines_of more)) o) is;
-      }
+      before = reached.before ++ (next ++ 10 ∷ []);
+      whole = whole_line;
+      lines = inr (reached.before ++ next, sym (append_assoc reached.before next (10 ∷ [])));
+      number = omega (arith, reached.number, count_append reached.before (next ++ 10 ∷ []), count_append next (10 ∷ []), count_none next one);
+      reads = λ more. reads_line more ∙ ap (λ o. option_and_then (λ r. run r (lines_of more)) o) is;
+    }
 
     -- no text goes on with a line that is refused
     no_text : (more : List ℕ) (tree : Tree) → step reader next ≡ None → Stands ((reached.before ++ (next ++ 10 ∷ [])) ++ more) tree → ⊥
@@ -150,14 +150,14 @@ module _ (bytes rest : List ℕ) (reader : Reader) (line : ℕ) (reached : Reach
 
     pub fault_line : step reader next ≡ None → IsFaultLine bytes line
     fault_line is = record {
-        before = reached.before;
-        after = rest;
-        whole = reached.whole;
-        lines = reached.lines;
-        number = reached.number;
-        begins = begins;
-        stops = inr (next, after, one, split, λ prefix. no_text prefix.rest prefix.tree is prefix.stands);
-      }
+      before = reached.before;
+      after = rest;
+      whole = reached.whole;
+      lines = reached.lines;
+      number = reached.number;
+      begins = begins;
+      stops = inr (next, after, one, split, λ prefix. no_text prefix.rest prefix.tree is prefix.stands);
+    }
 
   module _ (one : IsOneLine rest) where
     reads_end : run start (lines_of bytes) ≡ run reader (rest ∷ [])
@@ -184,13 +184,12 @@ one_line_before (x ∷ xs) (suc end) h =
 
 pub first_newline : (rest : List ℕ) (end : ℕ) → IsFirstByte (is_byte 10) rest (Some end) → IsOneLine (take end rest) × (rest ≡ take end rest ++ 10 ∷ take (length rest - (end + 1)) (drop (end + 1) rest))
 first_newline rest end h = (
-    one_line_before rest end (λ k below is. let low : 0 ≤ k = omega arith in h.0.before k low below is),
-    sym (take-append-drop end rest) ∙ ap (λ l. take end rest ++ l) (drop-cons rest end 0 h.0.high ∙ ap (λ b. b ∷ drop (suc end) rest) (eqb-true (get_or rest end 0) 10 h.1) ∙ ap (λ n. 10 ∷ drop n rest) (sym (add-one end)) ∙ ap (λ l. 10 ∷ l) (sym (whole (drop (end + 1) rest) (length-drop (end + 1) rest)))),
-  )
-
+  one_line_before rest end (λ k below is. let low : 0 ≤ k = omega arith in h.0.before k low below is),
+  sym (take-append-drop end rest) ∙ ap (λ l. take end rest ++ l) (drop-cons rest end 0 h.0.high ∙ ap (λ b. b ∷ drop (suc end) rest) (eqb-true (get_or rest end 0) 10 h.1) ∙ ap (λ n. 10 ∷ drop n rest) (sym (add-one end)) ∙ ap (λ l. 10 ∷ l) (sym (whole (drop (end + 1) rest) (length-drop (end + 1) rest)))),
+)
   where
-  whole : (l : List ℕ) → length l ≡ length rest - (end + 1) → take (length rest - (end + 1)) l ≡ l
-  whole l e = ap (λ n. take n l) (sym e) ∙ take-length l
+    whole : (l : List ℕ) → length l ≡ length rest - (end + 1) → take (length rest - (end + 1)) l ≡ l
+    whole l e = ap (λ n. take n l) (sym e) ∙ take-length l
 
 pub no_newline : (rest : List ℕ) → IsFirstByte (is_byte 10) rest None → IsOneLine rest
 no_newline rest h = subst IsOneLine (take-length rest) (one_line_before rest (length rest) (λ k below is. let low : 0 ≤ k = omega arith in h k low below is))

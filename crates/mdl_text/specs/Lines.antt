@@ -1,5 +1,5 @@
 -- The forms that a line, or the lines of one parameter, may have.
-use Rattle.std.specs.Prelude.{◌≡◌, ◌≢◌, ℕ, List, [], ◌∷◌, ◌++◌, IsTrue, false}
+use Rattle.std.specs.Prelude.{◌≡◌, ◌≢◌, ℕ, List, [], ◌∷◌, ◌++◌, false}
 use Rattle.std.specs.List.{flat_map, AllByRecursion}
 use Rattle.mdl_text.specs.Bytes.{is_blank, AreBlanks, IsName, AreStrings, IsList, lines_of}
 

@@ -20,3 +20,6 @@ mod tree;
 pub use fault::MdlFault;
 pub use reading::{read, unique};
 pub use tree::{Item, Items, Tree, Value};
+
+#[cfg(test)]
+mod tests;

@@ -1,7 +1,7 @@
 ghost use Rattle.std.specs.Prelude.{◌≡◌, ◌≤◌, length, IfOk, OnOk, IfSome, IsTrue, Some, None, if◌then◌else◌};
 ghost use Rattle.mdl_text.specs.Plain.{IsBounded, reader_of, added, opened, closed, listed, valued, after_name, named, fresh, if_closed, unblanked, strings_from, pending_strings, start, step, finish};
 
-use crate::brackets::{list_end, ListEnd};
+use crate::brackets::{ListEnd, list_end};
 use crate::scan::{are_blanks, name_length, trimmed, unblanked};
 use crate::strings::strings;
 use crate::tree::{Item, Items, Value};
@@ -24,9 +24,16 @@ pub struct Draft {
 pub enum Pending {
     Nothing,
     /// A quoted value, which further text may follow.
-    Strings { name: Text, said: Text },
+    Strings {
+        name: Text,
+        said: Text,
+    },
     /// A list that is still open, its bytes so far, and how many brackets are open beside the first.
-    Open { name: Text, said: Text, nesting: u64 },
+    Open {
+        name: Text,
+        said: Text,
+        nesting: u64,
+    },
 }
 
 /// What the lines so far say.
@@ -47,7 +54,12 @@ impl Draft {
 
     /// A section begins, of which the bytes after its brace are given.
     #[tactic(auto, unfolding(crate::specs::Plain::opened))]
-    fn open(&mut self, alloc: Global, name: &[u8], after: &[u8]) -> Result<Option<Pending>, OutOfMemory>
+    fn open(
+        &mut self,
+        alloc: Global,
+        name: &[u8],
+        after: &[u8],
+    ) -> Result<Option<Pending>, OutOfMemory>
         ensures value { IfOk result (λ next. reader_of self.new next ≡ opened self.old name.now after.now) }
         ensures bounded { IfOk result (λ next. IfSome next IsBounded) }
     {
@@ -74,7 +86,13 @@ impl Draft {
 
     /// A list goes on over the line.
     #[tactic(auto, unfolding(crate::specs::Plain::listed))]
-    fn list(&mut self, name: Text, said: Text, nesting: u64, line: &[u8]) -> Result<Option<Pending>, OutOfMemory>
+    fn list(
+        &mut self,
+        name: Text,
+        said: Text,
+        nesting: u64,
+        line: &[u8],
+    ) -> Result<Option<Pending>, OutOfMemory>
         requires { nesting ≤ length said }
         ensures value { IfOk result (λ next. reader_of self.new next ≡ listed self.old name said nesting line.now) }
         ensures bounded { IfOk result (λ next. IfSome next IsBounded) }
@@ -93,7 +111,11 @@ impl Draft {
                 bytes.extend_from_slice(line)?;
                 bytes.push(b'\n')?;
                 let said = Text::from_vec(bytes);
-                Ok(Some(Pending::Open { name, said, nesting }))
+                Ok(Some(Pending::Open {
+                    name,
+                    said,
+                    nesting,
+                }))
             }
             ListEnd::Broken => Ok(None),
         }
@@ -101,7 +123,12 @@ impl Draft {
 
     /// A parameter with a value, which begins with no blank.
     #[tactic(auto, unfolding(crate::specs::Plain::valued))]
-    fn value(&mut self, alloc: Global, name: &[u8], value: &[u8]) -> Result<Option<Pending>, OutOfMemory>
+    fn value(
+        &mut self,
+        alloc: Global,
+        name: &[u8],
+        value: &[u8],
+    ) -> Result<Option<Pending>, OutOfMemory>
         ensures value { IfOk result (λ next. reader_of self.new next ≡ valued self.old name.now value.now) }
         ensures bounded { IfOk result (λ next. IfSome next IsBounded) }
     {
@@ -119,7 +146,12 @@ impl Draft {
     }
 
     /// What follows a name.
-    fn after_name(&mut self, alloc: Global, name: &[u8], rest: &[u8]) -> Result<Option<Pending>, OutOfMemory>
+    fn after_name(
+        &mut self,
+        alloc: Global,
+        name: &[u8],
+        rest: &[u8],
+    ) -> Result<Option<Pending>, OutOfMemory>
         ensures value { IfOk result (λ next. reader_of self.new next ≡ after_name self.old name.now rest.now (unblanked rest.now)) }
         ensures bounded { IfOk result (λ next. IfSome next IsBounded) }
     {
@@ -211,7 +243,11 @@ impl Reader {
     {
         let next = match mem::replace(&mut self.pending, Pending::Nothing) {
             Pending::Nothing => self.draft.fresh(alloc, line)?,
-            Pending::Open { name, said, nesting } => self.draft.list(name, said, nesting, line)?,
+            Pending::Open {
+                name,
+                said,
+                nesting,
+            } => self.draft.list(name, said, nesting, line)?,
             Pending::Strings { name, said } => {
                 let text = unblanked(line);
                 match text {

@@ -63,5 +63,4 @@ fn last_line(mut reader: Reader, alloc: Global, line: &[u8]) -> Result<Option<It
 /// The bytes of a text stand for at most one tree.
 pub fn unique()
     ensures { (bytes : List ℕ) (one other : Tree) → Stands bytes one → Stands bytes other → one ≡ other }
-{
-}
+{}

@@ -17,11 +17,7 @@ pub enum Place {
 
 /// Reads one byte of quoted strings, and puts what it says at the end. `None` where no string goes on so.
 #[tactic(auto, unfolding(crate::specs::Plain::string_step))]
-fn string_step(
-    place: Place,
-    said: &mut Vec<u8>,
-    byte: u8,
-) -> Result<Option<Place>, OutOfMemory>
+fn string_step(place: Place, said: &mut Vec<u8>, byte: u8) -> Result<Option<Place>, OutOfMemory>
     ensures { IfOk result (λ next. MatchOption next
         (string_step place said.old.items byte ≡ None)
         (λ place_after. string_step place said.old.items byte ≡ Some (place_after, said.new.items))) }

@@ -1,4 +1,4 @@
-use Rattle.std.proofs.Common.{◌≡◌, ◌≤◌, ◌+◌, ◌-◌, length, take, drop}
+use Rattle.std.proofs.Common.{◌≡◌, ◌≤◌, ◌+◌, drop}
 use Rattle.mdl_text.specs.Plain.{list_end, list_from}
 use Rattle.mdl_text.proofs.brackets.list_end.Given as goal
 

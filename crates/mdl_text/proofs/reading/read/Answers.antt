@@ -8,7 +8,7 @@ loop-next-preserved c =
     let split = c.in-Some.ensures in
     let read : Option Reader = Some c.step.new.self in record {
       reached = reached_next c.args.bytes.now c.loop-next.rest.now c.loop-next.reader c.loop-next.line c.loop-next.invariant.reached c.in-Some.next.now c.in-Some.after.now split.0 split.1 c.step.new.self
-        (c.in_ok-step.ensures.value ∙ ap (λ t. cond t read None) c.if-not-branch.false);
+          (c.in_ok-step.ensures.value ∙ ap (λ t. cond t read None) c.if-not-branch.false);
       bounded = c.in_ok-step.ensures.bounded c.if-not-branch.false;
     }
 

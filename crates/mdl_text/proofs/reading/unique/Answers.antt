@@ -1,4 +1,3 @@
-use Rattle.mdl_text.proofs.Sound.{reading_stands}
 use Rattle.mdl_text.proofs.Complete.{one_tree}
 use Rattle.mdl_text.proofs.reading.unique.Goals as goal
 

@@ -1,4 +1,4 @@
-use Rattle.std.proofs.Common.{◌≡◌, ◌+◌, ◌-◌, length, take, drop}
+use Rattle.std.proofs.Common.{◌≡◌, drop}
 use Rattle.std.specs.List.{list_all}
 use Rattle.mdl_text.specs.Bytes.{is_blank}
 use Rattle.mdl_text.proofs.scan.are_blanks.Given as goal

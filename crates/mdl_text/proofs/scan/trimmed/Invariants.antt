@@ -1,4 +1,4 @@
-use Rattle.std.proofs.Common.{◌≡◌, ◌+◌, ◌-◌, length, ◌≤◌, take, drop}
+use Rattle.std.proofs.Common.{◌≡◌, length, ◌≤◌, take}
 use Rattle.mdl_text.specs.Plain.{trimmed}
 use Rattle.mdl_text.proofs.scan.trimmed.Given as goal
 

@@ -1,4 +1,4 @@
-use Rattle.std.proofs.Common.{◌≡◌, ◌+◌, ◌-◌, length, take, drop}
+use Rattle.std.proofs.Common.{◌≡◌, drop}
 use Rattle.mdl_text.specs.Plain.{unblanked}
 use Rattle.mdl_text.proofs.scan.unblanked.Given as goal
 

@@ -1,4 +1,4 @@
-use Rattle.std.proofs.Common.{◌≡◌, ◌+◌, ◌-◌, length, take, drop}
+use Rattle.std.proofs.Common.{◌≡◌, drop}
 use Rattle.mdl_text.specs.Plain.{strings, strings_from}
 use Rattle.mdl_text.proofs.strings.strings.Given as goal
 
