@@ -22,7 +22,7 @@ use Rattle.mdl_text.proofs.Scans.{FirstIs, unblanked_after, unblanked_at, unblan
 use Rattle.mdl_text.proofs.Quotes.{outside_quotes}
 use Rattle.mdl_text.proofs.Pieces.{string_end, opening_end, closing_end, last_end, other_end}
 use Rattle.mdl_text.proofs.LineLaws.{first_line, lines_front, lines_one, lines_next, line_join, blanks_line, name_line}
-use Rattle.mdl_text.proofs.Sound.{item}
+use Rattle.mdl_text.proofs.After.{item}
 
 -- a line of blanks, or a comment
 pub fresh_nothing : (draft : Draft) (line : List ℕ) → (AreBlanks line ⊎ IsComment line) → fresh draft line ≡ Some (free draft)
