@@ -8,6 +8,8 @@ mod expressions;
 mod items;
 mod pieces;
 mod ports;
+#[cfg(test)]
+mod tests;
 mod writing;
 
 pub use writing::write;
