@@ -1,7 +1,7 @@
 -- The tokens of a text: how each may be written, and what may stand between them (IEEE 1364-2005,
 -- 3.1 to 3.7, of which the subset keeps these forms).
-use Rattle.std.specs.Prelude.{◌≡◌, ◌≢◌, ◌⊎◌, ℕ, ◌^◌, ◌<◌, ◌≤◌, ◌==◌, Bool, true, false, not, ◌&&◌, ◌||◌, if◌then◌else◌, List, [], ◌∷◌, ◌++◌, length, flat_map, All, Contains, bytes_eq, codes, Option, Some, None}
-use Rattle.std.specs.List.{list_any, list_all}
+use Rattle.std.specs.Prelude.{◌≡◌, ◌≢◌, ◌⊎◌, ℕ, ◌^◌, ◌<◌, ◌≤◌, ◌==◌, nat_le, nat_eq, ⊤, Bool, true, false, not, ◌&&◌, ◌||◌, if◌then◌else◌, List, [], ◌∷◌, ◌++◌, length, flat_map, All, Contains, bytes_eq, codes, Option, Some, None}
+use Rattle.std.specs.List.{list_any, list_all, starts_with}
 use Rattle.std.specs.Char.{is_ascii_alphabetic, is_ascii_alphanumeric}
 use Rattle.std.specs.Str.Parse.{IsNumeral, digits_value}
 use Rattle.vl_ast.specs.declared.expressions.Sized.{Sized}
@@ -24,6 +24,17 @@ is_word (Sign bytes) = false
 is_word (Identifier name) = true
 is_word (Number number) = true
 is_word (Based number) = true
+
+-- the signs of more than one byte
+abbrev pub long_signs : List (List ℕ)
+long_signs =
+    codes "(*" ∷ codes "*)" ∷ codes "<=" ∷ codes ">=" ∷ codes "==" ∷ codes "!=" ∷ codes "<<" ∷ codes ">>" ∷ codes ">>>"
+    ∷ codes "&&" ∷ codes "||" ∷ []
+
+-- whether no longer sign begins where this one does, before these bytes
+abbrev pub is_longest : List ℕ → List ℕ → Bool
+is_longest sign after =
+    list_all (λ longer. nat_le (length longer) (length sign) || not (starts_with nat_eq (sign ++ after) longer)) long_signs
 
 -- a letter or an underscore, and then letters, digits and underscores
 abbrev pub is_identifier : List ℕ → Bool
@@ -105,10 +116,18 @@ abbrev pub IsLastGap : List ℕ → Type 0
 IsLastGap bytes =
     IsGap bytes ⊎ ((gap : List ℕ) × (body : List ℕ) × IsGap gap × IsOneLine body × (bytes ≡ gap ++ codes "//" ++ body))
 
+-- the longest token is taken
+abbrev pub IsLongest : Token → List ℕ → Type 0
+IsLongest (Key word) after = ⊤
+IsLongest (Sign sign) after = is_longest sign after ≡ true
+IsLongest (Identifier name) after = ⊤
+IsLongest (Number number) after = ⊤
+IsLongest (Based number) after = ⊤
+
 -- the bytes are the tokens, with gaps between them, before the first and after the last; two words
 -- have one that isn't empty. The first argument says whether a word stands before
 abbrev pub Lays : Bool → List Token → List ℕ → Type 0
 Lays after_word [] bytes = IsLastGap bytes
 Lays after_word (token ∷ tokens) bytes =
     (gap : List ℕ) × (written : List ℕ) × (rest : List ℕ) × IsGap gap × ((after_word && is_word token) ≡ true → gap ≢ [])
-    × IsWritten token written × Lays (is_word token) tokens rest × (bytes ≡ gap ++ written ++ rest)
+    × IsWritten token written × IsLongest token rest × Lays (is_word token) tokens rest × (bytes ≡ gap ++ written ++ rest)
