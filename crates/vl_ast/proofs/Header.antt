@@ -2,7 +2,6 @@
 use Rattle.std.specs.Prelude.{◌≡◌, ℕ, true, false, List, [], ◌∷◌, codes, refl}
 use Rattle.vl_ast.specs.declared.modules.Module.{Module}
 use Rattle.vl_ast.specs.declared.modules.Attr.{Attr}
-use Rattle.vl_ast.specs.declared.modules.Port.{Port}
 use Rattle.std.specs.Fmt.{digits}
 use Rattle.vl_ast.specs.Spelling.{spelling}
 

@@ -1,9 +1,9 @@
 -- How a text is laid out token by token, from its end to its start.
-use Rattle.std.proofs.Common.{◌≡◌, ◌≢◌, ℕ, ◌<◌, Bool, true, false, ◌&&◌, List, [], ◌∷◌, ◌++◌, flat_map, length, codes, refl, sym, ap, subst, ◌∙◌, append_assoc, arith, All}
+use Rattle.std.proofs.Common.{◌≡◌, ◌≢◌, ℕ, Bool, true, false, ◌&&◌, List, [], ◌∷◌, ◌++◌, codes, refl, sym, ap, subst, arith}
 use Rattle.std.specs.Bool.{⊤}
 use Rattle.std.proofs.lemmas.List.Concat.{flat_map-append}
 use Rattle.std.proofs.lemmas.List.Elements.{All-cons, All-append}
-use Rattle.vl_ast.specs.Tokens.{Token, Key, Sign, Identifier, Number, Based, is_word, IsWritten, IsLongest, is_longest, Filler, Blank, IsFiller, filler_text, IsGap, IsLastGap, is_blank, Lays}
+use Rattle.vl_ast.specs.Tokens.{Token, Sign, is_word, IsWritten, IsLongest, is_longest, Blank, IsFiller, filler_text, IsGap, is_blank, Lays}
 
 pub left_true : (a b : Bool) → (a && b) ≡ true → a ≡ true
 left_true true b e = refl

@@ -6,7 +6,7 @@ use Rattle.std.specs.Str.Parse.{IsNumeral}
 use Rattle.vl_ast.specs.declared.expressions.Sized.{Sized}
 use Rattle.vl_ast.specs.Grammar.{comma}
 use Rattle.vl_ast.specs.Spelling.{joined, sized_text}
-use Rattle.vl_ast.specs.Tokens.{Token, Key, Sign, Identifier, Number, Based, IsWritten, IsLongest, is_longest, IsGap, Lays}
+use Rattle.vl_ast.specs.Tokens.{Token, Key, Sign, Identifier, Number, Based, IsLongest, is_longest, IsGap, Lays}
 use Rattle.vl_ast.proofs.Laid.{laid, laid_sign, laid_same, no_gap, space_gap, Writable, AllWritable, AllWritable-front, AllWritable-back}
 use Rattle.vl_ast.proofs.Written.{token_text, IsWritten-token_text, identifier_opens, numeral_opens, IsBased-sized_text}
 
@@ -84,9 +84,9 @@ binary_fits op ts us left right longest f h = record {
       let middle : List ℕ = codes " " ++ (op ++ ended) in
       sign_lays (codes "(") gap _ (left ++ middle) bytes g (f.opens first middle)
       (laid_same false _ (ts ++ (Sign op ∷ ((us ++ close) ++ tail))) _ (append_assoc ts (Sign op ∷ (us ++ close)) tail)
-        (f.lays first false [] _ middle (left ++ middle) no_gap (after_sign [])
-          (λ b. sign_lays op (codes " ") _ ended middle space_gap (longest _)
-              (closed us right (codes " ") tail rest ended h second space_gap next refl) refl b) refl))
+      (f.lays first false [] _ middle (left ++ middle) no_gap (after_sign [])
+      (λ b. sign_lays op (codes " ") _ ended middle space_gap (longest _)
+      (closed us right (codes " ") tail rest ended h second space_gap next refl) refl b) refl))
       (text ∙ ap (λ t. gap ++ t) (binary_shape left op right rest)) after;
 }
 
@@ -123,9 +123,9 @@ shift_fits op ts part amount longest f = record {
       let middle : List ℕ = codes " " ++ (op ++ ended) in
       sign_lays (codes "(") gap _ (part ++ middle) bytes g (f.opens first middle)
       (laid_same false _ (ts ++ (Sign op ∷ Based amount ∷ Sign (codes ")") ∷ tail)) _ (append_assoc ts (Sign op ∷ Based amount ∷ close) tail)
-        (f.lays first false [] _ middle (part ++ middle) no_gap (after_sign [])
-          (λ b. sign_lays op (codes " ") (Based amount ∷ Sign (codes ")") ∷ tail) ended middle space_gap (longest _)
-              (word_lays (Based amount) false (codes " ") (Sign (codes ")") ∷ tail) (codes ")" ++ rest) ended number tt space_gap (after_sign (codes " ")) (close_lays tail rest next) refl) refl b) refl))
+      (f.lays first false [] _ middle (part ++ middle) no_gap (after_sign [])
+      (λ b. sign_lays op (codes " ") (Based amount ∷ Sign (codes ")") ∷ tail) ended middle space_gap (longest _)
+      (word_lays (Based amount) false (codes " ") (Sign (codes ")") ∷ tail) (codes ")" ++ rest) ended number tt space_gap (after_sign (codes " ")) (close_lays tail rest next) refl) refl b) refl))
       (text ∙ ap (λ t. gap ++ t) (shift_shape part op (sized_text amount) rest)) after;
 }
 
@@ -148,11 +148,11 @@ choose_fits ts us vs test chosen other f h k = record {
       let mark : List ℕ = codes " " ++ (codes "?" ++ (codes " " ++ (chosen ++ colon))) in
       sign_lays (codes "(") gap _ (test ++ mark) bytes g (f.opens first mark)
       (laid_same false _ (ts ++ (Sign (codes "?") ∷ ((us ++ Sign (codes ":") ∷ (vs ++ close)) ++ tail))) _ (append_assoc ts _ tail)
-        (f.lays first false [] _ mark (test ++ mark) no_gap (after_sign [])
-          (λ b. sign_lays (codes "?") (codes " ") _ (codes " " ++ (chosen ++ colon)) mark space_gap refl
-              (laid_same false _ (us ++ (Sign (codes ":") ∷ ((vs ++ close) ++ tail))) _ (append_assoc us _ tail)
-                (h.lays second false (codes " ") _ colon (codes " " ++ (chosen ++ colon)) space_gap (after_sign (codes " "))
-                  (λ d. sign_lays (codes ":") (codes " ") _ ended colon space_gap refl (closed vs other (codes " ") tail rest ended k third space_gap next refl) refl d) refl)) refl b) refl))
+      (f.lays first false [] _ mark (test ++ mark) no_gap (after_sign [])
+      (λ b. sign_lays (codes "?") (codes " ") _ (codes " " ++ (chosen ++ colon)) mark space_gap refl
+      (laid_same false _ (us ++ (Sign (codes ":") ∷ ((vs ++ close) ++ tail))) _ (append_assoc us _ tail)
+      (h.lays second false (codes " ") _ colon (codes " " ++ (chosen ++ colon)) space_gap (after_sign (codes " "))
+      (λ d. sign_lays (codes ":") (codes " ") _ ended colon space_gap refl (closed vs other (codes " ") tail rest ended k third space_gap next refl) refl d) refl)) refl b) refl))
       (text ∙ ap (λ t. gap ++ t) (choose_shape test chosen other rest)) after;
 }
 
@@ -189,11 +189,11 @@ repeat_fits count ts part f = record {
       let braces : List Token = Sign (codes "}") ∷ Sign (codes "}") ∷ [] in
       sign_lays (codes "{") gap (Number count ∷ Sign (codes "{") ∷ ((ts ++ braces) ++ tail)) (decimal count ++ middle) bytes g refl
       (word_lays (Number count) false [] (Sign (codes "{") ∷ ((ts ++ braces) ++ tail)) middle (decimal count ++ middle) w.1.0 tt no_gap (after_sign [])
-        (λ b. sign_lays (codes "{") (codes " ") ((ts ++ braces) ++ tail) ended middle space_gap refl
-            (laid_same false _ (ts ++ (Sign (codes "}") ∷ Sign (codes "}") ∷ tail)) ended (append_assoc ts braces tail)
-              (f.lays first false [] (Sign (codes "}") ∷ Sign (codes "}") ∷ tail) (codes "}" ++ outer) ended no_gap (after_sign [])
-                (λ d. sign_lays (codes "}") [] (Sign (codes "}") ∷ tail) outer (codes "}" ++ outer) no_gap refl
-                    (sign_lays (codes "}") [] tail rest outer no_gap refl (next false) refl false) refl d) refl)) refl b) refl)
+      (λ b. sign_lays (codes "{") (codes " ") ((ts ++ braces) ++ tail) ended middle space_gap refl
+      (laid_same false _ (ts ++ (Sign (codes "}") ∷ Sign (codes "}") ∷ tail)) ended (append_assoc ts braces tail)
+      (f.lays first false [] (Sign (codes "}") ∷ Sign (codes "}") ∷ tail) (codes "}" ++ outer) ended no_gap (after_sign [])
+      (λ d. sign_lays (codes "}") [] (Sign (codes "}") ∷ tail) outer (codes "}" ++ outer) no_gap refl
+      (sign_lays (codes "}") [] tail rest outer no_gap refl (next false) refl false) refl d) refl)) refl b) refl)
       (text ∙ ap (λ t. gap ++ t) (repeat_shape (decimal count) part rest)) after;
 }
 
@@ -208,8 +208,8 @@ bit_fits name place = record {
       let middle : List ℕ = codes " " ++ (codes "[" ++ ended) in
       word_lays (Identifier name) after gap (Sign (codes "[") ∷ Number place ∷ Sign (codes "]") ∷ tail) middle bytes w.0 tt g apart
       (λ b. sign_lays (codes "[") (codes " ") (Number place ∷ Sign (codes "]") ∷ tail) ended middle space_gap refl
-          (word_lays (Number place) false [] (Sign (codes "]") ∷ tail) (codes "]" ++ rest) ended w.1.1.0 tt no_gap (after_sign [])
-            (λ d. sign_lays (codes "]") [] tail rest (codes "]" ++ rest) no_gap refl (next false) refl d) refl) refl b)
+      (word_lays (Number place) false [] (Sign (codes "]") ∷ tail) (codes "]" ++ rest) ended w.1.1.0 tt no_gap (after_sign [])
+      (λ d. sign_lays (codes "]") [] tail rest (codes "]" ++ rest) no_gap refl (next false) refl d) refl) refl b)
       (text ∙ ap (λ t. gap ++ t) (bit_shape name (decimal place) rest));
 }
 
@@ -228,10 +228,10 @@ part_fits name high low = record {
       let middle : List ℕ = codes " " ++ (codes "[" ++ (decimal high ++ second)) in
       word_lays (Identifier name) after gap (Sign (codes "[") ∷ Number high ∷ Sign (codes ":") ∷ Number low ∷ Sign (codes "]") ∷ tail) middle bytes w.0 tt g apart
       (λ b. sign_lays (codes "[") (codes " ") (Number high ∷ Sign (codes ":") ∷ Number low ∷ Sign (codes "]") ∷ tail) (decimal high ++ second) middle space_gap refl
-          (word_lays (Number high) false [] (Sign (codes ":") ∷ Number low ∷ Sign (codes "]") ∷ tail) second (decimal high ++ second) w.1.1.0 tt no_gap (after_sign [])
-            (λ d. sign_lays (codes ":") [] (Number low ∷ Sign (codes "]") ∷ tail) ended second no_gap refl
-                (word_lays (Number low) false [] (Sign (codes "]") ∷ tail) (codes "]" ++ rest) ended w.1.1.1.1.0 tt no_gap (after_sign [])
-                  (λ h. sign_lays (codes "]") [] tail rest (codes "]" ++ rest) no_gap refl (next false) refl h) refl) refl d) refl) refl b)
+      (word_lays (Number high) false [] (Sign (codes ":") ∷ Number low ∷ Sign (codes "]") ∷ tail) second (decimal high ++ second) w.1.1.0 tt no_gap (after_sign [])
+      (λ d. sign_lays (codes ":") [] (Number low ∷ Sign (codes "]") ∷ tail) ended second no_gap refl
+      (word_lays (Number low) false [] (Sign (codes "]") ∷ tail) (codes "]" ++ rest) ended w.1.1.1.1.0 tt no_gap (after_sign [])
+      (λ h. sign_lays (codes "]") [] tail rest (codes "]" ++ rest) no_gap refl (next false) refl h) refl) refl d) refl) refl b)
       (text ∙ ap (λ t. gap ++ t) (part_shape name (decimal high) (decimal low) rest));
 }
 
@@ -254,8 +254,8 @@ more_lays (ts ∷ tss) (text ∷ texts) fits w tail rest next b =
     let after : List ℕ = flat_map (λ more. codes ", " ++ more) texts ++ rest in
     sign_lays (codes ",") [] ((ts ++ others) ++ tail) (codes " " ++ (text ++ after)) _ no_gap refl
     (laid_same false _ (ts ++ (others ++ tail)) _ (append_assoc ts others tail)
-      (fits.0.lays (AllWritable-front ts others w.1) false (codes " ") (others ++ tail) after (codes " " ++ (text ++ after)) space_gap (after_sign (codes " "))
-        (more_lays tss texts fits.1 (AllWritable-back ts others w.1) tail rest next) refl))
+    (fits.0.lays (AllWritable-front ts others w.1) false (codes " ") (others ++ tail) after (codes " " ++ (text ++ after)) space_gap (after_sign (codes " "))
+    (more_lays tss texts fits.1 (AllWritable-back ts others w.1) tail rest next) refl))
     (append_assoc (codes ", " ++ text) (flat_map (λ more. codes ", " ++ more) texts) rest) b
 
 concat_shape : (joined' rest : List ℕ) → (codes "{" ++ joined' ++ codes "}") ++ rest ≡ codes "{" ++ (joined' ++ (codes "}" ++ rest))
@@ -272,7 +272,7 @@ joined_lays (ts ∷ tss) (text ∷ texts) fits w tail rest next =
     let after : List ℕ = flat_map (λ more. codes ", " ++ more) texts ++ rest in
     laid_same false _ (ts ++ (others ++ tail)) _ (append_assoc ts others tail)
     (fits.0.lays (AllWritable-front ts others w) false [] (others ++ tail) after _ no_gap (after_sign [])
-      (more_lays tss texts fits.1 (AllWritable-back ts others w) tail rest next) (append_assoc text (flat_map (λ more. codes ", " ++ more) texts) rest))
+    (more_lays tss texts fits.1 (AllWritable-back ts others w) tail rest next) (append_assoc text (flat_map (λ more. codes ", " ++ more) texts) rest))
 
 pub concat_fits : (tss : List (List Token)) (texts : List (List ℕ)) → FitsEach tss texts →
     Fits (Sign (codes "{") ∷ (joined comma tss ++ Sign (codes "}") ∷ [])) (codes "{" ++ joined (codes ", ") texts ++ codes "}")
@@ -282,7 +282,7 @@ concat_fits tss texts fits = record {
       let brace : List Token = Sign (codes "}") ∷ [] in
       sign_lays (codes "{") gap ((joined comma tss ++ brace) ++ tail) (joined (codes ", ") texts ++ (codes "}" ++ rest)) bytes g refl
       (laid_same false _ (joined comma tss ++ (Sign (codes "}") ∷ tail)) _ (append_assoc (joined comma tss) brace tail)
-        (joined_lays tss texts fits (AllWritable-front (joined comma tss) brace w.1) (Sign (codes "}") ∷ tail) (codes "}" ++ rest)
-          (λ b. sign_lays (codes "}") [] tail rest (codes "}" ++ rest) no_gap refl (next false) refl b)))
+      (joined_lays tss texts fits (AllWritable-front (joined comma tss) brace w.1) (Sign (codes "}") ∷ tail) (codes "}" ++ rest)
+      (λ b. sign_lays (codes "}") [] tail rest (codes "}" ++ rest) no_gap refl (next false) refl b)))
       (text ∙ ap (λ t. gap ++ t) (concat_shape (joined (codes ", ") texts) rest)) after;
 }

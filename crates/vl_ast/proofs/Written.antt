@@ -1,7 +1,6 @@
 -- Each token that can be written is written by the one text's form of it.
-use Rattle.std.proofs.Common.{◌≡◌, ◌≢◌, ℕ, ◌+◌, ◌^◌, ◌<◌, ◌≤◌, Bool, true, false, ◌&&◌, ◌||◌, not, List, [], ◌∷◌, ◌++◌, length, codes, decimal, refl, sym, ap, subst, ◌∙◌, append_assoc, arith, rules, inl, inr, Some, if◌then◌else◌}
+use Rattle.std.proofs.Common.{◌≡◌, ◌≢◌, ℕ, ◌^◌, ◌<◌, ◌≤◌, Bool, true, false, List, [], ◌∷◌, ◌++◌, length, codes, decimal, refl, subst, append_assoc, arith, inl, if◌then◌else◌}
 use Rattle.std.specs.Prelude.{nat_eq}
-use Rattle.std.specs.Char.{digit_value}
 use Rattle.std.specs.Str.Parse.{IsNumeral, AllDigits, digits_value}
 use Rattle.std.proofs.Math.Nat.{pow-le-pow_right}
 use Rattle.std.proofs.lemmas.Bool.{false≢true}
@@ -11,7 +10,7 @@ use Rattle.std.proofs.lemmas.Int.Digits.{digits_value-lt}
 use Rattle.std.proofs.lemmas.Str.Parse.{digit_from_value}
 use Rattle.vl_ast.specs.declared.expressions.Sized.{Sized}
 use Rattle.vl_ast.specs.Spelling.{sized_text}
-use Rattle.vl_ast.specs.Tokens.{Token, Key, Sign, Identifier, Number, Based, IsDec, IsBased, IsSignMark, IsWritten, is_identifier, is_longest, base_of}
+use Rattle.vl_ast.specs.Tokens.{Token, Key, Sign, Identifier, Number, Based, IsDec, IsBased, IsSignMark, IsWritten, is_identifier, is_longest}
 use Rattle.vl_ast.proofs.Laid.{Writable}
 
 -- a number of at most so many digits is below that power of ten

@@ -1,5 +1,5 @@
 -- The numbers that a module and its ports carry as attributes (IEEE 1364-2005, 3.8; the names are own).
-use Rattle.std.specs.Prelude.{ℕ, nat_le, Bool, ◌&&◌, if◌then◌else◌, List, find, bytes_eq, codes, Option, Some, None}
+use Rattle.std.specs.Prelude.{ℕ, nat_le, ◌&&◌, if◌then◌else◌, List, find, bytes_eq, codes, Option, Some, None}
 use Rattle.vl_ast.specs.declared.modules.Attr.{Attr}
 use Rattle.vl_ast.specs.declared.modules.Port.{Port}
 use Rattle.vl_ast.specs.declared.modules.Module.{Module}

@@ -1,6 +1,6 @@
 -- The length and the sign of an expression, and the context in which each operand stands
 -- (IEEE 1364-2005, 5.4.1 and 5.5.1). A context is a length and a sign.
-use Rattle.std.specs.Prelude.{ℕ, ◌+◌, ◌-◌, ◌*◌, max, sum, Bool, true, false, ◌&&◌, if◌then◌else◌, List, map}
+use Rattle.std.specs.Prelude.{ℕ, ◌+◌, ◌-◌, ◌*◌, max, sum, Bool, true, false, ◌&&◌, List, map}
 use Rattle.vl_ast.specs.declared.expressions.UnOp.{UnOp}
 use Rattle.vl_ast.specs.declared.expressions.UnOp.TheVariants.{Negate, Invert, IsZero}
 use Rattle.vl_ast.specs.declared.expressions.BinOp.{BinOp}

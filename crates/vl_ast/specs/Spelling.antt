@@ -1,7 +1,7 @@
 -- The one written text of a module: single spaces between tokens, numbers without leading zeros and
 -- in base ten, each port, item and list of attributes on a line of its own (own; the tokens are those
 -- of IEEE 1364-2005).
-use Rattle.std.specs.Prelude.{ℕ, ◌-◌, ◌==◌, Bool, true, false, if◌then◌else◌, List, [], ◌∷◌, ◌++◌, map, Option, Some, None, codes}
+use Rattle.std.specs.Prelude.{ℕ, ◌-◌, ◌==◌, Bool, if◌then◌else◌, List, [], ◌∷◌, ◌++◌, map, Option, Some, None, codes}
 use Rattle.std.specs.List.{flat_map}
 use Rattle.std.specs.Fmt.{decimal}
 use Rattle.vl_ast.specs.declared.expressions.Sized.{Sized}

@@ -1,6 +1,6 @@
 -- The value of an expression in its context (IEEE 1364-2005, 5.1, 5.5.2 and 5.6), with two values a
 -- bit. Bits are a number below 2 to their length.
-use Rattle.std.specs.Prelude.{ℕ, ◌+◌, ◌-◌, ◌*◌, ◌/◌, ◌%◌, ◌^◌, ◌==◌, nat_le, max, Bool, true, false, not, ◌&&◌, ◌||◌, if◌then◌else◌, List, fold, replicate, bit_and, bit_or, bit_xor, ℤ, pos, ◌-ℤ◌, int_lt}
+use Rattle.std.specs.Prelude.{ℕ, ◌+◌, ◌-◌, ◌*◌, ◌/◌, ◌%◌, ◌^◌, ◌==◌, nat_le, max, Bool, not, ◌&&◌, ◌||◌, if◌then◌else◌, List, fold, replicate, bit_and, bit_or, bit_xor, ℤ, pos, ◌-ℤ◌, int_lt}
 use Rattle.std.specs.Int.{bit_at}
 use Rattle.vl_ast.specs.declared.expressions.UnOp.{UnOp}
 use Rattle.vl_ast.specs.declared.expressions.UnOp.TheVariants.{Negate, Invert, IsZero}

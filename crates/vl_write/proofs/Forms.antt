@@ -1,5 +1,5 @@
 -- What each form of an expression leaves at the end of the text, from what its parts leave.
-use Rattle.std.proofs.Common.{◌≡◌, ℕ, List, [], ◌∷◌, ◌++◌, codes, refl, sym, ap, ◌∙◌, append_assoc}
+use Rattle.std.proofs.Common.{◌≡◌, ℕ, List, ◌++◌, codes, sym, ap, ◌∙◌, append_assoc}
 use Rattle.vl_ast.specs.declared.expressions.UnOp.{UnOp}
 use Rattle.vl_ast.specs.declared.expressions.BinOp.{BinOp}
 use Rattle.vl_ast.specs.declared.expressions.ShiftOp.{ShiftOp}
