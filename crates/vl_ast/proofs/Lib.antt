@@ -2,5 +2,7 @@ mod Header
 pub mod Laid
 pub mod LaidExpr
 pub mod LaidForms
+pub mod LaidItems
+pub mod LaidNets
 mod Values
 pub mod Written
