@@ -1,17 +1,15 @@
 -- The one text of items and ports lays out their tokens.
-use Rattle.std.proofs.Common.{◌≡◌, ◌≢◌, ℕ, Bool, true, false, List, [], ◌∷◌, ◌++◌, map, flat_map, codes, decimal, refl, sym, ap, subst, ◌∙◌, append_assoc, if◌then◌else◌, Option, Some, None}
+use Rattle.std.proofs.Common.{◌≡◌, ℕ, Bool, false, List, [], ◌∷◌, ◌++◌, codes, refl, ap, append_assoc, Option, Some, None}
 use Rattle.vl_ast.specs.declared.expressions.Sized.{Sized}
 use Rattle.vl_ast.specs.declared.expressions.Expr.{Expr}
-use Rattle.vl_ast.specs.declared.modules.Port.{Port}
-use Rattle.vl_ast.specs.declared.modules.ModItem.{ModItem}
-use Rattle.vl_ast.specs.declared.modules.ModItem.TheVariants.{Wire, Reg, Assign, Always}
-use Rattle.vl_ast.specs.Grammar.{attrs_tokens, signed_tokens, expr_tokens, condition_tokens, declaration_tokens}
-use Rattle.vl_ast.specs.Spelling.{attrs_text, signed_text, range_text, expr_text, condition_text, sized_text, item_text, port_text}
-use Rattle.vl_ast.specs.Tokens.{Token, Key, Sign, Identifier, Based, is_longest, IsGap, Lays}
-use Rattle.vl_ast.proofs.Laid.{laid_same, no_gap, blank_gap, line_gap, space_gap, gap_append, Writable, AllWritable, AllWritable-front, AllWritable-back}
+use Rattle.vl_ast.specs.declared.modules.ModItem.TheVariants.{Assign, Always}
+use Rattle.vl_ast.specs.Grammar.{signed_tokens, expr_tokens, condition_tokens, declaration_tokens}
+use Rattle.vl_ast.specs.Spelling.{signed_text, range_text, expr_text, condition_text, sized_text, item_text}
+use Rattle.vl_ast.specs.Tokens.{Token, Key, Sign, Identifier, Based, IsGap, Lays}
+use Rattle.vl_ast.proofs.Laid.{laid_same, no_gap, blank_gap, line_gap, space_gap, AllWritable, AllWritable-front, AllWritable-back}
 use Rattle.vl_ast.proofs.LaidForms.{Fits, after_sign, not_empty, sign_lays, word_lays}
 use Rattle.vl_ast.proofs.LaidExpr.{expr_fits}
-use Rattle.vl_ast.proofs.LaidNets.{attrs_lay, range_tokens, net_lays}
+use Rattle.vl_ast.proofs.LaidNets.{range_tokens, net_lays}
 
 pub indent_gap : IsGap (codes "  ")
 indent_gap = blank_gap 32 refl (codes " ") space_gap
@@ -29,7 +27,7 @@ net_shape : (word signed range name rest : List ℕ) →
     ≡ codes "\n" ++ (word ++ (codes " " ++ ((signed ++ range ++ name) ++ (codes ";" ++ (codes "\n" ++ rest)))))
 net_shape word signed range name rest = simp append_assoc
 
-net_item_lays : (word : List ℕ) (signed : Bool) (width : ℕ) (name : List ℕ) → AllWritable (net_item word signed width name) →
+pub net_item_lays : (word : List ℕ) (signed : Bool) (width : ℕ) (name : List ℕ) → AllWritable (net_item word signed width name) →
     (tail : List Token) (rest : List ℕ) → ((b : Bool) → Lays b tail (codes "\n" ++ rest)) → (after : Bool) →
     Lays after (net_item word signed width name ++ tail) (codes "\n" ++ ((word ++ codes " " ++ signed_text signed ++ range_text width ++ name ++ codes ";\n") ++ rest))
 net_item_lays word signed width name w tail rest next after =
@@ -39,7 +37,7 @@ net_item_lays word signed width name w tail rest next after =
     let middle : List ℕ = codes " " ++ ((signed_text signed ++ range_text width ++ name) ++ ended) in
     word_lays (Key word) after (codes "\n") ((net ++ end) ++ tail) middle _ w.0 tt line_gap (not_empty 10 [] after)
     (λ b. laid_same b _ (net ++ (Sign (codes ";") ∷ tail)) middle (append_assoc net end tail)
-        (net_lays signed width name (AllWritable-front net end w.1) (Sign (codes ";") ∷ tail) ended (end_lays tail (codes "\n" ++ rest) next) b))
+    (net_lays signed width name (AllWritable-front net end w.1) (Sign (codes ";") ∷ tail) ended (end_lays tail (codes "\n" ++ rest) next) b))
     (net_shape word (signed_text signed) (range_text width) name rest)
 
 abbrev pub assign_item : List ℕ → Expr → List Token
@@ -50,7 +48,7 @@ assign_shape : (name value rest : List ℕ) →
     ≡ codes "\n" ++ (codes "assign" ++ (codes " " ++ (name ++ (codes " " ++ (codes "=" ++ (codes " " ++ (value ++ (codes ";" ++ (codes "\n" ++ rest)))))))))
 assign_shape name value rest = simp append_assoc
 
-assign_lays : (name : List ℕ) (value : Expr) → AllWritable (assign_item name value) →
+pub assign_lays : (name : List ℕ) (value : Expr) → AllWritable (assign_item name value) →
     (tail : List Token) (rest : List ℕ) → ((b : Bool) → Lays b tail (codes "\n" ++ rest)) → (after : Bool) →
     Lays after (assign_item name value ++ tail) (codes "\n" ++ (item_text (Assign name value) ++ rest))
 assign_lays name value w tail rest next after =
@@ -62,9 +60,9 @@ assign_lays name value w tail rest next after =
     let start : List ℕ = codes " " ++ (name ++ first) in
     word_lays (Key (codes "assign")) after (codes "\n") (Identifier name ∷ Sign (codes "=") ∷ valued) start _ w.0 tt line_gap (not_empty 10 [] after)
     (λ b. word_lays (Identifier name) b (codes " ") (Sign (codes "=") ∷ valued) first start w.1.0 tt space_gap (not_empty 32 [] b)
-        (λ d. sign_lays (codes "=") (codes " ") valued second first space_gap refl
-            (laid_same false valued (expr_tokens value ++ (Sign (codes ";") ∷ tail)) second (append_assoc (expr_tokens value) end tail)
-              ((expr_fits value).lays (AllWritable-front (expr_tokens value) end w.1.1.1) false (codes " ") (Sign (codes ";") ∷ tail) ended second space_gap (after_sign (codes " ")) (end_lays tail (codes "\n" ++ rest) next) refl)) refl d) refl)
+    (λ d. sign_lays (codes "=") (codes " ") valued second first space_gap refl
+    (laid_same false valued (expr_tokens value ++ (Sign (codes ";") ∷ tail)) second (append_assoc (expr_tokens value) end tail)
+    ((expr_fits value).lays (AllWritable-front (expr_tokens value) end w.1.1.1) false (codes " ") (Sign (codes ";") ∷ tail) ended second space_gap (after_sign (codes " ")) (end_lays tail (codes "\n" ++ rest) next) refl)) refl d) refl)
     (assign_shape name (expr_text value) rest)
 
 condition_shape : (condition rest : List ℕ) →
@@ -83,12 +81,12 @@ condition_lays (Some condition) w tail rest next b =
     let own : AllWritable (expr_tokens condition) = AllWritable-front (expr_tokens condition) bracket w.1.1 in
     word_lays (Key (codes "if")) b (codes " ") (Sign (codes "(") ∷ ((expr_tokens condition ++ bracket) ++ tail)) first _ w.0 tt space_gap (not_empty 32 [] b)
     (λ d. sign_lays (codes "(") (codes " ") ((expr_tokens condition ++ bracket) ++ tail) second first space_gap (fit.opens own ended)
-        (laid_same false _ (expr_tokens condition ++ (Sign (codes ")") ∷ tail)) second (append_assoc (expr_tokens condition) bracket tail)
-          (fit.lays own false [] (Sign (codes ")") ∷ tail) ended second no_gap (after_sign [])
-            (λ h. sign_lays (codes ")") [] tail (codes " " ++ rest) ended no_gap refl (next false) refl h) refl)) refl d)
+    (laid_same false _ (expr_tokens condition ++ (Sign (codes ")") ∷ tail)) second (append_assoc (expr_tokens condition) bracket tail)
+    (fit.lays own false [] (Sign (codes ")") ∷ tail) ended second no_gap (after_sign [])
+    (λ h. sign_lays (codes ")") [] tail (codes " " ++ rest) ended no_gap refl (next false) refl h) refl)) refl d)
     (condition_shape (expr_text condition) rest)
 
-abbrev next_item : List ℕ → Expr → List Token
+abbrev pub next_item : List ℕ → Expr → List Token
 next_item name value = Identifier name ∷ Sign (codes "<=") ∷ (expr_tokens value ++ Sign (codes ";") ∷ Key (codes "end") ∷ [])
 
 -- what a register takes, up to the end of the item
@@ -104,10 +102,10 @@ next_lays name value w tail rest next b =
     let over : AllWritable end = AllWritable-back (expr_tokens value) end w.1.1 in
     word_lays (Identifier name) b (codes " ") (Sign (codes "<=") ∷ ((expr_tokens value ++ end) ++ tail)) first _ w.0 tt space_gap (not_empty 32 [] b)
     (λ d. sign_lays (codes "<=") (codes " ") ((expr_tokens value ++ end) ++ tail) second first space_gap refl
-        (laid_same false _ (expr_tokens value ++ (Sign (codes ";") ∷ Key (codes "end") ∷ tail)) second (append_assoc (expr_tokens value) end tail)
-          ((expr_fits value).lays (AllWritable-front (expr_tokens value) end w.1.1) false (codes " ") (Sign (codes ";") ∷ Key (codes "end") ∷ tail) ended second space_gap (after_sign (codes " "))
-            (λ h. sign_lays (codes ";") [] (Key (codes "end") ∷ tail) last ended no_gap refl
-                (word_lays (Key (codes "end")) false (codes " ") tail (codes "\n" ++ rest) last over.1.0 tt space_gap (after_sign (codes " ")) next refl) refl h) refl)) refl d)
+    (laid_same false _ (expr_tokens value ++ (Sign (codes ";") ∷ Key (codes "end") ∷ tail)) second (append_assoc (expr_tokens value) end tail)
+    ((expr_fits value).lays (AllWritable-front (expr_tokens value) end w.1.1) false (codes " ") (Sign (codes ";") ∷ Key (codes "end") ∷ tail) ended second space_gap (after_sign (codes " "))
+    (λ h. sign_lays (codes ";") [] (Key (codes "end") ∷ tail) last ended no_gap refl
+    (word_lays (Key (codes "end")) false (codes " ") tail (codes "\n" ++ rest) last over.1.0 tt space_gap (after_sign (codes " ")) next refl) refl h) refl)) refl d)
     refl
 
 abbrev pub always_item : List ℕ → Sized → Option Expr → Expr → List Token
@@ -122,7 +120,7 @@ always_shape : (name first condition value rest : List ℕ) →
     ≡ codes "always @ (posedge clk) begin if (reset) " ++ (name ++ (codes " <= " ++ (first ++ (codes "; else " ++ (condition ++ (name ++ (codes " <= " ++ (value ++ (codes "; end\n" ++ rest)))))))))
 always_shape name first condition value rest = simp append_assoc
 
-always_lays : (name : List ℕ) (first : Sized) (condition : Option Expr) (value : Expr) → AllWritable (always_item name first condition value) →
+pub always_lays : (name : List ℕ) (first : Sized) (condition : Option Expr) (value : Expr) → AllWritable (always_item name first condition value) →
     (tail : List Token) (rest : List ℕ) → ((b : Bool) → Lays b tail (codes "\n" ++ rest)) → (after : Bool) →
     Lays after (always_item name first condition value ++ tail) (codes "\n" ++ (item_text (Always name first condition value) ++ rest))
 always_lays name first condition value w tail rest next after =
@@ -162,8 +160,8 @@ always_lays name first condition value w tail rest next after =
     let k2 : List Token = Sign (codes "@") ∷ k3 in
     let u : AllWritable (Identifier name ∷ Sign (codes "<=") ∷ Based first ∷ Sign (codes ";") ∷ Key (codes "else") ∷ (condition_tokens condition ++ next_item name value)) = w.1.1.1.1.1.1.1.1.1.1.1 in
     let l16 : (b : Bool) → Lays b chosen t16 = λ b. laid_same b chosen (condition_tokens condition ++ (next_item name value ++ tail)) t16 (append_assoc (condition_tokens condition) (next_item name value) tail)
-        (condition_lays condition (AllWritable-front (condition_tokens condition) (next_item name value) inner) (next_item name value ++ tail) taken
-          (next_lays name value (AllWritable-back (condition_tokens condition) (next_item name value) inner) tail rest next) b) in
+    (condition_lays condition (AllWritable-front (condition_tokens condition) (next_item name value) inner) (next_item name value ++ tail) taken
+    (next_lays name value (AllWritable-back (condition_tokens condition) (next_item name value) inner) tail rest next) b) in
     let l15 : (b : Bool) → Lays b k16 t15 = λ b. word_lays (Key (codes "else")) b (codes " ") chosen t16 t15 u.1.1.1.1.0 tt space_gap (not_empty 32 [] b) l16 refl in
     let l14 : (b : Bool) → Lays b k15 t14 = λ b. sign_lays (codes ";") [] k16 t15 t14 no_gap refl (l15 false) refl b in
     let l13 : (b : Bool) → Lays b k14 t13 = λ b. word_lays (Based first) b (codes " ") k15 t14 t13 u.1.1.0 tt space_gap (not_empty 32 [] b) l14 refl in

@@ -1,6 +1,6 @@
 -- The one text of attributes and of declared nets lays out its tokens.
-use Rattle.std.proofs.Common.{◌≡◌, ◌≢◌, ℕ, ◌-◌, ◌<◌, Bool, true, false, List, [], ◌∷◌, ◌++◌, map, flat_map, codes, decimal, refl, sym, ap, subst, ◌∙◌, append_assoc, arith, inl, inr, if◌then◌else◌}
-use Rattle.std.specs.Prelude.{◌==◌, ◌⊎◌}
+use Rattle.std.proofs.Common.{◌≡◌, ℕ, ◌-◌, ◌<◌, Bool, true, false, List, [], ◌∷◌, ◌++◌, map, flat_map, codes, decimal, refl, sym, ap, subst, ◌∙◌, append_assoc, arith, inl, inr, if◌then◌else◌}
+use Rattle.std.specs.Prelude.{◌==◌}
 use Rattle.std.proofs.lemmas.Bool.Decides.{nat_tests}
 use Rattle.vl_ast.specs.declared.modules.Attr.{Attr}
 use Rattle.vl_ast.specs.Grammar.{comma, attr_tokens, attrs_tokens, signed_tokens, IsRange}
@@ -19,8 +19,8 @@ joined_after ts tss text texts fit fits w gap g tail rest next =
     let after : List ℕ = flat_map (λ more. codes ", " ++ more) texts ++ rest in
     laid_same false _ (ts ++ (others ++ tail)) _ (append_assoc ts others tail)
     (fit.lays (AllWritable-front ts others w) false gap (others ++ tail) after _ g (after_sign gap)
-      (more_lays tss texts fits (AllWritable-back ts others w) tail rest next)
-      (ap (λ t. gap ++ t) (append_assoc text (flat_map (λ more. codes ", " ++ more) texts) rest)))
+    (more_lays tss texts fits (AllWritable-back ts others w) tail rest next)
+    (ap (λ t. gap ++ t) (append_assoc text (flat_map (λ more. codes ", " ++ more) texts) rest)))
 
 attr_shape : (name value rest : List ℕ) → (name ++ codes " = " ++ value) ++ rest ≡ name ++ (codes " " ++ (codes "=" ++ (codes " " ++ (value ++ rest))))
 attr_shape name value rest = simp append_assoc
@@ -33,7 +33,7 @@ attr_fits attr = record {
       let middle : List ℕ = codes " " ++ (codes "=" ++ ended) in
       word_lays (Identifier attr.name) after gap (Sign (codes "=") ∷ Number attr.value ∷ tail) middle bytes w.0 tt g apart
       (λ b. sign_lays (codes "=") (codes " ") (Number attr.value ∷ tail) ended middle space_gap refl
-          (word_lays (Number attr.value) false (codes " ") tail rest ended w.1.1.0 tt space_gap (after_sign (codes " ")) next refl) refl b)
+      (word_lays (Number attr.value) false (codes " ") tail rest ended w.1.1.0 tt space_gap (after_sign (codes " ")) next refl) refl b)
       (text ∙ ap (λ t. gap ++ t) (attr_shape attr.name (decimal attr.value) rest));
 }
 
@@ -56,9 +56,9 @@ attrs_lay indent i (attr ∷ attrs) w gap g tail rest next =
     let inside : List ℕ = codes " " ++ (joined (codes ", ") (map attr_text (attr ∷ attrs)) ++ ended) in
     sign_lays (codes "(*") (gap ++ indent) ((list ++ closing) ++ tail) inside _ (gap_append gap indent g i) refl
     (laid_same false _ (list ++ (Sign (codes "*)") ∷ tail)) _ (append_assoc list closing tail)
-      (joined_after (attr_tokens attr) (map attr_tokens attrs) (attr_text attr) (map attr_text attrs) (attr_fits attr) (attrs_fit attrs) (AllWritable-front list closing w.1)
-        (codes " ") space_gap (Sign (codes "*)") ∷ tail) ended
-        (λ b. sign_lays (codes "*)") (codes " ") tail (codes "\n" ++ rest) ended space_gap refl (next (codes "\n") line_gap) refl b)))
+    (joined_after (attr_tokens attr) (map attr_tokens attrs) (attr_text attr) (map attr_text attrs) (attr_fits attr) (attrs_fit attrs) (AllWritable-front list closing w.1)
+    (codes " ") space_gap (Sign (codes "*)") ∷ tail) ended
+    (λ b. sign_lays (codes "*)") (codes " ") tail (codes "\n" ++ rest) ended space_gap refl (next (codes "\n") line_gap) refl b)))
     (attrs_shape gap indent (joined (codes ", ") (map attr_text (attr ∷ attrs))) rest) false
 
 -- the range of a net as the one text has it
@@ -85,10 +85,10 @@ range_lays false width name w tail rest next after =
     let upper : List ℕ = decimal (width - 1) ++ (codes ":" ++ low) in
     sign_lays (codes "[") (codes " ") (Number (width - 1) ∷ Sign (codes ":") ∷ Key (codes "0") ∷ Sign (codes "]") ∷ Identifier name ∷ tail) upper _ space_gap refl
     (word_lays (Number (width - 1)) false [] (Sign (codes ":") ∷ Key (codes "0") ∷ Sign (codes "]") ∷ Identifier name ∷ tail) (codes ":" ++ low) upper w.1.0 tt no_gap (after_sign [])
-      (λ b. sign_lays (codes ":") [] (Key (codes "0") ∷ Sign (codes "]") ∷ Identifier name ∷ tail) low (codes ":" ++ low) no_gap refl
-          (word_lays (Key (codes "0")) false [] (Sign (codes "]") ∷ Identifier name ∷ tail) (codes "]" ++ last) low w.1.1.1.0 tt no_gap (after_sign [])
-            (λ d. sign_lays (codes "]") [] (Identifier name ∷ tail) last (codes "]" ++ last) no_gap refl
-                (word_lays (Identifier name) false (codes " ") tail rest last w.1.1.1.1.1.0 tt space_gap (after_sign (codes " ")) next refl) refl d) refl) refl b) refl)
+    (λ b. sign_lays (codes ":") [] (Key (codes "0") ∷ Sign (codes "]") ∷ Identifier name ∷ tail) low (codes ":" ++ low) no_gap refl
+    (word_lays (Key (codes "0")) false [] (Sign (codes "]") ∷ Identifier name ∷ tail) (codes "]" ++ last) low w.1.1.1.0 tt no_gap (after_sign [])
+    (λ d. sign_lays (codes "]") [] (Identifier name ∷ tail) last (codes "]" ++ last) no_gap refl
+    (word_lays (Identifier name) false (codes " ") tail rest last w.1.1.1.1.1.0 tt space_gap (after_sign (codes " ")) next refl) refl d) refl) refl b) refl)
     (range_shape (decimal (width - 1)) name rest) after
 
 -- the rest of a declaration, after its words

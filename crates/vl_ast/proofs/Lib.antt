@@ -3,6 +3,7 @@ pub mod Laid
 pub mod LaidExpr
 pub mod LaidForms
 pub mod LaidItems
+pub mod LaidModule
 pub mod LaidNets
 mod Values
 pub mod Written

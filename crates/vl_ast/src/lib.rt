@@ -1,16 +1,19 @@
 //! The Verilog subset: modules as data, and what they mean.
 //!
-//! The crate holds types and definitions, and no code. The definitions are in `specs/`, by subject:
-//! `Spelling` (the one written text of a module), `Tokens` and `Grammar` (which bytes spell a module),
-//! `Context` (length and sign of an expression), `Value` (its value), `Nets` (what is declared and
-//! where names stand), `Runs` (the rows of a module), `Conditions` (the six conditions), `Attributes`
-//! and `Driven` (how it is reset and driven) and `Multiplications`.
+//! The crate holds types, definitions, the test of identifiers, and laws as functions that do nothing.
+//! The definitions are in `specs/`, by subject: `Spelling` (the one written text of a module), `Tokens`
+//! and `Grammar` (which bytes spell a module), `Context` (length and sign of an expression), `Value`
+//! (its value), `Nets` (what is declared and where names stand), `Runs` (the rows of a module),
+//! `Conditions` (the six conditions), `Attributes` and `Driven` (how it is reset and driven) and
+//! `Multiplications`.
 #![tactic(auto)]
 
 mod expressions;
 mod identifiers;
+mod laws;
 mod modules;
 
 pub use expressions::{BinOp, Expr, Exprs, ShiftOp, Sized, UnOp};
 pub use identifiers::is_identifier;
+pub use laws::spelling_spells;
 pub use modules::{Attr, Attrs, ModItem, ModItems, Module, Port, Ports};

@@ -1,0 +1,5 @@
+use Rattle.vl_ast.proofs.LaidModule.{spelling_spells}
+use Rattle.vl_ast.proofs.laws.spelling_spells.Goals as goal
+
+pub returns : goal.returns
+returns c = spelling_spells
