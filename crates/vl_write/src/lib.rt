@@ -1,6 +1,7 @@
 //! Writes a module of the Verilog subset as text.
 //!
-//! `write` gives `spelling` of the module, which `vl_ast` defines in `specs/Spelling.antt`.
+//! `write` gives `spelling` of the module, which `vl_ast` defines in `specs/Spelling.antt`; it spells the
+//! module by `Spells` of `specs/Grammar.antt`, where some text does.
 #![tactic(auto)]
 
 mod attributes;

@@ -1,4 +1,5 @@
-ghost use Rattle.std.specs.Prelude.{◌≡◌, IfOk};
+ghost use Rattle.std.specs.Prelude.{◌≡◌, IfOk, List, ℕ};
+ghost use Rattle.vl_ast.specs.Grammar.{Spells};
 ghost use Rattle.vl_ast.specs.Spelling.{spelling};
 
 use crate::attributes::put_attrs;
@@ -7,14 +8,16 @@ use crate::pieces::put;
 use crate::ports::put_ports;
 use fx_io::{OutOfMemory, Text};
 use std::alloc::Global;
-use vl_ast::Module;
+use vl_ast::{Module, spelling_spells};
 
 /// The written text of a module: single spaces between tokens, numbers without leading zeros and in
 /// base ten, each port, item and list of attributes on a line of its own (own). Its time is linear in
-/// the text. The only error is want of memory.
+/// the text. It spells the module, where some text does. The only error is want of memory.
 pub fn write(alloc: Global, module: &Module) -> Result<Text, OutOfMemory>
-    ensures { IfOk result (λ text. text ≡ spelling «module».now) }
+    ensures text { IfOk result (λ text. text ≡ spelling «module».now) }
+    ensures spells { (bytes : List ℕ) → Spells bytes «module».now → IfOk result (λ text. Spells text «module».now) }
 {
+    spelling_spells();
     let mut out = Vec::new(alloc);
     put_attrs(&mut out, b"", module.attrs.as_slice())?;
     put(&mut out, b"module ")?;
