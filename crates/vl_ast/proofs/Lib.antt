@@ -1,3 +1,4 @@
+mod Faults
 mod Header
 pub mod Laid
 pub mod LaidExpr
@@ -5,5 +6,5 @@ pub mod LaidForms
 pub mod LaidItems
 pub mod LaidModule
 pub mod LaidNets
-mod Values
+pub mod Values
 pub mod Written
