@@ -6,5 +6,6 @@ pub mod LaidForms
 pub mod LaidItems
 pub mod LaidModule
 pub mod LaidNets
+pub mod Layers
 pub mod Values
 pub mod Written

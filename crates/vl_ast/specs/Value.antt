@@ -95,6 +95,14 @@ meaning_step nets row layer width signed =
 abbrev pub value_in : (List ℕ → Net) → (List ℕ → ℕ) → ℕ → Bool → Expr → ℕ
 value_in nets row width signed e = (para-Expr (ℕ → Bool → Bits) (meaning_step nets row) e width signed).bits
 
+-- the same with the context's length and sign
+abbrev pub bits_in : (List ℕ → Net) → (List ℕ → ℕ) → ℕ → Bool → Expr → Bits
+bits_in nets row width signed e = record { width = width; signed = signed; bits = value_in nets row width signed e }
+
+-- an operand with its bits in each context
+abbrev pub operand_of : (List ℕ → Net) → (List ℕ → ℕ) → Expr → Operand Bits
+operand_of nets row e = (e, λ width signed. bits_in nets row width signed e)
+
 -- what an assignment gives a left side of this width, which has no say in the sign
 abbrev pub assigned : (List ℕ → Net) → (List ℕ → ℕ) → ℕ → Expr → ℕ
 assigned nets row width e = value_in nets row (max width (own_length nets e)) (is_signed nets e) e % 2 ^ width
