@@ -1,0 +1,11 @@
+mod Layers
+mod LexemeKinds
+mod Written
+mod Expressions
+mod Forms
+mod Modules
+mod Scanned
+mod Safe
+mod Lexed
+mod SafeTokens
+mod Complete

@@ -1,0 +1,24 @@
+ghost use Rattle.std.specs.Prelude.{◌≡◌};
+ghost use Rattle.vl_read.specs.declared.fault.VlSyntax.TheVariants.{OutOfMemory as MemoryFault};
+
+use fx_io::OutOfMemory;
+use thiserror::Error;
+
+/// Why there is no module (own).
+#[derive(Clone, Copy, Debug, PartialEq, Eq, Error)]
+pub enum VlSyntax {
+    /// The bytes are no text of the subset. They stop being the beginning of one at this line, counted from 1.
+    #[error("line {line}: not in the Verilog subset")]
+    Syntax { line: u64 },
+    /// Memory is wanting.
+    #[error("out of memory")]
+    OutOfMemory,
+}
+
+impl From<OutOfMemory> for VlSyntax {
+    ghost from_gives = { λ _ fault. fault ≡ MemoryFault };
+
+    fn from(_refused: OutOfMemory) -> VlSyntax {
+        VlSyntax::OutOfMemory
+    }
+}
