@@ -1,9 +1,8 @@
 -- How a text is laid out token by token, from its end to its start.
 use Rattle.std.proofs.Common.{◌≡◌, ◌≢◌, ℕ, Bool, true, false, ◌&&◌, List, [], ◌∷◌, ◌++◌, codes, refl, sym, ap, subst, arith}
-use Rattle.std.specs.Bool.{⊤}
 use Rattle.std.proofs.lemmas.List.Concat.{flat_map-append}
 use Rattle.std.proofs.lemmas.List.Elements.{All-cons, All-append}
-use Rattle.vl_ast.specs.Tokens.{Token, Sign, is_word, IsWritten, IsLongest, is_longest, Blank, IsFiller, filler_text, IsGap, is_blank, Lays}
+use Rattle.vl_ast.specs.Tokens.{Token, Sign, is_word, IsWritten, IsLongest, is_longest, Blank, IsFiller, filler_text, IsGap, is_blank, Lays, AreWritable}
 
 pub left_true : (a b : Bool) → (a && b) ≡ true → a ≡ true
 left_true true b e = refl
@@ -45,26 +44,18 @@ laid_sign after sign ts gap rest bytes g longest next text =
 pub laid_same : (after : Bool) (ts us : List Token) (bytes : List ℕ) → ts ≡ us → Lays after us bytes → Lays after ts bytes
 laid_same after ts us bytes e l = let P : List Token → Type 0 = λ vs. Lays after vs bytes in subst P (sym e) l
 
--- tokens that can be written
-abbrev pub Writable : Token → Type 0
-Writable t = (bytes : List ℕ) × IsWritten t bytes
-
-abbrev pub AllWritable : List Token → Type 0
-AllWritable [] = ⊤
-AllWritable (t ∷ ts) = Writable t × AllWritable ts
-
-pub AllWritable-laid : (after : Bool) (ts : List Token) (bytes : List ℕ) → Lays after ts bytes → AllWritable ts
+pub AllWritable-laid : (after : Bool) (ts : List Token) (bytes : List ℕ) → Lays after ts bytes → AreWritable ts
 AllWritable-laid after [] bytes l = tt
 AllWritable-laid after (t ∷ ts) bytes l = ((l.1, l.5), AllWritable-laid (is_word t) ts l.2 l.7)
 
-pub AllWritable-front : (ts us : List Token) → AllWritable (ts ++ us) → AllWritable ts
+pub AllWritable-front : (ts us : List Token) → AreWritable (ts ++ us) → AreWritable ts
 AllWritable-front [] us w = tt
 AllWritable-front (t ∷ ts) us w = (w.0, AllWritable-front ts us w.1)
 
-pub AllWritable-back : (ts us : List Token) → AllWritable (ts ++ us) → AllWritable us
+pub AllWritable-back : (ts us : List Token) → AreWritable (ts ++ us) → AreWritable us
 AllWritable-back [] us w = w
 AllWritable-back (t ∷ ts) us w = AllWritable-back ts us w.1
 
-pub AllWritable-append : (ts us : List Token) → AllWritable ts → AllWritable us → AllWritable (ts ++ us)
+pub AllWritable-append : (ts us : List Token) → AreWritable ts → AreWritable us → AreWritable (ts ++ us)
 AllWritable-append [] us w v = v
 AllWritable-append (t ∷ ts) us w v = (w.0, AllWritable-append ts us w.1 v)

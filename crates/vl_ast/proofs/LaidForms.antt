@@ -6,15 +6,15 @@ use Rattle.std.specs.Str.Parse.{IsNumeral}
 use Rattle.vl_ast.specs.declared.expressions.Sized.{Sized}
 use Rattle.vl_ast.specs.Grammar.{comma}
 use Rattle.vl_ast.specs.Spelling.{joined, sized_text}
-use Rattle.vl_ast.specs.Tokens.{Token, Key, Sign, Identifier, Number, Based, IsLongest, is_longest, IsGap, Lays}
-use Rattle.vl_ast.proofs.Laid.{laid, laid_sign, laid_same, no_gap, space_gap, Writable, AllWritable, AllWritable-front, AllWritable-back}
+use Rattle.vl_ast.specs.Tokens.{Token, Key, Sign, Identifier, Number, Based, IsLongest, is_longest, IsGap, Lays, IsWritable, AreWritable}
+use Rattle.vl_ast.proofs.Laid.{laid, laid_sign, laid_same, no_gap, space_gap, AllWritable-front, AllWritable-back}
 use Rattle.vl_ast.proofs.Written.{token_text, IsWritten-token_text, identifier_opens, numeral_opens, IsBased-sized_text}
 
 -- these tokens, before others that may follow a word or not, are laid out by this text after any gap;
 -- and the text may follow a bracket
 pub record Fits (ts : List Token) (text : List ℕ) : Type 0 where
-  pub opens : AllWritable ts → (rest : List ℕ) → is_longest (codes "(") (text ++ rest) ≡ true
-  pub lays : AllWritable ts → (after : Bool) (gap : List ℕ) (tail : List Token) (rest bytes : List ℕ) → IsGap gap → (after ≡ true → gap ≢ []) → ((b : Bool) → Lays b tail rest) → bytes ≡ gap ++ (text ++ rest) → Lays after (ts ++ tail) bytes
+  pub opens : AreWritable ts → (rest : List ℕ) → is_longest (codes "(") (text ++ rest) ≡ true
+  pub lays : AreWritable ts → (after : Bool) (gap : List ℕ) (tail : List Token) (rest bytes : List ℕ) → IsGap gap → (after ≡ true → gap ≢ []) → ((b : Bool) → Lays b tail rest) → bytes ≡ gap ++ (text ++ rest) → Lays after (ts ++ tail) bytes
 
 -- after a sign any gap is right
 pub after_sign : (gap : List ℕ) → false ≡ true → gap ≢ []
@@ -29,7 +29,7 @@ pub sign_lays : (sign gap : List ℕ) (ts : List Token) (rest bytes : List ℕ) 
 sign_lays sign gap ts rest bytes g longest next text b = laid_sign b sign ts gap rest bytes g longest next (text ∙ sym (append_assoc gap sign rest))
 
 -- one word, and what follows it
-pub word_lays : (t : Token) (after : Bool) (gap : List ℕ) (ts : List Token) (rest bytes : List ℕ) → Writable t → IsLongest t rest → IsGap gap → (after ≡ true → gap ≢ []) →
+pub word_lays : (t : Token) (after : Bool) (gap : List ℕ) (ts : List Token) (rest bytes : List ℕ) → IsWritable t → IsLongest t rest → IsGap gap → (after ≡ true → gap ≢ []) →
     ((b : Bool) → Lays b ts rest) → bytes ≡ gap ++ (token_text t ++ rest) → Lays after (t ∷ ts) bytes
 word_lays t after gap ts rest bytes w longest g apart next text =
     laid after t ts gap (token_text t) rest bytes g apart (IsWritten-token_text t w) longest (next _) (text ∙ sym (append_assoc gap (token_text t) rest))
@@ -62,7 +62,7 @@ close_lays : (tail : List Token) (rest : List ℕ) → ((b : Bool) → Lays b ta
 close_lays tail rest next b = sign_lays (codes ")") [] tail rest (codes ")" ++ rest) no_gap refl (next false) refl b
 
 -- a part and the closing bracket
-closed : (ts : List Token) (text gap : List ℕ) (tail : List Token) (rest bytes : List ℕ) → Fits ts text → AllWritable ts → IsGap gap → ((b : Bool) → Lays b tail rest) →
+closed : (ts : List Token) (text gap : List ℕ) (tail : List Token) (rest bytes : List ℕ) → Fits ts text → AreWritable ts → IsGap gap → ((b : Bool) → Lays b tail rest) →
     bytes ≡ gap ++ (text ++ (codes ")" ++ rest)) → Lays false ((ts ++ close) ++ tail) bytes
 closed ts text gap tail rest bytes f w g next is =
     laid_same false _ (ts ++ (Sign (codes ")") ∷ tail)) bytes (append_assoc ts close tail)
@@ -78,8 +78,8 @@ pub binary_fits : (op : List ℕ) (ts us : List Token) (left right : List ℕ) �
 binary_fits op ts us left right longest f h = record {
   opens = λ w rest. refl;
   lays = λ w after gap tail rest bytes g apart next text.
-      let first : AllWritable ts = AllWritable-front ts _ w.1 in
-      let second : AllWritable us = AllWritable-front us close (AllWritable-back ts (Sign op ∷ (us ++ close)) w.1).1 in
+      let first : AreWritable ts = AllWritable-front ts _ w.1 in
+      let second : AreWritable us = AllWritable-front us close (AllWritable-back ts (Sign op ∷ (us ++ close)) w.1).1 in
       let ended : List ℕ = codes " " ++ (right ++ (codes ")" ++ rest)) in
       let middle : List ℕ = codes " " ++ (op ++ ended) in
       sign_lays (codes "(") gap _ (left ++ middle) bytes g (f.opens first middle)
@@ -100,7 +100,7 @@ pub unary_fits : (op : List ℕ) (ts : List Token) (part : List ℕ) → ((rest 
 unary_fits op ts part bracket longest f = record {
   opens = λ w rest. refl;
   lays = λ w after gap tail rest bytes g apart next text.
-      let first : AllWritable ts = AllWritable-front ts close w.1.1 in
+      let first : AreWritable ts = AllWritable-front ts close w.1.1 in
       let ended : List ℕ = codes " " ++ (part ++ (codes ")" ++ rest)) in
       sign_lays (codes "(") gap (Sign op ∷ ((ts ++ close) ++ tail)) (op ++ ended) bytes g (bracket _)
       (sign_lays op [] _ ended (op ++ ended) no_gap (longest _) (closed ts part (codes " ") tail rest ended f first space_gap next refl) refl false)
@@ -117,8 +117,8 @@ pub shift_fits : (op : List ℕ) (ts : List Token) (part : List ℕ) (amount : S
 shift_fits op ts part amount longest f = record {
   opens = λ w rest. refl;
   lays = λ w after gap tail rest bytes g apart next text.
-      let first : AllWritable ts = AllWritable-front ts _ w.1 in
-      let number : Writable (Based amount) = (AllWritable-back ts (Sign op ∷ Based amount ∷ close) w.1).1.0 in
+      let first : AreWritable ts = AllWritable-front ts _ w.1 in
+      let number : IsWritable (Based amount) = (AllWritable-back ts (Sign op ∷ Based amount ∷ close) w.1).1.0 in
       let ended : List ℕ = codes " " ++ (sized_text amount ++ (codes ")" ++ rest)) in
       let middle : List ℕ = codes " " ++ (op ++ ended) in
       sign_lays (codes "(") gap _ (part ++ middle) bytes g (f.opens first middle)
@@ -139,10 +139,10 @@ pub choose_fits : (ts us vs : List Token) (test chosen other : List ℕ) → Fit
 choose_fits ts us vs test chosen other f h k = record {
   opens = λ w rest. refl;
   lays = λ w after gap tail rest bytes g apart next text.
-      let first : AllWritable ts = AllWritable-front ts _ w.1 in
-      let more : AllWritable (us ++ Sign (codes ":") ∷ (vs ++ close)) = (AllWritable-back ts (Sign (codes "?") ∷ (us ++ Sign (codes ":") ∷ (vs ++ close))) w.1).1 in
-      let second : AllWritable us = AllWritable-front us _ more in
-      let third : AllWritable vs = AllWritable-front vs close (AllWritable-back us (Sign (codes ":") ∷ (vs ++ close)) more).1 in
+      let first : AreWritable ts = AllWritable-front ts _ w.1 in
+      let more : AreWritable (us ++ Sign (codes ":") ∷ (vs ++ close)) = (AllWritable-back ts (Sign (codes "?") ∷ (us ++ Sign (codes ":") ∷ (vs ++ close))) w.1).1 in
+      let second : AreWritable us = AllWritable-front us _ more in
+      let third : AreWritable vs = AllWritable-front vs close (AllWritable-back us (Sign (codes ":") ∷ (vs ++ close)) more).1 in
       let ended : List ℕ = codes " " ++ (other ++ (codes ")" ++ rest)) in
       let colon : List ℕ = codes " " ++ (codes ":" ++ ended) in
       let mark : List ℕ = codes " " ++ (codes "?" ++ (codes " " ++ (chosen ++ colon))) in
@@ -165,7 +165,7 @@ pub cast_fits : (word : List ℕ) (ts : List Token) (part : List ℕ) → ((rest
 cast_fits word ts part bracket f = record {
   opens = λ w rest. let P : List ℕ → Type 0 = λ bytes. is_longest (codes "(") bytes ≡ true in subst P (sym (cast_shape word part rest)) (bracket _);
   lays = λ w after gap tail rest bytes g apart next text.
-      let first : AllWritable ts = AllWritable-front ts close w.1.1 in
+      let first : AreWritable ts = AllWritable-front ts close w.1.1 in
       let ended : List ℕ = part ++ (codes ")" ++ rest) in
       let middle : List ℕ = codes " " ++ (codes "(" ++ ended) in
       word_lays (Key word) after gap (Sign (codes "(") ∷ ((ts ++ close) ++ tail)) middle bytes w.0 tt g apart
@@ -182,7 +182,7 @@ pub repeat_fits : (count : ℕ) (ts : List Token) (part : List ℕ) → Fits ts 
 repeat_fits count ts part f = record {
   opens = λ w rest. refl;
   lays = λ w after gap tail rest bytes g apart next text.
-      let first : AllWritable ts = AllWritable-front ts _ w.1.1.1 in
+      let first : AreWritable ts = AllWritable-front ts _ w.1.1.1 in
       let outer : List ℕ = codes "}" ++ rest in
       let ended : List ℕ = part ++ (codes "}" ++ outer) in
       let middle : List ℕ = codes " " ++ (codes "{" ++ ended) in
@@ -243,7 +243,7 @@ FitsEach (ts ∷ tss) [] = ⊥
 FitsEach (ts ∷ tss) (text ∷ texts) = Fits ts text × FitsEach tss texts
 
 -- the parts after the first, each after a comma
-pub more_lays : (tss : List (List Token)) (texts : List (List ℕ)) → FitsEach tss texts → AllWritable (flat_map (λ ts. comma ++ ts) tss) →
+pub more_lays : (tss : List (List Token)) (texts : List (List ℕ)) → FitsEach tss texts → AreWritable (flat_map (λ ts. comma ++ ts) tss) →
     (tail : List Token) (rest : List ℕ) → ((b : Bool) → Lays b tail rest) →
     (b : Bool) → Lays b (flat_map (λ ts. comma ++ ts) tss ++ tail) (flat_map (λ text. codes ", " ++ text) texts ++ rest)
 more_lays [] [] fits w tail rest next b = next b
@@ -262,7 +262,7 @@ concat_shape : (joined' rest : List ℕ) → (codes "{" ++ joined' ++ codes "}")
 concat_shape joined' rest = simp append_assoc
 
 -- the parts with commas between, right after an opening bracket
-pub joined_lays : (tss : List (List Token)) (texts : List (List ℕ)) → FitsEach tss texts → AllWritable (joined comma tss) →
+pub joined_lays : (tss : List (List Token)) (texts : List (List ℕ)) → FitsEach tss texts → AreWritable (joined comma tss) →
     (tail : List Token) (rest : List ℕ) → ((b : Bool) → Lays b tail rest) → Lays false (joined comma tss ++ tail) (joined (codes ", ") texts ++ rest)
 joined_lays [] [] fits w tail rest next = next false
 joined_lays [] (text ∷ texts) fits w tail rest next = absurd fits

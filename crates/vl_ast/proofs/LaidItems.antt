@@ -5,8 +5,8 @@ use Rattle.vl_ast.specs.declared.expressions.Expr.{Expr}
 use Rattle.vl_ast.specs.declared.modules.ModItem.TheVariants.{Assign, Always}
 use Rattle.vl_ast.specs.Grammar.{signed_tokens, expr_tokens, condition_tokens, declaration_tokens}
 use Rattle.vl_ast.specs.Spelling.{signed_text, range_text, expr_text, condition_text, sized_text, item_text}
-use Rattle.vl_ast.specs.Tokens.{Token, Key, Sign, Identifier, Based, IsGap, Lays}
-use Rattle.vl_ast.proofs.Laid.{laid_same, no_gap, blank_gap, line_gap, space_gap, AllWritable, AllWritable-front, AllWritable-back}
+use Rattle.vl_ast.specs.Tokens.{Token, Key, Sign, Identifier, Based, IsGap, Lays, AreWritable}
+use Rattle.vl_ast.proofs.Laid.{laid_same, no_gap, blank_gap, line_gap, space_gap, AllWritable-front, AllWritable-back}
 use Rattle.vl_ast.proofs.LaidForms.{Fits, after_sign, not_empty, sign_lays, word_lays}
 use Rattle.vl_ast.proofs.LaidExpr.{expr_fits}
 use Rattle.vl_ast.proofs.LaidNets.{range_tokens, net_lays}
@@ -27,7 +27,7 @@ net_shape : (word signed range name rest : List ℕ) →
     ≡ codes "\n" ++ (word ++ (codes " " ++ ((signed ++ range ++ name) ++ (codes ";" ++ (codes "\n" ++ rest)))))
 net_shape word signed range name rest = simp append_assoc
 
-pub net_item_lays : (word : List ℕ) (signed : Bool) (width : ℕ) (name : List ℕ) → AllWritable (net_item word signed width name) →
+pub net_item_lays : (word : List ℕ) (signed : Bool) (width : ℕ) (name : List ℕ) → AreWritable (net_item word signed width name) →
     (tail : List Token) (rest : List ℕ) → ((b : Bool) → Lays b tail (codes "\n" ++ rest)) → (after : Bool) →
     Lays after (net_item word signed width name ++ tail) (codes "\n" ++ ((word ++ codes " " ++ signed_text signed ++ range_text width ++ name ++ codes ";\n") ++ rest))
 net_item_lays word signed width name w tail rest next after =
@@ -48,7 +48,7 @@ assign_shape : (name value rest : List ℕ) →
     ≡ codes "\n" ++ (codes "assign" ++ (codes " " ++ (name ++ (codes " " ++ (codes "=" ++ (codes " " ++ (value ++ (codes ";" ++ (codes "\n" ++ rest)))))))))
 assign_shape name value rest = simp append_assoc
 
-pub assign_lays : (name : List ℕ) (value : Expr) → AllWritable (assign_item name value) →
+pub assign_lays : (name : List ℕ) (value : Expr) → AreWritable (assign_item name value) →
     (tail : List Token) (rest : List ℕ) → ((b : Bool) → Lays b tail (codes "\n" ++ rest)) → (after : Bool) →
     Lays after (assign_item name value ++ tail) (codes "\n" ++ (item_text (Assign name value) ++ rest))
 assign_lays name value w tail rest next after =
@@ -69,7 +69,7 @@ condition_shape : (condition rest : List ℕ) →
     codes " " ++ ((codes "if (" ++ condition ++ codes ") ") ++ rest) ≡ codes " " ++ (codes "if" ++ (codes " " ++ (codes "(" ++ (condition ++ (codes ")" ++ (codes " " ++ rest))))))
 condition_shape condition rest = simp append_assoc
 
-condition_lays : (condition : Option Expr) → AllWritable (condition_tokens condition) → (tail : List Token) (rest : List ℕ) → ((b : Bool) → Lays b tail (codes " " ++ rest)) →
+condition_lays : (condition : Option Expr) → AreWritable (condition_tokens condition) → (tail : List Token) (rest : List ℕ) → ((b : Bool) → Lays b tail (codes " " ++ rest)) →
     (b : Bool) → Lays b (condition_tokens condition ++ tail) (codes " " ++ (condition_text condition ++ rest))
 condition_lays None w tail rest next b = next b
 condition_lays (Some condition) w tail rest next b =
@@ -78,7 +78,7 @@ condition_lays (Some condition) w tail rest next b =
     let second : List ℕ = expr_text condition ++ ended in
     let first : List ℕ = codes " " ++ (codes "(" ++ second) in
     let fit : Fits (expr_tokens condition) (expr_text condition) = expr_fits condition in
-    let own : AllWritable (expr_tokens condition) = AllWritable-front (expr_tokens condition) bracket w.1.1 in
+    let own : AreWritable (expr_tokens condition) = AllWritable-front (expr_tokens condition) bracket w.1.1 in
     word_lays (Key (codes "if")) b (codes " ") (Sign (codes "(") ∷ ((expr_tokens condition ++ bracket) ++ tail)) first _ w.0 tt space_gap (not_empty 32 [] b)
     (λ d. sign_lays (codes "(") (codes " ") ((expr_tokens condition ++ bracket) ++ tail) second first space_gap (fit.opens own ended)
     (laid_same false _ (expr_tokens condition ++ (Sign (codes ")") ∷ tail)) second (append_assoc (expr_tokens condition) bracket tail)
@@ -90,7 +90,7 @@ abbrev pub next_item : List ℕ → Expr → List Token
 next_item name value = Identifier name ∷ Sign (codes "<=") ∷ (expr_tokens value ++ Sign (codes ";") ∷ Key (codes "end") ∷ [])
 
 -- what a register takes, up to the end of the item
-next_lays : (name : List ℕ) (value : Expr) → AllWritable (next_item name value) → (tail : List Token) (rest : List ℕ) → ((b : Bool) → Lays b tail (codes "\n" ++ rest)) →
+next_lays : (name : List ℕ) (value : Expr) → AreWritable (next_item name value) → (tail : List Token) (rest : List ℕ) → ((b : Bool) → Lays b tail (codes "\n" ++ rest)) →
     (b : Bool) → Lays b (next_item name value ++ tail)
     (codes " " ++ (name ++ (codes " " ++ (codes "<=" ++ (codes " " ++ (expr_text value ++ (codes ";" ++ (codes " " ++ (codes "end" ++ (codes "\n" ++ rest))))))))))
 next_lays name value w tail rest next b =
@@ -99,7 +99,7 @@ next_lays name value w tail rest next b =
     let ended : List ℕ = codes ";" ++ last in
     let second : List ℕ = codes " " ++ (expr_text value ++ ended) in
     let first : List ℕ = codes " " ++ (codes "<=" ++ second) in
-    let over : AllWritable end = AllWritable-back (expr_tokens value) end w.1.1 in
+    let over : AreWritable end = AllWritable-back (expr_tokens value) end w.1.1 in
     word_lays (Identifier name) b (codes " ") (Sign (codes "<=") ∷ ((expr_tokens value ++ end) ++ tail)) first _ w.0 tt space_gap (not_empty 32 [] b)
     (λ d. sign_lays (codes "<=") (codes " ") ((expr_tokens value ++ end) ++ tail) second first space_gap refl
     (laid_same false _ (expr_tokens value ++ (Sign (codes ";") ∷ Key (codes "end") ∷ tail)) second (append_assoc (expr_tokens value) end tail)
@@ -120,12 +120,12 @@ always_shape : (name first condition value rest : List ℕ) →
     ≡ codes "always @ (posedge clk) begin if (reset) " ++ (name ++ (codes " <= " ++ (first ++ (codes "; else " ++ (condition ++ (name ++ (codes " <= " ++ (value ++ (codes "; end\n" ++ rest)))))))))
 always_shape name first condition value rest = simp append_assoc
 
-pub always_lays : (name : List ℕ) (first : Sized) (condition : Option Expr) (value : Expr) → AllWritable (always_item name first condition value) →
+pub always_lays : (name : List ℕ) (first : Sized) (condition : Option Expr) (value : Expr) → AreWritable (always_item name first condition value) →
     (tail : List Token) (rest : List ℕ) → ((b : Bool) → Lays b tail (codes "\n" ++ rest)) → (after : Bool) →
     Lays after (always_item name first condition value ++ tail) (codes "\n" ++ (item_text (Always name first condition value) ++ rest))
 always_lays name first condition value w tail rest next after =
     let taken : List ℕ = name ++ (codes " <= " ++ (expr_text value ++ (codes "; end\n" ++ rest))) in
-    let inner : AllWritable (condition_tokens condition ++ next_item name value) = w.1.1.1.1.1.1.1.1.1.1.1.1.1.1.1.1 in
+    let inner : AreWritable (condition_tokens condition ++ next_item name value) = w.1.1.1.1.1.1.1.1.1.1.1.1.1.1.1.1 in
     let chosen : List Token = (condition_tokens condition ++ next_item name value) ++ tail in
     let t16 : List ℕ = codes " " ++ (condition_text condition ++ taken) in
     let t15 : List ℕ = codes " " ++ (codes "else" ++ t16) in
@@ -158,7 +158,7 @@ always_lays name first condition value w tail rest next after =
     let k4 : List Token = Key (codes "posedge") ∷ k5 in
     let k3 : List Token = Sign (codes "(") ∷ k4 in
     let k2 : List Token = Sign (codes "@") ∷ k3 in
-    let u : AllWritable (Identifier name ∷ Sign (codes "<=") ∷ Based first ∷ Sign (codes ";") ∷ Key (codes "else") ∷ (condition_tokens condition ++ next_item name value)) = w.1.1.1.1.1.1.1.1.1.1.1 in
+    let u : AreWritable (Identifier name ∷ Sign (codes "<=") ∷ Based first ∷ Sign (codes ";") ∷ Key (codes "else") ∷ (condition_tokens condition ++ next_item name value)) = w.1.1.1.1.1.1.1.1.1.1.1 in
     let l16 : (b : Bool) → Lays b chosen t16 = λ b. laid_same b chosen (condition_tokens condition ++ (next_item name value ++ tail)) t16 (append_assoc (condition_tokens condition) (next_item name value) tail)
     (condition_lays condition (AllWritable-front (condition_tokens condition) (next_item name value) inner) (next_item name value ++ tail) taken
     (next_lays name value (AllWritable-back (condition_tokens condition) (next_item name value) inner) tail rest next) b) in

@@ -5,10 +5,10 @@ use Rattle.vl_ast.specs.declared.modules.Port.{Port}
 use Rattle.vl_ast.specs.declared.modules.ModItem.{ModItem}
 use Rattle.vl_ast.specs.declared.modules.ModItem.TheVariants.{Wire, Reg, Assign, Always}
 use Rattle.vl_ast.specs.declared.modules.Module.{Module}
-use Rattle.vl_ast.specs.Grammar.{comma, attrs_tokens, signed_tokens, declaration_tokens, IsPortText, IsItemText, Spells}
+use Rattle.vl_ast.specs.Grammar.{comma, attrs_tokens, signed_tokens, declaration_tokens, IsPortText, IsItemText, IsModuleText, Spells}
 use Rattle.vl_ast.specs.Spelling.{joined, attrs_text, signed_text, range_text, item_text, port_text, spelling}
-use Rattle.vl_ast.specs.Tokens.{Token, Key, Sign, Identifier, IsGap, Lays}
-use Rattle.vl_ast.proofs.Laid.{laid_same, no_gap, line_gap, space_gap, gap_append, AllWritable, AllWritable-laid, AllWritable-front, AllWritable-back, AllWritable-append}
+use Rattle.vl_ast.specs.Tokens.{Token, Key, Sign, Identifier, IsGap, Lays, AreWritable}
+use Rattle.vl_ast.proofs.Laid.{laid_same, no_gap, line_gap, space_gap, gap_append, AllWritable-laid, AllWritable-front, AllWritable-back, AllWritable-append}
 use Rattle.vl_ast.proofs.LaidForms.{after_sign, not_empty, sign_lays, word_lays}
 use Rattle.vl_ast.proofs.LaidItems.{indent_gap, net_item, net_item_lays, assign_item, assign_lays, always_item, always_lays}
 use Rattle.vl_ast.proofs.LaidNets.{attrs_lay, range_tokens, range_kept, net_lays}
@@ -29,25 +29,25 @@ port_tokens port = attrs_tokens port.attrs ++ declaration_tokens (port_words por
 
 -- these can be written where those of some text can
 
-net_kept : (words end : List Token) (signed : Bool) (width : ℕ) (name : List ℕ) (range : List Token) → AllWritable (declaration_tokens words signed range name ++ end) → AllWritable (range_tokens width) →
-    AllWritable (declaration_tokens words signed (range_tokens width) name ++ end)
+net_kept : (words end : List Token) (signed : Bool) (width : ℕ) (name : List ℕ) (range : List Token) → AreWritable (declaration_tokens words signed range name ++ end) → AreWritable (range_tokens width) →
+    AreWritable (declaration_tokens words signed (range_tokens width) name ++ end)
 net_kept words end signed width name range w kept =
-    let body : AllWritable (declaration_tokens words signed range name) = AllWritable-front _ end w in
-    let more : AllWritable (signed_tokens signed ++ (range ++ Identifier name ∷ [])) = AllWritable-back words _ body in
-    let last : AllWritable (Identifier name ∷ []) = AllWritable-back range _ (AllWritable-back (signed_tokens signed) _ more) in
+    let body : AreWritable (declaration_tokens words signed range name) = AllWritable-front _ end w in
+    let more : AreWritable (signed_tokens signed ++ (range ++ Identifier name ∷ [])) = AllWritable-back words _ body in
+    let last : AreWritable (Identifier name ∷ []) = AllWritable-back range _ (AllWritable-back (signed_tokens signed) _ more) in
     AllWritable-append _ end
     (AllWritable-append words _ (AllWritable-front words _ body)
     (AllWritable-append (signed_tokens signed) _ (AllWritable-front (signed_tokens signed) _ more) (AllWritable-append (range_tokens width) _ kept last)))
     (AllWritable-back (declaration_tokens words signed range name) end w)
 
-net_range : (words end : List Token) (signed : Bool) (name : List ℕ) (range : List Token) → AllWritable (declaration_tokens words signed range name ++ end) → AllWritable range
+net_range : (words end : List Token) (signed : Bool) (name : List ℕ) (range : List Token) → AreWritable (declaration_tokens words signed range name ++ end) → AreWritable range
 net_range words end signed name range w =
     AllWritable-front range _ (AllWritable-back (signed_tokens signed) _ (AllWritable-back words _ (AllWritable-front (declaration_tokens words signed range name) end w)))
 
-written_as : (ts us : List Token) → ts ≡ us → AllWritable ts → AllWritable us
-written_as ts us e w = let P : List Token → Type 0 = λ vs. AllWritable vs in subst P e w
+written_as : (ts us : List Token) → ts ≡ us → AreWritable ts → AreWritable us
+written_as ts us e w = let P : List Token → Type 0 = λ vs. AreWritable vs in subst P e w
 
-item_kept : (item : ModItem) (ts : List Token) → IsItemText item ts → AllWritable ts → IsItemText item (item_tokens item) × AllWritable (item_tokens item)
+item_kept : (item : ModItem) (ts : List Token) → IsItemText item ts → AreWritable ts → IsItemText item (item_tokens item) × AreWritable (item_tokens item)
 item_kept (Wire signed width name) ts is w =
     let v = written_as ts _ is.2 w in
     let kept = range_kept width is.0 is.1 (net_range (Key (codes "wire") ∷ []) (Sign (codes ";") ∷ []) signed name is.0 v) in
@@ -63,7 +63,7 @@ append_nil : (ts : List Token) → ts ++ [] ≡ ts
 append_nil [] = refl
 append_nil (t ∷ ts) = ap (λ us. t ∷ us) (append_nil ts)
 
-port_kept : (port : Port) (ts : List Token) → IsPortText port ts → AllWritable ts → IsPortText port (port_tokens port) × AllWritable (port_tokens port)
+port_kept : (port : Port) (ts : List Token) → IsPortText port ts → AreWritable ts → IsPortText port (port_tokens port) × AreWritable (port_tokens port)
 port_kept port ts is w =
     let words = port_words port.input in
     let v = written_as ts _ is.2 w in
@@ -74,8 +74,8 @@ port_kept port ts is w =
           (written_as _ _ (append_nil (declaration_tokens words port.signed (range_tokens port.width) port.name)) (net_kept words [] port.signed port.width port.name is.0 body kept.1)),
     )
 
-items_kept : (items : List ModItem) (tss : List (List Token)) → AllZip IsItemText items tss → AllWritable (flat_map (λ ts. ts) tss) →
-    AllZip IsItemText items (map item_tokens items) × AllWritable (flat_map (λ ts. ts) (map item_tokens items))
+items_kept : (items : List ModItem) (tss : List (List Token)) → AllZip IsItemText items tss → AreWritable (flat_map (λ ts. ts) tss) →
+    AllZip IsItemText items (map item_tokens items) × AreWritable (flat_map (λ ts. ts) (map item_tokens items))
 items_kept [] [] each w = (tt, tt)
 items_kept [] (ts ∷ tss) each w = absurd each
 items_kept (item ∷ items) [] each w = absurd each
@@ -84,8 +84,8 @@ items_kept (item ∷ items) (ts ∷ tss) each w =
     let more = items_kept items tss each.1 (AllWritable-back ts _ w) in
     ((here.0, more.0), AllWritable-append (item_tokens item) _ here.1 more.1)
 
-ports_kept : (ports : List Port) (tss : List (List Token)) → AllZip IsPortText ports tss → AllWritable (flat_map (λ ts. comma ++ ts) tss) →
-    AllZip IsPortText ports (map port_tokens ports) × AllWritable (flat_map (λ ts. comma ++ ts) (map port_tokens ports))
+ports_kept : (ports : List Port) (tss : List (List Token)) → AllZip IsPortText ports tss → AreWritable (flat_map (λ ts. comma ++ ts) tss) →
+    AllZip IsPortText ports (map port_tokens ports) × AreWritable (flat_map (λ ts. comma ++ ts) (map port_tokens ports))
 ports_kept [] [] each w = (tt, tt)
 ports_kept [] (ts ∷ tss) each w = absurd each
 ports_kept (port ∷ ports) [] each w = absurd each
@@ -94,8 +94,8 @@ ports_kept (port ∷ ports) (ts ∷ tss) each w =
     let more = ports_kept ports tss each.1 (AllWritable-back ts _ w.1) in
     ((here.0, more.0), (w.0, AllWritable-append (port_tokens port) _ here.1 more.1))
 
-list_kept : (ports : List Port) (tss : List (List Token)) → AllZip IsPortText ports tss → AllWritable (joined comma tss) →
-    AllZip IsPortText ports (map port_tokens ports) × AllWritable (joined comma (map port_tokens ports))
+list_kept : (ports : List Port) (tss : List (List Token)) → AllZip IsPortText ports tss → AreWritable (joined comma tss) →
+    AllZip IsPortText ports (map port_tokens ports) × AreWritable (joined comma (map port_tokens ports))
 list_kept [] [] each w = (tt, tt)
 list_kept [] (ts ∷ tss) each w = absurd each
 list_kept (port ∷ ports) [] each w = absurd each
@@ -106,14 +106,14 @@ list_kept (port ∷ ports) (ts ∷ tss) each w =
 
 -- the layout
 
-item_lays : (item : ModItem) → AllWritable (item_tokens item) → (tail : List Token) (rest : List ℕ) → ((b : Bool) → Lays b tail (codes "\n" ++ rest)) →
+item_lays : (item : ModItem) → AreWritable (item_tokens item) → (tail : List Token) (rest : List ℕ) → ((b : Bool) → Lays b tail (codes "\n" ++ rest)) →
     (after : Bool) → Lays after (item_tokens item ++ tail) (codes "\n" ++ (item_text item ++ rest))
 item_lays (Wire signed width name) w = net_item_lays (codes "wire") signed width name w
 item_lays (Reg signed width name) w = net_item_lays (codes "reg") signed width name w
 item_lays (Assign name value) w = assign_lays name value w
 item_lays (Always name first condition value) w = always_lays name first condition value w
 
-items_lay : (items : List ModItem) → AllWritable (flat_map (λ ts. ts) (map item_tokens items)) → (tail : List Token) (rest : List ℕ) → ((b : Bool) → Lays b tail (codes "\n" ++ rest)) →
+items_lay : (items : List ModItem) → AreWritable (flat_map (λ ts. ts) (map item_tokens items)) → (tail : List Token) (rest : List ℕ) → ((b : Bool) → Lays b tail (codes "\n" ++ rest)) →
     (b : Bool) → Lays b (flat_map (λ ts. ts) (map item_tokens items) ++ tail) (codes "\n" ++ (flat_map item_text items ++ rest))
 items_lay [] w tail rest next b = next b
 items_lay (item ∷ items) w tail rest next b =
@@ -130,7 +130,7 @@ words_shape : (gap signed range name rest : List ℕ) (direction : List ℕ) →
 words_shape gap signed range name rest direction = simp append_assoc
 
 -- a port's declaration after a gap and the indent
-words_lay : (input signed : Bool) (width : ℕ) (name : List ℕ) → AllWritable (declaration_tokens (port_words input) signed (range_tokens width) name) →
+words_lay : (input signed : Bool) (width : ℕ) (name : List ℕ) → AreWritable (declaration_tokens (port_words input) signed (range_tokens width) name) →
     (tail : List Token) (rest : List ℕ) → ((b : Bool) → Lays b tail rest) → (gap : List ℕ) → IsGap gap →
     Lays false (declaration_tokens (port_words input) signed (range_tokens width) name ++ tail)
     (gap ++ (((if input then codes "  input wire " else codes "  output wire ") ++ signed_text signed ++ range_text width ++ name) ++ rest))
@@ -150,7 +150,7 @@ words_lay false signed width name w tail rest next gap g =
 port_shape : (attrs words signed range name rest : List ℕ) → (attrs ++ words ++ signed ++ range ++ name) ++ rest ≡ attrs ++ ((words ++ signed ++ range ++ name) ++ rest)
 port_shape attrs words signed range name rest = simp append_assoc
 
-port_lays : (port : Port) → AllWritable (port_tokens port) → (tail : List Token) (rest : List ℕ) → ((b : Bool) → Lays b tail rest) →
+port_lays : (port : Port) → AreWritable (port_tokens port) → (tail : List Token) (rest : List ℕ) → ((b : Bool) → Lays b tail rest) →
     Lays false (port_tokens port ++ tail) (codes "\n" ++ (port_text port ++ rest))
 port_lays port w tail rest next =
     let words : List Token = declaration_tokens (port_words port.input) port.signed (range_tokens port.width) port.name in
@@ -161,7 +161,7 @@ port_lays port w tail rest next =
     (attrs_lay (codes "  ") indent_gap port.attrs (AllWritable-front (attrs_tokens port.attrs) words w) (codes "\n") line_gap (words ++ tail) _
     (words_lay port.input port.signed port.width port.name (AllWritable-back (attrs_tokens port.attrs) words w) tail rest next)))
 
-ports_lay : (ports : List Port) → AllWritable (flat_map (λ ts. comma ++ ts) (map port_tokens ports)) → (tail : List Token) (rest : List ℕ) → ((b : Bool) → Lays b tail rest) →
+ports_lay : (ports : List Port) → AreWritable (flat_map (λ ts. comma ++ ts) (map port_tokens ports)) → (tail : List Token) (rest : List ℕ) → ((b : Bool) → Lays b tail rest) →
     (b : Bool) → Lays b (flat_map (λ ts. comma ++ ts) (map port_tokens ports) ++ tail) (flat_map (λ more. codes ",\n" ++ more) (map port_text ports) ++ rest)
 ports_lay [] w tail rest next b = next b
 ports_lay (port ∷ ports) w tail rest next b =
@@ -172,7 +172,7 @@ ports_lay (port ∷ ports) w tail rest next b =
     (port_lays port (AllWritable-front (port_tokens port) others w.1) (others ++ tail) after (ports_lay ports (AllWritable-back (port_tokens port) others w.1) tail rest next)))
     (append_assoc (codes ",\n" ++ port_text port) (flat_map (λ more. codes ",\n" ++ more) (map port_text ports)) rest) b
 
-list_lays : (ports : List Port) → ports ≢ [] → AllWritable (joined comma (map port_tokens ports)) → (tail : List Token) (rest : List ℕ) → ((b : Bool) → Lays b tail rest) →
+list_lays : (ports : List Port) → ports ≢ [] → AreWritable (joined comma (map port_tokens ports)) → (tail : List Token) (rest : List ℕ) → ((b : Bool) → Lays b tail rest) →
     Lays false (joined comma (map port_tokens ports) ++ tail) (codes "\n" ++ (joined (codes ",\n") (map port_text ports) ++ rest))
 list_lays [] some w tail rest next = absurd (some refl)
 list_lays (port ∷ ports) some w tail rest next =
@@ -194,14 +194,14 @@ spelling_shape : (attrs name ports items : List ℕ) →
     ≡ [] ++ (attrs ++ (codes "module" ++ (codes " " ++ (name ++ (codes " " ++ (codes "(" ++ (codes "\n" ++ (ports ++ (codes "\n" ++ (codes ")" ++ (codes ";" ++ (codes "\n" ++ (items ++ codes "endmodule\n")))))))))))))
 spelling_shape attrs name ports items = simp append_assoc
 
-module_lays : (m : Module) → m.ports ≢ [] → AllWritable (module_tokens m) → Lays false (module_tokens m) (spelling m)
+module_lays : (m : Module) → m.ports ≢ [] → AreWritable (module_tokens m) → Lays false (module_tokens m) (spelling m)
 module_lays m some w =
     let items : List Token = flat_map (λ ts. ts) (map item_tokens m.items) in
     let ports : List Token = joined comma (map port_tokens m.ports) in
     let head : List Token = Key (codes "module") ∷ Identifier m.name ∷ Sign (codes "(") ∷ (ports ++ module_tail m) in
-    let v : AllWritable head = AllWritable-back (attrs_tokens m.attrs) head w in
-    let own : AllWritable ports = AllWritable-front ports (module_tail m) v.1.1.1 in
-    let body : AllWritable (items ++ Key (codes "endmodule") ∷ []) = (AllWritable-back ports (module_tail m) v.1.1.1).1.1 in
+    let v : AreWritable head = AllWritable-back (attrs_tokens m.attrs) head w in
+    let own : AreWritable ports = AllWritable-front ports (module_tail m) v.1.1.1 in
+    let body : AreWritable (items ++ Key (codes "endmodule") ∷ []) = (AllWritable-back ports (module_tail m) v.1.1.1).1.1 in
     let t5 : List ℕ = flat_map item_text m.items ++ codes "endmodule\n" in
     let t4 : List ℕ = codes ";" ++ (codes "\n" ++ t5) in
     let t3 : List ℕ = codes "\n" ++ (codes ")" ++ t4) in
@@ -221,17 +221,16 @@ module_lays m some w =
     (attrs_lay [] no_gap m.attrs (AllWritable-front (attrs_tokens m.attrs) head w) [] no_gap head (codes "module" ++ t0)
     (λ gap g. word_lays (Key (codes "module")) false gap (Identifier m.name ∷ Sign (codes "(") ∷ (ports ++ module_tail m)) t0 (gap ++ (codes "module" ++ t0)) (codes "module", refl) tt g (after_sign gap) l0 refl))
 
-pub spelling_spells : (bytes : List ℕ) (m : Module) → Spells bytes m → Spells (spelling m) m
-spelling_spells bytes m spells =
-    let is = spells.grammar in
-    let w = written_as spells.tokens _ is.text (AllWritable-laid false spells.tokens bytes spells.layout) in
+pub tokens_spell : (m : Module) (tokens : List Token) → IsModuleText m tokens → AreWritable tokens → Spells (spelling m) m
+tokens_spell m tokens is writable =
+    let w = written_as tokens _ is.text writable in
     let start = AllWritable-front (attrs_tokens m.attrs) _ w in
     let head = AllWritable-back (attrs_tokens m.attrs) _ w in
     let ports = list_kept m.ports is.ports is.each_port (AllWritable-front (joined comma is.ports) _ head.1.1.1) in
     let over = AllWritable-back (joined comma is.ports) _ head.1.1.1 in
     let items = items_kept m.items is.items is.each_item (AllWritable-front (flat_map (λ ts. ts) is.items) _ over.1.1) in
     let end = AllWritable-back (flat_map (λ ts. ts) is.items) _ over.1.1 in
-    let v : AllWritable (module_tokens m) =
+    let v : AreWritable (module_tokens m) =
     AllWritable-append (attrs_tokens m.attrs) _ start (
       head.0,
       (
@@ -255,3 +254,6 @@ spelling_spells bytes m spells =
       };
       layout = module_lays m is.has_port v;
     }
+
+pub spelling_spells : (bytes : List ℕ) (m : Module) → Spells bytes m → Spells (spelling m) m
+spelling_spells bytes m spells = tokens_spell m spells.tokens spells.grammar (AllWritable-laid false spells.tokens bytes spells.layout)

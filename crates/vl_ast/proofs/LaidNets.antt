@@ -5,13 +5,13 @@ use Rattle.std.proofs.lemmas.Bool.Decides.{nat_tests}
 use Rattle.vl_ast.specs.declared.modules.Attr.{Attr}
 use Rattle.vl_ast.specs.Grammar.{comma, attr_tokens, attrs_tokens, signed_tokens, IsRange}
 use Rattle.vl_ast.specs.Spelling.{joined, attr_text, attrs_text, signed_text, range_text}
-use Rattle.vl_ast.specs.Tokens.{Token, Key, Sign, Identifier, Number, is_longest, IsGap, Lays}
-use Rattle.vl_ast.proofs.Laid.{laid_same, no_gap, line_gap, space_gap, gap_append, AllWritable, AllWritable-front, AllWritable-back}
+use Rattle.vl_ast.specs.Tokens.{Token, Key, Sign, Identifier, Number, is_longest, IsGap, Lays, AreWritable}
+use Rattle.vl_ast.proofs.Laid.{laid_same, no_gap, line_gap, space_gap, gap_append, AllWritable-front, AllWritable-back}
 use Rattle.vl_ast.proofs.LaidForms.{Fits, FitsEach, after_sign, not_empty, sign_lays, word_lays, more_lays}
 use Rattle.vl_ast.proofs.Written.{identifier_opens}
 
 -- parts with commas between, after a sign and a gap
-pub joined_after : (ts : List Token) (tss : List (List Token)) (text : List ℕ) (texts : List (List ℕ)) → Fits ts text → FitsEach tss texts → AllWritable (joined comma (ts ∷ tss)) →
+pub joined_after : (ts : List Token) (tss : List (List Token)) (text : List ℕ) (texts : List (List ℕ)) → Fits ts text → FitsEach tss texts → AreWritable (joined comma (ts ∷ tss)) →
     (gap : List ℕ) → IsGap gap → (tail : List Token) (rest : List ℕ) → ((b : Bool) → Lays b tail rest) →
     Lays false (joined comma (ts ∷ tss) ++ tail) (gap ++ (joined (codes ", ") (text ∷ texts) ++ rest))
 joined_after ts tss text texts fit fits w gap g tail rest next =
@@ -46,7 +46,7 @@ attrs_shape : (gap indent list rest : List ℕ) →
 attrs_shape gap indent list rest = simp append_assoc
 
 -- a line of attributes after a sign, where what follows takes any gap
-pub attrs_lay : (indent : List ℕ) → IsGap indent → (attrs : List Attr) → AllWritable (attrs_tokens attrs) → (gap : List ℕ) → IsGap gap →
+pub attrs_lay : (indent : List ℕ) → IsGap indent → (attrs : List Attr) → AreWritable (attrs_tokens attrs) → (gap : List ℕ) → IsGap gap →
     (tail : List Token) (rest : List ℕ) → ((g : List ℕ) → IsGap g → Lays false tail (g ++ rest)) → Lays false (attrs_tokens attrs ++ tail) (gap ++ (attrs_text indent attrs ++ rest))
 attrs_lay indent i [] w gap g tail rest next = next gap g
 attrs_lay indent i (attr ∷ attrs) w gap g tail rest next =
@@ -74,7 +74,7 @@ range_shape : (upper name rest : List ℕ) →
 range_shape upper name rest = simp append_assoc
 
 -- the range and the name, after a word
-range_lays : (one : Bool) (width : ℕ) (name : List ℕ) → AllWritable ((if one then [] else bounds width) ++ Identifier name ∷ []) →
+range_lays : (one : Bool) (width : ℕ) (name : List ℕ) → AreWritable ((if one then [] else bounds width) ++ Identifier name ∷ []) →
     (tail : List Token) (rest : List ℕ) → ((b : Bool) → Lays b tail rest) → (after : Bool) →
     Lays after (((if one then [] else bounds width) ++ Identifier name ∷ []) ++ tail) (codes " " ++ (((if one then [] else codes "[" ++ decimal (width - 1) ++ codes ":0] ") ++ name) ++ rest))
 range_lays true width name w tail rest next after =
@@ -92,7 +92,7 @@ range_lays false width name w tail rest next after =
     (range_shape (decimal (width - 1)) name rest) after
 
 -- the rest of a declaration, after its words
-pub net_lays : (signed : Bool) (width : ℕ) (name : List ℕ) → AllWritable (signed_tokens signed ++ (range_tokens width ++ Identifier name ∷ [])) →
+pub net_lays : (signed : Bool) (width : ℕ) (name : List ℕ) → AreWritable (signed_tokens signed ++ (range_tokens width ++ Identifier name ∷ [])) →
     (tail : List Token) (rest : List ℕ) → ((b : Bool) → Lays b tail rest) → (after : Bool) →
     Lays after ((signed_tokens signed ++ (range_tokens width ++ Identifier name ∷ [])) ++ tail) (codes " " ++ ((signed_text signed ++ range_text width ++ name) ++ rest))
 net_lays false width name w tail rest next after = range_lays (width == 1) width name w tail rest next after
@@ -100,14 +100,14 @@ net_lays true width name w tail rest next after =
     word_lays (Key (codes "signed")) after (codes " ") ((range_tokens width ++ Identifier name ∷ []) ++ tail) (codes " " ++ ((range_text width ++ name) ++ rest)) _ w.0 tt space_gap (not_empty 32 [] after)
     (range_lays (width == 1) width name w.1 tail rest next) refl
 
-range_of : (one : Bool) (width : ℕ) → 0 < width → (one ≡ true → width ≡ 1) → AllWritable (bounds width) →
-    IsRange width (if one then [] else bounds width) × AllWritable (if one then [] else bounds width)
+range_of : (one : Bool) (width : ℕ) → 0 < width → (one ≡ true → width ≡ 1) → AreWritable (bounds width) →
+    IsRange width (if one then [] else bounds width) × AreWritable (if one then [] else bounds width)
 range_of true width some is w = (inl (is refl, refl), tt)
 range_of false width some is w = (inr (some, refl), w)
 
 -- where a net's range can be written, so can that of the one text
-pub range_kept : (width : ℕ) (tokens : List Token) → IsRange width tokens → AllWritable tokens → IsRange width (range_tokens width) × AllWritable (range_tokens width)
+pub range_kept : (width : ℕ) (tokens : List Token) → IsRange width tokens → AreWritable tokens → IsRange width (range_tokens width) × AreWritable (range_tokens width)
 range_kept width tokens (inl p) w =
-    let P : ℕ → Type 0 = λ n. IsRange n (range_tokens n) × AllWritable (range_tokens n) in subst P (sym p.0) (inl (refl, refl), tt)
+    let P : ℕ → Type 0 = λ n. IsRange n (range_tokens n) × AreWritable (range_tokens n) in subst P (sym p.0) (inl (refl, refl), tt)
 range_kept width tokens (inr p) w =
-    let Q : List Token → Type 0 = λ ts. AllWritable ts in range_of (width == 1) width p.0 (λ e. grind (arith, nat_tests)) (subst Q p.1 w)
+    let Q : List Token → Type 0 = λ ts. AreWritable ts in range_of (width == 1) width p.0 (λ e. grind (arith, nat_tests)) (subst Q p.1 w)

@@ -10,8 +10,7 @@ use Rattle.std.proofs.lemmas.Int.Digits.{digits_value-lt}
 use Rattle.std.proofs.lemmas.Str.Parse.{digit_from_value}
 use Rattle.vl_ast.specs.declared.expressions.Sized.{Sized}
 use Rattle.vl_ast.specs.Spelling.{sized_text}
-use Rattle.vl_ast.specs.Tokens.{Token, Key, Sign, Identifier, Number, Based, IsDec, IsBased, IsSignMark, IsWritten, is_identifier, is_longest}
-use Rattle.vl_ast.proofs.Laid.{Writable}
+use Rattle.vl_ast.specs.Tokens.{Token, Key, Sign, Identifier, Number, Based, IsDec, IsBased, IsSignMark, IsWritten, is_identifier, is_longest, IsWritable}
 
 -- a number of at most so many digits is below that power of ten
 below_power : (digits : List ℕ) (k : ℕ) → AllDigits 10 digits → length digits ≤ k → digits_value 10 digits < 10 ^ k
@@ -59,7 +58,7 @@ token_text (Identifier name) = name
 token_text (Number number) = decimal number
 token_text (Based number) = sized_text number
 
-pub IsWritten-token_text : (t : Token) → Writable t → IsWritten t (token_text t)
+pub IsWritten-token_text : (t : Token) → IsWritable t → IsWritten t (token_text t)
 IsWritten-token_text (Key word) w = refl
 IsWritten-token_text (Sign sign) w = refl
 IsWritten-token_text (Identifier name) w = (refl, w.1.1)

@@ -84,6 +84,14 @@ IsWritten (Identifier name) bytes = (bytes ≡ name) × (is_identifier name ≡ 
 IsWritten (Number number) bytes = IsDec number bytes
 IsWritten (Based number) bytes = IsBased number bytes
 
+-- the token can be written, and so can each of a list
+abbrev pub IsWritable : Token → Type 0
+IsWritable token = (bytes : List ℕ) × IsWritten token bytes
+
+abbrev pub AreWritable : List Token → Type 0
+AreWritable [] = ⊤
+AreWritable (token ∷ tokens) = IsWritable token × AreWritable tokens
+
 -- a part of what stands between tokens
 pub data Filler : Type 0 where
   Blank : ℕ → Filler

@@ -6,13 +6,19 @@ ghost use Rattle.vl_ast.specs.declared.expressions.Expr.TheViews.{roll-Expr};
 ghost use Rattle.vl_ast.specs.declared.expressions.Expr.TheFolds.{map-Expr};
 ghost use Rattle.vl_ast.specs.declared.modules.Module.{Module};
 ghost use Rattle.vl_ast.specs.Context.{Net, Operand, in_context, own_length, length_step, is_signed, sign_step};
-ghost use Rattle.vl_ast.specs.Grammar.{Spells};
+ghost use Rattle.vl_ast.specs.Grammar.{IsModuleText, Spells};
 ghost use Rattle.vl_ast.specs.Spelling.{spelling};
+ghost use Rattle.vl_ast.specs.Tokens.{Token, AreWritable};
 ghost use Rattle.vl_ast.specs.Value.{Bits, bits_step, operand_of, value_in};
 
 /// The written text of a module spells it, where some text does.
 pub fn spelling_spells()
     ensures { (bytes : List ℕ) (m : Module) → Spells bytes m → Spells (spelling m) m }
+{}
+
+/// The written text of a module spells it, where the tokens of the module can each be written.
+pub fn tokens_spell()
+    ensures { (m : Module) (tokens : List Token) → IsModuleText m tokens → AreWritable tokens → Spells (spelling m) m }
 {}
 
 /// The length, the sign and the value of an expression from those of its operands.
