@@ -21,19 +21,24 @@ below_power digits k all short =
 dec_small : (number : ℕ) (digits : List ℕ) → IsDec number digits → number < 10 ^ 9
 dec_small number digits d = subst (λ (n : ℕ). n < 10 ^ 9) d.value (below_power digits 9 d.numeral.1 d.short)
 
-pub IsDec-decimal : (number : ℕ) (digits : List ℕ) → IsDec number digits → IsDec number (decimal number)
-IsDec-decimal number digits d =
-    let small : number < 10 ^ 9 = dec_small number digits d in
+dec-written : (number : ℕ) → number < 10 ^ 9 → IsDec number (decimal number)
+dec-written number small =
     let read = decimal_is_IsNumeral_wide number (omega arith) in
     record { numeral = read.0; short = length-decimal-le_wide 9 number (omega arith) small (omega arith); value = read.1 }
+
+pub number-writable : (number : ℕ) → number < 10 ^ 9 → IsWritable (Number number)
+number-writable number small = (decimal number, dec-written number small)
+
+pub IsDec-decimal : (number : ℕ) (digits : List ℕ) → IsDec number digits → IsDec number (decimal number)
+IsDec-decimal number digits d = dec-written number (dec_small number digits d)
 
 IsSignMark-mark : (signed : Bool) → IsSignMark signed (if signed then codes "s" else [])
 IsSignMark-mark true = inl refl
 IsSignMark-mark false = refl
 
-pub IsBased-sized_text : (number : Sized) (bytes : List ℕ) → IsBased number bytes → IsBased number (sized_text number)
-IsBased-sized_text number bytes b =
-    let read = decimal_is_IsNumeral_wide number.bits (omega (arith, b.fits)) in
+based-written : (number : Sized) → number.width < 10 ^ 9 → number.bits < 2 ^ 128 → IsBased number (sized_text number)
+based-written number small fits =
+    let read = decimal_is_IsNumeral_wide number.bits (omega arith) in
     record {
       width = decimal number.width;
       mark = if number.signed then codes "s" else [];
@@ -41,14 +46,20 @@ IsBased-sized_text number bytes b =
       base = 10;
       digits = decimal number.bits;
       text = append_assoc _ (codes "d") (decimal number.bits);
-      width_is = IsDec-decimal number.width b.width b.width_is;
+      width_is = dec-written number.width small;
       mark_is = IsSignMark-mark number.signed;
       base_is = refl;
       numeral = read.0;
-      short = (let few : length (decimal number.bits) ≤ 39 = length-decimal-le_wide 39 number.bits (omega arith) (omega (arith, b.fits)) (omega (arith, b.fits)) in omega (arith, few));
+      short = (let few : length (decimal number.bits) ≤ 39 = length-decimal-le_wide 39 number.bits (omega arith) (omega arith) (omega arith) in omega (arith, few));
       value = read.1;
-      fits = b.fits;
+      fits = fits;
     }
+
+pub based-writable : (number : Sized) → number.width < 10 ^ 9 → number.bits < 2 ^ 128 → IsWritable (Based number)
+based-writable number small fits = (sized_text number, based-written number small fits)
+
+pub IsBased-sized_text : (number : Sized) (bytes : List ℕ) → IsBased number bytes → IsBased number (sized_text number)
+IsBased-sized_text number bytes b = based-written number (dec_small number.width b.width b.width_is) b.fits
 
 -- the text of a token
 abbrev pub token_text : Token → List ℕ

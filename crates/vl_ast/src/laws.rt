@@ -1,5 +1,6 @@
 // What the definitions together say. Each law is a function that does nothing.
-ghost use Rattle.std.specs.Prelude.{◌≡◌, Bool, List, ℕ};
+ghost use Rattle.std.specs.Prelude.{◌≡◌, ◌<◌, ◌^◌, Bool, List, ℕ};
+ghost use Rattle.vl_ast.specs.declared.expressions.Sized.{Sized};
 ghost use Rattle.vl_ast.specs.declared.expressions.Expr.{Expr};
 ghost use Rattle.vl_ast.specs.declared.expressions.Expr.TheOpen.{Expr-F};
 ghost use Rattle.vl_ast.specs.declared.expressions.Expr.TheViews.{roll-Expr};
@@ -8,7 +9,7 @@ ghost use Rattle.vl_ast.specs.declared.modules.Module.{Module};
 ghost use Rattle.vl_ast.specs.Context.{Net, Operand, in_context, own_length, length_step, is_signed, sign_step};
 ghost use Rattle.vl_ast.specs.Grammar.{IsModuleText, Spells};
 ghost use Rattle.vl_ast.specs.Spelling.{spelling};
-ghost use Rattle.vl_ast.specs.Tokens.{Token, AreWritable};
+ghost use Rattle.vl_ast.specs.Tokens.{Token, Number, Based, IsWritable, AreWritable};
 ghost use Rattle.vl_ast.specs.Value.{Bits, bits_step, operand_of, value_in};
 
 /// The written text of a module spells it, where some text does.
@@ -19,6 +20,12 @@ pub fn spelling_spells()
 /// The written text of a module spells it, where the tokens of the module can each be written.
 pub fn tokens_spell()
     ensures { (m : Module) (tokens : List Token) → IsModuleText m tokens → AreWritable tokens → Spells (spelling m) m }
+{}
+
+/// Numbers of at most nine digits and based numbers of at most 128 bits can be written.
+pub fn numbers_are_writable()
+    ensures plain { (number : ℕ) → number < 10 ^ 9 → IsWritable (Number number) }
+    ensures based { (number : Sized) → number.width < 10 ^ 9 → number.bits < 2 ^ 128 → IsWritable (Based number) }
 {}
 
 /// The length, the sign and the value of an expression from those of its operands.

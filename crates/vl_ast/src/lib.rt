@@ -15,5 +15,5 @@ mod modules;
 
 pub use expressions::{BinOp, Expr, Exprs, ShiftOp, Sized, UnOp};
 pub use identifiers::is_identifier;
-pub use laws::{meaning_by_layer, spelling_spells, tokens_spell};
+pub use laws::{meaning_by_layer, numbers_are_writable, spelling_spells, tokens_spell};
 pub use modules::{Attr, Attrs, ModItem, ModItems, Module, Port, Ports};

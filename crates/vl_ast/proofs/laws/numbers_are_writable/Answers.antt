@@ -1,0 +1,5 @@
+use Rattle.vl_ast.proofs.Written.{number-writable, based-writable}
+use Rattle.vl_ast.proofs.laws.numbers_are_writable.Goals as goal
+
+pub returns : goal.returns
+returns c = record { plain = number-writable; based = based-writable }
