@@ -1,3 +1,2 @@
 pub mod Appended
-pub mod Forms
 pub mod Joined

@@ -91,44 +91,33 @@ pub fn put_expr(out: &mut Vec<u8>, e: &Expr) -> Result<(), OutOfMemory>
         }
         Expr::Repeat(count, part) => {
             put_count(out, *count)?;
-            put_expr_and(out, part.get(), b"}}")
+            put_within(out, b"", part.get(), b"}}")
         }
-        Expr::AsSigned(part) => {
-            put(out, b"$signed (")?;
-            put_expr_and(out, part.get(), b")")
-        }
-        Expr::AsUnsigned(part) => {
-            put(out, b"$unsigned (")?;
-            put_expr_and(out, part.get(), b")")
-        }
-        Expr::Unary(op, part) => {
-            put(out, unary_sign(*op))?;
-            put_expr_and(out, part.get(), b")")
-        }
+        Expr::AsSigned(part) => put_within(out, b"$signed (", part.get(), b")"),
+        Expr::AsUnsigned(part) => put_within(out, b"$unsigned (", part.get(), b")"),
+        Expr::Unary(op, part) => put_within(out, unary_sign(*op), part.get(), b")"),
         Expr::Binary(op, left, right) => {
-            put(out, b"(")?;
-            put_expr_and(out, left.get(), binary_sign(*op))?;
-            put_expr_and(out, right.get(), b")")
+            put_within(out, b"(", left.get(), binary_sign(*op))?;
+            put_within(out, b"", right.get(), b")")
         }
         Expr::Shift(op, part, amount) => {
-            put(out, b"(")?;
-            put_expr_and(out, part.get(), shift_sign(*op))?;
+            put_within(out, b"(", part.get(), shift_sign(*op))?;
             put_sized(out, amount)?;
             put(out, b")")
         }
         Expr::Choose(test, chosen, other) => {
-            put(out, b"(")?;
-            put_expr_and(out, test.get(), b" ? ")?;
-            put_expr_and(out, chosen.get(), b" : ")?;
-            put_expr_and(out, other.get(), b")")
+            put_within(out, b"(", test.get(), b" ? ")?;
+            put_within(out, b"", chosen.get(), b" : ")?;
+            put_within(out, b"", other.get(), b")")
         }
     }
 }
 
 #[cycle(expression)]
-fn put_expr_and(out: &mut Vec<u8>, e: &Expr, after: &[u8]) -> Result<(), OutOfMemory>
-    ensures { OnOk result (out.new.items ≡ out.old.items ++ (expr_text e.now ++ after.now)) }
+fn put_within(out: &mut Vec<u8>, before: &[u8], e: &Expr, after: &[u8]) -> Result<(), OutOfMemory>
+    ensures { OnOk result (out.new.items ≡ out.old.items ++ (before.now ++ (expr_text e.now ++ after.now))) }
 {
+    put(out, before)?;
     put_expr(out, e)?;
     put(out, after)
 }
