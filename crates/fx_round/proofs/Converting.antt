@@ -1,16 +1,14 @@
 -- What the steps of a conversion give together.
-use Rattle.std.proofs.Common.{◌≡◌, ℕ, suc, ◌+◌, ◌-◌, ◌*◌, ◌^◌, ◌<◌, ◌≤◌, Bool, true, false, ℤ, pos, negsuc, ◌+ℤ◌, ◌-ℤ◌, ◌*ℤ◌, neg_ℤ, nat_abs, ◌≤ℤ◌, ◌<ℤ◌, ap, sym, ◌∙◌, refl, subst, subst₂, arith}
+use Rattle.std.proofs.Common.{◌≡◌, ℕ, ◌^◌, ◌<◌, ◌≤◌, Bool, true, false, ℤ, pos, negsuc, ◌-ℤ◌, ◌*ℤ◌, nat_abs, ◌≤ℤ◌, sym, refl, subst, subst₂, arith}
 use Rattle.std.specs.Int.{int_gap}
 use Rattle.std.proofs.lemmas.Int.{ints}
 use Rattle.fx_num.specs.Word.{IsWord}
 use Rattle.fx_type.specs.declared.kind.FxType.{FxType}
 use Rattle.fx_type.specs.declared.kind.FxType.TheVariants.{Num, Logical}
 use Rattle.fx_type.specs.declared.rounding.Rounding.{Rounding}
-use Rattle.fx_type.specs.declared.rounding.Rounding.TheVariants.{Floor, Ceiling, Zero, Nearest, Round, Convergent}
 use Rattle.fx_type.specs.FxType.{IsType, is_signed, width_of, frac_of}
 use Rattle.fx_type.specs.Conversion.{Rounds, Settles, StoresQuotient, Converts}
 use Rattle.fx_round.specs.declared.split.Part.{Part}
-use Rattle.fx_round.specs.declared.split.Part.TheVariants.{Whole, BelowHalf, Half, AboveHalf}
 use Rattle.fx_round.specs.Split.{IsSplit}
 use Rattle.fx_round.proofs.Rounding.{whole_rounds}
 

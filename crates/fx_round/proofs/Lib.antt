@@ -1,5 +1,6 @@
 pub mod Congruence
 pub mod Converting
+pub mod Orders
 pub mod Reading
 pub mod Rounding
 pub mod Shifts

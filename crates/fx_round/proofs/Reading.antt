@@ -1,14 +1,14 @@
 -- Digits of a text.
-use Rattle.std.proofs.Common.{◌≡◌, ℕ, zero, suc, ◌+◌, ◌-◌, ◌*◌, ◌^◌, ◌<◌, ◌≤◌, ◌⊎◌, inl, inr, Bool, true, false, cond, ◌&&◌, List, [], ◌∷◌, ◌++◌, length, get_or, take, drop, min, All, ap, ap₂, sym, ◌∙◌, refl, subst, arith, true≢false, eqb, leb-true, ℤ, pos, ◌-ℤ◌, Result, Ok, Err, Option, Some, None, MatchResult}
+use Rattle.std.proofs.Common.{◌≡◌, ℕ, zero, suc, ◌+◌, ◌*◌, ◌<◌, ◌≤◌, ◌⊎◌, inl, inr, Bool, true, false, cond, ◌&&◌, List, [], ◌∷◌, ◌++◌, length, get_or, take, drop, min, All, ap, sym, ◌∙◌, refl, subst, arith, true≢false, eqb, leb-true, ℤ, pos, ◌-ℤ◌, Result, Ok, Err, Some, MatchResult}
 use Rattle.std.specs.Char.{is_ascii_digit, digit_value}
 use Rattle.std.specs.Str.Parse.{digits_value_after}
 use Rattle.std.proofs.lemmas.List.{take_more}
 use Rattle.std.proofs.lemmas.List.Elements.{All-nil, All-cons}
 use Rattle.std.proofs.lemmas.Str.{digit_value_digit}
-use Rattle.fx_round.specs.DecimalText.{front_digits, after_digits, fraction_digits, after_sign, after_fraction, is_minus, exponent_of, whole_digits, fraction_of, all_digits, IsNumeral, IsShort, IsDecimalOf, IsLong, Explains}
+use Rattle.fx_round.specs.DecimalText.{front_digits, after_digits, fraction_digits, after_sign, after_fraction, is_minus, exponent_of, whole_digits, fraction_of, all_digits, IsShort, IsDecimalOf, Explains}
 use Rattle.fx_type.specs.declared.decimal.Decimal.{Decimal}
 use Rattle.fx_round.specs.declared.decimal.DecimalFault.{DecimalFault}
-use Rattle.fx_round.specs.declared.decimal.DecimalFault.TheVariants.{NotANumber, TooLong}
+use Rattle.fx_round.specs.declared.decimal.DecimalFault.TheVariants.{TooLong}
 
 both : (a b : Bool) → (a && b) ≡ true → (a ≡ true) × (b ≡ true)
 both true b e = (refl, e)

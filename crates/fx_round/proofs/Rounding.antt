@@ -1,5 +1,5 @@
 -- The whole number that each mode takes, from the split of a number.
-use Rattle.std.proofs.Common.{◌≡◌, ℕ, ◌+◌, ◌*◌, ◌<◌, ◌≤◌, Bool, true, false, not, ℤ, pos, negsuc, ◌+ℤ◌, ◌*ℤ◌, ◌≤ℤ◌, ◌<ℤ◌, ap, sym, ◌∙◌, refl, arith, true≢false, mul-le-mul_right, int_div, int_rem, zero, suc, ◌%◌, ◌/◌, neg_ℤ, of_z, to_z, eqb, eqb-true}
+use Rattle.std.proofs.Common.{◌≡◌, ℕ, ◌+◌, ◌*◌, ◌<◌, ◌≤◌, Bool, true, false, not, ℤ, pos, negsuc, ◌+ℤ◌, ◌*ℤ◌, ◌≤ℤ◌, ◌<ℤ◌, ap, sym, refl, arith, true≢false, mul-le-mul_right, int_div, int_rem, zero, suc, ◌%◌, ◌/◌, neg_ℤ, of_z, eqb, eqb-true}
 use Rattle.std.specs.Int.{w128}
 use Rattle.std.proofs.lemmas.Int.{ints}
 use borrow.Author.Differences.{up, down, le_out, sum_is_lem}

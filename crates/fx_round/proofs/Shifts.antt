@@ -1,13 +1,12 @@
 -- Shifts down and up.
-use Rattle.std.proofs.Common.{◌≡◌, ℕ, zero, suc, ◌+◌, ◌-◌, ◌*◌, ◌/◌, ◌%◌, ◌^◌, ◌<◌, ◌≤◌, ℤ, pos, negsuc, ◌+ℤ◌, ◌*ℤ◌, neg_ℤ, ◌≤ℤ◌, ◌<ℤ◌, ap, sym, ◌∙◌, refl, arith, bit_and, of_z, to_z, FitsSigned, pow_pos, pow_mono, div-add-mod', mul-le-mul_left, mul_comm, mod-lt, lt_of_le_of_lt, inl, inr}
+use Rattle.std.proofs.Common.{◌≡◌, ℕ, suc, ◌+◌, ◌-◌, ◌*◌, ◌/◌, ◌%◌, ◌^◌, ◌<◌, ◌≤◌, ℤ, pos, negsuc, ◌+ℤ◌, ◌*ℤ◌, ◌<ℤ◌, ap, sym, ◌∙◌, refl, arith, bit_and, of_z, FitsSigned, pow_pos, pow_mono, div-add-mod', mul-le-mul_left, mod-lt, lt_of_le_of_lt, inl, inr}
 use Rattle.std.specs.Int.{w128}
 use Rattle.std.specs.Int.Signed.{shr_z, mag_shr}
 use Rattle.std.proofs.lemmas.Int.{ints}
 use Rattle.std.proofs.lemmas.Nat.{and_mask, pow-add, mod_low, shr_below}
 use Rattle.std.proofs.lemmas.Bool.{cases_lt}
-use Rattle.fx_round.specs.declared.split.Part.{Part}
-use Rattle.fx_round.specs.declared.split.Part.TheVariants.{Whole, BelowHalf, Half, AboveHalf}
-use Rattle.fx_round.specs.Split.{IsPart, IsSplit}
+use Rattle.fx_round.specs.declared.split.Part.TheVariants.{BelowHalf, Half, AboveHalf}
+use Rattle.fx_round.specs.Split.{IsSplit}
 
 -- 2 to the power 128 is a multiple of every lower power
 pub whole_turns : (by : ℕ) → by ≤ 128 → 2 ^ (128 - by) * 2 ^ by ≡ 340282366920938463463374607431768211456

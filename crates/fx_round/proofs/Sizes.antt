@@ -1,19 +1,17 @@
 -- Magnitudes of decimals.
-use Rattle.std.proofs.Common.{◌≡◌, ℕ, zero, suc, ◌+◌, ◌-◌, ◌*◌, ◌/◌, ◌%◌, ◌^◌, ◌<◌, ◌≤◌, Bool, true, false, ℤ, pos, negsuc, ◌+ℤ◌, ◌*ℤ◌, neg_ℤ, ◌≤ℤ◌, ◌<ℤ◌, ap, sym, ◌∙◌, refl, subst, arith, bit_and, pow_pos, pow_mono, mul-le-mul_left, mul-le-mul_right, div-add-mod', mod-lt, inl, inr, mul-lt-mul_of_pos_right}
+use Rattle.std.proofs.Common.{◌≡◌, ℕ, ◌+◌, ◌-◌, ◌*◌, ◌/◌, ◌%◌, ◌^◌, ◌<◌, ◌≤◌, true, false, ℤ, pos, negsuc, ◌+ℤ◌, ◌*ℤ◌, neg_ℤ, ◌≤ℤ◌, ap, sym, ◌∙◌, refl, subst, arith, pow_pos, pow_mono, mul-le-mul_left, mul-le-mul_right, div-add-mod', mod-lt, inl, inr, mul-lt-mul_of_pos_right}
 use Rattle.std.proofs.lemmas.Int.{ints}
-use Rattle.std.proofs.lemmas.Nat.{pow-add, and_mask, le-div}
+use Rattle.std.proofs.lemmas.Nat.{pow-add, le-div}
 use Rattle.std.proofs.Math.Nat.{one-le-pow, pow-le-pow_right}
 use Rattle.std.proofs.lemmas.Bool.{cases_lt}
 use Rattle.fx_type.specs.declared.kind.FxType.{FxType}
 use Rattle.fx_type.specs.declared.rounding.Rounding.TheVariants.{Nearest}
 use Rattle.fx_type.specs.declared.kind.FxType.TheVariants.{Num, Logical}
-use Rattle.fx_type.specs.FxType.{IsType, lowest_of, highest_of, InRange}
-use Rattle.fx_type.specs.Conversion.{Rounds, Saturates, Settles, StoresQuotient, signed_digits}
+use Rattle.fx_type.specs.FxType.{IsType, lowest_of, highest_of}
+use Rattle.fx_type.specs.Conversion.{Saturates, StoresQuotient}
 use Rattle.fx_round.specs.declared.split.Part.{Part}
 use Rattle.fx_round.specs.declared.split.Part.TheVariants.{Whole, BelowHalf, Half, AboveHalf}
-use Rattle.fx_round.specs.declared.split.Split.{Split}
-use Rattle.fx_round.specs.declared.stored.Mixed.{Mixed}
-use Rattle.fx_round.specs.Split.{IsPart, IsSplit, IsMagnitude, mixed_count}
+use Rattle.fx_round.specs.Split.{IsPart, IsSplit, IsMagnitude}
 use Rattle.fx_round.proofs.Rounding.{add-scaled, ties_up_low, ties_up_high}
 use Rattle.fx_round.proofs.Congruence.{scaled-neg}
 

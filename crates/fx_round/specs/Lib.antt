@@ -1,2 +1,3 @@
 pub mod DecimalText
+pub mod Laws
 pub mod Split

@@ -16,10 +16,17 @@
 
 mod conversion;
 mod decimal;
+mod laws;
 mod settle;
 mod split;
 mod stored;
+#[cfg(test)]
+mod tests;
 
 pub use conversion::convert;
 pub use decimal::{DecimalFault, read_decimal};
+pub use laws::{
+    exact_conversion_is_exact, floor_and_ceiling_bound_every_mode, rounding_is_monotone,
+    same_type_is_identity,
+};
 pub use stored::to_stored;

@@ -1,5 +1,5 @@
 -- The ends of ranges, of terms and of sums.
-use Rattle.std.proofs.Common.{◌≡◌, ℕ, ◌+◌, ◌*◌, ◌^◌, ◌<◌, ◌≤◌, Bool, true, false, List, [], ◌∷◌, ◌++◌, take, drop, length, get_or, ℤ, pos, negsuc, ◌+ℤ◌, ◌*ℤ◌, neg_ℤ, ◌≤ℤ◌, ap, sym, ◌∙◌, arith, pow_pos, refl, mul-le-mul_right, take-append-drop, MatchResult, Result, IsErr, Ok, Err, true≢false, subst₂, ◌-ℤ◌, nat_abs}
+use Rattle.std.proofs.Common.{◌≡◌, ℕ, ◌+◌, ◌*◌, ◌^◌, ◌<◌, ◌≤◌, Bool, true, false, [], ◌∷◌, ◌++◌, take, drop, length, get_or, ℤ, pos, negsuc, ◌+ℤ◌, ◌*ℤ◌, neg_ℤ, ◌≤ℤ◌, ap, sym, ◌∙◌, arith, refl, mul-le-mul_right, take-append-drop, MatchResult, Result, IsErr, Ok, Err, true≢false, subst₂, ◌-ℤ◌, nat_abs}
 use Rattle.std.specs.Int.{int_gap}
 use Rattle.std.proofs.lemmas.Int.{ints}
 use Rattle.std.proofs.lemmas.List.{take_more}
@@ -7,7 +7,7 @@ use borrow.Author.Differences.{up, down, le_out, neg_is}
 use Rattle.fx_type.specs.declared.kind.FxType.{FxType}
 use Rattle.fx_type.specs.declared.kind.FxType.TheVariants.{Num, Logical}
 use Rattle.fx_type.specs.FxType.{IsType, frac_of, lowest_of, highest_of, InRange, aligned}
-use Rattle.fx_type.specs.FullType.{Terms, negated_if, IsPossibleSum, IsSumOf}
+use Rattle.fx_type.specs.FullType.{Terms, negated_if, IsPossibleSum}
 use Rattle.fx_type.specs.Span.{least_end, greatest_end, least_term, greatest_term, sum_of, IsSpan, FitSpan}
 use Rattle.fx_type.specs.declared.full.Span.{Span}
 use Rattle.fx_type.specs.declared.full.TooWide.{TooWide}

@@ -1,5 +1,5 @@
 -- The greatest frac of a list of terms.
-use Rattle.std.proofs.Common.{◌≡◌, ℕ, ◌+◌, ◌<◌, ◌≤◌, Bool, true, false, cond, ◌⊎◌, inl, inr, List, take, length, get_or, ℤ, ◌≤ℤ◌, All, Any, ap, sym, ◌∙◌, refl, subst, arith, take_all}
+use Rattle.std.proofs.Common.{◌≡◌, ℕ, ◌+◌, ◌<◌, ◌≤◌, Bool, true, false, cond, ◌⊎◌, inl, inr, take, length, get_or, ℤ, ◌≤ℤ◌, All, Any, sym, ◌∙◌, refl, subst, arith, take_all}
 use Rattle.std.specs.Int.{int_max}
 use Rattle.std.proofs.lemmas.Int.{ints}
 use Rattle.std.proofs.lemmas.List.{get_or_default}

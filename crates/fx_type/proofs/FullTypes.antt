@@ -1,5 +1,5 @@
 -- The full types of sums and unions.
-use Rattle.std.proofs.Common.{◌≡◌, ◌≢◌, ℕ, ◌+◌, ◌-◌, ◌*◌, ◌^◌, ◌<◌, ◌≤◌, Bool, true, false, ◌||◌, List, length, get_or, ℤ, pos, negsuc, ◌+ℤ◌, ◌*ℤ◌, neg_ℤ, ◌≤ℤ◌, ◌<ℤ◌, All, Any, ap, ap₂, sym, ◌∙◌, refl, subst, subst₂, arith, pow_pos, pow_mono, mul-pos, true≢false, FitsSigned, Result, Ok, Err, OnErr}
+use Rattle.std.proofs.Common.{◌≡◌, ◌≢◌, ℕ, ◌-◌, ◌^◌, ◌<◌, ◌≤◌, Bool, true, false, ◌||◌, ℤ, pos, ◌*ℤ◌, ◌≤ℤ◌, ◌<ℤ◌, ap, sym, ◌∙◌, refl, subst, arith, pow_pos, pow_mono, mul-pos, true≢false, FitsSigned, Result, Ok, Err, OnErr}
 use Rattle.std.specs.Int.{w128, int_max, int_min, int_gap}
 use Rattle.std.proofs.lemmas.Int.{ints, clamps}
 use Rattle.fx_type.specs.declared.full.Span.{Span}
@@ -8,7 +8,7 @@ use Rattle.fx_type.specs.declared.kind.FxType.TheVariants.{Num, Logical}
 use Rattle.fx_type.specs.FxType.{IsType, IsNumber, is_signed, width_of, frac_of, lowest_of, highest_of, InRange, aligned}
 use Rattle.fx_type.specs.FullType.{Terms, IsPossibleSum, HoldsSums, IsGreatestFrac, IsFullSum, HoldsType, HoldsBoth, IsUnion}
 use Rattle.fx_type.specs.Span.{least_term, greatest_term, sum_of, IsSpan, FitSpan, IsNarrowest}
-use Rattle.fx_type.proofs.Ends.{lowest_sign, highest_sign, InRange-lowest, InRange-highest, least_sign, greatest_sign, scaled-mono, scaled-neg, least_possible, greatest_possible, sum_bounds}
+use Rattle.fx_type.proofs.Ends.{InRange-lowest, InRange-highest, least_sign, greatest_sign, scaled-mono, scaled-neg, least_possible, greatest_possible, sum_bounds}
 
 -- the range of a valid type has numbers of 128 bits
 pub InRange-fits : (t : FxType) (v : ℤ) → IsType t → InRange t v → FitsSigned w128 v

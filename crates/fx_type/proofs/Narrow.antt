@@ -1,5 +1,5 @@
 -- The narrowest type that has two ends.
-use Rattle.std.proofs.Common.{◌≡◌, ℕ, ◌+◌, ◌-◌, ◌*◌, ◌^◌, ◌<◌, ◌≤◌, max, true, false, ℤ, pos, negsuc, ◌≤ℤ◌, ap, arith, pow_pos, pow_mono, inl, inr, refl, true≢false}
+use Rattle.std.proofs.Common.{◌≡◌, ℕ, ◌+◌, ◌-◌, ◌^◌, ◌<◌, ◌≤◌, max, true, false, ℤ, pos, negsuc, ◌≤ℤ◌, ap, arith, pow_pos, pow_mono, inl, inr, refl, true≢false}
 use Rattle.std.proofs.lemmas.Bool.{cases_lt}
 use Rattle.std.proofs.lemmas.Int.{ints}
 use Rattle.fx_type.specs.declared.kind.FxType.{FxType}

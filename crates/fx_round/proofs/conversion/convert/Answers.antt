@@ -1,9 +1,9 @@
-use Rattle.std.proofs.Common.{◌≡◌, ◌^◌, ◌≤◌, ℕ, ℤ, pos, negsuc, ◌-ℤ◌, ◌*ℤ◌, ◌≤ℤ◌, nat_abs, Bool, FitsSigned, to_z, of_z, arith, sym, ◌∙◌, subst, subst₂, rules}
-use Rattle.std.specs.Int.{w16, w128, int_gap}
+use Rattle.std.proofs.Common.{◌≡◌, ◌^◌, pos, ◌-ℤ◌, ◌*ℤ◌, ◌≤ℤ◌, nat_abs, to_z, of_z, arith}
+use Rattle.std.specs.Int.{w16, w128}
 use Rattle.std.proofs.lemmas.Int.{ints, to_z-of_z}
 use Rattle.fx_type.specs.declared.kind.FxType.TheVariants.{Num}
 use Rattle.fx_type.specs.FxType.{IsType, frac_of}
-use Rattle.fx_type.specs.Conversion.{Settles, Converts}
+use Rattle.fx_type.specs.Conversion.{Settles}
 use Rattle.fx_round.specs.Split.{IsSplit}
 use Rattle.fx_round.proofs.Converting.{frac_bounds, gap_is, gap_none, converts_up, converts_down}
 use Rattle.fx_round.proofs.conversion.convert.Goals as goal

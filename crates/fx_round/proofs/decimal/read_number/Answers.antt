@@ -1,8 +1,7 @@
-use Rattle.std.proofs.Common.{◌≡◌, ℕ, ◌+◌, ◌≤◌, min, length, List, All, Some, true, ap, ap₂, sym, ◌∙◌, subst, arith, rules}
+use Rattle.std.proofs.Common.{◌≡◌, ℕ, ◌+◌, ◌≤◌, min, length, List, Some, ap, ap₂, sym, ◌∙◌, arith, rules}
 use Rattle.std.specs.Int.{w16}
 use Rattle.std.proofs.lemmas.Int.{to_z-of_z}
 use Rattle.std.specs.Str.Parse.{digits_value_after}
-use Rattle.std.specs.Char.{is_ascii_digit}
 use Rattle.fx_round.specs.DecimalText.{whole_digits, fraction_of, all_digits, front_digits, after_digits, after_sign, fraction_digits, after_fraction, exponent_of}
 use Rattle.fx_round.proofs.Reading.{front_pass, fraction_pass, read_known}
 use Rattle.fx_round.proofs.decimal.read_number.Goals as goal

@@ -1,5 +1,5 @@
-use Rattle.std.proofs.Common.{◌≡◌, ◌^◌, ◌≤◌, ◌+◌, ◌*◌, ◌-◌, ℕ, get_or, min, take, arith}
-use Rattle.std.specs.Char.{is_ascii_digit, digit_value}
+use Rattle.std.proofs.Common.{◌≡◌, ◌+◌, get_or, arith}
+use Rattle.std.specs.Char.{digit_value}
 use Rattle.fx_round.proofs.Reading.{digit_is, digit_range, after_more}
 use Rattle.fx_round.proofs.decimal.read_on.Goals as goal
 

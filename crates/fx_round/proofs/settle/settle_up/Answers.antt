@@ -1,9 +1,8 @@
-use Rattle.std.proofs.Common.{◌≡◌, ◌^◌, ◌≤◌, ℕ, ◌*◌, ◌%◌, ℤ, pos, ◌*ℤ◌, Bool, FitsSigned, to_z, of_z, arith, sym, subst, subst₂}
+use Rattle.std.proofs.Common.{◌^◌, ◌*◌, ◌%◌, to_z, of_z, arith}
 use Rattle.std.specs.Int.{w128}
 use Rattle.std.proofs.lemmas.Int.{to_z-of_z}
 use Rattle.fx_num.specs.Word.{IsWrapped}
 use Rattle.fx_type.specs.FxType.{is_signed, width_of}
-use Rattle.fx_type.specs.Conversion.{Settles}
 use Rattle.fx_round.proofs.Congruence.{shift_wrapped, zero_wrapped}
 use Rattle.fx_round.proofs.Converting.{type_word, word_bound}
 use Rattle.fx_round.proofs.settle.settle_up.Goals as goal

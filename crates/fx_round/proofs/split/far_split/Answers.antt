@@ -1,4 +1,4 @@
-use Rattle.std.proofs.Common.{◌≡◌, ◌^◌, ◌≤◌, ℕ, ℤ, pos, negsuc, ◌<ℤ◌, ap, sym, ◌∙◌, subst, arith, of_z, to_z, FitsSigned, inl, inr, zero, suc}
+use Rattle.std.proofs.Common.{ap, sym, ◌∙◌, arith, of_z, to_z, inl, inr}
 use Rattle.std.specs.Int.{w128}
 use Rattle.std.proofs.lemmas.Int.{ints, to_z-of_z}
 use Rattle.fx_round.proofs.Shifts.{far_positive, far_half, far_negative}

@@ -1,7 +1,6 @@
-use Rattle.std.proofs.Common.{◌≡◌, ℤ, pos, ◌+ℤ◌, ◌<ℤ◌, ◌≤ℤ◌, true, false, Bool, FitsSigned, to_z, of_z, arith, sym, ◌∙◌, subst, rules}
+use Rattle.std.proofs.Common.{◌≡◌, pos, ◌+ℤ◌, FitsSigned, to_z, of_z, arith, sym, rules}
 use Rattle.std.specs.Int.{w128}
 use Rattle.std.proofs.lemmas.Int.{ints, to_z-of_z}
-use Rattle.fx_type.specs.Conversion.{Rounds}
 use Rattle.fx_round.proofs.Rounding.{rounds_upper, rounds_lower, odd_test, even_test}
 use Rattle.fx_round.proofs.split.rounded.Goals as goal
 

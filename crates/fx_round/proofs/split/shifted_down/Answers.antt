@@ -1,9 +1,9 @@
-use Rattle.std.proofs.Common.{◌≡◌, ◌*◌, ◌%◌, ◌^◌, ◌<◌, ◌≤◌, ◌-◌, ℕ, ℤ, pos, ◌<ℤ◌, ap, ap₂, sym, ◌∙◌, subst, arith, pow_mono, bit_and, of_z, to_z, FitsSigned}
+use Rattle.std.proofs.Common.{◌≡◌, ◌*◌, ◌%◌, ◌^◌, ◌≤◌, ◌-◌, ap, ◌∙◌, arith, pow_mono, bit_and, of_z}
 use Rattle.std.specs.Int.{w128}
 use Rattle.std.specs.Int.Signed.{shr_z}
-use Rattle.std.proofs.lemmas.Int.{ints, to_z-of_z}
+use Rattle.std.proofs.lemmas.Int.{to_z-of_z}
 use Rattle.std.proofs.lemmas.Nat.{one_shl}
-use Rattle.fx_round.specs.Split.{IsPart, IsSplit}
+use Rattle.fx_round.specs.Split.{IsPart}
 use Rattle.fx_round.proofs.Shifts.{near_split, near_room, shr-fits}
 use Rattle.fx_round.proofs.split.shifted_down.Goals as goal
 

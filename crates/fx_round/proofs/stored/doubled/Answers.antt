@@ -1,7 +1,6 @@
-use Rattle.std.proofs.Common.{◌≡◌, ◌+◌, ◌*◌, ◌^◌, ◌<◌, ◌≤◌, ℕ, ℤ, pos, ap, sym, ◌∙◌, subst, refl, to_z, arith}
-use Rattle.std.specs.Int.{w128}
+use Rattle.std.proofs.Common.{◌≡◌, ◌*◌, ◌^◌, ℕ, ap, sym, ◌∙◌, refl, arith}
 use Rattle.std.proofs.lemmas.Int.{ints}
-use Rattle.fx_round.specs.Split.{IsMagnitude, mixed_count}
+use Rattle.fx_round.specs.Split.{mixed_count}
 use Rattle.fx_round.proofs.Sizes.{double_step, too_much, magnitude_is}
 use Rattle.fx_round.proofs.stored.doubled.Goals as goal
 

@@ -1,8 +1,8 @@
-use Rattle.std.proofs.Common.{◌≡◌, ◌+◌, ◌*◌, ◌/◌, ◌%◌, ◌-◌, ◌^◌, ◌<◌, ◌≤◌, ℕ, ℤ, pos, ap, sym, ◌∙◌, subst, refl, to_z, arith, bit_and, pow_pos, pow_mono, mod-lt}
+use Rattle.std.proofs.Common.{◌≡◌, ◌+◌, ◌*◌, ◌/◌, ◌%◌, ◌-◌, ◌^◌, ◌<◌, ◌≤◌, ℕ, pos, sym, subst, to_z, arith, pow_pos, pow_mono, mod-lt}
 use Rattle.std.specs.Int.{w128}
 use Rattle.std.proofs.lemmas.Int.{ints}
 use Rattle.std.proofs.lemmas.Nat.{one_shl, and_mask, shr_le}
-use Rattle.fx_round.specs.Split.{IsPart, IsMagnitude, mixed_count}
+use Rattle.fx_round.specs.Split.{IsPart}
 use Rattle.fx_round.proofs.Sizes.{halved_whole, halved_past, twice_half}
 use Rattle.fx_round.proofs.stored.halved.Goals as goal
 

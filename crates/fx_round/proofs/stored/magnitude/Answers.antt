@@ -1,7 +1,5 @@
-use Rattle.std.proofs.Common.{◌≡◌, ◌+◌, ◌*◌, ◌/◌, ◌%◌, ◌^◌, ◌<◌, ◌≤◌, ℕ, ℤ, pos, nat_abs, to_z, of_z, ap, ap₂, sym, ◌∙◌, subst₂, arith, mul-lt-mul_of_pos_right, mul-le-mul_left, div-le_self, div-add-mod', mod-lt}
-use Rattle.std.specs.Int.{w8, w16, int_gap}
-use Rattle.std.proofs.lemmas.Int.{ints, to_z-of_z}
-use Rattle.fx_round.specs.Split.{IsSize}
+use Rattle.std.proofs.Common.{◌*◌, ◌<◌, ◌≤◌, arith, mul-le-mul_left, mod-lt}
+use Rattle.std.proofs.lemmas.Int.{ints}
 use Rattle.fx_round.proofs.Sizes.{ten_bound, ten_positive}
 use Rattle.fx_round.proofs.stored.magnitude.Goals as goal
 

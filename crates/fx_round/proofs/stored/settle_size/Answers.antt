@@ -1,9 +1,9 @@
-use Rattle.std.proofs.Common.{◌≡◌, ◌<◌, ℕ, ℤ, pos, neg_ℤ, true, false, Bool, Some, None, FitsSigned, to_z, of_z, arith, sym, ◌∙◌, subst}
+use Rattle.std.proofs.Common.{◌≡◌, pos, neg_ℤ, to_z, of_z, arith, ◌∙◌}
 use Rattle.std.specs.Int.{w128}
 use Rattle.std.proofs.lemmas.Int.{ints, to_z-of_z}
 use Rattle.fx_type.specs.FxType.{lowest_of, highest_of}
-use Rattle.fx_type.specs.Conversion.{Saturates, StoresQuotient, signed_digits}
-use Rattle.fx_round.specs.Split.{IsMagnitude, IsSize}
+use Rattle.fx_type.specs.Conversion.{Saturates}
+use Rattle.fx_round.specs.Split.{IsMagnitude}
 use Rattle.fx_round.proofs.Sizes.{stores_high, huge_high, huge_low, highest_bound}
 use Rattle.fx_round.proofs.stored.settle_size.Goals as goal
 

@@ -1,7 +1,6 @@
-use Rattle.std.proofs.Common.{◌≡◌, ℤ, to_z, of_z, sym, subst, arith}
+use Rattle.std.proofs.Common.{to_z, of_z, arith}
 use Rattle.std.specs.Int.{w16}
 use Rattle.std.proofs.lemmas.Int.{ints, to_z-of_z}
-use Rattle.fx_type.specs.FullType.{IsFullSum}
 use Rattle.fx_type.specs.Span.{least_term, greatest_term, sum_of, IsSpan, FitSpan, IsNarrowest}
 use Rattle.fx_type.proofs.Ends.{least_sign, greatest_sign, sum_of-at_most, sum_of-at_least}
 use Rattle.fx_type.proofs.FullTypes.{OnErr-from, no_full_sum, full_sum_is}

@@ -1,6 +1,6 @@
-use Rattle.std.proofs.Common.{◌≡◌, Bool, false, ℤ, pos, to_z, of_z, ◌∙◌}
+use Rattle.std.proofs.Common.{Bool, false, pos, to_z, of_z, ◌∙◌}
 use Rattle.std.specs.Int.{w16}
-use Rattle.std.proofs.lemmas.Int.{ints, to_z-of_z}
+use Rattle.std.proofs.lemmas.Int.{to_z-of_z}
 use Rattle.fx_type.specs.declared.kind.FxType.{FxType}
 use Rattle.fx_type.specs.declared.kind.FxType.TheVariants.{Num}
 use Rattle.fx_type.proofs.Fracs.{bound_more, reached_more, greatest_of_all}

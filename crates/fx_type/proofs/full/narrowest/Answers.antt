@@ -1,7 +1,6 @@
-use Rattle.std.proofs.Common.{◌≡◌, ℤ, pos, negsuc, ◌-ℤ◌, nat_abs, to_z, of_z, arith}
+use Rattle.std.proofs.Common.{negsuc, ◌-ℤ◌, nat_abs, to_z, of_z, arith}
 use Rattle.std.specs.Int.{w16, w128}
 use Rattle.std.proofs.lemmas.Int.{ints, to_z-of_z}
-use Rattle.fx_type.specs.Span.{IsNarrowest}
 use Rattle.fx_type.proofs.Narrow.{IsLength, signed_type, unsigned_type}
 use Rattle.fx_type.proofs.full.narrowest.Goals as goal
 

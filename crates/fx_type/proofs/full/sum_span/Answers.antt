@@ -1,6 +1,6 @@
-use Rattle.std.proofs.Common.{◌≡◌, ℕ, ◌+◌, take, get_or, ℤ, ◌+ℤ◌, pos, false, Bool, to_z, of_z, arith, ap₂, subst₂, sym, ◌∙◌}
+use Rattle.std.proofs.Common.{take, get_or, ℤ, ◌+ℤ◌, pos, false, Bool, ap₂, subst₂, sym, ◌∙◌}
 use Rattle.std.specs.Int.{w16}
-use Rattle.std.proofs.lemmas.Int.{ints, to_z-of_z}
+use Rattle.std.proofs.lemmas.Int.{to_z-of_z}
 use Rattle.fx_type.specs.declared.kind.FxType.{FxType}
 use Rattle.fx_type.specs.declared.kind.FxType.TheVariants.{Num}
 use Rattle.fx_type.specs.Span.{least_term, greatest_term, sum_of, IsSpan, FitSpan}

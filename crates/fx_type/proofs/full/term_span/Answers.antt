@@ -1,7 +1,7 @@
-use Rattle.std.proofs.Common.{◌≡◌, ℕ, ◌^◌, ◌≤◌, pos, negsuc, ◌+ℤ◌, ◌*ℤ◌, ◌≤ℤ◌, MatchResult, true, false, Bool, ℤ, ◌-ℤ◌, neg_ℤ, nat_abs, FitsSigned, to_z, of_z, ap, ap₂, sym, ◌∙◌, arith}
+use Rattle.std.proofs.Common.{◌≡◌, ℕ, ◌^◌, pos, ◌*ℤ◌, Bool, ℤ, ◌-ℤ◌, neg_ℤ, nat_abs, FitsSigned, to_z, of_z, ap, ap₂, sym, ◌∙◌, arith}
 use Rattle.std.specs.Int.{w16, w128, int_gap}
 use Rattle.std.proofs.lemmas.Int.{ints, to_z-of_z}
-use Rattle.fx_type.specs.FxType.{frac_of, lowest_of, highest_of}
+use Rattle.fx_type.specs.FxType.{frac_of, highest_of}
 use Rattle.fx_type.specs.Span.{least_end, greatest_end}
 use Rattle.fx_type.proofs.Ends.{same_span, gap_is, frac_bounds, highest_sign}
 use Rattle.fx_type.proofs.full.term_span.Goals as goal

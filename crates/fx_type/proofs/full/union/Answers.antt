@@ -1,10 +1,9 @@
-use Rattle.std.proofs.Common.{◌≡◌, ◌≢◌, Bool, false, ℤ, pos, ◌≤ℤ◌, FitsSigned, to_z, of_z, sym, ◌∙◌, ap₂, subst, arith, rules}
+use Rattle.std.proofs.Common.{◌≡◌, ◌≢◌, false, ℤ, pos, ◌≤ℤ◌, to_z, of_z, ◌∙◌, ap₂, arith, rules}
 use Rattle.std.specs.Int.{w16, w128, int_max, int_min}
 use Rattle.std.proofs.lemmas.Int.{ints, clamps, to_z-of_z}
 use Rattle.fx_type.specs.declared.kind.FxType.{FxType}
 use Rattle.fx_type.specs.FxType.{frac_of}
-use Rattle.fx_type.specs.FullType.{IsUnion}
-use Rattle.fx_type.specs.Span.{least_term, greatest_term, IsSpan, FitSpan, IsNarrowest}
+use Rattle.fx_type.specs.Span.{least_term, greatest_term, FitSpan}
 use Rattle.fx_type.proofs.Ends.{least_sign, greatest_sign, frac_bounds}
 use Rattle.fx_type.proofs.FullTypes.{OnErr-from, no_left, no_right, union_is}
 use Rattle.fx_type.proofs.full.union.Goals as goal
