@@ -300,12 +300,12 @@ lays_read (token ∷ tokens) bytes w mode lexeme old after lays fits =
     let parts = and_parts (follows old token && is_fine token) (safe token tokens) fits in
     let here = and_parts (follows old token) (is_fine token) parts.0 in
     let is : IsLexed token lays.1 = lexed token lays.1 here.1 lays.5 in
-    let more : AreLexemes tokens lays.2 is.mode lays.1 = lays_read tokens lays.2 (is_word token) is.mode lays.1 token is.after lays.6 parts.1 in
+    let more : AreLexemes tokens lays.2 is.mode lays.1 = lays_read tokens lays.2 (is_word token) is.mode lays.1 token is.after lays.7 parts.1 in
     record {
       lexemes = lays.1 ∷ more.lexemes;
       writes = (lays.1, more.lexemes, refl, lays.5, more.writes);
       same =
-          ap (lexemes_from mode lexeme) (lays.7 ∙ append_assoc lays.0 lays.1 lays.2)
+          ap (lexemes_from mode lexeme) (lays.8 ∙ append_assoc lays.0 lays.1 lays.2)
           ∙ before_token lays.0 lays.1 lays.2 token is w mode lexeme old after lays.3 lays.4 here.0
           ∙ ap (option_map (λ more. ended mode lexeme ++ more)) (is.read lays.2 ∙ more.same)
           ∙ ap (λ l. Some (ended mode lexeme ++ (l ++ more.lexemes))) is.lexeme;
