@@ -1,5 +1,5 @@
 -- The bits of a number fit their width.
-use Rattle.std.proofs.Common.{◌≡◌, ◌<◌, ◌≤◌, ◌%◌, ◌^◌, ◌-◌, ℕ, ℤ, pos, negsuc, true, refl, arith}
+use Rattle.std.proofs.Common.{◌≡◌, ◌<◌, ◌%◌, ℤ, pos, negsuc, true, arith}
 use Rattle.std.proofs.lemmas.Nat.{mod_below}
 use Rattle.std.proofs.lemmas.Bool.{lt-ltb}
 use Rattle.vl_ast.specs.Driven.{bits_of}

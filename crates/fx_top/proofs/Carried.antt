@@ -1,16 +1,13 @@
 -- The module of one delay carries the bits of its model.
-use Rattle.std.proofs.Common.{◌≡◌, ◌<◌, ◌≤◌, ◌%◌, ◌+◌, ◌*◌, ◌-◌, ◌^◌, ◌==◌, max, if◌then◌else◌, ℕ, zero, suc, ℤ, List, [], ◌∷◌, Bool, true, false, None, Some, Contains, slice_get, codes, bytes_eq, refl, ap, sym, ◌∙◌, subst, arith, filter}
+use Rattle.std.proofs.Common.{◌≡◌, ◌<◌, ◌≤◌, ◌%◌, ◌+◌, ◌*◌, ◌-◌, ◌^◌, if◌then◌else◌, ℕ, zero, suc, ℤ, List, [], ◌∷◌, Bool, true, false, None, Some, Contains, slice_get, codes, refl, ap, sym, ◌∙◌, subst, arith}
 use Rattle.std.proofs.Math.Nat.{mod-eq_of_lt}
-use Rattle.vl_ast.specs.declared.expressions.Sized.{Sized}
 use Rattle.vl_ast.specs.declared.expressions.Expr.TheVariants.{Name}
-use Rattle.vl_ast.specs.declared.modules.Port.{Port}
-use Rattle.vl_ast.specs.declared.modules.Module.{Module}
-use Rattle.vl_ast.specs.Context.{Net, own_length, is_signed}
-use Rattle.vl_ast.specs.Value.{Bits, extended, is_negative, assigned, assigned_number, value_in}
+use Rattle.vl_ast.specs.Context.{Net}
+use Rattle.vl_ast.specs.Value.{Bits, is_negative, assigned, assigned_number}
 use Rattle.vl_ast.specs.Nets.{Declared, Kind, InputPort, OutputPort, Register, declarations, nets_of}
 use Rattle.vl_ast.specs.Driven.{Driven, bits_of, stimulus_ports}
 use Rattle.vl_ast.specs.Runs.{Runs, next_bits}
-use Rattle.fx_top.specs.Carries.{Carries, CarriesBits, OutputElement, IsStimulus, input_port, output_port, bit_input}
+use Rattle.fx_top.specs.Carries.{Carries, CarriesBits, OutputElement, input_port, bit_input}
 use Rattle.fx_top.specs.declared.one_delay.OneDelay.{OneDelay}
 use Rattle.fx_top.specs.OneDelay.{delay_interface, delay_entries, delayed, byte_element}
 use Rattle.fx_top.specs.DelayModule.{register, delay_module}
@@ -31,7 +28,7 @@ pub assigned-byte : (nets : List ℕ → Net) (row : List ℕ → ℕ) (name : L
 assigned-byte nets row name net below =
     let bits : Bits = record { width = 8; signed = true; bits = row name } in
     simp (own_length-name, is_signed-name, value_in-name, net) (
-      ap (λ (n : ℕ). n % 256) (extended-same (is_negative bits) (row name) 8) ∙ mod-eq_of_lt below)
+    ap (λ (n : ℕ). n % 256) (extended-same (is_negative bits) (row name) 8) ∙ mod-eq_of_lt below)
 
 assigned-number : (number : ℤ) → assigned_number 8 (record { width = 8; signed = true; bits = bits_of 8 number }) ≡ bits_of 8 number
 assigned-number number =
@@ -94,7 +91,7 @@ module _ (d : OneDelay) (n : AreDifferent d.input d.output) where
         let here : last + 1 + t < count = omega arith in
         let released : rows (last + 1 + t) (codes "reset") ≡ 0 = reset-shown (last + 1 + t) here ∙ driven.released (last + 1 + t) (omega arith) here in
         let given : rows (last + 1 + t) d.input ≡ bits_of 8 (stimulus 0 t) =
-            input-shown (last + 1 + t) here ∙ driven.shows 1 0 1 (input_port (byte_element d.input)) refl stimulus-port refl t t sample (grind arith) (omega arith) (omega arith) here in
+        input-shown (last + 1 + t) here ∙ driven.shows 1 0 1 (input_port (byte_element d.input)) refl stimulus-port refl t t sample (grind arith) (omega arith) (omega arith) here in
         let fits : rows (last + 1 + t) d.input < 256 = subst (λ (bits : ℕ). bits < 256) (sym given) (bits-fit (stimulus 0 t)) in
         stepped (last + 1 + t) below ∙ simp (released, net-register) (assigned-byte (nets_of (delay_module d)) (rows (last + 1 + t)) d.input net-input fits ∙ given)
 
@@ -123,9 +120,9 @@ module _ (d : OneDelay) (n : AreDifferent d.input d.output) where
 
   carries-bits : CarriesBits (delay_module d) (delay_interface d) (delay_entries d)
   carries-bits = record {
-      shows = λ samples count last stimulus start inputs rows within driven runs place output same.
-          shown-at samples count last stimulus start inputs rows driven runs place output same
-    }
+    shows = λ samples count last stimulus start inputs rows within driven runs place output same.
+        shown-at samples count last stimulus start inputs rows driven runs place output same;
+  }
 
 pub carries : (d : OneDelay) → AreDifferent d.input d.output → Carries (delay_module d) (delay_interface d) (delay_entries d)
 carries d n = record { header = has-header d n; bits = carries-bits d n }

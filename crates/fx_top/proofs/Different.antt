@@ -42,7 +42,7 @@ are-different texts names =
       u-y = unequal u y names.ends_differ;
       y-u = unequal y u (λ e. names.ends_differ (sym e));
       u-u = equal u;
-      y-y = equal y
+      y-y = equal y;
     }
 
 pub delay-different : (tree : Tree) (delay : OneDelay) → IsOneDelay tree delay → AreDifferent delay.input delay.output

@@ -1,21 +1,18 @@
 -- Why `generate` answers as it does, from each of its ends.
-use Rattle.std.proofs.Common.{◌≡◌, ◌<◌, ◌≤◌, ℕ, List, [], ◌∷◌, length, nat_lt, true, false, Contains, Option, None, Some, refl, ap, sym, ◌∙◌, subst, arith}
+use Rattle.std.proofs.Common.{◌≡◌, ◌<◌, ◌≤◌, ℕ, List, [], ◌∷◌, length, nat_lt, false, Contains, None, Some, refl, ap, sym, ◌∙◌, subst, arith}
 use Rattle.std.proofs.lemmas.Bool.{lt-ltb, false_from_ne_true, ltb-true}
 use Rattle.mdl_text.specs.declared.tree.Tree.{Tree}
 use Rattle.mdl_text.specs.Stands.{Stands}
-use Rattle.fx_io.specs.Shelf.{Told, Fetched, IsOverlong}
-use Rattle.fx_top.specs.declared.one_delay.OneDelay.{OneDelay}
+use Rattle.fx_io.specs.Shelf.{Told, Fetched}
 use Rattle.fx_top.specs.declared.answer.Answer.{Answer}
 use Rattle.fx_top.specs.declared.answer.Answer.TheVariants.{Done, OutOfMemory, Usage, CannotRead, CannotWrite, NotMdl, TooLong, NotBuilt}
 use Rattle.fx_top.specs.Answer.{status_of}
-use Rattle.fx_top.specs.Caused.{IsCaused}
-use Rattle.fx_top.specs.Cause.{CannotBeRead, IsTooLong}
-use Rattle.fx_top.specs.Command.{Command, Generate, files_of}
+use Rattle.fx_top.specs.Command.{Generate}
 use Rattle.fx_top.specs.DelayTree.{IsOneDelay}
-use Rattle.fx_top.specs.Fetching.{IsFetchAnswer, IsUnread, IsUnfit}
+use Rattle.fx_top.specs.Fetching.{IsFetchAnswer}
 use Rattle.fx_top.specs.Outcome.{IsDue}
-use Rattle.fx_top.specs.Output.{IsVerilogOf, IsNotMdl, IsNotBuilt, IsNoText}
-use Rattle.fx_top.specs.Trouble.{Trouble, Absent, Overlong, trouble_or, first_trouble, file_limit}
+use Rattle.fx_top.specs.Output.{IsVerilogOf, IsNotBuilt, IsNoText}
+use Rattle.fx_top.specs.Trouble.{Absent, Overlong, trouble_or, first_trouble, file_limit}
 
 -- the trouble with one file
 when-absent : (held : List ℕ → Told) (file : List ℕ) → held file ≡ Some None → first_trouble held (file ∷ []) ≡ Some (Absent file)
@@ -34,29 +31,29 @@ module _ (held : List ℕ → Told) (steady : Type 0) (model : List ℕ) where
   -- without memory everything else gives way
   due-memory : IsDue held steady 1 (Generate model)
   due-memory = record {
-      read_fault = λ s file e. (1, omega arith, refl);
-      too_long = λ s file length e. (1, omega arith, refl);
-      syntax = λ bytes told none. (1, omega arith, refl);
-      not_built = λ bytes told other. (1, omega arith, refl)
-    }
+    read_fault = λ s file e. (1, omega arith, refl);
+    too_long = λ s file length e. (1, omega arith, refl);
+    syntax = λ bytes told none. (1, omega arith, refl);
+    not_built = λ bytes told other. (1, omega arith, refl);
+  }
 
   due-absent : (steady → held model ≡ Some None) → IsDue held steady 3 (Generate model)
   due-absent absent = record {
-      read_fault = λ s file e. (0, omega arith, refl);
-      too_long = λ s file length e. let is = when-absent held model (absent s) in absurd (cc (is, e));
-      syntax = λ bytes told none. (2, omega arith, refl);
-      not_built = λ bytes told other. (2, omega arith, refl)
-    }
+    read_fault = λ s file e. (0, omega arith, refl);
+    too_long = λ s file length e. let is = when-absent held model (absent s) in absurd (cc (is, e));
+    syntax = λ bytes told none. (2, omega arith, refl);
+    not_built = λ bytes told other. (2, omega arith, refl);
+  }
 
   due-overlong : (steady → (bytes : List ℕ) × ((held model ≡ Some (Some bytes)) × (file_limit < length bytes))) → IsDue held steady 9 (Generate model)
   due-overlong overlong = record {
-      read_fault = λ s file e.
-          let long = overlong s in
-          let is = when-overlong held model long.0 long.1.0 long.1.1 in absurd (cc (is, e));
-      too_long = λ s file length e. (0, omega arith, refl);
-      syntax = λ bytes told none. (3, omega arith, refl);
-      not_built = λ bytes told other. (3, omega arith, refl)
-    }
+    read_fault = λ s file e.
+        let long = overlong s in
+        let is = when-overlong held model long.0 long.1.0 long.1.1 in absurd (cc (is, e));
+    too_long = λ s file length e. (0, omega arith, refl);
+    syntax = λ bytes told none. (3, omega arith, refl);
+    not_built = λ bytes told other. (3, omega arith, refl);
+  }
 
   pub due-unfetched : (rose rose_overlong : Type 0) (answer : Answer) → IsFetchAnswer (held model) steady rose rose_overlong model answer → IsDue held steady (status_of answer) (Generate model)
   due-unfetched rose rose_overlong Done why = absurd why
@@ -76,11 +73,11 @@ module _ (held : List ℕ → Told) (steady : Type 0) (model : List ℕ) where
     -- what is due once the file is there: the text decides
     due-fetched : (status : ℕ) → (IsNoText bytes → Contains (5 ∷ 1 ∷ 3 ∷ 9 ∷ []) status) → (IsNotBuilt bytes → Contains (10 ∷ 1 ∷ 3 ∷ 9 ∷ []) status) → IsDue held steady status (Generate model)
     due-fetched status syntax not_built = record {
-        read_fault = λ s file e. let is = when-whole held model bytes (told s) fetched.within in absurd (cc (is, e));
-        too_long = λ s file length e. let is = when-whole held model bytes (told s) fetched.within in absurd (cc (is, e));
-        syntax = λ other is none. syntax (subst IsNoText (same-bytes other is) none);
-        not_built = λ other is form. not_built (subst IsNotBuilt (same-bytes other is) form)
-      }
+      read_fault = λ s file e. let is = when-whole held model bytes (told s) fetched.within in absurd (cc (is, e));
+      too_long = λ s file length e. let is = when-whole held model bytes (told s) fetched.within in absurd (cc (is, e));
+      syntax = λ other is none. syntax (subst IsNoText (same-bytes other is) none);
+      not_built = λ other is form. not_built (subst IsNotBuilt (same-bytes other is) form);
+    }
 
     pub due-not_mdl : IsNoText bytes → IsDue held steady 5 (Generate model)
     due-not_mdl none = due-fetched 5 (λ _. (0, omega arith, refl)) (λ other. absurd (none other.tree other.stands))

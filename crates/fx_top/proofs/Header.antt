@@ -1,11 +1,8 @@
 -- The header of the module of one delay.
-use Rattle.std.proofs.Common.{◌≡◌, List, ℕ, [], ◌∷◌, true, false, None, Some, codes, bytes_eq, refl, ap, ◌∙◌}
-use Rattle.vl_ast.specs.declared.expressions.Expr.TheVariants.{Name}
-use Rattle.vl_ast.specs.declared.modules.Module.{Module}
-use Rattle.vl_ast.specs.Nets.{Mention, Declares, Drives, Reads, Clocks, Declared, InputPort, OutputPort, Register, mentions, declarations, declared_by, nets_of, item_mentions, names_read}
-use Rattle.vl_ast.specs.Conditions.{undriven, doubly, too_wide, no_reset, no_attribute, is_undriven, first_fault}
+use Rattle.std.proofs.Common.{◌≡◌, None, refl}
+use Rattle.vl_ast.specs.Conditions.{undriven, doubly, too_wide, no_reset, no_attribute}
 use Rattle.fx_top.specs.declared.one_delay.OneDelay.{OneDelay}
-use Rattle.fx_top.specs.DelayModule.{register, delay_module}
+use Rattle.fx_top.specs.DelayModule.{delay_module}
 use Rattle.fx_top.proofs.Names.{AreDifferent, names_read-name, sound-name, own_length-name}
 use Rattle.fx_top.proofs.Bits.{bits-are_number}
 use Rattle.fx_top.proofs.Loop.{no-loop}
@@ -28,14 +25,13 @@ no_reset-none d n = simp (names_read-name, sound-name, own_length-name, n.clk-u,
 no_attribute-none : (d : OneDelay) → AreDifferent d.input d.output → no_attribute (delay_module d) ≡ None
 no_attribute-none d n = simp (names_read-name, sound-name, own_length-name, n.clk-u, n.u-clk, n.reset-u, n.u-reset, n.register-u, n.u-register, n.clk-y, n.y-clk, n.reset-y, n.y-reset, n.register-y, n.y-register, n.u-y, n.y-u, n.u-u, n.y-y)
 
-
 pub breaks-none : (d : OneDelay) → AreDifferent d.input d.output → BreaksNone (delay_module d)
 breaks-none d n = record {
-    acyclic = record { driven = undriven-none d n; once = doubly-none d n; acyclic = no-loop d n };
-    narrow = too_wide-none d n;
-    clocked = no_reset-none d n;
-    attributed = no_attribute-none d n
-  }
+  acyclic = record { driven = undriven-none d n; once = doubly-none d n; acyclic = no-loop d n };
+  narrow = too_wide-none d n;
+  clocked = no_reset-none d n;
+  attributed = no_attribute-none d n;
+}
 
 pub has-header : (d : OneDelay) → AreDifferent d.input d.output → HasHeader (delay_module d) (delay_interface d)
 has-header d n = record { name = refl; attrs = refl; ports = refl; sound = breaks-none d n }

@@ -7,4 +7,5 @@ pub mod Loop
 pub mod Names
 pub mod Running
 pub mod Sayings
+pub mod Spelled
 pub mod Texts

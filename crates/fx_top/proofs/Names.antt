@@ -1,5 +1,5 @@
 -- The names of the module of one delay are different, and what a name is as an expression.
-use Rattle.std.proofs.Common.{◌≡◌, ◌%◌, ◌^◌, List, ℕ, [], ◌∷◌, Bool, true, false, codes, bytes_eq, ap, sym, ◌∙◌}
+use Rattle.std.proofs.Common.{◌≡◌, List, ℕ, [], ◌∷◌, Bool, true, false, codes, bytes_eq, ap, sym, ◌∙◌}
 use Rattle.vl_ast.specs.declared.expressions.Expr.TheOpen.{Expr-F}
 use Rattle.vl_ast.specs.declared.expressions.Expr.TheFolds.{fold-roll-Expr, para-roll-Expr}
 use Rattle.vl_ast.specs.declared.expressions.Expr.TheVariants.{Name, rolls-Name}

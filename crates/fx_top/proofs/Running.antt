@@ -150,30 +150,30 @@ module _ (words : List (List ℕ)) (held : List ℕ → Told) (steady rose rose_
 
     pub read_fault-clause : AnswersReadFault words held steady rose said (status_of answer)
     read_fault-clause = record {
-        cause = for-command _ 3 (λ e. omega arith) (λ command cause e. unread-of held steady rose rose_overlong rose_out before now command said answer cause line e) (command_of words) refl why;
-        due = due-command _ (λ command due. due.read_fault) (command_of words) refl why
-      }
+      cause = for-command _ 3 (λ e. omega arith) (λ command cause e. unread-of held steady rose rose_overlong rose_out before now command said answer cause line e) (command_of words) refl why;
+      due = due-command _ (λ command due. due.read_fault) (command_of words) refl why;
+    }
 
     pub write_fault-clause : AnswersWriteFault words held rose_out before now said (status_of answer)
     write_fault-clause = for-command _ 4 (λ e. omega arith) (λ command cause e. unwritten-of held steady rose rose_overlong rose_out before now command said answer cause line e) (command_of words) refl why
 
     pub syntax-clause : AnswersSyntax words held said (status_of answer)
     syntax-clause = record {
-        cause = for-command _ 5 (λ e. omega arith) (λ command cause e. syntax-of held steady rose rose_overlong rose_out before now command said answer cause line e) (command_of words) refl why;
-        due = due-command _ (λ command due. due.syntax) (command_of words) refl why
-      }
+      cause = for-command _ 5 (λ e. omega arith) (λ command cause e. syntax-of held steady rose rose_overlong rose_out before now command said answer cause line e) (command_of words) refl why;
+      due = due-command _ (λ command due. due.syntax) (command_of words) refl why;
+    }
 
     pub too_long-clause : AnswersTooLong words held steady rose_overlong said (status_of answer)
     too_long-clause = record {
-        cause = for-command _ 9 (λ e. omega arith) (λ command cause e. too_long-of held steady rose rose_overlong rose_out before now command said answer cause line e) (command_of words) refl why;
-        due = due-command _ (λ command due. due.too_long) (command_of words) refl why
-      }
+      cause = for-command _ 9 (λ e. omega arith) (λ command cause e. too_long-of held steady rose rose_overlong rose_out before now command said answer cause line e) (command_of words) refl why;
+      due = due-command _ (λ command due. due.too_long) (command_of words) refl why;
+    }
 
     pub not_built-clause : AnswersNotBuilt words held said (status_of answer)
     not_built-clause = record {
-        cause = for-command _ 10 (λ e. omega arith) (λ command cause e. not_built-of held steady rose rose_overlong rose_out before now command said answer cause line e) (command_of words) refl why;
-        due = due-command _ (λ command due. due.not_built) (command_of words) refl why
-      }
+      cause = for-command _ 10 (λ e. omega arith) (λ command cause e. not_built-of held steady rose rose_overlong rose_out before now command said answer cause line e) (command_of words) refl why;
+      due = due-command _ (λ command due. due.not_built) (command_of words) refl why;
+    }
 
     usage-of : (named : Option Command) → CarriedOut named → (status_of answer ≡ 2 → named ≡ None) × (named ≡ None → status_of answer ≡ 2)
     usage-of None why = (λ _. refl, λ _. subst (λ (a : Answer). status_of a ≡ 2) (sym why.0) refl)
@@ -182,9 +182,9 @@ module _ (words : List (List ℕ)) (held : List ℕ → Told) (steady rose rose_
 
     pub usage-clause : AnswersUsage words said (status_of answer)
     usage-clause = record {
-        exact = usage-of (command_of words) why;
-        message = λ e. usage-said said answer line e
-      }
+      exact = usage-of (command_of words) why;
+      message = λ e. usage-said said answer line e;
+    }
 
     untouched-by : (named : Option Command) → CarriedOut named → status_of answer ≢ 0 → status_of answer ≢ 4 → now ≡ before
     untouched-by None why not_done not_cut = why.1

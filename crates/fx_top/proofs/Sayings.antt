@@ -1,7 +1,6 @@
 -- Bytes said in two steps.
-use Rattle.std.proofs.Common.{◌≡◌, ◌≤◌, ◌+◌, ℕ, List, ◌++◌, [], ◌∷◌, length, take, Option, None, Some, refl, ap, append_assoc, ◌∙◌, sym, arith}
+use Rattle.std.proofs.Common.{◌≡◌, ◌≤◌, ◌+◌, ℕ, List, ◌++◌, length, take, Option, None, Some, refl, ap, append_assoc, ◌∙◌, sym, arith}
 use Rattle.std.proofs.Math.Seq.{take-append-add}
-use Rattle.fx_io.specs.Cause.{Rose}
 use Rattle.fx_io.specs.Sink.{also_took}
 use Rattle.fx_top.specs.Said.{Said}
 
@@ -13,8 +12,8 @@ pub said-more : (told before now : Option (List ℕ)) (f0 f1 f2 : ℕ) (piece mo
     → Said before now f1 f2 more → Said told now f0 f2 (piece ++ more)
 said-more told before now f0 f1 f2 piece more took later said =
     let joined : (bytes : List ℕ) → now ≡ also_took before bytes → now ≡ also_took told (piece ++ bytes) =
-        λ bytes is. is ∙ ap (λ (state : Option (List ℕ)). also_took state bytes) took ∙ took-both told piece bytes in
+    λ bytes is. is ∙ ap (λ (state : Option (List ℕ)). also_took state bytes) took ∙ took-both told piece bytes in
     record {
       prefix = (length piece + said.prefix.0, joined (take said.prefix.0 more) said.prefix.1 ∙ ap (also_took told) (sym (take-append-add piece more said.prefix.0)));
-      whole = λ calm. joined more (said.whole (λ rose. calm (omega arith)))
+      whole = λ calm. joined more (said.whole (λ rose. calm (omega arith)));
     }

@@ -37,21 +37,21 @@ bit_input name = record { attrs = []; input = true; signed = false; width = 1; n
 
 abbrev pub input_port : Element → Port
 input_port element = record {
-    attrs = attribute_of (codes "fx_period") element.period ∷ [];
-    input = true;
-    signed = element.signed;
-    width = element.width;
-    name = element.name
-  }
+  attrs = attribute_of (codes "fx_period") element.period ∷ [];
+  input = true;
+  signed = element.signed;
+  width = element.width;
+  name = element.name;
+}
 
 abbrev pub output_port : OutputElement → Port
 output_port output = record {
-    attrs = attribute_of (codes "fx_period") output.element.period ∷ attribute_of (codes "fx_latency") output.latency ∷ [];
-    input = false;
-    signed = output.element.signed;
-    width = output.element.width;
-    name = output.element.name
-  }
+  attrs = attribute_of (codes "fx_period") output.element.period ∷ attribute_of (codes "fx_latency") output.latency ∷ [];
+  input = false;
+  signed = output.element.signed;
+  width = output.element.width;
+  name = output.element.name;
+}
 
 -- the module's name, attribute and ports, and that it breaks none of the six conditions
 pub record HasHeader (m : Module) (interface : Interface) : Type 0 where

@@ -1,6 +1,5 @@
 -- The module of a model of one delay: one register, which the output shows.
 use Rattle.std.specs.Prelude.{ℕ, ℤ, true, List, [], ◌∷◌, codes, None}
-use Rattle.vl_ast.specs.declared.expressions.Sized.{Sized}
 use Rattle.vl_ast.specs.declared.expressions.Expr.TheVariants.{Name}
 use Rattle.vl_ast.specs.declared.modules.ModItem.{ModItem}
 use Rattle.vl_ast.specs.declared.modules.ModItem.TheVariants.{Reg, Assign, Always}
@@ -8,7 +7,7 @@ use Rattle.vl_ast.specs.declared.modules.Module.{Module}
 use Rattle.vl_ast.specs.Driven.{bits_of}
 use Rattle.fx_top.specs.Carries.{attribute_of, bit_input, input_port, output_port}
 use Rattle.fx_top.specs.declared.one_delay.OneDelay.{OneDelay}
-use Rattle.fx_top.specs.OneDelay.{delay_interface, byte_element}
+use Rattle.fx_top.specs.OneDelay.{byte_element}
 
 abbrev pub register : List ℕ
 register = codes "fx_delay"
@@ -22,9 +21,9 @@ delay_items input output initial =
 
 abbrev pub delay_module : OneDelay → Module
 delay_module delay = record {
-    name = codes "fx_model";
-    attrs = attribute_of (codes "fx_cycles") 1 ∷ [];
-    ports = bit_input (codes "clk") ∷ bit_input (codes "reset") ∷ input_port (byte_element delay.input)
+  name = codes "fx_model";
+  attrs = attribute_of (codes "fx_cycles") 1 ∷ [];
+  ports = bit_input (codes "clk") ∷ bit_input (codes "reset") ∷ input_port (byte_element delay.input)
       ∷ output_port (record { element = byte_element delay.output; lat = 0; latency = 0 }) ∷ [];
-    items = delay_items delay.input delay.output delay.initial
-  }
+  items = delay_items delay.input delay.output delay.initial;
+}

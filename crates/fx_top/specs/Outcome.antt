@@ -1,6 +1,6 @@
 -- What each exit status means. `said` tells of a line that the stream of messages took it, or a prefix of it where that
 -- stream failed.
-use Rattle.std.specs.Prelude.{◌≡◌, ℕ, ◌⊎◌, ◌↔◌, List, [], ◌∷◌, Contains, Option, Some, None}
+use Rattle.std.specs.Prelude.{◌≡◌, ℕ, ◌↔◌, List, [], ◌∷◌, Contains, Option, Some, None}
 use Rattle.fx_io.specs.Shelf.{Told}
 use Rattle.fx_top.specs.Command.{Command, command_of, model_of, files_of}
 use Rattle.fx_top.specs.Trouble.{Absent, Overlong, first_trouble}

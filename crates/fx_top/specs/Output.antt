@@ -5,6 +5,7 @@ use Rattle.mdl_text.specs.declared.tree.Tree.{Tree}
 use Rattle.mdl_text.specs.Stands.{Stands}
 use Rattle.mdl_text.specs.Prefix.{IsFaultLine}
 use Rattle.vl_ast.specs.declared.modules.Module.{Module}
+use Rattle.vl_ast.specs.Grammar.{Spells}
 use Rattle.vl_ast.specs.Spelling.{spelling}
 use Rattle.fx_top.specs.declared.one_delay.OneDelay.{OneDelay}
 use Rattle.fx_top.specs.Carries.{Carries}
@@ -13,7 +14,12 @@ use Rattle.fx_top.specs.DelayTree.{IsOneDelay}
 use Rattle.fx_top.specs.OneDelay.{delay_interface, delay_entries}
 use Rattle.fx_top.specs.Trouble.{file_limit}
 
--- the text is the written one of a module that carries the bits of the model of the bytes
+-- the text spells this module and no other
+pub record SpellsAlone (text : List ℕ) (made : Module) : Type 0 where
+  pub spells : Spells text made
+  pub alone : (other : Module) → Spells text other → other ≡ made
+
+-- the text is the written one of a module that carries the bits of the model of the bytes, and spells it alone
 pub record IsVerilogOf (bytes text : List ℕ) : Type 0 where
   pub tree : Tree
   pub stands : Stands bytes tree
@@ -21,6 +27,7 @@ pub record IsVerilogOf (bytes text : List ℕ) : Type 0 where
   pub form : IsOneDelay tree delay
   pub made : Module
   pub spelled : text ≡ spelling made
+  pub alone : SpellsAlone text made
   pub carries : Carries made (delay_interface delay) (delay_entries delay)
 
 -- the bytes are no MDL text

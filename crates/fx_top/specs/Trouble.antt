@@ -1,5 +1,5 @@
 -- The first of the files that can't be had whole, where a shelf tells what it holds.
-use Rattle.std.specs.Prelude.{◌≡◌, ℕ, nat_lt, if◌then◌else◌, List, [], ◌∷◌, length, Option, Some, None}
+use Rattle.std.specs.Prelude.{ℕ, nat_lt, if◌then◌else◌, List, [], ◌∷◌, length, Option, Some, None}
 use Rattle.fx_io.specs.Shelf.{Told}
 
 -- how many bytes a file has at most (own)

@@ -57,11 +57,22 @@ impl Answer<'_> {
             Answer::CannotWrite => say(err, &[b"cannot write\n"]),
             Answer::NotMdl { file, line } => {
                 let line = digits.format(*line).as_bytes();
-                say(err, &[file.as_bytes(), b": line ", line, b": not MDL text\n"])
+                say(
+                    err,
+                    &[file.as_bytes(), b": line ", line, b": not MDL text\n"],
+                )
             }
             Answer::TooLong { file, length } => {
                 let length = digits.format(*length).as_bytes();
-                say(err, &[file.as_bytes(), b": ", length, b" bytes, at most 16777216\n"])
+                say(
+                    err,
+                    &[
+                        file.as_bytes(),
+                        b": ",
+                        length,
+                        b" bytes, at most 16777216\n",
+                    ],
+                )
             }
             Answer::NotBuilt { file } => say(err, &[file.as_bytes(), b": not built: tree\n"]),
         }

@@ -72,6 +72,9 @@ fn verilog_of(alloc: Global, bytes: &[u8]) -> Result<Text, GenerateFault>
     ensures syntax { (line : ℕ) → result ≡ Err (GenerateFault.NotMdl line) → IsNotMdl bytes.now line }
     ensures not_built { result ≡ Err GenerateFault.NotBuilt → IsNotBuilt bytes.now }
 {
+    vl_ast::numbers_are_writable();
+    vl_ast::tokens_spell();
+    vl_read::unique();
     let tree = match mdl_text::read(alloc, bytes) {
         Ok(tree) => tree,
         Err(MdlFault::Syntax { line }) => return Err(GenerateFault::NotMdl { line }),

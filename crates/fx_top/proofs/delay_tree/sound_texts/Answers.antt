@@ -1,5 +1,5 @@
-use Rattle.std.proofs.Common.{◌≡◌, ℤ, ap, sym, subst, ◌∙◌}
-use Rattle.fx_top.specs.DelayTree.{DelayTexts, IsSmallNumber, HasSoundNames}
+use Rattle.std.proofs.Common.{sym, subst, ◌∙◌}
+use Rattle.fx_top.specs.DelayTree.{DelayTexts, IsSmallNumber}
 use Rattle.fx_top.specs.Template.{texts_of}
 use Rattle.fx_top.proofs.Texts.{same-texts}
 use Rattle.fx_top.proofs.delay_tree.sound_texts.Goals as goal
