@@ -14,3 +14,6 @@ mod top;
 
 pub use one_delay::OneDelay;
 pub use top::run;
+
+#[cfg(test)]
+mod tests;
