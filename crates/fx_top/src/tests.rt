@@ -55,3 +55,160 @@ fn run_succeeds_with_ample_memory(rt: HostRuntime) -> Result<(), Fail> {
     }
     Ok(())
 }
+
+#[test]
+fn each_status_has_its_line(rt: HostRuntime) -> Result<(), Fail> {
+    let generate: &[&str] = &["generate", "m", "-"];
+    let rows: &[(&[&str], &str, u8, &str)] = &[
+        (
+            &["generate", "m"],
+            UNIT_DELAY,
+            2,
+            "usage: generate MODEL -\n",
+        ),
+        (&[], UNIT_DELAY, 2, "usage: generate MODEL -\n"),
+        (
+            &["invent", "m", "-"],
+            UNIT_DELAY,
+            2,
+            "usage: generate MODEL -\n",
+        ),
+        (
+            &["generate", "m", "p"],
+            UNIT_DELAY,
+            2,
+            "usage: generate MODEL -\n",
+        ),
+        (
+            &["generate", "n", "-"],
+            UNIT_DELAY,
+            3,
+            "n: cannot be read\n",
+        ),
+        (generate, "", 10, "m: not built: tree\n"),
+        (
+            generate,
+            "Model {\n  Name {\n",
+            5,
+            "m: line 3: not MDL text\n",
+        ),
+        (generate, "Model {\n}\n}\n", 5, "m: line 3: not MDL text\n"),
+    ];
+    for (words, model, wanted, line) in rows {
+        let (status, out, err) = answered(&rt, words, model, &[], &[], ROOM)?;
+        assert_eq!(rt; status, *wanted, "{line}");
+        assert_eq!(rt; err.as_str(), *line);
+        assert_eq!(rt; out.as_str(), "", "{line}");
+    }
+    let (status, out, err) = answered(&rt, generate, UNIT_DELAY, &[1], &[], ROOM)?;
+    assert_eq!(rt;
+        (status, out.as_str(), err.as_str()),
+        (3, "", "m: cannot be read\n")
+    );
+    Ok(())
+}
+
+#[test]
+fn a_failed_put_leaves_a_proper_prefix(rt: HostRuntime) -> Result<(), Fail> {
+    for failing in [1, 2, 3, 40] {
+        let (status, out, err) = answered(
+            &rt,
+            &["generate", "m", "-"],
+            UNIT_DELAY,
+            &[],
+            &[failing],
+            7,
+        )?;
+        assert_eq!(rt; status, 4);
+        assert_eq!(rt; err.as_str(), "cannot write\n");
+        assert_eq!(rt; out.len() as u64, 7 * (failing - 1));
+        assert!(rt;
+            out.is_empty() || HEADER.starts_with(out.as_str()) || out.as_str().starts_with(HEADER)
+        );
+    }
+    Ok(())
+}
+
+#[test]
+fn the_form_takes_other_names_and_values(rt: HostRuntime) -> Result<(), Fail> {
+    let rows = [
+        ("\"3\"", "\"-128\"", 0, "8'sd128;"),
+        ("\"3\"", "\"-1\"", 0, "8'sd255;"),
+        ("\"3\"", "\"007\"", 0, "8'sd7;"),
+        ("\"3\"", "\"128\"", 10, ""),
+        ("\"3\"", "\"-129\"", 10, ""),
+        ("\"3\"", "\"0003\"", 10, ""),
+        ("\"3\"", "\"+3\"", 10, ""),
+        ("\"int8\"", "\"int16\"", 10, ""),
+        ("\"D\"", "\"a delay\"", 0, "8'sd3;"),
+        ("\"one\"", "\"\"", 0, "8'sd3;"),
+        ("\"u\"", "\"speed_in\"", 0, "fx_delay <= speed_in;"),
+        ("\"y\"", "\"fx_y\"", 10, ""),
+        ("\"y\"", "\"clk\"", 10, ""),
+        ("\"y\"", "\"output\"", 10, ""),
+        ("\"y\"", "\"u\"", 10, ""),
+        ("\"y\"", "\"a-b\"", 10, ""),
+    ];
+    for (old, new, wanted, part) in rows {
+        let model = UNIT_DELAY.replace(rt.alloc(), old, new)?;
+        let (status, out, _) = answered(
+            &rt,
+            &["generate", "m", "-"],
+            model.as_str(),
+            &[],
+            &[],
+            ROOM,
+        )?;
+        assert_eq!(rt; status, wanted, "{new}");
+        assert!(rt; out.as_str().contains(part), "{new}: {out}");
+    }
+    Ok(())
+}
+
+/// A sink that takes nothing.
+#[derive(Drop)]
+struct Stuck {
+    faults: u64,
+}
+
+impl Sink for Stuck {
+    ghost use Rattle.std.specs.Prelude.{None};
+
+    ghost taken = { λ _. None };
+
+    ghost faults = { λ sink. sink.faults };
+
+    fn put(&mut self, bytes: &[u8]) -> Result<usize, Failed> {
+        if !bytes.is_empty() {
+            self.faults = self.faults.saturating_add(1);
+        }
+        Ok(0)
+    }
+}
+
+#[test]
+fn stuck_streams_and_long_files_are_answered(rt: HostRuntime) -> Result<(), Fail> {
+    let mut shelf = MemShelf::new(rt.alloc(), &[])?;
+    shelf.add("m", UNIT_DELAY.as_bytes())?;
+    let long = std::vec![in rt.alloc(); 0u8; 16_777_217]?;
+    shelf.add("long", long.as_slice())?;
+    let rows = [("m", 4), ("long", 9), ("n", 3)];
+    for (model, wanted) in rows {
+        let mut words = Vec::new(rt.alloc());
+        for word in ["generate", model, "-"] {
+            words.push(String::from_str(rt.alloc(), word)?)?;
+        }
+        let mut stuck = Stuck { faults: 0 };
+        let mut refusing = MemSink::new(rt.alloc(), &[1], ROOM, ROOM)?;
+        let status = run(
+            rt.alloc(),
+            words.as_slice(),
+            &mut shelf,
+            &mut stuck,
+            &mut refusing,
+        );
+        assert_eq!(rt; status, wanted, "{model}");
+        assert_eq!(rt; refusing.taken().len(), 0);
+    }
+    Ok(())
+}
