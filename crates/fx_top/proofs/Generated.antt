@@ -22,7 +22,7 @@ when-overlong : (held : List ℕ → Told) (file bytes : List ℕ) → held file
 when-overlong held file bytes told above =
     ap (λ (t : Told). trouble_or file t None) told ∙ simp (lt-ltb file_limit (length bytes) above)
 
-when-whole : (held : List ℕ → Told) (file bytes : List ℕ) → held file ≡ Some (Some bytes) → length bytes ≤ file_limit → first_trouble held (file ∷ []) ≡ None
+pub when-whole : (held : List ℕ → Told) (file bytes : List ℕ) → held file ≡ Some (Some bytes) → length bytes ≤ file_limit → first_trouble held (file ∷ []) ≡ None
 when-whole held file bytes told within =
     let short : nat_lt file_limit (length bytes) ≡ false = false_from_ne_true (nat_lt file_limit (length bytes)) (λ e. let above : file_limit < length bytes = ltb-true file_limit (length bytes) e in absurd (omega arith)) in
     ap (λ (t : Told). trouble_or file t None) told ∙ simp short

@@ -1,14 +1,20 @@
 -- What each exit status means, from the answer that it stands for.
-use Rattle.std.proofs.Common.{◌≡◌, ◌≢◌, ℕ, List, [], ◌∷◌, Contains, Option, None, Some, refl, sym, subst, arith}
+use Rattle.std.proofs.Common.{◌≡◌, ◌≢◌, ◌≤◌, ◌⊎◌, inl, inr, ℕ, List, [], ◌∷◌, length, Contains, Option, None, Some, refl, sym, subst, arith}
+use Rattle.mdl_text.specs.declared.tree.Tree.{Tree}
+use Rattle.mdl_text.specs.Stands.{Stands}
 use Rattle.fx_io.specs.Shelf.{Told}
 use Rattle.fx_top.specs.declared.answer.Answer.{Answer}
 use Rattle.fx_top.specs.declared.answer.Answer.TheVariants.{Done, OutOfMemory, Usage, CannotRead, CannotWrite, NotMdl, TooLong, NotBuilt}
 use Rattle.fx_top.specs.Answer.{status_of, line_of}
 use Rattle.fx_top.specs.Caused.{IsCaused, IsCarriedOut}
 use Rattle.fx_top.specs.Cause.{CannotBeRead, IsTooLong, HasNoTree, HasOtherForm, WroteAll, WrotePart}
-use Rattle.fx_top.specs.Command.{Command, command_of, model_of}
+use Rattle.fx_top.specs.Command.{Command, Generate, command_of, model_of}
+use Rattle.fx_top.specs.DelayTree.{IsOneDelay}
+use Rattle.fx_top.specs.Output.{IsBuilt}
+use Rattle.fx_top.specs.Trouble.{file_limit}
+use Rattle.fx_top.proofs.Generated.{when-whole}
 use Rattle.fx_top.specs.Messages.{memory_line, usage_line, unread_line, unwritten_line, syntax_line, too_long_line, not_built_line}
-use Rattle.fx_top.specs.Outcome.{ForCommand, IfCommand, IsDue, AnswersDone, AnswersUsage, AnswersReadFault, AnswersWriteFault, AnswersSyntax, AnswersTooLong, AnswersNotBuilt}
+use Rattle.fx_top.specs.Outcome.{ForCommand, IfCommand, IsDue, AnswersDone, AnswersUsage, AnswersReadFault, AnswersWriteFault, AnswersSyntax, AnswersTooLong, AnswersNotBuilt, IsComplete}
 
 pub listed-status : (answer : Answer) → Contains (0 ∷ 1 ∷ 2 ∷ 3 ∷ 4 ∷ 5 ∷ 9 ∷ 10 ∷ []) (status_of answer)
 listed-status Done = (0, omega arith, refl)
@@ -192,3 +198,42 @@ module _ (words : List (List ℕ)) (held : List ℕ → Told) (steady rose rose_
 
     pub untouched-clause : status_of answer ≢ 0 → status_of answer ≢ 4 → now ≡ before
     untouched-clause = untouched-by (command_of words) why
+
+  module _ (unique : (bytes : List ℕ) (one other : Tree) → Stands bytes one → Stands bytes other → one ≡ other) where
+    complete-of : (model bytes : List ℕ) → held model ≡ Some (Some bytes) → IsBuilt bytes
+        → (steady × (length bytes ≤ file_limit)) ⊎ ((rose → ⊥) × (rose_overlong → ⊥)) → (rose_out → ⊥)
+        → (given : Answer) → IsCaused held steady rose rose_overlong rose_out before now (Generate model) given → Contains (0 ∷ 1 ∷ []) (status_of given)
+    complete-of model bytes told built calm calm_out Done why = (0, omega arith, refl)
+    complete-of model bytes told built calm calm_out OutOfMemory why = (1, omega arith, refl)
+    complete-of model bytes told built calm calm_out Usage why = absurd why
+    complete-of model bytes told built (inl steadily) calm_out (CannotRead file) why =
+        let whole = when-whole held model bytes told steadily.1 in
+        let trouble = why.0.first steadily.0 in absurd (cc (whole, trouble))
+    complete-of model bytes told built (inr quiet) calm_out (CannotRead file) why = absurd (quiet.0 why.0.rise)
+    complete-of model bytes told built calm calm_out CannotWrite why = absurd (calm_out why.rise)
+    complete-of model bytes told built calm calm_out (NotMdl file line) why =
+        let text = why.1 in
+        let same : Some bytes ≡ Some text.bytes = text.fetched.held (Some bytes) told in
+        let stands = subst (λ (known : List ℕ). Stands known built.tree) (cc same) built.stands in
+        absurd (text.not_mdl.no_tree built.tree stands)
+    complete-of model bytes told built (inl steadily) calm_out (TooLong file length) why =
+        let whole = when-whole held model bytes told steadily.1 in
+        let trouble = why.0.first steadily.0 in absurd (cc (whole, trouble))
+    complete-of model bytes told built (inr quiet) calm_out (TooLong file length) why = absurd (quiet.1 why.0.rise)
+    complete-of model bytes told built calm calm_out (NotBuilt file) why =
+        let text = why.1 in
+        let same : Some bytes ≡ Some text.bytes = text.fetched.held (Some bytes) told in
+        let stands = subst (λ (known : List ℕ). Stands known built.tree) (cc same) built.stands in
+        let tree = unique text.bytes built.tree text.not_built.tree stands text.not_built.stands in
+        absurd (text.not_built.other built.delay (subst (λ (known : Tree). IsOneDelay known built.delay) tree built.form))
+
+    complete-by : (named : Option Command) → command_of words ≡ named → CarriedOut named → IsComplete words held steady rose rose_overlong rose_out (status_of answer)
+    complete-by None is why command shape = absurd (cc (is, shape))
+    complete-by (Some (Generate model)) is why command shape =
+        let same : Generate model ≡ command = cc (is, shape) in
+        subst (λ (known : Command). (bytes : List ℕ) → held (model_of known) ≡ Some (Some bytes) → IsBuilt bytes
+        → (steady × (length bytes ≤ file_limit)) ⊎ ((rose → ⊥) × (rose_overlong → ⊥)) → (rose_out → ⊥) → Contains (0 ∷ 1 ∷ []) (status_of answer))
+        same (λ bytes told built calm calm_out. complete-of model bytes told built calm calm_out answer why.0)
+
+    pub complete-clause : CarriedOut (command_of words) → IsComplete words held steady rose rose_overlong rose_out (status_of answer)
+    complete-clause why = complete-by (command_of words) refl why

@@ -1,11 +1,11 @@
 -- What each exit status means. `said` tells of a line that the stream of messages took it, or a prefix of it where that
 -- stream failed.
-use Rattle.std.specs.Prelude.{◌≡◌, ℕ, ◌↔◌, List, [], ◌∷◌, Contains, Option, Some, None}
+use Rattle.std.specs.Prelude.{◌≡◌, ℕ, ◌≤◌, ◌⊎◌, ◌↔◌, List, [], ◌∷◌, length, Contains, Option, Some, None}
 use Rattle.fx_io.specs.Shelf.{Told}
 use Rattle.fx_top.specs.Command.{Command, command_of, model_of, files_of}
-use Rattle.fx_top.specs.Trouble.{Absent, Overlong, first_trouble}
+use Rattle.fx_top.specs.Trouble.{Absent, Overlong, first_trouble, file_limit}
 use Rattle.fx_top.specs.Messages.{usage_line, unread_line, unwritten_line, syntax_line, too_long_line, not_built_line}
-use Rattle.fx_top.specs.Output.{IsNoText, IsNotBuilt}
+use Rattle.fx_top.specs.Output.{IsNoText, IsNotBuilt, IsBuilt}
 use Rattle.fx_top.specs.Cause.{CannotBeRead, IsTooLong, HasNoTree, HasOtherForm, WroteAll, WrotePart}
 
 -- the words have a listed shape, and P holds of their command
@@ -73,6 +73,13 @@ pub record AnswersTooLong (words : List (List ℕ)) (held : List ℕ → Told) (
 pub record AnswersNotBuilt (words : List (List ℕ)) (held : List ℕ → Told) (said : List ℕ → Type 0) (status : ℕ) : Type 0 where
   pub cause : status ≡ 10 → ForCommand words (λ command. HasOtherForm command held × said (not_built_line (model_of command)))
   pub due : IfCommand words (NotBuiltIsDue held status)
+
+-- Where the model's bytes are told and stand for a tree that is built, and no device fails, the status is 0 or want of
+-- memory. A steady shelf doesn't fail at a file that is short enough; else its counts are asked not to rise.
+abbrev pub IsComplete : List (List ℕ) → (List ℕ → Told) → Type 0 → Type 0 → Type 0 → Type 0 → ℕ → Type 0
+IsComplete words held steady rose rose_overlong rose_out status = IfCommand words (λ command. (bytes : List ℕ)
+    → held (model_of command) ≡ Some (Some bytes) → IsBuilt bytes
+    → (steady × (length bytes ≤ file_limit)) ⊎ ((rose → ⊥) × (rose_overlong → ⊥)) → (rose_out → ⊥) → Contains (0 ∷ 1 ∷ []) status)
 
 -- all that is due of a command's status
 pub record IsDue (held : List ℕ → Told) (steady : Type 0) (status : ℕ) (command : Command) : Type 0 where

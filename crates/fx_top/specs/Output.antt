@@ -45,6 +45,13 @@ pub record IsNotBuilt (bytes : List ℕ) : Type 0 where
   pub stands : Stands bytes tree
   pub other : (delay : OneDelay) → IsOneDelay tree delay → ⊥
 
+-- the bytes stand for a tree of a form that is built
+pub record IsBuilt (bytes : List ℕ) : Type 0 where
+  pub tree : Tree
+  pub stands : Stands bytes tree
+  pub delay : OneDelay
+  pub form : IsOneDelay tree delay
+
 -- the text that a command writes of what was fetched from the shelf
 abbrev pub IsOutput : Command → (List ℕ → Told) → List ℕ → Type 0
 IsOutput (Generate model) held text = (bytes : List ℕ) × (Fetched (held model) file_limit bytes × IsVerilogOf bytes text)

@@ -3,7 +3,7 @@ ghost use Rattle.fx_io.specs.Cause.{Rose};
 ghost use Rattle.fx_top.specs.Caused.{IsCarriedOut};
 ghost use Rattle.fx_top.specs.Command.{command_of};
 ghost use Rattle.fx_top.specs.Messages.{memory_line};
-ghost use Rattle.fx_top.specs.Outcome.{AnswersDone, AnswersUsage, AnswersReadFault, AnswersWriteFault, AnswersSyntax, AnswersTooLong, AnswersNotBuilt};
+ghost use Rattle.fx_top.specs.Outcome.{AnswersDone, AnswersUsage, AnswersReadFault, AnswersWriteFault, AnswersSyntax, AnswersTooLong, AnswersNotBuilt, IsComplete};
 ghost use Rattle.fx_top.specs.Said.{Said};
 
 use crate::answer::Answer;
@@ -41,9 +41,13 @@ pub fn run<S: Shelf, K: Sink, E: Sink>(
         (Said (E.taken err.old) (E.taken err.new) (E.faults err.old) (E.faults err.new)) result }
     ensures not_built { AnswersNotBuilt (map string_bytes words.now) (S.held shelf.old)
         (Said (E.taken err.old) (E.taken err.new) (E.faults err.old) (E.faults err.new)) result }
+    ensures complete { IsComplete (map string_bytes words.now) (S.held shelf.old) (S.steady shelf.old)
+        (Rose (S.faults shelf.old) (S.faults shelf.new)) (Rose (S.overlong shelf.old) (S.overlong shelf.new))
+        (Rose (K.faults out.old) (K.faults out.new)) result }
     ensures untouched { result ≢ 0 → result ≢ 4 → K.taken out.new ≡ K.taken out.old }
     ensures silent { result ≡ 0 → E.taken err.new ≡ E.taken err.old }
 {
+    mdl_text::unique();
     let answer = carry_out(alloc, words, shelf, out);
     answer.report(err);
     answer.status()

@@ -1,7 +1,7 @@
 use Rattle.std.proofs.Common.{map, string_bytes}
 use Rattle.fx_io.specs.Cause.{Rose}
 use Rattle.fx_top.specs.Said.{Said}
-use Rattle.fx_top.proofs.Running.{listed-status, memory-said, done-clause, usage-clause, read_fault-clause, write_fault-clause, syntax-clause, too_long-clause, not_built-clause, untouched-clause}
+use Rattle.fx_top.proofs.Running.{listed-status, memory-said, done-clause, usage-clause, read_fault-clause, write_fault-clause, syntax-clause, too_long-clause, not_built-clause, untouched-clause, complete-clause}
 use Rattle.fx_top.proofs.top.run.Goals as goal
 
 pub returns-clause-listed : goal.returns-clause-listed
@@ -67,3 +67,10 @@ pub returns-clause-memory : goal.returns-clause-memory
 returns-clause-memory g c = rw c.status.ensures (memory-said
     (Said (g.E.Sink.taken c.args.err.now) (g.E.Sink.taken c.report.new.err) (g.E.Sink.faults c.args.err.now) (g.E.Sink.faults c.report.new.err))
     c.carry_out-answer.result c.report.ensures)
+
+pub returns-clause-complete : goal.returns-clause-complete
+returns-clause-complete g c = rw c.status.ensures (complete-clause
+    (map string_bytes c.args.words.now) (g.S.Shelf.held c.args.shelf.now) (g.S.Shelf.steady c.args.shelf.now) (Rose (g.S.Shelf.faults c.args.shelf.now) (g.S.Shelf.faults c.carry_out-answer.new.shelf)) (Rose (g.S.Shelf.overlong c.args.shelf.now) (g.S.Shelf.overlong c.carry_out-answer.new.shelf))
+    (Rose (g.K.Sink.faults c.args.out.now) (g.K.Sink.faults c.carry_out-answer.new.out)) (g.K.Sink.taken c.args.out.now) (g.K.Sink.taken c.carry_out-answer.new.out)
+    (Said (g.E.Sink.taken c.args.err.now) (g.E.Sink.taken c.report.new.err) (g.E.Sink.faults c.args.err.now) (g.E.Sink.faults c.report.new.err))
+    c.carry_out-answer.result c.unique.ensures c.carry_out-answer.ensures.cause)
