@@ -2,6 +2,8 @@ ghost use Rattle.std.specs.Prelude.{◌≡◌, ℕ, ◌+◌, ◌∷◌, ◌<◌,
 ghost use Rattle.std.specs.Str.Lines.{lines, strip_carriage_return};
 ghost use Rattle.fx_tables.specs.Fields.{is_blank, after_blanks, fields_of};
 
+use memchr::memchr;
+
 /// A piece of a text, and what follows it.
 #[derive(Clone, Copy)]
 pub(crate) struct Cut<'a> {
@@ -69,12 +71,10 @@ fn newline_place(text: &[u8]) -> usize
     ensures before { (k : ℕ) → k < result → (slice_index text.now k == 10) ≡ false }
     ensures found { result < length text.now → slice_index text.now result ≡ 10 }
 {
-    for (i, byte) in text.iter().enumerate() {
-        if *byte == b'\n' {
-            return i;
-        }
+    match memchr(b'\n', text) {
+        Some(place) => place,
+        None => text.len(),
     }
-    text.len()
 }
 
 /// Where the first byte stands that is no blank, or the length.
