@@ -15,7 +15,8 @@ use Rattle.mdl_text.specs.declared.reader.Draft.{Draft}
 use Rattle.mdl_text.specs.declared.reader.Pending.{Pending}
 use Rattle.mdl_text.specs.declared.reader.Pending.TheVariants.{Nothing as Free, Strings, Open as OpenList}
 use Rattle.mdl_text.specs.declared.reader.Reader.{Reader}
-use Rattle.mdl_text.specs.Bytes.{is_blank, AreBlanks, IsOneLine, AreStrings, lines_of, Piece, piece_bytes, Closes, Quote, quote_value, quote_bytes}
+use Rattle.fx_io.specs.FaultLine.{IsOneLine}
+use Rattle.mdl_text.specs.Bytes.{is_blank, AreBlanks, AreStrings, lines_of, Piece, piece_bytes, Closes, Quote, quote_value, quote_bytes}
 use Rattle.mdl_text.specs.Bytes.Piece.{Other}
 use Rattle.mdl_text.specs.Lines.{IsComment, StartsSection, IsEmptyParameter, GivesParameter, IsBareParameter, IsFurtherText, Further}
 use Rattle.mdl_text.specs.Stands.{Says, Part, HasForm, Builds}

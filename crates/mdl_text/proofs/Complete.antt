@@ -11,7 +11,8 @@ use Rattle.mdl_text.specs.declared.strings.Place.TheVariants.{Outside}
 use Rattle.mdl_text.specs.declared.reader.Draft.{Draft}
 use Rattle.mdl_text.specs.declared.reader.Pending.TheVariants.{Strings, Open as OpenList}
 use Rattle.mdl_text.specs.declared.reader.Reader.{Reader}
-use Rattle.mdl_text.specs.Bytes.{is_blank, is_name_byte, AreBlanks, IsName, IsOneLine, AreStrings, lines_of, Piece, piece_bytes, Closes, Quote, quote_bytes, quoted}
+use Rattle.fx_io.specs.FaultLine.{IsOneLine}
+use Rattle.mdl_text.specs.Bytes.{is_blank, is_name_byte, AreBlanks, IsName, AreStrings, lines_of, Piece, piece_bytes, Closes, Quote, quote_bytes, quoted}
 use Rattle.mdl_text.specs.Bytes.Piece.{Opening, Closing, String, Other}
 use Rattle.mdl_text.specs.Lines.{IsComment, StartsSection, EndsSection, IsEmptyParameter, GivesParameter, IsBareParameter, IsFurtherText, Further, IsQuotedParameter, IsListParameter}
 use Rattle.mdl_text.specs.Stands.{Says, Part, HasForm, Builds, Stands}
@@ -21,7 +22,8 @@ use Rattle.mdl_text.proofs.Classes.{no_byte, name_no_blank, blank_no_name, quote
 use Rattle.mdl_text.proofs.Scans.{FirstIs, unblanked_after, unblanked_at, unblanked_none, name_length_of, trimmed_value}
 use Rattle.mdl_text.proofs.Quotes.{outside_quotes}
 use Rattle.mdl_text.proofs.Pieces.{string_end, opening_end, closing_end, last_end, other_end}
-use Rattle.mdl_text.proofs.LineLaws.{first_line, lines_front, lines_one, lines_next, line_join, blanks_line, name_line}
+use Rattle.fx_io.proofs.FaultLines.{line_join}
+use Rattle.mdl_text.proofs.LineLaws.{first_line, lines_front, lines_one, lines_next, blanks_line, name_line}
 use Rattle.mdl_text.proofs.After.{item}
 
 -- a line of blanks, or a comment

@@ -3,8 +3,8 @@ use Rattle.std.proofs.Common.{◌≡◌, ℕ, Bool, true, false, cond, not, List
 use Rattle.std.specs.Prelude.{◌==◌}
 use Rattle.std.specs.List.{list_all, AllByRecursion}
 use Rattle.std.proofs.lemmas.Bool.{and_parts, and_from, not-true}
-use Rattle.std.proofs.lemmas.List.Folds.{list_all-append}
-use Rattle.mdl_text.specs.Bytes.{IsOneLine, AreBlanks, is_blank, is_name_byte, on_first, lines_of}
+use Rattle.fx_io.specs.FaultLine.{IsOneLine}
+use Rattle.mdl_text.specs.Bytes.{AreBlanks, is_blank, is_name_byte, on_first, lines_of}
 use Rattle.mdl_text.proofs.Classes.{no_byte, newline_no_blank, newline_no_name}
 
 -- a text has a first line
@@ -61,10 +61,3 @@ blanks_line bytes h = one_line_of is_blank bytes newline_no_blank h
 
 pub name_line : (bytes : List ℕ) → list_all is_name_byte bytes ≡ true → IsOneLine bytes
 name_line bytes h = one_line_of is_name_byte bytes newline_no_name h
-
--- a line's front and its rest
-pub line_parts : (front rest : List ℕ) → IsOneLine (front ++ rest) → IsOneLine front × IsOneLine rest
-line_parts front rest h = and_parts _ _ (sym (list_all-append (λ byte. not (byte == 10)) front rest) ∙ h)
-
-pub line_join : (front rest : List ℕ) → IsOneLine front → IsOneLine rest → IsOneLine (front ++ rest)
-line_join front rest f r = list_all-append (λ byte. not (byte == 10)) front rest ∙ and_from _ _ f r

@@ -9,7 +9,8 @@ use Rattle.mdl_text.specs.declared.strings.Place.TheVariants.{Outside, Inside, E
 use Rattle.mdl_text.specs.declared.brackets.Spot.{Spot}
 use Rattle.mdl_text.specs.declared.brackets.ListEnd.{ListEnd}
 use Rattle.mdl_text.specs.declared.brackets.ListEnd.TheVariants.{Closed, Open, Broken}
-use Rattle.mdl_text.specs.Bytes.{IsOneLine, Char, is_char, char_bytes, quoted, Piece, piece_bytes, Closes}
+use Rattle.fx_io.specs.FaultLine.{IsOneLine}
+use Rattle.mdl_text.specs.Bytes.{Char, is_char, char_bytes, quoted, Piece, piece_bytes, Closes}
 use Rattle.mdl_text.specs.Bytes.Char.{Plain, Escape}
 use Rattle.mdl_text.specs.Bytes.Piece.{Opening, Closing, String, Other}
 use Rattle.mdl_text.specs.Plain.{spot_at, spot_step, list_end, or_else_closed}

@@ -1,9 +1,9 @@
 -- How far a text was read, what that says of it, and where it stops.
-use Rattle.std.proofs.Common.{◌≡◌, ℕ, zero, suc, ◌+◌, ◌-◌, ◌<◌, ◌≤◌, Bool, true, false, cond, not, List, [], ◌∷◌, ◌++◌, length, take, drop, get_or, Some, None, inl, inr, refl, sym, ◌∙◌, ap, subst, append_assoc, append-nil, eqb-true, flat_map, arith, add-one, option_and_then, length-append, length-drop, count_by, take-append-drop, drop-cons}
+use Rattle.std.proofs.Common.{◌≡◌, ℕ, zero, suc, ◌+◌, ◌-◌, ◌<◌, ◌≤◌, Bool, true, false, not, List, [], ◌∷◌, ◌++◌, length, take, drop, get_or, Some, None, inl, inr, refl, sym, ◌∙◌, ap, subst, append_assoc, append-nil, eqb-true, flat_map, arith, add-one, option_and_then, length-append, length-drop, count_by, take-append-drop, drop-cons}
 use Rattle.std.specs.Prelude.{◌==◌}
 use Rattle.std.specs.List.{list_all}
-use Rattle.std.proofs.lemmas.Bool.{and_from, and_parts, not-true}
-use Rattle.std.proofs.lemmas.List.Sums.{count_by-le-length, sum_by-append, sum_by-cons}
+use Rattle.std.proofs.lemmas.Bool.{and_from}
+use Rattle.std.proofs.lemmas.List.Sums.{count_by-le-length}
 use Rattle.std.proofs.Math.Seq.{take-length}
 use Rattle.memchr.specs.Find.{IsFirstByte, is_byte}
 use Rattle.mdl_text.specs.declared.tree.Tree.{Tree}
@@ -13,11 +13,13 @@ use Rattle.mdl_text.specs.declared.reader.Draft.{Draft}
 use Rattle.mdl_text.specs.declared.reader.Pending.{Pending}
 use Rattle.mdl_text.specs.declared.reader.Pending.TheVariants.{Nothing as Free, Strings, Open as OpenList}
 use Rattle.mdl_text.specs.declared.reader.Reader.{Reader}
-use Rattle.mdl_text.specs.Bytes.{is_blank, IsOneLine, lines_of, Piece, piece_bytes, Closes}
+use Rattle.fx_io.specs.FaultLine.{IsOneLine, IsPrefix, AreWholeLines}
+use Rattle.mdl_text.specs.Bytes.{is_blank, lines_of, Piece, piece_bytes, Closes}
 use Rattle.mdl_text.specs.Bytes.Piece.{Closing}
 use Rattle.mdl_text.specs.Stands.{Stands}
-use Rattle.mdl_text.specs.Prefix.{IsPrefix, AreWholeLines, IsFaultLine}
+use Rattle.mdl_text.specs.Prefix.{IsMdl, IsMdlFaultLine}
 use Rattle.mdl_text.specs.Plain.{added, free, fresh, step, finish, run, start}
+use Rattle.fx_io.proofs.FaultLines.{count_append, count_none}
 use Rattle.mdl_text.proofs.LineLaws.{lines_one, lines_next}
 use Rattle.mdl_text.proofs.Sound.{reading_stands}
 use Rattle.mdl_text.proofs.Complete.{standing_read, fresh_end, run_free, run_list, run_strings_end, NoQuote}
@@ -101,20 +103,11 @@ pub record Reached (bytes rest : List ℕ) (reader : Reader) (line : ℕ) : Type
 pub reached_start : (bytes : List ℕ) (reader : Reader) → reader ≡ start → Reached bytes bytes reader 1
 reached_start bytes reader is = record { before = []; whole = refl; lines = inl refl; number = refl; reads = λ more. ap (λ r. run r (lines_of more)) (sym is) }
 
-count_append : (xs ys : List ℕ) → count_by newline (xs ++ ys) ≡ count_by newline xs + count_by newline ys
-count_append xs ys = sum_by-append (λ byte. cond (newline byte) 1 0) xs ys
-
-count_none : (xs : List ℕ) → IsOneLine xs → count_by newline xs ≡ 0
-count_none [] h = refl
-count_none (x ∷ xs) h =
-    let parts = and_parts (not (x == 10)) (list_all (λ byte. not (byte == 10)) xs) h in
-    sum_by-cons (λ byte. cond (newline byte) 1 0) x xs ∙ ap (λ t. cond t 1 0 + count_by newline xs) (not-true (x == 10) parts.0) ∙ ap (λ n. 0 + n) (count_none xs parts.1)
-
 module _ (bytes rest : List ℕ) (reader : Reader) (line : ℕ) (reached : Reached bytes rest reader line) where
-  begins : IsPrefix reached.before
+  begins : IsPrefix IsMdl reached.before
   begins =
       let end = closable reader in
-      record { rest = end.rest; tree = record { items = end.items }; stands = reading_stands (reached.before ++ end.rest) end.items (reached.reads end.rest ∙ end.reads) }
+      record { rest = end.rest; is_text = (record { items = end.items }, reading_stands (reached.before ++ end.rest) end.items (reached.reads end.rest ∙ end.reads)) }
 
   -- the line is not past the bytes before it
   pub line_within : line + length rest ≤ 1 + length bytes
@@ -148,7 +141,7 @@ module _ (bytes rest : List ℕ) (reader : Reader) (line : ℕ) (reached : Reach
     pub refused_line : step reader next ≡ None → (tree : Tree) → Stands bytes tree → ⊥
     refused_line is tree stands = no_text after tree is (subst (λ l. Stands l tree) whole_line stands)
 
-    pub fault_line : step reader next ≡ None → IsFaultLine bytes line
+    pub fault_line : step reader next ≡ None → IsMdlFaultLine bytes line
     fault_line is = record {
       before = reached.before;
       after = rest;
@@ -156,7 +149,7 @@ module _ (bytes rest : List ℕ) (reader : Reader) (line : ℕ) (reached : Reach
       lines = reached.lines;
       number = reached.number;
       begins = begins;
-      stops = inr (next, after, one, split, λ prefix. no_text prefix.rest prefix.tree is prefix.stands);
+      stops = inr (next, after, one, split, λ prefix. no_text prefix.rest prefix.is_text.0 is prefix.is_text.1);
     }
 
   module _ (one : IsOneLine rest) where
@@ -169,7 +162,7 @@ module _ (bytes rest : List ℕ) (reader : Reader) (line : ℕ) (reached : Reach
     pub refused_end : run reader (rest ∷ []) ≡ None → (tree : Tree) → Stands bytes tree → ⊥
     refused_end is tree stands = let both : None ≡ Some tree.items = sym (reads_end ∙ is) ∙ standing_read bytes tree stands in cc
 
-    pub fault_end : run reader (rest ∷ []) ≡ None → IsFaultLine bytes line
+    pub fault_end : run reader (rest ∷ []) ≡ None → IsMdlFaultLine bytes line
     fault_end is = record { before = reached.before; after = rest; whole = reached.whole; lines = reached.lines; number = reached.number; begins = begins; stops = inl one }
 
 -- bytes before the first newline are one line

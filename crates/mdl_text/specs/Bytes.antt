@@ -2,6 +2,7 @@
 use Rattle.std.specs.Prelude.{◌≡◌, ◌≢◌, ℕ, zero, suc, Bool, true, not, ◌==◌, ◌||◌, ◌&&◌, List, [], ◌∷◌, ◌++◌, IsTrue, if◌then◌else◌}
 use Rattle.std.specs.Char.{is_ascii_digit, is_ascii_alphabetic}
 use Rattle.std.specs.List.{list_all, flat_map, AllByRecursion}
+use Rattle.fx_io.specs.FaultLine.{IsOneLine}
 
 -- a space, a tab or a carriage return
 unfoldable pub is_blank : ℕ → Bool
@@ -19,10 +20,6 @@ AreBlanks bytes = IsTrue (list_all is_blank bytes)
 pub record IsName (bytes : List ℕ) : Type 0 where
   pub nonempty : bytes ≢ []
   pub each : IsTrue (list_all is_name_byte bytes)
-
--- no newline among them
-abbrev pub IsOneLine : List ℕ → Type 0
-IsOneLine bytes = IsTrue (list_all (λ byte. not (byte == 10)) bytes)
 
 -- the byte put in front of the first line
 abbrev pub on_first : ℕ → List (List ℕ) → List (List ℕ)

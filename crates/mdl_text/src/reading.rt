@@ -1,7 +1,7 @@
 ghost use Rattle.std.specs.Prelude.{◌≡◌, ℕ, List, [], ◌∷◌, ◌++◌, IfOk, MatchOption};
-ghost use Rattle.mdl_text.specs.Bytes.{IsOneLine};
+ghost use Rattle.fx_io.specs.FaultLine.{IsOneLine};
 ghost use Rattle.mdl_text.specs.Stands.{Stands};
-ghost use Rattle.mdl_text.specs.Prefix.{IsFaultLine, IfSyntax};
+ghost use Rattle.mdl_text.specs.Prefix.{IsMdlFaultLine, IfSyntax};
 ghost use Rattle.mdl_text.specs.Plain.{run, IsBounded};
 
 use crate::fault::MdlFault;
@@ -19,7 +19,7 @@ pub fn read(alloc: Global, bytes: &[u8]) -> Result<Tree, MdlFault>
     ensures found { IfOk result (λ tree. Stands bytes.now tree) }
     // A fault in the text comes only where the bytes stand for no tree.
     ensures refused { IfSyntax result (λ _. (tree : Tree) → Stands bytes.now tree → ⊥) }
-    ensures line { IfSyntax result (λ line. IsFaultLine bytes.now line) }
+    ensures line { IfSyntax result (λ line. IsMdlFaultLine bytes.now line) }
 {
     let mut reader = Reader::new(alloc);
     let mut rest = bytes;
