@@ -5,6 +5,7 @@ use Rattle.std.specs.List.{list_all, AllByRecursion}
 use Rattle.std.proofs.lemmas.Bool.{and_parts}
 use Rattle.std.proofs.lemmas.Grind.{flat_map-append}
 use Rattle.std.proofs.Math.Seq.{take-append_seam, drop-append_seam}
+use Rattle.fx_io.specs.FaultLine.{IsOneLine}
 use Rattle.mdl_text.specs.declared.tree.Item.{Item}
 use Rattle.mdl_text.specs.declared.tree.Value.{Value}
 use Rattle.mdl_text.specs.declared.tree.Value.TheVariants.{Section, Bare, List as Brackets, Quoted}
@@ -15,7 +16,6 @@ use Rattle.mdl_text.specs.declared.reader.Draft.{Draft}
 use Rattle.mdl_text.specs.declared.reader.Pending.{Pending}
 use Rattle.mdl_text.specs.declared.reader.Pending.TheVariants.{Nothing as Free, Strings, Open as OpenList}
 use Rattle.mdl_text.specs.declared.reader.Reader.{Reader}
-use Rattle.fx_io.specs.FaultLine.{IsOneLine}
 use Rattle.mdl_text.specs.Bytes.{is_blank, AreBlanks, AreStrings, lines_of, Piece, piece_bytes, Closes, Quote, quote_value, quote_bytes}
 use Rattle.mdl_text.specs.Bytes.Piece.{Other}
 use Rattle.mdl_text.specs.Lines.{IsComment, StartsSection, IsEmptyParameter, GivesParameter, IsBareParameter, IsFurtherText, Further}

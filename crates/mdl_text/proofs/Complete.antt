@@ -4,6 +4,8 @@ use Rattle.std.specs.Prelude.{◌==◌, nat_lt}
 use Rattle.std.specs.List.{list_all, prefix_len, AllByRecursion}
 use Rattle.std.proofs.lemmas.Bool.{and_parts, and_from}
 use Rattle.std.proofs.Math.Seq.{take-append_seam, drop-append_seam, take-append-add, drop-append-add}
+use Rattle.fx_io.specs.FaultLine.{IsOneLine}
+use Rattle.fx_io.proofs.FaultLines.{line_join}
 use Rattle.mdl_text.specs.declared.tree.Tree.{Tree}
 use Rattle.mdl_text.specs.declared.tree.Item.{Item}
 use Rattle.mdl_text.specs.declared.tree.Value.TheVariants.{Section, Bare, List as Brackets, Quoted}
@@ -11,7 +13,6 @@ use Rattle.mdl_text.specs.declared.strings.Place.TheVariants.{Outside}
 use Rattle.mdl_text.specs.declared.reader.Draft.{Draft}
 use Rattle.mdl_text.specs.declared.reader.Pending.TheVariants.{Strings, Open as OpenList}
 use Rattle.mdl_text.specs.declared.reader.Reader.{Reader}
-use Rattle.fx_io.specs.FaultLine.{IsOneLine}
 use Rattle.mdl_text.specs.Bytes.{is_blank, is_name_byte, AreBlanks, IsName, AreStrings, lines_of, Piece, piece_bytes, Closes, Quote, quote_bytes, quoted}
 use Rattle.mdl_text.specs.Bytes.Piece.{Opening, Closing, String, Other}
 use Rattle.mdl_text.specs.Lines.{IsComment, StartsSection, EndsSection, IsEmptyParameter, GivesParameter, IsBareParameter, IsFurtherText, Further, IsQuotedParameter, IsListParameter}
@@ -22,7 +23,6 @@ use Rattle.mdl_text.proofs.Classes.{no_byte, name_no_blank, blank_no_name, quote
 use Rattle.mdl_text.proofs.Scans.{FirstIs, unblanked_after, unblanked_at, unblanked_none, name_length_of, trimmed_value}
 use Rattle.mdl_text.proofs.Quotes.{outside_quotes}
 use Rattle.mdl_text.proofs.Pieces.{string_end, opening_end, closing_end, last_end, other_end}
-use Rattle.fx_io.proofs.FaultLines.{line_join}
 use Rattle.mdl_text.proofs.LineLaws.{first_line, lines_front, lines_one, lines_next, blanks_line, name_line}
 use Rattle.mdl_text.proofs.After.{item}
 

@@ -4,12 +4,12 @@ use Rattle.std.specs.Prelude.{◌&&◌, ◌==◌}
 use Rattle.std.specs.List.{list_all}
 use Rattle.std.proofs.lemmas.Bool.{and_parts, and_from, not-true, eqb-false}
 use Rattle.std.proofs.lemmas.List.Folds.{list_all-append}
+use Rattle.fx_io.specs.FaultLine.{IsOneLine}
 use Rattle.mdl_text.specs.declared.strings.Place.{Place}
 use Rattle.mdl_text.specs.declared.strings.Place.TheVariants.{Outside, Inside, Escaped}
 use Rattle.mdl_text.specs.declared.brackets.Spot.{Spot}
 use Rattle.mdl_text.specs.declared.brackets.ListEnd.{ListEnd}
 use Rattle.mdl_text.specs.declared.brackets.ListEnd.TheVariants.{Closed, Open, Broken}
-use Rattle.fx_io.specs.FaultLine.{IsOneLine}
 use Rattle.mdl_text.specs.Bytes.{Char, is_char, char_bytes, quoted, Piece, piece_bytes, Closes}
 use Rattle.mdl_text.specs.Bytes.Char.{Plain, Escape}
 use Rattle.mdl_text.specs.Bytes.Piece.{Opening, Closing, String, Other}

@@ -4,13 +4,14 @@ use Rattle.std.specs.Prelude.{◌==◌}
 use Rattle.std.specs.List.{list_all, prefix_len, AllByRecursion}
 use Rattle.std.proofs.lemmas.Bool.{eqb-false, and_left}
 use Rattle.std.proofs.lemmas.List.Folds.{length-prefix_len}
+use Rattle.fx_io.specs.FaultLine.{IsOneLine}
+use Rattle.fx_io.proofs.FaultLines.{line_parts}
 use Rattle.mdl_text.specs.declared.tree.Item.{Item}
 use Rattle.mdl_text.specs.declared.tree.Value.TheVariants.{Bare, List as Brackets, Quoted}
 use Rattle.mdl_text.specs.declared.reader.Draft.{Draft}
 use Rattle.mdl_text.specs.declared.reader.Pending.{Pending}
 use Rattle.mdl_text.specs.declared.reader.Pending.TheVariants.{Nothing as Free, Strings, Open as OpenList}
 use Rattle.mdl_text.specs.declared.reader.Reader.{Reader}
-use Rattle.fx_io.specs.FaultLine.{IsOneLine}
 use Rattle.mdl_text.specs.Bytes.{is_blank, is_name_byte, AreBlanks, IsName, lines_of, piece_bytes}
 use Rattle.mdl_text.specs.Lines.{GivesParameter}
 use Rattle.mdl_text.specs.Stands.{Part, Builds, Stands}
@@ -18,7 +19,6 @@ use Rattle.mdl_text.specs.Stands.Says.{Entry}
 use Rattle.mdl_text.specs.Plain.{unblanked, trimmed, strings_from, list_from, added, free, reader_strings, opened, closed, listed, valued, after_name, named, fresh_text, fresh, begins_with_quote, step_in, step, if_closed, finish_in, finish, run, start}
 use Rattle.mdl_text.proofs.Classes.{cond_cases, cond_some, two_tests}
 use Rattle.mdl_text.proofs.Scans.{FirstIs, unblanked_split, unblanked_first, name_bytes, trim_split, trim_end, trimmed_first}
-use Rattle.fx_io.proofs.FaultLines.{line_parts}
 use Rattle.mdl_text.proofs.LineLaws.{first_line, lines_each, lines_front}
 use Rattle.mdl_text.proofs.After.{item, AfterFree, AfterStrings, After, AfterReader, after_part, nothing_sound, closed_sound, opened_sound, bare_sound, further_sound, quoted_sound, listed_sound}
 

@@ -5,6 +5,8 @@ use Rattle.std.specs.List.{list_all}
 use Rattle.std.proofs.lemmas.Bool.{and_from}
 use Rattle.std.proofs.lemmas.List.Sums.{count_by-le-length}
 use Rattle.std.proofs.Math.Seq.{take-length}
+use Rattle.fx_io.specs.FaultLine.{IsOneLine, IsPrefix, AreWholeLines}
+use Rattle.fx_io.proofs.FaultLines.{count_append, count_none}
 use Rattle.memchr.specs.Find.{IsFirstByte, is_byte}
 use Rattle.mdl_text.specs.declared.tree.Tree.{Tree}
 use Rattle.mdl_text.specs.declared.tree.Item.{Item}
@@ -13,13 +15,11 @@ use Rattle.mdl_text.specs.declared.reader.Draft.{Draft}
 use Rattle.mdl_text.specs.declared.reader.Pending.{Pending}
 use Rattle.mdl_text.specs.declared.reader.Pending.TheVariants.{Nothing as Free, Strings, Open as OpenList}
 use Rattle.mdl_text.specs.declared.reader.Reader.{Reader}
-use Rattle.fx_io.specs.FaultLine.{IsOneLine, IsPrefix, AreWholeLines}
 use Rattle.mdl_text.specs.Bytes.{is_blank, lines_of, Piece, piece_bytes, Closes}
 use Rattle.mdl_text.specs.Bytes.Piece.{Closing}
 use Rattle.mdl_text.specs.Stands.{Stands}
 use Rattle.mdl_text.specs.Prefix.{IsMdl, IsMdlFaultLine}
 use Rattle.mdl_text.specs.Plain.{added, free, fresh, step, finish, run, start}
-use Rattle.fx_io.proofs.FaultLines.{count_append, count_none}
 use Rattle.mdl_text.proofs.LineLaws.{lines_one, lines_next}
 use Rattle.mdl_text.proofs.Sound.{reading_stands}
 use Rattle.mdl_text.proofs.Complete.{standing_read, fresh_end, run_free, run_list, run_strings_end, NoQuote}
