@@ -18,7 +18,7 @@ mod strings;
 mod tree;
 
 pub use fault::MdlFault;
-pub use reading::{read, unique};
+pub use reading::{one_fault_line, read, unique};
 pub use tree::{Item, Items, Tree, Value};
 
 #[cfg(test)]

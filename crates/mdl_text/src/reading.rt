@@ -64,3 +64,8 @@ fn last_line(mut reader: Reader, alloc: Global, line: &[u8]) -> Result<Option<It
 pub fn unique()
     ensures { (bytes : List ℕ) (one other : Tree) → Stands bytes one → Stands bytes other → one ≡ other }
 {}
+
+/// Bytes stop being the beginning of an MDL text at one line at most.
+pub fn one_fault_line()
+    ensures { (bytes : List ℕ) (one other : ℕ) → IsMdlFaultLine bytes one → IsMdlFaultLine bytes other → one ≡ other }
+{}
