@@ -3,7 +3,7 @@ use Rattle.std.specs.Prelude.{◌≡◌, ℕ, List}
 use Rattle.fx_io.specs.Shelf.{Told, Fetched}
 use Rattle.mdl_text.specs.declared.tree.Tree.{Tree}
 use Rattle.mdl_text.specs.Stands.{Stands}
-use Rattle.mdl_text.specs.Prefix.{IsFaultLine}
+use Rattle.mdl_text.specs.Prefix.{IsMdlFaultLine}
 use Rattle.vl_ast.specs.declared.modules.Module.{Module}
 use Rattle.vl_ast.specs.Grammar.{Spells}
 use Rattle.vl_ast.specs.Spelling.{spelling}
@@ -37,7 +37,7 @@ IsNoText bytes = (tree : Tree) → Stands bytes tree → ⊥
 -- the bytes stand for no tree, and stop being the beginning of a text at this line
 pub record IsNotMdl (bytes : List ℕ) (line : ℕ) : Type 0 where
   pub no_tree : IsNoText bytes
-  pub fault : IsFaultLine bytes line
+  pub fault : IsMdlFaultLine bytes line
 
 -- the bytes stand for a tree of another form than those that are built
 pub record IsNotBuilt (bytes : List ℕ) : Type 0 where
