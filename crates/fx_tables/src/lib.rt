@@ -12,6 +12,7 @@ mod draft;
 mod entry;
 mod field;
 mod number;
+mod numeral;
 mod plan;
 mod quoted;
 mod row_text;

@@ -1,13 +1,13 @@
-ghost use Rattle.std.specs.Prelude.{◌≡◌, ◌+◌, ◌-◌, ◌*◌, ◌^◌, ◌≤◌, ◌<◌, ◌∷◌, [], ◌++◌, Bool, length, map, take, vec_len, IfOk, All};
+ghost use Rattle.std.specs.Prelude.{◌≡◌, ◌+◌, ◌*◌, ◌^◌, ◌≤◌, ◌<◌, ◌∷◌, ◌++◌, length, map, drop, vec_len, IfOk, All};
 ghost use Rattle.fx_tables.specs.Response.{text_of_field, response_line};
 
 use crate::field::hits;
+use crate::numeral::put_number;
 use crate::table::Column;
 use fx_io::OutOfMemory;
-use itoa::Buffer;
 use std::alloc::Global;
 
-/// The most bytes of a field and the byte behind it.
+/// The most bytes of a field and the byte before it.
 const FIELD_BYTES: usize = 41;
 
 /// Writes the lines of a response, in room that it makes once (own). What callers see of it are the
@@ -48,65 +48,57 @@ impl RowText {
         ensures line { result.now ≡ response_line (periods_of self.old) t values.now }
         ensures* kept { sem 𝓛 (follows_so the_row the_row self.entry.ghost_name none (λ _ _. ⊤) (λ after. periods_of after ≡ periods_of self.old)) }
     {
-        let end = write_line(&mut self.bytes, &self.periods, t, values);
-        &self.bytes[..end]
+        let start = write_line(&mut self.bytes, &self.periods, t, values);
+        &self.bytes[start..]
     }
 }
 
-/// Writes a line at the start of the bytes, and tells where it ends.
+/// Writes a line at the end of the bytes, and tells where it starts. It goes from the last byte to
+/// the first, as the digits of a number come.
 fn write_line(bytes: &mut [u8], periods: &[u32], t: u64, values: &[i128]) -> usize
     requires room { length periods.now * 41 < length bytes.old }
     requires periods { All (λ period. 0 < period) periods.now }
     requires values { length values.now ≡ length periods.now }
     ensures within { result ≤ length bytes.new }
-    ensures line { take result bytes.new ≡ response_line periods.now t values.now }
+    ensures line { drop result bytes.new ≡ response_line periods.now t values.now }
 {
-    let mut end = 0;
-    for (k, period) in periods.iter().enumerate() {
-        end = put_field(bytes, end, hits(*period, t), values[k]);
+    let mut start = bytes.len() - 1;
+    bytes[start] = b'\n';
+    let mut k = periods.len();
+    while k > 0 {
+        k -= 1;
+        start = put_field(bytes, start, hits(periods[k], t), values[k]);
     }
-    end_line(bytes, end)
+    if periods.is_empty() { start } else { start + 1 }
 }
 
-/// Writes a field and a space behind it, and tells where that ends.
+/// Writes a space and a field behind it, so that the field ends before a place, and tells where the
+/// space is.
+#[inline(always)]
 fn put_field(bytes: &mut [u8], end: usize, hit: bool, value: i128) -> usize
-    requires { end + 41 ≤ length bytes.old }
-    ensures within { result ≤ end + 41 }
-    ensures after { end < result }
-    ensures text { take result bytes.new ≡ take end bytes.old ++ (text_of_field hit value ++ 32 ∷ []) }
+    requires room { 41 ≤ end }
+    requires within { end ≤ length bytes.old }
+    ensures before { result < end }
+    ensures near { end ≤ result + 41 }
+    ensures text { drop result bytes.new ≡ 32 ∷ (text_of_field hit value ++ drop end bytes.old) }
+{
+    let start = put_text(bytes, end, hit, value);
+    bytes[start - 1] = b' ';
+    start - 1
+}
+
+/// Writes a field so that it ends before a place, and tells where it starts.
+#[inline(always)]
+fn put_text(bytes: &mut [u8], end: usize, hit: bool, value: i128) -> usize
+    requires room { 40 ≤ end }
+    requires within { end ≤ length bytes.old }
+    ensures before { result ≤ end }
+    ensures near { end ≤ result + 40 }
+    ensures text { drop result bytes.new ≡ text_of_field hit value ++ drop end bytes.old }
 {
     if hit {
-        let mut digits = Buffer::new();
-        put_text(bytes, end, digits.format(value).as_bytes())
-    } else {
-        put_text(bytes, end, b"-")
+        return put_number(bytes, end, value);
     }
-}
-
-/// Writes a text and a space behind it, and tells where that ends.
-fn put_text(bytes: &mut [u8], end: usize, text: &[u8]) -> usize
-    requires { end + length text.now < length bytes.old }
-    ensures end { result ≡ end + length text.now + 1 }
-    ensures text { take result bytes.new ≡ take end bytes.old ++ (text.now ++ 32 ∷ []) }
-{
-    let next = end + text.len();
-    bytes[end..next].copy_from_slice(text);
-    bytes[next] = b' ';
-    next + 1
-}
-
-/// Puts a newline in the place of the last space, or at the start of an empty line.
-fn end_line(bytes: &mut [u8], end: usize) -> usize
-    requires within { end ≤ length bytes.old }
-    requires room { 0 < length bytes.old }
-    ensures within { result ≤ length bytes.new }
-    ensures empty { end ≡ 0 → take result bytes.new ≡ 10 ∷ [] }
-    ensures ended { 0 < end → take result bytes.new ≡ take (end - 1) bytes.old ++ 10 ∷ [] }
-{
-    if end == 0 {
-        bytes[0] = b'\n';
-        return 1;
-    }
-    bytes[end - 1] = b'\n';
-    end
+    bytes[end - 1] = b'-';
+    end - 1
 }

@@ -1,41 +1,40 @@
-use Rattle.std.proofs.Common.{◌≡◌, ℕ, ◌+◌, ◌<◌, ◌∙◌, Bool, List, [], ◌∷◌, ◌++◌, length, get_or, take, sym, ap, append-nil, arith, rules}
-use Rattle.std.specs.List.{flat_map}
+use Rattle.std.proofs.Common.{◌≡◌, ℕ, ◌+◌, ◌-◌, ◌<◌, ◌∙◌, Bool, List, ◌∷◌, ◌++◌, length, get_or, drop, sym, ap, arith, rules}
 use Rattle.std.specs.Prelude.{ℤ, pos}
-use Rattle.std.proofs.lemmas.List.{take_more}
-use Rattle.std.proofs.lemmas.Grind.{flat_map-append}
+use Rattle.std.proofs.lemmas.Bool.Decides.{nat_tests}
 use Rattle.fx_tables.specs.Stimulus.{hits_at}
 use Rattle.fx_tables.specs.Response.{text_of_field, response_fields}
-use Rattle.fx_tables.proofs.ResponseLemmas.{spaced, length-response_fields, get_or-response_fields, line_ended}
+use Rattle.fx_tables.proofs.ResponseLemmas.{rest_of_line, rest_of_line-none, rest_of_line-more, line_from}
 use Rattle.fx_tables.proofs.row_text.write_line.Goals as goal
 
-one_more : (t k : ℕ) (periods : List ℕ) (values : List ℤ) (unused : ℤ) → length values ≡ length periods → k < length periods → flat_map spaced (take (k + 1) (response_fields t periods values)) ≡ flat_map spaced (take k (response_fields t periods values)) ++ spaced (text_of_field (hits_at (get_or periods k 0) t) (get_or values k unused))
-one_more t k periods values unused same inside =
-    let fields = response_fields t periods values in
-    let there : k < length (response_fields t periods values) = omega (arith, length-response_fields t periods values same) in
-    ap (flat_map spaced) (take_more fields k [] there)
-    ∙ flat_map-append spaced (take k fields) (get_or fields k [] ∷ [])
-    ∙ ap (λ field. flat_map spaced (take k fields) ++ (spaced field ++ [])) (get_or-response_fields t k periods values unused same inside)
-    ∙ ap (λ last. flat_map spaced (take k fields) ++ last) (append-nil (spaced (text_of_field (hits_at (get_or periods k 0) t) (get_or values k unused))))
+pub loop-k-init : goal.loop-k-init
+loop-k-init c = record {
+  few = search rules;
+  room = omega arith;
+  within = search rules;
+  text = rest_of_line-none c.args.t c.args.periods.now c.args.values.now c.args.bytes.now c.requires.values (omega arith);
+}
 
-put_more : (t k : ℕ) (periods : List ℕ) (values : List ℤ) (unused : ℤ) (hit : Bool) (value : ℤ) (front whole : List ℕ) → length values ≡ length periods → k < length periods → hit ≡ hits_at (get_or periods k 0) t → value ≡ get_or values k unused → front ≡ flat_map spaced (take k (response_fields t periods values)) → whole ≡ front ++ spaced (text_of_field hit value) → whole ≡ flat_map spaced (take (k + 1) (response_fields t periods values))
-put_more t k periods values unused hit value front whole same inside hits reads before after =
+put_more : (t k next : ℕ) (periods : List ℕ) (values : List ℤ) (unused : ℤ) (hit : Bool) (value : ℤ) (rest whole : List ℕ) → length values ≡ length periods → next ≡ k + 1 → k < length periods → hit ≡ hits_at (get_or periods k 0) t → value ≡ get_or values k unused → rest ≡ rest_of_line next (response_fields t periods values) → whole ≡ 32 ∷ (text_of_field hit value ++ rest) → whole ≡ rest_of_line k (response_fields t periods values)
+put_more t k next periods values unused hit value rest whole same is inside hits reads before after =
     after
-    ∙ ap (λ text. text ++ spaced (text_of_field hit value)) before
-    ∙ ap (λ h. flat_map spaced (take k (response_fields t periods values)) ++ spaced (text_of_field h value)) hits
-    ∙ ap (λ v. flat_map spaced (take k (response_fields t periods values)) ++ spaced (text_of_field (hits_at (get_or periods k 0) t) v)) reads
-    ∙ sym (one_more t k periods values unused same inside)
+    ∙ ap (λ r. 32 ∷ (text_of_field hit value ++ r)) before
+    ∙ ap (λ h. 32 ∷ (text_of_field h value ++ rest_of_line next (response_fields t periods values))) hits
+    ∙ ap (λ v. 32 ∷ (text_of_field (hits_at (get_or periods k 0) t) v ++ rest_of_line next (response_fields t periods values))) reads
+    ∙ sym (rest_of_line-more t k next periods values unused same is inside)
 
 pub loop-k-preserved : goal.loop-k-preserved
 loop-k-preserved c = record {
+  few = omega arith;
+  room = omega arith;
   within = omega arith;
-  started = omega arith;
   text =
-      put_more c.args.t c.loop-k.k c.args.periods.now c.args.values.now (pos 0) c.hits.result _ _ _ c.requires.values c.loop-k-test.true
-      c.hits.ensures (search rules) c.loop-k.invariant.text c.put_field-end.ensures.text;
+      put_more c.args.t (c.loop-k.k - 1) c.loop-k.k c.args.periods.now c.args.values.now (pos 0) c.hits.result _ _ _ c.requires.values (omega arith)
+      (omega arith) c.hits.ensures (search rules) c.loop-k.invariant.text c.put_field-start.ensures.text;
 }
 
-pub returns-clause-line : goal.returns-clause-line
-returns-clause-line c =
-    line_ended c.args.t c.loop-k.k c.loop-k.end c.end_line.result c.args.periods.now c.args.values.now c.loop-k.bytes c.end_line.new.bytes
-    c.requires.values (omega arith) c.loop-k.invariant.within c.loop-k.invariant.started (omega arith) c.loop-k.invariant.text
-    c.end_line.ensures.empty c.end_line.ensures.ended
+pub returns-else-is_empty-clause-line : goal.returns-else-is_empty-clause-line
+returns-else-is_empty-clause-line c =
+    let some : 0 < length c.args.periods.now = grind (arith, nat_tests, c.if-is_empty.ensures) in
+    let first : c.loop-k.k ≡ 0 = omega arith in
+    line_from c.args.t c.loop-k.start c.args.periods.now c.args.values.now c.loop-k.bytes c.requires.values some
+    (c.loop-k.invariant.text ∙ ap (λ k. rest_of_line k (response_fields c.args.t c.args.periods.now c.args.values.now)) first)
