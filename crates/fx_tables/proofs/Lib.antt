@@ -2,6 +2,7 @@ pub mod SplitLemmas
 pub mod FieldsLemmas
 pub mod LinesLemmas
 pub mod NumberLemmas
+pub mod DigitsLemmas
 pub mod NumeralLemmas
 pub mod QuotedLemmas
 pub mod DraftLemmas

@@ -3,8 +3,13 @@ use Rattle.std.proofs.Common.{◌≡◌, ℕ, ◌+◌, ◌*◌, ◌-◌, ◌^◌
 use Rattle.std.specs.Char.{digit_value}
 use Rattle.std.specs.Char.{IsAsciiDigit}
 use Rattle.std.specs.Str.Parse.{digits_value_after}
+use Rattle.std.proofs.Math.Nat.{pow-le-pow_right}
 use Rattle.std.proofs.lemmas.List.{drop_more}
 use Rattle.std.proofs.lemmas.Str.{digit_value_digit}
+
+-- a number of fewer than 18 digits
+pub below_eighteen : (value i : ℕ) → value < 10 ^ i → i < 18 → value < 10 ^ 17
+below_eighteen value i small few = omega (arith, pow-le-pow_right {n = 10} (omega arith) {i = i} {j = 17} (omega arith))
 
 step : (n d most : ℕ) → min (n * 10 + d) most ≡ min (min n most * 10 + d) most
 step n d most = omega arith

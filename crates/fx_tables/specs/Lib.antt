@@ -1,6 +1,7 @@
 pub mod Fields
 pub mod Whole
 pub mod Number
+pub mod Digits
 pub mod Stimulus
 pub mod Response
 pub mod RowText

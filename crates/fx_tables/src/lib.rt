@@ -8,6 +8,7 @@
 #![tactic(auto)]
 
 mod cut;
+mod digits;
 mod draft;
 mod entry;
 mod field;
