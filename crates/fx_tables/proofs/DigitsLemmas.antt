@@ -1,13 +1,18 @@
 -- The digits at the start of a field.
-use Rattle.std.proofs.Common.{◌≡◌, ℕ, ◌+◌, ◌*◌, ◌-◌, ◌<◌, ◌≤◌, Bool, true, false, ◌&&◌, List, [], ◌∷◌, length, get_or, refl, arith, rules}
-use Rattle.std.specs.Prelude.{if◌then◌else◌}
+use Rattle.std.proofs.Common.{◌≡◌, ℕ, zero, suc, ◌+◌, ◌*◌, ◌-◌, ◌<◌, ◌≤◌, Bool, true, false, ◌&&◌, eqb, List, [], ◌∷◌, length, get_or, take, drop, length-take, refl, sym, ap, subst, ◌∙◌, arith, rules}
+use Rattle.std.specs.Prelude.{nat_le, ℤ, pos, neg_ℤ, if◌then◌else◌}
 use Rattle.std.specs.Char.{is_ascii_digit, IsAsciiDigit}
 use Rattle.std.specs.Int.{from_bool}
+use Rattle.std.specs.List.{list_all}
+use Rattle.std.specs.Str.Parse.{digits_value, starts_with_minus}
 use Rattle.std.proofs.lemmas.Bool.Decides.{nat_tests}
-use Rattle.std.proofs.lemmas.Grind.{common_steps}
+use Rattle.std.proofs.lemmas.Bool.{cond-false, false≢true, and_parts, and_right}
 use Rattle.std.proofs.lemmas.Str.{digit_value_digit}
-use Rattle.fx_tables.specs.Fields.{is_blank}
-use Rattle.fx_tables.specs.Digits.{IsRunOfDigits}
+use Rattle.fx_tables.specs.Fields.{is_blank, fields_of}
+use Rattle.fx_tables.proofs.FieldsLemmas.{fields_of-field}
+use Rattle.fx_tables.specs.Digits.{IsRunOfDigits, IsFirstNumber}
+use Rattle.fx_tables.specs.Whole.{is_number, digits_of_whole, is_whole, whole_value}
+use Rattle.fx_tables.specs.Stimulus.{is_dash}
 
 digit_is : (c : ℕ) → is_ascii_digit c ≡ true → IsAsciiDigit c
 digit_is c is = search (rules, nat_tests)
@@ -28,6 +33,7 @@ run_of_few (a ∷ b ∷ c ∷ d ∷ rest) false third long first next last blank
   within = omega arith;
   digits = rw first;
   number = omega (arith, digit_value_digit a (digit_is a first));
+  small = omega (arith, digit_is a first);
   ends = λ inside. blank;
 }
 run_of_few (a ∷ b ∷ c ∷ d ∷ rest) true false long first next last blank = record {
@@ -36,6 +42,7 @@ run_of_few (a ∷ b ∷ c ∷ d ∷ rest) true false long first next last blank 
   within = omega arith;
   digits = rw (first, next refl);
   number = omega (arith, digit_value_digit a (digit_is a first), digit_value_digit b (digit_is b (next refl)));
+  small = omega (arith, digit_is a first, digit_is b (next refl));
   ends = λ inside. blank;
 }
 run_of_few (a ∷ b ∷ c ∷ d ∷ rest) true true long first next last blank = record {
@@ -44,5 +51,95 @@ run_of_few (a ∷ b ∷ c ∷ d ∷ rest) true true long first next last blank =
   within = omega arith;
   digits = rw (first, next refl, last refl);
   number = omega (arith, digit_value_digit a (digit_is a first), digit_value_digit b (digit_is b (next refl)), digit_value_digit c (digit_is c (last refl)));
+  small = omega (arith, digit_is a first, digit_is b (next refl), digit_is c (last refl));
   ends = λ inside. blank;
+}
+
+-- the number with its sign
+abbrev pub signed : Bool → ℕ → ℤ
+signed minus value = if minus then neg_ℤ (pos value) else pos value
+
+no_minus : (b : ℕ) → is_ascii_digit b ≡ true → eqb b 45 ≡ false
+no_minus b is = grind (arith, nat_tests, digit_is b is)
+
+is_number-digits : (field : List ℕ) → 0 < length field → length field ≤ 18 → list_all is_ascii_digit field ≡ true → is_number 64 field ≡ true
+is_number-digits field some few digits =
+    let one : nat_le 1 (length field) ≡ true = search (rules, nat_tests) in
+    let most : nat_le (length field) 64 ≡ true = search (rules, nat_tests) in
+    rw (one, most, digits)
+
+-- a text of digits
+plain_field : (field : List ℕ) → 0 < length field → length field ≤ 18 → list_all is_ascii_digit field ≡ true → (is_whole field ≡ true) × (is_dash field ≡ false) × (whole_value field ≡ pos (digits_value 10 field))
+plain_field [] some few digits = absurd (omega arith)
+plain_field (b ∷ field) some few digits =
+    let no : eqb b 45 ≡ false = no_minus b (and_parts (is_ascii_digit b) (list_all is_ascii_digit field) digits).0 in
+    let same = cond-false (eqb b 45) (drop 1 (b ∷ field)) (b ∷ field) no in (
+      ap (is_number 64) same ∙ is_number-digits (b ∷ field) some few digits,
+      and_right (eqb (length (b ∷ field)) 1) (eqb b 45) no,
+      cond-false (eqb b 45) (neg_ℤ (pos (digits_value 10 (digits_of_whole (b ∷ field))))) (pos (digits_value 10 (digits_of_whole (b ∷ field)))) no
+          ∙ ap (λ text. pos (digits_value 10 text)) same,
+    )
+
+-- a minus and digits
+minus_field : (field : List ℕ) → 0 < length field → length field ≤ 18 → list_all is_ascii_digit field ≡ true → (is_whole (45 ∷ field) ≡ true) × (is_dash (45 ∷ field) ≡ false) × (whole_value (45 ∷ field) ≡ neg_ℤ (pos (digits_value 10 field)))
+minus_field field some few digits =
+    let long : eqb (length (45 ∷ field)) 1 ≡ false = search (rules, nat_tests) in
+    (is_number-digits field some few digits, ap (λ one. one && true) long, refl)
+
+no_blank : (n k : ℕ) (text : List ℕ) → list_all is_ascii_digit (take n text) ≡ true → n ≤ length text → k < n → is_blank (get_or text k 0) ≡ false
+no_blank zero k text digits within below = absurd (omega arith)
+no_blank (suc n) k [] digits within below = absurd (omega arith)
+no_blank (suc n) zero (b ∷ text) digits within below =
+    grind (arith, nat_tests, digit_is b (and_parts (is_ascii_digit b) (list_all is_ascii_digit (take n text)) digits).0)
+no_blank (suc n) (suc k) (b ∷ text) digits within below =
+    no_blank n k text (and_parts (is_ascii_digit b) (list_all is_ascii_digit (take n text)) digits).1 (omega arith) (omega arith)
+
+no_blank_behind : (n k : ℕ) (text : List ℕ) → list_all is_ascii_digit (take n text) ≡ true → n ≤ length text → k < suc n → is_blank (get_or (45 ∷ text) k 0) ≡ false
+no_blank_behind n zero text digits within below = refl
+no_blank_behind n (suc k) text digits within below = no_blank n k text digits within (omega arith)
+
+first_plain : (text : List ℕ) (count value : ℕ) → IsRunOfDigits text count value → IsFirstNumber text (pos value) (drop count text)
+first_plain text count value run =
+    let long = length-take count text in
+    let field = plain_field (take count text) (omega (arith, run.some, run.within)) (omega (arith, run.few, run.within)) run.digits in
+    record {
+      field = take count text;
+      first = fields_of-field count text run.some run.within (λ k below. no_blank count k text run.digits run.within below) run.ends;
+      whole = field.0;
+      no_dash = field.1;
+      number = field.2 ∙ ap pos (sym run.number);
+    }
+
+first_minus : (text : List ℕ) (count value : ℕ) → IsRunOfDigits text count value → IsFirstNumber (45 ∷ text) (neg_ℤ (pos value)) (drop count text)
+first_minus text count value run =
+    let long = length-take count text in
+    let field = minus_field (take count text) (omega (arith, run.some, run.within)) (omega (arith, run.few, run.within)) run.digits in
+    record {
+      field = 45 ∷ take count text;
+      first =
+          fields_of-field (suc count) (45 ∷ text) (omega arith) (omega (arith, run.within))
+          (λ k below. no_blank_behind count k text run.digits run.within below) (λ inside. run.ends (omega arith));
+      whole = field.0;
+      no_dash = field.1;
+      number = field.2 ∙ ap (λ n. neg_ℤ (pos n)) (sym run.number);
+    }
+
+-- the first field from its digits, with no minus before them, or with one
+pub first_number : (minus : Bool) (rest text : List ℕ) (count value : ℕ) → minus ≡ starts_with_minus rest → text ≡ drop (from_bool minus) rest → IsRunOfDigits text count value → IsFirstNumber rest (signed minus value) (drop count text)
+first_number false rest text count value is behind run =
+    subst (λ (r : List ℕ). IsFirstNumber r (pos value) (drop count text)) behind (first_plain text count value run)
+first_number true [] text count value is behind run = absurd (false≢true (sym is))
+first_number true (b ∷ rest) text count value is behind run =
+    let minus : 45 ≡ b = search (rules, nat_tests) in
+    subst (λ (r : List ℕ). IsFirstNumber r (neg_ℤ (pos value)) (drop count text)) (ap (λ l. 45 ∷ l) behind ∙ ap (λ c. c ∷ rest) minus)
+    (first_minus text count value run)
+
+-- the same of a line with those fields
+pub first_number-of : (line rest tail all : List ℕ) (value number : ℤ) → fields_of rest ≡ fields_of line → all ≡ tail → number ≡ value → IsFirstNumber rest value tail → IsFirstNumber line number all
+first_number-of line rest tail all value number same ends is first = record {
+  field = first.field;
+  first = sym same ∙ first.first ∙ ap (λ behind. first.field ∷ fields_of behind) (sym ends);
+  whole = first.whole;
+  no_dash = first.no_dash;
+  number = first.number ∙ sym is;
 }

@@ -1,5 +1,5 @@
 -- Digits read up to a bound.
-use Rattle.std.proofs.Common.{◌≡◌, ℕ, ◌+◌, ◌*◌, ◌-◌, ◌^◌, ◌<◌, min, List, [], ◌∷◌, sym, ap, get_or, drop, length, ◌∙◌, arith}
+use Rattle.std.proofs.Common.{◌≡◌, ℕ, ◌+◌, ◌*◌, ◌-◌, ◌^◌, ◌<◌, ◌≤◌, min, List, [], ◌∷◌, sym, ap, get_or, drop, length, ◌∙◌, arith}
 use Rattle.std.specs.Char.{digit_value}
 use Rattle.std.specs.Char.{IsAsciiDigit}
 use Rattle.std.specs.Str.Parse.{digits_value_after}
@@ -7,9 +7,9 @@ use Rattle.std.proofs.Math.Nat.{pow-le-pow_right}
 use Rattle.std.proofs.lemmas.List.{drop_more}
 use Rattle.std.proofs.lemmas.Str.{digit_value_digit}
 
--- a number of fewer than 18 digits
-pub below_eighteen : (value i : ℕ) → value < 10 ^ i → i < 18 → value < 10 ^ 17
-below_eighteen value i small few = omega (arith, pow-le-pow_right {n = 10} (omega arith) {i = i} {j = 17} (omega arith))
+-- a number of at most this many digits
+pub below_power : (value i most : ℕ) → value < 10 ^ i → i ≤ most → value < 10 ^ most
+below_power value i most small few = omega (arith, pow-le-pow_right {n = 10} (omega arith) {i = i} {j = most} few)
 
 step : (n d most : ℕ) → min (n * 10 + d) most ≡ min (min n most * 10 + d) most
 step n d most = omega arith

@@ -7,6 +7,7 @@
 //! a line, `Stimulus`, `Response` and `Plan` on the three texts.
 #![tactic(auto)]
 
+mod cell;
 mod cut;
 mod digits;
 mod draft;

@@ -40,7 +40,8 @@ pub(crate) fn read_whole(text: &[u8]) -> Whole
 }
 
 /// Whether a minus stands first.
-fn has_minus(text: &[u8]) -> bool
+#[inline(always)]
+pub(crate) fn has_minus(text: &[u8]) -> bool
     ensures value { result ≡ starts_with_minus text.now }
     ensures some { IsTrue result → 0 < length text.now }
 {

@@ -2,7 +2,8 @@ ghost use Rattle.std.specs.Prelude.{◌≡◌, ◌≢◌, ℕ, ◌+◌, ◌^◌,
 ghost use Rattle.fx_tables.specs.Fields.{fields_of};
 ghost use Rattle.fx_tables.specs.Stimulus.{IsRows, FitsColumns, stimulus_fault, count_or_fields_fault, fault_or, is_too_large, cells_of};
 
-use crate::cut::{cut_field, cut_line};
+use crate::cell::cut_cell;
+use crate::cut::{cut_field, cut_line, skip_blanks};
 use crate::field::read_field;
 use crate::table::{Column, Rows, TableCause, TableFault};
 use fx_io::Cells;
@@ -84,6 +85,11 @@ fn read_line(
 {
     let mut rest = line;
     for (k, column) in columns.iter().enumerate() {
+        if let Some(cell) = cut_cell(rest, column, sample) {
+            cells.push(cell.value)?;
+            rest = cell.tail;
+            continue;
+        }
         let cut = cut_field(rest);
         if cut.head.is_empty() {
             return Err(bad(sample, TableCause::FieldCount));
@@ -97,11 +103,19 @@ fn read_line(
         }
         rest = cut.tail;
     }
-    if cut_field(rest).head.is_empty() {
+    if has_no_field(rest) {
         Ok(())
     } else {
         Err(bad(sample, TableCause::FieldCount))
     }
+}
+
+/// Whether nothing but blanks is left of a line.
+#[inline(always)]
+fn has_no_field(line: &[u8]) -> bool
+    ensures { result ≡ (length (fields_of line.now) == 0) }
+{
+    skip_blanks(line).is_empty()
 }
 
 /// The first cause of a line with a bad field: a wrong count of fields comes before it.

@@ -1,16 +1,22 @@
-use Rattle.std.proofs.Common.{arith}
+use Rattle.std.proofs.Common.{◌≡◌, ℕ, ◌^◌, ◌<◌, ◌≤◌, ◌∙◌, true, List, length, get_or, take, sym, arith, rules}
+use Rattle.std.specs.List.{list_all}
+use Rattle.std.specs.Char.{is_ascii_digit}
+use Rattle.std.specs.Str.Parse.{digits_value}
+use Rattle.std.proofs.lemmas.Bool.Decides.{nat_tests}
+use Rattle.fx_tables.specs.Fields.{is_blank}
+use Rattle.fx_tables.specs.Digits.{IsRunOfDigits}
 use Rattle.std.proofs.lemmas.Grind.{common_steps}
 use Rattle.std.proofs.lemmas.Int.Digits.{digits_value_more}
 use Rattle.std.proofs.lemmas.List.Folds.{list_all_more}
 use Rattle.std.proofs.lemmas.Str.{digit_value_digit}
-use Rattle.fx_tables.proofs.NumberLemmas.{below_eighteen}
+use Rattle.fx_tables.proofs.NumberLemmas.{below_power}
 use Rattle.fx_tables.proofs.digits.read_run.Goals as goal
 
 pub overflow_mul-value : goal.overflow_mul-value
-overflow_mul-value c = omega (arith, below_eighteen c.loop-length.value c.loop-length.length c.loop-length.invariant.small (omega arith))
+overflow_mul-value c = omega (arith, below_power c.loop-length.value c.loop-length.length 17 c.loop-length.invariant.small (omega arith))
 
 pub overflow_add-value : goal.overflow_add-value
-overflow_add-value c = omega (arith, below_eighteen c.loop-length.value c.loop-length.length c.loop-length.invariant.small (omega arith))
+overflow_add-value c = omega (arith, below_power c.loop-length.value c.loop-length.length 17 c.loop-length.invariant.small (omega arith))
 
 pub loop-length-preserved : goal.loop-length-preserved
 loop-length-preserved c = record {
@@ -19,3 +25,29 @@ loop-length-preserved c = record {
   small = grind (arith, common_steps);
   few = omega arith;
 }
+
+run : (text : List ℕ) (count value : ℕ) → 0 < count → count ≤ 18 → count ≤ length text → list_all is_ascii_digit (take count text) ≡ true → value ≡ digits_value 10 (take count text) → value < 10 ^ count → (count < length text → is_blank (get_or text count 0) ≡ true) → IsRunOfDigits text count value
+run text count value some few within digits number small ends = record {
+  some = some;
+  few = few;
+  within = within;
+  digits = digits;
+  number = number;
+  small = below_power value count 18 small few;
+  ends = ends;
+}
+
+pub returns-then-not-is_ascii_digit : goal.returns-then-not-is_ascii_digit
+returns-then-not-is_ascii_digit c =
+    let loop = c.loop-length in
+    run c.args.text.now loop.length loop.value (search rules) loop.invariant.few (omega arith) loop.invariant.digits loop.invariant.number
+    loop.invariant.small (λ inside. sym c.is_blank.ensures ∙ c.if-not-is_blank.false)
+
+pub returns : goal.returns
+returns c =
+    let loop = c.loop-length in
+    let some : 0 < length c.args.text.now = grind (arith, nat_tests, c.if-is_empty.ensures) in
+    let all : loop.length ≡ length c.args.text.now = omega arith in
+    rw (← all)
+    (run c.args.text.now loop.length loop.value (omega arith) loop.invariant.few (omega arith) loop.invariant.digits loop.invariant.number
+    loop.invariant.small (λ inside. absurd (omega arith)))

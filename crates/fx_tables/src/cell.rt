@@ -1,0 +1,64 @@
+ghost use Rattle.std.specs.Prelude.{◌≡◌, ◌^◌, ◌<◌, pos, neg_ℤ, IfSome, if◌then◌else◌};
+ghost use Rattle.fx_tables.specs.Digits.{IsFirstNumber, IsFirstCell};
+
+use crate::cut::skip_blanks;
+use crate::digits::read_digits;
+use crate::field::hits;
+use crate::number::has_minus;
+use crate::table::Column;
+
+/// The cell of the first field of a line, and what follows that field.
+#[derive(Clone, Copy)]
+pub(crate) struct CellCut<'a> {
+    pub(crate) value: i128,
+    pub(crate) tail: &'a [u8],
+}
+
+/// The number that is the first field of a line, and what follows it.
+#[derive(Clone, Copy)]
+struct NumberCut<'a> {
+    value: i64,
+    tail: &'a [u8],
+}
+
+/// Cuts the first field off a line in one go where it is what nearly every field is, a number of up
+/// to 18 digits that is good in its column.
+#[inline(always)]
+pub(crate) fn cut_cell<'a>(line: &'a [u8], column: &Column, sample: u64) -> Option<CellCut<'a>>
+    requires { 0 < column.now.period }
+    ensures { IfSome result (λ cell. IsFirstCell line.now column.now sample cell.value cell.tail.now) }
+{
+    let Column { low, high, period } = *column;
+    let NumberCut { value, tail } = cut_number(line)?;
+    let value = i128::from(value);
+    if hits(period, sample) && low <= value && value <= high {
+        Some(CellCut { value, tail })
+    } else {
+        None
+    }
+}
+
+/// Cuts the first field off a line where it is a number of up to 18 digits.
+#[inline(always)]
+fn cut_number(line: &[u8]) -> Option<NumberCut<'_>>
+    ensures { IfSome result (λ number. IsFirstNumber line.now number.value number.tail.now) }
+{
+    let field = skip_blanks(line);
+    let minus = has_minus(field);
+    let text = &field[usize::from(minus)..];
+    let digits = read_digits(text)?;
+    Some(NumberCut {
+        value: with_sign(digits.value, minus),
+        tail: &text[digits.length..],
+    })
+}
+
+/// The number, or minus the number.
+#[inline(always)]
+fn with_sign(value: u64, minus: bool) -> i64
+    requires { value < 10 ^ 18 }
+    ensures { result ≡ (if minus then neg_ℤ (pos value) else pos value) }
+{
+    let value = value as i64;
+    if minus { -value } else { value }
+}
