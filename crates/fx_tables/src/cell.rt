@@ -28,9 +28,9 @@ pub(crate) fn cut_cell<'a>(line: &'a [u8], column: &Column, sample: u64) -> Opti
     requires { 0 < column.now.period }
     ensures { IfSome result (λ cell. IsFirstCell line.now column.now sample cell.value cell.tail.now) }
 {
-    let Column { low, high, period } = *column;
     let NumberCut { value, tail } = cut_number(line)?;
     let value = i128::from(value);
+    let Column { low, high, period } = *column;
     if hits(period, sample) && low <= value && value <= high {
         Some(CellCut { value, tail })
     } else {

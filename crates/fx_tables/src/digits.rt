@@ -57,11 +57,8 @@ fn with_digit(value: u64, is_there: bool, digit: u8) -> u64
     ensures value { result ≡ (if is_there then value * 10 + (digit - 48) else value) }
     ensures small { result < value * 10 + 10 }
 {
-    if is_there {
-        value * 10 + u64::from(digit - b'0')
-    } else {
-        value
-    }
+    let longer = value * 10 + u64::from(digit.wrapping_sub(b'0'));
+    if is_there { longer } else { value }
 }
 
 /// Reads 1 to 18 digits before a blank or the end of the line, one by one.
