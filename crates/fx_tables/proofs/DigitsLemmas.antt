@@ -22,12 +22,13 @@ abbrev pub with_digit : ℕ → Bool → ℕ → ℕ
 with_digit value is_there digit = if is_there then value * 10 + (digit - 48) else value
 
 -- one to three digits, of which it is known which are there
-pub run_of_few : (text : List ℕ) (second third : Bool) → 4 ≤ length text → is_ascii_digit (get_or text 0 0) ≡ true → (second ≡ true → is_ascii_digit (get_or text 1 0) ≡ true) → (third ≡ true → is_ascii_digit (get_or text 2 0) ≡ true) → is_blank (get_or text (1 + from_bool second + from_bool (second && third)) 0) ≡ true → IsRunOfDigits text (1 + from_bool second + from_bool (second && third)) (with_digit (with_digit (get_or text 0 0 - 48) second (get_or text 1 0)) (second && third) (get_or text 2 0))
-run_of_few [] second third long first next last blank = absurd (omega arith)
-run_of_few (a ∷ []) second third long first next last blank = absurd (omega arith)
-run_of_few (a ∷ b ∷ []) second third long first next last blank = absurd (omega arith)
-run_of_few (a ∷ b ∷ c ∷ []) second third long first next last blank = absurd (omega arith)
-run_of_few (a ∷ b ∷ c ∷ d ∷ rest) false third long first next last blank = record {
+pub run_of_few : (text tail : List ℕ) (second third : Bool) → 4 ≤ length text → is_ascii_digit (get_or text 0 0) ≡ true → (second ≡ true → is_ascii_digit (get_or text 1 0) ≡ true) → (third ≡ true → is_ascii_digit (get_or text 2 0) ≡ true) → is_blank (get_or text (1 + from_bool second + from_bool (second && third)) 0) ≡ true → fields_of tail ≡ fields_of (drop (1 + from_bool second + from_bool (second && third)) text) → IsRunOfDigits text (with_digit (with_digit (get_or text 0 0 - 48) second (get_or text 1 0)) (second && third) (get_or text 2 0)) tail
+run_of_few [] tail second third long first next last blank rest_is = absurd (omega arith)
+run_of_few (a ∷ []) tail second third long first next last blank rest_is = absurd (omega arith)
+run_of_few (a ∷ b ∷ []) tail second third long first next last blank rest_is = absurd (omega arith)
+run_of_few (a ∷ b ∷ c ∷ []) tail second third long first next last blank rest_is = absurd (omega arith)
+run_of_few (a ∷ b ∷ c ∷ d ∷ text) tail false third long first next last blank rest_is = record {
+  count = 1;
   some = omega arith;
   few = omega arith;
   within = omega arith;
@@ -35,8 +36,10 @@ run_of_few (a ∷ b ∷ c ∷ d ∷ rest) false third long first next last blank
   number = omega (arith, digit_value_digit a (digit_is a first));
   small = omega (arith, digit_is a first);
   ends = λ inside. blank;
+  rest = rest_is;
 }
-run_of_few (a ∷ b ∷ c ∷ d ∷ rest) true false long first next last blank = record {
+run_of_few (a ∷ b ∷ c ∷ d ∷ text) tail true false long first next last blank rest_is = record {
+  count = 2;
   some = omega arith;
   few = omega arith;
   within = omega arith;
@@ -44,8 +47,10 @@ run_of_few (a ∷ b ∷ c ∷ d ∷ rest) true false long first next last blank 
   number = omega (arith, digit_value_digit a (digit_is a first), digit_value_digit b (digit_is b (next refl)));
   small = omega (arith, digit_is a first, digit_is b (next refl));
   ends = λ inside. blank;
+  rest = rest_is;
 }
-run_of_few (a ∷ b ∷ c ∷ d ∷ rest) true true long first next last blank = record {
+run_of_few (a ∷ b ∷ c ∷ d ∷ text) tail true true long first next last blank rest_is = record {
+  count = 3;
   some = omega arith;
   few = omega arith;
   within = omega arith;
@@ -53,6 +58,7 @@ run_of_few (a ∷ b ∷ c ∷ d ∷ rest) true true long first next last blank =
   number = omega (arith, digit_value_digit a (digit_is a first), digit_value_digit b (digit_is b (next refl)), digit_value_digit c (digit_is c (last refl)));
   small = omega (arith, digit_is a first, digit_is b (next refl), digit_is c (last refl));
   ends = λ inside. blank;
+  rest = rest_is;
 }
 
 -- the number with its sign
@@ -98,47 +104,51 @@ no_blank_behind : (n k : ℕ) (text : List ℕ) → list_all is_ascii_digit (tak
 no_blank_behind n zero text digits within below = refl
 no_blank_behind n (suc k) text digits within below = no_blank n k text digits within (omega arith)
 
-first_plain : (text : List ℕ) (count value : ℕ) → IsRunOfDigits text count value → IsFirstNumber text (pos value) (drop count text)
-first_plain text count value run =
+first_plain : (text tail : List ℕ) (value : ℕ) → IsRunOfDigits text value tail → IsFirstNumber text (pos value) tail
+first_plain text tail value run =
+    let count = run.count in
     let long = length-take count text in
     let field = plain_field (take count text) (omega (arith, run.some, run.within)) (omega (arith, run.few, run.within)) run.digits in
     record {
       field = take count text;
-      first = fields_of-field count text run.some run.within (λ k below. no_blank count k text run.digits run.within below) run.ends;
+      first =
+          fields_of-field count text run.some run.within (λ k below. no_blank count k text run.digits run.within below) run.ends
+          ∙ ap (λ fields. take count text ∷ fields) (sym run.rest);
       whole = field.0;
       no_dash = field.1;
       number = field.2 ∙ ap pos (sym run.number);
     }
 
-first_minus : (text : List ℕ) (count value : ℕ) → IsRunOfDigits text count value → IsFirstNumber (45 ∷ text) (neg_ℤ (pos value)) (drop count text)
-first_minus text count value run =
+first_minus : (text tail : List ℕ) (value : ℕ) → IsRunOfDigits text value tail → IsFirstNumber (45 ∷ text) (neg_ℤ (pos value)) tail
+first_minus text tail value run =
+    let count = run.count in
     let long = length-take count text in
     let field = minus_field (take count text) (omega (arith, run.some, run.within)) (omega (arith, run.few, run.within)) run.digits in
     record {
       field = 45 ∷ take count text;
       first =
           fields_of-field (suc count) (45 ∷ text) (omega arith) (omega (arith, run.within))
-          (λ k below. no_blank_behind count k text run.digits run.within below) (λ inside. run.ends (omega arith));
+          (λ k below. no_blank_behind count k text run.digits run.within below) (λ inside. run.ends (omega arith))
+          ∙ ap (λ fields. (45 ∷ take count text) ∷ fields) (sym run.rest);
       whole = field.0;
       no_dash = field.1;
       number = field.2 ∙ ap (λ n. neg_ℤ (pos n)) (sym run.number);
     }
 
 -- the first field from its digits, with no minus before them, or with one
-pub first_number : (minus : Bool) (rest text : List ℕ) (count value : ℕ) → minus ≡ starts_with_minus rest → text ≡ drop (from_bool minus) rest → IsRunOfDigits text count value → IsFirstNumber rest (signed minus value) (drop count text)
-first_number false rest text count value is behind run =
-    subst (λ (r : List ℕ). IsFirstNumber r (pos value) (drop count text)) behind (first_plain text count value run)
-first_number true [] text count value is behind run = absurd (false≢true (sym is))
-first_number true (b ∷ rest) text count value is behind run =
+pub first_number : (minus : Bool) (rest text tail : List ℕ) (value : ℕ) → minus ≡ starts_with_minus rest → text ≡ drop (from_bool minus) rest → IsRunOfDigits text value tail → IsFirstNumber rest (signed minus value) tail
+first_number false rest text tail value is behind run = subst (λ (r : List ℕ). IsFirstNumber r (pos value) tail) behind (first_plain text tail value run)
+first_number true [] text tail value is behind run = absurd (false≢true (sym is))
+first_number true (b ∷ rest) text tail value is behind run =
     let minus : 45 ≡ b = search (rules, nat_tests) in
-    subst (λ (r : List ℕ). IsFirstNumber r (neg_ℤ (pos value)) (drop count text)) (ap (λ l. 45 ∷ l) behind ∙ ap (λ c. c ∷ rest) minus)
-    (first_minus text count value run)
+    subst (λ (r : List ℕ). IsFirstNumber r (neg_ℤ (pos value)) tail) (ap (λ l. 45 ∷ l) behind ∙ ap (λ c. c ∷ rest) minus)
+    (first_minus text tail value run)
 
 -- the same of a line with those fields
-pub first_number-of : (line rest tail all : List ℕ) (value number : ℤ) → fields_of rest ≡ fields_of line → all ≡ tail → number ≡ value → IsFirstNumber rest value tail → IsFirstNumber line number all
-first_number-of line rest tail all value number same ends is first = record {
+pub first_number-of : (line rest tail : List ℕ) (value number : ℤ) → fields_of rest ≡ fields_of line → number ≡ value → IsFirstNumber rest value tail → IsFirstNumber line number tail
+first_number-of line rest tail value number same is first = record {
   field = first.field;
-  first = sym same ∙ first.first ∙ ap (λ behind. first.field ∷ fields_of behind) (sym ends);
+  first = sym same ∙ first.first;
   whole = first.whole;
   no_dash = first.no_dash;
   number = first.number ∙ sym is;

@@ -1,5 +1,5 @@
 -- What reading the first field of a line in one go gives, where it is a number of up to 18 digits.
-use Rattle.std.specs.Prelude.{◌≡◌, ℕ, ℤ, ◌^◌, ◌<◌, ◌≤◌, true, false, None, List, ◌∷◌, length, take, slice_index}
+use Rattle.std.specs.Prelude.{◌≡◌, ℕ, ℤ, ◌^◌, ◌<◌, ◌≤◌, true, false, None, List, ◌∷◌, length, take, drop, slice_index}
 use Rattle.std.specs.List.{list_all}
 use Rattle.std.specs.Char.{is_ascii_digit}
 use Rattle.std.specs.Str.Parse.{digits_value}
@@ -8,8 +8,9 @@ use Rattle.fx_tables.specs.Whole.{is_whole, whole_value}
 use Rattle.fx_tables.specs.Stimulus.{is_dash, field_fault, cell_of}
 use Rattle.fx_tables.specs.declared.table.Column.{Column}
 
--- the first `count` bytes are digits of this number, and then the text ends or a blank follows
-pub record IsRunOfDigits (text : List ℕ) (count value : ℕ) : Type 0 where
+-- the text begins with 1 to 18 digits of this number, before a blank or its end, and the tail has the fields behind them
+pub record IsRunOfDigits (text : List ℕ) (value : ℕ) (tail : List ℕ) : Type 0 where
+  pub count : ℕ
   pub some : 0 < count
   pub few : count ≤ 18
   pub within : count ≤ length text
@@ -17,6 +18,7 @@ pub record IsRunOfDigits (text : List ℕ) (count value : ℕ) : Type 0 where
   pub number : value ≡ digits_value 10 (take count text)
   pub small : value < 10 ^ 18
   pub ends : count < length text → is_blank (slice_index text count) ≡ true
+  pub rest : fields_of tail ≡ fields_of (drop count text)
 
 -- the first field of the line is this number, and the tail has the others
 pub record IsFirstNumber (line : List ℕ) (value : ℤ) (tail : List ℕ) : Type 0 where

@@ -45,11 +45,10 @@ fn cut_number(line: &[u8]) -> Option<NumberCut<'_>>
 {
     let field = skip_blanks(line);
     let minus = has_minus(field);
-    let text = &field[usize::from(minus)..];
-    let digits = read_digits(text)?;
+    let digits = read_digits(&field[usize::from(minus)..])?;
     Some(NumberCut {
         value: with_sign(digits.value, minus),
-        tail: &text[digits.length..],
+        tail: digits.tail,
     })
 }
 

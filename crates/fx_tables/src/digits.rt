@@ -1,24 +1,22 @@
-ghost use Rattle.std.specs.Prelude.{◌≡◌, ◌+◌, ◌*◌, ◌-◌, ◌<◌, IsTrue, IfSome, length, slice_index, if◌then◌else◌};
+ghost use Rattle.std.specs.Prelude.{◌≡◌, ◌+◌, ◌*◌, ◌-◌, ◌<◌, IsTrue, IfSome, true, length, drop, slice_index, if◌then◌else◌};
 ghost use Rattle.std.specs.Char.{is_ascii_digit};
-ghost use Rattle.fx_tables.specs.Fields.{is_blank};
+ghost use Rattle.fx_tables.specs.Fields.{is_blank, fields_of};
 ghost use Rattle.fx_tables.specs.Digits.{IsRunOfDigits};
 
 /// The most digits whose number surely fits 64 bits.
 const SHORT_DIGITS: usize = 18;
 
-/// The digits at the start of a text.
+/// The number that the digits at the start of a text write, and what follows them.
 #[derive(Clone, Copy)]
-pub(crate) struct Digits {
-    /// Their number.
+pub(crate) struct Digits<'a> {
     pub(crate) value: u64,
-    /// How many they are.
-    pub(crate) length: usize,
+    pub(crate) tail: &'a [u8],
 }
 
 /// Reads 1 to 18 digits before a blank or the end of the line.
 #[inline(always)]
-pub(crate) fn read_digits(text: &[u8]) -> Option<Digits>
-    ensures { IfSome result (λ digits. IsRunOfDigits text.now digits.length digits.value) }
+pub(crate) fn read_digits(text: &[u8]) -> Option<Digits<'_>>
+    ensures { IfSome result (λ digits. IsRunOfDigits text.now digits.value digits.tail.now) }
 {
     match read_few(text) {
         Some(digits) => Some(digits),
@@ -29,8 +27,8 @@ pub(crate) fn read_digits(text: &[u8]) -> Option<Digits>
 /// Reads 1 to 3 digits before a blank. It does not branch on how many there are, which is seldom
 /// foreseen.
 #[inline(always)]
-fn read_few(text: &[u8]) -> Option<Digits>
-    ensures { IfSome result (λ digits. IsRunOfDigits text.now digits.length digits.value) }
+fn read_few(text: &[u8]) -> Option<Digits<'_>>
+    ensures { IfSome result (λ digits. IsRunOfDigits text.now digits.value digits.tail.now) }
 {
     if text.len() < 4 || !text[0].is_ascii_digit() {
         return None;
@@ -45,7 +43,7 @@ fn read_few(text: &[u8]) -> Option<Digits>
     let two = with_digit(one, second, text[1]);
     Some(Digits {
         value: with_digit(two, third, text[2]),
-        length,
+        tail: behind_blank(text, length),
     })
 }
 
@@ -62,8 +60,8 @@ fn with_digit(value: u64, is_there: bool, digit: u8) -> u64
 }
 
 /// Reads 1 to 18 digits before a blank or the end of the line, one by one.
-fn read_run(text: &[u8]) -> Option<Digits>
-    ensures { IfSome result (λ digits. IsRunOfDigits text.now digits.length digits.value) }
+fn read_run(text: &[u8]) -> Option<Digits<'_>>
+    ensures { IfSome result (λ digits. IsRunOfDigits text.now digits.value digits.tail.now) }
 {
     let mut value = 0u64;
     for (length, byte) in text.iter().enumerate() {
@@ -71,7 +69,10 @@ fn read_run(text: &[u8]) -> Option<Digits>
             if length == 0 || !is_blank(*byte) {
                 return None;
             }
-            return Some(Digits { value, length });
+            return Some(Digits {
+                value,
+                tail: behind_blank(text, length),
+            });
         }
         if length == SHORT_DIGITS {
             return None;
@@ -83,8 +84,18 @@ fn read_run(text: &[u8]) -> Option<Digits>
     }
     Some(Digits {
         value,
-        length: text.len(),
+        tail: &text[text.len()..],
     })
+}
+
+/// What follows the blank at a place.
+#[inline(always)]
+fn behind_blank(text: &[u8], place: usize) -> &[u8]
+    requires within { place < length text.now }
+    requires blank { is_blank (slice_index text.now place) ≡ true }
+    ensures { fields_of result.now ≡ fields_of (drop place text.now) }
+{
+    &text[place + 1..]
 }
 
 /// Whether a byte is a blank.

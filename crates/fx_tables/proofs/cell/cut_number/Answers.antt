@@ -8,7 +8,7 @@ returns c =
     let field = c.skip_blanks-field in
     let minus = c.has_minus-minus in
     let digits = c.in_ok-digits.digits in
-    first_number-of c.args.line.now field.result.now _ _ _ _ field.ensures.same_fields (take_rest _ digits.length)
+    first_number-of c.args.line.now field.result.now digits.tail.now _ _ field.ensures.same_fields
     (to_z-of_z {w = w64} (record { sfits = c.with_sign.type_inv }) ∙ c.with_sign.ensures)
-    (first_number minus.result field.result.now _ digits.length digits.value minus.ensures.value
+    (first_number minus.result field.result.now _ digits.tail.now digits.value minus.ensures.value
     (take_rest field.result.now c.from.result ∙ ap (λ n. drop n field.result.now) c.from.ensures) c.in_ok-digits.ensures)

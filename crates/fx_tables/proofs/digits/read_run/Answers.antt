@@ -1,9 +1,10 @@
-use Rattle.std.proofs.Common.{◌≡◌, ℕ, ◌^◌, ◌<◌, ◌≤◌, ◌∙◌, true, List, length, get_or, take, sym, arith, rules}
+use Rattle.std.proofs.Common.{◌≡◌, ℕ, ◌^◌, ◌<◌, ◌≤◌, ◌∙◌, true, List, length, get_or, take, drop, sym, ap, arith, rules}
 use Rattle.std.specs.List.{list_all}
 use Rattle.std.specs.Char.{is_ascii_digit}
 use Rattle.std.specs.Str.Parse.{digits_value}
+use Rattle.std.proofs.lemmas.List.{take_rest}
 use Rattle.std.proofs.lemmas.Bool.Decides.{nat_tests}
-use Rattle.fx_tables.specs.Fields.{is_blank}
+use Rattle.fx_tables.specs.Fields.{is_blank, fields_of}
 use Rattle.fx_tables.specs.Digits.{IsRunOfDigits}
 use Rattle.std.proofs.lemmas.Grind.{common_steps}
 use Rattle.std.proofs.lemmas.Int.Digits.{digits_value_more}
@@ -26,8 +27,9 @@ loop-length-preserved c = record {
   few = omega arith;
 }
 
-run : (text : List ℕ) (count value : ℕ) → 0 < count → count ≤ 18 → count ≤ length text → list_all is_ascii_digit (take count text) ≡ true → value ≡ digits_value 10 (take count text) → value < 10 ^ count → (count < length text → is_blank (get_or text count 0) ≡ true) → IsRunOfDigits text count value
-run text count value some few within digits number small ends = record {
+run : (text tail : List ℕ) (count value : ℕ) → 0 < count → count ≤ 18 → count ≤ length text → list_all is_ascii_digit (take count text) ≡ true → value ≡ digits_value 10 (take count text) → value < 10 ^ count → (count < length text → is_blank (get_or text count 0) ≡ true) → fields_of tail ≡ fields_of (drop count text) → IsRunOfDigits text value tail
+run text tail count value some few within digits number small ends rest = record {
+  count = count;
   some = some;
   few = few;
   within = within;
@@ -35,19 +37,21 @@ run text count value some few within digits number small ends = record {
   number = number;
   small = below_power value count 18 small few;
   ends = ends;
+  rest = rest;
 }
 
 pub returns-then-not-is_ascii_digit : goal.returns-then-not-is_ascii_digit
 returns-then-not-is_ascii_digit c =
     let loop = c.loop-length in
-    run c.args.text.now loop.length loop.value (search rules) loop.invariant.few (omega arith) loop.invariant.digits loop.invariant.number
-    loop.invariant.small (λ inside. sym c.is_blank.ensures ∙ c.if-not-is_blank.false)
+    run c.args.text.now c.behind_blank.result.now loop.length loop.value (search rules) loop.invariant.few (omega arith) loop.invariant.digits
+    loop.invariant.number loop.invariant.small (λ inside. sym c.is_blank.ensures ∙ c.if-not-is_blank.false) c.behind_blank.ensures
 
 pub returns : goal.returns
 returns c =
     let loop = c.loop-length in
-    let some : 0 < length c.args.text.now = grind (arith, nat_tests, c.if-is_empty.ensures) in
-    let all : loop.length ≡ length c.args.text.now = omega arith in
-    rw (← all)
-    (run c.args.text.now loop.length loop.value (omega arith) loop.invariant.few (omega arith) loop.invariant.digits loop.invariant.number
-    loop.invariant.small (λ inside. absurd (omega arith)))
+    let text = c.args.text.now in
+    let some : 0 < length text = grind (arith, nat_tests, c.if-is_empty.ensures) in
+    let all : length text ≡ loop.length = omega arith in
+    run text _ loop.length loop.value (omega arith) loop.invariant.few (omega arith) loop.invariant.digits loop.invariant.number
+    loop.invariant.small (λ inside. absurd (omega arith))
+    (ap fields_of (take_rest text (length text)) ∙ ap (λ n. fields_of (drop n text)) all)
