@@ -1,6 +1,6 @@
 -- A number of up to three digits, written before a place in a list of bytes.
-use Rattle.std.proofs.Common.{◌≡◌, ℕ, ◌+◌, ◌-◌, ◌/◌, ◌%◌, ◌<◌, ◌≤◌, List, [], ◌∷◌, ◌++◌, length, drop, set, length-set, inl, inr, true, false, sym, ap, ◌∙◌, arith, rules}
-use Rattle.std.specs.Prelude.{nat_le, ◌⊎◌}
+use Rattle.std.proofs.Common.{◌≡◌, ℕ, ◌+◌, ◌*◌, ◌-◌, ◌/◌, ◌%◌, ◌<◌, ◌≤◌, List, [], ◌∷◌, ◌++◌, length, drop, set, length-set, inl, inr, true, false, sym, ap, ◌∙◌, arith, rules}
+use Rattle.std.specs.Prelude.{nat_lt, ◌⊎◌}
 use Rattle.std.specs.Int.{from_bool}
 use Rattle.std.specs.Fmt.{decimal}
 use Rattle.std.proofs.lemmas.List.{drop-set, drop-set-lt}
@@ -9,11 +9,12 @@ use Rattle.std.proofs.lemmas.Bool.Decides.{nat_tests}
 use Rattle.std.proofs.lemmas.Fmt.{decimal_digit}
 use Rattle.itoa.proofs.Decimal.{decimal_two, decimal_pair}
 
-decimal_three : (n : ℕ) → 100 ≤ n → n < 1000 → decimal n ≡ (48 + n / 100) ∷ (48 + n / 10 % 10) ∷ (48 + n % 10) ∷ []
+decimal_three : (n : ℕ) → 100 ≤ n → n < 1000 → decimal n ≡ (48 + n / 10 / 10) ∷ (48 + (n / 10 - n / 10 / 10 * 10)) ∷ (48 + (n - n / 10 * 10)) ∷ []
 decimal_three n low high =
-    let tens : n % 100 / 10 ≡ n / 10 % 10 = omega arith in
-    let ones : n % 100 % 10 ≡ n % 10 = omega arith in
-    rw (decimal_pair n low (omega arith), decimal_digit (n / 100) (omega arith), tens, ones)
+    let hundreds : n / 100 ≡ n / 10 / 10 = omega arith in
+    let tens : n % 100 / 10 ≡ n / 10 - n / 10 / 10 * 10 = omega arith in
+    let ones : n % 100 % 10 ≡ n - n / 10 * 10 = omega arith in
+    rw (decimal_pair n low (omega arith), decimal_digit (n / 100) (omega arith), hundreds, tens, ones)
 
 -- the bytes with three more before a place
 abbrev pub with_three : List ℕ → ℕ → ℕ → ℕ → ℕ → List ℕ
@@ -56,36 +57,37 @@ put_as n start end digits bytes whole is counted text = record {
   text = text ∙ ap (λ d. d ++ drop end bytes) (sym is);
 }
 
-flag_is : (limit n flag : ℕ) → flag ≡ from_bool (nat_le limit n) → (limit ≤ n → flag ≡ 1) × (n < limit → flag ≡ 0)
-flag_is limit n flag is = (
-  λ above. is ∙ ap from_bool (let h : nat_le limit n ≡ true = search (rules, nat_tests) in h),
-  λ below. is ∙ ap from_bool (let h : nat_le limit n ≡ false = search (rules, nat_tests) in h),
+flag_is : (n flag : ℕ) → flag ≡ from_bool (nat_lt 0 n) → (0 < n → flag ≡ 1) × (n ≡ 0 → flag ≡ 0)
+flag_is n flag is = (
+  λ some. is ∙ ap from_bool (let h : nat_lt 0 n ≡ true = search (rules, nat_tests) in h),
+  λ none. is ∙ ap from_bool (let h : nat_lt 0 n ≡ false = search (rules, nat_tests) in h),
 )
 
 -- which of the three digits count
-pub put_three : (n end above_ten above_hundred : ℕ) (bytes : List ℕ) → n < 1000 → 3 ≤ end → end ≤ length bytes → above_ten ≡ from_bool (nat_le 10 n) → above_hundred ≡ from_bool (nat_le 100 n) → IsPut n bytes (with_three bytes end (48 + n / 100) (48 + n / 10 % 10) (48 + n % 10)) end (end - 1 - above_ten - above_hundred)
+pub put_three : (n end ten hundred : ℕ) (bytes : List ℕ) → n < 1000 → 3 ≤ end → end ≤ length bytes → ten ≡ from_bool (nat_lt 0 (n / 10)) → hundred ≡ from_bool (nat_lt 0 (n / 10 / 10)) → IsPut n bytes (with_three bytes end (48 + n / 10 / 10) (48 + (n / 10 - n / 10 / 10 * 10)) (48 + (n - n / 10 * 10))) end (end - 1 - ten - hundred)
 put_three n end ten hundred bytes short room within is_ten is_hundred =
-    let x = 48 + n / 100 in
-    let y = 48 + n / 10 % 10 in
-    let z = 48 + n % 10 in
-    let tens = flag_is 10 n ten is_ten in
-    let hundreds = flag_is 100 n hundred is_hundred in
+    let x = 48 + n / 10 / 10 in
+    let y = 48 + (n / 10 - n / 10 / 10 * 10) in
+    let z = 48 + (n - n / 10 * 10) in
+    let tens = flag_is (n / 10) ten is_ten in
+    let hundreds = flag_is (n / 10 / 10) hundred is_hundred in
     elim (cases_lt n 10) [
       | inl one ↦
-          let start : end - 1 - ten - hundred ≡ end - 1 = omega (arith, tens.1 one, hundreds.1 (omega arith)) in
-          let digit : n ≡ n % 10 = omega arith in
+          let start : end - 1 - ten - hundred ≡ end - 1 = omega (arith, tens.1 (omega arith), hundreds.1 (omega arith)) in
+          let digit : n ≡ n - n / 10 * 10 = omega arith in
           put_as n (end - 1 - ten - hundred) end (z ∷ []) bytes (with_three bytes end x y z)
           (decimal_digit n one ∙ ap (λ d. (48 + d) ∷ []) digit) (omega arith)
           (ap (λ s. drop s (with_three bytes end x y z)) start ∙ last_one bytes end x y z room within)
       | inr more ↦ elim (cases_lt n 100) [
         | inl two ↦
-            let start : end - 1 - ten - hundred ≡ end - 2 = omega (arith, tens.0 more, hundreds.1 two) in
-            let digit : n / 10 ≡ n / 10 % 10 = omega arith in
+            let start : end - 1 - ten - hundred ≡ end - 2 = omega (arith, tens.0 (omega arith), hundreds.1 (omega arith)) in
+            let digit : n / 10 ≡ n / 10 - n / 10 / 10 * 10 = omega arith in
+            let last : n % 10 ≡ n - n / 10 * 10 = omega arith in
             put_as n (end - 1 - ten - hundred) end (y ∷ z ∷ []) bytes (with_three bytes end x y z)
-            (decimal_two n more two ∙ ap (λ d. (48 + d) ∷ z ∷ []) digit) (omega arith)
+            (decimal_two n more two ∙ ap (λ d. (48 + d) ∷ (48 + n % 10) ∷ []) digit ∙ ap (λ d. y ∷ (48 + d) ∷ []) last) (omega arith)
             (ap (λ s. drop s (with_three bytes end x y z)) start ∙ last_two bytes end x y z room within)
         | inr three ↦
-            let start : end - 1 - ten - hundred ≡ end - 3 = omega (arith, tens.0 more, hundreds.0 three) in
+            let start : end - 1 - ten - hundred ≡ end - 3 = omega (arith, tens.0 (omega arith), hundreds.0 (omega arith)) in
             put_as n (end - 1 - ten - hundred) end (x ∷ y ∷ z ∷ []) bytes (with_three bytes end x y z)
             (decimal_three n three short) (omega arith)
             (ap (λ s. drop s (with_three bytes end x y z)) start ∙ last_three bytes end x y z room within)

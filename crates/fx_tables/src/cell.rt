@@ -43,9 +43,27 @@ pub(crate) fn cut_cell<'a>(line: &'a [u8], column: &Column, sample: u64) -> Opti
 fn cut_number(line: &[u8]) -> Option<NumberCut<'_>>
     ensures { IfSome result (λ number. IsFirstNumber line.now number.value number.tail.now) }
 {
-    let field = skip_blanks(line);
-    let minus = has_minus(field);
-    let digits = read_digits(&field[usize::from(minus)..])?;
+    match number_at_start(line) {
+        Some(number) => Some(number),
+        None => number_behind_blanks(line),
+    }
+}
+
+/// The same where more than one blank stands before the field.
+#[inline(never)]
+fn number_behind_blanks(line: &[u8]) -> Option<NumberCut<'_>>
+    ensures { IfSome result (λ number. IsFirstNumber line.now number.value number.tail.now) }
+{
+    number_at_start(skip_blanks(line))
+}
+
+/// The same where no blank stands before the field.
+#[inline(always)]
+fn number_at_start(line: &[u8]) -> Option<NumberCut<'_>>
+    ensures { IfSome result (λ number. IsFirstNumber line.now number.value number.tail.now) }
+{
+    let minus = has_minus(line);
+    let digits = read_digits(&line[usize::from(minus)..])?;
     Some(NumberCut {
         value: with_sign(digits.value, minus),
         tail: digits.tail,

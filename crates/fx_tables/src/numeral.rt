@@ -57,10 +57,12 @@ fn put_short(bytes: &mut [u8], end: usize, number: u32) -> usize
     ensures start { result + length (decimal number) ≡ end }
     ensures text { drop result bytes.new ≡ decimal number ++ drop end bytes.old }
 {
-    bytes[end - 1] = b'0' + (number % 10) as u8;
-    bytes[end - 2] = b'0' + (number / 10 % 10) as u8;
-    bytes[end - 3] = b'0' + (number / 100) as u8;
-    end - 1 - usize::from(number >= 10) - usize::from(number >= 100)
+    let tens = number / 10;
+    let hundreds = tens / 10;
+    bytes[end - 1] = b'0' + (number - tens * 10) as u8;
+    bytes[end - 2] = b'0' + (tens - hundreds * 10) as u8;
+    bytes[end - 3] = b'0' + hundreds as u8;
+    end - 1 - usize::from(tens > 0) - usize::from(hundreds > 0)
 }
 
 /// Writes the digits of a number of any size.
