@@ -1,5 +1,5 @@
 -- The numbers of a stimulus without a fault fit their columns.
-use Rattle.std.proofs.Common.{◌≡◌, ℕ, zero, suc, ◌+◌, ◌*◌, ◌<◌, ◌≤◌, Bool, true, false, not, cond, None, Some, Option, List, [], ◌∷◌, ◌++◌, length, map, eqb, refl, sym, ap, subst, ◌∙◌, arith, rules}
+use Rattle.std.proofs.Common.{◌≡◌, ℕ, zero, suc, ◌+◌, ◌*◌, ◌<◌, Bool, true, false, not, None, Some, Option, List, [], ◌∷◌, ◌++◌, length, map, eqb, refl, sym, ap, subst, ◌∙◌, arith, rules}
 use Rattle.std.specs.Prelude.{ℤ, pos, slice_get, if◌then◌else◌}
 use Rattle.std.specs.List.{flat_map}
 use Rattle.std.specs.Option.{option_or}
@@ -11,11 +11,9 @@ use Rattle.std.proofs.Math.Nat.{suc-mul}
 use Rattle.std.proofs.lemmas.Option.{slice_get_within, none-some}
 use Rattle.fx_tables.specs.Fields.{fields_of}
 use Rattle.fx_tables.specs.Whole.{is_whole, whole_value}
-use Rattle.fx_tables.specs.Stimulus.{hits_at, is_dash, is_in_range, field_fault, fields_fault, count_or_fields_fault, line_fault, lines_fault, fault_or, is_too_large, cell_of, cells_of, IsCell, FitsColumns, IsRows}
+use Rattle.fx_tables.specs.Stimulus.{hits_at, is_dash, is_in_range, field_fault, fields_fault, line_fault, lines_fault, fault_or, is_too_large, cell_of, cells_of, IsCell}
 use Rattle.fx_tables.specs.declared.table.Column.{Column}
-use Rattle.fx_tables.specs.declared.table.Rows.{Rows}
 use Rattle.fx_tables.specs.declared.table.TableFault.{TableFault}
-use Rattle.fx_tables.specs.declared.table.TableFault.TheVariants.{Bad}
 use Rattle.fx_tables.specs.declared.table.TableCause.{TableCause}
 use Rattle.fx_tables.specs.declared.table.TableCause.TheVariants.{TooManyRows, FieldCount, NotWhole, OutOfRange, DashAtHit, NumberOffHit}
 

@@ -143,3 +143,13 @@ first_number true (b ∷ rest) text tail value is behind run =
     let minus : 45 ≡ b = search (rules, nat_tests) in
     subst (λ (r : List ℕ). IsFirstNumber r (neg_ℤ (pos value)) tail) (ap (λ l. 45 ∷ l) behind ∙ ap (λ c. c ∷ rest) minus)
     (first_minus text tail value run)
+
+-- the same of a line with those fields
+pub first_number-of : (line rest tail : List ℕ) (value number : ℤ) → fields_of rest ≡ fields_of line → number ≡ value → IsFirstNumber rest value tail → IsFirstNumber line number tail
+first_number-of line rest tail value number same is first = record {
+  field = first.field;
+  first = sym same ∙ first.first;
+  whole = first.whole;
+  no_dash = first.no_dash;
+  number = first.number ∙ sym is;
+}

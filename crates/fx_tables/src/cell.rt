@@ -1,8 +1,9 @@
 ghost use Rattle.std.specs.Prelude.{◌≡◌, ◌^◌, ◌<◌, pos, neg_ℤ, IfSome, if◌then◌else◌};
+ghost use Rattle.fx_tables.specs.Fields.{fields_of};
 ghost use Rattle.fx_tables.specs.Digits.{IsFirstNumber, IsFirstCell};
 
 use crate::cut::skip_blanks;
-use crate::digits::read_digits;
+use crate::digits::{is_blank, read_digits};
 use crate::field::hits;
 use crate::number::has_minus;
 use crate::table::Column;
@@ -43,31 +44,24 @@ pub(crate) fn cut_cell<'a>(line: &'a [u8], column: &Column, sample: u64) -> Opti
 fn cut_number(line: &[u8]) -> Option<NumberCut<'_>>
     ensures { IfSome result (λ number. IsFirstNumber line.now number.value number.tail.now) }
 {
-    match number_at_start(line) {
-        Some(number) => Some(number),
-        None => number_behind_blanks(line),
-    }
-}
-
-/// The same where more than one blank stands before the field.
-#[inline(never)]
-fn number_behind_blanks(line: &[u8]) -> Option<NumberCut<'_>>
-    ensures { IfSome result (λ number. IsFirstNumber line.now number.value number.tail.now) }
-{
-    number_at_start(skip_blanks(line))
-}
-
-/// The same where no blank stands before the field.
-#[inline(always)]
-fn number_at_start(line: &[u8]) -> Option<NumberCut<'_>>
-    ensures { IfSome result (λ number. IsFirstNumber line.now number.value number.tail.now) }
-{
-    let minus = has_minus(line);
-    let digits = read_digits(&line[usize::from(minus)..])?;
+    let field = first_field(line);
+    let minus = has_minus(field);
+    let digits = read_digits(&field[usize::from(minus)..])?;
     Some(NumberCut {
         value: with_sign(digits.value, minus),
         tail: digits.tail,
     })
+}
+
+/// The line without blanks before its first field, where mostly there are none.
+#[inline(always)]
+fn first_field(line: &[u8]) -> &[u8]
+    ensures { fields_of result.now ≡ fields_of line.now }
+{
+    if line.is_empty() || !is_blank(line[0]) {
+        return line;
+    }
+    skip_blanks(line)
 }
 
 /// The number, or minus the number.
