@@ -6,6 +6,7 @@ use Rattle.std.proofs.lemmas.List.{drop_more, drop-drop, drop_all, drop-set}
 use Rattle.fx_tables.specs.Stimulus.{hits_at}
 use Rattle.fx_tables.specs.Response.{text_of_field, response_fields, response_line}
 
+-- a field with a space before it
 abbrev pub spaced : List ℕ → List ℕ
 spaced field = 32 ∷ field
 

@@ -2,8 +2,8 @@ ghost use Rattle.std.specs.Prelude.{◌≡◌, ◌^◌, ◌<◌, pos, neg_ℤ, I
 ghost use Rattle.fx_tables.specs.Fields.{fields_of};
 ghost use Rattle.fx_tables.specs.Digits.{IsFirstNumber, IsFirstCell};
 
-use crate::cut::skip_blanks;
-use crate::digits::{is_blank, read_digits};
+use crate::cut::{is_blank, skip_blanks};
+use crate::digits::read_digits;
 use crate::field::hits;
 use crate::number::has_minus;
 use crate::table::Column;

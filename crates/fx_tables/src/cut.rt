@@ -84,7 +84,7 @@ fn field_start(line: &[u8]) -> usize
     ensures found { result < length line.now → is_blank (slice_index line.now result) ≡ false }
 {
     for (i, byte) in line.iter().enumerate() {
-        if *byte != b' ' && *byte != b'\t' {
+        if !is_blank(*byte) {
             return i;
         }
     }
@@ -98,9 +98,17 @@ fn field_end(line: &[u8]) -> usize
     ensures found { result < length line.now → is_blank (slice_index line.now result) ≡ true }
 {
     for (i, byte) in line.iter().enumerate() {
-        if *byte == b' ' || *byte == b'\t' {
+        if is_blank(*byte) {
             return i;
         }
     }
     line.len()
+}
+
+/// Whether a byte is a blank.
+#[inline(always)]
+pub(crate) fn is_blank(byte: u8) -> bool
+    ensures { result ≡ is_blank byte }
+{
+    byte == b' ' || byte == b'\t'
 }

@@ -3,8 +3,10 @@ ghost use Rattle.std.specs.Char.{is_ascii_digit};
 ghost use Rattle.fx_tables.specs.Fields.{is_blank, fields_of};
 ghost use Rattle.fx_tables.specs.Digits.{IsRunOfDigits};
 
+use crate::cut::is_blank;
+
 /// The most digits whose number surely fits 64 bits.
-const SHORT_DIGITS: usize = 18;
+pub(crate) const SHORT_DIGITS: usize = 18;
 
 /// The number that the digits at the start of a text write, and what follows them.
 #[derive(Clone, Copy)]
@@ -97,12 +99,4 @@ fn behind_blank(text: &[u8], place: usize) -> &[u8]
     ensures { fields_of result.now ≡ fields_of (drop place text.now) }
 {
     &text[place + 1..]
-}
-
-/// Whether a byte is a blank.
-#[inline(always)]
-pub(crate) fn is_blank(byte: u8) -> bool
-    ensures { result ≡ is_blank byte }
-{
-    byte == b' ' || byte == b'\t'
 }

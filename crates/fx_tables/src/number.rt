@@ -4,10 +4,10 @@ ghost use Rattle.std.specs.Char.{is_ascii_digit};
 ghost use Rattle.std.specs.Str.Parse.{digits_value, starts_with_minus};
 ghost use Rattle.fx_tables.specs.Number.{IsMagnitude, IsNumber, IsReading};
 
+use crate::digits::SHORT_DIGITS;
+
 /// The most digits of a whole number.
 const MOST_DIGITS: usize = 64;
-/// The most digits whose number surely fits 64 bits.
-const SHORT_DIGITS: usize = 18;
 /// The magnitude of the least number of 128 bits with a sign.
 const GREATEST_MAGNITUDE: u128 = 1 << 127;
 
