@@ -62,7 +62,6 @@ fn with_digit(value: u64, is_there: bool, digit: u8) -> u64
 }
 
 /// Reads 1 to 18 digits before a blank or the end of the line, one by one.
-#[inline(always)]
 fn read_run(text: &[u8]) -> Option<Digits<'_>>
     ensures { IfSome result (λ digits. IsRunOfDigits text.now digits.value digits.tail.now) }
 {
