@@ -2,7 +2,11 @@
 use Rattle.std.proofs.Common.{◌≡◌, ℕ, ◌+◌, ◌≤◌, List, [], length, Some, sym, ◌∙◌, ap, arith, option_and_then}
 use Rattle.vl_ast.specs.declared.modules.Module.{Module}
 use Rattle.vl_ast.specs.Tokens.{Key}
-use Rattle.vl_ast.specs.Grammar.{Spells}
+use Rattle.std.specs.Prelude.{Result, Ok, Err, IfOk}
+use Rattle.vl_ast.specs.Grammar.{Spells, most_items}
+use Rattle.vl_read.specs.declared.fault.VlSyntax.{VlSyntax}
+use Rattle.vl_read.specs.declared.fault.VlSyntax.TheVariants.{Syntax, OutOfMemory}
+use Rattle.vl_read.specs.Prefix.{IsRefused, IfSyntax, IsReadBack}
 use Rattle.vl_read.specs.declared.scan.Mode.TheVariants.{Between}
 use Rattle.vl_read.specs.Plain.{start, parse, reading}
 use Rattle.vl_read.proofs.Lexed.{lays_read, after_none, AreLexemes}
@@ -19,3 +23,10 @@ one_module bytes one other first second =
     let most : ℕ = length one.items + length other.items in
     let e : Some one ≡ Some other = sym (complete bytes one most first (omega arith)) ∙ complete bytes other most second (omega arith) in
     cc
+
+-- the two clauses of an answer leave the module that the text spells
+pub read_back : (text : List ℕ) (m : Module) (answer : Result Module VlSyntax) → Spells text m → length m.items ≤ most_items →
+    IfOk answer (λ n. Spells text n) → IfSyntax answer (λ _. IsRefused text) → IsReadBack answer m
+read_back text m (Ok n) spells few found refused = one_module text n m found spells
+read_back text m (Err (Syntax line)) spells few found refused = refused m spells few
+read_back text m (Err OutOfMemory) spells few found refused = tt

@@ -1,43 +1,41 @@
 -- Each expression is read from what is written for its tokens.
-use Rattle.std.proofs.Common.{◌≡◌, ℕ, ◌+◌, ◌≤◌, true, false, cond, List, [], ◌∷◌, ◌++◌, length, Option, Some, None, refl, sym, ◌∙◌, ap, subst, codes, arith, length-append, option_and_then, bytes_eq}
+use Rattle.std.proofs.Common.{◌≡◌, ℕ, ◌+◌, ◌≤◌, true, false, cond, List, [], ◌∷◌, ◌++◌, length, Option, Some, refl, sym, ◌∙◌, ap, subst, codes, arith, length-append, option_and_then, bytes_eq}
 use Rattle.vl_ast.specs.declared.expressions.Sized.{Sized}
 use Rattle.vl_ast.specs.declared.expressions.Expr.{Expr}
 use Rattle.vl_ast.specs.declared.expressions.Expr.TheOpen.{Expr-F}
-use Rattle.vl_ast.specs.declared.expressions.Expr.TheViews.{roll-Expr, out-Expr}
-use Rattle.vl_ast.specs.declared.expressions.Expr.TheFolds.{map-Expr, fold-roll-Expr}
+use Rattle.vl_ast.specs.declared.expressions.Expr.TheViews.{out-Expr}
+use Rattle.vl_ast.specs.declared.expressions.Expr.TheFolds.{map-Expr}
 use Rattle.vl_ast.specs.Tokens.{Token}
 use Rattle.vl_ast.specs.Grammar.{tokens_step, expr_tokens, depth, is_filled}
 use Rattle.vl_read.specs.declared.scan.Kind.TheVariants.{Name, Constant}
 use Rattle.vl_read.specs.declared.places.Frame.{Frame}
 use Rattle.vl_read.specs.declared.places.Frame.TheVariants.{InConcat, InLeft}
-use Rattle.vl_read.specs.declared.places.Spot.{Spot}
-use Rattle.vl_read.specs.declared.places.Spot.TheVariants.{Operand, Opened, Braced, Value, Index}
-use Rattle.vl_read.specs.declared.places.Goal.{Goal}
-use Rattle.vl_read.specs.declared.places.Place.TheVariants.{Expression}
+use Rattle.vl_read.specs.Places.{Spot, Goal, Parser}
+use Rattle.vl_read.specs.Places.Spot.{Operand, Opened, Braced, Value}
+use Rattle.vl_read.specs.Places.Place.{Expression}
 use Rattle.vl_read.specs.declared.places.Draft.{Draft}
-use Rattle.vl_read.specs.declared.places.Parser.{Parser}
 use Rattle.vl_read.specs.Lexemes.{kind_of, dec_of, sized_of}
-use Rattle.vl_read.specs.Plain.{parser_at, spot_at, parse, step, innermost, innermost_of, index_or_value, value_step, frame_step, name_of}
+use Rattle.vl_read.specs.Plain.{parser_at, parse, step, innermost, innermost_of, indexed, value_step, frame_step, name_of, attr_step, declared, net_step, compound_step, operand_step, unary_or_left, opened_step, braced_step, left_step, goal_step, spot_step, item_step, step_at}
 use Rattle.vl_read.proofs.LexemeKinds.{name_kind, based_kind}
 use Rattle.vl_read.proofs.Layers.{by_layers}
-use Rattle.vl_read.proofs.Written.{WritesEach, Writes, Reads, same_start, name}
+use Rattle.vl_read.proofs.FormTokens.{layer_tokens}
+use Rattle.vl_read.proofs.Written.{WritesEach, Writes, Reads, same_start}
 
 abbrev pub at : Draft → Goal → List Frame → Spot → Parser
 at draft goal frames spot = parser_at draft (Expression goal frames spot)
 
-innermost_at : (frames : List Frame) (frame : Frame) → innermost (frames ++ frame ∷ []) ≡ Some (frames, frame)
+pub innermost_at : (frames : List Frame) (frame : Frame) → innermost (frames ++ frame ∷ []) ≡ Some (frames, frame)
 innermost_at [] frame = refl
 innermost_at (f ∷ fs) frame = ap (innermost_of f) (innermost_at fs frame)
 
 pub no_index : (draft : Draft) (goal : Goal) (frames : List Frame) (value : Expr) (o : Option (List ℕ)) (lexeme : List ℕ) → bytes_eq lexeme (codes "[") ≡ false →
-    index_or_value draft goal frames value o lexeme ≡ value_step draft goal (innermost frames) value lexeme
-no_index draft goal frames value None lexeme h = refl
-no_index draft goal frames value (Some name) lexeme h = ap (λ t. cond t (spot_at draft goal frames (Index name)) (value_step draft goal (innermost frames) value lexeme)) h
+    cond (bytes_eq lexeme (codes "[")) (indexed draft goal frames o) (value_step draft goal (innermost frames) value lexeme) ≡ value_step draft goal (innermost frames) value lexeme
+no_index draft goal frames value o lexeme h = ap (λ t. cond t (indexed draft goal frames o) (value_step draft goal (innermost frames) value lexeme)) h
 
 -- what follows an operand in a frame
 pub in_frame : (draft : Draft) (goal : Goal) (frames : List Frame) (frame : Frame) (value : Expr) (lexeme : List ℕ) → bytes_eq lexeme (codes "[") ≡ false →
     step (at draft goal (frames ++ frame ∷ []) (Value value)) lexeme ≡ frame_step draft goal frames frame value lexeme
-unfolding step
+unfolding step attr_step declared net_step compound_step operand_step unary_or_left opened_step braced_step left_step frame_step goal_step spot_step item_step step_at
 in_frame draft goal frames frame value lexeme h =
     no_index draft goal (frames ++ frame ∷ []) value (name_of (out-Expr value)) lexeme h
     ∙ ap (λ o. value_step draft goal o value lexeme) (innermost_at frames frame)
@@ -54,7 +52,7 @@ pub data Starts : List ℕ → Type 0 where
 -- is read after `(` as after an operator,
 starts_opened : (draft : Draft) (goal : Goal) (frames : List Frame) (lexeme : List ℕ) → Starts lexeme →
     step (at draft goal frames Opened) lexeme ≡ step (at draft goal (frames ++ InLeft ∷ []) Operand) lexeme
-unfolding step kind_of dec_of sized_of
+unfolding step attr_step declared net_step compound_step operand_step unary_or_left opened_step braced_step left_step frame_step goal_step spot_step item_step step_at kind_of dec_of sized_of
 starts_opened draft goal frames lexeme (as_name _ h) = rw h refl
 starts_opened draft goal frames lexeme (as_number _ n h) = rw h refl
 starts_opened draft goal frames lexeme as_open = refl
@@ -65,7 +63,7 @@ starts_opened draft goal frames lexeme as_unsigned = refl
 -- and after `{` too
 starts_braced : (draft : Draft) (goal : Goal) (frames : List Frame) (lexeme : List ℕ) → Starts lexeme →
     step (at draft goal frames Braced) lexeme ≡ step (at draft goal (frames ++ InConcat [] ∷ []) Operand) lexeme
-unfolding step kind_of dec_of sized_of
+unfolding step attr_step declared net_step compound_step operand_step unary_or_left opened_step braced_step left_step frame_step goal_step spot_step item_step step_at kind_of dec_of sized_of
 starts_braced draft goal frames lexeme (as_name _ h) = rw h refl
 starts_braced draft goal frames lexeme (as_number _ n h) = rw h refl
 starts_braced draft goal frames lexeme as_open = refl
@@ -78,10 +76,6 @@ First lexemes = (lexeme : List ℕ) × (more : List (List ℕ)) × (lexemes ≡ 
 
 abbrev HasFirst : Expr → Type 0
 HasFirst e = (tokens : List Token) (lexemes : List (List ℕ)) → Writes (expr_tokens e ++ tokens) lexemes → First lexemes
-
--- the tokens of a layer
-layer_tokens : (x : Expr-F Expr) (tokens : List Token) → expr_tokens (roll-Expr x) ++ tokens ≡ tokens_step (map-Expr Expr (List Token) expr_tokens x) ++ tokens
-layer_tokens x tokens = ap (λ t. t ++ tokens) (fold-roll-Expr (List Token) tokens_step x)
 
 starts_at : (lexeme word : List ℕ) → lexeme ≡ word → Starts word → Starts lexeme
 starts_at lexeme word e h = subst Starts (sym e) h

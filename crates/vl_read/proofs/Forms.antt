@@ -1,33 +1,30 @@
 -- Each form of an expression is read, where its parts are.
-use Rattle.std.proofs.Common.{◌≡◌, ℕ, ◌+◌, ◌<◌, ◌≤◌, Bool, true, false, cond, List, [], ◌∷◌, ◌++◌, map, length, Some, None, refl, sym, ◌∙◌, ap, subst, codes, arith, append_assoc, length-append, max, bytes_eq, fold}
+use Rattle.std.proofs.Common.{◌≡◌, ℕ, ◌+◌, ◌≤◌, Bool, true, false, List, [], ◌∷◌, ◌++◌, map, length, refl, sym, ◌∙◌, subst, codes, arith, append_assoc, length-append, max, fold}
 use Rattle.std.specs.Prelude.{◌&&◌}
-use Rattle.std.specs.List.{list_all, flat_map}
-use Rattle.std.proofs.lemmas.Bool.{and_parts, lt-ltb}
+use Rattle.std.specs.List.{list_all}
+use Rattle.std.proofs.lemmas.Bool.{and_parts}
 use Rattle.vl_ast.specs.declared.expressions.UnOp.{UnOp}
-use Rattle.vl_ast.specs.declared.expressions.UnOp.TheVariants.{Negate, Invert, IsZero}
 use Rattle.vl_ast.specs.declared.expressions.BinOp.{BinOp}
-use Rattle.vl_ast.specs.declared.expressions.BinOp.TheVariants.{Add, Subtract, Multiply, And, Or, Xor, Equal, NotEqual, Less, LessEqual, Greater, GreaterEqual, Both, Either}
 use Rattle.vl_ast.specs.declared.expressions.ShiftOp.{ShiftOp}
-use Rattle.vl_ast.specs.declared.expressions.ShiftOp.TheVariants.{Left, Right, RightSigned}
 use Rattle.vl_ast.specs.declared.expressions.Sized.{Sized}
 use Rattle.vl_ast.specs.declared.expressions.Expr.{Expr}
 use Rattle.vl_ast.specs.declared.expressions.Expr.TheOpen.{Expr-F}
-use Rattle.vl_ast.specs.declared.expressions.Expr.TheViews.{roll-Expr, out-roll-Expr}
+use Rattle.vl_ast.specs.declared.expressions.Expr.TheViews.{roll-Expr}
 use Rattle.vl_ast.specs.declared.expressions.Expr.TheFolds.{map-Expr, fold-roll-Expr}
 use Rattle.vl_ast.specs.Spelling.{unary_text, binary_text, shift_text}
-use Rattle.vl_ast.specs.Tokens.{Token, Key, Sign, Identifier, Number, Based}
-use Rattle.vl_ast.specs.Grammar.{comma, tokens_step, expr_tokens, depth_step, depth, is_filled_step, is_filled}
-use Rattle.vl_read.specs.declared.scan.Kind.TheVariants.{Name, Count, Constant}
+use Rattle.vl_ast.specs.Tokens.{Token, Sign, Identifier, Number, Based}
+use Rattle.vl_ast.specs.Grammar.{tokens_step, expr_tokens, depth_step, depth, is_filled_step, is_filled}
 use Rattle.vl_read.specs.declared.places.Frame.{Frame}
 use Rattle.vl_read.specs.declared.places.Frame.TheVariants.{InConcat, InRepeat, InCast, InUnary, InLeft, InRight, InChosen, InOther}
-use Rattle.vl_read.specs.declared.places.Spot.TheVariants.{Operand, Opened, Braced, Begins, Value, Ends, Amount, Index, High, Low}
-use Rattle.vl_read.specs.declared.places.Goal.{Goal}
+use Rattle.vl_read.specs.Places.Spot.{Operand, Opened, Braced, Begins, Value, Ends, Amount, Index, High, Low}
+use Rattle.vl_read.specs.Places.{Goal}
 use Rattle.vl_read.specs.declared.places.Draft.{Draft}
-use Rattle.vl_read.specs.Lexemes.{kind_of, dec_of, sized_of}
-use Rattle.vl_read.specs.Plain.{spot_at, step, index_or_value, operator_of, Infix, Shifting, Question, name_of, left_step}
+use Rattle.vl_read.specs.Plain.{step, attr_step, declared, net_step, compound_step, operand_step, unary_or_left, opened_step, braced_step, left_step, frame_step, goal_step, spot_step, item_step, step_at}
 use Rattle.vl_read.proofs.Layers.{by_layers}
-use Rattle.vl_read.proofs.Written.{Writes, Reads, next, sign, key, name, number, based}
 use Rattle.vl_read.proofs.Expressions.{at, in_frame, IsRead, opened_read, braced_read}
+use Rattle.vl_read.proofs.Written.{Writes, Reads, writes_as, next, sign, key, name, number, based}
+use Rattle.vl_read.proofs.FormTokens.{layer_tokens, unary_tokens, binary_tokens, shift_tokens, choose_tokens, as_signed_tokens, as_unsigned_tokens, repeat_tokens, more_tokens, concat_tokens}
+use Rattle.vl_read.proofs.FormSteps.{index_step, high_step, bit_step, colon_step, low_step, ends_bracket, ends_brace, ends_paren, operand_name, open_step, brace_step, signed_step, unsigned_step, begins_paren, begins_brace, count_step, unary_step, binary_step, shift_step, question_step, amount_step}
 
 -- the depth, the filling and the tokens of a layer
 layer_depth : (x : Expr-F Expr) (n : ℕ) → depth (roll-Expr x) + n ≤ 256 → depth_step (map-Expr Expr ℕ depth x) + n ≤ 256
@@ -38,56 +35,19 @@ layer_filled x h = sym (fold-roll-Expr Bool is_filled_step x) ∙ h
 
 layer_writes : (x : Expr-F Expr) (tokens other : List Token) (lexemes : List (List ℕ)) → tokens_step (map-Expr Expr (List Token) expr_tokens x) ++ tokens ≡ other →
     Writes (expr_tokens (roll-Expr x) ++ tokens) lexemes → Writes other lexemes
-layer_writes x tokens other lexemes same w = subst (λ t. Writes t lexemes) (ap (λ t. t ++ tokens) (fold-roll-Expr (List Token) tokens_step x) ∙ same) w
+layer_writes x tokens other lexemes same w = writes_as _ other lexemes (layer_tokens x tokens ∙ same) w
 
 -- names, bits, parts and literals
 
 name_read : (n : List ℕ) → IsRead (roll-Expr (Expr-F.Name n))
-unfolding step
+unfolding step attr_step declared net_step compound_step operand_step unary_or_left opened_step braced_step left_step frame_step goal_step spot_step item_step step_at
 name_read n draft goal frames tokens lexemes deep filled w =
     name _ _ lexemes n tokens (λ h. rw h) (layer_writes (Expr-F.Name n) tokens (Identifier n ∷ tokens) lexemes refl w)
 
 literal_read : (n : Sized) → IsRead (roll-Expr (Expr-F.Literal n))
-unfolding step
+unfolding step attr_step declared net_step compound_step operand_step unary_or_left opened_step braced_step left_step frame_step goal_step spot_step item_step step_at
 literal_read n draft goal frames tokens lexemes deep filled w =
     based _ _ lexemes n tokens (λ lexeme h. rw h) (layer_writes (Expr-F.Literal n) tokens (Based n ∷ tokens) lexemes refl w)
-
--- `[` after a name
-index_step : (draft : Draft) (goal : Goal) (frames : List Frame) (n : List ℕ) → step (at draft goal frames (Value (roll-Expr (Expr-F.Name n)))) (codes "[") ≡ Some (at draft goal frames (Index n))
-unfolding step
-index_step draft goal frames n = ap (λ o. index_or_value draft goal frames (roll-Expr (Expr-F.Name n)) (name_of o) (codes "[")) (out-roll-Expr (Expr-F.Name n))
-
-high_step : (draft : Draft) (goal : Goal) (frames : List Frame) (n : List ℕ) (place : ℕ) (lexeme : List ℕ) → kind_of lexeme ≡ Count place → step (at draft goal frames (Index n)) lexeme ≡ Some (at draft goal frames (High n place))
-unfolding step
-high_step draft goal frames n place lexeme h = rw h
-
-bit_step : (draft : Draft) (goal : Goal) (frames : List Frame) (n : List ℕ) (place : ℕ) → step (at draft goal frames (High n place)) (codes "]") ≡ Some (at draft goal frames (Value (roll-Expr (Expr-F.Bit n place))))
-unfolding step
-bit_step draft goal frames n place = refl
-
-colon_step : (draft : Draft) (goal : Goal) (frames : List Frame) (n : List ℕ) (place : ℕ) → step (at draft goal frames (High n place)) (codes ":") ≡ Some (at draft goal frames (Low n place))
-unfolding step
-colon_step draft goal frames n place = refl
-
-low_step : (draft : Draft) (goal : Goal) (frames : List Frame) (n : List ℕ) (high low : ℕ) (lexeme : List ℕ) → kind_of lexeme ≡ Count low → step (at draft goal frames (Low n high)) lexeme ≡ Some (at draft goal frames (Ends (roll-Expr (Expr-F.Part n high low)) 93))
-unfolding step
-low_step draft goal frames n high low lexeme h = rw h
-
-ends_bracket : (draft : Draft) (goal : Goal) (frames : List Frame) (e : Expr) → step (at draft goal frames (Ends e 93)) (codes "]") ≡ Some (at draft goal frames (Value e))
-unfolding step
-ends_bracket draft goal frames e = refl
-
-ends_brace : (draft : Draft) (goal : Goal) (frames : List Frame) (e : Expr) → step (at draft goal frames (Ends e 125)) (codes "}") ≡ Some (at draft goal frames (Value e))
-unfolding step
-ends_brace draft goal frames e = refl
-
-ends_paren : (draft : Draft) (goal : Goal) (frames : List Frame) (e : Expr) → step (at draft goal frames (Ends e 41)) (codes ")") ≡ Some (at draft goal frames (Value e))
-unfolding step
-ends_paren draft goal frames e = refl
-
-operand_name : (draft : Draft) (goal : Goal) (frames : List Frame) (n : List ℕ) → kind_of n ≡ Name → step (at draft goal frames Operand) n ≡ Some (at draft goal frames (Value (roll-Expr (Expr-F.Name n))))
-unfolding step
-operand_name draft goal frames n h = rw h
 
 bit_read : (n : List ℕ) (place : ℕ) → IsRead (roll-Expr (Expr-F.Bit n place))
 bit_read n place draft goal frames tokens lexemes deep filled w =
@@ -111,120 +71,13 @@ part_read n high low draft goal frames tokens lexemes deep filled w =
     (λ l4 w4. next _ (at draft goal frames (Ends part 93)) _ l4 _ tokens (number _ _ l4 low _ (low_step draft goal frames n high low) w4)
     (λ l5 w5. sign _ _ l5 _ tokens (ends_bracket draft goal frames part) w5)))))
 
--- what begins with a bracket
-
-open_step : (draft : Draft) (goal : Goal) (frames : List Frame) → length frames < 256 → step (at draft goal frames Operand) (codes "(") ≡ Some (at draft goal frames Opened)
-unfolding step kind_of dec_of sized_of
-open_step draft goal frames room = ap (λ t. cond t (spot_at draft goal frames Opened) None) (lt-ltb (length frames) 256 room)
-
-brace_step : (draft : Draft) (goal : Goal) (frames : List Frame) → length frames < 256 → step (at draft goal frames Operand) (codes "{") ≡ Some (at draft goal frames Braced)
-unfolding step kind_of dec_of sized_of
-brace_step draft goal frames room = ap (λ t. cond t (spot_at draft goal frames Braced) None) (lt-ltb (length frames) 256 room)
-
-signed_step : (draft : Draft) (goal : Goal) (frames : List Frame) → length frames < 256 → step (at draft goal frames Operand) (codes "$signed") ≡ Some (at draft goal (frames ++ InCast true ∷ []) (Begins 40))
-unfolding step kind_of dec_of sized_of
-signed_step draft goal frames room = ap (λ t. cond t (spot_at draft goal (frames ++ InCast true ∷ []) (Begins 40)) None) (lt-ltb (length frames) 256 room)
-
-unsigned_step : (draft : Draft) (goal : Goal) (frames : List Frame) → length frames < 256 → step (at draft goal frames Operand) (codes "$unsigned") ≡ Some (at draft goal (frames ++ InCast false ∷ []) (Begins 40))
-unfolding step kind_of dec_of sized_of
-unsigned_step draft goal frames room = ap (λ t. cond t (spot_at draft goal (frames ++ InCast false ∷ []) (Begins 40)) None) (lt-ltb (length frames) 256 room)
-
-begins_paren : (draft : Draft) (goal : Goal) (frames : List Frame) → step (at draft goal frames (Begins 40)) (codes "(") ≡ Some (at draft goal frames Operand)
-unfolding step
-begins_paren draft goal frames = refl
-
-begins_brace : (draft : Draft) (goal : Goal) (frames : List Frame) → step (at draft goal frames (Begins 123)) (codes "{") ≡ Some (at draft goal frames Operand)
-unfolding step
-begins_brace draft goal frames = refl
-
-count_step : (draft : Draft) (goal : Goal) (frames : List Frame) (n : ℕ) (lexeme : List ℕ) → kind_of lexeme ≡ Count n → step (at draft goal frames Braced) lexeme ≡ Some (at draft goal (frames ++ InRepeat n ∷ []) (Begins 123))
-unfolding step
-count_step draft goal frames n lexeme h = rw h
-
-unary_step : (draft : Draft) (goal : Goal) (frames : List Frame) (op : UnOp) → step (at draft goal frames Opened) (unary_text op) ≡ Some (at draft goal (frames ++ InUnary op ∷ []) Operand)
-unfolding step kind_of dec_of sized_of
-unary_step draft goal frames Negate = refl
-unary_step draft goal frames Invert = refl
-unary_step draft goal frames IsZero = refl
-
-operator_binary : (op : BinOp) → operator_of (binary_text op) ≡ Some (Infix op)
-unfolding operator_of
-operator_binary Add = refl
-operator_binary Subtract = refl
-operator_binary Multiply = refl
-operator_binary And = refl
-operator_binary Or = refl
-operator_binary Xor = refl
-operator_binary Equal = refl
-operator_binary NotEqual = refl
-operator_binary Less = refl
-operator_binary LessEqual = refl
-operator_binary Greater = refl
-operator_binary GreaterEqual = refl
-operator_binary Both = refl
-operator_binary Either = refl
-
-operator_shift : (op : ShiftOp) → operator_of (shift_text op) ≡ Some (Shifting op)
-unfolding operator_of
-operator_shift Left = refl
-operator_shift Right = refl
-operator_shift RightSigned = refl
-
-operator_question : operator_of (codes "?") ≡ Some Question
-unfolding operator_of
-operator_question = refl
-
-binary_no_index : (op : BinOp) → bytes_eq (binary_text op) (codes "[") ≡ false
-binary_no_index Add = refl
-binary_no_index Subtract = refl
-binary_no_index Multiply = refl
-binary_no_index And = refl
-binary_no_index Or = refl
-binary_no_index Xor = refl
-binary_no_index Equal = refl
-binary_no_index NotEqual = refl
-binary_no_index Less = refl
-binary_no_index LessEqual = refl
-binary_no_index Greater = refl
-binary_no_index GreaterEqual = refl
-binary_no_index Both = refl
-binary_no_index Either = refl
-
-shift_no_index : (op : ShiftOp) → bytes_eq (shift_text op) (codes "[") ≡ false
-shift_no_index Left = refl
-shift_no_index Right = refl
-shift_no_index RightSigned = refl
-
-binary_step : (draft : Draft) (goal : Goal) (frames : List Frame) (op : BinOp) (value : Expr) →
-    step (at draft goal (frames ++ InLeft ∷ []) (Value value)) (binary_text op) ≡ Some (at draft goal (frames ++ InRight op value ∷ []) Operand)
-binary_step draft goal frames op value =
-    in_frame draft goal frames InLeft value (binary_text op) (binary_no_index op) ∙ ap (left_step draft goal frames value) (operator_binary op)
-
-shift_step : (draft : Draft) (goal : Goal) (frames : List Frame) (op : ShiftOp) (value : Expr) →
-    step (at draft goal (frames ++ InLeft ∷ []) (Value value)) (shift_text op) ≡ Some (at draft goal frames (Amount op value))
-shift_step draft goal frames op value =
-    in_frame draft goal frames InLeft value (shift_text op) (shift_no_index op) ∙ ap (left_step draft goal frames value) (operator_shift op)
-
-question_step : (draft : Draft) (goal : Goal) (frames : List Frame) (value : Expr) →
-    step (at draft goal (frames ++ InLeft ∷ []) (Value value)) (codes "?") ≡ Some (at draft goal (frames ++ InChosen value ∷ []) Operand)
-question_step draft goal frames value =
-    in_frame draft goal frames InLeft value (codes "?") refl ∙ ap (left_step draft goal frames value) operator_question
-
-amount_step : (draft : Draft) (goal : Goal) (frames : List Frame) (op : ShiftOp) (value : Expr) (n : Sized) (lexeme : List ℕ) → kind_of lexeme ≡ Constant n →
-    step (at draft goal frames (Amount op value)) lexeme ≡ Some (at draft goal frames (Ends (roll-Expr (Expr-F.Shift op value n)) 41))
-unfolding step
-amount_step draft goal frames op value n lexeme h = rw h
-
-longer : (frames : List Frame) (frame : Frame) → length (frames ++ frame ∷ []) ≡ length frames + 1
-longer frames frame = length-append frames (frame ∷ [])
+-- operators
 
 deeper : (d n : ℕ) (frames : List Frame) (frame : Frame) → n + 1 + length frames ≤ 256 → d ≤ n → d + length (frames ++ frame ∷ []) ≤ 256
-deeper d n frames frame h below = omega (arith, longer frames frame)
-
-unary_tokens : (op : UnOp) (e : Expr) (tokens : List Token) → tokens_step (map-Expr Expr (List Token) expr_tokens (Expr-F.Unary op e)) ++ tokens ≡ Sign (codes "(") ∷ Sign (unary_text op) ∷ (expr_tokens e ++ Sign (codes ")") ∷ tokens)
-unary_tokens op e tokens = simp append_assoc
+deeper d n frames frame h below = omega (arith, length-append frames (frame ∷ []))
 
 unary_read : (op : UnOp) (e : Expr) → IsRead e → IsRead (roll-Expr (Expr-F.Unary op e))
+unfolding frame_step
 unary_read op e read draft goal frames tokens lexemes deep filled w =
     let d : depth e + 1 + length frames ≤ 256 = layer_depth (Expr-F.Unary op e) (length frames) deep in
     next _ (at draft goal frames Opened) _ lexemes _ tokens
@@ -234,10 +87,8 @@ unary_read op e read draft goal frames tokens lexemes deep filled w =
     (read draft goal (frames ++ InUnary op ∷ []) _ l2 (deeper (depth e) (depth e) frames (InUnary op) d (omega arith)) (layer_filled (Expr-F.Unary op e) filled) w2)
     (λ l3 w3. sign _ _ l3 (codes ")") tokens (in_frame draft goal frames (InUnary op) e (codes ")") refl) w3)))
 
-binary_tokens : (op : BinOp) (l r : Expr) (tokens : List Token) → tokens_step (map-Expr Expr (List Token) expr_tokens (Expr-F.Binary op l r)) ++ tokens ≡ Sign (codes "(") ∷ (expr_tokens l ++ Sign (binary_text op) ∷ (expr_tokens r ++ Sign (codes ")") ∷ tokens))
-binary_tokens op l r tokens = simp append_assoc
-
 binary_read : (op : BinOp) (l r : Expr) → IsRead l → IsRead r → IsRead (roll-Expr (Expr-F.Binary op l r))
+unfolding frame_step
 binary_read op l r read_l read_r draft goal frames tokens lexemes deep filled w =
     let d : max (depth l) (depth r) + 1 + length frames ≤ 256 = layer_depth (Expr-F.Binary op l r) (length frames) deep in
     let f = and_parts (is_filled l) (is_filled r) (layer_filled (Expr-F.Binary op l r) filled) in
@@ -250,9 +101,6 @@ binary_read op l r read_l read_r draft goal frames tokens lexemes deep filled w 
     (read_r draft goal outer _ l3 (deeper (depth r) (max (depth l) (depth r)) frames (InRight op l) d (omega arith)) f.1 w3)
     (λ l4 w4. sign _ _ l4 (codes ")") tokens (in_frame draft goal frames (InRight op l) r (codes ")") refl) w4))))
 
-shift_tokens : (op : ShiftOp) (e : Expr) (n : Sized) (tokens : List Token) → tokens_step (map-Expr Expr (List Token) expr_tokens (Expr-F.Shift op e n)) ++ tokens ≡ Sign (codes "(") ∷ (expr_tokens e ++ Sign (shift_text op) ∷ Based n ∷ Sign (codes ")") ∷ tokens)
-shift_tokens op e n tokens = simp append_assoc
-
 shift_read : (op : ShiftOp) (e : Expr) (n : Sized) → IsRead e → IsRead (roll-Expr (Expr-F.Shift op e n))
 shift_read op e n read draft goal frames tokens lexemes deep filled w =
     let d : depth e + 1 + length frames ≤ 256 = layer_depth (Expr-F.Shift op e n) (length frames) deep in
@@ -264,10 +112,8 @@ shift_read op e n read draft goal frames tokens lexemes deep filled w =
     (λ l3 w3. next _ (at draft goal frames (Ends shifted 41)) _ l3 _ tokens (based _ _ l3 n _ (amount_step draft goal frames op e n) w3)
     (λ l4 w4. sign _ _ l4 (codes ")") tokens (ends_paren draft goal frames shifted) w4))))
 
-choose_tokens : (t c o : Expr) (tokens : List Token) → tokens_step (map-Expr Expr (List Token) expr_tokens (Expr-F.Choose t c o)) ++ tokens ≡ Sign (codes "(") ∷ (expr_tokens t ++ Sign (codes "?") ∷ (expr_tokens c ++ Sign (codes ":") ∷ (expr_tokens o ++ Sign (codes ")") ∷ tokens)))
-choose_tokens t c o tokens = simp append_assoc
-
 choose_read : (t c o : Expr) → IsRead t → IsRead c → IsRead o → IsRead (roll-Expr (Expr-F.Choose t c o))
+unfolding frame_step
 choose_read t c o read_t read_c read_o draft goal frames tokens lexemes deep filled w =
     let d : max (depth t) (max (depth c) (depth o)) + 1 + length frames ≤ 256 = layer_depth (Expr-F.Choose t c o) (length frames) deep in
     let f = and_parts (is_filled t && is_filled c) (is_filled o) (layer_filled (Expr-F.Choose t c o) filled) in
@@ -285,38 +131,34 @@ choose_read t c o read_t read_c read_o draft goal frames tokens lexemes deep fil
     (read_o draft goal other _ l5 (deeper (depth o) (max (depth t) (max (depth c) (depth o))) frames (InOther t c) d (omega arith)) f.1 w5)
     (λ l6 w6. sign _ _ l6 (codes ")") tokens (in_frame draft goal frames (InOther t c) o (codes ")") refl) w6))))))
 
-signed_tokens : (e : Expr) (tokens : List Token) → tokens_step (map-Expr Expr (List Token) expr_tokens (Expr-F.AsSigned e)) ++ tokens ≡ Key (codes "$signed") ∷ Sign (codes "(") ∷ (expr_tokens e ++ Sign (codes ")") ∷ tokens)
-signed_tokens e tokens = simp append_assoc
+-- casts and repetitions
 
 signed_read : (e : Expr) → IsRead e → IsRead (roll-Expr (Expr-F.AsSigned e))
+unfolding frame_step
 signed_read e read draft goal frames tokens lexemes deep filled w =
     let d : depth e + 1 + length frames ≤ 256 = layer_depth (Expr-F.AsSigned e) (length frames) deep in
     let inner : List Frame = frames ++ InCast true ∷ [] in
     next _ (at draft goal inner (Begins 40)) _ lexemes _ tokens
-    (key _ _ lexemes (codes "$signed") _ (signed_step draft goal frames (omega arith)) (layer_writes (Expr-F.AsSigned e) tokens _ lexemes (signed_tokens e tokens) w))
+    (key _ _ lexemes (codes "$signed") _ (signed_step draft goal frames (omega arith)) (layer_writes (Expr-F.AsSigned e) tokens _ lexemes (as_signed_tokens e tokens) w))
     (λ l1 w1. next _ (at draft goal inner Operand) _ l1 _ tokens (sign _ _ l1 (codes "(") _ (begins_paren draft goal inner) w1)
     (λ l2 w2. next _ (at draft goal inner (Value e)) _ l2 _ tokens
     (read draft goal inner _ l2 (deeper (depth e) (depth e) frames (InCast true) d (omega arith)) (layer_filled (Expr-F.AsSigned e) filled) w2)
     (λ l3 w3. sign _ _ l3 (codes ")") tokens (in_frame draft goal frames (InCast true) e (codes ")") refl) w3)))
 
-unsigned_tokens : (e : Expr) (tokens : List Token) → tokens_step (map-Expr Expr (List Token) expr_tokens (Expr-F.AsUnsigned e)) ++ tokens ≡ Key (codes "$unsigned") ∷ Sign (codes "(") ∷ (expr_tokens e ++ Sign (codes ")") ∷ tokens)
-unsigned_tokens e tokens = simp append_assoc
-
 unsigned_read : (e : Expr) → IsRead e → IsRead (roll-Expr (Expr-F.AsUnsigned e))
+unfolding frame_step
 unsigned_read e read draft goal frames tokens lexemes deep filled w =
     let d : depth e + 1 + length frames ≤ 256 = layer_depth (Expr-F.AsUnsigned e) (length frames) deep in
     let inner : List Frame = frames ++ InCast false ∷ [] in
     next _ (at draft goal inner (Begins 40)) _ lexemes _ tokens
-    (key _ _ lexemes (codes "$unsigned") _ (unsigned_step draft goal frames (omega arith)) (layer_writes (Expr-F.AsUnsigned e) tokens _ lexemes (unsigned_tokens e tokens) w))
+    (key _ _ lexemes (codes "$unsigned") _ (unsigned_step draft goal frames (omega arith)) (layer_writes (Expr-F.AsUnsigned e) tokens _ lexemes (as_unsigned_tokens e tokens) w))
     (λ l1 w1. next _ (at draft goal inner Operand) _ l1 _ tokens (sign _ _ l1 (codes "(") _ (begins_paren draft goal inner) w1)
     (λ l2 w2. next _ (at draft goal inner (Value e)) _ l2 _ tokens
     (read draft goal inner _ l2 (deeper (depth e) (depth e) frames (InCast false) d (omega arith)) (layer_filled (Expr-F.AsUnsigned e) filled) w2)
     (λ l3 w3. sign _ _ l3 (codes ")") tokens (in_frame draft goal frames (InCast false) e (codes ")") refl) w3)))
 
-repeat_tokens : (n : ℕ) (e : Expr) (tokens : List Token) → tokens_step (map-Expr Expr (List Token) expr_tokens (Expr-F.Repeat n e)) ++ tokens ≡ Sign (codes "{") ∷ Number n ∷ Sign (codes "{") ∷ (expr_tokens e ++ Sign (codes "}") ∷ Sign (codes "}") ∷ tokens)
-repeat_tokens n e tokens = simp append_assoc
-
 repeat_read : (n : ℕ) (e : Expr) → IsRead e → IsRead (roll-Expr (Expr-F.Repeat n e))
+unfolding frame_step
 repeat_read n e read draft goal frames tokens lexemes deep filled w =
     let d : depth e + 1 + length frames ≤ 256 = layer_depth (Expr-F.Repeat n e) (length frames) deep in
     let inner : List Frame = frames ++ InRepeat n ∷ [] in
@@ -332,20 +174,15 @@ repeat_read n e read draft goal frames tokens lexemes deep filled w =
 
 -- concatenations
 
-pub record IsPart (e : Expr) (frames : List Frame) : Type 0 where
-  pub deep : depth e + 1 + length frames ≤ 256
-  pub filled : is_filled e ≡ true
-
-abbrev more_tokens : List Expr → List Token → List Token
-more_tokens [] tokens = Sign (codes "}") ∷ tokens
-more_tokens (e ∷ es) tokens = Sign (codes ",") ∷ (expr_tokens e ++ more_tokens es tokens)
+record IsPart (e : Expr) (frames : List Frame) : Type 0 where
+  deep : depth e + 1 + length frames ≤ 256
+  filled : is_filled e ≡ true
 
 abbrev Parts : Type 0
 Parts = List ((e : Expr) × IsRead e)
 
 abbrev exprs_of : Parts → List Expr
-exprs_of [] = []
-exprs_of (p ∷ ps) = p.0 ∷ exprs_of ps
+exprs_of ps = map (λ (p : (e : Expr) × IsRead e). p.0) ps
 
 abbrev ArePart : Parts → List Frame → Type 0
 ArePart [] frames = Unit {0}
@@ -354,6 +191,7 @@ ArePart (p ∷ ps) frames = IsPart p.0 frames × ArePart ps frames
 parts_read : (ps : Parts) (draft : Draft) (goal : Goal) (frames : List Frame) (done : List Expr) (e : Expr) (tokens : List Token) (lexemes : List (List ℕ)) → ArePart ps frames →
     Writes (more_tokens (exprs_of ps) tokens) lexemes →
     Reads (at draft goal (frames ++ InConcat done ∷ []) (Value e)) lexemes (at draft goal frames (Value (roll-Expr (Expr-F.Concat (done ++ e ∷ exprs_of ps))))) tokens
+unfolding frame_step
 parts_read [] draft goal frames done e tokens lexemes parts w =
     sign _ _ lexemes (codes "}") tokens (in_frame draft goal frames (InConcat done) e (codes "}") refl) w
 parts_read (p ∷ ps) draft goal frames done e tokens lexemes parts w =
@@ -363,19 +201,6 @@ parts_read (p ∷ ps) draft goal frames done e tokens lexemes parts w =
     (p.1 draft goal inner _ l1 (deeper (depth p.0) (depth p.0) frames (InConcat (done ++ e ∷ [])) parts.0.deep (omega arith)) parts.0.filled w1)
     (λ l2 w2. let after = parts_read ps draft goal frames (done ++ e ∷ []) p.0 tokens l2 parts.1 w2 in
     subst (λ es. Reads (at draft goal inner (Value p.0)) l2 (at draft goal frames (Value (roll-Expr (Expr-F.Concat es)))) tokens) (append_assoc done (e ∷ []) (p.0 ∷ exprs_of ps)) after))
-
-concat_rest : (es : List Expr) (tokens : List Token) → (flat_map (λ more. comma ++ more) (map expr_tokens es) ++ Sign (codes "}") ∷ []) ++ tokens ≡ more_tokens es tokens
-concat_rest [] tokens = refl
-concat_rest (e ∷ es) tokens = ap (λ t. Sign (codes ",") ∷ t) (regroup (expr_tokens e) (flat_map (λ more. comma ++ more) (map expr_tokens es)) ∙ ap (λ t. expr_tokens e ++ t) (concat_rest es tokens))
-  where
-    regroup : (a b : List Token) → ((a ++ b) ++ Sign (codes "}") ∷ []) ++ tokens ≡ a ++ ((b ++ Sign (codes "}") ∷ []) ++ tokens)
-    regroup a b = simp append_assoc
-
-concat_tokens : (e : Expr) (es : List Expr) (tokens : List Token) → tokens_step (map-Expr Expr (List Token) expr_tokens (Expr-F.Concat (e ∷ es))) ++ tokens ≡ Sign (codes "{") ∷ (expr_tokens e ++ more_tokens es tokens)
-concat_tokens e es tokens = ap (λ t. Sign (codes "{") ∷ t) (regroup (expr_tokens e) (flat_map (λ more. comma ++ more) (map expr_tokens es)) ∙ ap (λ t. expr_tokens e ++ t) (concat_rest es tokens))
-  where
-    regroup : (a b : List Token) → ((a ++ b) ++ Sign (codes "}") ∷ []) ++ tokens ≡ a ++ ((b ++ Sign (codes "}") ∷ []) ++ tokens)
-    regroup a b = simp append_assoc
 
 -- each part is no deeper than all
 fold_start : (ns : List ℕ) (a : ℕ) → a ≤ fold max a ns
@@ -401,16 +226,12 @@ concat_read (p ∷ ps) draft goal frames tokens lexemes deep filled w =
     (λ l1 w1. next _ (at draft goal (frames ++ InConcat [] ∷ []) (Value p.0)) _ l1 _ tokens (braced_read p.0 p.1 draft goal frames _ l1 here f.0 w1)
     (λ l2 w2. parts_read ps draft goal frames [] p.0 tokens l2 (all_parts ps frames (max 0 (depth p.0)) d f.1) w2))
 
-exprs_are : (ps : Parts) → map (λ (p : (e : Expr) × IsRead e). p.0) ps ≡ exprs_of ps
-exprs_are [] = refl
-exprs_are (p ∷ ps) = ap (λ es. p.0 ∷ es) (exprs_are ps)
-
 layer_read : (y : Expr-F ((e : Expr) × IsRead e)) → IsRead (roll-Expr (map-Expr ((e : Expr) × IsRead e) Expr (λ p. p.0) y))
 layer_read (Expr-F.Name n) = name_read n
 layer_read (Expr-F.Bit n place) = bit_read n place
 layer_read (Expr-F.Part n high low) = part_read n high low
 layer_read (Expr-F.Literal n) = literal_read n
-layer_read (Expr-F.Concat ps) = subst (λ es. IsRead (roll-Expr (Expr-F.Concat es))) (sym (exprs_are ps)) (concat_read ps)
+layer_read (Expr-F.Concat ps) = concat_read ps
 layer_read (Expr-F.Repeat n p) = repeat_read n p.0 p.1
 layer_read (Expr-F.AsSigned p) = signed_read p.0 p.1
 layer_read (Expr-F.AsUnsigned p) = unsigned_read p.0 p.1

@@ -5,7 +5,7 @@ use Rattle.std.specs.List.{list_all, AllByRecursion}
 use Rattle.std.specs.Char.{is_ascii_alphanumeric, is_ascii_alphabetic, digit_value}
 use Rattle.std.specs.Str.Parse.{AllDigits}
 use Rattle.std.specs.Int.{is_in_range}
-use Rattle.std.proofs.lemmas.Bool.{and_parts, and_from, or_cases, or_left, or_right, not-true, le-leb, eqb-true}
+use Rattle.std.proofs.lemmas.Bool.{false≢true, and_parts, and_from, or_cases, or_left, or_right, not-true, le-leb, eqb-true}
 use Rattle.vl_ast.specs.declared.expressions.Sized.{Sized}
 use Rattle.vl_ast.specs.Tokens.{Token, Key, Sign, Identifier, Number, Based, is_word, is_identifier, IsWritten, IsDec, IsBased, IsSignMark, base_of, IsGap, Lays}
 use Rattle.vl_read.specs.declared.scan.ByteClass.{ByteClass}
@@ -18,7 +18,7 @@ use Rattle.vl_read.proofs.Safe.{is_word_class, is_mark_class, chain, is_mark, is
 use Rattle.vl_read.proofs.Scanned.{silent, IsOutside, is_between, is_word as is_in_word, is_mark as is_in_mark, restart, between_no, gap_ends, last_gap}
 
 -- bytes of a word
-abbrev AllOfWord : List ℕ → Type 0
+abbrev pub AllOfWord : List ℕ → Type 0
 AllOfWord bytes = AllByRecursion (λ byte. class_of byte ≡ OfWord) bytes
 
 pub record IsWordText (bytes : List ℕ) : Type 0 where
@@ -46,11 +46,8 @@ all_names : (bytes : List ℕ) → list_all (λ byte. is_ascii_alphanumeric byte
 all_names [] h = tt
 all_names (b ∷ bs) h = let parts = and_parts (is_ascii_alphanumeric b || b == 95) _ h in (of_name b parts.0, all_names bs parts.1)
 
-identifier_text : (name : List ℕ) → is_identifier name ≡ true → IsWordText name
-identifier_text [] h = absurd (nothing h)
-  where
-    nothing : false ≡ true → ⊥
-    nothing e = cc
+pub identifier_text : (name : List ℕ) → is_identifier name ≡ true → IsWordText name
+identifier_text [] h = absurd (false≢true h)
 identifier_text (b ∷ bs) h =
     let parts = and_parts _ _ (and_parts _ _ h).0 in
     record { some = λ e. cc; all = (of_letter b parts.0, all_names bs parts.1) }
@@ -138,15 +135,12 @@ key_all (b ∷ bs) h = let parts = and_parts (is_word_class (class_of b)) _ h in
     is_class OfMark h = cc
     is_class OfNone h = cc
 
-key_text : (word : List ℕ) → is_key word ≡ true → IsWordText word
-key_text [] h = absurd (nothing h)
-  where
-    nothing : false ≡ true → ⊥
-    nothing e = cc
+pub key_text : (word : List ℕ) → is_key word ≡ true → IsWordText word
+key_text [] h = absurd (false≢true h)
 key_text (b ∷ bs) h = record { some = λ e. cc; all = key_all (b ∷ bs) h }
 
 -- what is written for a word
-word_text : (token : Token) (written : List ℕ) → is_word token ≡ true → is_fine token ≡ true → IsWritten token written → IsWordText written
+pub word_text : (token : Token) (written : List ℕ) → is_word token ≡ true → is_fine token ≡ true → IsWritten token written → IsWordText written
 unfolding is_fine
 word_text (Key word) written word_is fine e = subst IsWordText (sym e) (key_text word fine)
 word_text (Sign mark) written word_is fine e = cc
@@ -161,12 +155,12 @@ word_rest (b ∷ bs) rest lexeme all =
     silent Word Word lexeme (lexeme ++ b ∷ []) b (bs ++ rest) (ap (λ class. outside Word lexeme class b) all.0)
     ∙ word_rest bs rest (lexeme ++ b ∷ []) all.1 ∙ ap (λ l. lexemes_from Word l rest) (append_assoc lexeme (b ∷ []) bs)
 
-word_read : (bytes rest : List ℕ) → IsWordText bytes → lexemes_from Between [] (bytes ++ rest) ≡ lexemes_from Word bytes rest
+pub word_read : (bytes rest : List ℕ) → IsWordText bytes → lexemes_from Between [] (bytes ++ rest) ≡ lexemes_from Word bytes rest
 word_read [] rest is = absurd (is.some refl)
 word_read (b ∷ bs) rest is =
     silent Between Word [] (b ∷ []) b (bs ++ rest) (ap (λ class. outside Between [] class b) is.all.0) ∙ word_rest bs rest (b ∷ []) is.all.1
 
-mark_class : (class : ByteClass) → is_mark_class class ≡ true → class ≡ OfMark
+pub mark_class : (class : ByteClass) → is_mark_class class ≡ true → class ≡ OfMark
 mark_class OfWord h = cc
 mark_class OfBlank h = cc
 mark_class OfComment h = cc
@@ -183,11 +177,8 @@ chain_read (b ∷ bs) rest mark h =
     (ap (λ class. outside Mark mark class b) (mark_class (class_of b) here.0) ∙ ap (λ t. cond t (moved [] Mark (mark ++ b ∷ [])) (begin (ended Mark mark) OfMark b)) here.1)
     ∙ chain_read bs rest (mark ++ b ∷ []) parts.1 ∙ ap (λ l. lexemes_from Mark l rest) (append_assoc mark (b ∷ []) bs)
 
-mark_read : (mark rest : List ℕ) → is_mark mark ≡ true → lexemes_from Between [] (mark ++ rest) ≡ lexemes_from Mark mark rest
-mark_read [] rest h = absurd (nothing h)
-  where
-    nothing : false ≡ true → ⊥
-    nothing e = cc
+pub mark_read : (mark rest : List ℕ) → is_mark mark ≡ true → lexemes_from Between [] (mark ++ rest) ≡ lexemes_from Mark mark rest
+mark_read [] rest h = absurd (false≢true h)
 mark_read (b ∷ bs) rest h =
     let parts = and_parts (is_mark_class (class_of b)) _ h in
     silent Between Mark [] (b ∷ []) b (bs ++ rest) (ap (λ class. outside Between [] class b) (mark_class (class_of b) parts.0)) ∙ chain_read bs rest (b ∷ []) parts.1
@@ -224,10 +215,7 @@ word_ends (b ∷ bs) rest w mode lexeme token after is h =
 
 mark_ends : (mark rest : List ℕ) (w : Bool) (mode : Mode) (lexeme : List ℕ) (token : Token) → After w mode lexeme token → is_mark mark ≡ true → follows token (Sign mark) ≡ true →
     lexemes_from mode lexeme (mark ++ rest) ≡ option_map (λ more. ended mode lexeme ++ more) (lexemes_from Between [] (mark ++ rest))
-mark_ends [] rest w mode lexeme token after is h = absurd (nothing is)
-  where
-    nothing : false ≡ true → ⊥
-    nothing e = cc
+mark_ends [] rest w mode lexeme token after is h = absurd (false≢true is)
 mark_ends (b ∷ bs) rest w mode lexeme token after is h =
     restart mode lexeme b (bs ++ rest) (after_outside w mode lexeme token after)
     (mark_first b bs w mode lexeme token after (mark_class (class_of b) (and_parts (is_mark_class (class_of b)) _ is).0) h)

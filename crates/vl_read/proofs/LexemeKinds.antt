@@ -1,14 +1,18 @@
 -- What a lexeme may be, from how its token is written.
-use Rattle.std.proofs.Common.{subst, append_assoc, ◌≡◌, ℕ, ◌<◌, ◌≤◌, ◌^◌, Bool, true, false, cond, List, [], ◌∷◌, ◌++◌, length, Some, None, refl, sym, ◌∙◌, ap, arith, option_and_then, option_map, inl, inr, ne_eqb, lt-ltb}
-use Rattle.std.specs.Prelude.{◌==◌, ◌&&◌, ◌||◌, nat_le}
+use Rattle.std.proofs.Common.{◌+◌, ◌*◌, subst, ◌≡◌, ℕ, ◌<◌, ◌≤◌, ◌^◌, Bool, true, false, cond, List, [], ◌∷◌, ◌++◌, length, Some, None, refl, sym, ◌∙◌, ap, arith, option_and_then, option_map, inl, inr, ne_eqb, lt-ltb}
+use Rattle.std.specs.Prelude.{◌==◌, ◌&&◌, ◌||◌, nat_le, nat_lt}
 use Rattle.std.specs.List.{list_all}
-use Rattle.std.proofs.lemmas.Bool.{and_from, and_left, le-leb, lt-leb, or_from, and_right}
-use Rattle.std.specs.Str.Parse.{AllDigits, IsNumeral, digits_value}
+use Rattle.std.proofs.lemmas.Bool.{and_from, and_left, le-leb, lt-leb, or_from, cond_both}
+use Rattle.std.proofs.lemmas.Option.{none-some}
+use Rattle.std.proofs.Math.Nat.{mul-le-mul_left, pow-le-pow_right}
+use Rattle.std.proofs.lemmas.Int.Digits.{digits_value-lt}
+use Rattle.std.specs.Str.Parse.{digits_value_after, AllDigits, IsNumeral, digits_value}
 use Rattle.std.specs.Char.{is_ascii_alphabetic, digit_value}
 use Rattle.vl_ast.specs.declared.expressions.Sized.{Sized}
 use Rattle.vl_ast.specs.Tokens.{is_identifier, IsDec, IsBased, IsSignMark, base_of}
 use Rattle.vl_read.specs.declared.scan.Kind.TheVariants.{Name, Count, Constant}
-use Rattle.vl_read.specs.Lexemes.{kind_of, kind_by, dec_of, sized_of, sized_in, sized_after, sized_by, around_quote, is_digit, is_nonempty}
+use Rattle.vl_read.specs.Lexemes.{kind_of, kind_by, dec_of, sized_of, sized_in, sized_after, sized_by, sized_as, number_after, around_quote, is_digit, is_nonempty}
+use Rattle.vl_read.proofs.Digits.{around_mark}
 
 pub name_kind : (name : List ℕ) → is_identifier name ≡ true → kind_of name ≡ Name
 unfolding kind_of
@@ -22,13 +26,35 @@ pub nonempty : (digits : List ℕ) → 0 < length digits → is_nonempty digits 
 nonempty [] h = absurd (omega arith)
 nonempty (d ∷ ds) h = refl
 
+-- the number of digits is read, where it is small enough
+after_grows : (base : ℕ) (digits : List ℕ) (n m : ℕ) → n ≤ m → 0 < base → n ≤ digits_value_after base m digits
+after_grows base [] n m h positive = h
+after_grows base (d ∷ ds) n m h positive = after_grows base ds n (m * base + digit_value d) (more_digits n m base (digit_value d) h positive) positive
+  where
+    more_digits : (n m base d : ℕ) → n ≤ m → 0 < base → n ≤ m * base + d
+    more_digits n m base d h positive = let e : m * 1 ≤ m * base = mul-le-mul_left m positive in omega (arith, e)
+
+pub number_read : (base : ℕ) (digits : List ℕ) (n : ℕ) → 0 < base → AllDigits base digits → digits_value_after base n digits < 2 ^ 128 → number_after base n digits ≡ Some (digits_value_after base n digits)
+number_read base [] n positive all fits = refl
+number_read base (d ∷ ds) n positive all fits =
+    let next : ℕ = n * base + digit_value d in
+    let small : next < 2 ^ 128 = omega (arith, after_grows base ds next next (omega arith) positive) in
+    ap (λ t. cond t (number_after base next ds) None) (and_from (is_digit base d) (nat_lt next (2 ^ 128)) (lt-ltb _ _ all.0) (lt-ltb _ _ small))
+    ∙ number_read base ds next positive all.1 fits
+
 pub dec_read : (number : ℕ) (digits : List ℕ) → IsDec number digits → dec_of digits ≡ Some number
 unfolding dec_of
 dec_read number digits is =
-    ap (λ t. cond t (Some (digits_value 10 digits)) None)
-    (and_from (is_nonempty digits && nat_le (length digits) 9) (list_all (is_digit 10) digits)
-    (and_from (is_nonempty digits) (nat_le (length digits) 9) (nonempty digits is.numeral.0) (le-leb _ _ is.short)) (all_digits 10 digits is.numeral.1))
-    ∙ ap Some is.value
+    let small : digits_value 10 digits < 2 ^ 128 = omega (arith, dec_small digits is.numeral.1 is.short) in
+    ap (λ t. cond t (number_after 10 0 digits) None) (and_from (is_nonempty digits) (nat_le (length digits) 9) (nonempty digits is.numeral.0) (le-leb _ _ is.short))
+    ∙ number_read 10 digits 0 (omega arith) is.numeral.1 small ∙ ap Some is.value
+  where
+    dec_small : (digits : List ℕ) → AllDigits 10 digits → length digits ≤ 9 → digits_value 10 digits < 10 ^ 9
+    dec_small digits all short =
+        let ten : 0 < 10 = omega arith in
+        let below : digits_value 10 digits < 10 ^ length digits = digits_value-lt 10 digits all in
+        let bound : 10 ^ length digits ≤ 10 ^ 9 = pow-le-pow_right ten short in
+        omega (arith, below, bound)
 
 -- a decimal digit lies from 48 to 57
 pub digit_range : (d : ℕ) → digit_value d < 10 → (48 ≤ d) × (d < 58)
@@ -57,30 +83,33 @@ quote_after (d ∷ ds) rest all =
     (ne_eqb d 39 (λ e. omega (arith, e, (digit_range d all.0).0)))
     ∙ ap (option_map (λ (parts : List ℕ × List ℕ). (d ∷ parts.0, parts.1))) (quote_after ds rest all.1)
 
-not_all_digits : (digits rest : List ℕ) → list_all (is_digit 10) (digits ++ 39 ∷ rest) ≡ false
-not_all_digits [] rest = refl
-not_all_digits (d ∷ ds) rest = and_right (is_digit 10 d) _ (not_all_digits ds rest)
+no_number : (digits rest : List ℕ) (n : ℕ) → number_after 10 n (digits ++ 39 ∷ rest) ≡ None
+no_number [] rest n = refl
+no_number (d ∷ ds) rest n = cond_both (is_digit 10 d && nat_lt (n * 10 + digit_value d) (2 ^ 128)) (number_after 10 (n * 10 + digit_value d) (ds ++ 39 ∷ rest)) None (λ o. o ≡ None) (λ _. no_number ds rest (n * 10 + digit_value d)) (λ _. refl)
 
 no_dec : (digits rest : List ℕ) → dec_of (digits ++ 39 ∷ rest) ≡ None
 unfolding dec_of
-no_dec digits rest = ap (λ t. cond t (Some (digits_value 10 (digits ++ 39 ∷ rest))) None) (and_right _ _ (not_all_digits digits rest))
+no_dec digits rest = cond_both (is_nonempty (digits ++ 39 ∷ rest) && nat_le (length (digits ++ 39 ∷ rest)) 9) (number_after 10 0 (digits ++ 39 ∷ rest)) None (λ o. o ≡ None) (λ _. no_number digits rest 0) (λ _. refl)
 
 -- the digits of a based number
-digits_read : (width : ℕ) (signed : Bool) (base : ℕ) (digits : List ℕ) → IsNumeral base digits → length digits ≤ 128 → digits_value base digits < 2 ^ 128 →
+digits_read : (width : ℕ) (signed : Bool) (base : ℕ) (digits : List ℕ) → 0 < base → IsNumeral base digits → length digits ≤ 128 → digits_value base digits < 2 ^ 128 →
     sized_by width signed base digits ≡ Some (record { width = width; signed = signed; bits = digits_value base digits })
-digits_read width signed base digits numeral short fits =
-    ap (λ t. cond t (Some (record { width = width; signed = signed; bits = digits_value base digits })) None)
-    (and_from _ _ (and_from _ _ (and_from _ _ (nonempty digits numeral.0) (le-leb _ _ short)) (all_digits base digits numeral.1)) (lt-ltb _ _ fits))
+digits_read width signed base digits positive numeral short fits =
+    ap (λ t. cond t (sized_as width signed (number_after base 0 digits)) None) (and_from (is_nonempty digits) (nat_le (length digits) 128) (nonempty digits numeral.0) (le-leb _ _ short))
+    ∙ ap (sized_as width signed) (number_read base digits 0 positive numeral.1 fits)
+
+base_positive : (a b c : Bool) (base : ℕ) → cond a (Some 2) (cond b (Some 10) (cond c (Some 16) None)) ≡ Some base → 0 < base
+base_positive true b c base h = let e : 2 ≡ base = cc in omega arith
+base_positive false true c base h = let e : 10 ≡ base = cc in omega arith
+base_positive false false true base h = let e : 16 ≡ base = cc in omega arith
+base_positive false false false base h = cc
 
 letter_read : (width : ℕ) (signed : Bool) (letter base : ℕ) (digits : List ℕ) → base_of letter ≡ Some base →
     sized_after width signed (letter ∷ digits) ≡ sized_by width signed base digits
 letter_read width signed letter base digits h = ap (λ o. option_and_then (λ base. sized_by width signed base digits) o) h
 
 no_mark : (letter base : ℕ) → base_of letter ≡ Some base → (letter == 115 || letter == 83) ≡ false
-no_mark letter base h = or_from _ _ (ne_eqb letter 115 (λ e. no (ap base_of (sym e) ∙ h))) (ne_eqb letter 83 (λ e. no (ap base_of (sym e) ∙ h)))
-  where
-    no : {b : ℕ} → None ≡ Some b → ⊥
-    no e = cc
+no_mark letter base h = or_from _ _ (ne_eqb letter 115 (λ e. none-some base (ap base_of (sym e) ∙ h))) (ne_eqb letter 83 (λ e. none-some base (ap base_of (sym e) ∙ h)))
 
 mark_read : (width : ℕ) (signed : Bool) (mark : List ℕ) (letter base : ℕ) (digits : List ℕ) → IsSignMark signed mark → base_of letter ≡ Some base →
     sized_in width (mark ++ letter ∷ digits) ≡ sized_by width signed base digits
@@ -95,31 +124,25 @@ pub sized_read : (number : Sized) (bytes : List ℕ) → IsBased number bytes �
 unfolding sized_of
 sized_read number bytes is =
     let tail : List ℕ = is.mark ++ is.letter ∷ is.digits in
-    let same : bytes ≡ is.width ++ 39 ∷ tail = is.text ∙ regroup is.width is.mark (is.letter ∷ is.digits) in
+    let same : bytes ≡ is.width ++ 39 ∷ tail = is.text ∙ around_mark is.width is.mark (is.letter ∷ is.digits) in
     let value : digits_value is.base is.digits ≡ number.bits = is.value in
     let fits : digits_value is.base is.digits < 2 ^ 128 = subst (λ n. n < 2 ^ 128) (sym value) is.fits in
     ap (λ b. option_and_then (λ (parts : List ℕ × List ℕ). option_and_then (λ width. sized_in width parts.1) (dec_of parts.0)) (around_quote b)) same
     ∙ ap (λ o. option_and_then (λ (parts : List ℕ × List ℕ). option_and_then (λ width. sized_in width parts.1) (dec_of parts.0)) o) (quote_after is.width tail is.width_is.numeral.1)
     ∙ ap (λ o. option_and_then (λ width. sized_in width tail) o) (dec_read number.width is.width is.width_is)
     ∙ mark_read number.width number.signed is.mark is.letter is.base is.digits is.mark_is is.base_is
-    ∙ digits_read number.width number.signed is.base is.digits is.numeral is.short fits
+    ∙ digits_read number.width number.signed is.base is.digits (base_positive _ _ _ is.base is.base_is) is.numeral is.short fits
     ∙ ap (λ (n : ℕ). Some (record { width = number.width; signed = number.signed; bits = n })) value
-  where
-    regroup : (a b c : List ℕ) → a ++ (39 ∷ []) ++ b ++ c ≡ a ++ 39 ∷ (b ++ c)
-    regroup a b c = simp append_assoc
 
 pub based_kind : (number : Sized) (bytes : List ℕ) → IsBased number bytes → kind_of bytes ≡ Constant number
 unfolding kind_of
 based_kind number bytes is =
     let tail : List ℕ = is.mark ++ is.letter ∷ is.digits in
-    let same : bytes ≡ is.width ++ 39 ∷ tail = is.text ∙ regroup is.width is.mark (is.letter ∷ is.digits) in
+    let same : bytes ≡ is.width ++ 39 ∷ tail = is.text ∙ around_mark is.width is.mark (is.letter ∷ is.digits) in
     ap (λ t. cond t Name (kind_by (dec_of bytes) (sized_of bytes))) (ap is_identifier same ∙ digits_first is.width tail is.width_is.numeral)
     ∙ ap (λ o. kind_by o (sized_of bytes)) (ap dec_of same ∙ no_dec is.width tail)
     ∙ ap (λ o. kind_by None o) (sized_read number bytes is)
   where
-    regroup : (a b c : List ℕ) → a ++ (39 ∷ []) ++ b ++ c ≡ a ++ 39 ∷ (b ++ c)
-    regroup a b c = simp append_assoc
-
     digits_first : (width rest : List ℕ) → IsNumeral 10 width → is_identifier (width ++ 39 ∷ rest) ≡ false
     digits_first [] rest h = absurd (omega (arith, h.0))
     digits_first (d ∷ ds) rest h = digit_first d (ds ++ 39 ∷ rest) h.1.0

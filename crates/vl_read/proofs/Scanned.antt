@@ -145,10 +145,6 @@ fillers_read [] bytes all = refl
 fillers_read (f ∷ fs) bytes all =
     ap (lexemes_from Between []) (append_assoc (filler_text f) (flat_map filler_text fs) bytes) ∙ filler_read f (flat_map filler_text fs ++ bytes) all.0 ∙ fillers_read fs bytes all.1
 
--- a gap between lexemes
-pub gap_read : (gap bytes : List ℕ) → IsGap gap → lexemes_from Between [] (gap ++ bytes) ≡ lexemes_from Between [] bytes
-gap_read gap bytes is = ap (λ g. lexemes_from Between [] (g ++ bytes)) is.2 ∙ fillers_read is.0 bytes (recursion_from_All IsFiller is.0 is.1)
-
 -- the first byte of a gap goes on with no lexeme
 pub data GapFirst : ByteClass → Type 0 where
   blank : GapFirst OfBlank

@@ -1,9 +1,10 @@
 -- How lexemes that are written for tokens are read.
-use Rattle.std.proofs.Common.{◌≡◌, ℕ, List, [], ◌∷◌, Some, ◌∙◌, ap, option_and_then}
+use Rattle.std.proofs.Common.{◌≡◌, ℕ, List, [], ◌∷◌, Some, ◌∙◌, ap, option_and_then, subst, true, refl, bytes_eq}
+use Rattle.std.proofs.lemmas.Slice.Eq.{bytes_eq-Decides}
 use Rattle.vl_ast.specs.declared.expressions.Sized.{Sized}
 use Rattle.vl_ast.specs.Tokens.{Token, Key, Sign, Identifier, Number, Based, IsWritten}
 use Rattle.vl_read.specs.declared.scan.Kind.TheVariants.{Name, Count, Constant}
-use Rattle.vl_read.specs.declared.places.Parser.{Parser}
+use Rattle.vl_read.specs.Places.{Parser}
 use Rattle.vl_read.specs.Lexemes.{kind_of}
 use Rattle.vl_read.specs.Plain.{parse, step}
 use Rattle.vl_read.proofs.LexemeKinds.{name_kind, dec_kind, based_kind}
@@ -19,6 +20,9 @@ pub record Writes (tokens : List Token) (lexemes : List (List ℕ)) : Type 0 whe
 
 later : (tokens : List Token) (lexemes : List (List ℕ)) → WritesEach tokens lexemes → Writes tokens lexemes
 later tokens lexemes w = record { each = w }
+
+pub writes_as : (tokens other : List Token) (lexemes : List (List ℕ)) → tokens ≡ other → Writes tokens lexemes → Writes other lexemes
+writes_as tokens other lexemes same w = subst (λ t. Writes t lexemes) same w
 
 -- one place leads to another by these lexemes, of which those that write the tokens are left
 pub record Reads (from : Parser) (lexemes : List (List ℕ)) (to : Parser) (tokens : List Token) : Type 0 where
@@ -53,3 +57,7 @@ number from to lexemes n tokens goes w = by_step from to lexemes w.each.1 w.each
 
 pub based : (from to : Parser) (lexemes : List (List ℕ)) (n : Sized) (tokens : List Token) → ((lexeme : List ℕ) → kind_of lexeme ≡ Constant n → step from lexeme ≡ Some to) → Writes (Based n ∷ tokens) lexemes → Reads from lexemes to tokens
 based from to lexemes n tokens goes w = by_step from to lexemes w.each.1 w.each.0 tokens w.each.2 (goes w.each.0 (based_kind n w.each.0 w.each.3)) (later _ _ w.each.4)
+
+-- a word that is expected
+pub same_bytes : (word : List ℕ) → bytes_eq word word ≡ true
+same_bytes word = (bytes_eq-Decides word word).1 refl

@@ -1,8 +1,7 @@
 -- The plain division of bytes into lexemes: words and marks, each the longest there is.
-use Rattle.std.specs.Prelude.{ℕ, ◌^◌, ◌==◌, nat_le, nat_lt, Bool, true, false, ◌&&◌, ◌||◌, if◌then◌else◌, List, [], ◌∷◌, ◌++◌, length, bytes_eq, codes, Option, Some, None, option_map, option_and_then}
-use Rattle.std.specs.List.{list_all}
+use Rattle.std.specs.Prelude.{ℕ, not, ◌+◌, ◌*◌, ◌^◌, ◌==◌, nat_le, nat_lt, Bool, true, false, ◌&&◌, ◌||◌, if◌then◌else◌, List, [], ◌∷◌, ◌++◌, length, bytes_eq, codes, Option, Some, None, option_map, option_and_then}
+use Rattle.std.specs.List.{prefix_len}
 use Rattle.std.specs.Char.{is_ascii_alphanumeric}
-use Rattle.std.specs.Str.Parse.{digits_value}
 use Rattle.std.specs.Char.{digit_value}
 use Rattle.vl_ast.specs.declared.expressions.Sized.{Sized}
 use Rattle.vl_ast.specs.Tokens.{is_identifier, base_of, is_blank}
@@ -24,6 +23,7 @@ is_mark_byte byte =
     || byte == 58 || byte == 61 || byte == 64 || byte == 63 || byte == 43 || byte == 45 || byte == 42 || byte == 38
     || byte == 124 || byte == 94 || byte == 126 || byte == 33 || byte == 60 || byte == 62
 
+-- whether a byte is of a word, a blank, of a comment, of a mark, or none
 unfoldable pub class_of : ℕ → ByteClass
 class_of byte =
     if is_word_byte byte then OfWord
@@ -62,6 +62,7 @@ pub record Move : Type 0 where
   pub mode : Mode
   pub lexeme : List ℕ
 
+-- a move with these parts
 abbrev pub moved : List (List ℕ) → Mode → List ℕ → Option Move
 moved lexemes mode lexeme = Some (record { lexemes = lexemes; mode = mode; lexeme = lexeme })
 
@@ -73,10 +74,12 @@ begin lexemes OfComment byte = moved lexemes Slash []
 begin lexemes OfMark byte = moved lexemes Mark (byte ∷ [])
 begin lexemes OfNone byte = None
 
+-- a byte outside of comments
 abbrev pub outside : Mode → List ℕ → ByteClass → ℕ → Option Move
 outside mode lexeme class byte =
     if continues mode class lexeme byte then moved [] mode (lexeme ++ byte ∷ []) else begin (ended mode lexeme) class byte
 
+-- what a byte gives in each mode
 abbrev pub move : Mode → List ℕ → ℕ → Option Move
 move Between lexeme byte = outside Between lexeme (class_of byte) byte
 move Word lexeme byte = outside Word lexeme (class_of byte) byte
@@ -108,14 +111,22 @@ lexemes_from mode lexeme (byte ∷ bytes) =
 abbrev pub is_digit : ℕ → ℕ → Bool
 is_digit base byte = nat_lt (digit_value byte) base
 
+-- the number of digits in a base that follow those of another number, where it is below 2 ^ 128
+abbrev pub number_after : ℕ → ℕ → List ℕ → Option ℕ
+number_after base number [] = Some number
+number_after base number (byte ∷ bytes) =
+    if is_digit base byte && nat_lt (number * base + digit_value byte) (2 ^ 128)
+    then number_after base (number * base + digit_value byte) bytes
+    else None
+
+-- at least one byte
 abbrev pub is_nonempty : List ℕ → Bool
 is_nonempty [] = false
 is_nonempty (byte ∷ bytes) = true
 
 -- one to nine decimal digits
 unfoldable pub dec_of : List ℕ → Option ℕ
-dec_of digits =
-    if is_nonempty digits && nat_le (length digits) 9 && list_all (is_digit 10) digits then Some (digits_value 10 digits) else None
+dec_of digits = if is_nonempty digits && nat_le (length digits) 9 then number_after 10 0 digits else None
 
 -- what stands before the first apostrophe, and what after it
 abbrev pub around_quote : List ℕ → Option (List ℕ × List ℕ)
@@ -123,11 +134,15 @@ around_quote [] = None
 around_quote (byte ∷ bytes) =
     if byte == 39 then Some ([], bytes) else option_map (λ parts. (byte ∷ parts.0, parts.1)) (around_quote bytes)
 
+-- a based number of these parts, where its digits have a number
+abbrev pub sized_as : ℕ → Bool → Option ℕ → Option Sized
+sized_as width signed None = None
+sized_as width signed (Some number) = Some (record { width = width; signed = signed; bits = number })
+
+-- one to 128 digits
 abbrev pub sized_by : ℕ → Bool → ℕ → List ℕ → Option Sized
 sized_by width signed base digits =
-    if is_nonempty digits && nat_le (length digits) 128 && list_all (is_digit base) digits && nat_lt (digits_value base digits) (2 ^ 128)
-    then Some (record { width = width; signed = signed; bits = digits_value base digits })
-    else None
+    if is_nonempty digits && nat_le (length digits) 128 then sized_as width signed (number_after base 0 digits) else None
 
 -- after the mark of a signed number
 abbrev pub sized_after : ℕ → Bool → List ℕ → Option Sized
@@ -140,10 +155,16 @@ sized_in width [] = None
 sized_in width (byte ∷ bytes) =
     if byte == 115 || byte == 83 then sized_after width true bytes else sized_after width false (byte ∷ bytes)
 
+-- how many bytes stand before the first apostrophe
+abbrev pub quote_place : List ℕ → ℕ
+quote_place = prefix_len (λ byte. not (byte == 39))
+
+-- a number with its width and its base
 unfoldable pub sized_of : List ℕ → Option Sized
 sized_of bytes =
     option_and_then (λ parts. option_and_then (λ width. sized_in width parts.1) (dec_of parts.0)) (around_quote bytes)
 
+-- a number, a number with a base, or a word as it stands
 abbrev pub kind_by : Option ℕ → Option Sized → Kind
 kind_by (Some number) sized = Count number
 kind_by None (Some number) = Constant number

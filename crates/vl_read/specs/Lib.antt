@@ -1,2 +1,6 @@
 pub mod Lexemes
+pub mod Places
 pub mod Plain
+pub mod Prefix
+pub mod Seen
+pub mod Turns

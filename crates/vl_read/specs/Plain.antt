@@ -18,27 +18,23 @@ use Rattle.vl_read.specs.declared.scan.Kind.{Kind}
 use Rattle.vl_read.specs.declared.scan.Kind.TheVariants.{Name, Count, Constant, Fixed}
 use Rattle.vl_read.specs.declared.places.Frame.{Frame}
 use Rattle.vl_read.specs.declared.places.Frame.TheVariants.{InConcat, InRepeat, InCast, InUnary, InLeft, InRight, InChosen, InOther}
-use Rattle.vl_read.specs.declared.places.Spot.{Spot}
-use Rattle.vl_read.specs.declared.places.Spot.TheVariants.{Operand, Opened, Braced, Begins, Value, Ends, Amount, Index, High, Low}
-use Rattle.vl_read.specs.declared.places.Clocked.{Clocked}
-use Rattle.vl_read.specs.declared.places.Goal.{Goal}
-use Rattle.vl_read.specs.declared.places.Goal.TheVariants.{Assigned, Condition, Next}
-use Rattle.vl_read.specs.declared.places.NetKind.{NetKind}
-use Rattle.vl_read.specs.declared.places.NetKind.TheVariants.{OfPort, OfWire, OfReg}
+use Rattle.vl_read.specs.Places.{Spot, Clocked, Goal, NetKind, AttrSpot, Place, Parser}
+use Rattle.vl_read.specs.Places.Spot.{Operand, Opened, Braced, Begins, Value, Ends, Amount, Index, High, Low}
+use Rattle.vl_read.specs.Places.Goal.{Assigned, Condition, Next}
+use Rattle.vl_read.specs.Places.NetKind.{OfPort, OfWire, OfReg}
 use Rattle.vl_read.specs.declared.places.NetSpot.{NetSpot}
 use Rattle.vl_read.specs.declared.places.NetSpot.TheVariants.{Word, Signed, Ranged, Bound, Colon, Zero, Close, Named}
-use Rattle.vl_read.specs.declared.places.AttrSpot.{AttrSpot}
-use Rattle.vl_read.specs.declared.places.AttrSpot.TheVariants.{AttrName, AttrSign, AttrValue, More}
-use Rattle.vl_read.specs.declared.places.Place.{Place}
-use Rattle.vl_read.specs.declared.places.Place.TheVariants.{Start, Attributes, Title, Ports, Port as PortPlace, Net, AfterPort, AfterPorts, Items, AssignName, AssignSign, Head, ClockedName, ClockedSign, First, AfterFirst, Else, Branch, If, Again, NextSign, Expression, Semicolon, End, Done}
+use Rattle.vl_read.specs.Places.AttrSpot.{AttrName, AttrSign, AttrValue, More}
+use Rattle.vl_read.specs.Places.Place.{Start, Attributes, Title, Ports, Port as PortPlace, Net, AfterPort, AfterPorts, Items, AssignName, AssignSign, Head, ClockedName, ClockedSign, First, AfterFirst, Else, Branch, If, Again, NextSign, Expression, Semicolon, End, Done}
 use Rattle.vl_read.specs.declared.places.Draft.{Draft}
-use Rattle.vl_read.specs.declared.places.Parser.{Parser}
 use Rattle.vl_read.specs.declared.scan.Mode.TheVariants.{Between}
 use Rattle.vl_read.specs.Lexemes.{kind_of, lexemes_from}
 
+-- a parser at a place
 abbrev pub parser_at : Draft → Place → Parser
 parser_at draft place = record { draft = draft; place = place }
 
+-- on to a place
 abbrev pub goes : Draft → Place → Option Parser
 goes draft place = Some (parser_at draft place)
 
@@ -46,28 +42,41 @@ goes draft place = Some (parser_at draft place)
 abbrev pub expect : List ℕ → List ℕ → Draft → Place → Option Parser
 expect word lexeme draft place = if bytes_eq lexeme word then goes draft place else None
 
+-- whether a lexeme is a name
+abbrev pub is_name : Kind → Bool
+is_name Name = true
+is_name (Count number) = false
+is_name (Constant number) = false
+is_name Fixed = false
+
 -- the one for a name, and the other for what is none
 abbrev pub on_name : Kind → Option Parser → Option Parser → Option Parser
-on_name Name named other = named
-on_name (Count number) named other = other
-on_name (Constant number) named other = other
-on_name Fixed named other = other
+on_name kind named other = if is_name kind then named else other
 
+-- the number, where it has no base
+abbrev pub count_of : Kind → Option ℕ
+count_of Name = None
+count_of (Count number) = Some number
+count_of (Constant number) = None
+count_of Fixed = None
+
+-- the number with its base
+abbrev pub constant_of : Kind → Option Sized
+constant_of Name = None
+constant_of (Count number) = None
+constant_of (Constant number) = Some number
+constant_of Fixed = None
+
+-- on with a number without base
 abbrev pub on_number : Kind → (ℕ → Option Parser) → Option Parser
-on_number Name numbered = None
-on_number (Count number) numbered = numbered number
-on_number (Constant number) numbered = None
-on_number Fixed numbered = None
+on_number kind numbered = option_and_then numbered (count_of kind)
 
+-- on with a number with its base
 abbrev pub on_based : Kind → (Sized → Option Parser) → Option Parser
-on_based Name sized = None
-on_based (Count number) sized = None
-on_based (Constant number) sized = sized number
-on_based Fixed sized = None
+on_based kind sized = option_and_then sized (constant_of kind)
 
--- attributes
-
-abbrev pub attr_step : Draft → Bool → List Attr → AttrSpot → Kind → List ℕ → Option Parser
+-- the next lexeme in a list of attributes
+unfoldable pub attr_step : Draft → Bool → List Attr → AttrSpot → Kind → List ℕ → Option Parser
 attr_step draft of_port attrs AttrName kind lexeme = on_name kind (goes draft (Attributes of_port attrs (AttrSign lexeme))) None
 attr_step draft of_port attrs (AttrSign name) kind lexeme = expect (codes "=") lexeme draft (Attributes of_port attrs (AttrValue name))
 attr_step draft of_port attrs (AttrValue name) kind lexeme =
@@ -77,19 +86,20 @@ attr_step draft of_port attrs More kind lexeme =
     else (if of_port then expect (codes "*)") lexeme draft (PortPlace attrs)
     else expect (codes "*)") lexeme (record draft { attrs = attrs }) Start)
 
+-- no attributes
 abbrev pub has_none : List Attr → Bool
 has_none [] = true
 has_none (attr ∷ attrs) = false
 
--- declarations
-
-abbrev pub declared : Draft → NetKind → Bool → ℕ → List ℕ → Option Parser
+-- a port, a wire or a register is declared
+unfoldable pub declared : Draft → NetKind → Bool → ℕ → List ℕ → Option Parser
 declared draft (OfPort attrs input) signed width name =
     goes (record draft { ports = draft.ports ++ record { attrs = attrs; input = input; signed = signed; width = width; name = name } ∷ [] }) AfterPort
 declared draft OfWire signed width name = goes draft (Semicolon (Wire signed width name))
 declared draft OfReg signed width name = goes draft (Semicolon (Reg signed width name))
 
-abbrev pub net_step : Draft → NetKind → NetSpot → Kind → List ℕ → Option Parser
+-- the next lexeme in a declaration
+unfoldable pub net_step : Draft → NetKind → NetSpot → Kind → List ℕ → Option Parser
 net_step draft net Word kind lexeme = expect (codes "wire") lexeme draft (Net net Signed)
 net_step draft net Signed kind lexeme =
     on_name kind (declared draft net false 1 lexeme)
@@ -102,8 +112,7 @@ net_step draft net (Zero signed width) kind lexeme = expect (codes "0") lexeme d
 net_step draft net (Close signed width) kind lexeme = expect (codes "]") lexeme draft (Net net (Named signed width))
 net_step draft net (Named signed width) kind lexeme = on_name kind (declared draft net signed width lexeme) None
 
--- expressions
-
+-- the operator before an operand that a mark is
 abbrev pub unary_of : List ℕ → Option UnOp
 unary_of lexeme =
     if bytes_eq lexeme (codes "-") then Some Negate
@@ -111,46 +120,47 @@ unary_of lexeme =
     else (if bytes_eq lexeme (codes "!") then Some IsZero
     else None))
 
--- an operator after the first operand
-pub data Operator : Type 0 where
-  Infix : BinOp → Operator
-  Shifting : ShiftOp → Operator
-  Question : Operator
+-- the operator between operands that a mark is
+unfoldable pub infix_of : List ℕ → Option BinOp
+infix_of lexeme =
+    if bytes_eq lexeme (codes "+") then Some Add
+    else (if bytes_eq lexeme (codes "-") then Some Subtract
+    else (if bytes_eq lexeme (codes "*") then Some Multiply
+    else (if bytes_eq lexeme (codes "&") then Some And
+    else (if bytes_eq lexeme (codes "|") then Some Or
+    else (if bytes_eq lexeme (codes "^") then Some Xor
+    else (if bytes_eq lexeme (codes "==") then Some Equal
+    else (if bytes_eq lexeme (codes "!=") then Some NotEqual
+    else (if bytes_eq lexeme (codes "<") then Some Less
+    else (if bytes_eq lexeme (codes "<=") then Some LessEqual
+    else (if bytes_eq lexeme (codes ">") then Some Greater
+    else (if bytes_eq lexeme (codes ">=") then Some GreaterEqual
+    else (if bytes_eq lexeme (codes "&&") then Some Both
+    else (if bytes_eq lexeme (codes "||") then Some Either
+    else None)))))))))))))
 
-unfoldable pub operator_of : List ℕ → Option Operator
-operator_of lexeme =
-    if bytes_eq lexeme (codes "+") then Some (Infix Add)
-    else (if bytes_eq lexeme (codes "-") then Some (Infix Subtract)
-    else (if bytes_eq lexeme (codes "*") then Some (Infix Multiply)
-    else (if bytes_eq lexeme (codes "&") then Some (Infix And)
-    else (if bytes_eq lexeme (codes "|") then Some (Infix Or)
-    else (if bytes_eq lexeme (codes "^") then Some (Infix Xor)
-    else (if bytes_eq lexeme (codes "==") then Some (Infix Equal)
-    else (if bytes_eq lexeme (codes "!=") then Some (Infix NotEqual)
-    else (if bytes_eq lexeme (codes "<") then Some (Infix Less)
-    else (if bytes_eq lexeme (codes "<=") then Some (Infix LessEqual)
-    else (if bytes_eq lexeme (codes ">") then Some (Infix Greater)
-    else (if bytes_eq lexeme (codes ">=") then Some (Infix GreaterEqual)
-    else (if bytes_eq lexeme (codes "&&") then Some (Infix Both)
-    else (if bytes_eq lexeme (codes "||") then Some (Infix Either)
-    else (if bytes_eq lexeme (codes "<<") then Some (Shifting Left)
-    else (if bytes_eq lexeme (codes ">>") then Some (Shifting Right)
-    else (if bytes_eq lexeme (codes ">>>") then Some (Shifting RightSigned)
-    else (if bytes_eq lexeme (codes "?") then Some Question
-    else None)))))))))))))))))
+-- the shift that a mark is
+abbrev pub shift_of : List ℕ → Option ShiftOp
+shift_of lexeme =
+    if bytes_eq lexeme (codes "<<") then Some Left
+    else (if bytes_eq lexeme (codes ">>") then Some Right
+    else (if bytes_eq lexeme (codes ">>>") then Some RightSigned
+    else None))
 
+-- on to a place in an expression
 abbrev pub spot_at : Draft → Goal → List Frame → Spot → Option Parser
 spot_at draft goal frames spot = goes draft (Expression goal frames spot)
 
+-- the lexeme is this mark, and then a place in an expression is next
 abbrev pub expect_spot : ℕ → List ℕ → Draft → Goal → List Frame → Spot → Option Parser
 expect_spot byte lexeme draft goal frames spot = expect (byte ∷ []) lexeme draft (Expression goal frames spot)
 
--- how deep expressions nest at most
+-- expressions nest at most 256 deep
 abbrev pub has_room : List Frame → Bool
 has_room frames = nat_lt (length frames) 256
 
 -- an operand that is no name and no number
-abbrev pub compound_step : Draft → Goal → List Frame → List ℕ → Option Parser
+unfoldable pub compound_step : Draft → Goal → List Frame → List ℕ → Option Parser
 compound_step draft goal frames lexeme =
     if has_room frames
     then (if bytes_eq lexeme (codes "(") then spot_at draft goal frames Opened
@@ -160,48 +170,56 @@ compound_step draft goal frames lexeme =
     else None))))
     else None
 
-abbrev pub operand_step : Draft → Goal → List Frame → Kind → List ℕ → Option Parser
+-- the first lexeme of an operand
+unfoldable pub operand_step : Draft → Goal → List Frame → Kind → List ℕ → Option Parser
 operand_step draft goal frames Name lexeme = spot_at draft goal frames (Value (roll-Expr (Expr-F.Name lexeme)))
 operand_step draft goal frames (Count number) lexeme = None
 operand_step draft goal frames (Constant number) lexeme = spot_at draft goal frames (Value (roll-Expr (Expr-F.Literal number)))
 operand_step draft goal frames Fixed lexeme = compound_step draft goal frames lexeme
 
-abbrev pub unary_or_left : Draft → Goal → List Frame → Option UnOp → List ℕ → Option Parser
+-- an operator or a first operand, after `(`
+unfoldable pub unary_or_left : Draft → Goal → List Frame → Option UnOp → List ℕ → Option Parser
 unary_or_left draft goal frames (Some op) lexeme = spot_at draft goal (frames ++ InUnary op ∷ []) Operand
 unary_or_left draft goal frames None lexeme = compound_step draft goal (frames ++ InLeft ∷ []) lexeme
 
 -- after `(`
-abbrev pub opened_step : Draft → Goal → List Frame → Kind → List ℕ → Option Parser
+unfoldable pub opened_step : Draft → Goal → List Frame → Kind → List ℕ → Option Parser
 opened_step draft goal frames Name lexeme = operand_step draft goal (frames ++ InLeft ∷ []) Name lexeme
 opened_step draft goal frames (Count number) lexeme = None
 opened_step draft goal frames (Constant number) lexeme = operand_step draft goal (frames ++ InLeft ∷ []) (Constant number) lexeme
 opened_step draft goal frames Fixed lexeme = unary_or_left draft goal frames (unary_of lexeme) lexeme
 
 -- after `{`
-abbrev pub braced_step : Draft → Goal → List Frame → Kind → List ℕ → Option Parser
+unfoldable pub braced_step : Draft → Goal → List Frame → Kind → List ℕ → Option Parser
 braced_step draft goal frames Name lexeme = operand_step draft goal (frames ++ InConcat [] ∷ []) Name lexeme
 braced_step draft goal frames (Count number) lexeme = spot_at draft goal (frames ++ InRepeat number ∷ []) (Begins 123)
 braced_step draft goal frames (Constant number) lexeme = operand_step draft goal (frames ++ InConcat [] ∷ []) (Constant number) lexeme
 braced_step draft goal frames Fixed lexeme = compound_step draft goal (frames ++ InConcat [] ∷ []) lexeme
 
--- the innermost frame, and those around it
+-- the innermost frame, and those around it, from those further in
 abbrev pub innermost_of : Frame → Option (List Frame × Frame) → Option (List Frame × Frame)
 innermost_of frame None = Some ([], frame)
 innermost_of frame (Some parts) = Some (frame ∷ parts.0, parts.1)
 
+-- the innermost frame of a list, and those around it
 abbrev pub innermost : List Frame → Option (List Frame × Frame)
 innermost [] = None
 innermost (frame ∷ frames) = innermost_of frame (innermost frames)
 
 -- an operator after the first operand of what is in parentheses
-abbrev pub left_step : Draft → Goal → List Frame → Expr → Option Operator → Option Parser
-left_step draft goal outer value None = None
-left_step draft goal outer value (Some (Infix op)) = spot_at draft goal (outer ++ InRight op value ∷ []) Operand
-left_step draft goal outer value (Some (Shifting op)) = spot_at draft goal outer (Amount op value)
-left_step draft goal outer value (Some Question) = spot_at draft goal (outer ++ InChosen value ∷ []) Operand
+abbrev pub left_by : Draft → Goal → List Frame → Expr → Option BinOp → Option ShiftOp → Option Parser
+left_by draft goal outer value (Some op) shift = spot_at draft goal (outer ++ InRight op value ∷ []) Operand
+left_by draft goal outer value None (Some op) = spot_at draft goal outer (Amount op value)
+left_by draft goal outer value None None = None
+
+-- what follows the first operand in parentheses
+unfoldable pub left_step : Draft → Goal → List Frame → Expr → List ℕ → Option Parser
+left_step draft goal outer value lexeme =
+    if bytes_eq lexeme (codes "?") then spot_at draft goal (outer ++ InChosen value ∷ []) Operand
+    else left_by draft goal outer value (infix_of lexeme) (shift_of lexeme)
 
 -- after an operand in a frame
-abbrev pub frame_step : Draft → Goal → List Frame → Frame → Expr → List ℕ → Option Parser
+unfoldable pub frame_step : Draft → Goal → List Frame → Frame → Expr → List ℕ → Option Parser
 frame_step draft goal outer (InConcat parts) value lexeme =
     if bytes_eq lexeme (codes ",") then spot_at draft goal (outer ++ InConcat (parts ++ value ∷ []) ∷ []) Operand
     else expect_spot 125 lexeme draft goal outer (Value (roll-Expr (Expr-F.Concat (parts ++ value ∷ []))))
@@ -210,7 +228,7 @@ frame_step draft goal outer (InRepeat count) value lexeme =
 frame_step draft goal outer (InCast signed) value lexeme =
     expect_spot 41 lexeme draft goal outer (Value (if signed then roll-Expr (Expr-F.AsSigned value) else roll-Expr (Expr-F.AsUnsigned value)))
 frame_step draft goal outer (InUnary op) value lexeme = expect_spot 41 lexeme draft goal outer (Value (roll-Expr (Expr-F.Unary op value)))
-frame_step draft goal outer InLeft value lexeme = left_step draft goal outer value (operator_of lexeme)
+frame_step draft goal outer InLeft value lexeme = left_step draft goal outer value lexeme
 frame_step draft goal outer (InRight op left) value lexeme =
     expect_spot 41 lexeme draft goal outer (Value (roll-Expr (Expr-F.Binary op left value)))
 frame_step draft goal outer (InChosen test) value lexeme =
@@ -219,7 +237,7 @@ frame_step draft goal outer (InOther test chosen) value lexeme =
     expect_spot 41 lexeme draft goal outer (Value (roll-Expr (Expr-F.Choose test chosen value)))
 
 -- after an expression that is in no other
-abbrev pub goal_step : Draft → Goal → Expr → List ℕ → Option Parser
+unfoldable pub goal_step : Draft → Goal → Expr → List ℕ → Option Parser
 goal_step draft (Assigned name) value lexeme =
     expect (codes ";") lexeme (record draft { items = draft.items ++ Assign name value ∷ [] }) Items
 goal_step draft (Condition name first) value lexeme =
@@ -227,26 +245,29 @@ goal_step draft (Condition name first) value lexeme =
 goal_step draft (Next clocked) value lexeme =
     expect (codes ";") lexeme draft (End (Always clocked.name clocked.first clocked.condition value))
 
+-- the lexeme after an operand
 abbrev pub value_step : Draft → Goal → Option (List Frame × Frame) → Expr → List ℕ → Option Parser
 value_step draft goal None value lexeme = goal_step draft goal value lexeme
 value_step draft goal (Some parts) value lexeme = frame_step draft goal parts.0 parts.1 value lexeme
 
+-- the name that an expression is
 abbrev pub name_of : Expr-F Expr → Option (List ℕ)
 name_of (Expr-F.Name name) = Some name
 name_of layer = None
 
 -- `[` after a name
-abbrev pub index_or_value : Draft → Goal → List Frame → Expr → Option (List ℕ) → List ℕ → Option Parser
-index_or_value draft goal frames value (Some name) lexeme =
-    if bytes_eq lexeme (codes "[") then spot_at draft goal frames (Index name) else value_step draft goal (innermost frames) value lexeme
-index_or_value draft goal frames value None lexeme = value_step draft goal (innermost frames) value lexeme
+abbrev pub indexed : Draft → Goal → List Frame → Option (List ℕ) → Option Parser
+indexed draft goal frames None = None
+indexed draft goal frames (Some name) = spot_at draft goal frames (Index name)
 
-abbrev pub spot_step : Draft → Goal → List Frame → Spot → Kind → List ℕ → Option Parser
+-- the next lexeme in an expression
+unfoldable pub spot_step : Draft → Goal → List Frame → Spot → Kind → List ℕ → Option Parser
 spot_step draft goal frames Operand kind lexeme = operand_step draft goal frames kind lexeme
 spot_step draft goal frames Opened kind lexeme = opened_step draft goal frames kind lexeme
 spot_step draft goal frames Braced kind lexeme = braced_step draft goal frames kind lexeme
 spot_step draft goal frames (Begins byte) kind lexeme = expect_spot byte lexeme draft goal frames Operand
-spot_step draft goal frames (Value value) kind lexeme = index_or_value draft goal frames value (name_of (out-Expr value)) lexeme
+spot_step draft goal frames (Value value) kind lexeme =
+    if bytes_eq lexeme (codes "[") then indexed draft goal frames (name_of (out-Expr value)) else value_step draft goal (innermost frames) value lexeme
 spot_step draft goal frames (Ends value byte) kind lexeme = expect_spot byte lexeme draft goal frames (Value value)
 spot_step draft goal frames (Amount op value) kind lexeme =
     on_based kind (λ amount. spot_at draft goal frames (Ends (roll-Expr (Expr-F.Shift op value amount)) 41))
@@ -257,9 +278,8 @@ spot_step draft goal frames (High name place) kind lexeme =
 spot_step draft goal frames (Low name high) kind lexeme =
     on_number kind (λ low. spot_at draft goal frames (Ends (roll-Expr (Expr-F.Part name high low)) 93))
 
--- modules
-
-abbrev pub item_step : Draft → List ℕ → Option Parser
+-- the first word of an item
+unfoldable pub item_step : Draft → List ℕ → Option Parser
 item_step draft lexeme =
     if bytes_eq lexeme (codes "wire") then goes draft (Net OfWire Signed)
     else (if bytes_eq lexeme (codes "reg") then goes draft (Net OfReg Signed)
@@ -284,7 +304,8 @@ head_word at =
 abbrev pub again_step : Draft → Clocked → List ℕ → Option Parser
 again_step draft clocked lexeme = expect clocked.name lexeme draft (NextSign clocked)
 
-abbrev pub step_at : Draft → Place → Kind → List ℕ → Option Parser
+-- the next lexeme at a place
+unfoldable pub step_at : Draft → Place → Kind → List ℕ → Option Parser
 step_at draft Start kind lexeme =
     if bytes_eq lexeme (codes "(*") && has_none draft.attrs then goes draft (Attributes false [] AttrName)
     else expect (codes "module") lexeme draft Title
@@ -325,6 +346,7 @@ step_at draft Done kind lexeme = None
 unfoldable pub step : Parser → List ℕ → Option Parser
 step parser lexeme = step_at parser.draft parser.place (kind_of lexeme) lexeme
 
+-- the module of a draft, at its end
 abbrev pub module_at : Draft → Place → Option Module
 module_at draft Done = Some (record { name = draft.name; attrs = draft.attrs; ports = draft.ports; items = draft.items })
 module_at draft place = None

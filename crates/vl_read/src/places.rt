@@ -1,8 +1,5 @@
-use fx_io::{Sequence, Text};
-use vl_ast::{Attrs, BinOp, Expr, Exprs, ModItem, ModItems, Ports, ShiftOp, Sized, UnOp};
-
-/// The expressions that are begun, the innermost last.
-pub type Frames = Sequence<Frame>;
+use fx_io::Text;
+use vl_ast::{Attrs, BinOp, Expr, Exprs, ModItems, Ports, ShiftOp, Sized, UnOp};
 
 /// An expression that is begun, without the part that is being read.
 #[derive(Drop)]
@@ -26,7 +23,7 @@ pub enum Frame {
 }
 
 /// Where in an expression the reading is.
-#[derive(Drop)]
+#[derive(Clone, Copy)]
 pub enum Spot {
     /// An operand begins.
     Operand,
@@ -37,42 +34,34 @@ pub enum Spot {
     /// This mark is next, and then an operand begins.
     Begins(u8),
     /// An operand was read.
-    Value(Expr),
+    Value,
     /// This mark is next, and then the operand was read.
-    Ends(Expr, u8),
+    Ends(u8),
     /// The amount of a shift is next.
-    Amount(ShiftOp, Expr),
+    Amount(ShiftOp),
     /// After a name and `[`.
-    Index(Text),
+    Index,
     /// After a name, `[` and a number.
-    High(Text, u32),
+    High(u32),
     /// After a name, `[`, a number and `:`.
-    Low(Text, u32),
-}
-
-/// The head of an item with a clock: its name, the value at a reset, and the condition if there is one.
-#[derive(Drop)]
-pub struct Clocked {
-    pub name: Text,
-    pub first: Sized,
-    pub condition: Option<Expr>,
+    Low(u32),
 }
 
 /// What an expression is read for.
-#[derive(Drop)]
+#[derive(Clone, Copy)]
 pub enum Goal {
     /// The value of an assignment.
-    Assigned(Text),
+    Assigned,
     /// The condition of an item with a clock.
-    Condition(Text, Sized),
+    Condition,
     /// The value of an item with a clock.
-    Next(Clocked),
+    Next,
 }
 
 /// Whose declaration is read.
-#[derive(Drop)]
+#[derive(Clone, Copy)]
 pub enum NetKind {
-    OfPort { attrs: Attrs, input: bool },
+    OfPort { input: bool },
     OfWire,
     OfReg,
 }
@@ -99,40 +88,33 @@ pub enum NetSpot {
 }
 
 /// Where in a list of attributes the reading is.
-#[derive(Drop)]
+#[derive(Clone, Copy)]
 pub enum AttrSpot {
     /// A name is next.
     AttrName,
     /// `=` is next.
-    AttrSign(Text),
+    AttrSign,
     /// A number is next.
-    AttrValue(Text),
+    AttrValue,
     /// `,` or `*)` is next.
     More,
 }
 
-/// Where in a module the reading is.
-#[derive(Drop)]
+/// Where in a module the reading is. What was read for the place stands in `Held`.
+#[derive(Clone, Copy)]
 pub enum Place {
     /// The module's attributes, where there are none yet, or `module` is next.
     Start,
     /// In the attributes of a port, or else of the module.
-    Attributes {
-        of_port: bool,
-        attrs: Attrs,
-        at: AttrSpot,
-    },
+    Attributes { of_port: bool, at: AttrSpot },
     /// The module's name is next.
     Title,
     /// `(` is next.
     Ports,
     /// The port's attributes, where there are none yet, or its direction is next.
-    Port(Attrs),
+    Port,
     /// In a declaration.
-    Net {
-        kind: NetKind,
-        at: NetSpot,
-    },
+    Net { kind: NetKind, at: NetSpot },
     /// `,` or `)` is next.
     AfterPort,
     /// `;` is next, and then the items.
@@ -142,37 +124,35 @@ pub enum Place {
     /// After `assign`.
     AssignName,
     /// `=` is next.
-    AssignSign(Text),
+    AssignSign,
     /// In the head of an item with a clock, of which so many words were read.
     Head(u8),
     /// The name of an item with a clock is next.
     ClockedName,
     /// `<=` is next.
-    ClockedSign(Text),
+    ClockedSign,
     /// The value at a reset is next.
-    First(Text),
+    First,
     /// `;` is next.
-    AfterFirst(Text, Sized),
+    AfterFirst,
     /// `else` is next.
-    Else(Text, Sized),
+    Else,
     /// `if` or the name again is next.
-    Branch(Text, Sized),
+    Branch,
     /// `(` is next.
-    If(Text, Sized),
+    If,
     /// The name again is next.
-    Again(Clocked),
+    Again,
     /// `<=` is next, and then the value.
-    NextSign(Clocked),
+    NextSign,
     /// In an expression.
-    Expression {
-        goal: Goal,
-        frames: Frames,
-        spot: Spot,
-    },
-    /// `;` is next, which ends the item.
-    Semicolon(ModItem),
-    /// `end` is next, which ends the item.
-    End(ModItem),
+    Expression { goal: Goal, spot: Spot },
+    /// `;` is next, which ends a wire's declaration.
+    AfterWire { signed: bool, width: u32 },
+    /// `;` is next, which ends a register's declaration.
+    AfterReg { signed: bool, width: u32 },
+    /// `end` is next, which ends an item with a clock.
+    End,
     /// The module is read.
     Done,
 }
@@ -188,9 +168,29 @@ pub struct Draft {
     pub most: usize,
 }
 
-/// What the tokens so far say.
+/// What was read of the part that the place is in.
 #[derive(Drop)]
-pub struct Parser {
+pub struct Held {
+    /// The attributes of a list or a port.
+    pub attrs: Attrs,
+    /// The name of an attribute or an item.
+    pub name: Text,
+    /// The value of an item with a clock at a reset.
+    pub first: Sized,
+    /// The condition of an item with a clock.
+    pub condition: Option<Expr>,
+    /// The expressions that are begun, the innermost last.
+    pub frames: Vec<Frame>,
+    /// The name before `[`.
+    pub operand: Text,
+    /// The operand that was read last.
+    pub value: Expr,
+}
+
+/// What the lexemes so far say.
+#[derive(Drop)]
+pub struct Reader {
     pub draft: Draft,
     pub place: Place,
+    pub held: Held,
 }

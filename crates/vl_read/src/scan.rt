@@ -1,3 +1,7 @@
+ghost use Rattle.std.specs.Prelude.{◌≡◌, bytes_eq};
+ghost use Rattle.vl_ast.specs.Tokens.{is_blank};
+ghost use Rattle.vl_read.specs.Lexemes.{is_word_byte, is_mark_byte, class_of, extends};
+
 use vl_ast::Sized;
 
 /// What a byte is outside of comments.
@@ -44,4 +48,95 @@ pub enum Kind {
     Constant(Sized),
     /// No other than what it is written as.
     Fixed,
+}
+
+/// Whether a lexeme is this word or mark.
+pub fn is(lexeme: &[u8], word: &str) -> bool
+    ensures { result ≡ bytes_eq lexeme.now word.now }
+{
+    lexeme == word.as_bytes()
+}
+
+/// Whether a byte may stand in a word.
+fn is_word_byte(byte: u8) -> bool
+    ensures { result ≡ is_word_byte byte }
+{
+    byte.is_ascii_alphanumeric() || byte == b'_' || byte == b'$' || byte == b'\''
+}
+
+/// Whether a byte is a blank.
+fn is_blank(byte: u8) -> bool
+    ensures { result ≡ is_blank byte }
+{
+    byte == b' ' || byte == b'\t' || byte == b'\n' || byte == 12 || byte == b'\r'
+}
+
+/// Whether a byte may stand in a mark.
+fn is_mark_byte(byte: u8) -> bool
+    ensures { result ≡ is_mark_byte byte }
+{
+    byte == b'('
+        || byte == b')'
+        || byte == b'['
+        || byte == b']'
+        || byte == b'{'
+        || byte == b'}'
+        || byte == b','
+        || byte == b';'
+        || byte == b':'
+        || byte == b'='
+        || byte == b'@'
+        || byte == b'?'
+        || byte == b'+'
+        || byte == b'-'
+        || byte == b'*'
+        || byte == b'&'
+        || byte == b'|'
+        || byte == b'^'
+        || byte == b'~'
+        || byte == b'!'
+        || byte == b'<'
+        || byte == b'>'
+}
+
+/// What a byte is outside of comments.
+#[tactic(auto, unfolding(crate::specs::Lexemes::class_of))]
+pub fn class_of(byte: u8) -> ByteClass
+    ensures { result ≡ class_of byte }
+{
+    if is_word_byte(byte) {
+        ByteClass::OfWord
+    } else if is_blank(byte) {
+        ByteClass::OfBlank
+    } else if byte == b'/' {
+        ByteClass::OfComment
+    } else if is_mark_byte(byte) {
+        ByteClass::OfMark
+    } else {
+        ByteClass::OfNone
+    }
+}
+
+/// Whether a mark and the byte after it are one mark, or the beginning of one (the longest is taken).
+#[tactic(auto, unfolding(crate::specs::Lexemes::extends))]
+pub fn extends(mark: &[u8], byte: u8) -> bool
+    ensures { result ≡ extends mark.now byte }
+{
+    if byte == b'*' {
+        is(mark, "(")
+    } else if byte == b')' {
+        is(mark, "*")
+    } else if byte == b'=' {
+        is(mark, "<") || is(mark, ">") || is(mark, "=") || is(mark, "!")
+    } else if byte == b'<' {
+        is(mark, "<")
+    } else if byte == b'>' {
+        is(mark, ">") || is(mark, ">>")
+    } else if byte == b'&' {
+        is(mark, "&")
+    } else if byte == b'|' {
+        is(mark, "|")
+    } else {
+        false
+    }
 }

@@ -1,0 +1,146 @@
+-- What may follow a mark, a word and a closing bracket.
+use Rattle.std.proofs.Common.{◌≡◌, ℕ, Bool, true, false, cond, not, List, [], ◌∷◌, refl, ap, codes}
+use Rattle.std.specs.Prelude.{◌==◌, ◌&&◌}
+use Rattle.std.proofs.lemmas.Bool.{and_parts, and_from}
+use Rattle.vl_ast.specs.declared.expressions.Sized.{Sized}
+use Rattle.vl_ast.specs.Tokens.{Token, Key, Sign, Identifier, Number, Based}
+use Rattle.vl_read.specs.Lexemes.{class_of, extends}
+use Rattle.vl_read.proofs.Safe.{is_fine, follows, safe}
+
+-- every token may follow
+abbrev pub fine_first : List Token → Bool
+fine_first [] = true
+fine_first (token ∷ tokens) = is_fine token && safe token tokens
+
+-- an expression may follow
+abbrev pub opens : Token → Bool
+opens before = follows before (Sign (codes "(")) && follows before (Sign (codes "{"))
+
+same_cond : (t x : Bool) → cond t x x ≡ x
+same_cond true x = refl
+same_cond false x = refl
+
+-- a closing bracket goes on with no byte
+abbrev pub Closes : Token → Type 0
+Closes before = (next : Token) → follows before next ≡ true
+
+pub after_closing : (before : Token) (tokens : List Token) → Closes before → fine_first tokens ≡ true → safe before tokens ≡ true
+after_closing before [] closes h = refl
+after_closing before (token ∷ tokens) closes h = let parts = and_parts (is_fine token) (safe token tokens) h in and_from (follows before token && is_fine token) (safe token tokens) (and_from _ _ (closes token) parts.0) parts.1
+
+never : (byte : ℕ) → cond (byte == 42) false (cond (byte == 41) false (cond (byte == 61) false (cond (byte == 60) false (cond (byte == 62) false (cond (byte == 38) false (cond (byte == 124) false false)))))) ≡ false
+never byte = simp same_cond
+
+-- what no byte goes on with
+closes_mark : (mark : List ℕ) → ((byte : ℕ) → extends mark byte ≡ false) → Closes (Sign mark)
+unfolding follows
+closes_mark mark ends (Key word) = refl
+closes_mark mark ends (Sign []) = refl
+closes_mark mark ends (Sign (b ∷ bs)) = ap not (ends b)
+closes_mark mark ends (Identifier name) = refl
+closes_mark mark ends (Number number) = refl
+closes_mark mark ends (Based number) = refl
+
+pub closes_square : Closes (Sign (codes "]"))
+unfolding extends
+closes_square = closes_mark (codes "]") never
+
+pub closes_brace : Closes (Sign (codes "}"))
+unfolding extends
+closes_brace = closes_mark (codes "}") never
+
+pub closes_round : Closes (Sign (codes ")"))
+unfolding extends
+closes_round = closes_mark (codes ")") never
+
+pub closes_semicolon : Closes (Sign (codes ";"))
+unfolding extends
+closes_semicolon = closes_mark (codes ";") never
+
+pub closes_comma : Closes (Sign (codes ","))
+unfolding extends
+closes_comma = closes_mark (codes ",") never
+
+pub closes_attrs : Closes (Sign (codes "*)"))
+unfolding extends
+closes_attrs = closes_mark (codes "*)") never
+
+pub closes_opening : Closes (Sign (codes "{"))
+unfolding extends
+closes_opening = closes_mark (codes "{") never
+
+pub closes_identifier : (name : List ℕ) → Closes (Identifier name)
+unfolding follows
+closes_identifier name next = refl
+
+pub closes_key : (name : List ℕ) → Closes (Key name)
+unfolding follows
+closes_key name next = refl
+
+pub closes_number : (n : ℕ) → Closes (Number n)
+unfolding follows
+closes_number n next = refl
+
+pub closes_based : (n : Sized) → Closes (Based n)
+unfolding follows
+closes_based n next = refl
+
+-- the first token, and what follows it
+pub begun : (before token : Token) (tokens : List Token) → follows before token ≡ true → is_fine token ≡ true → safe token tokens ≡ true → safe before (token ∷ tokens) ≡ true
+begun before token tokens f fine h = and_from (follows before token && is_fine token) (safe token tokens) (and_from (follows before token) (is_fine token) f fine) h
+
+pub opens_word : (before : Token) → opens before ≡ true → (follows before (Sign (codes "(")) ≡ true) × (follows before (Sign (codes "{")) ≡ true)
+opens_word before h = and_parts _ _ h
+
+pub follows_identifier : (before : Token) (name : List ℕ) → follows before (Identifier name) ≡ true
+unfolding follows
+follows_identifier (Key word) name = refl
+follows_identifier (Sign mark) name = refl
+follows_identifier (Identifier other) name = refl
+follows_identifier (Number n) name = refl
+follows_identifier (Based n) name = refl
+
+pub follows_key : (before : Token) (name : List ℕ) → follows before (Key name) ≡ true
+unfolding follows
+follows_key (Key word) name = refl
+follows_key (Sign mark) name = refl
+follows_key (Identifier other) name = refl
+follows_key (Number n) name = refl
+follows_key (Based n) name = refl
+
+pub follows_based : (before : Token) (n : Sized) → follows before (Based n) ≡ true
+unfolding follows
+follows_based (Key word) n = refl
+follows_based (Sign mark) n = refl
+follows_based (Identifier other) n = refl
+follows_based (Number m) n = refl
+follows_based (Based m) n = refl
+
+pub opens_open : opens (Sign (codes "(")) ≡ true
+unfolding follows extends
+opens_open = refl
+
+pub opens_brace : opens (Sign (codes "{")) ≡ true
+unfolding follows extends
+opens_brace = refl
+
+pub fine_open : is_fine (Sign (codes "(")) ≡ true
+unfolding is_fine class_of extends
+fine_open = refl
+
+pub fine_brace : is_fine (Sign (codes "{")) ≡ true
+unfolding is_fine class_of extends
+fine_brace = refl
+
+pub comma_opens : (is_fine (Sign (codes ",")) && opens (Sign (codes ","))) ≡ true
+unfolding follows extends is_fine class_of
+comma_opens = refl
+
+-- what ends with a bracket
+pub round_ends : (tokens : List Token) → fine_first tokens ≡ true → fine_first (Sign (codes ")") ∷ tokens) ≡ true
+unfolding is_fine class_of
+round_ends tokens after = after_closing (Sign (codes ")")) tokens closes_round after
+
+pub brace_ends : (tokens : List Token) → fine_first tokens ≡ true → fine_first (Sign (codes "}") ∷ tokens) ≡ true
+unfolding is_fine class_of
+brace_ends tokens after = after_closing (Sign (codes "}")) tokens closes_brace after

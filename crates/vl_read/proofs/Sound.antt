@@ -1,0 +1,223 @@
+-- What is read is written: where the plain reading gives a module, the lexemes are a text of it.
+use Rattle.std.proofs.Common.{◌≡◌, ℕ, ◌≤◌, true, false, cond, List, [], ◌∷◌, ◌++◌, length, Some, None, refl, sym, ◌∙◌, ap, subst, codes, arith, append_assoc, append-nil, bytes_eq}
+use Rattle.std.specs.Prelude.{◌&&◌, nat_lt}
+use Rattle.std.specs.List.{AllZip, flat_map}
+use Rattle.std.proofs.lemmas.Bool.{and_parts, ltb-true}
+use Rattle.vl_ast.specs.declared.expressions.Sized.{Sized}
+use Rattle.vl_ast.specs.declared.modules.Attr.{Attr}
+use Rattle.vl_ast.specs.declared.modules.Module.{Module}
+use Rattle.vl_ast.specs.Spelling.{joined}
+use Rattle.vl_ast.specs.Tokens.{Token, Key, Sign, Identifier, Based}
+use Rattle.vl_ast.specs.Grammar.{comma, attrs_tokens, IsPortText, condition_tokens, IsModuleText}
+use Rattle.vl_read.specs.declared.scan.Kind.{Kind}
+use Rattle.vl_read.specs.Places.Spot.{Operand}
+use Rattle.vl_read.specs.Places.Goal.{Assigned, Condition, Next}
+use Rattle.vl_read.specs.Places.NetKind.{OfPort}
+use Rattle.vl_read.specs.declared.places.NetSpot.TheVariants.{Word}
+use Rattle.vl_read.specs.Places.AttrSpot.{AttrName}
+use Rattle.vl_read.specs.Places.{Place, Parser}
+use Rattle.vl_read.specs.Places.Place.{Start, Attributes, Title, Ports, Port as PortPlace, Net, AfterPort, AfterPorts, Items, AssignName, AssignSign, Head, ClockedName, ClockedSign, First, AfterFirst, Else, Branch, If, Again, NextSign, Expression, Semicolon, End, Done}
+use Rattle.vl_read.specs.declared.places.Draft.{Draft}
+use Rattle.vl_read.specs.Lexemes.{kind_of}
+use Rattle.vl_read.specs.Plain.{goes, has_none, item_step, step_at, step, module_at, parse, start}
+use Rattle.vl_read.proofs.Written.{WritesEach}
+use Rattle.vl_read.proofs.ModuleTokens.{three_before}
+use Rattle.vl_read.proofs.KindSound.{then_some, IsOfKind, kind_means}
+use Rattle.vl_read.proofs.ConsumedItems.{clocked_tokens, opened_tokens, BeforePorts, AtPort, InBody, ItemAt, module_of, Whole, Has}
+use Rattle.vl_read.proofs.SoundFrames.{same_word, either_way, either_word, nowhere, twice, grow}
+use Rattle.vl_read.proofs.SoundSpots.{on_constant}
+use Rattle.vl_read.proofs.SoundNets.{Onward, onward_to, onward_sign, onward_key, on_name_or, grow_port, attr_sound, net_sound}
+use Rattle.vl_read.proofs.SoundItems.{more_item, item_read, item_sound, head_sound, again_sound, expression_starts, expression_sound}
+
+-- before the ports
+
+no_attrs : (attrs : List Attr) → has_none attrs ≡ true → attrs ≡ []
+no_attrs [] e = refl
+no_attrs (attr ∷ attrs) e = cc
+
+opens_attrs : (lexeme : List ℕ) (attrs : List Attr) → (bytes_eq lexeme (codes "(*") && has_none attrs) ≡ true → (bytes_eq lexeme (codes "(*") ≡ true) × (attrs ≡ [])
+opens_attrs lexeme attrs t = let both = and_parts (bytes_eq lexeme (codes "(*")) (has_none attrs) t in (both.0, no_attrs attrs both.1)
+
+start_sound : (most : ℕ) (draft : Draft) (lexeme : List ℕ) (text : List Token) (q : Parser) → BeforePorts most draft → text ≡ attrs_tokens draft.attrs →
+    cond (bytes_eq lexeme (codes "(*") && has_none draft.attrs) (goes draft (Attributes false [] AttrName)) (cond (bytes_eq lexeme (codes "module")) (goes draft Title) None) ≡ Some q → Onward most text lexeme q
+start_sound most draft lexeme text q before is =
+    either_way (bytes_eq lexeme (codes "(*") && has_none draft.attrs) _ _ q
+    (λ t e. let both = opens_attrs lexeme draft.attrs t in
+    onward_to most text lexeme q draft (Attributes false [] AttrName) (Sign (codes "(*")) (same_word lexeme (codes "(*") both.0)
+    (record { own = Sign (codes "(*") ∷ []; around = (before, ap (λ t. t ++ Sign (codes "(*") ∷ []) (is ∙ ap attrs_tokens both.1)); is = refl }) e)
+    (onward_key most text lexeme q draft Title (codes "module") (before, ap (λ t. t ++ Key (codes "module") ∷ []) is))
+
+title_sound : (most : ℕ) (draft : Draft) (kind : Kind) (lexeme : List ℕ) (text : List Token) (q : Parser) → BeforePorts most draft → text ≡ attrs_tokens draft.attrs ++ Key (codes "module") ∷ [] → IsOfKind kind lexeme →
+    step_at draft Title kind lexeme ≡ Some q → Onward most text lexeme q
+unfolding step_at
+title_sound most draft kind lexeme text q before is named =
+    on_name_or kind lexeme _ None q named
+    (λ name e. onward_to most text lexeme q (record draft { name = lexeme }) Ports (Identifier lexeme) (refl, name)
+    (record { no_ports = before.no_ports; no_items = before.no_items; kept = before.kept }, grow (attrs_tokens draft.attrs) (Key (codes "module") ∷ []) _ text (Identifier lexeme) is refl) e)
+    (nowhere q)
+
+ports_begin : (most : ℕ) (draft : Draft) (text : List Token) → BeforePorts most draft → text ≡ attrs_tokens draft.attrs ++ (Key (codes "module") ∷ Identifier draft.name ∷ []) → AtPort most draft [] (text ++ Sign (codes "(") ∷ [])
+ports_begin most draft text before is =
+    record {
+      ports = [];
+      each_port = subst (λ ports. AllZip IsPortText ports []) (sym before.no_ports) tt;
+      no_items = before.no_items;
+      kept = before.kept;
+      is = grow (attrs_tokens draft.attrs) (Key (codes "module") ∷ Identifier draft.name ∷ []) _ text (Sign (codes "(")) is refl ∙ sym (append-nil (opened_tokens draft));
+    }
+
+-- a port begins
+
+port_sound : (most : ℕ) (draft : Draft) (attrs : List Attr) (lexeme : List ℕ) (text : List Token) (q : Parser) → AtPort most draft (attrs_tokens attrs) text →
+    cond (bytes_eq lexeme (codes "(*") && has_none attrs) (goes draft (Attributes true [] AttrName))
+    (cond (bytes_eq lexeme (codes "input")) (goes draft (Net (OfPort attrs true) Word)) (cond (bytes_eq lexeme (codes "output")) (goes draft (Net (OfPort attrs false) Word)) None)) ≡ Some q → Onward most text lexeme q
+port_sound most draft attrs lexeme text q at =
+    either_way (bytes_eq lexeme (codes "(*") && has_none attrs) _ _ q
+    (λ t e. let both = opens_attrs lexeme attrs t in
+    onward_to most text lexeme q draft (Attributes true [] AttrName) (Sign (codes "(*")) (same_word lexeme (codes "(*") both.0)
+    (record { own = Sign (codes "(*") ∷ []; around = subst (λ l. AtPort most draft (attrs_tokens l ++ Sign (codes "(*") ∷ []) (text ++ Sign (codes "(*") ∷ [])) both.1 (grow_port most draft (attrs_tokens attrs) text (Sign (codes "(*")) at); is = refl }) e)
+    (either_word lexeme (codes "input") _ _ q
+    (λ h e. onward_to most text lexeme q draft (Net (OfPort attrs true) Word) (Key (codes "input")) h
+    (record { own = Key (codes "input") ∷ []; around = grow_port most draft (attrs_tokens attrs) text (Key (codes "input")) at; is = refl }) e)
+    (onward_key most text lexeme q draft (Net (OfPort attrs false) Word) (codes "output")
+    (record { own = Key (codes "output") ∷ []; around = grow_port most draft (attrs_tokens attrs) text (Key (codes "output")) at; is = refl })))
+
+after_port : (most : ℕ) (draft : Draft) (lexeme : List ℕ) (text : List Token) (q : Parser) → Has most draft AfterPort text →
+    cond (bytes_eq lexeme (codes ",")) (goes draft (PortPlace [])) (cond (bytes_eq lexeme (codes ")")) (goes draft AfterPorts) None) ≡ Some q → Onward most text lexeme q
+after_port most draft lexeme text q has =
+    either_word lexeme (codes ",") _ _ q
+    (λ h e. onward_to most text lexeme q draft (PortPlace []) (Sign (codes ",")) h has.0 e)
+    (onward_sign most text lexeme q draft AfterPorts (codes ")") (subst (λ t. InBody most draft [] t) (sym (twice text (Sign (codes ")")) (Sign (codes ";")))) has.1))
+
+-- the items
+
+module_read : (most : ℕ) (draft : Draft) (text : List Token) → InBody most draft [] text → Whole most (module_of draft) (text ++ Key (codes "endmodule") ∷ [])
+module_read most draft text body =
+    record {
+      is = record {
+        ports = body.ports;
+        items = body.items;
+        has_port = body.has_port;
+        each_port = body.each_port;
+        each_item = body.each_item;
+        text = ap (λ t. t ++ Key (codes "endmodule") ∷ []) body.is
+            ∙ regroup (attrs_tokens draft.attrs) (joined comma body.ports) (flat_map (λ item. item) body.items) (Key (codes "module")) (Identifier draft.name) (Sign (codes "(")) (Sign (codes ")")) (Sign (codes ";")) (Key (codes "endmodule"));
+      };
+      room = body.room;
+    }
+  where
+    regroup : (a b c : List Token) (s t u v w x : Token) → ((a ++ (s ∷ t ∷ u ∷ [])) ++ (b ++ (v ∷ w ∷ (c ++ [])))) ++ x ∷ [] ≡ a ++ (s ∷ t ∷ u ∷ (b ++ (v ∷ w ∷ (c ++ x ∷ []))))
+    regroup a b c s t u v w x = simp (append_assoc, append-nil)
+
+items_sound : (most : ℕ) (draft : Draft) (lexeme : List ℕ) (text : List Token) (q : Parser) → InBody most draft [] text →
+    cond (bytes_eq lexeme (codes "endmodule")) (goes draft Done) (cond (nat_lt (length draft.items) draft.most) (item_step draft lexeme) None) ≡ Some q → Onward most text lexeme q
+items_sound most draft lexeme text q body =
+    either_word lexeme (codes "endmodule") _ _ q
+    (λ h e. onward_to most text lexeme q draft Done (Key (codes "endmodule")) h (module_read most draft text body) e)
+    (either_way (nat_lt (length draft.items) draft.most) _ None q
+    (λ t e. item_sound most draft lexeme text q body (omega (arith, ltb-true (length draft.items) draft.most t, body.kept)) e)
+    (nowhere q))
+
+-- after `if` or the name again
+next_text : (own a b : List Token) (name : List ℕ) → own ≡ a ++ (b ++ Identifier name ∷ []) → own ++ Sign (codes "<=") ∷ [] ≡ a ++ (b ++ Identifier name ∷ Sign (codes "<=") ∷ [])
+next_text own a b name is = ap (λ t. t ++ Sign (codes "<=") ∷ []) is ∙ three_before a b (Identifier name ∷ []) (Sign (codes "<=") ∷ [])
+
+branch_sound : (most : ℕ) (draft : Draft) (name : List ℕ) (first : Sized) (kind : Kind) (lexeme : List ℕ) (text : List Token) (q : Parser) → ItemAt most draft (Branch name first) text → IsOfKind kind lexeme →
+    step_at draft (Branch name first) kind lexeme ≡ Some q → Onward most text lexeme q
+unfolding step_at
+branch_sound most draft name first kind lexeme text q item is =
+    on_name_or kind lexeme _ _ q is
+    (λ named e. again_sound most draft (record { name = name; first = first; condition = None }) lexeme item.own text q item.around tt (item.is ∙ sym (append-nil (clocked_tokens name first))) named e)
+    (onward_key most text lexeme q draft (If name first) (codes "if")
+    (more_item most draft item.own text (Key (codes "if")) (If name first) item.around (ap (λ t. t ++ Key (codes "if") ∷ []) item.is)))
+
+pub place_sound : (most : ℕ) (draft : Draft) (place : Place) (kind : Kind) (lexeme : List ℕ) (text : List Token) (q : Parser) → Has most draft place text → IsOfKind kind lexeme →
+    step_at draft place kind lexeme ≡ Some q → Onward most text lexeme q
+unfolding step_at
+place_sound most draft Start kind lexeme text q has is e = start_sound most draft lexeme text q has.0 has.1 e
+place_sound most draft (Attributes of_port attrs at) kind lexeme text q has is e = attr_sound most draft of_port attrs at kind lexeme text q has is e
+place_sound most draft Title kind lexeme text q has is e = title_sound most draft kind lexeme text q has.0 has.1 is e
+place_sound most draft Ports kind lexeme text q has is e = onward_sign most text lexeme q draft (PortPlace []) (codes "(") (ports_begin most draft text has.0 has.1) e
+place_sound most draft (PortPlace attrs) kind lexeme text q has is e = port_sound most draft attrs lexeme text q has e
+place_sound most draft (Net net at) kind lexeme text q has is e = net_sound most draft net at kind lexeme text q has is e
+place_sound most draft AfterPort kind lexeme text q has is e = after_port most draft lexeme text q has e
+place_sound most draft AfterPorts kind lexeme text q has is e = onward_sign most text lexeme q draft Items (codes ";") has e
+place_sound most draft Items kind lexeme text q has is e = items_sound most draft lexeme text q has e
+place_sound most draft AssignName kind lexeme text q has is e =
+    on_name_or kind lexeme _ None q is
+    (λ named e. onward_to most text lexeme q draft (AssignSign lexeme) (Identifier lexeme) (refl, named)
+    (more_item most draft has.own text (Identifier lexeme) (AssignSign lexeme) has.around (ap (λ t. t ++ Identifier lexeme ∷ []) has.is)) e)
+    (nowhere q) e
+place_sound most draft (AssignSign name) kind lexeme text q has is e =
+    onward_sign most text lexeme q draft (Expression (Assigned name) [] Operand) (codes "=")
+    (more_item most draft has.own text (Sign (codes "=")) (Expression (Assigned name) [] Operand) has.around
+    (expression_starts (Assigned name) (has.own ++ Sign (codes "=") ∷ []) tt (ap (λ t. t ++ Sign (codes "=") ∷ []) has.is))) e
+place_sound most draft (Head at) kind lexeme text q has is e = head_sound most draft at lexeme text q has e
+place_sound most draft ClockedName kind lexeme text q has is e =
+    on_name_or kind lexeme _ None q is
+    (λ named e. onward_to most text lexeme q draft (ClockedSign lexeme) (Identifier lexeme) (refl, named)
+    (more_item most draft has.own text (Identifier lexeme) (ClockedSign lexeme) has.around (ap (λ t. t ++ Identifier lexeme ∷ []) has.is)) e)
+    (nowhere q) e
+place_sound most draft (ClockedSign name) kind lexeme text q has is e =
+    onward_sign most text lexeme q draft (First name) (codes "<=") (more_item most draft has.own text (Sign (codes "<=")) (First name) has.around (ap (λ t. t ++ Sign (codes "<=") ∷ []) has.is)) e
+place_sound most draft (First name) kind lexeme text q has is e =
+    on_constant kind lexeme _ q is
+    (λ n written e. onward_to most text lexeme q draft (AfterFirst name n) (Based n) written
+    (more_item most draft has.own text (Based n) (AfterFirst name n) has.around (ap (λ t. t ++ Based n ∷ []) has.is)) e) e
+place_sound most draft (AfterFirst name first) kind lexeme text q has is e =
+    onward_sign most text lexeme q draft (Else name first) (codes ";") (more_item most draft has.own text (Sign (codes ";")) (Else name first) has.around (ap (λ t. t ++ Sign (codes ";") ∷ []) has.is)) e
+place_sound most draft (Else name first) kind lexeme text q has is e =
+    onward_key most text lexeme q draft (Branch name first) (codes "else") (more_item most draft has.own text (Key (codes "else")) (Branch name first) has.around (ap (λ t. t ++ Key (codes "else") ∷ []) has.is)) e
+place_sound most draft (Branch name first) kind lexeme text q has is e = branch_sound most draft name first kind lexeme text q has is e
+place_sound most draft (If name first) kind lexeme text q has is e =
+    onward_sign most text lexeme q draft (Expression (Condition name first) [] Operand) (codes "(")
+    (more_item most draft has.own text (Sign (codes "(")) (Expression (Condition name first) [] Operand) has.around
+    (expression_starts (Condition name first) (has.own ++ Sign (codes "(") ∷ []) tt (grow (clocked_tokens name first) (Key (codes "if") ∷ []) _ has.own (Sign (codes "(")) has.is refl))) e
+place_sound most draft (Again clocked) kind lexeme text q has is e =
+    on_name_or kind lexeme _ None q is (λ named e. again_sound most draft clocked lexeme has.own text q has.around has.is.0 has.is.1 named e) (nowhere q) e
+place_sound most draft (NextSign clocked) kind lexeme text q has is e =
+    onward_sign most text lexeme q draft (Expression (Next clocked) [] Operand) (codes "<=")
+    (more_item most draft has.own text (Sign (codes "<=")) (Expression (Next clocked) [] Operand) has.around
+    (expression_starts (Next clocked) (has.own ++ Sign (codes "<=") ∷ []) has.is.0 (next_text has.own (clocked_tokens clocked.name clocked.first) (condition_tokens clocked.condition) clocked.name has.is.1))) e
+place_sound most draft (Expression goal frames spot) kind lexeme text q has is e = expression_sound most draft goal frames spot kind lexeme text q has is e
+place_sound most draft (Semicolon item) kind lexeme text q has is e =
+    onward_sign most text lexeme q (record draft { items = draft.items ++ item ∷ [] }) Items (codes ";") (item_read most draft item has.own text (Sign (codes ";")) has.around has.is) e
+place_sound most draft (End item) kind lexeme text q has is e =
+    onward_key most text lexeme q (record draft { items = draft.items ++ item ∷ [] }) Items (codes "end") (item_read most draft item has.own text (Key (codes "end")) has.around has.is) e
+place_sound most draft Done kind lexeme text q has is e = nowhere q e
+
+-- each lexeme adds the token that it writes
+step_sound : (most : ℕ) (p : Parser) (lexeme : List ℕ) (text : List Token) (q : Parser) → Has most p.draft p.place text → step p lexeme ≡ Some q → Onward most text lexeme q
+unfolding step
+step_sound most p lexeme text q has e = place_sound most p.draft p.place (kind_of lexeme) lexeme text q has (kind_means lexeme) e
+
+-- the module is read where its text is whole
+finish_sound : (most : ℕ) (draft : Draft) (place : Place) (text : List Token) (m : Module) → Has most draft place text → module_at draft place ≡ Some m → Whole most m text
+finish_sound most draft Done text m has e = let same : module_of draft ≡ m = cc in subst (λ m. Whole most m text) same has
+finish_sound most draft place text m has e = let no : ⊥ = cc in absurd no
+
+-- the lexemes that are left write tokens that make the text whole
+record Rest (most : ℕ) (m : Module) (text : List Token) (lexemes : List (List ℕ)) : Type 0 where
+  tokens : List Token
+  whole : Whole most m (text ++ tokens)
+  each : WritesEach tokens lexemes
+
+rest_sound : (lexemes : List (List ℕ)) (most : ℕ) (p : Parser) (text : List Token) (m : Module) → Has most p.draft p.place text → parse p lexemes ≡ Some m → Rest most m text lexemes
+rest_sound [] most p text m has e =
+    record { tokens = []; whole = subst (λ t. Whole most m t) (sym (append-nil text)) (finish_sound most p.draft p.place text m has e); each = refl }
+rest_sound (lexeme ∷ lexemes) most p text m has e =
+    let r = then_some (step p lexeme) (λ next. parse next lexemes) m e in
+    let onward : Onward most text lexeme r.0 = step_sound most p lexeme text r.0 has r.1 in
+    let rest : Rest most m (text ++ onward.token ∷ []) lexemes = rest_sound lexemes most r.0 (text ++ onward.token ∷ []) m onward.has r.2 in
+    record {
+      tokens = onward.token ∷ rest.tokens;
+      whole = subst (λ t. Whole most m t) (append_assoc text (onward.token ∷ []) rest.tokens) rest.whole;
+      each = (lexeme, lexemes, refl, onward.written, rest.each);
+    }
+
+pub sound : (most : ℕ) (lexemes : List (List ℕ)) (m : Module) → parse (start most) lexemes ≡ Some m →
+    (tokens : List Token) × IsModuleText m tokens × WritesEach tokens lexemes × (length m.items ≤ most)
+sound most lexemes m e =
+    let before : BeforePorts most (start most).draft = record { no_ports = refl; no_items = refl; kept = refl } in
+    let rest : Rest most m [] lexemes = rest_sound lexemes most (start most) [] m (before, refl) e in
+    (rest.tokens, rest.whole.is, rest.each, rest.whole.room)

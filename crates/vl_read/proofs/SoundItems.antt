@@ -1,0 +1,139 @@
+-- What each lexeme adds to an item.
+use Rattle.std.proofs.Common.{◌≡◌, ℕ, ◌+◌, ◌<◌, true, cond, suc, List, [], ◌∷◌, ◌++◌, length, Some, None, ⊎_elim, refl, sym, ◌∙◌, ap, subst, codes, arith, add-one, append_assoc, append-nil, length-append, bytes_eq}
+use Rattle.std.specs.Prelude.{nat_lt}
+use Rattle.std.specs.List.{flat_map}
+use Rattle.std.proofs.lemmas.Bool.{cond_both, ltb-true, ltb-false}
+use Rattle.std.proofs.lemmas.Grind.{flat_map-append}
+use Rattle.vl_ast.specs.declared.modules.ModItem.{ModItem}
+use Rattle.vl_ast.specs.declared.modules.ModItem.TheVariants.{Assign, Always}
+use Rattle.vl_ast.specs.Spelling.{joined}
+use Rattle.vl_ast.specs.Tokens.{Token, Key, Sign, Identifier, IsWritten, is_identifier}
+use Rattle.vl_ast.specs.Grammar.{comma, expr_tokens, condition_tokens, IsCondition, IsItemText}
+use Rattle.vl_read.specs.declared.scan.Kind.{Kind}
+use Rattle.vl_read.specs.declared.places.Frame.{Frame}
+use Rattle.vl_read.specs.Places.{Spot, Clocked, Goal, Place, Parser}
+use Rattle.vl_read.specs.Places.Spot.{Operand}
+use Rattle.vl_read.specs.Places.Goal.{Assigned, Condition, Next}
+use Rattle.vl_read.specs.Places.NetKind.{OfWire, OfReg}
+use Rattle.vl_read.specs.declared.places.NetSpot.TheVariants.{Signed}
+use Rattle.vl_read.specs.Places.Place.{Net, Items, AssignName, Head, ClockedName, Again, NextSign, Expression, End}
+use Rattle.vl_read.specs.declared.places.Draft.{Draft}
+use Rattle.vl_read.specs.Plain.{goes, head_word, goal_step, item_step, step_at}
+use Rattle.vl_read.proofs.KindSound.{IsOfKind}
+use Rattle.vl_read.proofs.ConsumedItems.{is_key, head_token, head_tokens, clocked_tokens, goal_tokens, IsGoal, ExpressionAt, IsBegunItem, opened_tokens, InBody, InItem, ItemAt, Has}
+use Rattle.vl_read.proofs.SoundFrames.{expected, either_word, grow, Goes}
+use Rattle.vl_read.proofs.SoundSpots.{Ended, spot_sound}
+use Rattle.vl_read.proofs.SoundNets.{Onward, onward_to, onward_sign, onward_key, grown_body, grow_body, grow_item, zip_push}
+
+-- an item is read with its last token
+pub item_read : (most : ℕ) (draft : Draft) (item : ModItem) (own text : List Token) (token : Token) → InItem most draft own text → IsItemText item (own ++ token ∷ []) →
+    Has most (record draft { items = draft.items ++ item ∷ [] }) Items (text ++ token ∷ [])
+item_read most draft item own text token at is =
+    let whole : List Token = own ++ token ∷ [] in
+    let body : InBody most draft own text = at.body in
+    let grown : text ++ token ∷ [] ≡ opened_tokens draft ++ (joined comma body.ports ++ (Sign (codes ")") ∷ Sign (codes ";") ∷ (flat_map (λ item. item) body.items ++ whole))) =
+    grown_body most draft own text token body in
+    record {
+      ports = body.ports;
+      items = body.items ++ whole ∷ [];
+      has_port = body.has_port;
+      each_port = body.each_port;
+      each_item = zip_push IsItemText draft.items body.items item whole body.each_item is;
+      kept = body.kept;
+      room = omega (arith, at.room, length-append draft.items (item ∷ []));
+      is = grown ∙ ap (λ t. opened_tokens draft ++ (joined comma body.ports ++ (Sign (codes ")") ∷ Sign (codes ";") ∷ t))) (last body.items whole);
+    }
+  where
+    last : (items : List (List Token)) (whole : List Token) → flat_map (λ item. item) items ++ whole ≡ flat_map (λ item. item) (items ++ whole ∷ []) ++ []
+    last items whole =
+        ap (λ t. flat_map (λ item. item) items ++ t) (sym (append-nil whole)) ∙ sym (flat_map-append (λ item. item) items (whole ∷ []))
+        ∙ sym (append-nil (flat_map (λ item. item) (items ++ whole ∷ [])))
+
+-- one more token of the item
+pub more_item : (most : ℕ) (draft : Draft) (own text : List Token) (token : Token) (place : Place) → InItem most draft own text → IsBegunItem place (own ++ token ∷ []) → ItemAt most draft place (text ++ token ∷ [])
+more_item most draft own text token place around is = record { own = own ++ token ∷ []; around = grow_item most draft own text token around; is = is }
+
+-- the first word of an item
+
+first_word : (most : ℕ) (draft : Draft) (text : List Token) (token : Token) → InBody most draft [] text → length draft.items < most → InItem most draft (token ∷ []) (text ++ token ∷ [])
+first_word most draft text token body room = record { body = grow_body most draft [] text token body; room = room }
+
+pub item_sound : (most : ℕ) (draft : Draft) (lexeme : List ℕ) (text : List Token) (q : Parser) → InBody most draft [] text → length draft.items < most → item_step draft lexeme ≡ Some q → Onward most text lexeme q
+unfolding item_step
+item_sound most draft lexeme text q body room =
+    either_word lexeme (codes "wire") _ _ q
+    (λ h e. onward_to most text lexeme q draft (Net OfWire Signed) (Key (codes "wire")) h (record { own = Key (codes "wire") ∷ []; around = first_word most draft text (Key (codes "wire")) body room; is = refl }) e)
+    (either_word lexeme (codes "reg") _ _ q
+    (λ h e. onward_to most text lexeme q draft (Net OfReg Signed) (Key (codes "reg")) h (record { own = Key (codes "reg") ∷ []; around = first_word most draft text (Key (codes "reg")) body room; is = refl }) e)
+    (either_word lexeme (codes "assign") _ _ q
+    (λ h e. onward_to most text lexeme q draft AssignName (Key (codes "assign")) h (record { own = Key (codes "assign") ∷ []; around = first_word most draft text (Key (codes "assign")) body room; is = refl }) e)
+    (onward_key most text lexeme q draft (Head 0) (codes "always")
+    (record { own = Key (codes "always") ∷ []; around = first_word most draft text (Key (codes "always")) body room; is = (omega arith, refl) }))))
+
+-- the words of an item with a clock
+
+head_written : (at : ℕ) (lexeme : List ℕ) → lexeme ≡ head_word at → IsWritten (head_token at) lexeme
+head_written at lexeme e = cond_both (is_key at) (Key (head_word at)) (Sign (head_word at)) (λ token. IsWritten token lexeme) (λ _. e) (λ _. e)
+
+pub head_sound : (most : ℕ) (draft : Draft) (at : ℕ) (lexeme : List ℕ) (text : List Token) (q : Parser) → ItemAt most draft (Head at) text →
+    cond (bytes_eq lexeme (head_word at)) (goes draft (cond (nat_lt at 9) (Head (at + 1)) ClockedName)) None ≡ Some q → Onward most text lexeme q
+head_sound most draft at lexeme text q item e =
+    let token : Token = head_token at in
+    let r = expected lexeme (head_word at) _ q e in
+    let grown : item.own ++ token ∷ [] ≡ head_tokens (suc at) = ap (λ t. t ++ token ∷ []) item.is.1 in
+    onward_to most text lexeme q draft (cond (nat_lt at 9) (Head (at + 1)) ClockedName) token (head_written at lexeme r.0)
+    (cond_both (nat_lt at 9) (Head (at + 1)) ClockedName (λ place. Has most draft place (text ++ token ∷ []))
+    (λ t. more_item most draft item.own text token (Head (at + 1)) item.around (omega (arith, ltb-true at 9 t), grown ∙ ap head_tokens (sym (add-one at))))
+    (λ t. let last : suc at ≡ 10 = omega (arith, ltb-false at 9 t, item.is.0) in more_item most draft item.own text token ClockedName item.around (grown ∙ ap head_tokens last))) r.1
+
+-- the same name again
+pub again_sound : (most : ℕ) (draft : Draft) (clocked : Clocked) (lexeme : List ℕ) (own text : List Token) (q : Parser) → InItem most draft own text → IsCondition clocked.condition →
+    own ≡ clocked_tokens clocked.name clocked.first ++ condition_tokens clocked.condition → is_identifier lexeme ≡ true → cond (bytes_eq lexeme clocked.name) (goes draft (NextSign clocked)) None ≡ Some q → Onward most text lexeme q
+again_sound most draft clocked lexeme own text q around condition is named e =
+    let r = expected lexeme clocked.name _ q e in
+    onward_to most text lexeme q draft (NextSign clocked) (Identifier clocked.name) (r.0, subst (λ n. is_identifier n ≡ true) r.0 named)
+    (more_item most draft own text (Identifier clocked.name) (NextSign clocked) around
+    (condition, grow (clocked_tokens clocked.name clocked.first) (condition_tokens clocked.condition) _ own (Identifier clocked.name) is refl)) r.1
+
+-- expressions
+
+pub expression_starts : (goal : Goal) (text : List Token) → IsGoal goal → text ≡ goal_tokens goal → ExpressionAt goal [] Operand text
+expression_starts goal text goal_is is =
+    record { own = []; is = is ∙ sym (append-nil (goal_tokens goal)); goal_is = goal_is; begun = record { is = refl; deep = omega arith; filled = refl; room = tt } }
+
+goal_sound : (most : ℕ) (draft : Draft) (goal : Goal) (lexeme : List ℕ) (own expression text : List Token) (q : Parser) → InItem most draft own text → own ≡ goal_tokens goal ++ expression → IsGoal goal →
+    Ended draft goal expression lexeme q → Onward most text lexeme q
+unfolding goal_step
+goal_sound most draft (Assigned name) lexeme own expression text q around is goal_is ended =
+    onward_sign most text lexeme q (record draft { items = draft.items ++ Assign name ended.value ∷ [] }) Items (codes ";")
+    (item_read most draft (Assign name ended.value) own text (Sign (codes ";")) around
+    (ended.good, grow (goal_tokens (Assigned name)) (expr_tokens ended.value) _ own (Sign (codes ";")) (is ∙ ap (λ t. goal_tokens (Assigned name) ++ t) ended.is) refl)) ended.goes
+goal_sound most draft (Condition name first) lexeme own expression text q around is goal_is ended =
+    onward_sign most text lexeme q draft (Again (record { name = name; first = first; condition = Some ended.value })) (codes ")")
+    (more_item most draft own text (Sign (codes ")")) (Again (record { name = name; first = first; condition = Some ended.value })) around
+    (ended.good, grow (goal_tokens (Condition name first)) (expr_tokens ended.value) _ own (Sign (codes ")")) (is ∙ ap (λ t. goal_tokens (Condition name first) ++ t) ended.is) refl)) ended.goes
+goal_sound most draft (Next clocked) lexeme own expression text q around is goal_is ended =
+    onward_sign most text lexeme q draft (End (Always clocked.name clocked.first clocked.condition ended.value)) (codes ";")
+    (more_item most draft own text (Sign (codes ";")) (End (Always clocked.name clocked.first clocked.condition ended.value)) around (
+      goal_is,
+      ended.good,
+      ap (λ t. (t ++ Sign (codes ";") ∷ []) ++ Key (codes "end") ∷ []) (is ∙ ap (λ t. goal_tokens (Next clocked) ++ t) ended.is)
+          ∙ all (clocked_tokens clocked.name clocked.first) (condition_tokens clocked.condition) (expr_tokens ended.value) (Identifier clocked.name) (Sign (codes "<=")) (Sign (codes ";")) (Key (codes "end")),
+    )) ended.goes
+  where
+    all : (a b c : List Token) (s t u v : Token) → ((((a ++ (b ++ s ∷ t ∷ [])) ++ c) ++ u ∷ []) ++ v ∷ []) ≡ a ++ (b ++ s ∷ t ∷ (c ++ u ∷ v ∷ []))
+    all a b c s t u v = simp append_assoc
+
+pub expression_sound : (most : ℕ) (draft : Draft) (goal : Goal) (frames : List Frame) (spot : Spot) (kind : Kind) (lexeme : List ℕ) (text : List Token) (q : Parser) → ItemAt most draft (Expression goal frames spot) text → IsOfKind kind lexeme →
+    step_at draft (Expression goal frames spot) kind lexeme ≡ Some q → Onward most text lexeme q
+unfolding step_at
+expression_sound most draft goal frames spot kind lexeme text q item is e =
+    let at : ExpressionAt goal frames spot item.own = item.is in
+    ⊎_elim (λ more. on_in at more) (λ ended. goal_sound most draft goal lexeme item.own at.own text q item.around at.is at.goal_is ended)
+    (spot_sound draft goal frames spot kind lexeme at.own q at.begun is e)
+  where
+    on_in : (at : ExpressionAt goal frames spot item.own) → Goes draft goal at.own lexeme q → Onward most text lexeme q
+    on_in at more =
+        onward_to most text lexeme q draft (Expression goal more.frames more.spot) more.token more.written
+        (more_item most draft item.own text more.token (Expression goal more.frames more.spot) item.around
+        (record { own = at.own ++ more.token ∷ []; is = grow (goal_tokens goal) at.own _ item.own more.token at.is refl; goal_is = at.goal_is; begun = more.begun })) (ap Some more.same)

@@ -1,0 +1,68 @@
+use Rattle.std.proofs.Common.{◌≡◌, ◌∙◌, [], None, Some, ap, sym, get_or, arith}
+use Rattle.std.proofs.lemmas.List.{drop_all}
+use Rattle.vl_read.specs.Seen.{seen}
+use Rattle.vl_read.specs.Lexemes.{move}
+use Rattle.vl_read.specs.Turns.{stepped, turned, feed, ended_by, ahead}
+use Rattle.vl_read.proofs.Reached.{reached_start, found, refused, fault_at_end, stopped_refused, stopped_line, unfed_refused, unfed_line, reached_next}
+use Rattle.vl_read.proofs.Turning.{drop_next}
+use Rattle.vl_read.proofs.Kept.{between, kept_next, starts_within, kept_last}
+use Rattle.vl_read.proofs.reading.read.Goals as goal
+
+pub loop-i-init : goal.loop-i-init
+loop-i-init c = (omega arith, reached_start c.args.bytes.now (seen c.new-reader.result) c.new-reader.ensures)
+
+pub returns-in_default-clause-refused : goal.returns-in_default-clause-refused
+returns-in_default-clause-refused c =
+    let stops : None ≡ move c.loop-i.mode (between c.loop-i.start c.loop-i.i c.args.bytes.now) (get_or c.args.bytes.now c.loop-i.i 0) = c.in_default.ensures in
+    stopped_refused _ _ _ _ _ _ c.loop-i.invariant.1 _ _ (drop_next c.args.bytes.now c.loop-i.i c.loop-i-test.true) stops
+
+pub returns-in_default-clause-line : goal.returns-in_default-clause-line
+returns-in_default-clause-line c =
+    let stops : None ≡ move c.loop-i.mode (between c.loop-i.start c.loop-i.i c.args.bytes.now) (get_or c.args.bytes.now c.loop-i.i 0) = c.in_default.ensures in
+    stopped_line _ _ _ _ _ _ c.loop-i.invariant.1 _ _ (drop_next c.args.bytes.now c.loop-i.i c.loop-i-test.true) stops
+
+pub returns-then-not-branch-clause-refused : goal.returns-then-not-branch-clause-refused
+returns-then-not-branch-clause-refused c =
+    let moves : Some (turned (between c.loop-i.start c.loop-i.i c.args.bytes.now) (get_or c.args.bytes.now c.loop-i.i 0) c.in-Some.turn) ≡ move c.loop-i.mode (between c.loop-i.start c.loop-i.i c.args.bytes.now) (get_or c.args.bytes.now c.loop-i.i 0) = c.in-Some.ensures in
+    let unfed : None ≡ feed (seen c.loop-i.reader) (ended_by c.in-Some.turn.ends (between c.loop-i.start c.loop-i.i c.args.bytes.now)) =
+    ap (λ t. stepped t (seen c.fed.new.reader)) (sym c.if-not-branch.true) ∙ c.in_ok-fed.ensures in
+    unfed_refused _ _ _ _ _ _ c.loop-i.invariant.1 _ _ (drop_next c.args.bytes.now c.loop-i.i c.loop-i-test.true) c.in-Some.turn moves unfed
+
+pub returns-then-not-branch-clause-line : goal.returns-then-not-branch-clause-line
+returns-then-not-branch-clause-line c =
+    let moves : Some (turned (between c.loop-i.start c.loop-i.i c.args.bytes.now) (get_or c.args.bytes.now c.loop-i.i 0) c.in-Some.turn) ≡ move c.loop-i.mode (between c.loop-i.start c.loop-i.i c.args.bytes.now) (get_or c.args.bytes.now c.loop-i.i 0) = c.in-Some.ensures in
+    let unfed : None ≡ feed (seen c.loop-i.reader) (ended_by c.in-Some.turn.ends (between c.loop-i.start c.loop-i.i c.args.bytes.now)) =
+    ap (λ t. stepped t (seen c.fed.new.reader)) (sym c.if-not-branch.true) ∙ c.in_ok-fed.ensures in
+    unfed_line _ _ _ _ _ _ c.loop-i.invariant.1 _ _ (drop_next c.args.bytes.now c.loop-i.i c.loop-i-test.true) c.in-Some.turn moves unfed
+
+pub loop-i-preserved : goal.loop-i-preserved
+loop-i-preserved c =
+    let moves : Some (turned (between c.loop-i.start c.loop-i.i c.args.bytes.now) (get_or c.args.bytes.now c.loop-i.i 0) c.in-Some.turn) ≡ move c.loop-i.mode (between c.loop-i.start c.loop-i.i c.args.bytes.now) (get_or c.args.bytes.now c.loop-i.i 0) = c.in-Some.ensures in
+    let fed : Some (seen c.fed.new.reader) ≡ feed (seen c.loop-i.reader) (ended_by c.in-Some.turn.ends (between c.loop-i.start c.loop-i.i c.args.bytes.now)) =
+    ap (λ t. stepped t (seen c.fed.new.reader)) (sym c.if-not-branch.false) ∙ c.in_ok-fed.ensures in
+    let kept = kept_next c.args.bytes.now c.loop-i.start c.loop-i.i c.in-Some.turn.pending c.loop-i.invariant.0 c.loop-i-test.true in
+    rw (c.start_after-start.ensures) (
+      starts_within c.in-Some.turn.pending c.loop-i.start c.loop-i.i c.loop-i.invariant.0,
+      rw (kept) (reached_next _ _ _ _ _ _ c.loop-i.invariant.1 _ _ (drop_next c.args.bytes.now c.loop-i.i c.loop-i-test.true) c.in-Some.turn moves (seen c.fed.new.reader) fed _ c.line_after-line.ensures),
+    )
+
+pub returns-in-None-clause-refused : goal.returns-in-None-clause-refused
+returns-in-None-clause-refused c =
+    let said : None ≡ ahead (seen c.loop-i.reader) c.loop-i.mode (between c.loop-i.start c.loop-i.i c.args.bytes.now) [] =
+    sym c.in-None.is ∙ c.in_ok-last.ensures ∙ ap (λ l. ahead (seen c.loop-i.reader) c.loop-i.mode l []) (kept_last c.args.bytes.now c.loop-i.start c.loop-i.i c.loop-i-test.false c.loop-i.auto.i-end) in
+    refused _ _ _ _ _ _ c.loop-i.invariant.1 (ap (ahead (seen c.loop-i.reader) c.loop-i.mode (between c.loop-i.start c.loop-i.i c.args.bytes.now)) (drop_all c.loop-i.i c.args.bytes.now c.loop-i-test.false) ∙ sym said)
+
+pub returns-in-None-clause-line : goal.returns-in-None-clause-line
+returns-in-None-clause-line c = fault_at_end _ _ _ _ _ _ c.loop-i.invariant.1 (drop_all c.loop-i.i c.args.bytes.now c.loop-i-test.false)
+
+pub returns-in-Some-2-clause-found : goal.returns-in-Some-2-clause-found
+returns-in-Some-2-clause-found c =
+    let said : Some c.in-Some-2.module ≡ ahead (seen c.loop-i.reader) c.loop-i.mode (between c.loop-i.start c.loop-i.i c.args.bytes.now) [] =
+    sym c.in-Some-2.is ∙ c.in_ok-last.ensures ∙ ap (λ l. ahead (seen c.loop-i.reader) c.loop-i.mode l []) (kept_last c.args.bytes.now c.loop-i.start c.loop-i.i c.loop-i-test.false c.loop-i.auto.i-end) in
+    (found _ _ _ _ _ _ c.loop-i.invariant.1 c.in-Some-2.module (ap (ahead (seen c.loop-i.reader) c.loop-i.mode (between c.loop-i.start c.loop-i.i c.args.bytes.now)) (drop_all c.loop-i.i c.args.bytes.now c.loop-i-test.false) ∙ sym said)).0
+
+pub returns-in-Some-2-clause-few : goal.returns-in-Some-2-clause-few
+returns-in-Some-2-clause-few c =
+    let said : Some c.in-Some-2.module ≡ ahead (seen c.loop-i.reader) c.loop-i.mode (between c.loop-i.start c.loop-i.i c.args.bytes.now) [] =
+    sym c.in-Some-2.is ∙ c.in_ok-last.ensures ∙ ap (λ l. ahead (seen c.loop-i.reader) c.loop-i.mode l []) (kept_last c.args.bytes.now c.loop-i.start c.loop-i.i c.loop-i-test.false c.loop-i.auto.i-end) in
+    (found _ _ _ _ _ _ c.loop-i.invariant.1 c.in-Some-2.module (ap (ahead (seen c.loop-i.reader) c.loop-i.mode (between c.loop-i.start c.loop-i.i c.args.bytes.now)) (drop_all c.loop-i.i c.args.bytes.now c.loop-i-test.false) ∙ sym said)).1

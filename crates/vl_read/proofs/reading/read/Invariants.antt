@@ -1,0 +1,9 @@
+use Rattle.std.proofs.Common.{drop, ◌≤◌}
+use Rattle.vl_read.specs.Seen.{seen}
+use Rattle.vl_read.proofs.Reached.{Reached}
+use Rattle.vl_read.proofs.Kept.{between}
+use Rattle.vl_read.proofs.reading.read.Given as goal
+
+abbrev pub invariant-loop-i : goal.invariant-loop-i
+invariant-loop-i l =
+    (l.start ≤ l.i) × Reached l.bytes (drop l.i l.bytes) (seen l.reader) l.mode (between l.start l.i l.bytes) l.line

@@ -1,0 +1,242 @@
+ghost use Rattle.std.specs.Prelude.{◌≡◌, ◌++◌, ◌∷◌, [], IfOk};
+ghost use Rattle.vl_ast.specs.declared.expressions.Expr.TheViews.{out-Expr};
+ghost use Rattle.vl_read.specs.declared.places.Frame.TheVariants.{InConcat, InChosen};
+ghost use Rattle.vl_read.specs.declared.scan.Kind.TheVariants.{Fixed};
+ghost use Rattle.vl_read.specs.Lexemes.{kind_of};
+ghost use Rattle.vl_read.specs.Places.{Value, High, Low, Amount};
+ghost use Rattle.vl_read.specs.Plain.{left_step, frame_step, goal_step, spot_step, indexed, name_of};
+ghost use Rattle.vl_read.specs.Seen.{seen, goal_of, frames_of, spot_of};
+ghost use Rattle.vl_read.specs.Turns.{stepped};
+
+use crate::numbers::{constant_of, count_of, kind_of};
+use crate::pieces::{
+    binary, bit, cast, choose, concat, infix_of, innermost, part, repeat, shift, shift_of, unary,
+};
+use crate::places::{Frame, Goal, Place, Reader, Spot};
+use crate::scan::is;
+use fx_io::OutOfMemory;
+use std::alloc::Global;
+use vl_ast::{Expr, Exprs, ModItem, ShiftOp};
+
+impl Reader {
+    /// An operator after the first operand of what is in parentheses.
+    #[tactic(auto, unfolding(crate::specs::Plain::left_step))]
+    fn left_step(&mut self, goal: Goal, value: Expr, lexeme: &[u8]) -> Result<bool, OutOfMemory>
+        ensures { IfOk result (λ said. stepped said (seen self.new) ≡ left_step self.old.draft (goal_of self.old goal) (frames_of self.old) value lexeme.now) }
+    {
+        if is(lexeme, "?") {
+            return self.inside(goal, Frame::InChosen(value), Spot::Operand);
+        }
+        match infix_of(lexeme) {
+            Some(op) => self.inside(goal, Frame::InRight(op, value), Spot::Operand),
+            None => match shift_of(lexeme) {
+                Some(op) => {
+                    self.held.value = value;
+                    Ok(self.spot(goal, Spot::Amount(op)))
+                }
+                None => Ok(false),
+            },
+        }
+    }
+
+    /// After an operand in a concatenation.
+    #[tactic(auto, unfolding(crate::specs::Plain::frame_step))]
+    fn concat_step(
+        &mut self,
+        goal: Goal,
+        mut parts: Exprs,
+        value: Expr,
+        lexeme: &[u8],
+    ) -> Result<bool, OutOfMemory>
+        ensures { IfOk result (λ said. stepped said (seen self.new) ≡ frame_step self.old.draft (goal_of self.old goal) (frames_of self.old) (InConcat parts) value lexeme.now) }
+    {
+        parts.push(value)?;
+        if is(lexeme, ",") {
+            return self.inside(goal, Frame::InConcat(parts), Spot::Operand);
+        }
+        self.held.value = concat(parts);
+        Ok(self.expect_spot(b'}', lexeme, goal, Spot::Value))
+    }
+
+    /// After the second operand of a choice.
+    #[tactic(auto, unfolding(crate::specs::Plain::frame_step))]
+    fn chosen_step(
+        &mut self,
+        goal: Goal,
+        test: Expr,
+        value: Expr,
+        lexeme: &[u8],
+    ) -> Result<bool, OutOfMemory>
+        ensures { IfOk result (λ said. stepped said (seen self.new) ≡ frame_step self.old.draft (goal_of self.old goal) (frames_of self.old) (InChosen test) value lexeme.now) }
+    {
+        self.held.frames.push(Frame::InOther(test, value))?;
+        Ok(self.expect_spot(b':', lexeme, goal, Spot::Operand))
+    }
+
+    /// After an operand in a frame.
+    #[tactic(auto, unfolding(crate::specs::Plain::frame_step))]
+    fn frame_step(
+        &mut self,
+        alloc: Global,
+        goal: Goal,
+        frame: Frame,
+        value: Expr,
+        lexeme: &[u8],
+    ) -> Result<bool, OutOfMemory>
+        ensures { IfOk result (λ said. stepped said (seen self.new) ≡ frame_step self.old.draft (goal_of self.old goal) (frames_of self.old) frame value lexeme.now) }
+    {
+        match frame {
+            Frame::InConcat(parts) => self.concat_step(goal, parts, value, lexeme),
+            Frame::InLeft => self.left_step(goal, value, lexeme),
+            Frame::InChosen(test) => self.chosen_step(goal, test, value, lexeme),
+            Frame::InRepeat(count) => {
+                self.held.value = repeat(alloc, count, value)?;
+                Ok(self.expect_spot(b'}', lexeme, goal, Spot::Ends(b'}')))
+            }
+            Frame::InCast(signed) => {
+                self.held.value = cast(alloc, signed, value)?;
+                Ok(self.expect_spot(b')', lexeme, goal, Spot::Value))
+            }
+            Frame::InUnary(op) => {
+                self.held.value = unary(alloc, op, value)?;
+                Ok(self.expect_spot(b')', lexeme, goal, Spot::Value))
+            }
+            Frame::InRight(op, left) => {
+                self.held.value = binary(alloc, op, left, value)?;
+                Ok(self.expect_spot(b')', lexeme, goal, Spot::Value))
+            }
+            Frame::InOther(test, chosen) => {
+                self.held.value = choose(alloc, test, chosen, value)?;
+                Ok(self.expect_spot(b')', lexeme, goal, Spot::Value))
+            }
+        }
+    }
+
+    /// After an expression that is in no other.
+    #[tactic(auto, unfolding(crate::specs::Plain::goal_step))]
+    fn goal_step(&mut self, alloc: Global, goal: Goal, lexeme: &[u8]) -> Result<bool, OutOfMemory>
+        ensures { IfOk result (λ said. stepped said (seen self.new) ≡ goal_step self.old.draft (goal_of self.old goal) self.old.held.value lexeme.now) }
+    {
+        match goal {
+            Goal::Assigned => {
+                let name = self.take_name(alloc);
+                let value = self.take_value();
+                self.with_item(";", lexeme, ModItem::Assign { name, value })
+            }
+            Goal::Condition => {
+                let condition = self.take_value();
+                self.held.condition = Some(condition);
+                Ok(self.expect(")", lexeme, Place::Again))
+            }
+            Goal::Next => Ok(self.expect(";", lexeme, Place::End)),
+        }
+    }
+
+    /// `[` after an operand.
+    #[tactic(auto, unfolding(crate::specs::Plain::spot_step))]
+    fn index_step(&mut self, goal: Goal, value: Expr) -> bool
+        ensures { stepped result (seen self.new) ≡ indexed self.old.draft (goal_of self.old goal) (frames_of self.old) (name_of (out-Expr value)) }
+    {
+        match value {
+            Expr::Name(name) => {
+                self.held.operand = name;
+                self.spot(goal, Spot::Index)
+            }
+            _ => false,
+        }
+    }
+
+    /// After an operand.
+    #[tactic(auto, unfolding(crate::specs::Plain::spot_step))]
+    fn value_step(&mut self, alloc: Global, goal: Goal, lexeme: &[u8]) -> Result<bool, OutOfMemory>
+        ensures { IfOk result (λ said. stepped said (seen self.new) ≡ spot_step self.old.draft (goal_of self.old goal) (frames_of self.old) (Value self.old.held.value) Fixed lexeme.now) }
+    {
+        if is(lexeme, "[") {
+            let value = self.take_value();
+            return Ok(self.index_step(goal, value));
+        }
+        match innermost(&mut self.held.frames) {
+            None => self.goal_step(alloc, goal, lexeme),
+            Some(frame) => {
+                let value = self.take_value();
+                self.frame_step(alloc, goal, frame, value, lexeme)
+            }
+        }
+    }
+
+    /// After a name, `[` and a number.
+    #[tactic(auto, unfolding(crate::specs::Plain::spot_step))]
+    fn high_step(&mut self, alloc: Global, goal: Goal, place: u32, lexeme: &[u8]) -> bool
+        ensures { stepped result (seen self.new) ≡ spot_step self.old.draft (goal_of self.old goal) (frames_of self.old) (High self.old.held.operand place) Fixed lexeme.now }
+    {
+        if is(lexeme, "]") {
+            self.held.value = bit(self.take_operand(alloc), place);
+            self.spot(goal, Spot::Value)
+        } else {
+            self.expect_spot(b':', lexeme, goal, Spot::Low(place))
+        }
+    }
+
+    /// The amount of a shift.
+    #[tactic(auto, unfolding(crate::specs::Plain::spot_step))]
+    fn amount_step(
+        &mut self,
+        alloc: Global,
+        goal: Goal,
+        op: ShiftOp,
+        lexeme: &[u8],
+    ) -> Result<bool, OutOfMemory>
+        ensures { IfOk result (λ said. stepped said (seen self.new) ≡ spot_step self.old.draft (goal_of self.old goal) (frames_of self.old) (Amount op self.old.held.value) (kind_of lexeme.now) lexeme.now) }
+    {
+        match constant_of(lexeme) {
+            None => Ok(false),
+            Some(amount) => {
+                let value = self.take_value();
+                self.held.value = shift(alloc, op, value, amount)?;
+                Ok(self.spot(goal, Spot::Ends(b')')))
+            }
+        }
+    }
+
+    /// The lower bound of a part.
+    #[tactic(auto, unfolding(crate::specs::Plain::spot_step))]
+    fn low_step(&mut self, alloc: Global, goal: Goal, high: u32, lexeme: &[u8]) -> bool
+        ensures { stepped result (seen self.new) ≡ spot_step self.old.draft (goal_of self.old goal) (frames_of self.old) (Low self.old.held.operand high) (kind_of lexeme.now) lexeme.now }
+    {
+        match count_of(lexeme) {
+            None => false,
+            Some(low) => {
+                self.held.value = part(self.take_operand(alloc), high, low);
+                self.spot(goal, Spot::Ends(b']'))
+            }
+        }
+    }
+
+    /// The next lexeme in an expression (IEEE 1364-2005, clause 5).
+    #[tactic(auto, unfolding(crate::specs::Plain::spot_step))]
+    pub fn spot_step(
+        &mut self,
+        alloc: Global,
+        goal: Goal,
+        spot: Spot,
+        lexeme: &[u8],
+    ) -> Result<bool, OutOfMemory>
+        ensures { IfOk result (λ said. stepped said (seen self.new) ≡ spot_step self.old.draft (goal_of self.old goal) (frames_of self.old) (spot_of self.old spot) (kind_of lexeme.now) lexeme.now) }
+    {
+        match spot {
+            Spot::Operand => self.operand_step(alloc, goal, kind_of(lexeme), lexeme),
+            Spot::Opened => self.opened_step(alloc, goal, lexeme),
+            Spot::Braced => self.braced_step(alloc, goal, lexeme),
+            Spot::Begins(mark) => Ok(self.expect_spot(mark, lexeme, goal, Spot::Operand)),
+            Spot::Value => self.value_step(alloc, goal, lexeme),
+            Spot::Ends(mark) => Ok(self.expect_spot(mark, lexeme, goal, Spot::Value)),
+            Spot::Amount(op) => self.amount_step(alloc, goal, op, lexeme),
+            Spot::Index => match count_of(lexeme) {
+                None => Ok(false),
+                Some(place) => Ok(self.spot(goal, Spot::High(place))),
+            },
+            Spot::High(place) => Ok(self.high_step(alloc, goal, place, lexeme)),
+            Spot::Low(high) => Ok(self.low_step(alloc, goal, high, lexeme)),
+        }
+    }
+}

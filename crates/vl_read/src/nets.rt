@@ -1,0 +1,230 @@
+ghost use Rattle.std.specs.Prelude.{◌≡◌, [], IfOk};
+ghost use Rattle.vl_read.specs.declared.scan.Kind.TheVariants.{Fixed};
+ghost use Rattle.vl_read.specs.declared.places.NetSpot.TheVariants.{Signed, Bound};
+ghost use Rattle.vl_read.specs.Lexemes.{kind_of};
+ghost use Rattle.vl_read.specs.Places.{Net, AttrName, AttrValue, More};
+ghost use Rattle.vl_read.specs.Plain.{attr_step, has_none, declared, net_step, expect};
+ghost use Rattle.vl_read.specs.Seen.{seen, attr_spot_seen, net_seen};
+ghost use Rattle.vl_read.specs.Turns.{stepped};
+
+use crate::numbers::{count_of, is_name};
+use crate::places::{AttrSpot, NetKind, NetSpot, Place, Reader};
+use crate::scan::is;
+use fx_io::{OutOfMemory, Text};
+use std::alloc::Global;
+use std::mem;
+use vl_ast::{Attr, Attrs, Port};
+
+/// Whether there are no attributes.
+pub fn has_none(attrs: &Attrs) -> bool
+    ensures { result ≡ has_none attrs.now }
+{
+    attrs.as_slice().is_empty()
+}
+
+impl Reader {
+    /// After an attribute.
+    #[tactic(auto, unfolding(crate::specs::Plain::attr_step))]
+    fn after_attribute(&mut self, alloc: Global, of_port: bool, lexeme: &[u8]) -> bool
+        ensures { stepped result (seen self.new) ≡ attr_step self.old.draft of_port self.old.held.attrs More Fixed lexeme.now }
+    {
+        if is(lexeme, ",") {
+            let at = AttrSpot::AttrName;
+            self.goes(Place::Attributes { of_port, at })
+        } else if of_port {
+            self.expect("*)", lexeme, Place::Port)
+        } else {
+            self.draft.attrs = mem::replace(&mut self.held.attrs, Attrs::new(alloc));
+            self.expect("*)", lexeme, Place::Start)
+        }
+    }
+
+    /// The name of an attribute.
+    #[tactic(auto, unfolding(crate::specs::Plain::attr_step))]
+    fn attribute_name(
+        &mut self,
+        alloc: Global,
+        of_port: bool,
+        lexeme: &[u8],
+    ) -> Result<bool, OutOfMemory>
+        ensures { IfOk result (λ said. stepped said (seen self.new) ≡ attr_step self.old.draft of_port self.old.held.attrs AttrName (kind_of lexeme.now) lexeme.now) }
+    {
+        if !is_name(lexeme) {
+            return Ok(false);
+        }
+        self.held.name = Text::copy(alloc, lexeme)?;
+        let at = AttrSpot::AttrSign;
+        Ok(self.goes(Place::Attributes { of_port, at }))
+    }
+
+    /// The number of an attribute.
+    #[tactic(auto, unfolding(crate::specs::Plain::attr_step))]
+    fn attribute_value(
+        &mut self,
+        alloc: Global,
+        of_port: bool,
+        lexeme: &[u8],
+    ) -> Result<bool, OutOfMemory>
+        ensures { IfOk result (λ said. stepped said (seen self.new) ≡ attr_step self.old.draft of_port self.old.held.attrs (AttrValue self.old.held.name) (kind_of lexeme.now) lexeme.now) }
+    {
+        match count_of(lexeme) {
+            None => Ok(false),
+            Some(number) => {
+                let name = mem::replace(&mut self.held.name, Text::from_vec(Vec::new(alloc)));
+                let value = u64::from(number);
+                self.held.attrs.push(Attr { name, value })?;
+                let at = AttrSpot::More;
+                Ok(self.goes(Place::Attributes { of_port, at }))
+            }
+        }
+    }
+
+    /// The next lexeme in a list of attributes (IEEE 1364-2005, 3.8).
+    #[tactic(auto, unfolding(crate::specs::Plain::attr_step))]
+    pub fn attr_step(
+        &mut self,
+        alloc: Global,
+        of_port: bool,
+        at: AttrSpot,
+        lexeme: &[u8],
+    ) -> Result<bool, OutOfMemory>
+        ensures { IfOk result (λ said. stepped said (seen self.new) ≡ attr_step self.old.draft of_port self.old.held.attrs (attr_spot_seen self.old.held.name at) (kind_of lexeme.now) lexeme.now) }
+    {
+        match at {
+            AttrSpot::AttrName => self.attribute_name(alloc, of_port, lexeme),
+            AttrSpot::AttrSign => {
+                let at = AttrSpot::AttrValue;
+                Ok(self.expect("=", lexeme, Place::Attributes { of_port, at }))
+            }
+            AttrSpot::AttrValue => self.attribute_value(alloc, of_port, lexeme),
+            AttrSpot::More => Ok(self.after_attribute(alloc, of_port, lexeme)),
+        }
+    }
+
+    /// A declaration is read to its name (IEEE 1364-2005, 4.2.1, 4.2.2 and 12.3.3).
+    #[tactic(auto, unfolding(crate::specs::Plain::declared))]
+    fn declared(
+        &mut self,
+        alloc: Global,
+        net: NetKind,
+        signed: bool,
+        width: u32,
+        name: &[u8],
+    ) -> Result<bool, OutOfMemory>
+        ensures { IfOk result (λ said. stepped said (seen self.new) ≡ declared self.old.draft (net_seen self.old.held.attrs net) signed width name.now) }
+    {
+        let name = Text::copy(alloc, name)?;
+        match net {
+            NetKind::OfPort { input } => {
+                let attrs = mem::replace(&mut self.held.attrs, Attrs::new(alloc));
+                self.draft.ports.push(Port {
+                    attrs,
+                    input,
+                    signed,
+                    width,
+                    name,
+                })?;
+                Ok(self.goes(Place::AfterPort))
+            }
+            NetKind::OfWire => {
+                self.held.name = name;
+                Ok(self.goes(Place::AfterWire { signed, width }))
+            }
+            NetKind::OfReg => {
+                self.held.name = name;
+                Ok(self.goes(Place::AfterReg { signed, width }))
+            }
+        }
+    }
+
+    /// The declaration goes on, if the lexeme is this word.
+    fn fixed(&mut self, net: NetKind, word: &str, lexeme: &[u8], at: NetSpot) -> bool
+        ensures { stepped result (seen self.new) ≡ expect word.now lexeme.now self.old.draft (Net (net_seen self.old.held.attrs net) at) }
+    {
+        self.expect(word, lexeme, Place::Net { kind: net, at })
+    }
+
+    /// The upper bound of a range, whose lower bound is 0.
+    #[tactic(auto, unfolding(crate::specs::Plain::net_step))]
+    fn bound(&mut self, net: NetKind, signed: bool, lexeme: &[u8]) -> bool
+        ensures { stepped result (seen self.new) ≡ net_step self.old.draft (net_seen self.old.held.attrs net) (Bound signed) (kind_of lexeme.now) lexeme.now }
+    {
+        match count_of(lexeme) {
+            None => false,
+            Some(number) => {
+                let width = number + 1;
+                let at = NetSpot::Colon { signed, width };
+                self.goes(Place::Net { kind: net, at })
+            }
+        }
+    }
+
+    /// `signed` or `[`.
+    #[tactic(auto, unfolding(crate::specs::Plain::net_step))]
+    fn signed_or_range(&mut self, net: NetKind, lexeme: &[u8]) -> bool
+        ensures { stepped result (seen self.new) ≡ net_step self.old.draft (net_seen self.old.held.attrs net) Signed Fixed lexeme.now }
+    {
+        if is(lexeme, "signed") {
+            let at = NetSpot::Ranged { signed: true };
+            self.goes(Place::Net { kind: net, at })
+        } else {
+            self.fixed(net, "[", lexeme, NetSpot::Bound { signed: false })
+        }
+    }
+
+    /// The next lexeme in a declaration.
+    #[tactic(auto, unfolding(crate::specs::Plain::net_step))]
+    pub fn net_step(
+        &mut self,
+        alloc: Global,
+        net: NetKind,
+        at: NetSpot,
+        lexeme: &[u8],
+    ) -> Result<bool, OutOfMemory>
+        ensures { IfOk result (λ said. stepped said (seen self.new) ≡ net_step self.old.draft (net_seen self.old.held.attrs net) at (kind_of lexeme.now) lexeme.now) }
+    {
+        match at {
+            NetSpot::Word => Ok(self.fixed(net, "wire", lexeme, NetSpot::Signed)),
+            NetSpot::Signed => {
+                if is_name(lexeme) {
+                    self.declared(alloc, net, false, 1, lexeme)
+                } else {
+                    Ok(self.signed_or_range(net, lexeme))
+                }
+            }
+            NetSpot::Ranged { signed } => {
+                if is_name(lexeme) {
+                    self.declared(alloc, net, signed, 1, lexeme)
+                } else {
+                    Ok(self.fixed(net, "[", lexeme, NetSpot::Bound { signed }))
+                }
+            }
+            NetSpot::Bound { signed } => Ok(self.bound(net, signed, lexeme)),
+            NetSpot::Colon { signed, width } => Ok(self.fixed(
+                net,
+                ":",
+                lexeme,
+                NetSpot::Zero { signed, width },
+            )),
+            NetSpot::Zero { signed, width } => Ok(self.fixed(
+                net,
+                "0",
+                lexeme,
+                NetSpot::Close { signed, width },
+            )),
+            NetSpot::Close { signed, width } => Ok(self.fixed(
+                net,
+                "]",
+                lexeme,
+                NetSpot::Named { signed, width },
+            )),
+            NetSpot::Named { signed, width } => {
+                if is_name(lexeme) {
+                    self.declared(alloc, net, signed, width, lexeme)
+                } else {
+                    Ok(false)
+                }
+            }
+        }
+    }
+}

@@ -1,0 +1,156 @@
+ghost use Rattle.std.specs.Prelude.{◌≡◌, ◌++◌, ◌∷◌, [], IfOk};
+ghost use Rattle.vl_read.specs.declared.places.Frame.TheVariants.{InConcat, InChosen};
+ghost use Rattle.vl_read.specs.declared.scan.Kind.TheVariants.{Fixed};
+ghost use Rattle.vl_read.specs.Lexemes.{kind_of};
+ghost use Rattle.vl_read.specs.Places.{Value, High};
+ghost use Rattle.vl_read.specs.Plain.{spot_at, expect_spot, compound_step, operand_step, opened_step, braced_step};
+ghost use Rattle.vl_read.specs.Seen.{seen, goal_of, frames_of, spot_of};
+ghost use Rattle.vl_read.specs.Turns.{stepped};
+
+use crate::numbers::kind_of;
+use crate::pieces::{literal, named, unary_of};
+use crate::places::{Frame, Goal, Place, Reader, Spot};
+use crate::scan::{Kind, is};
+use fx_io::{OutOfMemory, Text};
+use std::alloc::Global;
+use vl_ast::Exprs;
+
+/// How deep expressions nest at most (own).
+const DEEPEST: usize = 256;
+
+impl Reader {
+    /// The reading goes on in the expression.
+    pub fn spot(&mut self, goal: Goal, spot: Spot) -> bool
+        ensures { stepped result (seen self.new) ≡ spot_at self.old.draft (goal_of self.old goal) (frames_of self.old) (spot_of self.old spot) }
+    {
+        self.goes(Place::Expression { goal, spot })
+    }
+
+    /// The reading goes on in the expression, if the lexeme is this mark.
+    pub fn expect_spot(&mut self, mark: u8, lexeme: &[u8], goal: Goal, spot: Spot) -> bool
+        ensures { stepped result (seen self.new) ≡ expect_spot mark lexeme.now self.old.draft (goal_of self.old goal) (frames_of self.old) (spot_of self.old spot) }
+    {
+        match lexeme {
+            [byte] if *byte == mark => self.spot(goal, spot),
+            _ => false,
+        }
+    }
+
+    /// The reading goes on in a further frame.
+    pub fn inside(&mut self, goal: Goal, frame: Frame, spot: Spot) -> Result<bool, OutOfMemory>
+        ensures { IfOk result (λ said. stepped said (seen self.new) ≡ spot_at self.old.draft (goal_of self.old goal) (frames_of self.old ++ frame ∷ []) (spot_of self.old spot)) }
+    {
+        self.held.frames.push(frame)?;
+        Ok(self.spot(goal, spot))
+    }
+
+    /// An operand that is no name and no number.
+    #[tactic(auto, unfolding(crate::specs::Plain::compound_step))]
+    fn compound_step(&mut self, goal: Goal, lexeme: &[u8]) -> Result<bool, OutOfMemory>
+        ensures { IfOk result (λ said. stepped said (seen self.new) ≡ compound_step self.old.draft (goal_of self.old goal) (frames_of self.old) lexeme.now) }
+    {
+        if self.held.frames.len() >= DEEPEST {
+            Ok(false)
+        } else if is(lexeme, "(") {
+            Ok(self.spot(goal, Spot::Opened))
+        } else if is(lexeme, "{") {
+            Ok(self.spot(goal, Spot::Braced))
+        } else if is(lexeme, "$signed") {
+            self.inside(goal, Frame::InCast(true), Spot::Begins(b'('))
+        } else if is(lexeme, "$unsigned") {
+            self.inside(goal, Frame::InCast(false), Spot::Begins(b'('))
+        } else {
+            Ok(false)
+        }
+    }
+
+    /// Where an operand begins.
+    #[tactic(auto, unfolding(crate::specs::Plain::operand_step))]
+    pub fn operand_step(
+        &mut self,
+        alloc: Global,
+        goal: Goal,
+        kind: Kind,
+        lexeme: &[u8],
+    ) -> Result<bool, OutOfMemory>
+        ensures { IfOk result (λ said. stepped said (seen self.new) ≡ operand_step self.old.draft (goal_of self.old goal) (frames_of self.old) kind lexeme.now) }
+    {
+        match kind {
+            Kind::Name => {
+                self.held.value = named(Text::copy(alloc, lexeme)?);
+                Ok(self.spot(goal, Spot::Value))
+            }
+            Kind::Constant(number) => {
+                self.held.value = literal(number);
+                Ok(self.spot(goal, Spot::Value))
+            }
+            Kind::Count(_) => Ok(false),
+            Kind::Fixed => self.compound_step(goal, lexeme),
+        }
+    }
+
+    /// An operand in a further frame.
+    fn operand_in(
+        &mut self,
+        alloc: Global,
+        goal: Goal,
+        frame: Frame,
+        kind: Kind,
+        lexeme: &[u8],
+    ) -> Result<bool, OutOfMemory>
+        ensures { IfOk result (λ said. stepped said (seen self.new) ≡ operand_step self.old.draft (goal_of self.old goal) (frames_of self.old ++ frame ∷ []) kind lexeme.now) }
+    {
+        self.held.frames.push(frame)?;
+        self.operand_step(alloc, goal, kind, lexeme)
+    }
+
+    /// After `(`.
+    #[tactic(auto, unfolding(crate::specs::Plain::opened_step, crate::specs::Plain::operand_step, crate::specs::Plain::unary_or_left))]
+    pub fn opened_step(
+        &mut self,
+        alloc: Global,
+        goal: Goal,
+        lexeme: &[u8],
+    ) -> Result<bool, OutOfMemory>
+        ensures { IfOk result (λ said. stepped said (seen self.new) ≡ opened_step self.old.draft (goal_of self.old goal) (frames_of self.old) (kind_of lexeme.now) lexeme.now) }
+    {
+        let kind = kind_of(lexeme);
+        match kind {
+            Kind::Name | Kind::Constant(_) => self.operand_in(
+                alloc,
+                goal,
+                Frame::InLeft,
+                kind,
+                lexeme,
+            ),
+            Kind::Count(_) => Ok(false),
+            Kind::Fixed => match unary_of(lexeme) {
+                Some(op) => self.inside(goal, Frame::InUnary(op), Spot::Operand),
+                None => self.operand_in(alloc, goal, Frame::InLeft, kind, lexeme),
+            },
+        }
+    }
+
+    /// After `{`.
+    #[tactic(auto, unfolding(crate::specs::Plain::braced_step, crate::specs::Plain::operand_step))]
+    pub fn braced_step(
+        &mut self,
+        alloc: Global,
+        goal: Goal,
+        lexeme: &[u8],
+    ) -> Result<bool, OutOfMemory>
+        ensures { IfOk result (λ said. stepped said (seen self.new) ≡ braced_step self.old.draft (goal_of self.old goal) (frames_of self.old) (kind_of lexeme.now) lexeme.now) }
+    {
+        let kind = kind_of(lexeme);
+        match kind {
+            Kind::Count(number) => self.inside(goal, Frame::InRepeat(number), Spot::Begins(b'{')),
+            Kind::Name | Kind::Constant(_) | Kind::Fixed => self.operand_in(
+                alloc,
+                goal,
+                Frame::InConcat(Exprs::new(alloc)),
+                kind,
+                lexeme,
+            ),
+        }
+    }
+}

@@ -1,0 +1,173 @@
+ghost use Rattle.std.specs.Prelude.{◌≡◌, IfOk, MatchOption, Some, None, if◌then◌else◌};
+ghost use Rattle.vl_ast.specs.declared.expressions.Expr.TheOpen.{Expr-F};
+ghost use Rattle.vl_ast.specs.declared.expressions.Expr.TheViews.{roll-Expr};
+ghost use Rattle.vl_read.specs.Plain.{innermost, unary_of, infix_of, shift_of};
+
+use crate::places::Frame;
+use crate::scan::is;
+use fx_io::{Boxed, OutOfMemory, Text};
+use std::alloc::Global;
+use vl_ast::{BinOp, Expr, Exprs, ShiftOp, Sized, UnOp};
+
+/// A name.
+pub fn named(name: Text) -> Expr
+    ensures { result ≡ roll-Expr (Expr-F.Name name) }
+{
+    Expr::Name(name)
+}
+
+/// A bit of a name.
+pub fn bit(name: Text, place: u32) -> Expr
+    ensures { result ≡ roll-Expr (Expr-F.Bit name place) }
+{
+    Expr::Bit(name, place)
+}
+
+/// A part of a name.
+pub fn part(name: Text, high: u32, low: u32) -> Expr
+    ensures { result ≡ roll-Expr (Expr-F.Part name high low) }
+{
+    Expr::Part(name, high, low)
+}
+
+/// A number.
+pub fn literal(number: Sized) -> Expr
+    ensures { result ≡ roll-Expr (Expr-F.Literal number) }
+{
+    Expr::Literal(number)
+}
+
+/// A concatenation.
+pub fn concat(parts: Exprs) -> Expr
+    ensures { result ≡ roll-Expr (Expr-F.Concat parts) }
+{
+    Expr::Concat(parts)
+}
+
+/// A repetition.
+pub fn repeat(alloc: Global, count: u32, part: Expr) -> Result<Expr, OutOfMemory>
+    ensures { IfOk result (λ e. e ≡ roll-Expr (Expr-F.Repeat count part)) }
+{
+    Ok(Expr::Repeat(count, Boxed::new(alloc, part)?))
+}
+
+/// `$signed` or `$unsigned`.
+pub fn cast(alloc: Global, signed: bool, part: Expr) -> Result<Expr, OutOfMemory>
+    ensures { IfOk result (λ e. e ≡ (if signed then roll-Expr (Expr-F.AsSigned part) else roll-Expr (Expr-F.AsUnsigned part))) }
+{
+    let part = Boxed::new(alloc, part)?;
+    if signed {
+        Ok(Expr::AsSigned(part))
+    } else {
+        Ok(Expr::AsUnsigned(part))
+    }
+}
+
+/// An operator before its operand.
+pub fn unary(alloc: Global, op: UnOp, part: Expr) -> Result<Expr, OutOfMemory>
+    ensures { IfOk result (λ e. e ≡ roll-Expr (Expr-F.Unary op part)) }
+{
+    Ok(Expr::Unary(op, Boxed::new(alloc, part)?))
+}
+
+/// An operator between its operands.
+pub fn binary(alloc: Global, op: BinOp, left: Expr, right: Expr) -> Result<Expr, OutOfMemory>
+    ensures { IfOk result (λ e. e ≡ roll-Expr (Expr-F.Binary op left right)) }
+{
+    let left = Boxed::new(alloc, left)?;
+    Ok(Expr::Binary(op, left, Boxed::new(alloc, right)?))
+}
+
+/// A shift.
+pub fn shift(alloc: Global, op: ShiftOp, part: Expr, amount: Sized) -> Result<Expr, OutOfMemory>
+    ensures { IfOk result (λ e. e ≡ roll-Expr (Expr-F.Shift op part amount)) }
+{
+    Ok(Expr::Shift(op, Boxed::new(alloc, part)?, amount))
+}
+
+/// A choice.
+pub fn choose(alloc: Global, test: Expr, chosen: Expr, other: Expr) -> Result<Expr, OutOfMemory>
+    ensures { IfOk result (λ e. e ≡ roll-Expr (Expr-F.Choose test chosen other)) }
+{
+    let test = Boxed::new(alloc, test)?;
+    let chosen = Boxed::new(alloc, chosen)?;
+    Ok(Expr::Choose(test, chosen, Boxed::new(alloc, other)?))
+}
+
+/// Takes the innermost frame off.
+pub fn innermost(frames: &mut Vec<Frame>) -> Option<Frame>
+    ensures { MatchOption result (innermost frames.old.items ≡ None) (λ frame. innermost frames.old.items ≡ Some (frames.new.items, frame)) }
+{
+    match frames.pop() {
+        None => None,
+        Some(frame) => Some(frame),
+    }
+}
+
+/// An operator before its operand.
+pub fn unary_of(lexeme: &[u8]) -> Option<UnOp>
+    ensures { result ≡ unary_of lexeme.now }
+{
+    if is(lexeme, "-") {
+        Some(UnOp::Negate)
+    } else if is(lexeme, "~") {
+        Some(UnOp::Invert)
+    } else if is(lexeme, "!") {
+        Some(UnOp::IsZero)
+    } else {
+        None
+    }
+}
+
+/// An operator between its operands.
+#[tactic(auto, unfolding(crate::specs::Plain::infix_of))]
+pub fn infix_of(lexeme: &[u8]) -> Option<BinOp>
+    ensures { result ≡ infix_of lexeme.now }
+{
+    if is(lexeme, "+") {
+        Some(BinOp::Add)
+    } else if is(lexeme, "-") {
+        Some(BinOp::Subtract)
+    } else if is(lexeme, "*") {
+        Some(BinOp::Multiply)
+    } else if is(lexeme, "&") {
+        Some(BinOp::And)
+    } else if is(lexeme, "|") {
+        Some(BinOp::Or)
+    } else if is(lexeme, "^") {
+        Some(BinOp::Xor)
+    } else if is(lexeme, "==") {
+        Some(BinOp::Equal)
+    } else if is(lexeme, "!=") {
+        Some(BinOp::NotEqual)
+    } else if is(lexeme, "<") {
+        Some(BinOp::Less)
+    } else if is(lexeme, "<=") {
+        Some(BinOp::LessEqual)
+    } else if is(lexeme, ">") {
+        Some(BinOp::Greater)
+    } else if is(lexeme, ">=") {
+        Some(BinOp::GreaterEqual)
+    } else if is(lexeme, "&&") {
+        Some(BinOp::Both)
+    } else if is(lexeme, "||") {
+        Some(BinOp::Either)
+    } else {
+        None
+    }
+}
+
+/// A shift.
+pub fn shift_of(lexeme: &[u8]) -> Option<ShiftOp>
+    ensures { result ≡ shift_of lexeme.now }
+{
+    if is(lexeme, "<<") {
+        Some(ShiftOp::Left)
+    } else if is(lexeme, ">>") {
+        Some(ShiftOp::Right)
+    } else if is(lexeme, ">>>") {
+        Some(ShiftOp::RightSigned)
+    } else {
+        None
+    }
+}

@@ -1,0 +1,128 @@
+ghost use Rattle.std.specs.Prelude.{◌≡◌, [], ◌∷◌, ◌++◌, IfOk};
+ghost use Rattle.vl_read.specs.Places.{Items};
+ghost use Rattle.vl_read.specs.Plain.{expect, start, finish, goes};
+ghost use Rattle.vl_read.specs.Seen.{seen, place_seen, nothing};
+ghost use Rattle.vl_read.specs.Turns.{stepped};
+
+use crate::places::{Draft, Held, Place, Reader};
+use crate::scan::is;
+use fx_io::{OutOfMemory, Text};
+use std::alloc::Global;
+use std::mem;
+use vl_ast::{Attrs, Expr, ModItem, ModItems, Module, Ports, Sized};
+
+/// What the reader holds where no operand was read.
+const NOTHING: Sized = Sized {
+    width: 1,
+    signed: false,
+    bits: 0,
+};
+
+impl Reader {
+    /// Before the first lexeme of a module of at most so many items.
+    pub fn new(alloc: Global, most: usize) -> Reader
+        ensures { seen result ≡ start most }
+    {
+        Reader {
+            draft: Draft {
+                name: Text::from_vec(Vec::new(alloc)),
+                attrs: Attrs::new(alloc),
+                ports: Ports::new(alloc),
+                items: ModItems::new(alloc),
+                most,
+            },
+            place: Place::Start,
+            held: Held {
+                attrs: Attrs::new(alloc),
+                name: Text::from_vec(Vec::new(alloc)),
+                first: NOTHING,
+                condition: None,
+                frames: Vec::new(alloc),
+                operand: Text::from_vec(Vec::new(alloc)),
+                value: Expr::Literal(NOTHING),
+            },
+        }
+    }
+
+    /// The module, where it is read whole.
+    pub fn finish(self) -> Option<Module>
+        ensures { result ≡ finish (seen self) }
+    {
+        let Reader {
+            draft,
+            place,
+            held: _,
+        } = self;
+        if !matches!(place, Place::Done) {
+            return None;
+        }
+        let Draft {
+            name,
+            attrs,
+            ports,
+            items,
+            most: _,
+        } = draft;
+        Some(Module {
+            name,
+            attrs,
+            ports,
+            items,
+        })
+    }
+
+    /// The reading goes on at a place.
+    pub fn goes(&mut self, place: Place) -> bool
+        ensures { stepped result (seen self.new) ≡ goes self.old.draft (place_seen self.old.held place) }
+    {
+        self.place = place;
+        true
+    }
+
+    /// The reading goes on at a place, if the lexeme is this word.
+    pub fn expect(&mut self, word: &str, lexeme: &[u8], place: Place) -> bool
+        ensures { stepped result (seen self.new) ≡ expect word.now lexeme.now self.old.draft (place_seen self.old.held place) }
+    {
+        if !is(lexeme, word) {
+            return false;
+        }
+        self.goes(place)
+    }
+
+    /// Hands out the name that is held.
+    pub fn take_name(&mut self, alloc: Global) -> Text
+        ensures name { result ≡ self.old.held.name }
+        ensures rest { self.new ≡ record self.old { held = record self.old.held { name = [] } } }
+    {
+        mem::replace(&mut self.held.name, Text::from_vec(Vec::new(alloc)))
+    }
+
+    /// Hands out the name before `[`.
+    pub fn take_operand(&mut self, alloc: Global) -> Text
+        ensures name { result ≡ self.old.held.operand }
+        ensures rest { self.new ≡ record self.old { held = record self.old.held { operand = [] } } }
+    {
+        mem::replace(&mut self.held.operand, Text::from_vec(Vec::new(alloc)))
+    }
+
+    /// Hands out the operand that was read last.
+    pub fn take_value(&mut self) -> Expr
+        ensures value { result ≡ self.old.held.value }
+        ensures rest { self.new ≡ record self.old { held = record self.old.held { value = nothing } } }
+    {
+        mem::replace(&mut self.held.value, Expr::Literal(NOTHING))
+    }
+
+    /// One more item, if the lexeme is this word.
+    pub fn with_item(
+        &mut self,
+        word: &str,
+        lexeme: &[u8],
+        item: ModItem,
+    ) -> Result<bool, OutOfMemory>
+        ensures { IfOk result (λ said. stepped said (seen self.new) ≡ expect word.now lexeme.now (record self.old.draft { items = self.old.draft.items ++ item ∷ [] }) Items) }
+    {
+        self.draft.items.push(item)?;
+        Ok(self.expect(word, lexeme, Place::Items))
+    }
+}

@@ -1,0 +1,106 @@
+ghost use Rattle.std.specs.Prelude.{◌≡◌, ◌≤◌, ◌<◌, ◌+◌, ◌-◌, ◌^◌, ◌==◌, if◌then◌else◌, Some, None, Bool, true, false, length, IfOk, OnOk, option_and_then};
+ghost use Rattle.vl_ast.specs.Grammar.{Spells, most_items};
+ghost use Rattle.vl_read.specs.Lexemes.{last_lexemes};
+ghost use Rattle.vl_read.specs.Plain.{parse, reading};
+ghost use Rattle.vl_read.specs.Prefix.{IsRefused, IsVerilogFaultLine, IfSyntax};
+ghost use Rattle.vl_read.specs.Seen.{seen};
+ghost use Rattle.vl_read.specs.Turns.{start_after, ended_by, feed, stepped};
+
+use crate::fault::VlSyntax;
+use crate::places::Reader;
+use crate::scan::Mode;
+use crate::turns::{Pending, next_turn};
+use fx_io::OutOfMemory;
+use std::alloc::Global;
+use vl_ast::Module;
+
+/// How many items a module has at most that is read (own).
+const MOST_ITEMS: usize = 4_000_000;
+
+/// Reads the lexeme that ends before a byte, if one does. `false` where it may not stand there.
+fn fed(reader: &mut Reader, alloc: Global, ends: bool, lexeme: &[u8]) -> Result<bool, OutOfMemory>
+    ensures { IfOk result (λ said. stepped said (seen reader.new) ≡ feed (seen reader.old) (ended_by ends lexeme.now)) }
+{
+    if ends {
+        reader.step(alloc, lexeme)
+    } else {
+        Ok(true)
+    }
+}
+
+/// Where the lexeme begins after a byte.
+fn start_after(pending: Pending, start: usize, at: usize) -> usize
+    requires { at < 2 ^ 64 - 1 }
+    ensures { result ≡ start_after pending start at }
+{
+    match pending {
+        Pending::Longer => start,
+        Pending::Begun => at,
+        Pending::Gone => at + 1,
+    }
+}
+
+/// The line after a byte.
+fn line_after(line: u64, byte: u8) -> u64
+    requires { line < 2 ^ 64 - 1 }
+    ensures { result ≡ line + (if byte == 10 then 1 else 0) }
+{
+    if byte == b'\n' { line + 1 } else { line }
+}
+
+/// The module at the end of the bytes. `None` where a text may not end so.
+fn last(
+    mut reader: Reader,
+    alloc: Global,
+    mode: Mode,
+    lexeme: &[u8],
+) -> Result<Option<Module>, OutOfMemory>
+    ensures { IfOk result (λ m. m ≡ option_and_then (parse (seen reader)) (last_lexemes mode lexeme.now)) }
+{
+    match mode {
+        Mode::Between | Mode::LineComment => Ok(reader.finish()),
+        Mode::Word | Mode::Mark => {
+            if reader.step(alloc, lexeme)? {
+                Ok(reader.finish())
+            } else {
+                Ok(None)
+            }
+        }
+        Mode::Slash | Mode::BlockComment | Mode::Star => Ok(None),
+    }
+}
+
+/// Reads a Verilog text of the subset into its module (IEEE 1364-2005, of which the subset keeps the
+/// forms of `vl_ast`'s grammar).
+///
+/// `VlSyntax::Syntax` has the line at which the bytes stop being the beginning of such a text, counted
+/// from 1.
+pub fn read(alloc: Global, bytes: &[u8]) -> Result<Module, VlSyntax>
+    // The bytes spell the module, which has at most 4,000,000 items.
+    ensures found { IfOk result (λ m. Spells bytes.now m) }
+    ensures few { IfOk result (λ m. length m.items ≤ most_items) }
+    // A fault in the text comes only where they spell no such module.
+    ensures refused { IfSyntax result (λ _. IsRefused bytes.now) }
+    ensures line { IfSyntax result (λ line. IsVerilogFaultLine bytes.now line) }
+{
+    let mut reader = Reader::new(alloc, MOST_ITEMS);
+    let mut mode = Mode::Between;
+    let mut start = 0;
+    let mut line: u64 = 1;
+    for (i, byte) in bytes.iter().enumerate() {
+        let lexeme = &bytes[start..i];
+        let Some(turn) = next_turn(mode, lexeme, *byte) else {
+            return Err(VlSyntax::Syntax { line });
+        };
+        if !fed(&mut reader, alloc, turn.ends, lexeme)? {
+            return Err(VlSyntax::Syntax { line });
+        }
+        start = start_after(turn.pending, start, i);
+        mode = turn.mode;
+        line = line_after(line, *byte);
+    }
+    match last(reader, alloc, mode, &bytes[start..])? {
+        None => Err(VlSyntax::Syntax { line }),
+        Some(module) => Ok(module),
+    }
+}
