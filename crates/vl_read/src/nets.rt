@@ -1,6 +1,6 @@
 ghost use Rattle.std.specs.Prelude.{◌≡◌, [], IfOk};
 ghost use Rattle.vl_read.specs.declared.scan.Kind.TheVariants.{Fixed};
-ghost use Rattle.vl_read.specs.declared.places.NetSpot.TheVariants.{Signed, Bound};
+ghost use Rattle.vl_read.specs.declared.places.NetSpot.TheVariants.{Signed, Ranged, Bound, Named};
 ghost use Rattle.vl_read.specs.Lexemes.{kind_of};
 ghost use Rattle.vl_read.specs.Places.{Net, AttrName, AttrValue, More};
 ghost use Rattle.vl_read.specs.Plain.{attr_step, has_none, declared, net_step, expect};
@@ -172,6 +172,55 @@ impl Reader {
         }
     }
 
+    /// After the kind of a net: `signed`, `[` or the name.
+    #[tactic(auto, unfolding(crate::specs::Plain::net_step))]
+    fn kind_end(&mut self, alloc: Global, net: NetKind, lexeme: &[u8]) -> Result<bool, OutOfMemory>
+        ensures { IfOk result (λ said. stepped said (seen self.new) ≡ net_step self.old.draft (net_seen self.old.held.attrs net) Signed (kind_of lexeme.now) lexeme.now) }
+    {
+        if is_name(lexeme) {
+            self.declared(alloc, net, false, 1, lexeme)
+        } else {
+            Ok(self.signed_or_range(net, lexeme))
+        }
+    }
+
+    /// `[` or the name.
+    #[tactic(auto, unfolding(crate::specs::Plain::net_step))]
+    fn range_or_name(
+        &mut self,
+        alloc: Global,
+        net: NetKind,
+        signed: bool,
+        lexeme: &[u8],
+    ) -> Result<bool, OutOfMemory>
+        ensures { IfOk result (λ said. stepped said (seen self.new) ≡ net_step self.old.draft (net_seen self.old.held.attrs net) (Ranged signed) (kind_of lexeme.now) lexeme.now) }
+    {
+        if is_name(lexeme) {
+            self.declared(alloc, net, signed, 1, lexeme)
+        } else {
+            Ok(self.fixed(net, "[", lexeme, NetSpot::Bound { signed }))
+        }
+    }
+
+    /// The name after a range.
+    #[tactic(auto, unfolding(crate::specs::Plain::net_step))]
+    fn net_name(
+        &mut self,
+        alloc: Global,
+        net: NetKind,
+        signed: bool,
+        width: u32,
+        lexeme: &[u8],
+    ) -> Result<bool, OutOfMemory>
+        ensures { IfOk result (λ said. stepped said (seen self.new) ≡ net_step self.old.draft (net_seen self.old.held.attrs net) (Named signed width) (kind_of lexeme.now) lexeme.now) }
+    {
+        if is_name(lexeme) {
+            self.declared(alloc, net, signed, width, lexeme)
+        } else {
+            Ok(false)
+        }
+    }
+
     /// The next lexeme in a declaration.
     #[tactic(auto, unfolding(crate::specs::Plain::net_step))]
     pub fn net_step(
@@ -185,46 +234,22 @@ impl Reader {
     {
         match at {
             NetSpot::Word => Ok(self.fixed(net, "wire", lexeme, NetSpot::Signed)),
-            NetSpot::Signed => {
-                if is_name(lexeme) {
-                    self.declared(alloc, net, false, 1, lexeme)
-                } else {
-                    Ok(self.signed_or_range(net, lexeme))
-                }
-            }
-            NetSpot::Ranged { signed } => {
-                if is_name(lexeme) {
-                    self.declared(alloc, net, signed, 1, lexeme)
-                } else {
-                    Ok(self.fixed(net, "[", lexeme, NetSpot::Bound { signed }))
-                }
-            }
+            NetSpot::Signed => self.kind_end(alloc, net, lexeme),
+            NetSpot::Ranged { signed } => self.range_or_name(alloc, net, signed, lexeme),
             NetSpot::Bound { signed } => Ok(self.bound(net, signed, lexeme)),
-            NetSpot::Colon { signed, width } => Ok(self.fixed(
-                net,
-                ":",
-                lexeme,
-                NetSpot::Zero { signed, width },
-            )),
-            NetSpot::Zero { signed, width } => Ok(self.fixed(
-                net,
-                "0",
-                lexeme,
-                NetSpot::Close { signed, width },
-            )),
-            NetSpot::Close { signed, width } => Ok(self.fixed(
-                net,
-                "]",
-                lexeme,
-                NetSpot::Named { signed, width },
-            )),
-            NetSpot::Named { signed, width } => {
-                if is_name(lexeme) {
-                    self.declared(alloc, net, signed, width, lexeme)
-                } else {
-                    Ok(false)
-                }
+            NetSpot::Colon { signed, width } => {
+                let at = NetSpot::Zero { signed, width };
+                Ok(self.fixed(net, ":", lexeme, at))
             }
+            NetSpot::Zero { signed, width } => {
+                let at = NetSpot::Close { signed, width };
+                Ok(self.fixed(net, "0", lexeme, at))
+            }
+            NetSpot::Close { signed, width } => {
+                let at = NetSpot::Named { signed, width };
+                Ok(self.fixed(net, "]", lexeme, at))
+            }
+            NetSpot::Named { signed, width } => self.net_name(alloc, net, signed, width, lexeme),
         }
     }
 }

@@ -1,8 +1,8 @@
 ghost use Rattle.std.specs.Prelude.{◌≡◌, [], IfOk, None};
-ghost use Rattle.vl_ast.specs.declared.modules.ModItem.TheVariants.{Always};
+ghost use Rattle.vl_ast.specs.declared.modules.ModItem.TheVariants.{Wire, Reg, Always};
 ghost use Rattle.vl_read.specs.declared.scan.Kind.TheVariants.{Fixed};
 ghost use Rattle.vl_read.specs.Lexemes.{kind_of};
-ghost use Rattle.vl_read.specs.Places.{Items, Start, Port, AfterPort, Title, Head, Branch, First, Expression, Operand, End};
+ghost use Rattle.vl_read.specs.Places.{Items, Start, Port, AfterPort, Title, Head, Branch, First, Expression, Operand, End, Semicolon};
 ghost use Rattle.vl_read.specs.Plain.{expect, step, step_at, item_step, again_step, head_word, on_name, goes};
 ghost use Rattle.vl_read.specs.Seen.{seen, place_seen, goal_of};
 ghost use Rattle.vl_read.specs.Turns.{stepped};
@@ -205,6 +205,46 @@ impl Reader {
         self.with_item("end", lexeme, item)
     }
 
+    /// A wire's declaration ends.
+    #[tactic(auto, unfolding(crate::specs::Plain::step_at))]
+    fn wire_end(
+        &mut self,
+        alloc: Global,
+        signed: bool,
+        width: u32,
+        lexeme: &[u8],
+    ) -> Result<bool, OutOfMemory>
+        ensures { IfOk result (λ said. stepped said (seen self.new) ≡ step_at self.old.draft (Semicolon (Wire signed width self.old.held.name)) Fixed lexeme.now) }
+    {
+        let name = self.take_name(alloc);
+        let item = ModItem::Wire {
+            signed,
+            width,
+            name,
+        };
+        self.with_item(";", lexeme, item)
+    }
+
+    /// A register's declaration ends.
+    #[tactic(auto, unfolding(crate::specs::Plain::step_at))]
+    fn register_end(
+        &mut self,
+        alloc: Global,
+        signed: bool,
+        width: u32,
+        lexeme: &[u8],
+    ) -> Result<bool, OutOfMemory>
+        ensures { IfOk result (λ said. stepped said (seen self.new) ≡ step_at self.old.draft (Semicolon (Reg signed width self.old.held.name)) Fixed lexeme.now) }
+    {
+        let name = self.take_name(alloc);
+        let item = ModItem::Reg {
+            signed,
+            width,
+            name,
+        };
+        self.with_item(";", lexeme, item)
+    }
+
     /// The next lexeme, at a place.
     #[tactic(auto, unfolding(crate::specs::Plain::step_at))]
     fn step_at(&mut self, alloc: Global, place: Place, lexeme: &[u8]) -> Result<bool, OutOfMemory>
@@ -233,30 +273,8 @@ impl Reader {
             Place::Again => Ok(is_name(lexeme) && self.again_step(lexeme)),
             Place::NextSign => Ok(self.expression("<=", lexeme, Goal::Next)),
             Place::Expression { goal, spot } => self.spot_step(alloc, goal, spot, lexeme),
-            Place::AfterWire { signed, width } => {
-                let name = self.take_name(alloc);
-                self.with_item(
-                    ";",
-                    lexeme,
-                    ModItem::Wire {
-                        signed,
-                        width,
-                        name,
-                    },
-                )
-            }
-            Place::AfterReg { signed, width } => {
-                let name = self.take_name(alloc);
-                self.with_item(
-                    ";",
-                    lexeme,
-                    ModItem::Reg {
-                        signed,
-                        width,
-                        name,
-                    },
-                )
-            }
+            Place::AfterWire { signed, width } => self.wire_end(alloc, signed, width, lexeme),
+            Place::AfterReg { signed, width } => self.register_end(alloc, signed, width, lexeme),
             Place::End => self.clocked_end(alloc, lexeme),
             Place::Done => Ok(false),
         }
