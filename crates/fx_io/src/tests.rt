@@ -17,7 +17,7 @@ fn lists_and_boxes_hold_what_was_put_in(rt: HostRuntime) -> Result<(), Fail> {
     let again: Sequence<u8> = Sequence::from_vec(b"ab".to_vec(rt.alloc())?);
     assert_eq!(rt; again.as_slice(), b"ab".as_slice());
     let text = Text::copy(rt.alloc(), b"tile")?;
-    assert_eq!(rt; Text::from_vec(text.into_vec()).bytes(), b"tile".as_slice());
+    assert_eq!(rt; Text::from_vec(text.into_vec(rt.alloc())?).bytes(), b"tile".as_slice());
     let boxed = Boxed::new(rt.alloc(), 12u8)?;
     assert_eq!(rt; *boxed.get(), 12);
     assert_eq!(rt; boxed.into_inner(), 12);

@@ -1,21 +1,34 @@
-ghost use Rattle.std.specs.Prelude.{◌≡◌, IfOk};
+ghost use Rattle.std.specs.Prelude.{◌≡◌, ◌≤◌, length, IfOk};
 
 use crate::fault::OutOfMemory;
 use std::alloc::Global;
 use std::marker::Model;
 
-/// A list of bytes (own). Contracts see the list.
+/// So many bytes stand in the text itself, which then takes no memory of its own.
+const SHORT: usize = 22;
+
+/// Where the bytes stand.
+#[derive(Debug, Drop)]
+enum Held {
+    Short { bytes: [u8; 22], length: u8 },
+    Long(Vec<u8>),
+}
+
+/// A list of bytes (own), of which up to 22 take no memory of their own. Contracts see the list.
 #[derive(Debug, Drop)]
 pub struct Text {
-    bytes: Vec<u8>,
+    held: Held,
 }
 
 impl Model for Text {
     ghost use Rattle.std.specs.Prelude.{List, ℕ};
+    ghost use Rattle.fx_io.specs.Held.{held_bytes, IsHeld};
 
     ghost Value = { List ℕ };
 
-    ghost view = { λ text. text.bytes.items };
+    ghost view = { λ text. held_bytes text.held };
+
+    ghost invariant = { λ text. IsHeld text.held };
 }
 
 impl Text {
@@ -23,29 +36,63 @@ impl Text {
     pub fn copy(alloc: Global, bytes: &[u8]) -> Result<Text, OutOfMemory>
         ensures { IfOk result (λ text. text ≡ bytes.now) }
     {
-        let bytes = Vec::from_slice(alloc, bytes)?;
-        Ok(Text { bytes })
+        if bytes.len() <= SHORT {
+            Ok(Text::short(bytes))
+        } else {
+            let bytes = Vec::from_slice(alloc, bytes)?;
+            Ok(Text {
+                held: Held::Long(bytes),
+            })
+        }
     }
 
-    /// The bytes of a `Vec`, taken over as they are, without memory.
+    fn short(bytes: &[u8]) -> Text
+        requires { length bytes.now ≤ 22 }
+        ensures { result ≡ bytes.now }
+    {
+        let mut short = [0; SHORT];
+        short[..bytes.len()].copy_from_slice(bytes);
+        Text {
+            held: Held::Short {
+                bytes: short,
+                length: bytes.len() as u8,
+            },
+        }
+    }
+
+    /// The bytes of a `Vec`, without memory. More than 22 are taken over as they are.
     pub fn from_vec(bytes: Vec<u8>) -> Text
         ensures { result ≡ bytes.items }
     {
-        Text { bytes }
+        if bytes.len() <= SHORT {
+            Text::short(&bytes)
+        } else {
+            Text {
+                held: Held::Long(bytes),
+            }
+        }
     }
 
-    /// The bytes as a `Vec`, handed over as they are, without memory.
-    pub fn into_vec(self) -> Vec<u8>
-        ensures { result.items ≡ self }
+    /// The bytes as a `Vec`. More than 22 are handed over as they are, without memory.
+    pub fn into_vec(self, alloc: Global) -> Result<Vec<u8>, OutOfMemory>
+        ensures { IfOk result (λ bytes. bytes.items ≡ self) }
     {
-        let Text { bytes } = self;
-        bytes
+        let Text { held } = self;
+        match held {
+            Held::Short { bytes, length } => {
+                Ok(Vec::from_slice(alloc, &bytes[..usize::from(length)])?)
+            }
+            Held::Long(bytes) => Ok(bytes),
+        }
     }
 
     /// The bytes in order.
     pub fn bytes(&self) -> &[u8]
         ensures { result.now ≡ self.now }
     {
-        self.bytes.as_slice()
+        match &self.held {
+            Held::Short { bytes, length } => &bytes[..usize::from(*length)],
+            Held::Long(bytes) => bytes.as_slice(),
+        }
     }
 }

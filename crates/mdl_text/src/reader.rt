@@ -1,5 +1,6 @@
 ghost use Rattle.std.specs.Prelude.{◌≡◌, ◌≤◌, length, IfOk, OnOk, IfSome, IsTrue, Some, None, if◌then◌else◌};
-ghost use Rattle.mdl_text.specs.Plain.{IsBounded, reader_of, added, opened, closed, listed, valued, after_name, named, fresh, if_closed, unblanked, strings_from, pending_strings, start, step, finish};
+ghost use Rattle.mdl_text.specs.declared.reader.Pending.TheVariants.{Nothing};
+ghost use Rattle.mdl_text.specs.Plain.{IsBounded, reader_strings, added, opened, closed, listed, valued, after_name, named, fresh_text, if_closed, unblanked, strings_from, start, step, finish};
 
 use crate::brackets::{ListEnd, list_end};
 use crate::scan::{are_blanks, name_length, trimmed, unblanked};
@@ -52,170 +53,12 @@ impl Draft {
         self.items.push(Item { depth, name, value })
     }
 
-    /// A section begins, of which the bytes after its brace are given.
-    #[tactic(auto, unfolding(crate::specs::Plain::opened))]
-    fn open(
-        &mut self,
-        alloc: Global,
-        name: &[u8],
-        after: &[u8],
-    ) -> Result<Option<Pending>, OutOfMemory>
-        ensures value { IfOk result (λ next. reader_of self.new next ≡ opened self.old name.now after.now) }
-        ensures bounded { IfOk result (λ next. IfSome next IsBounded) }
-    {
-        if !are_blanks(after) || self.depth >= DEEPEST {
-            return Ok(None);
-        }
-        self.add(Text::copy(alloc, name)?, Value::Section)?;
-        self.depth += 1;
-        Ok(Some(Pending::Nothing))
-    }
-
-    /// A section ends, of which the bytes after its brace are given.
-    #[tactic(auto, unfolding(crate::specs::Plain::closed))]
-    fn close(&mut self, after: &[u8]) -> Option<Pending>
-        ensures value { reader_of self.new result ≡ closed self.old after.now }
-        ensures bounded { IfSome result IsBounded }
-    {
-        if !are_blanks(after) || self.depth == 0 {
-            return None;
-        }
-        self.depth -= 1;
-        Some(Pending::Nothing)
-    }
-
-    /// A list goes on over the line.
-    #[tactic(auto, unfolding(crate::specs::Plain::listed))]
-    fn list(
-        &mut self,
-        name: Text,
-        said: Text,
-        nesting: u64,
-        line: &[u8],
-    ) -> Result<Option<Pending>, OutOfMemory>
-        requires { nesting ≤ length said }
-        ensures value { IfOk result (λ next. reader_of self.new next ≡ listed self.old name said nesting line.now) }
-        ensures bounded { IfOk result (λ next. IfSome next IsBounded) }
-    {
-        let mut bytes = said.into_vec();
-        match list_end(nesting, line) {
-            ListEnd::Closed { taken } => {
-                if !are_blanks(&line[taken..]) {
-                    return Ok(None);
-                }
-                bytes.extend_from_slice(&line[..taken])?;
-                self.add(name, Value::List(Text::from_vec(bytes)))?;
-                Ok(Some(Pending::Nothing))
-            }
-            ListEnd::Open { nesting } => {
-                bytes.extend_from_slice(line)?;
-                bytes.push(b'\n')?;
-                let said = Text::from_vec(bytes);
-                Ok(Some(Pending::Open {
-                    name,
-                    said,
-                    nesting,
-                }))
-            }
-            ListEnd::Broken => Ok(None),
-        }
-    }
-
-    /// A parameter with a value, which begins with no blank.
-    #[tactic(auto, unfolding(crate::specs::Plain::valued))]
-    fn value(
-        &mut self,
-        alloc: Global,
-        name: &[u8],
-        value: &[u8],
-    ) -> Result<Option<Pending>, OutOfMemory>
-        ensures value { IfOk result (λ next. reader_of self.new next ≡ valued self.old name.now value.now) }
-        ensures bounded { IfOk result (λ next. IfSome next IsBounded) }
-    {
-        let name = Text::copy(alloc, name)?;
-        match value {
-            [] => Ok(None),
-            [b'"', ..] => quoted(name, Text::copy(alloc, b"")?, value),
-            [b'[', after @ ..] => self.list(name, Text::copy(alloc, b"[")?, 0, after),
-            _ => {
-                let value = Text::copy(alloc, trimmed(value))?;
-                self.add(name, Value::Bare(value))?;
-                Ok(Some(Pending::Nothing))
-            }
-        }
-    }
-
-    /// What follows a name.
-    fn after_name(
-        &mut self,
-        alloc: Global,
-        name: &[u8],
-        rest: &[u8],
-    ) -> Result<Option<Pending>, OutOfMemory>
-        ensures value { IfOk result (λ next. reader_of self.new next ≡ after_name self.old name.now rest.now (unblanked rest.now)) }
-        ensures bounded { IfOk result (λ next. IfSome next IsBounded) }
-    {
-        let value = unblanked(rest);
-        match value {
-            [] => {
-                let name = Text::copy(alloc, name)?;
-                let empty = Text::copy(alloc, b"")?;
-                self.add(name, Value::Bare(empty))?;
-                Ok(Some(Pending::Nothing))
-            }
-            [b'{', after @ ..] => self.open(alloc, name, after),
-            _ if value.len() == rest.len() => Ok(None),
-            _ => self.value(alloc, name, value),
-        }
-    }
-
-    /// A line that begins with a name.
-    #[tactic(auto, unfolding(crate::specs::Plain::named))]
-    fn named(&mut self, alloc: Global, text: &[u8]) -> Result<Option<Pending>, OutOfMemory>
-        ensures value { IfOk result (λ next. reader_of self.new next ≡ named self.old text.now) }
-        ensures bounded { IfOk result (λ next. IfSome next IsBounded) }
-    {
-        let count = name_length(text);
-        if count == 0 {
-            return Ok(None);
-        }
-        self.after_name(alloc, &text[..count], &text[count..])
-    }
-
-    /// A line that goes on with nothing.
-    #[tactic(auto, unfolding(crate::specs::Plain::fresh))]
-    fn fresh(&mut self, alloc: Global, line: &[u8]) -> Result<Option<Pending>, OutOfMemory>
-        ensures value { IfOk result (λ next. reader_of self.new next ≡ fresh self.old line.now) }
-        ensures bounded { IfOk result (λ next. IfSome next IsBounded) }
-    {
-        let text = unblanked(line);
-        match text {
-            [] | [b'#', ..] => Ok(Some(Pending::Nothing)),
-            [b'}', after @ ..] => Ok(self.close(after)),
-            _ => self.named(alloc, text),
-        }
-    }
-
     /// The items, where every section is closed.
     fn if_closed(self) -> Option<Items>
         ensures { result ≡ if_closed self }
     {
         let Draft { items, depth } = self;
         if depth == 0 { Some(items) } else { None }
-    }
-}
-
-/// A quoted value after what it said so far, of which the bytes on this line are given.
-fn quoted(name: Text, said: Text, bytes: &[u8]) -> Result<Option<Pending>, OutOfMemory>
-    ensures value { IfOk result (λ next. next ≡ pending_strings name (strings_from said bytes.now)) }
-    ensures bounded { IfOk result (λ next. IfSome next IsBounded) }
-{
-    match strings(said.into_vec(), bytes)? {
-        None => Ok(None),
-        Some(said) => {
-            let said = Text::from_vec(said);
-            Ok(Some(Pending::Strings { name, said }))
-        }
     }
 }
 
@@ -234,36 +77,188 @@ impl Reader {
         }
     }
 
+    /// A section begins, of which the bytes after its brace are given.
+    #[tactic(auto, unfolding(crate::specs::Plain::opened))]
+    fn open(&mut self, alloc: Global, name: &[u8], after: &[u8]) -> Result<bool, OutOfMemory>
+        requires { self.old.pending ≡ Nothing }
+        ensures value { IfOk result (λ good. opened self.old.draft name.now after.now ≡ (if good then Some self.new else None)) }
+        ensures bounded { IfOk result (λ good. IsTrue good → IsBounded self.new.pending) }
+    {
+        if !are_blanks(after) || self.draft.depth >= DEEPEST {
+            return Ok(false);
+        }
+        self.draft.add(Text::copy(alloc, name)?, Value::Section)?;
+        self.draft.depth += 1;
+        Ok(true)
+    }
+
+    /// A section ends, of which the bytes after its brace are given.
+    #[tactic(auto, unfolding(crate::specs::Plain::closed))]
+    fn close(&mut self, after: &[u8]) -> bool
+        requires { self.old.pending ≡ Nothing }
+        ensures value { closed self.old.draft after.now ≡ (if result then Some self.new else None) }
+        ensures bounded { IsTrue result → IsBounded self.new.pending }
+    {
+        if !are_blanks(after) || self.draft.depth == 0 {
+            return false;
+        }
+        self.draft.depth -= 1;
+        true
+    }
+
+    /// A list goes on over the line.
+    #[tactic(auto, unfolding(crate::specs::Plain::listed))]
+    fn list(
+        &mut self,
+        alloc: Global,
+        name: Text,
+        said: Text,
+        nesting: u64,
+        line: &[u8],
+    ) -> Result<bool, OutOfMemory>
+        requires free { self.old.pending ≡ Nothing }
+        requires within { nesting ≤ length said }
+        ensures value { IfOk result (λ good. listed self.old.draft name said nesting line.now ≡ (if good then Some self.new else None)) }
+        ensures bounded { IfOk result (λ good. IsTrue good → IsBounded self.new.pending) }
+    {
+        match list_end(nesting, line) {
+            ListEnd::Closed { taken } => {
+                if !are_blanks(&line[taken..]) {
+                    return Ok(false);
+                }
+                let mut bytes = said.into_vec(alloc)?;
+                bytes.extend_from_slice(&line[..taken])?;
+                self.draft.add(name, Value::List(Text::from_vec(bytes)))?;
+                Ok(true)
+            }
+            ListEnd::Open { nesting } => {
+                let mut bytes = said.into_vec(alloc)?;
+                bytes.extend_from_slice(line)?;
+                bytes.push(b'\n')?;
+                let said = Text::from_vec(bytes);
+                self.pending = Pending::Open {
+                    name,
+                    said,
+                    nesting,
+                };
+                Ok(true)
+            }
+            ListEnd::Broken => Ok(false),
+        }
+    }
+
+    /// A quoted value after what it said so far, of which the bytes on this line are given.
+    fn quoted(
+        &mut self,
+        alloc: Global,
+        name: Text,
+        said: Text,
+        bytes: &[u8],
+    ) -> Result<bool, OutOfMemory>
+        requires { self.old.pending ≡ Nothing }
+        ensures value { IfOk result (λ good. reader_strings self.old.draft name (strings_from said bytes.now) ≡ (if good then Some self.new else None)) }
+        ensures bounded { IfOk result (λ good. IsTrue good → IsBounded self.new.pending) }
+    {
+        match strings(said.into_vec(alloc)?, bytes)? {
+            None => Ok(false),
+            Some(said) => {
+                let said = Text::from_vec(said);
+                self.pending = Pending::Strings { name, said };
+                Ok(true)
+            }
+        }
+    }
+
+    /// A parameter with a value, which begins with no blank.
+    #[tactic(auto, unfolding(crate::specs::Plain::valued))]
+    fn value(&mut self, alloc: Global, name: &[u8], value: &[u8]) -> Result<bool, OutOfMemory>
+        requires { self.old.pending ≡ Nothing }
+        ensures value { IfOk result (λ good. valued self.old.draft name.now value.now ≡ (if good then Some self.new else None)) }
+        ensures bounded { IfOk result (λ good. IsTrue good → IsBounded self.new.pending) }
+    {
+        let name = Text::copy(alloc, name)?;
+        match value {
+            [] => Ok(false),
+            [b'"', ..] => self.quoted(alloc, name, Text::copy(alloc, b"")?, value),
+            [b'[', after @ ..] => self.list(alloc, name, Text::copy(alloc, b"[")?, 0, after),
+            _ => {
+                let value = Text::copy(alloc, trimmed(value))?;
+                self.draft.add(name, Value::Bare(value))?;
+                Ok(true)
+            }
+        }
+    }
+
+    /// What follows a name.
+    fn after_name(&mut self, alloc: Global, name: &[u8], rest: &[u8]) -> Result<bool, OutOfMemory>
+        requires { self.old.pending ≡ Nothing }
+        ensures value { IfOk result (λ good. after_name self.old.draft name.now rest.now (unblanked rest.now) ≡ (if good then Some self.new else None)) }
+        ensures bounded { IfOk result (λ good. IsTrue good → IsBounded self.new.pending) }
+    {
+        let value = unblanked(rest);
+        match value {
+            [] => {
+                let name = Text::copy(alloc, name)?;
+                let empty = Text::copy(alloc, b"")?;
+                self.draft.add(name, Value::Bare(empty))?;
+                Ok(true)
+            }
+            [b'{', after @ ..] => self.open(alloc, name, after),
+            _ if value.len() == rest.len() => Ok(false),
+            _ => self.value(alloc, name, value),
+        }
+    }
+
+    /// A line that begins with a name.
+    #[tactic(auto, unfolding(crate::specs::Plain::named))]
+    fn named(&mut self, alloc: Global, text: &[u8]) -> Result<bool, OutOfMemory>
+        requires { self.old.pending ≡ Nothing }
+        ensures value { IfOk result (λ good. named self.old.draft text.now ≡ (if good then Some self.new else None)) }
+        ensures bounded { IfOk result (λ good. IsTrue good → IsBounded self.new.pending) }
+    {
+        let count = name_length(text);
+        if count == 0 {
+            return Ok(false);
+        }
+        self.after_name(alloc, &text[..count], &text[count..])
+    }
+
+    /// A line that goes on with nothing, from its first byte that is no blank.
+    fn fresh(&mut self, alloc: Global, text: &[u8]) -> Result<bool, OutOfMemory>
+        requires { self.old.pending ≡ Nothing }
+        ensures value { IfOk result (λ good. fresh_text self.old.draft text.now ≡ (if good then Some self.new else None)) }
+        ensures bounded { IfOk result (λ good. IsTrue good → IsBounded self.new.pending) }
+    {
+        match text {
+            [] | [b'#', ..] => Ok(true),
+            [b'}', after @ ..] => Ok(self.close(after)),
+            _ => self.named(alloc, text),
+        }
+    }
+
     /// Reads the next line. Where no text goes on so, it says `false`, and the reader is of no more use.
-    #[tactic(auto, unfolding(crate::specs::Plain::step))]
+    #[tactic(auto, unfolding(crate::specs::Plain::step, crate::specs::Plain::fresh))]
     pub fn step(&mut self, alloc: Global, line: &[u8]) -> Result<bool, OutOfMemory>
         requires { IsBounded self.old.pending }
         ensures value { IfOk result (λ good. step self.old line.now ≡ (if good then Some self.new else None)) }
         ensures bounded { IfOk result (λ good. IsTrue good → IsBounded self.new.pending) }
     {
-        let next = match mem::replace(&mut self.pending, Pending::Nothing) {
-            Pending::Nothing => self.draft.fresh(alloc, line)?,
+        match mem::replace(&mut self.pending, Pending::Nothing) {
+            Pending::Nothing => self.fresh(alloc, unblanked(line)),
             Pending::Open {
                 name,
                 said,
                 nesting,
-            } => self.draft.list(name, said, nesting, line)?,
+            } => self.list(alloc, name, said, nesting, line),
             Pending::Strings { name, said } => {
                 let text = unblanked(line);
                 match text {
-                    [b'"', ..] => quoted(name, said, text)?,
+                    [b'"', ..] => self.quoted(alloc, name, said, text),
                     _ => {
                         self.draft.add(name, Value::Quoted(said))?;
-                        self.draft.fresh(alloc, line)?
+                        self.fresh(alloc, text)
                     }
                 }
-            }
-        };
-        match next {
-            None => Ok(false),
-            Some(pending) => {
-                self.pending = pending;
-                Ok(true)
             }
         }
     }

@@ -39,12 +39,14 @@ pub fn are_blanks(bytes: &[u8]) -> bool
 pub fn unblanked(bytes: &[u8]) -> &[u8]
     ensures { result.now ≡ unblanked bytes.now }
 {
-    for (i, byte) in bytes.iter().enumerate() {
+    let mut rest = bytes;
+    while let [byte, after @ ..] = rest {
         if !is_blank(*byte) {
-            return &bytes[i..];
+            return rest;
         }
+        rest = after;
     }
-    &bytes[bytes.len()..]
+    rest
 }
 
 /// The bytes without the blanks at their end.
