@@ -51,3 +51,7 @@ FailsNext sink = Contains sink.failing (counted sink.puts) ⊎ (sink.room ≤ le
 -- the number of bytes that a put takes of a piece, where it does not fail
 abbrev pub takes_of : SinkState → List ℕ → ℕ
 takes_of sink bytes = min (min sink.piece (sink.room - length sink.taken)) (length bytes)
+
+-- a sink in memory takes at least one byte of a nonempty piece, or fails
+abbrev pub stalls_of : SinkState → ℕ
+stalls_of sink = 0

@@ -1,4 +1,7 @@
-ghost use Rattle.std.specs.Prelude.{◌≡◌, None};
+ghost use Rattle.std.specs.Prelude.{◌≡◌, ℕ, ◌<◌, ◌≤◌, length, take, None, IfOk, IsOk, OnErr};
+ghost use Rattle.std.specs.Io.KnownBytes.{WriteAppends};
+ghost use Rattle.fx_io.specs.Cause.{Rose};
+ghost use Rattle.fx_io.specs.Sink.{also_took, untold};
 
 use crate::fault::Failed;
 use crate::shelf::{FetchFault, Shelf};
@@ -65,12 +68,15 @@ fn read_file<R: Files>(files: &R, alloc: Global, name: &str, limit: u64) -> io::
     Ok(bytes)
 }
 
-/// A stream of the system (own). The sink tells nothing of what it took, and counts the writes
-/// that failed or took nothing.
+/// A stream of the system (own). The sink tells nothing of what it took, since a writer may begin to
+/// tell at any write, and counts the writes that failed or took nothing. What the writer tells is
+/// that it took what `put` says.
 #[derive(Drop)]
 pub struct StreamSink<W: Write + Drop> {
-    writer: W,
+    /// Where the bytes go.
+    pub writer: W,
     faults: u64,
+    stalls: u64,
 }
 
 /// The stream of the program's output.
@@ -82,25 +88,58 @@ pub type ErrSink<W> = StreamSink<W>;
 impl<W: Write + Drop> StreamSink<W> {
     /// A sink that writes to this stream.
     pub fn new(writer: W) -> Self
-        ensures { result.faults ≡ 0 }
+        ensures writer { result.writer ≡ writer }
+        ensures faults { result.faults ≡ 0 }
+        ensures stalls { result.stalls ≡ 0 }
     {
-        StreamSink { writer, faults: 0 }
+        StreamSink {
+            writer,
+            faults: 0,
+            stalls: 0,
+        }
     }
 }
 
 impl<W: Write + Drop> Sink for StreamSink<W> {
-    ghost taken = { λ _. None };
+    ghost taken = { λ _. untold };
 
     ghost faults = { λ sink. sink.faults };
 
-    fn put(&mut self, bytes: &[u8]) -> Result<usize, Failed> {
+    ghost stalls = { λ sink. sink.stalls };
+
+    fn put(&mut self, bytes: &[u8]) -> Result<usize, Failed>
+        ensures within { IfOk result (λ count. count ≤ length bytes.now) }
+        ensures took { IfOk result (λ count. untold ≡ also_took untold (take count bytes.now)) }
+        ensures kept { OnErr result (untold ≡ untold) }
+        ensures failed { OnErr result (Rose self.old.faults self.new.faults) }
+        ensures failed_alone { OnErr result (self.new.stalls ≡ self.old.stalls) }
+        ensures stalled { IfOk result (λ count. count ≡ 0 → 0 < length bytes.now →
+            Rose self.old.faults self.new.faults) }
+        ensures stall_counted { IfOk result (λ count. count ≡ 0 → 0 < length bytes.now →
+            Rose self.old.stalls self.new.stalls) }
+        ensures moved { IfOk result (λ count. 0 < count →
+            (self.new.faults ≡ self.old.faults) × (self.new.stalls ≡ self.old.stalls)) }
+        ensures nothing { length bytes.now ≡ 0 →
+            IsOk result × (untold ≡ untold) × (self.new.faults ≡ self.old.faults) }
+        ensures later { self.old.faults ≤ self.new.faults }
+
+        ensures writes { WriteAppends (W.contents self.old.writer) (W.contents self.new.writer) result
+            bytes.now }
+    {
         if bytes.is_empty() {
             return Ok(0);
         }
-        let written = self.writer.write(bytes);
-        if !matches!(&written, Ok(1..)) {
-            self.faults = self.faults.saturating_add(1);
+        match self.writer.write(bytes) {
+            Ok(0) => {
+                self.faults = self.faults.saturating_add(1);
+                self.stalls = self.stalls.saturating_add(1);
+                Ok(0)
+            }
+            Ok(count) => Ok(count),
+            Err(_) => {
+                self.faults = self.faults.saturating_add(1);
+                Err(Failed)
+            }
         }
-        written.map_err(|_| Failed)
     }
 }

@@ -83,8 +83,12 @@ impl Shelf for MemShelf {
     fn fetch(&mut self, alloc: Global, name: &str, limit: u64) -> Result<Text, FetchFault>
         ensures found { IfOk result (λ bytes. Fetched (told_of self.old name.now) limit bytes) }
         ensures failed { IsErrOf result FetchFault.Failed → Rose self.old.faults self.new.faults }
-        ensures too_long { (reported : ℕ) → result ≡ Err (FetchFault.TooLong reported) → IsOverlong (told_of self.old name.now) limit reported }
-        ensures too_long_cause { (reported : ℕ) → result ≡ Err (FetchFault.TooLong reported) → Rose self.old.overlong self.new.overlong }
+        ensures faultless { (IsErrOf result FetchFault.Failed → ⊥) → self.new.faults ≡ self.old.faults }
+        ensures too_long { (reported : ℕ) → result ≡ Err (FetchFault.TooLong reported) →
+            IsOverlong (told_of self.old name.now) limit reported }
+        ensures too_long_cause { (reported : ℕ) → result ≡ Err (FetchFault.TooLong reported) →
+            Rose self.old.overlong self.new.overlong }
+        ensures none_too_long { OnOk result (self.new.overlong ≡ self.old.overlong) }
         ensures steadily { IsSteady self.old → AnswersSteadily (told_of self.old name.now) limit result }
         ensures stays_steady { IsSteady self.old → IsSteady self.new }
         ensures kept { told_of self.new ≡ told_of self.old }

@@ -1,7 +1,7 @@
 ghost use Rattle.std.specs.Prelude.{◌≡◌, ℕ, ◌+◌, ◌<◌, ◌≤◌, [], length, take, Some, IfOk, IsOk, IsErr, OnOk, OnErr, ◌↔◌, IsErrOf, IsTrue};
 ghost use Rattle.fx_io.specs.Cause.{Rose, counted};
 ghost use Rattle.fx_io.specs.Sink.{also_took};
-ghost use Rattle.fx_io.specs.Memory.{SinkState, FailsNext, takes_of};
+ghost use Rattle.fx_io.specs.Memory.{SinkState, FailsNext, takes_of, stalls_of};
 
 use crate::fault::Failed;
 use crate::sink::Sink;
@@ -108,13 +108,23 @@ impl Sink for MemSink {
 
     ghost faults = { λ sink. sink.faults };
 
+    ghost stalls = { stalls_of };
+
     fn put(&mut self, bytes: &[u8]) -> Result<usize, Failed>
         ensures within { IfOk result (λ count. count ≤ length bytes.now) }
-        ensures took { IfOk result (λ count. Some self.new.taken ≡ also_took (Some self.old.taken) (take count bytes.now)) }
+        ensures took { IfOk result (λ count.
+            Some self.new.taken ≡ also_took (Some self.old.taken) (take count bytes.now)) }
         ensures kept { OnErr result (Some self.new.taken ≡ Some self.old.taken) }
         ensures failed { OnErr result (Rose self.old.faults self.new.faults) }
-        ensures stalled { IfOk result (λ count. count ≡ 0 → 0 < length bytes.now → Rose self.old.faults self.new.faults) }
-        ensures nothing { length bytes.now ≡ 0 → IsOk result × (Some self.new.taken ≡ Some self.old.taken) × (self.new.faults ≡ self.old.faults) }
+        ensures failed_alone { OnErr result (stalls_of self.new ≡ stalls_of self.old) }
+        ensures stalled { IfOk result (λ count. count ≡ 0 → 0 < length bytes.now →
+            Rose self.old.faults self.new.faults) }
+        ensures stall_counted { IfOk result (λ count. count ≡ 0 → 0 < length bytes.now →
+            Rose (stalls_of self.old) (stalls_of self.new)) }
+        ensures moved { IfOk result (λ count. 0 < count →
+            (self.new.faults ≡ self.old.faults) × (stalls_of self.new ≡ stalls_of self.old)) }
+        ensures nothing { length bytes.now ≡ 0 → IsOk result
+            × (Some self.new.taken ≡ Some self.old.taken) × (self.new.faults ≡ self.old.faults) }
         ensures later { self.old.faults ≤ self.new.faults }
 
         ensures exact { 0 < length bytes.now → (IsErr result ↔ FailsNext self.old) }

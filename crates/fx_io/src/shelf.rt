@@ -1,4 +1,4 @@
-ghost use Rattle.std.specs.Prelude.{◌≡◌, ℕ, ◌<◌, ◌≤◌, List, Option, length, IfOk, IsErrOf, Err};
+ghost use Rattle.std.specs.Prelude.{◌≡◌, ℕ, ◌<◌, ◌≤◌, List, Option, length, IfOk, OnOk, IsErrOf, Err};
 ghost use Rattle.fx_io.specs.Cause.{Rose};
 
 use crate::fault::OutOfMemory;
@@ -59,8 +59,12 @@ pub trait Shelf {
     fn fetch(&mut self, alloc: Global, name: &str, limit: u64) -> Result<Text, FetchFault>
         ensures found { IfOk result (λ bytes. Fetched (held self.old name.now) limit bytes) }
         ensures failed { IsErrOf result FetchFault.Failed → Rose (faults self.old) (faults self.new) }
-        ensures too_long { (reported : ℕ) → result ≡ Err (FetchFault.TooLong reported) → IsOverlong (held self.old name.now) limit reported }
-        ensures too_long_cause { (reported : ℕ) → result ≡ Err (FetchFault.TooLong reported) → Rose (overlong self.old) (overlong self.new) }
+        ensures faultless { (IsErrOf result FetchFault.Failed → ⊥) → faults self.new ≡ faults self.old }
+        ensures too_long { (reported : ℕ) → result ≡ Err (FetchFault.TooLong reported) →
+            IsOverlong (held self.old name.now) limit reported }
+        ensures too_long_cause { (reported : ℕ) → result ≡ Err (FetchFault.TooLong reported) →
+            Rose (overlong self.old) (overlong self.new) }
+        ensures none_too_long { OnOk result (overlong self.new ≡ overlong self.old) }
         ensures steadily { steady self.old → AnswersSteadily (held self.old name.now) limit result }
         ensures stays_steady { steady self.old → steady self.new }
         ensures kept { held self.new ≡ held self.old }

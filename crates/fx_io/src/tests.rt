@@ -2,6 +2,7 @@ use crate::{
     Boxed, FetchFault, FileShelf, MemShelf, MemSink, PutFault, PutSetup, Sequence, Shelf, Sink,
     Sizes, StreamSink, Text, put_all,
 };
+use std::io::{self, ErrorKind, Write};
 use std::test::Fail;
 
 #[test]
@@ -16,8 +17,16 @@ fn lists_and_boxes_hold_what_was_put_in(rt: HostRuntime) -> Result<(), Fail> {
     assert_eq!(rt; sizes.into_vec().as_slice(), [4, 4].as_slice());
     let again: Sequence<u8> = Sequence::from_vec(b"ab".to_vec(rt.alloc())?);
     assert_eq!(rt; again.as_slice(), b"ab".as_slice());
-    let text = Text::copy(rt.alloc(), b"tile")?;
-    assert_eq!(rt; Text::from_vec(text.into_vec(rt.alloc())?).bytes(), b"tile".as_slice());
+    for written in [
+        "",
+        "tile",
+        "twenty-two bytes of it",
+        "twenty-three bytes of it",
+    ] {
+        let text = Text::copy(rt.alloc(), written.as_bytes())?;
+        let again = Text::from_vec(text.into_vec(rt.alloc())?);
+        assert_eq!(rt; again.bytes(), written.as_bytes());
+    }
     let boxed = Boxed::new(rt.alloc(), 12u8)?;
     assert_eq!(rt; *boxed.get(), 12);
     assert_eq!(rt; boxed.into_inner(), 12);
@@ -91,5 +100,48 @@ fn the_adapters_reach_files_and_streams(rt: HostRuntime) -> Result<(), Fail> {
     );
     let mut unwritable = StreamSink::new(std::fs::open(&rt, "written")?);
     assert_eq!(rt; put_all(&mut unwritable, b"x"), Err(PutFault::Failed));
+    Ok(())
+}
+
+/// A writer that takes at most `piece` bytes a write, and fails once it has `room` bytes.
+#[derive(Drop)]
+struct Narrow {
+    taken: Vec<u8>,
+    piece: usize,
+    room: usize,
+}
+
+impl Write for Narrow {
+    fn write(&mut self, bytes: &[u8]) -> io::Result<usize> {
+        if self.taken.len() >= self.room {
+            return Err(ErrorKind::BrokenPipe.into());
+        }
+        let count = self.piece.min(bytes.len());
+        self.taken.extend_from_slice(&bytes[..count])?;
+        Ok(count)
+    }
+
+    fn flush(&mut self) -> io::Result<()> {
+        Ok(())
+    }
+}
+
+#[test]
+fn streams_may_take_a_part_or_nothing(rt: HostRuntime) -> Result<(), Fail> {
+    let rows = [
+        (1, 9, Ok(()), "abc"),
+        (2, 9, Ok(()), "abc"),
+        (0, 9, Err(PutFault::TookNothing), ""),
+        (1, 2, Err(PutFault::Failed), "ab"),
+    ];
+    for (piece, room, wanted, taken) in rows {
+        let mut sink = StreamSink::new(Narrow {
+            taken: Vec::new(rt.alloc()),
+            piece,
+            room,
+        });
+        assert_eq!(rt; put_all(&mut sink, b"abc"), wanted);
+        assert_eq!(rt; sink.writer.taken.as_slice(), taken.as_bytes());
+    }
     Ok(())
 }

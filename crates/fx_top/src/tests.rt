@@ -178,6 +178,8 @@ impl Sink for Stuck {
 
     ghost faults = { λ sink. sink.faults };
 
+    ghost stalls = { λ sink. sink.faults };
+
     fn put(&mut self, bytes: &[u8]) -> Result<usize, Failed> {
         if !bytes.is_empty() {
             self.faults = self.faults.saturating_add(1);

@@ -11,5 +11,7 @@ loop-done-preserved g c =
       taken = c.in-Ok.ensures.took
           ∙ ap (λ told. also_took told (take c.in-Ok.count (take (length c.args.bytes.now - c.loop-done.done) (drop c.loop-done.done c.args.bytes.now)))) c.loop-done.invariant.taken
           ∙ also_took-rest (g.K.Sink.taken c.args.sink.now) c.args.bytes.now c.loop-done.done c.in-Ok.count;
+      faultless = (c.in-Ok.ensures.moved (omega arith)).0 ∙ c.loop-done.invariant.faultless;
+      unstalled = (c.in-Ok.ensures.moved (omega arith)).1 ∙ c.loop-done.invariant.unstalled;
       later = omega arith;
     }

@@ -6,6 +6,8 @@ abbrev pub invariant-loop-done : goal.invariant-loop-done
 invariant-loop-done g l = record {
   within : l.done ≤ length l.bytes;
   taken : g.K.Sink.taken l.sink ≡ also_took (g.K.Sink.taken l.initial.sink) (take l.done l.bytes);
+  faultless : g.K.Sink.faults l.sink ≡ g.K.Sink.faults l.initial.sink;
+  unstalled : g.K.Sink.stalls l.sink ≡ g.K.Sink.stalls l.initial.sink;
   later : g.K.Sink.faults l.initial.sink ≤ g.K.Sink.faults l.sink;
 }
 
