@@ -1,0 +1,122 @@
+"""The written text of a module with its ports, a stimulus, and what a bench drives and sees when."""
+
+import os
+import re
+import subprocess
+from collections import namedtuple
+
+MODULE = "fx_model"
+
+Port = namedtuple("Port", "is_input signed width name period latency")
+Case = namedtuple("Case", "text cycles ports rows")
+
+
+class Failed(Exception):
+    """A tool that ended with a fault, or a text that is not understood."""
+
+
+def attributes(text):
+    return {name: int(number) for name, number in re.findall(r"(\w+) = (\d+)", text or "")}
+
+
+def header(text):
+    """The clocks per base sample, and the ports but `clk` and `reset`, of a written module."""
+    head = re.match(r"\(\* (.*?) \*\)\nmodule " + MODULE + r" \(\n(.*?)\n\);\n", text, re.S)
+    if head is None:
+        raise Failed("its header is not understood")
+    ports = []
+    form = r"(?:  \(\* (.*?) \*\)\n)?  (input|output) wire( signed)?(?: \[(\d+):0\])? (\w+),?"
+    for attrs, way, signed, high, name in re.findall(form, head.group(2)):
+        told = attributes(attrs)
+        port = Port(way == "input", bool(signed), int(high or 0) + 1, name, told.get("fx_period"), told.get("fx_latency"))
+        if name not in ("clk", "reset"):
+            ports.append(port)
+    return attributes(head.group(1))["fx_cycles"], ports
+
+
+def inputs_of(case):
+    return [port for port in case.ports if port.is_input]
+
+
+def outputs_of(case):
+    return [port for port in case.ports if not port.is_input]
+
+
+def rows_of(path):
+    with open(path) as file:
+        return [line.split() for line in file]
+
+
+def case_of(path):
+    """The text at a path, with the stimulus that stands beside it."""
+    with open(path) as file:
+        text = file.read()
+    cycles, ports = header(text)
+    stimulus = beside(path, ".stim")
+    if not os.path.isfile(stimulus):
+        raise Failed(f"no {os.path.basename(stimulus)} stands beside it")
+    case = Case(text, cycles, ports, rows_of(stimulus))
+    if any(len(row) != len(inputs_of(case)) for row in case.rows):
+        raise Failed(f"{os.path.basename(stimulus)} has a line without a field for each of {len(inputs_of(case))} inputs")
+    return case
+
+
+def beside(path, ending):
+    return os.path.splitext(path)[0] + ending
+
+
+def declaration(port):
+    sign = " signed" if port.signed else ""
+    kind = "reg" if port.is_input else "wire"
+    return f"  {kind}{sign} [{port.width - 1}:0] {port.name};"
+
+
+def instance(case):
+    """A bench's nets, and the module between them."""
+    names = ["clk", "reset"] + [port.name for port in case.ports]
+    lines = ["  reg clk, reset;"] + [declaration(port) for port in case.ports]
+    return lines + [f"  {MODULE} fx_tested ({', '.join(f'.{name}({name})' for name in names)});"]
+
+
+def bits(port, number):
+    """A number in the port's width, by two's complement."""
+    return int(number) % 2**port.width
+
+
+def last_clock(case):
+    """The clock behind the last one at which an output shows a hit."""
+    return len(case.rows) * case.cycles + max((port.latency or 0 for port in case.ports), default=0)
+
+
+def inputs_at(case, clock):
+    """The inputs that change at a clock, with their bits: those of a hit, and 0 after the last sample."""
+    sample, within = divmod(clock, case.cycles)
+    if within != 0:
+        return []
+    if sample >= len(case.rows):
+        return [(port, 0) for port in inputs_of(case)]
+    shown = zip(inputs_of(case), case.rows[sample])
+    return [(port, bits(port, field)) for port, field in shown if sample % port.period == 0]
+
+
+def outputs_at(case, clock):
+    """The outputs that show a hit first at a clock, each with the hit's sample and its place among them."""
+    found = []
+    for place, port in enumerate(outputs_of(case)):
+        sample, within = divmod(clock - (port.latency or 0), case.cycles)
+        if within == 0 and 0 <= sample < len(case.rows) and sample % port.period == 0:
+            found.append((port, sample, place))
+    return found
+
+
+def run(words, folder):
+    done = subprocess.run(words, cwd=folder, capture_output=True, text=True)
+    if done.returncode != 0:
+        raise Failed(f"{words[0]} failed:\n{done.stdout}{done.stderr}")
+    return done.stdout
+
+
+def icarus(folder):
+    """What Icarus Verilog prints for the module in model.v under the bench in bench.v."""
+    run(["iverilog", "-g2005", "-o", "bench.vvp", "bench.v", "model.v"], folder)
+    return run(["vvp", "bench.vvp"], folder)
