@@ -10,6 +10,8 @@ use Rattle.dg_model.specs.declared.kind.Kind.{Kind}
 use Rattle.dg_model.specs.declared.kind.Kind.TheVariants.{Inport, Outport, Constant, Ground, Sum, Gain, Product, Switch, Relational, Logic, Convert, Delay, Mux, Demux, RateTransition, Pass, EnableTest, EnOut, Terminator}
 use Rattle.dg_model.specs.declared.op.Op.{Op}
 use Rattle.dg_model.specs.declared.op.Op.TheVariants.{Sum as OpSum, Gain as OpGain, Product as OpProduct, Switch as OpSwitch, Relational as OpRelational, Logic as OpLogic, Convert as OpConvert, Pass as OpPass}
+use Rattle.dg_model.specs.KindRow.{FullRule}
+use Rattle.dg_model.specs.Library.{row_of}
 use Rattle.dg_model.specs.Signals.{Attributes, Stimulus, Table}
 use Rattle.dg_model.specs.Hits.{hits_before, is_enabled_at, counted_hits}
 use Rattle.dg_model.specs.Wires.{numbers_from, driver_of, at_source, width_into, widths_into, type_into, types_into, value_into, values_into, entry_of}
@@ -19,8 +21,12 @@ use Rattle.dg_model.specs.Operation.{OpGives, stored_truth}
 abbrev pub StoresEntry : List Decimal → ℕ → FxType → ℤ → Type 0
 StoresEntry list element type v = MatchOption (entry_of list element) ⊥ (λ decimal. Stores decimal type v)
 
--- the operation of an elementwise kind at an element, with the type of its Gain's coefficients and of its input 2
+-- the operation of a kind that carries one out at an element, with the type of its Gain's coefficients and of its input 2
 abbrev pub IsOpOf : Kind → ℕ → FxType → FxType → Op → Type 0
+IsOpOf (Inport number width) element param control op = ⊥
+IsOpOf (Outport number) element param control op = op ≡ OpPass
+IsOpOf (Constant value) element param control op = ⊥
+IsOpOf Ground element param control op = ⊥
 IsOpOf (Sum negative) element param control op = op ≡ OpSum
 IsOpOf (Gain value spec) element param control op = (coefficient : ℤ) × StoresEntry value element param coefficient × (op ≡ OpGain coefficient param)
 IsOpOf Product element param control op = op ≡ OpProduct
@@ -28,14 +34,26 @@ IsOpOf (Switch criterion threshold) element param control op = (stored : ℤ) ×
 IsOpOf (Relational operator) element param control op = op ≡ OpRelational operator
 IsOpOf (Logic operator) element param control op = op ≡ OpLogic operator
 IsOpOf (Convert stored) element param control op = op ≡ OpConvert stored
+IsOpOf (Delay length initial reset) element param control op = ⊥
+IsOpOf (Mux sizes) element param control op = ⊥
+IsOpOf (Demux sizes) element param control op = ⊥
+IsOpOf (RateTransition period initial) element param control op = ⊥
 IsOpOf (Pass width) element param control op = op ≡ OpPass
-IsOpOf (Outport number) element param control op = op ≡ OpPass
-IsOpOf _ element param control op = ⊥
+IsOpOf EnableTest element param control op = ⊥
+IsOpOf (EnOut reset initial) element param control op = ⊥
+IsOpOf Terminator element param control op = ⊥
 
 -- the signs of a Sum
+abbrev pub signs_of_full : FullRule → List Bool
+signs_of_full FullRule.NoFull = []
+signs_of_full (FullRule.FullSum negative) = negative
+signs_of_full FullRule.FullScaled = []
+signs_of_full FullRule.FullProduct = []
+signs_of_full FullRule.UnionOfTwo = []
+signs_of_full FullRule.UnionOfEnds = []
+
 abbrev pub signs_of : Kind → List Bool
-signs_of (Sum negative) = negative
-signs_of _ = []
+signs_of kind = signs_of_full (row_of kind).types.full
 
 -- element e of the signals of these widths, laid end to end, is element k of signal i
 pub record IsPart (widths : List ℕ) (element signal k : ℕ) : Type 0 where
@@ -45,8 +63,9 @@ pub record IsPart (widths : List ℕ) (element signal k : ℕ) : Type 0 where
 
 -- from the longer period of the driver to the shorter of the block
 abbrev pub is_slow_to_fast : Option ℕ → Option ℕ → Bool
+is_slow_to_fast None own = false
+is_slow_to_fast (Some driver) None = false
 is_slow_to_fast (Some driver) (Some own) = nat_lt own driver
-is_slow_to_fast _ _ = false
 
 -- the block is enabled at t; one outside enabled subsystems always is
 abbrev pub is_enabled : Table → Option ℕ → ℕ → Bool
@@ -104,16 +123,24 @@ module _ (diagram : Diagram) (attributes : Attributes) (stimulus : Stimulus) (ta
   -- a block's value by its kind
   abbrev pub KindEquation : Kind → Block → ℕ → ℕ → ℕ → ℕ → ℤ → Type 0
   KindEquation (Inport number width) b block port element t v = v ≡ stimulus number element t
+  KindEquation (Outport number) b block port element t v = ElementEquation b block element t v
   KindEquation (Constant value) b block port element t v = StoresEntry value element (attributes.type_at block 1) v
   KindEquation Ground b block port element t v = v ≡ pos 0
+  KindEquation (Sum negative) b block port element t v = ElementEquation b block element t v
+  KindEquation (Gain value spec) b block port element t v = ElementEquation b block element t v
+  KindEquation Product b block port element t v = ElementEquation b block element t v
+  KindEquation (Switch criterion threshold) b block port element t v = ElementEquation b block element t v
+  KindEquation (Relational operator) b block port element t v = ElementEquation b block element t v
+  KindEquation (Logic operator) b block port element t v = ElementEquation b block element t v
+  KindEquation (Convert stored) b block port element t v = ElementEquation b block element t v
   KindEquation (Delay length initial reset) b block port element t v = DelayEquation b block length initial reset element t v
   KindEquation (Mux sizes) b block port element t v = MuxEquation b block element t v
   KindEquation (Demux sizes) b block port element t v = DemuxEquation block port element t v
   KindEquation (RateTransition period initial) b block port element t v = RateEquation block initial element t v
+  KindEquation (Pass width) b block port element t v = ElementEquation b block element t v
   KindEquation EnableTest b block port element t v = EnableEquation block t v
   KindEquation (EnOut reset initial) b block port element t v = EnOutEquation b block reset initial element t v
   KindEquation Terminator b block port element t v = ⊥
-  KindEquation _ b block port element t v = ElementEquation b block element t v
 
   -- v is the value of a block at an output port, an element and a hit t
   abbrev pub Equation : ℕ → ℕ → ℕ → ℕ → ℤ → Type 0

@@ -1,6 +1,7 @@
 pub mod Equation
 pub mod GainParam
 pub mod Hits
+pub mod KindRow
 pub mod Library
 pub mod Operation
 pub mod Signals

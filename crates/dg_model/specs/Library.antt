@@ -1,149 +1,218 @@
--- What each kind of block may carry: its ports, lists, numbers, types, rounding and period (Simulink reference, each block's page; the limits are own).
-use Rattle.std.specs.Prelude.{◌≡◌, ℕ, ◌≤◌, ◌<◌, ◌⊎◌, Bool, IsFalse, List, [], length, All, ⊤}
-use Rattle.fx_type.specs.declared.spec.TypeSpec.{TypeSpec}
-use Rattle.fx_type.specs.declared.spec.TypeSpec.TheVariants.{Fixed, Auto}
+-- What each kind of block may carry and how it behaves beside its equation: one row a kind (Simulink reference, each block's page; the limits are own). A new kind has no meaning before it has a row.
+use Rattle.std.specs.Prelude.{◌≡◌, ℕ, ◌⊎◌, pos, Bool, true, false, IsFalse, MatchBool, List, [], ◌∷◌, length, All, ⊤}
+use Rattle.fx_type.specs.declared.kind.FxType.TheVariants.{Num, Logical as LogicalType}
+use Rattle.fx_type.specs.declared.spec.TypeSpec.TheVariants.{Auto}
 use Rattle.fx_type.specs.declared.rounding.Rounding.{Rounding}
 use Rattle.fx_type.specs.declared.rounding.Rounding.TheVariants.{Floor}
-use Rattle.fx_type.specs.declared.decimal.Decimal.{Decimal}
-use Rattle.fx_type.specs.FxType.{IsType}
 use Rattle.dg_model.specs.declared.diagram.Block.{Block}
-use Rattle.dg_model.specs.declared.diagram.PeriodSpec.{PeriodSpec}
-use Rattle.dg_model.specs.declared.diagram.PeriodSpec.TheVariants.{Inherit, Constant as ConstantPeriod, Every}
-use Rattle.dg_model.specs.declared.kind.Gate.TheVariants.{Not}
+use Rattle.dg_model.specs.declared.diagram.PeriodSpec.TheVariants.{Inherit, Every}
+use Rattle.dg_model.specs.declared.kind.Gate.{Gate}
+use Rattle.dg_model.specs.declared.kind.Gate.TheVariants.{And, Or, Nand, Nor, Xor, Nxor, Not}
 use Rattle.dg_model.specs.declared.kind.Kind.{Kind}
 use Rattle.dg_model.specs.declared.kind.Kind.TheVariants.{Inport, Outport, Constant, Ground, Sum, Gain, Product, Switch, Relational, Logic, Convert, Delay, Mux, Demux, RateTransition, Pass, EnableTest, EnOut, Terminator}
+use Rattle.dg_model.specs.KindRow.{Row, Role, Standing, Shape, OwnType, FullRule, Inherited, Reading, Only, IsBetween, IsList, IsPeriod, IsSpec, MayBeFixed, IsChoice, IsFixed, MayDeclare, IsConstantPeriod}
 
--- a number of these ends
-abbrev pub IsBetween : ℕ → ℕ → ℕ → Type 0
-IsBetween low high n = (low ≤ n) × (n ≤ high)
+-- a gate has 2 to 32 inputs, and NOT one
+abbrev pub HasOperands : Gate → ℕ → Type 0
+HasOperands And inputs = IsBetween 2 32 inputs
+HasOperands Or inputs = IsBetween 2 32 inputs
+HasOperands Nand inputs = IsBetween 2 32 inputs
+HasOperands Nor inputs = IsBetween 2 32 inputs
+HasOperands Xor inputs = IsBetween 2 32 inputs
+HasOperands Nxor inputs = IsBetween 2 32 inputs
+HasOperands Not inputs = inputs ≡ 1
 
--- a list parameter: 1 to 1024 decimals
-abbrev pub IsList : List Decimal → Type 0
-IsList list = IsBetween 1 1024 (length list)
+-- a Mux has one input a size, or 1 to 1024 where no size is fixed
+abbrev pub HasParts : List ℕ → ℕ → Type 0
+HasParts [] inputs = IsBetween 1 1024 inputs
+HasParts (size ∷ sizes) inputs = inputs ≡ length (size ∷ sizes)
 
--- a period: a decimal above 0
-pub record IsPeriod (decimal : Decimal) : Type 0 where
-  pub sign : IsFalse decimal.negative
-  pub above : 0 < decimal.digits
+abbrev pub row_of : Kind → Row
+row_of (Inport number width) = record {
+  place = record { role = Role.RootInput number; stands = Standing.Anywhere };
+  ports = record { inputs = Only 0; outputs = Only 1 };
+  parameters = IsBetween 1 20000 number × IsBetween 0 1024 width;
+  signal = record { shape = Shape.Elementwise; lists = []; width = width };
+  types = record { may_be = MayBeFixed; own = OwnType.Untyped; full = FullRule.NoFull; rounds = false };
+  timing = record { may_be = MayDeclare; inherits = Inherited.Base; reads = Reading.Now; delay = 0 };
+  hardware = record { pipelines = false; multiplies = false };
+}
+row_of (Outport number) = record {
+  place = record { role = Role.RootOutput number; stands = Standing.Anywhere };
+  ports = record { inputs = Only 1; outputs = Only 0 };
+  parameters = IsBetween 1 20000 number;
+  signal = record { shape = Shape.Elementwise; lists = []; width = 0 };
+  types = record { may_be = MayBeFixed; own = OwnType.OfInput; full = FullRule.NoFull; rounds = false };
+  timing = record { may_be = MayDeclare; inherits = Inherited.Moving; reads = Reading.Now; delay = 0 };
+  hardware = record { pipelines = false; multiplies = false };
+}
+row_of (Constant value) = record {
+  place = record { role = Role.Plain; stands = Standing.Anywhere };
+  ports = record { inputs = Only 0; outputs = Only 1 };
+  parameters = IsList value;
+  signal = record { shape = Shape.Elementwise; lists = value ∷ []; width = length value };
+  types = record { may_be = MayBeFixed; own = OwnType.Untyped; full = FullRule.NoFull; rounds = false };
+  timing = record { may_be = IsConstantPeriod; inherits = Inherited.Unchanging; reads = Reading.Now; delay = 0 };
+  hardware = record { pipelines = false; multiplies = false };
+}
+row_of Ground = record {
+  place = record { role = Role.Plain; stands = Standing.Anywhere };
+  ports = record { inputs = Only 0; outputs = Only 1 };
+  parameters = ⊤;
+  signal = record { shape = Shape.Elementwise; lists = []; width = 0 };
+  types = record { may_be = Only Auto; own = OwnType.Always (Num false 1 (pos 0)); full = FullRule.NoFull; rounds = false };
+  timing = record { may_be = Only Inherit; inherits = Inherited.Unchanging; reads = Reading.Now; delay = 0 };
+  hardware = record { pipelines = false; multiplies = false };
+}
+row_of (Sum negative) = record {
+  place = record { role = Role.Plain; stands = Standing.Anywhere };
+  ports = record { inputs = Only (length negative); outputs = Only 1 };
+  parameters = IsBetween 2 32 (length negative);
+  signal = record { shape = Shape.Elementwise; lists = []; width = 0 };
+  types = record { may_be = IsChoice; own = OwnType.Untyped; full = FullRule.FullSum negative; rounds = true };
+  timing = record { may_be = MayDeclare; inherits = Inherited.OfSources; reads = Reading.Now; delay = 0 };
+  hardware = record { pipelines = true; multiplies = false };
+}
+row_of (Gain value param) = record {
+  place = record { role = Role.Plain; stands = Standing.Anywhere };
+  ports = record { inputs = Only 1; outputs = Only 1 };
+  parameters = IsList value × IsChoice param × IsSpec param;
+  signal = record { shape = Shape.Elementwise; lists = value ∷ []; width = 0 };
+  types = record { may_be = IsChoice; own = OwnType.Untyped; full = FullRule.FullScaled; rounds = true };
+  timing = record { may_be = MayDeclare; inherits = Inherited.OfSources; reads = Reading.Now; delay = 0 };
+  hardware = record { pipelines = true; multiplies = true };
+}
+row_of Product = record {
+  place = record { role = Role.Plain; stands = Standing.Anywhere };
+  ports = record { inputs = Only 2; outputs = Only 1 };
+  parameters = ⊤;
+  signal = record { shape = Shape.Elementwise; lists = []; width = 0 };
+  types = record { may_be = IsChoice; own = OwnType.Untyped; full = FullRule.FullProduct; rounds = true };
+  timing = record { may_be = MayDeclare; inherits = Inherited.OfSources; reads = Reading.Now; delay = 0 };
+  hardware = record { pipelines = true; multiplies = true };
+}
+row_of (Switch criterion threshold) = record {
+  place = record { role = Role.Plain; stands = Standing.Anywhere };
+  ports = record { inputs = Only 3; outputs = Only 1 };
+  parameters = IsList threshold;
+  signal = record { shape = Shape.Elementwise; lists = threshold ∷ []; width = 0 };
+  types = record { may_be = IsChoice; own = OwnType.Untyped; full = FullRule.UnionOfEnds; rounds = true };
+  timing = record { may_be = MayDeclare; inherits = Inherited.OfSources; reads = Reading.Now; delay = 0 };
+  hardware = record { pipelines = true; multiplies = false };
+}
+row_of (Relational operator) = record {
+  place = record { role = Role.Plain; stands = Standing.Anywhere };
+  ports = record { inputs = Only 2; outputs = Only 1 };
+  parameters = ⊤;
+  signal = record { shape = Shape.Elementwise; lists = []; width = 0 };
+  types = record { may_be = Only Auto; own = OwnType.Always LogicalType; full = FullRule.UnionOfTwo; rounds = false };
+  timing = record { may_be = MayDeclare; inherits = Inherited.OfSources; reads = Reading.Now; delay = 0 };
+  hardware = record { pipelines = true; multiplies = false };
+}
+row_of (Logic operator) = record {
+  place = record { role = Role.Plain; stands = Standing.Anywhere };
+  ports = record { inputs = HasOperands operator; outputs = Only 1 };
+  parameters = ⊤;
+  signal = record { shape = Shape.Elementwise; lists = []; width = 0 };
+  types = record { may_be = Only Auto; own = OwnType.Always LogicalType; full = FullRule.NoFull; rounds = false };
+  timing = record { may_be = MayDeclare; inherits = Inherited.OfSources; reads = Reading.Now; delay = 0 };
+  hardware = record { pipelines = true; multiplies = false };
+}
+row_of (Convert stored) = record {
+  place = record { role = Role.Plain; stands = Standing.Anywhere };
+  ports = record { inputs = Only 1; outputs = Only 1 };
+  parameters = ⊤;
+  signal = record { shape = Shape.Elementwise; lists = []; width = 0 };
+  types = record { may_be = IsFixed; own = OwnType.Untyped; full = FullRule.NoFull; rounds = true };
+  timing = record { may_be = MayDeclare; inherits = Inherited.OfSources; reads = Reading.Now; delay = 0 };
+  hardware = record { pipelines = true; multiplies = false };
+}
+row_of (Delay delay initial reset) = record {
+  place = record { role = Role.Plain; stands = Standing.Anywhere };
+  ports = record { inputs = Only 1; outputs = Only 1 };
+  parameters = IsBetween 1 1024 delay × IsList initial;
+  signal = record { shape = Shape.Elementwise; lists = initial ∷ []; width = 0 };
+  types = record { may_be = Only Auto; own = OwnType.OfInput; full = FullRule.NoFull; rounds = false };
+  timing = record { may_be = MayDeclare; inherits = Inherited.Moving; reads = Reading.Before; delay = delay };
+  hardware = record { pipelines = false; multiplies = false };
+}
+row_of (Mux sizes) = record {
+  place = record { role = Role.Plain; stands = Standing.Anywhere };
+  ports = record { inputs = HasParts sizes; outputs = Only 1 };
+  parameters = IsBetween 0 1024 (length sizes) × All (IsBetween 1 1024) sizes;
+  signal = record { shape = Shape.Joined sizes; lists = []; width = 0 };
+  types = record { may_be = Only Auto; own = OwnType.OfInput; full = FullRule.NoFull; rounds = false };
+  timing = record { may_be = Only Inherit; inherits = Inherited.OfSources; reads = Reading.Now; delay = 0 };
+  hardware = record { pipelines = false; multiplies = false };
+}
+row_of (Demux sizes) = record {
+  place = record { role = Role.Plain; stands = Standing.Anywhere };
+  ports = record { inputs = Only 1; outputs = Only (length sizes) };
+  parameters = IsBetween 1 1024 (length sizes) × (All (IsBetween 1 1024) sizes ⊎ All (Only 0) sizes);
+  signal = record { shape = Shape.Parted sizes; lists = []; width = 0 };
+  types = record { may_be = Only Auto; own = OwnType.OfInput; full = FullRule.NoFull; rounds = false };
+  timing = record { may_be = Only Inherit; inherits = Inherited.OfSources; reads = Reading.Now; delay = 0 };
+  hardware = record { pipelines = false; multiplies = false };
+}
+row_of (RateTransition period initial) = record {
+  place = record { role = Role.Plain; stands = Standing.Outside };
+  ports = record { inputs = Only 1; outputs = Only 1 };
+  parameters = IsPeriod period × IsList initial;
+  signal = record { shape = Shape.Elementwise; lists = initial ∷ []; width = 0 };
+  types = record { may_be = Only Auto; own = OwnType.OfInput; full = FullRule.NoFull; rounds = false };
+  timing = record { may_be = Only (Every period); inherits = Inherited.OfSources; reads = Reading.BeforeIfSlower; delay = 0 };
+  hardware = record { pipelines = false; multiplies = false };
+}
+row_of (Pass width) = record {
+  place = record { role = Role.InnerPort width; stands = Standing.Anywhere };
+  ports = record { inputs = Only 1; outputs = Only 1 };
+  parameters = IsBetween 0 1024 width;
+  signal = record { shape = Shape.Elementwise; lists = []; width = width };
+  types = record { may_be = MayBeFixed; own = OwnType.OfInput; full = FullRule.NoFull; rounds = false };
+  timing = record { may_be = MayDeclare; inherits = Inherited.OfSources; reads = Reading.Now; delay = 0 };
+  hardware = record { pipelines = false; multiplies = false };
+}
+row_of EnableTest = record {
+  place = record { role = Role.Control; stands = Standing.Outside };
+  ports = record { inputs = Only 1; outputs = Only 1 };
+  parameters = ⊤;
+  signal = record { shape = Shape.Single; lists = []; width = 0 };
+  types = record { may_be = Only Auto; own = OwnType.Always LogicalType; full = FullRule.NoFull; rounds = false };
+  timing = record { may_be = Only Inherit; inherits = Inherited.OfSources; reads = Reading.Now; delay = 0 };
+  hardware = record { pipelines = false; multiplies = false };
+}
+row_of (EnOut reset initial) = record {
+  place = record { role = Role.EnabledOutput; stands = Standing.Inside };
+  ports = record { inputs = Only 1; outputs = Only 1 };
+  parameters = IsList initial;
+  signal = record { shape = Shape.Elementwise; lists = initial ∷ []; width = 0 };
+  types = record { may_be = MayBeFixed; own = OwnType.OfInput; full = FullRule.NoFull; rounds = false };
+  timing = record { may_be = MayDeclare; inherits = Inherited.Moving; reads = Reading.Now; delay = 0 };
+  hardware = record { pipelines = false; multiplies = false };
+}
+row_of Terminator = record {
+  place = record { role = Role.Plain; stands = Standing.Anywhere };
+  ports = record { inputs = Only 1; outputs = Only 0 };
+  parameters = ⊤;
+  signal = record { shape = Shape.Elementwise; lists = []; width = 0 };
+  types = record { may_be = Only Auto; own = OwnType.Untyped; full = FullRule.NoFull; rounds = false };
+  timing = record { may_be = Only Inherit; inherits = Inherited.OfSources; reads = Reading.Now; delay = 0 };
+  hardware = record { pipelines = false; multiplies = false };
+}
 
 -- how many input and output ports a kind has
 abbrev pub HasPorts : Kind → ℕ → ℕ → Type 0
-HasPorts (Inport number width) inputs outputs = (inputs ≡ 0) × (outputs ≡ 1)
-HasPorts (Outport number) inputs outputs = (inputs ≡ 1) × (outputs ≡ 0)
-HasPorts (Constant value) inputs outputs = (inputs ≡ 0) × (outputs ≡ 1)
-HasPorts Ground inputs outputs = (inputs ≡ 0) × (outputs ≡ 1)
-HasPorts (Sum negative) inputs outputs = (inputs ≡ length negative) × (outputs ≡ 1)
-HasPorts (Gain value param) inputs outputs = (inputs ≡ 1) × (outputs ≡ 1)
-HasPorts Product inputs outputs = (inputs ≡ 2) × (outputs ≡ 1)
-HasPorts (Switch criterion threshold) inputs outputs = (inputs ≡ 3) × (outputs ≡ 1)
-HasPorts (Relational operator) inputs outputs = (inputs ≡ 2) × (outputs ≡ 1)
-HasPorts (Logic Not) inputs outputs = (inputs ≡ 1) × (outputs ≡ 1)
-HasPorts (Logic operator) inputs outputs = IsBetween 2 32 inputs × (outputs ≡ 1)
-HasPorts (Convert stored) inputs outputs = (inputs ≡ 1) × (outputs ≡ 1)
-HasPorts (Delay length initial reset) inputs outputs = (inputs ≡ 1) × (outputs ≡ 1)
-HasPorts (Mux []) inputs outputs = IsBetween 1 1024 inputs × (outputs ≡ 1)
-HasPorts (Mux sizes) inputs outputs = (inputs ≡ length sizes) × (outputs ≡ 1)
-HasPorts (Demux sizes) inputs outputs = (inputs ≡ 1) × (outputs ≡ length sizes)
-HasPorts (RateTransition period initial) inputs outputs = (inputs ≡ 1) × (outputs ≡ 1)
-HasPorts (Pass width) inputs outputs = (inputs ≡ 1) × (outputs ≡ 1)
-HasPorts EnableTest inputs outputs = (inputs ≡ 1) × (outputs ≡ 1)
-HasPorts (EnOut reset initial) inputs outputs = (inputs ≡ 1) × (outputs ≡ 1)
-HasPorts Terminator inputs outputs = (inputs ≡ 1) × (outputs ≡ 0)
+HasPorts kind inputs outputs = (row_of kind).ports.inputs inputs × (row_of kind).ports.outputs outputs
 
--- the lists, numbers and decimals of a kind
-abbrev pub HasRanges : Kind → Type 0
-HasRanges (Inport number width) = IsBetween 1 20000 number × IsBetween 0 1024 width
-HasRanges (Outport number) = IsBetween 1 20000 number
-HasRanges (Constant value) = IsList value
-HasRanges (Sum negative) = IsBetween 2 32 (length negative)
-HasRanges (Gain value param) = IsList value
-HasRanges (Switch criterion threshold) = IsList threshold
-HasRanges (Delay delay initial reset) = IsBetween 1 1024 delay × IsList initial
-HasRanges (Mux sizes) = IsBetween 0 1024 (length sizes) × All (IsBetween 1 1024) sizes
-HasRanges (Demux sizes) = IsBetween 1 1024 (length sizes) × (All (IsBetween 1 1024) sizes ⊎ All (λ size. size ≡ 0) sizes)
-HasRanges (RateTransition period initial) = IsPeriod period × IsList initial
-HasRanges (Pass width) = IsBetween 0 1024 width
-HasRanges (EnOut reset initial) = IsList initial
-HasRanges _ = ⊤
-
--- a specification whose type is valid
-abbrev pub IsSpec : TypeSpec → Type 0
-IsSpec (Fixed type) = IsType type
-IsSpec _ = ⊤
-
--- a type, or none
-abbrev pub MayBeFixed : TypeSpec → Type 0
-MayBeFixed (Fixed type) = ⊤
-MayBeFixed Auto = ⊤
-MayBeFixed _ = ⊥
-
--- a type, the internal rule, or the first input's type
-abbrev pub IsChoice : TypeSpec → Type 0
-IsChoice Auto = ⊥
-IsChoice _ = ⊤
-
--- a type alone
-abbrev pub IsFixed : TypeSpec → Type 0
-IsFixed (Fixed type) = ⊤
-IsFixed _ = ⊥
-
--- how a kind's type may be specified
-abbrev pub HasResult : Kind → TypeSpec → Type 0
-HasResult (Inport number width) spec = MayBeFixed spec
-HasResult (Outport number) spec = MayBeFixed spec
-HasResult (Constant value) spec = MayBeFixed spec
-HasResult (Sum negative) spec = IsChoice spec
-HasResult (Gain value param) spec = IsChoice spec
-HasResult Product spec = IsChoice spec
-HasResult (Switch criterion threshold) spec = IsChoice spec
-HasResult (Convert stored) spec = IsFixed spec
-HasResult (Pass width) spec = MayBeFixed spec
-HasResult (EnOut reset initial) spec = MayBeFixed spec
-HasResult _ spec = spec ≡ Auto
-
--- how the type of a Gain's coefficients may be specified
-abbrev pub HasParam : Kind → Type 0
-HasParam (Gain value param) = IsChoice param × IsSpec param
-HasParam _ = ⊤
-
--- the kinds that round, and no others, have a rounding and a saturation
+-- a kind that doesn't round has no rounding and no saturation
 abbrev pub HasRounding : Kind → Rounding → Bool → Type 0
-HasRounding (Sum negative) rounding saturate = ⊤
-HasRounding (Gain value param) rounding saturate = ⊤
-HasRounding Product rounding saturate = ⊤
-HasRounding (Switch criterion threshold) rounding saturate = ⊤
-HasRounding (Convert stored) rounding saturate = ⊤
-HasRounding _ rounding saturate = (rounding ≡ Floor) × IsFalse saturate
-
--- an inherited or a declared period
-abbrev pub MayDeclare : PeriodSpec → Type 0
-MayDeclare Inherit = ⊤
-MayDeclare ConstantPeriod = ⊥
-MayDeclare (Every period) = IsPeriod period
-
--- a Constant's period
-abbrev pub IsConstantPeriod : PeriodSpec → Type 0
-IsConstantPeriod Inherit = ⊥
-IsConstantPeriod ConstantPeriod = ⊤
-IsConstantPeriod (Every period) = IsPeriod period
-
--- how a kind's period may be specified
-abbrev pub HasPeriod : Kind → PeriodSpec → Type 0
-HasPeriod (Constant value) period = IsConstantPeriod period
-HasPeriod Ground period = period ≡ Inherit
-HasPeriod (Mux sizes) period = period ≡ Inherit
-HasPeriod (Demux sizes) period = period ≡ Inherit
-HasPeriod (RateTransition declared initial) period = period ≡ Every declared
-HasPeriod EnableTest period = period ≡ Inherit
-HasPeriod Terminator period = period ≡ Inherit
-HasPeriod _ period = MayDeclare period
+HasRounding kind rounding saturate = MatchBool (row_of kind).types.rounds ⊤ ((rounding ≡ Floor) × IsFalse saturate)
 
 -- a block is such as its text in a model can be
 pub record IsReadable (block : Block) : Type 0 where
   pub ports : HasPorts block.kind block.inputs block.outputs
-  pub ranges : HasRanges block.kind
+  pub parameters : (row_of block.kind).parameters
   pub types : IsSpec block.result
-  pub result : HasResult block.kind block.result
-  pub param : HasParam block.kind
+  pub result : (row_of block.kind).types.may_be block.result
   pub rounding : HasRounding block.kind block.rounding block.saturate
-  pub period : HasPeriod block.kind block.period
+  pub period : (row_of block.kind).timing.may_be block.period

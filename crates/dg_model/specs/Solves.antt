@@ -4,7 +4,9 @@ use Rattle.fx_type.specs.FxType.{InRange}
 use Rattle.dg_model.specs.declared.diagram.Diagram.{Diagram}
 use Rattle.dg_model.specs.declared.diagram.Block.{Block}
 use Rattle.dg_model.specs.declared.kind.Kind.{Kind}
-use Rattle.dg_model.specs.declared.kind.Kind.TheVariants.{Inport, Outport}
+use Rattle.dg_model.specs.declared.kind.Kind.TheVariants.{Inport}
+use Rattle.dg_model.specs.KindRow.{Role}
+use Rattle.dg_model.specs.Library.{row_of}
 use Rattle.dg_model.specs.Signals.{Attributes, Stimulus, Table}
 use Rattle.dg_model.specs.Hits.{Hits, last_hit}
 use Rattle.dg_model.specs.Wires.{width_into}
@@ -15,15 +17,29 @@ pub record IsStimulus (diagram : Diagram) (attributes : Attributes) (stimulus : 
   pub in_range : (block : ℕ) (b : Block) (number width element t : ℕ) → slice_get diagram.blocks block ≡ Some b → b.kind ≡ Inport number width → element < attributes.width_at block 1 → t < n → Hits (attributes.period_at block) t
       → InRange (attributes.type_at block 1) (stimulus number element t)
 
--- the ports at which a table shows a block: its output ports, and port 1 for a root Outport
-abbrev pub shown_ports : Kind → ℕ → ℕ
-shown_ports (Outport number) outputs = 1
-shown_ports _ outputs = outputs
+-- the ports at which a table shows a block of this role: its output ports, and port 1 for a root output port
+abbrev pub ports_of_role : Role → ℕ → ℕ
+ports_of_role (Role.RootInput number) outputs = outputs
+ports_of_role (Role.RootOutput number) outputs = 1
+ports_of_role (Role.InnerPort width) outputs = outputs
+ports_of_role Role.EnabledOutput outputs = outputs
+ports_of_role Role.Control outputs = outputs
+ports_of_role Role.Plain outputs = outputs
 
--- how many elements it shows there
+abbrev pub shown_ports : Kind → ℕ → ℕ
+shown_ports kind outputs = ports_of_role (row_of kind).place.role outputs
+
+-- how many elements it shows there: those of the port, and for a root output port those of its input
+abbrev pub width_of_role : Diagram → Attributes → Role → ℕ → ℕ → ℕ
+width_of_role diagram attributes (Role.RootInput number) block port = attributes.width_at block port
+width_of_role diagram attributes (Role.RootOutput number) block port = width_into diagram attributes block 1
+width_of_role diagram attributes (Role.InnerPort width) block port = attributes.width_at block port
+width_of_role diagram attributes Role.EnabledOutput block port = attributes.width_at block port
+width_of_role diagram attributes Role.Control block port = attributes.width_at block port
+width_of_role diagram attributes Role.Plain block port = attributes.width_at block port
+
 abbrev pub shown_width : Diagram → Attributes → Kind → ℕ → ℕ → ℕ
-shown_width diagram attributes (Outport number) block port = width_into diagram attributes block 1
-shown_width diagram attributes _ block port = attributes.width_at block port
+shown_width diagram attributes kind block port = width_of_role diagram attributes (row_of kind).place.role block port
 
 -- the table has an entry of the block at this port and element
 pub record IsShown (diagram : Diagram) (attributes : Attributes) (block : ℕ) (b : Block) (port element : ℕ) : Type 0 where

@@ -1,7 +1,5 @@
 -- Which nested blocks and lines are well formed (own).
 use Rattle.std.specs.Prelude.{◌≡◌, ℕ, suc, ◌≤◌, ◌<◌, ◌≢◌, List, length, All, AllPairs, Any, slice_get, Option, Some, None, MatchOption, ⊤}
-use Rattle.dg_model.specs.declared.kind.Kind.{Kind}
-use Rattle.dg_model.specs.declared.kind.Kind.TheVariants.{Inport, Outport, Pass, EnableTest, EnOut}
 use Rattle.dg_model.specs.declared.nested.Nested.{Nested}
 use Rattle.dg_model.specs.declared.nested.NestedBlock.{NestedBlock}
 use Rattle.dg_model.specs.declared.nested.NestedLine.{NestedLine}
@@ -9,17 +7,24 @@ use Rattle.dg_model.specs.declared.nested.Part.{Part}
 use Rattle.dg_model.specs.declared.nested.Part.TheVariants.{Plain, In, Out, SubSystem, Enable}
 use Rattle.dg_model.specs.declared.nested.Target.{Target}
 use Rattle.dg_model.specs.declared.nested.Target.TheVariants.{Port, Enable as EnableTarget}
-use Rattle.dg_model.specs.Library.{IsBetween, IsReadable}
+use Rattle.dg_model.specs.KindRow.{Role, IsBetween}
+use Rattle.dg_model.specs.Library.{row_of, IsReadable}
 
 -- the part is a subsystem
 abbrev pub IsSubSystem : Part → Type 0
 IsSubSystem SubSystem = ⊤
-IsSubSystem _ = ⊥
+IsSubSystem (Plain block) = ⊥
+IsSubSystem (In block number) = ⊥
+IsSubSystem (Out block number) = ⊥
+IsSubSystem (Enable reset) = ⊥
 
 -- the part is an EnablePort
 abbrev pub IsEnable : Part → Type 0
 IsEnable (Enable reset) = ⊤
-IsEnable _ = ⊥
+IsEnable (Plain block) = ⊥
+IsEnable (In block number) = ⊥
+IsEnable (Out block number) = ⊥
+IsEnable SubSystem = ⊥
 
 -- the block at a place is a subsystem that stands before it
 abbrev pub HasParent : List NestedBlock → ℕ → Option ℕ → Type 0
@@ -50,49 +55,60 @@ pub record JoinsWithin (blocks : List NestedBlock) (line : NestedLine) : Type 0 
 abbrev pub HasEnablePort : List NestedBlock → Option ℕ → Type 0
 HasEnablePort blocks system = Any (λ block. (block.parent ≡ system) × IsEnable block.part) blocks
 
--- the kind of the block that an Inport becomes, by its System
-abbrev pub IsInKind : Option ℕ → ℕ → Kind → Type 0
-IsInKind None number (Inport own width) = own ≡ number
-IsInKind (Some system) number (Pass width) = ⊤
-IsInKind _ number _ = ⊥
+-- the role of the block that an Inport becomes, by its System
+abbrev pub IsInRole : Option ℕ → ℕ → Role → Type 0
+IsInRole None number (Role.RootInput own) = own ≡ number
+IsInRole (Some system) number (Role.RootInput own) = ⊥
+IsInRole None number (Role.InnerPort width) = ⊥
+IsInRole (Some system) number (Role.InnerPort width) = ⊤
+IsInRole system number (Role.RootOutput own) = ⊥
+IsInRole system number Role.EnabledOutput = ⊥
+IsInRole system number Role.Control = ⊥
+IsInRole system number Role.Plain = ⊥
 
--- the kind of the block that an Outport becomes, by its System
-abbrev pub IsOutKind : List NestedBlock → Option ℕ → ℕ → Kind → Type 0
-IsOutKind blocks None number (Outport own) = own ≡ number
-IsOutKind blocks (Some system) number (EnOut reset initial) = HasEnablePort blocks (Some system)
-IsOutKind blocks (Some system) number (Pass width) = (width ≡ 0) × ¬ HasEnablePort blocks (Some system)
-IsOutKind blocks _ number _ = ⊥
-
--- the kinds that a plain block may have
-abbrev pub IsPlainKind : Kind → Type 0
-IsPlainKind (Inport number width) = ⊥
-IsPlainKind (Outport number) = ⊥
-IsPlainKind (Pass width) = ⊥
-IsPlainKind (EnOut reset initial) = ⊥
-IsPlainKind EnableTest = ⊥
-IsPlainKind _ = ⊤
+-- the role of the block that an Outport becomes, by its System
+abbrev pub IsOutRole : List NestedBlock → Option ℕ → ℕ → Role → Type 0
+IsOutRole blocks None number (Role.RootOutput own) = own ≡ number
+IsOutRole blocks (Some system) number (Role.RootOutput own) = ⊥
+IsOutRole blocks None number Role.EnabledOutput = ⊥
+IsOutRole blocks (Some system) number Role.EnabledOutput = HasEnablePort blocks (Some system)
+IsOutRole blocks None number (Role.InnerPort width) = ⊥
+IsOutRole blocks (Some system) number (Role.InnerPort width) = (width ≡ 0) × ¬ HasEnablePort blocks (Some system)
+IsOutRole blocks system number (Role.RootInput own) = ⊥
+IsOutRole blocks system number Role.Control = ⊥
+IsOutRole blocks system number Role.Plain = ⊥
 
 -- the block that a part becomes is such as its text can be
 abbrev pub HasReadable : Part → Type 0
 HasReadable (Plain block) = IsReadable block
 HasReadable (In block number) = IsReadable block
 HasReadable (Out block number) = IsReadable block
-HasReadable _ = ⊤
+HasReadable SubSystem = ⊤
+HasReadable (Enable reset) = ⊤
 
--- a block of an Inport has the kind and the number that its System asks for
-abbrev pub HasInKind : Option ℕ → Part → Type 0
-HasInKind system (In block number) = IsInKind system number block.kind
-HasInKind system _ = ⊤
+-- a block of an Inport has the role and the number that its System asks for
+abbrev pub HasInRole : Option ℕ → Part → Type 0
+HasInRole system (Plain block) = ⊤
+HasInRole system (In block number) = IsInRole system number (row_of block.kind).place.role
+HasInRole system (Out block number) = ⊤
+HasInRole system SubSystem = ⊤
+HasInRole system (Enable reset) = ⊤
 
 -- and so has a block of an Outport
-abbrev pub HasOutKind : List NestedBlock → Option ℕ → Part → Type 0
-HasOutKind blocks system (Out block number) = IsOutKind blocks system number block.kind
-HasOutKind blocks system _ = ⊤
+abbrev pub HasOutRole : List NestedBlock → Option ℕ → Part → Type 0
+HasOutRole blocks system (Plain block) = ⊤
+HasOutRole blocks system (In block number) = ⊤
+HasOutRole blocks system (Out block number) = IsOutRole blocks system number (row_of block.kind).place.role
+HasOutRole blocks system SubSystem = ⊤
+HasOutRole blocks system (Enable reset) = ⊤
 
 -- a plain block is no port
-abbrev pub HasPlainKind : Part → Type 0
-HasPlainKind (Plain block) = IsPlainKind block.kind
-HasPlainKind _ = ⊤
+abbrev pub HasPlainRole : Part → Type 0
+HasPlainRole (Plain block) = (row_of block.kind).place.role ≡ Role.Plain
+HasPlainRole (In block number) = ⊤
+HasPlainRole (Out block number) = ⊤
+HasPlainRole SubSystem = ⊤
+HasPlainRole (Enable reset) = ⊤
 
 -- the blocks and lines are well formed
 pub record IsSound (nested : Nested) : Type 0 where
@@ -102,6 +118,6 @@ pub record IsSound (nested : Nested) : Type 0 where
   pub names : AllPairs HaveNames nested.blocks
   pub lines : All (JoinsWithin nested.blocks) nested.lines
   pub blocks : All (λ block. HasReadable block.part) nested.blocks
-  pub ins : All (λ block. HasInKind block.parent block.part) nested.blocks
-  pub outs : All (λ block. HasOutKind nested.blocks block.parent block.part) nested.blocks
-  pub plains : All (λ block. HasPlainKind block.part) nested.blocks
+  pub ins : All (λ block. HasInRole block.parent block.part) nested.blocks
+  pub outs : All (λ block. HasOutRole nested.blocks block.parent block.part) nested.blocks
+  pub plains : All (λ block. HasPlainRole block.part) nested.blocks

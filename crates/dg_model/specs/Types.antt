@@ -1,13 +1,14 @@
 -- Which types the blocks of a diagram have, and which full types and unions their equations name (Simulink reference, `OutDataTypeStr`; what the internal rule gives, and the type of Ground, are own).
-use Rattle.std.specs.Prelude.{◌≡◌, pos, Bool, true, false, List, zip}
+use Rattle.std.specs.Prelude.{◌≡◌, ℕ, Bool, true, false, MatchBool, List, [], ◌∷◌, length, zip}
 use Rattle.fx_type.specs.declared.kind.FxType.{FxType}
-use Rattle.fx_type.specs.declared.kind.FxType.TheVariants.{Num, Logical as LogicalType}
 use Rattle.fx_type.specs.declared.spec.TypeSpec.{TypeSpec}
 use Rattle.fx_type.specs.declared.spec.TypeSpec.TheVariants.{Fixed, Internal, SameFirst, Auto}
 use Rattle.fx_type.specs.FullType.{IsFullSum, IsFullProduct, IsUnion}
 use Rattle.dg_model.specs.declared.kind.Kind.{Kind}
-use Rattle.dg_model.specs.declared.kind.Kind.TheVariants.{Inport, Outport, Constant, Ground, Sum, Gain, Product, Switch, Relational, Logic, Convert, Delay, Mux, Demux, RateTransition, Pass, EnableTest, EnOut, Terminator}
+use Rattle.dg_model.specs.KindRow.{OwnType, FullRule}
+use Rattle.dg_model.specs.Library.{row_of}
 use Rattle.dg_model.specs.Operation.{type_of}
+use Rattle.dg_model.specs.Wires.{numbers_from}
 
 -- the type that a specification gives: its own, the internal rule's, or the first input's
 abbrev pub IsSpecified : TypeSpec → FxType → (FxType → Type 0) → FxType → Type 0
@@ -16,47 +17,74 @@ IsSpecified Internal first IsInternal result = IsInternal result
 IsSpecified SameFirst first IsInternal result = result ≡ first
 IsSpecified Auto first IsInternal result = ⊥
 
--- the type that a specification writes out
-abbrev pub IsExplicit : TypeSpec → FxType → Type 0
-IsExplicit (Fixed type) result = result ≡ type
-IsExplicit _ result = ⊥
+-- ---- full types and unions
 
--- the full type or union that the equation of a block of this kind names, from the types of its inputs and, for a Gain, the type of its coefficients
-abbrev pub NamesType : Kind → TypeSpec → List FxType → FxType → FxType → Type 0
-NamesType (Sum negative) spec types param named = IsFullSum (zip negative types) named
-NamesType (Gain value param_spec) spec types param named = IsFullProduct (type_of types 0) param named
-NamesType Product spec types param named = IsFullProduct (type_of types 0) (type_of types 1) named
-NamesType (Switch criterion threshold) Internal types param named = IsUnion (type_of types 0) (type_of types 2) named
-NamesType (Relational operator) spec types param named = IsUnion (type_of types 0) (type_of types 1) named
-NamesType _ spec types param named = ⊥
+-- the full type or union by a rule, from the types of the inputs and, for a Gain, the type of its coefficients
+abbrev pub IsFullOf : FullRule → List FxType → FxType → FxType → Type 0
+IsFullOf FullRule.NoFull types param full = ⊥
+IsFullOf (FullRule.FullSum negative) types param full = IsFullSum (zip negative types) full
+IsFullOf FullRule.FullScaled types param full = IsFullProduct (type_of types 0) param full
+IsFullOf FullRule.FullProduct types param full = IsFullProduct (type_of types 0) (type_of types 1) full
+IsFullOf FullRule.UnionOfTwo types param full = IsUnion (type_of types 0) (type_of types 1) full
+IsFullOf FullRule.UnionOfEnds types param full = IsUnion (type_of types 0) (type_of types 2) full
 
--- the kind's equation names a full type or union
+-- the inputs, from 1, whose types it needs
+abbrev pub inputs_of_full : FullRule → List ℕ
+inputs_of_full FullRule.NoFull = []
+inputs_of_full (FullRule.FullSum negative) = numbers_from 1 (length negative)
+inputs_of_full FullRule.FullScaled = 1 ∷ []
+inputs_of_full FullRule.FullProduct = 1 ∷ 2 ∷ []
+inputs_of_full FullRule.UnionOfTwo = 1 ∷ 2 ∷ []
+inputs_of_full FullRule.UnionOfEnds = 1 ∷ 3 ∷ []
+
+-- the specification leaves the type to the internal rule
+abbrev pub is_internal : TypeSpec → Bool
+is_internal (Fixed type) = false
+is_internal Internal = true
+is_internal SameFirst = false
+is_internal Auto = false
+
+-- the equation names the full type or union of this rule
+abbrev pub is_named : FullRule → TypeSpec → Bool
+is_named FullRule.NoFull spec = false
+is_named (FullRule.FullSum negative) spec = true
+is_named FullRule.FullScaled spec = true
+is_named FullRule.FullProduct spec = true
+is_named FullRule.UnionOfTwo spec = true
+is_named FullRule.UnionOfEnds spec = is_internal spec
+
+-- the equation of a block of this kind names a full type or union
 abbrev pub names_full_type : Kind → TypeSpec → Bool
-names_full_type (Sum negative) spec = true
-names_full_type (Gain value param_spec) spec = true
-names_full_type Product spec = true
-names_full_type (Switch criterion threshold) Internal = true
-names_full_type (Relational operator) spec = true
-names_full_type _ spec = false
+names_full_type kind spec = is_named (row_of kind).types.full spec
 
--- the type of a block's outputs, from its specification, the types of its inputs and, for a Gain, the type of its coefficients
+-- it names this one
+abbrev pub NamesType : Kind → TypeSpec → List FxType → FxType → FxType → Type 0
+NamesType kind spec types param named = MatchBool (names_full_type kind spec) (IsFullOf (row_of kind).types.full types param named) ⊥
+
+-- ---- the type of a block's outputs
+
+-- the type of a kind whose specification chooses none
+abbrev pub IsOwnType : OwnType → List FxType → FxType → Type 0
+IsOwnType OwnType.Untyped types result = ⊥
+IsOwnType (OwnType.Always type) types result = result ≡ type
+IsOwnType OwnType.OfInput types result = result ≡ type_of types 0
+
+-- the inputs, from 1, whose types it needs
+abbrev pub inputs_of_own : OwnType → List ℕ
+inputs_of_own OwnType.Untyped = []
+inputs_of_own (OwnType.Always type) = []
+inputs_of_own OwnType.OfInput = 1 ∷ []
+
+-- the type of a block's outputs, from its specification, the types of its inputs and, for a Gain, the type of its coefficients: a type that is written out, that of inner ports and root Outports too, stands before any other is known
 abbrev pub IsResultType : Kind → TypeSpec → List FxType → FxType → FxType → Type 0
-IsResultType (Inport number width) spec types param result = IsExplicit spec result
-IsResultType (Outport number) spec types param result = result ≡ type_of types 0
-IsResultType (Constant value) spec types param result = IsExplicit spec result
-IsResultType Ground spec types param result = result ≡ Num false 1 (pos 0)
-IsResultType (Sum negative) spec types param result = IsSpecified spec (type_of types 0) (IsFullSum (zip negative types)) result
-IsResultType (Gain value param_spec) spec types param result = IsSpecified spec (type_of types 0) (IsFullProduct (type_of types 0) param) result
-IsResultType Product spec types param result = IsSpecified spec (type_of types 0) (IsFullProduct (type_of types 0) (type_of types 1)) result
-IsResultType (Switch criterion threshold) spec types param result = IsSpecified spec (type_of types 0) (IsUnion (type_of types 0) (type_of types 2)) result
-IsResultType (Relational operator) spec types param result = result ≡ LogicalType
-IsResultType (Logic operator) spec types param result = result ≡ LogicalType
-IsResultType (Convert stored) spec types param result = IsExplicit spec result
-IsResultType (Delay length initial reset) spec types param result = result ≡ type_of types 0
-IsResultType (Mux sizes) spec types param result = result ≡ type_of types 0
-IsResultType (Demux sizes) spec types param result = result ≡ type_of types 0
-IsResultType (RateTransition period initial) spec types param result = result ≡ type_of types 0
-IsResultType (Pass width) spec types param result = result ≡ type_of types 0
-IsResultType EnableTest spec types param result = result ≡ LogicalType
-IsResultType (EnOut reset initial) spec types param result = result ≡ type_of types 0
-IsResultType Terminator spec types param result = ⊥
+IsResultType kind (Fixed type) types param result = result ≡ type
+IsResultType kind Internal types param result = IsFullOf (row_of kind).types.full types param result
+IsResultType kind SameFirst types param result = result ≡ type_of types 0
+IsResultType kind Auto types param result = IsOwnType (row_of kind).types.own types result
+
+-- the inputs, from 1, whose types must be known before it is
+abbrev pub needed_inputs : Kind → TypeSpec → List ℕ
+needed_inputs kind (Fixed type) = []
+needed_inputs kind Internal = inputs_of_full (row_of kind).types.full
+needed_inputs kind SameFirst = 1 ∷ []
+needed_inputs kind Auto = inputs_of_own (row_of kind).types.own

@@ -3,10 +3,9 @@ use Rattle.std.specs.Prelude.{◌≡◌, ℕ, ◌≤◌, ◌<◌, ◌≢◌, ◌
 use Rattle.dg_model.specs.declared.diagram.Diagram.{Diagram}
 use Rattle.dg_model.specs.declared.diagram.Block.{Block}
 use Rattle.dg_model.specs.declared.diagram.Edge.{Edge}
-use Rattle.dg_model.specs.declared.kind.Kind.{Kind}
-use Rattle.dg_model.specs.declared.kind.Kind.TheVariants.{Inport, Outport, RateTransition, EnableTest, EnOut}
 use Rattle.dg_model.specs.Wires.{enters}
-use Rattle.dg_model.specs.Library.{IsReadable}
+use Rattle.dg_model.specs.KindRow.{Role, Standing}
+use Rattle.dg_model.specs.Library.{row_of, IsReadable}
 
 -- the edge joins an output port and an input port that are there
 pub record Joins (blocks : List Block) (edge : Edge) : Type 0 where
@@ -22,30 +21,32 @@ pub record AreNumbered (numbers : List ℕ) : Type 0 where
   pub within : All (λ number. (1 ≤ number) × (number ≤ length numbers)) numbers
   pub distinct : AllPairs (λ number other. number ≢ other) numbers
 
--- the number of a root Inport, and of a root Outport
-abbrev pub inport_number : Kind → Option ℕ
-inport_number (Inport number width) = Some number
-inport_number _ = None
+-- the number of a root input port, and of a root output port
+abbrev pub root_input : Role → Option ℕ
+root_input (Role.RootInput number) = Some number
+root_input (Role.RootOutput number) = None
+root_input (Role.InnerPort width) = None
+root_input Role.EnabledOutput = None
+root_input Role.Control = None
+root_input Role.Plain = None
 
-abbrev pub outport_number : Kind → Option ℕ
-outport_number (Outport number) = Some number
-outport_number _ = None
-
--- the block at this place is the control of an enabled subsystem
-abbrev pub IsControl : Kind → Type 0
-IsControl EnableTest = ⊤
-IsControl _ = ⊥
+abbrev pub root_output : Role → Option ℕ
+root_output (Role.RootInput number) = None
+root_output (Role.RootOutput number) = Some number
+root_output (Role.InnerPort width) = None
+root_output Role.EnabledOutput = None
+root_output Role.Control = None
+root_output Role.Plain = None
 
 -- an enabled subsystem is named by its control
 abbrev pub NamesControl : List Block → Option ℕ → Type 0
-NamesControl blocks enable = MatchOption enable ⊤ (λ control. MatchOption (slice_get blocks control) ⊥ (λ block. IsControl block.kind))
+NamesControl blocks enable = MatchOption enable ⊤ (λ control. MatchOption (slice_get blocks control) ⊥ (λ block. (row_of block.kind).place.role ≡ Role.Control))
 
--- which kinds stand in an enabled subsystem: no control and no rate transition, and an output port of one always
-abbrev pub HasEnable : Kind → Option ℕ → Type 0
-HasEnable EnableTest enable = enable ≡ None
-HasEnable (RateTransition period initial) enable = enable ≡ None
-HasEnable (EnOut reset initial) enable = IsSome enable
-HasEnable _ enable = ⊤
+-- a block stands where its kind may: in an enabled subsystem, or in none
+abbrev pub MayStand : Standing → Option ℕ → Type 0
+MayStand Standing.Anywhere enable = ⊤
+MayStand Standing.Outside enable = enable ≡ None
+MayStand Standing.Inside enable = IsSome enable
 
 -- the diagram is well formed
 pub record IsWired (diagram : Diagram) : Type 0 where
@@ -55,6 +56,6 @@ pub record IsWired (diagram : Diagram) : Type 0 where
   pub ordered : AllPairs StandsBefore diagram.edges
   pub blocks : All IsReadable diagram.blocks
   pub controls : All (λ block. NamesControl diagram.blocks block.enable) diagram.blocks
-  pub enables : All (λ block. HasEnable block.kind block.enable) diagram.blocks
-  pub inports : AreNumbered (filter_map (λ block. inport_number block.kind) diagram.blocks)
-  pub outports : AreNumbered (filter_map (λ block. outport_number block.kind) diagram.blocks)
+  pub enables : All (λ block. MayStand (row_of block.kind).place.stands block.enable) diagram.blocks
+  pub inports : AreNumbered (filter_map (λ block. root_input (row_of block.kind).place.role) diagram.blocks)
+  pub outports : AreNumbered (filter_map (λ block. root_output (row_of block.kind).place.role) diagram.blocks)

@@ -5,8 +5,9 @@
 //! functions of a place and a moment, and what drives an input. `Operation` says what an elementwise
 //! operation gives, `Types` and `GainParam` which types a block's row names, `Equation` what each kind
 //! of block gives at a hit, and `Solves` which table of values is the meaning of a diagram. `Library`
-//! says what each kind of block may carry, `Wired` which diagrams are well formed, and `Sound` which
-//! nested ones.
+//! has one row for each kind of block, with the columns of `KindRow`: what it may carry, and how its
+//! widths, its type and its period come from its inputs. `Wired` says which diagrams are well formed,
+//! and `Sound` which nested ones.
 #![tactic(auto)]
 
 mod diagram;

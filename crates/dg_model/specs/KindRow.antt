@@ -1,0 +1,205 @@
+-- What is told of each kind of block: the columns of its row (Simulink reference, each block's page; the limits are own).
+use Rattle.std.specs.Prelude.{◌≡◌, ℕ, ◌≤◌, ◌<◌, Bool, IsFalse, List, length, ⊤}
+use Rattle.fx_type.specs.declared.kind.FxType.{FxType}
+use Rattle.fx_type.specs.declared.spec.TypeSpec.{TypeSpec}
+use Rattle.fx_type.specs.declared.spec.TypeSpec.TheVariants.{Fixed, Internal, SameFirst, Auto}
+use Rattle.fx_type.specs.declared.decimal.Decimal.{Decimal}
+use Rattle.fx_type.specs.FxType.{IsType}
+use Rattle.dg_model.specs.declared.diagram.PeriodSpec.{PeriodSpec}
+use Rattle.dg_model.specs.declared.diagram.PeriodSpec.TheVariants.{Inherit, Constant as ConstantPeriod, Every}
+
+-- ---- what a parameter, a specification of a type and one of a period may be
+
+-- this one and no other
+abbrev pub Only : {A : Type 0} → A → A → Type 0
+Only wanted given = given ≡ wanted
+
+-- a number of these ends
+abbrev pub IsBetween : ℕ → ℕ → ℕ → Type 0
+IsBetween low high n = (low ≤ n) × (n ≤ high)
+
+-- a list parameter: 1 to 1024 decimals
+abbrev pub IsList : List Decimal → Type 0
+IsList list = IsBetween 1 1024 (length list)
+
+-- a period: a decimal above 0
+pub record IsPeriod (decimal : Decimal) : Type 0 where
+  pub sign : IsFalse decimal.negative
+  pub above : 0 < decimal.digits
+
+-- a specification whose type is valid
+abbrev pub IsSpec : TypeSpec → Type 0
+IsSpec (Fixed type) = IsType type
+IsSpec Internal = ⊤
+IsSpec SameFirst = ⊤
+IsSpec Auto = ⊤
+
+-- a type, or none
+abbrev pub MayBeFixed : TypeSpec → Type 0
+MayBeFixed (Fixed type) = ⊤
+MayBeFixed Internal = ⊥
+MayBeFixed SameFirst = ⊥
+MayBeFixed Auto = ⊤
+
+-- a type, the internal rule, or the first input's type
+abbrev pub IsChoice : TypeSpec → Type 0
+IsChoice (Fixed type) = ⊤
+IsChoice Internal = ⊤
+IsChoice SameFirst = ⊤
+IsChoice Auto = ⊥
+
+-- a type alone
+abbrev pub IsFixed : TypeSpec → Type 0
+IsFixed (Fixed type) = ⊤
+IsFixed Internal = ⊥
+IsFixed SameFirst = ⊥
+IsFixed Auto = ⊥
+
+-- an inherited or a declared period
+abbrev pub MayDeclare : PeriodSpec → Type 0
+MayDeclare Inherit = ⊤
+MayDeclare ConstantPeriod = ⊥
+MayDeclare (Every period) = IsPeriod period
+
+-- a Constant's period
+abbrev pub IsConstantPeriod : PeriodSpec → Type 0
+IsConstantPeriod Inherit = ⊥
+IsConstantPeriod ConstantPeriod = ⊤
+IsConstantPeriod (Every period) = IsPeriod period
+
+-- ---- the choices of a row
+
+-- what a block is in its System
+pub data Role : Type 0 where
+  -- the root input or output port of this number
+  RootInput : (number : ℕ) → Role
+  RootOutput : (number : ℕ) → Role
+  -- an inner port of this declared width, 0 where it declares none
+  InnerPort : (width : ℕ) → Role
+  -- an output port of an enabled subsystem, and the control of one
+  EnabledOutput : Role
+  Control : Role
+  -- a block that is no port
+  Plain : Role
+
+-- how its signals come from those of its inputs
+pub data Shape : Type 0 where
+  -- element by element, where one of a single element is repeated
+  Elementwise : Shape
+  -- its inputs end to end, of these sizes where the list isn't empty
+  Joined : (sizes : List ℕ) → Shape
+  -- the parts of its input, of these sizes; of zeros alone, as even as can be
+  Parted : (sizes : List ℕ) → Shape
+  -- one element from all of its input
+  Single : Shape
+
+-- the type of its outputs where its specification chooses none
+pub data OwnType : Type 0 where
+  -- none
+  Untyped : OwnType
+  -- always this one
+  Always : (type : FxType) → OwnType
+  -- that of input 1
+  OfInput : OwnType
+
+-- the full type or union of its inputs that its equation names, and that the internal rule gives
+pub data FullRule : Type 0 where
+  -- none
+  NoFull : FullRule
+  -- the full sum of the inputs, where `true` marks one that is subtracted
+  FullSum : (negative : List Bool) → FullRule
+  -- the full product of input 1 and the coefficients
+  FullScaled : FullRule
+  -- the full product of inputs 1 and 2
+  FullProduct : FullRule
+  -- the union of inputs 1 and 2
+  UnionOfTwo : FullRule
+  -- the union of inputs 1 and 3, which is named only where the internal rule takes it
+  UnionOfEnds : FullRule
+
+-- which period it takes where it inherits one
+pub data Inherited : Type 0 where
+  -- that of its sources, and none where no source's value ever changes
+  OfSources : Inherited
+  -- the same, but always a period: it moves on though its sources don't change
+  Moving : Inherited
+  -- one base sample
+  Base : Inherited
+  -- none: its value never changes
+  Unchanging : Inherited
+
+-- when it reads its inputs for its value at a base sample
+pub data Reading : Type 0 where
+  -- in that sample
+  Now : Reading
+  -- in samples before
+  Before : Reading
+  -- before where its input is slower, else in that sample
+  BeforeIfSlower : Reading
+
+-- where it may stand
+pub data Standing : Type 0 where
+  Anywhere : Standing
+  -- outside of enabled subsystems, or only in one
+  Outside : Standing
+  Inside : Standing
+
+-- ---- the columns
+
+-- what it is in its System, and where it may stand
+pub record PlaceRow : Type 0 where
+  pub role : Role
+  pub stands : Standing
+
+-- how many input and output ports it has
+pub record PortRow : Type 1 where
+  pub inputs : ℕ → Type 0
+  pub outputs : ℕ → Type 0
+
+-- how its signals come from those of its inputs
+pub record SignalRow : Type 0 where
+  pub shape : Shape
+  -- the parameters that have one entry, or one for each element
+  pub lists : List (List Decimal)
+  -- the width that it declares, 0 where it declares none
+  pub width : ℕ
+
+-- the type of its outputs
+pub record TypeRow : Type 1 where
+  -- how it may be specified
+  pub may_be : TypeSpec → Type 0
+  -- what it is where nothing is specified
+  pub own : OwnType
+  -- the full type or union that the equation names, which is what the internal rule gives
+  pub full : FullRule
+  -- whether its value is rounded to it
+  pub rounds : Bool
+
+-- when it takes a value
+pub record TimingRow : Type 1 where
+  -- how its period may be specified
+  pub may_be : PeriodSpec → Type 0
+  -- what it is where it is inherited
+  pub inherits : Inherited
+  -- when it reads its inputs
+  pub reads : Reading
+  -- how many samples of each element it keeps for its value later
+  pub delay : ℕ
+
+-- what becomes of it in hardware
+pub record HardwareRow : Type 0 where
+  -- whether a plan may set registers behind it
+  pub pipelines : Bool
+  -- whether each of its elements is a multiplication
+  pub multiplies : Bool
+
+-- the row of a kind of block
+pub record Row : Type 1 where
+  pub place : PlaceRow
+  pub ports : PortRow
+  -- its lists, numbers, sizes and decimals are in range
+  pub parameters : Type 0
+  pub signal : SignalRow
+  pub types : TypeRow
+  pub timing : TimingRow
+  pub hardware : HardwareRow
