@@ -29,15 +29,15 @@ plus_zero_term : (frac : ℤ) (negative : Bool) (type : FxType) (z : ℤ) → te
 plus_zero_term frac negative type z = ap (λ y. y +ℤ z) (zero_term frac negative type) ∙ +ℤ_idl z
 
 -- each input is in the range of its type
-abbrev AreInRange : List FxType → List ℤ → Type 0
-AreInRange types inputs = (input : ℕ) → input < length types → InRange (type_of types input) (value_of inputs input)
+abbrev EachInRange : List FxType → List ℤ → Type 0
+EachInRange types inputs = (input : ℕ) → input < length types → InRange (type_of types input) (value_of inputs input)
 
 abbrev AreTypes : List FxType → Type 0
 AreTypes types = (k : ℕ) (d : FxType) → k < length types → IsType (get_or types k d)
 
 module _ (frac : ℤ) where
   -- the sum of the first k terms is possible
-  part_possible : (signs : List Bool) (types : List FxType) (inputs : List ℤ) → AreTypes types → AreInRange types inputs → length inputs ≡ length types → (k : ℕ)
+  part_possible : (signs : List Bool) (types : List FxType) (inputs : List ℤ) → AreTypes types → EachInRange types inputs → length inputs ≡ length types → (k : ℕ)
       → IsPossibleSum frac (zip signs types) (signed_sum frac (take k (zip signs types)) (take k inputs))
   part_possible [] types inputs valid range same zero = refl
   part_possible [] types inputs valid range same (suc k) = refl
@@ -60,7 +60,7 @@ module _ (frac : ℤ) where
   }
 
   -- each term is possible
-  term_possible : (signs : List Bool) (types : List FxType) (inputs : List ℤ) → AreTypes types → AreInRange types inputs → length signs ≡ length types → length inputs ≡ length types → (k : ℕ) → k < length types
+  term_possible : (signs : List Bool) (types : List FxType) (inputs : List ℤ) → AreTypes types → EachInRange types inputs → length signs ≡ length types → length inputs ≡ length types → (k : ℕ) → k < length types
       → IsPossibleSum frac (zip signs types) (term_of frac (get_or signs k false) (type_of types k) (value_of inputs k))
   term_possible [] [] inputs valid range same_signs same k h = absurd (omega arith)
   term_possible [] (t ∷ types) inputs valid range same_signs same k h = absurd (omega arith)
@@ -101,7 +101,7 @@ bound_at frac (s ∷ signs) [] bound same k d h = absurd (omega arith)
 bound_at frac (s ∷ signs) (t ∷ types) bound same zero d h = bound 0 (s, t) (omega arith)
 bound_at frac (s ∷ signs) (t ∷ types) bound same (suc k) d h = bound_at frac signs types (λ k e h. bound (suc k) e (omega arith)) (omega arith) k d (omega arith)
 
-module _ (frac : ℤ) (signs : List Bool) (types : List FxType) (inputs : List ℤ) (valid : AreTypes types) (range : AreInRange types inputs) (same_signs : length signs ≡ length types) (same : length inputs ≡ length types) (full : FxType) (is_full : IsFullSum (zip signs types) full) (is_frac : frac_of full ≡ frac) where
+module _ (frac : ℤ) (signs : List Bool) (types : List FxType) (inputs : List ℤ) (valid : AreTypes types) (range : EachInRange types inputs) (same_signs : length signs ≡ length types) (same : length inputs ≡ length types) (full : FxType) (is_full : IsFullSum (zip signs types) full) (is_frac : frac_of full ≡ frac) where
   possible_fits : (total : ℤ) → IsPossibleSum frac (zip signs types) total → FitsSigned w128 total
   possible_fits total possible = range_fits full total is_full.valid (is_full.holds total (subst (λ (f : ℤ). IsPossibleSum f (zip signs types) total) (sym is_frac) possible))
 

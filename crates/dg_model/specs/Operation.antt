@@ -132,37 +132,63 @@ HasArity Pass n = n ≡ 1
 -- a Sum has one sign an input
 abbrev pub HasSigns : Op → List Bool → ℕ → Type 0
 HasSigns Sum signs n = length signs ≡ n
-HasSigns _ signs n = ⊤
+HasSigns (Gain coefficient param) signs n = ⊤
+HasSigns Product signs n = ⊤
+HasSigns (Switch criterion threshold) signs n = ⊤
+HasSigns (Relational operator) signs n = ⊤
+HasSigns (Logic gate) signs n = ⊤
+HasSigns (Convert stored) signs n = ⊤
+HasSigns Pass signs n = ⊤
 
 -- a Gain's coefficient and its type, and a Switch's threshold
 abbrev pub HasParameters : Op → List FxType → Type 0
+HasParameters Sum types = ⊤
 HasParameters (Gain coefficient param) types = IsType param × InRange param coefficient
+HasParameters Product types = ⊤
 HasParameters (Switch criterion threshold) types = InRange (type_of types 1) threshold
-HasParameters _ types = ⊤
+HasParameters (Relational operator) types = ⊤
+HasParameters (Logic gate) types = ⊤
+HasParameters (Convert stored) types = ⊤
+HasParameters Pass types = ⊤
 
 -- the result types that an operation allows
 abbrev pub HasResultType : Op → List FxType → FxType → Type 0
+HasResultType Sum types result = ⊤
+HasResultType (Gain coefficient param) types result = ⊤
+HasResultType Product types result = ⊤
+HasResultType (Switch criterion threshold) types result = ⊤
 HasResultType (Relational operator) types result = result ≡ LogicalType
 HasResultType (Logic gate) types result = result ≡ LogicalType
+HasResultType (Convert stored) types result = ⊤
 HasResultType Pass types result = result ≡ type_of types 0
-HasResultType _ types result = ⊤
 
 -- the full type or union that an operation names is a type
 abbrev pub HasFullType : Op → List Bool → List FxType → Type 0
 HasFullType Sum signs types = (full : FxType) × IsFullSum (zip signs types) full
 HasFullType (Gain coefficient param) signs types = (full : FxType) × IsFullProduct (type_of types 0) param full
 HasFullType Product signs types = (full : FxType) × IsFullProduct (type_of types 0) (type_of types 1) full
+HasFullType (Switch criterion threshold) signs types = ⊤
 HasFullType (Relational operator) signs types = (union : FxType) × IsUnion (type_of types 0) (type_of types 1) union
-HasFullType _ signs types = ⊤
+HasFullType (Logic gate) signs types = ⊤
+HasFullType (Convert stored) signs types = ⊤
+HasFullType Pass signs types = ⊤
 
--- the operation may be carried out on these inputs
-pub record CanCarryOut (operation : Operation) (values : List ℤ) : Type 0 where
+-- what holds of an operation before its inputs are known: counts, types and parameters
+pub record CanPrepare (operation : Operation) : Type 0 where
   pub arity : HasArity operation.op (length operation.types)
   pub signs : HasSigns operation.op operation.signs (length operation.types)
   pub types : All IsType operation.types
-  pub inputs : length values ≡ length operation.types
-  pub in_range : (input : ℕ) → input < length operation.types → InRange (type_of operation.types input) (value_of values input)
   pub parameters : HasParameters operation.op operation.types
   pub result : IsType operation.result
   pub result_type : HasResultType operation.op operation.types operation.result
   pub full_type : HasFullType operation.op operation.signs operation.types
+
+-- there is one value of each type, in its range
+pub record AreInRange (types : List FxType) (values : List ℤ) : Type 0 where
+  pub count : length values ≡ length types
+  pub in_range : (input : ℕ) → input < length types → InRange (type_of types input) (value_of values input)
+
+-- the operation may be carried out on these inputs
+pub record CanCarryOut (operation : Operation) (inputs : List ℤ) : Type 0 where
+  pub prepared : CanPrepare operation
+  pub values : AreInRange operation.types inputs

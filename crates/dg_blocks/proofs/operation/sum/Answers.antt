@@ -17,8 +17,8 @@ full_of : (c : After-greatest_frac-frac)
     → (full : FxType) × IsFullSum (zip c.args.call.now.signs.now c.args.call.now.types.now) full × (frac_of full ≡ to_z w16 (of_z w16 c.greatest_frac-frac.result))
 full_of c =
     let call = c.args.call.now in
-    let found = subst (λ (op : Op). HasFullType op call.signs.now call.types.now) c.requires.is_sum c.requires.can.full_type in
-    let signs : length call.signs.now ≡ length call.types.now = subst (λ (op : Op). HasSigns op call.signs.now (length call.types.now)) c.requires.is_sum c.requires.can.signs in
+    let found = subst (λ (op : Op). HasFullType op call.signs.now call.types.now) c.requires.is_sum c.requires.can.prepared.full_type in
+    let signs : length call.signs.now ≡ length call.types.now = subst (λ (op : Op). HasSigns op call.signs.now (length call.types.now)) c.requires.is_sum c.requires.can.prepared.signs in
     let g : to_z w16 (of_z w16 c.greatest_frac-frac.result) ≡ c.greatest_frac-frac.result = to_z-of_z w16 c.greatest_frac-frac.result (record { sfits = c.greatest_frac-frac.type_inv }) in
     let e = full_frac c.greatest_frac-frac.result call.signs.now call.types.now found.0 signs found.1 c.greatest_frac-frac.ensures.bound c.greatest_frac-frac.ensures.reached in
     (found.0, found.1, e ∙ sym g)
