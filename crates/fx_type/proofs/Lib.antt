@@ -1,4 +1,6 @@
-pub mod Ends
-pub mod Fracs
-pub mod FullTypes
-pub mod Narrow
+mod Ends
+pub mod Found
+mod Fracs
+mod FullTypes
+mod Functions
+mod Narrow

@@ -1,4 +1,6 @@
 pub mod Conversion
 pub mod FullType
+pub mod FullTypeOf
 pub mod FxType
+pub mod Laws
 pub mod Span

@@ -1,0 +1,15 @@
+-- The functions of full types give the one type that the relations allow, or none.
+use Rattle.std.specs.Prelude.{◌≡◌, ◌↔◌, Some, All}
+use Rattle.fx_type.specs.declared.kind.FxType.{FxType}
+use Rattle.fx_type.specs.FxType.{IsType}
+use Rattle.fx_type.specs.FullType.{Terms, IsFullSum, IsFullProduct, IsUnion}
+use Rattle.fx_type.specs.FullTypeOf.{full_sum_of, full_product_of, union_of}
+
+abbrev pub FullSumIsOne : Type 0
+FullSumIsOne = (terms : Terms) (type : FxType) → All (λ term. IsType term.1) terms → (IsFullSum terms type ↔ (full_sum_of terms ≡ Some type))
+
+abbrev pub FullProductIsOne : Type 0
+FullProductIsOne = (a b type : FxType) → (IsFullProduct a b type ↔ (full_product_of a b ≡ Some type))
+
+abbrev pub UnionIsOne : Type 0
+UnionIsOne = (a b type : FxType) → IsType a → IsType b → (IsUnion a b type ↔ (union_of a b ≡ Some type))
