@@ -1,0 +1,33 @@
+use Rattle.std.proofs.Common.{◌≡◌, ℕ, ◌<◌, false, List, ◌∷◌, length, ◌+◌, get_or, set, subst, drop, arith, ◌∙◌}
+use Rattle.std.proofs.lemmas.Grind.{common_steps}
+use Rattle.std.proofs.lemmas.List.{drop_more}
+use Rattle.dg_waves.specs.inner.Waves.{MarkedWait}
+use Rattle.dg_waves.proofs.Waved.{length_set, sought_kept, sought_found, unmarked}
+use Rattle.dg_waves.proofs.waves.changes.Goals as goal
+use Rattle.dg_waves.proofs.waves.changes.Goals.{in-Some+in_ok-push, in_default}
+
+pub loop-block-preserved : goal.loop-block-preserved
+loop-block-preserved g c =
+    let waiting = c.args.waiting.now in
+    let block = get_or waiting c.loop-block.block-index 0 in
+    let rest = drop (c.loop-block.block-index + 1) waiting in
+    let more : drop c.loop-block.block-index waiting ≡ block ∷ rest = drop_more waiting c.loop-block.block-index 0 (omega arith) in
+    let inside : block < length c.loop-block.marks = omega (arith, c.requires.between.there c.loop-block.block-index 0 c.loop-block-test.true, c.loop-block.invariant.marks_size) in
+    let wait : MarkedWait (set c.loop-block.marks block false) rest = unmarked c.loop-block.marks block rest inside (subst (λ (left : List ℕ). MarkedWait c.loop-block.marks left) more c.loop-block.invariant.wait) in
+    let before = rw more at c.loop-block.invariant.sought in
+    elim c.match-other_value.branch [
+      | in-Some+in_ok-push w ↦
+          let items = w.in_ok-push.ensures.items in
+          record {
+            marks_size = length_set c.loop-block.marks block false ∙ c.loop-block.invariant.marks_size;
+            sought = rw (w.found-is, items) (sought_found _ _ _ (record { block = block; value = w.in-Some.value }) rest w.in-Some.ensures before);
+            there = rw w.found-is (grind (arith, common_steps, items, c.loop-block.invariant.there));
+            wait = wait;
+          }
+      | in_default w ↦ record {
+        marks_size = length_set c.loop-block.marks block false ∙ c.loop-block.invariant.marks_size;
+        sought = rw w.found-is (sought_kept _ _ _ block rest w.in_default.ensures before);
+        there = rw w.found-is c.loop-block.invariant.there;
+        wait = wait;
+      }
+    ]
