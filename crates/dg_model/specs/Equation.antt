@@ -47,7 +47,7 @@ IsOpOf Terminator element param control op = ⊥
 abbrev pub signs_of_full : FullRule → List Bool
 signs_of_full FullRule.NoFull = []
 signs_of_full (FullRule.FullSum negative) = negative
-signs_of_full FullRule.FullScaled = []
+signs_of_full (FullRule.FullScaled value param) = []
 signs_of_full FullRule.FullProduct = []
 signs_of_full FullRule.UnionOfTwo = []
 signs_of_full FullRule.UnionOfEnds = []

@@ -108,8 +108,8 @@ pub data FullRule : Type 0 where
   NoFull : FullRule
   -- the full sum of the inputs, where `true` marks one that is subtracted
   FullSum : (negative : List Bool) → FullRule
-  -- the full product of input 1 and the coefficients
-  FullScaled : FullRule
+  -- the full product of input 1 and coefficients of this list, whose type is so specified
+  FullScaled : (value : List Decimal) → (param : TypeSpec) → FullRule
   -- the full product of inputs 1 and 2
   FullProduct : FullRule
   -- the union of inputs 1 and 2

@@ -78,7 +78,7 @@ row_of (Gain value param) = record {
   ports = record { inputs = Only 1; outputs = Only 1 };
   parameters = IsList value × IsChoice param × IsSpec param;
   signal = record { shape = Shape.Elementwise; lists = value ∷ []; width = 0 };
-  types = record { may_be = IsChoice; own = OwnType.Untyped; full = FullRule.FullScaled; rounds = true };
+  types = record { may_be = IsChoice; own = OwnType.Untyped; full = FullRule.FullScaled value param; rounds = true };
   timing = record { may_be = MayDeclare; inherits = Inherited.OfSources; reads = Reading.Now; delay = 0 };
   hardware = record { pipelines = true; multiplies = true };
 }

@@ -23,7 +23,7 @@ IsSpecified Auto first IsInternal result = ⊥
 abbrev pub IsFullOf : FullRule → List FxType → FxType → FxType → Type 0
 IsFullOf FullRule.NoFull types param full = ⊥
 IsFullOf (FullRule.FullSum negative) types param full = IsFullSum (zip negative types) full
-IsFullOf FullRule.FullScaled types param full = IsFullProduct (type_of types 0) param full
+IsFullOf (FullRule.FullScaled value spec) types param full = IsFullProduct (type_of types 0) param full
 IsFullOf FullRule.FullProduct types param full = IsFullProduct (type_of types 0) (type_of types 1) full
 IsFullOf FullRule.UnionOfTwo types param full = IsUnion (type_of types 0) (type_of types 1) full
 IsFullOf FullRule.UnionOfEnds types param full = IsUnion (type_of types 0) (type_of types 2) full
@@ -32,7 +32,7 @@ IsFullOf FullRule.UnionOfEnds types param full = IsUnion (type_of types 0) (type
 abbrev pub inputs_of_full : FullRule → List ℕ
 inputs_of_full FullRule.NoFull = []
 inputs_of_full (FullRule.FullSum negative) = numbers_from 1 (length negative)
-inputs_of_full FullRule.FullScaled = 1 ∷ []
+inputs_of_full (FullRule.FullScaled value spec) = 1 ∷ []
 inputs_of_full FullRule.FullProduct = 1 ∷ 2 ∷ []
 inputs_of_full FullRule.UnionOfTwo = 1 ∷ 2 ∷ []
 inputs_of_full FullRule.UnionOfEnds = 1 ∷ 3 ∷ []
@@ -48,7 +48,7 @@ is_internal Auto = false
 abbrev pub is_named : FullRule → TypeSpec → Bool
 is_named FullRule.NoFull spec = false
 is_named (FullRule.FullSum negative) spec = true
-is_named FullRule.FullScaled spec = true
+is_named (FullRule.FullScaled value param) spec = true
 is_named FullRule.FullProduct spec = true
 is_named FullRule.UnionOfTwo spec = true
 is_named FullRule.UnionOfEnds spec = is_internal spec
