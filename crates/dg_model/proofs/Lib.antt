@@ -6,7 +6,9 @@ mod Examples
 mod FastToSlow
 mod GainTypes
 mod Numbers
+mod PeriodRounds
 mod Roundings
 mod SlowToFast
 mod SumTypes
 mod Vectors
+mod WidthRounds

@@ -1,12 +1,17 @@
+pub mod Dimension
 pub mod Equation
+pub mod Faults
 pub mod GainParam
 pub mod Hits
 pub mod KindRow
 pub mod Library
 pub mod Operation
+pub mod Periods
+pub mod Rate
 pub mod Signals
 pub mod Solves
 pub mod Sound
 pub mod Types
+pub mod Widths
 pub mod Wired
 pub mod Wires
