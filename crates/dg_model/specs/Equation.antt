@@ -1,5 +1,5 @@
 -- What each kind of block gives at a hit, from the table's entries of its drivers (Simulink reference, each block's page; HDL Coder guide, rate transitions). The order of the table's computation stands nowhere here.
-use Rattle.std.specs.Prelude.{◌≡◌, ℕ, suc, ◌+◌, ◌-◌, ◌<◌, ℤ, pos, int_lt, nat_lt, Bool, true, false, MatchBool, List, [], length, map, sum, take, filter, slice_get, slice_index, Option, Some, None, MatchOption}
+use Rattle.std.specs.Prelude.{◌≡◌, ℕ, suc, ◌+◌, ◌-◌, ◌<◌, ℤ, pos, int_lt, Bool, true, false, MatchBool, List, [], length, map, sum, take, filter, slice_get, slice_index, Option, Some, None, MatchOption}
 use Rattle.std.specs.List.{list_any}
 use Rattle.fx_type.specs.declared.kind.FxType.{FxType}
 use Rattle.fx_type.specs.declared.decimal.Decimal.{Decimal}
@@ -13,8 +13,8 @@ use Rattle.dg_model.specs.declared.op.Op.TheVariants.{Sum as OpSum, Gain as OpGa
 use Rattle.dg_model.specs.KindRow.{FullRule}
 use Rattle.dg_model.specs.Library.{row_of}
 use Rattle.dg_model.specs.Signals.{Attributes, Stimulus, Table}
-use Rattle.dg_model.specs.Hits.{hits_before, is_enabled_at, counted_hits}
-use Rattle.dg_model.specs.Wires.{numbers_from, driver_of, at_source, width_into, widths_into, type_into, types_into, value_into, values_into, entry_of}
+use Rattle.dg_model.specs.Hits.{hits_before, is_enabled_at, counted_hits, is_slow_to_fast}
+use Rattle.dg_model.specs.Wires.{numbers_from, width_into, widths_into, type_into, types_into, period_into, value_into, values_into, entry_of}
 use Rattle.dg_model.specs.Operation.{OpGives, stored_truth}
 
 -- v is a list parameter's entry for an element, stored in a type (Simulink reference: parameters round to nearest and saturate)
@@ -61,12 +61,6 @@ pub record IsPart (widths : List ℕ) (element signal k : ℕ) : Type 0 where
   pub within : k < slice_index widths signal
   pub place : element ≡ sum (take signal widths) + k
 
--- from the longer period of the driver to the shorter of the block
-abbrev pub is_slow_to_fast : Option ℕ → Option ℕ → Bool
-is_slow_to_fast None own = false
-is_slow_to_fast (Some driver) None = false
-is_slow_to_fast (Some driver) (Some own) = nat_lt own driver
-
 -- the block is enabled at t; one outside enabled subsystems always is
 abbrev pub is_enabled : Table → Option ℕ → ℕ → Bool
 is_enabled table None t = true
@@ -103,7 +97,7 @@ module _ (diagram : Diagram) (attributes : Attributes) (stimulus : Stimulus) (ta
   -- a rate transition: from slow to fast its input at the slow hit before the last one up to t, else its input at t
   abbrev pub RateEquation : ℕ → List Decimal → ℕ → ℕ → ℤ → Type 0
   RateEquation block initial element t v =
-      let slow = at_source (driver_of diagram block 1) None (λ from from_port. attributes.period_at from)
+      let slow = period_into diagram attributes block 1
       in MatchBool (is_slow_to_fast slow (attributes.period_at block))
       (IsInputAt block initial element (slice_get (hits_before slow (suc t)) 1) v)
       (v ≡ value_into diagram attributes table block 1 element t)

@@ -1,5 +1,5 @@
 -- When a block takes a value (Simulink reference, discrete sample time; constant sample time).
-use Rattle.std.specs.Prelude.{◌≡◌, ℕ, zero, suc, ◌-◌, ◌%◌, pos, Bool, true, false, ◌==◌, if◌then◌else◌, List, [], ◌∷◌, Option, Some, None, filter, take_while}
+use Rattle.std.specs.Prelude.{◌≡◌, ℕ, zero, suc, ◌-◌, ◌%◌, pos, Bool, true, false, ◌==◌, if◌then◌else◌, List, [], ◌∷◌, Option, Some, None, filter, nat_lt}
 use Rattle.std.specs.Ordering.{int_eq}
 use Rattle.dg_model.specs.Signals.{Table}
 
@@ -31,8 +31,20 @@ IsEnabledAt table enable t = table enable 1 0 t ≡ pos 1
 abbrev pub is_enabled_at : Table → ℕ → ℕ → Bool
 is_enabled_at table enable t = int_eq (table enable 1 0 t) (pos 1)
 
--- the hits before t at which a Delay of this period moved its values on, the latest first: outside enabled subsystems all its hits, in one with held states the enabled hits, and in one with reset states those from which on every hit before t is enabled (Simulink reference, `StatesWhenEnabling`; what a reset counts is own)
+-- the hits before t from which on every hit before t is enabled, the latest first
+abbrev pub hits_since_enabled : Table → ℕ → Option ℕ → ℕ → List ℕ
+hits_since_enabled table enable period zero = []
+hits_since_enabled table enable period (suc t) =
+    if is_hit period t then (if is_enabled_at table enable t then t ∷ hits_since_enabled table enable period t else []) else hits_since_enabled table enable period t
+
+-- the hits before t at which a Delay of this period moved its values on, the latest first: outside enabled subsystems all its hits, in one with held states the enabled hits, and in one with reset states those since it was last enabled anew (Simulink reference, `StatesWhenEnabling`; what a reset counts is own)
 abbrev pub counted_hits : Table → Option ℕ → Bool → Option ℕ → ℕ → List ℕ
 counted_hits table None reset period t = hits_before period t
 counted_hits table (Some enable) false period t = filter (is_enabled_at table enable) (hits_before period t)
-counted_hits table (Some enable) true period t = take_while (is_enabled_at table enable) (hits_before period t)
+counted_hits table (Some enable) true period t = hits_since_enabled table enable period t
+
+-- from the longer period of a driver to the shorter of its reader
+abbrev pub is_slow_to_fast : Option ℕ → Option ℕ → Bool
+is_slow_to_fast None own = false
+is_slow_to_fast (Some driver) None = false
+is_slow_to_fast (Some driver) (Some own) = nat_lt own driver

@@ -137,6 +137,14 @@ pub data Reading : Type 0 where
   -- before where its input is slower, else in that sample
   BeforeIfSlower : Reading
 
+-- when it asks whether the enabled subsystem that holds it is enabled
+pub data Asking : Type 0 where
+  Never : Asking
+  -- for its value at a base sample in that sample
+  Now : Asking
+  -- for its values in samples after
+  Before : Asking
+
 -- where it may stand
 pub data Standing : Type 0 where
   Anywhere : Standing
@@ -183,6 +191,7 @@ pub record TimingRow : Type 1 where
   pub inherits : Inherited
   -- when it reads its inputs
   pub reads : Reading
+  pub asks : Asking
   -- how many samples of each element it keeps for its value later
   pub delay : ℕ
 

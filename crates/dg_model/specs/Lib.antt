@@ -3,11 +3,14 @@ pub mod Equation
 pub mod Faults
 pub mod GainParam
 pub mod Hits
+pub mod Instant
 pub mod KindRow
+pub mod LatencyEdges
 pub mod Library
 pub mod Operation
 pub mod Periods
 pub mod Rate
+pub mod RootElements
 pub mod Signals
 pub mod Solves
 pub mod Sound

@@ -10,7 +10,7 @@ use Rattle.dg_model.specs.declared.kind.Gate.{Gate}
 use Rattle.dg_model.specs.declared.kind.Gate.TheVariants.{And, Or, Nand, Nor, Xor, Nxor, Not}
 use Rattle.dg_model.specs.declared.kind.Kind.{Kind}
 use Rattle.dg_model.specs.declared.kind.Kind.TheVariants.{Inport, Outport, Constant, Ground, Sum, Gain, Product, Switch, Relational, Logic, Convert, Delay, Mux, Demux, RateTransition, Pass, EnableTest, EnOut, Terminator}
-use Rattle.dg_model.specs.KindRow.{Row, Role, Standing, Shape, OwnType, FullRule, Inherited, Reading, Only, IsBetween, IsList, IsPeriod, IsSpec, MayBeFixed, IsChoice, IsFixed, MayDeclare, IsConstantPeriod}
+use Rattle.dg_model.specs.KindRow.{Row, Role, Standing, Shape, OwnType, FullRule, Inherited, Reading, Asking, Only, IsBetween, IsList, IsPeriod, IsSpec, MayBeFixed, IsChoice, IsFixed, MayDeclare, IsConstantPeriod}
 
 -- a gate has 2 to 32 inputs, and NOT one
 abbrev pub HasOperands : Gate → ℕ → Type 0
@@ -34,7 +34,7 @@ row_of (Inport number width) = record {
   parameters = IsBetween 1 20000 number × IsBetween 0 1024 width;
   signal = record { shape = Shape.Elementwise; lists = []; width = width };
   types = record { may_be = MayBeFixed; own = OwnType.Untyped; full = FullRule.NoFull; rounds = false };
-  timing = record { may_be = MayDeclare; inherits = Inherited.Base; reads = Reading.Now; delay = 0 };
+  timing = record { may_be = MayDeclare; inherits = Inherited.Base; reads = Reading.Now; asks = Asking.Never; delay = 0 };
   hardware = record { pipelines = false; multiplies = false };
 }
 row_of (Outport number) = record {
@@ -43,7 +43,7 @@ row_of (Outport number) = record {
   parameters = IsBetween 1 20000 number;
   signal = record { shape = Shape.Elementwise; lists = []; width = 0 };
   types = record { may_be = MayBeFixed; own = OwnType.OfInput; full = FullRule.NoFull; rounds = false };
-  timing = record { may_be = MayDeclare; inherits = Inherited.Moving; reads = Reading.Now; delay = 0 };
+  timing = record { may_be = MayDeclare; inherits = Inherited.Moving; reads = Reading.Now; asks = Asking.Never; delay = 0 };
   hardware = record { pipelines = false; multiplies = false };
 }
 row_of (Constant value) = record {
@@ -52,7 +52,7 @@ row_of (Constant value) = record {
   parameters = IsList value;
   signal = record { shape = Shape.Elementwise; lists = value ∷ []; width = length value };
   types = record { may_be = MayBeFixed; own = OwnType.Untyped; full = FullRule.NoFull; rounds = false };
-  timing = record { may_be = IsConstantPeriod; inherits = Inherited.Unchanging; reads = Reading.Now; delay = 0 };
+  timing = record { may_be = IsConstantPeriod; inherits = Inherited.Unchanging; reads = Reading.Now; asks = Asking.Never; delay = 0 };
   hardware = record { pipelines = false; multiplies = false };
 }
 row_of Ground = record {
@@ -61,7 +61,7 @@ row_of Ground = record {
   parameters = ⊤;
   signal = record { shape = Shape.Elementwise; lists = []; width = 0 };
   types = record { may_be = Only Auto; own = OwnType.Always (Num false 1 (pos 0)); full = FullRule.NoFull; rounds = false };
-  timing = record { may_be = Only Inherit; inherits = Inherited.Unchanging; reads = Reading.Now; delay = 0 };
+  timing = record { may_be = Only Inherit; inherits = Inherited.Unchanging; reads = Reading.Now; asks = Asking.Never; delay = 0 };
   hardware = record { pipelines = false; multiplies = false };
 }
 row_of (Sum negative) = record {
@@ -70,7 +70,7 @@ row_of (Sum negative) = record {
   parameters = IsBetween 2 32 (length negative);
   signal = record { shape = Shape.Elementwise; lists = []; width = 0 };
   types = record { may_be = IsChoice; own = OwnType.Untyped; full = FullRule.FullSum negative; rounds = true };
-  timing = record { may_be = MayDeclare; inherits = Inherited.OfSources; reads = Reading.Now; delay = 0 };
+  timing = record { may_be = MayDeclare; inherits = Inherited.OfSources; reads = Reading.Now; asks = Asking.Never; delay = 0 };
   hardware = record { pipelines = true; multiplies = false };
 }
 row_of (Gain value param) = record {
@@ -79,7 +79,7 @@ row_of (Gain value param) = record {
   parameters = IsList value × IsChoice param × IsSpec param;
   signal = record { shape = Shape.Elementwise; lists = value ∷ []; width = 0 };
   types = record { may_be = IsChoice; own = OwnType.Untyped; full = FullRule.FullScaled value param; rounds = true };
-  timing = record { may_be = MayDeclare; inherits = Inherited.OfSources; reads = Reading.Now; delay = 0 };
+  timing = record { may_be = MayDeclare; inherits = Inherited.OfSources; reads = Reading.Now; asks = Asking.Never; delay = 0 };
   hardware = record { pipelines = true; multiplies = true };
 }
 row_of Product = record {
@@ -88,7 +88,7 @@ row_of Product = record {
   parameters = ⊤;
   signal = record { shape = Shape.Elementwise; lists = []; width = 0 };
   types = record { may_be = IsChoice; own = OwnType.Untyped; full = FullRule.FullProduct; rounds = true };
-  timing = record { may_be = MayDeclare; inherits = Inherited.OfSources; reads = Reading.Now; delay = 0 };
+  timing = record { may_be = MayDeclare; inherits = Inherited.OfSources; reads = Reading.Now; asks = Asking.Never; delay = 0 };
   hardware = record { pipelines = true; multiplies = true };
 }
 row_of (Switch criterion threshold) = record {
@@ -97,7 +97,7 @@ row_of (Switch criterion threshold) = record {
   parameters = IsList threshold;
   signal = record { shape = Shape.Elementwise; lists = threshold ∷ []; width = 0 };
   types = record { may_be = IsChoice; own = OwnType.Untyped; full = FullRule.UnionOfEnds; rounds = true };
-  timing = record { may_be = MayDeclare; inherits = Inherited.OfSources; reads = Reading.Now; delay = 0 };
+  timing = record { may_be = MayDeclare; inherits = Inherited.OfSources; reads = Reading.Now; asks = Asking.Never; delay = 0 };
   hardware = record { pipelines = true; multiplies = false };
 }
 row_of (Relational operator) = record {
@@ -106,7 +106,7 @@ row_of (Relational operator) = record {
   parameters = ⊤;
   signal = record { shape = Shape.Elementwise; lists = []; width = 0 };
   types = record { may_be = Only Auto; own = OwnType.Always LogicalType; full = FullRule.UnionOfTwo; rounds = false };
-  timing = record { may_be = MayDeclare; inherits = Inherited.OfSources; reads = Reading.Now; delay = 0 };
+  timing = record { may_be = MayDeclare; inherits = Inherited.OfSources; reads = Reading.Now; asks = Asking.Never; delay = 0 };
   hardware = record { pipelines = true; multiplies = false };
 }
 row_of (Logic operator) = record {
@@ -115,7 +115,7 @@ row_of (Logic operator) = record {
   parameters = ⊤;
   signal = record { shape = Shape.Elementwise; lists = []; width = 0 };
   types = record { may_be = Only Auto; own = OwnType.Always LogicalType; full = FullRule.NoFull; rounds = false };
-  timing = record { may_be = MayDeclare; inherits = Inherited.OfSources; reads = Reading.Now; delay = 0 };
+  timing = record { may_be = MayDeclare; inherits = Inherited.OfSources; reads = Reading.Now; asks = Asking.Never; delay = 0 };
   hardware = record { pipelines = true; multiplies = false };
 }
 row_of (Convert stored) = record {
@@ -124,7 +124,7 @@ row_of (Convert stored) = record {
   parameters = ⊤;
   signal = record { shape = Shape.Elementwise; lists = []; width = 0 };
   types = record { may_be = IsFixed; own = OwnType.Untyped; full = FullRule.NoFull; rounds = true };
-  timing = record { may_be = MayDeclare; inherits = Inherited.OfSources; reads = Reading.Now; delay = 0 };
+  timing = record { may_be = MayDeclare; inherits = Inherited.OfSources; reads = Reading.Now; asks = Asking.Never; delay = 0 };
   hardware = record { pipelines = true; multiplies = false };
 }
 row_of (Delay delay initial reset) = record {
@@ -133,7 +133,7 @@ row_of (Delay delay initial reset) = record {
   parameters = IsBetween 1 1024 delay × IsList initial;
   signal = record { shape = Shape.Elementwise; lists = initial ∷ []; width = 0 };
   types = record { may_be = Only Auto; own = OwnType.OfInput; full = FullRule.NoFull; rounds = false };
-  timing = record { may_be = MayDeclare; inherits = Inherited.Moving; reads = Reading.Before; delay = delay };
+  timing = record { may_be = MayDeclare; inherits = Inherited.Moving; reads = Reading.Before; asks = Asking.Before; delay = delay };
   hardware = record { pipelines = false; multiplies = false };
 }
 row_of (Mux sizes) = record {
@@ -142,7 +142,7 @@ row_of (Mux sizes) = record {
   parameters = IsBetween 0 1024 (length sizes) × All (IsBetween 1 1024) sizes;
   signal = record { shape = Shape.Joined sizes; lists = []; width = 0 };
   types = record { may_be = Only Auto; own = OwnType.OfInput; full = FullRule.NoFull; rounds = false };
-  timing = record { may_be = Only Inherit; inherits = Inherited.OfSources; reads = Reading.Now; delay = 0 };
+  timing = record { may_be = Only Inherit; inherits = Inherited.OfSources; reads = Reading.Now; asks = Asking.Never; delay = 0 };
   hardware = record { pipelines = false; multiplies = false };
 }
 row_of (Demux sizes) = record {
@@ -151,7 +151,7 @@ row_of (Demux sizes) = record {
   parameters = IsBetween 1 1024 (length sizes) × (All (IsBetween 1 1024) sizes ⊎ All (Only 0) sizes);
   signal = record { shape = Shape.Parted sizes; lists = []; width = 0 };
   types = record { may_be = Only Auto; own = OwnType.OfInput; full = FullRule.NoFull; rounds = false };
-  timing = record { may_be = Only Inherit; inherits = Inherited.OfSources; reads = Reading.Now; delay = 0 };
+  timing = record { may_be = Only Inherit; inherits = Inherited.OfSources; reads = Reading.Now; asks = Asking.Never; delay = 0 };
   hardware = record { pipelines = false; multiplies = false };
 }
 row_of (RateTransition period initial) = record {
@@ -160,7 +160,7 @@ row_of (RateTransition period initial) = record {
   parameters = IsPeriod period × IsList initial;
   signal = record { shape = Shape.Elementwise; lists = initial ∷ []; width = 0 };
   types = record { may_be = Only Auto; own = OwnType.OfInput; full = FullRule.NoFull; rounds = false };
-  timing = record { may_be = Only (Every period); inherits = Inherited.OfSources; reads = Reading.BeforeIfSlower; delay = 0 };
+  timing = record { may_be = Only (Every period); inherits = Inherited.OfSources; reads = Reading.BeforeIfSlower; asks = Asking.Never; delay = 0 };
   hardware = record { pipelines = false; multiplies = false };
 }
 row_of (Pass width) = record {
@@ -169,7 +169,7 @@ row_of (Pass width) = record {
   parameters = IsBetween 0 1024 width;
   signal = record { shape = Shape.Elementwise; lists = []; width = width };
   types = record { may_be = MayBeFixed; own = OwnType.OfInput; full = FullRule.NoFull; rounds = false };
-  timing = record { may_be = MayDeclare; inherits = Inherited.OfSources; reads = Reading.Now; delay = 0 };
+  timing = record { may_be = MayDeclare; inherits = Inherited.OfSources; reads = Reading.Now; asks = Asking.Never; delay = 0 };
   hardware = record { pipelines = false; multiplies = false };
 }
 row_of EnableTest = record {
@@ -178,7 +178,7 @@ row_of EnableTest = record {
   parameters = ⊤;
   signal = record { shape = Shape.Single; lists = []; width = 0 };
   types = record { may_be = Only Auto; own = OwnType.Always LogicalType; full = FullRule.NoFull; rounds = false };
-  timing = record { may_be = Only Inherit; inherits = Inherited.OfSources; reads = Reading.Now; delay = 0 };
+  timing = record { may_be = Only Inherit; inherits = Inherited.OfSources; reads = Reading.Now; asks = Asking.Never; delay = 0 };
   hardware = record { pipelines = false; multiplies = false };
 }
 row_of (EnOut reset initial) = record {
@@ -187,7 +187,7 @@ row_of (EnOut reset initial) = record {
   parameters = IsList initial;
   signal = record { shape = Shape.Elementwise; lists = initial ∷ []; width = 0 };
   types = record { may_be = MayBeFixed; own = OwnType.OfInput; full = FullRule.NoFull; rounds = false };
-  timing = record { may_be = MayDeclare; inherits = Inherited.Moving; reads = Reading.Now; delay = 0 };
+  timing = record { may_be = MayDeclare; inherits = Inherited.Moving; reads = Reading.Now; asks = Asking.Now; delay = 0 };
   hardware = record { pipelines = false; multiplies = false };
 }
 row_of Terminator = record {
@@ -196,7 +196,7 @@ row_of Terminator = record {
   parameters = ⊤;
   signal = record { shape = Shape.Elementwise; lists = []; width = 0 };
   types = record { may_be = Only Auto; own = OwnType.Untyped; full = FullRule.NoFull; rounds = false };
-  timing = record { may_be = Only Inherit; inherits = Inherited.OfSources; reads = Reading.Now; delay = 0 };
+  timing = record { may_be = Only Inherit; inherits = Inherited.OfSources; reads = Reading.Now; asks = Asking.Never; delay = 0 };
   hardware = record { pipelines = false; multiplies = false };
 }
 

@@ -54,3 +54,11 @@ pub record Solves (diagram : Diagram) (attributes : Attributes) (stimulus : Stim
       → Equation diagram attributes stimulus table block port element t (table block port element t)
   pub between_hits : (block : ℕ) (b : Block) (port element t : ℕ) → IsShown diagram attributes block b port element → t < n → ¬ Hits (attributes.period_at block) t
       → table block port element t ≡ table block port element (last_hit (attributes.period_at block) t)
+
+-- two tables agree on what they show of a block at a base sample
+abbrev pub AgreeAt : Diagram → Attributes → Table → Table → ℕ → ℕ → Type 0
+AgreeAt diagram attributes table other block t = (b : Block) (port element : ℕ) → IsShown diagram attributes block b port element → table block port element t ≡ other block port element t
+
+-- they agree on all that they show below base sample n
+abbrev pub AgreeBelow : Diagram → Attributes → Table → Table → ℕ → Type 0
+AgreeBelow diagram attributes table other n = (block t : ℕ) → t < n → AgreeAt diagram attributes table other block t

@@ -1,5 +1,5 @@
 -- What drives an input, and what the input carries (Simulink reference, signal lines; scalar expansion of inputs and parameters).
-use Rattle.std.specs.Prelude.{ℕ, zero, suc, ◌==◌, ◌&&◌, ℤ, pos, Bool, if◌then◌else◌, List, [], ◌∷◌, map, length, Option, Some, None, find, slice_get}
+use Rattle.std.specs.Prelude.{ℕ, zero, suc, ◌==◌, ◌&&◌, ℤ, pos, Bool, if◌then◌else◌, List, [], ◌∷◌, map, length, Option, Some, None, find, filter, slice_get}
 use Rattle.fx_type.specs.declared.kind.FxType.{FxType}
 use Rattle.fx_type.specs.declared.kind.FxType.TheVariants.{Logical}
 use Rattle.fx_type.specs.declared.decimal.Decimal.{Decimal}
@@ -20,6 +20,10 @@ enters block port edge = (edge.to == block) && (edge.to_port == port)
 abbrev pub driver_of : Diagram → ℕ → ℕ → Option Edge
 driver_of diagram block port = find (enters block port) diagram.edges
 
+-- the edges into a block; in a wired diagram they stand in order of its ports, one for each
+abbrev pub edges_into : Diagram → ℕ → List Edge
+edges_into diagram block = filter (λ edge. edge.to == block) diagram.edges
+
 -- what holds at the output port that an edge comes from
 abbrev pub at_source : {A : Type 0} → Option Edge → A → (ℕ → ℕ → A) → A
 at_source None other of_port = other
@@ -31,6 +35,10 @@ width_into diagram attributes block port = at_source (driver_of diagram block po
 
 abbrev pub type_into : Diagram → Attributes → ℕ → ℕ → FxType
 type_into diagram attributes block port = at_source (driver_of diagram block port) Logical attributes.type_at
+
+-- the period of the block that drives an input port
+abbrev pub period_into : Diagram → Attributes → ℕ → ℕ → Option ℕ
+period_into diagram attributes block port = at_source (driver_of diagram block port) None (λ from from_port. attributes.period_at from)
 
 -- the place in a signal or list of this length that serves element e: one of length 1 is repeated
 abbrev pub repeated : ℕ → ℕ → ℕ

@@ -7,7 +7,8 @@
 //! of block gives at a hit, and `Solves` which table of values is the meaning of a diagram. `Library`
 //! has one row for each kind of block, with the columns of `KindRow`: what it may carry, and how its
 //! widths, its type and its period come from its inputs. `Wired` says which diagrams are well formed,
-//! and `Sound` which nested ones.
+//! and `Sound` which nested ones. `RootElements` and `LatencyEdges` number what files, ports and
+//! latencies are told by, and `Instant` says which values a block needs in its own sample.
 #![tactic(auto)]
 
 mod diagram;
