@@ -67,6 +67,7 @@ compares_values operator a b x y =
 abbrev pub is_true : ℤ → Bool
 is_true v = not (int_eq v (pos 0))
 
+-- a truth as a stored integer
 abbrev pub stored_truth : Bool → ℤ
 stored_truth truth = cond truth (pos 1) (pos 0)
 
@@ -89,6 +90,7 @@ without_frac LogicalType = LogicalType
 abbrev pub type_of : List FxType → ℕ → FxType
 type_of types input = slice_index_or types input (Num false 0 (pos 0))
 
+-- the stored integer of an input, counted from 0; past the end 0 (own)
 abbrev pub value_of : List ℤ → ℕ → ℤ
 value_of inputs input = slice_index_or inputs input (pos 0)
 

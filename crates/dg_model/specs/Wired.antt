@@ -21,7 +21,7 @@ pub record AreNumbered (numbers : List ℕ) : Type 0 where
   pub within : All (λ number. (1 ≤ number) × (number ≤ length numbers)) numbers
   pub distinct : AllPairs (λ number other. number ≢ other) numbers
 
--- the number of a root input port, and of a root output port
+-- the number of a root input port
 abbrev pub root_input : Role → Option ℕ
 root_input (Role.RootInput number) = Some number
 root_input (Role.RootOutput number) = None
@@ -30,6 +30,7 @@ root_input Role.EnabledOutput = None
 root_input Role.Control = None
 root_input Role.Plain = None
 
+-- the number of a root output port
 abbrev pub root_output : Role → Option ℕ
 root_output (Role.RootInput number) = None
 root_output (Role.RootOutput number) = Some number

@@ -33,6 +33,7 @@ at_source (Some edge) other of_port = of_port edge.from edge.from_port
 abbrev pub width_into : Diagram → Attributes → ℕ → ℕ → ℕ
 width_into diagram attributes block port = at_source (driver_of diagram block port) 0 attributes.width_at
 
+-- the type of the signal into an input port
 abbrev pub type_into : Diagram → Attributes → ℕ → ℕ → FxType
 type_into diagram attributes block port = at_source (driver_of diagram block port) Logical attributes.type_at
 
@@ -53,9 +54,11 @@ value_into diagram attributes table block port element t =
 abbrev pub types_into : Diagram → Attributes → ℕ → ℕ → List FxType
 types_into diagram attributes block inputs = map (type_into diagram attributes block) (numbers_from 1 inputs)
 
+-- the widths into all inputs of a block in order
 abbrev pub widths_into : Diagram → Attributes → ℕ → ℕ → List ℕ
 widths_into diagram attributes block inputs = map (width_into diagram attributes block) (numbers_from 1 inputs)
 
+-- the stored integers that all inputs of a block offer to an element at t, in order
 abbrev pub values_into : Diagram → Attributes → Table → ℕ → ℕ → ℕ → ℕ → List ℤ
 values_into diagram attributes table block inputs element t =
     map (λ port. value_into diagram attributes table block port element t) (numbers_from 1 inputs)

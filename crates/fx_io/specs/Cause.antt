@@ -1,4 +1,4 @@
--- Counts of faults, in 64 bits: one that stands at its last value rises no further.
+-- Counts of faults, in 64 bits: one that stands at its last value rises no further (own).
 use Rattle.std.specs.Prelude.{ℕ, ◌+◌, ◌-◌, ◌^◌, ◌≤◌, min}
 
 -- one more, up to the last value

@@ -1,4 +1,4 @@
--- The shelf and the sink in memory, as tests use them.
+-- The shelf and the sink in memory, as tests use them (own).
 use Rattle.std.specs.Prelude.{◌≡◌, ℕ, ◌+◌, ◌-◌, ◌^◌, ◌<◌, ◌≤◌, List, length, Option, None, Some, All, Contains, ◌⊎◌, min}
 use Rattle.std.specs.List.{find}
 use Rattle.std.specs.Option.{option_map}

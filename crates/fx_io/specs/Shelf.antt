@@ -1,4 +1,4 @@
--- What a shelf holds under a name, where it tells that, and what a steady shelf answers.
+-- What a shelf holds under a name, where it tells that, and what a steady shelf answers (own).
 use Rattle.std.specs.Prelude.{◌≡◌, ℕ, ◌<◌, ◌≤◌, List, length, Option, None, Some, Result, Err, ◌↔◌}
 use Rattle.fx_io.specs.declared.shelf.FetchFault.{FetchFault}
 use Rattle.fx_io.specs.declared.shelf.FetchFault.TheVariants.{Failed, TooLong}

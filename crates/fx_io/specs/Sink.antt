@@ -1,4 +1,4 @@
--- What a sink took, where it tells that.
+-- What a sink took, where it tells that (own).
 use Rattle.std.specs.Prelude.{◌≡◌, ℕ, ◌<◌, List, ◌++◌, length, take, Option, None}
 use Rattle.std.specs.Option.{option_map}
 

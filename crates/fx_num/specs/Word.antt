@@ -1,4 +1,4 @@
--- Words of a width and a sign, the numbers that they hold, and congruence.
+-- Words of a width and a sign, the numbers that they hold, and congruence (own).
 use Rattle.std.specs.Prelude.{◌≡◌, ℕ, ◌-◌, ◌^◌, ◌≤◌, Bool, true, false, ℤ, pos, neg_ℤ, ◌+ℤ◌, ◌*ℤ◌, ◌≤ℤ◌}
 
 -- a word has 2 to 128 bits where it is signed, and else 1 to 127

@@ -1,4 +1,5 @@
--- Decimals as text: an optional sign, digits with at most one point and at least one digit, and then, after `e` or `E`, an optional sign and one or two digits. `true` is 1, and `false` is 0.
+-- Decimals as text: an optional sign, digits with at most one point and at least one digit, and then, after `e` or
+-- `E`, an optional sign and one or two digits. `true` is 1, and `false` is 0 (own).
 use Rattle.std.specs.Prelude.{◌≡◌, ℕ, ◌+◌, ◌-◌, ◌*◌, ◌^◌, ◌<◌, ◌≤◌, ◌==◌, Bool, true, false, ◌&&◌, ◌||◌, if◌then◌else◌, List, [], ◌∷◌, length, Option, Some, None, ℤ, pos, negsuc, ◌-ℤ◌, neg_ℤ, ◌≤ℤ◌, codes, ◌⊎◌}
 use Rattle.std.specs.Char.{is_ascii_digit}
 use Rattle.std.specs.Str.Parse.{digits_value_after}
@@ -11,6 +12,7 @@ abbrev pub front_digits : List ℕ → List ℕ
 front_digits [] = []
 front_digits (c ∷ cs) = if is_ascii_digit c then c ∷ front_digits cs else []
 
+-- what follows the digits that the text begins with
 abbrev pub after_digits : List ℕ → List ℕ
 after_digits [] = []
 after_digits (c ∷ cs) = if is_ascii_digit c then after_digits cs else c ∷ cs
@@ -20,6 +22,7 @@ abbrev pub is_minus : List ℕ → Bool
 is_minus [] = false
 is_minus (c ∷ cs) = c == 45
 
+-- what follows the sign, where there is one
 abbrev pub after_sign : List ℕ → List ℕ
 after_sign [] = []
 after_sign (c ∷ cs) = if (c == 43) || (c == 45) then cs else c ∷ cs
@@ -29,6 +32,7 @@ abbrev pub fraction_digits : List ℕ → List ℕ
 fraction_digits [] = []
 fraction_digits (c ∷ cs) = if c == 46 then front_digits cs else []
 
+-- what follows them
 abbrev pub after_fraction : List ℕ → List ℕ
 after_fraction [] = []
 after_fraction (c ∷ cs) = if c == 46 then after_digits cs else c ∷ cs
@@ -55,9 +59,11 @@ exponent_of (c ∷ cs) = if (c == 101) || (c == 69) then signed (is_minus cs) (o
 abbrev pub whole_digits : List ℕ → List ℕ
 whole_digits text = front_digits (after_sign text)
 
+-- the digits behind the point
 abbrev pub fraction_of : List ℕ → List ℕ
 fraction_of text = fraction_digits (after_digits (after_sign text))
 
+-- all digits of the text as one number
 abbrev pub all_digits : List ℕ → ℕ
 all_digits text = digits_value_after 10 (digits_value_after 10 0 (whole_digits text)) (fraction_of text)
 

@@ -1,4 +1,4 @@
--- Laws of rounding and conversion.
+-- Laws of rounding and conversion (own).
 use Rattle.std.specs.Prelude.{◌≡◌, ℕ, ◌^◌, ◌<◌, Bool, ℤ, pos, ◌*ℤ◌, ◌≤ℤ◌}
 use Rattle.std.specs.Int.{int_gap}
 use Rattle.fx_type.specs.declared.kind.FxType.{FxType}

@@ -1,4 +1,4 @@
--- A number between two whole numbers, as the lower one and the place between them.
+-- A number between two whole numbers, as the lower one and the place between them (own).
 use Rattle.std.specs.Prelude.{◌≡◌, ℕ, ◌*◌, ◌<◌, Bool, true, false, ℤ, pos, ◌+ℤ◌, ◌*ℤ◌, ◌≤ℤ◌, ◌≤◌, ◌+◌, not, Option, Some, None}
 use Rattle.fx_round.specs.declared.split.Part.{Part}
 use Rattle.fx_round.specs.declared.split.Part.TheVariants.{Whole, BelowHalf, Half, AboveHalf}

@@ -1,4 +1,4 @@
--- What reading the first field of a line in one go gives, where it is a number of up to 18 digits.
+-- What reading the first field of a line in one go gives, where it is a number of up to 18 digits (own).
 use Rattle.std.specs.Prelude.{◌≡◌, ℕ, ℤ, ◌^◌, ◌<◌, ◌≤◌, true, false, None, List, ◌∷◌, length, take, drop, slice_index}
 use Rattle.std.specs.List.{list_all}
 use Rattle.std.specs.Char.{is_ascii_digit}

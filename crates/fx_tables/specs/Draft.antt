@@ -1,4 +1,4 @@
--- What the lines of a plan have said so far.
+-- What the lines of a plan have said so far (own).
 use Rattle.std.specs.Prelude.{◌≡◌, ℕ, List}
 use Rattle.std.specs.List.{list_any, filter_map}
 use Rattle.std.specs.Option.{option_to_list}
@@ -12,6 +12,7 @@ use Rattle.fx_tables.specs.Plan.{cycles_of, multipliers_of, pipeline_of}
 use Rattle.fx_tables.specs.declared.entry.PlanEntry.{PlanEntry}
 use Rattle.fx_tables.specs.declared.draft.Draft.{Draft}
 
+-- a plan's reader holds what the lines so far have said (private contracts)
 pub record Describes (draft : Draft) (entries : List PlanEntry) : Type 0 where
   pub clocks : filter_map cycles_of entries ≡ option_to_list draft.cycles
   pub shared : filter_map multipliers_of entries ≡ option_to_list draft.multipliers

@@ -1,4 +1,4 @@
--- What the steps of reading a whole number give.
+-- What the steps of reading a whole number give (own).
 use Rattle.std.specs.Prelude.{◌≡◌, ℕ, ℤ, ◌-◌, ◌^◌, ◌<◌, ◌≤◌, true, false, List, Option, MatchOption, min}
 use Rattle.std.specs.Int.Signed.{mag}
 use Rattle.std.specs.Str.Parse.{digits_value}
@@ -17,6 +17,7 @@ IsNumber z Not = ⊥
 IsNumber z Far = 2 ^ 127 ≤ mag z
 IsNumber z (Near value) = (value ≡ z) × (mag z < 2 ^ 127)
 
+-- what reading a whole number gives: none, one too far out, or the number (private contracts)
 abbrev pub IsReading : List ℕ → Whole → Type 0
 IsReading text Not = is_whole text ≡ false
 IsReading text Far = (is_whole text ≡ true) × IsNumber (whole_value text) Far

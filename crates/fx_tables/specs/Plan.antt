@@ -1,4 +1,4 @@
--- What the text of a plan says, and its first fault.
+-- What the text of a plan says, and its first fault (own).
 use Rattle.std.specs.Prelude.{◌≡◌, ℕ, Bool, true, List, [], ◌∷◌, ◌++◌, Option, None, Some, false, ◌+◌, ◌==◌, ◌&&◌, nat_le, nat_lt, length, drop, if◌then◌else◌, codes, slice_index, slice_index_or}
 use Rattle.std.specs.List.{list_any, filter_map}
 use Rattle.std.specs.Option.{option_to_list}
@@ -23,14 +23,17 @@ sole_number low high (field ∷ []) =
     if is_number 9 field && nat_le low (digits_value 10 field) && nat_le (digits_value 10 field) high then Some (digits_value 10 field) else None
 sole_number low high (field ∷ next ∷ more) = None
 
+-- the entry of a `cycles` line with this count
 abbrev pub cycles_entry : Option ℕ → Option PlanEntry
 cycles_entry None = None
 cycles_entry (Some count) = Some (Cycles count)
 
+-- the entry of a `multipliers` line with this count
 abbrev pub multipliers_entry : Option ℕ → Option PlanEntry
 multipliers_entry None = None
 multipliers_entry (Some count) = Some (Multipliers count)
 
+-- the entry of a `pipeline` line with this path and count
 abbrev pub pipelined_entry : List ℕ → Option ℕ → Option PlanEntry
 pipelined_entry path None = None
 pipelined_entry path (Some count) = Some (Pipelined (record { path = path; count = count }))
@@ -59,18 +62,21 @@ entry_of line =
     if slice_index line 0 == 35 then Some Passed
     else words_entry (fields_of line) (drop 8 (after_blanks line))
 
+-- the clocks per base sample that an entry gives
 abbrev pub cycles_of : PlanEntry → Option ℕ
 cycles_of Passed = None
 cycles_of (Cycles count) = Some count
 cycles_of (Multipliers count) = None
 cycles_of (Pipelined pipeline) = None
 
+-- the shared multipliers that an entry gives
 abbrev pub multipliers_of : PlanEntry → Option ℕ
 multipliers_of Passed = None
 multipliers_of (Cycles count) = None
 multipliers_of (Multipliers count) = Some count
 multipliers_of (Pipelined pipeline) = None
 
+-- the pipeline that an entry gives
 abbrev pub pipeline_of : PlanEntry → Option Pipeline
 pipeline_of Passed = None
 pipeline_of (Cycles count) = None
@@ -96,9 +102,11 @@ entries_fault earlier line (text ∷ later) =
     if is_bad_entry earlier (entry_of text) then Some (Bad line PlanLine)
     else entries_fault (earlier ++ option_to_list (entry_of text)) (line + 1) later
 
+-- the fault of the first bad line of a plan
 abbrev pub plan_fault : List ℕ → Option TableFault
 plan_fault text = entries_fault [] 1 (lines text)
 
+-- what the lines of a plan say
 abbrev pub entries_of : List ℕ → List PlanEntry
 entries_of text = filter_map entry_of (lines text)
 

@@ -1,4 +1,4 @@
--- A text between quotes, as in MDL.
+-- A text between quotes, as in MDL (own).
 use Rattle.std.specs.Prelude.{ℕ, List, [], ◌∷◌, ◌++◌, Option, None, Some, ◌==◌, ◌||◌, if◌then◌else◌}
 
 -- what a backslash and the byte behind it stand for
@@ -9,6 +9,7 @@ escaped b =
     else if b == 34 || b == 92 then b ∷ []
     else 92 ∷ b ∷ []
 
+-- bytes put before a content that was read
 abbrev pub prepend : List ℕ → Option (List ℕ × List ℕ) → Option (List ℕ × List ℕ)
 prepend front None = None
 prepend front (Some (content, rest)) = Some (front ++ content, rest)

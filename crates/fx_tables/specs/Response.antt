@@ -1,4 +1,4 @@
--- The text of a response.
+-- The text of a response (own).
 use Rattle.std.specs.Prelude.{ℕ, zero, suc, ℤ, Bool, List, [], ◌∷◌, ◌++◌, if◌then◌else◌}
 use Rattle.std.specs.List.{join_with_byte}
 use Rattle.std.specs.Fmt.{signed_decimal}
@@ -8,6 +8,7 @@ use Rattle.fx_tables.specs.Stimulus.{hits_at}
 abbrev pub text_of_field : Bool → ℤ → List ℕ
 text_of_field hit value = if hit then signed_decimal value else 45 ∷ []
 
+-- the fields of a line, under the periods of the columns
 abbrev pub response_fields : ℕ → List ℕ → List ℤ → List (List ℕ)
 response_fields sample [] values = []
 response_fields sample (period ∷ periods) [] = []

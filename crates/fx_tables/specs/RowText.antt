@@ -1,4 +1,4 @@
--- What callers see of the writer of a response.
+-- What callers see of the writer of a response (own).
 use Rattle.std.specs.Prelude.{ℕ, List}
 use Rattle.fx_tables.specs.declared.row_text.RowText.{RowText}
 

@@ -1,5 +1,5 @@
--- What a stimulus stands for, and its first fault. Samples, lines and columns count from 0; the line
--- that a fault names counts from 1.
+-- What a stimulus stands for, and its first fault. Samples, lines and columns count from 0; the line that a fault
+-- names counts from 1 (own).
 use Rattle.std.specs.Prelude.{◌≡◌, ℕ, ℤ, pos, Bool, true, false, ◌<◌, slice_get, List, [], ◌∷◌, Option, None, Some, ◌+◌, ◌*◌, ◌%◌, ◌==◌, ◌&&◌, not, nat_lt, max, int_le, length, map, slice_index, if◌then◌else◌}
 use Rattle.std.specs.List.{flat_map}
 use Rattle.std.specs.Option.{option_or}
@@ -66,6 +66,7 @@ lines_fault columns outputs sample [] = None
 lines_fault columns outputs sample (line ∷ later) =
     fault_or (line_fault columns outputs sample line) (sample + 1) (lines_fault columns outputs (sample + 1) later)
 
+-- the fault of the first bad line of a stimulus
 abbrev pub stimulus_fault : List Column → ℕ → List ℕ → Option TableFault
 stimulus_fault columns outputs text = lines_fault columns outputs 0 (lines text)
 
@@ -73,6 +74,7 @@ stimulus_fault columns outputs text = lines_fault columns outputs 0 (lines text)
 abbrev pub cell_of : List ℕ → ℤ
 cell_of field = if is_dash field then pos 0 else whole_value field
 
+-- the cells of a line of fields
 abbrev pub cells_of : List ℕ → List ℤ
 cells_of line = map cell_of (fields_of line)
 

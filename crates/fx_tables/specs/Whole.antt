@@ -1,4 +1,4 @@
--- Whole numbers as a text writes them.
+-- Whole numbers as a text writes them (own).
 use Rattle.std.specs.Prelude.{ℕ, ℤ, pos, neg_ℤ, Bool, List, ◌&&◌, nat_le, length, drop, if◌then◌else◌}
 use Rattle.std.specs.List.{list_all}
 use Rattle.std.specs.Char.{is_ascii_digit}
@@ -16,6 +16,7 @@ digits_of_whole text = if starts_with_minus text then drop 1 text else text
 abbrev pub is_whole : List ℕ → Bool
 is_whole text = is_number 64 (digits_of_whole text)
 
+-- the number that such a text is
 abbrev pub whole_value : List ℕ → ℤ
 whole_value text =
     if starts_with_minus text then neg_ℤ (pos (digits_value 10 (digits_of_whole text))) else pos (digits_value 10 (digits_of_whole text))

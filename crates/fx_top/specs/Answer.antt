@@ -1,4 +1,4 @@
--- The status of an answer, and the line that it puts on the stream of messages.
+-- The status of an answer, and the line that it puts on the stream of messages (own).
 use Rattle.std.specs.Prelude.{ℕ, List, []}
 use Rattle.fx_top.specs.Command.{Command, Generate}
 use Rattle.fx_top.specs.declared.command.Command.{Command as CommandOf}
@@ -7,6 +7,7 @@ use Rattle.fx_top.specs.declared.answer.Answer.{Answer}
 use Rattle.fx_top.specs.declared.answer.Answer.TheVariants.{Done, OutOfMemory, Usage, CannotRead, CannotWrite, NotMdl, TooLong, NotBuilt}
 use Rattle.fx_top.specs.Messages.{memory_line, usage_line, unread_line, unwritten_line, syntax_line, too_long_line, not_built_line}
 
+-- the exit status of an answer
 abbrev pub status_of : Answer → ℕ
 status_of Done = 0
 status_of OutOfMemory = 1
@@ -17,6 +18,7 @@ status_of (NotMdl file line) = 5
 status_of (TooLong file length) = 9
 status_of (NotBuilt file) = 10
 
+-- the line that an answer puts on the stream of messages
 abbrev pub line_of : Answer → List ℕ
 line_of Done = []
 line_of OutOfMemory = memory_line

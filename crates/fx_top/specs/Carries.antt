@@ -1,4 +1,4 @@
--- What a written module owes its model: its header, and the bits that its outputs carry.
+-- What a written module owes its model: its header, and the bits that its outputs carry (own).
 use Rattle.std.specs.Prelude.{◌≡◌, ℕ, ◌+◌, ◌*◌, ◌%◌, ◌<◌, ◌≤◌, ◌≤ℤ◌, Bool, true, false, List, [], ◌∷◌, ◌++◌, map, slice_get, codes, Some, ℤ}
 use Rattle.vl_ast.specs.declared.modules.Attr.{Attr}
 use Rattle.vl_ast.specs.declared.modules.Port.{Port}
@@ -28,6 +28,7 @@ pub record Interface : Type 0 where
   pub inputs : List Element
   pub outputs : List OutputElement
 
+-- an attribute of this name and number
 abbrev pub attribute_of : List ℕ → ℕ → Attr
 attribute_of name value = record { name = name; value = value }
 
@@ -35,6 +36,7 @@ attribute_of name value = record { name = name; value = value }
 abbrev pub bit_input : List ℕ → Port
 bit_input name = record { attrs = []; input = true; signed = false; width = 1; name = name }
 
+-- the port of an input element
 abbrev pub input_port : Element → Port
 input_port element = record {
   attrs = attribute_of (codes "fx_period") element.period ∷ [];
@@ -44,6 +46,7 @@ input_port element = record {
   name = element.name;
 }
 
+-- the port of an output element
 abbrev pub output_port : OutputElement → Port
 output_port output = record {
   attrs = attribute_of (codes "fx_period") output.element.period ∷ attribute_of (codes "fx_latency") output.latency ∷ [];

@@ -1,4 +1,5 @@
--- Why a command answers as it does. `held` is what the shelf tells, and each `rose` says that a count of faults rose.
+-- Why a command answers as it does. `held` is what the shelf tells, and each `rose` says that a count of faults rose
+-- (own).
 use Rattle.std.specs.Prelude.{◌≡◌, ℕ, List, Contains, Option, Some}
 use Rattle.fx_io.specs.Shelf.{Told, Fetched, IsOverlong}
 use Rattle.fx_io.specs.Sink.{also_took, TookProperPrefix}

@@ -1,4 +1,4 @@
--- The cause of a command's answer. With each but a written output the output sink took nothing.
+-- The cause of a command's answer. With each but a written output the output sink took nothing (own).
 use Rattle.std.specs.Prelude.{◌≡◌, ℕ, List, Option, None, Some}
 use Rattle.fx_io.specs.Shelf.{Told}
 use Rattle.fx_top.specs.declared.answer.Answer.{Answer}
@@ -9,6 +9,7 @@ use Rattle.fx_top.specs.Outcome.{IsDue}
 use Rattle.fx_top.specs.Cause.{CannotBeRead, IsTooLong, HasNoTree, HasOtherForm, WroteAll, WrotePart}
 
 module _ (held : List ℕ → Told) (steady rose rose_overlong rose_out : Type 0) (before now : Option (List ℕ)) (command : Command) where
+  -- the cause of each answer of a command; with each but a written output the output sink took nothing
   abbrev pub IsCaused : Answer → Type 0
   IsCaused Done = WroteAll command held before now
   IsCaused OutOfMemory = now ≡ before

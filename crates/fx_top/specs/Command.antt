@@ -1,6 +1,7 @@
--- The words of a call, and the files that they name.
+-- The words of a call, and the files that they name (own).
 use Rattle.std.specs.Prelude.{ℕ, ◌&&◌, if◌then◌else◌, List, [], ◌∷◌, bytes_eq, codes, Option, Some, None}
 
+-- the commands: `Generate` of a model
 pub data Command : Type 0 where
   -- writes the Verilog text of a model under the empty plan
   Generate : (model : List ℕ) → Command

@@ -1,4 +1,4 @@
--- The module of a model of one delay: one register, which the output shows.
+-- The module of a model of one delay: one register, which the output shows (own).
 use Rattle.std.specs.Prelude.{ℕ, ℤ, true, List, [], ◌∷◌, codes, None}
 use Rattle.vl_ast.specs.declared.expressions.Expr.TheVariants.{Name}
 use Rattle.vl_ast.specs.declared.modules.ModItem.{ModItem}
@@ -9,6 +9,7 @@ use Rattle.fx_top.specs.Carries.{attribute_of, bit_input, input_port, output_por
 use Rattle.fx_top.specs.declared.one_delay.OneDelay.{OneDelay}
 use Rattle.fx_top.specs.OneDelay.{byte_element}
 
+-- the name of the register, `fx_delay`
 abbrev pub register : List ℕ
 register = codes "fx_delay"
 
@@ -19,6 +20,7 @@ delay_items input output initial =
     ∷ Always register (record { width = 8; signed = true; bits = bits_of 8 initial }) None (Name input)
     ∷ Assign output (Name register) ∷ []
 
+-- the module of a model of one delay
 abbrev pub delay_module : OneDelay → Module
 delay_module delay = record {
   name = codes "fx_model";

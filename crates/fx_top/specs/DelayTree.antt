@@ -1,4 +1,4 @@
--- The trees of models of one delay.
+-- The trees of models of one delay (own).
 use Rattle.std.specs.Prelude.{◌≡◌, ◌≢◌, ℕ, ◌≤◌, ◌≤ℤ◌, Bool, true, not, ◌&&◌, if◌then◌else◌, List, [], ◌∷◌, ◌++◌, length, bytes_eq, codes, ℤ, pos, negsuc, neg_ℤ}
 use Rattle.std.specs.List.{list_any, starts_with}
 use Rattle.std.specs.Bool.{nat_eq}
@@ -9,12 +9,15 @@ use Rattle.mdl_text.specs.declared.tree.Value.TheVariants.{Section, Bare, Quoted
 use Rattle.vl_ast.specs.Tokens.{is_identifier}
 use Rattle.fx_top.specs.declared.one_delay.OneDelay.{OneDelay}
 
+-- a section of this depth and name
 abbrev pub section : ℕ → List ℕ → Item
 section depth name = record { depth = depth; name = name; value = Section }
 
+-- a parameter of a block with a bare value
 abbrev pub bare : List ℕ → List ℕ → Item
 bare name value = record { depth = 3; name = name; value = Bare value }
 
+-- a parameter of a block with a quoted value
 abbrev pub quoted : List ℕ → List ℕ → Item
 quoted name value = record { depth = 3; name = name; value = Quoted value }
 
@@ -26,6 +29,7 @@ pub record DelayTexts : Type 0 where
   pub output : List ℕ
   pub initial : List ℕ
 
+-- the three blocks with their parameters
 abbrev pub delay_blocks : DelayTexts → List Item
 delay_blocks texts =
     section 2 (codes "Block") ∷ bare (codes "BlockType") (codes "Inport") ∷ quoted (codes "Name") texts.input
@@ -40,11 +44,13 @@ line_items source target =
     section 2 (codes "Line") ∷ quoted (codes "SrcBlock") source ∷ bare (codes "SrcPort") (codes "1")
     ∷ quoted (codes "DstBlock") target ∷ bare (codes "DstPort") (codes "1") ∷ []
 
+-- the items of such a tree
 abbrev pub delay_tree : DelayTexts → List Item
 delay_tree texts =
     section 0 (codes "Model") ∷ record { depth = 1; name = codes "Name"; value = Quoted texts.model } ∷ section 1 (codes "System")
     ∷ (delay_blocks texts ++ (line_items texts.input texts.delay ++ line_items texts.delay texts.output))
 
+-- a magnitude with its sign
 abbrev pub signed_value : Bool → ℕ → ℤ
 signed_value negative magnitude = if negative then neg_ℤ (pos magnitude) else pos magnitude
 

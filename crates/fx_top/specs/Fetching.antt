@@ -1,4 +1,4 @@
--- Why a file could not be fetched, as an answer.
+-- Why a file could not be fetched, as an answer (own).
 use Rattle.std.specs.Prelude.{◌≡◌, ℕ, List, length, Some, None}
 use Rattle.fx_io.specs.Shelf.{Told, IsOverlong}
 use Rattle.fx_top.specs.declared.answer.Answer.{Answer}
@@ -18,6 +18,7 @@ pub record IsUnfit (told : Told) (steady rose : Type 0) (file answered : List �
   pub overlong : IsOverlong told file_limit reported
   pub held : steady → (bytes : List ℕ) × ((told ≡ Some (Some bytes)) × (length bytes ≡ reported))
 
+-- the answers that a refused fetch may have, with their causes
 abbrev pub IsFetchAnswer : Told → Type 0 → Type 0 → Type 0 → List ℕ → Answer → Type 0
 IsFetchAnswer told steady rose rose_overlong file Done = ⊥
 IsFetchAnswer told steady rose rose_overlong file OutOfMemory = Unit {0}

@@ -1,4 +1,4 @@
--- Models of one delay: an input of signed eight bits, a unit delay and an output, one after the other.
+-- Models of one delay: an input of signed eight bits, a unit delay and an output, one after the other (own).
 use Rattle.std.specs.Prelude.{ℕ, zero, suc, List, [], ◌∷◌, true, ℤ, pos, negsuc}
 use Rattle.fx_top.specs.declared.one_delay.OneDelay.{OneDelay}
 use Rattle.fx_top.specs.Carries.{Element, Interface}

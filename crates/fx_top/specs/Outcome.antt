@@ -1,5 +1,5 @@
--- What each exit status means. `said` tells of a line that the stream of messages took it, or a prefix of it where that
--- stream failed.
+-- What each exit status means. `said` tells of a line that the stream of messages took it, or a prefix of it where
+-- that stream failed (own).
 use Rattle.std.specs.Prelude.{◌≡◌, ℕ, ◌≤◌, ◌⊎◌, ◌↔◌, List, [], ◌∷◌, length, Contains, Option, Some, None}
 use Rattle.fx_io.specs.Shelf.{Told}
 use Rattle.fx_top.specs.Command.{Command, command_of, model_of, files_of}

@@ -1,4 +1,4 @@
--- The text that a command writes.
+-- The text that a command writes (own).
 use Rattle.std.specs.Prelude.{◌≡◌, ℕ, List}
 use Rattle.fx_io.specs.Shelf.{Told, Fetched}
 use Rattle.mdl_text.specs.declared.tree.Tree.{Tree}

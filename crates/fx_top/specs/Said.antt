@@ -1,4 +1,4 @@
--- That a sink was given bytes, and took them as far as it didn't fail.
+-- That a sink was given bytes, and took them as far as it didn't fail (own).
 use Rattle.std.specs.Prelude.{◌≡◌, ℕ, List, take, Option}
 use Rattle.fx_io.specs.Cause.{Rose}
 use Rattle.fx_io.specs.Sink.{also_took}

@@ -1,4 +1,4 @@
--- Rounding, conversion between types, and the stored integer of a decimal.
+-- Rounding, conversion between types, and the stored integer of a decimal (Fixed-Point Designer guide).
 use Rattle.std.specs.Prelude.{◌≡◌, ◌≢◌, ℕ, ◌*◌, ◌^◌, Bool, true, false, ℤ, pos, neg_ℤ, ◌+ℤ◌, ◌*ℤ◌, ◌≤ℤ◌, ◌<ℤ◌}
 use Rattle.std.specs.Int.{int_gap}
 use Rattle.fx_num.specs.Word.{IsWrapped}
@@ -11,9 +11,11 @@ use Rattle.fx_type.specs.FxType.{is_signed, width_of, frac_of, lowest_of, highes
 
 -- ---- rounding: x is the number n / d, and every inequality is multiplied by d
 
+-- a number and itself
 abbrev pub twice : ℤ → ℤ
 twice z = z +ℤ z
 
+-- twice some number
 abbrev pub IsEven : ℤ → Type 0
 IsEven z = (half : ℤ) × (z ≡ twice half)
 

@@ -1,4 +1,4 @@
--- The types that hold every sum, product or value of others.
+-- The types that hold every sum, product or value of others (Fixed-Point Designer guide; exact widths own).
 use Rattle.std.specs.Prelude.{◌≡◌, ◌≢◌, ◌+◌, ◌≤◌, ◌↔◌, Bool, true, false, ◌||◌, List, [], ◌∷◌, ℤ, pos, neg_ℤ, ◌+ℤ◌, ◌≤ℤ◌, All, Any}
 use Rattle.std.specs.Int.{int_max}
 use Rattle.fx_type.specs.declared.kind.FxType.{FxType}
@@ -10,6 +10,7 @@ use Rattle.fx_type.specs.FxType.{IsType, IsNumber, is_signed, width_of, frac_of,
 abbrev pub Terms : Type 0
 Terms = List (Bool × FxType)
 
+-- the number, or its negative where the flag is set
 abbrev pub negated_if : Bool → ℤ → ℤ
 negated_if true v = neg_ℤ v
 negated_if false v = v

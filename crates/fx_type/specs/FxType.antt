@@ -1,4 +1,4 @@
--- Types of stored integers: which are valid, and the range of each.
+-- Types of stored integers: which are valid, and the range of each (Fixed-Point Designer guide; bounds own).
 use Rattle.std.specs.Prelude.{ℕ, ◌^◌, Bool, false, ℤ, pos, negsuc, ◌*ℤ◌, ◌≤ℤ◌}
 use Rattle.std.specs.Int.{int_gap}
 use Rattle.fx_num.specs.Word.{IsWord, word_lowest, word_highest}
@@ -20,10 +20,12 @@ abbrev pub is_signed : FxType → Bool
 is_signed (Num signed width frac) = signed
 is_signed Logical = false
 
+-- the bits of a type; `Logical` has 1
 abbrev pub width_of : FxType → ℕ
 width_of (Num signed width frac) = width
 width_of Logical = 1
 
+-- the bits behind the point; `Logical` has none
 abbrev pub frac_of : FxType → ℤ
 frac_of (Num signed width frac) = frac
 frac_of Logical = pos 0
@@ -33,6 +35,7 @@ abbrev pub lowest_of : FxType → ℤ
 lowest_of (Num signed width frac) = word_lowest width signed
 lowest_of Logical = pos 0
 
+-- the upper end of the range
 abbrev pub highest_of : FxType → ℤ
 highest_of (Num signed width frac) = word_highest width signed
 highest_of Logical = pos 1

@@ -1,4 +1,4 @@
--- The least and the greatest value of a term, of a sum, and the narrowest type that holds both.
+-- The least and the greatest value of a term, of a sum, and the narrowest type that holds both (own).
 use Rattle.std.specs.Prelude.{◌≡◌, ◌≤◌, ◌↔◌, Bool, true, false, [], ◌∷◌, ℤ, pos, neg_ℤ, ◌+ℤ◌, ◌≤ℤ◌, FitsSigned}
 use Rattle.std.specs.Int.{w128}
 use Rattle.fx_type.specs.declared.full.Span.{Span}
@@ -11,6 +11,7 @@ abbrev pub least_end : Bool → FxType → ℤ
 least_end true type = neg_ℤ (highest_of type)
 least_end false type = lowest_of type
 
+-- the upper end of a term's range, with its sign
 abbrev pub greatest_end : Bool → FxType → ℤ
 greatest_end true type = neg_ℤ (lowest_of type)
 greatest_end false type = highest_of type
@@ -19,6 +20,7 @@ greatest_end false type = highest_of type
 abbrev pub least_term : ℤ → Bool × FxType → ℤ
 least_term frac term = aligned frac term.1 (least_end term.0 term.1)
 
+-- the upper end, aligned to `frac`
 abbrev pub greatest_term : ℤ → Bool × FxType → ℤ
 greatest_term frac term = aligned frac term.1 (greatest_end term.0 term.1)
 

@@ -1,4 +1,4 @@
--- Bytes of a text, its lines, and the strings and brackets in them.
+-- Bytes of a text, its lines, and the strings and brackets in them (own).
 use Rattle.std.specs.Prelude.{◌≡◌, ◌≢◌, ℕ, zero, suc, Bool, true, not, ◌==◌, ◌||◌, ◌&&◌, List, [], ◌∷◌, ◌++◌, IsTrue, if◌then◌else◌}
 use Rattle.std.specs.Char.{is_ascii_digit, is_ascii_alphabetic}
 use Rattle.std.specs.List.{list_all, flat_map, AllByRecursion}
@@ -41,6 +41,7 @@ abbrev pub is_char : Char → Bool
 is_char (Plain byte) = not (byte == 34) && not (byte == 92)
 is_char (Escape byte) = true
 
+-- how a character is written
 abbrev pub char_bytes : Char → List ℕ
 char_bytes (Plain byte) = byte ∷ []
 char_bytes (Escape byte) = 92 ∷ byte ∷ []
@@ -67,13 +68,16 @@ pub record Quote : Type 0 where
   pub chars : List Char
   pub after : List ℕ
 
+-- a quoted string and blanks, each sound
 pub record IsQuote (quote : Quote) : Type 0 where
   pub chars : IsTrue (list_all is_char quote.chars)
   pub after : AreBlanks quote.after
 
+-- its bytes
 abbrev pub quote_bytes : Quote → List ℕ
 quote_bytes quote = quoted quote.chars ++ quote.after
 
+-- what it says
 abbrev pub quote_value : Quote → List ℕ
 quote_value quote = flat_map char_value quote.chars
 
@@ -92,6 +96,7 @@ pub data Piece : Type 0 where
   String : List Char → Piece
   Other : ℕ → Piece
 
+-- the bytes of a piece
 abbrev pub piece_bytes : Piece → List ℕ
 piece_bytes Opening = 91 ∷ []
 piece_bytes Closing = 93 ∷ []

@@ -1,4 +1,4 @@
--- The forms that a line, or the lines of one parameter, may have.
+-- The forms that a line, or the lines of one parameter, may have (own).
 use Rattle.std.specs.Prelude.{◌≡◌, ◌≢◌, ℕ, List, [], ◌∷◌, ◌++◌, false}
 use Rattle.std.specs.List.{flat_map, AllByRecursion}
 use Rattle.mdl_text.specs.Bytes.{is_blank, AreBlanks, IsName, AreStrings, IsList, lines_of}

@@ -1,4 +1,4 @@
--- The plain reading of a text, a line after another. What it gives is what the text stands for.
+-- The plain reading of a text, a line after another. What it gives is what the text stands for (own).
 use Rattle.std.specs.Prelude.{ℕ, ◌+◌, ◌-◌, ◌≤◌, ◌==◌, ◌&&◌, Bool, List, [], ◌∷◌, ◌++◌, Option, None, Some, option_and_then, length, take, drop, nat_lt, if◌then◌else◌}
 use Rattle.std.specs.List.{list_all, prefix_len}
 use Rattle.mdl_text.specs.declared.tree.Item.{Item}
@@ -46,6 +46,7 @@ strings place said (byte ∷ bytes) = option_and_then (λ next. strings next.0 n
 abbrev pub strings_from : List ℕ → List ℕ → Option (List ℕ)
 strings_from said bytes = strings Outside said bytes
 
+-- a spot in a list
 abbrev pub spot_at : Place → ℕ → Spot
 spot_at place nesting = record { place = place; nesting = nesting }
 
@@ -59,17 +60,21 @@ spot_step_in Outside nesting byte =
 spot_step_in Inside nesting byte = if byte == 34 then Some (spot_at Outside nesting) else (if byte == 92 then Some (spot_at Escaped nesting) else Some (spot_at Inside nesting))
 spot_step_in Escaped nesting byte = Some (spot_at Inside nesting)
 
+-- `spot_step_in` of a spot
 unfoldable pub spot_step : Spot → ℕ → Option Spot
 spot_step spot byte = spot_step_in spot.place spot.nesting byte
 
+-- how a list stands at the end of a line, by the place
 abbrev pub line_end_in : Place → ℕ → ListEnd
 line_end_in Outside nesting = Open nesting
 line_end_in Inside nesting = Broken
 line_end_in Escaped nesting = Broken
 
+-- the same of a spot
 abbrev pub line_end : Spot → ListEnd
 line_end spot = line_end_in spot.place spot.nesting
 
+-- closed after so many bytes, or on from the spot
 abbrev pub or_else_closed : ℕ → (Spot → ListEnd) → Option Spot → ListEnd
 or_else_closed taken go None = Closed taken
 or_else_closed taken go (Some spot) = go spot
@@ -93,6 +98,7 @@ list_from nesting line = list_end (spot_at Outside nesting) 0 line
 abbrev pub added : Draft → List ℕ → Value → Draft
 added draft name value = record { items = draft.items ++ record { depth = draft.depth; name = name; value = value } ∷ []; depth = draft.depth }
 
+-- a reader with nothing pending
 abbrev pub free : Draft → Reader
 free draft = record { draft = draft; pending = Nothing }
 
@@ -116,6 +122,7 @@ abbrev pub pending_strings : List ℕ → Option (List ℕ) → Option Pending
 pending_strings name None = None
 pending_strings name (Some said) = Some (Strings name said)
 
+-- a reader with a quoted value pending, where the strings were read
 abbrev pub reader_strings : Draft → List ℕ → Option (List ℕ) → Option Reader
 reader_strings draft name said = reader_of draft (pending_strings name said)
 
@@ -133,6 +140,7 @@ closed draft after =
     then Some (free (record { items = draft.items; depth = draft.depth - 1 }))
     else None
 
+-- a list goes on as its end on this line tells
 abbrev pub listed_by : Draft → List ℕ → List ℕ → List ℕ → ListEnd → Option Reader
 listed_by draft name said line (Closed taken) =
     if list_all is_blank (drop taken line) then Some (free (added draft name (Brackets (said ++ take taken line)))) else None
@@ -165,6 +173,7 @@ named draft text =
     let count = prefix_len is_name_byte text in
     if count == 0 then None else after_name draft (take count text) (drop count text) (unblanked (drop count text))
 
+-- `fresh` from the first byte that is no blank
 abbrev pub fresh_text : Draft → List ℕ → Option Reader
 fresh_text draft [] = Some (free draft)
 fresh_text draft (byte ∷ bytes) =
@@ -176,10 +185,12 @@ fresh_text draft (byte ∷ bytes) =
 unfoldable pub fresh : Draft → List ℕ → Option Reader
 fresh draft line = fresh_text draft (unblanked line)
 
+-- the first byte is a quote
 abbrev pub begins_with_quote : List ℕ → Bool
 begins_with_quote [] = Bool.false
 begins_with_quote (byte ∷ bytes) = byte == 34
 
+-- the next line, by what is pending
 abbrev pub step_in : Draft → Pending → List ℕ → Option Reader
 step_in draft Nothing line = fresh draft line
 step_in draft (Strings name said) line =
@@ -191,9 +202,11 @@ step_in draft (OpenList name said nesting) line = listed draft name said nesting
 unfoldable pub step : Reader → List ℕ → Option Reader
 step reader line = step_in reader.draft reader.pending line
 
+-- the items, where every section is closed
 abbrev pub if_closed : Draft → Option (List Item)
 if_closed draft = if draft.depth == 0 then Some draft.items else None
 
+-- the items at the end, by what is pending
 abbrev pub finish_in : Draft → Pending → Option (List Item)
 finish_in draft Nothing = if_closed draft
 finish_in draft (Strings name said) = if_closed (added draft name (Quoted said))

@@ -1,4 +1,4 @@
--- The line of a fault in an MDL text.
+-- The line of a fault in an MDL text (own).
 use Rattle.std.specs.Prelude.{ℕ, List, Result, Ok, Err}
 use Rattle.fx_io.specs.FaultLine.{IsFaultLine}
 use Rattle.mdl_text.specs.declared.tree.Tree.{Tree}

@@ -1,4 +1,4 @@
--- Which tree a text stands for.
+-- Which tree a text stands for (own).
 use Rattle.std.specs.Prelude.{◌≡◌, ℕ, zero, suc, ◌<◌, List, [], ◌∷◌, ◌⊎◌}
 use Rattle.std.specs.List.{flat_map, AllByRecursion}
 use Rattle.mdl_text.specs.declared.tree.Tree.{Tree}

@@ -4,6 +4,7 @@ use Rattle.vl_ast.specs.declared.modules.Attr.{Attr}
 use Rattle.vl_ast.specs.declared.modules.Port.{Port}
 use Rattle.vl_ast.specs.declared.modules.Module.{Module}
 
+-- an attribute's number, where it is in a range
 abbrev pub value_between : ℕ → ℕ → Option Attr → Option ℕ
 value_between low high None = None
 value_between low high (Some attr) = if nat_le low attr.value && nat_le attr.value high then Some attr.value else None

@@ -15,24 +15,28 @@ use Rattle.vl_ast.specs.Context.{Net, own_length}
 use Rattle.vl_ast.specs.Driven.{is_clock_or_reset}
 use Rattle.vl_ast.specs.Nets.{Kind, InputPort, OutputPort, PlainWire, Register, Declared, Mention, Declares, Drives, Reads, Clocks, mentions, names_read, declaration_of, nets_of, place_of}
 
+-- the place declares the name
 abbrev pub is_declaration_of : List ℕ → Mention → Bool
 is_declaration_of name (Declares declared) = bytes_eq declared.name name
 is_declaration_of name (Drives clocked driven) = false
 is_declaration_of name (Reads read) = false
 is_declaration_of name Clocks = false
 
+-- the place drives the name
 abbrev pub is_driver_of : List ℕ → Mention → Bool
 is_driver_of name (Declares declared) = false
 is_driver_of name (Drives clocked driven) = bytes_eq driven name
 is_driver_of name (Reads read) = false
 is_driver_of name Clocks = false
 
+-- the place reads the name
 abbrev pub is_read_of : List ℕ → Mention → Bool
 is_read_of name (Declares declared) = false
 is_read_of name (Drives clocked driven) = false
 is_read_of name (Reads read) = bytes_eq read name
 is_read_of name Clocks = false
 
+-- the name at a place
 abbrev pub mentioned : Mention → List ℕ
 mentioned (Declares declared) = declared.name
 mentioned (Drives clocked name) = name
@@ -47,18 +51,21 @@ first_fault at_fault before (here ∷ after) =
 
 -- 1. a name that is read or driven isn't declared before, or one that needs a driver has none
 
+-- wires, registers and outputs
 abbrev pub needs_driver : Kind → Bool
 needs_driver InputPort = false
 needs_driver OutputPort = true
 needs_driver PlainWire = true
 needs_driver Register = true
 
+-- the place breaks the first condition
 abbrev pub is_undriven : List Mention → List Mention → Mention → Bool
 is_undriven all before (Declares declared) = needs_driver declared.kind && not (list_any (is_driver_of declared.name) all)
 is_undriven all before (Drives clocked name) = not (list_any (is_declaration_of name) before)
 is_undriven all before (Reads name) = not (list_any (is_declaration_of name) before)
 is_undriven all before Clocks = false
 
+-- first condition: the first name that is not declared before or lacks its driver
 abbrev pub undriven : Module → Option (List ℕ)
 undriven m = first_fault (is_undriven (mentions m)) [] (mentions m)
 
@@ -71,10 +78,12 @@ may_drive clocked OutputPort = not clocked
 may_drive clocked PlainWire = not clocked
 may_drive clocked Register = clocked
 
+-- the declaration may be so driven
 abbrev pub may_drive_it : Bool → Option Declared → Bool
 may_drive_it clocked None = true
 may_drive_it clocked (Some declared) = may_drive clocked declared.kind
 
+-- the place breaks the second condition
 abbrev pub is_double : Module → List Mention → Mention → Bool
 is_double m before (Declares declared) = list_any (is_declaration_of declared.name) before
 is_double m before (Drives clocked name) =
@@ -82,6 +91,7 @@ is_double m before (Drives clocked name) =
 is_double m before (Reads name) = false
 is_double m before Clocks = false
 
+-- second condition: the first name declared or driven twice, or driven by what may not
 abbrev pub doubly : Module → Option (List ℕ)
 doubly m = first_fault (is_double m) [] (mentions m)
 
@@ -102,9 +112,11 @@ pub record IsLoop (m : Module) (first : List ℕ) (others : List (List ℕ)) : T
 
 -- 4. a width isn't 1 to 128, or an item holds a faulty select, number, repetition or context
 
+-- 1 to 128
 abbrev pub is_width : ℕ → Bool
 is_width width = nat_le 1 width && nat_le width 128
 
+-- a literal of such a width, with digits below 2 to the width
 abbrev pub is_number : Sized → Bool
 is_number number = is_width number.width && nat_lt number.bits (2 ^ number.width)
 
@@ -112,6 +124,7 @@ is_number number = is_width number.width && nat_lt number.bits (2 ^ number.width
 abbrev pub is_narrow : (List ℕ → Net) → Expr × Bool → Bool
 is_narrow nets operand = operand.1 && nat_le (own_length nets operand.0) 128
 
+-- `is_sound` by the form of an expression
 abbrev pub is_sound_step : (List ℕ → Net) → Expr-F (Expr × Bool) → Bool
 is_sound_step nets (Expr-F.Name name) = true
 is_sound_step nets (Expr-F.Bit name place) = nat_lt 1 (nets name).width && nat_lt place (nets name).width
@@ -128,13 +141,16 @@ is_sound_step nets (Expr-F.Shift op part amount) = is_narrow nets part && is_num
 is_sound_step nets (Expr-F.Choose test chosen other) =
     is_narrow nets test && is_narrow nets chosen && is_narrow nets other
 
+-- no select, literal, repetition or length of the expression is at fault
 abbrev pub is_sound : (List ℕ → Net) → Expr → Bool
 is_sound nets e = is_narrow nets (e, para-Expr Bool (is_sound_step nets) e)
 
+-- the same of a condition
 abbrev pub is_sound_condition : (List ℕ → Net) → Option Expr → Bool
 is_sound_condition nets None = true
 is_sound_condition nets (Some condition) = is_sound nets condition
 
+-- the same of an item
 abbrev pub is_sound_item : (List ℕ → Net) → ModItem → Bool
 is_sound_item nets (Wire signed width name) = is_width width
 is_sound_item nets (Reg signed width name) = is_width width
@@ -142,6 +158,7 @@ is_sound_item nets (Assign name value) = is_sound nets value
 is_sound_item nets (Always name first condition value) =
     is_number first && is_sound_condition nets condition && is_sound nets value
 
+-- the name that an item declares or drives
 abbrev pub item_name : ModItem → List ℕ
 item_name (Wire signed width name) = name
 item_name (Reg signed width name) = name
@@ -154,18 +171,22 @@ soundness m =
     map (λ port. (port.name, is_width port.width)) m.ports
     ++ map (λ item. (item_name item, is_sound_item (nets_of m) item)) m.items
 
+-- fourth condition: the first port or item with a width at fault
 abbrev pub too_wide : Module → Option (List ℕ)
 too_wide m = option_map (λ part. part.0) (find (λ part. not part.1) (soundness m))
 
 -- 5. `clk` and `reset` aren't both unsigned inputs of one bit, or `clk` is read
 
+-- an unsigned input of one bit with this name
 abbrev pub is_bit_input : List ℕ → Port → Bool
 is_bit_input name port = bytes_eq port.name name && port.input && not port.signed && port.width == 1
 
+-- `clk` is no such input, or is read
 abbrev pub is_clk_at_fault : Module → Bool
 is_clk_at_fault m =
     not (list_any (is_bit_input (codes "clk")) m.ports) || list_any (is_read_of (codes "clk")) (mentions m)
 
+-- `reset` is no such input
 abbrev pub is_reset_at_fault : Module → Bool
 is_reset_at_fault m = not (list_any (is_bit_input (codes "reset")) m.ports)
 
@@ -178,11 +199,13 @@ no_reset m =
 
 -- 6. the module or a port lacks an attribute in its range
 
+-- the port lacks an attribute in its range
 abbrev pub lacks_attribute : Port → Bool
 lacks_attribute port =
     if port.input then not (is_clock_or_reset port) && is_none (period_of port)
     else is_none (period_of port) || is_none (latency_of port)
 
+-- sixth condition: the module or the first port that lacks an attribute in its range
 abbrev pub no_attribute : Module → Option (List ℕ)
 no_attribute m =
     if is_none (cycles_of m) then Some m.name else option_map (λ port. port.name) (find lacks_attribute m.ports)

@@ -20,11 +20,13 @@ pub data Place : Type 0 where
   Together : Place
   Alone : Place
 
+-- where the operand of a unary operator stands
 abbrev pub unary_place : UnOp → Place
 unary_place Negate = InWhole
 unary_place Invert = InWhole
 unary_place IsZero = Alone
 
+-- where the operands of a binary operator stand
 abbrev pub binary_place : BinOp → Place
 binary_place Add = InWhole
 binary_place Subtract = InWhole
@@ -47,11 +49,13 @@ length_at InWhole operands = operands
 length_at Together operands = 1
 length_at Alone operands = 1
 
+-- an operator's sign: that of its operands in its context, and else unsigned
 abbrev pub sign_at : Place → Bool → Bool
 sign_at InWhole operands = operands
 sign_at Together operands = false
 sign_at Alone operands = false
 
+-- `own_length` by the form of an expression
 abbrev pub length_step : (List ℕ → Net) → Expr-F ℕ → ℕ
 length_step nets (Expr-F.Name name) = (nets name).width
 length_step nets (Expr-F.Bit name place) = 1
@@ -70,6 +74,7 @@ length_step nets (Expr-F.Choose test chosen other) = max chosen other
 abbrev pub own_length : (List ℕ → Net) → Expr → ℕ
 own_length nets = fold-Expr ℕ (length_step nets)
 
+-- `is_signed` by the form of an expression
 abbrev pub sign_step : (List ℕ → Net) → Expr-F Bool → Bool
 sign_step nets (Expr-F.Name name) = (nets name).signed
 sign_step nets (Expr-F.Bit name place) = false
@@ -102,6 +107,7 @@ together nets operand other =
     operand.1 (max (own_length nets operand.0) (own_length nets other.0))
     (is_signed nets operand.0 && is_signed nets other.0)
 
+-- an operand in the context that its place gives it
 abbrev pub operand_at : {A : Type 0} → (List ℕ → Net) → Place → ℕ → Bool → Operand A → Operand A → A
 operand_at nets InWhole length signed operand other = operand.1 length signed
 operand_at nets Together length signed operand other = together nets operand other

@@ -6,6 +6,7 @@ use Rattle.vl_ast.specs.declared.modules.Module.{Module}
 use Rattle.vl_ast.specs.Attributes.{cycles_of, period_of}
 use Rattle.vl_ast.specs.Value.{number_of}
 
+-- the port is `clk` or `reset`
 abbrev pub is_clock_or_reset : Port → Bool
 is_clock_or_reset port = bytes_eq port.name (codes "clk") || bytes_eq port.name (codes "reset")
 

@@ -13,6 +13,7 @@ use Rattle.vl_ast.specs.declared.modules.Module.{Module}
 use Rattle.vl_ast.specs.Spelling.{joined, unary_text, binary_text, shift_text}
 use Rattle.vl_ast.specs.Tokens.{Token, Key, Sign, Identifier, Number, Based, Lays}
 
+-- the separating token
 abbrev pub comma : List Token
 comma = Sign (codes ",") ∷ []
 
@@ -40,9 +41,11 @@ tokens_step (Expr-F.Shift op part amount) =
 tokens_step (Expr-F.Choose test chosen other) =
     Sign (codes "(") ∷ (test ++ Sign (codes "?") ∷ (chosen ++ Sign (codes ":") ∷ (other ++ Sign (codes ")") ∷ [])))
 
+-- the tokens of an expression
 abbrev pub expr_tokens : Expr → List Token
 expr_tokens = fold-Expr (List Token) tokens_step
 
+-- `depth` by the form of an expression (own)
 abbrev pub depth_step : Expr-F ℕ → ℕ
 depth_step (Expr-F.Name name) = 0
 depth_step (Expr-F.Bit name place) = 0
@@ -61,6 +64,7 @@ depth_step (Expr-F.Choose test chosen other) = max test (max chosen other) + 1
 abbrev pub depth : Expr → ℕ
 depth = fold-Expr ℕ depth_step
 
+-- `is_filled` by the form of an expression (own)
 abbrev pub is_filled_step : Expr-F Bool → Bool
 is_filled_step (Expr-F.Name name) = true
 is_filled_step (Expr-F.Bit name place) = true
@@ -84,6 +88,7 @@ is_filled = fold-Expr Bool is_filled_step
 abbrev pub IsExpr : Expr → Type 0
 IsExpr e = (depth e ≤ 256) × (is_filled e ≡ true)
 
+-- the tokens of one attribute
 abbrev pub attr_tokens : Attr → List Token
 attr_tokens attr = Identifier attr.name ∷ Sign (codes "=") ∷ Number attr.value ∷ []
 
@@ -93,6 +98,7 @@ attrs_tokens [] = []
 attrs_tokens (attr ∷ attrs) =
     Sign (codes "(*") ∷ (joined comma (map attr_tokens (attr ∷ attrs)) ++ Sign (codes "*)") ∷ [])
 
+-- `signed`, or nothing
 abbrev pub signed_tokens : Bool → List Token
 signed_tokens signed = if signed then Key (codes "signed") ∷ [] else []
 
@@ -113,11 +119,13 @@ IsPortText port tokens =
     × (tokens ≡ attrs_tokens port.attrs
     ++ declaration_tokens (Key (if port.input then codes "input" else codes "output") ∷ Key (codes "wire") ∷ []) port.signed range port.name)
 
+-- the tokens of the condition of a clocked item, or none
 abbrev pub condition_tokens : Option Expr → List Token
 condition_tokens None = []
 condition_tokens (Some condition) =
     Key (codes "if") ∷ Sign (codes "(") ∷ (expr_tokens condition ++ Sign (codes ")") ∷ [])
 
+-- the condition, where there is one, is an expression of the grammar
 abbrev pub IsCondition : Option Expr → Type 0
 IsCondition None = ⊤
 IsCondition (Some condition) = IsExpr condition

@@ -1,5 +1,5 @@
--- The multiplications of a module: the `*` of its expressions in the order of the text, each with its
--- operands and the context in which they stand.
+-- The multiplications of a module: the `*` of its expressions in the order of the text, each with its operands and
+-- the context in which they stand (own).
 use Rattle.std.specs.Prelude.{ℕ, max, Bool, List, [], ◌∷◌, ◌++◌, flat_map, Option, Some, None}
 use Rattle.vl_ast.specs.declared.expressions.BinOp.{BinOp}
 use Rattle.vl_ast.specs.declared.expressions.BinOp.TheVariants.{Add, Subtract, Multiply, And, Or, Xor, Equal, NotEqual, Less, LessEqual, Greater, GreaterEqual, Both, Either}
@@ -12,6 +12,7 @@ use Rattle.vl_ast.specs.declared.modules.Module.{Module}
 use Rattle.vl_ast.specs.Context.{Net, Operand, own_length, is_signed, in_context}
 use Rattle.vl_ast.specs.Nets.{nets_of}
 
+-- a multiplication: its operands and its context
 pub record Multiplication : Type 0 where
   pub left : Expr
   pub right : Expr
@@ -35,6 +36,7 @@ product_of GreaterEqual product = []
 product_of Both product = []
 product_of Either product = []
 
+-- an operator's own multiplication, by the form
 abbrev pub product_here : Expr-F (Operand (List Multiplication)) → ℕ → Bool → List Multiplication
 product_here (Expr-F.Binary op left right) width signed =
     product_of op (record { left = left.0; right = right.0; width = width; signed = signed })
@@ -65,6 +67,7 @@ in_text_order here (Expr-F.Binary op left right) = left ++ (here ++ right)
 in_text_order here (Expr-F.Shift op part amount) = part
 in_text_order here (Expr-F.Choose test chosen other) = test ++ (chosen ++ other)
 
+-- `multiplications_in` by the form
 abbrev pub multiplications_step : (List ℕ → Net) → Expr-F (Operand (List Multiplication)) → ℕ → Bool → List Multiplication
 multiplications_step nets layer width signed =
     in_text_order (product_here layer width signed) (in_context nets width signed layer)
@@ -79,11 +82,13 @@ abbrev pub value_multiplications : (List ℕ → Net) → ℕ → Expr → List 
 value_multiplications nets width value =
     multiplications_in nets (max width (own_length nets value)) (is_signed nets value) value
 
+-- those of a condition
 abbrev pub condition_multiplications : (List ℕ → Net) → Option Expr → List Multiplication
 condition_multiplications nets None = []
 condition_multiplications nets (Some condition) =
     multiplications_in nets (own_length nets condition) (is_signed nets condition) condition
 
+-- those of an item
 abbrev pub item_multiplications : (List ℕ → Net) → ModItem → List Multiplication
 item_multiplications nets (Wire signed width name) = []
 item_multiplications nets (Reg signed width name) = []
@@ -91,5 +96,6 @@ item_multiplications nets (Assign name value) = value_multiplications nets (nets
 item_multiplications nets (Always name first condition value) =
     condition_multiplications nets condition ++ value_multiplications nets (nets name).width value
 
+-- those of a module
 abbrev pub multiplications : Module → List Multiplication
 multiplications m = flat_map (item_multiplications (nets_of m)) m.items

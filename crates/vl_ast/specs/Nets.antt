@@ -10,17 +10,20 @@ use Rattle.vl_ast.specs.declared.modules.ModItem.TheVariants.{Wire, Reg, Assign,
 use Rattle.vl_ast.specs.declared.modules.Module.{Module}
 use Rattle.vl_ast.specs.Context.{Net}
 
+-- input, output, wire or register
 pub data Kind : Type 0 where
   InputPort : Kind
   OutputPort : Kind
   PlainWire : Kind
   Register : Kind
 
+-- a declared name with its kind and net
 pub record Declared : Type 0 where
   pub name : List ℕ
   pub kind : Kind
   pub net : Net
 
+-- what a port declares
 abbrev pub port_declared : Port → Declared
 port_declared port =
     record { name = port.name; kind = if port.input then InputPort else OutputPort; net = record { width = port.width; signed = port.signed } }
@@ -33,6 +36,7 @@ pub data Mention : Type 0 where
   -- the `clk` and the `reset` of a clocked item
   Clocks : Mention
 
+-- `names_read` by the form of an expression
 abbrev pub names_step : Expr-F (List (List ℕ)) → List (List ℕ)
 names_step (Expr-F.Name name) = name ∷ []
 names_step (Expr-F.Bit name place) = name ∷ []
@@ -51,10 +55,12 @@ names_step (Expr-F.Choose test chosen other) = test ++ (chosen ++ other)
 abbrev pub names_read : Expr → List (List ℕ)
 names_read = fold-Expr (List (List ℕ)) names_step
 
+-- the names that a condition reads
 abbrev pub condition_names : Option Expr → List (List ℕ)
 condition_names None = []
 condition_names (Some condition) = names_read condition
 
+-- the places of names in an item
 abbrev pub item_mentions : ModItem → List Mention
 item_mentions (Wire signed width name) =
     Declares (record { name = name; kind = PlainWire; net = record { width = width; signed = signed } }) ∷ []
@@ -64,9 +70,11 @@ item_mentions (Assign name value) = Drives false name ∷ map Reads (names_read 
 item_mentions (Always name first condition value) =
     Clocks ∷ Drives true name ∷ map Reads (condition_names condition ++ names_read value)
 
+-- the places of names in a module, in the order of the text
 abbrev pub mentions : Module → List Mention
 mentions m = map (λ port. Declares (port_declared port)) m.ports ++ flat_map item_mentions m.items
 
+-- what a place declares
 abbrev pub declared_by : Mention → List Declared
 declared_by (Declares declared) = declared ∷ []
 declared_by (Drives clocked name) = []
@@ -81,6 +89,7 @@ declarations m = flat_map declared_by (mentions m)
 abbrev pub declaration_of : Module → List ℕ → Option Declared
 declaration_of m name = find (λ declared. bytes_eq declared.name name) (declarations m)
 
+-- the net of a declaration, and no bits without one
 abbrev pub net_or_none : Option Declared → Net
 net_or_none None = record { width = 0; signed = false }
 net_or_none (Some declared) = declared.net

@@ -1,6 +1,7 @@
 -- The reserved words, which no identifier may be (IEEE 1364-2005, annex B).
 use Rattle.std.specs.Prelude.{ℕ, List, [], ◌∷◌, codes}
 
+-- the reserved words
 abbrev pub reserved : List (List ℕ)
 reserved =
     codes "always" ∷ codes "and" ∷ codes "assign" ∷ codes "automatic" ∷ codes "begin" ∷

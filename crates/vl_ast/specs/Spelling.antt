@@ -25,11 +25,13 @@ abbrev pub joined : {A : Type 0} → List A → List (List A) → List A
 joined separator [] = []
 joined separator (part ∷ parts) = part ++ flat_map (λ more. separator ++ more) parts
 
+-- the sign of a unary operator
 abbrev pub unary_text : UnOp → List ℕ
 unary_text Negate = codes "-"
 unary_text Invert = codes "~"
 unary_text IsZero = codes "!"
 
+-- the sign of a binary operator
 abbrev pub binary_text : BinOp → List ℕ
 binary_text Add = codes "+"
 binary_text Subtract = codes "-"
@@ -46,6 +48,7 @@ binary_text GreaterEqual = codes ">="
 binary_text Both = codes "&&"
 binary_text Either = codes "||"
 
+-- the sign of a shift
 abbrev pub shift_text : ShiftOp → List ℕ
 shift_text Left = codes "<<"
 shift_text Right = codes ">>"
@@ -74,9 +77,11 @@ expr_step (Expr-F.Shift op part amount) =
 expr_step (Expr-F.Choose test chosen other) =
     codes "(" ++ test ++ codes " ? " ++ chosen ++ codes " : " ++ other ++ codes ")"
 
+-- the text of an expression
 abbrev pub expr_text : Expr → List ℕ
 expr_text = fold-Expr (List ℕ) expr_step
 
+-- `signed` and a blank, or nothing
 abbrev pub signed_text : Bool → List ℕ
 signed_text signed = if signed then codes "signed " else []
 
@@ -84,6 +89,7 @@ signed_text signed = if signed then codes "signed " else []
 abbrev pub range_text : ℕ → List ℕ
 range_text width = if width == 1 then [] else codes "[" ++ decimal (width - 1) ++ codes ":0] "
 
+-- the text of one attribute
 abbrev pub attr_text : Attr → List ℕ
 attr_text attr = attr.name ++ codes " = " ++ decimal attr.value
 
@@ -93,6 +99,7 @@ attrs_text indent [] = []
 attrs_text indent (attr ∷ attrs) =
     indent ++ codes "(* " ++ joined (codes ", ") (map attr_text (attr ∷ attrs)) ++ codes " *)\n"
 
+-- the text of a port
 abbrev pub port_text : Port → List ℕ
 port_text port =
     attrs_text (codes "  ") port.attrs ++ (if port.input then codes "  input wire " else codes "  output wire ")
@@ -103,6 +110,7 @@ abbrev pub condition_text : Option Expr → List ℕ
 condition_text None = []
 condition_text (Some condition) = codes "if (" ++ expr_text condition ++ codes ") "
 
+-- the line of an item
 abbrev pub item_text : ModItem → List ℕ
 item_text (Wire signed width name) = codes "wire " ++ signed_text signed ++ range_text width ++ name ++ codes ";\n"
 item_text (Reg signed width name) = codes "reg " ++ signed_text signed ++ range_text width ++ name ++ codes ";\n"
@@ -111,6 +119,7 @@ item_text (Always name first condition value) =
     codes "always @ (posedge clk) begin if (reset) " ++ name ++ codes " <= " ++ sized_text first ++ codes "; else "
     ++ condition_text condition ++ name ++ codes " <= " ++ expr_text value ++ codes "; end\n"
 
+-- the one written text of a module
 abbrev pub spelling : Module → List ℕ
 spelling m =
     attrs_text [] m.attrs ++ codes "module " ++ m.name ++ codes " (\n" ++ joined (codes ",\n") (map port_text m.ports)

@@ -7,6 +7,7 @@ use Rattle.std.specs.Str.Parse.{IsNumeral, digits_value}
 use Rattle.vl_ast.specs.declared.expressions.Sized.{Sized}
 use Rattle.vl_ast.specs.Reserved.{reserved}
 
+-- a key word, a sign, an identifier, a number or a based number
 pub data Token : Type 0 where
   -- a word that is written as it stands
   Key : List ℕ → Token
@@ -18,6 +19,7 @@ pub data Token : Type 0 where
   -- a number with its width and its base
   Based : Sized → Token
 
+-- any token but a sign
 abbrev pub is_word : Token → Bool
 is_word (Key bytes) = true
 is_word (Sign bytes) = false
@@ -55,6 +57,7 @@ base_of letter =
     if letter == 98 || letter == 66 then Some 2
     else (if letter == 100 || letter == 68 then Some 10 else (if letter == 104 || letter == 72 then Some 16 else None))
 
+-- `s` or `S` for a signed number, and else nothing
 abbrev pub IsSignMark : Bool → List ℕ → Type 0
 IsSignMark true mark = (mark ≡ codes "s") ⊎ (mark ≡ codes "S")
 IsSignMark false mark = mark ≡ []
@@ -88,6 +91,7 @@ IsWritten (Based number) bytes = IsBased number bytes
 abbrev pub IsWritable : Token → Type 0
 IsWritable token = (bytes : List ℕ) × IsWritten token bytes
 
+-- each of the tokens can be written (own)
 abbrev pub AreWritable : List Token → Type 0
 AreWritable [] = ⊤
 AreWritable (token ∷ tokens) = IsWritable token × AreWritable tokens
@@ -98,6 +102,7 @@ pub data Filler : Type 0 where
   LineComment : List ℕ → Filler
   BlockComment : List ℕ → Filler
 
+-- the bytes of a blank or a comment
 abbrev pub filler_text : Filler → List ℕ
 filler_text (Blank byte) = byte ∷ []
 filler_text (LineComment body) = codes "//" ++ body ++ codes "\n"
@@ -107,9 +112,11 @@ filler_text (BlockComment body) = codes "/*" ++ body ++ codes "*/"
 abbrev pub is_blank : ℕ → Bool
 is_blank byte = byte == 32 || byte == 9 || byte == 10 || byte == 12 || byte == 13
 
+-- no newline among the bytes
 abbrev pub IsOneLine : List ℕ → Type 0
 IsOneLine body = ¬ Contains body 10
 
+-- the blank or comment is sound
 abbrev pub IsFiller : Filler → Type 0
 IsFiller (Blank byte) = is_blank byte ≡ true
 IsFiller (LineComment body) = IsOneLine body

@@ -36,14 +36,17 @@ extended operand width = if is_negative operand then operand.bits + (2 ^ width -
 abbrev pub beside : ℕ → Bits → ℕ
 beside left right = left * 2 ^ right.width + right.bits
 
+-- 1 where it holds, else 0
 abbrev pub truth : Bool → ℕ
 truth holds = if holds then 1 else 0
 
+-- what a unary operator gives
 abbrev pub unary_bits : UnOp → ℕ → Bits → ℕ
 unary_bits Negate width part = (2 ^ width - part.bits) % 2 ^ width
 unary_bits Invert width part = 2 ^ width - 1 - part.bits
 unary_bits IsZero width part = truth (part.bits == 0)
 
+-- what a binary operator gives
 abbrev pub binary_bits : BinOp → ℕ → Bits → Bits → ℕ
 binary_bits Add width left right = (left.bits + right.bits) % 2 ^ width
 binary_bits Subtract width left right = (left.bits + (2 ^ width - right.bits)) % 2 ^ width
@@ -87,6 +90,7 @@ bits_step nets row width signed (Expr-F.Shift op part amount) = shift_bits op pa
 bits_step nets row width signed (Expr-F.Choose test chosen other) =
     if test.bits == 0 then other.bits else chosen.bits
 
+-- the bits of an expression in each context, by its form
 abbrev pub meaning_step : (List ℕ → Net) → (List ℕ → ℕ) → Expr-F (Operand Bits) → ℕ → Bool → Bits
 meaning_step nets row layer width signed =
     record { width = width; signed = signed; bits = bits_step nets row width signed (in_context nets width signed layer) }

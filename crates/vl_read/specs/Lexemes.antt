@@ -1,4 +1,5 @@
--- The plain division of bytes into lexemes: words and marks, each the longest there is.
+-- The plain division of bytes into lexemes: words and marks, each the longest there is (IEEE 1364-2005, 3.1 to 3.7,
+-- as a plain division).
 use Rattle.std.specs.Prelude.{ℕ, not, ◌+◌, ◌*◌, ◌^◌, ◌==◌, nat_le, nat_lt, Bool, true, false, ◌&&◌, ◌||◌, if◌then◌else◌, List, [], ◌∷◌, ◌++◌, length, bytes_eq, codes, Option, Some, None, option_map, option_and_then}
 use Rattle.std.specs.List.{prefix_len}
 use Rattle.std.specs.Char.{is_ascii_alphanumeric}

@@ -1,4 +1,5 @@
--- The states of the plain reading: the module so far, and where in a module the reading is with what was read for that place.
+-- The states of the plain reading: the module so far, and where in a module the reading is with what was read for
+-- that place (own).
 use Rattle.std.specs.Prelude.{ℕ, Bool, List, Option}
 use Rattle.vl_ast.specs.declared.expressions.ShiftOp.{ShiftOp}
 use Rattle.vl_ast.specs.declared.expressions.Sized.{Sized}

@@ -1,5 +1,5 @@
 -- The plain reading: what each lexeme makes of what was read before it. It goes one lexeme after another, with the
--- expressions that are begun on a list, the innermost last.
+-- expressions that are begun on a list, the innermost last (IEEE 1364-2005, annex A, as a plain reading).
 use Rattle.std.specs.Prelude.{ℕ, ◌+◌, ◌==◌, nat_lt, Bool, true, false, ◌&&◌, if◌then◌else◌, List, [], ◌∷◌, ◌++◌, length, bytes_eq, codes, Option, Some, None, option_and_then}
 use Rattle.vl_ast.specs.declared.expressions.UnOp.{UnOp}
 use Rattle.vl_ast.specs.declared.expressions.UnOp.TheVariants.{Negate, Invert, IsZero}

@@ -1,4 +1,4 @@
--- What is read, and the line of a fault in a Verilog text.
+-- What is read, and the line of a fault in a Verilog text (own).
 use Rattle.std.specs.Prelude.{◌≡◌, ℕ, ◌≤◌, List, length, Result, Ok, Err}
 use Rattle.fx_io.specs.FaultLine.{IsFaultLine}
 use Rattle.vl_ast.specs.declared.modules.Module.{Module}

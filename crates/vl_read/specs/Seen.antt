@@ -1,4 +1,4 @@
--- What the reader's place and registers stand for in the plain reading.
+-- What the reader's place and registers stand for in the plain reading (own).
 use Rattle.std.specs.Prelude.{ℕ, false, List, Option}
 use Rattle.vl_ast.specs.declared.expressions.Expr.{Expr}
 use Rattle.vl_ast.specs.declared.expressions.Sized.{Sized}

@@ -1,4 +1,4 @@
--- What a byte makes of the lexeme before it.
+-- What a byte makes of the lexeme before it (own).
 use Rattle.std.specs.Prelude.{ℕ, ◌+◌, Bool, true, false, List, [], ◌∷◌, ◌++◌, Option, Some, None, option_and_then}
 use Rattle.vl_ast.specs.declared.modules.Module.{Module}
 use Rattle.vl_read.specs.declared.scan.ByteClass.{ByteClass}
