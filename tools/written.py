@@ -80,6 +80,8 @@ def instance(case):
 
 def bits(port, number):
     """A number in the port's width, by two's complement."""
+    if not re.fullmatch(r"-?\d+", number):
+        raise Failed(f"{port.name} has {number} in place of a number at a hit")
     return int(number) % 2**port.width
 
 
