@@ -12,3 +12,4 @@ mod SlowToFast
 mod SumTypes
 mod Vectors
 mod WidthRounds
+pub mod Ports

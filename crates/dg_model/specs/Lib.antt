@@ -6,6 +6,7 @@ pub mod Hits
 pub mod Instant
 pub mod KindRow
 pub mod LatencyEdges
+pub mod Laws
 pub mod Library
 pub mod Operation
 pub mod Periods

@@ -14,6 +14,7 @@
 mod diagram;
 mod fault;
 mod kind;
+mod laws;
 mod nested;
 mod op;
 mod plan;
@@ -22,6 +23,7 @@ mod resolved;
 pub use diagram::{Block, Blocks, Diagram, Edge, Edges, PeriodSpec};
 pub use fault::{CheckFault, RuleFault, Shown};
 pub use kind::{Criterion, Decimals, Gate, Kind, Relation};
+pub use laws::edges_stand_by_port;
 pub use nested::{Nested, NestedBlock, NestedBlocks, NestedLine, NestedLines, Part, Target};
 pub use op::{Op, OpCall};
 pub use plan::{Pipeline, Pipelines, Plan};
