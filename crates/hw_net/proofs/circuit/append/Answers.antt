@@ -1,0 +1,26 @@
+use Rattle.std.proofs.Common.{rules, ◌≡◌, ◌∙◌, sym, subst, ◌++◌, ◌∷◌, [], Some, IsSome, None, List, length}
+use Rattle.hw_net.specs.declared.netlist.Net.{Net}
+use Rattle.hw_net.specs.inner.Index.{IsIndex, number_at_frame}
+use Rattle.hw_net.specs.Frames.{counted_frame, counter_of}
+use Rattle.hw_net.proofs.Index.{index-other, index-known, index-new}
+use Rattle.hw_net.proofs.circuit.append.Goals as goal
+
+pub returns-in_default-counted-clause-index : goal.returns-in_default-counted-clause-index
+returns-in_default-counted-clause-index c =
+    let none : counted_frame c.args.net.kind ≡ None = sym c.counted.ensures ∙ c.in_default-counted.is in
+    rw c.in_ok-push.ensures.appended (index-other c.args.nets.now c.args.counters.now c.args.net c.requires none)
+
+pub returns-then-is_some-clause-index : goal.returns-then-is_some-clause-index
+returns-then-is_some-clause-index c =
+    let counts : counted_frame c.args.net.kind ≡ Some c.in-Some.frame = sym c.counted.ensures ∙ c.in-Some.is in
+    let there : IsSome (counter_of c.args.nets.now c.in-Some.frame) = subst IsSome (c.find.ensures ∙ c.requires.each c.in-Some.frame) (search rules) in
+    rw c.in_ok-push-2.ensures.appended (index-known c.args.nets.now c.args.counters.now c.args.net c.requires c.in-Some.frame counts there)
+
+pub returns-clause-index : goal.returns-clause-index
+returns-clause-index c =
+    let counts : counted_frame c.args.net.kind ≡ Some c.in-Some.frame = sym c.counted.ensures ∙ c.in-Some.is in
+    let number : c.in-Ok.number ≡ length c.args.nets.now = search rules in
+    let absent : number_at_frame c.args.counters.now c.in-Some.frame ≡ None = search rules in
+    let grown : c.push-2.new.self ≡ c.args.nets.now ++ c.args.net ∷ [] = search rules in
+    let last = index-new c.args.nets.now c.args.counters.now c.args.net c.requires c.in-Some.frame counts c.put.new.self c.in-Ok.number number absent (search rules) in
+    rw grown last

@@ -1,0 +1,11 @@
+pub mod Circuit
+pub mod Closed
+pub mod Frames
+pub mod Growing
+pub mod NetRows
+pub mod Netlist
+pub mod Operation
+pub mod Registers
+pub mod State
+pub mod Step
+pub mod inner

@@ -1,0 +1,217 @@
+//! A netlist that grows: its data, with an index of its Counters.
+ghost use Rattle.std.specs.Prelude.{◌≡◌, ◌+◌, ◌*◌, ◌-◌, ◌<◌, ◌++◌, ◌∷◌, [], length, slice_get, slice_set, slice_index, IfOk, OnOk, OnErr, Option, None, Some, false, pos};
+ghost use Rattle.hw_net.specs.Circuit.{Circuit};
+ghost use Rattle.hw_net.specs.Frames.{counter_of, counted_frame};
+ghost use Rattle.hw_net.specs.Growing.{with_net, IsCounted, IsResize, IsConnected};
+ghost use Rattle.hw_net.specs.inner.Index.{IsIndex};
+ghost use Rattle.fx_num.specs.Word.{IsWord, InWord};
+
+use crate::counters::Counters;
+use crate::netlist::{Frame, Net, NetKind, NetLabel, NetLabels, NetOp, NetPort, NetPorts, Nets};
+use fx_io::{OutOfMemory, Sequence, Sizes};
+use std::alloc::Global;
+use std::marker::Model;
+
+/// Nets with the ports of a module (own). Contracts see its data (`Circuit`): how many clocks a base
+/// sample has, the nets by number, the ports in order, and names for some nets.
+#[derive(Drop)]
+pub struct Netlist {
+    cycles: u32,
+    nets: Nets,
+    inputs: NetPorts,
+    outputs: NetPorts,
+    labels: NetLabels,
+    counters: Counters,
+}
+
+impl Model for Netlist {
+    ghost use Rattle.std.specs.Prelude.{◌≡◌};
+    ghost use Rattle.hw_net.specs.Circuit.{Circuit};
+    ghost use Rattle.hw_net.specs.inner.Index.{IsIndex};
+
+    ghost Value = { Circuit };
+
+    ghost view = { λ netlist. record { cycles = netlist.cycles; nets = netlist.nets; inputs = netlist.inputs; outputs = netlist.outputs; labels = netlist.labels } };
+
+    ghost invariant = { λ netlist. IsIndex netlist.nets netlist.counters };
+}
+
+impl Netlist {
+    /// A netlist without a net. A base sample has so many clocks.
+    pub fn new(alloc: Global, cycles: u32) -> Netlist
+        ensures { result ≡ record { cycles = cycles; nets = []; inputs = []; outputs = []; labels = [] } }
+    {
+        Netlist {
+            cycles,
+            nets: Sequence::new(alloc),
+            inputs: Sequence::new(alloc),
+            outputs: Sequence::new(alloc),
+            labels: Sequence::new(alloc),
+            counters: Counters::new(alloc),
+        }
+    }
+
+    /// How many clocks a base sample has.
+    pub fn cycles(&self) -> u32
+        ensures { result ≡ self.now.cycles }
+    {
+        self.cycles
+    }
+
+    /// The nets by number.
+    pub fn nets(&self) -> &[Net]
+        ensures { result.now ≡ self.now.nets }
+    {
+        self.nets.as_slice()
+    }
+
+    /// The input ports in order.
+    pub fn inputs(&self) -> &[NetPort]
+        ensures { result.now ≡ self.now.inputs }
+    {
+        self.inputs.as_slice()
+    }
+
+    /// The output ports in order.
+    pub fn outputs(&self) -> &[NetPort]
+        ensures { result.now ≡ self.now.outputs }
+    {
+        self.outputs.as_slice()
+    }
+
+    /// The names that nets are to have.
+    pub fn labels(&self) -> &[NetLabel]
+        ensures { result.now ≡ self.now.labels }
+    {
+        self.labels.as_slice()
+    }
+
+    /// The number of the first Counter of a frame, by one look-up.
+    pub fn counter_of(&self, frame: Frame) -> Option<u32>
+        ensures { result ≡ counter_of self.now.nets frame }
+    {
+        self.counters.find(frame)
+    }
+}
+
+impl Netlist {
+    /// Puts a net behind the others and gives its number. Where memory is wanting, or the number has
+    /// no room in 32 bits, the netlist stays.
+    pub fn add(&mut self, net: Net) -> Result<u32, OutOfMemory>
+        ensures number { IfOk result (λ number. number ≡ length self.old.nets) }
+        ensures grown { OnOk result (self.new ≡ with_net self.old net) }
+        ensures kept { OnErr result (self.new ≡ self.old) }
+    {
+        append(&mut self.nets, &mut self.counters, net)
+    }
+
+    /// The number of the Counter of a frame. One is put behind the other nets where the frame has
+    /// none, in an unsigned word. Where that fails the netlist stays.
+    pub fn counter(&mut self, frame: Frame) -> Result<u32, OutOfMemory>
+        requires cycles { 0 < self.old.cycles }
+        requires period { 0 < frame.period }
+        ensures found { IfOk result (λ number. counter_of self.new.nets frame ≡ Some number) }
+        ensures counted { OnOk result (IsCounted self.old self.new frame) }
+        ensures kept { OnErr result (self.new ≡ self.old) }
+    {
+        if let Some(number) = self.counter_of(frame) {
+            return Ok(number);
+        }
+        let counter = Net {
+            signed: false,
+            width: count_width(frame, self.cycles),
+            kind: NetKind::Counter { frame },
+        };
+        self.add(counter)
+    }
+
+    /// Gives a Resize net its argument, in place of any that it had. Where memory is wanting the
+    /// netlist stays.
+    pub fn connect(&mut self, alloc: Global, number: u32, argument: u32) -> Result<(), OutOfMemory>
+        requires { IsResize self.old.nets number }
+        ensures connected { OnOk result (IsConnected self.old self.new number argument) }
+        ensures kept { OnErr result (self.new ≡ self.old) }
+    {
+        let mut args = Sizes::new(alloc);
+        args.push(argument)?;
+        let op = NetOp::Resize;
+        self.nets.as_mut_slice()[number as usize].kind = NetKind::Comb { op, args };
+        Ok(())
+    }
+
+    /// Puts an input port behind the others. Where memory is wanting the netlist stays.
+    pub fn add_input(&mut self, port: NetPort) -> Result<(), OutOfMemory>
+        ensures grown { OnOk result (self.new ≡ record self.old { inputs = self.old.inputs ++ port ∷ [] }) }
+        ensures kept { OnErr result (self.new ≡ self.old) }
+    {
+        self.inputs.push(port)
+    }
+
+    /// Puts an output port behind the others. Where memory is wanting the netlist stays.
+    pub fn add_output(&mut self, port: NetPort) -> Result<(), OutOfMemory>
+        ensures grown { OnOk result (self.new ≡ record self.old { outputs = self.old.outputs ++ port ∷ [] }) }
+        ensures kept { OnErr result (self.new ≡ self.old) }
+    {
+        self.outputs.push(port)
+    }
+
+    /// Puts a label behind the others. Where memory is wanting the netlist stays.
+    pub fn add_label(&mut self, label: NetLabel) -> Result<(), OutOfMemory>
+        ensures grown { OnOk result (self.new ≡ record self.old { labels = self.old.labels ++ label ∷ [] }) }
+        ensures kept { OnErr result (self.new ≡ self.old) }
+    {
+        self.labels.push(label)
+    }
+}
+
+/// The frame that a net counts, if it is a Counter.
+fn counted(kind: &NetKind) -> Option<Frame>
+    ensures { result ≡ counted_frame kind.now }
+{
+    match kind {
+        NetKind::Comb { .. } => None,
+        NetKind::Reg { .. } => None,
+        NetKind::EnReg { .. } => None,
+        NetKind::Bridge { .. } => None,
+        NetKind::Unit { .. } => None,
+        NetKind::Counter { frame } => Some(*frame),
+    }
+}
+
+/// Puts a net behind the others and into the index, if it is the first Counter of its frame.
+fn append(nets: &mut Nets, counters: &mut Counters, net: Net) -> Result<u32, OutOfMemory>
+    requires { IsIndex nets.old counters.old }
+    ensures index { IsIndex nets.new counters.new }
+    ensures number { IfOk result (λ number. number ≡ length nets.old) }
+    ensures grown { OnOk result (nets.new ≡ nets.old ++ net ∷ []) }
+    ensures kept { OnErr result (nets.new ≡ nets.old) }
+{
+    let Ok(number) = u32::try_from(nets.as_slice().len()) else {
+        return Err(OutOfMemory);
+    };
+    let Some(frame) = counted(&net.kind) else {
+        nets.push(net)?;
+        return Ok(number);
+    };
+    if counters.find(frame).is_some() {
+        nets.push(net)?;
+        return Ok(number);
+    }
+    counters.put(frame, number)?;
+    if let Err(fault) = nets.push(net) {
+        counters.remove(frame);
+        return Err(fault);
+    }
+    Ok(number)
+}
+
+/// The width of the unsigned word that holds what a Counter shows at clock 0.
+fn count_width(frame: Frame, cycles: u32) -> u8
+    requires cycles { 0 < cycles }
+    requires period { 0 < frame.period }
+    ensures word { IsWord result false }
+    ensures room { InWord result false (pos (frame.latency * cycles + frame.period * cycles - 1)) }
+{
+    let clocks = (u128::from(frame.latency) + u128::from(frame.period)) * u128::from(cycles);
+    clocks.ilog2() as u8 + 1
+}

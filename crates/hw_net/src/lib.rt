@@ -1,0 +1,14 @@
+//! Netlists: nets with a word each, what each net shows at each clock, and a plain run of them.
+//!
+//! A netlist is data (`specs/Circuit`) with an index of its Counters. `specs/NetRows` says what its
+//! nets show, as a fact about a function of net and clock: no order of evaluation and no state stands
+//! in it. `specs/Netlist` says which netlists can be run, and `specs/Growing` what a later netlist
+//! keeps of one that grows.
+#![tactic(auto)]
+
+mod circuit;
+mod counters;
+mod netlist;
+
+pub use circuit::Netlist;
+pub use netlist::{Frame, Net, NetKind, NetLabel, NetLabels, NetOp, NetPort, NetPorts, Nets};
