@@ -1,3 +1,7 @@
+pub mod Agree
+pub mod Alone
+pub mod Chains
+pub mod Facts
 mod Faults
 mod Header
 pub mod Laid
@@ -7,5 +11,9 @@ pub mod LaidItems
 pub mod LaidModule
 pub mod LaidNets
 pub mod Layers
+pub mod Places
+pub mod Settled
+pub mod Stepped
+pub mod Stimulated
 pub mod Values
 pub mod Written

@@ -6,7 +6,9 @@ pub mod Grammar
 pub mod Multiplications
 pub mod Nets
 pub mod Reserved
+pub mod Room
 pub mod Runs
 pub mod Spelling
+pub mod Steps
 pub mod Tokens
 pub mod Value

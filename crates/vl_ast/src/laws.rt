@@ -1,14 +1,19 @@
 // What the definitions together say. Each law is a function that does nothing.
-ghost use Rattle.std.specs.Prelude.{◌≡◌, ◌<◌, ◌^◌, Bool, List, ℕ};
+ghost use Rattle.std.specs.Prelude.{◌≡◌, ◌<◌, ◌^◌, Bool, List, ℕ, ℤ, Contains};
 ghost use Rattle.vl_ast.specs.declared.expressions.Sized.{Sized};
 ghost use Rattle.vl_ast.specs.declared.expressions.Expr.{Expr};
 ghost use Rattle.vl_ast.specs.declared.expressions.Expr.TheOpen.{Expr-F};
 ghost use Rattle.vl_ast.specs.declared.expressions.Expr.TheViews.{roll-Expr};
 ghost use Rattle.vl_ast.specs.declared.expressions.Expr.TheFolds.{map-Expr};
 ghost use Rattle.vl_ast.specs.declared.modules.Module.{Module};
+ghost use Rattle.vl_ast.specs.Conditions.{BreaksNone};
 ghost use Rattle.vl_ast.specs.Context.{Net, Operand, in_context, own_length, length_step, is_signed, sign_step};
 ghost use Rattle.vl_ast.specs.Grammar.{IsModuleText, Spells};
+ghost use Rattle.vl_ast.specs.Nets.{names_read};
+ghost use Rattle.vl_ast.specs.Room.{AreSame, CanBeDriven, HasRoom, HasRows, RunsDriven, StartFits};
+ghost use Rattle.vl_ast.specs.Runs.{Runs};
 ghost use Rattle.vl_ast.specs.Spelling.{spelling};
+ghost use Rattle.vl_ast.specs.Steps.{AreSteps};
 ghost use Rattle.vl_ast.specs.Tokens.{Token, Number, Based, IsWritable, AreWritable};
 ghost use Rattle.vl_ast.specs.Value.{Bits, bits_step, operand_of, value_in};
 
@@ -37,4 +42,41 @@ pub fn meaning_by_layer()
     ensures value { (nets : List ℕ → Net) (row : List ℕ → ℕ) (width : ℕ) (signed : Bool) (layer : Expr-F Expr) →
         value_in nets row width signed (roll-Expr layer)
         ≡ bits_step nets row width signed (in_context nets width signed (map-Expr Expr (Operand Bits) (operand_of nets row) layer)) }
+{}
+
+/// An expression's value hangs on the bits of the names that it reads, and on no others.
+pub fn agreement()
+    ensures { (nets : List ℕ → Net) (row other : List ℕ → ℕ) (e : Expr) (width : ℕ) (signed : Bool) →
+        ((name : List ℕ) → Contains (names_read e) name → row name ≡ other name) →
+        value_in nets row width signed e ≡ value_in nets other width signed e }
+{
+    meaning_by_layer();
+}
+
+/// A module that breaks no condition has rows over every start and all inputs that fit their widths, and
+/// no two lists of rows that differ at a declared name.
+pub fn one_run()
+    ensures some { (m : Module) (count : ℕ) (start : List ℕ → ℕ) (inputs : ℕ → List ℕ → ℕ) →
+        BreaksNone m → HasRoom m count start inputs → HasRows m count start inputs }
+    ensures one { (m : Module) (count : ℕ) (start : List ℕ → ℕ) (inputs rows other : ℕ → List ℕ → ℕ) →
+        BreaksNone m → Runs m count start inputs rows → Runs m count start inputs other → AreSame m count rows other }
+{
+    meaning_by_layer();
+}
+
+/// Of a module that breaks no condition, every stimulus drives some inputs that fit, over every count of
+/// rows and with every row of them as the last with `reset`.
+pub fn can_be_driven()
+    ensures inputs { (m : Module) (stimulus : ℕ → ℕ → ℤ) (samples count last : ℕ) →
+        BreaksNone m → last < count → CanBeDriven m stimulus samples count last }
+    ensures rows { (m : Module) (stimulus : ℕ → ℕ → ℤ) (samples count last : ℕ) (start : List ℕ → ℕ) →
+        BreaksNone m → last < count → StartFits m start → RunsDriven m stimulus samples count last start }
+{
+    meaning_by_layer();
+}
+
+/// A first row, and an edge from each row to the next, are a run.
+pub fn steps_run()
+    ensures { (m : Module) (count : ℕ) (start : List ℕ → ℕ) (inputs rows : ℕ → List ℕ → ℕ) →
+        AreSteps m count start inputs rows → Runs m count start inputs rows }
 {}

@@ -3,7 +3,8 @@
 //! The crate holds types, definitions, the test of identifiers, and laws as functions that do nothing.
 //! The definitions are in `specs/`, by subject: `Spelling` (the one written text of a module), `Tokens`
 //! and `Grammar` (which bytes spell a module), `Context` (length and sign of an expression), `Value`
-//! (its value), `Nets` (what is declared and where names stand), `Runs` (the rows of a module),
+//! (its value), `Nets` (what is declared and where names stand), `Runs` (the rows of a
+//! module), `Steps` (a row, and an edge to the next), `Room` (what fits),
 //! `Conditions` (the six conditions), `Attributes` and `Driven` (how it is reset and driven) and
 //! `Multiplications`.
 #![tactic(auto)]
@@ -15,5 +16,8 @@ mod modules;
 
 pub use expressions::{BinOp, Expr, Exprs, ShiftOp, Sized, UnOp};
 pub use identifiers::is_identifier;
-pub use laws::{meaning_by_layer, numbers_are_writable, spelling_spells, tokens_spell};
+pub use laws::{
+    agreement, can_be_driven, meaning_by_layer, numbers_are_writable, one_run, spelling_spells,
+    steps_run, tokens_spell,
+};
 pub use modules::{Attr, Attrs, ModItem, ModItems, Module, Port, Ports};

@@ -1,0 +1,5 @@
+use Rattle.vl_ast.proofs.Stepped.{steps-run}
+use Rattle.vl_ast.proofs.laws.steps_run.Goals as goal
+
+pub returns : goal.returns
+returns c = steps-run
