@@ -1,1 +1,10 @@
+pub mod Clocks
 pub mod Index
+pub mod Modular
+pub mod Ordering
+pub mod Places
+pub mod Steppable
+pub mod Steps
+pub mod Sweep
+pub mod Unique
+pub mod Words

@@ -1,0 +1,35 @@
+-- What the code of a step asks of a net.
+use Rattle.std.specs.Prelude.{ℕ, ◌<◌, ◌≤◌, ⊤}
+use Rattle.hw_net.specs.declared.netlist.NetOp.{NetOp}
+use Rattle.hw_net.specs.declared.netlist.NetOp.TheVariants.{Input, Const, Resize, ShiftUp, ShiftDown, Add, Subtract, Negate, Multiply, And, Or, Xor, Not, Less, Equal, Choose, Slice}
+use Rattle.hw_net.specs.declared.netlist.NetKind.{NetKind}
+use Rattle.hw_net.specs.declared.netlist.NetKind.TheVariants.{Comb, Reg, EnReg, Bridge, Unit, Counter}
+
+-- what an operation names is there: an input, and bits of 128
+abbrev pub CanGive : ℕ → NetOp → Type 0
+CanGive inputs (Input number) = number < inputs
+CanGive inputs (Const value) = ⊤
+CanGive inputs Resize = ⊤
+CanGive inputs (ShiftUp places) = ⊤
+CanGive inputs (ShiftDown places) = ⊤
+CanGive inputs Add = ⊤
+CanGive inputs Subtract = ⊤
+CanGive inputs Negate = ⊤
+CanGive inputs Multiply = ⊤
+CanGive inputs And = ⊤
+CanGive inputs Or = ⊤
+CanGive inputs Xor = ⊤
+CanGive inputs Not = ⊤
+CanGive inputs Less = ⊤
+CanGive inputs Equal = ⊤
+CanGive inputs Choose = ⊤
+CanGive inputs (Slice high low) = (low ≤ high) × (high < 128)
+
+-- an operation has its parts, and a frame has clocks
+abbrev pub CanStep : ℕ → NetKind → Type 0
+CanStep inputs (Comb op args) = CanGive inputs op
+CanStep inputs (Reg frame slot first from) = 0 < frame.period
+CanStep inputs (EnReg frame enable reset first from) = 0 < frame.period
+CanStep inputs (Bridge frame live from) = 0 < frame.period
+CanStep inputs (Unit left right) = ⊤
+CanStep inputs (Counter frame) = 0 < frame.period
