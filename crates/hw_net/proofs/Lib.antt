@@ -1,4 +1,5 @@
 pub mod Clocks
+pub mod Exists
 pub mod Index
 pub mod Modular
 pub mod Ordering

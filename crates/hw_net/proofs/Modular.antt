@@ -50,7 +50,7 @@ congruent-part {a} {b} k m h = record {
   equal = h.equal ∙ ap (λ (z : ℤ). b +ℤ z) (sym (mul-scaled h.turns k m));
 }
 
-remainder-congruent : (a m : ℕ) → IsCongruent (pos (a % m)) (pos a) m
+pub remainder-congruent : (a m : ℕ) → IsCongruent (pos (a % m)) (pos a) m
 remainder-congruent a m = record { turns = neg_ℤ (pos (a / m)); equal = omega (arith, ints, scaled-neg (pos (a / m)) m, div-add-mod' a m) }
 
 -- bits read as a number with a sign

@@ -17,7 +17,7 @@ use Rattle.hw_net.proofs.Places.{at-place}
 
 -- where two rows have the same numbers at the nets that a net reads in the same clock, it shows the same
 module _ (row other : Row) where
-  abbrev Agree : List ℕ → Type 0
+  abbrev pub Agree : List ℕ → Type 0
   Agree nets = All (λ net. row net ≡ other net) nets
 
   same-number : (args : List ℕ) (i : ℕ) (found : Option ℕ) → slice_get args i ≡ found → Agree args → number_at row found ≡ number_at other found
@@ -53,7 +53,7 @@ module _ (row other : Row) where
       rw (← a, ← b) h
   steps-same cycles clock inputs now width signed (Counter frame) old v agree h = h
 
-  goes-same : (cycles clock : ℕ) (inputs now : Row) (width : ℕ) (signed : Bool) (kind : NetKind) (old v : ℤ) → Agree (reads_now kind) → NetGoes cycles clock inputs now row width signed kind old v → NetGoes cycles clock inputs now other width signed kind old v
+  pub goes-same : (cycles clock : ℕ) (inputs now : Row) (width : ℕ) (signed : Bool) (kind : NetKind) (old v : ℤ) → Agree (reads_now kind) → NetGoes cycles clock inputs now row width signed kind old v → NetGoes cycles clock inputs now other width signed kind old v
   goes-same cycles zero inputs now width signed kind old v agree h = starts-same cycles inputs width signed kind v agree h
   goes-same cycles (suc clock) inputs now width signed kind old v agree h = steps-same cycles clock inputs now width signed kind old v agree h
 

@@ -19,7 +19,7 @@ mod timing;
 pub use circuit::Netlist;
 pub use laws::{
     bridge_is_closed, counter_is_closed, counter_is_telling, enabled_register_is_closed,
-    register_is_closed, rows_are_one, steps_give_rows,
+    register_is_closed, rows_are_one, rows_are_there, steps_give_rows,
 };
 pub use netlist::{Frame, Net, NetKind, NetLabel, NetLabels, NetOp, NetPort, NetPorts, Nets};
 pub use state::NetState;
