@@ -1,2 +1,2 @@
-pub mod Scaled
-pub mod Words
+pub mod Arithmetic
+mod Words

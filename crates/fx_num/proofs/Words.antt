@@ -1,14 +1,20 @@
 -- Numbers of words.
-use Rattle.std.proofs.Common.{◌≡◌, ℕ, suc, ◌+◌, ◌-◌, ◌*◌, ◌/◌, ◌%◌, ◌^◌, ◌<◌, ◌≤◌, true, false, ℤ, pos, negsuc, ◌+ℤ◌, ◌*ℤ◌, ap, sym, ◌∙◌, arith, pow_pos, pow_mono, to_z, of_z, zero, Bool, neg_ℤ, bit_and, div-add-mod', FitsSigned, refl, ◌≢◌}
-use Rattle.std.proofs.lemmas.Nat.{and_mask, pow-add, one_shl, pow_below}
+use Rattle.std.proofs.Common.{◌≡◌, ℕ, suc, ◌+◌, ◌-◌, ◌*◌, ◌/◌, ◌%◌, ◌^◌, ◌<◌, ◌≤◌, true, false, ℤ, pos, negsuc, ◌+ℤ◌, ◌*ℤ◌, ap, sym, ◌∙◌, arith, mul_comm, pow_pos, pow_mono, to_z, of_z, zero, Bool, neg_ℤ, bit_and, div-add-mod', FitsSigned, refl, ◌≢◌}
+use Rattle.std.proofs.lemmas.Nat.{and_mask, pow-add, one_shl, pow_below, shr_high}
+use Rattle.std.proofs.Math.Arith.{mul_pred}
 use Rattle.std.specs.Int.{w128}
 use Rattle.std.proofs.lemmas.Int.{to_z-of_z}
 use Rattle.std.proofs.lemmas.Int.{ints}
 use Rattle.fx_num.specs.Word.{IsWord, IsCongruent, IsWrapped}
-use Rattle.fx_num.proofs.Scaled.{double, add-scaled, neg-scaled}
+use Rattle.fx_num.proofs.Arithmetic.{double, add-scaled, scaled-neg, IsCongruent-refl}
 
-pub IsCongruent-refl : (a : ℤ) (m : ℕ) → IsCongruent a a m
-IsCongruent-refl a m = record { turns = pos 0; equal = omega (arith, ints) }
+-- the mask of b bits, and one more
+pub mask-suc : (a b : ℕ) → (2 ^ (a + b) - 1) / 2 ^ a + 1 ≡ 2 ^ b
+mask-suc a b =
+    let e : 2 ^ (a + b) ≡ 2 ^ b * 2 ^ a = pow-add 2 a b ∙ mul_comm (2 ^ a) (2 ^ b) in
+    let f : 2 ^ (a + b) - 1 ≡ (2 ^ b - 1) * 2 ^ a + (2 ^ a - 1) = ap (λ (n : ℕ). n - 1) e ∙ mul_pred (pow_pos b) (pow_pos a) in
+    let h : 2 ^ a - 1 < 2 ^ a = omega (arith, pow_pos a) in
+    omega (arith, ap (λ (n : ℕ). n / 2 ^ a) f, shr_high (2 ^ b - 1) a (2 ^ a - 1) h, pow_pos b)
 
 -- half of a mask
 pub half_mask : (w m : ℕ) → 1 ≤ w → m + 1 ≡ 2 ^ w → m / 2 ≡ 2 ^ (w - 1) - 1
@@ -41,7 +47,7 @@ word_width w false h = (h.0, omega (arith, h.1))
 pub low_bits : (v : ℤ) (w m : ℕ) → w ≤ 128 → m + 1 ≡ 2 ^ w → FitsSigned w128 v → IsCongruent (pos (bit_and (of_z w128 v) m)) v (2 ^ w)
 low_bits (pos n) w m h e f =
     let p : bit_and n m ≡ n % 2 ^ w = ap (bit_and n) (omega arith) ∙ and_mask n w in
-    record { turns = neg_ℤ (pos (n / 2 ^ w)); equal = omega (arith, ints, p, div-add-mod' n (2 ^ w), neg-scaled (n / 2 ^ w) (2 ^ w)) }
+    record { turns = neg_ℤ (pos (n / 2 ^ w)); equal = omega (arith, ints, p, div-add-mod' n (2 ^ w), scaled-neg (pos (n / 2 ^ w)) (2 ^ w)) }
 low_bits (negsuc n) w m h e f =
     let u : ℕ = 340282366920938463463374607431768211456 - suc n in
     let p : bit_and u m ≡ u % 2 ^ w = ap (bit_and u) (omega arith) ∙ and_mask u w in
@@ -49,7 +55,7 @@ low_bits (negsuc n) w m h e f =
     let q : 2 ^ (128 - w) * 2 ^ w ≡ 340282366920938463463374607431768211456 = sym (pow-add 2 (128 - w) w) ∙ ap (λ (i : ℕ). 2 ^ i) k in
     record {
       turns = pos (2 ^ (128 - w)) +ℤ neg_ℤ (pos (u / 2 ^ w));
-      equal = omega (arith, ints, p, q, div-add-mod' u (2 ^ w), add-scaled (pos (2 ^ (128 - w))) (neg_ℤ (pos (u / 2 ^ w))) (2 ^ w), neg-scaled (u / 2 ^ w) (2 ^ w), f.sfits);
+      equal = omega (arith, ints, p, q, div-add-mod' u (2 ^ w), add-scaled (pos (2 ^ (128 - w))) (neg_ℤ (pos (u / 2 ^ w))) (2 ^ w), scaled-neg (pos (u / 2 ^ w)) (2 ^ w), f.sfits);
     }
 
 -- shifted up by 127 or more, only 0 and, by 127, -1 fit

@@ -1,51 +1,16 @@
 -- The ends of ranges, of terms and of sums.
-use Rattle.std.proofs.Common.{◌≡◌, ℕ, ◌+◌, ◌*◌, ◌^◌, ◌<◌, ◌≤◌, Bool, true, false, [], ◌∷◌, ◌++◌, take, drop, length, get_or, ℤ, pos, negsuc, ◌+ℤ◌, ◌*ℤ◌, neg_ℤ, ◌≤ℤ◌, ap, sym, ◌∙◌, arith, refl, mul-le-mul_right, take-append-drop, MatchResult, Result, IsErr, Ok, Err, true≢false, subst₂, ◌-ℤ◌, nat_abs}
+use Rattle.std.proofs.Common.{◌≡◌, ℕ, ◌+◌, ◌^◌, ◌<◌, Bool, true, false, [], ◌∷◌, ◌++◌, take, drop, length, get_or, ℤ, pos, negsuc, ◌+ℤ◌, ◌≤ℤ◌, ap, sym, ◌∙◌, arith, refl, take-append-drop, MatchResult, Result, IsErr, Ok, Err, true≢false, subst₂, ◌-ℤ◌, nat_abs}
 use Rattle.std.specs.Int.{int_gap}
 use Rattle.std.proofs.lemmas.Int.{ints}
 use Rattle.std.proofs.lemmas.List.{take_more}
-use borrow.Author.Differences.{up, down, le_out, neg_is}
+use Rattle.fx_num.proofs.Arithmetic.{scaled-mono, scaled-neg, scaled-at_most, scaled-at_least}
 use Rattle.fx_type.specs.declared.kind.FxType.{FxType}
-use Rattle.fx_type.specs.declared.kind.FxType.TheVariants.{Num, Logical}
-use Rattle.fx_type.specs.FxType.{IsType, frac_of, lowest_of, highest_of, InRange, aligned}
+use Rattle.fx_type.specs.FxType.{frac_of, lowest_of, highest_of, InRange, aligned}
 use Rattle.fx_type.specs.FullType.{Terms, negated_if, IsPossibleSum}
 use Rattle.fx_type.specs.Span.{least_end, greatest_end, least_term, greatest_term, sum_of, IsSpan, FitSpan}
+use Rattle.fx_type.proofs.Ranges.{lowest_sign, highest_sign, InRange-lowest, InRange-highest}
 use Rattle.fx_type.specs.declared.full.Span.{Span}
 use Rattle.fx_type.specs.declared.full.TooWide.{TooWide}
-
--- 0 lies in every range
-pub lowest_sign : (t : FxType) → lowest_of t ≤ℤ pos 0
-lowest_sign (Num true w f) = omega (arith, ints)
-lowest_sign (Num false w f) = omega (arith, ints)
-lowest_sign Logical = omega (arith, ints)
-
-pub highest_sign : (t : FxType) → pos 0 ≤ℤ highest_of t
-highest_sign (Num true w f) = omega (arith, ints)
-highest_sign (Num false w f) = omega (arith, ints)
-highest_sign Logical = omega (arith, ints)
-
-pub InRange-lowest : (t : FxType) → InRange t (lowest_of t)
-InRange-lowest t = record { low = omega (arith, ints); high = omega (arith, ints, lowest_sign t, highest_sign t) }
-
-pub InRange-highest : (t : FxType) → InRange t (highest_of t)
-InRange-highest t = record { low = omega (arith, ints, lowest_sign t, highest_sign t); high = omega (arith, ints) }
-
--- ---- products with a natural
-pub scaled-mono : (a b : ℤ) (d : ℕ) → a ≤ℤ b → (a *ℤ pos d) ≤ℤ (b *ℤ pos d)
-scaled-mono a b d h =
-    let e : (up a + down b) * d ≤ (up b + down a) * d = mul-le-mul_right d (le_out a b h) in
-    omega (arith, ints)
-
-pub scaled-neg : (a : ℤ) (d : ℕ) → neg_ℤ a *ℤ pos d ≡ neg_ℤ (a *ℤ pos d)
-scaled-neg a d =
-    let p : up (neg_ℤ a) * d ≡ down a * d = ap (λ (n : ℕ). n * d) (neg_is a).0 in
-    let q : down (neg_ℤ a) * d ≡ up a * d = ap (λ (n : ℕ). n * d) (neg_is a).1 in
-    omega (arith, ints)
-
-pub scaled-at_most : (a : ℤ) (d : ℕ) → a ≤ℤ pos 0 → (a *ℤ pos d) ≤ℤ pos 0
-scaled-at_most a d h = let e = scaled-mono a (pos 0) d h in omega (arith, ints, e)
-
-pub scaled-at_least : (a : ℤ) (d : ℕ) → pos 0 ≤ℤ a → pos 0 ≤ℤ (a *ℤ pos d)
-scaled-at_least a d h = let e = scaled-mono (pos 0) a d h in omega (arith, ints, e)
 
 -- ---- terms
 least_end_sign : (s : Bool) (t : FxType) → least_end s t ≤ℤ pos 0
@@ -182,10 +147,6 @@ gap_is (pos a) (pos b) x h e = omega (arith, ints, h)
 gap_is (pos a) (negsuc b) x h e = absurd (omega (arith, ints, h))
 gap_is (negsuc a) (pos b) x h e = omega (arith, ints, h)
 gap_is (negsuc a) (negsuc b) x h e = omega (arith, ints, h)
-
-pub frac_bounds : (t : FxType) → IsType t → (negsuc 63 ≤ℤ frac_of t) × (frac_of t ≤ℤ pos 128)
-frac_bounds (Num s w f) h = (h.1, h.2)
-frac_bounds Logical h = (omega (arith, ints), omega (arith, ints))
 
 pub refuses : (r : Result Span TooWide) (l h : ℤ) → IsErr r → ¬ FitSpan l h → MatchResult r (IsSpan l h) (λ _. ¬ FitSpan l h)
 refuses (Ok x) l h e n = absurd (true≢false (sym e))

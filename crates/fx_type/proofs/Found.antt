@@ -1,6 +1,6 @@
--- The first number of a range that passes a test, and tests of whole numbers. Crates above may cite this module.
+-- The first number of a range that passes a test, tests of whole numbers, and functions that give a relation's one answer. Crates above may cite this module.
 use Rattle.std.proofs.Common.{◌≡◌, ℕ, zero, suc, ◌+◌, ◌<◌, ◌≤◌, Bool, true, false, cond, Option, Some, None, ℤ, ◌≤ℤ◌, ◌<ℤ◌, inl, inr, ap, sym, refl, subst, arith, true≢false}
-use Rattle.std.specs.Prelude.{int_lt, int_le, nat_le}
+use Rattle.std.specs.Prelude.{◌↔◌, int_lt, int_le, nat_le}
 use Rattle.std.specs.Bool.{Decides}
 use Rattle.std.specs.List.{find, range_with_len}
 use Rattle.std.specs.Option.{is_some, unwrap_or}
@@ -12,6 +12,11 @@ Some-injective {A} a b e = ap (λ (o : Option A). unwrap_or o a) e
 
 pub Some≢None : {A : Type 0} (a : A) → Some a ≡ None → ⊥
 Some≢None {A} a e = true≢false (ap (λ (o : Option A). is_some o) e)
+
+-- one answer where the function gives one, and none where it gives none
+pub one_answer : {A : Type 0} (P : A → Type 0) (o : Option A) → ((a : A) → o ≡ Some a → P a) → (o ≡ None → (a : A) → ¬ P a) → ((a b : A) → P a → P b → a ≡ b) → (a : A) → P a ↔ (o ≡ Some a)
+one_answer P None some none only a = ((λ p. absurd (none refl a p)), (λ e. absurd (Some≢None _ (sym e))))
+one_answer P (Some x) some none only a = ((λ p. ap Some (only x a (some x refl) p)), (λ e. some a e))
 
 pub Decides-int_le : (a b : ℤ) → Decides (int_le a b) (a ≤ℤ b)
 Decides-int_le a b = ((λ e. omega (arith, ints)), (λ h. grind (arith, ints)))

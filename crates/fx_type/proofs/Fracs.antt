@@ -1,20 +1,13 @@
 -- The greatest frac of a list of terms.
-use Rattle.std.proofs.Common.{◌≡◌, ℕ, ◌+◌, ◌<◌, ◌≤◌, Bool, true, false, cond, ◌⊎◌, inl, inr, take, length, get_or, ℤ, ◌≤ℤ◌, All, Any, sym, ◌∙◌, refl, subst, arith, take_all}
+use Rattle.std.proofs.Common.{◌≡◌, ℕ, ◌+◌, ◌<◌, ◌≤◌, Bool, inl, inr, take, length, get_or, ℤ, ◌≤ℤ◌, All, Any, sym, ◌∙◌, subst, arith, take_all}
 use Rattle.std.specs.Int.{int_max}
 use Rattle.std.proofs.lemmas.Int.{ints}
 use Rattle.std.proofs.lemmas.List.{get_or_default}
 use Rattle.std.proofs.lemmas.List.Elements.{All-weaker, All-more}
+use Rattle.fx_type.proofs.Ranges.{int_max_cases}
 use Rattle.fx_type.specs.declared.kind.FxType.{FxType}
 use Rattle.fx_type.specs.FxType.{frac_of}
 use Rattle.fx_type.specs.FullType.{Terms, IsGreatestFrac}
-
--- the greater of two is one of them
-pub int_max_cases : (x y : ℤ) → (int_max x y ≡ x) ⊎ (int_max x y ≡ y)
-int_max_cases x y = cases _
-  where
-    cases : (b : Bool) → (cond b x y ≡ x) ⊎ (cond b x y ≡ y)
-    cases true = inl refl
-    cases false = inr refl
 
 module _ (terms : Terms) (i : ℕ) (d : Bool × FxType) (inside : i < length terms) where
   pub bound_more : (old f new : ℤ) → All (λ term. frac_of term.1 ≤ℤ old) (take i terms) → f ≡ frac_of (get_or terms i d).1 → old ≤ℤ new → f ≤ℤ new → All (λ term. frac_of term.1 ≤ℤ new) (take (i + 1) terms)

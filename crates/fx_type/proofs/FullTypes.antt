@@ -1,6 +1,6 @@
 -- The full types of sums and unions.
-use Rattle.std.proofs.Common.{◌≡◌, ◌≢◌, ℕ, ◌-◌, ◌^◌, ◌<◌, ◌≤◌, Bool, true, false, ◌||◌, ℤ, pos, ◌*ℤ◌, ◌≤ℤ◌, ◌<ℤ◌, ap, sym, ◌∙◌, refl, subst, arith, pow_pos, pow_mono, mul-pos, true≢false, FitsSigned, Result, Ok, Err, OnErr}
-use Rattle.std.specs.Int.{w128, int_max, int_min, int_gap}
+use Rattle.std.proofs.Common.{◌≡◌, ◌≢◌, ℕ, ◌-◌, ◌^◌, ◌<◌, ◌≤◌, Bool, true, false, ◌||◌, ℤ, pos, ◌*ℤ◌, ◌≤ℤ◌, ◌<ℤ◌, ap, sym, ◌∙◌, refl, subst, arith, pow_pos, mul-pos, true≢false, Result, Ok, Err, OnErr}
+use Rattle.std.specs.Int.{int_max, int_min, int_gap}
 use Rattle.std.proofs.lemmas.Int.{ints, clamps}
 use Rattle.fx_type.specs.declared.full.Span.{Span}
 use Rattle.fx_type.specs.declared.kind.FxType.{FxType}
@@ -8,21 +8,9 @@ use Rattle.fx_type.specs.declared.kind.FxType.TheVariants.{Num, Logical}
 use Rattle.fx_type.specs.FxType.{IsType, IsNumber, is_signed, width_of, frac_of, lowest_of, highest_of, InRange, aligned}
 use Rattle.fx_type.specs.FullType.{Terms, IsPossibleSum, HoldsSums, IsGreatestFrac, IsFullSum, HoldsType, HoldsBoth, IsUnion}
 use Rattle.fx_type.specs.Span.{least_term, greatest_term, sum_of, IsSpan, FitSpan, IsNarrowest}
-use Rattle.fx_type.proofs.Ends.{InRange-lowest, InRange-highest, least_sign, greatest_sign, scaled-mono, scaled-neg, least_possible, greatest_possible, sum_bounds}
-
--- the range of a valid type has numbers of 128 bits
-pub InRange-fits : (t : FxType) (v : ℤ) → IsType t → InRange t v → FitsSigned w128 v
-InRange-fits (Num true w f) v h r =
-    let k : w - 1 ≤ 127 = omega (arith, h.0.1) in
-    let p : 2 ^ (w - 1) ≤ 2 ^ 127 = pow_mono k in
-    omega (arith, ints, r.low, r.high)
-InRange-fits (Num false w f) v h r =
-    let p : 2 ^ w ≤ 2 ^ 127 = pow_mono h.0.1 in
-    omega (arith, ints, r.low, r.high)
-InRange-fits Logical v h r = omega (arith, ints, r.low, r.high)
-
-InRange-between : (t : FxType) (l h v : ℤ) → InRange t l → InRange t h → l ≤ℤ v → v ≤ℤ h → InRange t v
-InRange-between t l h v p q a b = record { low = omega (arith, ints, p.low, a); high = omega (arith, ints, q.high, b) }
+use Rattle.fx_num.proofs.Arithmetic.{scaled-mono, scaled-neg}
+use Rattle.fx_type.proofs.Ranges.{InRange-lowest, InRange-highest, InRange-fits, InRange-between}
+use Rattle.fx_type.proofs.Ends.{least_sign, greatest_sign, least_possible, greatest_possible, sum_bounds}
 
 -- ---- sums
 greatest_below : (terms : Terms) (a b : ℤ) → IsGreatestFrac terms a → IsGreatestFrac terms b → a ≤ℤ b

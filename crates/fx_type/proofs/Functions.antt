@@ -18,9 +18,9 @@ use Rattle.fx_type.specs.FullType.{Terms, IsPossibleSum, IsGreatestFrac, IsFullS
 use Rattle.fx_type.specs.FullTypeOf.{holds_ends, narrowest_of, greatest_frac_of, full_sum_of, is_word, full_product_of, same_sign, same_type, union_of}
 use Rattle.fx_type.specs.Laws.{FullSumIsOne, FullProductIsOne, UnionIsOne}
 use Rattle.fx_type.specs.Span.{least_term, greatest_term, sum_of, IsNarrowest}
-use Rattle.fx_type.proofs.Ends.{frac_bounds, least_sign, greatest_sign, sum_of-at_most, sum_of-at_least, least_possible, greatest_possible, InRange-lowest, InRange-highest}
-use Rattle.fx_type.proofs.Found.{Some-injective, Some≢None, Decides-int_le, Decides-int_lt, Decides-nat_le, IsFirst, NonePasses, found, not_found}
-use Rattle.fx_type.proofs.Fracs.{int_max_cases}
+use Rattle.fx_type.proofs.Ends.{least_sign, greatest_sign, sum_of-at_most, sum_of-at_least, least_possible, greatest_possible}
+use Rattle.fx_type.proofs.Ranges.{InRange-lowest, InRange-highest, frac_bounds, int_max_cases}
+use Rattle.fx_type.proofs.Found.{Some-injective, Some≢None, one_answer, Decides-int_le, Decides-int_lt, Decides-nat_le, IsFirst, NonePasses, found, not_found}
 use Rattle.fx_type.proofs.FullTypes.{greatest_only, full_sum_is, union_is}
 
 Decides-holds_ends : (least greatest : ℤ) (s : Bool) (w : ℕ) → Decides (holds_ends least greatest s w) ((word_lowest w s ≤ℤ least) × (greatest ≤ℤ word_highest w s))
@@ -122,11 +122,6 @@ same_bool true true p q = refl
 same_bool true false p q = q refl
 same_bool false b p q = sym (p refl)
 
--- one answer where the function gives one, and none where it gives none
-given : {A : Type 0} (P : A → Type 0) (o : Option A) → ((a : A) → o ≡ Some a → P a) → (o ≡ None → (a : A) → ¬ P a) → ((a b : A) → P a → P b → a ≡ b) → (a : A) → P a ↔ (o ≡ Some a)
-given P None some none only a = ((λ p. absurd (none refl a p)), (λ e. absurd (Some≢None _ (sym e))))
-given P (Some x) some none only a = ((λ p. ap Some (only x a (some x refl) p)), (λ e. some a e))
-
 -- ---- sums
 reached_later : (f : ℤ) (term : Bool × FxType) (terms : Terms) → Any (λ term. frac_of term.1 ≡ f) terms → Any (λ term. frac_of term.1 ≡ f) (term ∷ terms)
 reached_later f term terms (k, x, inside, at, reached) = (suc k, x, omega (arith, inside), at, reached)
@@ -190,7 +185,7 @@ full_sum_only terms a b p q =
     same_number a b p.number q.number (same_bool (is_signed a) (is_signed b) (λ s. q.sign.1 (sign_a.0 s)) (λ s. sign_a.1 (q.sign.0 s))) (omega (arith, least, most)) f
 
 pub full_sum_one : FullSumIsOne
-full_sum_one terms type valid = given (IsFullSum terms) (full_sum_of terms) (full_sum_some terms valid) (full_sum_none terms valid) (full_sum_only terms) type
+full_sum_one terms type valid = one_answer (IsFullSum terms) (full_sum_of terms) (full_sum_some terms valid) (full_sum_none terms valid) (full_sum_only terms) type
 
 -- ---- products
 Decides-is_word : (w : ℕ) (s : Bool) → Decides (is_word w s) (IsWord w s)
@@ -224,7 +219,7 @@ product_only a b s t p q = same_number s t p.number q.number (p.sign ∙ sym q.s
 
 pub full_product_one : FullProductIsOne
 full_product_one a b type =
-    given (IsFullProduct a b) (full_product_of a b)
+    one_answer (IsFullProduct a b) (full_product_of a b)
     (product_some a b _ _ _ refl refl refl (is_valid (is_signed a || is_signed b) (width_of a + width_of b) (frac_of a +ℤ frac_of b)) refl)
     (product_none a b _ _ _ refl refl refl (is_valid (is_signed a || is_signed b) (width_of a + width_of b) (frac_of a +ℤ frac_of b)) refl)
     (product_only a b) type
@@ -315,4 +310,4 @@ module _ (a b : FxType) (ta : IsType a) (tb : IsType b) where
 
 pub union_one : UnionIsOne
 unfolding frac least greatest
-union_one a b type ta tb = given (IsUnion a b) (union_of a b) (union_some a b ta tb (same_type a b) refl) (union_none a b ta tb (same_type a b) refl) (union_only a b ta tb) type
+union_one a b type ta tb = one_answer (IsUnion a b) (union_of a b) (union_some a b ta tb (same_type a b) refl) (union_none a b ta tb (same_type a b) refl) (union_only a b ta tb) type

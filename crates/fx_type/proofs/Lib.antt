@@ -4,3 +4,5 @@ mod Fracs
 mod FullTypes
 mod Functions
 mod Narrow
+pub mod Ranges
+pub mod Stored

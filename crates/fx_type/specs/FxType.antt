@@ -1,5 +1,5 @@
 -- Types of stored integers: which are valid, and the range of each (Fixed-Point Designer guide; bounds own).
-use Rattle.std.specs.Prelude.{ℕ, ◌^◌, Bool, false, ℤ, pos, negsuc, ◌*ℤ◌, ◌≤ℤ◌}
+use Rattle.std.specs.Prelude.{◌≡◌, ℕ, ◌^◌, Bool, false, ℤ, pos, negsuc, ◌*ℤ◌, ◌≤ℤ◌}
 use Rattle.std.specs.Int.{int_gap}
 use Rattle.fx_num.specs.Word.{IsWord, word_lowest, word_highest}
 use Rattle.fx_type.specs.declared.kind.FxType.{FxType}
@@ -44,6 +44,13 @@ highest_of Logical = pos 1
 pub record InRange (type : FxType) (v : ℤ) : Type 0 where
   pub low : lowest_of type ≤ℤ v
   pub high : v ≤ℤ highest_of type
+
+-- exactly one number is given, and it is in the type's range
+pub record GivesOne (gives : ℤ → Type 0) (type : FxType) : Type 0 where
+  pub number : ℤ
+  pub given : gives number
+  pub in_range : InRange type number
+  pub only : (other : ℤ) → gives other → other ≡ number
 
 -- the stored integer v of the type, written with `frac` bits behind the point, of which there are no fewer
 abbrev pub aligned : ℤ → FxType → ℤ → ℤ

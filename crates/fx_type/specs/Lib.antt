@@ -4,3 +4,4 @@ pub mod FullTypeOf
 pub mod FxType
 pub mod Laws
 pub mod Span
+pub mod StoredOf

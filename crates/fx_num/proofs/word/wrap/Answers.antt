@@ -2,7 +2,7 @@ use Rattle.std.proofs.Common.{◌≡◌, FitsSigned, to_z, of_z, rules, pos, ◌
 use Rattle.std.specs.Int.{w128}
 use Rattle.std.proofs.lemmas.Int.{to_z-of_z}
 use Rattle.fx_num.specs.Word.{IsCongruent}
-use Rattle.fx_num.proofs.Scaled.{IsCongruent-trans}
+use Rattle.fx_num.proofs.Arithmetic.{IsCongruent-trans}
 use Rattle.fx_num.proofs.word.wrap.Goals as goal
 
 pub returns : goal.returns

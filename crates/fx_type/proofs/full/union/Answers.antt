@@ -4,7 +4,8 @@ use Rattle.std.proofs.lemmas.Int.{ints, clamps, to_z-of_z}
 use Rattle.fx_type.specs.declared.kind.FxType.{FxType}
 use Rattle.fx_type.specs.FxType.{frac_of}
 use Rattle.fx_type.specs.Span.{least_term, greatest_term, FitSpan}
-use Rattle.fx_type.proofs.Ends.{least_sign, greatest_sign, frac_bounds}
+use Rattle.fx_type.proofs.Ends.{least_sign, greatest_sign}
+use Rattle.fx_type.proofs.Ranges.{frac_bounds}
 use Rattle.fx_type.proofs.FullTypes.{OnErr-from, no_left, no_right, union_is}
 use Rattle.fx_type.proofs.full.union.Goals as goal
 

@@ -1,0 +1,54 @@
+-- The ranges of types. Crates above may cite this module.
+use Rattle.std.proofs.Common.{◌≡◌, ◌-◌, ◌^◌, ◌≤◌, Bool, true, false, cond, ◌⊎◌, inl, inr, ℤ, pos, negsuc, ◌≤ℤ◌, refl, arith, pow_mono, FitsSigned}
+use Rattle.std.specs.Int.{w128, int_max}
+use Rattle.std.proofs.lemmas.Int.{ints}
+use Rattle.fx_type.specs.declared.kind.FxType.{FxType}
+use Rattle.fx_type.specs.declared.kind.FxType.TheVariants.{Num, Logical}
+use Rattle.fx_type.specs.FxType.{IsType, frac_of, lowest_of, highest_of, InRange}
+
+-- 0 lies in every range
+pub lowest_sign : (t : FxType) → lowest_of t ≤ℤ pos 0
+lowest_sign (Num true w f) = omega (arith, ints)
+lowest_sign (Num false w f) = omega (arith, ints)
+lowest_sign Logical = omega (arith, ints)
+
+pub highest_sign : (t : FxType) → pos 0 ≤ℤ highest_of t
+highest_sign (Num true w f) = omega (arith, ints)
+highest_sign (Num false w f) = omega (arith, ints)
+highest_sign Logical = omega (arith, ints)
+
+pub InRange-lowest : (t : FxType) → InRange t (lowest_of t)
+InRange-lowest t = record { low = omega (arith, ints); high = omega (arith, ints, lowest_sign t, highest_sign t) }
+
+pub InRange-highest : (t : FxType) → InRange t (highest_of t)
+InRange-highest t = record { low = omega (arith, ints, lowest_sign t, highest_sign t); high = omega (arith, ints) }
+
+pub InRange-zero : (t : FxType) → InRange t (pos 0)
+InRange-zero t = record { low = lowest_sign t; high = highest_sign t }
+
+-- the range of a valid type has numbers of 128 bits
+pub InRange-fits : (t : FxType) (v : ℤ) → IsType t → InRange t v → FitsSigned w128 v
+InRange-fits (Num true w f) v h r =
+    let k : w - 1 ≤ 127 = omega (arith, h.0.1) in
+    let p : 2 ^ (w - 1) ≤ 2 ^ 127 = pow_mono k in
+    omega (arith, ints, r.low, r.high)
+InRange-fits (Num false w f) v h r =
+    let p : 2 ^ w ≤ 2 ^ 127 = pow_mono h.0.1 in
+    omega (arith, ints, r.low, r.high)
+InRange-fits Logical v h r = omega (arith, ints, r.low, r.high)
+
+pub InRange-between : (t : FxType) (l h v : ℤ) → InRange t l → InRange t h → l ≤ℤ v → v ≤ℤ h → InRange t v
+InRange-between t l h v p q a b = record { low = omega (arith, ints, p.low, a); high = omega (arith, ints, q.high, b) }
+
+-- ---- fracs
+pub frac_bounds : (t : FxType) → IsType t → (negsuc 63 ≤ℤ frac_of t) × (frac_of t ≤ℤ pos 128)
+frac_bounds (Num s w f) h = (h.1, h.2)
+frac_bounds Logical h = (omega (arith, ints), omega (arith, ints))
+
+-- the greater of two is one of them
+pub int_max_cases : (x y : ℤ) → (int_max x y ≡ x) ⊎ (int_max x y ≡ y)
+int_max_cases x y = cases _
+  where
+    cases : (b : Bool) → (cond b x y ≡ x) ⊎ (cond b x y ≡ y)
+    cases true = inl refl
+    cases false = inr refl

@@ -1,0 +1,5 @@
+use Rattle.fx_type.proofs.Stored.{stored_one}
+use Rattle.fx_type.proofs.laws.stored_is_one.Goals as goal
+
+pub returns : goal.returns
+returns c = stored_one
