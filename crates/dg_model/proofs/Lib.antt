@@ -6,6 +6,7 @@ mod Examples
 mod FastToSlow
 mod GainTypes
 mod Numbers
+mod ParamTypes
 mod PeriodRounds
 mod Roundings
 mod SlowToFast

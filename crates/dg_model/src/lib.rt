@@ -13,6 +13,7 @@
 
 mod diagram;
 mod fault;
+mod gain_param;
 mod kind;
 mod laws;
 mod nested;
@@ -22,6 +23,7 @@ mod resolved;
 
 pub use diagram::{Block, Blocks, Diagram, Edge, Edges, PeriodSpec};
 pub use fault::{CheckFault, RuleFault, Shown};
+pub use gain_param::param_type_is_one;
 pub use kind::{Criterion, Decimals, Gate, Kind, Relation};
 pub use laws::edges_stand_by_port;
 pub use nested::{Nested, NestedBlock, NestedBlocks, NestedLine, NestedLines, Part, Target};
