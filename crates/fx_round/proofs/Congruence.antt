@@ -1,43 +1,12 @@
 -- Congruence of shifted numbers.
-use Rattle.std.proofs.Common.{◌≡◌, ℕ, suc, ◌+◌, ◌-◌, ◌*◌, ◌/◌, ◌%◌, ◌^◌, ◌<◌, ◌≤◌, Bool, true, false, ℤ, pos, negsuc, ◌+ℤ◌, ◌*ℤ◌, neg_ℤ, ap, sym, ◌∙◌, subst, arith, of_z, to_z, FitsSigned, div-add-mod', mul_comm, mul_assoc, mod-lt, inl, inr}
+use Rattle.std.proofs.Common.{◌≡◌, ℕ, suc, ◌+◌, ◌-◌, ◌*◌, ◌/◌, ◌%◌, ◌^◌, ◌<◌, ◌≤◌, Bool, true, false, ℤ, pos, negsuc, ◌+ℤ◌, ◌*ℤ◌, neg_ℤ, ap, sym, ◌∙◌, subst, arith, of_z, to_z, FitsSigned, div-add-mod', mod-lt, inl, inr}
 use Rattle.std.specs.Int.{w128}
 use Rattle.std.proofs.lemmas.Int.{ints, to_z-of_z}
 use Rattle.std.proofs.lemmas.Nat.{pow-add}
 use Rattle.std.proofs.lemmas.Bool.{cases_lt}
-use borrow.Author.Differences.{up, down, neg_is}
 use Rattle.fx_num.specs.Word.{InWord, IsCongruent, IsWrapped}
-use Rattle.fx_round.proofs.Rounding.{add-scaled}
+use Rattle.fx_num.proofs.Arithmetic.{scaled-neg, mul-scaled, IsCongruent-trans, IsCongruent-times, IsCongruent-part}
 use Rattle.fx_round.proofs.Shifts.{whole_turns}
-
-pub scaled-neg : (a : ℤ) (d : ℕ) → neg_ℤ a *ℤ pos d ≡ neg_ℤ (a *ℤ pos d)
-scaled-neg a d =
-    let p : up (neg_ℤ a) * d ≡ down a * d = ap (λ (n : ℕ). n * d) (neg_is a).0 in
-    let q : down (neg_ℤ a) * d ≡ up a * d = ap (λ (n : ℕ). n * d) (neg_is a).1 in
-    omega (arith, ints)
-
-pub mul-scaled : (t : ℤ) (a b : ℕ) → (t *ℤ pos a) *ℤ pos b ≡ t *ℤ pos (a * b)
-mul-scaled (pos t) a b = ap pos (mul_assoc t a b)
-mul-scaled (negsuc t) a b = scaled-neg (pos (suc t * a)) b ∙ ap (λ (n : ℕ). neg_ℤ (pos n)) (mul_assoc (suc t) a b)
-
-IsCongruent-trans : {a b c : ℤ} (m : ℕ) → IsCongruent a b m → IsCongruent b c m → IsCongruent a c m
-IsCongruent-trans m p q = record {
-  turns = p.turns +ℤ q.turns;
-  equal = let e = add-scaled p.turns q.turns m in omega (arith, ints, p.equal, q.equal, e);
-}
-
-IsCongruent-times : {a b : ℤ} (m d : ℕ) → IsCongruent a b m → IsCongruent (a *ℤ pos d) (b *ℤ pos d) m
-IsCongruent-times {a} {b} m d h = record {
-  turns = h.turns *ℤ pos d;
-  equal =
-      let e = mul-scaled h.turns m d ∙ ap (λ (n : ℕ). h.turns *ℤ pos n) (mul_comm m d) ∙ sym (mul-scaled h.turns d m) in
-      ap (λ (z : ℤ). z *ℤ pos d) h.equal ∙ add-scaled b (h.turns *ℤ pos m) d ∙ ap (λ (z : ℤ). b *ℤ pos d +ℤ z) e;
-}
-
-IsCongruent-part : {a b : ℤ} (k m : ℕ) → IsCongruent a b (k * m) → IsCongruent a b m
-IsCongruent-part {a} {b} k m h = record {
-  turns = h.turns *ℤ pos k;
-  equal = h.equal ∙ ap (λ (z : ℤ). b +ℤ z) (sym (mul-scaled h.turns k m));
-}
 
 remainder_congruent : (a m : ℕ) → IsCongruent (pos (a % m)) (pos a) m
 remainder_congruent a m = record { turns = neg_ℤ (pos (a / m)); equal = omega (arith, ints, scaled-neg (pos (a / m)) m, div-add-mod' a m) }

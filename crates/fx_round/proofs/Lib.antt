@@ -1,7 +1,8 @@
-pub mod Congruence
-pub mod Converting
-pub mod Orders
-pub mod Reading
-pub mod Rounding
-pub mod Shifts
-pub mod Sizes
+mod Congruence
+mod Converting
+mod Exactly
+mod Orders
+mod Reading
+mod Rounding
+mod Shifts
+mod Sizes

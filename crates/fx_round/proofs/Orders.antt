@@ -1,7 +1,8 @@
 -- How rounded numbers lie to one another.
-use Rattle.std.proofs.Common.{◌≡◌, ℕ, ◌-◌, ◌^◌, ◌<◌, ◌≤◌, Bool, true, false, ℤ, pos, negsuc, ◌+ℤ◌, ◌*ℤ◌, ◌≤ℤ◌, ◌<ℤ◌, ap, sym, ◌∙◌, refl, subst, arith, pow_pos}
+use Rattle.std.proofs.Common.{◌≡◌, ℕ, ◌-◌, ◌^◌, ◌<◌, ◌≤◌, Bool, true, false, ℤ, pos, ◌+ℤ◌, ◌*ℤ◌, ◌≤ℤ◌, ◌<ℤ◌, sym, ◌∙◌, refl, subst, arith, pow_pos}
 use Rattle.std.specs.Int.{int_gap}
 use Rattle.std.proofs.lemmas.Int.{ints, by_lt_z}
+use Rattle.fx_num.proofs.Arithmetic.{scaled-mono, next-scaled, unit_apart, near_congruent, double}
 use Rattle.fx_num.specs.Word.{InWord, IsCongruent}
 use Rattle.fx_type.specs.declared.kind.FxType.TheVariants.{Num, Logical}
 use Rattle.fx_type.specs.declared.rounding.Rounding.{Rounding}
@@ -9,14 +10,6 @@ use Rattle.fx_type.specs.declared.rounding.Rounding.TheVariants.{Floor, Ceiling,
 use Rattle.fx_type.specs.FxType.{IsType, frac_of, InRange}
 use Rattle.fx_type.specs.Conversion.{RoundsDown, RoundsUp, RoundsTiesUp, RoundsTiesDown, RoundsTiesEven, Rounds, Settles, StoresQuotient}
 use Rattle.fx_round.specs.Laws.{RoundingIsMonotone, FloorIsLeast, CeilingIsGreatest, ExactIsKept, SameTypeIsIdentity}
-use Rattle.fx_round.proofs.Rounding.{scaled-mono, next-scaled}
-use Rattle.fx_round.proofs.Sizes.{twice_half}
-
--- a lesser whole number is a whole unit less
-apart : (s r : ℤ) (d : ℕ) → s <ℤ r → (s *ℤ pos d +ℤ pos d) ≤ℤ (r *ℤ pos d)
-apart s r d h =
-    let k : (s +ℤ pos 1) ≤ℤ r = omega (arith, ints, h) in
-    omega (arith, ints, scaled-mono (s +ℤ pos 1) r d k, next-scaled s d)
 
 -- whatever the mode, the number is less than a unit above and below
 module _ (n : ℤ) (d : ℕ) (r : ℤ) (h : 0 < d) where
@@ -38,18 +31,18 @@ module _ (n : ℤ) (d : ℕ) (r : ℤ) (h : 0 < d) where
 
 pub floor_least : FloorIsLeast
 floor_least mode n d least r h f e = by_lt_z r least
-    (λ s. absurd (omega (arith, ints, apart r least d s, f.at_most, rounds_next n d r h mode e)))
+    (λ s. absurd (omega (arith, ints, unit_apart r least d s, f.at_most, rounds_next n d r h mode e)))
     (λ s. s)
 
 pub ceiling_greatest : CeilingIsGreatest
 ceiling_greatest mode n d greatest r h c e = by_lt_z greatest r
-    (λ s. absurd (omega (arith, ints, apart greatest r d s, c.at_least, rounds_previous n d r h mode e)))
+    (λ s. absurd (omega (arith, ints, unit_apart greatest r d s, c.at_least, rounds_previous n d r h mode e)))
     (λ s. s)
 
 -- ---- monotony: no mode takes a greater number below the one that it takes for a lesser
 module _ (n m : ℤ) (d : ℕ) (r s : ℤ) (h : 0 < d) (order : n ≤ℤ m) (less : s <ℤ r) where
   unit_less : (s *ℤ pos d +ℤ pos d) ≤ℤ (r *ℤ pos d)
-  unit_less = apart s r d less
+  unit_less = unit_apart s r d less
 
   not_down : RoundsDown n d r → RoundsDown m d s → ⊥
   not_down a b = omega (arith, ints, order, unit_less, a.at_most, b.next_above)
@@ -59,7 +52,7 @@ module _ (n m : ℤ) (d : ℕ) (r s : ℤ) (h : 0 < d) (order : n ≤ℤ m) (les
 
   not_across : n <ℤ pos 0 → pos 0 ≤ℤ m → RoundsUp n d r → RoundsDown m d s → ⊥
   not_across p q a b = by_lt_z s (pos 0)
-      (λ k. omega (arith, ints, apart s (pos 0) d k, b.next_above, q))
+      (λ k. omega (arith, ints, unit_apart s (pos 0) d k, b.next_above, q))
       (λ k. omega (arith, ints, scaled-mono (pos 0) s d k, unit_less, a.previous_below, p))
 
   not_ties_up : RoundsTiesUp n d r → RoundsTiesUp m d s → ⊥
@@ -76,7 +69,7 @@ module _ (n m : ℤ) (d : ℕ) (r s : ℤ) (h : 0 < d) (order : n ≤ℤ m) (les
       let (j, r_even) = a.even_above (omega (arith, ints, order, unit_less, a.at_most, b.at_least)) in
       let (k, s_even) = b.even_below (omega (arith, ints, order, unit_less, a.at_most, b.at_least)) in
       by_lt_z (s +ℤ pos 1) r
-      (λ t. omega (arith, ints, order, apart (s +ℤ pos 1) r d t, next-scaled s d, a.at_most, b.at_least))
+      (λ t. omega (arith, ints, order, unit_apart (s +ℤ pos 1) r d t, next-scaled s d, a.at_most, b.at_least))
       (λ t. omega (arith, ints, t, less, r_even, s_even))
 
   not_monotone : (mode : Rounding) → Rounds mode n d r → Rounds mode m d s → ⊥
@@ -97,22 +90,15 @@ rounding_monotone mode n m d r s h order a b = by_lt_z s r (λ less. absurd (not
 -- ---- what is exact
 exact_only : (mode : Rounding) (q : ℤ) (d : ℕ) (r : ℤ) → 0 < d → Rounds mode (q *ℤ pos d) d r → r ≡ q
 exact_only mode q d r h e =
-    let a : q ≤ℤ r = by_lt_z r q (λ s. absurd (omega (arith, ints, apart r q d s, rounds_next (q *ℤ pos d) d r h mode e))) (λ s. s) in
-    let b : r ≤ℤ q = by_lt_z q r (λ s. absurd (omega (arith, ints, apart q r d s, rounds_previous (q *ℤ pos d) d r h mode e))) (λ s. s) in
+    let a : q ≤ℤ r = by_lt_z r q (λ s. absurd (omega (arith, ints, unit_apart r q d s, rounds_next (q *ℤ pos d) d r h mode e))) (λ s. s) in
+    let b : r ≤ℤ q = by_lt_z q r (λ s. absurd (omega (arith, ints, unit_apart q r d s, rounds_previous (q *ℤ pos d) d r h mode e))) (λ s. s) in
     omega (arith, ints, a, b)
 
-turns_none : (a b t : ℤ) (m : ℕ) → a ≡ b +ℤ t *ℤ pos m → a <ℤ (b +ℤ pos m) → b <ℤ (a +ℤ pos m) → a ≡ b
-turns_none a b t m e p q = by_lt_z t (pos 0)
-    (λ s. absurd (let k : t ≤ℤ negsuc 0 = omega (arith, ints, s) in omega (arith, ints, e, q, scaled-mono t (negsuc 0) m k)))
-    (λ s. by_lt_z (pos 0) t
-    (λ u. absurd (let k : pos 1 ≤ℤ t = omega (arith, ints, u) in omega (arith, ints, e, p, scaled-mono (pos 1) t m k)))
-    (λ u. let z : t ≡ pos 0 = omega (arith, ints, s, u) in let w : t *ℤ pos m ≡ pos 0 *ℤ pos m = ap (λ (x : ℤ). x *ℤ pos m) z in omega (arith, ints, e, w)))
+pub word_only : (w : ℕ) (s : Bool) (a b : ℤ) → 1 ≤ w → InWord w s a → InWord w s b → IsCongruent a b (2 ^ w) → a ≡ b
+word_only w true a b h p q c = near_congruent a b (2 ^ w) c (omega (arith, ints, p.high, q.low, double w h, pow_pos (w - 1))) (omega (arith, ints, q.high, p.low, double w h, pow_pos (w - 1)))
+word_only w false a b h p q c = near_congruent a b (2 ^ w) c (omega (arith, ints, p.high, q.low, pow_pos w)) (omega (arith, ints, q.high, p.low, pow_pos w))
 
-word_only : (w : ℕ) (s : Bool) (a b : ℤ) → 1 ≤ w → InWord w s a → InWord w s b → IsCongruent a b (2 ^ w) → a ≡ b
-word_only w true a b h p q c = turns_none a b c.turns (2 ^ w) c.equal (omega (arith, ints, p.high, q.low, twice_half w h, pow_pos (w - 1))) (omega (arith, ints, q.high, p.low, twice_half w h, pow_pos (w - 1)))
-word_only w false a b h p q c = turns_none a b c.turns (2 ^ w) c.equal (omega (arith, ints, p.high, q.low, pow_pos w)) (omega (arith, ints, q.high, p.low, pow_pos w))
-
-word_width : (w : ℕ) (s : Bool) (f : ℤ) → IsType (Num s w f) → 1 ≤ w
+pub word_width : (w : ℕ) (s : Bool) (f : ℤ) → IsType (Num s w f) → 1 ≤ w
 word_width w true f h = omega (arith, h.0.0)
 word_width w false f h = h.0.0
 

@@ -1,27 +1,14 @@
 -- The whole number that each mode takes, from the split of a number.
-use Rattle.std.proofs.Common.{◌≡◌, ℕ, ◌+◌, ◌*◌, ◌<◌, ◌≤◌, Bool, true, false, not, ℤ, pos, negsuc, ◌+ℤ◌, ◌*ℤ◌, ◌≤ℤ◌, ◌<ℤ◌, ap, sym, refl, arith, true≢false, mul-le-mul_right, int_div, int_rem, zero, suc, ◌%◌, ◌/◌, neg_ℤ, of_z, eqb, eqb-true}
+use Rattle.std.proofs.Common.{◌≡◌, ℕ, ◌+◌, ◌*◌, ◌<◌, ◌≤◌, Bool, true, false, not, ℤ, pos, negsuc, ◌+ℤ◌, ◌*ℤ◌, ◌≤ℤ◌, ◌<ℤ◌, ap, sym, refl, arith, true≢false, int_div, int_rem, zero, suc, ◌%◌, ◌/◌, neg_ℤ, of_z, eqb, eqb-true}
 use Rattle.std.specs.Int.{w128}
 use Rattle.std.proofs.lemmas.Int.{ints}
-use borrow.Author.Differences.{up, down, le_out, sum_is_lem}
+use Rattle.fx_num.proofs.Arithmetic.{next-scaled, scaled-mono}
 use Rattle.fx_type.specs.declared.rounding.Rounding.{Rounding}
 use Rattle.fx_type.specs.declared.rounding.Rounding.TheVariants.{Floor, Ceiling, Zero, Nearest, Round, Convergent}
 use Rattle.fx_type.specs.Conversion.{IsEven, RoundsDown, RoundsUp, RoundsTiesUp, RoundsTiesDown, RoundsTiesEven, Rounds}
 use Rattle.fx_round.specs.declared.split.Part.{Part}
 use Rattle.fx_round.specs.declared.split.Part.TheVariants.{Whole, BelowHalf, Half, AboveHalf}
 use Rattle.fx_round.specs.Split.{IsPart, IsSplit, takes_upper}
-
-pub add-scaled : (a b : ℤ) (d : ℕ) → (a +ℤ b) *ℤ pos d ≡ a *ℤ pos d +ℤ b *ℤ pos d
-add-scaled a b d =
-    let e : (up (a +ℤ b) + down a + down b) * d ≡ (down (a +ℤ b) + up a + up b) * d = ap (λ (n : ℕ). n * d) (sum_is_lem a b) in
-    omega (arith, ints)
-
-pub scaled-mono : (a b : ℤ) (d : ℕ) → a ≤ℤ b → (a *ℤ pos d) ≤ℤ (b *ℤ pos d)
-scaled-mono a b d h =
-    let e : (up a + down b) * d ≤ (up b + down a) * d = mul-le-mul_right d (le_out a b h) in
-    omega (arith, ints)
-
-pub next-scaled : (a : ℤ) (d : ℕ) → (a +ℤ pos 1) *ℤ pos d ≡ a *ℤ pos d +ℤ pos d
-next-scaled a d = omega (arith, ints, add-scaled a (pos 1) d)
 
 module _ (n : ℤ) (d : ℕ) (floor : ℤ) (rest : ℕ) (whole : n ≡ floor *ℤ pos d +ℤ pos rest) (below : rest < d) where
   negative_number : floor <ℤ pos 0 → n <ℤ pos 0

@@ -12,8 +12,8 @@ use Rattle.fx_type.specs.Conversion.{Saturates, StoresQuotient}
 use Rattle.fx_round.specs.declared.split.Part.{Part}
 use Rattle.fx_round.specs.declared.split.Part.TheVariants.{Whole, BelowHalf, Half, AboveHalf}
 use Rattle.fx_round.specs.Split.{IsPart, IsSplit, IsMagnitude}
-use Rattle.fx_round.proofs.Rounding.{add-scaled, ties_up_low, ties_up_high}
-use Rattle.fx_round.proofs.Congruence.{scaled-neg}
+use Rattle.fx_num.proofs.Arithmetic.{add-scaled, scaled-neg}
+use Rattle.fx_round.proofs.Rounding.{ties_up_low, ties_up_high}
 
 -- ---- doubling
 pub double_step : (n k k' i : ℕ) → k ≡ n * 2 ^ i → k' ≡ 2 * k → k' ≡ n * 2 ^ (i + 1)
@@ -33,12 +33,6 @@ magnitude_is n w r u part floor e f h p = subst (λ (z : ℤ). IsMagnitude n u (
     (record { not_negative = omega (arith, ints); is_split = record { rest = r; whole = omega (arith, ints, e); below = h; is_part = p } })
 
 -- ---- halving
-pub twice_half : (by : ℕ) → 1 ≤ by → 2 ^ by ≡ 2 * 2 ^ (by - 1)
-twice_half by h =
-    let e : by - 1 + 1 ≡ by = omega arith in
-    let p : 2 ^ (by - 1 + 1) ≡ 2 ^ (by - 1) * 2 ^ 1 = pow-add 2 (by - 1) 1 in
-    omega (arith, p, ap (λ (x : ℕ). 2 ^ x) e)
-
 part_scaled : (b low u : ℕ) (part : Part) → 0 < u → IsPart b low part → IsPart (u * b) (low * u + 0) part
 part_scaled b low u Whole h p = omega (arith, ap (λ (x : ℕ). x * u) p)
 part_scaled b low u BelowHalf h p =

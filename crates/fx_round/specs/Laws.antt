@@ -4,8 +4,9 @@ use Rattle.std.specs.Int.{int_gap}
 use Rattle.fx_type.specs.declared.kind.FxType.{FxType}
 use Rattle.fx_type.specs.declared.rounding.Rounding.{Rounding}
 use Rattle.fx_type.specs.declared.rounding.Rounding.TheVariants.{Floor, Ceiling}
-use Rattle.fx_type.specs.FxType.{IsType, IsNumber, frac_of, InRange}
-use Rattle.fx_type.specs.Conversion.{Rounds, Converts}
+use Rattle.fx_type.specs.declared.decimal.Decimal.{Decimal}
+use Rattle.fx_type.specs.FxType.{IsType, IsNumber, frac_of, InRange, GivesOne}
+use Rattle.fx_type.specs.Conversion.{Rounds, Converts, Stores}
 
 -- a greater number is rounded to one that is no less
 abbrev pub RoundingIsMonotone : Type 0
@@ -29,3 +30,15 @@ ExactIsKept = (v : ℤ) (from to : FxType) (mode : Rounding) (saturate : Bool) (
 -- a conversion to the same type changes nothing
 abbrev pub SameTypeIsIdentity : Type 0
 SameTypeIsIdentity = (v : ℤ) (type : FxType) (mode : Rounding) (saturate : Bool) (result : ℤ) → IsType type → InRange type v → Converts v type type mode saturate result → result ≡ v
+
+-- each mode rounds a quotient to exactly one whole number
+abbrev pub RoundingGivesOne : Type 0
+RoundingGivesOne = (mode : Rounding) (n : ℤ) (d : ℕ) → 0 < d → (r : ℤ) × Rounds mode n d r × ((other : ℤ) → Rounds mode n d other → other ≡ r)
+
+-- a conversion to a valid type gives exactly one number, in the type's range
+abbrev pub ConversionGivesOne : Type 0
+ConversionGivesOne = (v : ℤ) (from to : FxType) (mode : Rounding) (saturate : Bool) → IsType to → GivesOne (Converts v from to mode saturate) to
+
+-- a decimal is stored in a valid type as exactly one number, in the type's range
+abbrev pub StoringGivesOne : Type 0
+StoringGivesOne = (d : Decimal) (type : FxType) → IsType type → GivesOne (Stores d type) type

@@ -26,7 +26,7 @@ mod tests;
 pub use conversion::convert;
 pub use decimal::{DecimalFault, read_decimal};
 pub use laws::{
-    exact_conversion_is_exact, floor_and_ceiling_bound_every_mode, rounding_is_monotone,
-    same_type_is_identity,
+    conversion_gives_one, exact_conversion_is_exact, floor_and_ceiling_bound_every_mode,
+    rounding_gives_one, rounding_is_monotone, same_type_is_identity, storing_gives_one,
 };
 pub use stored::to_stored;

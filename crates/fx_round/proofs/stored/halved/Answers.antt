@@ -3,7 +3,8 @@ use Rattle.std.specs.Int.{w128}
 use Rattle.std.proofs.lemmas.Int.{ints}
 use Rattle.std.proofs.lemmas.Nat.{one_shl, and_mask, shr_le}
 use Rattle.fx_round.specs.Split.{IsPart}
-use Rattle.fx_round.proofs.Sizes.{halved_whole, halved_past, twice_half}
+use Rattle.fx_num.proofs.Arithmetic.{double}
+use Rattle.fx_round.proofs.Sizes.{halved_whole, halved_past}
 use Rattle.fx_round.proofs.stored.halved.Goals as goal
 
 unit_of : (by : ℕ) → by ≤ 126 → (1 * 2 ^ by) % 2 ^ 128 ≡ 2 ^ by
@@ -26,7 +27,7 @@ returns-then-mixed-eq0 c =
 
 pub returns-else-mixed-eq0 : goal.returns-else-mixed-eq0
 returns-else-mixed-eq0 c =
-    let t = twice_half c.args.by c.requires.some in
+    let t = double c.args.by c.requires.some in
     let p : IsPart (2 * 2 ^ (c.args.by - 1)) (c.args.mixed.whole % 2 ^ c.args.by) c.part_of-part.result =
     subst (λ (u : ℕ). IsPart u (c.args.mixed.whole % 2 ^ c.args.by) c.part_of-part.result) t
     (rw (unit_of c.args.by c.requires.few, and_mask c.args.mixed.whole c.args.by) at c.part_of-part.ensures) in
