@@ -1,20 +1,11 @@
 -- The greatest frac of a list of types.
-use Rattle.std.proofs.Common.{◌≡◌, ℕ, ◌+◌, ◌<◌, cond, Bool, true, false, ◌⊎◌, inl, inr, List, length, get_or, ℤ, pos, negsuc, ◌+ℤ◌, ◌≤ℤ◌, to_z, of_z, FitsSigned, Any, below_more, sym, ◌∙◌, refl, subst, ap, arith}
-use lib.Signed.{le_z_yes}
+use Rattle.std.proofs.Common.{◌≡◌, ℕ, ◌+◌, ◌<◌, inl, inr, List, length, get_or, ℤ, pos, negsuc, ◌+ℤ◌, ◌≤ℤ◌, to_z, of_z, FitsSigned, Any, below_more, sym, ◌∙◌, subst, ap, arith}
 use Rattle.std.specs.Int.{int_max, w16}
 use Rattle.std.proofs.lemmas.Int.{ints}
 use Rattle.std.proofs.lemmas.List.{get_or_default}
 use Rattle.fx_type.specs.declared.kind.FxType.{FxType}
-use Rattle.fx_type.specs.declared.kind.FxType.TheVariants.{Num, Logical}
-use Rattle.fx_type.specs.FxType.{IsType, frac_of}
-
--- the greater of two is one of them
-pub int_max_cases : (x y : ℤ) → (int_max x y ≡ x) ⊎ (int_max x y ≡ y)
-int_max_cases x y = cases _
-  where
-    cases : (b : Bool) → (cond b x y ≡ x) ⊎ (cond b x y ≡ y)
-    cases true = inl refl
-    cases false = inr refl
+use Rattle.fx_type.specs.FxType.{frac_of}
+use Rattle.fx_type.proofs.Ranges.{int_max_cases}
 
 module _ (types : List FxType) (i : ℕ) (d : FxType) (inside : i < length types) (old f new : ℤ) (is_frac : f ≡ frac_of (get_or types i d)) where
   pub bound_more : ((k : ℕ) (e : FxType) → k < i → frac_of (get_or types k e) ≤ℤ old) → old ≤ℤ new → f ≤ℤ new → (k : ℕ) (e : FxType) → k < i + 1 → frac_of (get_or types k e) ≤ℤ new
@@ -29,17 +20,6 @@ module _ (types : List FxType) (i : ℕ) (d : FxType) (inside : i < length types
     | inl k ↦ subst (λ (z : ℤ). Any (λ type. frac_of type ≡ z) types) (sym (m ∙ k)) any
     | inr k ↦ (i, get_or types i d, inside, get_or_default types i (get_or types i d) d inside, sym (m ∙ k ∙ is_frac))
   ]
-
--- the frac of a valid type
-pub frac_low : (type : FxType) → IsType type → negsuc 63 ≤ℤ frac_of type
-frac_low (Num true width frac) valid = valid.1
-frac_low (Num false width frac) valid = valid.1
-frac_low Logical valid = le_z_yes tt
-
-pub frac_high : (type : FxType) → IsType type → frac_of type ≤ℤ pos 128
-frac_high (Num true width frac) valid = valid.2
-frac_high (Num false width frac) valid = valid.2
-frac_high Logical valid = le_z_yes tt
 
 -- a sum of two fracs, as 16 bits have it
 pub frac_sum : (f g h : ℤ) → FitsSigned w16 f → FitsSigned w16 g → h ≡ f +ℤ g → negsuc 63 ≤ℤ h → h ≤ℤ pos 128 → to_z w16 (of_z w16 (to_z w16 (of_z w16 f) +ℤ to_z w16 (of_z w16 g))) ≡ h

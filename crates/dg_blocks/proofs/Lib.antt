@@ -1,4 +1,5 @@
-pub mod Fracs
-pub mod Products
-pub mod Ranges
-pub mod Sums
+mod Exactly
+mod Fracs
+mod Products
+mod Ranges
+mod Sums

@@ -1,33 +1,13 @@
 -- Stored integers, and aligned ones, fit 128 bits.
-use Rattle.std.proofs.Common.{◌≡◌, ℕ, zero, suc, ◌-◌, ◌*◌, ◌^◌, ◌≤◌, true, false, ◌⊎◌, inl, inr, ℤ, pos, negsuc, neg_ℤ, ◌-ℤ◌, ◌*ℤ◌, FitsSigned, refl, subst, sym, ap, ◌∙◌, arith}
+use Rattle.std.proofs.Common.{◌≡◌, ℕ, suc, ◌*◌, ◌≤◌, ◌⊎◌, inl, inr, ℤ, pos, negsuc, neg_ℤ, ◌-ℤ◌, ◌*ℤ◌, FitsSigned, subst, sym, ap, ◌∙◌, arith}
 use Rattle.std.specs.Int.{int_max, int_gap, w128}
 use Rattle.std.proofs.lemmas.Int.{ints, by_lt_z}
 use Rattle.std.proofs.Math.IntN.{neg_ℤ-neg_ℤ, +ℤ_idl}
 use Rattle.std.proofs.Math.Nat.{mul-le-mul_left}
-use Rattle.std.proofs.Math.Pow.{pow_mono}
 use Rattle.fx_type.specs.declared.kind.FxType.{FxType}
-use Rattle.fx_type.specs.declared.kind.FxType.TheVariants.{Num, Logical}
 use Rattle.fx_type.specs.FxType.{IsType, InRange, frac_of, aligned}
 use Rattle.fx_type.specs.FullType.{IsUnion}
-use Rattle.dg_blocks.proofs.Fracs.{int_max_cases}
-
--- a stored integer fits 128 bits
-pub range_fits : (type : FxType) (v : ℤ) → IsType type → InRange type v → FitsSigned w128 v
-range_fits (Num true width frac) v valid range =
-    let bits : width - 1 ≤ 127 = omega (arith, valid.0.1)
-    in let small : 2 ^ (width - 1) ≤ 2 ^ 127 = pow_mono bits
-    in omega (arith, ints, range.low, range.high, small)
-range_fits (Num false width frac) v valid range =
-    let bits : width ≤ 127 = valid.0.1
-    in let small : 2 ^ width ≤ 2 ^ 127 = pow_mono bits
-    in omega (arith, ints, range.low, range.high, small)
-range_fits Logical v valid range = omega (arith, ints, range.low, range.high)
-
--- minus a number, scaled, is minus the scaled number
-pub neg-scaled : (v : ℤ) (d : ℕ) → neg_ℤ v *ℤ pos d ≡ neg_ℤ (v *ℤ pos d)
-neg-scaled (pos zero) d = omega (arith, ints)
-neg-scaled (pos (suc n)) d = refl
-neg-scaled (negsuc n) d = sym (neg_ℤ-neg_ℤ (pos (suc n * d)))
+use Rattle.fx_type.proofs.Ranges.{InRange-fits, int_max_cases}
 
 -- minus a number, as the code computes it
 pub minus_is : (v : ℤ) → pos 0 -ℤ v ≡ neg_ℤ v
@@ -64,10 +44,10 @@ module _ (a b union : FxType) (is_union : IsUnion a b union) where
     | inl e ↦
         let frac : int_max (frac_of a) (frac_of b) ≡ frac_of a = elim (int_max_cases (frac_of a) (frac_of b)) [ inl k ↦ k | inr k ↦ k ∙ sym e ]
         in let same : aligned (int_max (frac_of a) (frac_of b)) a x ≡ x = aligned-same a _ x frac
-        in subst (FitsSigned w128) (sym same) (range_fits a x valid range)
+        in subst (FitsSigned w128) (sym same) (InRange-fits a x valid range)
     | inr n ↦
         let holds = is_union.different (λ p. n (ap frac_of p))
-        in range_fits union _ holds.valid (rw holds.frac at (holds.left x range))
+        in InRange-fits union _ holds.valid (rw holds.frac at (holds.left x range))
   ]
 
   pub right_fits : (y : ℤ) → IsType b → InRange b y → FitsSigned w128 (aligned (int_max (frac_of a) (frac_of b)) b y)
@@ -75,8 +55,8 @@ module _ (a b union : FxType) (is_union : IsUnion a b union) where
     | inl e ↦
         let frac : int_max (frac_of a) (frac_of b) ≡ frac_of b = elim (int_max_cases (frac_of a) (frac_of b)) [ inl k ↦ k ∙ e | inr k ↦ k ]
         in let same : aligned (int_max (frac_of a) (frac_of b)) b y ≡ y = aligned-same b _ y frac
-        in subst (FitsSigned w128) (sym same) (range_fits b y valid range)
+        in subst (FitsSigned w128) (sym same) (InRange-fits b y valid range)
     | inr n ↦
         let holds = is_union.different (λ p. n (ap frac_of p))
-        in range_fits union _ holds.valid (rw holds.frac at (holds.right y range))
+        in InRange-fits union _ holds.valid (rw holds.frac at (holds.right y range))
   ]

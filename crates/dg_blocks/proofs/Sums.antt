@@ -5,17 +5,10 @@ use Rattle.std.specs.Int.{w128}
 use Rattle.std.proofs.lemmas.Int.{ints}
 use Rattle.std.proofs.Math.IntN.{+ℤ_idl, +ℤ_assoc}
 use Rattle.fx_type.specs.declared.kind.FxType.{FxType}
-use Rattle.fx_type.specs.declared.kind.FxType.TheVariants.{Num, Logical}
 use Rattle.fx_type.specs.FxType.{IsType, InRange, frac_of, aligned}
 use Rattle.fx_type.specs.FullType.{negated_if, IsPossibleSum, IsFullSum}
 use Rattle.dg_model.specs.Operation.{signed_sum, type_of, value_of}
-use Rattle.dg_blocks.proofs.Ranges.{range_fits}
-
--- 0 is a stored integer of each type
-zero_in_range : (type : FxType) → IsType type → InRange type (pos 0)
-zero_in_range (Num true width frac) valid = record { low = omega (arith, ints); high = omega (arith, ints) }
-zero_in_range (Num false width frac) valid = record { low = omega (arith, ints); high = omega (arith, ints) }
-zero_in_range Logical valid = record { low = omega (arith, ints); high = omega (arith, ints) }
+use Rattle.fx_type.proofs.Ranges.{InRange-zero, InRange-fits}
 
 -- one term
 abbrev pub term_of : ℤ → Bool → FxType → ℤ → ℤ
@@ -47,7 +40,7 @@ module _ (frac : ℤ) where
   part_possible (s ∷ signs) (t ∷ types) (v ∷ inputs) valid range same zero = record {
     value = pos 0;
     others = pos 0;
-    in_range = zero_in_range t (valid 0 t (omega arith));
+    in_range = InRange-zero t;
     is_rest = part_possible signs types inputs (λ k d h. valid (suc k) d (omega arith)) (λ k h. range (suc k) (omega arith)) (omega arith) zero;
     is_total = sym (ap (λ z. z +ℤ pos 0) (zero_term frac s t));
   }
@@ -76,7 +69,7 @@ module _ (frac : ℤ) where
   term_possible (s ∷ signs) (t ∷ types) (v ∷ inputs) valid range same_signs same (suc k) h = record {
     value = pos 0;
     others = term_of frac (get_or signs k false) (type_of types k) (value_of inputs k);
-    in_range = zero_in_range t (valid 0 t (omega arith));
+    in_range = InRange-zero t;
     is_rest = term_possible signs types inputs (λ k d h. valid (suc k) d (omega arith)) (λ k h. range (suc k) (omega arith)) (omega arith) (omega arith) k (omega arith);
     is_total = sym (plus_zero_term frac s t (term_of frac (get_or signs k false) (type_of types k) (value_of inputs k)));
   }
@@ -103,7 +96,7 @@ bound_at frac (s ∷ signs) (t ∷ types) bound same (suc k) d h = bound_at frac
 
 module _ (frac : ℤ) (signs : List Bool) (types : List FxType) (inputs : List ℤ) (valid : AreTypes types) (range : EachInRange types inputs) (same_signs : length signs ≡ length types) (same : length inputs ≡ length types) (full : FxType) (is_full : IsFullSum (zip signs types) full) (is_frac : frac_of full ≡ frac) where
   possible_fits : (total : ℤ) → IsPossibleSum frac (zip signs types) total → FitsSigned w128 total
-  possible_fits total possible = range_fits full total is_full.valid (is_full.holds total (subst (λ (f : ℤ). IsPossibleSum f (zip signs types) total) (sym is_frac) possible))
+  possible_fits total possible = InRange-fits full total is_full.valid (is_full.holds total (subst (λ (f : ℤ). IsPossibleSum f (zip signs types) total) (sym is_frac) possible))
 
   pub part_fits : (k : ℕ) → FitsSigned w128 (signed_sum frac (take k (zip signs types)) (take k inputs))
   part_fits k = possible_fits _ (part_possible frac signs types inputs valid range same k)

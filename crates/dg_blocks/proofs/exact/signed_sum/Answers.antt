@@ -4,9 +4,8 @@ use Rattle.std.specs.Int.{w16, w128}
 use Rattle.std.proofs.lemmas.Int.{to_z-of_z}
 use Rattle.std.proofs.lemmas.List.{take_all}
 use Rattle.std.proofs.lemmas.Slice.Zip.{length-zip}
+use Rattle.fx_type.proofs.Ranges.{InRange-fits, frac_bounds}
 use Rattle.dg_model.specs.Operation.{signed_sum, type_of, value_of}
-use Rattle.dg_blocks.proofs.Fracs.{frac_high}
-use Rattle.dg_blocks.proofs.Ranges.{range_fits}
 use Rattle.dg_blocks.proofs.Sums.{part_fits, term_fits, frac_bound, sum_more, term_of}
 use Rattle.dg_blocks.proofs.exact.signed_sum.Goals as goal
 use Rattle.dg_blocks.proofs.exact.signed_sum.Goals.{After-term-total}
@@ -26,7 +25,7 @@ pub term-total-requires-clause-high : goal.term-total-requires-clause-high
 term-total-requires-clause-high c =
     let full = c.requires.full in
     let f : to_z w16 (of_z w16 c.args.frac) ≡ c.args.frac = frac_is c.args.frac c.ranges.frac in
-    rw (f, ← full.2) (frac_high full.0 full.1.valid)
+    rw (f, ← full.2) (frac_bounds full.0 full.1.valid).1
 
 pub term-total-requires-clause-fits : goal.term-total-requires-clause-fits
 term-total-requires-clause-fits c =
@@ -36,7 +35,7 @@ term-total-requires-clause-fits c =
     let inside : i < length types = omega (arith, need.inputs, c.loop-input-test.true) in
     let f : to_z w16 (of_z w16 c.args.frac) ≡ c.args.frac = frac_is c.args.frac c.ranges.frac in
     let value = value_of c.args.inputs.now i in
-    let v : to_z w128 (of_z w128 value) ≡ value = to_z-of_z w128 value (range_fits (type_of types i) value (need.types i _ inside) (need.in_range i inside)) in
+    let v : to_z w128 (of_z w128 value) ≡ value = to_z-of_z w128 value (InRange-fits (type_of types i) value (need.types i _ inside) (need.in_range i inside)) in
     rw (f, v) (term_fits c.args.frac c.args.signs.now types c.args.inputs.now need.types need.in_range need.signs need.inputs need.full.0 need.full.1 need.full.2 i inside)
 
 -- one more term gives the sum of one more
@@ -49,7 +48,7 @@ step c =
     let value = value_of c.args.inputs.now i in
     let inside : i < length types = omega (arith, need.inputs, c.loop-input-test.true) in
     let f : to_z w16 (of_z w16 c.args.frac) ≡ c.args.frac = frac_is c.args.frac c.ranges.frac in
-    let v : to_z w128 (of_z w128 value) ≡ value = to_z-of_z w128 value (range_fits (type_of types i) value (need.types i _ inside) (need.in_range i inside)) in
+    let v : to_z w128 (of_z w128 value) ≡ value = to_z-of_z w128 value (InRange-fits (type_of types i) value (need.types i _ inside) (need.in_range i inside)) in
     let r : to_z w128 (of_z w128 c.term-total.result) ≡ c.term-total.result = to_z-of_z w128 c.term-total.result (record { sfits = c.term-total.type_inv }) in
     let term : c.term-total.result ≡ term_of c.args.frac (get_or c.args.signs.now i false) (type_of types i) value = rw (f, v) at c.term-total.ensures in
     let before : to_z w128 c.loop-input.total-bits ≡ signed_sum c.args.frac (take i (zip c.args.signs.now types)) (take i c.args.inputs.now) = rw f at c.loop-input.invariant in

@@ -3,7 +3,8 @@ use Rattle.std.specs.Int.{w16, w128, int_gap}
 use Rattle.std.proofs.lemmas.Int.{to_z-of_z}
 use Rattle.fx_type.specs.FxType.{frac_of, aligned}
 use Rattle.fx_type.specs.FullType.{negated_if}
-use Rattle.dg_blocks.proofs.Ranges.{neg-scaled, minus_is, neg_fits}
+use Rattle.fx_num.proofs.Arithmetic.{scaled-neg}
+use Rattle.dg_blocks.proofs.Ranges.{minus_is, neg_fits}
 use Rattle.dg_blocks.proofs.exact.term.Goals as goal
 
 pub returns-then-negative : goal.returns-then-negative
@@ -18,4 +19,4 @@ returns-then-negative c =
     let v : to_z w128 (of_z w128 c.args.v) ≡ c.args.v = to_z-of_z w128 c.args.v c.ranges.v in
     let m : to_z w128 (of_z w128 (neg_ℤ c.args.v)) ≡ neg_ℤ c.args.v = to_z-of_z w128 (neg_ℤ c.args.v) minus_fits in
     let given : c.aligned.result ≡ aligned c.args.frac c.args.kind (neg_ℤ c.args.v) = rw (f, v, minus, m) at c.aligned.ensures in
-    r ∙ given ∙ neg-scaled c.args.v _ ∙ ap (λ s. negated_if s (aligned c.args.frac c.args.kind c.args.v)) (sym negative)
+    r ∙ given ∙ scaled-neg c.args.v _ ∙ ap (λ s. negated_if s (aligned c.args.frac c.args.kind c.args.v)) (sym negative)

@@ -5,9 +5,9 @@ use Rattle.std.proofs.lemmas.Int.{to_z-of_z}
 use Rattle.fx_type.specs.declared.kind.FxType.{FxType}
 use Rattle.fx_type.specs.FxType.{frac_of}
 use Rattle.fx_type.specs.FullType.{IsFullSum}
+use Rattle.fx_type.proofs.Ranges.{frac_bounds}
 use Rattle.dg_model.specs.declared.op.Op.{Op}
 use Rattle.dg_model.specs.Operation.{HasFullType, HasSigns, Gives, operation_of}
-use Rattle.dg_blocks.proofs.Fracs.{frac_low, frac_high}
 use Rattle.dg_blocks.proofs.Sums.{full_frac}
 use Rattle.dg_blocks.proofs.operation.sum.Goals as goal
 use Rattle.dg_blocks.proofs.operation.sum.Goals.{After-greatest_frac-frac}
@@ -29,12 +29,12 @@ signed_sum-exact-requires-clause-full c = full_of (goal.at.signed_sum-exact-requ
 pub settled-requires-clause-low : goal.settled-requires-clause-low
 settled-requires-clause-low c =
     let full = full_of (goal.at.settled-requires-clause-low c).After-greatest_frac-frac in
-    rw (← full.2) (frac_low full.0 full.1.valid)
+    rw (← full.2) (frac_bounds full.0 full.1.valid).0
 
 pub settled-requires-clause-high : goal.settled-requires-clause-high
 settled-requires-clause-high c =
     let full = full_of (goal.at.settled-requires-clause-high c).After-greatest_frac-frac in
-    rw (← full.2) (frac_high full.0 full.1.valid)
+    rw (← full.2) (frac_bounds full.0 full.1.valid).1
 
 pub returns : goal.returns
 returns c =

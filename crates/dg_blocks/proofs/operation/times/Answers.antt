@@ -2,7 +2,8 @@ use Rattle.std.proofs.Common.{◌≡◌, ◌*ℤ◌, ◌+ℤ◌, to_z, of_z, sym
 use Rattle.std.specs.Int.{w16, w128}
 use Rattle.std.proofs.lemmas.Int.{to_z-of_z}
 use Rattle.fx_type.specs.FxType.{frac_of}
-use Rattle.dg_blocks.proofs.Fracs.{frac_low, frac_high, frac_sum}
+use Rattle.fx_type.proofs.Ranges.{frac_bounds}
+use Rattle.dg_blocks.proofs.Fracs.{frac_sum}
 use Rattle.dg_blocks.proofs.operation.times.Goals as goal
 use Rattle.dg_blocks.proofs.operation.times.Goals.{After-frac-2}
 
@@ -12,13 +13,13 @@ full_frac c =
     let full = c.requires.full.0 in
     let is_full = c.requires.full.1 in
     let e : frac_of full ≡ c.frac.result +ℤ c.frac-2.result = rw (c.frac.ensures, c.frac-2.ensures) is_full.frac in
-    frac_sum c.frac.result c.frac-2.result (frac_of full) (record { sfits = c.frac.type_inv }) (record { sfits = c.frac-2.type_inv }) e (frac_low full is_full.valid) (frac_high full is_full.valid)
+    frac_sum c.frac.result c.frac-2.result (frac_of full) (record { sfits = c.frac.type_inv }) (record { sfits = c.frac-2.type_inv }) e (frac_bounds full is_full.valid).0 (frac_bounds full is_full.valid).1
 
 pub settled-requires-clause-low : goal.settled-requires-clause-low
-settled-requires-clause-low c = rw (full_frac (goal.at.settled-requires-clause-low c).After-frac-2) (frac_low c.requires.full.0 c.requires.full.1.valid)
+settled-requires-clause-low c = rw (full_frac (goal.at.settled-requires-clause-low c).After-frac-2) (frac_bounds c.requires.full.0 c.requires.full.1.valid).0
 
 pub settled-requires-clause-high : goal.settled-requires-clause-high
-settled-requires-clause-high c = rw (full_frac (goal.at.settled-requires-clause-high c).After-frac-2) (frac_high c.requires.full.0 c.requires.full.1.valid)
+settled-requires-clause-high c = rw (full_frac (goal.at.settled-requires-clause-high c).After-frac-2) (frac_bounds c.requires.full.0 c.requires.full.1.valid).1
 
 pub returns : goal.returns
 returns c =
