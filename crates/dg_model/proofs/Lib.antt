@@ -11,6 +11,7 @@ mod PeriodRounds
 mod Roundings
 mod SlowToFast
 mod SumTypes
+mod TypeOfSmall
 mod Vectors
 mod WidthRounds
 pub mod Ports

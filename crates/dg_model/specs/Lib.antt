@@ -1,3 +1,5 @@
+pub mod Attributes
+pub mod Checked
 pub mod Dimension
 pub mod Equation
 pub mod Faults
@@ -8,13 +10,17 @@ pub mod KindRow
 pub mod LatencyEdges
 pub mod Laws
 pub mod Library
+pub mod Loop
 pub mod Operation
 pub mod Periods
+pub mod PlanNames
 pub mod Rate
 pub mod RootElements
 pub mod Signals
 pub mod Solves
 pub mod Sound
+pub mod TypeRounds
+pub mod TypeRule
 pub mod Types
 pub mod Widths
 pub mod Wired
