@@ -2,7 +2,7 @@
 use Rattle.std.proofs.Common.{◌≡◌, ◌<◌, ◌%◌, ℤ, pos, negsuc, true, arith}
 use Rattle.std.proofs.lemmas.Nat.{mod_below}
 use Rattle.std.proofs.lemmas.Bool.{lt-ltb}
-use Rattle.vl_ast.specs.Driven.{bits_of}
+use Rattle.vl_ast.specs.Value.{bits_of}
 use Rattle.vl_ast.specs.Conditions.{is_number}
 
 pub bits-fit : (number : ℤ) → bits_of 8 number < 256

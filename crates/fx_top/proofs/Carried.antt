@@ -3,10 +3,11 @@ use Rattle.std.proofs.Common.{◌≡◌, ◌<◌, ◌≤◌, ◌%◌, ◌+◌, �
 use Rattle.std.proofs.Math.Nat.{mod-eq_of_lt}
 use Rattle.vl_ast.specs.declared.expressions.Expr.TheVariants.{Name}
 use Rattle.vl_ast.specs.Context.{Net}
-use Rattle.vl_ast.specs.Value.{Bits, is_negative, assigned, assigned_number}
+use Rattle.vl_ast.specs.Value.{Bits, bits_of, is_negative, assigned, assigned_number}
 use Rattle.vl_ast.specs.Nets.{Declared, Kind, InputPort, OutputPort, Register, declarations, nets_of}
-use Rattle.vl_ast.specs.Driven.{Driven, bits_of, stimulus_ports}
-use Rattle.vl_ast.specs.Runs.{Runs, next_bits}
+use Rattle.vl_ast.specs.Driven.{Driven, stimulus_ports}
+use Rattle.vl_ast.specs.Runs.{Row, Rows, Runs, next_bits}
+use Rattle.vl_ast.specs.Windows.{PortNumbers, Window, Shows, AtHits}
 use Rattle.fx_top.specs.Carries.{Carries, CarriesBits, OutputElement, input_port, bit_input}
 use Rattle.fx_top.specs.declared.one_delay.OneDelay.{OneDelay}
 use Rattle.fx_top.specs.OneDelay.{delay_interface, delay_entries, delayed, byte_element}
@@ -59,8 +60,14 @@ module _ (d : OneDelay) (n : AreDifferent d.input d.output) where
   stimulus-port : slice_get (stimulus_ports (delay_module d)) 0 ≡ Some (input_port (byte_element d.input))
   stimulus-port = simp (n.u-clk, n.u-reset)
 
-  module _ (samples count last : ℕ) (stimulus : ℕ → ℕ → ℤ) (start : List ℕ → ℕ) (inputs rows : ℕ → List ℕ → ℕ)
-      (driven : Driven (delay_module d) stimulus samples count last inputs) (runs : Runs (delay_module d) count start inputs rows) where
+  module _ (samples : ℕ) (window : Window) (stimulus : PortNumbers) (start : Row) (inputs rows : Rows)
+      (driven : Driven (delay_module d) stimulus samples window inputs) (runs : Runs (delay_module d) window.rows start inputs rows) where
+    abbrev count : ℕ
+    count = window.rows
+
+    abbrev last : ℕ
+    last = window.last_reset
+
     register-fits : (k : ℕ) → k < count → rows k register < 256
     register-fits k below =
         runs.fits k below (declared_as register Register byte_net)
@@ -91,7 +98,7 @@ module _ (d : OneDelay) (n : AreDifferent d.input d.output) where
         let here : last + 1 + t < count = omega arith in
         let released : rows (last + 1 + t) (codes "reset") ≡ 0 = reset-shown (last + 1 + t) here ∙ driven.released (last + 1 + t) (omega arith) here in
         let given : rows (last + 1 + t) d.input ≡ bits_of 8 (stimulus 0 t) =
-        input-shown (last + 1 + t) here ∙ driven.shows 1 0 1 (input_port (byte_element d.input)) refl stimulus-port refl t t sample (grind arith) (omega arith) (omega arith) here in
+        input-shown (last + 1 + t) here ∙ driven.shows 1 refl 0 (input_port (byte_element d.input)) stimulus-port 1 refl t sample (grind arith) t (omega arith) (omega arith) here in
         let fits : rows (last + 1 + t) d.input < 256 = subst (λ (bits : ℕ). bits < 256) (sym given) (bits-fit (stimulus 0 t)) in
         stepped (last + 1 + t) below ∙ simp (released, net-register) (assigned-byte (nets_of (delay_module d)) (rows (last + 1 + t)) d.input net-input fits ∙ given)
 
@@ -102,26 +109,26 @@ module _ (d : OneDelay) (n : AreDifferent d.input d.output) where
         output-shown (last + 1 + suc t) below ∙ ap (λ (k : ℕ). rows k register) (omega arith) ∙ at-later t (omega arith) (omega arith)
 
     -- the output shows its entry at each clock of its frame
-    abbrev Shows : OutputElement → Type 0
-    Shows output = (t clock : ℕ) → t < samples → t % output.element.period ≡ 0
-        → t * 1 + output.latency ≤ clock → clock < (t + output.lat + output.element.period) * 1 → last + 1 + clock < count
-        → rows (last + 1 + clock) output.element.name ≡ bits_of output.element.width (delayed d.initial (stimulus 0) t)
+    abbrev Shown : OutputElement → Type 0
+    Shown output = AtHits output.element.period samples (λ t.
+        Shows window rows output.element.name output.element.width (delayed d.initial (stimulus 0) t)
+        (t * 1 + output.latency) ((t + output.lat + output.element.period) * 1))
 
-    shown : Shows (record { element = byte_element d.output; lat = 0; latency = 0 })
-    shown t clock sample hit from until below =
+    shown : Shown (record { element = byte_element d.output; lat = 0; latency = 0 })
+    shown t sample hit clock from until below =
         let here : t ≡ clock = omega arith in
         subst (λ (k : ℕ). rows (last + 1 + k) d.output ≡ bits_of 8 (delayed d.initial (stimulus 0) t)) here (carried t sample (omega arith))
 
-    shown-at : (place : ℕ) (output : OutputElement) → slice_get (delay_interface d).outputs place ≡ Some output → Shows output
+    shown-at : (place : ℕ) (output : OutputElement) → slice_get (delay_interface d).outputs place ≡ Some output → Shown output
     shown-at zero output same =
         let is : record { element = byte_element d.output; lat = 0; latency = 0 } ≡ output = cc in
-        subst Shows is shown
+        subst Shown is shown
     shown-at (suc place) output same = absurd (cc)
 
   carries-bits : CarriesBits (delay_module d) (delay_interface d) (delay_entries d)
   carries-bits = record {
-    shows = λ samples count last stimulus start inputs rows within driven runs place output same.
-        shown-at samples count last stimulus start inputs rows driven runs place output same;
+    shows = λ samples window stimulus start inputs rows within driven runs place output same.
+        shown-at samples window stimulus start inputs rows driven runs place output same;
   }
 
 pub carries : (d : OneDelay) → AreDifferent d.input d.output → Carries (delay_module d) (delay_interface d) (delay_entries d)

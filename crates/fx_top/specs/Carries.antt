@@ -1,11 +1,12 @@
 -- What a written module owes its model: its header, and the bits that its outputs carry (own).
-use Rattle.std.specs.Prelude.{◌≡◌, ℕ, ◌+◌, ◌*◌, ◌%◌, ◌<◌, ◌≤◌, ◌≤ℤ◌, Bool, true, false, List, [], ◌∷◌, ◌++◌, map, slice_get, codes, Some, ℤ}
+use Rattle.std.specs.Prelude.{◌≡◌, ℕ, ◌+◌, ◌*◌, ◌≤ℤ◌, Bool, true, false, List, [], ◌∷◌, ◌++◌, map, codes, ℤ}
 use Rattle.vl_ast.specs.declared.modules.Attr.{Attr}
 use Rattle.vl_ast.specs.declared.modules.Port.{Port}
 use Rattle.vl_ast.specs.declared.modules.Module.{Module}
 use Rattle.vl_ast.specs.Conditions.{BreaksNone}
-use Rattle.vl_ast.specs.Driven.{Driven, bits_of}
-use Rattle.vl_ast.specs.Runs.{Runs}
+use Rattle.vl_ast.specs.Driven.{Driven}
+use Rattle.vl_ast.specs.Runs.{Row, Rows, Runs}
+use Rattle.vl_ast.specs.Windows.{PortNumbers, Window, Shows, AtHits, Each}
 
 -- an element of a root input or output: its port's name, the width, sign and range of its type, and its period in base samples
 pub record Element : Type 0 where
@@ -64,25 +65,27 @@ pub record HasHeader (m : Module) (interface : Interface) : Type 0 where
   pub sound : BreaksNone m
 
 -- the stimulus gives each input element a number in the range of its type at each of its hits below `samples`
-abbrev pub IsStimulus : Interface → ℕ → (ℕ → ℕ → ℤ) → Type 0
+abbrev pub IsStimulus : Interface → ℕ → PortNumbers → Type 0
 IsStimulus interface samples stimulus =
-    (place : ℕ) (element : Element) → slice_get interface.inputs place ≡ Some element
-    → (t : ℕ) → t < samples → t % element.period ≡ 0 → (element.lowest ≤ℤ stimulus place t) × (stimulus place t ≤ℤ element.highest)
+    Each interface.inputs (λ place element. AtHits element.period samples (λ t.
+    (element.lowest ≤ℤ stimulus place t) × (stimulus place t ≤ℤ element.highest)))
 
--- for every stimulus, every start and all rows that run under it: each output element shows at each hit t the bits of
--- its entry at every clock from t F + latency to the end of its frame that stands among the rows
-pub record CarriesBits (m : Module) (interface : Interface) (entries : (ℕ → ℕ → ℤ) → ℕ → ℕ → ℤ) : Type 0 where
-  pub shows : (samples count last : ℕ) (stimulus : ℕ → ℕ → ℤ) (start : List ℕ → ℕ) (inputs rows : ℕ → List ℕ → ℕ)
+-- each output element shows its entry of each hit t at every clock from t F + latency to the end of its frame
+abbrev pub OutputsShow : Interface → ℕ → Window → Rows → PortNumbers → Type 0
+OutputsShow interface samples window rows entries =
+    Each interface.outputs (λ place output. AtHits output.element.period samples (λ t.
+    Shows window rows output.element.name output.element.width (entries place t)
+    (t * interface.cycles + output.latency) ((t + output.lat + output.element.period) * interface.cycles)))
+
+-- so it is for every stimulus, every start and all rows that run under it
+pub record CarriesBits (m : Module) (interface : Interface) (entries : PortNumbers → PortNumbers) : Type 0 where
+  pub shows : (samples : ℕ) (window : Window) (stimulus : PortNumbers) (start : Row) (inputs rows : Rows)
       → IsStimulus interface samples stimulus
-      → Driven m stimulus samples count last inputs
-      → Runs m count start inputs rows
-      → (place : ℕ) (output : OutputElement) → slice_get interface.outputs place ≡ Some output
-      → (t clock : ℕ) → t < samples → t % output.element.period ≡ 0
-      → t * interface.cycles + output.latency ≤ clock → clock < (t + output.lat + output.element.period) * interface.cycles
-      → last + 1 + clock < count
-      → rows (last + 1 + clock) output.element.name ≡ bits_of output.element.width (entries stimulus place t)
+      → Driven m stimulus samples window inputs
+      → Runs m window.rows start inputs rows
+      → OutputsShow interface samples window rows (entries stimulus)
 
 -- the module has the ports of the interface, and its outputs carry the entries
-pub record Carries (m : Module) (interface : Interface) (entries : (ℕ → ℕ → ℤ) → ℕ → ℕ → ℤ) : Type 0 where
+pub record Carries (m : Module) (interface : Interface) (entries : PortNumbers → PortNumbers) : Type 0 where
   pub header : HasHeader m interface
   pub bits : CarriesBits m interface entries

@@ -4,7 +4,7 @@ use Rattle.vl_ast.specs.declared.expressions.Expr.TheVariants.{Name}
 use Rattle.vl_ast.specs.declared.modules.ModItem.{ModItem}
 use Rattle.vl_ast.specs.declared.modules.ModItem.TheVariants.{Reg, Assign, Always}
 use Rattle.vl_ast.specs.declared.modules.Module.{Module}
-use Rattle.vl_ast.specs.Driven.{bits_of}
+use Rattle.vl_ast.specs.Value.{bits_of}
 use Rattle.fx_top.specs.Carries.{attribute_of, bit_input, input_port, output_port}
 use Rattle.fx_top.specs.declared.one_delay.OneDelay.{OneDelay}
 use Rattle.fx_top.specs.OneDelay.{byte_element}

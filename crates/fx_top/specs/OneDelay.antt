@@ -1,6 +1,7 @@
 -- Models of one delay: an input of signed eight bits, a unit delay and an output, one after the other (own).
 use Rattle.std.specs.Prelude.{ℕ, zero, suc, List, [], ◌∷◌, true, ℤ, pos, negsuc}
 use Rattle.fx_top.specs.declared.one_delay.OneDelay.{OneDelay}
+use Rattle.vl_ast.specs.Windows.{PortNumbers}
 use Rattle.fx_top.specs.Carries.{Element, Interface}
 
 -- an element of the type int8 and of the period 1
@@ -21,5 +22,5 @@ delayed initial stimulus zero = initial
 delayed initial stimulus (suc t) = stimulus t
 
 -- the entries of the model's one output
-abbrev pub delay_entries : OneDelay → (ℕ → ℕ → ℤ) → ℕ → ℕ → ℤ
+abbrev pub delay_entries : OneDelay → PortNumbers → PortNumbers
 delay_entries delay stimulus place = delayed delay.initial (stimulus 0)

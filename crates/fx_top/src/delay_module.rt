@@ -1,5 +1,5 @@
 ghost use Rattle.std.specs.Prelude.{◌≡◌, [], ◌∷◌, true, IfOk, OnOk, None, map};
-ghost use Rattle.vl_ast.specs.Driven.{bits_of};
+ghost use Rattle.vl_ast.specs.Value.{bits_of};
 ghost use Rattle.vl_ast.specs.declared.expressions.Expr.TheVariants.{Name};
 ghost use Rattle.fx_top.specs.Carries.{attribute_of, bit_input, input_port, output_port};
 ghost use Rattle.fx_top.specs.OneDelay.{byte_element};

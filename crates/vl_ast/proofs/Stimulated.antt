@@ -10,7 +10,9 @@ use Rattle.vl_ast.specs.declared.modules.Module.{Module}
 use Rattle.vl_ast.specs.Context.{Net}
 use Rattle.vl_ast.specs.Nets.{port_declared, Mention, Declares, mentions, item_mentions, nets_of}
 use Rattle.vl_ast.specs.Attributes.{cycles_of, period_of}
-use Rattle.vl_ast.specs.Driven.{is_clock_or_reset, stimulus_ports, bits_of}
+use Rattle.vl_ast.specs.Driven.{is_clock_or_reset, stimulus_ports}
+use Rattle.vl_ast.specs.Value.{bits_of}
+use Rattle.vl_ast.specs.Windows.{PortNumbers, Window}
 use Rattle.vl_ast.specs.Conditions.{undriven, doubly, no_reset, IsLoop}
 use Rattle.vl_ast.specs.Room.{CanBeDriven}
 use Rattle.vl_ast.proofs.Agree.{ByLayer}
@@ -125,7 +127,10 @@ module _ (by_layer : ByLayer) (m : Module) (driven : undriven m ≡ None) (once 
         (in-cut (map declares before) (map declares cut.before) (declares port)) same;
   }
 
-  module _ (stimulus : ℕ → ℕ → ℤ) (samples count last : ℕ) (within : last < count) where
+  module _ (stimulus : PortNumbers) (samples : ℕ) (window : Window) (within : window.last_reset < window.rows) where
+    abbrev last : ℕ
+    last = window.last_reset
+
     abbrev wanted : ℕ → List ℕ → ℕ
     wanted k name =
         if bytes_eq name (codes "reset") then (if nat_le k last then 1 else 0)
@@ -151,7 +156,7 @@ module _ (by_layer : ByLayer) (m : Module) (driven : undriven m ≡ None) (once 
         let neither = or_parts (bytes_eq port.name (codes "clk")) (bytes_eq port.name (codes "reset")) (not-true (is_clock_or_reset port) other.1) in
         (kept.0, neither.1)
 
-    pub can-be-driven : CanBeDriven m stimulus samples count last
+    pub can-be-driven : CanBeDriven m stimulus samples window
     unfolding stimulated
     can-be-driven = record {
       inputs = stimulated;
@@ -159,7 +164,7 @@ module _ (by_layer : ByLayer) (m : Module) (driven : undriven m ≡ None) (once 
         within = within;
         reset = at-reset last 1 (omega arith) (cond-true (nat_le last last) 1 0 (le-leb last last (omega arith)));
         released = λ k after below. at-reset k 0 (omega arith) (cond-false (nat_le k last) 1 0 (lt-leb k last after));
-        shows = λ cycles place period port ec es ep t clock sample at from under below.
+        shows = λ cycles ec place port es period ep t sample at clock from under below.
             let known = stimulus-port place port es in
             let net = net-is by_layer m driven once none (port_declared port) (in-port m driven once port known.0) in
             let since : last + 1 + clock - (last + 1) ≡ clock = omega arith in

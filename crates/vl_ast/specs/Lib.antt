@@ -12,3 +12,4 @@ pub mod Spelling
 pub mod Steps
 pub mod Tokens
 pub mod Value
+pub mod Windows

@@ -10,20 +10,28 @@ use Rattle.vl_ast.specs.declared.modules.Module.{Module}
 use Rattle.vl_ast.specs.Nets.{Declared, declarations, nets_of}
 use Rattle.vl_ast.specs.Value.{assigned, assigned_number, is_true}
 
+-- the bits of each name
+abbrev pub Row : Type 0
+Row = List ℕ → ℕ
+
+-- row after row
+abbrev pub Rows : Type 0
+Rows = ℕ → Row
+
 -- whether a register takes its value at an edge without reset: no condition, or a true one
-abbrev pub takes_value : Module → (List ℕ → ℕ) → Option Expr → Bool
+abbrev pub takes_value : Module → Row → Option Expr → Bool
 takes_value m row None = true
 takes_value m row (Some condition) = is_true (nets_of m) row condition
 
 -- a register's bits after the edge that ends a row
-abbrev pub next_bits : Module → (List ℕ → ℕ) → List ℕ → Sized → Option Expr → Expr → ℕ
+abbrev pub next_bits : Module → Row → List ℕ → Sized → Option Expr → Expr → ℕ
 next_bits m row name first condition value =
     if row (codes "reset") == 1 then assigned_number (nets_of m name).width first
     else (if takes_value m row condition then assigned (nets_of m) row (nets_of m name).width value else row name)
 
 -- these are rows of the module, `count` of them, where `start` gives each register its bits in row 0
 -- and `inputs` gives the input ports their bits in each row
-pub record Runs (m : Module) (count : ℕ) (start : List ℕ → ℕ) (inputs rows : ℕ → List ℕ → ℕ) : Type 0 where
+pub record Runs (m : Module) (count : ℕ) (start : Row) (inputs rows : Rows) : Type 0 where
   -- each name has bits of its width
   pub fits : (k : ℕ) → k < count → (declared : Declared) → Contains (declarations m) declared → rows k declared.name < 2 ^ declared.net.width
   pub starts : 0 < count → (signed : Bool) (width : ℕ) (name : List ℕ) → Contains m.items (Reg signed width name) → rows 0 name ≡ start name

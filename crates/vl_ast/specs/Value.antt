@@ -1,6 +1,6 @@
 -- The value of an expression in its context (IEEE 1364-2005, 5.1, 5.5.2 and 5.6), with two values a
 -- bit. Bits are a number below 2 to their length.
-use Rattle.std.specs.Prelude.{ℕ, ◌+◌, ◌-◌, ◌*◌, ◌/◌, ◌%◌, ◌^◌, ◌==◌, nat_le, max, Bool, not, ◌&&◌, ◌||◌, if◌then◌else◌, List, fold, replicate, bit_and, bit_or, bit_xor, ℤ, pos, ◌-ℤ◌, int_lt}
+use Rattle.std.specs.Prelude.{ℕ, ◌+◌, ◌-◌, ◌*◌, ◌/◌, ◌%◌, ◌^◌, ◌==◌, nat_le, max, Bool, not, ◌&&◌, ◌||◌, if◌then◌else◌, List, fold, replicate, bit_and, bit_or, bit_xor, ℤ, pos, negsuc, ◌-ℤ◌, int_lt}
 use Rattle.std.specs.Int.{bit_at}
 use Rattle.vl_ast.specs.declared.expressions.UnOp.{UnOp}
 use Rattle.vl_ast.specs.declared.expressions.UnOp.TheVariants.{Negate, Invert, IsZero}
@@ -27,6 +27,11 @@ is_negative operand = operand.signed && nat_le (2 ^ (operand.width - 1)) operand
 -- the number, by two's complement where the bits are signed
 abbrev pub number_of : Bits → ℤ
 number_of operand = if is_negative operand then pos operand.bits -ℤ pos (2 ^ operand.width) else pos operand.bits
+
+-- the bits of a number, by two's complement
+abbrev pub bits_of : ℕ → ℤ → ℕ
+bits_of width (pos n) = n % 2 ^ width
+bits_of width (negsuc n) = 2 ^ width - 1 - n % 2 ^ width
 
 -- in a longer context: the sign bit fills the left where the whole is signed, and else zeros do
 abbrev pub extended : Bits → ℕ → ℕ

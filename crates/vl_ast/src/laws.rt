@@ -10,6 +10,7 @@ ghost use Rattle.vl_ast.specs.Conditions.{BreaksNone};
 ghost use Rattle.vl_ast.specs.Context.{Net, Operand, in_context, own_length, length_step, is_signed, sign_step};
 ghost use Rattle.vl_ast.specs.Grammar.{IsModuleText, Spells};
 ghost use Rattle.vl_ast.specs.Nets.{names_read};
+ghost use Rattle.vl_ast.specs.Windows.{PortNumbers, Window};
 ghost use Rattle.vl_ast.specs.Room.{AreSame, CanBeDriven, HasRoom, HasRows, RunsDriven, StartFits};
 ghost use Rattle.vl_ast.specs.Runs.{Runs};
 ghost use Rattle.vl_ast.specs.Spelling.{spelling};
@@ -67,10 +68,11 @@ pub fn one_run()
 /// Of a module that breaks no condition, every stimulus drives some inputs that fit, over every count of
 /// rows and with every row of them as the last with `reset`.
 pub fn can_be_driven()
-    ensures inputs { (m : Module) (stimulus : ℕ → ℕ → ℤ) (samples count last : ℕ) →
-        BreaksNone m → last < count → CanBeDriven m stimulus samples count last }
-    ensures rows { (m : Module) (stimulus : ℕ → ℕ → ℤ) (samples count last : ℕ) (start : List ℕ → ℕ) →
-        BreaksNone m → last < count → StartFits m start → RunsDriven m stimulus samples count last start }
+    ensures inputs { (m : Module) (stimulus : PortNumbers) (samples : ℕ) (window : Window) →
+        BreaksNone m → window.last_reset < window.rows → CanBeDriven m stimulus samples window }
+    ensures rows { (m : Module) (stimulus : PortNumbers) (samples : ℕ) (window : Window) (start : List ℕ → ℕ) →
+        BreaksNone m → window.last_reset < window.rows → StartFits m start
+        → RunsDriven m stimulus samples window start }
 {
     meaning_by_layer();
 }
