@@ -26,6 +26,11 @@ fn lists_and_boxes_hold_what_was_put_in(rt: HostRuntime) -> Result<(), Fail> {
         let text = Text::copy(rt.alloc(), written.as_bytes())?;
         let again = Text::from_vec(text.into_vec(rt.alloc())?);
         assert_eq!(rt; again.bytes(), written.as_bytes());
+        let doubled = again
+            .append(rt.alloc(), b"")?
+            .append(rt.alloc(), written.as_bytes())?;
+        let want = [written.as_bytes(), written.as_bytes()].concat(rt.alloc())?;
+        assert_eq!(rt; doubled.bytes(), want.as_slice());
     }
     let boxed = Boxed::new(rt.alloc(), 12u8)?;
     assert_eq!(rt; *boxed.get(), 12);

@@ -1,4 +1,4 @@
-ghost use Rattle.std.specs.Prelude.{◌≡◌, ◌≤◌, length, IfOk};
+ghost use Rattle.std.specs.Prelude.{◌≡◌, ◌+◌, ◌≤◌, ◌++◌, length, take, IfOk};
 
 use crate::fault::OutOfMemory;
 use std::alloc::Global;
@@ -50,14 +50,7 @@ impl Text {
         requires { length bytes.now ≤ 22 }
         ensures { result ≡ bytes.now }
     {
-        let mut short = [0; SHORT];
-        short[..bytes.len()].copy_from_slice(bytes);
-        Text {
-            held: Held::Short {
-                bytes: short,
-                length: bytes.len() as u8,
-            },
-        }
+        Text::extended([0; SHORT], 0, bytes)
     }
 
     /// The bytes of a `Vec`, without memory. More than 22 are taken over as they are.
@@ -83,6 +76,45 @@ impl Text {
                 Ok(Vec::from_slice(alloc, &bytes[..usize::from(length)])?)
             }
             Held::Long(bytes) => Ok(bytes),
+        }
+    }
+
+    /// The bytes with these at their end. Takes memory only where there are more than 22 then.
+    pub fn append(self, alloc: Global, bytes: &[u8]) -> Result<Text, OutOfMemory>
+        ensures { IfOk result (λ text. text ≡ self ++ bytes.now) }
+    {
+        let Text { held } = self;
+        let mut all = match held {
+            Held::Short {
+                bytes: short,
+                length,
+            } => {
+                let used = usize::from(length);
+                if bytes.len() <= SHORT - used {
+                    return Ok(Text::extended(short, used, bytes));
+                }
+                Vec::from_slice(alloc, &short[..used])?
+            }
+            Held::Long(long) => long,
+        };
+        all.extend_from_slice(bytes)?;
+        Ok(Text {
+            held: Held::Long(all),
+        })
+    }
+
+    /// The first bytes of an array with these at their end.
+    fn extended(mut short: [u8; 22], used: usize, bytes: &[u8]) -> Text
+        requires { used + length bytes.now ≤ 22 }
+        ensures { result ≡ take used short ++ bytes.now }
+    {
+        let length = used + bytes.len();
+        short[used..length].copy_from_slice(bytes);
+        Text {
+            held: Held::Short {
+                bytes: short,
+                length: length as u8,
+            },
         }
     }
 
