@@ -1,4 +1,4 @@
--- An operation gives exactly one number.
+-- An operation gives exactly one number (own).
 use Rattle.std.specs.Prelude.{◌≡◌, ℤ, List}
 use Rattle.fx_type.specs.FxType.{IsType, GivesOne}
 use Rattle.dg_model.specs.Operation.{Operation, OpGives, CanCarryOut}

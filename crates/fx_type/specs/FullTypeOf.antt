@@ -1,4 +1,4 @@
--- Full types and unions as functions: the type that the relation allows, or none.
+-- Full types and unions as functions: the type that the relation allows, or none (Fixed-Point Designer guide; exact widths own).
 use Rattle.std.specs.Prelude.{ℕ, ◌+◌, ◌==◌, Bool, true, false, not, cond, ◌&&◌, ◌||◌, nat_le, [], ◌∷◌, Option, Some, None, ℤ, pos, negsuc, ◌+ℤ◌, int_lt, int_le}
 use Rattle.std.specs.Int.{int_max, int_min}
 use Rattle.std.specs.List.{find, range_with_len}
@@ -52,10 +52,12 @@ full_product_of a b =
 
 -- ---- unions
 
+-- two signs are the same
 abbrev pub same_sign : Bool → Bool → Bool
 same_sign true other = other
 same_sign false other = not other
 
+-- two types are the same
 abbrev pub same_type : FxType → FxType → Bool
 same_type (Num signed width frac) (Num other_signed other_width other_frac) = same_sign signed other_signed && ((width == other_width) && int_eq frac other_frac)
 same_type (Num signed width frac) Logical = false

@@ -1,4 +1,4 @@
--- The stored integer of a decimal as a function.
+-- The stored integer of a decimal as a function (Fixed-Point Designer guide).
 use Rattle.std.specs.Prelude.{ℕ, ◌*◌, ◌^◌, ◌==◌, Bool, cond, ◌&&◌, ℤ, pos, ◌+ℤ◌, int_le}
 use Rattle.std.specs.Int.{int_gap, int_max, int_min, int_div_euclid}
 use Rattle.fx_type.specs.declared.kind.FxType.{FxType}
