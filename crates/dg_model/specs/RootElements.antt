@@ -1,12 +1,14 @@
 -- The elements of the root inputs and of the root outputs in order of port numbers and elements: columns of files, ports of a module and entries of a table are numbered by it, from 0 (own).
-use Rattle.std.specs.Prelude.{ℕ, ℤ, pos, ◌==◌, ◌&&◌, Bool, false, List, [], length, map, filter_map, Option, Some, None, slice_get}
+use Rattle.std.specs.Prelude.{◌≡◌, ◌<◌, ℕ, ℤ, pos, ◌==◌, ◌&&◌, Bool, false, List, [], length, map, filter_map, Option, Some, None, slice_get}
 use Rattle.std.specs.List.{flat_map, position, position_or_len}
 use Rattle.fx_type.specs.declared.kind.FxType.{FxType}
+use Rattle.fx_type.specs.FxType.{InRange}
 use Rattle.dg_model.specs.declared.diagram.Diagram.{Diagram}
 use Rattle.dg_model.specs.declared.diagram.Block.{Block}
 use Rattle.dg_model.specs.KindRow.{Role}
 use Rattle.dg_model.specs.Library.{row_of}
 use Rattle.dg_model.specs.Signals.{Attributes, Stimulus}
+use Rattle.dg_model.specs.Hits.{Hits}
 use Rattle.dg_model.specs.Wires.{numbers_from, width_into}
 use Rattle.dg_model.specs.Wired.{root_input, root_output}
 
@@ -30,11 +32,15 @@ is_number number (Some own) = own == number
 abbrev pub has_number : (Role → Option ℕ) → ℕ → Block → Bool
 has_number number_of number block = is_number number (number_in number_of block)
 
+-- the element of a root port of this number, which is this block
+abbrev pub root_element : Attributes → ℕ → ℕ → ℕ → RootElement
+root_element attributes number block element =
+    record { number = number; block = block; element = element; type = attributes.type_at block 1; period = attributes.period_at block }
+
 -- the elements of the port of this number, whose block stands at this place
 abbrev pub elements_of_port : Attributes → (ℕ → ℕ) → ℕ → Option ℕ → List RootElement
 elements_of_port attributes width_of number None = []
-elements_of_port attributes width_of number (Some block) =
-    map (λ element. record { number = number; block = block; element = element; type = attributes.type_at block 1; period = attributes.period_at block }) (numbers_from 0 (width_of block))
+elements_of_port attributes width_of number (Some block) = map (root_element attributes number block) (numbers_from 0 (width_of block))
 
 -- those of all ports, by number
 abbrev pub root_elements : (Role → Option ℕ) → (ℕ → ℕ) → Diagram → Attributes → List RootElement
@@ -48,6 +54,10 @@ root_inputs diagram attributes = root_elements root_input (λ block. attributes.
 -- the elements of the root outputs, which are as wide as their inputs
 abbrev pub root_outputs : Diagram → Attributes → List RootElement
 root_outputs diagram attributes = root_elements root_output (λ block. width_into diagram attributes block 1) diagram attributes
+
+-- columns of numbers give each of these elements a number in range at each of its hits below n
+abbrev pub AreColumns : List RootElement → (ℕ → ℕ → ℤ) → ℕ → Type 0
+AreColumns elements column n = (place : ℕ) (e : RootElement) (t : ℕ) → slice_get elements place ≡ Some e → t < n → Hits e.period t → InRange e.type (column place t)
 
 -- the number that a stimulus gives a root input element at base sample t
 abbrev pub number_for : Stimulus → Option RootElement → ℕ → ℤ

@@ -25,7 +25,7 @@ pub use diagram::{Block, Blocks, Diagram, Edge, Edges, PeriodSpec};
 pub use fault::{CheckFault, RuleFault, Shown};
 pub use gain_param::param_type_is_one;
 pub use kind::{Criterion, Decimals, Gate, Kind, Relation};
-pub use laws::edges_stand_by_port;
+pub use laws::{columns_are_a_stimulus, edges_stand_by_port, root_elements_are_listed};
 pub use nested::{Nested, NestedBlock, NestedBlocks, NestedLine, NestedLines, Part, Target};
 pub use op::{Op, OpCall};
 pub use plan::{Pipeline, Pipelines, Plan};
