@@ -13,8 +13,9 @@ use Rattle.hw_net.specs.declared.netlist.NetKind.{NetKind}
 use Rattle.hw_net.specs.Circuit.{Circuit}
 use Rattle.hw_net.specs.Growing.{with_net}
 use Rattle.hw_net.specs.declared.netlist.Net.{Net}
-use Rattle.hw_net.specs.Frames.{is_same_frame, is_frame, counted_frame, counter_from, counter_of}
-use Rattle.hw_net.specs.inner.Index.{compare_frames, number_at_frame, IsIndex}
+use Rattle.hw_net.specs.Frames.{is_frame, counted_frame, counter_from, counter_of}
+use Rattle.hw_net.specs.ByFrame.{is_same_frame, compare_frames, number_at_frame}
+use Rattle.hw_net.specs.inner.Index.{IsIndex}
 
 tied : (x y : ℕ) (less same : Bool) → nat_lt x y ≡ less → (x == y) ≡ same → is_eq (cond less Less (cond same Equal Greater)) ≡ same
 tied x y true true p q =

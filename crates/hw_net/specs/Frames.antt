@@ -1,9 +1,10 @@
 -- Which nets name a frame, and the Counter of a frame (own).
-use Rattle.std.specs.Prelude.{◌≡◌, ℕ, ◌+◌, ◌<◌, ◌==◌, ◌&&◌, List, [], ◌∷◌, slice_get, Option, None, Some, IsSome, Bool, false, if◌then◌else◌}
+use Rattle.std.specs.Prelude.{◌≡◌, ℕ, ◌+◌, ◌<◌, List, [], ◌∷◌, slice_get, Option, None, Some, IsSome, Bool, true, false, if◌then◌else◌}
 use Rattle.hw_net.specs.declared.netlist.Frame.{Frame}
 use Rattle.hw_net.specs.declared.netlist.Net.{Net}
 use Rattle.hw_net.specs.declared.netlist.NetKind.{NetKind}
 use Rattle.hw_net.specs.declared.netlist.NetKind.TheVariants.{Comb, Reg, EnReg, Bridge, Unit, Counter}
+use Rattle.hw_net.specs.ByFrame.{is_same_frame}
 
 -- the frame that a register names
 abbrev pub frame_of : NetKind → Option Frame
@@ -13,9 +14,6 @@ frame_of (EnReg frame enable reset first from) = Some frame
 frame_of (Bridge frame live from) = Some frame
 frame_of (Unit left right) = None
 frame_of (Counter frame) = None
-
-abbrev pub is_same_frame : Frame → Frame → Bool
-is_same_frame one other = (one.period == other.period) && (one.latency == other.latency)
 
 -- the frame that a Counter counts
 abbrev pub counted_frame : NetKind → Option Frame
@@ -45,6 +43,11 @@ pub record IsCounterAt (nets : List Net) (number : ℕ) (frame : Frame) : Type 0
   pub is : slice_get nets number ≡ Some net
   pub counts : counted_frame net.kind ≡ Some frame
 
+-- the net of this number is a Counter
+pub record IsCounter (nets : List Net) (number : ℕ) : Type 0 where
+  pub frame : Frame
+  pub at : IsCounterAt nets number frame
+
 -- there is a Counter of each frame that a register names
 pub record HasCounters (nets : List Net) : Type 0 where
   pub each : (k : ℕ) (net : Net) (frame : Frame) → slice_get nets k ≡ Some net → frame_of net.kind ≡ Some frame → IsSome (counter_of nets frame)
@@ -52,3 +55,17 @@ pub record HasCounters (nets : List Net) : Type 0 where
 -- no two Counters have one frame
 pub record CountersDiffer (nets : List Net) : Type 0 where
   pub same : (i j : ℕ) (frame : Frame) → IsCounterAt nets i frame → IsCounterAt nets j frame → i ≡ j
+
+-- whether the net holds a number from clock to clock, Counters left out
+abbrev pub is_register : NetKind → Bool
+is_register (Comb op args) = false
+is_register (Reg frame slot first from) = true
+is_register (EnReg frame enable reset first from) = true
+is_register (Bridge frame live from) = true
+is_register (Unit left right) = false
+is_register (Counter frame) = false
+
+-- how many nets do
+abbrev pub register_count : List Net → ℕ
+register_count [] = 0
+register_count (net ∷ nets) = (if is_register net.kind then 1 else 0) + register_count nets

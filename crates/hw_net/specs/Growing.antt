@@ -1,12 +1,13 @@
 -- Netlists that grow at their end, and what a later netlist keeps of one (own).
-use Rattle.std.specs.Prelude.{◌≡◌, ℕ, ◌+◌, ◌-◌, ◌*◌, ◌<◌, ◌≤◌, ◌⊎◌, ◌++◌, ◌∷◌, List, [], length, slice_get, slice_set, None, Some, IsSome, pos}
+use Rattle.std.specs.Prelude.{◌≡◌, ℕ, ◌+◌, ◌-◌, ◌*◌, ◌<◌, ◌≤◌, ◌⊎◌, ◌++◌, ◌∷◌, List, [], length, All, Contains, slice_get, slice_set, None, Some, IsSome, pos}
 use Rattle.fx_num.specs.Word.{IsWord, InWord}
 use Rattle.hw_net.specs.declared.netlist.Frame.{Frame}
 use Rattle.hw_net.specs.declared.netlist.Net.{Net}
 use Rattle.hw_net.specs.declared.netlist.NetKind.TheVariants.{Comb, Counter}
 use Rattle.hw_net.specs.declared.netlist.NetOp.TheVariants.{Resize}
 use Rattle.hw_net.specs.Circuit.{Circuit}
-use Rattle.hw_net.specs.Frames.{counter_of}
+use Rattle.hw_net.specs.Frames.{IsCounter, CountersDiffer, frame_of, counter_of}
+use Rattle.hw_net.specs.Netlist.{IsKind, reads, reads_now}
 use Rattle.hw_net.specs.NetRows.{Inputs, Rows, NetRows}
 
 -- the second netlist is the first with nets behind its own
@@ -74,3 +75,28 @@ pub record Keeps (before after later : Circuit) : Type 0 where
 -- P holds of the rows of every later netlist that keeps what the call left
 pub record InRows (before after : Circuit) (P : ℕ → Rows → Type 0) : Type 0 where
   pub holds : (later : Circuit) → Keeps before after later → (n : ℕ) (inputs : Inputs) (rows : Rows) → NetRows later n inputs rows → P n rows
+
+-- What a call appends may read this net, if the call names it, it was appended too, or it is a Counter.
+abbrev pub MayRead : Circuit → Circuit → List ℕ → ℕ → Type 0
+MayRead before after named read = Contains named read ⊎ (length before.nets ≤ read) ⊎ IsCounter after.nets read
+
+-- In its own clock the appended net k may read it, if the call names it, it was appended before, or it is a
+-- Counter.
+abbrev pub MayReadNow : Circuit → Circuit → List ℕ → ℕ → ℕ → Type 0
+MayReadNow before after named k read = Contains named read ⊎ ((length before.nets ≤ read) × (read < k)) ⊎ IsCounter after.nets read
+
+-- an appended net as a netlist that can be run needs it, and the Counter of the frame that it names
+pub record IsAppended (before after : Circuit) (named : List ℕ) (k : ℕ) (net : Net) : Type 0 where
+  pub word : IsWord net.width net.signed
+  pub kind : IsKind after.nets after.cycles (length after.inputs) net.width net.signed net.kind
+  pub there : All (λ read. read < length after.nets) (reads net.kind)
+  pub allowed : All (MayRead before after named) (reads net.kind)
+  pub now : All (MayReadNow before after named k) (reads_now net.kind)
+  pub counted : (frame : Frame) → frame_of net.kind ≡ Some frame → IsSome (counter_of after.nets frame)
+
+-- A call that names some nets puts nets behind the others: they are sound, read in their clock nothing that
+-- stands behind them, and no frame gets a second Counter.
+pub record Appends (before after : Circuit) (named : List ℕ) : Type 0 where
+  pub extends : Extends before after
+  pub each : (k : ℕ) (net : Net) → length before.nets ≤ k → slice_get after.nets k ≡ Some net → IsAppended before after named k net
+  pub differ : CountersDiffer before.nets → CountersDiffer after.nets

@@ -1,3 +1,4 @@
+pub mod ByFrame
 pub mod Circuit
 pub mod Closed
 pub mod Frames

@@ -6,7 +6,7 @@ ghost use Rattle.hw_net.specs.Growing.{with_net, IsCounted, IsResize, IsConnecte
 ghost use Rattle.hw_net.specs.inner.Index.{IsIndex};
 ghost use Rattle.fx_num.specs.Word.{IsWord, InWord};
 
-use crate::counters::Counters;
+use crate::frame_index::FrameIndex;
 use crate::netlist::{Frame, Net, NetKind, NetLabel, NetLabels, NetOp, NetPort, NetPorts, Nets};
 use fx_io::{OutOfMemory, Sequence, Sizes};
 use std::alloc::Global;
@@ -21,7 +21,7 @@ pub struct Netlist {
     inputs: NetPorts,
     outputs: NetPorts,
     labels: NetLabels,
-    counters: Counters,
+    counters: FrameIndex,
 }
 
 impl Model for Netlist {
@@ -47,7 +47,7 @@ impl Netlist {
             inputs: Sequence::new(alloc),
             outputs: Sequence::new(alloc),
             labels: Sequence::new(alloc),
-            counters: Counters::new(alloc),
+            counters: FrameIndex::new(alloc),
         }
     }
 
@@ -179,7 +179,7 @@ fn counted(kind: &NetKind) -> Option<Frame>
 }
 
 /// Puts a net behind the others and into the index, if it is the first Counter of its frame.
-fn append(nets: &mut Nets, counters: &mut Counters, net: Net) -> Result<u32, OutOfMemory>
+fn append(nets: &mut Nets, counters: &mut FrameIndex, net: Net) -> Result<u32, OutOfMemory>
     requires { IsIndex nets.old counters.old }
     ensures index { IsIndex nets.new counters.new }
     ensures number { IfOk result (λ number. number ≡ length nets.old) }

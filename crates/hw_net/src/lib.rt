@@ -7,7 +7,7 @@
 #![tactic(auto)]
 
 mod circuit;
-mod counters;
+mod frame_index;
 mod laws;
 mod netlist;
 mod operation;
@@ -17,6 +17,7 @@ mod stepping;
 mod timing;
 
 pub use circuit::Netlist;
+pub use frame_index::FrameIndex;
 pub use laws::{
     bridge_is_closed, counter_is_closed, counter_is_telling, enabled_register_is_closed,
     register_is_closed, rows_are_one, rows_are_there, steps_give_rows,

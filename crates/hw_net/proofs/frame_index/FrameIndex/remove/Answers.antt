@@ -1,7 +1,7 @@
 use Rattle.std.proofs.Common.{◌∙◌, ap, Bool, None, if◌then◌else◌}
-use Rattle.hw_net.specs.inner.Index.{number_at_frame}
+use Rattle.hw_net.specs.ByFrame.{number_at_frame}
 use Rattle.hw_net.proofs.Index.{same-frame}
-use Rattle.hw_net.proofs.counters.Counters.remove.Goals as goal
+use Rattle.hw_net.proofs.frame_index.FrameIndex.remove.Goals as goal
 
 pub returns : goal.returns
 returns c = λ other.

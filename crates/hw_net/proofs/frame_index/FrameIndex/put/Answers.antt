@@ -1,7 +1,7 @@
 use Rattle.std.proofs.Common.{◌∙◌, ap, Bool, Some, if◌then◌else◌}
-use Rattle.hw_net.specs.inner.Index.{number_at_frame}
+use Rattle.hw_net.specs.ByFrame.{number_at_frame}
 use Rattle.hw_net.proofs.Index.{same-frame}
-use Rattle.hw_net.proofs.counters.Counters.put.Goals as goal
+use Rattle.hw_net.proofs.frame_index.FrameIndex.put.Goals as goal
 
 pub returns-clause-found : goal.returns-clause-found
 returns-clause-found c = λ other.

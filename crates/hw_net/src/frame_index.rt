@@ -1,7 +1,6 @@
-//! The index of the Counters of a netlist.
+//! Numbers of nets by frame.
 ghost use Rattle.std.specs.Prelude.{◌≡◌, [], IfOk, OnOk, OnErr, Option, None, Some, if◌then◌else◌};
-ghost use Rattle.hw_net.specs.Frames.{is_same_frame};
-ghost use Rattle.hw_net.specs.inner.Index.{number_at_frame};
+ghost use Rattle.hw_net.specs.ByFrame.{is_same_frame, number_at_frame};
 ghost use Rattle.hw_net.specs.declared.netlist.Frame.{Frame};
 
 use crate::netlist::Frame;
@@ -10,14 +9,13 @@ use std::alloc::Global;
 use std::collections::BTreeMap;
 use std::marker::Model;
 
-/// The number of the Counter of each frame that has one (own). Contracts see the
-/// entries, each a frame and a number.
+/// A number of a net for each of some frames (own), by one look-up. Contracts see the entries.
 #[derive(Drop)]
-pub struct Counters {
+pub struct FrameIndex {
     by_frame: BTreeMap<Frame, u32>,
 }
 
-impl Model for Counters {
+impl Model for FrameIndex {
     ghost use Rattle.std.specs.Prelude.{ℕ, List};
     ghost use Rattle.hw_net.specs.declared.netlist.Frame.{Frame};
 
@@ -26,24 +24,24 @@ impl Model for Counters {
     ghost view = { λ index. index.by_frame.entries };
 }
 
-impl Counters {
-    /// An index without a Counter.
-    pub fn new(alloc: Global) -> Counters
+impl FrameIndex {
+    /// An index without a frame. It takes no memory.
+    pub fn new(alloc: Global) -> FrameIndex
         ensures { result ≡ [] }
     {
-        Counters {
+        FrameIndex {
             by_frame: BTreeMap::new(alloc),
         }
     }
 
-    /// The number of the Counter of a frame.
+    /// The number of a frame, if it has one.
     pub fn find(&self, frame: Frame) -> Option<u32>
         ensures { result ≡ number_at_frame self.now frame }
     {
         self.by_frame.get(&frame).copied()
     }
 
-    /// Puts in the Counter of a frame.
+    /// Gives a frame its number, in place of any that it had. Where memory is wanting the index stays.
     pub fn put(&mut self, frame: Frame, number: u32) -> Result<(), OutOfMemory>
         ensures found { OnOk result ((other : Frame) → number_at_frame self.new other ≡ (if is_same_frame frame other then Some number else number_at_frame self.old other)) }
         ensures kept { OnErr result (self.new ≡ self.old) }
@@ -52,7 +50,7 @@ impl Counters {
         Ok(())
     }
 
-    /// Takes out the Counter of a frame. It takes no memory.
+    /// Takes out a frame. It takes no memory.
     pub fn remove(&mut self, frame: Frame)
         ensures { (other : Frame) → number_at_frame self.new other ≡ (if is_same_frame frame other then None else number_at_frame self.old other) }
     {
