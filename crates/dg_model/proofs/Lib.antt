@@ -8,6 +8,7 @@ mod GainTypes
 mod Numbers
 mod ParamTypes
 mod PeriodRounds
+mod RateAndLoop
 mod Roots
 mod Roundings
 mod SlowToFast

@@ -13,10 +13,10 @@ use Rattle.dg_model.specs.declared.kind.Kind.TheVariants.{Inport, Outport, Groun
 use Rattle.dg_model.specs.Periods.{periods_of}
 use Rattle.dg_model.proofs.WidthRounds.{block_of, edge_of}
 
-abbrev small : (n : ℕ) → n < 10 ^ 18 → Decimal
+abbrev pub small : (n : ℕ) → n < 10 ^ 18 → Decimal
 small n below = record { negative = false; digits = n; exponent = pos 0; eighteen_digits = below; least_exponent = le_z_yes tt; greatest_exponent = le_z_yes tt }
 
-abbrev timed : Kind → PeriodSpec → ℕ → ℕ → Block
+abbrev pub timed : Kind → PeriodSpec → ℕ → ℕ → Block
 timed kind period inputs outputs = record (block_of kind inputs outputs) { period = period }
 
 -- a sum of a source of period 8 and of a copy of one of period 4 takes 8 in the first round, and keeps it
