@@ -71,11 +71,11 @@ def declaration(port):
     return f"  {kind}{sign} [{port.width - 1}:0] {port.name};"
 
 
-def instance(case):
+def instance(case, module=MODULE):
     """A bench's nets, and the module between them."""
     names = ["clk", "reset"] + [port.name for port in case.ports]
     lines = ["  reg clk, reset;"] + [declaration(port) for port in case.ports]
-    return lines + [f"  {MODULE} fx_tested ({', '.join(f'.{name}({name})' for name in names)});"]
+    return lines + [f"  {module} fx_tested ({', '.join(f'.{name}({name})' for name in names)});"]
 
 
 def bits(port, number):
@@ -116,9 +116,3 @@ def run(words, folder):
     if done.returncode != 0:
         raise Failed(f"{words[0]} failed:\n{done.stdout}{done.stderr}")
     return done.stdout
-
-
-def icarus(folder):
-    """What Icarus Verilog prints for the module in model.v under the bench in bench.v."""
-    run(["iverilog", "-g2005", "-o", "bench.vvp", "bench.v", "model.v"], folder)
-    return run(["vvp", "bench.vvp"], folder)
