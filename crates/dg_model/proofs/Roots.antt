@@ -11,7 +11,7 @@ use Rattle.dg_model.specs.declared.diagram.Diagram.{Diagram}
 use Rattle.dg_model.specs.declared.diagram.Block.{Block}
 use Rattle.dg_model.specs.KindRow.{Role}
 use Rattle.dg_model.specs.Signals.{Attributes}
-use Rattle.dg_model.specs.Wires.{numbers_from}
+use Rattle.dg_waves.specs.Rounds.{numbers_from}
 use Rattle.dg_model.specs.Wired.{AreNumbered}
 use Rattle.dg_model.specs.Laws.{IsElementOfPort, AreRootElements}
 use Rattle.dg_model.specs.RootElements.{RootElement, root_element, number_in, is_number, has_number, elements_of_port, root_elements}

@@ -12,7 +12,7 @@ use Rattle.dg_model.specs.declared.diagram.PeriodSpec.TheVariants.{Inherit, Cons
 use Rattle.dg_model.specs.declared.kind.Kind.{Kind}
 use Rattle.dg_model.specs.KindRow.{Inherited}
 use Rattle.dg_model.specs.Library.{row_of}
-use Rattle.dg_model.specs.Widths.{edges_into}
+use Rattle.dg_model.specs.Wires.{edges_into}
 
 -- ---- declared periods
 

@@ -9,7 +9,8 @@ use Rattle.dg_model.specs.KindRow.{Role}
 use Rattle.dg_model.specs.Library.{row_of}
 use Rattle.dg_model.specs.Signals.{Attributes, Stimulus}
 use Rattle.dg_model.specs.Hits.{Hits}
-use Rattle.dg_model.specs.Wires.{numbers_from, width_into}
+use Rattle.dg_waves.specs.Rounds.{numbers_from}
+use Rattle.dg_model.specs.Wires.{width_into}
 use Rattle.dg_model.specs.Wired.{root_input, root_output}
 
 -- an element of a root port: the number of the port, its block, the element's place, its type and its period in base samples

@@ -11,7 +11,7 @@ use Rattle.dg_model.specs.declared.kind.Kind.{Kind}
 use Rattle.dg_model.specs.KindRow.{OwnType, FullRule}
 use Rattle.dg_model.specs.Library.{row_of}
 use Rattle.dg_model.specs.GainParam.{param_type_of}
-use Rattle.dg_model.specs.Widths.{edges_into}
+use Rattle.dg_model.specs.Wires.{edges_into}
 use Rattle.dg_model.specs.Periods.{known_or, known_at}
 
 -- what follows from a known type

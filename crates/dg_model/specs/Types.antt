@@ -8,7 +8,7 @@ use Rattle.dg_model.specs.declared.kind.Kind.{Kind}
 use Rattle.dg_model.specs.KindRow.{OwnType, FullRule}
 use Rattle.dg_model.specs.Library.{row_of}
 use Rattle.dg_model.specs.Operation.{type_of}
-use Rattle.dg_model.specs.Wires.{numbers_from}
+use Rattle.dg_waves.specs.Rounds.{numbers_from}
 
 -- the type that a specification gives: its own, the internal rule's, or the first input's
 abbrev pub IsSpecified : TypeSpec → FxType → (FxType → Type 0) → FxType → Type 0

@@ -1,13 +1,13 @@
 -- How wide the signals of a diagram are, by rounds (Simulink reference, signal dimensions; the rounds and the cut are own).
-use Rattle.std.specs.Prelude.{ℕ, ◌+◌, ◌-◌, ◌/◌, ◌%◌, ◌==◌, min, max, nat_lt, sum, Bool, if◌then◌else◌, List, [], ◌∷◌, length, map, filter, Option, Some, None, slice_get, slice_index_or}
+use Rattle.std.specs.Prelude.{ℕ, ◌+◌, ◌-◌, ◌/◌, ◌%◌, ◌==◌, min, max, nat_lt, sum, Bool, if◌then◌else◌, List, [], ◌∷◌, length, map, Option, Some, None, slice_get, slice_index_or}
 use Rattle.std.specs.List.{list_all}
 use Rattle.dg_waves.specs.Rounds.{numbers_from, after_rounds}
 use Rattle.dg_model.specs.declared.diagram.Diagram.{Diagram}
 use Rattle.dg_model.specs.declared.diagram.Block.{Block}
-use Rattle.dg_model.specs.declared.diagram.Edge.{Edge}
 use Rattle.dg_model.specs.declared.kind.Kind.{Kind}
 use Rattle.dg_model.specs.KindRow.{Shape}
 use Rattle.dg_model.specs.Library.{row_of}
+use Rattle.dg_model.specs.Wires.{edges_into}
 
 -- the widths at the output ports of each block; a block without an output port has its own width at port 1
 abbrev pub Widths : Type 0
@@ -15,10 +15,6 @@ Widths = List (List ℕ)
 
 abbrev pub width_at : Widths → ℕ → ℕ → ℕ
 width_at widths block port = slice_index_or (slice_index_or widths block []) (port - 1) 0
-
--- the edges into a block, in order of its ports
-abbrev pub edges_into : Diagram → ℕ → List Edge
-edges_into diagram block = filter (λ edge. edge.to == block) diagram.edges
 
 -- the widths of a block's inputs
 abbrev pub input_widths : Diagram → Widths → ℕ → List ℕ

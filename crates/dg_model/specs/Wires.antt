@@ -1,16 +1,12 @@
 -- What drives an input, and what the input carries (Simulink reference, signal lines; scalar expansion of inputs and parameters).
-use Rattle.std.specs.Prelude.{ℕ, zero, suc, ◌==◌, ◌&&◌, ℤ, pos, Bool, if◌then◌else◌, List, [], ◌∷◌, map, length, Option, Some, None, find, filter, slice_get}
+use Rattle.std.specs.Prelude.{ℕ, ◌==◌, ◌&&◌, ℤ, pos, Bool, if◌then◌else◌, List, map, length, Option, Some, None, find, filter, slice_get}
+use Rattle.dg_waves.specs.Rounds.{numbers_from}
 use Rattle.fx_type.specs.declared.kind.FxType.{FxType}
 use Rattle.fx_type.specs.declared.kind.FxType.TheVariants.{Logical}
 use Rattle.fx_type.specs.declared.decimal.Decimal.{Decimal}
 use Rattle.dg_model.specs.declared.diagram.Diagram.{Diagram}
 use Rattle.dg_model.specs.declared.diagram.Edge.{Edge}
 use Rattle.dg_model.specs.Signals.{Attributes, Table}
-
--- n numbers from k on
-abbrev pub numbers_from : ℕ → ℕ → List ℕ
-numbers_from k zero = []
-numbers_from k (suc n) = k ∷ numbers_from (suc k) n
 
 -- the edge ends at this input port
 abbrev pub enters : ℕ → ℕ → Edge → Bool
