@@ -44,7 +44,7 @@ IsOpOf EnableTest element param control op = ⊥
 IsOpOf (EnOut reset initial) element param control op = ⊥
 IsOpOf Terminator element param control op = ⊥
 
--- the signs of a Sum
+-- the signs of the inputs of a full sum
 abbrev pub signs_of_full : FullRule → List Bool
 signs_of_full FullRule.NoFull = []
 signs_of_full (FullRule.FullSum negative) = negative
@@ -53,6 +53,7 @@ signs_of_full FullRule.FullProduct = []
 signs_of_full FullRule.UnionOfTwo = []
 signs_of_full FullRule.UnionOfEnds = []
 
+-- the signs of a Sum
 abbrev pub signs_of : Kind → List Bool
 signs_of kind = signs_of_full (row_of kind).types.full
 

@@ -37,6 +37,7 @@ abbrev pub takes_now : Diagram → Attributes → ℕ → Kind → Target → Bo
 takes_now diagram attributes block kind (Port port) = reads_now diagram attributes block kind
 takes_now diagram attributes block kind Enable = asks_now kind
 
+-- the same at the block that an edge ends at
 abbrev pub takes_now_at : Diagram → Attributes → LatencyEdge → Option Block → Bool
 takes_now_at diagram attributes edge None = false
 takes_now_at diagram attributes edge (Some block) = takes_now diagram attributes edge.to block.kind edge.target
@@ -45,5 +46,6 @@ takes_now_at diagram attributes edge (Some block) = takes_now diagram attributes
 abbrev pub is_instant : Diagram → Attributes → LatencyEdge → Bool
 is_instant diagram attributes edge = takes_now_at diagram attributes edge (slice_get diagram.blocks edge.to)
 
+-- the edge is instant
 abbrev pub IsInstant : Diagram → Attributes → LatencyEdge → Type 0
 IsInstant diagram attributes edge = is_instant diagram attributes edge ≡ true

@@ -27,6 +27,7 @@ abbrev pub HasParts : List ℕ → ℕ → Type 0
 HasParts [] inputs = IsBetween 1 1024 inputs
 HasParts (size ∷ sizes) inputs = inputs ≡ length (size ∷ sizes)
 
+-- the row of each kind
 abbrev pub row_of : Kind → Row
 row_of (Inport number width) = record {
   place = record { role = Role.RootInput number; stands = Standing.Anywhere };

@@ -25,11 +25,12 @@ pub record RootElement : Type 0 where
 abbrev pub number_in : (Role → Option ℕ) → Block → Option ℕ
 number_in number_of block = number_of (row_of block.kind).place.role
 
--- a block is the port of this number
+-- a port has this number
 abbrev pub is_number : ℕ → Option ℕ → Bool
 is_number number None = false
 is_number number (Some own) = own == number
 
+-- a block is the port of this number
 abbrev pub has_number : (Role → Option ℕ) → ℕ → Block → Bool
 has_number number_of number block = is_number number (number_in number_of block)
 

@@ -26,6 +26,7 @@ ports_of_role Role.EnabledOutput outputs = outputs
 ports_of_role Role.Control outputs = outputs
 ports_of_role Role.Plain outputs = outputs
 
+-- the same of a kind
 abbrev pub shown_ports : Kind → ℕ → ℕ
 shown_ports kind outputs = ports_of_role (row_of kind).place.role outputs
 
@@ -38,6 +39,7 @@ width_of_role diagram attributes Role.EnabledOutput block port = attributes.widt
 width_of_role diagram attributes Role.Control block port = attributes.width_at block port
 width_of_role diagram attributes Role.Plain block port = attributes.width_at block port
 
+-- the same of a kind
 abbrev pub shown_width : Diagram → Attributes → Kind → ℕ → ℕ → ℕ
 shown_width diagram attributes kind block port = width_of_role diagram attributes (row_of kind).place.role block port
 
