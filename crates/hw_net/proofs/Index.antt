@@ -132,7 +132,7 @@ eqb-self n = by (n == n) refl
     by true e = refl
     by false e = absurd (eqb-false n n e refl)
 
-same-self : (frame : Frame) → is_same_frame frame frame ≡ true
+pub same-self : (frame : Frame) → is_same_frame frame frame ≡ true
 same-self frame = and_from (frame.period == frame.period) (frame.latency == frame.latency) (eqb-self frame.period) (eqb-self frame.latency)
 
 -- a Counter put behind nets that have none of its frame

@@ -1,5 +1,6 @@
 pub mod Clocks
 pub mod Exists
+pub mod Growing
 pub mod Index
 pub mod Modular
 pub mod Ordering

@@ -60,7 +60,7 @@ pub record IsReopened (before later : List Net) (k : ℕ) : Type 0 where
   pub old_args : List ℕ
   pub new_args : List ℕ
   pub there : slice_get before k ≡ Some was
-  pub then : slice_get later k ≡ Some is
+  pub later_there : slice_get later k ≡ Some is
   pub old_kind : was.kind ≡ Comb Resize old_args
   pub new_kind : is.kind ≡ Comb Resize new_args
   pub wide : is.width ≡ was.width
