@@ -1,3 +1,4 @@
+pub mod PlainRuns
 pub mod After
 pub mod Classes
 pub mod Complete

@@ -11,10 +11,10 @@ use Rattle.mdl_text.specs.Plain.{string_step, strings}
 use Rattle.mdl_text.proofs.Classes.{no_byte, quote_no_blank, two_tests}
 
 -- what follows one byte
-abbrev after_step : List ℕ → Option (Place × List ℕ) → Option (List ℕ)
+abbrev pub after_step : List ℕ → Option (Place × List ℕ) → Option (List ℕ)
 after_step bytes step = option_and_then (λ next. strings next.0 next.1 bytes) step
 
-plain_step : (said : List ℕ) (b : ℕ) → is_char (Plain b) ≡ true → string_step Inside said b ≡ Some (Inside, said ++ b ∷ [])
+pub plain_step : (said : List ℕ) (b : ℕ) → is_char (Plain b) ≡ true → string_step Inside said b ≡ Some (Inside, said ++ b ∷ [])
 unfolding string_step
 plain_step said b h =
     let parts = and_parts (not (b == 34)) (not (b == 92)) h in
@@ -29,7 +29,7 @@ escaped_step : (said : List ℕ) (b : ℕ) → string_step Escaped said b ≡ So
 unfolding string_step
 escaped_step said b = refl
 
-close_step : (said : List ℕ) → string_step Inside said 34 ≡ Some (Outside, said)
+pub close_step : (said : List ℕ) → string_step Inside said 34 ≡ Some (Outside, said)
 unfolding string_step
 close_step said = refl
 
@@ -56,7 +56,7 @@ inside_chars (Escape b ∷ chars) said rest h =
     ∙ inside_chars chars (said ++ escaped b) rest h
     ∙ ap (λ v. strings Outside v rest) (append_assoc said (escaped b) (flat_map char_value chars))
 
-outside_blanks : (after said rest : List ℕ) → AreBlanks after → strings Outside said (after ++ rest) ≡ strings Outside said rest
+pub outside_blanks : (after said rest : List ℕ) → AreBlanks after → strings Outside said (after ++ rest) ≡ strings Outside said rest
 outside_blanks [] said rest h = refl
 outside_blanks (b ∷ bs) said rest h =
     let parts = and_parts (is_blank b) (list_all is_blank bs) h in

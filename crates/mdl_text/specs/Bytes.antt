@@ -37,8 +37,11 @@ pub data Char : Type 0 where
   Escape : ℕ → Char
 
 -- a quote or a backslash doesn't stand for itself
+abbrev pub is_plain : ℕ → Bool
+is_plain byte = not (byte == 34) && not (byte == 92)
+
 abbrev pub is_char : Char → Bool
-is_char (Plain byte) = not (byte == 34) && not (byte == 92)
+is_char (Plain byte) = is_plain byte
 is_char (Escape byte) = true
 
 -- how a character is written

@@ -4,7 +4,7 @@ ghost use Rattle.mdl_text.specs.Plain.{IsBounded, reader_strings, added, opened,
 
 use crate::brackets::{ListEnd, list_end};
 use crate::scan::{are_blanks, name_length, trimmed, unblanked};
-use crate::strings::strings;
+use crate::strings::joined;
 use crate::tree::{Item, Items, Value};
 use fx_io::{OutOfMemory, Text};
 use std::alloc::Global;
@@ -126,16 +126,12 @@ impl Reader {
                 if !are_blanks(&line[taken..]) {
                     return Ok(false);
                 }
-                let mut bytes = said.into_vec(alloc)?;
-                bytes.extend_from_slice(&line[..taken])?;
-                self.draft.add(name, Value::List(Text::from_vec(bytes)))?;
+                let list = said.append(alloc, &line[..taken])?;
+                self.draft.add(name, Value::List(list))?;
                 Ok(true)
             }
             ListEnd::Open { nesting } => {
-                let mut bytes = said.into_vec(alloc)?;
-                bytes.extend_from_slice(line)?;
-                bytes.push(b'\n')?;
-                let said = Text::from_vec(bytes);
+                let said = said.append(alloc, line)?.append(alloc, b"\n")?;
                 self.pending = Pending::Open {
                     name,
                     said,
@@ -159,10 +155,9 @@ impl Reader {
         ensures value { IfOk result (λ good. reader_strings self.old.draft name (strings_from said bytes.now) ≡ (if good then Some self.new else None)) }
         ensures bounded { IfOk result (λ good. IsTrue good → IsBounded self.new.pending) }
     {
-        match strings(said.into_vec(alloc)?, bytes)? {
+        match joined(alloc, said, bytes)? {
             None => Ok(false),
             Some(said) => {
-                let said = Text::from_vec(said);
                 self.pending = Pending::Strings { name, said };
                 Ok(true)
             }

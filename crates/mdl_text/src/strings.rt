@@ -1,8 +1,12 @@
-ghost use Rattle.std.specs.Prelude.{◌≡◌, IfOk, MatchOption};
-ghost use Rattle.mdl_text.specs.Plain.{string_step, strings_from};
+ghost use Rattle.std.specs.Prelude.{◌≡◌, ◌≤◌, ◌++◌, ℕ, List, length, IfOk, IfSome, MatchOption, Some};
+ghost use Rattle.std.specs.List.{prefix_len};
+ghost use Rattle.mdl_text.specs.declared.strings.Place.TheVariants.{Inside};
+ghost use Rattle.mdl_text.specs.Bytes.{is_plain};
+ghost use Rattle.mdl_text.specs.Plain.{string_step, strings, strings_from};
 
-use crate::scan::is_blank;
-use fx_io::OutOfMemory;
+use crate::scan::{are_blanks, is_blank};
+use fx_io::{OutOfMemory, Text};
+use std::alloc::Global;
 
 /// Room for so many bytes is made at once.
 const USUAL_LENGTH: usize = 64;
@@ -51,24 +55,85 @@ fn string_step(place: Place, said: &mut Vec<u8>, byte: u8) -> Result<Option<Plac
     }
 }
 
+/// How many bytes from the front on stand for themselves in a string.
+fn plain_length(bytes: &[u8]) -> usize
+    ensures value { result ≡ prefix_len is_plain bytes.now }
+    ensures within { result ≤ length bytes.now }
+{
+    for (i, byte) in bytes.iter().enumerate() {
+        if *byte == b'"' || *byte == b'\\' {
+            return i;
+        }
+    }
+    bytes.len()
+}
+
+/// The text of a string without backslashes that has blanks alone after it. `None` where the bytes
+/// have another form.
+#[tactic(auto, using(crate::proofs::PlainRuns::one_string))]
+fn plain_string(bytes: &[u8]) -> Option<&[u8]>
+    ensures { IfSome result (λ text.
+        (said : List ℕ) → strings_from said bytes.now ≡ Some (said ++ text.now)) }
+{
+    let (first, inner) = bytes.split_first()?;
+    let (text, behind) = inner.split_at(plain_length(inner));
+    let (last, after) = behind.split_first()?;
+    if *first == b'"' && *last == b'"' && are_blanks(after) {
+        Some(text)
+    } else {
+        None
+    }
+}
+
+/// Puts the bytes that stand for themselves in a string at the end of `said`, and gives the bytes
+/// after them.
+#[tactic(auto, using(crate::proofs::PlainRuns::inside_plain))]
+fn take_plain<'a>(said: &mut Vec<u8>, bytes: &'a [u8]) -> Result<&'a [u8], OutOfMemory>
+    ensures value { IfOk result (λ rest.
+        strings Inside said.old.items bytes.now ≡ strings Inside said.new.items rest.now) }
+    ensures within { IfOk result (λ rest. length rest.now ≤ length bytes.now) }
+{
+    let (run, rest) = bytes.split_at(plain_length(bytes));
+    said.extend_from_slice(run)?;
+    Ok(rest)
+}
+
 /// Reads quoted strings with blanks between and after, and puts what they say at the end of `said`.
 /// `None` where the bytes are none.
-pub fn strings(mut said: Vec<u8>, bytes: &[u8]) -> Result<Option<Vec<u8>>, OutOfMemory>
+fn strings(mut said: Vec<u8>, bytes: &[u8]) -> Result<Option<Vec<u8>>, OutOfMemory>
     ensures { IfOk result (λ found. MatchOption found
         (strings_from said.items bytes.now ≡ None)
         (λ value. strings_from said.items bytes.now ≡ Some value.items)) }
 {
     said.reserve(bytes.len().min(USUAL_LENGTH))?;
     let mut place = Place::Outside;
-    for byte in bytes {
+    let mut rest = bytes;
+    while let [byte, after @ ..] = rest {
         match string_step(place, &mut said, *byte)? {
             None => return Ok(None),
             Some(next) => place = next,
         }
+        rest = match place {
+            Place::Inside => take_plain(&mut said, after)?,
+            Place::Outside | Place::Escaped => after,
+        };
     }
     Ok(if place == Place::Outside {
         Some(said)
     } else {
         None
     })
+}
+
+/// The text with what quoted strings say at its end. `None` where the bytes are none.
+pub fn joined(alloc: Global, said: Text, bytes: &[u8]) -> Result<Option<Text>, OutOfMemory>
+    ensures { IfOk result (λ text. text ≡ strings_from said bytes.now) }
+{
+    if let Some(text) = plain_string(bytes) {
+        return Ok(Some(said.append(alloc, text)?));
+    }
+    match strings(said.into_vec(alloc)?, bytes)? {
+        None => Ok(None),
+        Some(said) => Ok(Some(Text::from_vec(said))),
+    }
 }
