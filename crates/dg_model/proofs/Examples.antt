@@ -1,5 +1,9 @@
 -- Parts of small diagrams whose tables are written out by hand, to check the definitions against.
-use Rattle.std.proofs.Common.{ℕ, ◌<◌, ◌^◌, true, false, List, [], Option, None, ℤ, pos, negsuc, get_or, refl, arith}
+use Rattle.std.proofs.Common.{◌≡◌, sym, ◌∙◌, subst, ℕ, ◌<◌, ◌^◌, Bool, true, false, List, [], ◌∷◌, Option, None, ℤ, pos, negsuc, get_or, refl, arith}
+use Rattle.std.specs.Prelude.{All, AllPairs, ⊤}
+use Rattle.std.specs.List.{AllByRecursion}
+use Rattle.std.proofs.lemmas.List.Elements.{All-nil, All-cons}
+use Rattle.std.proofs.lemmas.List.Kept.{AllPairs-cons}
 use lib.Signed.{le_z, le_z_yes}
 use Rattle.std.proofs.Math.Dec.{T}
 use Rattle.fx_type.specs.Conversion.{Converts, Stores}
@@ -13,7 +17,15 @@ use Rattle.dg_model.specs.declared.diagram.Block.{Block}
 use Rattle.dg_model.specs.declared.diagram.Edge.{Edge}
 use Rattle.dg_model.specs.declared.diagram.PeriodSpec.TheVariants.{Inherit}
 use Rattle.dg_model.specs.declared.kind.Kind.{Kind}
-use Rattle.dg_model.specs.Signals.{Table, Attributes}
+use Rattle.dg_model.specs.declared.diagram.Diagram.{Diagram}
+use Rattle.dg_model.specs.declared.op.Op.{Op}
+use Rattle.dg_model.specs.Signals.{Table, Stimulus, Attributes}
+use Rattle.dg_model.specs.Equation.{IsOpOf, ElementEquation, signs_of}
+use Rattle.dg_model.specs.Operation.{OpGives}
+use Rattle.dg_model.specs.Wires.{type_into, types_into, values_into}
+use Rattle.fx_type.specs.FxType.{IsType}
+use Rattle.fx_type.specs.StoredOf.{stored_of}
+use Rattle.fx_type.proofs.Stored.{stored_one}
 
 abbrev pub int8 : FxType
 int8 = Num true 8 (pos 0)
@@ -53,3 +65,38 @@ kept v low high = record {
   rounds = record { at_most = omega (arith, ints); next_above = omega (arith, ints) };
   settles = record { in_word = record { low = le_z_yes low; high = le_z_yes high }; congruent = record { turns = pos 0; equal = omega (arith, ints) } };
 }
+
+-- what holds of each element of a list written out
+pub all_of : {A : Type 0} (P : A → Type 0) (xs : List A) → AllByRecursion P xs → All P xs
+all_of P [] each = All-nil P
+all_of P (x ∷ xs) each = All-cons P x xs (each.0) (all_of P xs (each.1))
+
+-- what holds between each element and those after it
+abbrev pub PairsByRecursion : {A : Type 0} → (A → A → Type 0) → List A → Type 0
+PairsByRecursion R [] = ⊤
+PairsByRecursion R (x ∷ xs) = AllByRecursion (R x) xs × PairsByRecursion R xs
+
+pub pairs_of : {A : Type 0} (R : A → A → Type 0) (xs : List A) → PairsByRecursion R xs → AllPairs R xs
+pairs_of R [] each = λ i j d before inside. absurd (omega (arith, inside))
+pairs_of R (x ∷ xs) each = AllPairs-cons R x xs (all_of (R x) xs (each.0)) (pairs_of R xs (each.1))
+
+-- the table with a list of elements at each block and base sample, the same at each port
+abbrev pub table_of_vectors : List (List (List ℤ)) → Table
+table_of_vectors rows block port element t = get_or (get_or (get_or rows block []) t []) element (pos 0)
+
+-- a decimal of these digits and places behind the point, with its sign
+abbrev pub fraction_of : (negative : Bool) (n : ℕ) → n < 10 ^ 18 → (exponent : ℤ) → T (le_z (negsuc 35) exponent) → T (le_z exponent (pos 18)) → Decimal
+fraction_of negative n small exponent least greatest = record { negative = negative; digits = n; exponent = exponent; eighteen_digits = small; least_exponent = le_z_yes least; greatest_exponent = le_z_yes greatest }
+
+-- what a block's operation gives, where only one operation may be its own
+pub carried_out : (diagram : Diagram) (attributes : Attributes) (stimulus : Stimulus) (table : Table) (b : Block) (block element t : ℕ) (v : ℤ) (known : Op) →
+    ((op : Op) → IsOpOf b.kind element (attributes.param_at block) (type_into diagram attributes block 2) op → op ≡ known) → ElementEquation diagram attributes stimulus table b block element t v →
+    OpGives (record { op = known; signs = signs_of b.kind; types = types_into diagram attributes block b.inputs; result = attributes.type_at block 1; rounding = b.rounding; saturate = b.saturate })
+    (values_into diagram attributes table block b.inputs element t) v
+carried_out diagram attributes stimulus table b block element t v known only given =
+    subst (λ (op : Op). OpGives (record { op = op; signs = signs_of b.kind; types = types_into diagram attributes block b.inputs; result = attributes.type_at block 1; rounding = b.rounding; saturate = b.saturate }) (values_into diagram attributes table block b.inputs element t) v)
+    (only (given.0) (given.1)) (given.2)
+
+-- a decimal is stored as one number
+pub stored_as : (decimal : Decimal) (type : FxType) (r known : ℤ) → IsType type → stored_of decimal type ≡ known → Stores decimal type r → r ≡ known
+stored_as decimal type r known valid is stores = sym ((stored_one decimal type r valid).0 stores) ∙ is

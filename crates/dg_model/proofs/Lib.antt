@@ -1,3 +1,5 @@
+mod Carried
+mod Columns
 mod DelayOfThree
 mod Elements
 mod EnabledAccumulator
@@ -5,6 +7,7 @@ mod EnabledOutput
 mod Examples
 mod FastToSlow
 mod GainTypes
+mod Late
 mod Numbers
 mod ParamTypes
 mod PeriodRounds
