@@ -5,6 +5,7 @@ pub mod Index
 pub mod Modular
 pub mod Ordering
 pub mod Places
+pub mod Products
 pub mod Steppable
 pub mod Steps
 pub mod Sweep

@@ -6,6 +6,7 @@
 //! keeps of one that grows.
 #![tactic(auto)]
 
+mod checking;
 mod circuit;
 mod frame_index;
 mod laws;

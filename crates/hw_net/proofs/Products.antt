@@ -1,0 +1,54 @@
+-- A word that has the products of the ends of two words has those of all their numbers.
+use Rattle.std.proofs.Common.{◌≡◌, ℕ, zero, suc, ◌+◌, ◌*◌, ◌≤◌, Bool, ℤ, pos, negsuc, ◌*ℤ◌, ◌≤ℤ◌, neg_ℤ, ap, sym, ◌∙◌, arith, mul-le-mul_right, List, Some, slice_get, subst}
+use Rattle.std.proofs.lemmas.Int.{ints}
+use Rattle.std.proofs.Math.IntN.{*ℤ_comm, *ℤ-negsuc}
+use borrow.Author.Differences.{up, down, le_out}
+use Rattle.fx_num.specs.Word.{InWord, word_lowest, word_highest}
+use Rattle.hw_net.specs.declared.netlist.Net.{Net}
+use Rattle.hw_net.specs.Netlist.{HoldsProducts}
+
+scaled-mono : (a b : ℤ) (d : ℕ) → a ≤ℤ b → (a *ℤ pos d) ≤ℤ (b *ℤ pos d)
+scaled-mono a b d h =
+    let e : (up a + down b) * d ≤ (up b + down a) * d = mul-le-mul_right d (le_out a b h) in
+    omega (arith, ints)
+
+-- between two products by one number
+product-between : (width : ℕ) (signed : Bool) (a b x y : ℤ) → a ≤ℤ x → x ≤ℤ b → InWord width signed (a *ℤ y) → InWord width signed (b *ℤ y) → InWord width signed (x *ℤ y)
+product-between width signed a b x (pos n) low high p q =
+    let l = scaled-mono a x n low in
+    let h = scaled-mono x b n high in
+    record { low = omega (arith, ints, l, p.low); high = omega (arith, ints, h, q.high) }
+product-between width signed a b x (negsuc n) low high p q =
+    let l = scaled-mono a x (suc n) low in
+    let h = scaled-mono x b (suc n) high in
+    let e = *ℤ-negsuc a n in
+    let f = *ℤ-negsuc x n in
+    let g = *ℤ-negsuc b n in
+    record { low = omega (arith, ints, h, f, g, q.low); high = omega (arith, ints, l, e, f, p.high) }
+
+swapped : (width : ℕ) (signed : Bool) (x y : ℤ) → InWord width signed (x *ℤ y) → InWord width signed (y *ℤ x)
+swapped width signed x y is = rw (*ℤ_comm y x) is
+
+module _ (width : ℕ) (signed : Bool) (a b c d : ℤ) (low_low : InWord width signed (a *ℤ c)) (low_high : InWord width signed (a *ℤ d)) (high_low : InWord width signed (b *ℤ c)) (high_high : InWord width signed (b *ℤ d)) where
+  pub product-in-word : (x y : ℤ) → a ≤ℤ x → x ≤ℤ b → c ≤ℤ y → y ≤ℤ d → InWord width signed (x *ℤ y)
+  product-in-word x y p q r s =
+      let low = product-between width signed a b x c p q low_low high_low in
+      let high = product-between width signed a b x d p q low_high high_high in
+      swapped width signed y x (product-between width signed c d y x r s (swapped width signed x c low) (swapped width signed x d high))
+
+same-some : (x y : Net) → Some x ≡ Some y → x ≡ y
+same-some x y e = cc
+
+pub products-hold : (nets : List Net) (left right width : ℕ) (signed : Bool) (one other : Net) → slice_get nets left ≡ Some one → slice_get nets right ≡ Some other
+    → InWord width signed (word_lowest one.width one.signed *ℤ word_lowest other.width other.signed) → InWord width signed (word_lowest one.width one.signed *ℤ word_highest other.width other.signed)
+    → InWord width signed (word_highest one.width one.signed *ℤ word_lowest other.width other.signed) → InWord width signed (word_highest one.width one.signed *ℤ word_highest other.width other.signed)
+    → HoldsProducts nets left right width signed
+products-hold nets left right width signed one other there also p q r s = record {
+  holds = λ a b e f x y in_one in_other.
+      let same : a ≡ one = same-some a one (sym e ∙ there) in
+      let alike : b ≡ other = same-some b other (sym f ∙ also) in
+      let first : InWord one.width one.signed x = subst (λ (net : Net). InWord net.width net.signed x) same in_one in
+      let second : InWord other.width other.signed y = subst (λ (net : Net). InWord net.width net.signed y) alike in_other in
+      product-in-word width signed (word_lowest one.width one.signed) (word_highest one.width one.signed) (word_lowest other.width other.signed) (word_highest other.width other.signed)
+      p q r s x y first.low first.high second.low second.high;
+}
