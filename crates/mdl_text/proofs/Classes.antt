@@ -1,5 +1,7 @@
 -- Facts about single bytes, and cases on tests.
-use Rattle.std.proofs.Common.{◌≡◌, ◌≢◌, ℕ, Bool, true, false, cond, ◌⊎◌, inl, inr, Some, None, refl, sym, ◌∙◌, ap, subst, ⊎_elim, eqb-true, arith}
+use Rattle.std.proofs.Common.{◌≡◌, ◌≢◌, ◌<◌, ℕ, Bool, true, false, cond, ◌⊎◌, inl, inr, Some, None, List, map, nat_eq, slice_index_or, refl, sym, ◌∙◌, ap, subst, ⊎_elim, eqb-true, arith}
+use Rattle.std.specs.List.{range_with_len}
+use Rattle.std.proofs.lemmas.List.FromFn.{get_or-map-range_with_len}
 use Rattle.std.specs.Prelude.{◌||◌, ◌==◌}
 use Rattle.std.proofs.lemmas.Bool.{or_cases, true≢false}
 use Rattle.mdl_text.specs.Bytes.{is_blank, is_name_byte}
@@ -99,3 +101,18 @@ newline_no_opening e = omega (arith, e)
 
 pub newline_no_closing : ◌≢◌ {A = ℕ} 10 93
 newline_no_closing e = omega (arith, e)
+
+-- how a table of bytes marks one that may stand in a name
+abbrev pub name_mark : ℕ → ℕ
+name_mark b = cond (is_name_byte b) 110 45
+
+-- a table that marks each byte tells of each whether it may stand in a name
+pub marked : (table : List ℕ) (b : ℕ) → table ≡ map name_mark (range_with_len 0 256) → b < 256 → nat_eq (slice_index_or table b 0) 110 ≡ is_name_byte b
+marked table b is_table below =
+    ap (λ t. nat_eq (slice_index_or t b 0) 110) is_table
+    ∙ ap (λ mark. nat_eq mark 110) (get_or-map-range_with_len name_mark 0 256 b b 0 below (omega arith))
+    ∙ told (is_name_byte b)
+  where
+    told : (t : Bool) → nat_eq (cond t 110 45) 110 ≡ t
+    told true = refl
+    told false = refl

@@ -1,10 +1,9 @@
 -- Runs of bytes that stand for themselves in a string.
-use Rattle.std.proofs.Common.{◌≡◌, ℕ, ◌+◌, true, false, cond, not, List, [], ◌∷◌, ◌++◌, take, drop, Option, Some, refl, sym, ◌∙◌, ap, append_assoc, append-nil, one-add}
+use Rattle.std.proofs.Common.{◌≡◌, ℕ, ◌+◌, true, false, cond, List, [], ◌∷◌, ◌++◌, take, drop, Some, refl, sym, ◌∙◌, ap, append_assoc, append-nil, one-add}
 use Rattle.std.specs.List.{list_all, prefix_len}
-use Rattle.mdl_text.specs.declared.strings.Place.{Place}
 use Rattle.mdl_text.specs.declared.strings.Place.TheVariants.{Outside, Inside}
 use Rattle.mdl_text.specs.Bytes.{is_blank, is_plain}
-use Rattle.mdl_text.specs.Plain.{string_step, strings, strings_from}
+use Rattle.mdl_text.specs.Plain.{strings, strings_from}
 use Rattle.mdl_text.proofs.Quotes.{open_step, plain_step, close_step, outside_blanks, after_step}
 
 -- a run is read as what it is

@@ -11,16 +11,23 @@ pub fn is_blank(byte: u8) -> bool
     byte == b' ' || byte == b'\t' || byte == b'\r'
 }
 
+/// Of each byte, whether it may stand in a name: `n` where it may.
+const NAME_BYTES: &[u8; 256] = b"\
+    --------------------------------\
+    ----n---------n-nnnnnnnnnn------\
+    -nnnnnnnnnnnnnnnnnnnnnnnnnn----n\
+    -nnnnnnnnnnnnnnnnnnnnnnnnnn-----\
+    --------------------------------\
+    --------------------------------\
+    --------------------------------\
+    --------------------------------";
+
 /// Whether a byte may stand in a name.
 #[tactic(auto, unfolding(crate::specs::Bytes::is_name_byte))]
 fn is_name_byte(byte: u8) -> bool
     ensures { result ≡ is_name_byte byte }
 {
-    byte.is_ascii_alphabetic()
-        || byte.is_ascii_digit()
-        || byte == b'_'
-        || byte == b'.'
-        || byte == b'$'
+    NAME_BYTES[usize::from(byte)] == b'n'
 }
 
 /// Whether all are blanks.
