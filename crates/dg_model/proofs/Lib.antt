@@ -2,12 +2,14 @@ mod Carried
 mod Columns
 mod DelayOfThree
 mod Elements
+mod Enabled
 mod EnabledAccumulator
 mod EnabledOutput
 mod Examples
 mod FastToSlow
 mod GainTypes
 mod Late
+mod Listed
 mod Numbers
 mod ParamTypes
 mod PeriodRounds
