@@ -1,5 +1,5 @@
 -- An order that grows by one net.
-use Rattle.std.proofs.Common.{◌≡◌, ◌≢◌, ℕ, zero, suc, ◌+◌, ◌<◌, ◌≤◌, ◌⊎◌, inl, inr, List, [], ◌∷◌, ◌++◌, length, Option, None, Some, slice_get, slice_index, slice_index_or, get_or, set, All, ap, sym, ◌∙◌, subst, arith, refl, length-append, length-set}
+use Rattle.std.proofs.Common.{◌≡◌, ◌≢◌, ℕ, zero, suc, ◌+◌, ◌<◌, ◌≤◌, ◌⊎◌, inl, inr, List, [], ◌∷◌, ◌++◌, length, Option, None, Some, IsSome, true, false, slice_get, slice_index, slice_index_or, get_or, set, All, ap, sym, ◌∙◌, subst, arith, refl, length-append, length-set}
 use Rattle.std.proofs.lemmas.Bool.{cases_lt, cases_eq}
 use Rattle.std.proofs.lemmas.List.Elements.{All-cons, All-tail}
 use Rattle.std.proofs.lemmas.List.{get_or-set_same, get_or-set_other, get_or_append_left}
@@ -227,6 +227,20 @@ module _ (nets : List Net) (order : List ℕ) (ranks : List (Option ℕ)) (growi
     };
   }
 
+-- where all nets have places, none reaches itself in a clock
+pub all-ranked : (nets : List Net) (order : List ℕ) (ranks : List (Option ℕ)) → IsGrowing nets order ranks → All IsSome ranks → (rank : ℕ → ℕ) × IsRanked nets rank
+all-ranked nets order ranks growing all = (λ k. rank_or (place_of ranks k), record {
+  falls = λ k net is n d within.
+      let inside : k < length ranks = omega (arith, growing.size, slice_get_within nets k net is) in
+      let own : IsPlaced ranks k = some-place (place_of ranks k) refl (all k None inside) in
+      let one = growing.after k own.rank net is own.is n d within in
+      rw (ap rank_or one.1, ap rank_or own.is) one.2;
+})
+  where
+    some-place : {k : ℕ} (found : Option ℕ) → place_of ranks k ≡ found → IsSome found → IsPlaced ranks k
+    some-place None e some = absurd (let f : false ≡ true = some in cc)
+    some-place (Some rank) e some = record { rank = rank; is = e }
+
 pub serves-on : (nets : List Net) (before now after : List (Option ℕ)) (k : ℕ) → Keeps before now → Serves nets now after k → Serves nets before after k
 serves-on nets before now after k keeps serves = record { placed = λ net there reads. serves.placed net there (λ n d within. still-placed before now (slice_index_or (reads_now net.kind) n d) keeps (reads n d within)) }
 
@@ -245,3 +259,6 @@ now-there bound (EnReg frame enable reset first from) all = λ k d h. absurd (om
 now-there bound (Bridge frame live from) all = all
 now-there bound (Unit left right) all = all
 now-there bound (Counter frame) all = λ k d h. absurd (omega arith)
+
+pub all-now-there : (nets : List Net) → All (λ net. All (λ read. read < length nets) (reads net.kind)) nets → All (λ net. All (λ read. read < length nets) (reads_now net.kind)) nets
+all-now-there nets there k d within = now-there (length nets) (slice_index_or nets k d).kind (there k d within)

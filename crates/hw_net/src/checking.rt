@@ -9,6 +9,7 @@ ghost use Rattle.hw_net.specs.Netlist.{IsNetlist, IsKind, HasWord, HasBits, HasP
 
 use crate::circuit::Netlist;
 use crate::netlist::{Frame, Net, NetKind, NetOp, NetPort};
+use crate::order::is_ranked;
 use crate::timing::first_count;
 use fx_io::OutOfMemory;
 use fx_num::{fits, highest, is_word, lowest};
@@ -272,4 +273,22 @@ fn are_outputs(nets: &[Net], outputs: &[NetPort]) -> bool
     ensures { result ≡ true → All (λ port. port.net < length nets.now) outputs.now }
 {
     outputs.iter().all(|port| (port.net as usize) < nets.len())
+}
+
+/// Whether a netlist can be run: all that its nets name is there, words hold what can come, and no net
+/// reaches itself in a clock. It takes time in the nets and what they read.
+pub fn is_netlist(alloc: Global, net: &Netlist) -> Result<bool, OutOfMemory>
+    ensures { IfOk result (λ is. is ≡ true → IsNetlist net.now) }
+{
+    let nets = net.nets();
+    if net.cycles() == 0 || !are_words(nets) || !are_there(nets) {
+        return Ok(false);
+    }
+    if !are_kinds(nets, net.cycles(), net.inputs().len()) {
+        return Ok(false);
+    }
+    if !are_inputs(nets, net.inputs()) || !are_outputs(nets, net.outputs()) {
+        return Ok(false);
+    }
+    is_ranked(alloc, nets)
 }

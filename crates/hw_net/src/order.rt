@@ -1,6 +1,6 @@
 //! An order in which each net stands after those that it reads in the same clock.
-ghost use Rattle.std.specs.Prelude.{◌≡◌, ◌+◌, ◌<◌, ◌∷◌, [], ◌++◌, length, slice_set, slice_index_or, OnOk, IfOk, All, true, false, Option, Some, None, ℕ};
-ghost use Rattle.hw_net.specs.Netlist.{IsNetlist, reads_now};
+ghost use Rattle.std.specs.Prelude.{◌≡◌, ◌+◌, ◌<◌, ◌∷◌, [], ◌++◌, length, slice_set, slice_index_or, OnOk, IfOk, All, true, false, Option, Some, None, IsSome, ℕ};
+ghost use Rattle.hw_net.specs.Netlist.{IsNetlist, IsRanked, reads, reads_now};
 ghost use Rattle.hw_net.specs.State.{IsOrder};
 ghost use Rattle.hw_net.specs.inner.Ordering.{IsPlaced, IsGrowing, Keeps, Serves, Grows, IsReader, IsLinked, IsLonger, IsClosed, place_of};
 
@@ -206,21 +206,21 @@ fn spread(
     Err(OutOfMemory)
 }
 
-/// The order, with the room for it.
+/// The nets in an order in which each stands after those that it reads in the same clock, as far as
+/// there is one, and the places of the nets in it.
 fn ordered(
     alloc: Global,
-    net: &Netlist,
+    nets: &[Net],
     readers: &mut [Sizes],
     ranks: &mut [Option<u32>],
 ) -> Result<Vec<u32>, OutOfMemory>
-    requires netlist { IsNetlist net.now }
-    requires there { All (λ one. All (λ read. read < length net.now.nets) (reads_now one.kind)) net.now.nets }
-    requires readers { length readers.old ≡ length net.now.nets }
-    requires ranks { length ranks.old ≡ length net.now.nets }
+    requires there { All (λ one. All (λ read. read < length nets.now) (reads_now one.kind)) nets.now }
+    requires readers { length readers.old ≡ length nets.now }
+    requires ranks { length ranks.old ≡ length nets.now }
     requires fresh { (k : ℕ) → place_of ranks.old k ≡ None }
-    ensures { IfOk result (λ order. IsOrder net.now.nets order.items) }
+    ensures growing { IfOk result (λ order. IsGrowing nets.now order.items ranks.new) }
+    ensures closed { IfOk result (λ order. IsClosed nets.now ranks.new (length order.items) (length nets.now)) }
 {
-    let nets = net.nets();
     link_nets(readers, nets)?;
     let mut order: Vec<u32> = Vec::new(alloc);
     begin(nets, &mut order, ranks)?;
@@ -233,8 +233,42 @@ pub fn order_of(alloc: Global, net: &Netlist) -> Result<Vec<u32>, OutOfMemory>
     requires { IsNetlist net.now }
     ensures { IfOk result (λ order. IsOrder net.now.nets order.items) }
 {
-    let count = net.nets().len();
-    let mut readers = empty_lists(alloc, count)?;
-    let mut ranks: Vec<Option<u32>> = vec![in alloc; None; count]?;
-    ordered(alloc, net, readers.as_mut_slice(), ranks.as_mut_slice())
+    let nets = net.nets();
+    let mut readers = empty_lists(alloc, nets.len())?;
+    let mut ranks: Vec<Option<u32>> = vec![in alloc; None; nets.len()]?;
+    ordered(alloc, nets, readers.as_mut_slice(), ranks.as_mut_slice())
+}
+
+/// Whether all places are there.
+fn are_some(ranks: &[Option<u32>]) -> bool
+    ensures { result ≡ true → All IsSome ranks.now }
+{
+    ranks.iter().all(|rank| rank.is_some())
+}
+
+/// Whether all nets get places.
+fn are_ordered(
+    alloc: Global,
+    nets: &[Net],
+    readers: &mut [Sizes],
+    ranks: &mut [Option<u32>],
+) -> Result<bool, OutOfMemory>
+    requires there { All (λ one. All (λ read. read < length nets.now) (reads_now one.kind)) nets.now }
+    requires readers { length readers.old ≡ length nets.now }
+    requires ranks { length ranks.old ≡ length nets.now }
+    requires fresh { (k : ℕ) → place_of ranks.old k ≡ None }
+    ensures { IfOk result (λ is. is ≡ true → (rank : ℕ → ℕ) × IsRanked nets.now rank) }
+{
+    let _order = ordered(alloc, nets, readers, ranks)?;
+    Ok(are_some(ranks))
+}
+
+/// Whether no net reaches itself in one clock.
+pub fn is_ranked(alloc: Global, nets: &[Net]) -> Result<bool, OutOfMemory>
+    requires { All (λ one. All (λ read. read < length nets.now) (reads one.kind)) nets.now }
+    ensures { IfOk result (λ is. is ≡ true → (rank : ℕ → ℕ) × IsRanked nets.now rank) }
+{
+    let mut readers = empty_lists(alloc, nets.len())?;
+    let mut ranks: Vec<Option<u32>> = vec![in alloc; None; nets.len()]?;
+    are_ordered(alloc, nets, readers.as_mut_slice(), ranks.as_mut_slice())
 }
