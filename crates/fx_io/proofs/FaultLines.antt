@@ -1,4 +1,4 @@
--- Facts about lines, and that bytes stop being the beginning of a text at one line only.
+-- Facts about lines, and that bytes stop being the beginning of a text at one line only. Crates above may cite them.
 use Rattle.std.proofs.Common.{◌≡◌, ℕ, ◌+◌, true, false, cond, not, List, [], ◌∷◌, ◌++◌, ◌⊎◌, inl, inr, count_by, refl, sym, ◌∙◌, ap, subst, append_assoc, append-nil}
 use Rattle.std.specs.Prelude.{◌==◌}
 use Rattle.std.specs.List.{list_all}

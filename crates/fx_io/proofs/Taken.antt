@@ -1,4 +1,4 @@
--- What a sink took in two steps is what it took in one.
+-- What a sink took in two steps is what it took in one. Crates above may cite it.
 use Rattle.std.proofs.Common.{◌≡◌, ℕ, ◌+◌, ◌-◌, List, ◌++◌, length, take, drop, Option, None, Some, refl, ap, subst, append_assoc, ◌∙◌, sym, length-drop}
 use Rattle.std.proofs.Math.Seq.{take-add, take-length}
 use Rattle.fx_io.specs.Sink.{also_took}

@@ -19,7 +19,8 @@ AreWholeLines bytes = (bytes ≡ []) ⊎ ((front : List ℕ) × (bytes ≡ front
 abbrev pub Stops : (List ℕ → Type 0) → List ℕ → List ℕ → Type 0
 Stops IsText before after =
     IsOneLine after
-    ⊎ ((line more : List ℕ) × IsOneLine line × (after ≡ line ++ 10 ∷ more) × (IsPrefix IsText (before ++ (line ++ 10 ∷ [])) → ⊥))
+    ⊎ ((line more : List ℕ) × IsOneLine line × (after ≡ line ++ 10 ∷ more)
+    × (IsPrefix IsText (before ++ (line ++ 10 ∷ [])) → ⊥))
 
 -- The line at which the bytes stop being the beginning of a text, counted from 1: those before it are one, and it is the
 -- last line, or those up to it, each with its newline, are none.

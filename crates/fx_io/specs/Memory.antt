@@ -17,7 +17,8 @@ pub record ShelfState : Type 0 where
 
 -- the bytes under a name: those that were added last
 abbrev pub held_under : List HeldFile → List ℕ → Option (List ℕ)
-held_under files name = option_map (λ file. file.bytes) (find (λ file. bytes_eq file.name name) files)
+held_under files name =
+    option_map (λ file. file.bytes) (find (λ file. bytes_eq file.name name) files)
 
 -- what a shelf in memory tells of a name: it always tells
 abbrev pub told_of : ShelfState → List ℕ → Told
@@ -27,7 +28,8 @@ told_of shelf name = Some (held_under shelf.files name)
 abbrev pub IsSteady : ShelfState → Type 0
 IsSteady shelf = All (λ number. number ≤ shelf.fetches) shelf.failing
 
--- the number of the next fetch is listed as failing; the count stands still at the end of 64 bits, and then none is
+-- the number of the next fetch is listed as failing; the count stands still at the end of 64 bits,
+-- and then none is
 abbrev pub FailsByNumber : ShelfState → Type 0
 FailsByNumber shelf = (shelf.fetches < 2 ^ 64 - 1) × Contains shelf.failing (shelf.fetches + 1)
 

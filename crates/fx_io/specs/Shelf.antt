@@ -15,10 +15,13 @@ pub record Fetched (told : Told) (limit : ℕ) (bytes : List ℕ) : Type 0 where
 -- the file is longer than the limit, and the length is its own, where that is told
 pub record IsOverlong (told : Told) (limit reported : ℕ) : Type 0 where
   pub above : limit < reported
-  pub held : (entry : Option (List ℕ)) → told ≡ Some entry → (bytes : List ℕ) × ((entry ≡ Some bytes) × (length bytes ≡ reported))
+  pub held : (entry : Option (List ℕ)) → told ≡ Some entry →
+      (bytes : List ℕ) × ((entry ≡ Some bytes) × (length bytes ≡ reported))
 
--- what a steady shelf answers: a fault exactly where it holds nothing, a refusal exactly where what it holds is too long
+-- what a steady shelf answers: a fault exactly where it holds nothing, a refusal exactly where what
+-- it holds is too long
 pub record AnswersSteadily (told : Told) (limit : ℕ) (result : Result (List ℕ) FetchFault) : Type 0 where
   pub tells : (entry : Option (List ℕ)) × (told ≡ Some entry)
   pub failed : (result ≡ Err Failed) ↔ (told ≡ Some None)
-  pub too_long : ((reported : ℕ) × (result ≡ Err (TooLong reported))) ↔ ((bytes : List ℕ) × ((told ≡ Some (Some bytes)) × (limit < length bytes)))
+  pub too_long : ((reported : ℕ) × (result ≡ Err (TooLong reported)))
+      ↔ ((bytes : List ℕ) × ((told ≡ Some (Some bytes)) × (limit < length bytes)))

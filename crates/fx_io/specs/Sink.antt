@@ -8,7 +8,8 @@ also_took told bytes = option_map (λ earlier. earlier ++ bytes) told
 
 -- some of the bytes were taken, from the first on, and not all
 abbrev pub TookProperPrefix : Option (List ℕ) → Option (List ℕ) → List ℕ → Type 0
-TookProperPrefix before now bytes = (count : ℕ) × ((count < length bytes) × (now ≡ also_took before (take count bytes)))
+TookProperPrefix before now bytes =
+    (count : ℕ) × ((count < length bytes) × (now ≡ also_took before (take count bytes)))
 
 -- what a sink tells that doesn't tell what it took
 abbrev pub untold : Option (List ℕ)

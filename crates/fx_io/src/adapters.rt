@@ -68,9 +68,9 @@ fn read_file<R: Files>(files: &R, alloc: Global, name: &str, limit: u64) -> io::
     Ok(bytes)
 }
 
-/// A stream of the system (own). The sink tells nothing of what it took, since a writer may begin to
-/// tell at any write, and counts the writes that failed or took nothing. What the writer tells is
-/// that it took what `put` says.
+/// A stream of the system (own). The sink tells nothing of what it took, since a writer may begin
+/// to tell at any write, and counts the writes that failed or took nothing. A writer that tells
+/// what it holds took as much as `put` says.
 #[derive(Drop)]
 pub struct StreamSink<W: Write + Drop> {
     /// Where the bytes go.
@@ -123,8 +123,7 @@ impl<W: Write + Drop> Sink for StreamSink<W> {
             IsOk result × (untold ≡ untold) × (self.new.faults ≡ self.old.faults) }
         ensures later { self.old.faults ≤ self.new.faults }
 
-        ensures writes { WriteAppends (W.contents self.old.writer) (W.contents self.new.writer) result
-            bytes.now }
+        ensures writes { WriteAppends (W.contents self.old.writer) (W.contents self.new.writer) result bytes.now }
     {
         if bytes.is_empty() {
             return Ok(0);

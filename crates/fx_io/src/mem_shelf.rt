@@ -40,7 +40,13 @@ impl Model for MemShelf {
 impl MemShelf {
     /// An empty shelf. `failing` has the numbers of the fetches that fail, counted from 1.
     pub fn new(alloc: Global, failing: &[u64]) -> Result<MemShelf, OutOfMemory>
-        ensures { IfOk result (λ shelf. shelf ≡ record { files = []; failing = failing.now; fetches = 0; faults = 0; overlong = 0 }) }
+        ensures { IfOk result (λ shelf. shelf ≡ record {
+          files = [];
+          failing = failing.now;
+          fetches = 0;
+          faults = 0;
+          overlong = 0;
+        }) }
     {
         Ok(MemShelf {
             files: VecDeque::new(alloc),
@@ -54,7 +60,9 @@ impl MemShelf {
     /// Puts bytes under a name, in place of any that it held. Where memory is wanting the shelf
     /// stays as it was.
     pub fn add(&mut self, name: &str, bytes: &[u8]) -> Result<(), OutOfMemory>
-        ensures added { OnOk result (self.new ≡ record self.old { files = record { name = name.now; bytes = bytes.now } ∷ self.old.files }) }
+        ensures added { OnOk result (self.new ≡ record self.old {
+          files = record { name = name.now; bytes = bytes.now } ∷ self.old.files;
+        }) }
         ensures kept { OnErr result (self.new ≡ self.old) }
     {
         let alloc = *self.failing.allocator();
@@ -83,13 +91,15 @@ impl Shelf for MemShelf {
     fn fetch(&mut self, alloc: Global, name: &str, limit: u64) -> Result<Text, FetchFault>
         ensures found { IfOk result (λ bytes. Fetched (told_of self.old name.now) limit bytes) }
         ensures failed { IsErrOf result FetchFault.Failed → Rose self.old.faults self.new.faults }
-        ensures faultless { (IsErrOf result FetchFault.Failed → ⊥) → self.new.faults ≡ self.old.faults }
+        ensures faultless { (IsErrOf result FetchFault.Failed → ⊥) →
+            self.new.faults ≡ self.old.faults }
         ensures too_long { (reported : ℕ) → result ≡ Err (FetchFault.TooLong reported) →
             IsOverlong (told_of self.old name.now) limit reported }
         ensures too_long_cause { (reported : ℕ) → result ≡ Err (FetchFault.TooLong reported) →
             Rose self.old.overlong self.new.overlong }
         ensures none_too_long { OnOk result (self.new.overlong ≡ self.old.overlong) }
-        ensures steadily { IsSteady self.old → AnswersSteadily (told_of self.old name.now) limit result }
+        ensures steadily { IsSteady self.old →
+            AnswersSteadily (told_of self.old name.now) limit result }
         ensures stays_steady { IsSteady self.old → IsSteady self.new }
         ensures kept { told_of self.new ≡ told_of self.old }
         ensures later { self.old.faults ≤ self.new.faults }

@@ -36,7 +36,8 @@ impl Model for MemSink {
       faults = sink.faults;
     } };
 
-    ghost invariant = { λ sink. (0 < sink.piece) × (vec_len sink.taken ≤ sink.room) × (sink.room ≤ vec_capacity sink.taken) };
+    ghost invariant = { λ sink. (0 < sink.piece) × (vec_len sink.taken ≤ sink.room)
+        × (sink.room ≤ vec_capacity sink.taken) };
 }
 
 /// Why a sink in memory was not made (own).
@@ -70,7 +71,14 @@ impl MemSink {
         piece: usize,
         room: usize,
     ) -> Result<MemSink, PutSetup>
-        ensures made { IfOk result (λ sink. sink ≡ record { taken = []; failing = failing.now; piece = piece; room = room; puts = 0; faults = 0 }) }
+        ensures made { IfOk result (λ sink. sink ≡ record {
+          taken = [];
+          failing = failing.now;
+          piece = piece;
+          room = room;
+          puts = 0;
+          faults = 0;
+        }) }
         ensures refused { IsErrOf result PutSetup.Piece ↔ (piece ≡ 0) }
     {
         if piece == 0 {
@@ -132,7 +140,8 @@ impl Sink for MemSink {
         ensures counts { 0 < length bytes.now → self.new.puts ≡ counted self.old.puts }
         ensures fault_counts { OnErr result (self.new.faults ≡ counted self.old.faults) }
         ensures no_fault_counts { OnOk result (self.new.faults ≡ self.old.faults) }
-        ensures bounds { (self.new.failing ≡ self.old.failing) × (self.new.piece ≡ self.old.piece) × (self.new.room ≡ self.old.room) }
+        ensures bounds { (self.new.failing ≡ self.old.failing)
+            × (self.new.piece ≡ self.old.piece) × (self.new.room ≡ self.old.room) }
     {
         if bytes.is_empty() {
             return Ok(0);

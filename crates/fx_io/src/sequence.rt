@@ -76,7 +76,8 @@ impl<E> Sequence<E> {
     /// The items, to be changed in place. When the loan ends, the list is what the slice then holds:
     /// a slice keeps its length, so none of the old items is left.
     pub fn as_mut_slice(&mut self) -> &mut [E]
-        ensures* writes_back { sem 𝓛 (Lends (the_row E.row) (Array E.row 0) self.entry result (λ items. refill (length self.old) self.old items)) }
+        ensures* writes_back { sem 𝓛 (Lends (the_row E.row) (Array E.row 0) self.entry result
+            (λ items. refill (length self.old) self.old items)) }
         ensures value { result.now ≡ self.old }
     {
         self.items.as_mut_slice()

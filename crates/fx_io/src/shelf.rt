@@ -58,8 +58,10 @@ pub trait Shelf {
     /// The file under a name, whole, of at most `limit` bytes. What is held stays.
     fn fetch(&mut self, alloc: Global, name: &str, limit: u64) -> Result<Text, FetchFault>
         ensures found { IfOk result (λ bytes. Fetched (held self.old name.now) limit bytes) }
-        ensures failed { IsErrOf result FetchFault.Failed → Rose (faults self.old) (faults self.new) }
-        ensures faultless { (IsErrOf result FetchFault.Failed → ⊥) → faults self.new ≡ faults self.old }
+        ensures failed { IsErrOf result FetchFault.Failed →
+            Rose (faults self.old) (faults self.new) }
+        ensures faultless { (IsErrOf result FetchFault.Failed → ⊥) →
+            faults self.new ≡ faults self.old }
         ensures too_long { (reported : ℕ) → result ≡ Err (FetchFault.TooLong reported) →
             IsOverlong (held self.old name.now) limit reported }
         ensures too_long_cause { (reported : ℕ) → result ≡ Err (FetchFault.TooLong reported) →

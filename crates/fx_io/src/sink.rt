@@ -9,7 +9,8 @@ use thiserror::Error;
 pub trait Sink {
     /// The bytes taken so far, where the sink tells that.
     ghost taken: { Self → Option (List ℕ) };
-    /// How often a put failed, or took nothing of a piece that was not empty. The count never falls.
+    /// How often a put failed, or took nothing of a piece that was not empty. The count never
+    /// falls.
     ghost faults: { Self → ℕ };
     /// How often a put took nothing of a piece that was not empty.
     ghost stalls: { Self → ℕ };
@@ -50,7 +51,8 @@ pub fn put_all<K: Sink>(sink: &mut K, bytes: &[u8]) -> Result<(), PutFault>
     ensures whole { OnOk result (K.taken sink.new ≡ also_took (K.taken sink.old) bytes.now) }
     ensures cut { OnErr result (TookProperPrefix (K.taken sink.old) (K.taken sink.new) bytes.now) }
     ensures cause { OnErr result (Rose (K.faults sink.old) (K.faults sink.new)) }
-    ensures stalled { IsErrOf result PutFault.TookNothing → Rose (K.stalls sink.old) (K.stalls sink.new) }
+    ensures stalled { IsErrOf result PutFault.TookNothing →
+        Rose (K.stalls sink.old) (K.stalls sink.new) }
     ensures failed { IsErrOf result PutFault.Failed → K.stalls sink.new ≡ K.stalls sink.old }
     ensures faultless { OnOk result (K.faults sink.new ≡ K.faults sink.old) }
     ensures later { K.faults sink.old ≤ K.faults sink.new }
