@@ -1,2 +1,3 @@
 pub mod Arithmetic
-mod Words
+pub mod Shifted
+pub mod Words

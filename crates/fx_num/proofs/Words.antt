@@ -1,6 +1,6 @@
--- Numbers of words.
-use Rattle.std.proofs.Common.{◌≡◌, ℕ, suc, ◌+◌, ◌-◌, ◌*◌, ◌/◌, ◌%◌, ◌^◌, ◌<◌, ◌≤◌, true, false, ℤ, pos, negsuc, ◌+ℤ◌, ◌*ℤ◌, ap, sym, ◌∙◌, arith, mul_comm, pow_pos, pow_mono, to_z, of_z, zero, Bool, neg_ℤ, bit_and, div-add-mod', FitsSigned, refl, ◌≢◌}
-use Rattle.std.proofs.lemmas.Nat.{and_mask, pow-add, one_shl, pow_below, shr_high}
+-- Numbers of words. Crates above may cite this module.
+use Rattle.std.proofs.Common.{◌≡◌, ℕ, suc, ◌+◌, ◌-◌, ◌*◌, ◌/◌, ◌%◌, ◌^◌, ◌<◌, ◌≤◌, true, false, ℤ, pos, negsuc, ◌+ℤ◌, ◌*ℤ◌, ap, sym, ◌∙◌, arith, mul_comm, pow_pos, pow_mono, to_z, of_z, zero, Bool, neg_ℤ, bit_and, div-add-mod', FitsSigned, refl}
+use Rattle.std.proofs.lemmas.Nat.{and_mask, pow-add, shr_high}
 use Rattle.std.proofs.Math.Arith.{mul_pred}
 use Rattle.std.specs.Int.{w128}
 use Rattle.std.proofs.lemmas.Int.{to_z-of_z}
@@ -58,26 +58,15 @@ low_bits (negsuc n) w m h e f =
       equal = omega (arith, ints, p, q, div-add-mod' u (2 ^ w), add-scaled (pos (2 ^ (128 - w))) (neg_ℤ (pos (u / 2 ^ w))) (2 ^ w), scaled-neg (pos (u / 2 ^ w)) (2 ^ w), f.sfits);
     }
 
--- shifted up by 127 or more, only 0 and, by 127, -1 fit
-pub too_far : (v : ℤ) (by : ℕ) → 127 ≤ by → ¬ (v ≡ pos 0) → (v ≡ negsuc 0 → by ≢ 127) → ¬ FitsSigned w128 (v *ℤ pos (2 ^ by))
-too_far (pos zero) by h z n f = z refl
-too_far (pos (suc a)) by h z n f = let p : 2 ^ 127 ≤ 2 ^ by = pow_mono h in omega (arith, f.sfits)
-too_far (negsuc zero) by h z n f =
-    let q : 128 ≤ by = omega (arith, n refl) in
-    let p : 2 ^ 128 ≤ 2 ^ by = pow_mono q in
-    omega (arith, ints, f)
-too_far (negsuc (suc a)) by h z n f = let p : 2 ^ 127 ≤ 2 ^ by = pow_mono h in omega (arith, ints, f)
+-- shifted up by 128 or more, only 0 fits
+pub too_far : (v : ℤ) (by : ℕ) → 128 ≤ by → ¬ (v ≡ pos 0) → ¬ FitsSigned w128 (v *ℤ pos (2 ^ by))
+too_far (pos zero) by h z f = z refl
+too_far (pos (suc a)) by h z f = let p : 2 ^ 128 ≤ 2 ^ by = pow_mono h in omega (arith, f.sfits)
+too_far (negsuc a) by h z f = let p : 2 ^ 128 ≤ 2 ^ by = pow_mono h in omega (arith, ints, f)
 
 -- a mask below 128 bits is a number of 128 bits with a sign
 pub small_mask : (w m : ℕ) → w ≤ 127 → m + 1 ≡ 2 ^ w → (m < 2 ^ 127) × (m ≡ 2 ^ w - 1)
 small_mask w m h e = let p : 2 ^ w ≤ 2 ^ 127 = pow_mono h in omega arith
-
-pub shifted_one : (by : ℕ) → by < 127 → to_z w128 ((1 * 2 ^ by) % 2 ^ 128) ≡ pos (2 ^ by)
-shifted_one by h =
-    let k : by < 128 = omega arith in
-    let e : (1 * 2 ^ by) % 2 ^ 128 ≡ 2 ^ by = one_shl by 128 k in
-    let p : 2 ^ by < 2 ^ 127 = pow_below by 127 h in
-    ap (to_z w128) e ∙ omega (arith, ints)
 
 pub unsigned_word : (s : Bool) (w : ℕ) → s ≡ false → IsWord w s → w ≤ 127
 unsigned_word s w e h = (rw e at h).1

@@ -55,7 +55,12 @@ pub fn wrap(v: i128, width: u8, signed: bool) -> i128
     requires { IsWord width signed }
     ensures { IsWrapped v width signed result }
 {
-    from_bits(to_bits(v, width, signed), width, signed)
+    let spare = 128 - width;
+    if signed {
+        (v << spare) >> spare
+    } else {
+        ((v.cast_unsigned() << spare) >> spare) as i128
+    }
 }
 
 /// The greatest number of the word. Source: own.
@@ -94,12 +99,15 @@ pub fn fits(v: i128, width: u8, signed: bool) -> bool
 pub fn shift_up(v: i128, by: u32) -> Option<i128>
     ensures { SomeIff result (FitsSigned w128 (v *ℤ pos (2 ^ by))) (v *ℤ pos (2 ^ by)) }
 {
-    if by < 127 {
-        v.checked_mul(1 << by)
+    if by < 128 {
+        let shifted = v << by;
+        if shifted >> by == v {
+            Some(shifted)
+        } else {
+            None
+        }
     } else if v == 0 {
         Some(0)
-    } else if v == -1 && by == 127 {
-        Some(i128::MIN)
     } else {
         None
     }

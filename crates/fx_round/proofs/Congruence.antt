@@ -1,38 +1,17 @@
 -- Congruence of shifted numbers.
-use Rattle.std.proofs.Common.{◌≡◌, ℕ, suc, ◌+◌, ◌-◌, ◌*◌, ◌/◌, ◌%◌, ◌^◌, ◌<◌, ◌≤◌, Bool, true, false, ℤ, pos, negsuc, ◌+ℤ◌, ◌*ℤ◌, neg_ℤ, ap, sym, ◌∙◌, subst, arith, of_z, to_z, FitsSigned, div-add-mod', mod-lt, inl, inr}
+use Rattle.std.proofs.Common.{◌≡◌, ℕ, ◌+◌, ◌-◌, ◌*◌, ◌%◌, ◌^◌, ◌≤◌, Bool, true, false, ℤ, pos, ◌+ℤ◌, ◌*ℤ◌, neg_ℤ, ap, sym, ◌∙◌, subst, arith, of_z, to_z, FitsSigned}
 use Rattle.std.specs.Int.{w128}
-use Rattle.std.proofs.lemmas.Int.{ints, to_z-of_z}
+use Rattle.std.proofs.lemmas.Int.{ints}
 use Rattle.std.proofs.lemmas.Nat.{pow-add}
-use Rattle.std.proofs.lemmas.Bool.{cases_lt}
 use Rattle.fx_num.specs.Word.{InWord, IsCongruent, IsWrapped}
-use Rattle.fx_num.proofs.Arithmetic.{scaled-neg, mul-scaled, IsCongruent-trans, IsCongruent-times, IsCongruent-part}
+use Rattle.fx_num.proofs.Arithmetic.{scaled-neg, mul-scaled, IsCongruent-trans, IsCongruent-part}
+use Rattle.fx_num.proofs.Shifted.{shl_congruent}
 use Rattle.fx_round.proofs.Shifts.{whole_turns}
-
-remainder_congruent : (a m : ℕ) → IsCongruent (pos (a % m)) (pos a) m
-remainder_congruent a m = record { turns = neg_ℤ (pos (a / m)); equal = omega (arith, ints, scaled-neg (pos (a / m)) m, div-add-mod' a m) }
-
-read_congruent : (n : ℕ) → n < 340282366920938463463374607431768211456 → IsCongruent (to_z w128 n) (pos n) 340282366920938463463374607431768211456
-read_congruent n h = elim (cases_lt n 170141183460469231731687303715884105728) [
-  | inl l ↦ record { turns = pos 0; equal = omega (arith, ints) }
-  | inr g ↦ (let k = 340282366920938463463374607431768211456 - suc n in
-      let f : FitsSigned w128 (negsuc k) = omega (arith, ints) in
-      let b : n ≡ 340282366920938463463374607431768211456 - suc k = omega arith in
-      let e : to_z w128 n ≡ negsuc k = ap (to_z w128) b ∙ to_z-of_z w128 (negsuc k) f in
-      record { turns = negsuc 0; equal = e ∙ omega (arith, ints) })
-]
-
-bits_congruent : (v : ℤ) → FitsSigned w128 v → IsCongruent (pos (of_z w128 v)) v 340282366920938463463374607431768211456
-bits_congruent (pos n) f = record { turns = pos 0; equal = omega (arith, ints) }
-bits_congruent (negsuc n) f = record { turns = pos 1; equal = omega (arith, ints, f.sfits) }
 
 pub shift_congruent : (v : ℤ) (by w : ℕ) → w ≤ 128 → FitsSigned w128 v → IsCongruent (to_z w128 ((of_z w128 v * 2 ^ by) % 340282366920938463463374607431768211456)) (v *ℤ pos (2 ^ by)) (2 ^ w)
 shift_congruent v by w h f =
-    let m : ℕ = 340282366920938463463374607431768211456 in
-    let a = of_z w128 v * 2 ^ by in
-    let r : a % m < m = mod-lt a (omega arith) in
-    let whole : IsCongruent (to_z w128 (a % m)) (v *ℤ pos (2 ^ by)) m =
-    IsCongruent-trans m (read_congruent (a % m) r) (IsCongruent-trans m (remainder_congruent a m) (IsCongruent-times m (2 ^ by) (bits_congruent v f))) in
-    IsCongruent-part (2 ^ (128 - w)) (2 ^ w) (subst (λ (k : ℕ). IsCongruent (to_z w128 (a % m)) (v *ℤ pos (2 ^ by)) k) (sym (whole_turns w h)) whole)
+    let shifted = to_z w128 ((of_z w128 v * 2 ^ by) % 340282366920938463463374607431768211456) in
+    IsCongruent-part (2 ^ (128 - w)) (2 ^ w) (subst (λ (k : ℕ). IsCongruent shifted (v *ℤ pos (2 ^ by)) k) (sym (whole_turns w h)) (shl_congruent w128 v by f))
 
 zero_congruent : (v : ℤ) (by w : ℕ) → w ≤ by → IsCongruent (pos 0) (v *ℤ pos (2 ^ by)) (2 ^ w)
 zero_congruent v by w h =

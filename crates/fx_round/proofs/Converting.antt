@@ -6,10 +6,8 @@ use Rattle.fx_num.specs.Word.{IsWord}
 use Rattle.fx_type.specs.declared.kind.FxType.{FxType}
 use Rattle.fx_type.specs.declared.kind.FxType.TheVariants.{Num, Logical}
 use Rattle.fx_type.specs.declared.rounding.Rounding.{Rounding}
-use Rattle.fx_type.specs.FxType.{IsType, is_signed, width_of, frac_of}
+use Rattle.fx_type.specs.FxType.{IsType, IsNumber, is_signed, width_of, frac_of}
 use Rattle.fx_type.specs.Conversion.{Rounds, Settles, StoresQuotient, Converts}
-use Rattle.fx_round.specs.declared.split.Part.{Part}
-use Rattle.fx_round.specs.Split.{IsSplit}
 use Rattle.fx_round.proofs.Rounding.{whole_rounds}
 
 pub type_word : (t : FxType) → IsType t → IsWord (width_of t) (is_signed t)
@@ -53,11 +51,12 @@ module _ (v : ℤ) (from : FxType) (s : Bool) (w : ℕ) (f : ℤ) (mode : Roundi
         settles = settled;
       })
 
-  pub converts_down : (floor : ℤ) (part : Part) (rr : ℤ) → by ≡ int_gap f (frac_of from) → int_gap (frac_of from) f ≡ 0 → IsSplit v (2 ^ by) floor part → ((n : ℤ) (d : ℕ) → IsSplit n d floor part → Rounds mode n d rr) → Settles (Num s w f) saturate rr r → Converts v from (Num s w f) mode saturate r
-  converts_down floor part rr down none split rounds settled =
+  pub converts_down : by ≡ int_gap f (frac_of from) → int_gap (frac_of from) f ≡ 0 → StoresQuotient v (2 ^ by) (Num s w f) mode saturate r → Converts v from (Num s w f) mode saturate r
+  converts_down down none stores =
       subst₂ (λ (a b : ℕ). StoresQuotient (v *ℤ pos (2 ^ a)) (2 ^ b) (Num s w f) mode saturate r) (sym none) down
-      (record {
-        rounded = rr;
-        rounds = subst (λ (z : ℤ). Rounds mode z (2 ^ by) rr) (sym (times_one v)) (rounds v (2 ^ by) split);
-        settles = settled;
-      })
+      (subst (λ (z : ℤ). StoresQuotient z (2 ^ by) (Num s w f) mode saturate r) (sym (times_one v)) stores)
+
+-- a number's type is told by its parts
+pub as_number : (to : FxType) → IsNumber to → (f : ℤ) × (to ≡ Num (is_signed to) (width_of to) f)
+as_number (Num s w f) n = (f, refl)
+as_number Logical n = absurd n

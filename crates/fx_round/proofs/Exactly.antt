@@ -14,7 +14,7 @@ use Rattle.fx_type.specs.Conversion.{IsEven, Rounds, Saturates, Settles, IsTruth
 use Rattle.fx_round.specs.declared.split.Part.{Part}
 use Rattle.fx_round.specs.declared.split.Part.TheVariants.{Whole, BelowHalf, Half, AboveHalf}
 use Rattle.fx_round.specs.Laws.{RoundingGivesOne, ConversionGivesOne, StoringGivesOne}
-use Rattle.fx_round.specs.Split.{IsPart, IsSplit, takes_upper}
+use Rattle.fx_round.specs.inner.Split.{IsPart, IsSplit, takes_upper}
 use Rattle.fx_round.proofs.Orders.{rounding_monotone, word_only, word_width}
 use Rattle.fx_round.proofs.Rounding.{rounds_upper, rounds_lower}
 use Rattle.fx_round.proofs.Sizes.{ten_positive}
@@ -51,7 +51,7 @@ truth_one v a b p q = by_lt_z v (pos 0)
     one n = p.one n ∙ sym (q.one n)
 
 -- ---- some, in range
-part_of : (d rest : ℕ) → rest < d → (part : Part) × IsPart d rest part
+pub part_of : (d rest : ℕ) → rest < d → (part : Part) × IsPart d rest part
 part_of d zero below = (Whole, refl)
 part_of d (suc rest) below = go (cases_lt (2 * suc rest) d) (cases_lt d (2 * suc rest))
   where

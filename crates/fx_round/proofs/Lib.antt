@@ -1,3 +1,4 @@
+mod Biased
 mod Congruence
 mod Converting
 mod Exactly

@@ -1,6 +1,6 @@
 -- The whole number that each mode takes, from the split of a number.
-use Rattle.std.proofs.Common.{◌≡◌, ℕ, ◌+◌, ◌*◌, ◌<◌, ◌≤◌, Bool, true, false, not, ℤ, pos, negsuc, ◌+ℤ◌, ◌*ℤ◌, ◌≤ℤ◌, ◌<ℤ◌, ap, sym, refl, arith, true≢false, int_div, int_rem, zero, suc, ◌%◌, ◌/◌, neg_ℤ, of_z, eqb, eqb-true}
-use Rattle.std.specs.Int.{w128}
+use Rattle.std.proofs.Common.{◌≡◌, ℕ, ◌+◌, ◌*◌, ◌<◌, ◌≤◌, Bool, true, false, not, ℤ, pos, negsuc, ◌+ℤ◌, ◌*ℤ◌, ◌≤ℤ◌, ◌<ℤ◌, ap, sym, refl, subst, arith, true≢false, int_div, int_rem, zero, suc, ◌%◌, ◌/◌, neg_ℤ, of_z, eqb, eqb-true}
+use Rattle.std.specs.Int.{w128, from_bool}
 use Rattle.std.proofs.lemmas.Int.{ints}
 use Rattle.fx_num.proofs.Arithmetic.{next-scaled, scaled-mono}
 use Rattle.fx_type.specs.declared.rounding.Rounding.{Rounding}
@@ -8,7 +8,7 @@ use Rattle.fx_type.specs.declared.rounding.Rounding.TheVariants.{Floor, Ceiling,
 use Rattle.fx_type.specs.Conversion.{IsEven, RoundsDown, RoundsUp, RoundsTiesUp, RoundsTiesDown, RoundsTiesEven, Rounds}
 use Rattle.fx_round.specs.declared.split.Part.{Part}
 use Rattle.fx_round.specs.declared.split.Part.TheVariants.{Whole, BelowHalf, Half, AboveHalf}
-use Rattle.fx_round.specs.Split.{IsPart, IsSplit, takes_upper}
+use Rattle.fx_round.specs.inner.Split.{IsPart, IsSplit, takes_upper}
 
 module _ (n : ℤ) (d : ℕ) (floor : ℤ) (rest : ℕ) (whole : n ≡ floor *ℤ pos d +ℤ pos rest) (below : rest < d) where
   negative_number : floor <ℤ pos 0 → n <ℤ pos 0
@@ -176,3 +176,13 @@ rounds_upper n d floor part mode s negative odd a b c e u = upper n d floor s.re
 
 pub rounds_lower : (n : ℤ) (d : ℕ) (floor : ℤ) (part : Part) (mode : Rounding) → IsSplit n d floor part → (negative odd : Bool) → (negative ≡ true → floor <ℤ pos 0) → (negative ≡ false → pos 0 ≤ℤ floor) → (odd ≡ true → IsEven (floor +ℤ pos 1)) → (odd ≡ false → IsEven floor) → takes_upper mode part negative odd ≡ false → Rounds mode n d floor
 rounds_lower n d floor part mode s negative odd a b c e u = lower n d floor s.rest s.whole s.below negative odd a b c e mode part s.is_part u
+
+-- the lower one, or the next
+pub rounds_next : (n : ℤ) (d : ℕ) (floor : ℤ) (part : Part) (mode : Rounding) → IsSplit n d floor part → (negative odd : Bool) → (negative ≡ true → floor <ℤ pos 0) → (negative ≡ false → pos 0 ≤ℤ floor) → (odd ≡ true → IsEven (floor +ℤ pos 1)) → (odd ≡ false → IsEven floor) → (next : Bool) → next ≡ takes_upper mode part negative odd → Rounds mode n d (floor +ℤ pos (from_bool next))
+rounds_next n d floor part mode s negative odd a b c e true u = rounds_upper n d floor part mode s negative odd a b c e (sym u)
+rounds_next n d floor part mode s negative odd a b c e false u =
+    let same : floor ≡ floor +ℤ pos 0 = omega (arith, ints) in subst (Rounds mode n d) same (rounds_lower n d floor part mode s negative odd a b c e (sym u))
+
+pub flag_small : (next : Bool) → from_bool next ≤ 1
+flag_small true = omega arith
+flag_small false = omega arith

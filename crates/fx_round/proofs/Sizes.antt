@@ -11,7 +11,7 @@ use Rattle.fx_type.specs.FxType.{IsType, lowest_of, highest_of}
 use Rattle.fx_type.specs.Conversion.{Saturates, StoresQuotient}
 use Rattle.fx_round.specs.declared.split.Part.{Part}
 use Rattle.fx_round.specs.declared.split.Part.TheVariants.{Whole, BelowHalf, Half, AboveHalf}
-use Rattle.fx_round.specs.Split.{IsPart, IsSplit, IsMagnitude}
+use Rattle.fx_round.specs.inner.Split.{IsPart, IsSplit, IsMagnitude}
 use Rattle.fx_num.proofs.Arithmetic.{add-scaled, scaled-neg}
 use Rattle.fx_round.proofs.Rounding.{ties_up_low, ties_up_high}
 

@@ -1,3 +1,3 @@
 pub mod DecimalText
 pub mod Laws
-pub mod Split
+pub mod inner

@@ -17,6 +17,7 @@
 mod conversion;
 mod decimal;
 mod laws;
+mod narrow;
 mod settle;
 mod split;
 mod stored;

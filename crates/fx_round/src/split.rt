@@ -1,7 +1,8 @@
 //! A number between two whole numbers, and which of them a rounding mode takes.
 ghost use Rattle.std.specs.Prelude.{◌≡◌, ℕ, ◌*◌, ◌^◌, ◌<◌, ◌≤◌, ◌-◌, ℤ, pos, ◌<ℤ◌};
 ghost use Rattle.fx_type.specs.Conversion.{Rounds};
-ghost use Rattle.fx_round.specs.Split.{IsPart, IsSplit, takes_upper};
+ghost use Rattle.fx_round.specs.declared.split.Part.{Part};
+ghost use Rattle.fx_round.specs.inner.Split.{IsPart, IsSplit, takes_upper as takes_upper_of};
 
 use fx_type::Rounding;
 
@@ -42,24 +43,42 @@ pub fn part_of(rest: u128, unit: u128) -> Part
     }
 }
 
-/// `v` over 2 to the power `by`.
-pub fn shifted_down(v: i128, by: u32) -> Split
+/// `v` over 2 to the power `by`, rounded by the mode.
+pub fn rounded_down(v: i128, by: u32, mode: Rounding) -> i128
     requires { 1 ≤ by }
-    ensures room { result.floor <ℤ pos (2 ^ 126) }
-    ensures split { IsSplit v (2 ^ by) result.floor result.part }
+    ensures { Rounds mode v (2 ^ by) result }
 {
     if by < 128 {
-        let rest = v.cast_unsigned() & ((1 << by) - 1);
-        Split {
-            floor: v >> by,
-            part: part_of(rest, 1 << by),
-        }
+        let half = 1 << (by - 1);
+        let rest = v.cast_unsigned() & (half + (half - 1));
+        let floor = v >> by;
+        let next = is_upper(mode, rest, half, floor < 0, floor % 2 != 0);
+        floor + i128::from(next)
     } else {
-        far_split(v, by)
+        rounded(far_split(v, by), mode)
     }
 }
 
-/// The same, where the power is above every number of 128 bits.
+/// Whether the mode takes the upper one of the whole numbers around a number that lies `rest` over
+/// twice `half` above the lower one.
+fn is_upper(mode: Rounding, rest: u128, half: u128, negative: bool, odd: bool) -> bool
+    requires some { 1 ≤ half }
+    requires room { half ≤ 2 ^ 126 }
+    requires below { rest < 2 * half }
+    ensures { (part : Part) → IsPart (2 * half) rest part → result ≡ takes_upper_of mode part negative odd }
+{
+    match mode {
+        Rounding::Floor => false,
+        Rounding::Ceiling => rest != 0,
+        Rounding::Zero => negative & (rest != 0),
+        Rounding::Nearest => rest >= half,
+        Rounding::Round => rest >= half + u128::from(negative),
+        Rounding::Convergent => rest + u128::from(odd) > half,
+    }
+}
+
+/// The lower whole number and the part of `v` over 2 to the power `by`, which is above every number
+/// of 128 bits.
 fn far_split(v: i128, by: u32) -> Split
     requires { 128 ≤ by }
     ensures room { result.floor <ℤ pos (2 ^ 126) }
@@ -90,7 +109,7 @@ fn far_split(v: i128, by: u32) -> Split
 
 /// Whether the mode takes the upper of the two whole numbers.
 fn takes_upper(mode: Rounding, part: Part, negative: bool, odd: bool) -> bool
-    ensures { result ≡ takes_upper mode part negative odd }
+    ensures { result ≡ takes_upper_of mode part negative odd }
 {
     match part {
         Part::Whole => false,

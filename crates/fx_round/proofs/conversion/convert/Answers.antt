@@ -3,8 +3,7 @@ use Rattle.std.specs.Int.{w16, w128}
 use Rattle.std.proofs.lemmas.Int.{ints, to_z-of_z}
 use Rattle.fx_type.specs.declared.kind.FxType.TheVariants.{Num}
 use Rattle.fx_type.specs.FxType.{IsType, frac_of}
-use Rattle.fx_type.specs.Conversion.{Settles}
-use Rattle.fx_round.specs.Split.{IsSplit}
+use Rattle.fx_type.specs.Conversion.{Settles, StoresQuotient}
 use Rattle.fx_round.proofs.Converting.{frac_bounds, gap_is, gap_none, converts_up, converts_down}
 use Rattle.fx_round.proofs.conversion.convert.Goals as goal
 
@@ -22,9 +21,9 @@ returns-then-up-ge0 c =
     let difference : x ≡ c.in-Num.frac -ℤ frac_of c.args.from = omega (arith, ints, to_type.1, to_type.2, from_frac, c.frac.ensures) in
     let order : frac_of c.args.from ≤ℤ c.in-Num.frac = omega (arith, ints, difference, c.if-up-ge0.true) in
     let v = to_z-of_z w128 c.args.v c.ranges.v in
-    let e = to_z-of_z w128 c.settle_up.result (record { sfits = c.settle_up.type_inv }) in
-    let settled : Settles (Num c.in-Num.signed c.in-Num.width c.in-Num.frac) c.args.saturate (c.args.v *ℤ pos (2 ^ nat_abs x)) c.settle_up.result = rw v at c.settle_up.ensures in
-    rw (c.in-Num.is, e) (converts_up c.args.v c.args.from c.in-Num.signed c.in-Num.width c.in-Num.frac c.args.mode c.args.saturate c.settle_up.result (nat_abs x)
+    let e = to_z-of_z w128 c.raised.result (record { sfits = c.raised.type_inv }) in
+    let settled : Settles (Num c.in-Num.signed c.in-Num.width c.in-Num.frac) c.args.saturate (c.args.v *ℤ pos (2 ^ nat_abs x)) c.raised.result = rw v at c.raised.ensures in
+    rw (c.in-Num.is, e) (converts_up c.args.v c.args.from c.in-Num.signed c.in-Num.width c.in-Num.frac c.args.mode c.args.saturate c.raised.result (nat_abs x)
     (gap_is (frac_of c.args.from) c.in-Num.frac x order difference) (gap_none c.in-Num.frac (frac_of c.args.from) order) settled)
 
 pub returns-else-up-ge0 : goal.returns-else-up-ge0
@@ -35,10 +34,7 @@ returns-else-up-ge0 c =
     let difference : x ≡ frac_of c.args.from -ℤ c.in-Num.frac = omega (arith, ints, to_type.1, to_type.2, from_frac, c.frac.ensures) in
     let order : c.in-Num.frac ≤ℤ frac_of c.args.from = omega (arith, ints, to_type.1, to_type.2, from_frac, c.frac.ensures, c.if-up-ge0.false) in
     let v = to_z-of_z w128 c.args.v c.ranges.v in
-    let e = to_z-of_z w128 c.settle.result (record { sfits = c.settle.type_inv }) in
-    let q = to_z-of_z w128 c.rounded.result (record { sfits = c.rounded.type_inv }) in
-    let settled : Settles (Num c.in-Num.signed c.in-Num.width c.in-Num.frac) c.args.saturate c.rounded.result c.settle.result = rw q at c.settle.ensures in
-    let parts : IsSplit c.args.v (2 ^ nat_abs x) c.shifted_down.result.floor c.shifted_down.result.part = rw v at c.shifted_down.ensures.split in
-    rw (c.in-Num.is, e) (converts_down c.args.v c.args.from c.in-Num.signed c.in-Num.width c.in-Num.frac c.args.mode c.args.saturate c.settle.result (nat_abs x)
-    c.shifted_down.result.floor c.shifted_down.result.part c.rounded.result
-    (gap_is c.in-Num.frac (frac_of c.args.from) x order difference) (gap_none (frac_of c.args.from) c.in-Num.frac order) parts c.rounded.ensures settled)
+    let e = to_z-of_z w128 c.lowered.result (record { sfits = c.lowered.type_inv }) in
+    let stored : StoresQuotient c.args.v (2 ^ nat_abs x) (Num c.in-Num.signed c.in-Num.width c.in-Num.frac) c.args.mode c.args.saturate c.lowered.result = rw v at c.lowered.ensures in
+    rw (c.in-Num.is, e) (converts_down c.args.v c.args.from c.in-Num.signed c.in-Num.width c.in-Num.frac c.args.mode c.args.saturate c.lowered.result (nat_abs x)
+    (gap_is c.in-Num.frac (frac_of c.args.from) x order difference) (gap_none (frac_of c.args.from) c.in-Num.frac order) stored)

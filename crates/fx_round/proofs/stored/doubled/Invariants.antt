@@ -1,5 +1,5 @@
 use Rattle.std.proofs.Common.{◌≡◌, ◌*◌, ◌^◌, ◌<◌}
-use Rattle.fx_round.specs.Split.{mixed_count}
+use Rattle.fx_round.specs.inner.Split.{mixed_count}
 use Rattle.fx_round.proofs.stored.doubled.Given as goal
 
 abbrev pub invariant-loop-done : goal.invariant-loop-done

@@ -2,7 +2,7 @@ use Rattle.std.proofs.Common.{FitsSigned, arith, rules}
 use Rattle.std.specs.Int.{w128}
 use Rattle.std.proofs.lemmas.Int.{ints}
 use Rattle.fx_round.specs.declared.split.Part.TheVariants.{BelowHalf, AboveHalf}
-use Rattle.fx_round.specs.Split.{IsPart}
+use Rattle.fx_round.specs.inner.Split.{IsPart}
 use Rattle.fx_round.proofs.Sizes.{mirror_split}
 use Rattle.fx_round.proofs.stored.mirrored.Goals as goal
 
