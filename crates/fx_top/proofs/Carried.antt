@@ -11,7 +11,7 @@ use Rattle.vl_ast.specs.Windows.{PortNumbers, Window, Shows, AtHits}
 use Rattle.fx_top.specs.Carries.{Carries, CarriesBits, OutputElement, input_port, bit_input}
 use Rattle.fx_top.specs.declared.one_delay.OneDelay.{OneDelay}
 use Rattle.fx_top.specs.OneDelay.{delay_interface, delay_entries, delayed, byte_element}
-use Rattle.fx_top.specs.DelayModule.{register, delay_module}
+use Rattle.fx_top.specs.inner.DelayModule.{register, delay_module}
 use Rattle.fx_top.proofs.Names.{AreDifferent, names_read-name, own_length-name, is_signed-name, value_in-name}
 use Rattle.fx_top.proofs.Bits.{bits-fit}
 use Rattle.fx_top.proofs.Header.{has-header}

@@ -5,7 +5,7 @@ use Rattle.std.proofs.lemmas.Bool.{false_from_ne_true}
 use Rattle.mdl_text.specs.declared.tree.Tree.{Tree}
 use Rattle.fx_top.specs.declared.one_delay.OneDelay.{OneDelay}
 use Rattle.fx_top.specs.DelayTree.{DelayTexts, IsOneDelay, HasSoundNames, is_port_name}
-use Rattle.fx_top.specs.DelayModule.{register}
+use Rattle.fx_top.specs.inner.DelayModule.{register}
 use Rattle.fx_top.proofs.Names.{AreDifferent}
 
 unequal : (one other : List ℕ) → one ≢ other → bytes_eq one other ≡ false

@@ -2,7 +2,7 @@
 use Rattle.std.proofs.Common.{◌≡◌, None, refl}
 use Rattle.vl_ast.specs.Conditions.{undriven, doubly, too_wide, no_reset, no_attribute}
 use Rattle.fx_top.specs.declared.one_delay.OneDelay.{OneDelay}
-use Rattle.fx_top.specs.DelayModule.{delay_module}
+use Rattle.fx_top.specs.inner.DelayModule.{delay_module}
 use Rattle.fx_top.proofs.Names.{AreDifferent, names_read-name, sound-name, own_length-name}
 use Rattle.fx_top.proofs.Bits.{bits-are_number}
 use Rattle.fx_top.proofs.Loop.{no-loop}

@@ -7,7 +7,7 @@ use Rattle.vl_ast.specs.declared.modules.ModItem.TheVariants.{Assign}
 use Rattle.vl_ast.specs.Nets.{names_read}
 use Rattle.vl_ast.specs.Conditions.{IsLoop, AssignmentReads}
 use Rattle.fx_top.specs.declared.one_delay.OneDelay.{OneDelay}
-use Rattle.fx_top.specs.DelayModule.{register, delay_module}
+use Rattle.fx_top.specs.inner.DelayModule.{register, delay_module}
 use Rattle.fx_top.proofs.Names.{AreDifferent, names_read-name}
 
 assigned-at : (d : OneDelay) (name : List ℕ) (value : Expr) (k : ℕ) → k < 3

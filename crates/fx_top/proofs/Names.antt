@@ -8,7 +8,7 @@ use Rattle.vl_ast.specs.Value.{Bits, value_in, meaning_step, extended}
 use Rattle.vl_ast.specs.Nets.{names_read, names_step}
 use Rattle.vl_ast.specs.Conditions.{is_sound_step}
 use Rattle.vl_ast.specs.declared.expressions.Expr.TheFolds.{para-Expr}
-use Rattle.fx_top.specs.DelayModule.{register}
+use Rattle.fx_top.specs.inner.DelayModule.{register}
 
 pub record AreDifferent (u y : List ℕ) : Type 0 where
   pub clk-u : bytes_eq (codes "clk") u ≡ false

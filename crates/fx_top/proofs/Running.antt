@@ -1,239 +1,153 @@
--- What each exit status means, from the answer that it stands for.
-use Rattle.std.proofs.Common.{◌≡◌, ◌≢◌, ◌≤◌, ◌⊎◌, inl, inr, ℕ, List, [], ◌∷◌, length, Contains, Option, None, Some, refl, sym, subst, arith}
+-- What a command's cause says of its status.
+use Rattle.std.proofs.Common.{◌≡◌, ◌≤◌, ◌<◌, ◌⊎◌, inl, inr, ℕ, List, [], ◌∷◌, length, nat_lt, false, All, Contains, Option, None, Some, refl, ap, sym, ◌∙◌, subst, arith}
+use Rattle.std.proofs.lemmas.Bool.{false_from_ne_true, ltb-true}
+use Rattle.std.proofs.lemmas.List.Elements.{All-head, All-tail}
 use Rattle.mdl_text.specs.declared.tree.Tree.{Tree}
 use Rattle.mdl_text.specs.Stands.{Stands}
-use Rattle.fx_io.specs.Shelf.{Told}
+use Rattle.fx_io.specs.Shelf.{Told, Fetched}
 use Rattle.fx_top.specs.declared.answer.Answer.{Answer}
 use Rattle.fx_top.specs.declared.answer.Answer.TheVariants.{Done, OutOfMemory, Usage, CannotRead, CannotWrite, NotMdl, TooLong, NotBuilt}
-use Rattle.fx_top.specs.Answer.{status_of, line_of}
-use Rattle.fx_top.specs.Caused.{IsCaused, IsCarriedOut}
-use Rattle.fx_top.specs.Cause.{CannotBeRead, IsTooLong, HasNoTree, HasOtherForm, WroteAll, WrotePart}
-use Rattle.fx_top.specs.Command.{Command, Generate, command_of, model_of}
+use Rattle.fx_top.specs.Answer.{status_of}
+use Rattle.fx_top.specs.Call.{Files, Stream}
+use Rattle.fx_top.specs.Cause.{IsFetched, AreFetched}
+use Rattle.fx_top.specs.Caused.{HasCause, HasWritten, IsCarriedOut}
+use Rattle.fx_top.specs.Command.{Command, Generate, command_of, model_of, files_of}
 use Rattle.fx_top.specs.DelayTree.{IsOneDelay}
-use Rattle.fx_top.specs.Output.{IsBuilt}
-use Rattle.fx_top.specs.Trouble.{file_limit}
-use Rattle.fx_top.proofs.Generated.{when-whole}
-use Rattle.fx_top.specs.Messages.{memory_line, usage_line, unread_line, unwritten_line, syntax_line, too_long_line, not_built_line}
-use Rattle.fx_top.specs.Outcome.{ForCommand, IfCommand, IsDue, AnswersDone, AnswersUsage, AnswersReadFault, AnswersWriteFault, AnswersSyntax, AnswersTooLong, AnswersNotBuilt, IsComplete}
+use Rattle.fx_top.specs.Outcome.{Yields, Tells, IfCommand, IsDue, CanBeDone, GivesAll, IsComplete}
+use Rattle.fx_top.specs.Output.{IsBuilt, IsNoText, IsNotBuilt, IsOutput}
+use Rattle.fx_top.specs.Trouble.{Trouble, Absent, Overlong, trouble_or, first_trouble, file_limit}
 
-pub listed-status : (answer : Answer) → Contains (0 ∷ 1 ∷ 2 ∷ 3 ∷ 4 ∷ 5 ∷ 9 ∷ 10 ∷ []) (status_of answer)
-listed-status Done = (0, omega arith, refl)
-listed-status OutOfMemory = (1, omega arith, refl)
-listed-status Usage = (2, omega arith, refl)
-listed-status (CannotRead file) = (3, omega arith, refl)
-listed-status CannotWrite = (4, omega arith, refl)
-listed-status (NotMdl file line) = (5, omega arith, refl)
-listed-status (TooLong file length) = (6, omega arith, refl)
-listed-status (NotBuilt file) = (7, omega arith, refl)
+-- a file that was fetched is in no trouble
+untroubled : (file : List ℕ) (told : Told) (bytes : List ℕ) → Fetched told file_limit bytes → (later : Option Trouble) → trouble_or file told later ≡ later
+untroubled file None bytes fetched later = refl
+untroubled file (Some None) bytes fetched later = let is = fetched.held None refl in absurd (cc is)
+untroubled file (Some (Some own)) bytes fetched later =
+    let is : Some own ≡ Some bytes = fetched.held (Some own) refl in
+    let same : own ≡ bytes = cc is in
+    let within : length own ≤ file_limit = subst (λ (text : List ℕ). length text ≤ file_limit) (sym same) fetched.within in
+    let short : nat_lt file_limit (length own) ≡ false = false_from_ne_true (nat_lt file_limit (length own)) (λ e. let above : file_limit < length own = ltb-true file_limit (length own) e in absurd (omega arith)) in
+    simp short
 
-pub memory-said : (said : List ℕ → Type 0) (answer : Answer) → said (line_of answer) → status_of answer ≡ 1 → said memory_line
-memory-said said Done is e = absurd (omega arith)
-memory-said said OutOfMemory is e = is
-memory-said said Usage is e = absurd (omega arith)
-memory-said said (CannotRead file) is e = absurd (omega arith)
-memory-said said CannotWrite is e = absurd (omega arith)
-memory-said said (NotMdl file line) is e = absurd (omega arith)
-memory-said said (TooLong file length) is e = absurd (omega arith)
-memory-said said (NotBuilt file) is e = absurd (omega arith)
+no-trouble : (held : List ℕ → Told) (names : List (List ℕ)) → All (λ file. (bytes : List ℕ) × Fetched (held file) file_limit bytes) names → first_trouble held names ≡ None
+no-trouble held [] all = refl
+no-trouble held (file ∷ names) all =
+    let P : List ℕ → Type 0 = λ name. (bytes : List ℕ) × Fetched (held name) file_limit bytes in
+    let here = All-head P file names all in
+    untroubled file (held file) here.0 here.1 (first_trouble held names) ∙ no-trouble held names (All-tail P file names all)
 
-pub usage-said : (said : List ℕ → Type 0) (answer : Answer) → said (line_of answer) → status_of answer ≡ 2 → said usage_line
-usage-said said Done is e = absurd (omega arith)
-usage-said said OutOfMemory is e = absurd (omega arith)
-usage-said said Usage is e = is
-usage-said said (CannotRead file) is e = absurd (omega arith)
-usage-said said CannotWrite is e = absurd (omega arith)
-usage-said said (NotMdl file line) is e = absurd (omega arith)
-usage-said said (TooLong file length) is e = absurd (omega arith)
-usage-said said (NotBuilt file) is e = absurd (omega arith)
+module _ (files : Files) (out : Stream) (unique : (bytes : List ℕ) (one other : Tree) → Stands bytes one → Stands bytes other → one ≡ other) where
+  fetched-whole : (command : Command) (trouble : Trouble) → AreFetched files command → first_trouble files.held (files_of command) ≡ Some trouble → ⊥
+  fetched-whole command trouble all is = let none = no-trouble files.held (files_of command) all in absurd (cc (none, is))
 
-module _ (held : List ℕ → Told) (steady rose rose_overlong rose_out : Type 0) (before now : Option (List ℕ)) (command : Command) (said : List ℕ → Type 0) where
-  abbrev Caused : Answer → Type 0
-  Caused = IsCaused held steady rose rose_overlong rose_out before now command
+  told-is : (file told bytes : List ℕ) → IsFetched files file bytes → Tells files file told → told ≡ bytes
+  told-is file told bytes fetched tells = let same : Some told ≡ Some bytes = fetched.held (Some told) tells in cc same
 
-  done-of : (answer : Answer) → Caused answer → said (line_of answer) → status_of answer ≡ 0 → WroteAll command held before now
-  done-of Done why is e = why
-  done-of OutOfMemory why is e = absurd (omega arith)
-  done-of Usage why is e = absurd why
-  done-of (CannotRead file) why is e = absurd (omega arith)
-  done-of CannotWrite why is e = absurd (omega arith)
-  done-of (NotMdl file line) why is e = absurd (omega arith)
-  done-of (TooLong file length) why is e = absurd (omega arith)
-  done-of (NotBuilt file) why is e = absurd (omega arith)
+  -- the model of an output is of a form that is built
+  written-built : (command : Command) (text model bytes : List ℕ) → IsOutput command files.held text → model_of command ≡ Some model → Tells files model bytes → IsBuilt bytes
+  written-built (Generate own) text model bytes output is tells =
+      let same : model ≡ own = cc is in
+      let told : Tells files own bytes = subst (λ (file : List ℕ). Tells files file bytes) same tells in
+      let verilog = output.1.1 in
+      subst IsBuilt (sym (told-is own bytes output.0 output.1.0 told))
+      (record { tree = verilog.tree; stands = verilog.stands; delay = verilog.delay; form = verilog.form })
 
-  unread-of : (answer : Answer) → Caused answer → said (line_of answer) → status_of answer ≡ 3 → (file : List ℕ) × (CannotBeRead command held steady rose file × said (unread_line file))
-  unread-of Done why is e = absurd (omega arith)
-  unread-of OutOfMemory why is e = absurd (omega arith)
-  unread-of Usage why is e = absurd why
-  unread-of (CannotRead file) why is e = (file.now, (why.0, is))
-  unread-of CannotWrite why is e = absurd (omega arith)
-  unread-of (NotMdl file line) why is e = absurd (omega arith)
-  unread-of (TooLong file length) why is e = absurd (omega arith)
-  unread-of (NotBuilt file) why is e = absurd (omega arith)
+  -- no bytes are of two of the three sorts
+  not-both : (bytes : List ℕ) → IsBuilt bytes → IsNotBuilt bytes → ⊥
+  not-both bytes built other =
+      other.other built.delay (subst (λ (known : Tree). IsOneDelay known built.delay) (unique bytes built.tree other.tree built.stands other.stands) built.form)
 
-  unwritten-of : (answer : Answer) → Caused answer → said (line_of answer) → status_of answer ≡ 4 → WrotePart command held rose_out before now × said unwritten_line
-  unwritten-of Done why is e = absurd (omega arith)
-  unwritten-of OutOfMemory why is e = absurd (omega arith)
-  unwritten-of Usage why is e = absurd why
-  unwritten-of (CannotRead file) why is e = absurd (omega arith)
-  unwritten-of CannotWrite why is e = (why, is)
-  unwritten-of (NotMdl file line) why is e = absurd (omega arith)
-  unwritten-of (TooLong file length) why is e = absurd (omega arith)
-  unwritten-of (NotBuilt file) why is e = absurd (omega arith)
+  module _ (command : Command) where
+    read_fault-due : (file : List ℕ) → first_trouble files.held (files_of command) ≡ Some (Absent file) → files.steady → (answer : Answer) → HasCause files command answer → Yields 3 [] (status_of answer)
+    read_fault-due file is steady Done why = absurd (fetched-whole command (Absent file) why is)
+    read_fault-due file is steady OutOfMemory why = (1, omega arith, refl)
+    read_fault-due file is steady Usage why = absurd why
+    read_fault-due file is steady (CannotRead answered) why = (0, omega arith, refl)
+    read_fault-due file is steady CannotWrite why = absurd (fetched-whole command (Absent file) why is)
+    read_fault-due file is steady (NotMdl answered line) why = absurd (fetched-whole command (Absent file) why.0 is)
+    read_fault-due file is steady (TooLong answered reported) why = let first = why.first steady in absurd (cc (first, is))
+    read_fault-due file is steady (NotBuilt answered) why = absurd (fetched-whole command (Absent file) why.0 is)
 
-  syntax-of : (answer : Answer) → Caused answer → said (line_of answer) → status_of answer ≡ 5 → (line : ℕ) × (HasNoTree command held line × said (syntax_line (model_of command) line))
-  syntax-of Done why is e = absurd (omega arith)
-  syntax-of OutOfMemory why is e = absurd (omega arith)
-  syntax-of Usage why is e = absurd why
-  syntax-of (CannotRead file) why is e = absurd (omega arith)
-  syntax-of CannotWrite why is e = absurd (omega arith)
-  syntax-of (NotMdl file line) why is e = (line, (why.1, subst (λ (name : List ℕ). said (syntax_line name line)) why.0 is))
-  syntax-of (TooLong file length) why is e = absurd (omega arith)
-  syntax-of (NotBuilt file) why is e = absurd (omega arith)
+    too_long-due : (file : List ℕ) (length : ℕ) → first_trouble files.held (files_of command) ≡ Some (Overlong file length) → files.steady → (answer : Answer) → HasCause files command answer → Yields 9 [] (status_of answer)
+    too_long-due file length is steady Done why = absurd (fetched-whole command (Overlong file length) why is)
+    too_long-due file length is steady OutOfMemory why = (1, omega arith, refl)
+    too_long-due file length is steady Usage why = absurd why
+    too_long-due file length is steady (CannotRead answered) why = let first = why.first steady in absurd (cc (first, is))
+    too_long-due file length is steady CannotWrite why = absurd (fetched-whole command (Overlong file length) why is)
+    too_long-due file length is steady (NotMdl answered line) why = absurd (fetched-whole command (Overlong file length) why.0 is)
+    too_long-due file length is steady (TooLong answered reported) why = (0, omega arith, refl)
+    too_long-due file length is steady (NotBuilt answered) why = absurd (fetched-whole command (Overlong file length) why.0 is)
 
-  too_long-of : (answer : Answer) → Caused answer → said (line_of answer) → status_of answer ≡ 9 → (file : List ℕ) × (length : ℕ) × (IsTooLong command held steady rose_overlong file length × said (too_long_line file length))
-  too_long-of Done why is e = absurd (omega arith)
-  too_long-of OutOfMemory why is e = absurd (omega arith)
-  too_long-of Usage why is e = absurd why
-  too_long-of (CannotRead file) why is e = absurd (omega arith)
-  too_long-of CannotWrite why is e = absurd (omega arith)
-  too_long-of (NotMdl file line) why is e = absurd (omega arith)
-  too_long-of (TooLong file length) why is e = (file.now, length, (why.0, is))
-  too_long-of (NotBuilt file) why is e = absurd (omega arith)
+    module _ (model bytes : List ℕ) (is_model : model_of command ≡ Some model) (tells : Tells files model bytes) where
+      -- what was fetched of the model is what the shelf tells
+      fetched-is : (file own : List ℕ) → model_of command ≡ Some file → IsFetched files file own → bytes ≡ own
+      fetched-is file own is fetched =
+          let same : model ≡ file = cc (is_model, is) in
+          told-is file bytes own fetched (subst (λ (name : List ℕ). Tells files name bytes) same tells)
 
-  not_built-of : (answer : Answer) → Caused answer → said (line_of answer) → status_of answer ≡ 10 → HasOtherForm command held × said (not_built_line (model_of command))
-  not_built-of Done why is e = absurd (omega arith)
-  not_built-of OutOfMemory why is e = absurd (omega arith)
-  not_built-of Usage why is e = absurd why
-  not_built-of (CannotRead file) why is e = absurd (omega arith)
-  not_built-of CannotWrite why is e = absurd (omega arith)
-  not_built-of (NotMdl file line) why is e = absurd (omega arith)
-  not_built-of (TooLong file length) why is e = absurd (omega arith)
-  not_built-of (NotBuilt file) why is e = (why.1, subst (λ (name : List ℕ). said (not_built_line name)) why.0 is)
+      syntax-due : IsNoText bytes → (answer : Answer) → HasCause files command answer → HasWritten files out command answer → Yields 5 (3 ∷ 9 ∷ []) (status_of answer)
+      syntax-due none Done why wrote = let built = written-built command wrote.text model bytes wrote.output is_model tells in absurd (none built.tree built.stands)
+      syntax-due none OutOfMemory why wrote = (1, omega arith, refl)
+      syntax-due none Usage why wrote = absurd why
+      syntax-due none (CannotRead answered) why wrote = (2, omega arith, refl)
+      syntax-due none CannotWrite why wrote = let built = written-built command wrote.text model bytes wrote.output is_model tells in absurd (none built.tree built.stands)
+      syntax-due none (NotMdl answered line) why wrote = (0, omega arith, refl)
+      syntax-due none (TooLong answered reported) why wrote = (3, omega arith, refl)
+      syntax-due none (NotBuilt answered) why wrote =
+          let other = subst IsNotBuilt (sym (fetched-is answered.now why.1.bytes why.1.is_model why.1.fetched)) why.1.not_built in
+          absurd (none other.tree other.stands)
 
-  untouched-of : (answer : Answer) → Caused answer → status_of answer ≢ 0 → status_of answer ≢ 4 → now ≡ before
-  untouched-of Done why not_done not_cut = absurd (not_done refl)
-  untouched-of OutOfMemory why not_done not_cut = why
-  untouched-of Usage why not_done not_cut = absurd why
-  untouched-of (CannotRead file) why not_done not_cut = why.1
-  untouched-of CannotWrite why not_done not_cut = absurd (not_cut refl)
-  untouched-of (NotMdl file line) why not_done not_cut = why.2
-  untouched-of (TooLong file length) why not_done not_cut = why.1
-  untouched-of (NotBuilt file) why not_done not_cut = why.2
+      not_built-due : IsNotBuilt bytes → (answer : Answer) → HasCause files command answer → HasWritten files out command answer → Yields 10 (3 ∷ 9 ∷ []) (status_of answer)
+      not_built-due other Done why wrote = absurd (not-both bytes (written-built command wrote.text model bytes wrote.output is_model tells) other)
+      not_built-due other OutOfMemory why wrote = (1, omega arith, refl)
+      not_built-due other Usage why wrote = absurd why
+      not_built-due other (CannotRead answered) why wrote = (2, omega arith, refl)
+      not_built-due other CannotWrite why wrote = absurd (not-both bytes (written-built command wrote.text model bytes wrote.output is_model tells) other)
+      not_built-due other (NotMdl answered line) why wrote =
+          let none = subst IsNoText (sym (fetched-is answered.now why.1.bytes why.1.is_model why.1.fetched)) why.1.not_mdl.no_tree in
+          absurd (none other.tree other.stands)
+      not_built-due other (TooLong answered reported) why wrote = (3, omega arith, refl)
+      not_built-due other (NotBuilt answered) why wrote = (0, omega arith, refl)
 
-  used-rightly : (answer : Answer) → Caused answer → status_of answer ≢ 2
-  used-rightly Done why e = absurd (omega arith)
-  used-rightly OutOfMemory why e = absurd (omega arith)
-  used-rightly Usage why e = why
-  used-rightly (CannotRead file) why e = absurd (omega arith)
-  used-rightly CannotWrite why e = absurd (omega arith)
-  used-rightly (NotMdl file line) why e = absurd (omega arith)
-  used-rightly (TooLong file length) why e = absurd (omega arith)
-  used-rightly (NotBuilt file) why e = absurd (omega arith)
+    is-due : (answer : Answer) → HasCause files command answer → HasWritten files out command answer → IsDue files command (status_of answer)
+    is-due answer why wrote = record {
+      read_fault = λ steady file is. read_fault-due file is steady answer why;
+      too_long = λ steady file length is. too_long-due file length is steady answer why;
+      syntax = λ model bytes is_model tells none. syntax-due model bytes is_model tells none answer why wrote;
+      not_built = λ model bytes is_model tells other. not_built-due model bytes is_model tells other answer why wrote;
+    }
 
-module _ (words : List (List ℕ)) (held : List ℕ → Told) (steady rose rose_overlong rose_out : Type 0) (before now : Option (List ℕ)) (said : List ℕ → Type 0) (answer : Answer) where
-  abbrev CarriedOut : Option Command → Type 0
-  CarriedOut named = IsCarriedOut held steady rose rose_overlong rose_out before now named answer
+  -- a model that can be done is no fault of the text
+  model-built : (command : Command) → CanBeDone files command → (file bytes : List ℕ) → model_of command ≡ Some file → IsFetched files file bytes → IsBuilt bytes
+  model-built (Generate model) can file bytes is fetched =
+      let same : model ≡ file = cc is in
+      subst IsBuilt (told-is file can.0 bytes fetched (subst (λ (name : List ℕ). Tells files name can.0) same can.1.0)) can.1.1
 
-  -- P is found of the command, where the status isn't that of usage
-  for-command : (P : Command → Type 0) (status : ℕ) → status ≢ 2 → ((command : Command) → IsCaused held steady rose rose_overlong rose_out before now command answer → status_of answer ≡ status → P command)
-      → (named : Option Command) → command_of words ≡ named → CarriedOut named → status_of answer ≡ status → ForCommand words P
-  for-command P status other found None is why e =
-      let usage : status_of answer ≡ 2 = subst (λ (a : Answer). status_of a ≡ 2) (sym why.0) refl in
-      absurd (other (cc (e, usage)))
-  for-command P status other found (Some command) is why e = (command, (is, found command why.0 e))
+  is-complete : (command : Command) (answer : Answer) → HasCause files command answer → HasWritten files out command answer → IsComplete files out command (status_of answer)
+  is-complete command Done why wrote can gives writes = (0, omega arith, refl)
+  is-complete command OutOfMemory why wrote can gives writes = (1, omega arith, refl)
+  is-complete command Usage why wrote can gives writes = absurd why
+  is-complete command (CannotRead file) why wrote can (inl steady) writes = let first = why.first steady.0 in let none = steady.1 in absurd (cc (first, none))
+  is-complete command (CannotRead file) why wrote can (inr quiet) writes = absurd (quiet.0 why.rise)
+  is-complete command CannotWrite why wrote can gives writes = absurd (writes wrote.rise)
+  is-complete command (NotMdl file line) why wrote can gives writes =
+      let built = model-built command can file.now why.1.bytes why.1.is_model why.1.fetched in
+      absurd (why.1.not_mdl.no_tree built.tree built.stands)
+  is-complete command (TooLong file length) why wrote can (inl steady) writes = let first = why.first steady.0 in let none = steady.1 in absurd (cc (first, none))
+  is-complete command (TooLong file length) why wrote can (inr quiet) writes = absurd (quiet.1 why.rise)
+  is-complete command (NotBuilt file) why wrote can gives writes =
+      let built = model-built command can file.now why.1.bytes why.1.is_model why.1.fetched in
+      absurd (not-both why.1.bytes built why.1.not_built)
 
-  due-command : (P : Command → Type 0) → ((command : Command) → IsDue held steady (status_of answer) command → P command)
-      → (named : Option Command) → command_of words ≡ named → CarriedOut named → IfCommand words P
-  due-command P due None is why command shape = absurd (cc (is, shape))
-  due-command P due (Some here) is why command shape =
+  -- what holds of the command's answer by its cause holds of the words' command
+  by-command : (P : Command → ℕ → Type 0) → ((command : Command) (answer : Answer) → HasCause files command answer → HasWritten files out command answer → P command (status_of answer))
+      → (words : List (List ℕ)) (answer : Answer) → (named : Option Command) → command_of words ≡ named → IsCarriedOut files out named answer → IfCommand words (λ command. P command (status_of answer))
+  by-command P by words answer None is why command shape = absurd (cc (is, shape))
+  by-command P by words answer (Some here) is why command shape =
       let same : here ≡ command = cc (is, shape) in
-      subst P same (due here why.1)
+      subst (λ (known : Command). P known (status_of answer)) same (by here answer why.0 why.1)
 
-  module _ (why : CarriedOut (command_of words)) (line : said (line_of answer)) where
-    pub done-clause : AnswersDone words held before now (status_of answer)
-    done-clause = for-command (λ command. WroteAll command held before now) 0 (λ e. omega arith)
-        (λ command cause e. done-of held steady rose rose_overlong rose_out before now command said answer cause line e) (command_of words) refl why
+  pub due-clause : (words : List (List ℕ)) (answer : Answer) → IsCarriedOut files out (command_of words) answer → IfCommand words (λ command. IsDue files command (status_of answer))
+  due-clause words answer why = by-command (λ command status. IsDue files command status) is-due words answer (command_of words) refl why
 
-    pub read_fault-clause : AnswersReadFault words held steady rose said (status_of answer)
-    read_fault-clause = record {
-      cause = for-command _ 3 (λ e. omega arith) (λ command cause e. unread-of held steady rose rose_overlong rose_out before now command said answer cause line e) (command_of words) refl why;
-      due = due-command _ (λ command due. due.read_fault) (command_of words) refl why;
-    }
-
-    pub write_fault-clause : AnswersWriteFault words held rose_out before now said (status_of answer)
-    write_fault-clause = for-command _ 4 (λ e. omega arith) (λ command cause e. unwritten-of held steady rose rose_overlong rose_out before now command said answer cause line e) (command_of words) refl why
-
-    pub syntax-clause : AnswersSyntax words held said (status_of answer)
-    syntax-clause = record {
-      cause = for-command _ 5 (λ e. omega arith) (λ command cause e. syntax-of held steady rose rose_overlong rose_out before now command said answer cause line e) (command_of words) refl why;
-      due = due-command _ (λ command due. due.syntax) (command_of words) refl why;
-    }
-
-    pub too_long-clause : AnswersTooLong words held steady rose_overlong said (status_of answer)
-    too_long-clause = record {
-      cause = for-command _ 9 (λ e. omega arith) (λ command cause e. too_long-of held steady rose rose_overlong rose_out before now command said answer cause line e) (command_of words) refl why;
-      due = due-command _ (λ command due. due.too_long) (command_of words) refl why;
-    }
-
-    pub not_built-clause : AnswersNotBuilt words held said (status_of answer)
-    not_built-clause = record {
-      cause = for-command _ 10 (λ e. omega arith) (λ command cause e. not_built-of held steady rose rose_overlong rose_out before now command said answer cause line e) (command_of words) refl why;
-      due = due-command _ (λ command due. due.not_built) (command_of words) refl why;
-    }
-
-    usage-of : (named : Option Command) → CarriedOut named → (status_of answer ≡ 2 → named ≡ None) × (named ≡ None → status_of answer ≡ 2)
-    usage-of None why = (λ _. refl, λ _. subst (λ (a : Answer). status_of a ≡ 2) (sym why.0) refl)
-    usage-of (Some command) why =
-        (λ e. absurd (used-rightly held steady rose rose_overlong rose_out before now command said answer why.0 e), λ e. absurd (cc e))
-
-    pub usage-clause : AnswersUsage words said (status_of answer)
-    usage-clause = record {
-      exact = usage-of (command_of words) why;
-      message = λ e. usage-said said answer line e;
-    }
-
-    untouched-by : (named : Option Command) → CarriedOut named → status_of answer ≢ 0 → status_of answer ≢ 4 → now ≡ before
-    untouched-by None why not_done not_cut = why.1
-    untouched-by (Some command) why not_done not_cut = untouched-of held steady rose rose_overlong rose_out before now command said answer why.0 not_done not_cut
-
-    pub untouched-clause : status_of answer ≢ 0 → status_of answer ≢ 4 → now ≡ before
-    untouched-clause = untouched-by (command_of words) why
-
-  module _ (unique : (bytes : List ℕ) (one other : Tree) → Stands bytes one → Stands bytes other → one ≡ other) where
-    complete-of : (model bytes : List ℕ) → held model ≡ Some (Some bytes) → IsBuilt bytes
-        → (steady × (length bytes ≤ file_limit)) ⊎ ((rose → ⊥) × (rose_overlong → ⊥)) → (rose_out → ⊥)
-        → (given : Answer) → IsCaused held steady rose rose_overlong rose_out before now (Generate model) given → Contains (0 ∷ 1 ∷ []) (status_of given)
-    complete-of model bytes told built calm calm_out Done why = (0, omega arith, refl)
-    complete-of model bytes told built calm calm_out OutOfMemory why = (1, omega arith, refl)
-    complete-of model bytes told built calm calm_out Usage why = absurd why
-    complete-of model bytes told built (inl steadily) calm_out (CannotRead file) why =
-        let whole = when-whole held model bytes told steadily.1 in
-        let trouble = why.0.first steadily.0 in absurd (cc (whole, trouble))
-    complete-of model bytes told built (inr quiet) calm_out (CannotRead file) why = absurd (quiet.0 why.0.rise)
-    complete-of model bytes told built calm calm_out CannotWrite why = absurd (calm_out why.rise)
-    complete-of model bytes told built calm calm_out (NotMdl file line) why =
-        let text = why.1 in
-        let same : Some bytes ≡ Some text.bytes = text.fetched.held (Some bytes) told in
-        let stands = subst (λ (known : List ℕ). Stands known built.tree) (cc same) built.stands in
-        absurd (text.not_mdl.no_tree built.tree stands)
-    complete-of model bytes told built (inl steadily) calm_out (TooLong file length) why =
-        let whole = when-whole held model bytes told steadily.1 in
-        let trouble = why.0.first steadily.0 in absurd (cc (whole, trouble))
-    complete-of model bytes told built (inr quiet) calm_out (TooLong file length) why = absurd (quiet.1 why.0.rise)
-    complete-of model bytes told built calm calm_out (NotBuilt file) why =
-        let text = why.1 in
-        let same : Some bytes ≡ Some text.bytes = text.fetched.held (Some bytes) told in
-        let stands = subst (λ (known : List ℕ). Stands known built.tree) (cc same) built.stands in
-        let tree = unique text.bytes built.tree text.not_built.tree stands text.not_built.stands in
-        absurd (text.not_built.other built.delay (subst (λ (known : Tree). IsOneDelay known built.delay) tree built.form))
-
-    complete-by : (named : Option Command) → command_of words ≡ named → CarriedOut named → IsComplete words held steady rose rose_overlong rose_out (status_of answer)
-    complete-by None is why command shape = absurd (cc (is, shape))
-    complete-by (Some (Generate model)) is why command shape =
-        let same : Generate model ≡ command = cc (is, shape) in
-        subst (λ (known : Command). (bytes : List ℕ) → held (model_of known) ≡ Some (Some bytes) → IsBuilt bytes
-        → (steady × (length bytes ≤ file_limit)) ⊎ ((rose → ⊥) × (rose_overlong → ⊥)) → (rose_out → ⊥) → Contains (0 ∷ 1 ∷ []) (status_of answer))
-        same (λ bytes told built calm calm_out. complete-of model bytes told built calm calm_out answer why.0)
-
-    pub complete-clause : CarriedOut (command_of words) → IsComplete words held steady rose rose_overlong rose_out (status_of answer)
-    complete-clause why = complete-by (command_of words) refl why
+  pub complete-clause : (words : List (List ℕ)) (answer : Answer) → IsCarriedOut files out (command_of words) answer → IfCommand words (λ command. IsComplete files out command (status_of answer))
+  complete-clause words answer why = by-command (λ command status. IsComplete files out command status) is-complete words answer (command_of words) refl why

@@ -12,7 +12,7 @@ use Rattle.vl_ast.specs.Spelling.{joined}
 use Rattle.vl_ast.specs.Tokens.{Token, Key, Sign, Identifier, Number, Based, IsWritable, AreWritable, is_identifier}
 use Rattle.fx_top.specs.declared.one_delay.OneDelay.{OneDelay}
 use Rattle.fx_top.specs.DelayTree.{is_port_name}
-use Rattle.fx_top.specs.DelayModule.{register, delay_module}
+use Rattle.fx_top.specs.inner.DelayModule.{register, delay_module}
 use Rattle.fx_top.proofs.Bits.{bits-fit}
 
 tokens-name : (x : List ℕ) → expr_tokens (Name x) ≡ Identifier x ∷ []

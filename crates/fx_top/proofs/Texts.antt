@@ -2,7 +2,7 @@
 use Rattle.std.proofs.Common.{◌≡◌, ℕ, List, Some, slice_get, ap, ◌∙◌}
 use Rattle.mdl_text.specs.declared.tree.Item.{Item}
 use Rattle.fx_top.specs.DelayTree.{DelayTexts, delay_tree}
-use Rattle.fx_top.specs.Template.{quoted_text}
+use Rattle.fx_top.specs.inner.Template.{quoted_text}
 
 same-at : (place : ℕ) (one other : List Item) → one ≡ other → quoted_text (slice_get one place) ≡ quoted_text (slice_get other place)
 same-at place one other e = ap (λ (items : List Item). quoted_text (slice_get items place)) e

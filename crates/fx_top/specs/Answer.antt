@@ -1,8 +1,5 @@
 -- The status of an answer, and the line that it puts on the stream of messages (own).
 use Rattle.std.specs.Prelude.{ℕ, List, []}
-use Rattle.fx_top.specs.Command.{Command, Generate}
-use Rattle.fx_top.specs.declared.command.Command.{Command as CommandOf}
-use Rattle.fx_top.specs.declared.command.Command.TheVariants.{Generate as GenerateOf}
 use Rattle.fx_top.specs.declared.answer.Answer.{Answer}
 use Rattle.fx_top.specs.declared.answer.Answer.TheVariants.{Done, OutOfMemory, Usage, CannotRead, CannotWrite, NotMdl, TooLong, NotBuilt}
 use Rattle.fx_top.specs.Messages.{memory_line, usage_line, unread_line, unwritten_line, syntax_line, too_long_line, not_built_line}
@@ -28,7 +25,3 @@ line_of CannotWrite = unwritten_line
 line_of (NotMdl file line) = syntax_line file.now line
 line_of (TooLong file length) = too_long_line file.now length
 line_of (NotBuilt file) = not_built_line file.now
-
--- the command, by the bytes of its words
-abbrev pub named : CommandOf → Command
-named (GenerateOf model) = Generate model.now

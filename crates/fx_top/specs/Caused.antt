@@ -1,28 +1,42 @@
--- The cause of a command's answer. With each but a written output the output sink took nothing (own).
-use Rattle.std.specs.Prelude.{◌≡◌, ℕ, List, Option, None, Some}
-use Rattle.fx_io.specs.Shelf.{Told}
+-- How a call ends: its status, its line on the stream of messages, and its cause (own).
+use Rattle.std.specs.Prelude.{◌≡◌, ⊤, ℕ, List, Option, None, Some}
 use Rattle.fx_top.specs.declared.answer.Answer.{Answer}
 use Rattle.fx_top.specs.declared.answer.Answer.TheVariants.{Done, OutOfMemory, Usage, CannotRead, CannotWrite, NotMdl, TooLong, NotBuilt}
-use Rattle.fx_top.specs.Command.{Command, model_of}
-use Rattle.fx_top.specs.Answer.{status_of}
-use Rattle.fx_top.specs.Outcome.{IsDue}
-use Rattle.fx_top.specs.Cause.{CannotBeRead, IsTooLong, HasNoTree, HasOtherForm, WroteAll, WrotePart}
+use Rattle.fx_top.specs.Answer.{status_of, line_of}
+use Rattle.fx_top.specs.Call.{Files, Stream, IsUntouched, Said}
+use Rattle.fx_top.specs.Cause.{CannotBeRead, IsTooLong, AreFetched, HasNoTree, HasOtherForm, WroteAll, WrotePart}
+use Rattle.fx_top.specs.Command.{Command, command_of}
 
-module _ (held : List ℕ → Told) (steady rose rose_overlong rose_out : Type 0) (before now : Option (List ℕ)) (command : Command) where
-  -- the cause of each answer of a command; with each but a written output the output sink took nothing
-  abbrev pub IsCaused : Answer → Type 0
-  IsCaused Done = WroteAll command held before now
-  IsCaused OutOfMemory = now ≡ before
-  IsCaused Usage = ⊥
-  IsCaused (CannotRead file) = CannotBeRead command held steady rose file.now × (now ≡ before)
-  IsCaused CannotWrite = WrotePart command held rose_out before now
-  IsCaused (NotMdl file line) = (file.now ≡ model_of command) × HasNoTree command held line × (now ≡ before)
-  IsCaused (TooLong file length) = IsTooLong command held steady rose_overlong file.now length × (now ≡ before)
-  IsCaused (NotBuilt file) = (file.now ≡ model_of command) × HasOtherForm command held × (now ≡ before)
+-- what a command's answer says of the files
+abbrev pub HasCause : Files → Command → Answer → Type 0
+HasCause files command Done = AreFetched files command
+HasCause files command OutOfMemory = ⊤
+HasCause files command Usage = ⊥
+HasCause files command (CannotRead file) = CannotBeRead files command file.now
+HasCause files command CannotWrite = AreFetched files command
+HasCause files command (NotMdl file line) = AreFetched files command × HasNoTree files command file.now line
+HasCause files command (TooLong file length) = IsTooLong files command file.now length
+HasCause files command (NotBuilt file) = AreFetched files command × HasOtherForm files command file.now
 
-module _ (held : List ℕ → Told) (steady rose rose_overlong rose_out : Type 0) (before now : Option (List ℕ)) where
-  -- the answer is that of the command that the words name, if they name one
-  abbrev pub IsCarriedOut : Option Command → Answer → Type 0
-  IsCarriedOut None answer = (answer ≡ Usage) × (now ≡ before)
-  IsCarriedOut (Some command) answer =
-      IsCaused held steady rose rose_overlong rose_out before now command answer × IsDue held steady (status_of answer) command
+-- what it says of the output
+abbrev pub HasWritten : Files → Stream → Command → Answer → Type 0
+HasWritten files out command Done = WroteAll files out command
+HasWritten files out command OutOfMemory = IsUntouched out
+HasWritten files out command Usage = IsUntouched out
+HasWritten files out command (CannotRead file) = IsUntouched out
+HasWritten files out command CannotWrite = WrotePart files out command
+HasWritten files out command (NotMdl file line) = IsUntouched out
+HasWritten files out command (TooLong file length) = IsUntouched out
+HasWritten files out command (NotBuilt file) = IsUntouched out
+
+-- the answer is that of the command that the words name, and of usage where they name none
+abbrev pub IsCarriedOut : Files → Stream → Option Command → Answer → Type 0
+IsCarriedOut files out None answer = (answer ≡ Usage) × IsUntouched out
+IsCarriedOut files out (Some command) answer = HasCause files command answer × HasWritten files out command answer
+
+-- the call ends by an answer: the status is the answer's, its line was said, and it has its cause
+pub record Ends (words : List (List ℕ)) (files : Files) (out err : Stream) (status : ℕ) : Type 0 where
+  pub answer : Answer
+  pub status_is : status ≡ status_of answer
+  pub said : Said err (line_of answer)
+  pub carried_out : IsCarriedOut files out (command_of words) answer

@@ -12,9 +12,9 @@ command_of (verb ∷ model ∷ plan ∷ []) =
     if bytes_eq verb (codes "generate") && bytes_eq plan (codes "-") then Some (Generate model) else None
 command_of words = None
 
--- the word that names the model
-abbrev pub model_of : Command → List ℕ
-model_of (Generate model) = model
+-- the word that names the model, of a command that reads one
+abbrev pub model_of : Command → Option (List ℕ)
+model_of (Generate model) = Some model
 
 -- the words that name files, in the order in which these are fetched
 abbrev pub files_of : Command → List (List ℕ)

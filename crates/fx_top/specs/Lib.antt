@@ -1,15 +1,13 @@
 pub mod Answer
+pub mod Call
 pub mod Carries
 pub mod Cause
 pub mod Caused
 pub mod Command
-pub mod DelayModule
 pub mod DelayTree
-pub mod Fetching
 pub mod Messages
 pub mod OneDelay
 pub mod Outcome
 pub mod Output
-pub mod Said
-pub mod Template
 pub mod Trouble
+pub mod inner

@@ -1,13 +1,13 @@
 ghost use Rattle.std.specs.Prelude.{◌≡◌, ◌≤◌};
 ghost use Rattle.fx_top.specs.Answer.{status_of, line_of};
 ghost use Rattle.std.specs.List.{flat_map};
-ghost use Rattle.fx_top.specs.Said.{Said};
+ghost use Rattle.fx_top.specs.Call.{Said, stream_in};
 
 use fx_io::{Sink, put_all};
 use itoa::Buffer;
 
 /// How a call ended.
-#[derive(Clone, Copy)]
+#[derive(Drop)]
 pub enum Answer<'a> {
     /// The output was written whole.
     Done,
@@ -19,11 +19,11 @@ pub enum Answer<'a> {
     CannotRead { file: &'a str },
     /// The output was not taken whole.
     CannotWrite,
-    /// The file is no MDL text; it stops being the beginning of one at this line, from 1.
+    /// The model's file is no MDL text; it stops being the beginning of one at this line, from 1.
     NotMdl { file: &'a str, line: u64 },
     /// The file has so many bytes.
     TooLong { file: &'a str, length: u64 },
-    /// The file's tree has a form that is not built yet.
+    /// The model's file has a tree of a form that is not built yet.
     NotBuilt { file: &'a str },
 }
 
@@ -46,7 +46,7 @@ impl Answer<'_> {
 
     /// Puts the answer's line, where it has one. A failure changes nothing.
     pub fn report<E: Sink>(&self, err: &mut E)
-        ensures { Said (E.taken err.old) (E.taken err.new) (E.faults err.old) (E.faults err.new) (line_of self.now) }
+        ensures { Said (stream_in E.taken E.faults err.old err.new) (line_of self.now) }
     {
         let mut digits = Buffer::new();
         match self {
@@ -81,7 +81,7 @@ impl Answer<'_> {
 
 /// Puts the pieces one after another, up to a failure.
 fn say<E: Sink>(err: &mut E, pieces: &[&[u8]])
-    ensures said { Said (E.taken err.old) (E.taken err.new) (E.faults err.old) (E.faults err.new) (flat_map (λ piece. piece.now) pieces.now) }
+    ensures said { Said (stream_in E.taken E.faults err.old err.new) (flat_map (λ piece. piece.now) pieces.now) }
     ensures later { E.faults err.old ≤ E.faults err.new }
 {
     let Some((piece, more)) = pieces.split_first() else {

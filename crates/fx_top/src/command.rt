@@ -1,7 +1,7 @@
 ghost use Rattle.std.specs.Prelude.{◌≡◌, map, string_bytes};
 ghost use Rattle.std.specs.Option.{option_map};
 ghost use Rattle.fx_top.specs.Command.{command_of};
-ghost use Rattle.fx_top.specs.Answer.{named};
+ghost use Rattle.fx_top.specs.inner.Named.{named};
 
 /// What the words of a call ask for.
 #[derive(Clone, Copy)]

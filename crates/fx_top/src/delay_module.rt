@@ -3,7 +3,7 @@ ghost use Rattle.vl_ast.specs.Value.{bits_of};
 ghost use Rattle.vl_ast.specs.declared.expressions.Expr.TheVariants.{Name};
 ghost use Rattle.fx_top.specs.Carries.{attribute_of, bit_input, input_port, output_port};
 ghost use Rattle.fx_top.specs.OneDelay.{byte_element};
-ghost use Rattle.fx_top.specs.DelayModule.{delay_items, delay_module};
+ghost use Rattle.fx_top.specs.inner.DelayModule.{delay_items, delay_module};
 
 use crate::one_delay::OneDelay;
 use fx_io::{OutOfMemory, Text};

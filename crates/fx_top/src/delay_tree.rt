@@ -1,7 +1,7 @@
 ghost use Rattle.std.specs.Prelude.{◌≡◌, ◌≢◌, IfOk, ◌↔◌, IsTrue, MatchOption, bytes_eq, map, slice_get};
 ghost use Rattle.fx_top.specs.declared.one_delay.OneDelay.{OneDelay};
 ghost use Rattle.fx_top.specs.DelayTree.{DelayTexts, IsOneDelay, HasSoundNames, section, bare, quoted, delay_tree, is_port_name, taken_names};
-ghost use Rattle.fx_top.specs.Template.{item_of, texts_of, quoted_text};
+ghost use Rattle.fx_top.specs.inner.Template.{item_of, texts_of, quoted_text};
 ghost use Rattle.std.specs.Option.{option_copied};
 ghost use Rattle.std.specs.List.{list_any};
 

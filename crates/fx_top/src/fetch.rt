@@ -1,8 +1,8 @@
-ghost use Rattle.std.specs.Prelude.{◌≡◌, Some, IfOk, IfErr};
-ghost use Rattle.fx_io.specs.Cause.{Rose};
+ghost use Rattle.std.specs.Prelude.{◌≡◌, ◌≤◌, Some, IfOk, IfErr};
 ghost use Rattle.fx_io.specs.Shelf.{Fetched};
+ghost use Rattle.fx_top.specs.Call.{files_in};
 ghost use Rattle.fx_top.specs.Trouble.{file_limit};
-ghost use Rattle.fx_top.specs.Fetching.{IsFetchAnswer};
+ghost use Rattle.fx_top.specs.inner.Fetching.{IsFetchAnswer};
 
 use crate::answer::Answer;
 use fx_io::{FetchFault, Shelf, Text};
@@ -18,9 +18,12 @@ pub fn fetch_file<'a, S: Shelf>(
     shelf: &mut S,
 ) -> Result<Text, Answer<'a>>
     ensures found { IfOk result (λ bytes. Fetched (S.held shelf.old file.now) file_limit bytes) }
-    ensures told { IfOk result (λ bytes. S.steady shelf.old → S.held shelf.old file.now ≡ Some (Some bytes)) }
-    ensures refused { IfErr result (λ answer. IsFetchAnswer (S.held shelf.old file.now) (S.steady shelf.old)
-        (Rose (S.faults shelf.old) (S.faults shelf.new)) (Rose (S.overlong shelf.old) (S.overlong shelf.new)) file.now answer) }
+    ensures refused { IfErr result (λ answer. IsFetchAnswer
+        (files_in S.held S.steady S.faults S.overlong shelf.old shelf.new) file.now answer) }
+    ensures kept { S.held shelf.new ≡ S.held shelf.old }
+    ensures stays_steady { S.steady shelf.old → S.steady shelf.new }
+    ensures later { S.faults shelf.old ≤ S.faults shelf.new }
+    ensures overlong_later { S.overlong shelf.old ≤ S.overlong shelf.new }
 {
     match shelf.fetch(alloc, file, FILE_LIMIT) {
         Ok(text) => Ok(text),

@@ -1,10 +1,8 @@
 ghost use Rattle.std.specs.Prelude.{◌≡◌, ℕ, Err, IfOk};
-ghost use Rattle.fx_io.specs.Cause.{Rose};
 ghost use Rattle.fx_io.specs.Sink.{also_took, TookProperPrefix};
-ghost use Rattle.fx_top.specs.Answer.{status_of};
-ghost use Rattle.fx_top.specs.Caused.{IsCaused};
+ghost use Rattle.fx_top.specs.Call.{files_in, stream_in};
+ghost use Rattle.fx_top.specs.Caused.{HasCause, HasWritten};
 ghost use Rattle.fx_top.specs.Command.{Generate};
-ghost use Rattle.fx_top.specs.Outcome.{IsDue};
 ghost use Rattle.fx_top.specs.Output.{IsVerilogOf, IsNotMdl, IsNotBuilt};
 
 use crate::answer::Answer;
@@ -44,12 +42,11 @@ pub fn generate<'a, S: Shelf, K: Sink>(
     shelf: &mut S,
     out: &mut K,
 ) -> Answer<'a>
-    ensures cause { IsCaused (S.held shelf.old) (S.steady shelf.old) (Rose (S.faults shelf.old) (S.faults shelf.new))
-        (Rose (S.overlong shelf.old) (S.overlong shelf.new)) (Rose (K.faults out.old) (K.faults out.new))
-        (K.taken out.old) (K.taken out.new) (Generate model.now) result }
-    ensures due { IsDue (S.held shelf.old) (S.steady shelf.old) (status_of result) (Generate model.now) }
+    ensures cause { HasCause (files_in S.held S.steady S.faults S.overlong shelf.old shelf.new)
+        (Generate model.now) result }
+    ensures written { HasWritten (files_in S.held S.steady S.faults S.overlong shelf.old shelf.new)
+        (stream_in K.taken K.faults out.old out.new) (Generate model.now) result }
 {
-    mdl_text::unique();
     let bytes = match fetch_file(alloc, model, shelf) {
         Ok(bytes) => bytes,
         Err(answer) => return answer,

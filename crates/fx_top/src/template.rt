@@ -1,5 +1,5 @@
 ghost use Rattle.std.specs.Prelude.{◌≡◌, ◌↔◌, IsTrue, map};
-ghost use Rattle.fx_top.specs.Template.{item_of, value_of};
+ghost use Rattle.fx_top.specs.inner.Template.{item_of, value_of};
 
 use mdl_text::{Item, Value};
 

@@ -1,10 +1,8 @@
-ghost use Rattle.std.specs.Prelude.{◌≡◌, ◌≢◌, ℕ, [], ◌∷◌, Contains, map, string_bytes};
-ghost use Rattle.fx_io.specs.Cause.{Rose};
-ghost use Rattle.fx_top.specs.Caused.{IsCarriedOut};
+ghost use Rattle.std.specs.Prelude.{map, string_bytes};
+ghost use Rattle.fx_top.specs.Call.{files_in, stream_in};
+ghost use Rattle.fx_top.specs.Caused.{IsCarriedOut, Ends};
 ghost use Rattle.fx_top.specs.Command.{command_of};
-ghost use Rattle.fx_top.specs.Messages.{memory_line};
-ghost use Rattle.fx_top.specs.Outcome.{AnswersDone, AnswersUsage, AnswersReadFault, AnswersWriteFault, AnswersSyntax, AnswersTooLong, AnswersNotBuilt, IsComplete};
-ghost use Rattle.fx_top.specs.Said.{Said};
+ghost use Rattle.fx_top.specs.Outcome.{IfCommand, IsDue, IsComplete};
 
 use crate::answer::Answer;
 use crate::command::Command;
@@ -23,29 +21,15 @@ pub fn run<S: Shelf, K: Sink, E: Sink>(
     out: &mut K,
     err: &mut E,
 ) -> u8
-    ensures listed { Contains (0 ∷ 1 ∷ 2 ∷ 3 ∷ 4 ∷ 5 ∷ 9 ∷ 10 ∷ []) result }
-    ensures done { AnswersDone (map string_bytes words.now) (S.held shelf.old) (K.taken out.old) (K.taken out.new) result }
-    ensures memory { result ≡ 1 → Said (E.taken err.old) (E.taken err.new) (E.faults err.old) (E.faults err.new) memory_line }
-    ensures usage { AnswersUsage (map string_bytes words.now)
-        (Said (E.taken err.old) (E.taken err.new) (E.faults err.old) (E.faults err.new)) result }
-    ensures read_fault { AnswersReadFault (map string_bytes words.now) (S.held shelf.old) (S.steady shelf.old)
-        (Rose (S.faults shelf.old) (S.faults shelf.new))
-        (Said (E.taken err.old) (E.taken err.new) (E.faults err.old) (E.faults err.new)) result }
-    ensures write_fault { AnswersWriteFault (map string_bytes words.now) (S.held shelf.old)
-        (Rose (K.faults out.old) (K.faults out.new)) (K.taken out.old) (K.taken out.new)
-        (Said (E.taken err.old) (E.taken err.new) (E.faults err.old) (E.faults err.new)) result }
-    ensures syntax { AnswersSyntax (map string_bytes words.now) (S.held shelf.old)
-        (Said (E.taken err.old) (E.taken err.new) (E.faults err.old) (E.faults err.new)) result }
-    ensures too_long { AnswersTooLong (map string_bytes words.now) (S.held shelf.old) (S.steady shelf.old)
-        (Rose (S.overlong shelf.old) (S.overlong shelf.new))
-        (Said (E.taken err.old) (E.taken err.new) (E.faults err.old) (E.faults err.new)) result }
-    ensures not_built { AnswersNotBuilt (map string_bytes words.now) (S.held shelf.old)
-        (Said (E.taken err.old) (E.taken err.new) (E.faults err.old) (E.faults err.new)) result }
-    ensures complete { IsComplete (map string_bytes words.now) (S.held shelf.old) (S.steady shelf.old)
-        (Rose (S.faults shelf.old) (S.faults shelf.new)) (Rose (S.overlong shelf.old) (S.overlong shelf.new))
-        (Rose (K.faults out.old) (K.faults out.new)) result }
-    ensures untouched { result ≢ 0 → result ≢ 4 → K.taken out.new ≡ K.taken out.old }
-    ensures silent { result ≡ 0 → E.taken err.new ≡ E.taken err.old }
+    ensures ends { Ends (map string_bytes words.now)
+        (files_in S.held S.steady S.faults S.overlong shelf.old shelf.new)
+        (stream_in K.taken K.faults out.old out.new)
+        (stream_in E.taken E.faults err.old err.new) result }
+    ensures due { IfCommand (map string_bytes words.now) (λ command. IsDue
+        (files_in S.held S.steady S.faults S.overlong shelf.old shelf.new) command result) }
+    ensures complete { IfCommand (map string_bytes words.now) (λ command. IsComplete
+        (files_in S.held S.steady S.faults S.overlong shelf.old shelf.new)
+        (stream_in K.taken K.faults out.old out.new) command result) }
 {
     mdl_text::unique();
     let answer = carry_out(alloc, words, shelf, out);
@@ -59,9 +43,10 @@ fn carry_out<'a, S: Shelf, K: Sink>(
     shelf: &mut S,
     out: &mut K,
 ) -> Answer<'a>
-    ensures cause { IsCarriedOut (S.held shelf.old) (S.steady shelf.old) (Rose (S.faults shelf.old) (S.faults shelf.new))
-        (Rose (S.overlong shelf.old) (S.overlong shelf.new)) (Rose (K.faults out.old) (K.faults out.new))
-        (K.taken out.old) (K.taken out.new) (command_of (map string_bytes words.now)) result }
+    ensures { IsCarriedOut
+        (files_in S.held S.steady S.faults S.overlong shelf.old shelf.new)
+        (stream_in K.taken K.faults out.old out.new)
+        (command_of (map string_bytes words.now)) result }
 {
     match Command::of_words(words) {
         None => Answer::Usage,

@@ -1,6 +1,6 @@
 use Rattle.std.proofs.Common.{sym, subst, ◌∙◌}
 use Rattle.fx_top.specs.DelayTree.{DelayTexts, IsSmallNumber}
-use Rattle.fx_top.specs.Template.{texts_of}
+use Rattle.fx_top.specs.inner.Template.{texts_of}
 use Rattle.fx_top.proofs.Texts.{same-texts}
 use Rattle.fx_top.proofs.delay_tree.sound_texts.Goals as goal
 

@@ -2,7 +2,7 @@ use Rattle.std.proofs.Common.{◌≡◌, ℕ, List, true, ap, sym, subst, ◌∙
 use Rattle.vl_ast.specs.Grammar.{Spells}
 use Rattle.vl_ast.specs.Spelling.{spelling}
 use Rattle.fx_top.specs.DelayTree.{is_port_name}
-use Rattle.fx_top.specs.DelayModule.{delay_module}
+use Rattle.fx_top.specs.inner.DelayModule.{delay_module}
 use Rattle.fx_top.proofs.Carried.{carries}
 use Rattle.fx_top.proofs.Different.{delay-different}
 use Rattle.fx_top.proofs.Spelled.{module_text, is-module-text, identifier-of, module-writable}

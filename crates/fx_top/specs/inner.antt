@@ -1,0 +1,4 @@
+pub mod DelayModule
+pub mod Fetching
+pub mod Named
+pub mod Template

@@ -1,0 +1,8 @@
+-- A command that borrows its words.
+use Rattle.fx_top.specs.Command.{Command, Generate}
+use Rattle.fx_top.specs.declared.command.Command.{Command as CommandOf}
+use Rattle.fx_top.specs.declared.command.Command.TheVariants.{Generate as GenerateOf}
+
+-- the command, by the bytes of its words
+abbrev pub named : CommandOf → Command
+named (GenerateOf model) = Generate model.now
