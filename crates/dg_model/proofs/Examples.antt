@@ -1,6 +1,7 @@
 -- Parts of small diagrams whose tables are written out by hand, to check the definitions against.
-use Rattle.std.proofs.Common.{◌≡◌, sym, ◌∙◌, subst, ℕ, ◌<◌, ◌^◌, Bool, true, false, List, [], ◌∷◌, Option, None, ℤ, pos, negsuc, get_or, refl, arith}
-use Rattle.std.specs.Prelude.{All, AllPairs, ⊤}
+use Rattle.std.proofs.Common.{◌≡◌, sym, ◌∙◌, subst, ℕ, ◌<◌, ◌^◌, Bool, true, false, List, [], ◌∷◌, zero, suc, Option, None, Some, ℤ, pos, negsuc, get_or, refl, arith}
+use Rattle.std.specs.Prelude.{slice_get, All, AllPairs, ⊤}
+use Rattle.std.proofs.lemmas.Option.{none-some, same_Some}
 use Rattle.std.specs.List.{AllByRecursion}
 use Rattle.std.proofs.lemmas.List.Elements.{All-nil, All-cons}
 use Rattle.std.proofs.lemmas.List.Kept.{AllPairs-cons}
@@ -79,6 +80,16 @@ PairsByRecursion R (x ∷ xs) = AllByRecursion (R x) xs × PairsByRecursion R xs
 pub pairs_of : {A : Type 0} (R : A → A → Type 0) (xs : List A) → PairsByRecursion R xs → AllPairs R xs
 pairs_of R [] each = λ i j d before inside. absurd (omega (arith, inside))
 pairs_of R (x ∷ xs) each = AllPairs-cons R x xs (all_of (R x) xs (each.0)) (pairs_of R xs (each.1))
+
+-- what holds of each place and element of a list written out
+abbrev pub EachByRecursion : {A : Type 0} → (ℕ → A → Type 0) → List A → Type 0
+EachByRecursion P [] = ⊤
+EachByRecursion P (x ∷ xs) = P 0 x × EachByRecursion (λ k. P (suc k)) xs
+
+pub each_of : {A : Type 0} (P : ℕ → A → Type 0) (xs : List A) → EachByRecursion P xs → (k : ℕ) (x : A) → slice_get xs k ≡ Some x → P k x
+each_of P [] each k x at = absurd (none-some x at)
+each_of P (y ∷ xs) each zero x at = subst (P 0) (same_Some y x at) (each.0)
+each_of P (y ∷ xs) each (suc k) x at = each_of (λ k. P (suc k)) xs (each.1) k x at
 
 -- the table with a list of elements at each block and base sample, the same at each port
 abbrev pub table_of_vectors : List (List (List ℤ)) → Table

@@ -14,11 +14,15 @@ mod Numbers
 mod ParamTypes
 mod PeriodRounds
 mod RateAndLoop
+mod ReadableRows
 mod Roots
 mod Roundings
 mod SlowToFast
+mod SoundRows
 mod SumTypes
 mod TypeOfSmall
+mod TypeRows
 mod Vectors
 mod WidthRounds
+mod WiredRows
 pub mod Ports

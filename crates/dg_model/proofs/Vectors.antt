@@ -1,7 +1,13 @@
 -- Signals of several elements: a Mux of two and one elements into a Demux of one and two, a control of two elements, a Constant of two, a scalar that is repeated, and Ground.
-use Rattle.std.proofs.Common.{ℕ, ◌-◌, List, [], ◌∷◌, Some, None, pos, negsuc, get_or, true, false, refl}
+use Rattle.std.proofs.Common.{◌≡◌, zero, suc, ◌<◌, ◌≤◌, sym, subst, ◌∙◌, arith, ℕ, ◌-◌, List, [], ◌∷◌, Some, None, pos, negsuc, get_or, true, false, refl}
 use Rattle.std.proofs.Math.Dec.{lit<}
+use Rattle.std.specs.Prelude.{slice_get}
+use Rattle.std.proofs.Math.Nat.{mod-one}
+use Rattle.std.proofs.lemmas.Option.{none-some, same_Some}
 use Rattle.fx_type.specs.declared.kind.FxType.TheVariants.{Num}
+use Rattle.dg_model.specs.declared.diagram.Block.{Block}
+use Rattle.dg_model.specs.Hits.{Hits}
+use Rattle.dg_model.specs.Solves.{Solves, IsShown, shown_ports, shown_width}
 use Rattle.dg_model.specs.declared.diagram.Diagram.{Diagram}
 use Rattle.dg_model.specs.declared.kind.Kind.TheVariants.{Inport, Constant, Ground, EnableTest, Mux, Demux, Sum}
 use Rattle.dg_model.specs.declared.op.Op.TheVariants.{Sum as OpSum}
@@ -30,16 +36,49 @@ laid_table block port element t =
     get_or (get_or (get_or (((pos 11 ∷ pos 12 ∷ []) ∷ []) ∷ ((pos 13 ∷ []) ∷ []) ∷ ((pos 11 ∷ pos 12 ∷ pos 13 ∷ []) ∷ []) ∷ ((pos 11 ∷ []) ∷ (pos 12 ∷ pos 13 ∷ []) ∷ []) ∷ []) block []) (port - 1) []) element (pos 0)
 
 abbrev laid_stimulus : Stimulus
-laid_stimulus number element t = pos 0
+laid_stimulus number element t = laid_table (number - 1) 1 element t
 
 abbrev IsLaid : ℕ → ℕ → ℕ → Type 0
 IsLaid block port element = Equation laid laid_attributes laid_stimulus laid_table block port element 0 (laid_table block port element 0)
+
+inports : IsLaid 0 1 0 × IsLaid 0 1 1 × IsLaid 1 1 0
+inports = (refl, refl, refl)
 
 mux : IsLaid 2 1 0 × IsLaid 2 1 1 × IsLaid 2 1 2
 mux = ((0, 0, record { signal_is = lit< tt; within = lit< tt; place = refl }, refl), (0, 1, record { signal_is = lit< tt; within = lit< tt; place = refl }, refl), (1, 0, record { signal_is = lit< tt; within = lit< tt; place = refl }, refl))
 
 demux : IsLaid 3 1 0 × IsLaid 3 2 0 × IsLaid 3 2 1
 demux = (refl, refl, refl)
+
+-- what a place of a block that is there may be
+places : (block : ℕ) (b known : Block) (port element : ℕ) → IsShown laid laid_attributes block b port element → slice_get laid.blocks block ≡ Some known →
+    (1 ≤ port) × (port ≤ shown_ports known.kind known.outputs) × (element < shown_width laid laid_attributes known.kind block port)
+places block b known port element shown at =
+    let is : b ≡ known = same_Some b known (sym shown.block_is ∙ at) in
+    subst (λ (o : Block). (1 ≤ port) × (port ≤ shown_ports o.kind o.outputs) × (element < shown_width laid laid_attributes o.kind block port)) is (shown.port_from, shown.port_to, shown.element_below)
+
+at_hits : (block : ℕ) (b : Block) (port element t : ℕ) → IsShown laid laid_attributes block b port element → t < 1 → Hits (laid_attributes.period_at block) t → Equation laid laid_attributes laid_stimulus laid_table block port element t (laid_table block port element t)
+at_hits block b zero element t shown below hit = absurd (omega (arith, shown.port_from))
+at_hits zero b (suc zero) element t shown below hit = refl
+at_hits zero b (suc (suc port)) element t shown below hit = absurd (omega (arith, (places 0 b _ (suc (suc port)) element shown refl).1))
+at_hits (suc zero) b (suc zero) element t shown below hit = refl
+at_hits (suc zero) b (suc (suc port)) element t shown below hit = absurd (omega (arith, (places 1 b _ (suc (suc port)) element shown refl).1))
+at_hits (suc (suc zero)) b (suc zero) zero t shown below hit = (0, 0, record { signal_is = lit< tt; within = lit< tt; place = refl }, refl)
+at_hits (suc (suc zero)) b (suc zero) (suc zero) t shown below hit = (0, 1, record { signal_is = lit< tt; within = lit< tt; place = refl }, refl)
+at_hits (suc (suc zero)) b (suc zero) (suc (suc zero)) t shown below hit = (1, 0, record { signal_is = lit< tt; within = lit< tt; place = refl }, refl)
+at_hits (suc (suc zero)) b (suc zero) (suc (suc (suc element))) t shown below hit = absurd (omega (arith, (places 2 b _ 1 (suc (suc (suc element))) shown refl).2))
+at_hits (suc (suc zero)) b (suc (suc port)) element t shown below hit = absurd (omega (arith, (places 2 b _ (suc (suc port)) element shown refl).1))
+at_hits (suc (suc (suc zero))) b (suc zero) zero t shown below hit = refl
+at_hits (suc (suc (suc zero))) b (suc zero) (suc element) t shown below hit = absurd (omega (arith, (places 3 b _ 1 (suc element) shown refl).2))
+at_hits (suc (suc (suc zero))) b (suc (suc zero)) zero t shown below hit = refl
+at_hits (suc (suc (suc zero))) b (suc (suc zero)) (suc zero) t shown below hit = refl
+at_hits (suc (suc (suc zero))) b (suc (suc zero)) (suc (suc element)) t shown below hit = absurd (omega (arith, (places 3 b _ 2 (suc (suc element)) shown refl).2))
+at_hits (suc (suc (suc zero))) b (suc (suc (suc port))) element t shown below hit = absurd (omega (arith, (places 3 b _ (suc (suc (suc port))) element shown refl).1))
+at_hits (suc (suc (suc (suc block)))) b (suc port) element t shown below hit = absurd (none-some b shown.block_is)
+
+-- the table solves for one sample
+pub laid_solves : Solves laid laid_attributes laid_stimulus 1 laid_table
+laid_solves = record { at_hits = at_hits; between_hits = λ block b port element t shown below miss. absurd (miss (mod-one t)) }
 
 -- ---- a control of two elements enables where one of them is above 0
 
