@@ -55,7 +55,7 @@ abbrev attributes : Attributes
 attributes = record {
   width_at = λ block port. get_or (2 ∷ 2 ∷ 2 ∷ 2 ∷ 1 ∷ 2 ∷ 2 ∷ 2 ∷ []) block 0;
   type_at = λ block port. get_or (int8 ∷ halves ∷ int8 ∷ int8 ∷ int8 ∷ int8 ∷ int8 ∷ int8 ∷ []) block halves;
-  param_at = λ block. halves;
+  param_at = λ block. get_or (int8 ∷ int8 ∷ halves ∷ []) block int8;
   period_at = λ block. None;
 }
 

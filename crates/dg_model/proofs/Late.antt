@@ -1,10 +1,11 @@
 -- Blocks of vectors that look back: a Delay of period 2, and rate transitions from slow to fast, from fast to slow, between equal periods and from a value that never changes.
-use Rattle.std.proofs.Common.{◌≡◌, ℕ, List, [], ◌∷◌, None, Some, pos, get_or, false, ℤ, refl, arith}
+use Rattle.std.proofs.Common.{◌≡◌, ℕ, List, [], ◌∷◌, None, Some, pos, get_or, map, true, false, ℤ, refl, arith}
 use Rattle.std.proofs.Math.Dec.{lit<, lit≤}
 use Rattle.fx_type.specs.declared.decimal.Decimal.{Decimal}
 use Rattle.dg_model.specs.declared.diagram.Diagram.{Diagram}
 use Rattle.dg_model.specs.declared.kind.Kind.TheVariants.{Inport, Constant, Delay, RateTransition}
 use Rattle.dg_model.specs.Equation.{Equation}
+use Rattle.dg_model.specs.Hits.{is_hit, hits_before, last_hit}
 use Rattle.dg_model.specs.Signals.{Attributes, Stimulus, Table}
 use Rattle.dg_model.specs.Solves.{Solves}
 use Rattle.dg_model.proofs.Examples.{int8, block_of, edge_of, decimal_of, table_of_vectors, stores_small}
@@ -82,3 +83,10 @@ not_restless : ¬ Solves diagram attributes stimulus 2 restless
 not_restless solves =
     let e : ◌≡◌ {A = ℤ} (pos 5) (pos 4) = solves.between_hits 0 (block_of (Inport 1 2) 0 1 None) 1 1 1 (record { block_is = refl; port_from = lit≤ tt; port_to = lit≤ tt; element_below = lit< tt }) (lit< tt) (λ hit. absurd (omega (arith, hit))) in
     cc
+
+-- a value that never changes is taken at 0 alone
+hits_of_constant : map (is_hit None) (0 ∷ 1 ∷ 2 ∷ []) ≡ true ∷ false ∷ false ∷ []
+hits_of_constant = refl
+
+hits_of_two : (map (is_hit (Some 2)) (0 ∷ 1 ∷ 2 ∷ []) ≡ true ∷ false ∷ true ∷ []) × (hits_before (Some 2) 5 ≡ 4 ∷ 2 ∷ 0 ∷ []) × (last_hit (Some 2) 5 ≡ 4) × (last_hit None 5 ≡ 0)
+hits_of_two = (refl, refl, refl, refl)

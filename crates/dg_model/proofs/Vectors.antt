@@ -1,6 +1,6 @@
 -- Signals of several elements: a Mux of two and one elements into a Demux of one and two, a control of two elements, a Constant of two, a scalar that is repeated, and Ground.
 use Rattle.std.proofs.Common.{◌≡◌, zero, suc, ◌<◌, ◌≤◌, sym, subst, ◌∙◌, arith, ℕ, ◌-◌, List, [], ◌∷◌, Some, None, pos, negsuc, get_or, true, false, refl}
-use Rattle.std.proofs.Math.Dec.{lit<}
+use Rattle.std.proofs.Math.Dec.{lit<, lit≤}
 use Rattle.std.specs.Prelude.{slice_get}
 use Rattle.std.proofs.Math.Nat.{mod-one}
 use Rattle.std.proofs.lemmas.Option.{none-some, same_Some}
@@ -9,19 +9,20 @@ use Rattle.dg_model.specs.declared.diagram.Block.{Block}
 use Rattle.dg_model.specs.Hits.{Hits}
 use Rattle.dg_model.specs.Solves.{Solves, IsShown, shown_ports, shown_width}
 use Rattle.dg_model.specs.declared.diagram.Diagram.{Diagram}
-use Rattle.dg_model.specs.declared.kind.Kind.TheVariants.{Inport, Constant, Ground, EnableTest, Mux, Demux, Sum}
-use Rattle.dg_model.specs.declared.op.Op.TheVariants.{Sum as OpSum}
+use Rattle.dg_model.specs.declared.kind.Kind.TheVariants.{Inport, Outport, Constant, Ground, EnableTest, Mux, Demux, Sum}
+use Rattle.dg_model.specs.declared.op.Op.TheVariants.{Sum as OpSum, Pass as OpPass}
 use Rattle.dg_model.specs.Equation.{Equation}
 use Rattle.dg_model.specs.Signals.{Attributes, Stimulus, Table}
 use Rattle.dg_model.proofs.Examples.{int8, block_of, edge_of, decimal_of, stores_small, kept}
 use Rattle.dg_model.proofs.SumTypes.{two_bytes_full}
 
--- ---- u (11, 12) and v (13) into a Mux, its three elements into a Demux of one and two
+-- ---- u (11, 12) and v (13) into a Mux, its three elements into a Demux of one and two, and an Outport of the two
 
 abbrev laid : Diagram
 laid = record {
-  blocks = block_of (Inport 1 2) 0 1 None ∷ block_of (Inport 2 0) 0 1 None ∷ block_of (Mux []) 2 1 None ∷ block_of (Demux (1 ∷ 2 ∷ [])) 1 2 None ∷ [];
-  edges = edge_of 0 1 2 1 ∷ edge_of 1 1 2 2 ∷ edge_of 2 1 3 1 ∷ [];
+  blocks = block_of (Inport 1 2) 0 1 None ∷ block_of (Inport 2 0) 0 1 None ∷ block_of (Mux []) 2 1 None ∷ block_of (Demux (1 ∷ 2 ∷ [])) 1 2 None
+      ∷ block_of (Outport 1) 1 0 None ∷ [];
+  edges = edge_of 0 1 2 1 ∷ edge_of 1 1 2 2 ∷ edge_of 2 1 3 1 ∷ edge_of 3 2 4 1 ∷ [];
 }
 
 abbrev laid_widths : List (List ℕ)
@@ -33,7 +34,7 @@ laid_attributes = record { width_at = λ block port. get_or (0 ∷ get_or laid_w
 -- by block, port and element
 abbrev laid_table : Table
 laid_table block port element t =
-    get_or (get_or (get_or (((pos 11 ∷ pos 12 ∷ []) ∷ []) ∷ ((pos 13 ∷ []) ∷ []) ∷ ((pos 11 ∷ pos 12 ∷ pos 13 ∷ []) ∷ []) ∷ ((pos 11 ∷ []) ∷ (pos 12 ∷ pos 13 ∷ []) ∷ []) ∷ []) block []) (port - 1) []) element (pos 0)
+    get_or (get_or (get_or (((pos 11 ∷ pos 12 ∷ []) ∷ []) ∷ ((pos 13 ∷ []) ∷ []) ∷ ((pos 11 ∷ pos 12 ∷ pos 13 ∷ []) ∷ []) ∷ ((pos 11 ∷ []) ∷ (pos 12 ∷ pos 13 ∷ []) ∷ []) ∷ ((pos 12 ∷ pos 13 ∷ []) ∷ []) ∷ []) block []) (port - 1) []) element (pos 0)
 
 abbrev laid_stimulus : Stimulus
 laid_stimulus number element t = laid_table (number - 1) 1 element t
@@ -74,7 +75,13 @@ at_hits (suc (suc (suc zero))) b (suc (suc zero)) zero t shown below hit = refl
 at_hits (suc (suc (suc zero))) b (suc (suc zero)) (suc zero) t shown below hit = refl
 at_hits (suc (suc (suc zero))) b (suc (suc zero)) (suc (suc element)) t shown below hit = absurd (omega (arith, (places 3 b _ 2 (suc (suc element)) shown refl).2))
 at_hits (suc (suc (suc zero))) b (suc (suc (suc port))) element t shown below hit = absurd (omega (arith, (places 3 b _ (suc (suc (suc port))) element shown refl).1))
-at_hits (suc (suc (suc (suc block)))) b (suc port) element t shown below hit = absurd (none-some b shown.block_is)
+at_hits (suc (suc (suc (suc zero)))) b (suc zero) element t shown below hit = (OpPass, refl, refl)
+at_hits (suc (suc (suc (suc zero)))) b (suc (suc port)) element t shown below hit = absurd (omega (arith, (places 4 b _ (suc (suc port)) element shown refl).1))
+at_hits (suc (suc (suc (suc (suc block))))) b (suc port) element t shown below hit = absurd (none-some b shown.block_is)
+
+-- the Outport shows both elements of its input
+shown_second : IsShown laid laid_attributes 4 (block_of (Outport 1) 1 0 None) 1 1
+shown_second = record { block_is = refl; port_from = lit≤ tt; port_to = lit≤ tt; element_below = lit< tt }
 
 -- the table solves for one sample
 pub laid_solves : Solves laid laid_attributes laid_stimulus 1 laid_table

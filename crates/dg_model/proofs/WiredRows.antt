@@ -129,12 +129,20 @@ twice_driven : ¬ IsWired (with_edges (edge_of 1 1 2 1 ∷ edge_of 0 1 3 1 ∷ e
 twice_driven is = let e : ◌≡◌ {A = ℕ} 2 1 = is.driven 5 1 (outport 1) refl (lit≤ tt) (lit≤ tt) in absurd (omega (arith, e))
 
 -- the edges in another order
-before : (later : Edge) → StandsBefore (edge_of 0 1 3 1) (edge_of 1 1 2 1) → ⊥
-before later (inl less) = absurd (omega (arith, less))
-before later (inr same) = absurd (omega (arith, same.0))
+before : StandsBefore (edge_of 0 1 3 1) (edge_of 1 1 2 1) → ⊥
+before (inl less) = absurd (omega (arith, less))
+before (inr same) = absurd (omega (arith, same.0))
 
 unordered : ¬ IsWired (with_edges (edge_of 0 1 3 1 ∷ edge_of 1 1 2 1 ∷ edge_of 3 1 4 1 ∷ edge_of 4 1 5 1 ∷ []))
-unordered is = before (edge_of 1 1 2 1) (is.ordered 0 1 (edge_of 1 1 2 1) (lit< tt) (lit< tt))
+unordered is = before (is.ordered 0 1 (edge_of 1 1 2 1) (lit< tt) (lit< tt))
+
+-- and the edges into one block, of which the later port stands first
+before_port : StandsBefore (edge_of 0 1 3 2) (edge_of 1 1 3 1) → ⊥
+before_port (inl less) = absurd (omega (arith, less))
+before_port (inr same) = absurd (omega (arith, same.1))
+
+unordered_ports : ¬ IsWired (with_edges (edge_of 0 1 3 2 ∷ edge_of 1 1 3 1 ∷ []))
+unordered_ports is = before_port (is.ordered 0 1 (edge_of 1 1 3 1) (lit< tt) (lit< tt))
 
 -- an enabled subsystem named by no control, and an output port of none
 abbrev with_blocks : List Block → Diagram
