@@ -1,10 +1,8 @@
 pub mod SplitLemmas
 pub mod FieldsLemmas
 pub mod LinesLemmas
-pub mod NumberLemmas
 pub mod DigitsLemmas
 pub mod NumeralLemmas
-pub mod QuotedLemmas
 pub mod DraftLemmas
 pub mod PlanLemmas
 pub mod StimulusLemmas

@@ -5,6 +5,5 @@ pub mod Digits
 pub mod Stimulus
 pub mod Response
 pub mod RowText
-pub mod Quoted
 pub mod Plan
 pub mod Draft

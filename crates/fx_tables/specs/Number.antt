@@ -2,7 +2,8 @@
 use Rattle.std.specs.Prelude.{◌≡◌, ℕ, ℤ, ◌-◌, ◌^◌, ◌<◌, ◌≤◌, true, false, List, Option, MatchOption, min}
 use Rattle.std.specs.Int.Signed.{mag}
 use Rattle.std.specs.Str.Parse.{digits_value}
-use Rattle.fx_tables.specs.Whole.{is_number, is_whole, whole_value}
+use Rattle.fx_tables.specs.Whole.{is_whole, whole_value}
+use Rattle.fx_text.specs.Digits.{is_number}
 use Rattle.fx_tables.specs.declared.number.Whole.{Whole}
 use Rattle.fx_tables.specs.declared.number.Whole.TheVariants.{Not, Far, Near}
 

@@ -6,8 +6,8 @@ use Rattle.std.specs.Str.{bytes_eq}
 use Rattle.std.specs.Str.Lines.{lines}
 use Rattle.std.specs.Str.Parse.{digits_value}
 use Rattle.fx_tables.specs.Fields.{is_blank, after_blanks, fields_of}
-use Rattle.fx_tables.specs.Whole.{is_number}
-use Rattle.fx_tables.specs.Quoted.{quoted}
+use Rattle.fx_text.specs.Digits.{is_number}
+use Rattle.fx_text.specs.Strings.{string_behind}
 use Rattle.dg_model.specs.declared.plan.Plan.{Plan}
 use Rattle.dg_model.specs.declared.plan.Pipeline.{Pipeline}
 use Rattle.fx_tables.specs.declared.entry.PlanEntry.{PlanEntry}
@@ -45,7 +45,7 @@ counted_entry (Some (path, rest)) = if is_blank (slice_index rest 0) then pipeli
 
 -- a quoted path and a count
 abbrev pub pipeline_entry : List ℕ → Option PlanEntry
-pipeline_entry text = if slice_index text 0 == 34 then counted_entry (quoted (drop 1 text)) else None
+pipeline_entry text = if slice_index text 0 == 34 then counted_entry (string_behind (drop 1 text)) else None
 
 -- what a line says whose fields are these, where `text` stands behind its first field
 abbrev pub words_entry : List (List ℕ) → List ℕ → Option PlanEntry

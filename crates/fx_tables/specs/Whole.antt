@@ -1,12 +1,7 @@
 -- Whole numbers as a text writes them (own).
-use Rattle.std.specs.Prelude.{ℕ, ℤ, pos, neg_ℤ, Bool, List, ◌&&◌, nat_le, length, drop, if◌then◌else◌}
-use Rattle.std.specs.List.{list_all}
-use Rattle.std.specs.Char.{is_ascii_digit}
+use Rattle.std.specs.Prelude.{ℕ, ℤ, pos, neg_ℤ, Bool, List, drop, if◌then◌else◌}
 use Rattle.std.specs.Str.Parse.{digits_value, starts_with_minus}
-
--- 1 to `most` digits
-abbrev pub is_number : ℕ → List ℕ → Bool
-is_number most text = nat_le 1 (length text) && nat_le (length text) most && list_all is_ascii_digit text
+use Rattle.fx_text.specs.Digits.{is_number}
 
 -- what stands after the one minus that may come first
 abbrev pub digits_of_whole : List ℕ → List ℕ

@@ -4,9 +4,7 @@ ghost use Rattle.fx_tables.specs.Fields.{is_blank, fields_of};
 ghost use Rattle.fx_tables.specs.Digits.{IsRunOfDigits};
 
 use crate::cut::is_blank;
-
-/// The most digits whose number surely fits 64 bits.
-pub(crate) const SHORT_DIGITS: usize = 18;
+use fx_text::SHORT_DIGITS;
 
 /// The number that the digits at the start of a text write, and what follows them.
 #[derive(Clone, Copy)]

@@ -3,10 +3,9 @@ ghost use Rattle.fx_tables.specs.Fields.{is_blank, after_blanks, fields_of};
 ghost use Rattle.fx_tables.specs.Plan.{entry_of, sole_number, pipeline_entry, pipelined_entry};
 
 use crate::cut::{cut_field, skip_blanks};
-use crate::number::read_short;
-use crate::quoted::{Quoted, read_quoted};
 use dg_model::Pipeline;
 use fx_io::{OutOfMemory, Text};
+use fx_text::{QuotedText, read_short, read_string};
 use std::alloc::Global;
 
 /// The most digits of a number in a plan.
@@ -54,9 +53,9 @@ fn read_pipeline(alloc: Global, text: &[u8]) -> Result<Option<PlanEntry>, OutOfM
     if quote.is_empty() || quote[0] != b'"' {
         return Ok(None);
     }
-    match read_quoted(alloc, &quote[1..])? {
+    match read_string(alloc, &quote[1..])? {
         None => Ok(None),
-        Some(Quoted { content, length }) => Ok(read_count_of(content, &quote[1 + length..])),
+        Some(QuotedText { content, length }) => Ok(read_count_of(content, &quote[1 + length..])),
     }
 }
 

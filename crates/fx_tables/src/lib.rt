@@ -3,8 +3,8 @@
 //! `read_rows` gives the rows that a stimulus stands for (`IsRows`), or its first bad line with the
 //! first cause there (`stimulus_fault`). `read_plan` gives the plan that a text says (`IsPlan`), or
 //! its first bad line (`plan_fault`). `RowText::line` writes one line of a response
-//! (`response_line`). The definitions are in `specs/`: `Fields`, `Whole` and `Quoted` on the parts of
-//! a line, `Stimulus`, `Response` and `Plan` on the three texts.
+//! (`response_line`). The definitions are in `specs/`: `Fields` and `Whole` on the parts of a line,
+//! `Stimulus`, `Response` and `Plan` on the three texts.
 #![tactic(auto)]
 
 mod cell;
@@ -16,7 +16,6 @@ mod field;
 mod number;
 mod numeral;
 mod plan;
-mod quoted;
 mod row_text;
 mod rows;
 mod table;

@@ -1,10 +1,8 @@
 ghost use Rattle.std.specs.Prelude.{◌≡◌, ◌-◌, ◌^◌, ◌<◌, ◌≤◌, pos, neg_ℤ, IsTrue, true, false, length, MatchOption, min};
-ghost use Rattle.std.specs.List.{list_all};
-ghost use Rattle.std.specs.Char.{is_ascii_digit};
-ghost use Rattle.std.specs.Str.Parse.{digits_value, starts_with_minus};
+ghost use Rattle.std.specs.Str.Parse.{starts_with_minus};
 ghost use Rattle.fx_tables.specs.Number.{IsMagnitude, IsNumber, IsReading};
 
-use crate::digits::SHORT_DIGITS;
+use fx_text::{SHORT_DIGITS, read_capped, read_short};
 
 /// The most digits of a whole number.
 const MOST_DIGITS: usize = 64;
@@ -85,37 +83,6 @@ fn read_magnitude(digits: &[u8]) -> Option<u128>
             Some(value) => Some(u128::from(value)),
         }
     } else {
-        read_long(digits)
+        read_capped(digits)
     }
-}
-
-/// Reads up to 18 digits.
-pub(crate) fn read_short(digits: &[u8]) -> Option<u64>
-    requires { length digits.now ≤ 18 }
-    ensures { MatchOption result (list_all is_ascii_digit digits.now ≡ false) (λ value. (list_all is_ascii_digit digits.now ≡ true) × (value ≡ digits_value 10 digits.now)) }
-{
-    let mut value = 0u64;
-    for digit in digits {
-        if !digit.is_ascii_digit() {
-            return None;
-        }
-        value = value * 10 + u64::from(*digit - b'0');
-    }
-    Some(value)
-}
-
-/// Reads digits; a number that does not fit reads as the greatest that does.
-fn read_long(digits: &[u8]) -> Option<u128>
-    ensures { MatchOption result (list_all is_ascii_digit digits.now ≡ false) (λ value. (list_all is_ascii_digit digits.now ≡ true) × (value ≡ min (digits_value 10 digits.now) (2 ^ 128 - 1))) }
-{
-    let mut value = 0u128;
-    for digit in digits {
-        if !digit.is_ascii_digit() {
-            return None;
-        }
-        value = value
-            .saturating_mul(10)
-            .saturating_add(u128::from(*digit - b'0'));
-    }
-    Some(value)
 }

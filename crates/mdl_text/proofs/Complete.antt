@@ -13,7 +13,8 @@ use Rattle.mdl_text.specs.declared.strings.Place.TheVariants.{Outside}
 use Rattle.mdl_text.specs.declared.reader.Draft.{Draft}
 use Rattle.mdl_text.specs.declared.reader.Pending.TheVariants.{Strings, Open as OpenList}
 use Rattle.mdl_text.specs.declared.reader.Reader.{Reader}
-use Rattle.mdl_text.specs.Bytes.{is_blank, is_name_byte, AreBlanks, IsName, AreStrings, lines_of, Piece, piece_bytes, Closes, Quote, quote_bytes, quoted}
+use Rattle.mdl_text.specs.Bytes.{is_blank, is_name_byte, AreBlanks, IsName, AreStrings, lines_of, Piece, piece_bytes, Closes, Quote, quote_bytes}
+use Rattle.fx_text.specs.Strings.{quoted}
 use Rattle.mdl_text.specs.Bytes.Piece.{Opening, Closing, String, Other}
 use Rattle.mdl_text.specs.Lines.{IsComment, StartsSection, EndsSection, IsEmptyParameter, GivesParameter, IsBareParameter, IsFurtherText, Further, IsQuotedParameter, IsListParameter}
 use Rattle.mdl_text.specs.Stands.{Says, Part, HasForm, Builds, Stands}

@@ -10,8 +10,9 @@ use Rattle.mdl_text.specs.declared.strings.Place.TheVariants.{Outside, Inside, E
 use Rattle.mdl_text.specs.declared.brackets.Spot.{Spot}
 use Rattle.mdl_text.specs.declared.brackets.ListEnd.{ListEnd}
 use Rattle.mdl_text.specs.declared.brackets.ListEnd.TheVariants.{Closed, Open, Broken}
-use Rattle.mdl_text.specs.Bytes.{Char, is_char, char_bytes, quoted, Piece, piece_bytes, Closes}
-use Rattle.mdl_text.specs.Bytes.Char.{Plain, Escape}
+use Rattle.mdl_text.specs.Bytes.{Piece, piece_bytes, Closes}
+use Rattle.fx_text.specs.Strings.{Char, is_char, char_bytes, quoted}
+use Rattle.fx_text.specs.Strings.Char.{Plain, Escape}
 use Rattle.mdl_text.specs.Bytes.Piece.{Opening, Closing, String, Other}
 use Rattle.mdl_text.specs.Plain.{spot_at, spot_step, list_end, or_else_closed}
 use Rattle.mdl_text.proofs.Classes.{two_tests}

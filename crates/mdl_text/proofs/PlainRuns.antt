@@ -2,7 +2,8 @@
 use Rattle.std.proofs.Common.{◌≡◌, ℕ, ◌+◌, true, false, cond, List, [], ◌∷◌, ◌++◌, take, drop, Some, refl, sym, ◌∙◌, ap, append_assoc, append-nil, one-add}
 use Rattle.std.specs.List.{list_all, prefix_len}
 use Rattle.mdl_text.specs.declared.strings.Place.TheVariants.{Outside, Inside}
-use Rattle.mdl_text.specs.Bytes.{is_blank, is_plain}
+use Rattle.mdl_text.specs.Bytes.{is_blank}
+use Rattle.fx_text.specs.Strings.{is_plain}
 use Rattle.mdl_text.specs.Plain.{strings, strings_from}
 use Rattle.mdl_text.proofs.Quotes.{open_step, plain_step, close_step, outside_blanks, after_step}
 

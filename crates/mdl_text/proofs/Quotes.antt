@@ -5,8 +5,9 @@ use Rattle.std.specs.List.{list_all, AllByRecursion}
 use Rattle.std.proofs.lemmas.Bool.{and_parts, and_from, not-true}
 use Rattle.mdl_text.specs.declared.strings.Place.{Place}
 use Rattle.mdl_text.specs.declared.strings.Place.TheVariants.{Outside, Inside, Escaped}
-use Rattle.mdl_text.specs.Bytes.{is_blank, AreBlanks, Char, is_char, char_bytes, escaped, char_value, quoted, Quote, IsQuote, quote_bytes, quote_value}
-use Rattle.mdl_text.specs.Bytes.Char.{Plain, Escape}
+use Rattle.mdl_text.specs.Bytes.{is_blank, AreBlanks, Quote, IsQuote, quote_bytes, quote_value}
+use Rattle.fx_text.specs.Strings.{Char, is_char, char_bytes, escaped, char_value, quoted}
+use Rattle.fx_text.specs.Strings.Char.{Plain, Escape}
 use Rattle.mdl_text.specs.Plain.{string_step, strings}
 use Rattle.mdl_text.proofs.Classes.{no_byte, quote_no_blank, two_tests}
 

@@ -1,8 +1,9 @@
 -- Bytes of a text, its lines, and the strings and brackets in them (own).
-use Rattle.std.specs.Prelude.{◌≡◌, ◌≢◌, ℕ, zero, suc, Bool, true, not, ◌==◌, ◌||◌, ◌&&◌, List, [], ◌∷◌, ◌++◌, IsTrue, if◌then◌else◌}
+use Rattle.std.specs.Prelude.{◌≡◌, ◌≢◌, ℕ, zero, suc, Bool, ◌==◌, ◌||◌, List, [], ◌∷◌, ◌++◌, IsTrue, if◌then◌else◌}
 use Rattle.std.specs.Char.{is_ascii_digit, is_ascii_alphabetic}
 use Rattle.std.specs.List.{list_all, flat_map, AllByRecursion}
 use Rattle.fx_io.specs.FaultLine.{IsOneLine}
+use Rattle.fx_text.specs.Strings.{Char, is_char, char_value, quoted}
 
 -- a space, a tab or a carriage return
 unfoldable pub is_blank : ℕ → Bool
@@ -30,41 +31,6 @@ on_first byte (line ∷ lines) = (byte ∷ line) ∷ lines
 abbrev pub lines_of : List ℕ → List (List ℕ)
 lines_of [] = [] ∷ []
 lines_of (byte ∷ bytes) = if byte == 10 then [] ∷ lines_of bytes else on_first byte (lines_of bytes)
-
--- what stands between two quotes: a byte for itself, or a backslash and the byte after it
-pub data Char : Type 0 where
-  Plain : ℕ → Char
-  Escape : ℕ → Char
-
--- a quote or a backslash doesn't stand for itself
-abbrev pub is_plain : ℕ → Bool
-is_plain byte = not (byte == 34) && not (byte == 92)
-
-abbrev pub is_char : Char → Bool
-is_char (Plain byte) = is_plain byte
-is_char (Escape byte) = true
-
--- how a character is written
-abbrev pub char_bytes : Char → List ℕ
-char_bytes (Plain byte) = byte ∷ []
-char_bytes (Escape byte) = 92 ∷ byte ∷ []
-
--- what a backslash and a byte say: `\n` a newline, `\t` a tab, `\"` a quote, `\\` a backslash, and any other both bytes
-abbrev pub escaped : ℕ → List ℕ
-escaped byte =
-    if byte == 110 then 10 ∷ []
-    else (if byte == 116 then 9 ∷ []
-    else (if byte == 34 || byte == 92 then byte ∷ []
-    else 92 ∷ byte ∷ []))
-
--- what a character says
-abbrev pub char_value : Char → List ℕ
-char_value (Plain byte) = byte ∷ []
-char_value (Escape byte) = escaped byte
-
--- a string with its quotes
-abbrev pub quoted : List Char → List ℕ
-quoted chars = 34 ∷ (flat_map char_bytes chars ++ 34 ∷ [])
 
 -- a quoted string and the blanks after it
 pub record Quote : Type 0 where

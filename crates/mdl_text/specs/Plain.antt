@@ -13,7 +13,8 @@ use Rattle.mdl_text.specs.declared.reader.Draft.{Draft}
 use Rattle.mdl_text.specs.declared.reader.Pending.{Pending}
 use Rattle.mdl_text.specs.declared.reader.Pending.TheVariants.{Nothing, Strings, Open as OpenList}
 use Rattle.mdl_text.specs.declared.reader.Reader.{Reader}
-use Rattle.mdl_text.specs.Bytes.{is_blank, is_name_byte, escaped}
+use Rattle.mdl_text.specs.Bytes.{is_blank, is_name_byte}
+use Rattle.fx_text.specs.Strings.{escaped}
 
 -- the bytes from the first that is no blank
 abbrev pub unblanked : List ℕ → List ℕ

@@ -1,11 +1,10 @@
 ghost use Rattle.std.specs.Prelude.{◌≡◌, ◌≤◌, ◌++◌, ℕ, List, length, IfOk, IfSome, MatchOption, Some};
-ghost use Rattle.std.specs.List.{prefix_len};
 ghost use Rattle.mdl_text.specs.declared.strings.Place.TheVariants.{Inside};
-ghost use Rattle.mdl_text.specs.Bytes.{is_plain};
 ghost use Rattle.mdl_text.specs.Plain.{string_step, strings, strings_from};
 
 use crate::scan::{are_blanks, is_blank};
 use fx_io::{OutOfMemory, Text};
+use fx_text::{plain_length, push_escaped};
 use std::alloc::Global;
 
 /// Room for so many bytes is made at once.
@@ -41,31 +40,10 @@ fn string_step(place: Place, said: &mut Vec<u8>, byte: u8) -> Result<Option<Plac
             }
         }),
         Place::Escaped => {
-            match byte {
-                b'n' => said.push(b'\n')?,
-                b't' => said.push(b'\t')?,
-                b'"' | b'\\' => said.push(byte)?,
-                _ => {
-                    said.push(b'\\')?;
-                    said.push(byte)?;
-                }
-            }
+            push_escaped(said, byte)?;
             Ok(Some(Place::Inside))
         }
     }
-}
-
-/// How many bytes from the front on stand for themselves in a string.
-fn plain_length(bytes: &[u8]) -> usize
-    ensures value { result ≡ prefix_len is_plain bytes.now }
-    ensures within { result ≤ length bytes.now }
-{
-    for (i, byte) in bytes.iter().enumerate() {
-        if *byte == b'"' || *byte == b'\\' {
-            return i;
-        }
-    }
-    bytes.len()
 }
 
 /// The text of a string without backslashes that has blanks alone after it. `None` where the bytes

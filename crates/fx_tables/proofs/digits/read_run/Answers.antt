@@ -10,7 +10,7 @@ use Rattle.std.proofs.lemmas.Grind.{common_steps}
 use Rattle.std.proofs.lemmas.Int.Digits.{digits_value_more}
 use Rattle.std.proofs.lemmas.List.Folds.{list_all_more}
 use Rattle.std.proofs.lemmas.Str.{digit_value_digit}
-use Rattle.fx_tables.proofs.NumberLemmas.{below_power}
+use Rattle.fx_text.proofs.DigitLemmas.{below_power}
 use Rattle.fx_tables.proofs.digits.read_run.Goals as goal
 
 pub overflow_mul-value : goal.overflow_mul-value

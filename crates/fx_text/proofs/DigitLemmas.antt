@@ -1,4 +1,4 @@
--- Digits read up to a bound.
+-- Digits read up to a bound. Crates above may cite these.
 use Rattle.std.proofs.Common.{◌≡◌, ℕ, ◌+◌, ◌*◌, ◌-◌, ◌^◌, ◌<◌, ◌≤◌, min, List, [], ◌∷◌, sym, ap, get_or, drop, length, ◌∙◌, arith}
 use Rattle.std.specs.Char.{digit_value}
 use Rattle.std.specs.Char.{IsAsciiDigit}

@@ -1,6 +1,6 @@
 use Rattle.std.proofs.Common.{arith}
-use Rattle.fx_tables.proofs.NumberLemmas.{below_power}
-use Rattle.fx_tables.proofs.number.read_short.Goals as goal
+use Rattle.fx_text.proofs.DigitLemmas.{below_power}
+use Rattle.fx_text.proofs.digits.read_short.Goals as goal
 
 pub overflow_mul-value : goal.overflow_mul-value
 overflow_mul-value c = omega (arith, below_power c.loop-digit.value c.loop-digit.digit-index 17 c.loop-digit.invariant.small (omega arith))

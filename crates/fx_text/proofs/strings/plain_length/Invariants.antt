@@ -1,7 +1,7 @@
 use Rattle.std.proofs.Common.{◌≡◌, ◌+◌, drop}
 use Rattle.std.specs.List.{prefix_len}
-use Rattle.mdl_text.specs.Bytes.{is_plain}
-use Rattle.mdl_text.proofs.strings.plain_length.Given as goal
+use Rattle.fx_text.specs.Strings.{is_plain}
+use Rattle.fx_text.proofs.strings.plain_length.Given as goal
 
 abbrev pub invariant-loop-i : goal.invariant-loop-i
 invariant-loop-i l = l.i + prefix_len is_plain (drop l.i l.bytes) ≡ prefix_len is_plain l.bytes

@@ -1,6 +1,6 @@
 use Rattle.std.proofs.Common.{◌∙◌, Some, ap, sym, drop, arith, ◌+◌}
-use Rattle.fx_tables.proofs.QuotedLemmas.{closed}
-use Rattle.fx_tables.proofs.quoted.read_quoted.Goals as goal
+use Rattle.fx_text.proofs.StringLemmas.{closed}
+use Rattle.fx_text.proofs.strings.read_string.Goals as goal
 
 pub returns-then-text-place-eq34 : goal.returns-then-text-place-eq34
 returns-then-text-place-eq34 c = (

@@ -1,7 +1,7 @@
 use Rattle.std.proofs.Common.{◌∙◌, arith}
 use Rattle.std.proofs.lemmas.Grind.{common_steps}
-use Rattle.fx_tables.proofs.NumberLemmas.{long_more}
-use Rattle.fx_tables.proofs.number.read_long.Goals as goal
+use Rattle.fx_text.proofs.DigitLemmas.{long_more}
+use Rattle.fx_text.proofs.digits.read_capped.Goals as goal
 
 pub loop-digit-preserved : goal.loop-digit-preserved
 loop-digit-preserved c = record {
