@@ -118,6 +118,10 @@ abbrev pub reader_of : Draft → Option Pending → Option Reader
 reader_of draft None = None
 reader_of draft (Some pending) = Some (record { draft = draft; pending = pending })
 
+-- the reader, where a text may go on so
+abbrev pub goes_on : Bool → Reader → Option Reader
+goes_on good reader = if good then Some reader else None
+
 -- a quoted value, where the strings were read
 abbrev pub pending_strings : List ℕ → Option (List ℕ) → Option Pending
 pending_strings name None = None

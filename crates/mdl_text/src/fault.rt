@@ -7,7 +7,8 @@ use thiserror::Error;
 /// Why there is no tree.
 #[derive(Clone, Copy, Debug, PartialEq, Eq, Error)]
 pub enum MdlFault {
-    /// The bytes are no MDL text. They stop being the beginning of one at this line, counted from 1.
+    /// The bytes are no MDL text. They stop being the beginning of one at this line, counted from
+    /// 1.
     #[error("line {line}: not MDL text")]
     Syntax { line: u64 },
     /// Memory is wanting.

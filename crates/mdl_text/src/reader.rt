@@ -1,6 +1,6 @@
-ghost use Rattle.std.specs.Prelude.{◌≡◌, ◌≤◌, length, IfOk, OnOk, IfSome, IsTrue, Some, None, if◌then◌else◌};
+ghost use Rattle.std.specs.Prelude.{◌≡◌, ◌≤◌, length, IfOk, OnOk, IsTrue};
 ghost use Rattle.mdl_text.specs.declared.reader.Pending.TheVariants.{Nothing};
-ghost use Rattle.mdl_text.specs.Plain.{IsBounded, reader_strings, added, opened, closed, listed, valued, after_name, named, fresh_text, if_closed, unblanked, strings_from, start, step, finish};
+ghost use Rattle.mdl_text.specs.Plain.{IsBounded, goes_on, reader_strings, added, opened, closed, listed, valued, after_name, named, fresh_text, if_closed, unblanked, strings_from, start, step, finish};
 
 use crate::brackets::{ListEnd, list_end};
 use crate::scan::{are_blanks, name_length, trimmed, unblanked};
@@ -29,7 +29,8 @@ pub enum Pending {
         name: Text,
         said: Text,
     },
-    /// A list that is still open, its bytes so far, and how many brackets are open beside the first.
+    /// A list that is still open, its bytes so far, and how many brackets are open beside the
+    /// first.
     Open {
         name: Text,
         said: Text,
@@ -81,7 +82,8 @@ impl Reader {
     #[tactic(auto, unfolding(crate::specs::Plain::opened))]
     fn open(&mut self, alloc: Global, name: &[u8], after: &[u8]) -> Result<bool, OutOfMemory>
         requires { self.old.pending ≡ Nothing }
-        ensures value { IfOk result (λ good. opened self.old.draft name.now after.now ≡ (if good then Some self.new else None)) }
+        ensures value { IfOk result (λ good.
+            opened self.old.draft name.now after.now ≡ goes_on good self.new) }
         ensures bounded { IfOk result (λ good. IsTrue good → IsBounded self.new.pending) }
     {
         if !are_blanks(after) || self.draft.depth >= DEEPEST {
@@ -96,7 +98,7 @@ impl Reader {
     #[tactic(auto, unfolding(crate::specs::Plain::closed))]
     fn close(&mut self, after: &[u8]) -> bool
         requires { self.old.pending ≡ Nothing }
-        ensures value { closed self.old.draft after.now ≡ (if result then Some self.new else None) }
+        ensures value { closed self.old.draft after.now ≡ goes_on result self.new }
         ensures bounded { IsTrue result → IsBounded self.new.pending }
     {
         if !are_blanks(after) || self.draft.depth == 0 {
@@ -118,7 +120,8 @@ impl Reader {
     ) -> Result<bool, OutOfMemory>
         requires free { self.old.pending ≡ Nothing }
         requires within { nesting ≤ length said }
-        ensures value { IfOk result (λ good. listed self.old.draft name said nesting line.now ≡ (if good then Some self.new else None)) }
+        ensures value { IfOk result (λ good.
+            listed self.old.draft name said nesting line.now ≡ goes_on good self.new) }
         ensures bounded { IfOk result (λ good. IsTrue good → IsBounded self.new.pending) }
     {
         match list_end(nesting, line) {
@@ -152,7 +155,9 @@ impl Reader {
         bytes: &[u8],
     ) -> Result<bool, OutOfMemory>
         requires { self.old.pending ≡ Nothing }
-        ensures value { IfOk result (λ good. reader_strings self.old.draft name (strings_from said bytes.now) ≡ (if good then Some self.new else None)) }
+        ensures value { IfOk result (λ good.
+            reader_strings self.old.draft name (strings_from said bytes.now)
+            ≡ goes_on good self.new) }
         ensures bounded { IfOk result (λ good. IsTrue good → IsBounded self.new.pending) }
     {
         match joined(alloc, said, bytes)? {
@@ -168,7 +173,8 @@ impl Reader {
     #[tactic(auto, unfolding(crate::specs::Plain::valued))]
     fn value(&mut self, alloc: Global, name: &[u8], value: &[u8]) -> Result<bool, OutOfMemory>
         requires { self.old.pending ≡ Nothing }
-        ensures value { IfOk result (λ good. valued self.old.draft name.now value.now ≡ (if good then Some self.new else None)) }
+        ensures value { IfOk result (λ good.
+            valued self.old.draft name.now value.now ≡ goes_on good self.new) }
         ensures bounded { IfOk result (λ good. IsTrue good → IsBounded self.new.pending) }
     {
         let name = Text::copy(alloc, name)?;
@@ -187,7 +193,9 @@ impl Reader {
     /// What follows a name.
     fn after_name(&mut self, alloc: Global, name: &[u8], rest: &[u8]) -> Result<bool, OutOfMemory>
         requires { self.old.pending ≡ Nothing }
-        ensures value { IfOk result (λ good. after_name self.old.draft name.now rest.now (unblanked rest.now) ≡ (if good then Some self.new else None)) }
+        ensures value { IfOk result (λ good.
+            after_name self.old.draft name.now rest.now (unblanked rest.now)
+            ≡ goes_on good self.new) }
         ensures bounded { IfOk result (λ good. IsTrue good → IsBounded self.new.pending) }
     {
         let value = unblanked(rest);
@@ -208,7 +216,8 @@ impl Reader {
     #[tactic(auto, unfolding(crate::specs::Plain::named))]
     fn named(&mut self, alloc: Global, text: &[u8]) -> Result<bool, OutOfMemory>
         requires { self.old.pending ≡ Nothing }
-        ensures value { IfOk result (λ good. named self.old.draft text.now ≡ (if good then Some self.new else None)) }
+        ensures value { IfOk result (λ good.
+            named self.old.draft text.now ≡ goes_on good self.new) }
         ensures bounded { IfOk result (λ good. IsTrue good → IsBounded self.new.pending) }
     {
         let count = name_length(text);
@@ -221,7 +230,8 @@ impl Reader {
     /// A line that goes on with nothing, from its first byte that is no blank.
     fn fresh(&mut self, alloc: Global, text: &[u8]) -> Result<bool, OutOfMemory>
         requires { self.old.pending ≡ Nothing }
-        ensures value { IfOk result (λ good. fresh_text self.old.draft text.now ≡ (if good then Some self.new else None)) }
+        ensures value { IfOk result (λ good.
+            fresh_text self.old.draft text.now ≡ goes_on good self.new) }
         ensures bounded { IfOk result (λ good. IsTrue good → IsBounded self.new.pending) }
     {
         match text {
@@ -231,11 +241,12 @@ impl Reader {
         }
     }
 
-    /// Reads the next line. Where no text goes on so, it says `false`, and the reader is of no more use.
+    /// Reads the next line. Where no text goes on so, it says `false`, and the reader is of no more
+    /// use.
     #[tactic(auto, unfolding(crate::specs::Plain::step, crate::specs::Plain::fresh))]
     pub fn step(&mut self, alloc: Global, line: &[u8]) -> Result<bool, OutOfMemory>
         requires { IsBounded self.old.pending }
-        ensures value { IfOk result (λ good. step self.old line.now ≡ (if good then Some self.new else None)) }
+        ensures value { IfOk result (λ good. step self.old line.now ≡ goes_on good self.new) }
         ensures bounded { IfOk result (λ good. IsTrue good → IsBounded self.new.pending) }
     {
         match mem::replace(&mut self.pending, Pending::Nothing) {

@@ -13,7 +13,8 @@ use std::alloc::Global;
 
 /// Reads an MDL text into its tree (own, after the files that Simulink writes).
 ///
-/// `MdlFault::Syntax` has the line at which the bytes stop being the beginning of an MDL text, counted from 1.
+/// `MdlFault::Syntax` has the line at which the bytes stop being the beginning of an MDL text,
+/// counted from 1.
 pub fn read(alloc: Global, bytes: &[u8]) -> Result<Tree, MdlFault>
     // The tree is the one that the bytes stand for.
     ensures found { IfOk result (λ tree. Stands bytes.now tree) }
@@ -48,7 +49,8 @@ fn split_line(text: &[u8]) -> Option<(&[u8], &[u8])>
     }
 }
 
-/// Reads the last line, and gives the items of the whole text. `None` where the text may not end so.
+/// Reads the last line, and gives the items of the whole text. `None` where the text may not end
+/// so.
 fn last_line(mut reader: Reader, alloc: Global, line: &[u8]) -> Result<Option<Items>, OutOfMemory>
     requires { IsBounded reader.pending }
     ensures { IfOk result (λ items. items ≡ run reader (line.now ∷ [])) }
@@ -62,10 +64,12 @@ fn last_line(mut reader: Reader, alloc: Global, line: &[u8]) -> Result<Option<It
 
 /// The bytes of a text stand for at most one tree.
 pub fn unique()
-    ensures { (bytes : List ℕ) (one other : Tree) → Stands bytes one → Stands bytes other → one ≡ other }
+    ensures { (bytes : List ℕ) (one other : Tree) →
+        Stands bytes one → Stands bytes other → one ≡ other }
 {}
 
 /// Bytes stop being the beginning of an MDL text at one line at most.
 pub fn one_fault_line()
-    ensures { (bytes : List ℕ) (one other : ℕ) → IsMdlFaultLine bytes one → IsMdlFaultLine bytes other → one ≡ other }
+    ensures { (bytes : List ℕ) (one other : ℕ) →
+        IsMdlFaultLine bytes one → IsMdlFaultLine bytes other → one ≡ other }
 {}

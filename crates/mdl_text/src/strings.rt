@@ -18,12 +18,14 @@ pub enum Place {
     Escaped,
 }
 
-/// Reads one byte of quoted strings, and puts what it says at the end. `None` where no string goes on so.
+/// Reads one byte of quoted strings, and puts what it says at the end. `None` where no string goes
+/// on so.
 #[tactic(auto, unfolding(crate::specs::Plain::string_step))]
 fn string_step(place: Place, said: &mut Vec<u8>, byte: u8) -> Result<Option<Place>, OutOfMemory>
     ensures { IfOk result (λ next. MatchOption next
         (string_step place said.old.items byte ≡ None)
-        (λ place_after. string_step place said.old.items byte ≡ Some (place_after, said.new.items))) }
+        (λ place_after.
+        string_step place said.old.items byte ≡ Some (place_after, said.new.items))) }
 {
     match place {
         Place::Outside => Ok(match byte {

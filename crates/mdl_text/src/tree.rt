@@ -3,7 +3,8 @@ use fx_io::{Sequence, Text};
 /// The sections and parameters of a text, in its order.
 pub type Items = Sequence<Item>;
 
-/// What an MDL text stands for. A section holds the items after it up to the next one that is not deeper than itself.
+/// What an MDL text stands for. A section holds the items after it up to the next one that is not
+/// deeper than itself.
 #[derive(Debug, Drop)]
 pub struct Tree {
     pub items: Items,
