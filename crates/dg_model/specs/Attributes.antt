@@ -25,6 +25,7 @@ coefficient_type FullRule.FullProduct input = None
 coefficient_type FullRule.UnionOfTwo input = None
 coefficient_type FullRule.UnionOfEnds input = None
 
+-- the type of the coefficients of the block at a place, where it has any and its input's type is known
 abbrev pub param_type_at : Diagram → Types → ℕ → Option FxType
 param_type_at diagram types place =
     with_known (slice_get diagram.blocks place) (λ block. coefficient_type (row_of block.kind).types.full (known_at (input_types diagram types place) 0))

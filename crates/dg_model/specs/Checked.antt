@@ -22,11 +22,13 @@ pub record BreaksTypeFirst (diagram : Diagram) (fault : RuleFault) : Type 0 wher
   pub dimensions : KeepsDimensions diagram
   pub types : BreaksType diagram fault
 
+-- the rules of dimensions and types are kept, and that of rates is broken
 pub record BreaksRateFirst (diagram : Diagram) (fault : RuleFault) : Type 0 where
   pub dimensions : KeepsDimensions diagram
   pub types : KeepsTypes diagram
   pub rates : BreaksRate diagram fault
 
+-- those of dimensions, types and rates are kept, and that of loops is broken
 pub record BreaksLoopFirst (diagram : Diagram) (fault : RuleFault) : Type 0 where
   pub dimensions : KeepsDimensions diagram
   pub types : KeepsTypes diagram

@@ -39,9 +39,11 @@ elements_out widths place block = if block.outputs == 0 then 0 else sum (slice_i
 abbrev pub output_elements : Diagram → Widths → ℕ
 output_elements diagram widths = sum (map (λ (place, block). elements_out widths place block) (enumerate_from 0 diagram.blocks))
 
+-- the elements of all input ports
 abbrev pub input_elements : Diagram → Widths → ℕ
 input_elements diagram widths = sum (map (λ edge. width_at widths edge.from edge.from_port) diagram.edges)
 
+-- the elements of all Delays, each as often as it is long
 abbrev pub delay_elements : Diagram → Widths → ℕ
 delay_elements diagram widths = sum (map (λ (place, block). (row_of block.kind).timing.delay * width_at widths place 1) (enumerate_from 0 diagram.blocks))
 

@@ -69,11 +69,13 @@ abbrev pub finite : Option Period → Option ℕ
 finite None = None
 finite (Some period) = period
 
+-- the lesser of two, where both are there
 abbrev pub least_of : Option ℕ → Option ℕ → Option ℕ
 least_of None other = other
 least_of (Some x) None = Some x
 least_of (Some x) (Some y) = Some (min x y)
 
+-- the least of the finite periods that are known
 abbrev pub least_finite : Periods → Option ℕ
 least_finite [] = None
 least_finite (x ∷ xs) = least_of (finite x) (least_finite xs)
@@ -114,10 +116,12 @@ taken_period inherits sources = by_least (least_finite sources) where
   by_least (Some period) = Some (Some period)
   by_least None = if_unchanging inherits
 
+-- the period that a block takes in a round
 abbrev pub period_of_next : Diagram → Option Block → Periods → ℕ → Option Period
 period_of_next diagram None periods place = None
 period_of_next diagram (Some block) periods place = taken_period (row_of block.kind).timing.inherits (map (known_at periods) (sources_of diagram place block))
 
+-- the period of the block at a place after one more round
 abbrev pub next_periods : Diagram → Periods → ℕ → Option Period
 next_periods diagram periods place = known_or (known_at periods place) (period_of_next diagram (slice_get diagram.blocks place) periods place)
 
@@ -134,9 +138,11 @@ first_period diagram kind (Every period) = Some (Some (multiple_of diagram perio
 first_period diagram kind NeverChanges = Some None
 first_period diagram kind Inherit = first_inherited (row_of kind).timing.inherits
 
+-- the periods before the first round
 abbrev pub first_periods : Diagram → Periods
 first_periods diagram = map (λ block. first_period diagram block.kind block.period) diagram.blocks
 
+-- the periods after so many rounds
 abbrev pub periods_after : Diagram → ℕ → Periods
 periods_after diagram rounds = after_rounds (next_periods diagram) rounds (first_periods diagram)
 
@@ -149,5 +155,6 @@ or_one (Some period) = period
 abbrev pub periods_of : Diagram → List Period
 periods_of diagram = map or_one (periods_after diagram (length diagram.blocks))
 
+-- the period of the block at a place
 abbrev pub period_at : List Period → ℕ → Period
 period_at periods block = slice_index_or periods block None

@@ -47,6 +47,7 @@ abbrev pub shown_period : Period → ℕ
 shown_period None = 0
 shown_period (Some period) = period
 
+-- what is shown of a block: its period, and that of the first source that doesn't suit it
 abbrev pub shown_periods : Diagram → List Period → ℕ → Block → Shown
 shown_periods diagram periods place block =
     ShownPeriods (shown_period (period_at periods place)) (shown_source (disagreeing diagram periods place block)) where

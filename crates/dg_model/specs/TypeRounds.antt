@@ -67,13 +67,16 @@ abbrev pub taken_type : Kind → TypeSpec → Types → Option FxType
 taken_type kind spec types =
     specified_type spec (full_type (row_of kind).types.full types) (known_at types 0) (own_type (row_of kind).types.own types)
 
+-- the type that a block takes in a round
 abbrev pub type_of_next : Option Block → Types → Option FxType
 type_of_next None types = None
 type_of_next (Some block) types = taken_type block.kind block.result types
 
+-- the type of the block at a place after one more round
 abbrev pub next_types : Diagram → Types → ℕ → Option FxType
 next_types diagram types place = known_or (known_at types place) (type_of_next (slice_get diagram.blocks place) (input_types diagram types place))
 
+-- the types after so many rounds
 abbrev pub types_after : Diagram → ℕ → Types
 types_after diagram rounds = after_rounds (next_types diagram) rounds (map (λ block. explicit_type block.result) diagram.blocks)
 

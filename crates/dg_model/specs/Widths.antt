@@ -13,6 +13,7 @@ use Rattle.dg_model.specs.Wires.{edges_into}
 abbrev pub Widths : Type 0
 Widths = List (List ℕ)
 
+-- the width at an output port of a block
 abbrev pub width_at : Widths → ℕ → ℕ → ℕ
 width_at widths block port = slice_index_or (slice_index_or widths block []) (port - 1) 0
 
@@ -20,6 +21,7 @@ width_at widths block port = slice_index_or (slice_index_or widths block []) (po
 abbrev pub input_widths : Diagram → Widths → ℕ → List ℕ
 input_widths diagram widths block = map (λ edge. width_at widths edge.from edge.from_port) (edges_into diagram block)
 
+-- the greatest of a list, and 0 of an empty one
 abbrev pub greatest : List ℕ → ℕ
 greatest [] = 0
 greatest (x ∷ xs) = max x (greatest xs)
@@ -53,6 +55,7 @@ abbrev pub next_of : Option Block → ℕ → List ℕ → List ℕ
 next_of None own inputs = []
 next_of (Some block) own inputs = map (min most_width) (taken (row_of block.kind).signal.shape (list_length block.kind) own inputs)
 
+-- the widths of the block at a place after one more round
 abbrev pub next_widths : Diagram → Widths → ℕ → List ℕ
 next_widths diagram widths place = next_of (slice_get diagram.blocks place) (width_at widths place 1) (input_widths diagram widths place)
 
@@ -63,9 +66,11 @@ first_of (Shape.Joined sizes) declared = 1 ∷ []
 first_of (Shape.Parted sizes) declared = map (λ size. 1) sizes
 first_of Shape.Single declared = 1 ∷ []
 
+-- the widths of all blocks before the first round
 abbrev pub first_widths : Diagram → Widths
 first_widths diagram = map (λ block. first_of (row_of block.kind).signal.shape (row_of block.kind).signal.width) diagram.blocks
 
+-- the widths after so many rounds
 abbrev pub widths_after : Diagram → ℕ → Widths
 widths_after diagram rounds = after_rounds (next_widths diagram) rounds (first_widths diagram)
 
