@@ -1,5 +1,5 @@
 -- Signals of several elements: a Mux of two and one elements into a Demux of one and two, a control of two elements, a Constant of two, a scalar that is repeated, and Ground.
-use Rattle.std.proofs.Common.{◌≡◌, zero, suc, ◌<◌, ◌≤◌, sym, subst, ◌∙◌, arith, ℕ, ◌-◌, List, [], ◌∷◌, Some, None, pos, negsuc, get_or, true, false, refl}
+use Rattle.std.proofs.Common.{◌≡◌, ap, ℤ, zero, suc, ◌<◌, ◌≤◌, sym, subst, ◌∙◌, arith, ℕ, ◌-◌, List, [], ◌∷◌, Some, None, pos, negsuc, get_or, true, false, refl}
 use Rattle.std.proofs.Math.Dec.{lit<, lit≤}
 use Rattle.std.specs.Prelude.{slice_get}
 use Rattle.std.proofs.Math.Nat.{mod-one}
@@ -11,9 +11,11 @@ use Rattle.dg_model.specs.Solves.{Solves, IsShown, shown_ports, shown_width}
 use Rattle.dg_model.specs.declared.diagram.Diagram.{Diagram}
 use Rattle.dg_model.specs.declared.kind.Kind.TheVariants.{Inport, Outport, Constant, Ground, EnableTest, Mux, Demux, Sum}
 use Rattle.dg_model.specs.declared.op.Op.TheVariants.{Sum as OpSum, Pass as OpPass}
-use Rattle.dg_model.specs.Equation.{Equation}
+use lib.Signed.{le_z_yes}
+use Rattle.dg_model.specs.Wires.{value_into}
+use Rattle.dg_model.specs.Equation.{Equation, IsPart}
 use Rattle.dg_model.specs.Signals.{Attributes, Stimulus, Table}
-use Rattle.dg_model.proofs.Examples.{int8, block_of, edge_of, decimal_of, stores_small, kept}
+use Rattle.dg_model.proofs.Examples.{int8, block_of, edge_of, decimal_of, stores_small, kept, stored_as}
 use Rattle.dg_model.proofs.SumTypes.{two_bytes_full}
 
 -- ---- u (11, 12) and v (13) into a Mux, its three elements into a Demux of one and two, and an Outport of the two
@@ -128,3 +130,27 @@ sum = ((OpSum, refl, (Num true 9 (pos 0), two_bytes_full, kept (pos 5) tt tt)), 
 
 ground : IsAdded 3 0
 ground = refl
+
+-- ---- and no other numbers
+
+not_of_the_second : (signal k : ℕ) → IsPart (2 ∷ 1 ∷ []) 1 signal k → value_into laid laid_attributes laid_table 2 (suc signal) k 0 ≡ pos 12
+not_of_the_second zero k part = let e : k ≡ 1 = omega (arith, part.place) in ap (λ (k : ℕ). value_into laid laid_attributes laid_table 2 1 k 0) e
+not_of_the_second (suc zero) k part = absurd (omega (arith, part.place))
+not_of_the_second (suc (suc signal)) k part = absurd (omega (arith, part.signal_is))
+
+mux_other : ¬ Equation laid laid_attributes laid_stimulus laid_table 2 1 1 0 (pos 13)
+mux_other given = let e : ◌≡◌ {A = ℤ} (pos 13) (pos 12) = given.3 ∙ not_of_the_second (given.0) (given.1) (given.2) in cc
+
+demux_other : ¬ Equation laid laid_attributes laid_stimulus laid_table 3 2 0 0 (pos 11)
+demux_other given = let e : ◌≡◌ {A = ℤ} (pos 11) (pos 12) = given in cc
+
+control_other : ¬ Equation controlled controlled_attributes laid_stimulus controlled_table 1 1 0 1 (pos 1)
+control_other given = let e : ◌≡◌ {A = ℤ} (pos 1) (pos 0) = given in cc
+
+constant_other : ¬ Equation added added_attributes laid_stimulus added_table 0 1 1 0 (pos 4)
+constant_other given =
+    let e : ◌≡◌ {A = ℤ} (pos 4) (pos 5) = stored_as (decimal_of 5 (lit< tt)) int8 (pos 4) (pos 5) ((lit≤ tt, lit≤ tt), le_z_yes tt, le_z_yes tt) refl given in
+    cc
+
+ground_other : ¬ Equation added added_attributes laid_stimulus added_table 3 1 0 0 (pos 1)
+ground_other given = let e : ◌≡◌ {A = ℤ} (pos 1) (pos 0) = given in cc
