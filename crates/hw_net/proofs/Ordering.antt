@@ -229,13 +229,16 @@ module _ (nets : List Net) (order : List ℕ) (ranks : List (Option ℕ)) (growi
 
 -- where all nets have places, none reaches itself in a clock
 pub all-ranked : (nets : List Net) (order : List ℕ) (ranks : List (Option ℕ)) → IsGrowing nets order ranks → All IsSome ranks → (rank : ℕ → ℕ) × IsRanked nets rank
-all-ranked nets order ranks growing all = (λ k. rank_or (place_of ranks k), record {
-  falls = λ k net is n d within.
-      let inside : k < length ranks = omega (arith, growing.size, slice_get_within nets k net is) in
-      let own : IsPlaced ranks k = some-place (place_of ranks k) refl (all k None inside) in
-      let one = growing.after k own.rank net is own.is n d within in
-      rw (ap rank_or one.1, ap rank_or own.is) one.2;
-})
+all-ranked nets order ranks growing all = (
+  λ k. rank_or (place_of ranks k),
+  record {
+    falls = λ k net is n d within.
+        let inside : k < length ranks = omega (arith, growing.size, slice_get_within nets k net is) in
+        let own : IsPlaced ranks k = some-place (place_of ranks k) refl (all k None inside) in
+        let one = growing.after k own.rank net is own.is n d within in
+        rw (ap rank_or one.1, ap rank_or own.is) one.2;
+  },
+)
   where
     some-place : {k : ℕ} (found : Option ℕ) → place_of ranks k ≡ found → IsSome found → IsPlaced ranks k
     some-place None e some = absurd (let f : false ≡ true = some in cc)

@@ -47,7 +47,8 @@ fn reads_are_there(count: usize, kind: &NetKind) -> bool
 fn are_there(nets: &[Net]) -> bool
     ensures { result ≡ true → All (λ net. All (λ read. read < length nets.now) (reads net.kind)) nets.now }
 {
-    nets.iter().all(|net| reads_are_there(nets.len(), &net.kind))
+    nets.iter()
+        .all(|net| reads_are_there(nets.len(), &net.kind))
 }
 
 /// How many arguments an operation has.

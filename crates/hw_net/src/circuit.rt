@@ -1,6 +1,8 @@
 //! A netlist that grows: its data, with an index of its Counters.
-ghost use Rattle.std.specs.Prelude.{◌≡◌, ◌+◌, ◌*◌, ◌-◌, ◌<◌, ◌++◌, ◌∷◌, [], length, slice_get, slice_set, slice_index, IfOk, OnOk, OnErr, Option, None, Some, false, pos};
+ghost use Rattle.std.specs.Prelude.{◌≡◌, ℕ, List, true, ◌+◌, ◌*◌, ◌-◌, ◌<◌, ◌++◌, ◌∷◌, [], length, slice_get, slice_set, slice_index, IfOk, OnOk, OnErr, Option, None, Some, false, pos};
 ghost use Rattle.hw_net.specs.Circuit.{Circuit};
+ghost use Rattle.hw_net.specs.declared.netlist.NetKind.TheVariants.{Comb};
+ghost use Rattle.hw_net.specs.declared.netlist.NetOp.TheVariants.{Resize};
 ghost use Rattle.hw_net.specs.Frames.{counter_of, counted_frame};
 ghost use Rattle.hw_net.specs.Growing.{with_net, IsCounted, IsResize, IsConnected};
 ghost use Rattle.hw_net.specs.inner.Index.{IsIndex};
@@ -125,6 +127,16 @@ impl Netlist {
         self.add(counter)
     }
 
+    /// Whether the net of a number is a Resize.
+    pub fn is_resize(&self, number: u32) -> bool
+        ensures { result ≡ true → IsResize self.now.nets number }
+    {
+        match self.nets().get(number as usize) {
+            Some(net) => resizes(&net.kind),
+            None => false,
+        }
+    }
+
     /// Gives a Resize net its argument, in place of any that it had. Where memory is wanting the
     /// netlist stays.
     pub fn connect(&mut self, alloc: Global, number: u32, argument: u32) -> Result<(), OutOfMemory>
@@ -175,6 +187,20 @@ fn counted(kind: &NetKind) -> Option<Frame>
         NetKind::Bridge { .. } => None,
         NetKind::Unit { .. } => None,
         NetKind::Counter { frame } => Some(*frame),
+    }
+}
+
+/// Whether a net is a Resize.
+fn resizes(kind: &NetKind) -> bool
+    ensures { result ≡ true → (args : List ℕ) × (kind.now ≡ Comb Resize args) }
+{
+    match kind {
+        NetKind::Comb { op, args: _ } => *op == NetOp::Resize,
+        NetKind::Reg { .. } => false,
+        NetKind::EnReg { .. } => false,
+        NetKind::Bridge { .. } => false,
+        NetKind::Unit { .. } => false,
+        NetKind::Counter { .. } => false,
     }
 }
 
