@@ -80,7 +80,7 @@ either true false = refl
 either false true = refl
 either false false = refl
 
-more_paths : (old new : BTreeSet (Vec ℕ Global)) (pipelines : List Pipeline) (pipeline : Pipeline) (key path : Vec ℕ Global) → key.items ≡ pipeline.path → contains path_cmp old path ≡ list_any (λ other. bytes_eq other.path path.items) pipelines → Updates path_cmp old new key true → contains path_cmp new path ≡ list_any (λ other. bytes_eq other.path path.items) (pipelines ++ pipeline ∷ [])
+pub more_paths : (old new : BTreeSet (Vec ℕ Global)) (pipelines : List Pipeline) (pipeline : Pipeline) (key path : Vec ℕ Global) → key.items ≡ pipeline.path → contains path_cmp old path ≡ list_any (λ other. bytes_eq other.path path.items) pipelines → Updates path_cmp old new key true → contains path_cmp new path ≡ list_any (λ other. bytes_eq other.path path.items) (pipelines ++ pipeline ∷ [])
 more_paths old new pipelines pipeline key path is before updates =
     updates.0 path
     ∙ ap (λ found. cond found true (contains path_cmp old path)) (is_eq-slice_cmp key.items path.items ∙ ap (λ items. bytes_eq items path.items) is)

@@ -4,6 +4,7 @@ pub mod LinesLemmas
 pub mod DigitsLemmas
 pub mod NumeralLemmas
 pub mod DraftLemmas
+pub mod RangeLemmas
 pub mod PlanLemmas
 pub mod StimulusLemmas
 pub mod CellsLemmas

@@ -1,9 +1,10 @@
-ghost use Rattle.std.specs.Prelude.{◌≡◌, ◌∷◌, [], ◌++◌, List, Some, not, is_none, slice_index_or, IfOk};
+ghost use Rattle.std.specs.Prelude.{◌≡◌, ◌∷◌, [], ◌++◌, List, Some, not, is_none, slice_index_or, IfOk, IsTrue};
 ghost use Rattle.std.specs.Bool.{OnTrue};
 ghost use Rattle.std.specs.List.{filter_map};
 ghost use Rattle.std.specs.Option.{option_to_list};
 ghost use Rattle.fx_tables.specs.Plan.{cycles_of, multipliers_of, pipeline_of, entry_of, is_repeated, is_bad_entry};
-ghost use Rattle.fx_tables.specs.Draft.{Describes};
+ghost use Rattle.fx_tables.specs.Draft.{Describes, IsDraftInRange, IsEntryInRange};
+ghost use Rattle.dg_model.specs.PlanRange.{IsPlanInRange};
 ghost use Rattle.fx_tables.specs.declared.entry.PlanEntry.{PlanEntry};
 
 use crate::entry::{PlanEntry, read_entry};
@@ -24,7 +25,8 @@ pub(crate) struct Draft {
 impl Draft {
     /// A draft of which nothing is said.
     pub(crate) fn new(alloc: Global) -> Draft
-        ensures { Describes result [] }
+        ensures empty { Describes result [] }
+        ensures in_range { IsDraftInRange result }
     {
         Draft {
             cycles: None,
@@ -36,7 +38,12 @@ impl Draft {
 
     /// Reads one line into the draft, and tells whether it is good.
     pub(crate) fn read_line(&mut self, alloc: Global, text: &[u8]) -> Result<bool, OutOfMemory>
-        ensures { IfOk result (λ good. (earlier : List PlanEntry) → Describes self.old earlier → (good ≡ not (is_bad_entry earlier (entry_of text.now))) × OnTrue good (Describes self.new (earlier ++ option_to_list (entry_of text.now)))) }
+        ensures describes { IfOk result (λ good.
+            (earlier : List PlanEntry) → Describes self.old earlier →
+            (good ≡ not (is_bad_entry earlier (entry_of text.now)))
+            × OnTrue good (Describes self.new (earlier ++ option_to_list (entry_of text.now)))) }
+        ensures in_range { IfOk result (λ good.
+            IsTrue good → IsDraftInRange self.old → IsDraftInRange self.new) }
     {
         match read_entry(alloc, text)? {
             None => Ok(false),
@@ -46,7 +53,12 @@ impl Draft {
 
     /// Adds what a line says, and tells whether no earlier line has said it.
     fn add(&mut self, alloc: Global, entry: PlanEntry) -> Result<bool, OutOfMemory>
-        ensures { IfOk result (λ new. (earlier : List PlanEntry) → Describes self.old earlier → (new ≡ not (is_repeated earlier entry)) × OnTrue new (Describes self.new (earlier ++ entry ∷ []))) }
+        ensures describes { IfOk result (λ new.
+            (earlier : List PlanEntry) → Describes self.old earlier →
+            (new ≡ not (is_repeated earlier entry))
+            × OnTrue new (Describes self.new (earlier ++ entry ∷ []))) }
+        ensures in_range { IfOk result (λ new.
+            IsTrue new → IsEntryInRange entry → IsDraftInRange self.old → IsDraftInRange self.new) }
     {
         match entry {
             PlanEntry::Passed => Ok(true),
@@ -58,7 +70,13 @@ impl Draft {
 
     /// Adds the registers behind a block, and tells whether no earlier line has named it.
     fn add_pipeline(&mut self, alloc: Global, pipeline: Pipeline) -> Result<bool, OutOfMemory>
-        ensures { IfOk result (λ new. (earlier : List PlanEntry) → Describes self.old earlier → (new ≡ not (is_repeated earlier (PlanEntry.Pipelined pipeline))) × OnTrue new (Describes self.new (earlier ++ PlanEntry.Pipelined pipeline ∷ []))) }
+        ensures describes { IfOk result (λ new.
+            (earlier : List PlanEntry) → Describes self.old earlier →
+            (new ≡ not (is_repeated earlier (PlanEntry.Pipelined pipeline)))
+            × OnTrue new (Describes self.new (earlier ++ PlanEntry.Pipelined pipeline ∷ []))) }
+        ensures in_range { IfOk result (λ new.
+            IsTrue new → IsEntryInRange (PlanEntry.Pipelined pipeline) →
+            IsDraftInRange self.old → IsDraftInRange self.new) }
     {
         let path = Vec::from_slice(alloc, pipeline.path.bytes())?;
         if !self.paths.insert(path)? {
@@ -70,7 +88,11 @@ impl Draft {
 
     /// The plan of all lines.
     pub(crate) fn finish(self) -> Plan
-        ensures { (entries : List PlanEntry) → Describes self entries → (result.cycles ≡ slice_index_or (filter_map cycles_of entries) 0 1) × (result.multipliers ≡ slice_index_or (filter_map multipliers_of entries) 0 0) × (result.pipelines ≡ filter_map pipeline_of entries) }
+        ensures said { (entries : List PlanEntry) → Describes self entries →
+            (result.cycles ≡ slice_index_or (filter_map cycles_of entries) 0 1)
+            × (result.multipliers ≡ slice_index_or (filter_map multipliers_of entries) 0 0)
+            × (result.pipelines ≡ filter_map pipeline_of entries) }
+        ensures in_range { IsDraftInRange self → IsPlanInRange result }
     {
         let Draft {
             cycles,

@@ -1,5 +1,6 @@
-ghost use Rattle.std.specs.Prelude.{◌≡◌, ◌<◌, ◌∷◌, [], length, IfOk, slice_index, if◌then◌else◌};
+ghost use Rattle.std.specs.Prelude.{◌≡◌, ◌<◌, ◌≤◌, ◌∷◌, [], length, IfOk, IfSome, slice_index, if◌then◌else◌};
 ghost use Rattle.fx_tables.specs.Fields.{is_blank, after_blanks, fields_of};
+ghost use Rattle.fx_tables.specs.Draft.{IsEntryInRange};
 ghost use Rattle.fx_tables.specs.Plan.{entry_of, sole_number, pipeline_entry, pipelined_entry};
 
 use crate::cut::{cut_field, skip_blanks};
@@ -26,7 +27,8 @@ pub(crate) enum PlanEntry {
 
 /// Reads one line; `None` says that it has no form.
 pub(crate) fn read_entry(alloc: Global, line: &[u8]) -> Result<Option<PlanEntry>, OutOfMemory>
-    ensures { IfOk result (λ entry. entry ≡ entry_of line.now) }
+    ensures value { IfOk result (λ entry. entry ≡ entry_of line.now) }
+    ensures in_range { IfOk result (λ entry. IfSome entry IsEntryInRange) }
 {
     if !line.is_empty() && line[0] == b'#' {
         return Ok(Some(PlanEntry::Passed));
@@ -47,7 +49,8 @@ pub(crate) fn read_entry(alloc: Global, line: &[u8]) -> Result<Option<PlanEntry>
 
 /// Reads the path and the count behind the word `pipeline`.
 fn read_pipeline(alloc: Global, text: &[u8]) -> Result<Option<PlanEntry>, OutOfMemory>
-    ensures { IfOk result (λ entry. entry ≡ pipeline_entry (after_blanks text.now)) }
+    ensures value { IfOk result (λ entry. entry ≡ pipeline_entry (after_blanks text.now)) }
+    ensures in_range { IfOk result (λ entry. IfSome entry IsEntryInRange) }
 {
     let quote = skip_blanks(text);
     if quote.is_empty() || quote[0] != b'"' {
@@ -61,7 +64,9 @@ fn read_pipeline(alloc: Global, text: &[u8]) -> Result<Option<PlanEntry>, OutOfM
 
 /// Reads the count behind the path of a block.
 fn read_count_of(path: Text, rest: &[u8]) -> Option<PlanEntry>
-    ensures { result ≡ (if is_blank (slice_index rest.now 0) then pipelined_entry path (sole_number 1 64 (fields_of rest.now)) else None) }
+    ensures value { result ≡ (if is_blank (slice_index rest.now 0)
+        then pipelined_entry path (sole_number 1 64 (fields_of rest.now)) else None) }
+    ensures in_range { IfSome result IsEntryInRange }
 {
     if rest.is_empty() || (rest[0] != b' ' && rest[0] != b'\t') {
         return None;
@@ -74,7 +79,8 @@ fn read_count_of(path: Text, rest: &[u8]) -> Option<PlanEntry>
 
 /// Reads the only field of a line as a number from `low` to `high`.
 fn read_number(line: &[u8], low: u32, high: u32) -> Option<u32>
-    ensures { result ≡ sole_number low high (fields_of line.now) }
+    ensures value { result ≡ sole_number low high (fields_of line.now) }
+    ensures in_range { IfSome result (λ count. (low ≤ count) × (count ≤ high)) }
 {
     let cut = cut_field(line);
     if cut.head.is_empty() || !cut_field(cut.tail).head.is_empty() {
@@ -86,7 +92,8 @@ fn read_number(line: &[u8], low: u32, high: u32) -> Option<u32>
 /// Reads 1 to 9 digits as a number from `low` to `high`.
 fn read_digits(field: &[u8], low: u32, high: u32) -> Option<u32>
     requires { 0 < length field.now }
-    ensures { result ≡ sole_number low high (field.now ∷ []) }
+    ensures value { result ≡ sole_number low high (field.now ∷ []) }
+    ensures in_range { IfSome result (λ count. (low ≤ count) × (count ≤ high)) }
 {
     if field.len() > MOST_DIGITS {
         return None;

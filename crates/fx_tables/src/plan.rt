@@ -1,4 +1,5 @@
 ghost use Rattle.std.specs.Prelude.{◌≡◌, ◌≢◌, Some, IfOk, IfErr};
+ghost use Rattle.dg_model.specs.PlanRange.{IsPlanInRange};
 ghost use Rattle.fx_tables.specs.Plan.{IsPlan, plan_fault};
 
 use crate::cut::cut_line;
@@ -13,7 +14,9 @@ use std::alloc::Global;
 /// `Bad` names the first other line, always with the cause `PlanLine`.
 pub fn read_plan(alloc: Global, bytes: &[u8]) -> Result<Plan, TableFault>
     ensures plan { IfOk result (IsPlan bytes.now) }
-    ensures refused { IfErr result (λ fault. fault ≢ TableFault.OutOfMemory → plan_fault bytes.now ≡ Some fault) }
+    ensures in_range { IfOk result IsPlanInRange }
+    ensures refused { IfErr result (λ fault.
+        fault ≢ TableFault.OutOfMemory → plan_fault bytes.now ≡ Some fault) }
 {
     let mut draft = Draft::new(alloc);
     let mut rest = bytes;

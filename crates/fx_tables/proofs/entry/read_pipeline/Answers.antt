@@ -12,10 +12,10 @@ entry_at quote inner rest content n inside after opens reads =
     ∙ ap counted_entry (sym reads ∙ ap string_behind inside)
     ∙ sym (cond-true (eqb (get_or quote 0 0) 34) (counted_entry (string_behind (drop 1 quote))) None (search (rules, nat_tests)))
 
-pub returns-in-Some : goal.returns-in-Some
-returns-in-Some c =
+pub returns-in-Some-clause-value : goal.returns-in-Some-clause-value
+returns-in-Some-clause-value c =
     let quote = c.skip_blanks-quote.result.now in
     let piece = rw c.in-Some.is at c.in_ok-read_string.ensures in
-    c.read_count_of.ensures
+    c.read_count_of.ensures.value
     ∙ entry_at quote _ _ c.in-Some.field-0.content c.in-Some.field-0.length (take_rest quote 1) (take_rest quote (1 + c.in-Some.field-0.length)) (omega (arith, c.if-quote-ne34.false)) piece.1
     ∙ ap pipeline_entry c.skip_blanks-quote.ensures.rest

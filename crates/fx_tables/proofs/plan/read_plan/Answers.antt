@@ -14,7 +14,7 @@ good_from false is = refl
 pub returns-then-not-branch-clause-refused : goal.returns-then-not-branch-clause-refused
 returns-then-not-branch-clause-refused c other =
     let read = c.loop-rest.invariant.read in
-    let line = c.in_ok-read_line.ensures read.0 read.1 in
+    let line = c.in_ok-read_line.ensures.describes read.0 read.1 in
     sym read.3
     ∙ entries_fault-bad read.0 (c.loop-rest.line + 1) c.cut_line-cut.result.head.now _ _ c.cut_line-cut.ensures.line
     (bad_from _ (sym c.if-not-branch.true ∙ line.0))
@@ -22,10 +22,11 @@ returns-then-not-branch-clause-refused c other =
 pub loop-rest-preserved : goal.loop-rest-preserved
 loop-rest-preserved c =
     let read = c.loop-rest.invariant.read in
-    let line = c.in_ok-read_line.ensures read.0 read.1 in
+    let line = c.in_ok-read_line.ensures.describes read.0 read.1 in
     let cut = c.cut_line-cut in
     record {
       counted = omega arith;
+      in_range = c.in_ok-read_line.ensures.in_range c.if-not-branch.false c.loop-rest.invariant.in_range;
       read = (
         _,
         OnTrue_at c.if-not-branch.false line.1,
