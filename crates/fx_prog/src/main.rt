@@ -2,33 +2,41 @@
 //! answer is the exit status.
 #![tactic(auto)]
 
-use fx_io::{ErrSink, FileShelf, OutSink};
+use fx_io::{ErrSink, FileShelf, OutOfMemory, OutSink, put_all};
 use fx_top::run;
+use std::env;
+use std::io::ErrorKind;
 use std::process::ExitCode;
-use std::{env, io};
 
 fn main(rt: HostRuntime) -> ExitCode {
-    let mut shelf = FileShelf::new(&rt);
-    let mut out = OutSink::new(rt.stdout());
     let mut err = ErrSink::new(rt.stderr());
-    let words = words_or_none(&rt);
-    let status = run(rt.alloc(), words.as_slice(), &mut shelf, &mut out, &mut err);
+    let status = match words(&rt) {
+        Ok(words) => {
+            let mut shelf = FileShelf::new(&rt);
+            let mut out = OutSink::new(rt.stdout());
+            run(rt.alloc(), words.as_slice(), &mut shelf, &mut out, &mut err)
+        }
+        Err(OutOfMemory) => {
+            // As for every message, a failure changes nothing.
+            let _ = put_all(&mut err, b"out of memory\n");
+            1
+        }
+    };
     ExitCode::from(status)
 }
 
 /// The words after the program's name. Words that aren't all text are none, which have no listed
 /// shape.
-fn words_or_none(rt: &HostRuntime) -> Vec<String> {
-    match words(rt) {
-        Ok(words) => words,
-        Err(_) => Vec::new(rt.alloc()),
-    }
-}
-
-fn words(rt: &HostRuntime) -> io::Result<Vec<String>> {
+fn words(rt: &HostRuntime) -> Result<Vec<String>, OutOfMemory> {
     let mut words = Vec::new(rt.alloc());
-    for word in env::args(rt)?.skip(1) {
-        words.push(word)?;
+    match env::args(rt) {
+        Ok(args) => {
+            for word in args.skip(1) {
+                words.push(word)?;
+            }
+        }
+        Err(fault) if fault.kind() == ErrorKind::OutOfMemory => return Err(OutOfMemory),
+        Err(_) => {}
     }
     Ok(words)
 }
