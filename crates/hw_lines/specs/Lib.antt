@@ -1,3 +1,4 @@
 pub mod Chain
 pub mod Line
 pub mod Taps
+pub mod inner

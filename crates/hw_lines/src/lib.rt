@@ -2,7 +2,9 @@
 #![tactic(auto)]
 
 mod laws;
+mod registers;
 mod source;
 
 pub use laws::{bridge_meets, phase_register_meets, tap_holds, tap_meets, tap_steps};
+pub use registers::{bridge_at, register_at};
 pub use source::{Source, Use};

@@ -10,7 +10,7 @@ use Rattle.hw_net.specs.declared.netlist.NetKind.{NetKind}
 use Rattle.hw_net.specs.declared.netlist.NetKind.TheVariants.{Comb, Reg, EnReg, Bridge, Unit, Counter}
 use Rattle.hw_net.specs.Circuit.{Circuit}
 use Rattle.hw_net.specs.ByFrame.{is_same_frame}
-use Rattle.hw_net.specs.Frames.{frame_of, is_frame, counted_frame, counter_from, counter_of, IsCounterAt, IsCounter, CountersDiffer}
+use Rattle.hw_net.specs.Frames.{frame_of, is_frame, counted_frame, counter_from, counter_of, register_count, IsCounterAt, IsCounter, CountersDiffer}
 use Rattle.hw_net.specs.Netlist.{IsKind, HasWord, HasBits, HasParts, HoldsProducts, reads, reads_now}
 use Rattle.hw_net.specs.NetRows.{Inputs, Rows, NetShows}
 use Rattle.hw_net.specs.Growing.{Extends, Keeps, IsReopened, InRows, Appends, IsAppended, MayRead, MayReadNow, IsCounted, with_net}
@@ -48,6 +48,10 @@ split-last xs x y k there =
 pub if-both : {A E : Type 0} (P Q R : A → Type 0) (result : Result A E) → IfOk result P → IfOk result Q → ((x : A) → P x → Q x → R x) → IfOk result R
 if-both P Q R (Ok x) p q f = f x p q
 if-both P Q R (Err e) p q f = tt
+
+pub count-append : (xs ys : List Net) → register_count (xs ++ ys) ≡ register_count xs + register_count ys
+count-append [] ys = omega arith
+count-append (x ∷ xs) ys = omega (arith, count-append xs ys)
 
 -- Netlists that grow.
 

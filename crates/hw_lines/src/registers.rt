@@ -1,0 +1,59 @@
+//! Registers and bridges behind a net, with its word, and the Counters of their frames.
+ghost use Rattle.std.specs.Prelude.{◌≡◌, ◌+◌, ◌<◌, IfOk, OnOk, ⊤};
+ghost use Rattle.hw_net.specs.Frames.{register_count};
+ghost use Rattle.hw_lines.specs.inner.Parts.{IsThere, CanHold, Grows, IsHeld, IsBridged};
+
+use fx_io::OutOfMemory;
+use hw_net::{Frame, Net, NetKind, Netlist};
+
+/// Puts in a register that takes a net at a slot of a frame.
+pub fn register_at(
+    net: &mut Netlist,
+    from: u32,
+    frame: Frame,
+    slot: u32,
+    first: i128,
+) -> Result<u32, OutOfMemory>
+    requires cycles { 0 < net.old.cycles }
+    requires period { 0 < frame.period }
+    requires from { CanHold net.old from first }
+    ensures held { IfOk result (λ number. IsHeld net.old net.new from frame slot first number) }
+    ensures grown { OnOk result (Grows net.old net.new from ⊥ (λ other. other ≡ frame)) }
+    ensures few { OnOk result (register_count net.new.nets ≡ register_count net.old.nets + 1) }
+{
+    let Net { signed, width, .. } = &net.nets()[from as usize];
+    let (signed, width) = (*signed, *width);
+    let _ = net.counter(frame)?;
+    let kind = NetKind::Reg {
+        frame,
+        slot,
+        first,
+        from,
+    };
+    net.add(Net {
+        signed,
+        width,
+        kind,
+    })
+}
+
+/// Puts in a bridge that passes a net on in the first base samples of a frame.
+pub fn bridge_at(net: &mut Netlist, from: u32, frame: Frame, live: u32) -> Result<u32, OutOfMemory>
+    requires cycles { 0 < net.old.cycles }
+    requires period { 0 < frame.period }
+    requires live { 0 < live }
+    requires from { IsThere net.old from }
+    ensures bridged { IfOk result (λ number. IsBridged net.old net.new from frame live number) }
+    ensures grown { OnOk result (Grows net.old net.new from ⊤ (λ other. other ≡ frame)) }
+    ensures few { OnOk result (register_count net.new.nets ≡ register_count net.old.nets + 1) }
+{
+    let Net { signed, width, .. } = &net.nets()[from as usize];
+    let (signed, width) = (*signed, *width);
+    let _ = net.counter(frame)?;
+    let kind = NetKind::Bridge { frame, live, from };
+    net.add(Net {
+        signed,
+        width,
+        kind,
+    })
+}
