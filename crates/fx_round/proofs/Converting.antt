@@ -18,22 +18,6 @@ pub word_bound : (w : ℕ) (s : Bool) → IsWord w s → w ≤ 128
 word_bound w true h = h.1
 word_bound w false h = omega (arith, h.1)
 
-pub frac_bounds : (t : FxType) → IsType t → (negsuc 63 ≤ℤ frac_of t) × (frac_of t ≤ℤ pos 128)
-frac_bounds (Num s w f) h = (h.1, h.2)
-frac_bounds Logical h = (omega (arith, ints), omega (arith, ints))
-
-pub gap_is : (a b x : ℤ) → a ≤ℤ b → x ≡ b -ℤ a → nat_abs x ≡ int_gap a b
-gap_is (pos a) (pos b) x h e = omega (arith, ints, h)
-gap_is (pos a) (negsuc b) x h e = absurd (omega (arith, ints, h))
-gap_is (negsuc a) (pos b) x h e = omega (arith, ints, h)
-gap_is (negsuc a) (negsuc b) x h e = omega (arith, ints, h)
-
-pub gap_none : (a b : ℤ) → b ≤ℤ a → int_gap a b ≡ 0
-gap_none (pos a) (pos b) h = omega (arith, ints, h)
-gap_none (pos a) (negsuc b) h = refl
-gap_none (negsuc a) (pos b) h = absurd (omega (arith, ints, h))
-gap_none (negsuc a) (negsuc b) h = omega (arith, ints, h)
-
 -- a whole number is rounded to itself
 pub exact : (mode : Rounding) (q : ℤ) (d : ℕ) → 0 < d → Rounds mode (q *ℤ pos d) d q
 exact mode q d h = whole_rounds (q *ℤ pos d) d q 0 (omega (arith, ints)) h mode refl

@@ -142,12 +142,6 @@ module _ (frac : ℤ) (xs : Terms) (i : ℕ) (d : Bool × FxType) (inside : i < 
 pub same_span : (r : Result Span TooWide) (l l' h h' : ℤ) → l ≡ l' → h ≡ h' → MatchResult r (IsSpan l h) (λ _. ¬ FitSpan l h) → MatchResult r (IsSpan l' h') (λ _. ¬ FitSpan l' h')
 same_span r l l' h h' e f m = subst₂ (λ (x y : ℤ). MatchResult r (IsSpan x y) (λ _. ¬ FitSpan x y)) e f m
 
-pub gap_is : (a b x : ℤ) → a ≤ℤ b → x ≡ b -ℤ a → nat_abs x ≡ int_gap a b
-gap_is (pos a) (pos b) x h e = omega (arith, ints, h)
-gap_is (pos a) (negsuc b) x h e = absurd (omega (arith, ints, h))
-gap_is (negsuc a) (pos b) x h e = omega (arith, ints, h)
-gap_is (negsuc a) (negsuc b) x h e = omega (arith, ints, h)
-
 pub refuses : (r : Result Span TooWide) (l h : ℤ) → IsErr r → ¬ FitSpan l h → MatchResult r (IsSpan l h) (λ _. ¬ FitSpan l h)
 refuses (Ok x) l h e n = absurd (true≢false (sym e))
 refuses (Err x) l h e n = n

@@ -1,6 +1,6 @@
 -- The ranges of types. Crates above may cite this module.
-use Rattle.std.proofs.Common.{◌≡◌, ◌-◌, ◌^◌, ◌≤◌, Bool, true, false, cond, ◌⊎◌, inl, inr, ℤ, pos, negsuc, ◌≤ℤ◌, refl, arith, pow_mono, FitsSigned}
-use Rattle.std.specs.Int.{w128, int_max}
+use Rattle.std.proofs.Common.{◌≡◌, ◌-◌, ◌^◌, ◌≤◌, Bool, true, false, cond, ◌⊎◌, inl, inr, ℤ, pos, negsuc, ◌≤ℤ◌, refl, arith, pow_mono, FitsSigned, ◌-ℤ◌, nat_abs}
+use Rattle.std.specs.Int.{w128, int_max, int_gap}
 use Rattle.std.proofs.lemmas.Int.{ints}
 use Rattle.fx_type.specs.declared.kind.FxType.{FxType}
 use Rattle.fx_type.specs.declared.kind.FxType.TheVariants.{Num, Logical}
@@ -52,3 +52,16 @@ int_max_cases x y = cases _
     cases : (b : Bool) → (cond b x y ≡ x) ⊎ (cond b x y ≡ y)
     cases true = inl refl
     cases false = inr refl
+
+-- how far one frac is above another
+pub gap_is : (a b x : ℤ) → a ≤ℤ b → x ≡ b -ℤ a → nat_abs x ≡ int_gap a b
+gap_is (pos a) (pos b) x h e = omega (arith, ints, h)
+gap_is (pos a) (negsuc b) x h e = absurd (omega (arith, ints, h))
+gap_is (negsuc a) (pos b) x h e = omega (arith, ints, h)
+gap_is (negsuc a) (negsuc b) x h e = omega (arith, ints, h)
+
+pub gap_none : (a b : ℤ) → b ≤ℤ a → int_gap a b ≡ 0
+gap_none (pos a) (pos b) h = omega (arith, ints, h)
+gap_none (pos a) (negsuc b) h = refl
+gap_none (negsuc a) (pos b) h = absurd (omega (arith, ints, h))
+gap_none (negsuc a) (negsuc b) h = omega (arith, ints, h)

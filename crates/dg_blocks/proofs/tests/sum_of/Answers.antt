@@ -23,13 +23,17 @@ output-requires c =
     let x : to_z w128 (of_z w128 c.args.x) ≡ c.args.x = to_z-of_z w128 c.args.x c.ranges.x in
     let y : to_z w128 (of_z w128 c.args.y) ≡ c.args.y = to_z-of_z w128 c.args.y c.ranges.y in
     record {
-      arity = (lit≤ tt, lit≤ tt);
-      signs = refl;
-      types = both_types c.args.kind c.requires.kind;
-      inputs = refl;
-      in_range = both_in_range c.args.kind _ _ (subst (InRange c.args.kind) (sym x) c.requires.x) (subst (InRange c.args.kind) (sym y) c.requires.y);
-      parameters = tt;
-      result = ((lit≤ tt, lit≤ tt), le_z_yes tt, le_z_yes tt);
-      result_type = tt;
-      full_type = (c.in_ok-_full._full, c.in_ok-_full.ensures.ok);
+      prepared = record {
+        arity = (lit≤ tt, lit≤ tt);
+        signs = refl;
+        types = both_types c.args.kind c.requires.kind;
+        parameters = tt;
+        result = ((lit≤ tt, lit≤ tt), le_z_yes tt, le_z_yes tt);
+        result_type = tt;
+        full_type = (c.in_ok-_full._full, c.in_ok-_full.ensures.ok);
+      };
+      values = record {
+        count = refl;
+        in_range = both_in_range c.args.kind _ _ (subst (InRange c.args.kind) (sym x) c.requires.x) (subst (InRange c.args.kind) (sym y) c.requires.y);
+      };
     }

@@ -4,7 +4,8 @@ use Rattle.std.proofs.lemmas.Int.{ints, to_z-of_z}
 use Rattle.fx_type.specs.declared.kind.FxType.TheVariants.{Num}
 use Rattle.fx_type.specs.FxType.{IsType, frac_of}
 use Rattle.fx_type.specs.Conversion.{Settles, StoresQuotient}
-use Rattle.fx_round.proofs.Converting.{frac_bounds, gap_is, gap_none, converts_up, converts_down}
+use Rattle.fx_type.proofs.Ranges.{frac_bounds, gap_is, gap_none}
+use Rattle.fx_round.proofs.Converting.{converts_up, converts_down}
 use Rattle.fx_round.proofs.conversion.convert.Goals as goal
 
 pub overflow_cast-up-else-up-ge0 : goal.overflow_cast-up-else-up-ge0

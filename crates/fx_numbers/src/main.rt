@@ -1,0 +1,60 @@
+//! Answers cases of numbers, one a line of standard input, so that the gate runs them as both
+//! compilers build them.
+//!
+//! A line is words, after which a decimal has its text behind a `|`. A type is `s W F` (signed, W
+//! bits, F of them behind the point), `u W F` or `L`; END is a result type, a rounding, and `on` or
+//! `off` for saturation.
+//!
+//! | line | what is printed |
+//! |---|---|
+//! | `conversion V FROM END` | the number converted (`fx_round::convert`) |
+//! | `decimal TYPE \|TEXT` | sign, digits, exponent and stored integer, or why there are none |
+//! | `sum_type N SIGN TYPE ..`, `product_type A B`, `union_type A B` | the full type, or `TooWide` |
+//! | `sum N SIGN TYPE V .. END` | what `dg_blocks::output` gives, N up to 3 |
+//! | `gain TYPE V TYPE C END`, `product TYPE V TYPE V END` | the same |
+//! | `switch TYPE V TYPE V TYPE V CRITERION T END` | the same |
+//! | `relational TYPE V RELATION TYPE V` | the same |
+//! | `logic GATE N TYPE V ..` | the same, N up to 3 |
+//! | `convert TYPE V END`, `stored TYPE V END`, `pass TYPE V` | the same |
+#![tactic(auto)]
+
+mod operations;
+mod types;
+mod words;
+
+use crate::words::Words;
+use anyhow::Result;
+use std::alloc::Global;
+use std::io::{self, BufRead, BufReader, BufWriter, Write};
+
+fn main(rt: HostRuntime) -> Result<()> {
+    let alloc = rt.alloc();
+    let mut out = BufWriter::new(alloc, io::writer(&rt))?;
+    for line in BufReader::new(alloc, rt.reader())?.lines(alloc) {
+        let line = line?;
+        answer(alloc, line.as_str(), &mut out)?;
+    }
+    out.flush()?;
+    Ok(())
+}
+
+fn answer<W: Write>(alloc: Global, line: &str, out: &mut W) -> Result<()> {
+    let (front, text) = match line.split_once('|') {
+        Some((front, text)) => (front, text),
+        None => (line, ""),
+    };
+    let words = front.split_whitespace().collect(alloc)?;
+    let mut words = Words { words, at: 0 };
+    match words.next()?.as_bytes() {
+        b"conversion" => types::conversion(&mut words, out),
+        b"decimal" => types::decimal(&mut words, text, out),
+        b"sum_type" => types::sum_type(alloc, &mut words, out),
+        b"product_type" => types::product_type(&mut words, out),
+        b"union_type" => types::union_type(&mut words, out),
+        operation => {
+            let v = operations::carried_out(operation, &mut words)?;
+            writeln!(out, "{v}")?;
+            Ok(())
+        }
+    }
+}
