@@ -1,17 +1,20 @@
 //! Rounding and conversion between types, decimals, and the stored integer of a decimal.
 //!
 //! `convert` and `to_stored` meet `Converts` and `Stores` of `fx_type`, whose rows are inequalities
-//! over whole numbers; the code shifts words and compares remainders. A number between two whole
-//! numbers is kept as the lower one and a `Part`, which tells whether it is whole, below, at or above
-//! the half; every mode is decided by these alone, so no step needs more than 128 bits:
+//! over whole numbers. A number and a type of at most 62 bits are converted in 64 bits (`narrow.rt`):
+//! what a mode adds before one shift down makes the whole number below the one that it takes. Other
+//! numbers are converted in 128 bits, without loss:
 //!
-//! - shifted down by 128 bits or more, a number is 0 or -1 and a part that its sign tells;
-//! - shifted up past 128 bits, a number is out of every type's range, so saturation takes an end, and
+//! - shifted down, a number is the lower of two whole numbers and a rest, which tell what a mode takes;
+//! - shifted down by 128 bits or more, it is 0 or -1 and a `Part` that its sign tells;
+//! - shifted up past 128 bits, it is out of every type's range, so saturation takes an end, and
 //!   wrapping keeps the low bits;
 //! - a decimal's quotient by a power of ten is shifted up bit by bit with its remainder, which stays
 //!   below the power of ten, and is out of every range once it passes 127 bits.
 //!
-//! No call takes memory. What the private steps keep is defined in `specs/Split.antt`.
+//! No call takes memory. `specs/Laws.antt` has laws of rounding and conversion, and
+//! `specs/DecimalText.antt` says which texts are decimals. What only the private steps keep is
+//! defined in `specs/inner`.
 #![tactic(auto)]
 
 mod conversion;
