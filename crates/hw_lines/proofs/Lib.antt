@@ -1,3 +1,4 @@
 pub mod Hits
 pub mod Parts
+pub mod Steps
 pub mod Taps

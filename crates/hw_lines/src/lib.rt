@@ -4,7 +4,9 @@
 mod laws;
 mod registers;
 mod source;
+mod source_taps;
 
 pub use laws::{bridge_meets, phase_register_meets, tap_holds, tap_meets, tap_steps};
 pub use registers::{bridge_at, register_at};
 pub use source::{Source, Use};
+pub use source_taps::taps_of;
