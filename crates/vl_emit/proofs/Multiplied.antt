@@ -1,0 +1,280 @@
+-- The multiplications and the registers of the module of a netlist.
+use Rattle.std.proofs.Common.{max, ◌≡◌, ◌⊎◌, inl, inr, ℕ, zero, suc, ◌^◌, ◌<◌, ◌≤◌, Bool, true, false, List, [], ◌∷◌, ◌++◌, map, flat_map, length, get_or, Contains, refl, ap, sym, ◌∙◌, subst, arith, append-nil}
+use Rattle.std.specs.Prelude.{⊤}
+use Rattle.std.specs.List.{AllZip}
+use Rattle.std.proofs.lemmas.Grind.{flat_map-append}
+use Rattle.vl_ast.specs.declared.expressions.BinOp.TheVariants as binary
+use Rattle.vl_ast.specs.declared.expressions.Expr.{Expr}
+use Rattle.vl_ast.specs.declared.expressions.Expr.TheVariants as expression
+use Rattle.vl_ast.specs.declared.modules.ModItem.{ModItem}
+use Rattle.vl_ast.specs.declared.modules.ModItem.TheVariants as item
+use Rattle.vl_ast.specs.declared.modules.Module.{Module}
+use Rattle.vl_ast.specs.Context.{Net as DeclaredNet, own_length, is_signed}
+use Rattle.vl_ast.specs.Multiplications.{Multiplication, multiplications, item_multiplications}
+use Rattle.vl_ast.specs.Nets.{nets_of}
+use Rattle.hw_net.specs.declared.netlist.Net.{Net}
+use Rattle.hw_net.specs.declared.netlist.NetPort.{NetPort}
+use Rattle.hw_net.specs.declared.netlist.NetOp.{NetOp}
+use Rattle.hw_net.specs.declared.netlist.NetOp.TheVariants.{Input, Const, Resize, ShiftUp, ShiftDown, Add, Subtract, Negate, Multiply, And, Or, Xor, Not, Less, Equal, Choose, Slice}
+use Rattle.hw_net.specs.declared.netlist.NetKind.{NetKind}
+use Rattle.hw_net.specs.declared.netlist.NetKind.TheVariants.{Comb, Reg, EnReg, Bridge, Unit, Counter}
+use Rattle.hw_net.specs.Circuit.{Circuit}
+use Rattle.hw_net.specs.Netlist.{IsNetlist}
+use Rattle.vl_emit.specs.Emittable.{IsEmittable}
+use Rattle.vl_emit.specs.Names.{Wire, net_at, net_wire, places, shown}
+use Rattle.vl_emit.specs.Products.{Product, HasFactor, IsProduct, ProductsAre, unit_product, op_product, comb_product, products_of}
+use Rattle.vl_emit.specs.Registers.{declared_register, register_name, RegistersAre}
+use Rattle.vl_emit.specs.inner.Emitted.{Naming, wire_of, drivers, declarers, unit_drivers, other_drivers, output_item, naming_of, module_of}
+use Rattle.vl_emit.specs.inner.Sound.{IsSound, IsSoundKind}
+use Rattle.vl_emit.specs.inner.Spelled.{at_width}
+use Rattle.vl_emit.proofs.AtWidth.{operand-written}
+use Rattle.vl_emit.proofs.Cleaned.{Readable, at-clean, name-clean, word-most, binary-products}
+use Rattle.vl_emit.proofs.Drivers.{multiplies, assign-clean}
+use Rattle.vl_emit.proofs.Found.{no-element, first-or-later, here, later, of-one, of-mapped, below-place, one-more}
+use Rattle.vl_emit.proofs.Layers.{length-Binary}
+use Rattle.vl_emit.proofs.Lists.{empty-list, flat_map-twice, flat_map-same}
+use Rattle.vl_emit.proofs.OfOperations.{width-at-least}
+use Rattle.vl_emit.proofs.Origins.{has, driver-clean}
+use Rattle.vl_emit.proofs.Shown.{wire-shows}
+use Rattle.vl_emit.proofs.Sounds.{netlist-sound}
+use Rattle.vl_emit.proofs.Interfaces.{emitted}
+
+module _ {A B : Type 0} (R : A → B → Type 0) where
+  zip-append : (xs : List A) (ys : List B) (us : List A) (vs : List B) → AllZip R xs ys → AllZip R us vs → AllZip R (xs ++ us) (ys ++ vs)
+  zip-append [] [] us vs p q = q
+  zip-append [] (y ∷ ys) us vs p q = absurd p
+  zip-append (x ∷ xs) [] us vs p q = absurd p
+  zip-append (x ∷ xs) (y ∷ ys) us vs p q = (p.0, zip-append xs ys us vs p.1 q)
+
+  zip-places : (f : ℕ → List A) (g : ℕ → List B) (n : ℕ) → ((k : ℕ) → k < n → AllZip R (f k) (g k)) → AllZip R (flat_map f (places n)) (flat_map g (places n))
+  zip-places f g zero h = tt
+  zip-places f g (suc n) h =
+      subst (AllZip R (flat_map f (places (suc n)))) (sym (one-more g n (suc n) (omega arith)))
+      (subst (λ (l : List A). AllZip R l (flat_map g (places n) ++ g n)) (sym (one-more f n (suc n) (omega arith)))
+      (zip-append (flat_map f (places n)) (flat_map g (places n)) (f n) (g n) (zip-places f g n (λ k below. h k (omega (arith, below)))) (h n (omega arith))))
+
+module _ (netlist : Circuit) (runs : IsNetlist netlist) (emits : IsEmittable netlist) (few : length netlist.nets < 2 ^ 64) where
+  abbrev cycles : ℕ
+  cycles = netlist.cycles
+
+  abbrev count : ℕ
+  count = length netlist.nets
+
+  abbrev net : ℕ → Net
+  net = net_at netlist.nets
+
+  abbrev naming : Naming
+  naming = naming_of netlist
+
+  abbrev m : Module
+  m = module_of netlist
+
+  abbrev nets : List ℕ → DeclaredNet
+  nets = nets_of (module_of netlist)
+
+  abbrev sound : IsSound netlist.cycles (length netlist.nets) (naming_of netlist) (net_at netlist.nets) runs.ranked.0
+  sound = netlist-sound netlist runs emits.counters
+
+  abbrev any : List ℕ → Type 0
+  any name = ⊤
+
+  readable : (j : ℕ) → j < length netlist.nets → Readable (nets_of (module_of netlist)) (λ name. ⊤) (wire_of (naming_of netlist) (net_at netlist.nets) j)
+  readable j h = record { declared = (has netlist runs emits few).declared j h; word = sound.word j h; may = tt }
+
+  -- an operand of a product in a context of its width
+  factor : (w : ℕ) (width : ℕ) (signed : Bool) (j : ℕ) → j < length netlist.nets → 1 ≤ w → width ≡ w
+      → HasFactor (module_of netlist) width signed (at_width w (wire_of (naming_of netlist) (net_at netlist.nets) j)) (net_wire netlist j)
+  factor w width signed j h some same =
+      subst (λ (v : ℕ). HasFactor (module_of netlist) v signed (at_width w (wire_of (naming_of netlist) (net_at netlist.nets) j)) (net_wire netlist j)) (sym same)
+      (record {
+        is = λ total start inputs rows run k below.
+            (operand-written nets (rows k) w (wire_of naming net j) (shown (rows k) (net_wire netlist j)) some
+            (wire-shows m total start inputs rows run k below (wire_of naming net j) ((has netlist runs emits few).declared j h) (sound.word j h))).value signed;
+      })
+
+  -- the item of a product
+  product-zip : (k left right : ℕ) → k < length netlist.nets → left < length netlist.nets → right < length netlist.nets
+      → AllZip (IsProduct netlist (module_of netlist)) (record { left = left; right = right; width = (net_at netlist.nets k).width } ∷ [])
+      (item_multiplications (nets_of (module_of netlist)) (item.Assign ((naming_of netlist).net k)
+      (expression.Binary binary.Multiply (at_width (net_at netlist.nets k).width (wire_of (naming_of netlist) (net_at netlist.nets) left)) (at_width (net_at netlist.nets k).width (wire_of (naming_of netlist) (net_at netlist.nets) right)))) ++ [])
+  product-zip k left right h p q =
+      let w : ℕ = (net_at netlist.nets k).width in
+      let x : Expr = at_width w (wire_of naming net left) in
+      let y : Expr = at_width w (wire_of naming net right) in
+      let e : Expr = expression.Binary binary.Multiply x y in
+      let some : 1 ≤ w = width-at-least (net k).signed w (sound.word k h) in
+      let most : w ≤ 128 = word-most nets any w (net k).signed (sound.word k h) in
+      let cx = at-clean nets any w (wire_of naming net left) some most (readable left p) in
+      let cy = at-clean nets any w (wire_of naming net right) some most (readable right q) in
+      let long : own_length nets e ≡ w = length-Binary nets binary.Multiply x y ∙ omega (arith, cx.length, cy.length) in
+      let wide : (nets (naming.net k)).width ≡ w = ap (λ (n : DeclaredNet). n.width) ((has netlist runs emits few).declared k h) in
+      let context : max (nets (naming.net k)).width (own_length nets e) ≡ w = omega (arith, long, wide) in
+      let is = binary-products nets any w binary.Multiply x y (max (nets (naming.net k)).width (own_length nets e)) (is_signed nets e) cx cy in
+      subst (λ (l : List Multiplication). AllZip (IsProduct netlist m) (record { left = left; right = right; width = w } ∷ []) (l ++ [])) (sym is) (
+        record {
+          width = context;
+          left = factor w (max (nets (naming.net k)).width (own_length nets e)) (is_signed nets e) left p some context;
+          right = factor w (max (nets (naming.net k)).width (own_length nets e)) (is_signed nets e) right q some context;
+        },
+        tt,
+      )
+
+  unit-zip : (k : ℕ) → k < length netlist.nets → (kind : NetKind) → (net_at netlist.nets k).kind ≡ kind
+      → AllZip (IsProduct netlist (module_of netlist)) (unit_product (net_at netlist.nets k).width kind)
+      (flat_map (item_multiplications (nets_of (module_of netlist))) (unit_drivers netlist.cycles (naming_of netlist) (net_at netlist.nets) k kind))
+  unit-zip k h (Comb op args) is = tt
+  unit-zip k h (Reg frame slot first from) is = tt
+  unit-zip k h (EnReg frame enable resets first from) is = tt
+  unit-zip k h (Bridge frame live from) is = tt
+  unit-zip k h (Unit left right) is =
+      let names = subst (IsSoundKind cycles count naming net runs.ranked.0 k) is (sound.names k h) in
+      product-zip k left right h names.0.there names.1.there
+  unit-zip k h (Counter frame) is = tt
+
+  -- the others have none
+  none-at : (k : ℕ) → k < length netlist.nets → multiplies (net_at netlist.nets k).kind ≡ false → (i : ModItem)
+      → Contains (drivers netlist.cycles (naming_of netlist) (net_at netlist.nets) k (net_at netlist.nets k).kind) i → item_multiplications (nets_of (module_of netlist)) i ≡ []
+  none-at k h e i c = (driver-clean netlist runs emits few any k h (λ j below n. tt) (λ frame live from is. tt) (λ port args is. tt) i c).products e
+
+  none-by : (k : ℕ) → k < length netlist.nets → (kind : NetKind) → (net_at netlist.nets k).kind ≡ kind → multiplies kind ≡ false
+      → flat_map (item_multiplications (nets_of (module_of netlist))) (drivers netlist.cycles (naming_of netlist) (net_at netlist.nets) k kind) ≡ []
+  none-by k h kind is e =
+      empty-list (flat_map (item_multiplications (nets_of (module_of netlist))) (drivers netlist.cycles (naming_of netlist) (net_at netlist.nets) k kind))
+      (λ x c. (let r = of-one (item_multiplications (nets_of (module_of netlist))) (drivers netlist.cycles (naming_of netlist) (net_at netlist.nets) k kind) x c in
+      let none = none-at k h (ap multiplies is ∙ e) r.0 (subst (λ (t : NetKind). Contains (drivers netlist.cycles (naming_of netlist) (net_at netlist.nets) k t) r.0) (sym is) r.1) in
+      no-element x (subst (λ (l : List Multiplication). Contains l x) none r.2)))
+
+  abbrev Zips : ℕ → NetKind → Type 0
+  Zips k kind = AllZip (IsProduct netlist (module_of netlist)) (comb_product (net_at netlist.nets k).width kind)
+      (flat_map (item_multiplications (nets_of (module_of netlist))) (other_drivers netlist.cycles (naming_of netlist) (net_at netlist.nets) k kind))
+
+  no-zip : (l : List Multiplication) → l ≡ [] → AllZip (IsProduct netlist (module_of netlist)) [] l
+  no-zip l e = subst (AllZip (IsProduct netlist (module_of netlist)) []) (sym e) tt
+
+  other-zip : (k : ℕ) → k < length netlist.nets → (kind : NetKind) → (net_at netlist.nets k).kind ≡ kind → Zips k kind
+  other-zip k h (Comb Multiply args) is =
+      let names = subst (IsSoundKind cycles count naming net runs.ranked.0 k) is (sound.names k h) in
+      product-zip k (get_or args 0 0) (get_or args 1 0) h (names.1 0 (omega arith)).there (names.1 1 (omega arith)).there
+  other-zip k h (Comb (Input number) args) is = no-zip _ (none-by k h (Comb (Input number) args) is refl)
+  other-zip k h (Comb (Const value) args) is = no-zip _ (none-by k h (Comb (Const value) args) is refl)
+  other-zip k h (Comb Resize args) is = no-zip _ (none-by k h (Comb Resize args) is refl)
+  other-zip k h (Comb (ShiftUp shift) args) is = no-zip _ (none-by k h (Comb (ShiftUp shift) args) is refl)
+  other-zip k h (Comb (ShiftDown shift) args) is = no-zip _ (none-by k h (Comb (ShiftDown shift) args) is refl)
+  other-zip k h (Comb Add args) is = no-zip _ (none-by k h (Comb Add args) is refl)
+  other-zip k h (Comb Subtract args) is = no-zip _ (none-by k h (Comb Subtract args) is refl)
+  other-zip k h (Comb Negate args) is = no-zip _ (none-by k h (Comb Negate args) is refl)
+  other-zip k h (Comb And args) is = no-zip _ (none-by k h (Comb And args) is refl)
+  other-zip k h (Comb Or args) is = no-zip _ (none-by k h (Comb Or args) is refl)
+  other-zip k h (Comb Xor args) is = no-zip _ (none-by k h (Comb Xor args) is refl)
+  other-zip k h (Comb Not args) is = no-zip _ (none-by k h (Comb Not args) is refl)
+  other-zip k h (Comb Less args) is = no-zip _ (none-by k h (Comb Less args) is refl)
+  other-zip k h (Comb Equal args) is = no-zip _ (none-by k h (Comb Equal args) is refl)
+  other-zip k h (Comb Choose args) is = no-zip _ (none-by k h (Comb Choose args) is refl)
+  other-zip k h (Comb (Slice high low) args) is = no-zip _ (none-by k h (Comb (Slice high low) args) is refl)
+  other-zip k h (Reg frame slot first from) is = no-zip _ (none-by k h (Reg frame slot first from) is refl)
+  other-zip k h (EnReg frame enable resets first from) is = no-zip _ (none-by k h (EnReg frame enable resets first from) is refl)
+  other-zip k h (Bridge frame live from) is = no-zip _ (none-by k h (Bridge frame live from) is refl)
+  other-zip k h (Unit left right) is = tt
+  other-zip k h (Counter frame) is = no-zip _ (none-by k h (Counter frame) is refl)
+
+  abbrev declaring : List ModItem
+  declaring = flat_map (λ k. declarers naming net k (net k).kind) (places count)
+
+  abbrev units : List ModItem
+  units = flat_map (λ k. unit_drivers cycles naming net k (net k).kind) (places count)
+
+  abbrev others : List ModItem
+  others = flat_map (λ k. other_drivers cycles naming net k (net k).kind) (places count)
+
+  abbrev showing : List ModItem
+  showing = map (output_item naming) netlist.outputs
+
+  -- a function of items that gives nothing of any of a list
+  none-of-list : {X : Type 0} (f : ModItem → List X) (is : List ModItem) → ((i : ModItem) → Contains is i → f i ≡ []) → flat_map f is ≡ []
+  none-of-list f is h = empty-list (flat_map f is) (λ x c. (let r = of-one f is x c in no-element x (subst (λ (l : List _). Contains l x) (h r.0 r.1) r.2)))
+
+  declared-none : (k : ℕ) (kind : NetKind) → flat_map (item_multiplications (nets_of (module_of netlist))) (declarers (naming_of netlist) (net_at netlist.nets) k kind) ≡ []
+  declared-none k (Comb op args) = refl
+  declared-none k (Unit left right) = refl
+  declared-none k (Counter frame) = refl
+  declared-none k (Reg frame slot first from) = refl
+  declared-none k (EnReg frame enable resets first from) = refl
+  declared-none k (Bridge frame live from) = refl
+
+  shown-none : (output : NetPort) → Contains netlist.outputs output → item_multiplications (nets_of (module_of netlist)) (output_item (naming_of netlist) output) ≡ []
+  shown-none output c =
+      let e = emitted netlist runs emits few in
+      let h = e.ports.there output c in
+      let k : ℕ = output.net in
+      (assign-clean nets any output.name (net k).width (expression.Name (naming.net k)) (word-most nets any (net k).width (net k).signed (sound.word k h))
+      (name-clean nets any (naming.net k) (net k).width (ap (λ (n : DeclaredNet). n.width) ((has netlist runs emits few).declared k h)) tt)).products refl
+
+  pub products-are : ProductsAre netlist (module_of netlist)
+  products-are = record {
+    each =
+        let f : ModItem → List Multiplication = item_multiplications nets in
+        let first : flat_map (item_multiplications nets) declaring ≡ [] =
+        flat_map-twice (item_multiplications nets) (λ k. declarers naming net k (net k).kind) (places count)
+        ∙ flat_map-same (λ k. flat_map (item_multiplications nets) (declarers naming net k (net k).kind)) (λ k. []) (λ k. declared-none k (net k).kind) (places count)
+        ∙ empty-list (flat_map (λ k. []) (places count)) (λ x c. (let r = of-one (λ k. []) (places count) x c in no-element x r.2)) in
+        let last : flat_map (item_multiplications nets) showing ≡ [] =
+        none-of-list (item_multiplications nets) showing (λ i c. (let r = of-mapped (output_item naming) netlist.outputs i c in subst (λ (x : ModItem). item_multiplications nets x ≡ []) r.2 (shown-none r.0 r.1))) in
+        let all : multiplications m ≡ flat_map (item_multiplications nets) units ++ (flat_map (item_multiplications nets) others ++ []) =
+        flat_map-append (item_multiplications nets) declaring (units ++ (others ++ showing))
+        ∙ (λ i. first i ++ flat_map-append (item_multiplications nets) units (others ++ showing) i)
+        ∙ (λ i. flat_map (item_multiplications nets) units ++ flat_map-append (item_multiplications nets) others showing i)
+        ∙ (λ i. flat_map (item_multiplications nets) units ++ (flat_map (item_multiplications nets) others ++ last i)) in
+        let u = flat_map-twice (item_multiplications nets) (λ k. unit_drivers cycles naming net k (net k).kind) (places count) in
+        let o = flat_map-twice (item_multiplications nets) (λ k. other_drivers cycles naming net k (net k).kind) (places count) in
+        subst (AllZip (IsProduct netlist m) (products_of netlist))
+        (sym (all ∙ (λ i. u i ++ append-nil (o i) i)))
+        (zip-append (IsProduct netlist m) _ _ _ _
+        (zip-places (IsProduct netlist m) (λ k. unit_product (net k).width (net k).kind) (λ k. flat_map (item_multiplications nets) (unit_drivers cycles naming net k (net k).kind)) count (λ k h. unit-zip k h (net k).kind refl))
+        (zip-places (IsProduct netlist m) (λ k. comb_product (net k).width (net k).kind) (λ k. flat_map (item_multiplications nets) (other_drivers cycles naming net k (net k).kind)) count (λ k h. other-zip k h (net k).kind refl)));
+  }
+
+  -- the registers
+  register-at : (k : ℕ) (kind : NetKind) → flat_map declared_register (declarers (naming_of netlist) (net_at netlist.nets) k kind) ≡ register_name netlist k kind
+  register-at k (Comb op args) = refl
+  register-at k (Unit left right) = refl
+  register-at k (Counter frame) = refl
+  register-at k (Reg frame slot first from) = refl
+  register-at k (EnReg frame enable resets first from) = refl
+  register-at k (Bridge frame live from) = refl
+
+  no-register : (k : ℕ) (kind : NetKind) → flat_map declared_register (unit_drivers netlist.cycles (naming_of netlist) (net_at netlist.nets) k kind) ≡ []
+  no-register k (Comb op args) = refl
+  no-register k (Unit left right) = refl
+  no-register k (Counter frame) = refl
+  no-register k (Reg frame slot first from) = refl
+  no-register k (EnReg frame enable resets first from) = refl
+  no-register k (Bridge frame live from) = refl
+
+  none-more : (k : ℕ) (kind : NetKind) → flat_map declared_register (other_drivers netlist.cycles (naming_of netlist) (net_at netlist.nets) k kind) ≡ []
+  none-more k (Comb op args) = refl
+  none-more k (Unit left right) = refl
+  none-more k (Counter frame) = refl
+  none-more k (Reg frame slot first from) = refl
+  none-more k (EnReg frame enable true first from) = refl
+  none-more k (EnReg frame enable false first from) = refl
+  none-more k (Bridge frame live from) = refl
+
+  empty-places : {X : Type 0} (f : ℕ → List ModItem) (g : ModItem → List X) → ((k : ℕ) → flat_map g (f k) ≡ []) → flat_map g (flat_map f (places (length netlist.nets))) ≡ []
+  empty-places f g h =
+      flat_map-twice g f (places count)
+      ∙ empty-list (flat_map (λ k. flat_map g (f k)) (places count)) (λ x c. (let r = of-one (λ k. flat_map g (f k)) (places count) x c in no-element x (subst (λ (l : List _). Contains l x) (h r.0) r.2)))
+
+  pub registers-are : RegistersAre netlist (module_of netlist)
+  registers-are = record {
+    are =
+        let u = empty-places (λ k. unit_drivers cycles naming net k (net k).kind) declared_register (λ k. no-register k (net k).kind) in
+        let o = empty-places (λ k. other_drivers cycles naming net k (net k).kind) declared_register (λ k. none-more k (net k).kind) in
+        let s : flat_map declared_register showing ≡ [] = none-of-list declared_register showing (λ i c. (let r = of-mapped (output_item naming) netlist.outputs i c in subst (λ (x : ModItem). declared_register x ≡ []) r.2 refl)) in
+        flat_map-append declared_register declaring (units ++ (others ++ showing))
+        ∙ (λ i. flat_map declared_register declaring ++ flat_map-append declared_register units (others ++ showing) i)
+        ∙ (λ i. flat_map declared_register declaring ++ (u i ++ flat_map-append declared_register others showing i))
+        ∙ (λ i. flat_map declared_register declaring ++ (o i ++ s i))
+        ∙ append-nil (flat_map declared_register declaring)
+        ∙ flat_map-twice declared_register (λ k. declarers naming net k (net k).kind) (places count)
+        ∙ flat_map-same (λ k. flat_map declared_register (declarers naming net k (net k).kind)) (λ k. register_name netlist k (net k).kind) (λ k. register-at k (net k).kind) (places count);
+  }

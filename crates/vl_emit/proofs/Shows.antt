@@ -1,0 +1,57 @@
+-- What the module of a netlist shows.
+use Rattle.std.proofs.Common.{◌≡◌, ℕ, ◌+◌, ◌-◌, ◌^◌, ◌<◌, true, false, List, length, Contains, refl, ap, sym, ◌∙◌, subst, arith}
+use Rattle.vl_ast.specs.declared.expressions.Expr.TheVariants as expression
+use Rattle.vl_ast.specs.declared.modules.Module.{Module}
+use Rattle.vl_ast.specs.Context.{Net as DeclaredNet}
+use Rattle.vl_ast.specs.Nets.{nets_of}
+use Rattle.vl_ast.specs.Value.{assigned}
+use Rattle.hw_net.specs.declared.netlist.Net.{Net}
+use Rattle.hw_net.specs.declared.netlist.NetPort.{NetPort}
+use Rattle.hw_net.specs.Circuit.{Circuit}
+use Rattle.hw_net.specs.Closed.{CounterIsTelling}
+use Rattle.hw_net.specs.Netlist.{IsNetlist}
+use Rattle.hw_net.specs.Step.{StepsGiveRows}
+use Rattle.vl_emit.specs.Emittable.{IsEmittable}
+use Rattle.vl_emit.specs.Names.{Wire, net_at, name_of, net_wire, input_wire, shown}
+use Rattle.vl_emit.specs.Shown.{NetsAreShown, OutputsAreShown}
+use Rattle.vl_emit.specs.inner.Emitted.{naming_of, module_of}
+use Rattle.vl_emit.specs.inner.Sound.{wire_of_output}
+use Rattle.vl_emit.proofs.AtWidth.{as-name, assigned-written}
+use Rattle.vl_emit.proofs.Interfaces.{emitted}
+use Rattle.vl_emit.proofs.NetItems.{has-outputs}
+use Rattle.vl_emit.proofs.Origins.{has}
+use Rattle.vl_emit.proofs.Ports.{named-net}
+use Rattle.vl_emit.proofs.Shown.{wire-shows, rows-are}
+use Rattle.vl_emit.proofs.Sounds.{netlist-sound}
+
+module _ (netlist : Circuit) (runs : IsNetlist netlist) (emits : IsEmittable netlist) (few : length netlist.nets < 2 ^ 64) where
+  abbrev m : Module
+  m = module_of netlist
+
+  pub nets-are-shown : CounterIsTelling → StepsGiveRows → NetsAreShown netlist (module_of netlist)
+  nets-are-shown telling stepping = record {
+    are = λ total last start inputs rows run.
+        let sound = netlist-sound netlist runs emits.counters in
+        let em = emitted netlist runs emits few in
+        rows-are netlist runs.ranked.0 sound m (has netlist runs emits few) total last start inputs rows run telling stepping runs
+        (λ k h clock port args is below.
+        wire-shows m total start inputs rows run.runs (last + 1 + clock) (omega (arith, below)) (input_wire netlist port)
+        (named-net netlist.cycles (length netlist.nets) (naming_of netlist) (net_at netlist.nets) runs.ranked.0 netlist.outputs m sound em true (input_wire netlist port) (em.ports.inputs k port args h is))
+        (em.ports.words k port args h is));
+  }
+
+  pub outputs-are-shown : OutputsAreShown netlist (module_of netlist)
+  outputs-are-shown = record {
+    are = λ total start inputs rows run k below output c.
+        let sound = netlist-sound netlist runs emits.counters in
+        let em = emitted netlist runs emits few in
+        let h = em.ports.there output c in
+        let wire : Wire = net_wire netlist output.net in
+        let shows = wire-shows m total start inputs rows run k below (net_wire netlist output.net) ((has netlist runs emits few).declared output.net h) (sound.word output.net h) in
+        let declared = named-net netlist.cycles (length netlist.nets) (naming_of netlist) (net_at netlist.nets) runs.ranked.0 netlist.outputs m sound em false (wire_of_output (net_at netlist.nets) output) (em.ports.outputs_are output c) in
+        run.assigns k below output.name (expression.Name (name_of netlist output.net)) (has-outputs netlist.cycles (length netlist.nets) (naming_of netlist) (net_at netlist.nets) netlist.outputs output c)
+        ∙ ap (λ (n : DeclaredNet). assigned (nets_of m) (rows k) n.width (expression.Name (name_of netlist output.net))) declared
+        ∙ assigned-written (nets_of m) (rows k) (net_at netlist.nets output.net).width (shown (rows k) (net_wire netlist output.net)) (expression.Name (name_of netlist output.net))
+        (as-name (nets_of m) (rows k) (net_wire netlist output.net) (shown (rows k) (net_wire netlist output.net)) shows)
+        ∙ sym shows.bits;
+  }

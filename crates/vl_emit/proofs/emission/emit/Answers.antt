@@ -1,0 +1,40 @@
+use Rattle.std.proofs.Common.{◌<◌, ◌^◌, length}
+use Rattle.vl_ast.specs.Conditions.{BreaksNone}
+use Rattle.vl_emit.specs.Header.{HasHeader}
+use Rattle.vl_emit.specs.Labelled.{LabelsAreNames}
+use Rattle.vl_emit.specs.Products.{ProductsAre}
+use Rattle.vl_emit.specs.Reads.{ReadsOnly}
+use Rattle.vl_emit.specs.Registers.{RegistersAre}
+use Rattle.vl_emit.specs.Shown.{NetsAreShown, OutputsAreShown}
+use Rattle.vl_emit.specs.inner.Emitted.{module_of}
+use Rattle.vl_emit.proofs.Clocked.{breaks-none, header}
+use Rattle.vl_emit.proofs.Interfaces.{labelled}
+use Rattle.vl_emit.proofs.Multiplied.{products-are, registers-are}
+use Rattle.vl_emit.proofs.Origins.{reads-only}
+use Rattle.vl_emit.proofs.Returned.{if-made}
+use Rattle.vl_emit.proofs.Shows.{nets-are-shown, outputs-are-shown}
+use Rattle.vl_emit.proofs.emission.emit.Goals as goal
+
+pub module_of-requires : goal.module_of-requires
+module_of-requires c = record { runs = c.requires.runs; counters = c.requires.emittable.counters; labels = c.requires.emittable.labels.there }
+
+pub returns : goal.returns
+returns c =
+    let n = c.args.netlist.now in
+    let few = length c.args.netlist.now.nets < 2 ^ 64 in
+    let runs = c.requires.runs in
+    let emits = c.requires.emittable in
+    let is = c.module_of.ensures.is in
+    let small = c.module_of.ensures.few in
+    record {
+      header = if-made (module_of c.args.netlist.now) (length c.args.netlist.now.nets < 2 ^ 64) (HasHeader c.args.netlist.now) c.module_of.result is small (λ h. header c.args.netlist.now runs emits h);
+      conditions = if-made (module_of c.args.netlist.now) (length c.args.netlist.now.nets < 2 ^ 64) BreaksNone c.module_of.result is small (λ h. breaks-none c.args.netlist.now runs emits h);
+      nets = if-made (module_of c.args.netlist.now) (length c.args.netlist.now.nets < 2 ^ 64) (NetsAreShown c.args.netlist.now) c.module_of.result is small
+          (λ h. nets-are-shown c.args.netlist.now runs emits h c.counter_is_telling.ensures c.steps_give_rows.ensures);
+      outputs = if-made (module_of c.args.netlist.now) (length c.args.netlist.now.nets < 2 ^ 64) (OutputsAreShown c.args.netlist.now) c.module_of.result is small (λ h. outputs-are-shown c.args.netlist.now runs emits h);
+      products = if-made (module_of c.args.netlist.now) (length c.args.netlist.now.nets < 2 ^ 64) (ProductsAre c.args.netlist.now) c.module_of.result is small (λ h. products-are c.args.netlist.now runs emits h);
+      reads = if-made (module_of c.args.netlist.now) (length c.args.netlist.now.nets < 2 ^ 64) (ReadsOnly c.args.netlist.now) c.module_of.result is small (λ h. reads-only c.args.netlist.now runs emits h);
+      registers = if-made (module_of c.args.netlist.now) (length c.args.netlist.now.nets < 2 ^ 64) (RegistersAre c.args.netlist.now) c.module_of.result is small (λ h. registers-are c.args.netlist.now runs emits h);
+      labels = if-made (module_of c.args.netlist.now) (length c.args.netlist.now.nets < 2 ^ 64) (λ m. LabelsAreNames c.args.netlist.now) c.module_of.result is small
+          (λ h. record { are = λ label k. labelled (length c.args.netlist.now.nets) h c.args.netlist.now.labels emits.labels label k });
+    }

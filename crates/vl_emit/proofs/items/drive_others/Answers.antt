@@ -1,0 +1,10 @@
+use Rattle.vl_emit.specs.Names.{net_at}
+use Rattle.vl_emit.specs.inner.Emitted.{others_at}
+use Rattle.vl_emit.specs.inner.Ready.{circuit_of}
+use Rattle.vl_emit.proofs.Lists.{loop-step}
+use Rattle.vl_emit.proofs.items.drive_others.Goals as goal
+
+pub loop-own-preserved : goal.loop-own-preserved
+loop-own-preserved c =
+    loop-step (λ k. others_at (circuit_of c.args.source) k (net_at (circuit_of c.args.source).nets k).kind) c.args.items.now c.loop-own.items c.drive.new.items c.loop-own.own
+    c.loop-own.invariant c.in_ok-drive.ensures

@@ -1,0 +1,9 @@
+pub mod Emittable
+pub mod Header
+pub mod Labelled
+pub mod Names
+pub mod Products
+pub mod Reads
+pub mod Registers
+pub mod Shown
+pub mod inner

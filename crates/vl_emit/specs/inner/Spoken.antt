@@ -1,0 +1,51 @@
+-- What the code's operands stand for.
+use Rattle.std.specs.Prelude.{ℕ, zero, suc, ◌≤◌, ◌<◌, List}
+use Rattle.fx_num.specs.Word.{IsWord}
+use Rattle.hw_net.specs.declared.netlist.NetOp.{NetOp}
+use Rattle.hw_net.specs.declared.netlist.NetOp.TheVariants.{Input, Const, Resize, ShiftUp, ShiftDown, Add, Subtract, Negate, Multiply, And, Or, Xor, Not, Less, Equal, Choose, Slice}
+use Rattle.vl_emit.specs.declared.operands.Called.{Called}
+use Rattle.vl_emit.specs.declared.operands.Called.TheVariants.{Number, Named}
+use Rattle.vl_emit.specs.declared.operands.Operand.{Operand}
+use Rattle.vl_emit.specs.Names.{net_name}
+use Rattle.vl_emit.specs.Names.{Wire}
+
+-- the name that is meant
+abbrev pub called_text : Called → List ℕ
+called_text (Number number) = net_name number
+called_text (Named name) = name.now
+
+abbrev pub wire_at : Operand → Wire
+wire_at operand = record { name = called_text operand.called; width = operand.width; signed = operand.signed }
+
+-- three arguments by their numbers
+abbrev pub triple : Wire → Wire → Wire → ℕ → Wire
+triple first second third zero = first
+triple first second third (suc zero) = second
+triple first second third (suc (suc more)) = third
+
+abbrev pub HasRoom : ℕ → Type 0
+HasRoom width = (1 ≤ width) × (width ≤ 128)
+
+-- the net has the width of a word
+abbrev pub CanBeWritten : Operand → Type 0
+CanBeWritten operand = IsWord operand.width operand.signed
+
+-- a slice lies within a net of this width
+abbrev pub IsWithin : NetOp → ℕ → Type 0
+IsWithin (Input port) width = Unit
+IsWithin (Const number) width = Unit
+IsWithin Resize width = Unit
+IsWithin (ShiftUp places) width = Unit
+IsWithin (ShiftDown places) width = Unit
+IsWithin Add width = Unit
+IsWithin Subtract width = Unit
+IsWithin Negate width = Unit
+IsWithin Multiply width = Unit
+IsWithin And width = Unit
+IsWithin Or width = Unit
+IsWithin Xor width = Unit
+IsWithin Not width = Unit
+IsWithin Less width = Unit
+IsWithin Equal width = Unit
+IsWithin Choose width = Unit
+IsWithin (Slice high low) width = (low ≤ high) × (high < width)

@@ -1,0 +1,64 @@
+//! The module of a netlist.
+ghost use Rattle.std.specs.Prelude.{◌≡◌, ◌<◌, ◌^◌, length, Contains, IfOk};
+ghost use Rattle.hw_net.specs.Frames.{HasCounters};
+ghost use Rattle.hw_net.specs.Netlist.{IsNetlist};
+ghost use Rattle.hw_net.specs.declared.netlist.NetLabel.{NetLabel};
+ghost use Rattle.vl_ast.specs.Conditions.{BreaksNone};
+ghost use Rattle.vl_emit.specs.Emittable.{IsEmittable};
+ghost use Rattle.vl_emit.specs.Header.{HasHeader};
+ghost use Rattle.vl_emit.specs.Labelled.{LabelsAreNames};
+ghost use Rattle.vl_emit.specs.Products.{ProductsAre};
+ghost use Rattle.vl_emit.specs.Reads.{ReadsOnly};
+ghost use Rattle.vl_emit.specs.Registers.{RegistersAre};
+ghost use Rattle.vl_emit.specs.Shown.{NetsAreShown, OutputsAreShown};
+ghost use Rattle.vl_emit.specs.inner.Emitted.{module_of};
+
+use crate::header::{attribute, module_ports};
+use crate::items::module_items;
+use crate::source::{Source, label_places};
+use fx_io::{OutOfMemory, Text};
+use hw_net::{Netlist, counter_is_telling, steps_give_rows};
+use std::alloc::Global;
+use vl_ast::{Attrs, Module};
+
+/// The module of a netlist: a wire or a register for each net, and a port for each of its ports. Its
+/// time is linear in the nets. The only error is want of memory.
+pub fn emit(alloc: Global, netlist: &Netlist) -> Result<Module, OutOfMemory>
+    requires runs { IsNetlist netlist.now }
+    requires emittable { IsEmittable netlist.now }
+    ensures header { IfOk result (HasHeader netlist.now) }
+    ensures conditions { IfOk result BreaksNone }
+    ensures nets { IfOk result (NetsAreShown netlist.now) }
+    ensures outputs { IfOk result (OutputsAreShown netlist.now) }
+    ensures products { IfOk result (ProductsAre netlist.now) }
+    ensures reads { IfOk result (ReadsOnly netlist.now) }
+    ensures registers { IfOk result (RegistersAre netlist.now) }
+    ensures labels { IfOk result (λ _. LabelsAreNames netlist.now) }
+{
+    steps_give_rows();
+    counter_is_telling();
+    module_of(alloc, netlist)
+}
+
+/// What `emit` gives. It asks nothing of names.
+pub fn module_of(alloc: Global, netlist: &Netlist) -> Result<Module, OutOfMemory>
+    requires runs { IsNetlist netlist.now }
+    requires counters { HasCounters netlist.now.nets }
+    requires labels { (label : NetLabel) → Contains netlist.now.labels label → label.net < length netlist.now.nets }
+    ensures is { IfOk result (λ made. made ≡ module_of netlist.now) }
+    ensures few { IfOk result (λ made. length netlist.now.nets < 2 ^ 64) }
+{
+    let labels = label_places(alloc, netlist.nets().len(), netlist.labels())?;
+    let source = Source {
+        netlist,
+        labels: labels.as_slice(),
+    };
+    let mut attrs = Attrs::new(alloc);
+    attrs.push(attribute(alloc, b"fx_cycles", u64::from(netlist.cycles()))?)?;
+    Ok(Module {
+        name: Text::copy(alloc, b"fx_model")?,
+        attrs,
+        ports: module_ports(alloc, netlist)?,
+        items: module_items(alloc, source)?,
+    })
+}

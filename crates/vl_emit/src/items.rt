@@ -1,0 +1,177 @@
+//! The items of a netlist's module: declarations, then the drivers of Unit nets, then the other
+//! drivers, then the output ports.
+ghost use Rattle.std.specs.Prelude.{◌≡◌, ◌++◌, ◌∷◌, [], ◌<◌, length, take, map, IfOk, OnOk};
+ghost use Rattle.vl_emit.specs.Names.{net_at};
+ghost use Rattle.vl_emit.specs.inner.Emitted.{declarers_at, units_at, others_at, first_declared, first_units, first_others, output_item, naming_of, items_of};
+ghost use Rattle.vl_emit.specs.inner.Ready.{IsSource, IsReady, circuit_of};
+
+use crate::driving::{
+    comb_item, counter_item, held_item, put_bridge, reg_item, reset_item, unit_item,
+};
+use crate::operands::{hold_text, named, text_of};
+use crate::source::{Source, operand};
+use fx_io::{OutOfMemory, Text};
+use hw_net::NetKind;
+use std::alloc::Global;
+use vl_ast::{ModItem, ModItems};
+
+/// The declarations of a net.
+fn declare(
+    alloc: Global,
+    source: Source,
+    items: &mut ModItems,
+    own: usize,
+) -> Result<(), OutOfMemory>
+    requires source { IsSource source }
+    requires own { own < length (circuit_of source).nets }
+    ensures { OnOk result (items.new ≡ items.old ++ declarers_at (circuit_of source.entry) own (net_at (circuit_of source.entry).nets own).kind) }
+{
+    let net = operand(source, own);
+    let signed = net.signed;
+    let width = net.width;
+    let name = text_of(alloc, net.called)?;
+    match source.netlist.nets()[own].kind {
+        NetKind::Comb { .. } | NetKind::Unit { .. } => items.push(ModItem::Wire {
+            signed,
+            width,
+            name,
+        })?,
+        NetKind::Reg { .. } | NetKind::EnReg { .. } | NetKind::Counter { .. } => {
+            items.push(ModItem::Reg {
+                signed,
+                width,
+                name,
+            })?
+        }
+        NetKind::Bridge { .. } => {
+            items.push(ModItem::Wire {
+                signed,
+                width,
+                name,
+            })?;
+            let name = hold_text(alloc, own)?;
+            items.push(ModItem::Reg {
+                signed,
+                width,
+                name,
+            })?
+        }
+    }
+    Ok(())
+}
+
+/// The driver of a Unit net, before those of the others.
+fn drive_unit(
+    alloc: Global,
+    source: Source,
+    items: &mut ModItems,
+    own: usize,
+) -> Result<(), OutOfMemory>
+    requires source { IsSource source }
+    requires own { own < length (circuit_of source).nets }
+    ensures { OnOk result (items.new ≡ items.old ++ units_at (circuit_of source.entry) own (net_at (circuit_of source.entry).nets own).kind) }
+{
+    match &source.netlist.nets()[own].kind {
+        NetKind::Unit { left, right } => {
+            items.push(unit_item(alloc, source, own, *left, *right)?)
+        }
+        NetKind::Comb { .. }
+        | NetKind::Reg { .. }
+        | NetKind::EnReg { .. }
+        | NetKind::Bridge { .. }
+        | NetKind::Counter { .. } => Ok(()),
+    }
+}
+
+/// The drivers of a net that is no Unit.
+fn drive(alloc: Global, source: Source, items: &mut ModItems, own: usize) -> Result<(), OutOfMemory>
+    requires source { IsSource source }
+    requires own { own < length (circuit_of source).nets }
+    ensures { OnOk result (items.new ≡ items.old ++ others_at (circuit_of source.entry) own (net_at (circuit_of source.entry).nets own).kind) }
+{
+    match &source.netlist.nets()[own].kind {
+        NetKind::Unit { .. } => Ok(()),
+        NetKind::Comb { op, args } => {
+            items.push(comb_item(alloc, source, own, *op, args.as_slice())?)
+        }
+        NetKind::Counter { frame } => items.push(counter_item(alloc, source, own, *frame)?),
+        NetKind::Reg {
+            frame,
+            slot,
+            first,
+            from,
+        } => items.push(reg_item(alloc, source, own, *frame, *slot, *first, *from)?),
+        NetKind::EnReg {
+            frame,
+            enable,
+            reset: true,
+            first,
+            from,
+        } => items.push(reset_item(alloc, source, own, *frame, *enable, *first, *from)?),
+        NetKind::EnReg {
+            frame,
+            enable,
+            reset: false,
+            first,
+            from,
+        } => items.push(held_item(alloc, source, own, *frame, *enable, *first, *from)?),
+        NetKind::Bridge { frame, live, from } => {
+            put_bridge(alloc, source, items, own, *frame, *live, *from)
+        }
+    }
+}
+
+fn declare_all(alloc: Global, source: Source, items: &mut ModItems) -> Result<(), OutOfMemory>
+    requires { IsSource source }
+    ensures { OnOk result (items.new ≡ items.old ++ first_declared (circuit_of source.entry) (length (circuit_of source.entry).nets)) }
+{
+    for own in 0..source.netlist.nets().len() {
+        declare(alloc, source, items, own)?;
+    }
+    Ok(())
+}
+
+fn drive_units(alloc: Global, source: Source, items: &mut ModItems) -> Result<(), OutOfMemory>
+    requires { IsSource source }
+    ensures { OnOk result (items.new ≡ items.old ++ first_units (circuit_of source.entry) (length (circuit_of source.entry).nets)) }
+{
+    for own in 0..source.netlist.nets().len() {
+        drive_unit(alloc, source, items, own)?;
+    }
+    Ok(())
+}
+
+fn drive_others(alloc: Global, source: Source, items: &mut ModItems) -> Result<(), OutOfMemory>
+    requires { IsSource source }
+    ensures { OnOk result (items.new ≡ items.old ++ first_others (circuit_of source.entry) (length (circuit_of source.entry).nets)) }
+{
+    for own in 0..source.netlist.nets().len() {
+        drive(alloc, source, items, own)?;
+    }
+    Ok(())
+}
+
+fn show_outputs(alloc: Global, source: Source, items: &mut ModItems) -> Result<(), OutOfMemory>
+    requires { IsSource source }
+    ensures { OnOk result (items.new ≡ items.old ++ map (output_item (naming_of (circuit_of source.entry))) (circuit_of source.entry).outputs) }
+{
+    for output in source.netlist.outputs() {
+        let name = Text::copy(alloc, output.name.bytes())?;
+        let value = named(alloc, operand(source, output.net as usize))?;
+        items.push(ModItem::Assign { name, value })?;
+    }
+    Ok(())
+}
+
+/// All items, in order.
+pub fn module_items(alloc: Global, source: Source) -> Result<ModItems, OutOfMemory>
+    requires { IsSource source }
+    ensures { IfOk result (λ items. items ≡ items_of (circuit_of source.entry)) }
+{
+    let mut items = ModItems::new(alloc);
+    declare_all(alloc, source, &mut items)?;
+    drive_units(alloc, source, &mut items)?;
+    drive_others(alloc, source, &mut items)?;
+    show_outputs(alloc, source, &mut items)?;
+    Ok(items)
+}

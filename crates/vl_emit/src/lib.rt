@@ -1,0 +1,18 @@
+//! Netlists as modules of the Verilog subset.
+//!
+//! `emit` gives a netlist's module: a wire or a register for each net, named by its label or its
+//! number, and a port for each of its ports. `specs/Emittable` says which netlists it takes beside that
+//! they can be run, and `specs/Header`, `Shown`, `Products`, `Reads` and `Registers` what the module is:
+//! its header, the rows that its names show, its multiplications, what its items read, and its
+//! registers. It breaks none of the conditions of `vl_ast`.
+#![tactic(auto)]
+
+mod driving;
+mod emission;
+mod header;
+mod items;
+mod operands;
+mod operators;
+mod source;
+
+pub use emission::emit;

@@ -1,0 +1,137 @@
+//! Nets and ports as operands of expressions, each written at the width at which it is used.
+ghost use Rattle.std.specs.Prelude.{◌≡◌, ◌+◌, ◌≤◌, ◌<◌, ◌^◌, [], ◌∷◌, IfOk};
+ghost use Rattle.vl_ast.specs.declared.expressions.Expr.TheVariants.{Name, Concat};
+ghost use Rattle.vl_emit.specs.Names.{net_name, hold_name};
+ghost use Rattle.vl_emit.specs.inner.Spelled.{zeros, fill, inside, piece, at_width};
+ghost use Rattle.vl_emit.specs.inner.Spoken.{called_text, wire_at};
+
+use fx_io::{Boxed, OutOfMemory, Text};
+use itoa::Buffer;
+use std::alloc::Global;
+use vl_ast::{Expr, Exprs, Sized};
+
+/// How a net or a port is called in the module.
+#[derive(Clone, Copy)]
+pub enum Called<'a> {
+    /// A net without a label, by its number.
+    Number(usize),
+    /// A net by its label, or a port by its name.
+    Named(&'a [u8]),
+}
+
+/// A net or a port that an expression reads, with its word.
+#[derive(Clone, Copy)]
+pub struct Operand<'a> {
+    pub called: Called<'a>,
+    pub width: u32,
+    pub signed: bool,
+}
+
+/// The name as a text.
+pub fn text_of(alloc: Global, called: Called) -> Result<Text, OutOfMemory>
+    ensures { IfOk result (λ text. text ≡ called_text called.entry) }
+{
+    match called {
+        Called::Number(number) => net_text(alloc, number),
+        Called::Named(name) => Text::copy(alloc, name),
+    }
+}
+
+fn net_text(alloc: Global, number: usize) -> Result<Text, OutOfMemory>
+    ensures { IfOk result (λ text. text ≡ net_name number) }
+{
+    let mut buffer = Buffer::new();
+    let mut bytes = Vec::from_slice(alloc, b"fx_n")?;
+    bytes.extend_from_slice(buffer.format(number).as_bytes())?;
+    Ok(Text::from_vec(bytes))
+}
+
+/// The name of the register that holds the value of a bridge of this number.
+pub fn hold_text(alloc: Global, number: usize) -> Result<Text, OutOfMemory>
+    ensures { IfOk result (λ text. text ≡ hold_name number) }
+{
+    let mut buffer = Buffer::new();
+    let mut bytes = Vec::from_slice(alloc, b"fx_h")?;
+    bytes.extend_from_slice(buffer.format(number).as_bytes())?;
+    Ok(Text::from_vec(bytes))
+}
+
+/// An operand by its name.
+pub fn named(alloc: Global, operand: Operand) -> Result<Expr, OutOfMemory>
+    ensures { IfOk result (λ e. e ≡ Name (wire_at operand.entry).name) }
+{
+    Ok(Expr::Name(text_of(alloc, operand.called)?))
+}
+
+/// So many zeros.
+pub fn zeros(width: u32) -> Expr
+    ensures { result ≡ zeros width }
+{
+    Expr::Literal(Sized {
+        width,
+        signed: false,
+        bits: 0,
+    })
+}
+
+fn fill(alloc: Global, operand: Operand, count: u32) -> Result<Expr, OutOfMemory>
+    requires { 1 ≤ operand.width }
+    ensures { IfOk result (λ e. e ≡ fill (wire_at operand.entry) count) }
+{
+    if !operand.signed {
+        return Ok(zeros(count));
+    }
+    let sign = Expr::Bit(text_of(alloc, operand.called)?, operand.width - 1);
+    Ok(Expr::Repeat(count, Boxed::new(alloc, sign)?))
+}
+
+fn inside(alloc: Global, operand: Operand, low: u32, width: u32) -> Result<Expr, OutOfMemory>
+    requires some { 1 ≤ width }
+    requires within { low + width ≤ operand.width }
+    ensures { IfOk result (λ e. e ≡ inside (wire_at operand.entry) low width) }
+{
+    let name = text_of(alloc, operand.called)?;
+    if width == operand.width {
+        return Ok(Expr::Name(name));
+    }
+    Ok(Expr::Part(name, low + width - 1, low))
+}
+
+/// Two expressions side by side.
+pub fn beside(alloc: Global, left: Expr, right: Expr) -> Result<Expr, OutOfMemory>
+    ensures { IfOk result (λ e. e ≡ Concat (left ∷ right ∷ [])) }
+{
+    let mut parts = Exprs::new(alloc);
+    parts.push(left)?;
+    parts.push(right)?;
+    Ok(Expr::Concat(parts))
+}
+
+/// So many bits of an operand from a place up.
+pub fn piece(alloc: Global, operand: Operand, low: u32, width: u32) -> Result<Expr, OutOfMemory>
+    requires net { 1 ≤ operand.width }
+    requires some { 1 ≤ width }
+    requires near { low < 256 }
+    requires most { width ≤ 128 }
+    ensures { IfOk result (λ e. e ≡ piece (wire_at operand.entry) low width) }
+{
+    if operand.width <= low {
+        return fill(alloc, operand, width);
+    }
+    if low + width <= operand.width {
+        return inside(alloc, operand, low, width);
+    }
+    let filled = fill(alloc, operand, low + width - operand.width)?;
+    let kept = inside(alloc, operand, low, operand.width - low)?;
+    beside(alloc, filled, kept)
+}
+
+/// An operand at the width at which it is used.
+pub fn at_width(alloc: Global, operand: Operand, width: u32) -> Result<Expr, OutOfMemory>
+    requires net { 1 ≤ operand.width }
+    requires some { 1 ≤ width }
+    requires most { width ≤ 128 }
+    ensures { IfOk result (λ e. e ≡ at_width width (wire_at operand.entry)) }
+{
+    piece(alloc, operand, 0, width)
+}

@@ -1,0 +1,263 @@
+ghost use Rattle.std.specs.Prelude.{◌≡◌, ◌+◌, ◌-◌, ◌*◌, ◌≤◌, ◌<◌, ◌^◌, [], false, IfOk};
+ghost use Rattle.fx_num.specs.Word.{IsWord};
+ghost use Rattle.vl_ast.specs.Driven.{bits_of};
+ghost use Rattle.vl_ast.specs.declared.expressions.Expr.TheVariants.{Unary, Binary, AsSigned, Shift, Choose};
+ghost use Rattle.vl_ast.specs.declared.expressions.ShiftOp.TheVariants.{Left};
+ghost use Rattle.hw_net.specs.declared.netlist.NetOp.TheVariants.{Less, Equal};
+ghost use Rattle.vl_emit.specs.inner.Spelled.{at_width};
+ghost use Rattle.vl_emit.specs.inner.Operators.{compared, widened, signed_width, common_width, test_of, in_width, slice_at, shifted_up, expression_of};
+ghost use Rattle.vl_emit.specs.inner.Emitted.{constant, plain_number};
+ghost use Rattle.vl_emit.specs.inner.Spoken.{wire_at, triple, CanBeWritten, HasRoom, IsWithin};
+
+use crate::operands::{Operand, at_width, beside, named, piece, zeros};
+use fx_io::{Boxed, OutOfMemory};
+use hw_net::NetOp;
+use std::alloc::Global;
+use vl_ast::{BinOp, Expr, ShiftOp, Sized, UnOp};
+
+/// So many bits without sign.
+pub fn plain(width: u32, bits: u128) -> Sized
+    ensures { result ≡ plain_number width bits }
+{
+    Sized {
+        width,
+        signed: false,
+        bits,
+    }
+}
+
+/// The bits of a number at a width.
+pub fn constant(width: u8, signed: bool, number: i128) -> Sized
+    requires { IsWord width signed }
+    ensures { result ≡ constant width number }
+{
+    Sized {
+        width: width as u32,
+        signed: false,
+        bits: fx_num::to_bits(number, width, signed),
+    }
+}
+
+fn unary(alloc: Global, op: UnOp, part: Expr) -> Result<Expr, OutOfMemory>
+    ensures { IfOk result (λ e. e ≡ Unary op part) }
+{
+    Ok(Expr::Unary(op, Boxed::new(alloc, part)?))
+}
+
+/// `left op right`
+pub fn binary(alloc: Global, op: BinOp, left: Expr, right: Expr) -> Result<Expr, OutOfMemory>
+    ensures { IfOk result (λ e. e ≡ Binary op left right) }
+{
+    let left = Boxed::new(alloc, left)?;
+    Ok(Expr::Binary(op, left, Boxed::new(alloc, right)?))
+}
+
+fn compared(alloc: Global, signed: bool, part: Expr) -> Result<Expr, OutOfMemory>
+    ensures { IfOk result (λ e. e ≡ compared signed part) }
+{
+    if !signed {
+        return Ok(part);
+    }
+    Ok(Expr::AsSigned(Boxed::new(alloc, part)?))
+}
+
+fn in_width(
+    alloc: Global,
+    op: BinOp,
+    left: Operand,
+    right: Operand,
+    width: u32,
+) -> Result<Expr, OutOfMemory>
+    requires left { CanBeWritten left }
+    requires right { CanBeWritten right }
+    requires width { HasRoom width }
+    ensures { IfOk result (λ e. e ≡ Binary op (at_width width (wire_at left.entry)) (at_width width (wire_at right.entry))) }
+{
+    let left = at_width(alloc, left, width)?;
+    let right = at_width(alloc, right, width)?;
+    binary(alloc, op, left, right)
+}
+
+fn widened(alloc: Global, width: u32, bit: Expr) -> Result<Expr, OutOfMemory>
+    requires { 1 ≤ width }
+    ensures { IfOk result (λ e. e ≡ widened width bit) }
+{
+    if width == 1 {
+        return Ok(bit);
+    }
+    beside(alloc, zeros(width - 1), bit)
+}
+
+fn signed_width(operand: Operand) -> u32
+    requires { CanBeWritten operand }
+    ensures is { result ≡ signed_width (wire_at operand.entry) }
+    ensures room { HasRoom result }
+{
+    if operand.signed {
+        operand.width
+    } else {
+        operand.width + 1
+    }
+}
+
+fn common_width(left: Operand, right: Operand) -> u32
+    requires left { CanBeWritten left }
+    requires right { CanBeWritten right }
+    ensures is { result ≡ common_width (wire_at left.entry) (wire_at right.entry) }
+    ensures room { HasRoom result }
+{
+    if left.signed || right.signed {
+        signed_width(left).max(signed_width(right))
+    } else {
+        left.width.max(right.width)
+    }
+}
+
+/// One bit that tells whether a net isn't 0.
+pub fn test_of(alloc: Global, operand: Operand) -> Result<Expr, OutOfMemory>
+    requires { CanBeWritten operand }
+    ensures { IfOk result (λ e. e ≡ test_of (wire_at operand.entry)) }
+{
+    let name = named(alloc, operand)?;
+    if operand.width == 1 {
+        return Ok(name);
+    }
+    binary(alloc, BinOp::NotEqual, name, zeros(operand.width))
+}
+
+fn less(alloc: Global, left: Operand, right: Operand, width: u32) -> Result<Expr, OutOfMemory>
+    requires left { CanBeWritten left }
+    requires right { CanBeWritten right }
+    requires width { HasRoom width }
+    ensures { IfOk result (λ e. e ≡ expression_of Less (λ port. wire_at left.entry) (triple (wire_at left.entry) (wire_at right.entry) (wire_at right.entry)) width) }
+{
+    let common = common_width(left, right);
+    let signed = left.signed || right.signed;
+    let one = at_width(alloc, left, common)?;
+    let one = compared(alloc, signed, one)?;
+    let other = at_width(alloc, right, common)?;
+    let other = compared(alloc, signed, other)?;
+    let bit = binary(alloc, BinOp::Less, one, other)?;
+    widened(alloc, width, bit)
+}
+
+fn equal(alloc: Global, left: Operand, right: Operand, width: u32) -> Result<Expr, OutOfMemory>
+    requires left { CanBeWritten left }
+    requires right { CanBeWritten right }
+    requires width { HasRoom width }
+    ensures { IfOk result (λ e. e ≡ expression_of Equal (λ port. wire_at left.entry) (triple (wire_at left.entry) (wire_at right.entry) (wire_at right.entry)) width) }
+{
+    let bit = in_width(alloc, BinOp::Equal, left, right, common_width(left, right))?;
+    widened(alloc, width, bit)
+}
+
+/// `test ? chosen : other`
+pub fn choose(alloc: Global, test: Expr, chosen: Expr, other: Expr) -> Result<Expr, OutOfMemory>
+    ensures { IfOk result (λ e. e ≡ Choose test chosen other) }
+{
+    let test = Boxed::new(alloc, test)?;
+    let chosen = Boxed::new(alloc, chosen)?;
+    Ok(Expr::Choose(test, chosen, Boxed::new(alloc, other)?))
+}
+
+fn choice(
+    alloc: Global,
+    test: Operand,
+    chosen: Operand,
+    other: Operand,
+    width: u32,
+) -> Result<Expr, OutOfMemory>
+    requires test { CanBeWritten test }
+    requires chosen { CanBeWritten chosen }
+    requires other { CanBeWritten other }
+    requires width { HasRoom width }
+    ensures { IfOk result (λ e. e ≡ Choose (test_of (wire_at test.entry)) (at_width width (wire_at chosen.entry)) (at_width width (wire_at other.entry))) }
+{
+    let test = test_of(alloc, test)?;
+    let chosen = at_width(alloc, chosen, width)?;
+    let other = at_width(alloc, other, width)?;
+    choose(alloc, test, chosen, other)
+}
+
+fn shifted_up(alloc: Global, operand: Operand, places: u8, width: u32) -> Result<Expr, OutOfMemory>
+    requires net { CanBeWritten operand }
+    requires width { HasRoom width }
+    ensures { IfOk result (λ e. e ≡ shifted_up (wire_at operand.entry) places width) }
+{
+    if width <= u32::from(places) {
+        return Ok(zeros(width));
+    }
+    let part = at_width(alloc, operand, width)?;
+    let amount = Sized {
+        width: 8,
+        signed: false,
+        bits: places as u128,
+    };
+    Ok(Expr::Shift(ShiftOp::Left, Boxed::new(alloc, part)?, amount))
+}
+
+fn slice_at(
+    alloc: Global,
+    width: u32,
+    operand: Operand,
+    low: u32,
+    count: u32,
+) -> Result<Expr, OutOfMemory>
+    requires net { CanBeWritten operand }
+    requires width { HasRoom width }
+    requires low { low < 256 }
+    requires count { HasRoom count }
+    ensures { IfOk result (λ e. e ≡ slice_at width (wire_at operand.entry) low count) }
+{
+    if width <= count {
+        return piece(alloc, operand, low, width);
+    }
+    let kept = piece(alloc, operand, low, count)?;
+    beside(alloc, zeros(width - count), kept)
+}
+
+/// An operation on up to three operands, at the width of its result.
+pub fn expression(
+    alloc: Global,
+    op: NetOp,
+    port: Operand,
+    first: Operand,
+    second: Operand,
+    third: Operand,
+    word: (u8, bool),
+) -> Result<Expr, OutOfMemory>
+    requires first { CanBeWritten first }
+    requires second { CanBeWritten second }
+    requires third { CanBeWritten third }
+    requires port { CanBeWritten port }
+    requires word { IsWord word.0 word.1 }
+    requires bounds { IsWithin op first.width }
+    ensures { IfOk result (λ e. e ≡ expression_of op (λ place. wire_at port.entry) (triple (wire_at first.entry) (wire_at second.entry) (wire_at third.entry)) word.0) }
+{
+    let width = word.0 as u32;
+    match op {
+        NetOp::Input(_) => at_width(alloc, port, width),
+        NetOp::Const(number) => Ok(Expr::Literal(constant(word.0, word.1, number))),
+        NetOp::Resize => at_width(alloc, first, width),
+        NetOp::ShiftUp(places) => shifted_up(alloc, first, places, width),
+        NetOp::ShiftDown(places) => piece(alloc, first, places as u32, width),
+        NetOp::Add => in_width(alloc, BinOp::Add, first, second, width),
+        NetOp::Subtract => in_width(alloc, BinOp::Subtract, first, second, width),
+        NetOp::Negate => unary(alloc, UnOp::Negate, at_width(alloc, first, width)?),
+        NetOp::Multiply => in_width(alloc, BinOp::Multiply, first, second, width),
+        NetOp::And => in_width(alloc, BinOp::And, first, second, width),
+        NetOp::Or => in_width(alloc, BinOp::Or, first, second, width),
+        NetOp::Xor => in_width(alloc, BinOp::Xor, first, second, width),
+        NetOp::Not => unary(alloc, UnOp::Invert, at_width(alloc, first, width)?),
+        NetOp::Less => less(alloc, first, second, width),
+        NetOp::Equal => equal(alloc, first, second, width),
+        NetOp::Choose => choice(alloc, first, second, third, width),
+        NetOp::Slice { high, low } => slice_at(
+            alloc,
+            width,
+            first,
+            low as u32,
+            high as u32 + 1 - low as u32,
+        ),
+    }
+}
