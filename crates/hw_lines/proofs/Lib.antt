@@ -1,3 +1,4 @@
+pub mod Ended
 pub mod Hits
 pub mod Parts
 pub mod Steps

@@ -1,0 +1,162 @@
+-- The end of a line is an answer for its use.
+use Rattle.std.proofs.Common.{◌≡◌, ℕ, zero, suc, Result, Ok, Err, IfOk, OnOk, ◌+◌, ◌-◌, ◌*◌, ◌/◌, ◌%◌, ◌<◌, ◌≤◌, inl, inr, max, List, [], ◌∷◌, length, Contains, Some, slice_get, Bool, true, false, ℤ, ap, sym, ◌∙◌, subst, arith, refl}
+use Rattle.std.proofs.Math.Nat.{mul-mod_left}
+use Rattle.std.proofs.lemmas.Nat.{div-add-mod'}
+use Rattle.std.specs.Prelude.{⊤}
+use Rattle.hw_net.specs.declared.netlist.Frame.{Frame}
+use Rattle.hw_net.specs.Circuit.{Circuit}
+use Rattle.hw_net.specs.NetRows.{Rows, span_of}
+use Rattle.hw_net.specs.Registers.{Span, IsReg, IsBridge}
+use Rattle.hw_net.specs.Growing.{Extends, InRows}
+use Rattle.hw_net.specs.Frames.{register_count}
+use Rattle.hw_net.proofs.Growing.{extends-self, in-rows-first, in-rows-last, in-rows-map, in-rows-both}
+use Rattle.hw_lines.specs.declared.source.Source.{Source}
+use Rattle.hw_lines.specs.declared.source.Use.{Use}
+use Rattle.hw_lines.specs.Line.{Line, ShowsLater, IsLine, IsRegistered}
+use Rattle.hw_lines.specs.Chain.{IsUse, IsAnswer, IsCountedIn, reader_of, line_to}
+use Rattle.hw_lines.specs.Taps.{IsTap, IsShifted, TapMeets, TapHolds, PhaseRegisterMeets, BridgeMeets}
+use Rattle.hw_lines.specs.inner.Parts.{Grows, IsHeld, IsBridged, IsTapAt, AreTaps}
+use Rattle.hw_lines.specs.inner.Ends.{IsEnd, Ends}
+use Rattle.hw_lines.proofs.Steps.{word-of-word, reg-earlier, tap-named, grows-trans}
+
+self-mod : (n : ℕ) → 0 < n → n % n ≡ 0
+self-mod n h = let e : n ≡ 1 * n = omega arith in ap (λ (x : ℕ). x % n) e ∙ mul-mod_left 1 n
+
+longest : (part times all : ℕ) → all ≡ times * part → 0 < all → part ≤ all
+longest part zero all e k = absurd (omega arith)
+longest part (suc times) all e k = omega arith
+
+part-below : (all part : ℕ) → all % part ≡ 0 → 0 < all → part ≤ all
+part-below all part even some = longest part (all / part) all (omega (arith, div-add-mod' all part, even)) some
+
+true-false : {b : Bool} → b ≡ true → b ≡ false → ⊥
+true-false p q = let e : true ≡ false = sym p ∙ q in cc
+
+module _ (source : Source) (one : Use) (some : 0 < source.frame.period) (use_is : IsUse source one) where
+  -- a registered use is seen in frames of the source's period, a plain one of its own
+  pub registered-period : source.registered ≡ true → (reader_of source one).period ≡ source.frame.period
+  registered-period is = let below = part-below source.frame.period one.period (use_is.registered is).0 some in omega arith
+
+  pub plain-period : source.registered ≡ false → (reader_of source one).period ≡ one.period
+  plain-period is = let below = part-below one.period source.frame.period (use_is.plain is) use_is.some in omega arith
+
+  divided : (registered : Bool) → source.registered ≡ registered → (reader_of source one).period % source.frame.period ≡ 0
+  divided true is = rw (registered-period is) (self-mod source.frame.period some)
+  divided false is = rw (plain-period is) (use_is.plain is)
+
+  pub shifted : (cycles k r : ℕ) → 0 < cycles → one.shift ≡ k * source.frame.period + r → IsShifted (line_to cycles source (reader_of source one)) (k * source.frame.period + r)
+  shifted cycles k r clocks split = record {
+    cycles = clocks;
+    own = some;
+    reader = omega arith;
+    divides = divided source.registered refl;
+    behind = ap (λ (x : ℕ). source.frame.latency + x) split;
+  }
+
+  module _ (before now : Circuit) (clocks : 0 < now.cycles) (k tap : ℕ) (p : Extends before now) (at : IsTapAt before now source k tap) where
+    clocks-before : 0 < before.cycles
+    clocks-before = omega (arith, p.cycles)
+
+    whole : one.shift ≡ k * source.frame.period → one.shift ≡ k * source.frame.period + 0
+    whole e = e ∙ omega arith
+
+    abbrev TapShows : ℕ → Rows → Type 0
+    TapShows n rows = IsTap n (span_of before.cycles source.frame) k source.first (rows source.from) (rows tap)
+
+    abbrev Shown : ℕ → ℕ → Rows → Type 0
+    Shown number n rows = ShowsLater source.registered n (line_to before.cycles source (reader_of source one)) source.first (rows source.from) (rows number)
+
+    pub plain-tap : TapMeets → source.registered ≡ false → one.period ≡ source.frame.period → one.shift ≡ k * source.frame.period → IsAnswer before now source (reader_of source one) tap
+    plain-tap meets is same e = record {
+      shows = in-rows-map before now TapShows (Shown tap) at.shows (λ n rows shown.
+          subst (λ (r : Bool). ShowsLater r n (line_to before.cycles source (reader_of source one)) source.first (rows source.from) (rows tap)) (sym is)
+          (meets n (line_to before.cycles source (reader_of source one)) k source.first (rows source.from) (rows tap) (rw (whole-is) at (shifted before.cycles k 0 clocks-before (whole e))) (plain-period is ∙ same) shown));
+      word = at.word;
+      holds = λ yes. absurd (true-false yes is);
+    }
+      where
+        whole-is : k * source.frame.period + 0 ≡ k * source.frame.period
+        whole-is = omega arith
+
+    pub registered-tap : TapHolds → source.registered ≡ true → one.shift ≡ k * source.frame.period → IsAnswer before now source (reader_of source one) tap
+    registered-tap holds is e =
+        let whole-is : k * source.frame.period + 0 ≡ k * source.frame.period = omega arith in
+        let behind : 0 < k = some-frames k source.frame.period (omega (arith, e, (use_is.registered is).1)) in
+        record {
+          shows = in-rows-map before now TapShows (Shown tap) at.shows (λ n rows shown.
+              subst (λ (r : Bool). ShowsLater r n (line_to before.cycles source (reader_of source one)) source.first (rows source.from) (rows tap)) (sym is)
+              (holds n (line_to before.cycles source (reader_of source one)) k source.first (rows source.from) (rows tap) (rw whole-is at (shifted before.cycles k 0 clocks-before (whole e))) (registered-period is) behind shown));
+          word = at.word;
+          holds = λ yes. elim at.stands [
+            | inl itself ↦ absurd (omega (arith, itself.0, behind))
+            | inr new ↦ new
+          ];
+        }
+      where
+        some-frames : (k p : ℕ) → 1 ≤ k * p → 0 < k
+        some-frames zero p h = absurd (omega arith)
+        some-frames (suc k) p h = omega arith
+
+    module _ (new : Circuit) (r number : ℕ) (q : Extends now new) (split : one.shift ≡ k * source.frame.period + r) where
+      pub bridge-end : BridgeMeets → source.registered ≡ false → r < source.frame.period → IsBridged now new tap (reader_of source one) (source.frame.period - r) number → IsAnswer before new source (reader_of source one) number
+      bridge-end meets is below bridged = record {
+        shows = in-rows-both before new TapShows
+            (λ n rows. IsBridge n (span_of now.cycles (reader_of source one)) ((source.frame.period - r) * now.cycles) (rows tap) (rows number))
+            (Shown number)
+            (in-rows-first before now new TapShows q at.shows)
+            (in-rows-last before now new (λ n rows. IsBridge n (span_of now.cycles (reader_of source one)) ((source.frame.period - r) * now.cycles) (rows tap) (rows number)) p bridged.shows)
+            (λ n rows shown bridge.
+              subst (λ (b : Bool). ShowsLater b n (line_to before.cycles source (reader_of source one)) source.first (rows source.from) (rows number)) (sym is)
+              (meets n (line_to before.cycles source (reader_of source one)) k r source.first (rows source.from) (rows tap) (rows number) (shifted before.cycles k r clocks-before split) below shown
+              (subst (λ (x : ℕ). IsBridge n (span_of x (reader_of source one)) ((source.frame.period - r) * x) (rows tap) (rows number)) p.cycles bridge)));
+        word = word-of-word before now new source.from tap number at.word bridged.word;
+        holds = λ yes. absurd (true-false yes is);
+      }
+
+      pub phase-end : PhaseRegisterMeets → source.registered ≡ true → 1 ≤ r → r ≤ source.frame.period → (slot : ℕ) → slot ≡ r * now.cycles - 1 → IsHeld now new tap source.frame slot source.first number → IsAnswer before new source (reader_of source one) number
+      phase-end meets is low high slot at_slot held = record {
+        shows = in-rows-both before new TapShows
+            (λ n rows. IsReg n (span_of now.cycles source.frame) slot source.first (rows tap) (rows number))
+            (Shown number)
+            (in-rows-first before now new TapShows q at.shows)
+            (in-rows-last before now new (λ n rows. IsReg n (span_of now.cycles source.frame) slot source.first (rows tap) (rows number)) p held.shows)
+            (λ n rows shown reg.
+              subst (λ (b : Bool). ShowsLater b n (line_to before.cycles source (reader_of source one)) source.first (rows source.from) (rows number)) (sym is)
+              (meets n (line_to before.cycles source (reader_of source one)) k r source.first (rows source.from) (rows tap) (rows number) (shifted before.cycles k r clocks-before split) (registered-period is) low high shown
+              (subst (λ (x : ℕ). IsReg n (span_of x source.frame) (r * x - 1) source.first (rows tap) (rows number)) p.cycles
+              (subst (λ (s : ℕ). IsReg n (span_of now.cycles source.frame) s source.first (rows tap) (rows number)) at_slot reg))));
+        word = word-of-word before now new source.from tap number at.word held.word;
+        holds = λ yes. reg-earlier before now new number p held.new;
+      }
+
+-- what was put in for the end
+pub no-ends : (now : Circuit) (source : Source) (taps : List ℕ) (one : Use) → Ends now now source taps one
+no-ends now source taps one = record { extends = extends-self now; grown = λ before uses among are grown. grown; few = omega arith }
+
+pub held-ends : (now new : Circuit) (source : Source) (taps : List ℕ) (one : Use) (k tap : ℕ) → slice_get taps k ≡ Some tap → Grows now new tap ⊥ (λ (other : Frame). other ≡ source.frame)
+    → register_count new.nets ≡ register_count now.nets + 1 → Ends now new source taps one
+held-ends now new source taps one k tap there put count = record {
+  extends = put.appends.extends;
+  grown = λ before uses among are grown.
+      grows-trans before now new source.from tap ⊥ (source.registered ≡ false) (λ (other : Frame). other ≡ source.frame) (IsCountedIn source uses) (λ none. absurd none) (λ frame same. inl same)
+      (tap-named before now source k tap (are.each k tap there)) grown put;
+  few = omega (arith, count);
+}
+
+pub bridged-ends : (now new : Circuit) (source : Source) (taps : List ℕ) (one : Use) (k tap : ℕ) → slice_get taps k ≡ Some tap → source.registered ≡ false → Grows now new tap ⊤ (λ (other : Frame). other ≡ reader_of source one)
+    → register_count new.nets ≡ register_count now.nets + 1 → Ends now new source taps one
+bridged-ends now new source taps one k tap there plain put count = record {
+  extends = put.appends.extends;
+  grown = λ before uses among are grown.
+      grows-trans before now new source.from tap ⊤ (source.registered ≡ false) (λ (other : Frame). other ≡ reader_of source one) (IsCountedIn source uses) (λ _. plain) (λ frame same. inr (plain, (one, (among, same))))
+      (tap-named before now source k tap (are.each k tap there)) grown put;
+  few = omega (arith, count);
+}
+
+pub if-on : {A E : Type 0} (P R : A → Type 0) (Q : Type 0) (result : Result A E) → IfOk result P → OnOk result Q → ((x : A) → P x → Q → R x) → IfOk result R
+if-on P R Q (Ok x) p q f = f x p q
+if-on P R Q (Err e) p q f = tt
+
+pub on-both : {A E : Type 0} (P Q R : Type 0) (result : Result A E) → OnOk result P → OnOk result Q → (P → Q → R) → OnOk result R
+on-both P Q R (Ok x) p q f = f p q
+on-both P Q R (Err e) p q f = tt
