@@ -8,7 +8,7 @@ use Rattle.std.proofs.lemmas.Bool.{cond-true, cond-false, cases_lt, false≢true
 use Rattle.fx_tables.specs.Fields.{is_blank, after_blanks, is_run, fields_of}
 use Rattle.fx_tables.proofs.SplitLemmas.{slice_split-first, slice_split-whole}
 
-fields_of-blank : (b : ℕ) (line : List ℕ) → is_blank b ≡ true → fields_of (b ∷ line) ≡ fields_of line
+pub fields_of-blank : (b : ℕ) (line : List ℕ) → is_blank b ≡ true → fields_of (b ∷ line) ≡ fields_of line
 fields_of-blank b line h = ap (filter is_run) (slice_split-cons_yes is_blank b line h)
 
 pub fields_of-drop_blanks : (n : ℕ) (line : List ℕ) → n ≤ length line → ((k : ℕ) → k < n → is_blank (get_or line k 0) ≡ true) → fields_of line ≡ fields_of (drop n line)

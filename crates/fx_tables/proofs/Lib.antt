@@ -4,6 +4,8 @@ pub mod LinesLemmas
 pub mod DigitsLemmas
 pub mod NumeralLemmas
 pub mod DraftLemmas
+pub mod PlanForms
+pub mod PlanText
 pub mod RangeLemmas
 pub mod PlanLemmas
 pub mod StimulusLemmas

@@ -1,5 +1,5 @@
 -- That what the lines of a plan have said so far is in range.
-use Rattle.std.proofs.Common.{◌≡◌, ◌≢◌, ◌≤◌, ℕ, Bool, true, false, None, Some, Option, List, [], ◌∷◌, ◌++◌, refl, sym, ap, subst, ◌∙◌}
+use Rattle.std.proofs.Common.{◌≡◌, ◌≢◌, ◌≤◌, ℕ, Bool, true, false, Some, Option, List, [], ◌∷◌, ◌++◌, refl, sym, ap, subst, ◌∙◌}
 use Rattle.std.specs.Prelude.{◌||◌, Vec, IfSome}
 use Rattle.std.specs.Global.{Global}
 use Rattle.std.specs.List.{list_any, AllByRecursion}
@@ -11,7 +11,7 @@ use Rattle.dg_model.specs.declared.plan.Pipeline.{Pipeline}
 use Rattle.dg_model.specs.PlanRange.{AreDifferent, IsRegisterCount}
 use Rattle.fx_tables.specs.Draft.{IsDraftInRange, IsEntryInRange}
 use Rattle.fx_tables.specs.declared.entry.PlanEntry.{PlanEntry}
-use Rattle.fx_tables.specs.declared.entry.PlanEntry.TheVariants.{Cycles, Multipliers, Pipelined}
+use Rattle.fx_tables.specs.declared.entry.PlanEntry.TheVariants.{Cycles, Multipliers}
 use Rattle.fx_tables.specs.declared.draft.Draft.{Draft}
 use Rattle.fx_tables.proofs.DraftLemmas.{path_cmp, more_paths}
 

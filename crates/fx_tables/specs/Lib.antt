@@ -6,4 +6,6 @@ pub mod Stimulus
 pub mod Response
 pub mod RowText
 pub mod Plan
+pub mod inner
+pub mod PlanLines
 pub mod Draft

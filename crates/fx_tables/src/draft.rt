@@ -2,7 +2,8 @@ ghost use Rattle.std.specs.Prelude.{◌≡◌, ◌∷◌, [], ◌++◌, List, So
 ghost use Rattle.std.specs.Bool.{OnTrue};
 ghost use Rattle.std.specs.List.{filter_map};
 ghost use Rattle.std.specs.Option.{option_to_list};
-ghost use Rattle.fx_tables.specs.Plan.{cycles_of, multipliers_of, pipeline_of, entry_of, is_repeated, is_bad_entry};
+ghost use Rattle.fx_tables.specs.Plan.{cycles_of, multipliers_of, pipeline_of, is_repeated};
+ghost use Rattle.fx_tables.specs.inner.PlanReading.{entry_of, is_bad_entry};
 ghost use Rattle.fx_tables.specs.Draft.{Describes, IsDraftInRange, IsEntryInRange};
 ghost use Rattle.dg_model.specs.PlanRange.{IsPlanInRange};
 ghost use Rattle.fx_tables.specs.declared.entry.PlanEntry.{PlanEntry};

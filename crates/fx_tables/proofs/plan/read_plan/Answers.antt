@@ -1,37 +1,19 @@
-use Rattle.std.proofs.Common.{◌≡◌, ◌+◌, ◌∙◌, Bool, true, false, not, refl, sym, arith}
-use Rattle.std.proofs.lemmas.Bool.{OnTrue_at, false≢true}
-use Rattle.fx_tables.proofs.PlanLemmas.{entries_fault-bad, entries_fault-good, entries-more}
+use Rattle.std.proofs.Common.{Ok, Err, Result}
+use Rattle.std.specs.Prelude.{IfOk, IfErr}
+use Rattle.fx_tables.proofs.PlanText.{plan_said, fault_said}
 use Rattle.fx_tables.proofs.plan.read_plan.Goals as goal
 
-bad_from : (bad : Bool) → false ≡ not bad → bad ≡ true
-bad_from true is = refl
-bad_from false is = absurd (false≢true is)
+if_ok : {A E : Type 0} (r : Result A E) (P Q : A → Type 0) → ((x : A) → P x → Q x) → IfOk r P → IfOk r Q
+if_ok (Ok x) P Q step h = step x h
+if_ok (Err e) P Q step h = h
 
-good_from : (bad : Bool) → true ≡ not bad → bad ≡ false
-good_from true is = absurd (false≢true (sym is))
-good_from false is = refl
+if_err : {A E : Type 0} (r : Result A E) (P Q : E → Type 0) → ((x : E) → P x → Q x) → IfErr r P → IfErr r Q
+if_err (Ok x) P Q step h = h
+if_err (Err e) P Q step h = step e h
 
-pub returns-then-not-branch-clause-refused : goal.returns-then-not-branch-clause-refused
-returns-then-not-branch-clause-refused c other =
-    let read = c.loop-rest.invariant.read in
-    let line = c.in_ok-read_line.ensures.describes read.0 read.1 in
-    sym read.3
-    ∙ entries_fault-bad read.0 (c.loop-rest.line + 1) c.cut_line-cut.result.head.now _ _ c.cut_line-cut.ensures.line
-    (bad_from _ (sym c.if-not-branch.true ∙ line.0))
+pub returns-clause-plan : goal.returns-clause-plan
+returns-clause-plan c = if_ok c.read_lines.result _ _ (plan_said c.args.bytes.now) c.read_lines.ensures.plan
 
-pub loop-rest-preserved : goal.loop-rest-preserved
-loop-rest-preserved c =
-    let read = c.loop-rest.invariant.read in
-    let line = c.in_ok-read_line.ensures.describes read.0 read.1 in
-    let cut = c.cut_line-cut in
-    record {
-      counted = omega arith;
-      in_range = c.in_ok-read_line.ensures.in_range c.if-not-branch.false c.loop-rest.invariant.in_range;
-      read = (
-        _,
-        OnTrue_at c.if-not-branch.false line.1,
-        sym (entries-more read.0 cut.result.head.now _ _ cut.ensures.line) ∙ read.2,
-        sym (entries_fault-good read.0 (c.loop-rest.line + 1) cut.result.head.now _ _ cut.ensures.line (good_from _ (sym c.if-not-branch.false ∙ line.0)))
-            ∙ read.3,
-      );
-    }
+pub returns-clause-refused : goal.returns-clause-refused
+returns-clause-refused c =
+    if_err c.read_lines.result _ _ (λ fault refused other. fault_said c.args.bytes.now fault (refused other)) c.read_lines.ensures.refused

@@ -1,10 +1,10 @@
 use Rattle.std.proofs.Common.{◌≡◌, ◌+◌, ◌≤◌, ◌++◌, List, length}
 use Rattle.std.specs.List.{filter_map}
 use Rattle.std.specs.Str.Lines.{lines}
-use Rattle.fx_tables.specs.Plan.{entry_of, entries_of, entries_fault, plan_fault}
+use Rattle.fx_tables.specs.inner.PlanReading.{entry_of, entries_of, entries_fault, plan_fault}
 use Rattle.fx_tables.specs.Draft.{Describes, IsDraftInRange}
 use Rattle.fx_tables.specs.declared.entry.PlanEntry.{PlanEntry}
-use Rattle.fx_tables.proofs.plan.read_plan.Given as goal
+use Rattle.fx_tables.proofs.plan.read_lines.Given as goal
 
 abbrev pub invariant-loop-rest : goal.invariant-loop-rest
 invariant-loop-rest l = record {
