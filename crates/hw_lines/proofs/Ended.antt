@@ -106,9 +106,9 @@ module _ (source : Source) (one : Use) (some : 0 < source.frame.period) (use_is 
             (in-rows-first before now new TapShows q at.shows)
             (in-rows-last before now new (λ n rows. IsBridge n (span_of now.cycles (reader_of source one)) ((source.frame.period - r) * now.cycles) (rows tap) (rows number)) p bridged.shows)
             (λ n rows shown bridge.
-              subst (λ (b : Bool). ShowsLater b n (line_to before.cycles source (reader_of source one)) source.first (rows source.from) (rows number)) (sym is)
-              (meets n (line_to before.cycles source (reader_of source one)) k r source.first (rows source.from) (rows tap) (rows number) (shifted before.cycles k r clocks-before split) below shown
-              (subst (λ (x : ℕ). IsBridge n (span_of x (reader_of source one)) ((source.frame.period - r) * x) (rows tap) (rows number)) p.cycles bridge)));
+            subst (λ (b : Bool). ShowsLater b n (line_to before.cycles source (reader_of source one)) source.first (rows source.from) (rows number)) (sym is)
+            (meets n (line_to before.cycles source (reader_of source one)) k r source.first (rows source.from) (rows tap) (rows number) (shifted before.cycles k r clocks-before split) below shown
+            (subst (λ (x : ℕ). IsBridge n (span_of x (reader_of source one)) ((source.frame.period - r) * x) (rows tap) (rows number)) p.cycles bridge)));
         word = word-of-word before now new source.from tap number at.word bridged.word;
         holds = λ yes. absurd (true-false yes is);
       }
@@ -121,10 +121,10 @@ module _ (source : Source) (one : Use) (some : 0 < source.frame.period) (use_is 
             (in-rows-first before now new TapShows q at.shows)
             (in-rows-last before now new (λ n rows. IsReg n (span_of now.cycles source.frame) slot source.first (rows tap) (rows number)) p held.shows)
             (λ n rows shown reg.
-              subst (λ (b : Bool). ShowsLater b n (line_to before.cycles source (reader_of source one)) source.first (rows source.from) (rows number)) (sym is)
-              (meets n (line_to before.cycles source (reader_of source one)) k r source.first (rows source.from) (rows tap) (rows number) (shifted before.cycles k r clocks-before split) (registered-period is) low high shown
-              (subst (λ (x : ℕ). IsReg n (span_of x source.frame) (r * x - 1) source.first (rows tap) (rows number)) p.cycles
-              (subst (λ (s : ℕ). IsReg n (span_of now.cycles source.frame) s source.first (rows tap) (rows number)) at_slot reg))));
+            subst (λ (b : Bool). ShowsLater b n (line_to before.cycles source (reader_of source one)) source.first (rows source.from) (rows number)) (sym is)
+            (meets n (line_to before.cycles source (reader_of source one)) k r source.first (rows source.from) (rows tap) (rows number) (shifted before.cycles k r clocks-before split) (registered-period is) low high shown
+            (subst (λ (x : ℕ). IsReg n (span_of x source.frame) (r * x - 1) source.first (rows tap) (rows number)) p.cycles
+            (subst (λ (s : ℕ). IsReg n (span_of now.cycles source.frame) s source.first (rows tap) (rows number)) at_slot reg))));
         word = word-of-word before now new source.from tap number at.word held.word;
         holds = λ yes. reg-earlier before now new number p held.new;
       }

@@ -1,3 +1,4 @@
+pub mod Chained
 pub mod Ended
 pub mod Hits
 pub mod Parts

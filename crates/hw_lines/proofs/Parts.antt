@@ -154,23 +154,24 @@ module _ (a b : Circuit) (frame : Frame) (some : 0 < frame.period) (counted : Is
       × OnOk result (Grows a c from ⊥ (λ other. other ≡ frame))
       × OnOk result (register_count c.nets ≡ register_count a.nets + 1)
   register-part (Ok number) slot first fits at grown =
-      let kind : NetKind = Reg frame slot first from in
-      (record {
-        shows = part-shows a b frame some counted c from number source kind there word at has grown (λ n rows. IsReg n (span_of a.cycles frame) slot first (rows from) (rows number)) (λ n inputs rows is. is);
-        word = part-word a b frame some counted c from number source kind there word at has grown;
-        new = record {
-          frame = frame;
-          slot = slot;
-          first = first;
-          from = from;
-          net = record { signed = source.signed; width = source.width; kind = kind };
-          is = part-there a b frame some counted c from number source kind there word at has grown;
-          holds = refl;
-          new = part-new a b frame some counted c from number source kind there word at has grown;
-        };
-      },
-      part-grows a b frame some counted c from number source kind there word at has grown refl refl (λ P p. one-all P from p) (λ P p. none-all P) (λ is. (some, is, fits)) ⊥ tt,
-      part-count a b frame some counted c from number source kind there word at has grown refl)
+      let kind : NetKind = Reg frame slot first from in (
+        record {
+          shows = part-shows a b frame some counted c from number source kind there word at has grown (λ n rows. IsReg n (span_of a.cycles frame) slot first (rows from) (rows number)) (λ n inputs rows is. is);
+          word = part-word a b frame some counted c from number source kind there word at has grown;
+          new = record {
+            frame = frame;
+            slot = slot;
+            first = first;
+            from = from;
+            net = record { signed = source.signed; width = source.width; kind = kind };
+            is = part-there a b frame some counted c from number source kind there word at has grown;
+            holds = refl;
+            new = part-new a b frame some counted c from number source kind there word at has grown;
+          };
+        },
+        part-grows a b frame some counted c from number source kind there word at has grown refl refl (λ P p. one-all P from p) (λ P p. none-all P) (λ is. (some, is, fits)) ⊥ tt,
+        part-count a b frame some counted c from number source kind there word at has grown refl,
+      )
   register-part (Err e) slot first fits at grown = (tt, tt, tt)
 
   pub bridge-part : {E : Type 0} (result : Result ℕ E) (live : ℕ) → 0 < live
@@ -179,11 +180,12 @@ module _ (a b : Circuit) (frame : Frame) (some : 0 < frame.period) (counted : Is
       × OnOk result (Grows a c from ⊤ (λ other. other ≡ frame))
       × OnOk result (register_count c.nets ≡ register_count a.nets + 1)
   bridge-part (Ok number) live lives at grown =
-      let kind : NetKind = Bridge frame live from in
-      (record {
-        shows = part-shows a b frame some counted c from number source kind there word at has grown (λ n rows. IsBridge n (span_of a.cycles frame) (live * a.cycles) (rows from) (rows number)) (λ n inputs rows is. is);
-        word = part-word a b frame some counted c from number source kind there word at has grown;
-      },
-      part-grows a b frame some counted c from number source kind there word at has grown refl refl (λ P p. one-all P from p) (λ P p. one-all P from p) (λ is. (some, lives, is)) ⊤ tt,
-      part-count a b frame some counted c from number source kind there word at has grown refl)
+      let kind : NetKind = Bridge frame live from in (
+        record {
+          shows = part-shows a b frame some counted c from number source kind there word at has grown (λ n rows. IsBridge n (span_of a.cycles frame) (live * a.cycles) (rows from) (rows number)) (λ n inputs rows is. is);
+          word = part-word a b frame some counted c from number source kind there word at has grown;
+        },
+        part-grows a b frame some counted c from number source kind there word at has grown refl refl (λ P p. one-all P from p) (λ P p. one-all P from p) (λ is. (some, lives, is)) ⊤ tt,
+        part-count a b frame some counted c from number source kind there word at has grown refl,
+      )
   bridge-part (Err e) live lives at grown = (tt, tt, tt)

@@ -15,6 +15,9 @@ use Rattle.hw_lines.specs.declared.source.Source.{Source}
 use Rattle.hw_lines.specs.declared.source.Use.{Use}
 use Rattle.hw_lines.specs.Line.{Line, ShowsLater}
 
+abbrev pub source_of : ℕ → Frame → ℤ → Bool → Source
+source_of from frame first registered = record { from = from; frame = frame; first = first; registered = registered }
+
 -- the frame in which a use is seen
 abbrev pub reader_of : Source → Use → Frame
 reader_of source one = record { period = max source.frame.period one.period; latency = source.frame.latency + one.shift }

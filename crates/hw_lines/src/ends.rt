@@ -1,7 +1,7 @@
 //! The end of a line behind a tap: the tap itself, a register or a bridge.
 ghost use Rattle.std.specs.Prelude.{◌≡◌, ◌+◌, ◌<◌, ◌^◌, IfOk, OnOk, true, false};
 ghost use Rattle.hw_lines.specs.Chain.{reader_of};
-ghost use Rattle.hw_lines.specs.inner.Ends.{CanEnd, IsEnd, Ends};
+ghost use Rattle.hw_lines.specs.inner.Ends.{CanEnd, IsEnd, IsEndFor, Ends};
 
 use crate::laws::{bridge_meets, phase_register_meets, tap_holds, tap_meets};
 use crate::registers::{bridge_at, register_at};
@@ -66,7 +66,7 @@ fn plain_end(net: &mut Netlist, source: Source, taps: &[u32], one: Use) -> Resul
 }
 
 /// The end of a line.
-pub fn end_of(net: &mut Netlist, source: Source, taps: &[u32], one: Use) -> Result<u32, OutOfMemory>
+fn end_of(net: &mut Netlist, source: Source, taps: &[u32], one: Use) -> Result<u32, OutOfMemory>
     requires { CanEnd net.old source taps.now one }
     ensures end { IfOk result (λ number. IsEnd net.old net.new source taps.now one number) }
     ensures ends { OnOk result (Ends net.old net.new source taps.now one) }
@@ -75,5 +75,22 @@ pub fn end_of(net: &mut Netlist, source: Source, taps: &[u32], one: Use) -> Resu
         registered_end(net, source, taps, one)
     } else {
         plain_end(net, source, taps, one)
+    }
+}
+
+/// The end of a line, which may be known.
+pub fn end_for(
+    net: &mut Netlist,
+    source: Source,
+    taps: &[u32],
+    known: Option<u32>,
+    one: Use,
+) -> Result<u32, OutOfMemory>
+    requires { CanEnd net.old source taps.now one }
+    ensures { IfOk result (λ number. IsEndFor net.old net.new source taps.now known one number) }
+{
+    match known {
+        Some(number) => Ok(number),
+        None => end_of(net, source, taps, one),
     }
 }

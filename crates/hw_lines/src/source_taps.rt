@@ -1,15 +1,27 @@
 //! The registers of a source, one behind another.
 ghost use Rattle.std.specs.Prelude.{◌≡◌, ◌+◌, ◌*◌, ◌<◌, ◌^◌, length, IfOk, OnOk};
 ghost use Rattle.hw_net.specs.Frames.{register_count};
-ghost use Rattle.hw_lines.specs.Chain.{IsSource};
+ghost use Rattle.hw_lines.specs.Chain.{IsSource, most_frames};
 ghost use Rattle.hw_lines.specs.inner.Parts.{AreTaps, Grows};
 
 use crate::laws::tap_steps;
 use crate::registers::register_at;
-use crate::source::Source;
+use crate::source::{Source, Use};
 use fx_io::OutOfMemory;
 use hw_net::Netlist;
 use std::alloc::Global;
+
+/// The greatest count of whole periods by which a use is behind the source.
+pub fn most_frames(period: u32, uses: &[Use]) -> u64
+    requires { 0 < period }
+    ensures { result ≡ most_frames period uses.now }
+{
+    let mut most = 0;
+    for one in uses {
+        most = most.max(one.shift / u64::from(period));
+    }
+    most
+}
 
 /// The nets that show a source 0, 1, .. of its frames later, up to a count: the source itself, and a
 /// register for each frame.

@@ -1,5 +1,5 @@
 -- The end of a line, behind a tap.
-use Rattle.std.specs.Prelude.{◌≡◌, ℕ, ◌+◌, ◌*◌, ◌/◌, ◌<◌, ◌≤◌, ◌^◌, List, length, All, Contains, Some, false}
+use Rattle.std.specs.Prelude.{◌≡◌, ℕ, ◌+◌, ◌*◌, ◌/◌, ◌<◌, ◌≤◌, ◌^◌, List, map, take, drop, length, All, Contains, slice_get, Option, None, Some, is_some, false}
 use Rattle.hw_net.specs.declared.netlist.Frame.{Frame}
 use Rattle.hw_net.specs.Circuit.{Circuit}
 use Rattle.hw_net.specs.ByFrame.{number_at_frame}
@@ -7,7 +7,7 @@ use Rattle.hw_net.specs.Frames.{register_count}
 use Rattle.hw_net.specs.Growing.{Extends}
 use Rattle.hw_lines.specs.declared.source.Source.{Source}
 use Rattle.hw_lines.specs.declared.source.Use.{Use}
-use Rattle.hw_lines.specs.Chain.{IsUse, IsAnswer, IsCountedIn, reader_of}
+use Rattle.hw_lines.specs.Chain.{IsUse, IsAnswer, IsCountedIn, reader_of, is_among, different_after}
 use Rattle.hw_lines.specs.inner.Parts.{CanHold, Grows, AreTaps}
 
 -- the taps reach the use, and the numbers that come have room
@@ -34,3 +34,22 @@ pub record Ends (now new : Circuit) (source : Source) (taps : List ℕ) (one : U
 -- the number of each frame of an index is an answer for it
 pub record AreEnds (before after : Circuit) (source : Source) (entries : List (Frame × ℕ)) : Type 0 where
   pub each : (reader : Frame) (number : ℕ) → number_at_frame entries reader ≡ Some number → IsAnswer before after source reader number
+
+-- the number is known and nothing was put in, or it is that of a new end
+pub record IsEndFor (now new : Circuit) (source : Source) (taps : List ℕ) (known : Option ℕ) (one : Use) (number : ℕ) : Type 0 where
+  pub extends : Extends now new
+  pub stood : (k : ℕ) → known ≡ Some k → (number ≡ k) × (new ≡ now)
+  pub made : known ≡ None → IsEnd now new source taps one number × Ends now new source taps one
+
+abbrev pub frames_of : Source → List Use → List Frame
+frames_of source uses = map (reader_of source) uses
+
+-- the first i uses have their answers, and the index has those of their frames
+pub record IsDone (before now : Circuit) (source : Source) (uses : List Use) (bound : ℕ) (taps : List ℕ) (entries : List (Frame × ℕ)) (answers : List ℕ) (i : ℕ) : Type 0 where
+  pub size : length answers ≡ i
+  pub are : (k : ℕ) (one : Use) (number : ℕ) → slice_get uses k ≡ Some one → slice_get answers k ≡ Some number → IsAnswer before now source (reader_of source one) number
+  pub ends : AreEnds before now source entries
+  pub among : (frame : Frame) → is_some (number_at_frame entries frame) ≡ is_among frame (take i (frames_of source uses))
+  pub grown : Grows before now source.from (source.registered ≡ false) (IsCountedIn source uses)
+  pub few : register_count now.nets + different_after (take i (frames_of source uses)) (drop i (frames_of source uses)) ≤ bound
+  pub taps_are : AreTaps before now source taps

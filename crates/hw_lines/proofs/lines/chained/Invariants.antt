@@ -1,0 +1,9 @@
+use Rattle.std.proofs.Common.{◌+◌}
+use Rattle.hw_net.specs.Frames.{register_count}
+use Rattle.hw_lines.specs.Chain.{most_frames, different}
+use Rattle.hw_lines.specs.inner.Ends.{IsDone, frames_of}
+use Rattle.hw_lines.proofs.lines.chained.Given as goal
+
+abbrev pub invariant-loop-one : goal.invariant-loop-one
+invariant-loop-one l =
+    IsDone l.fn.net l.net l.source l.uses (register_count l.fn.net.nets + most_frames l.source.frame.period l.uses + different (frames_of l.source l.uses)) l.taps.items l.ends l.answers l.one-index
