@@ -114,7 +114,7 @@ declared-name p = ap (λ (x : Declared). x.name) (declared-same p)
 declared-kind : {d e : Declared} → Declares d ≡ Declares e → d.kind ≡ e.kind
 declared-kind p = ap (λ (x : Declared). x.kind) (declared-same p)
 
-declares-it : (x : Mention) (d : Declared) → Contains (declared_by x) d → x ≡ Declares d
+pub declares-it : (x : Mention) (d : Declared) → Contains (declared_by x) d → x ≡ Declares d
 declares-it (Declares e) d h = ⊎_elim (λ s. ap Declares s) (λ t. absurd (none-in d t)) (cons-cases e d [] h)
 declares-it (Drives c n) d h = absurd (none-in d h)
 declares-it (Reads n) d h = absurd (none-in d h)

@@ -1,0 +1,13 @@
+pub mod Results
+pub mod Reading
+pub mod Numbering
+pub mod Marking
+pub mod Shaping
+pub mod Limits
+pub mod Looped
+pub mod Walked
+pub mod Searched
+pub mod Scoped
+pub mod Noting
+pub mod Loops
+pub mod Beginnings

@@ -1,0 +1,84 @@
+ghost use Rattle.std.specs.Prelude.{◌≡◌, ◌<◌, [], IfOk, OnOk, None, length, map, slice_index_or};
+ghost use Rattle.vl_ast.specs.Nets.{names_read};
+ghost use Rattle.vl_check.specs.Scope.{names_in, number_at};
+ghost use Rattle.vl_check.specs.inner.Assigned.{IsEmpty, IsNoted, places_after, reads_after};
+
+use crate::mentions::push_names;
+use crate::scope::Scope;
+use fx_io::{OutOfMemory, Sequence};
+use std::alloc::Global;
+use vl_ast::{Expr, ModItem};
+
+/// By the number of each name, the place of the item that assigns it, and the numbers of the names that
+/// the assignment reads.
+#[derive(Drop)]
+pub struct Assigned {
+    pub places: Vec<Option<usize>>,
+    pub reads: Vec<Sequence<usize>>,
+}
+
+/// The numbers of the names that an expression reads.
+fn numbers_read(alloc: Global, scope: &Scope<'_>, e: &Expr) -> Result<Sequence<usize>, OutOfMemory>
+    ensures { IfOk result (λ numbers. numbers ≡ map (number_at scope.now) (names_read e.now)) }
+{
+    let mut names = Vec::new(alloc);
+    push_names(&mut names, e)?;
+    let mut numbers = Sequence::new(alloc);
+    for name in names.as_slice() {
+        numbers.push(scope.number_or_count(name))?;
+    }
+    Ok(numbers)
+}
+
+/// So many empty lists.
+fn empty_lists(alloc: Global, count: usize) -> Result<Vec<Sequence<usize>>, OutOfMemory>
+    ensures long { IfOk result (λ lists. length lists.items ≡ count) }
+    ensures empty { IfOk result (λ lists. IsEmpty lists.items) }
+{
+    let mut lists = Vec::new(alloc);
+    for _number in 0..count {
+        lists.push(Sequence::new(alloc))?;
+    }
+    Ok(lists)
+}
+
+/// Notes the place of an item, and what it reads, where it is an assignment.
+fn note(
+    alloc: Global,
+    scope: &Scope<'_>,
+    at: usize,
+    item: &ModItem,
+    places: &mut Vec<Option<usize>>,
+    reads: &mut Vec<Sequence<usize>>,
+) -> Result<(), OutOfMemory>
+    ensures places { OnOk result (places.new.items ≡ places_after scope.now places.old.items at item.now) }
+    ensures reads { OnOk result (reads.new.items ≡ reads_after scope.now reads.old.items item.now) }
+{
+    if let ModItem::Assign { name, value } = item {
+        let number = scope.number_or_count(name.bytes());
+        let read = numbers_read(alloc, scope, value)?;
+        if number < places.len() {
+            places[number] = Some(at);
+        }
+        if number < reads.len() {
+            reads[number] = read;
+        }
+    }
+    Ok(())
+}
+
+/// By the number of each name, what assigns it.
+pub fn assignments_of(
+    alloc: Global,
+    scope: &Scope<'_>,
+    items: &[ModItem],
+) -> Result<Assigned, OutOfMemory>
+    ensures { IfOk result (λ assigned. IsNoted scope.now items.now assigned.places.items assigned.reads.items) }
+{
+    let mut places = vec![in alloc; None; scope.count()]?;
+    let mut reads = empty_lists(alloc, scope.count())?;
+    for (at, item) in items.iter().enumerate() {
+        note(alloc, scope, at, item, &mut places, &mut reads)?;
+    }
+    Ok(Assigned { places, reads })
+}

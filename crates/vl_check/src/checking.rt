@@ -1,0 +1,125 @@
+ghost use Rattle.std.specs.Prelude.{◌≡◌, IfErr, IfOk, length, map};
+ghost use Rattle.vl_ast.specs.declared.modules.Module.{Module};
+ghost use Rattle.vl_ast.specs.Conditions.{BreaksNone, mentioned};
+ghost use Rattle.vl_ast.specs.Nets.{mentions};
+ghost use Rattle.vl_check.specs.Cause.{IsCause};
+ghost use Rattle.vl_check.specs.Ordering.{IsOrdering};
+ghost use Rattle.vl_check.specs.Scope.{IsScopeOf};
+ghost use Rattle.vl_check.specs.inner.Marks.{AreFirst, AreNumbers};
+ghost use Rattle.vl_check.specs.inner.Mentioned.{shown};
+ghost use Rattle.vl_check.specs.inner.Rest.{IsCauseOfRest, IsSoundRest};
+
+use crate::attributes::no_attribute;
+use crate::clocking::no_reset;
+use crate::driving::{doubly, first_declarations, undriven};
+use crate::fault::VlFault;
+use crate::mentions::{Mention, mentions_of};
+use crate::names::{Numbers, numbers_of};
+use crate::ordering::{Assignments, ordered};
+use crate::scope::Scope;
+use crate::widths::too_wide;
+use fx_io::{OutOfMemory, Text};
+use std::alloc::Global;
+use vl_ast::Module;
+
+/// What a module that breaks no condition has.
+#[derive(Drop)]
+pub struct Checked<'a> {
+    /// Its names and their declarations.
+    pub scope: Scope<'a>,
+    /// The numbers of the names that assignments give, each behind those that its assignment reads.
+    pub order: Vec<usize>,
+    /// By the number of each name, the place of the item that assigns it.
+    pub places: Vec<Option<usize>>,
+}
+
+/// The names of a text with their declarations, and the number of the name at each place.
+#[derive(Drop)]
+struct Known<'a> {
+    scope: Scope<'a>,
+    numbers: Vec<usize>,
+}
+
+fn known_of<'a>(alloc: Global, text: &[Mention<'a>]) -> Result<Known<'a>, OutOfMemory>
+    ensures scope { IfOk result (λ known. (m : Module) → shown text.now ≡ mentions m → IsScopeOf m known.scope) }
+    ensures numbers { IfOk result (λ known. AreNumbers (map mentioned (shown text.now)) known.numbers.items (length known.scope.declared.items)) }
+    ensures first { IfOk result (λ known. AreFirst (map mentioned (shown text.now)) known.numbers.items known.scope.declared.items (shown text.now)) }
+{
+    let Numbers { names, numbers } = numbers_of(alloc, text)?;
+    let declared = first_declarations(alloc, text, numbers.as_slice(), names.len())?;
+    let scope = Scope { names, declared };
+    Ok(Known { scope, numbers })
+}
+
+/// Tries the six conditions in their order (own). The time is linear in the module.
+pub fn check<'a>(alloc: Global, source: &'a Module) -> Result<Checked<'a>, VlFault>
+    ensures sound { IfOk result (λ checked. BreaksNone source.now) }
+    ensures scope { IfOk result (λ checked. IsScopeOf source.now checked.scope) }
+    ensures order { IfOk result (λ checked. IsOrdering source.now checked.scope checked.order.items checked.places.items) }
+    ensures fault { IfErr result (IsCause source.now) }
+{
+    let text = mentions_of(alloc, source)?;
+    let known = known_of(alloc, text.as_slice())?;
+    if let Some(name) = undriven(
+        alloc,
+        text.as_slice(),
+        known.numbers.as_slice(),
+        known.scope.count(),
+    )? {
+        return Err(VlFault::Undriven {
+            name: Text::copy(alloc, name)?,
+        });
+    }
+    if let Some(name) = doubly(
+        alloc,
+        text.as_slice(),
+        known.numbers.as_slice(),
+        known.scope.declared.as_slice(),
+    )? {
+        return Err(VlFault::Doubly {
+            name: Text::copy(alloc, name)?,
+        });
+    }
+    let Known { scope, numbers: _ } = known;
+    match ordered(alloc, text.as_slice(), &scope, source)? {
+        Assignments::InLoop(names) => Err(VlFault::CombLoop { names }),
+        Assignments::InOrder { order, places } => {
+            check_rest(alloc, source, text.as_slice(), &scope)?;
+            Ok(Checked {
+                scope,
+                order,
+                places,
+            })
+        }
+    }
+}
+
+/// Tries the last three conditions.
+fn check_rest(
+    alloc: Global,
+    source: &Module,
+    text: &[Mention<'_>],
+    scope: &Scope<'_>,
+) -> Result<(), VlFault>
+    requires whole { shown text.now ≡ mentions source.now }
+    requires scope { IsScopeOf source.now scope.now }
+    ensures sound { IfOk result (λ _. IsSoundRest source.now) }
+    ensures fault { IfErr result (IsCauseOfRest source.now) }
+{
+    if let Some(name) = too_wide(scope, source) {
+        return Err(VlFault::TooWide {
+            name: Text::copy(alloc, name)?,
+        });
+    }
+    if let Some(name) = no_reset(text, source) {
+        return Err(VlFault::NoReset {
+            name: Text::copy(alloc, name)?,
+        });
+    }
+    if let Some(name) = no_attribute(source) {
+        return Err(VlFault::NoAttribute {
+            name: Text::copy(alloc, name)?,
+        });
+    }
+    Ok(())
+}

@@ -1,0 +1,207 @@
+ghost use Rattle.std.specs.Prelude.{◌≡◌, ◌++◌, ◌∷◌, [], map, flat_map, IfOk, OnOk};
+ghost use Rattle.vl_ast.specs.Nets.{condition_names, item_mentions, mentions, names_read, port_declared, Declares, Reads};
+ghost use Rattle.vl_check.specs.inner.Mentioned.{mention_of, shown, texts};
+
+use fx_io::OutOfMemory;
+use std::alloc::Global;
+use vl_ast::{Expr, ModItem, Module, Port};
+
+/// What a name is declared as.
+#[derive(Clone, Copy, Debug, PartialEq, Eq)]
+pub enum Kind {
+    InputPort,
+    OutputPort,
+    PlainWire,
+    Register,
+}
+
+/// The declaration of a name.
+#[derive(Clone, Copy)]
+pub struct Declared<'a> {
+    pub name: &'a [u8],
+    pub kind: Kind,
+    /// How many bits the net has.
+    pub width: u32,
+    pub signed: bool,
+}
+
+/// One place of a net's name in the text of a module.
+#[derive(Clone, Copy)]
+pub enum Mention<'a> {
+    Declares(Declared<'a>),
+    /// The left side of a clocked item, or else of an assignment.
+    Drives { clocked: bool, name: &'a [u8] },
+    Reads(&'a [u8]),
+    /// The `clk` and the `reset` of a clocked item.
+    Clocks,
+}
+
+/// Puts the names that an expression reads, from the left. The recursion is as deep as the
+/// expression nests.
+pub fn push_names<'a>(names: &mut Vec<&'a [u8]>, e: &'a Expr) -> Result<(), OutOfMemory>
+    ensures { OnOk result (texts names.new.items ≡ texts names.old.items ++ names_read e.now) }
+{
+    match e {
+        Expr::Name(name) => push_name(names, name.bytes()),
+        Expr::Bit(name, _place) => push_name(names, name.bytes()),
+        Expr::Part(name, _high, _low) => push_name(names, name.bytes()),
+        Expr::Literal(_number) => Ok(()),
+        Expr::Concat(parts) => {
+            for part in parts.as_slice() {
+                push_names(names, part)?;
+            }
+            Ok(())
+        }
+        Expr::Repeat(_count, part) => push_names(names, part.get()),
+        Expr::AsSigned(part) => push_names(names, part.get()),
+        Expr::AsUnsigned(part) => push_names(names, part.get()),
+        Expr::Unary(_op, part) => push_names(names, part.get()),
+        Expr::Binary(_op, left, right) => {
+            push_names(names, left.get())?;
+            push_names(names, right.get())
+        }
+        Expr::Shift(_op, part, _amount) => push_names(names, part.get()),
+        Expr::Choose(test, chosen, other) => {
+            push_names(names, test.get())?;
+            push_names(names, chosen.get())?;
+            push_names(names, other.get())
+        }
+    }
+}
+
+fn push_name<'a>(names: &mut Vec<&'a [u8]>, name: &'a [u8]) -> Result<(), OutOfMemory>
+    ensures { OnOk result (texts names.new.items ≡ texts names.old.items ++ name.now ∷ []) }
+{
+    names.push(name)?;
+    Ok(())
+}
+
+fn push<'a>(mentions: &mut Vec<Mention<'a>>, mention: Mention<'a>) -> Result<(), OutOfMemory>
+    ensures { OnOk result (shown mentions.new.items ≡ shown mentions.old.items ++ mention_of mention.entry ∷ []) }
+{
+    mentions.push(mention)?;
+    Ok(())
+}
+
+fn push_reads<'a>(
+    alloc: Global,
+    mentions: &mut Vec<Mention<'a>>,
+    e: &'a Expr,
+) -> Result<(), OutOfMemory>
+    ensures { OnOk result (shown mentions.new.items ≡ shown mentions.old.items ++ map Reads (names_read e.now)) }
+{
+    let mut names = Vec::new(alloc);
+    push_names(&mut names, e)?;
+    for name in names.as_slice() {
+        push(mentions, Mention::Reads(*name))?;
+    }
+    Ok(())
+}
+
+fn push_condition<'a>(
+    alloc: Global,
+    mentions: &mut Vec<Mention<'a>>,
+    condition: &'a Option<Expr>,
+) -> Result<(), OutOfMemory>
+    ensures { OnOk result (shown mentions.new.items ≡ shown mentions.old.items ++ map Reads (condition_names condition.now)) }
+{
+    match condition {
+        None => Ok(()),
+        Some(condition) => push_reads(alloc, mentions, condition),
+    }
+}
+
+fn port_declared<'a>(port: &'a Port) -> Declared<'a>
+    ensures { mention_of (Mention.Declares result) ≡ Declares (port_declared port.now) }
+{
+    Declared {
+        name: port.name.bytes(),
+        kind: if port.input {
+            Kind::InputPort
+        } else {
+            Kind::OutputPort
+        },
+        width: port.width,
+        signed: port.signed,
+    }
+}
+
+fn push_item<'a>(
+    alloc: Global,
+    mentions: &mut Vec<Mention<'a>>,
+    item: &'a ModItem,
+) -> Result<(), OutOfMemory>
+    ensures { OnOk result (shown mentions.new.items ≡ shown mentions.old.items ++ item_mentions item.now) }
+{
+    match item {
+        ModItem::Wire {
+            signed,
+            width,
+            name,
+        } => {
+            let declared = Declared {
+                name: name.bytes(),
+                kind: Kind::PlainWire,
+                width: *width,
+                signed: *signed,
+            };
+            push(mentions, Mention::Declares(declared))
+        }
+        ModItem::Reg {
+            signed,
+            width,
+            name,
+        } => {
+            let declared = Declared {
+                name: name.bytes(),
+                kind: Kind::Register,
+                width: *width,
+                signed: *signed,
+            };
+            push(mentions, Mention::Declares(declared))
+        }
+        ModItem::Assign { name, value } => {
+            let name = name.bytes();
+            push(
+                mentions,
+                Mention::Drives {
+                    clocked: false,
+                    name,
+                },
+            )?;
+            push_reads(alloc, mentions, value)
+        }
+        ModItem::Always {
+            name,
+            first: _,
+            condition,
+            value,
+        } => {
+            let name = name.bytes();
+            push(mentions, Mention::Clocks)?;
+            push(
+                mentions,
+                Mention::Drives {
+                    clocked: true,
+                    name,
+                },
+            )?;
+            push_condition(alloc, mentions, condition)?;
+            push_reads(alloc, mentions, value)
+        }
+    }
+}
+
+/// The places of names in a module's text, in its order.
+pub fn mentions_of(alloc: Global, source: &Module) -> Result<Vec<Mention<'_>>, OutOfMemory>
+    ensures { IfOk result (λ all. shown all.items ≡ mentions source.now) }
+{
+    let mut mentions = Vec::new(alloc);
+    for port in source.ports.as_slice() {
+        push(&mut mentions, Mention::Declares(port_declared(port)))?;
+    }
+    for item in source.items.as_slice() {
+        push_item(alloc, &mut mentions, item)?;
+    }
+    Ok(mentions)
+}
