@@ -11,7 +11,8 @@ use Rattle.vl_ast.specs.declared.expressions.Expr.TheOpen.{Expr-F}
 use Rattle.vl_ast.specs.declared.expressions.Expr.TheViews.{roll-Expr}
 use Rattle.vl_ast.specs.declared.expressions.Expr.TheFolds.{map-Expr, fold-roll-Expr, ind-Expr}
 use Rattle.vl_ast.specs.Grammar.{expr_tokens, tokens_step}
-use Rattle.vl_ast.specs.Spelling.{expr_text, expr_step, unary_text, binary_text, shift_text}
+use Rattle.vl_ast.specs.Spelling.{expr_text, expr_step}
+use Rattle.vl_ast.specs.Operators.{unary_text, binary_text, shift_text}
 use Rattle.vl_ast.specs.Tokens.{Token, is_longest}
 use Rattle.vl_ast.proofs.LaidForms.{Fits, FitsEach, name_fits, bit_fits, part_fits, literal_fits, concat_fits, repeat_fits, cast_fits, unary_fits, binary_fits, shift_fits, choose_fits}
 

@@ -10,7 +10,8 @@ use Rattle.vl_ast.specs.declared.modules.Port.{Port}
 use Rattle.vl_ast.specs.declared.modules.ModItem.{ModItem}
 use Rattle.vl_ast.specs.declared.modules.ModItem.TheVariants.{Wire, Reg, Assign, Always}
 use Rattle.vl_ast.specs.declared.modules.Module.{Module}
-use Rattle.vl_ast.specs.Spelling.{joined, unary_text, binary_text, shift_text}
+use Rattle.vl_ast.specs.Spelling.{joined}
+use Rattle.vl_ast.specs.Operators.{unary_text, binary_text, shift_text}
 use Rattle.vl_ast.specs.Tokens.{Token, Key, Sign, Identifier, Number, Based, Lays}
 
 -- the separating token

@@ -5,6 +5,7 @@ pub mod Driven
 pub mod Grammar
 pub mod Multiplications
 pub mod Nets
+pub mod Operators
 pub mod Reserved
 pub mod Room
 pub mod Runs

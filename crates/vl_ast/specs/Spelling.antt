@@ -5,12 +5,6 @@ use Rattle.std.specs.Prelude.{ℕ, ◌-◌, ◌==◌, Bool, if◌then◌else◌,
 use Rattle.std.specs.List.{flat_map}
 use Rattle.std.specs.Fmt.{decimal}
 use Rattle.vl_ast.specs.declared.expressions.Sized.{Sized}
-use Rattle.vl_ast.specs.declared.expressions.UnOp.{UnOp}
-use Rattle.vl_ast.specs.declared.expressions.UnOp.TheVariants.{Negate, Invert, IsZero}
-use Rattle.vl_ast.specs.declared.expressions.BinOp.{BinOp}
-use Rattle.vl_ast.specs.declared.expressions.BinOp.TheVariants.{Add, Subtract, Multiply, And, Or, Xor, Equal, NotEqual, Less, LessEqual, Greater, GreaterEqual, Both, Either}
-use Rattle.vl_ast.specs.declared.expressions.ShiftOp.{ShiftOp}
-use Rattle.vl_ast.specs.declared.expressions.ShiftOp.TheVariants.{Left, Right, RightSigned}
 use Rattle.vl_ast.specs.declared.expressions.Expr.{Expr}
 use Rattle.vl_ast.specs.declared.expressions.Expr.TheOpen.{Expr-F}
 use Rattle.vl_ast.specs.declared.expressions.Expr.TheFolds.{fold-Expr}
@@ -19,40 +13,12 @@ use Rattle.vl_ast.specs.declared.modules.Port.{Port}
 use Rattle.vl_ast.specs.declared.modules.ModItem.{ModItem}
 use Rattle.vl_ast.specs.declared.modules.ModItem.TheVariants.{Wire, Reg, Assign, Always}
 use Rattle.vl_ast.specs.declared.modules.Module.{Module}
+use Rattle.vl_ast.specs.Operators.{unary_text, binary_text, shift_text}
 
 -- the parts in order, with the separator between each two
 abbrev pub joined : {A : Type 0} → List A → List (List A) → List A
 joined separator [] = []
 joined separator (part ∷ parts) = part ++ flat_map (λ more. separator ++ more) parts
-
--- the sign of a unary operator
-abbrev pub unary_text : UnOp → List ℕ
-unary_text Negate = codes "-"
-unary_text Invert = codes "~"
-unary_text IsZero = codes "!"
-
--- the sign of a binary operator
-abbrev pub binary_text : BinOp → List ℕ
-binary_text Add = codes "+"
-binary_text Subtract = codes "-"
-binary_text Multiply = codes "*"
-binary_text And = codes "&"
-binary_text Or = codes "|"
-binary_text Xor = codes "^"
-binary_text Equal = codes "=="
-binary_text NotEqual = codes "!="
-binary_text Less = codes "<"
-binary_text LessEqual = codes "<="
-binary_text Greater = codes ">"
-binary_text GreaterEqual = codes ">="
-binary_text Both = codes "&&"
-binary_text Either = codes "||"
-
--- the sign of a shift
-abbrev pub shift_text : ShiftOp → List ℕ
-shift_text Left = codes "<<"
-shift_text Right = codes ">>"
-shift_text RightSigned = codes ">>>"
 
 -- a based number, as 16'sd7
 abbrev pub sized_text : Sized → List ℕ

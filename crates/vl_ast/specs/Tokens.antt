@@ -1,5 +1,6 @@
 -- The tokens of a text: how each may be written, and what may stand between them (IEEE 1364-2005,
 -- 3.1 to 3.7, of which the subset keeps these forms).
+use Prim.Native.Char.{code}
 use Rattle.std.specs.Prelude.{◌≡◌, ◌≢◌, ◌⊎◌, ℕ, ◌^◌, ◌<◌, ◌≤◌, ◌==◌, nat_le, nat_eq, ⊤, Bool, true, false, not, ◌&&◌, ◌||◌, if◌then◌else◌, List, [], ◌∷◌, ◌++◌, length, flat_map, All, Contains, bytes_eq, codes, Option, Some, None}
 use Rattle.std.specs.List.{list_any, list_all, starts_with}
 use Rattle.std.specs.Char.{is_ascii_alphabetic, is_ascii_alphanumeric}
@@ -38,12 +39,19 @@ abbrev pub is_longest : List ℕ → List ℕ → Bool
 is_longest sign after =
     list_all (λ longer. nat_le (length longer) (length sign) || not (starts_with nat_eq (sign ++ after) longer)) long_signs
 
--- a letter or an underscore, and then letters, digits and underscores
+-- a letter or an underscore
+abbrev pub begins_name : ℕ → Bool
+begins_name byte = is_ascii_alphabetic byte || byte == code "_"
+
+-- a letter, a digit or an underscore
+abbrev pub continues_name : ℕ → Bool
+continues_name byte = is_ascii_alphanumeric byte || byte == code "_"
+
+-- a letter or an underscore, and then letters, digits and underscores, but no reserved word
 abbrev pub is_identifier : List ℕ → Bool
 is_identifier [] = false
 is_identifier (first ∷ others) =
-    (is_ascii_alphabetic first || first == 95) && list_all (λ byte. is_ascii_alphanumeric byte || byte == 95) others
-    && not (list_any (bytes_eq (first ∷ others)) reserved)
+    begins_name first && list_all continues_name others && not (list_any (bytes_eq (first ∷ others)) reserved)
 
 -- one to nine decimal digits
 pub record IsDec (number : ℕ) (digits : List ℕ) : Type 0 where
@@ -54,8 +62,8 @@ pub record IsDec (number : ℕ) (digits : List ℕ) : Type 0 where
 -- the base that a letter names: b, d or h, or a capital
 abbrev pub base_of : ℕ → Option ℕ
 base_of letter =
-    if letter == 98 || letter == 66 then Some 2
-    else (if letter == 100 || letter == 68 then Some 10 else (if letter == 104 || letter == 72 then Some 16 else None))
+    if letter == code "b" || letter == code "B" then Some 2
+    else (if letter == code "d" || letter == code "D" then Some 10 else (if letter == code "h" || letter == code "H" then Some 16 else None))
 
 -- `s` or `S` for a signed number, and else nothing
 abbrev pub IsSignMark : Bool → List ℕ → Type 0
@@ -110,11 +118,11 @@ filler_text (BlockComment body) = codes "/*" ++ body ++ codes "*/"
 
 -- a space, a tab, a newline, a form feed or a carriage return
 abbrev pub is_blank : ℕ → Bool
-is_blank byte = byte == 32 || byte == 9 || byte == 10 || byte == 12 || byte == 13
+is_blank byte = byte == code " " || byte == code "\t" || byte == code "\n" || byte == code "\u{c}" || byte == code "\r"
 
 -- no newline among the bytes
 abbrev pub IsOneLine : List ℕ → Type 0
-IsOneLine body = ¬ Contains body 10
+IsOneLine body = ¬ Contains body (code "\n")
 
 -- the blank or comment is sound
 abbrev pub IsFiller : Filler → Type 0

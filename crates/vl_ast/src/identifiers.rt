@@ -1,8 +1,7 @@
-ghost use Rattle.std.specs.Prelude.{◌≡◌, ℕ, List, ◌∷◌, ◌==◌, ◌||◌, bytes_eq};
+ghost use Rattle.std.specs.Prelude.{◌≡◌, ℕ, List, ◌∷◌, bytes_eq};
 ghost use Rattle.std.specs.List.{list_any, list_all};
-ghost use Rattle.std.specs.Char.{is_ascii_alphabetic, is_ascii_alphanumeric};
 ghost use Rattle.vl_ast.specs.Reserved.{reserved};
-ghost use Rattle.vl_ast.specs.Tokens.{is_identifier};
+ghost use Rattle.vl_ast.specs.Tokens.{begins_name, continues_name, is_identifier};
 
 /// The reserved words (IEEE 1364-2005, annex B) that begin with each letter from `a` to `z`.
 const RESERVED: [&[&str]; 26] = [
@@ -99,13 +98,13 @@ pub fn is_identifier(name: &[u8]) -> bool
 }
 
 fn begins_name(byte: u8) -> bool
-    ensures { result ≡ (is_ascii_alphabetic byte || byte == 95) }
+    ensures { result ≡ begins_name byte }
 {
     byte.is_ascii_alphabetic() || byte == b'_'
 }
 
 fn continue_name(bytes: &[u8]) -> bool
-    ensures { result ≡ list_all (λ byte. is_ascii_alphanumeric byte || byte == 95) bytes.now }
+    ensures { result ≡ list_all continues_name bytes.now }
 {
     bytes
         .iter()
@@ -123,7 +122,8 @@ fn is_reserved(word: &[u8]) -> bool
 
 /// The reserved words that begin with the byte.
 fn reserved_words(first: u8) -> &'static [&'static str]
-    ensures { (others : List ℕ) → list_any (λ word. bytes_eq (first ∷ others) word.now) result.now ≡ list_any (bytes_eq (first ∷ others)) reserved }
+    ensures { (others : List ℕ) → list_any (λ word. bytes_eq (first ∷ others) word.now) result.now
+        ≡ list_any (bytes_eq (first ∷ others)) reserved }
 {
     match first {
         b'a'..=b'z' => RESERVED[usize::from(first - b'a')],

@@ -1,8 +1,8 @@
 //! The Verilog subset: modules as data, and what they mean.
 //!
 //! The crate holds types, definitions, the test of identifiers, and laws as functions that do nothing.
-//! The definitions are in `specs/`, by subject: `Spelling` (the one written text of a module), `Tokens`
-//! and `Grammar` (which bytes spell a module), `Context` (length and sign of an expression), `Value`
+//! The definitions are in `specs/`, by subject: `Operators` (how they are written), `Spelling` (the one
+//! written text of a module), `Tokens` and `Grammar` (which bytes spell a module), `Context` (length and sign of an expression), `Value`
 //! (its value), `Nets` (what is declared and where names stand), `Runs` (the rows of a module), `Steps`
 //! (a row, and an edge to the next), `Room` (what fits), `Conditions` (the six conditions), `Attributes`,
 //! `Windows` (what a name shows over clocks) and `Driven` (how a module is reset and driven) and
@@ -13,6 +13,7 @@ mod expressions;
 mod identifiers;
 mod laws;
 mod modules;
+mod operators;
 
 pub use expressions::{BinOp, Expr, Exprs, ShiftOp, Sized, UnOp};
 pub use identifiers::is_identifier;

@@ -9,13 +9,18 @@ use Rattle.vl_ast.specs.declared.expressions.Expr.{Expr}
 use Rattle.vl_ast.specs.declared.expressions.Expr.TheOpen.{Expr-F}
 use Rattle.vl_ast.specs.declared.expressions.Expr.TheViews.{roll-Expr}
 use Rattle.vl_ast.specs.declared.modules.Module.{Module}
+use Rattle.vl_read.specs.declared.places.Opening.{Opening}
+use Rattle.vl_read.specs.declared.places.Closing.{Closing}
+use Rattle.vl_read.specs.declared.places.Opening.TheVariants.{OpenParenthesis, OpenBrace}
+use Rattle.vl_read.specs.declared.places.Closing.TheVariants.{CloseParenthesis, CloseBrace, CloseBracket}
 use Rattle.vl_read.specs.declared.places.Frame.{Frame}
 use Rattle.vl_read.specs.declared.places.Frame.TheVariants.{InConcat, InRepeat, InCast, InUnary, InLeft, InRight, InChosen, InOther}
-use Rattle.vl_read.specs.Places.{Spot, Goal, Parser}
-use Rattle.vl_read.specs.Places.Spot.{Operand, Opened, Braced, Begins, Value, Ends, Amount, Index, High, Low}
+use Rattle.vl_read.specs.inner.Places.{Spot, Goal, Parser}
+use Rattle.vl_read.specs.inner.Places.Spot.{Operand, Opened, Braced, Begins, Value, Ends, Amount, Index, High, Low}
 use Rattle.vl_read.specs.declared.places.Draft.{Draft}
-use Rattle.vl_read.specs.Lexemes.{class_of, extends, kind_of, dec_of, sized_of}
-use Rattle.vl_read.specs.Plain.{parse, step, infix_of, operand_step, opened_step, braced_step, left_step, frame_step, spot_step, step_at}
+use Rattle.vl_read.specs.inner.Lexemes.{class_of, extends, kind_of, dec_of, sized_of}
+use Rattle.vl_read.specs.inner.Plain.{parse, step, operand_step, opened_step, braced_step, left_step, frame_step, spot_step, step_at}
+use Rattle.vl_ast.specs.Operators.{infix_of}
 use Rattle.vl_read.proofs.Expressions.{at, in_frame}
 use Rattle.vl_read.proofs.Live.{IsLiveSpot}
 use Rattle.vl_read.proofs.Divided.{IsLexeme, a_key, a_mark, AllLexemes}
@@ -45,15 +50,15 @@ unfolding step step_at spot_step operand_step kind_of class_of
 operand_ends draft goal frames outer = by_lexeme _ _ (codes "a") (a_key _ refl) refl (outer (roll-Expr (Expr-F.Name (codes "a"))))
 
 -- `)`, `}` or `]`
-paren_ends : (draft : Draft) (goal : Goal) (frames : List Frame) (value : Expr) → Closes draft goal frames → CanEnd (at draft goal frames (Ends value 41))
+paren_ends : (draft : Draft) (goal : Goal) (frames : List Frame) (value : Expr) → Closes draft goal frames → CanEnd (at draft goal frames (Ends value CloseParenthesis))
 unfolding step step_at spot_step class_of extends
 paren_ends draft goal frames value outer = by_lexeme _ _ (codes ")") (a_mark _ refl) refl (outer value)
 
-brace_ends : (draft : Draft) (goal : Goal) (frames : List Frame) (value : Expr) → Closes draft goal frames → CanEnd (at draft goal frames (Ends value 125))
+brace_ends : (draft : Draft) (goal : Goal) (frames : List Frame) (value : Expr) → Closes draft goal frames → CanEnd (at draft goal frames (Ends value CloseBrace))
 unfolding step step_at spot_step class_of extends
 brace_ends draft goal frames value outer = by_lexeme _ _ (codes "}") (a_mark _ refl) refl (outer value)
 
-bracket_ends : (draft : Draft) (goal : Goal) (frames : List Frame) (value : Expr) → Closes draft goal frames → CanEnd (at draft goal frames (Ends value 93))
+bracket_ends : (draft : Draft) (goal : Goal) (frames : List Frame) (value : Expr) → Closes draft goal frames → CanEnd (at draft goal frames (Ends value CloseBracket))
 unfolding step step_at spot_step class_of extends
 bracket_ends draft goal frames value outer = by_lexeme _ _ (codes "]") (a_mark _ refl) refl (outer value)
 
@@ -134,17 +139,15 @@ braced_ends : (draft : Draft) (goal : Goal) (frames : List Frame) → Closes dra
 unfolding step step_at spot_step braced_step operand_step kind_of class_of
 braced_ends draft goal frames close = by_lexeme _ _ (codes "a") (a_key _ refl) refl (concat_ends draft goal frames [] close (roll-Expr (Expr-F.Name (codes "a"))))
 
-begins_end : (draft : Draft) (goal : Goal) (frames : List Frame) (byte : ℕ) → (byte ≡ 40) ⊎ (byte ≡ 123) → Closes draft goal frames → CanEnd (at draft goal frames (Begins byte))
+begins_end : (draft : Draft) (goal : Goal) (frames : List Frame) (mark : Opening) → Closes draft goal frames → CanEnd (at draft goal frames (Begins mark))
 unfolding step step_at spot_step class_of extends
-begins_end draft goal frames byte (inl e) close =
-    subst (λ b. CanEnd (at draft goal frames (Begins b))) (sym e) (by_lexeme _ _ (codes "(") (a_mark _ refl) refl (operand_ends draft goal frames close))
-begins_end draft goal frames byte (inr e) close =
-    subst (λ b. CanEnd (at draft goal frames (Begins b))) (sym e) (by_lexeme _ _ (codes "{") (a_mark _ refl) refl (operand_ends draft goal frames close))
+begins_end draft goal frames OpenParenthesis close = by_lexeme _ _ (codes "(") (a_mark _ refl) refl (operand_ends draft goal frames close)
+begins_end draft goal frames OpenBrace close = by_lexeme _ _ (codes "{") (a_mark _ refl) refl (operand_ends draft goal frames close)
 
-ends_end : (draft : Draft) (goal : Goal) (frames : List Frame) (value : Expr) (byte : ℕ) → IsLiveSpot (Ends value byte) → Closes draft goal frames → CanEnd (at draft goal frames (Ends value byte))
-ends_end draft goal frames value byte (inl e) close = subst (λ b. CanEnd (at draft goal frames (Ends value b))) (sym e) (paren_ends draft goal frames value close)
-ends_end draft goal frames value byte (inr (inl e)) close = subst (λ b. CanEnd (at draft goal frames (Ends value b))) (sym e) (brace_ends draft goal frames value close)
-ends_end draft goal frames value byte (inr (inr e)) close = subst (λ b. CanEnd (at draft goal frames (Ends value b))) (sym e) (bracket_ends draft goal frames value close)
+ends_end : (draft : Draft) (goal : Goal) (frames : List Frame) (value : Expr) (mark : Closing) → Closes draft goal frames → CanEnd (at draft goal frames (Ends value mark))
+ends_end draft goal frames value CloseParenthesis close = paren_ends draft goal frames value close
+ends_end draft goal frames value CloseBrace close = brace_ends draft goal frames value close
+ends_end draft goal frames value CloseBracket close = bracket_ends draft goal frames value close
 
 amount_ends : (draft : Draft) (goal : Goal) (frames : List Frame) (op : ShiftOp) (value : Expr) → Closes draft goal frames → CanEnd (at draft goal frames (Amount op value))
 unfolding step step_at spot_step kind_of dec_of sized_of class_of
@@ -168,9 +171,9 @@ pub spot_ends : (draft : Draft) (goal : Goal) (frames : List Frame) (spot : Spot
 spot_ends draft goal frames Operand h close = operand_ends draft goal frames close
 spot_ends draft goal frames Opened h close = opened_ends draft goal frames close
 spot_ends draft goal frames Braced h close = braced_ends draft goal frames close
-spot_ends draft goal frames (Begins byte) h close = begins_end draft goal frames byte h close
+spot_ends draft goal frames (Begins mark) h close = begins_end draft goal frames mark close
 spot_ends draft goal frames (Value value) h close = close value
-spot_ends draft goal frames (Ends value byte) h close = ends_end draft goal frames value byte h close
+spot_ends draft goal frames (Ends value mark) h close = ends_end draft goal frames value mark close
 spot_ends draft goal frames (Amount op value) h close = amount_ends draft goal frames op value close
 spot_ends draft goal frames (Index name) h close = index_ends draft goal frames name close
 spot_ends draft goal frames (High name place) h close = high_ends draft goal frames name place close

@@ -3,13 +3,14 @@ use Rattle.std.proofs.Common.{◌≡◌, ℕ, ◌+◌, ◌<◌, ◌≤◌, Bool,
 use Rattle.std.specs.Prelude.{◌&&◌, if◌then◌else◌}
 use Rattle.std.specs.List.{list_all, flat_map}
 use Rattle.vl_ast.specs.declared.expressions.Expr.{Expr}
-use Rattle.vl_ast.specs.Spelling.{unary_text, binary_text, shift_text, joined}
+use Rattle.vl_ast.specs.Spelling.{joined}
+use Rattle.vl_ast.specs.Operators.{unary_text, binary_text, shift_text}
 use Rattle.vl_ast.specs.Tokens.{Token, Key, Sign, Identifier, Number}
 use Rattle.vl_ast.specs.Grammar.{comma, expr_tokens, depth, is_filled}
 use Rattle.vl_read.specs.declared.places.Frame.{Frame}
 use Rattle.vl_read.specs.declared.places.Frame.TheVariants.{InConcat, InRepeat, InCast, InUnary, InLeft, InRight, InChosen, InOther}
-use Rattle.vl_read.specs.Places.{Spot}
-use Rattle.vl_read.specs.Places.Spot.{Operand, Opened, Braced, Begins, Value, Ends, Amount, Index, High, Low}
+use Rattle.vl_read.specs.inner.Places.{Spot, opening_byte, closing_byte}
+use Rattle.vl_read.specs.inner.Places.Spot.{Operand, Opened, Braced, Begins, Value, Ends, Amount, Index, High, Low}
 
 -- the parts, each with a comma after it
 abbrev pub before_next : List (List Token) → List Token
@@ -58,9 +59,9 @@ abbrev pub IsText : List Frame → Spot → List Token → Type 0
 IsText frames Operand text = text ≡ frames_tokens frames
 IsText frames Opened text = text ≡ frames_tokens frames ++ Sign (codes "(") ∷ []
 IsText frames Braced text = text ≡ frames_tokens frames ++ Sign (codes "{") ∷ []
-IsText frames (Begins byte) text = text ++ Sign (byte ∷ []) ∷ [] ≡ frames_tokens frames
+IsText frames (Begins mark) text = text ++ Sign (opening_byte mark ∷ []) ∷ [] ≡ frames_tokens frames
 IsText frames (Value value) text = text ≡ frames_tokens frames ++ expr_tokens value
-IsText frames (Ends value byte) text = text ++ Sign (byte ∷ []) ∷ [] ≡ frames_tokens frames ++ expr_tokens value
+IsText frames (Ends value mark) text = text ++ Sign (closing_byte mark ∷ []) ∷ [] ≡ frames_tokens frames ++ expr_tokens value
 IsText frames (Amount op value) text = text ≡ frames_tokens frames ++ (Sign (codes "(") ∷ (expr_tokens value ++ Sign (shift_text op) ∷ []))
 IsText frames (Index name) text = text ≡ frames_tokens frames ++ (Identifier name ∷ Sign (codes "[") ∷ [])
 IsText frames (High name place) text = text ≡ frames_tokens frames ++ (Identifier name ∷ Sign (codes "[") ∷ Number place ∷ [])
@@ -106,9 +107,9 @@ abbrev pub HasRoom : ℕ → Spot → Type 0
 HasRoom around Operand = Unit {0}
 HasRoom around Opened = around < 256
 HasRoom around Braced = around < 256
-HasRoom around (Begins byte) = Unit {0}
+HasRoom around (Begins mark) = Unit {0}
 HasRoom around (Value value) = IsGood around value
-HasRoom around (Ends value byte) = IsGood around value
+HasRoom around (Ends value mark) = IsGood around value
 HasRoom around (Amount op value) = IsGood (around + 1) value
 HasRoom around (Index name) = Unit {0}
 HasRoom around (High name place) = Unit {0}

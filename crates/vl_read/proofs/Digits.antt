@@ -7,7 +7,7 @@ use Rattle.std.proofs.lemmas.Int.Digits.{digits_value-lt}
 use Rattle.std.specs.Str.Parse.{digits_value_after, AllDigits, digits_value}
 use Rattle.std.specs.Char.{digit_value}
 use Rattle.vl_ast.specs.declared.expressions.Sized.{Sized}
-use Rattle.vl_read.specs.Lexemes.{number_after, around_quote, quote_place, is_digit, dec_of, sized_in, sized_of}
+use Rattle.vl_read.specs.inner.Lexemes.{number_after, around_quote, quote_place, is_digit, dec_of, sized_in, sized_of}
 
 pub number_gives : (base : ℕ) (digits : List ℕ) (n m : ℕ) → number_after base n digits ≡ Some m → AllDigits base digits × (digits_value_after base n digits ≡ m)
 number_gives base [] n m e = (tt, cc)

@@ -4,7 +4,7 @@ use Rattle.std.specs.List.{AllByRecursion}
 use Rattle.std.proofs.lemmas.List.Elements.{All-from_recursion}
 use Rattle.vl_ast.specs.Tokens.{Blank, IsFiller, IsGap}
 use Rattle.vl_read.specs.declared.scan.Mode.TheVariants.{Between, Word, Mark}
-use Rattle.vl_read.specs.Lexemes.{lexemes_from}
+use Rattle.vl_read.specs.inner.Lexemes.{lexemes_from}
 use Rattle.vl_read.proofs.Safe.{is_mark, is_key}
 use Rattle.vl_read.proofs.Scanned.{is_word, is_mark as is_in_mark, gap_ends}
 use Rattle.vl_read.proofs.Lexed.{IsWordText, key_text, word_read, mark_read}

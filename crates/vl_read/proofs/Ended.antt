@@ -10,17 +10,17 @@ use Rattle.vl_ast.specs.declared.modules.ModItem.TheVariants.{Wire, Reg, Assign,
 use Rattle.vl_ast.specs.declared.modules.Module.{Module}
 use Rattle.vl_read.specs.declared.scan.Mode.{Mode}
 use Rattle.vl_read.specs.declared.scan.Mode.TheVariants.{Between, Word as InWord, Mark as InMark, Slash, LineComment, BlockComment, Star}
-use Rattle.vl_read.specs.Places.{Clocked, Goal, NetKind, AttrSpot, Place, Parser}
-use Rattle.vl_read.specs.Places.Goal.{Assigned, Condition, Next}
-use Rattle.vl_read.specs.Places.NetKind.{OfPort, OfWire, OfReg}
+use Rattle.vl_read.specs.inner.Places.{Clocked, Goal, NetKind, AttrSpot, Place, Parser}
+use Rattle.vl_read.specs.inner.Places.Goal.{Assigned, Condition, Next}
+use Rattle.vl_read.specs.inner.Places.NetKind.{OfPort, OfWire, OfReg}
 use Rattle.vl_read.specs.declared.places.NetSpot.{NetSpot}
 use Rattle.vl_read.specs.declared.places.NetSpot.TheVariants.{Word, Signed, Ranged, Bound, Colon, Zero, Close, Named}
-use Rattle.vl_read.specs.Places.AttrSpot.{AttrName, AttrSign, AttrValue, More}
-use Rattle.vl_read.specs.Places.Place.{Start, Attributes, Title, Ports, Port as PortPlace, Net, AfterPort, AfterPorts, Items, AssignName, AssignSign, Head, ClockedName, ClockedSign, First, AfterFirst, Else, Branch, If, Again, NextSign, Expression, Semicolon, End, Done}
+use Rattle.vl_read.specs.inner.Places.AttrSpot.{AttrName, AttrSign, AttrValue, More}
+use Rattle.vl_read.specs.inner.Places.Place.{Start, Attributes, Title, Ports, Port as PortPlace, Net, AfterPort, AfterPorts, Items, AssignName, AssignSign, Head, ClockedName, ClockedSign, First, AfterFirst, Else, Branch, If, Again, NextSign, Expression, Semicolon, End, Done}
 use Rattle.vl_read.specs.declared.places.Draft.{Draft}
-use Rattle.vl_read.specs.Lexemes.{class_of, extends, kind_of, dec_of, sized_of, Move, move, moved, lexemes_from}
-use Rattle.vl_read.specs.Turns.{feed, ahead}
-use Rattle.vl_read.specs.Plain.{parser_at, goes, parse, start, head_word, step, attr_step, declared, net_step, goal_step, spot_step, step_at}
+use Rattle.vl_read.specs.inner.Lexemes.{class_of, extends, kind_of, dec_of, sized_of, Move, move, moved, lexemes_from}
+use Rattle.vl_read.specs.inner.Turns.{feed, ahead}
+use Rattle.vl_read.specs.inner.Plain.{parser_at, goes, parse, start, head_word, step, attr_step, declared, net_step, goal_step, spot_step, step_at}
 use Rattle.vl_read.proofs.LexemeKinds.{name_kind}
 use Rattle.vl_read.proofs.Scanned.{silent}
 use Rattle.vl_read.proofs.Lexed.{identifier_text}

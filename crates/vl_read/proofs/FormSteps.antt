@@ -11,15 +11,17 @@ use Rattle.vl_ast.specs.declared.expressions.Sized.{Sized}
 use Rattle.vl_ast.specs.declared.expressions.Expr.{Expr}
 use Rattle.vl_ast.specs.declared.expressions.Expr.TheOpen.{Expr-F}
 use Rattle.vl_ast.specs.declared.expressions.Expr.TheViews.{roll-Expr, out-roll-Expr}
-use Rattle.vl_ast.specs.Spelling.{unary_text, binary_text, shift_text}
+use Rattle.vl_ast.specs.Operators.{unary_text, binary_text, shift_text, infix_of, shift_of}
+use Rattle.vl_read.specs.declared.places.Opening.TheVariants.{OpenParenthesis, OpenBrace}
+use Rattle.vl_read.specs.declared.places.Closing.TheVariants.{CloseParenthesis, CloseBrace, CloseBracket}
 use Rattle.vl_read.specs.declared.scan.Kind.TheVariants.{Name, Count, Constant}
 use Rattle.vl_read.specs.declared.places.Frame.{Frame}
 use Rattle.vl_read.specs.declared.places.Frame.TheVariants.{InRepeat, InCast, InUnary, InLeft, InRight, InChosen}
-use Rattle.vl_read.specs.Places.Spot.{Operand, Opened, Braced, Begins, Value, Ends, Amount, Index, High, Low}
-use Rattle.vl_read.specs.Places.{Goal}
+use Rattle.vl_read.specs.inner.Places.Spot.{Operand, Opened, Braced, Begins, Value, Ends, Amount, Index, High, Low}
+use Rattle.vl_read.specs.inner.Places.{Goal}
 use Rattle.vl_read.specs.declared.places.Draft.{Draft}
-use Rattle.vl_read.specs.Lexemes.{kind_of, dec_of, sized_of}
-use Rattle.vl_read.specs.Plain.{spot_at, step, indexed, infix_of, shift_of, name_of, left_by, attr_step, declared, net_step, compound_step, operand_step, unary_or_left, opened_step, braced_step, left_step, frame_step, goal_step, spot_step, item_step, step_at}
+use Rattle.vl_read.specs.inner.Lexemes.{kind_of, dec_of, sized_of}
+use Rattle.vl_read.specs.inner.Plain.{spot_at, step, indexed, name_of, left_by, attr_step, declared, net_step, compound_step, operand_step, unary_or_left, opened_step, braced_step, left_step, frame_step, goal_step, spot_step, item_step, step_at}
 use Rattle.vl_read.proofs.Expressions.{at, in_frame}
 
 -- names, bits and parts
@@ -41,19 +43,19 @@ pub colon_step : (draft : Draft) (goal : Goal) (frames : List Frame) (n : List �
 unfolding step attr_step declared net_step compound_step operand_step unary_or_left opened_step braced_step left_step frame_step goal_step spot_step item_step step_at
 colon_step draft goal frames n place = refl
 
-pub low_step : (draft : Draft) (goal : Goal) (frames : List Frame) (n : List ℕ) (high low : ℕ) (lexeme : List ℕ) → kind_of lexeme ≡ Count low → step (at draft goal frames (Low n high)) lexeme ≡ Some (at draft goal frames (Ends (roll-Expr (Expr-F.Part n high low)) 93))
+pub low_step : (draft : Draft) (goal : Goal) (frames : List Frame) (n : List ℕ) (high low : ℕ) (lexeme : List ℕ) → kind_of lexeme ≡ Count low → step (at draft goal frames (Low n high)) lexeme ≡ Some (at draft goal frames (Ends (roll-Expr (Expr-F.Part n high low)) CloseBracket))
 unfolding step attr_step declared net_step compound_step operand_step unary_or_left opened_step braced_step left_step frame_step goal_step spot_step item_step step_at
 low_step draft goal frames n high low lexeme h = rw h
 
-pub ends_bracket : (draft : Draft) (goal : Goal) (frames : List Frame) (e : Expr) → step (at draft goal frames (Ends e 93)) (codes "]") ≡ Some (at draft goal frames (Value e))
+pub ends_bracket : (draft : Draft) (goal : Goal) (frames : List Frame) (e : Expr) → step (at draft goal frames (Ends e CloseBracket)) (codes "]") ≡ Some (at draft goal frames (Value e))
 unfolding step attr_step declared net_step compound_step operand_step unary_or_left opened_step braced_step left_step frame_step goal_step spot_step item_step step_at
 ends_bracket draft goal frames e = refl
 
-pub ends_brace : (draft : Draft) (goal : Goal) (frames : List Frame) (e : Expr) → step (at draft goal frames (Ends e 125)) (codes "}") ≡ Some (at draft goal frames (Value e))
+pub ends_brace : (draft : Draft) (goal : Goal) (frames : List Frame) (e : Expr) → step (at draft goal frames (Ends e CloseBrace)) (codes "}") ≡ Some (at draft goal frames (Value e))
 unfolding step attr_step declared net_step compound_step operand_step unary_or_left opened_step braced_step left_step frame_step goal_step spot_step item_step step_at
 ends_brace draft goal frames e = refl
 
-pub ends_paren : (draft : Draft) (goal : Goal) (frames : List Frame) (e : Expr) → step (at draft goal frames (Ends e 41)) (codes ")") ≡ Some (at draft goal frames (Value e))
+pub ends_paren : (draft : Draft) (goal : Goal) (frames : List Frame) (e : Expr) → step (at draft goal frames (Ends e CloseParenthesis)) (codes ")") ≡ Some (at draft goal frames (Value e))
 unfolding step attr_step declared net_step compound_step operand_step unary_or_left opened_step braced_step left_step frame_step goal_step spot_step item_step step_at
 ends_paren draft goal frames e = refl
 
@@ -71,23 +73,23 @@ pub brace_step : (draft : Draft) (goal : Goal) (frames : List Frame) → length 
 unfolding step attr_step declared net_step compound_step operand_step unary_or_left opened_step braced_step left_step frame_step goal_step spot_step item_step step_at kind_of dec_of sized_of
 brace_step draft goal frames room = ap (λ t. cond t (spot_at draft goal frames Braced) None) (lt-ltb (length frames) 256 room)
 
-pub signed_step : (draft : Draft) (goal : Goal) (frames : List Frame) → length frames < 256 → step (at draft goal frames Operand) (codes "$signed") ≡ Some (at draft goal (frames ++ InCast true ∷ []) (Begins 40))
+pub signed_step : (draft : Draft) (goal : Goal) (frames : List Frame) → length frames < 256 → step (at draft goal frames Operand) (codes "$signed") ≡ Some (at draft goal (frames ++ InCast true ∷ []) (Begins OpenParenthesis))
 unfolding step attr_step declared net_step compound_step operand_step unary_or_left opened_step braced_step left_step frame_step goal_step spot_step item_step step_at kind_of dec_of sized_of
-signed_step draft goal frames room = ap (λ t. cond t (spot_at draft goal (frames ++ InCast true ∷ []) (Begins 40)) None) (lt-ltb (length frames) 256 room)
+signed_step draft goal frames room = ap (λ t. cond t (spot_at draft goal (frames ++ InCast true ∷ []) (Begins OpenParenthesis)) None) (lt-ltb (length frames) 256 room)
 
-pub unsigned_step : (draft : Draft) (goal : Goal) (frames : List Frame) → length frames < 256 → step (at draft goal frames Operand) (codes "$unsigned") ≡ Some (at draft goal (frames ++ InCast false ∷ []) (Begins 40))
+pub unsigned_step : (draft : Draft) (goal : Goal) (frames : List Frame) → length frames < 256 → step (at draft goal frames Operand) (codes "$unsigned") ≡ Some (at draft goal (frames ++ InCast false ∷ []) (Begins OpenParenthesis))
 unfolding step attr_step declared net_step compound_step operand_step unary_or_left opened_step braced_step left_step frame_step goal_step spot_step item_step step_at kind_of dec_of sized_of
-unsigned_step draft goal frames room = ap (λ t. cond t (spot_at draft goal (frames ++ InCast false ∷ []) (Begins 40)) None) (lt-ltb (length frames) 256 room)
+unsigned_step draft goal frames room = ap (λ t. cond t (spot_at draft goal (frames ++ InCast false ∷ []) (Begins OpenParenthesis)) None) (lt-ltb (length frames) 256 room)
 
-pub begins_paren : (draft : Draft) (goal : Goal) (frames : List Frame) → step (at draft goal frames (Begins 40)) (codes "(") ≡ Some (at draft goal frames Operand)
+pub begins_paren : (draft : Draft) (goal : Goal) (frames : List Frame) → step (at draft goal frames (Begins OpenParenthesis)) (codes "(") ≡ Some (at draft goal frames Operand)
 unfolding step attr_step declared net_step compound_step operand_step unary_or_left opened_step braced_step left_step frame_step goal_step spot_step item_step step_at
 begins_paren draft goal frames = refl
 
-pub begins_brace : (draft : Draft) (goal : Goal) (frames : List Frame) → step (at draft goal frames (Begins 123)) (codes "{") ≡ Some (at draft goal frames Operand)
+pub begins_brace : (draft : Draft) (goal : Goal) (frames : List Frame) → step (at draft goal frames (Begins OpenBrace)) (codes "{") ≡ Some (at draft goal frames Operand)
 unfolding step attr_step declared net_step compound_step operand_step unary_or_left opened_step braced_step left_step frame_step goal_step spot_step item_step step_at
 begins_brace draft goal frames = refl
 
-pub count_step : (draft : Draft) (goal : Goal) (frames : List Frame) (n : ℕ) (lexeme : List ℕ) → kind_of lexeme ≡ Count n → step (at draft goal frames Braced) lexeme ≡ Some (at draft goal (frames ++ InRepeat n ∷ []) (Begins 123))
+pub count_step : (draft : Draft) (goal : Goal) (frames : List Frame) (n : ℕ) (lexeme : List ℕ) → kind_of lexeme ≡ Count n → step (at draft goal frames Braced) lexeme ≡ Some (at draft goal (frames ++ InRepeat n ∷ []) (Begins OpenBrace))
 unfolding step attr_step declared net_step compound_step operand_step unary_or_left opened_step braced_step left_step frame_step goal_step spot_step item_step step_at
 count_step draft goal frames n lexeme h = rw h
 
@@ -195,6 +197,6 @@ question_step draft goal frames value =
     in_frame draft goal frames InLeft value (codes "?") refl
 
 pub amount_step : (draft : Draft) (goal : Goal) (frames : List Frame) (op : ShiftOp) (value : Expr) (n : Sized) (lexeme : List ℕ) → kind_of lexeme ≡ Constant n →
-    step (at draft goal frames (Amount op value)) lexeme ≡ Some (at draft goal frames (Ends (roll-Expr (Expr-F.Shift op value n)) 41))
+    step (at draft goal frames (Amount op value)) lexeme ≡ Some (at draft goal frames (Ends (roll-Expr (Expr-F.Shift op value n)) CloseParenthesis))
 unfolding step attr_step declared net_step compound_step operand_step unary_or_left opened_step braced_step left_step frame_step goal_step spot_step item_step step_at
 amount_step draft goal frames op value n lexeme h = rw h

@@ -11,7 +11,7 @@ use Rattle.vl_ast.specs.Grammar.{tokens_step, expr_tokens, comma}
 use Rattle.vl_ast.specs.declared.expressions.UnOp.{UnOp}
 use Rattle.vl_ast.specs.declared.expressions.BinOp.{BinOp}
 use Rattle.vl_ast.specs.declared.expressions.ShiftOp.{ShiftOp}
-use Rattle.vl_ast.specs.Spelling.{unary_text, binary_text, shift_text}
+use Rattle.vl_ast.specs.Operators.{unary_text, binary_text, shift_text}
 
 -- the tokens of a layer
 pub layer_tokens : (x : Expr-F Expr) (tokens : List Token) → expr_tokens (roll-Expr x) ++ tokens ≡ tokens_step (map-Expr Expr (List Token) expr_tokens x) ++ tokens

@@ -11,15 +11,17 @@ use Rattle.vl_ast.specs.declared.expressions.Expr.{Expr}
 use Rattle.vl_ast.specs.declared.expressions.Expr.TheOpen.{Expr-F}
 use Rattle.vl_ast.specs.declared.expressions.Expr.TheViews.{roll-Expr}
 use Rattle.vl_ast.specs.declared.expressions.Expr.TheFolds.{map-Expr, fold-roll-Expr}
-use Rattle.vl_ast.specs.Spelling.{unary_text, binary_text, shift_text}
+use Rattle.vl_ast.specs.Operators.{unary_text, binary_text, shift_text}
 use Rattle.vl_ast.specs.Tokens.{Token, Sign, Identifier, Number, Based}
 use Rattle.vl_ast.specs.Grammar.{tokens_step, expr_tokens, depth_step, depth, is_filled_step, is_filled}
+use Rattle.vl_read.specs.declared.places.Opening.TheVariants.{OpenParenthesis, OpenBrace}
+use Rattle.vl_read.specs.declared.places.Closing.TheVariants.{CloseParenthesis, CloseBrace, CloseBracket}
 use Rattle.vl_read.specs.declared.places.Frame.{Frame}
 use Rattle.vl_read.specs.declared.places.Frame.TheVariants.{InConcat, InRepeat, InCast, InUnary, InLeft, InRight, InChosen, InOther}
-use Rattle.vl_read.specs.Places.Spot.{Operand, Opened, Braced, Begins, Value, Ends, Amount, Index, High, Low}
-use Rattle.vl_read.specs.Places.{Goal}
+use Rattle.vl_read.specs.inner.Places.Spot.{Operand, Opened, Braced, Begins, Value, Ends, Amount, Index, High, Low}
+use Rattle.vl_read.specs.inner.Places.{Goal}
 use Rattle.vl_read.specs.declared.places.Draft.{Draft}
-use Rattle.vl_read.specs.Plain.{step, attr_step, declared, net_step, compound_step, operand_step, unary_or_left, opened_step, braced_step, left_step, frame_step, goal_step, spot_step, item_step, step_at}
+use Rattle.vl_read.specs.inner.Plain.{step, attr_step, declared, net_step, compound_step, operand_step, unary_or_left, opened_step, braced_step, left_step, frame_step, goal_step, spot_step, item_step, step_at}
 use Rattle.vl_read.proofs.Layers.{by_layers}
 use Rattle.vl_read.proofs.Expressions.{at, in_frame, IsRead, opened_read, braced_read}
 use Rattle.vl_read.proofs.Written.{Writes, Reads, writes_as, next, sign, key, name, number, based}
@@ -68,7 +70,7 @@ part_read n high low draft goal frames tokens lexemes deep filled w =
     (λ l1 w1. next _ (at draft goal frames (Index n)) _ l1 _ tokens (sign _ _ l1 _ _ (index_step draft goal frames n) w1)
     (λ l2 w2. next _ (at draft goal frames (High n high)) _ l2 _ tokens (number _ _ l2 high _ (high_step draft goal frames n high) w2)
     (λ l3 w3. next _ (at draft goal frames (Low n high)) _ l3 _ tokens (sign _ _ l3 _ _ (colon_step draft goal frames n high) w3)
-    (λ l4 w4. next _ (at draft goal frames (Ends part 93)) _ l4 _ tokens (number _ _ l4 low _ (low_step draft goal frames n high low) w4)
+    (λ l4 w4. next _ (at draft goal frames (Ends part CloseBracket)) _ l4 _ tokens (number _ _ l4 low _ (low_step draft goal frames n high low) w4)
     (λ l5 w5. sign _ _ l5 _ tokens (ends_bracket draft goal frames part) w5)))))
 
 -- operators
@@ -109,7 +111,7 @@ shift_read op e n read draft goal frames tokens lexemes deep filled w =
     (sign _ _ lexemes (codes "(") _ (open_step draft goal frames (omega arith)) (layer_writes (Expr-F.Shift op e n) tokens _ lexemes (shift_tokens op e n tokens) w))
     (λ l1 w1. next _ (at draft goal (frames ++ InLeft ∷ []) (Value e)) _ l1 _ tokens (opened_read e read draft goal frames _ l1 d (layer_filled (Expr-F.Shift op e n) filled) w1)
     (λ l2 w2. next _ (at draft goal frames (Amount op e)) _ l2 _ tokens (sign _ _ l2 (shift_text op) _ (shift_step draft goal frames op e) w2)
-    (λ l3 w3. next _ (at draft goal frames (Ends shifted 41)) _ l3 _ tokens (based _ _ l3 n _ (amount_step draft goal frames op e n) w3)
+    (λ l3 w3. next _ (at draft goal frames (Ends shifted CloseParenthesis)) _ l3 _ tokens (based _ _ l3 n _ (amount_step draft goal frames op e n) w3)
     (λ l4 w4. sign _ _ l4 (codes ")") tokens (ends_paren draft goal frames shifted) w4))))
 
 choose_read : (t c o : Expr) → IsRead t → IsRead c → IsRead o → IsRead (roll-Expr (Expr-F.Choose t c o))
@@ -138,7 +140,7 @@ unfolding frame_step
 signed_read e read draft goal frames tokens lexemes deep filled w =
     let d : depth e + 1 + length frames ≤ 256 = layer_depth (Expr-F.AsSigned e) (length frames) deep in
     let inner : List Frame = frames ++ InCast true ∷ [] in
-    next _ (at draft goal inner (Begins 40)) _ lexemes _ tokens
+    next _ (at draft goal inner (Begins OpenParenthesis)) _ lexemes _ tokens
     (key _ _ lexemes (codes "$signed") _ (signed_step draft goal frames (omega arith)) (layer_writes (Expr-F.AsSigned e) tokens _ lexemes (as_signed_tokens e tokens) w))
     (λ l1 w1. next _ (at draft goal inner Operand) _ l1 _ tokens (sign _ _ l1 (codes "(") _ (begins_paren draft goal inner) w1)
     (λ l2 w2. next _ (at draft goal inner (Value e)) _ l2 _ tokens
@@ -150,7 +152,7 @@ unfolding frame_step
 unsigned_read e read draft goal frames tokens lexemes deep filled w =
     let d : depth e + 1 + length frames ≤ 256 = layer_depth (Expr-F.AsUnsigned e) (length frames) deep in
     let inner : List Frame = frames ++ InCast false ∷ [] in
-    next _ (at draft goal inner (Begins 40)) _ lexemes _ tokens
+    next _ (at draft goal inner (Begins OpenParenthesis)) _ lexemes _ tokens
     (key _ _ lexemes (codes "$unsigned") _ (unsigned_step draft goal frames (omega arith)) (layer_writes (Expr-F.AsUnsigned e) tokens _ lexemes (as_unsigned_tokens e tokens) w))
     (λ l1 w1. next _ (at draft goal inner Operand) _ l1 _ tokens (sign _ _ l1 (codes "(") _ (begins_paren draft goal inner) w1)
     (λ l2 w2. next _ (at draft goal inner (Value e)) _ l2 _ tokens
@@ -165,11 +167,11 @@ repeat_read n e read draft goal frames tokens lexemes deep filled w =
     let repeated : Expr = roll-Expr (Expr-F.Repeat n e) in
     next _ (at draft goal frames Braced) _ lexemes _ tokens
     (sign _ _ lexemes (codes "{") _ (brace_step draft goal frames (omega arith)) (layer_writes (Expr-F.Repeat n e) tokens _ lexemes (repeat_tokens n e tokens) w))
-    (λ l1 w1. next _ (at draft goal inner (Begins 123)) _ l1 _ tokens (number _ _ l1 n _ (count_step draft goal frames n) w1)
+    (λ l1 w1. next _ (at draft goal inner (Begins OpenBrace)) _ l1 _ tokens (number _ _ l1 n _ (count_step draft goal frames n) w1)
     (λ l2 w2. next _ (at draft goal inner Operand) _ l2 _ tokens (sign _ _ l2 (codes "{") _ (begins_brace draft goal inner) w2)
     (λ l3 w3. next _ (at draft goal inner (Value e)) _ l3 _ tokens
     (read draft goal inner _ l3 (deeper (depth e) (depth e) frames (InRepeat n) d (omega arith)) (layer_filled (Expr-F.Repeat n e) filled) w3)
-    (λ l4 w4. next _ (at draft goal frames (Ends repeated 125)) _ l4 _ tokens (sign _ _ l4 (codes "}") _ (in_frame draft goal frames (InRepeat n) e (codes "}") refl) w4)
+    (λ l4 w4. next _ (at draft goal frames (Ends repeated CloseBrace)) _ l4 _ tokens (sign _ _ l4 (codes "}") _ (in_frame draft goal frames (InRepeat n) e (codes "}") refl) w4)
     (λ l5 w5. sign _ _ l5 (codes "}") tokens (ends_brace draft goal frames repeated) w5)))))
 
 -- concatenations

@@ -3,7 +3,7 @@ use Rattle.std.proofs.Common.{◌≡◌, ℕ, ◌+◌, ◌-◌, ◌≤◌, ◌<�
 use Rattle.std.proofs.lemmas.List.{get_or-drop, take_more, length-drop}
 use Rattle.vl_read.specs.declared.turns.Pending.{Pending}
 use Rattle.vl_read.specs.declared.turns.Pending.TheVariants.{Longer, Begun, Gone}
-use Rattle.vl_read.specs.Turns.{start_after, pending_after}
+use Rattle.vl_read.specs.inner.Turns.{start_after, pending_after}
 use Rattle.vl_read.proofs.Turning.{drop_next}
 
 -- the bytes from one place to another

@@ -8,7 +8,7 @@ use Rattle.vl_read.specs.declared.scan.ByteClass.{ByteClass}
 use Rattle.vl_read.specs.declared.scan.ByteClass.TheVariants.{OfWord, OfBlank, OfComment, OfMark, OfNone}
 use Rattle.vl_read.specs.declared.scan.Mode.{Mode}
 use Rattle.vl_read.specs.declared.scan.Mode.TheVariants.{Between, Word, Mark, Slash, LineComment, BlockComment, Star}
-use Rattle.vl_read.specs.Lexemes.{is_word_byte, is_mark_byte, class_of, continues, ended, Move, moved, begin, outside, move, lexemes_from}
+use Rattle.vl_read.specs.inner.Lexemes.{is_word_byte, is_mark_byte, class_of, continues, ended, Move, moved, begin, outside, move, lexemes_from}
 use Rattle.vl_read.proofs.Written.{WritesEach, Writes}
 use Rattle.vl_read.proofs.Safe.{is_mark_class, is_mark, is_fine, follows, safe}
 use Rattle.vl_read.proofs.Scanned.{silent, IsOutside, is_word as is_in_word, is_mark as is_in_mark, restart}

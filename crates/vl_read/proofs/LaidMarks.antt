@@ -6,7 +6,7 @@ use Rattle.std.specs.Cmp.Lexicographic.{pointwise}
 use Rattle.std.proofs.lemmas.Bool.{and_parts, and_from, or_left, or_right, le-leb, eqb-true, both_ways, cases_Bool, not_from_false, false≢true}
 use Rattle.vl_ast.specs.Tokens.{long_signs, is_longest}
 use Rattle.vl_read.specs.declared.scan.Mode.TheVariants.{Mark}
-use Rattle.vl_read.specs.Lexemes.{class_of, extends, continues}
+use Rattle.vl_read.specs.inner.Lexemes.{class_of, extends, continues}
 use Rattle.vl_read.proofs.Safe.{is_mark_class, chain, is_mark}
 use Rattle.vl_read.proofs.Lexed.{mark_class}
 

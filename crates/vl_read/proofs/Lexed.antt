@@ -12,7 +12,7 @@ use Rattle.vl_read.specs.declared.scan.ByteClass.{ByteClass}
 use Rattle.vl_read.specs.declared.scan.ByteClass.TheVariants.{OfWord, OfBlank, OfComment, OfMark, OfNone}
 use Rattle.vl_read.specs.declared.scan.Mode.{Mode}
 use Rattle.vl_read.specs.declared.scan.Mode.TheVariants.{Between, Word, Mark}
-use Rattle.vl_read.specs.Lexemes.{is_word_byte, class_of, extends, continues, ended, moved, begin, outside, lexemes_from}
+use Rattle.vl_read.specs.inner.Lexemes.{is_word_byte, class_of, extends, continues, ended, moved, begin, outside, lexemes_from}
 use Rattle.vl_read.proofs.Written.{WritesEach}
 use Rattle.vl_read.proofs.Safe.{is_word_class, is_mark_class, chain, is_mark, is_key, is_fine, follows, safe}
 use Rattle.vl_read.proofs.Scanned.{silent, IsOutside, is_between, is_word as is_in_word, is_mark as is_in_mark, restart, between_no, gap_ends, last_gap}

@@ -12,30 +12,31 @@ use Rattle.vl_ast.specs.declared.expressions.Expr.TheViews.{roll-Expr, out-Expr}
 use Rattle.vl_ast.specs.declared.modules.Attr.{Attr}
 use Rattle.vl_ast.specs.declared.modules.ModItem.TheVariants.{Wire, Reg}
 use Rattle.vl_ast.specs.Tokens.{is_identifier}
+use Rattle.vl_read.specs.declared.places.Opening.TheVariants.{OpenParenthesis, OpenBrace}
+use Rattle.vl_read.specs.declared.places.Closing.TheVariants.{CloseParenthesis, CloseBrace, CloseBracket}
 use Rattle.vl_read.specs.declared.scan.Kind.{Kind}
 use Rattle.vl_read.specs.declared.scan.Kind.TheVariants.{Name, Count, Constant, Fixed}
 use Rattle.vl_read.specs.declared.places.Frame.{Frame}
 use Rattle.vl_read.specs.declared.places.Frame.TheVariants.{InConcat, InRepeat, InCast, InUnary, InLeft, InRight, InChosen, InOther}
-use Rattle.vl_read.specs.Places.{Spot, Goal, NetKind, AttrSpot, Place, Parser}
-use Rattle.vl_read.specs.Places.Spot.{Operand, Opened, Braced, Begins, Value, Ends, Amount, Index, High, Low}
-use Rattle.vl_read.specs.Places.Goal.{Assigned, Condition, Next}
-use Rattle.vl_read.specs.Places.NetKind.{OfPort, OfWire, OfReg}
+use Rattle.vl_read.specs.inner.Places.{Spot, Goal, NetKind, AttrSpot, Place, Parser}
+use Rattle.vl_read.specs.inner.Places.Spot.{Operand, Opened, Braced, Begins, Value, Ends, Amount, Index, High, Low}
+use Rattle.vl_read.specs.inner.Places.Goal.{Assigned, Condition, Next}
+use Rattle.vl_read.specs.inner.Places.NetKind.{OfPort, OfWire, OfReg}
 use Rattle.vl_read.specs.declared.places.NetSpot.{NetSpot}
 use Rattle.vl_read.specs.declared.places.NetSpot.TheVariants.{Word, Signed, Ranged, Bound, Colon, Zero, Close, Named}
-use Rattle.vl_read.specs.Places.AttrSpot.{AttrName, AttrSign, AttrValue, More}
-use Rattle.vl_read.specs.Places.Place.{Start, Attributes, Title, Ports, Port as PortPlace, Net, AfterPort, AfterPorts, Items, AssignName, AssignSign, Head, ClockedName, ClockedSign, First, AfterFirst, Else, Branch, If, Again, NextSign, Expression, Semicolon, End, Done}
+use Rattle.vl_read.specs.inner.Places.AttrSpot.{AttrName, AttrSign, AttrValue, More}
+use Rattle.vl_read.specs.inner.Places.Place.{Start, Attributes, Title, Ports, Port as PortPlace, Net, AfterPort, AfterPorts, Items, AssignName, AssignSign, Head, ClockedName, ClockedSign, First, AfterFirst, Else, Branch, If, Again, NextSign, Expression, Semicolon, End, Done}
 use Rattle.vl_read.specs.declared.places.Draft.{Draft}
-use Rattle.vl_read.specs.Lexemes.{kind_of}
-use Rattle.vl_read.specs.Turns.{feed}
-use Rattle.vl_read.specs.Plain.{goes, expect, spot_at, expect_spot, on_name, on_number, on_based, attr_step, declared, net_step, unary_of, infix_of, shift_of, compound_step, operand_step, unary_or_left, opened_step, braced_step, innermost, left_by, left_step, frame_step, goal_step, value_step, name_of, indexed, spot_step, item_step, step_at, step, start}
+use Rattle.vl_read.specs.inner.Lexemes.{kind_of}
+use Rattle.vl_read.specs.inner.Turns.{feed}
+use Rattle.vl_read.specs.inner.Plain.{goes, expect, spot_at, expect_spot, on_name, on_number, on_based, attr_step, declared, net_step, compound_step, operand_step, unary_or_left, opened_step, braced_step, innermost, left_by, left_step, frame_step, goal_step, value_step, name_of, indexed, spot_step, item_step, step_at, step, start}
+use Rattle.vl_ast.specs.Operators.{unary_of, infix_of, shift_of}
 use Rattle.vl_read.proofs.KindSound.{then_some, name_sound}
 
 abbrev pub IsName : List ℕ → Type 0
 IsName name = is_identifier name ≡ true
 
 abbrev pub IsLiveSpot : Spot → Type 0
-IsLiveSpot (Begins byte) = (byte ≡ 40) ⊎ (byte ≡ 123)
-IsLiveSpot (Ends value byte) = (byte ≡ 41) ⊎ ((byte ≡ 125) ⊎ (byte ≡ 93))
 IsLiveSpot spot = ⊤
 
 abbrev pub IsLiveGoal : Goal → Type 0
@@ -130,8 +131,8 @@ unfolding compound_step
 compound_lives draft goal frames lexeme g =
     if_lives _ _ None (if_lives _ _ _ (spot_there draft goal frames Opened g tt)
     (if_lives _ _ _ (spot_there draft goal frames Braced g tt)
-    (if_lives _ _ _ (spot_there draft goal (frames ++ InCast true ∷ []) (Begins 40) g (inl refl))
-    (if_lives _ _ None (spot_there draft goal (frames ++ InCast false ∷ []) (Begins 40) g (inl refl)) stopped)))) stopped
+    (if_lives _ _ _ (spot_there draft goal (frames ++ InCast true ∷ []) (Begins OpenParenthesis) g tt)
+    (if_lives _ _ None (spot_there draft goal (frames ++ InCast false ∷ []) (Begins OpenParenthesis) g tt) stopped)))) stopped
 
 operand_lives : (draft : Draft) (goal : Goal) (frames : List Frame) (kind : Kind) (lexeme : List ℕ) → IsLiveGoal goal → Lives (operand_step draft goal frames kind lexeme)
 unfolding operand_step
@@ -155,7 +156,7 @@ opened_lives draft goal frames Fixed lexeme g = unary_lives draft goal frames (u
 braced_lives : (draft : Draft) (goal : Goal) (frames : List Frame) (kind : Kind) (lexeme : List ℕ) → IsLiveGoal goal → Lives (braced_step draft goal frames kind lexeme)
 unfolding braced_step
 braced_lives draft goal frames Name lexeme g = operand_lives draft goal (frames ++ InConcat [] ∷ []) Name lexeme g
-braced_lives draft goal frames (Count number) lexeme g = spot_there draft goal (frames ++ InRepeat number ∷ []) (Begins 123) g (inr refl)
+braced_lives draft goal frames (Count number) lexeme g = spot_there draft goal (frames ++ InRepeat number ∷ []) (Begins OpenBrace) g tt
 braced_lives draft goal frames (Constant number) lexeme g = operand_lives draft goal (frames ++ InConcat [] ∷ []) (Constant number) lexeme g
 braced_lives draft goal frames Fixed lexeme g = compound_lives draft goal (frames ++ InConcat [] ∷ []) lexeme g
 
@@ -168,7 +169,7 @@ frame_lives : (draft : Draft) (goal : Goal) (outer : List Frame) (frame : Frame)
 unfolding frame_step left_step
 frame_lives draft goal outer (InConcat parts) value lexeme g =
     if_lives _ _ _ (spot_there draft goal (outer ++ InConcat (parts ++ value ∷ []) ∷ []) Operand g tt) (spot_expected 125 lexeme draft goal outer (Value _) g tt)
-frame_lives draft goal outer (InRepeat count) value lexeme g = spot_expected 125 lexeme draft goal outer (Ends _ 125) g (inr (inl refl))
+frame_lives draft goal outer (InRepeat count) value lexeme g = spot_expected 125 lexeme draft goal outer (Ends _ CloseBrace) g tt
 frame_lives draft goal outer (InCast signed) value lexeme g = spot_expected 41 lexeme draft goal outer (Value _) g tt
 frame_lives draft goal outer (InUnary op) value lexeme g = spot_expected 41 lexeme draft goal outer (Value _) g tt
 frame_lives draft goal outer InLeft value lexeme g =
@@ -196,17 +197,17 @@ unfolding spot_step
 spot_lives draft goal frames Operand kind lexeme g = operand_lives draft goal frames kind lexeme g
 spot_lives draft goal frames Opened kind lexeme g = opened_lives draft goal frames kind lexeme g
 spot_lives draft goal frames Braced kind lexeme g = braced_lives draft goal frames kind lexeme g
-spot_lives draft goal frames (Begins byte) kind lexeme g = spot_expected byte lexeme draft goal frames Operand g tt
+spot_lives draft goal frames (Begins mark) kind lexeme g = spot_expected _ lexeme draft goal frames Operand g tt
 spot_lives draft goal frames (Value value) kind lexeme g =
     if_lives _ _ _ (index_lives draft goal frames (name_of (out-Expr value)) g) (value_lives draft goal (innermost frames) value lexeme g)
-spot_lives draft goal frames (Ends value byte) kind lexeme g = spot_expected byte lexeme draft goal frames (Value value) g tt
+spot_lives draft goal frames (Ends value mark) kind lexeme g = spot_expected _ lexeme draft goal frames (Value value) g tt
 spot_lives draft goal frames (Amount op value) kind lexeme g =
-    based_lives kind _ (λ amount. spot_there draft goal frames (Ends (roll-Expr (Expr-F.Shift op value amount)) 41) g (inl refl))
+    based_lives kind _ (λ amount. spot_there draft goal frames (Ends (roll-Expr (Expr-F.Shift op value amount)) CloseParenthesis) g tt)
 spot_lives draft goal frames (Index name) kind lexeme g = number_lives kind _ (λ place. spot_there draft goal frames (High name place) g tt)
 spot_lives draft goal frames (High name place) kind lexeme g =
     if_lives _ _ _ (spot_there draft goal frames (Value (roll-Expr (Expr-F.Bit name place))) g tt) (spot_expected 58 lexeme draft goal frames (Low name place) g tt)
 spot_lives draft goal frames (Low name high) kind lexeme g =
-    number_lives kind _ (λ low. spot_there draft goal frames (Ends (roll-Expr (Expr-F.Part name high low)) 93) g (inr (inr refl)))
+    number_lives kind _ (λ low. spot_there draft goal frames (Ends (roll-Expr (Expr-F.Part name high low)) CloseBracket) g tt)
 
 -- modules
 

@@ -3,8 +3,8 @@ use Rattle.std.proofs.Common.{◌≡◌, ℕ, Bool, true, false, cond, List, Opt
 use Rattle.vl_ast.specs.declared.expressions.Sized.{Sized}
 use Rattle.vl_ast.specs.Tokens.{is_identifier}
 use Rattle.vl_read.specs.declared.scan.Kind.TheVariants.{Name}
-use Rattle.vl_read.specs.Lexemes.{kind_of, kind_by, dec_of, sized_of}
-use Rattle.vl_read.specs.Plain.{is_name, count_of, constant_of}
+use Rattle.vl_read.specs.inner.Lexemes.{kind_of, kind_by, dec_of, sized_of}
+use Rattle.vl_read.specs.inner.Plain.{is_name, count_of, constant_of}
 use Rattle.vl_read.proofs.LexemeKinds.{dec_kind, based_kind}
 use Rattle.vl_read.proofs.KindSound.{dec_sound, sized_sound}
 

@@ -11,11 +11,11 @@ use Rattle.vl_ast.specs.Grammar.{Spells, most_items}
 use Rattle.vl_read.specs.declared.scan.Mode.{Mode}
 use Rattle.vl_read.specs.declared.scan.Mode.TheVariants.{Between}
 use Rattle.vl_read.specs.declared.turns.Turn.{Turn}
-use Rattle.vl_read.specs.Places.{Parser}
-use Rattle.vl_read.specs.Lexemes.{move, lexemes_from}
-use Rattle.vl_read.specs.Plain.{start, parse, reading}
+use Rattle.vl_read.specs.inner.Places.{Parser}
+use Rattle.vl_read.specs.inner.Lexemes.{move, lexemes_from}
+use Rattle.vl_read.specs.inner.Plain.{start, parse, reading}
 use Rattle.vl_read.specs.Prefix.{IsVerilog, IsVerilogFaultLine}
-use Rattle.vl_read.specs.Turns.{turned, pending_after, ended_by, feed, ahead}
+use Rattle.vl_read.specs.inner.Turns.{turned, pending_after, ended_by, feed, ahead}
 use Rattle.vl_read.proofs.Complete.{complete}
 use Rattle.vl_read.proofs.Sound.{sound}
 use Rattle.vl_read.proofs.Spelled.{spelled}

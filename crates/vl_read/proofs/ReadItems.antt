@@ -11,15 +11,15 @@ use Rattle.vl_ast.specs.declared.modules.ModItem.TheVariants.{Wire, Reg, Assign,
 use Rattle.vl_ast.specs.Tokens.{Token, Key, Sign, Identifier, Based}
 use Rattle.vl_ast.specs.Grammar.{expr_tokens, IsExpr, condition_tokens, IsCondition, IsItemText}
 use Rattle.vl_read.specs.declared.scan.Kind.TheVariants.{Name, Constant}
-use Rattle.vl_read.specs.Places.Spot.{Operand, Value}
-use Rattle.vl_read.specs.Places.{Clocked, Goal}
-use Rattle.vl_read.specs.Places.Goal.{Assigned, Condition, Next}
-use Rattle.vl_read.specs.Places.NetKind.{OfWire, OfReg}
+use Rattle.vl_read.specs.inner.Places.Spot.{Operand, Value}
+use Rattle.vl_read.specs.inner.Places.{Clocked, Goal}
+use Rattle.vl_read.specs.inner.Places.Goal.{Assigned, Condition, Next}
+use Rattle.vl_read.specs.inner.Places.NetKind.{OfWire, OfReg}
 use Rattle.vl_read.specs.declared.places.NetSpot.TheVariants.{Signed}
-use Rattle.vl_read.specs.Places.Place.{Net, Items, AssignName, AssignSign, Head, ClockedName, ClockedSign, First, AfterFirst, Else, Branch, If, Again, NextSign, Semicolon, End}
+use Rattle.vl_read.specs.inner.Places.Place.{Net, Items, AssignName, AssignSign, Head, ClockedName, ClockedSign, First, AfterFirst, Else, Branch, If, Again, NextSign, Semicolon, End}
 use Rattle.vl_read.specs.declared.places.Draft.{Draft}
-use Rattle.vl_read.specs.Lexemes.{kind_of, dec_of, sized_of}
-use Rattle.vl_read.specs.Plain.{head_word, parser_at, goes, step, parse, name_of, goal_step, declared, item_step, attr_step, net_step, compound_step, operand_step, unary_or_left, opened_step, braced_step, left_step, frame_step, spot_step, step_at}
+use Rattle.vl_read.specs.inner.Lexemes.{kind_of, dec_of, sized_of}
+use Rattle.vl_read.specs.inner.Plain.{head_word, parser_at, goes, step, parse, name_of, goal_step, declared, item_step, attr_step, net_step, compound_step, operand_step, unary_or_left, opened_step, braced_step, left_step, frame_step, spot_step, step_at}
 use Rattle.vl_read.proofs.Expressions.{at, no_index}
 use Rattle.vl_read.proofs.Forms.{expression_read}
 use Rattle.vl_read.proofs.Written.{Writes, Reads, writes_as, same_bytes, next, sign, key, name, based}

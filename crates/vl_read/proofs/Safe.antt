@@ -5,7 +5,7 @@ use Rattle.std.specs.List.{list_all}
 use Rattle.vl_ast.specs.Tokens.{Token, Key, Sign, Identifier, Number, Based}
 use Rattle.vl_read.specs.declared.scan.ByteClass.{ByteClass}
 use Rattle.vl_read.specs.declared.scan.ByteClass.TheVariants.{OfWord, OfBlank, OfComment, OfMark, OfNone}
-use Rattle.vl_read.specs.Lexemes.{class_of, extends, is_nonempty}
+use Rattle.vl_read.specs.inner.Lexemes.{class_of, extends, is_nonempty}
 
 abbrev pub is_word_class : ByteClass → Bool
 is_word_class OfWord = true

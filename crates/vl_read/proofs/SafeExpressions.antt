@@ -13,10 +13,10 @@ use Rattle.vl_ast.specs.declared.expressions.Expr.{Expr}
 use Rattle.vl_ast.specs.declared.expressions.Expr.TheOpen.{Expr-F}
 use Rattle.vl_ast.specs.declared.expressions.Expr.TheViews.{roll-Expr}
 use Rattle.vl_ast.specs.declared.expressions.Expr.TheFolds.{map-Expr}
-use Rattle.vl_ast.specs.Spelling.{unary_text, binary_text, shift_text}
+use Rattle.vl_ast.specs.Operators.{unary_text, binary_text, shift_text}
 use Rattle.vl_ast.specs.Tokens.{Token, Key, Sign, Identifier, Number, Based}
 use Rattle.vl_ast.specs.Grammar.{tokens_step, expr_tokens}
-use Rattle.vl_read.specs.Lexemes.{class_of, extends}
+use Rattle.vl_read.specs.inner.Lexemes.{class_of, extends}
 use Rattle.vl_read.proofs.Layers.{by_layers}
 use Rattle.vl_read.proofs.Safe.{is_fine, follows, safe}
 use Rattle.vl_read.proofs.FormTokens.{layer_tokens, unary_tokens, binary_tokens, shift_tokens, choose_tokens, as_signed_tokens, as_unsigned_tokens, repeat_tokens, more_tokens, concat_tokens}

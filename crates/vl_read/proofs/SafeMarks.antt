@@ -4,7 +4,7 @@ use Rattle.std.specs.Prelude.{◌==◌, ◌&&◌}
 use Rattle.std.proofs.lemmas.Bool.{and_parts, and_from}
 use Rattle.vl_ast.specs.declared.expressions.Sized.{Sized}
 use Rattle.vl_ast.specs.Tokens.{Token, Key, Sign, Identifier, Number, Based}
-use Rattle.vl_read.specs.Lexemes.{class_of, extends}
+use Rattle.vl_read.specs.inner.Lexemes.{class_of, extends}
 use Rattle.vl_read.proofs.Safe.{is_fine, follows, safe}
 
 -- every token may follow

@@ -13,7 +13,7 @@ use Rattle.vl_ast.specs.declared.modules.Module.{Module}
 use Rattle.vl_ast.specs.Spelling.{joined}
 use Rattle.vl_ast.specs.Tokens.{Token, Key, Sign, Identifier, Number}
 use Rattle.vl_ast.specs.Grammar.{comma, expr_tokens, attr_tokens, attrs_tokens, signed_tokens, IsRange, declaration_tokens, IsPortText, condition_tokens, IsItemText, IsModuleText}
-use Rattle.vl_read.specs.Lexemes.{class_of, extends}
+use Rattle.vl_read.specs.inner.Lexemes.{class_of, extends}
 use Rattle.vl_read.proofs.Safe.{is_fine, follows, safe}
 use Rattle.vl_read.proofs.ModuleTokens.{more_attrs, attrs_rest, direction, port_text, port_words, port_is, declaration_is, assign_is, always_tokens, always_is, condition_is}
 use Rattle.vl_read.proofs.SafeMarks.{fine_first, opens, after_closing, closes_square, closes_semicolon, closes_comma, closes_attrs, closes_identifier, closes_key, closes_number, begun, follows_key, opens_open, fine_open, comma_opens, round_ends}

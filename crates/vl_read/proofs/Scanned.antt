@@ -9,7 +9,7 @@ use Rattle.vl_read.specs.declared.scan.ByteClass.{ByteClass}
 use Rattle.vl_read.specs.declared.scan.ByteClass.TheVariants.{OfWord, OfBlank, OfComment, OfMark, OfNone}
 use Rattle.vl_read.specs.declared.scan.Mode.{Mode}
 use Rattle.vl_read.specs.declared.scan.Mode.TheVariants.{Between, Word, Mark, Slash, LineComment, BlockComment, Star}
-use Rattle.vl_read.specs.Lexemes.{class_of, continues, ended, Move, moved, begin, outside, move, last_lexemes, lexemes_from}
+use Rattle.vl_read.specs.inner.Lexemes.{class_of, continues, ended, Move, moved, begin, outside, move, last_lexemes, lexemes_from}
 
 -- a byte that ends no lexeme
 plain_map : (o : Option (List (List ℕ))) → option_map (λ more. [] ++ more) o ≡ o

@@ -10,16 +10,16 @@ use Rattle.vl_ast.specs.Spelling.{joined}
 use Rattle.vl_ast.specs.Tokens.{Token, Key, Sign, Identifier, Based}
 use Rattle.vl_ast.specs.Grammar.{comma, attrs_tokens, IsPortText, condition_tokens, IsModuleText}
 use Rattle.vl_read.specs.declared.scan.Kind.{Kind}
-use Rattle.vl_read.specs.Places.Spot.{Operand}
-use Rattle.vl_read.specs.Places.Goal.{Assigned, Condition, Next}
-use Rattle.vl_read.specs.Places.NetKind.{OfPort}
+use Rattle.vl_read.specs.inner.Places.Spot.{Operand}
+use Rattle.vl_read.specs.inner.Places.Goal.{Assigned, Condition, Next}
+use Rattle.vl_read.specs.inner.Places.NetKind.{OfPort}
 use Rattle.vl_read.specs.declared.places.NetSpot.TheVariants.{Word}
-use Rattle.vl_read.specs.Places.AttrSpot.{AttrName}
-use Rattle.vl_read.specs.Places.{Place, Parser}
-use Rattle.vl_read.specs.Places.Place.{Start, Attributes, Title, Ports, Port as PortPlace, Net, AfterPort, AfterPorts, Items, AssignName, AssignSign, Head, ClockedName, ClockedSign, First, AfterFirst, Else, Branch, If, Again, NextSign, Expression, Semicolon, End, Done}
+use Rattle.vl_read.specs.inner.Places.AttrSpot.{AttrName}
+use Rattle.vl_read.specs.inner.Places.{Place, Parser}
+use Rattle.vl_read.specs.inner.Places.Place.{Start, Attributes, Title, Ports, Port as PortPlace, Net, AfterPort, AfterPorts, Items, AssignName, AssignSign, Head, ClockedName, ClockedSign, First, AfterFirst, Else, Branch, If, Again, NextSign, Expression, Semicolon, End, Done}
 use Rattle.vl_read.specs.declared.places.Draft.{Draft}
-use Rattle.vl_read.specs.Lexemes.{kind_of}
-use Rattle.vl_read.specs.Plain.{goes, has_none, item_step, step_at, step, module_at, parse, start}
+use Rattle.vl_read.specs.inner.Lexemes.{kind_of}
+use Rattle.vl_read.specs.inner.Plain.{goes, has_none, item_step, step_at, step, module_at, parse, start}
 use Rattle.vl_read.proofs.Written.{WritesEach}
 use Rattle.vl_read.proofs.ModuleTokens.{three_before}
 use Rattle.vl_read.proofs.KindSound.{then_some, IsOfKind, kind_means}

@@ -13,17 +13,18 @@ use Rattle.vl_ast.specs.declared.expressions.Expr.{Expr}
 use Rattle.vl_ast.specs.declared.expressions.Expr.TheOpen.{Expr-F}
 use Rattle.vl_ast.specs.declared.expressions.Expr.TheViews.{roll-Expr}
 use Rattle.vl_ast.specs.declared.expressions.Expr.TheFolds.{map-Expr}
-use Rattle.vl_ast.specs.Spelling.{unary_text, binary_text, shift_text}
+use Rattle.vl_ast.specs.Operators.{unary_text, binary_text, shift_text, unary_of, infix_of, shift_of}
 use Rattle.vl_ast.specs.Tokens.{Token, Key, Sign, Identifier, Number, Based}
 use Rattle.vl_ast.specs.Grammar.{tokens_step, expr_tokens}
+use Rattle.vl_read.specs.declared.places.Opening.TheVariants.{OpenParenthesis, OpenBrace}
 use Rattle.vl_read.specs.declared.scan.Kind.{Kind}
 use Rattle.vl_read.specs.declared.scan.Kind.TheVariants.{Name, Count, Constant, Fixed}
 use Rattle.vl_read.specs.declared.places.Frame.{Frame}
 use Rattle.vl_read.specs.declared.places.Frame.TheVariants.{InConcat, InRepeat, InCast, InUnary, InLeft}
-use Rattle.vl_read.specs.Places.Spot.{Operand, Opened, Braced, Begins, Value}
-use Rattle.vl_read.specs.Places.{Goal, Parser}
+use Rattle.vl_read.specs.inner.Places.Spot.{Operand, Opened, Braced, Begins, Value}
+use Rattle.vl_read.specs.inner.Places.{Goal, Parser}
 use Rattle.vl_read.specs.declared.places.Draft.{Draft}
-use Rattle.vl_read.specs.Plain.{unary_of, infix_of, shift_of, has_room, compound_step, operand_step, unary_or_left, opened_step, braced_step}
+use Rattle.vl_read.specs.inner.Plain.{has_room, compound_step, operand_step, unary_or_left, opened_step, braced_step}
 use Rattle.vl_read.proofs.KindSound.{IsOfKind}
 use Rattle.vl_read.proofs.Consumed.{cast_word, frame_tokens, frames_tokens, frames_push, frames_depth, is_frame_filled, IsGood, Begun}
 use Rattle.vl_read.proofs.SoundFrames.{same_word, either_way, either_word, nowhere, twice, grow, grow_frame, deep_push, filled_push, begin_operand, length_depth, good_layer, layer_text, Goes, goes_to}
@@ -73,7 +74,7 @@ pub ends_operand : (frames : List Frame) (x : Expr-F Expr) (own text : List Toke
 ends_operand frames x own text token deep filled is same good =
     record { is = grow (frames_tokens frames) own (expr_tokens (roll-Expr x)) text token is (same ∙ layer_text x); deep = deep; filled = filled; room = good }
 
-begin_cast : (frames : List Frame) (signed : Bool) (text : List Token) → Begun frames Operand text → length frames < 256 → Begun (frames ++ InCast signed ∷ []) (Begins 40) (text ++ Key (cast_word signed) ∷ [])
+begin_cast : (frames : List Frame) (signed : Bool) (text : List Token) → Begun frames Operand text → length frames < 256 → Begun (frames ++ InCast signed ∷ []) (Begins OpenParenthesis) (text ++ Key (cast_word signed) ∷ [])
 begin_cast frames signed text begun room =
     record {
       is = twice text (Key (cast_word signed)) (Sign (codes "(")) ∙ ap (λ t. t ++ frame_tokens (InCast signed)) begun.is ∙ sym (frames_push frames (InCast signed));
@@ -95,9 +96,9 @@ compound_sound draft goal frames lexeme text q begun =
     (either_word lexeme (codes "{") _ _ q
     (λ h e. goes_to draft goal text lexeme q frames Braced (Sign (codes "{")) h (record { is = mark_opens frames (codes "{") text begun.is; deep = begun.deep; filled = begun.filled; room = room }) e)
     (either_word lexeme (codes "$signed") _ _ q
-    (λ h e. goes_to draft goal text lexeme q (frames ++ InCast true ∷ []) (Begins 40) (Key (codes "$signed")) h (begin_cast frames true text begun room) e)
+    (λ h e. goes_to draft goal text lexeme q (frames ++ InCast true ∷ []) (Begins OpenParenthesis) (Key (codes "$signed")) h (begin_cast frames true text begun room) e)
     (either_word lexeme (codes "$unsigned") _ _ q
-    (λ h e. goes_to draft goal text lexeme q (frames ++ InCast false ∷ []) (Begins 40) (Key (codes "$unsigned")) h (begin_cast frames false text begun room) e)
+    (λ h e. goes_to draft goal text lexeme q (frames ++ InCast false ∷ []) (Begins OpenParenthesis) (Key (codes "$unsigned")) h (begin_cast frames false text begun room) e)
     (nowhere q)))))
     (nowhere q)
 
@@ -148,7 +149,7 @@ concat_begun frames text begun =
     let room : length frames < 256 = begun.room in
     begin_operand frames (InConcat []) text (begun.is ∙ sym (frames_push frames (InConcat []))) begun.deep (omega arith) begun.filled refl
 
-repeat_begun : (frames : List Frame) (n : ℕ) (text : List Token) → Begun frames Braced text → Begun (frames ++ InRepeat n ∷ []) (Begins 123) (text ++ Number n ∷ [])
+repeat_begun : (frames : List Frame) (n : ℕ) (text : List Token) → Begun frames Braced text → Begun (frames ++ InRepeat n ∷ []) (Begins OpenBrace) (text ++ Number n ∷ [])
 repeat_begun frames n text begun =
     let room : length frames < 256 = begun.room in
     record {
@@ -164,6 +165,6 @@ pub braced_sound : (draft : Draft) (goal : Goal) (frames : List Frame) (kind : K
 unfolding braced_step
 braced_sound draft goal frames Name lexeme text q begun is e = operand_sound draft goal (frames ++ InConcat [] ∷ []) Name lexeme text q (concat_begun frames text begun) is e
 braced_sound draft goal frames (Count n) lexeme text q begun is e =
-    goes_to draft goal text lexeme q (frames ++ InRepeat n ∷ []) (Begins 123) (Number n) is (repeat_begun frames n text begun) e
+    goes_to draft goal text lexeme q (frames ++ InRepeat n ∷ []) (Begins OpenBrace) (Number n) is (repeat_begun frames n text begun) e
 braced_sound draft goal frames (Constant n) lexeme text q begun is e = operand_sound draft goal (frames ++ InConcat [] ∷ []) (Constant n) lexeme text q (concat_begun frames text begun) is e
 braced_sound draft goal frames Fixed lexeme text q begun is e = compound_sound draft goal (frames ++ InConcat [] ∷ []) lexeme text q (concat_begun frames text begun) e

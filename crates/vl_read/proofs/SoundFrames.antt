@@ -12,11 +12,11 @@ use Rattle.vl_ast.specs.declared.expressions.Expr.TheFolds.{map-Expr, fold-roll-
 use Rattle.vl_ast.specs.Tokens.{Token, Sign, IsWritten}
 use Rattle.vl_ast.specs.Grammar.{tokens_step, expr_tokens, depth_step, depth, is_filled_step, is_filled}
 use Rattle.vl_read.specs.declared.places.Frame.{Frame}
-use Rattle.vl_read.specs.Places.{Spot, Goal, Parser}
-use Rattle.vl_read.specs.Places.Spot.{Operand, Value}
-use Rattle.vl_read.specs.Places.Place.{Expression}
+use Rattle.vl_read.specs.inner.Places.{Spot, Goal, Parser}
+use Rattle.vl_read.specs.inner.Places.Spot.{Operand, Value}
+use Rattle.vl_read.specs.inner.Places.Place.{Expression}
 use Rattle.vl_read.specs.declared.places.Draft.{Draft}
-use Rattle.vl_read.specs.Plain.{parser_at, spot_at}
+use Rattle.vl_read.specs.inner.Plain.{parser_at, spot_at}
 use Rattle.vl_read.proofs.KindSound.{tested}
 use Rattle.vl_read.proofs.Consumed.{frame_tokens, frames_tokens, frames_push, frame_depth, frames_depth, depth_push, is_frame_filled, IsGood, Begun}
 

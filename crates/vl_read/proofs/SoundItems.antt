@@ -11,14 +11,14 @@ use Rattle.vl_ast.specs.Tokens.{Token, Key, Sign, Identifier, IsWritten, is_iden
 use Rattle.vl_ast.specs.Grammar.{comma, expr_tokens, condition_tokens, IsCondition, IsItemText}
 use Rattle.vl_read.specs.declared.scan.Kind.{Kind}
 use Rattle.vl_read.specs.declared.places.Frame.{Frame}
-use Rattle.vl_read.specs.Places.{Spot, Clocked, Goal, Place, Parser}
-use Rattle.vl_read.specs.Places.Spot.{Operand}
-use Rattle.vl_read.specs.Places.Goal.{Assigned, Condition, Next}
-use Rattle.vl_read.specs.Places.NetKind.{OfWire, OfReg}
+use Rattle.vl_read.specs.inner.Places.{Spot, Clocked, Goal, Place, Parser}
+use Rattle.vl_read.specs.inner.Places.Spot.{Operand}
+use Rattle.vl_read.specs.inner.Places.Goal.{Assigned, Condition, Next}
+use Rattle.vl_read.specs.inner.Places.NetKind.{OfWire, OfReg}
 use Rattle.vl_read.specs.declared.places.NetSpot.TheVariants.{Signed}
-use Rattle.vl_read.specs.Places.Place.{Net, Items, AssignName, Head, ClockedName, Again, NextSign, Expression, End}
+use Rattle.vl_read.specs.inner.Places.Place.{Net, Items, AssignName, Head, ClockedName, Again, NextSign, Expression, End}
 use Rattle.vl_read.specs.declared.places.Draft.{Draft}
-use Rattle.vl_read.specs.Plain.{goes, head_word, goal_step, item_step, step_at}
+use Rattle.vl_read.specs.inner.Plain.{goes, head_word, goal_step, item_step, step_at}
 use Rattle.vl_read.proofs.KindSound.{IsOfKind}
 use Rattle.vl_read.proofs.ConsumedItems.{is_key, head_token, head_tokens, clocked_tokens, goal_tokens, IsGoal, ExpressionAt, IsBegunItem, opened_tokens, InBody, InItem, ItemAt, Has}
 use Rattle.vl_read.proofs.SoundFrames.{expected, either_word, grow, Goes}

@@ -10,14 +10,14 @@ use Rattle.vl_ast.specs.Tokens.{Token, Key, Sign, Identifier, Number, IsWritten,
 use Rattle.vl_ast.specs.Grammar.{comma, attr_tokens, attrs_tokens, signed_tokens, IsRange, IsPortText, IsItemText}
 use Rattle.vl_read.specs.declared.scan.Kind.{Kind}
 use Rattle.vl_read.specs.declared.scan.Kind.TheVariants.{Name, Count, Constant, Fixed}
-use Rattle.vl_read.specs.Places.{NetKind, AttrSpot, Place, Parser}
-use Rattle.vl_read.specs.Places.NetKind.{OfPort, OfWire, OfReg}
+use Rattle.vl_read.specs.inner.Places.{NetKind, AttrSpot, Place, Parser}
+use Rattle.vl_read.specs.inner.Places.NetKind.{OfPort, OfWire, OfReg}
 use Rattle.vl_read.specs.declared.places.NetSpot.{NetSpot}
 use Rattle.vl_read.specs.declared.places.NetSpot.TheVariants.{Word, Signed, Ranged, Bound, Colon, Zero, Close, Named}
-use Rattle.vl_read.specs.Places.AttrSpot.{AttrName, AttrSign, AttrValue, More}
-use Rattle.vl_read.specs.Places.Place.{Start, Attributes, Port as PortPlace, Net, AfterPort, Semicolon}
+use Rattle.vl_read.specs.inner.Places.AttrSpot.{AttrName, AttrSign, AttrValue, More}
+use Rattle.vl_read.specs.inner.Places.Place.{Start, Attributes, Port as PortPlace, Net, AfterPort, Semicolon}
 use Rattle.vl_read.specs.declared.places.Draft.{Draft}
-use Rattle.vl_read.specs.Plain.{parser_at, goes, is_name, attr_step, declared, net_step}
+use Rattle.vl_read.specs.inner.Plain.{parser_at, goes, is_name, attr_step, declared, net_step}
 use Rattle.vl_read.proofs.ModuleTokens.{three_before}
 use Rattle.vl_read.proofs.KindSound.{IsOfKind}
 use Rattle.vl_read.proofs.Consumed.{before_next, before_push, joined_push}

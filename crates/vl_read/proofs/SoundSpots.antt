@@ -14,17 +14,19 @@ use Rattle.vl_ast.specs.declared.expressions.Expr.{Expr}
 use Rattle.vl_ast.specs.declared.expressions.Expr.TheOpen.{Expr-F}
 use Rattle.vl_ast.specs.declared.expressions.Expr.TheViews.{roll-Expr, out-Expr, roll-out-Expr}
 use Rattle.vl_ast.specs.declared.expressions.Expr.TheFolds.{map-Expr}
-use Rattle.vl_ast.specs.Spelling.{binary_text, shift_text, joined}
+use Rattle.vl_ast.specs.Spelling.{joined}
+use Rattle.vl_ast.specs.Operators.{binary_text, shift_text, infix_of, shift_of}
 use Rattle.vl_ast.specs.Tokens.{Token, Sign, Identifier, Number, Based, IsDec, IsBased}
 use Rattle.vl_ast.specs.Grammar.{comma, tokens_step, expr_tokens, depth, is_filled, is_filled_step, IsExpr}
+use Rattle.vl_read.specs.declared.places.Closing.TheVariants.{CloseParenthesis, CloseBrace, CloseBracket}
 use Rattle.vl_read.specs.declared.scan.Kind.{Kind}
 use Rattle.vl_read.specs.declared.scan.Kind.TheVariants.{Name, Count, Constant, Fixed}
 use Rattle.vl_read.specs.declared.places.Frame.{Frame}
 use Rattle.vl_read.specs.declared.places.Frame.TheVariants.{InConcat, InRepeat, InCast, InUnary, InLeft, InRight, InChosen, InOther}
-use Rattle.vl_read.specs.Places.{Spot, Goal, Parser}
-use Rattle.vl_read.specs.Places.Spot.{Operand, Opened, Braced, Begins, Value, Ends, Amount, Index, High, Low}
+use Rattle.vl_read.specs.inner.Places.{Spot, Goal, Parser, opening_byte, closing_byte}
+use Rattle.vl_read.specs.inner.Places.Spot.{Operand, Opened, Braced, Begins, Value, Ends, Amount, Index, High, Low}
 use Rattle.vl_read.specs.declared.places.Draft.{Draft}
-use Rattle.vl_read.specs.Plain.{spot_at, count_of, constant_of, infix_of, shift_of, innermost, innermost_of, left_by, left_step, frame_step, goal_step, value_step, name_of, indexed, spot_step}
+use Rattle.vl_read.specs.inner.Plain.{spot_at, count_of, constant_of, innermost, innermost_of, left_by, left_step, frame_step, goal_step, value_step, name_of, indexed, spot_step}
 use Rattle.vl_read.proofs.KindSound.{IsOfKind}
 use Rattle.vl_read.proofs.Consumed.{before_next, before_push, joined_push, frame_tokens, frames_tokens, IsGood, Begun}
 use Rattle.vl_read.proofs.SoundFrames.{either_word, nowhere, twice, grow, length_depth, Inside, inside, good_layer, layer_text, close, next_part, Goes, goes_to, goes_by}
@@ -75,7 +77,7 @@ repeat_sound : (draft : Draft) (goal : Goal) (outer : List Frame) (count : ℕ) 
 unfolding frame_step
 repeat_sound draft goal outer count value lexeme text q in_frame =
     let x : Expr-F Expr = Expr-F.Repeat count value in
-    goes_by draft goal text lexeme (codes "}") q outer (Ends (roll-Expr x) 125)
+    goes_by draft goal text lexeme (codes "}") q outer (Ends (roll-Expr x) CloseBrace)
     (record {
       is = twice text (Sign (codes "}")) (Sign (codes "}")) ∙ ap (λ t. t ++ Sign (codes "}") ∷ Sign (codes "}") ∷ []) in_frame.is
           ∙ append_assoc (frames_tokens outer) (frame_tokens (InRepeat count) ++ expr_tokens value) (Sign (codes "}") ∷ Sign (codes "}") ∷ []) ∙ ap (λ t. frames_tokens outer ++ t) (layer_text x);
@@ -233,7 +235,7 @@ index_sound draft goal frames value (Some name) lexeme text q begun is h e =
 -- the amount of a shift, and the numbers of a bit and a part
 
 amount_sound : (draft : Draft) (goal : Goal) (frames : List Frame) (op : ShiftOp) (value : Expr) (amount : Sized) (text : List Token) → Begun frames (Amount op value) text →
-    Begun frames (Ends (roll-Expr (Expr-F.Shift op value amount)) 41) (text ++ Based amount ∷ [])
+    Begun frames (Ends (roll-Expr (Expr-F.Shift op value amount)) CloseParenthesis) (text ++ Based amount ∷ [])
 amount_sound draft goal frames op value amount text begun =
     let good : IsGood (length frames + 1) value = begun.room in
     let x : Expr-F Expr = Expr-F.Shift op value amount in
@@ -248,7 +250,7 @@ amount_sound draft goal frames op value amount text begun =
     regroup : (f a : List Token) (s t u v : Token) → ((f ++ (s ∷ (a ++ t ∷ []))) ++ u ∷ []) ++ v ∷ [] ≡ f ++ (s ∷ (a ++ t ∷ u ∷ v ∷ []))
     regroup f a s t u v = simp append_assoc
 
-low_sound : (frames : List Frame) (name : List ℕ) (high low : ℕ) (text : List Token) → Begun frames (Low name high) text → Begun frames (Ends (roll-Expr (Expr-F.Part name high low)) 93) (text ++ Number low ∷ [])
+low_sound : (frames : List Frame) (name : List ℕ) (high low : ℕ) (text : List Token) → Begun frames (Low name high) text → Begun frames (Ends (roll-Expr (Expr-F.Part name high low)) CloseBracket) (text ++ Number low ∷ [])
 low_sound frames name high low text begun =
     let x : Expr-F Expr = Expr-F.Part name high low in
     record {
@@ -296,20 +298,20 @@ unfolding spot_step
 spot_sound draft goal frames Operand kind lexeme text q begun is e = inl (operand_sound draft goal frames kind lexeme text q begun is e)
 spot_sound draft goal frames Opened kind lexeme text q begun is e = inl (opened_sound draft goal frames kind lexeme text q begun is e)
 spot_sound draft goal frames Braced kind lexeme text q begun is e = inl (braced_sound draft goal frames kind lexeme text q begun is e)
-spot_sound draft goal frames (Begins byte) kind lexeme text q begun is e =
-    inl (goes_by draft goal text lexeme (byte ∷ []) q frames Operand (record { is = begun.is; deep = begun.deep; filled = begun.filled; room = tt }) e)
+spot_sound draft goal frames (Begins mark) kind lexeme text q begun is e =
+    inl (goes_by draft goal text lexeme (opening_byte mark ∷ []) q frames Operand (record { is = begun.is; deep = begun.deep; filled = begun.filled; room = tt }) e)
 spot_sound draft goal frames (Value value) kind lexeme text q begun is e =
     either_word lexeme (codes "[") _ _ q
     (λ h e. inl (index_sound draft goal frames value (name_of (out-Expr value)) lexeme text q begun refl h e))
     (λ e. value_sound draft goal frames (innermost frames) value lexeme text q begun (splits frames) e) e
-spot_sound draft goal frames (Ends value byte) kind lexeme text q begun is e =
-    inl (goes_by draft goal text lexeme (byte ∷ []) q frames (Value value) (record { is = begun.is; deep = begun.deep; filled = begun.filled; room = begun.room }) e)
+spot_sound draft goal frames (Ends value mark) kind lexeme text q begun is e =
+    inl (goes_by draft goal text lexeme (closing_byte mark ∷ []) q frames (Value value) (record { is = begun.is; deep = begun.deep; filled = begun.filled; room = begun.room }) e)
 spot_sound draft goal frames (Amount op value) kind lexeme text q begun is e =
     on_constant kind lexeme _ q is
-    (λ n written e. inl (goes_to draft goal text lexeme q frames (Ends (roll-Expr (Expr-F.Shift op value n)) 41) (Based n) written (amount_sound draft goal frames op value n text begun) e)) e
+    (λ n written e. inl (goes_to draft goal text lexeme q frames (Ends (roll-Expr (Expr-F.Shift op value n)) CloseParenthesis) (Based n) written (amount_sound draft goal frames op value n text begun) e)) e
 spot_sound draft goal frames (Index name) kind lexeme text q begun is e =
     on_count kind lexeme _ q is (λ n written e. inl (goes_to draft goal text lexeme q frames (High name n) (Number n) written (index_number frames name n text begun) e)) e
 spot_sound draft goal frames (High name place) kind lexeme text q begun is e = inl (high_sound draft goal frames name place lexeme text q begun e)
 spot_sound draft goal frames (Low name high) kind lexeme text q begun is e =
     on_count kind lexeme _ q is
-    (λ n written e. inl (goes_to draft goal text lexeme q frames (Ends (roll-Expr (Expr-F.Part name high n)) 93) (Number n) written (low_sound frames name high n text begun) e)) e
+    (λ n written e. inl (goes_to draft goal text lexeme q frames (Ends (roll-Expr (Expr-F.Part name high n)) CloseBracket) (Number n) written (low_sound frames name high n text begun) e)) e

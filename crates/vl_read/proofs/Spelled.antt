@@ -4,7 +4,7 @@ use Rattle.vl_ast.specs.declared.modules.Module.{Module}
 use Rattle.vl_ast.specs.Tokens.{Token, Key}
 use Rattle.vl_ast.specs.Grammar.{IsModuleText, Spells}
 use Rattle.vl_read.specs.declared.scan.Mode.TheVariants.{Between}
-use Rattle.vl_read.specs.Lexemes.{lexemes_from}
+use Rattle.vl_read.specs.inner.Lexemes.{lexemes_from}
 use Rattle.vl_read.proofs.Written.{Writes}
 use Rattle.vl_read.proofs.SafeTokens.{module_safe}
 use Rattle.vl_read.proofs.Laid.{laid}

@@ -2,10 +2,10 @@
 use Rattle.std.proofs.Common.{◌≡◌, ℕ, ◌+◌, ◌<◌, List, [], ◌∷◌, ◌++◌, length, drop, get_or, drop-cons, add-one, Option, Some, None, refl, sym, ◌∙◌, ap, option_and_then, option_map}
 use Rattle.vl_read.specs.declared.scan.Mode.{Mode}
 use Rattle.vl_read.specs.declared.turns.Turn.{Turn}
-use Rattle.vl_read.specs.Places.{Parser}
-use Rattle.vl_read.specs.Lexemes.{Move, move, lexemes_from}
-use Rattle.vl_read.specs.Turns.{turned, pending_after, ended_by, feed, ahead}
-use Rattle.vl_read.specs.Plain.{parse, step}
+use Rattle.vl_read.specs.inner.Places.{Parser}
+use Rattle.vl_read.specs.inner.Lexemes.{Move, move, lexemes_from}
+use Rattle.vl_read.specs.inner.Turns.{turned, pending_after, ended_by, feed, ahead}
+use Rattle.vl_read.specs.inner.Plain.{parse, step}
 
 parse_feed : (ls more : List (List ℕ)) (p : Parser) → parse p (ls ++ more) ≡ option_and_then (λ q. parse q more) (feed p ls)
 parse_feed [] more p = refl

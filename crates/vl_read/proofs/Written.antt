@@ -4,9 +4,9 @@ use Rattle.std.proofs.lemmas.Slice.Eq.{bytes_eq-Decides}
 use Rattle.vl_ast.specs.declared.expressions.Sized.{Sized}
 use Rattle.vl_ast.specs.Tokens.{Token, Key, Sign, Identifier, Number, Based, IsWritten}
 use Rattle.vl_read.specs.declared.scan.Kind.TheVariants.{Name, Count, Constant}
-use Rattle.vl_read.specs.Places.{Parser}
-use Rattle.vl_read.specs.Lexemes.{kind_of}
-use Rattle.vl_read.specs.Plain.{parse, step}
+use Rattle.vl_read.specs.inner.Places.{Parser}
+use Rattle.vl_read.specs.inner.Lexemes.{kind_of}
+use Rattle.vl_read.specs.inner.Plain.{parse, step}
 use Rattle.vl_read.proofs.LexemeKinds.{name_kind, dec_kind, based_kind}
 
 -- the lexemes are ways to write the tokens

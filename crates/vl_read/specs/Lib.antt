@@ -1,6 +1,2 @@
-pub mod Lexemes
-pub mod Places
-pub mod Plain
 pub mod Prefix
-pub mod Seen
-pub mod Turns
+pub mod inner

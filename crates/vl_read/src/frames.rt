@@ -2,34 +2,34 @@ ghost use Rattle.std.specs.Prelude.{◌≡◌, ◌++◌, ◌∷◌, [], IfOk};
 ghost use Rattle.vl_ast.specs.declared.expressions.Expr.TheViews.{out-Expr};
 ghost use Rattle.vl_read.specs.declared.places.Frame.TheVariants.{InConcat, InChosen};
 ghost use Rattle.vl_read.specs.declared.scan.Kind.TheVariants.{Fixed};
-ghost use Rattle.vl_read.specs.Lexemes.{kind_of};
-ghost use Rattle.vl_read.specs.Places.{Value, High, Low, Amount};
-ghost use Rattle.vl_read.specs.Plain.{left_step, frame_step, goal_step, spot_step, indexed, name_of};
-ghost use Rattle.vl_read.specs.Seen.{seen, goal_of, frames_of, spot_of};
-ghost use Rattle.vl_read.specs.Turns.{stepped};
+ghost use Rattle.vl_read.specs.inner.Lexemes.{kind_of};
+ghost use Rattle.vl_read.specs.inner.Places.{Value, High, Low, Amount};
+ghost use Rattle.vl_read.specs.inner.Plain.{left_step, frame_step, goal_step, spot_step, indexed, name_of};
+ghost use Rattle.vl_read.specs.inner.Seen.{seen, goal_of, frames_of, spot_of};
+ghost use Rattle.vl_read.specs.inner.Turns.{stepped};
 
 use crate::numbers::{constant_of, count_of, kind_of};
-use crate::pieces::{
-    binary, bit, cast, choose, concat, infix_of, innermost, part, repeat, shift, shift_of, unary,
-};
-use crate::places::{Frame, Goal, Place, Reader, Spot};
+use crate::pieces::{binary, bit, cast, choose, concat, innermost, part, repeat, shift, unary};
+use crate::places::{Closing, Frame, Goal, Place, Reader, Spot};
 use crate::scan::is;
 use fx_io::OutOfMemory;
 use std::alloc::Global;
-use vl_ast::{Expr, Exprs, ModItem, ShiftOp};
+use vl_ast::{BinOp, Expr, Exprs, ModItem, ShiftOp};
 
 impl Reader {
     /// An operator after the first operand of what is in parentheses.
-    #[tactic(auto, unfolding(crate::specs::Plain::left_step))]
+    #[tactic(auto, unfolding(crate::specs::inner::Plain::left_step))]
     fn left_step(&mut self, goal: Goal, value: Expr, lexeme: &[u8]) -> Result<bool, OutOfMemory>
-        ensures { IfOk result (λ said. stepped said (seen self.new) ≡ left_step self.old.draft (goal_of self.old goal) (frames_of self.old) value lexeme.now) }
+        ensures { IfOk result (λ said. stepped said (seen self.new)
+            ≡ left_step self.old.draft (goal_of self.old goal)
+            (frames_of self.old) value lexeme.now) }
     {
         if is(lexeme, "?") {
             return self.inside(goal, Frame::InChosen(value), Spot::Operand);
         }
-        match infix_of(lexeme) {
+        match BinOp::of_text(lexeme) {
             Some(op) => self.inside(goal, Frame::InRight(op, value), Spot::Operand),
-            None => match shift_of(lexeme) {
+            None => match ShiftOp::of_text(lexeme) {
                 Some(op) => {
                     self.held.value = value;
                     Ok(self.spot(goal, Spot::Amount(op)))
@@ -40,7 +40,7 @@ impl Reader {
     }
 
     /// After an operand in a concatenation.
-    #[tactic(auto, unfolding(crate::specs::Plain::frame_step))]
+    #[tactic(auto, unfolding(crate::specs::inner::Plain::frame_step))]
     fn concat_step(
         &mut self,
         goal: Goal,
@@ -48,7 +48,9 @@ impl Reader {
         value: Expr,
         lexeme: &[u8],
     ) -> Result<bool, OutOfMemory>
-        ensures { IfOk result (λ said. stepped said (seen self.new) ≡ frame_step self.old.draft (goal_of self.old goal) (frames_of self.old) (InConcat parts) value lexeme.now) }
+        ensures { IfOk result (λ said. stepped said (seen self.new)
+            ≡ frame_step self.old.draft (goal_of self.old goal) (frames_of self.old)
+            (InConcat parts) value lexeme.now) }
     {
         parts.push(value)?;
         if is(lexeme, ",") {
@@ -59,7 +61,7 @@ impl Reader {
     }
 
     /// After the second operand of a choice.
-    #[tactic(auto, unfolding(crate::specs::Plain::frame_step))]
+    #[tactic(auto, unfolding(crate::specs::inner::Plain::frame_step))]
     fn chosen_step(
         &mut self,
         goal: Goal,
@@ -67,14 +69,16 @@ impl Reader {
         value: Expr,
         lexeme: &[u8],
     ) -> Result<bool, OutOfMemory>
-        ensures { IfOk result (λ said. stepped said (seen self.new) ≡ frame_step self.old.draft (goal_of self.old goal) (frames_of self.old) (InChosen test) value lexeme.now) }
+        ensures { IfOk result (λ said. stepped said (seen self.new)
+            ≡ frame_step self.old.draft (goal_of self.old goal) (frames_of self.old)
+            (InChosen test) value lexeme.now) }
     {
         self.held.frames.push(Frame::InOther(test, value))?;
         Ok(self.expect_spot(b':', lexeme, goal, Spot::Operand))
     }
 
     /// After an operand in a frame.
-    #[tactic(auto, unfolding(crate::specs::Plain::frame_step))]
+    #[tactic(auto, unfolding(crate::specs::inner::Plain::frame_step))]
     fn frame_step(
         &mut self,
         alloc: Global,
@@ -83,7 +87,9 @@ impl Reader {
         value: Expr,
         lexeme: &[u8],
     ) -> Result<bool, OutOfMemory>
-        ensures { IfOk result (λ said. stepped said (seen self.new) ≡ frame_step self.old.draft (goal_of self.old goal) (frames_of self.old) frame value lexeme.now) }
+        ensures { IfOk result (λ said. stepped said (seen self.new)
+            ≡ frame_step self.old.draft (goal_of self.old goal)
+            (frames_of self.old) frame value lexeme.now) }
     {
         match frame {
             Frame::InConcat(parts) => self.concat_step(goal, parts, value, lexeme),
@@ -91,7 +97,7 @@ impl Reader {
             Frame::InChosen(test) => self.chosen_step(goal, test, value, lexeme),
             Frame::InRepeat(count) => {
                 self.held.value = repeat(alloc, count, value)?;
-                Ok(self.expect_spot(b'}', lexeme, goal, Spot::Ends(b'}')))
+                Ok(self.expect_spot(b'}', lexeme, goal, Spot::Ends(Closing::CloseBrace)))
             }
             Frame::InCast(signed) => {
                 self.held.value = cast(alloc, signed, value)?;
@@ -113,9 +119,10 @@ impl Reader {
     }
 
     /// After an expression that is in no other.
-    #[tactic(auto, unfolding(crate::specs::Plain::goal_step))]
+    #[tactic(auto, unfolding(crate::specs::inner::Plain::goal_step))]
     fn goal_step(&mut self, alloc: Global, goal: Goal, lexeme: &[u8]) -> Result<bool, OutOfMemory>
-        ensures { IfOk result (λ said. stepped said (seen self.new) ≡ goal_step self.old.draft (goal_of self.old goal) self.old.held.value lexeme.now) }
+        ensures { IfOk result (λ said. stepped said (seen self.new)
+            ≡ goal_step self.old.draft (goal_of self.old goal) self.old.held.value lexeme.now) }
     {
         match goal {
             Goal::Assigned => {
@@ -133,9 +140,11 @@ impl Reader {
     }
 
     /// `[` after an operand.
-    #[tactic(auto, unfolding(crate::specs::Plain::spot_step))]
+    #[tactic(auto, unfolding(crate::specs::inner::Plain::spot_step))]
     fn index_step(&mut self, goal: Goal, value: Expr) -> bool
-        ensures { stepped result (seen self.new) ≡ indexed self.old.draft (goal_of self.old goal) (frames_of self.old) (name_of (out-Expr value)) }
+        ensures { stepped result (seen self.new)
+            ≡ indexed self.old.draft (goal_of self.old goal) (frames_of self.old)
+            (name_of (out-Expr value)) }
     {
         match value {
             Expr::Name(name) => {
@@ -147,9 +156,11 @@ impl Reader {
     }
 
     /// After an operand.
-    #[tactic(auto, unfolding(crate::specs::Plain::spot_step))]
+    #[tactic(auto, unfolding(crate::specs::inner::Plain::spot_step))]
     fn value_step(&mut self, alloc: Global, goal: Goal, lexeme: &[u8]) -> Result<bool, OutOfMemory>
-        ensures { IfOk result (λ said. stepped said (seen self.new) ≡ spot_step self.old.draft (goal_of self.old goal) (frames_of self.old) (Value self.old.held.value) Fixed lexeme.now) }
+        ensures { IfOk result (λ said. stepped said (seen self.new)
+            ≡ spot_step self.old.draft (goal_of self.old goal) (frames_of self.old)
+            (Value self.old.held.value) Fixed lexeme.now) }
     {
         if is(lexeme, "[") {
             let value = self.take_value();
@@ -165,9 +176,11 @@ impl Reader {
     }
 
     /// After a name, `[` and a number.
-    #[tactic(auto, unfolding(crate::specs::Plain::spot_step))]
+    #[tactic(auto, unfolding(crate::specs::inner::Plain::spot_step))]
     fn high_step(&mut self, alloc: Global, goal: Goal, place: u32, lexeme: &[u8]) -> bool
-        ensures { stepped result (seen self.new) ≡ spot_step self.old.draft (goal_of self.old goal) (frames_of self.old) (High self.old.held.operand place) Fixed lexeme.now }
+        ensures { stepped result (seen self.new)
+            ≡ spot_step self.old.draft (goal_of self.old goal) (frames_of self.old)
+            (High self.old.held.operand place) Fixed lexeme.now }
     {
         if is(lexeme, "]") {
             self.held.value = bit(self.take_operand(alloc), place);
@@ -178,7 +191,7 @@ impl Reader {
     }
 
     /// The amount of a shift.
-    #[tactic(auto, unfolding(crate::specs::Plain::spot_step))]
+    #[tactic(auto, unfolding(crate::specs::inner::Plain::spot_step))]
     fn amount_step(
         &mut self,
         alloc: Global,
@@ -186,34 +199,38 @@ impl Reader {
         op: ShiftOp,
         lexeme: &[u8],
     ) -> Result<bool, OutOfMemory>
-        ensures { IfOk result (λ said. stepped said (seen self.new) ≡ spot_step self.old.draft (goal_of self.old goal) (frames_of self.old) (Amount op self.old.held.value) (kind_of lexeme.now) lexeme.now) }
+        ensures { IfOk result (λ said. stepped said (seen self.new)
+            ≡ spot_step self.old.draft (goal_of self.old goal) (frames_of self.old)
+            (Amount op self.old.held.value) (kind_of lexeme.now) lexeme.now) }
     {
         match constant_of(lexeme) {
             None => Ok(false),
             Some(amount) => {
                 let value = self.take_value();
                 self.held.value = shift(alloc, op, value, amount)?;
-                Ok(self.spot(goal, Spot::Ends(b')')))
+                Ok(self.spot(goal, Spot::Ends(Closing::CloseParenthesis)))
             }
         }
     }
 
     /// The lower bound of a part.
-    #[tactic(auto, unfolding(crate::specs::Plain::spot_step))]
+    #[tactic(auto, unfolding(crate::specs::inner::Plain::spot_step))]
     fn low_step(&mut self, alloc: Global, goal: Goal, high: u32, lexeme: &[u8]) -> bool
-        ensures { stepped result (seen self.new) ≡ spot_step self.old.draft (goal_of self.old goal) (frames_of self.old) (Low self.old.held.operand high) (kind_of lexeme.now) lexeme.now }
+        ensures { stepped result (seen self.new)
+            ≡ spot_step self.old.draft (goal_of self.old goal) (frames_of self.old)
+            (Low self.old.held.operand high) (kind_of lexeme.now) lexeme.now }
     {
         match count_of(lexeme) {
             None => false,
             Some(low) => {
                 self.held.value = part(self.take_operand(alloc), high, low);
-                self.spot(goal, Spot::Ends(b']'))
+                self.spot(goal, Spot::Ends(Closing::CloseBracket))
             }
         }
     }
 
     /// The next lexeme in an expression (IEEE 1364-2005, clause 5).
-    #[tactic(auto, unfolding(crate::specs::Plain::spot_step))]
+    #[tactic(auto, unfolding(crate::specs::inner::Plain::spot_step))]
     pub fn spot_step(
         &mut self,
         alloc: Global,
@@ -221,15 +238,17 @@ impl Reader {
         spot: Spot,
         lexeme: &[u8],
     ) -> Result<bool, OutOfMemory>
-        ensures { IfOk result (λ said. stepped said (seen self.new) ≡ spot_step self.old.draft (goal_of self.old goal) (frames_of self.old) (spot_of self.old spot) (kind_of lexeme.now) lexeme.now) }
+        ensures { IfOk result (λ said. stepped said (seen self.new)
+            ≡ spot_step self.old.draft (goal_of self.old goal) (frames_of self.old)
+            (spot_of self.old spot) (kind_of lexeme.now) lexeme.now) }
     {
         match spot {
             Spot::Operand => self.operand_step(alloc, goal, kind_of(lexeme), lexeme),
             Spot::Opened => self.opened_step(alloc, goal, lexeme),
             Spot::Braced => self.braced_step(alloc, goal, lexeme),
-            Spot::Begins(mark) => Ok(self.expect_spot(mark, lexeme, goal, Spot::Operand)),
+            Spot::Begins(mark) => Ok(self.expect_spot(mark.byte(), lexeme, goal, Spot::Operand)),
             Spot::Value => self.value_step(alloc, goal, lexeme),
-            Spot::Ends(mark) => Ok(self.expect_spot(mark, lexeme, goal, Spot::Value)),
+            Spot::Ends(mark) => Ok(self.expect_spot(mark.byte(), lexeme, goal, Spot::Value)),
             Spot::Amount(op) => self.amount_step(alloc, goal, op, lexeme),
             Spot::Index => match count_of(lexeme) {
                 None => Ok(false),

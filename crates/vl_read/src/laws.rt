@@ -10,13 +10,15 @@ use vl_ast::spelling_spells;
 
 /// The bytes of a text spell at most one module.
 pub fn unique()
-    ensures { (bytes : List ℕ) (one other : Module) → Spells bytes one → Spells bytes other → one ≡ other }
+    ensures { (bytes : List ℕ) (one other : Module)
+        → Spells bytes one → Spells bytes other → one ≡ other }
 {}
 
 /// The written text of a module spells it and no other, where some text spells it.
 pub fn spelling_spells_alone()
     ensures spells { (text : List ℕ) (m : Module) → Spells text m → Spells (spelling m) m }
-    ensures alone { (text : List ℕ) (m other : Module) → Spells text m → Spells (spelling m) other → other ≡ m }
+    ensures alone { (text : List ℕ) (m other : Module) → Spells text m → Spells (spelling m) other
+        → other ≡ m }
 {
     spelling_spells();
 }
@@ -24,11 +26,13 @@ pub fn spelling_spells_alone()
 /// A spelled module reads back: by its clauses `found` and `refused`, `read` answers a text of a module that
 /// isn't too long by this module, or by want of memory.
 pub fn reads_back()
-    ensures { (text : List ℕ) (m : Module) (answer : Result Module VlSyntax) → Spells text m → length m.items ≤ most_items →
-        IfOk answer (λ n. Spells text n) → IfSyntax answer (λ _. IsRefused text) → IsReadBack answer m }
+    ensures { (text : List ℕ) (m : Module) (answer : Result Module VlSyntax) → Spells text m
+        → length m.items ≤ most_items → IfOk answer (λ n. Spells text n)
+        → IfSyntax answer (λ _. IsRefused text) → IsReadBack answer m }
 {}
 
 /// The bytes stop being the beginning of a text at one line at most.
 pub fn one_fault_line()
-    ensures { (bytes : List ℕ) (one other : ℕ) → IsVerilogFaultLine bytes one → IsVerilogFaultLine bytes other → one ≡ other }
+    ensures { (bytes : List ℕ) (one other : ℕ) → IsVerilogFaultLine bytes one
+        → IsVerilogFaultLine bytes other → one ≡ other }
 {}

@@ -7,8 +7,8 @@
 //! the beginning of a text (`line`).
 //!
 //! The definitions: what spells a module stands in `vl_ast`; `specs/Prefix.antt` says which line a fault has.
-//! `specs/Lexemes.antt` and `specs/Plain.antt` are the plain reading, over `specs/Places.antt`, which the code is
-//! proved to give; `specs/Seen.antt` says which of its states the reader is in.
+//! `specs/inner` has the plain reading, which the code is proved to give: `Lexemes` and `Plain` over `Places`, and
+//! `Seen` says which of its states the reader is in.
 #![tactic(auto)]
 
 mod fault;

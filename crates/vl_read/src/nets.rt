@@ -1,11 +1,11 @@
 ghost use Rattle.std.specs.Prelude.{◌≡◌, [], IfOk};
 ghost use Rattle.vl_read.specs.declared.scan.Kind.TheVariants.{Fixed};
 ghost use Rattle.vl_read.specs.declared.places.NetSpot.TheVariants.{Signed, Ranged, Bound, Named};
-ghost use Rattle.vl_read.specs.Lexemes.{kind_of};
-ghost use Rattle.vl_read.specs.Places.{Net, AttrName, AttrValue, More};
-ghost use Rattle.vl_read.specs.Plain.{attr_step, has_none, declared, net_step, expect};
-ghost use Rattle.vl_read.specs.Seen.{seen, attr_spot_seen, net_seen};
-ghost use Rattle.vl_read.specs.Turns.{stepped};
+ghost use Rattle.vl_read.specs.inner.Lexemes.{kind_of};
+ghost use Rattle.vl_read.specs.inner.Places.{Net, AttrName, AttrValue, More};
+ghost use Rattle.vl_read.specs.inner.Plain.{attr_step, has_none, declared, net_step, expect};
+ghost use Rattle.vl_read.specs.inner.Seen.{seen, attr_spot_seen, net_seen};
+ghost use Rattle.vl_read.specs.inner.Turns.{stepped};
 
 use crate::numbers::{count_of, is_name};
 use crate::places::{AttrSpot, NetKind, NetSpot, Place, Reader};
@@ -24,9 +24,10 @@ pub fn has_none(attrs: &Attrs) -> bool
 
 impl Reader {
     /// After an attribute.
-    #[tactic(auto, unfolding(crate::specs::Plain::attr_step))]
+    #[tactic(auto, unfolding(crate::specs::inner::Plain::attr_step))]
     fn after_attribute(&mut self, alloc: Global, of_port: bool, lexeme: &[u8]) -> bool
-        ensures { stepped result (seen self.new) ≡ attr_step self.old.draft of_port self.old.held.attrs More Fixed lexeme.now }
+        ensures { stepped result (seen self.new)
+            ≡ attr_step self.old.draft of_port self.old.held.attrs More Fixed lexeme.now }
     {
         if is(lexeme, ",") {
             let at = AttrSpot::AttrName;
@@ -40,14 +41,16 @@ impl Reader {
     }
 
     /// The name of an attribute.
-    #[tactic(auto, unfolding(crate::specs::Plain::attr_step))]
+    #[tactic(auto, unfolding(crate::specs::inner::Plain::attr_step))]
     fn attribute_name(
         &mut self,
         alloc: Global,
         of_port: bool,
         lexeme: &[u8],
     ) -> Result<bool, OutOfMemory>
-        ensures { IfOk result (λ said. stepped said (seen self.new) ≡ attr_step self.old.draft of_port self.old.held.attrs AttrName (kind_of lexeme.now) lexeme.now) }
+        ensures { IfOk result (λ said. stepped said (seen self.new)
+            ≡ attr_step self.old.draft of_port self.old.held.attrs AttrName
+            (kind_of lexeme.now) lexeme.now) }
     {
         if !is_name(lexeme) {
             return Ok(false);
@@ -58,14 +61,16 @@ impl Reader {
     }
 
     /// The number of an attribute.
-    #[tactic(auto, unfolding(crate::specs::Plain::attr_step))]
+    #[tactic(auto, unfolding(crate::specs::inner::Plain::attr_step))]
     fn attribute_value(
         &mut self,
         alloc: Global,
         of_port: bool,
         lexeme: &[u8],
     ) -> Result<bool, OutOfMemory>
-        ensures { IfOk result (λ said. stepped said (seen self.new) ≡ attr_step self.old.draft of_port self.old.held.attrs (AttrValue self.old.held.name) (kind_of lexeme.now) lexeme.now) }
+        ensures { IfOk result (λ said. stepped said (seen self.new)
+            ≡ attr_step self.old.draft of_port self.old.held.attrs (AttrValue self.old.held.name)
+            (kind_of lexeme.now) lexeme.now) }
     {
         match count_of(lexeme) {
             None => Ok(false),
@@ -80,7 +85,7 @@ impl Reader {
     }
 
     /// The next lexeme in a list of attributes (IEEE 1364-2005, 3.8).
-    #[tactic(auto, unfolding(crate::specs::Plain::attr_step))]
+    #[tactic(auto, unfolding(crate::specs::inner::Plain::attr_step))]
     pub fn attr_step(
         &mut self,
         alloc: Global,
@@ -88,7 +93,9 @@ impl Reader {
         at: AttrSpot,
         lexeme: &[u8],
     ) -> Result<bool, OutOfMemory>
-        ensures { IfOk result (λ said. stepped said (seen self.new) ≡ attr_step self.old.draft of_port self.old.held.attrs (attr_spot_seen self.old.held.name at) (kind_of lexeme.now) lexeme.now) }
+        ensures { IfOk result (λ said. stepped said (seen self.new)
+            ≡ attr_step self.old.draft of_port self.old.held.attrs
+            (attr_spot_seen self.old.held.name at) (kind_of lexeme.now) lexeme.now) }
     {
         match at {
             AttrSpot::AttrName => self.attribute_name(alloc, of_port, lexeme),
@@ -102,7 +109,7 @@ impl Reader {
     }
 
     /// A declaration is read to its name (IEEE 1364-2005, 4.2.1, 4.2.2 and 12.3.3).
-    #[tactic(auto, unfolding(crate::specs::Plain::declared))]
+    #[tactic(auto, unfolding(crate::specs::inner::Plain::declared))]
     fn declared(
         &mut self,
         alloc: Global,
@@ -111,7 +118,8 @@ impl Reader {
         width: u32,
         name: &[u8],
     ) -> Result<bool, OutOfMemory>
-        ensures { IfOk result (λ said. stepped said (seen self.new) ≡ declared self.old.draft (net_seen self.old.held.attrs net) signed width name.now) }
+        ensures { IfOk result (λ said. stepped said (seen self.new)
+            ≡ declared self.old.draft (net_seen self.old.held.attrs net) signed width name.now) }
     {
         let name = Text::copy(alloc, name)?;
         match net {
@@ -139,15 +147,19 @@ impl Reader {
 
     /// The declaration goes on, if the lexeme is this word.
     fn fixed(&mut self, net: NetKind, word: &str, lexeme: &[u8], at: NetSpot) -> bool
-        ensures { stepped result (seen self.new) ≡ expect word.now lexeme.now self.old.draft (Net (net_seen self.old.held.attrs net) at) }
+        ensures { stepped result (seen self.new)
+            ≡ expect word.now lexeme.now self.old.draft
+            (Net (net_seen self.old.held.attrs net) at) }
     {
         self.expect(word, lexeme, Place::Net { kind: net, at })
     }
 
     /// The upper bound of a range, whose lower bound is 0.
-    #[tactic(auto, unfolding(crate::specs::Plain::net_step))]
+    #[tactic(auto, unfolding(crate::specs::inner::Plain::net_step))]
     fn bound(&mut self, net: NetKind, signed: bool, lexeme: &[u8]) -> bool
-        ensures { stepped result (seen self.new) ≡ net_step self.old.draft (net_seen self.old.held.attrs net) (Bound signed) (kind_of lexeme.now) lexeme.now }
+        ensures { stepped result (seen self.new)
+            ≡ net_step self.old.draft (net_seen self.old.held.attrs net) (Bound signed)
+            (kind_of lexeme.now) lexeme.now }
     {
         match count_of(lexeme) {
             None => false,
@@ -160,9 +172,10 @@ impl Reader {
     }
 
     /// `signed` or `[`.
-    #[tactic(auto, unfolding(crate::specs::Plain::net_step))]
+    #[tactic(auto, unfolding(crate::specs::inner::Plain::net_step))]
     fn signed_or_range(&mut self, net: NetKind, lexeme: &[u8]) -> bool
-        ensures { stepped result (seen self.new) ≡ net_step self.old.draft (net_seen self.old.held.attrs net) Signed Fixed lexeme.now }
+        ensures { stepped result (seen self.new)
+            ≡ net_step self.old.draft (net_seen self.old.held.attrs net) Signed Fixed lexeme.now }
     {
         if is(lexeme, "signed") {
             let at = NetSpot::Ranged { signed: true };
@@ -173,9 +186,11 @@ impl Reader {
     }
 
     /// After the kind of a net: `signed`, `[` or the name.
-    #[tactic(auto, unfolding(crate::specs::Plain::net_step))]
+    #[tactic(auto, unfolding(crate::specs::inner::Plain::net_step))]
     fn kind_end(&mut self, alloc: Global, net: NetKind, lexeme: &[u8]) -> Result<bool, OutOfMemory>
-        ensures { IfOk result (λ said. stepped said (seen self.new) ≡ net_step self.old.draft (net_seen self.old.held.attrs net) Signed (kind_of lexeme.now) lexeme.now) }
+        ensures { IfOk result (λ said. stepped said (seen self.new)
+            ≡ net_step self.old.draft (net_seen self.old.held.attrs net) Signed
+            (kind_of lexeme.now) lexeme.now) }
     {
         if is_name(lexeme) {
             self.declared(alloc, net, false, 1, lexeme)
@@ -185,7 +200,7 @@ impl Reader {
     }
 
     /// `[` or the name.
-    #[tactic(auto, unfolding(crate::specs::Plain::net_step))]
+    #[tactic(auto, unfolding(crate::specs::inner::Plain::net_step))]
     fn range_or_name(
         &mut self,
         alloc: Global,
@@ -193,7 +208,9 @@ impl Reader {
         signed: bool,
         lexeme: &[u8],
     ) -> Result<bool, OutOfMemory>
-        ensures { IfOk result (λ said. stepped said (seen self.new) ≡ net_step self.old.draft (net_seen self.old.held.attrs net) (Ranged signed) (kind_of lexeme.now) lexeme.now) }
+        ensures { IfOk result (λ said. stepped said (seen self.new)
+            ≡ net_step self.old.draft (net_seen self.old.held.attrs net) (Ranged signed)
+            (kind_of lexeme.now) lexeme.now) }
     {
         if is_name(lexeme) {
             self.declared(alloc, net, signed, 1, lexeme)
@@ -203,7 +220,7 @@ impl Reader {
     }
 
     /// The name after a range.
-    #[tactic(auto, unfolding(crate::specs::Plain::net_step))]
+    #[tactic(auto, unfolding(crate::specs::inner::Plain::net_step))]
     fn net_name(
         &mut self,
         alloc: Global,
@@ -212,7 +229,9 @@ impl Reader {
         width: u32,
         lexeme: &[u8],
     ) -> Result<bool, OutOfMemory>
-        ensures { IfOk result (λ said. stepped said (seen self.new) ≡ net_step self.old.draft (net_seen self.old.held.attrs net) (Named signed width) (kind_of lexeme.now) lexeme.now) }
+        ensures { IfOk result (λ said. stepped said (seen self.new)
+            ≡ net_step self.old.draft (net_seen self.old.held.attrs net) (Named signed width)
+            (kind_of lexeme.now) lexeme.now) }
     {
         if is_name(lexeme) {
             self.declared(alloc, net, signed, width, lexeme)
@@ -222,7 +241,7 @@ impl Reader {
     }
 
     /// The next lexeme in a declaration.
-    #[tactic(auto, unfolding(crate::specs::Plain::net_step))]
+    #[tactic(auto, unfolding(crate::specs::inner::Plain::net_step))]
     pub fn net_step(
         &mut self,
         alloc: Global,
@@ -230,7 +249,9 @@ impl Reader {
         at: NetSpot,
         lexeme: &[u8],
     ) -> Result<bool, OutOfMemory>
-        ensures { IfOk result (λ said. stepped said (seen self.new) ≡ net_step self.old.draft (net_seen self.old.held.attrs net) at (kind_of lexeme.now) lexeme.now) }
+        ensures { IfOk result (λ said. stepped said (seen self.new)
+            ≡ net_step self.old.draft (net_seen self.old.held.attrs net) at
+            (kind_of lexeme.now) lexeme.now) }
     {
         match at {
             NetSpot::Word => Ok(self.fixed(net, "wire", lexeme, NetSpot::Signed)),

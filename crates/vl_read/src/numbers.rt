@@ -1,7 +1,7 @@
 ghost use Rattle.std.specs.Prelude.{◌≡◌, ◌≤◌, ◌<◌, [], ◌∷◌, length, IfSome};
 ghost use Rattle.vl_ast.specs.Tokens.{base_of};
-ghost use Rattle.vl_read.specs.Lexemes.{number_after, dec_of, quote_place, sized_by, sized_after, sized_in, sized_of, kind_of};
-ghost use Rattle.vl_read.specs.Plain.{is_name, count_of, constant_of};
+ghost use Rattle.vl_read.specs.inner.Lexemes.{number_after, dec_of, quote_place, sized_by, sized_after, sized_in, sized_of, kind_of};
+ghost use Rattle.vl_read.specs.inner.Plain.{is_name, count_of, constant_of};
 
 use crate::scan::Kind;
 use vl_ast::{Sized, is_identifier};
@@ -45,7 +45,7 @@ fn with_digit(base: u32, number: u128, byte: u8) -> Option<u128>
 }
 
 /// A number of one to nine decimal digits.
-#[tactic(auto, using(crate::proofs::Digits::short_number), unfolding(crate::specs::Lexemes::dec_of))]
+#[tactic(auto, using(crate::proofs::Digits::short_number), unfolding(crate::specs::inner::Lexemes::dec_of))]
 fn dec_of(digits: &[u8]) -> Option<u32>
     ensures value { result ≡ dec_of digits.now }
     ensures small { IfSome result (λ number. number < 1000000000) }
@@ -132,7 +132,7 @@ fn quote_at(bytes: &[u8]) -> usize
 }
 
 /// A number with its width and its base (IEEE 1364-2005, 3.5.1).
-#[tactic(auto, using(crate::proofs::Digits::quote_some, crate::proofs::Digits::quote_none), unfolding(crate::specs::Lexemes::sized_of))]
+#[tactic(auto, using(crate::proofs::Digits::quote_some, crate::proofs::Digits::quote_none), unfolding(crate::specs::inner::Lexemes::sized_of))]
 fn sized_of(bytes: &[u8]) -> Option<Sized>
     ensures { result ≡ sized_of bytes.now }
 {
@@ -147,7 +147,7 @@ fn sized_of(bytes: &[u8]) -> Option<Sized>
 }
 
 /// What a lexeme may be.
-#[tactic(auto, unfolding(crate::specs::Lexemes::kind_of))]
+#[tactic(auto, unfolding(crate::specs::inner::Lexemes::kind_of))]
 pub fn kind_of(lexeme: &[u8]) -> Kind
     ensures { result ≡ kind_of lexeme.now }
 {

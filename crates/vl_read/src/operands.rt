@@ -1,19 +1,19 @@
 ghost use Rattle.std.specs.Prelude.{◌≡◌, ◌++◌, ◌∷◌, [], IfOk};
 ghost use Rattle.vl_read.specs.declared.places.Frame.TheVariants.{InConcat, InChosen};
 ghost use Rattle.vl_read.specs.declared.scan.Kind.TheVariants.{Fixed};
-ghost use Rattle.vl_read.specs.Lexemes.{kind_of};
-ghost use Rattle.vl_read.specs.Places.{Value, High};
-ghost use Rattle.vl_read.specs.Plain.{spot_at, expect_spot, compound_step, operand_step, opened_step, braced_step};
-ghost use Rattle.vl_read.specs.Seen.{seen, goal_of, frames_of, spot_of};
-ghost use Rattle.vl_read.specs.Turns.{stepped};
+ghost use Rattle.vl_read.specs.inner.Lexemes.{kind_of};
+ghost use Rattle.vl_read.specs.inner.Places.{Value, High};
+ghost use Rattle.vl_read.specs.inner.Plain.{spot_at, expect_spot, compound_step, operand_step, opened_step, braced_step};
+ghost use Rattle.vl_read.specs.inner.Seen.{seen, goal_of, frames_of, spot_of};
+ghost use Rattle.vl_read.specs.inner.Turns.{stepped};
 
 use crate::numbers::kind_of;
-use crate::pieces::{literal, named, unary_of};
-use crate::places::{Frame, Goal, Place, Reader, Spot};
+use crate::pieces::{literal, named};
+use crate::places::{Frame, Goal, Opening, Place, Reader, Spot};
 use crate::scan::{Kind, is};
 use fx_io::{OutOfMemory, Text};
 use std::alloc::Global;
-use vl_ast::Exprs;
+use vl_ast::{Exprs, UnOp};
 
 /// How deep expressions nest at most (own).
 const DEEPEST: usize = 256;
@@ -21,14 +21,18 @@ const DEEPEST: usize = 256;
 impl Reader {
     /// The reading goes on in the expression.
     pub fn spot(&mut self, goal: Goal, spot: Spot) -> bool
-        ensures { stepped result (seen self.new) ≡ spot_at self.old.draft (goal_of self.old goal) (frames_of self.old) (spot_of self.old spot) }
+        ensures { stepped result (seen self.new)
+            ≡ spot_at self.old.draft (goal_of self.old goal) (frames_of self.old)
+            (spot_of self.old spot) }
     {
         self.goes(Place::Expression { goal, spot })
     }
 
     /// The reading goes on in the expression, if the lexeme is this mark.
     pub fn expect_spot(&mut self, mark: u8, lexeme: &[u8], goal: Goal, spot: Spot) -> bool
-        ensures { stepped result (seen self.new) ≡ expect_spot mark lexeme.now self.old.draft (goal_of self.old goal) (frames_of self.old) (spot_of self.old spot) }
+        ensures { stepped result (seen self.new)
+            ≡ expect_spot mark lexeme.now self.old.draft (goal_of self.old goal)
+            (frames_of self.old) (spot_of self.old spot) }
     {
         match lexeme {
             [byte] if *byte == mark => self.spot(goal, spot),
@@ -38,16 +42,20 @@ impl Reader {
 
     /// The reading goes on in a further frame.
     pub fn inside(&mut self, goal: Goal, frame: Frame, spot: Spot) -> Result<bool, OutOfMemory>
-        ensures { IfOk result (λ said. stepped said (seen self.new) ≡ spot_at self.old.draft (goal_of self.old goal) (frames_of self.old ++ frame ∷ []) (spot_of self.old spot)) }
+        ensures { IfOk result (λ said. stepped said (seen self.new)
+            ≡ spot_at self.old.draft (goal_of self.old goal) (frames_of self.old
+            ++ frame ∷ []) (spot_of self.old spot)) }
     {
         self.held.frames.push(frame)?;
         Ok(self.spot(goal, spot))
     }
 
     /// An operand that is no name and no number.
-    #[tactic(auto, unfolding(crate::specs::Plain::compound_step))]
+    #[tactic(auto, unfolding(crate::specs::inner::Plain::compound_step))]
     fn compound_step(&mut self, goal: Goal, lexeme: &[u8]) -> Result<bool, OutOfMemory>
-        ensures { IfOk result (λ said. stepped said (seen self.new) ≡ compound_step self.old.draft (goal_of self.old goal) (frames_of self.old) lexeme.now) }
+        ensures { IfOk result (λ said. stepped said (seen self.new)
+            ≡ compound_step self.old.draft (goal_of self.old goal)
+            (frames_of self.old) lexeme.now) }
     {
         if self.held.frames.len() >= DEEPEST {
             Ok(false)
@@ -56,16 +64,24 @@ impl Reader {
         } else if is(lexeme, "{") {
             Ok(self.spot(goal, Spot::Braced))
         } else if is(lexeme, "$signed") {
-            self.inside(goal, Frame::InCast(true), Spot::Begins(b'('))
+            self.inside(
+                goal,
+                Frame::InCast(true),
+                Spot::Begins(Opening::OpenParenthesis),
+            )
         } else if is(lexeme, "$unsigned") {
-            self.inside(goal, Frame::InCast(false), Spot::Begins(b'('))
+            self.inside(
+                goal,
+                Frame::InCast(false),
+                Spot::Begins(Opening::OpenParenthesis),
+            )
         } else {
             Ok(false)
         }
     }
 
     /// Where an operand begins.
-    #[tactic(auto, unfolding(crate::specs::Plain::operand_step))]
+    #[tactic(auto, unfolding(crate::specs::inner::Plain::operand_step))]
     pub fn operand_step(
         &mut self,
         alloc: Global,
@@ -73,7 +89,9 @@ impl Reader {
         kind: Kind,
         lexeme: &[u8],
     ) -> Result<bool, OutOfMemory>
-        ensures { IfOk result (λ said. stepped said (seen self.new) ≡ operand_step self.old.draft (goal_of self.old goal) (frames_of self.old) kind lexeme.now) }
+        ensures { IfOk result (λ said. stepped said (seen self.new)
+            ≡ operand_step self.old.draft (goal_of self.old goal)
+            (frames_of self.old) kind lexeme.now) }
     {
         match kind {
             Kind::Name => {
@@ -98,21 +116,25 @@ impl Reader {
         kind: Kind,
         lexeme: &[u8],
     ) -> Result<bool, OutOfMemory>
-        ensures { IfOk result (λ said. stepped said (seen self.new) ≡ operand_step self.old.draft (goal_of self.old goal) (frames_of self.old ++ frame ∷ []) kind lexeme.now) }
+        ensures { IfOk result (λ said. stepped said (seen self.new)
+            ≡ operand_step self.old.draft (goal_of self.old goal) (frames_of self.old
+            ++ frame ∷ []) kind lexeme.now) }
     {
         self.held.frames.push(frame)?;
         self.operand_step(alloc, goal, kind, lexeme)
     }
 
     /// After `(`.
-    #[tactic(auto, unfolding(crate::specs::Plain::opened_step, crate::specs::Plain::operand_step, crate::specs::Plain::unary_or_left))]
+    #[tactic(auto, unfolding(crate::specs::inner::Plain::opened_step, crate::specs::inner::Plain::operand_step, crate::specs::inner::Plain::unary_or_left))]
     pub fn opened_step(
         &mut self,
         alloc: Global,
         goal: Goal,
         lexeme: &[u8],
     ) -> Result<bool, OutOfMemory>
-        ensures { IfOk result (λ said. stepped said (seen self.new) ≡ opened_step self.old.draft (goal_of self.old goal) (frames_of self.old) (kind_of lexeme.now) lexeme.now) }
+        ensures { IfOk result (λ said. stepped said (seen self.new)
+            ≡ opened_step self.old.draft (goal_of self.old goal) (frames_of self.old)
+            (kind_of lexeme.now) lexeme.now) }
     {
         let kind = kind_of(lexeme);
         match kind {
@@ -124,7 +146,7 @@ impl Reader {
                 lexeme,
             ),
             Kind::Count(_) => Ok(false),
-            Kind::Fixed => match unary_of(lexeme) {
+            Kind::Fixed => match UnOp::of_text(lexeme) {
                 Some(op) => self.inside(goal, Frame::InUnary(op), Spot::Operand),
                 None => self.operand_in(alloc, goal, Frame::InLeft, kind, lexeme),
             },
@@ -132,18 +154,24 @@ impl Reader {
     }
 
     /// After `{`.
-    #[tactic(auto, unfolding(crate::specs::Plain::braced_step, crate::specs::Plain::operand_step))]
+    #[tactic(auto, unfolding(crate::specs::inner::Plain::braced_step, crate::specs::inner::Plain::operand_step))]
     pub fn braced_step(
         &mut self,
         alloc: Global,
         goal: Goal,
         lexeme: &[u8],
     ) -> Result<bool, OutOfMemory>
-        ensures { IfOk result (λ said. stepped said (seen self.new) ≡ braced_step self.old.draft (goal_of self.old goal) (frames_of self.old) (kind_of lexeme.now) lexeme.now) }
+        ensures { IfOk result (λ said. stepped said (seen self.new)
+            ≡ braced_step self.old.draft (goal_of self.old goal) (frames_of self.old)
+            (kind_of lexeme.now) lexeme.now) }
     {
         let kind = kind_of(lexeme);
         match kind {
-            Kind::Count(number) => self.inside(goal, Frame::InRepeat(number), Spot::Begins(b'{')),
+            Kind::Count(number) => self.inside(
+                goal,
+                Frame::InRepeat(number),
+                Spot::Begins(Opening::OpenBrace),
+            ),
             Kind::Name | Kind::Constant(_) | Kind::Fixed => self.operand_in(
                 alloc,
                 goal,

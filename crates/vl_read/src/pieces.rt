@@ -1,10 +1,9 @@
 ghost use Rattle.std.specs.Prelude.{◌≡◌, IfOk, MatchOption, Some, None, if◌then◌else◌};
 ghost use Rattle.vl_ast.specs.declared.expressions.Expr.TheOpen.{Expr-F};
 ghost use Rattle.vl_ast.specs.declared.expressions.Expr.TheViews.{roll-Expr};
-ghost use Rattle.vl_read.specs.Plain.{innermost, unary_of, infix_of, shift_of};
+ghost use Rattle.vl_read.specs.inner.Plain.{innermost};
 
 use crate::places::Frame;
-use crate::scan::is;
 use fx_io::{Boxed, OutOfMemory, Text};
 use std::alloc::Global;
 use vl_ast::{BinOp, Expr, Exprs, ShiftOp, Sized, UnOp};
@@ -53,7 +52,8 @@ pub fn repeat(alloc: Global, count: u32, part: Expr) -> Result<Expr, OutOfMemory
 
 /// `$signed` or `$unsigned`.
 pub fn cast(alloc: Global, signed: bool, part: Expr) -> Result<Expr, OutOfMemory>
-    ensures { IfOk result (λ e. e ≡ (if signed then roll-Expr (Expr-F.AsSigned part) else roll-Expr (Expr-F.AsUnsigned part))) }
+    ensures { IfOk result (λ e.
+        e ≡ (if signed then roll-Expr (Expr-F.AsSigned part) else roll-Expr (Expr-F.AsUnsigned part))) }
 {
     let part = Boxed::new(alloc, part)?;
     if signed {
@@ -96,78 +96,11 @@ pub fn choose(alloc: Global, test: Expr, chosen: Expr, other: Expr) -> Result<Ex
 
 /// Takes the innermost frame off.
 pub fn innermost(frames: &mut Vec<Frame>) -> Option<Frame>
-    ensures { MatchOption result (innermost frames.old.items ≡ None) (λ frame. innermost frames.old.items ≡ Some (frames.new.items, frame)) }
+    ensures { MatchOption result (innermost frames.old.items ≡ None)
+        (λ frame. innermost frames.old.items ≡ Some (frames.new.items, frame)) }
 {
     match frames.pop() {
         None => None,
         Some(frame) => Some(frame),
-    }
-}
-
-/// An operator before its operand.
-pub fn unary_of(lexeme: &[u8]) -> Option<UnOp>
-    ensures { result ≡ unary_of lexeme.now }
-{
-    if is(lexeme, "-") {
-        Some(UnOp::Negate)
-    } else if is(lexeme, "~") {
-        Some(UnOp::Invert)
-    } else if is(lexeme, "!") {
-        Some(UnOp::IsZero)
-    } else {
-        None
-    }
-}
-
-/// An operator between its operands.
-#[tactic(auto, unfolding(crate::specs::Plain::infix_of))]
-pub fn infix_of(lexeme: &[u8]) -> Option<BinOp>
-    ensures { result ≡ infix_of lexeme.now }
-{
-    if is(lexeme, "+") {
-        Some(BinOp::Add)
-    } else if is(lexeme, "-") {
-        Some(BinOp::Subtract)
-    } else if is(lexeme, "*") {
-        Some(BinOp::Multiply)
-    } else if is(lexeme, "&") {
-        Some(BinOp::And)
-    } else if is(lexeme, "|") {
-        Some(BinOp::Or)
-    } else if is(lexeme, "^") {
-        Some(BinOp::Xor)
-    } else if is(lexeme, "==") {
-        Some(BinOp::Equal)
-    } else if is(lexeme, "!=") {
-        Some(BinOp::NotEqual)
-    } else if is(lexeme, "<") {
-        Some(BinOp::Less)
-    } else if is(lexeme, "<=") {
-        Some(BinOp::LessEqual)
-    } else if is(lexeme, ">") {
-        Some(BinOp::Greater)
-    } else if is(lexeme, ">=") {
-        Some(BinOp::GreaterEqual)
-    } else if is(lexeme, "&&") {
-        Some(BinOp::Both)
-    } else if is(lexeme, "||") {
-        Some(BinOp::Either)
-    } else {
-        None
-    }
-}
-
-/// A shift.
-pub fn shift_of(lexeme: &[u8]) -> Option<ShiftOp>
-    ensures { result ≡ shift_of lexeme.now }
-{
-    if is(lexeme, "<<") {
-        Some(ShiftOp::Left)
-    } else if is(lexeme, ">>") {
-        Some(ShiftOp::Right)
-    } else if is(lexeme, ">>>") {
-        Some(ShiftOp::RightSigned)
-    } else {
-        None
     }
 }

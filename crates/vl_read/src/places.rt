@@ -22,6 +22,57 @@ pub enum Frame {
     InOther(Expr, Expr),
 }
 
+/// A mark that opens what is read next.
+#[derive(Clone, Copy)]
+pub enum Opening {
+    /// `(`
+    OpenParenthesis,
+    /// `{`
+    OpenBrace,
+}
+
+impl Opening {
+    ghost use Rattle.std.specs.Prelude.{◌≡◌};
+    ghost use Rattle.vl_read.specs.inner.Places.{opening_byte};
+
+    /// The mark itself.
+    pub fn byte(self) -> u8
+        ensures { result ≡ opening_byte self }
+    {
+        match self {
+            Opening::OpenParenthesis => b'(',
+            Opening::OpenBrace => b'{',
+        }
+    }
+}
+
+/// A mark that closes what was read.
+#[derive(Clone, Copy)]
+pub enum Closing {
+    /// `)`
+    CloseParenthesis,
+    /// `}`
+    CloseBrace,
+    /// `]`
+    CloseBracket,
+}
+
+impl Closing {
+    ghost use Rattle.std.specs.Prelude.{◌≡◌};
+    ghost use Rattle.vl_read.specs.inner.Places.{closing_byte};
+
+    /// The mark itself.
+    pub fn byte(self) -> u8
+        ensures { result ≡ closing_byte self }
+    {
+        match self {
+            Closing::CloseParenthesis => b')',
+            Closing::CloseBrace => b'}',
+            Closing::CloseBracket => b']',
+        }
+    }
+}
+
 /// Where in an expression the reading is.
 #[derive(Clone, Copy)]
 pub enum Spot {
@@ -32,11 +83,11 @@ pub enum Spot {
     /// After `{`.
     Braced,
     /// This mark is next, and then an operand begins.
-    Begins(u8),
+    Begins(Opening),
     /// An operand was read.
     Value,
     /// This mark is next, and then the operand was read.
-    Ends(u8),
+    Ends(Closing),
     /// The amount of a shift is next.
     Amount(ShiftOp),
     /// After a name and `[`.

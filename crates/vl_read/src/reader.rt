@@ -1,8 +1,8 @@
 ghost use Rattle.std.specs.Prelude.{◌≡◌, [], ◌∷◌, ◌++◌, IfOk};
-ghost use Rattle.vl_read.specs.Places.{Items};
-ghost use Rattle.vl_read.specs.Plain.{expect, start, finish, goes};
-ghost use Rattle.vl_read.specs.Seen.{seen, place_seen, nothing};
-ghost use Rattle.vl_read.specs.Turns.{stepped};
+ghost use Rattle.vl_read.specs.inner.Places.{Items};
+ghost use Rattle.vl_read.specs.inner.Plain.{expect, start, finish, goes};
+ghost use Rattle.vl_read.specs.inner.Seen.{seen, place_seen, nothing};
+ghost use Rattle.vl_read.specs.inner.Turns.{stepped};
 
 use crate::places::{Draft, Held, Place, Reader};
 use crate::scan::is;
@@ -73,7 +73,8 @@ impl Reader {
 
     /// The reading goes on at a place.
     pub fn goes(&mut self, place: Place) -> bool
-        ensures { stepped result (seen self.new) ≡ goes self.old.draft (place_seen self.old.held place) }
+        ensures { stepped result (seen self.new)
+            ≡ goes self.old.draft (place_seen self.old.held place) }
     {
         self.place = place;
         true
@@ -81,7 +82,8 @@ impl Reader {
 
     /// The reading goes on at a place, if the lexeme is this word.
     pub fn expect(&mut self, word: &str, lexeme: &[u8], place: Place) -> bool
-        ensures { stepped result (seen self.new) ≡ expect word.now lexeme.now self.old.draft (place_seen self.old.held place) }
+        ensures { stepped result (seen self.new)
+            ≡ expect word.now lexeme.now self.old.draft (place_seen self.old.held place) }
     {
         if !is(lexeme, word) {
             return false;
@@ -108,7 +110,9 @@ impl Reader {
     /// Hands out the operand that was read last.
     pub fn take_value(&mut self) -> Expr
         ensures value { result ≡ self.old.held.value }
-        ensures rest { self.new ≡ record self.old { held = record self.old.held { value = nothing } } }
+        ensures rest { self.new ≡ record self.old {
+          held = record self.old.held { value = nothing };
+        } }
     {
         mem::replace(&mut self.held.value, Expr::Literal(NOTHING))
     }
@@ -120,7 +124,11 @@ impl Reader {
         lexeme: &[u8],
         item: ModItem,
     ) -> Result<bool, OutOfMemory>
-        ensures { IfOk result (λ said. stepped said (seen self.new) ≡ expect word.now lexeme.now (record self.old.draft { items = self.old.draft.items ++ item ∷ [] }) Items) }
+        ensures { IfOk result (λ said. stepped said (seen self.new)
+            ≡ expect word.now lexeme.now (record self.old.draft {
+              items = self.old.draft.items
+                  ++ item ∷ [];
+            }) Items) }
     {
         self.draft.items.push(item)?;
         Ok(self.expect(word, lexeme, Place::Items))

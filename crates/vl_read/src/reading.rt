@@ -1,10 +1,10 @@
 ghost use Rattle.std.specs.Prelude.{◌≡◌, ◌≤◌, ◌<◌, ◌+◌, ◌-◌, ◌^◌, ◌==◌, if◌then◌else◌, Some, None, Bool, true, false, length, IfOk, OnOk, option_and_then};
 ghost use Rattle.vl_ast.specs.Grammar.{Spells, most_items};
-ghost use Rattle.vl_read.specs.Lexemes.{last_lexemes};
-ghost use Rattle.vl_read.specs.Plain.{parse, reading};
+ghost use Rattle.vl_read.specs.inner.Lexemes.{last_lexemes};
+ghost use Rattle.vl_read.specs.inner.Plain.{parse, reading};
 ghost use Rattle.vl_read.specs.Prefix.{IsRefused, IsVerilogFaultLine, IfSyntax};
-ghost use Rattle.vl_read.specs.Seen.{seen};
-ghost use Rattle.vl_read.specs.Turns.{start_after, ended_by, feed, stepped};
+ghost use Rattle.vl_read.specs.inner.Seen.{seen};
+ghost use Rattle.vl_read.specs.inner.Turns.{start_after, ended_by, feed, stepped};
 
 use crate::fault::VlSyntax;
 use crate::places::Reader;
@@ -19,7 +19,8 @@ const MOST_ITEMS: usize = 4_000_000;
 
 /// Reads the lexeme that ends before a byte, if one does. `false` where it may not stand there.
 fn fed(reader: &mut Reader, alloc: Global, ends: bool, lexeme: &[u8]) -> Result<bool, OutOfMemory>
-    ensures { IfOk result (λ said. stepped said (seen reader.new) ≡ feed (seen reader.old) (ended_by ends lexeme.now)) }
+    ensures { IfOk result (λ said. stepped said (seen reader.new)
+        ≡ feed (seen reader.old) (ended_by ends lexeme.now)) }
 {
     if ends {
         reader.step(alloc, lexeme)
@@ -55,7 +56,8 @@ fn last(
     mode: Mode,
     lexeme: &[u8],
 ) -> Result<Option<Module>, OutOfMemory>
-    ensures { IfOk result (λ m. m ≡ option_and_then (parse (seen reader)) (last_lexemes mode lexeme.now)) }
+    ensures { IfOk result (λ m. m
+        ≡ option_and_then (parse (seen reader)) (last_lexemes mode lexeme.now)) }
 {
     match mode {
         Mode::Between | Mode::LineComment => Ok(reader.finish()),

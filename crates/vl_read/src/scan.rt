@@ -1,6 +1,6 @@
 ghost use Rattle.std.specs.Prelude.{◌≡◌, bytes_eq};
 ghost use Rattle.vl_ast.specs.Tokens.{is_blank};
-ghost use Rattle.vl_read.specs.Lexemes.{is_word_byte, is_mark_byte, class_of, extends};
+ghost use Rattle.vl_read.specs.inner.Lexemes.{is_word_byte, is_mark_byte, class_of, extends};
 
 use vl_ast::Sized;
 
@@ -100,7 +100,7 @@ fn is_mark_byte(byte: u8) -> bool
 }
 
 /// What a byte is outside of comments.
-#[tactic(auto, unfolding(crate::specs::Lexemes::class_of))]
+#[tactic(auto, unfolding(crate::specs::inner::Lexemes::class_of))]
 pub fn class_of(byte: u8) -> ByteClass
     ensures { result ≡ class_of byte }
 {
@@ -118,7 +118,7 @@ pub fn class_of(byte: u8) -> ByteClass
 }
 
 /// Whether a mark and the byte after it are one mark, or the beginning of one (the longest is taken).
-#[tactic(auto, unfolding(crate::specs::Lexemes::extends))]
+#[tactic(auto, unfolding(crate::specs::inner::Lexemes::extends))]
 pub fn extends(mark: &[u8], byte: u8) -> bool
     ensures { result ≡ extends mark.now byte }
 {

@@ -1,11 +1,11 @@
 ghost use Rattle.std.specs.Prelude.{◌≡◌, [], IfOk, None};
 ghost use Rattle.vl_ast.specs.declared.modules.ModItem.TheVariants.{Wire, Reg, Always};
 ghost use Rattle.vl_read.specs.declared.scan.Kind.TheVariants.{Fixed};
-ghost use Rattle.vl_read.specs.Lexemes.{kind_of};
-ghost use Rattle.vl_read.specs.Places.{Items, Start, Port, AfterPort, Title, Head, Branch, First, Expression, Operand, End, Semicolon};
-ghost use Rattle.vl_read.specs.Plain.{expect, step, step_at, item_step, again_step, head_word, on_name, goes};
-ghost use Rattle.vl_read.specs.Seen.{seen, place_seen, goal_of};
-ghost use Rattle.vl_read.specs.Turns.{stepped};
+ghost use Rattle.vl_read.specs.inner.Lexemes.{kind_of};
+ghost use Rattle.vl_read.specs.inner.Places.{Items, Start, Port, AfterPort, Title, Head, Branch, First, Expression, Operand, End, Semicolon};
+ghost use Rattle.vl_read.specs.inner.Plain.{expect, step, step_at, item_step, again_step, head_word, on_name, goes};
+ghost use Rattle.vl_read.specs.inner.Seen.{seen, place_seen, goal_of};
+ghost use Rattle.vl_read.specs.inner.Turns.{stepped};
 
 use crate::nets::has_none;
 use crate::numbers::{constant_of, is_name};
@@ -17,7 +17,7 @@ use vl_ast::{Attrs, ModItem};
 
 impl Reader {
     /// The first word of an item.
-    #[tactic(auto, unfolding(crate::specs::Plain::item_step))]
+    #[tactic(auto, unfolding(crate::specs::inner::Plain::item_step))]
     fn item_step(&mut self, lexeme: &[u8]) -> bool
         ensures { stepped result (seen self.new) ≡ item_step self.old.draft lexeme.now }
     {
@@ -36,7 +36,7 @@ impl Reader {
     }
 
     /// An item or the end.
-    #[tactic(auto, unfolding(crate::specs::Plain::step_at))]
+    #[tactic(auto, unfolding(crate::specs::inner::Plain::step_at))]
     fn items_step(&mut self, lexeme: &[u8]) -> bool
         ensures { stepped result (seen self.new) ≡ step_at self.old.draft Items Fixed lexeme.now }
     {
@@ -50,7 +50,7 @@ impl Reader {
     }
 
     /// The attributes of the module, or its first word.
-    #[tactic(auto, unfolding(crate::specs::Plain::step_at))]
+    #[tactic(auto, unfolding(crate::specs::inner::Plain::step_at))]
     fn start_step(&mut self, alloc: Global, lexeme: &[u8]) -> bool
         ensures { stepped result (seen self.new) ≡ step_at self.old.draft Start Fixed lexeme.now }
     {
@@ -66,9 +66,10 @@ impl Reader {
     }
 
     /// The attributes of a port, or its direction.
-    #[tactic(auto, unfolding(crate::specs::Plain::step_at))]
+    #[tactic(auto, unfolding(crate::specs::inner::Plain::step_at))]
     fn port_step(&mut self, alloc: Global, lexeme: &[u8]) -> bool
-        ensures { stepped result (seen self.new) ≡ step_at self.old.draft (Port self.old.held.attrs) Fixed lexeme.now }
+        ensures { stepped result (seen self.new)
+            ≡ step_at self.old.draft (Port self.old.held.attrs) Fixed lexeme.now }
     {
         let at = NetSpot::Word;
         if is(lexeme, "(*") && has_none(&self.held.attrs) {
@@ -88,16 +89,18 @@ impl Reader {
 
     /// A port begins, if the lexeme is this word.
     fn first_port(&mut self, alloc: Global, word: &str, lexeme: &[u8]) -> bool
-        ensures { stepped result (seen self.new) ≡ expect word.now lexeme.now self.old.draft (Port []) }
+        ensures { stepped result (seen self.new)
+            ≡ expect word.now lexeme.now self.old.draft (Port []) }
     {
         self.held.attrs = Attrs::new(alloc);
         self.expect(word, lexeme, Place::Port)
     }
 
     /// After a port.
-    #[tactic(auto, unfolding(crate::specs::Plain::step_at))]
+    #[tactic(auto, unfolding(crate::specs::inner::Plain::step_at))]
     fn after_port(&mut self, alloc: Global, lexeme: &[u8]) -> bool
-        ensures { stepped result (seen self.new) ≡ step_at self.old.draft AfterPort Fixed lexeme.now }
+        ensures { stepped result (seen self.new)
+            ≡ step_at self.old.draft AfterPort Fixed lexeme.now }
     {
         if is(lexeme, ",") {
             self.first_port(alloc, ",", lexeme)
@@ -108,7 +111,9 @@ impl Reader {
 
     /// An expression begins, if the lexeme is this word.
     fn expression(&mut self, word: &str, lexeme: &[u8], goal: Goal) -> bool
-        ensures { stepped result (seen self.new) ≡ expect word.now lexeme.now self.old.draft (Expression (goal_of self.old goal) [] Operand) }
+        ensures { stepped result (seen self.new)
+            ≡ expect word.now lexeme.now self.old.draft
+            (Expression (goal_of self.old goal) [] Operand) }
     {
         self.held.frames.clear();
         let spot = Spot::Operand;
@@ -116,9 +121,10 @@ impl Reader {
     }
 
     /// The name of the module.
-    #[tactic(auto, unfolding(crate::specs::Plain::step_at))]
+    #[tactic(auto, unfolding(crate::specs::inner::Plain::step_at))]
     fn title_step(&mut self, alloc: Global, lexeme: &[u8]) -> Result<bool, OutOfMemory>
-        ensures { IfOk result (λ said. stepped said (seen self.new) ≡ step_at self.old.draft Title (kind_of lexeme.now) lexeme.now) }
+        ensures { IfOk result (λ said. stepped said (seen self.new)
+            ≡ step_at self.old.draft Title (kind_of lexeme.now) lexeme.now) }
     {
         if !is_name(lexeme) {
             return Ok(false);
@@ -129,7 +135,10 @@ impl Reader {
 
     /// A name, which is held.
     fn name_step(&mut self, alloc: Global, lexeme: &[u8], place: Place) -> Result<bool, OutOfMemory>
-        ensures { IfOk result (λ said. stepped said (seen self.new) ≡ on_name (kind_of lexeme.now) (goes self.old.draft (place_seen (record self.old.held { name = lexeme.now }) place)) None) }
+        ensures { IfOk result (λ said. stepped said (seen self.new)
+            ≡ on_name (kind_of lexeme.now)
+            (goes self.old.draft
+            (place_seen (record self.old.held { name = lexeme.now }) place)) None) }
     {
         if !is_name(lexeme) {
             return Ok(false);
@@ -139,9 +148,10 @@ impl Reader {
     }
 
     /// A word of the head of an item with a clock.
-    #[tactic(auto, unfolding(crate::specs::Plain::step_at))]
+    #[tactic(auto, unfolding(crate::specs::inner::Plain::step_at))]
     fn head_step(&mut self, at: u8, lexeme: &[u8]) -> bool
-        ensures { stepped result (seen self.new) ≡ step_at self.old.draft (Head at) Fixed lexeme.now }
+        ensures { stepped result (seen self.new)
+            ≡ step_at self.old.draft (Head at) Fixed lexeme.now }
     {
         let word = head_word(at);
         if at < 9 {
@@ -153,7 +163,14 @@ impl Reader {
 
     /// The same name again.
     fn again_step(&mut self, lexeme: &[u8]) -> bool
-        ensures { stepped result (seen self.new) ≡ again_step self.old.draft (record { name = self.old.held.name; first = self.old.held.first; condition = self.old.held.condition }) lexeme.now }
+        ensures { stepped result (seen self.new)
+            ≡ again_step self.old.draft
+            (record {
+              name = self.old.held.name;
+              first = self.old.held.first;
+              condition =
+                  self.old.held.condition;
+            }) lexeme.now }
     {
         if lexeme != self.held.name.bytes() {
             return false;
@@ -162,9 +179,11 @@ impl Reader {
     }
 
     /// `if`, or the name again.
-    #[tactic(auto, unfolding(crate::specs::Plain::step_at))]
+    #[tactic(auto, unfolding(crate::specs::inner::Plain::step_at))]
     fn branch_step(&mut self, lexeme: &[u8]) -> bool
-        ensures { stepped result (seen self.new) ≡ step_at self.old.draft (Branch self.old.held.name self.old.held.first) (kind_of lexeme.now) lexeme.now }
+        ensures { stepped result (seen self.new)
+            ≡ step_at self.old.draft (Branch self.old.held.name self.old.held.first)
+            (kind_of lexeme.now) lexeme.now }
     {
         if is_name(lexeme) {
             self.held.condition = None;
@@ -175,9 +194,10 @@ impl Reader {
     }
 
     /// The value at a reset.
-    #[tactic(auto, unfolding(crate::specs::Plain::step_at))]
+    #[tactic(auto, unfolding(crate::specs::inner::Plain::step_at))]
     fn first_step(&mut self, lexeme: &[u8]) -> bool
-        ensures { stepped result (seen self.new) ≡ step_at self.old.draft (First self.old.held.name) (kind_of lexeme.now) lexeme.now }
+        ensures { stepped result (seen self.new)
+            ≡ step_at self.old.draft (First self.old.held.name) (kind_of lexeme.now) lexeme.now }
     {
         match constant_of(lexeme) {
             None => false,
@@ -189,9 +209,12 @@ impl Reader {
     }
 
     /// An item with a clock ends.
-    #[tactic(auto, unfolding(crate::specs::Plain::step_at))]
+    #[tactic(auto, unfolding(crate::specs::inner::Plain::step_at))]
     fn clocked_end(&mut self, alloc: Global, lexeme: &[u8]) -> Result<bool, OutOfMemory>
-        ensures { IfOk result (λ said. stepped said (seen self.new) ≡ step_at self.old.draft (End (Always self.old.held.name self.old.held.first self.old.held.condition self.old.held.value)) Fixed lexeme.now) }
+        ensures { IfOk result (λ said. stepped said (seen self.new)
+            ≡ step_at self.old.draft
+            (End (Always self.old.held.name self.old.held.first self.old.held.condition
+            self.old.held.value)) Fixed lexeme.now) }
     {
         let name = self.take_name(alloc);
         let value = self.take_value();
@@ -206,7 +229,7 @@ impl Reader {
     }
 
     /// A wire's declaration ends.
-    #[tactic(auto, unfolding(crate::specs::Plain::step_at))]
+    #[tactic(auto, unfolding(crate::specs::inner::Plain::step_at))]
     fn wire_end(
         &mut self,
         alloc: Global,
@@ -214,7 +237,9 @@ impl Reader {
         width: u32,
         lexeme: &[u8],
     ) -> Result<bool, OutOfMemory>
-        ensures { IfOk result (λ said. stepped said (seen self.new) ≡ step_at self.old.draft (Semicolon (Wire signed width self.old.held.name)) Fixed lexeme.now) }
+        ensures { IfOk result (λ said. stepped said (seen self.new)
+            ≡ step_at self.old.draft
+            (Semicolon (Wire signed width self.old.held.name)) Fixed lexeme.now) }
     {
         let name = self.take_name(alloc);
         let item = ModItem::Wire {
@@ -226,7 +251,7 @@ impl Reader {
     }
 
     /// A register's declaration ends.
-    #[tactic(auto, unfolding(crate::specs::Plain::step_at))]
+    #[tactic(auto, unfolding(crate::specs::inner::Plain::step_at))]
     fn register_end(
         &mut self,
         alloc: Global,
@@ -234,7 +259,9 @@ impl Reader {
         width: u32,
         lexeme: &[u8],
     ) -> Result<bool, OutOfMemory>
-        ensures { IfOk result (λ said. stepped said (seen self.new) ≡ step_at self.old.draft (Semicolon (Reg signed width self.old.held.name)) Fixed lexeme.now) }
+        ensures { IfOk result (λ said. stepped said (seen self.new)
+            ≡ step_at self.old.draft
+            (Semicolon (Reg signed width self.old.held.name)) Fixed lexeme.now) }
     {
         let name = self.take_name(alloc);
         let item = ModItem::Reg {
@@ -246,9 +273,11 @@ impl Reader {
     }
 
     /// The next lexeme, at a place.
-    #[tactic(auto, unfolding(crate::specs::Plain::step_at))]
+    #[tactic(auto, unfolding(crate::specs::inner::Plain::step_at))]
     fn step_at(&mut self, alloc: Global, place: Place, lexeme: &[u8]) -> Result<bool, OutOfMemory>
-        ensures { IfOk result (λ said. stepped said (seen self.new) ≡ step_at self.old.draft (place_seen self.old.held place) (kind_of lexeme.now) lexeme.now) }
+        ensures { IfOk result (λ said. stepped said (seen self.new)
+            ≡ step_at self.old.draft (place_seen self.old.held place)
+            (kind_of lexeme.now) lexeme.now) }
     {
         match place {
             Place::Start => Ok(self.start_step(alloc, lexeme)),
@@ -281,9 +310,10 @@ impl Reader {
     }
 
     /// Reads the next lexeme. `false` where no module goes on so; the reader is of no further use then.
-    #[tactic(auto, unfolding(crate::specs::Plain::step))]
+    #[tactic(auto, unfolding(crate::specs::inner::Plain::step))]
     pub fn step(&mut self, alloc: Global, lexeme: &[u8]) -> Result<bool, OutOfMemory>
-        ensures { IfOk result (λ said. stepped said (seen self.new) ≡ step (seen self.old) lexeme.now) }
+        ensures { IfOk result (λ said. stepped said (seen self.new)
+            ≡ step (seen self.old) lexeme.now) }
     {
         self.step_at(alloc, self.place, lexeme)
     }

@@ -1,7 +1,7 @@
 ghost use Rattle.std.specs.Prelude.{◌≡◌, Some, true, false, option_map};
 ghost use Rattle.vl_read.specs.declared.turns.Pending.TheVariants.{Gone};
-ghost use Rattle.vl_read.specs.Lexemes.{move, outside, class_of};
-ghost use Rattle.vl_read.specs.Turns.{turned, begun};
+ghost use Rattle.vl_read.specs.inner.Lexemes.{move, outside, class_of};
+ghost use Rattle.vl_read.specs.inner.Turns.{turned, begun};
 
 use crate::scan::{ByteClass, Mode, class_of, extends};
 
@@ -56,7 +56,8 @@ fn begin(ends: bool, class: ByteClass) -> Option<Turn>
 
 /// A byte outside of comments.
 fn outside(mode: Mode, lexeme: &[u8], byte: u8) -> Option<Turn>
-    ensures { option_map (turned lexeme.now byte) result ≡ outside mode lexeme.now (class_of byte) byte }
+    ensures { option_map (turned lexeme.now byte) result
+        ≡ outside mode lexeme.now (class_of byte) byte }
 {
     let class = class_of(byte);
     let longer = match (mode, class) {

@@ -14,7 +14,8 @@ fn put_attr(out: &mut Vec<u8>, attr: &Attr) -> Result<(), OutOfMemory>
 }
 
 fn put_attr_list(out: &mut Vec<u8>, attrs: &[Attr]) -> Result<(), OutOfMemory>
-    ensures { OnOk result (out.new.items ≡ out.old.items ++ joined (codes ", ") (map attr_text attrs.now)) }
+    ensures { OnOk result (out.new.items
+        ≡ out.old.items ++ joined (codes ", ") (map attr_text attrs.now)) }
 {
     let Some((first, others)) = attrs.split_first() else {
         return Ok(());

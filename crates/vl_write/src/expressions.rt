@@ -1,53 +1,13 @@
 ghost use Rattle.std.specs.Prelude.{◌≡◌, ◌++◌, OnOk, map, codes, decimal};
-ghost use Rattle.vl_ast.specs.Spelling.{joined, expr_text, unary_text, binary_text, shift_text};
+ghost use Rattle.vl_ast.specs.Spelling.{joined, expr_text, sized_text};
 
 use crate::pieces::{put, put_number, put_sized};
 use fx_io::OutOfMemory;
-use vl_ast::{BinOp, Expr, ShiftOp, UnOp};
-
-fn unary_sign(op: UnOp) -> &'static [u8]
-    ensures { result.now ≡ codes "(" ++ unary_text op ++ codes " " }
-{
-    match op {
-        UnOp::Negate => b"(- ",
-        UnOp::Invert => b"(~ ",
-        UnOp::IsZero => b"(! ",
-    }
-}
-
-fn binary_sign(op: BinOp) -> &'static [u8]
-    ensures { result.now ≡ codes " " ++ binary_text op ++ codes " " }
-{
-    match op {
-        BinOp::Add => b" + ",
-        BinOp::Subtract => b" - ",
-        BinOp::Multiply => b" * ",
-        BinOp::And => b" & ",
-        BinOp::Or => b" | ",
-        BinOp::Xor => b" ^ ",
-        BinOp::Equal => b" == ",
-        BinOp::NotEqual => b" != ",
-        BinOp::Less => b" < ",
-        BinOp::LessEqual => b" <= ",
-        BinOp::Greater => b" > ",
-        BinOp::GreaterEqual => b" >= ",
-        BinOp::Both => b" && ",
-        BinOp::Either => b" || ",
-    }
-}
-
-fn shift_sign(op: ShiftOp) -> &'static [u8]
-    ensures { result.now ≡ codes " " ++ shift_text op ++ codes " " }
-{
-    match op {
-        ShiftOp::Left => b" << ",
-        ShiftOp::Right => b" >> ",
-        ShiftOp::RightSigned => b" >>> ",
-    }
-}
+use vl_ast::{Expr, Sized};
 
 fn put_bit(out: &mut Vec<u8>, name: &[u8], place: u32) -> Result<(), OutOfMemory>
-    ensures { OnOk result (out.new.items ≡ out.old.items ++ (name.now ++ codes " [" ++ decimal place ++ codes "]")) }
+    ensures { OnOk result (out.new.items
+        ≡ out.old.items ++ (name.now ++ codes " [" ++ decimal place ++ codes "]")) }
 {
     put(out, name)?;
     put(out, b" [")?;
@@ -56,7 +16,9 @@ fn put_bit(out: &mut Vec<u8>, name: &[u8], place: u32) -> Result<(), OutOfMemory
 }
 
 fn put_part(out: &mut Vec<u8>, name: &[u8], high: u32, low: u32) -> Result<(), OutOfMemory>
-    ensures { OnOk result (out.new.items ≡ out.old.items ++ (name.now ++ codes " [" ++ decimal high ++ codes ":" ++ decimal low ++ codes "]")) }
+    ensures { OnOk result (out.new.items
+        ≡ out.old.items ++
+        (name.now ++ codes " [" ++ decimal high ++ codes ":" ++ decimal low ++ codes "]")) }
 {
     put(out, name)?;
     put(out, b" [")?;
@@ -67,11 +29,21 @@ fn put_part(out: &mut Vec<u8>, name: &[u8], high: u32, low: u32) -> Result<(), O
 }
 
 fn put_count(out: &mut Vec<u8>, count: u32) -> Result<(), OutOfMemory>
-    ensures { OnOk result (out.new.items ≡ out.old.items ++ (codes "{" ++ decimal count ++ codes " {")) }
+    ensures { OnOk result (out.new.items
+        ≡ out.old.items ++ (codes "{" ++ decimal count ++ codes " {")) }
 {
     put(out, b"{")?;
     put_number(out, u128::from(count))?;
     put(out, b" {")
+}
+
+fn put_amount(out: &mut Vec<u8>, amount: &Sized) -> Result<(), OutOfMemory>
+    ensures { OnOk result (out.new.items
+        ≡ out.old.items ++ (codes " " ++ sized_text amount.now ++ codes ")")) }
+{
+    put(out, b" ")?;
+    put_sized(out, amount)?;
+    put(out, b")")
 }
 
 /// Puts an expression. The recursion is as deep as the expression nests.
@@ -95,15 +67,20 @@ pub fn put_expr(out: &mut Vec<u8>, e: &Expr) -> Result<(), OutOfMemory>
         }
         Expr::AsSigned(part) => put_within(out, b"$signed (", part.get(), b")"),
         Expr::AsUnsigned(part) => put_within(out, b"$unsigned (", part.get(), b")"),
-        Expr::Unary(op, part) => put_within(out, unary_sign(*op), part.get(), b")"),
+        Expr::Unary(op, part) => {
+            put(out, b"(")?;
+            put(out, op.text())?;
+            put_within(out, b" ", part.get(), b")")
+        }
         Expr::Binary(op, left, right) => {
-            put_within(out, b"(", left.get(), binary_sign(*op))?;
-            put_within(out, b"", right.get(), b")")
+            put_within(out, b"(", left.get(), b" ")?;
+            put(out, op.text())?;
+            put_within(out, b" ", right.get(), b")")
         }
         Expr::Shift(op, part, amount) => {
-            put_within(out, b"(", part.get(), shift_sign(*op))?;
-            put_sized(out, amount)?;
-            put(out, b")")
+            put_within(out, b"(", part.get(), b" ")?;
+            put(out, op.text())?;
+            put_amount(out, amount)
         }
         Expr::Choose(test, chosen, other) => {
             put_within(out, b"(", test.get(), b" ? ")?;
@@ -115,7 +92,8 @@ pub fn put_expr(out: &mut Vec<u8>, e: &Expr) -> Result<(), OutOfMemory>
 
 #[cycle(expression)]
 fn put_within(out: &mut Vec<u8>, before: &[u8], e: &Expr, after: &[u8]) -> Result<(), OutOfMemory>
-    ensures { OnOk result (out.new.items ≡ out.old.items ++ (before.now ++ (expr_text e.now ++ after.now))) }
+    ensures { OnOk result (out.new.items
+        ≡ out.old.items ++ (before.now ++ (expr_text e.now ++ after.now))) }
 {
     put(out, before)?;
     put_expr(out, e)?;
@@ -124,7 +102,8 @@ fn put_within(out: &mut Vec<u8>, before: &[u8], e: &Expr, after: &[u8]) -> Resul
 
 #[cycle(expression)]
 fn put_parts(out: &mut Vec<u8>, parts: &[Expr]) -> Result<(), OutOfMemory>
-    ensures { OnOk result (out.new.items ≡ out.old.items ++ joined (codes ", ") (map expr_text parts.now)) }
+    ensures { OnOk result (out.new.items
+        ≡ out.old.items ++ joined (codes ", ") (map expr_text parts.now)) }
 {
     let Some((first, others)) = parts.split_first() else {
         return Ok(());

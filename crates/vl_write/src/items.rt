@@ -13,7 +13,9 @@ fn put_net(
     width: u32,
     name: &[u8],
 ) -> Result<(), OutOfMemory>
-    ensures { OnOk result (out.new.items ≡ out.old.items ++ (word.now ++ signed_text signed ++ range_text width ++ name.now ++ codes ";\n")) }
+    ensures { OnOk result (out.new.items
+        ≡ out.old.items ++
+        (word.now ++ signed_text signed ++ range_text width ++ name.now ++ codes ";\n")) }
 {
     put(out, word)?;
     put_signed(out, signed)?;
@@ -36,8 +38,10 @@ fn put_condition(out: &mut Vec<u8>, condition: &Option<Expr>) -> Result<(), OutO
 }
 
 fn put_reset(out: &mut Vec<u8>, name: &[u8], first: &Sized) -> Result<(), OutOfMemory>
-    ensures { OnOk result (out.new.items ≡ out.old.items
-        ++ (codes "always @ (posedge clk) begin if (reset) " ++ name.now ++ codes " <= " ++ sized_text first.now ++ codes "; else ")) }
+    ensures { OnOk result (out.new.items
+        ≡ out.old.items ++
+        (codes "always @ (posedge clk) begin if (reset) " ++ name.now ++ codes " <= "
+        ++ sized_text first.now ++ codes "; else ")) }
 {
     put(out, b"always @ (posedge clk) begin if (reset) ")?;
     put(out, name)?;
@@ -47,7 +51,8 @@ fn put_reset(out: &mut Vec<u8>, name: &[u8], first: &Sized) -> Result<(), OutOfM
 }
 
 fn put_next(out: &mut Vec<u8>, name: &[u8], value: &Expr) -> Result<(), OutOfMemory>
-    ensures { OnOk result (out.new.items ≡ out.old.items ++ (name.now ++ codes " <= " ++ expr_text value.now ++ codes "; end\n")) }
+    ensures { OnOk result (out.new.items
+        ≡ out.old.items ++ (name.now ++ codes " <= " ++ expr_text value.now ++ codes "; end\n")) }
 {
     put(out, name)?;
     put(out, b" <= ")?;

@@ -28,7 +28,8 @@ fn put_port(out: &mut Vec<u8>, port: &Port) -> Result<(), OutOfMemory>
 
 /// Puts the ports, each on a line of its own.
 pub fn put_ports(out: &mut Vec<u8>, ports: &[Port]) -> Result<(), OutOfMemory>
-    ensures { OnOk result (out.new.items ≡ out.old.items ++ joined (codes ",\n") (map port_text ports.now)) }
+    ensures { OnOk result (out.new.items
+        ≡ out.old.items ++ joined (codes ",\n") (map port_text ports.now)) }
 {
     let Some((first, others)) = ports.split_first() else {
         return Ok(());

@@ -15,7 +15,8 @@ use vl_ast::{Module, spelling_spells};
 /// the text. It spells the module, where some text does. The only error is want of memory.
 pub fn write(alloc: Global, module: &Module) -> Result<Text, OutOfMemory>
     ensures text { IfOk result (λ text. text ≡ spelling «module».now) }
-    ensures spells { (bytes : List ℕ) → Spells bytes «module».now → IfOk result (λ text. Spells text «module».now) }
+    ensures spells { (bytes : List ℕ) → Spells bytes «module».now
+        → IfOk result (λ text. Spells text «module».now) }
 {
     spelling_spells();
     let mut out = Vec::new(alloc);

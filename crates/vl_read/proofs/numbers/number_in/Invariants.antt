@@ -1,5 +1,5 @@
 use Rattle.std.proofs.Common.{◌≡◌, drop}
-use Rattle.vl_read.specs.Lexemes.{number_after}
+use Rattle.vl_read.specs.inner.Lexemes.{number_after}
 use Rattle.vl_read.proofs.numbers.number_in.Given as goal
 
 abbrev pub invariant-loop-byte : goal.invariant-loop-byte

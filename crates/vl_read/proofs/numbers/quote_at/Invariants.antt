@@ -1,5 +1,5 @@
 use Rattle.std.proofs.Common.{◌≡◌, ◌+◌, drop}
-use Rattle.vl_read.specs.Lexemes.{quote_place}
+use Rattle.vl_read.specs.inner.Lexemes.{quote_place}
 use Rattle.vl_read.proofs.numbers.quote_at.Given as goal
 
 abbrev pub invariant-loop-i : goal.invariant-loop-i

@@ -1,5 +1,5 @@
 use Rattle.std.proofs.Common.{◌≡◌, [], ◌∷◌, ◌++◌, ◌∙◌, ap}
-use Rattle.vl_read.specs.Plain.{innermost}
+use Rattle.vl_read.specs.inner.Plain.{innermost}
 use Rattle.vl_read.proofs.Expressions.{innermost_at}
 use Rattle.vl_read.proofs.pieces.innermost.Goals as goal
 

@@ -1,8 +1,8 @@
 use Rattle.std.proofs.Common.{◌≡◌, ◌∙◌, [], None, Some, ap, sym, get_or, arith}
 use Rattle.std.proofs.lemmas.List.{drop_all}
-use Rattle.vl_read.specs.Seen.{seen}
-use Rattle.vl_read.specs.Lexemes.{move}
-use Rattle.vl_read.specs.Turns.{stepped, turned, feed, ended_by, ahead}
+use Rattle.vl_read.specs.inner.Seen.{seen}
+use Rattle.vl_read.specs.inner.Lexemes.{move}
+use Rattle.vl_read.specs.inner.Turns.{stepped, turned, feed, ended_by, ahead}
 use Rattle.vl_read.proofs.Reached.{reached_start, found, refused, fault_at_end, stopped_refused, stopped_line, unfed_refused, unfed_line, reached_next}
 use Rattle.vl_read.proofs.Turning.{drop_next}
 use Rattle.vl_read.proofs.Kept.{between, kept_next, starts_within, kept_last}

@@ -1,5 +1,5 @@
 use Rattle.std.proofs.Common.{drop, ◌≤◌}
-use Rattle.vl_read.specs.Seen.{seen}
+use Rattle.vl_read.specs.inner.Seen.{seen}
 use Rattle.vl_read.proofs.Reached.{Reached}
 use Rattle.vl_read.proofs.Kept.{between}
 use Rattle.vl_read.proofs.reading.read.Given as goal

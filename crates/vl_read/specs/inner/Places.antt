@@ -1,5 +1,6 @@
 -- The states of the plain reading: the module so far, and where in a module the reading is with what was read for
 -- that place (own).
+use Prim.Native.Char.{code}
 use Rattle.std.specs.Prelude.{ℕ, Bool, List, Option}
 use Rattle.vl_ast.specs.declared.expressions.ShiftOp.{ShiftOp}
 use Rattle.vl_ast.specs.declared.expressions.Sized.{Sized}
@@ -7,8 +8,23 @@ use Rattle.vl_ast.specs.declared.expressions.Expr.{Expr}
 use Rattle.vl_ast.specs.declared.modules.Attr.{Attr}
 use Rattle.vl_ast.specs.declared.modules.ModItem.{ModItem}
 use Rattle.vl_read.specs.declared.places.Frame.{Frame}
+use Rattle.vl_read.specs.declared.places.Opening.{Opening}
+use Rattle.vl_read.specs.declared.places.Closing.{Closing}
+use Rattle.vl_read.specs.declared.places.Opening.TheVariants.{OpenParenthesis, OpenBrace}
+use Rattle.vl_read.specs.declared.places.Closing.TheVariants.{CloseParenthesis, CloseBrace, CloseBracket}
 use Rattle.vl_read.specs.declared.places.NetSpot.{NetSpot}
 use Rattle.vl_read.specs.declared.places.Draft.{Draft}
+
+-- the byte of an opening mark
+abbrev pub opening_byte : Opening → ℕ
+opening_byte OpenParenthesis = code "("
+opening_byte OpenBrace = code "{"
+
+-- the byte of a closing mark
+abbrev pub closing_byte : Closing → ℕ
+closing_byte CloseParenthesis = code ")"
+closing_byte CloseBrace = code "}"
+closing_byte CloseBracket = code "]"
 
 -- where in an expression the reading is
 pub data Spot : Type 0 where
@@ -19,11 +35,11 @@ pub data Spot : Type 0 where
   -- after `{`
   Braced : Spot
   -- this mark is next, and then an operand begins
-  Begins : ℕ → Spot
+  Begins : Opening → Spot
   -- an operand was read
   Value : Expr → Spot
   -- this mark is next, and then the operand was read
-  Ends : Expr → ℕ → Spot
+  Ends : Expr → Closing → Spot
   -- the amount of a shift is next
   Amount : ShiftOp → Expr → Spot
   -- after a name and `[`

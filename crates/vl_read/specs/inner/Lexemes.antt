@@ -1,5 +1,6 @@
 -- The plain division of bytes into lexemes: words and marks, each the longest there is (IEEE 1364-2005, 3.1 to 3.7,
 -- as a plain division).
+use Prim.Native.Char.{code}
 use Rattle.std.specs.Prelude.{ℕ, not, ◌+◌, ◌*◌, ◌^◌, ◌==◌, nat_le, nat_lt, Bool, true, false, ◌&&◌, ◌||◌, if◌then◌else◌, List, [], ◌∷◌, ◌++◌, length, bytes_eq, codes, Option, Some, None, option_map, option_and_then}
 use Rattle.std.specs.List.{prefix_len}
 use Rattle.std.specs.Char.{is_ascii_alphanumeric}
@@ -15,34 +16,34 @@ use Rattle.vl_read.specs.declared.scan.Kind.TheVariants.{Name, Count, Constant, 
 
 -- a letter, a digit, `_`, `$` or `'`
 abbrev pub is_word_byte : ℕ → Bool
-is_word_byte byte = is_ascii_alphanumeric byte || byte == 95 || byte == 36 || byte == 39
+is_word_byte byte = is_ascii_alphanumeric byte || byte == code "_" || byte == code "$" || byte == code "'"
 
 -- one of ( ) [ ] { } , ; : = @ ? + - * & | ^ ~ ! < >
 abbrev pub is_mark_byte : ℕ → Bool
 is_mark_byte byte =
-    byte == 40 || byte == 41 || byte == 91 || byte == 93 || byte == 123 || byte == 125 || byte == 44 || byte == 59
-    || byte == 58 || byte == 61 || byte == 64 || byte == 63 || byte == 43 || byte == 45 || byte == 42 || byte == 38
-    || byte == 124 || byte == 94 || byte == 126 || byte == 33 || byte == 60 || byte == 62
+    byte == code "(" || byte == code ")" || byte == code "[" || byte == code "]" || byte == code "{" || byte == code "}" || byte == code "," || byte == code ";"
+    || byte == code ":" || byte == code "=" || byte == code "@" || byte == code "?" || byte == code "+" || byte == code "-" || byte == code "*" || byte == code "&"
+    || byte == code "|" || byte == code "^" || byte == code "~" || byte == code "!" || byte == code "<" || byte == code ">"
 
 -- whether a byte is of a word, a blank, of a comment, of a mark, or none
 unfoldable pub class_of : ℕ → ByteClass
 class_of byte =
     if is_word_byte byte then OfWord
     else (if is_blank byte then OfBlank
-    else (if byte == 47 then OfComment
+    else (if byte == code "/" then OfComment
     else (if is_mark_byte byte then OfMark
     else OfNone)))
 
 -- whether a mark and the byte after it are one mark, or the beginning of one
 unfoldable pub extends : List ℕ → ℕ → Bool
 extends mark byte =
-    if byte == 42 then bytes_eq mark (codes "(")
-    else (if byte == 41 then bytes_eq mark (codes "*")
-    else (if byte == 61 then bytes_eq mark (codes "<") || bytes_eq mark (codes ">") || bytes_eq mark (codes "=") || bytes_eq mark (codes "!")
-    else (if byte == 60 then bytes_eq mark (codes "<")
-    else (if byte == 62 then bytes_eq mark (codes ">") || bytes_eq mark (codes ">>")
-    else (if byte == 38 then bytes_eq mark (codes "&")
-    else (if byte == 124 then bytes_eq mark (codes "|")
+    if byte == code "*" then bytes_eq mark (codes "(")
+    else (if byte == code ")" then bytes_eq mark (codes "*")
+    else (if byte == code "=" then bytes_eq mark (codes "<") || bytes_eq mark (codes ">") || bytes_eq mark (codes "=") || bytes_eq mark (codes "!")
+    else (if byte == code "<" then bytes_eq mark (codes "<")
+    else (if byte == code ">" then bytes_eq mark (codes ">") || bytes_eq mark (codes ">>")
+    else (if byte == code "&" then bytes_eq mark (codes "&")
+    else (if byte == code "|" then bytes_eq mark (codes "|")
     else false))))))
 
 -- a byte outside of comments that goes on with the lexeme before it
@@ -86,11 +87,11 @@ move Between lexeme byte = outside Between lexeme (class_of byte) byte
 move Word lexeme byte = outside Word lexeme (class_of byte) byte
 move Mark lexeme byte = outside Mark lexeme (class_of byte) byte
 move Slash lexeme byte =
-    if byte == 47 then moved [] LineComment [] else (if byte == 42 then moved [] BlockComment [] else None)
-move LineComment lexeme byte = if byte == 10 then moved [] Between [] else moved [] LineComment []
-move BlockComment lexeme byte = if byte == 42 then moved [] Star [] else moved [] BlockComment []
+    if byte == code "/" then moved [] LineComment [] else (if byte == code "*" then moved [] BlockComment [] else None)
+move LineComment lexeme byte = if byte == code "\n" then moved [] Between [] else moved [] LineComment []
+move BlockComment lexeme byte = if byte == code "*" then moved [] Star [] else moved [] BlockComment []
 move Star lexeme byte =
-    if byte == 47 then moved [] Between [] else (if byte == 42 then moved [] Star [] else moved [] BlockComment [])
+    if byte == code "/" then moved [] Between [] else (if byte == code "*" then moved [] Star [] else moved [] BlockComment [])
 
 -- the lexemes that end with the text
 abbrev pub last_lexemes : Mode → List ℕ → Option (List (List ℕ))
@@ -133,7 +134,7 @@ dec_of digits = if is_nonempty digits && nat_le (length digits) 9 then number_af
 abbrev pub around_quote : List ℕ → Option (List ℕ × List ℕ)
 around_quote [] = None
 around_quote (byte ∷ bytes) =
-    if byte == 39 then Some ([], bytes) else option_map (λ parts. (byte ∷ parts.0, parts.1)) (around_quote bytes)
+    if byte == code "'" then Some ([], bytes) else option_map (λ parts. (byte ∷ parts.0, parts.1)) (around_quote bytes)
 
 -- a based number of these parts, where its digits have a number
 abbrev pub sized_as : ℕ → Bool → Option ℕ → Option Sized
@@ -154,11 +155,11 @@ sized_after width signed (letter ∷ digits) = option_and_then (λ base. sized_b
 abbrev pub sized_in : ℕ → List ℕ → Option Sized
 sized_in width [] = None
 sized_in width (byte ∷ bytes) =
-    if byte == 115 || byte == 83 then sized_after width true bytes else sized_after width false (byte ∷ bytes)
+    if byte == code "s" || byte == code "S" then sized_after width true bytes else sized_after width false (byte ∷ bytes)
 
 -- how many bytes stand before the first apostrophe
 abbrev pub quote_place : List ℕ → ℕ
-quote_place = prefix_len (λ byte. not (byte == 39))
+quote_place = prefix_len (λ byte. not (byte == code "'"))
 
 -- a number with its width and its base
 unfoldable pub sized_of : List ℕ → Option Sized

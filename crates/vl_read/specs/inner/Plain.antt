@@ -1,5 +1,6 @@
 -- The plain reading: what each lexeme makes of what was read before it. It goes one lexeme after another, with the
 -- expressions that are begun on a list, the innermost last (IEEE 1364-2005, annex A, as a plain reading).
+use Prim.Native.Char.{code}
 use Rattle.std.specs.Prelude.{ℕ, ◌+◌, ◌==◌, nat_lt, Bool, true, false, ◌&&◌, if◌then◌else◌, List, [], ◌∷◌, ◌++◌, length, bytes_eq, codes, Option, Some, None, option_and_then}
 use Rattle.vl_ast.specs.declared.expressions.UnOp.{UnOp}
 use Rattle.vl_ast.specs.declared.expressions.UnOp.TheVariants.{Negate, Invert, IsZero}
@@ -13,22 +14,25 @@ use Rattle.vl_ast.specs.declared.expressions.Expr.TheOpen.{Expr-F}
 use Rattle.vl_ast.specs.declared.expressions.Expr.TheViews.{roll-Expr, out-Expr}
 use Rattle.vl_ast.specs.declared.modules.Attr.{Attr}
 use Rattle.vl_ast.specs.declared.modules.ModItem.TheVariants.{Wire, Reg, Assign, Always}
+use Rattle.vl_ast.specs.Operators.{unary_of, infix_of, shift_of}
 use Rattle.vl_ast.specs.declared.modules.Module.{Module}
 use Rattle.vl_read.specs.declared.scan.Kind.{Kind}
 use Rattle.vl_read.specs.declared.scan.Kind.TheVariants.{Name, Count, Constant, Fixed}
 use Rattle.vl_read.specs.declared.places.Frame.{Frame}
 use Rattle.vl_read.specs.declared.places.Frame.TheVariants.{InConcat, InRepeat, InCast, InUnary, InLeft, InRight, InChosen, InOther}
-use Rattle.vl_read.specs.Places.{Spot, Clocked, Goal, NetKind, AttrSpot, Place, Parser}
-use Rattle.vl_read.specs.Places.Spot.{Operand, Opened, Braced, Begins, Value, Ends, Amount, Index, High, Low}
-use Rattle.vl_read.specs.Places.Goal.{Assigned, Condition, Next}
-use Rattle.vl_read.specs.Places.NetKind.{OfPort, OfWire, OfReg}
+use Rattle.vl_read.specs.declared.places.Opening.TheVariants.{OpenParenthesis, OpenBrace}
+use Rattle.vl_read.specs.declared.places.Closing.TheVariants.{CloseParenthesis, CloseBrace, CloseBracket}
+use Rattle.vl_read.specs.inner.Places.{Spot, Clocked, Goal, NetKind, AttrSpot, Place, Parser, opening_byte, closing_byte}
+use Rattle.vl_read.specs.inner.Places.Spot.{Operand, Opened, Braced, Begins, Value, Ends, Amount, Index, High, Low}
+use Rattle.vl_read.specs.inner.Places.Goal.{Assigned, Condition, Next}
+use Rattle.vl_read.specs.inner.Places.NetKind.{OfPort, OfWire, OfReg}
 use Rattle.vl_read.specs.declared.places.NetSpot.{NetSpot}
 use Rattle.vl_read.specs.declared.places.NetSpot.TheVariants.{Word, Signed, Ranged, Bound, Colon, Zero, Close, Named}
-use Rattle.vl_read.specs.Places.AttrSpot.{AttrName, AttrSign, AttrValue, More}
-use Rattle.vl_read.specs.Places.Place.{Start, Attributes, Title, Ports, Port as PortPlace, Net, AfterPort, AfterPorts, Items, AssignName, AssignSign, Head, ClockedName, ClockedSign, First, AfterFirst, Else, Branch, If, Again, NextSign, Expression, Semicolon, End, Done}
+use Rattle.vl_read.specs.inner.Places.AttrSpot.{AttrName, AttrSign, AttrValue, More}
+use Rattle.vl_read.specs.inner.Places.Place.{Start, Attributes, Title, Ports, Port as PortPlace, Net, AfterPort, AfterPorts, Items, AssignName, AssignSign, Head, ClockedName, ClockedSign, First, AfterFirst, Else, Branch, If, Again, NextSign, Expression, Semicolon, End, Done}
 use Rattle.vl_read.specs.declared.places.Draft.{Draft}
 use Rattle.vl_read.specs.declared.scan.Mode.TheVariants.{Between}
-use Rattle.vl_read.specs.Lexemes.{kind_of, lexemes_from}
+use Rattle.vl_read.specs.inner.Lexemes.{kind_of, lexemes_from}
 
 -- a parser at a place
 abbrev pub parser_at : Draft → Place → Parser
@@ -112,41 +116,6 @@ net_step draft net (Zero signed width) kind lexeme = expect (codes "0") lexeme d
 net_step draft net (Close signed width) kind lexeme = expect (codes "]") lexeme draft (Net net (Named signed width))
 net_step draft net (Named signed width) kind lexeme = on_name kind (declared draft net signed width lexeme) None
 
--- the operator before an operand that a mark is
-abbrev pub unary_of : List ℕ → Option UnOp
-unary_of lexeme =
-    if bytes_eq lexeme (codes "-") then Some Negate
-    else (if bytes_eq lexeme (codes "~") then Some Invert
-    else (if bytes_eq lexeme (codes "!") then Some IsZero
-    else None))
-
--- the operator between operands that a mark is
-unfoldable pub infix_of : List ℕ → Option BinOp
-infix_of lexeme =
-    if bytes_eq lexeme (codes "+") then Some Add
-    else (if bytes_eq lexeme (codes "-") then Some Subtract
-    else (if bytes_eq lexeme (codes "*") then Some Multiply
-    else (if bytes_eq lexeme (codes "&") then Some And
-    else (if bytes_eq lexeme (codes "|") then Some Or
-    else (if bytes_eq lexeme (codes "^") then Some Xor
-    else (if bytes_eq lexeme (codes "==") then Some Equal
-    else (if bytes_eq lexeme (codes "!=") then Some NotEqual
-    else (if bytes_eq lexeme (codes "<") then Some Less
-    else (if bytes_eq lexeme (codes "<=") then Some LessEqual
-    else (if bytes_eq lexeme (codes ">") then Some Greater
-    else (if bytes_eq lexeme (codes ">=") then Some GreaterEqual
-    else (if bytes_eq lexeme (codes "&&") then Some Both
-    else (if bytes_eq lexeme (codes "||") then Some Either
-    else None)))))))))))))
-
--- the shift that a mark is
-abbrev pub shift_of : List ℕ → Option ShiftOp
-shift_of lexeme =
-    if bytes_eq lexeme (codes "<<") then Some Left
-    else (if bytes_eq lexeme (codes ">>") then Some Right
-    else (if bytes_eq lexeme (codes ">>>") then Some RightSigned
-    else None))
-
 -- on to a place in an expression
 abbrev pub spot_at : Draft → Goal → List Frame → Spot → Option Parser
 spot_at draft goal frames spot = goes draft (Expression goal frames spot)
@@ -165,8 +134,8 @@ compound_step draft goal frames lexeme =
     if has_room frames
     then (if bytes_eq lexeme (codes "(") then spot_at draft goal frames Opened
     else (if bytes_eq lexeme (codes "{") then spot_at draft goal frames Braced
-    else (if bytes_eq lexeme (codes "$signed") then spot_at draft goal (frames ++ InCast true ∷ []) (Begins 40)
-    else (if bytes_eq lexeme (codes "$unsigned") then spot_at draft goal (frames ++ InCast false ∷ []) (Begins 40)
+    else (if bytes_eq lexeme (codes "$signed") then spot_at draft goal (frames ++ InCast true ∷ []) (Begins OpenParenthesis)
+    else (if bytes_eq lexeme (codes "$unsigned") then spot_at draft goal (frames ++ InCast false ∷ []) (Begins OpenParenthesis)
     else None))))
     else None
 
@@ -192,7 +161,7 @@ opened_step draft goal frames Fixed lexeme = unary_or_left draft goal frames (un
 -- after `{`
 unfoldable pub braced_step : Draft → Goal → List Frame → Kind → List ℕ → Option Parser
 braced_step draft goal frames Name lexeme = operand_step draft goal (frames ++ InConcat [] ∷ []) Name lexeme
-braced_step draft goal frames (Count number) lexeme = spot_at draft goal (frames ++ InRepeat number ∷ []) (Begins 123)
+braced_step draft goal frames (Count number) lexeme = spot_at draft goal (frames ++ InRepeat number ∷ []) (Begins OpenBrace)
 braced_step draft goal frames (Constant number) lexeme = operand_step draft goal (frames ++ InConcat [] ∷ []) (Constant number) lexeme
 braced_step draft goal frames Fixed lexeme = compound_step draft goal (frames ++ InConcat [] ∷ []) lexeme
 
@@ -222,19 +191,19 @@ left_step draft goal outer value lexeme =
 unfoldable pub frame_step : Draft → Goal → List Frame → Frame → Expr → List ℕ → Option Parser
 frame_step draft goal outer (InConcat parts) value lexeme =
     if bytes_eq lexeme (codes ",") then spot_at draft goal (outer ++ InConcat (parts ++ value ∷ []) ∷ []) Operand
-    else expect_spot 125 lexeme draft goal outer (Value (roll-Expr (Expr-F.Concat (parts ++ value ∷ []))))
+    else expect_spot (code "}") lexeme draft goal outer (Value (roll-Expr (Expr-F.Concat (parts ++ value ∷ []))))
 frame_step draft goal outer (InRepeat count) value lexeme =
-    expect_spot 125 lexeme draft goal outer (Ends (roll-Expr (Expr-F.Repeat count value)) 125)
+    expect_spot (code "}") lexeme draft goal outer (Ends (roll-Expr (Expr-F.Repeat count value)) CloseBrace)
 frame_step draft goal outer (InCast signed) value lexeme =
-    expect_spot 41 lexeme draft goal outer (Value (if signed then roll-Expr (Expr-F.AsSigned value) else roll-Expr (Expr-F.AsUnsigned value)))
-frame_step draft goal outer (InUnary op) value lexeme = expect_spot 41 lexeme draft goal outer (Value (roll-Expr (Expr-F.Unary op value)))
+    expect_spot (code ")") lexeme draft goal outer (Value (if signed then roll-Expr (Expr-F.AsSigned value) else roll-Expr (Expr-F.AsUnsigned value)))
+frame_step draft goal outer (InUnary op) value lexeme = expect_spot (code ")") lexeme draft goal outer (Value (roll-Expr (Expr-F.Unary op value)))
 frame_step draft goal outer InLeft value lexeme = left_step draft goal outer value lexeme
 frame_step draft goal outer (InRight op left) value lexeme =
-    expect_spot 41 lexeme draft goal outer (Value (roll-Expr (Expr-F.Binary op left value)))
+    expect_spot (code ")") lexeme draft goal outer (Value (roll-Expr (Expr-F.Binary op left value)))
 frame_step draft goal outer (InChosen test) value lexeme =
-    expect_spot 58 lexeme draft goal (outer ++ InOther test value ∷ []) Operand
+    expect_spot (code ":") lexeme draft goal (outer ++ InOther test value ∷ []) Operand
 frame_step draft goal outer (InOther test chosen) value lexeme =
-    expect_spot 41 lexeme draft goal outer (Value (roll-Expr (Expr-F.Choose test chosen value)))
+    expect_spot (code ")") lexeme draft goal outer (Value (roll-Expr (Expr-F.Choose test chosen value)))
 
 -- after an expression that is in no other
 unfoldable pub goal_step : Draft → Goal → Expr → List ℕ → Option Parser
@@ -265,18 +234,18 @@ unfoldable pub spot_step : Draft → Goal → List Frame → Spot → Kind → L
 spot_step draft goal frames Operand kind lexeme = operand_step draft goal frames kind lexeme
 spot_step draft goal frames Opened kind lexeme = opened_step draft goal frames kind lexeme
 spot_step draft goal frames Braced kind lexeme = braced_step draft goal frames kind lexeme
-spot_step draft goal frames (Begins byte) kind lexeme = expect_spot byte lexeme draft goal frames Operand
+spot_step draft goal frames (Begins mark) kind lexeme = expect_spot (opening_byte mark) lexeme draft goal frames Operand
 spot_step draft goal frames (Value value) kind lexeme =
     if bytes_eq lexeme (codes "[") then indexed draft goal frames (name_of (out-Expr value)) else value_step draft goal (innermost frames) value lexeme
-spot_step draft goal frames (Ends value byte) kind lexeme = expect_spot byte lexeme draft goal frames (Value value)
+spot_step draft goal frames (Ends value mark) kind lexeme = expect_spot (closing_byte mark) lexeme draft goal frames (Value value)
 spot_step draft goal frames (Amount op value) kind lexeme =
-    on_based kind (λ amount. spot_at draft goal frames (Ends (roll-Expr (Expr-F.Shift op value amount)) 41))
+    on_based kind (λ amount. spot_at draft goal frames (Ends (roll-Expr (Expr-F.Shift op value amount)) CloseParenthesis))
 spot_step draft goal frames (Index name) kind lexeme = on_number kind (λ place. spot_at draft goal frames (High name place))
 spot_step draft goal frames (High name place) kind lexeme =
     if bytes_eq lexeme (codes "]") then spot_at draft goal frames (Value (roll-Expr (Expr-F.Bit name place)))
-    else expect_spot 58 lexeme draft goal frames (Low name place)
+    else expect_spot (code ":") lexeme draft goal frames (Low name place)
 spot_step draft goal frames (Low name high) kind lexeme =
-    on_number kind (λ low. spot_at draft goal frames (Ends (roll-Expr (Expr-F.Part name high low)) 93))
+    on_number kind (λ low. spot_at draft goal frames (Ends (roll-Expr (Expr-F.Part name high low)) CloseBracket))
 
 -- the first word of an item
 unfoldable pub item_step : Draft → List ℕ → Option Parser

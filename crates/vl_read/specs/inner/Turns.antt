@@ -8,9 +8,9 @@ use Rattle.vl_read.specs.declared.turns.Pending.{Pending}
 use Rattle.vl_read.specs.declared.turns.Pending.TheVariants.{Longer, Begun, Gone}
 use Rattle.vl_read.specs.declared.turns.Turn.{Turn}
 use Rattle.vl_read.specs.declared.scan.Mode.{Mode}
-use Rattle.vl_read.specs.Places.{Parser}
-use Rattle.vl_read.specs.Lexemes.{Move, lexemes_from}
-use Rattle.vl_read.specs.Plain.{step, parse}
+use Rattle.vl_read.specs.inner.Places.{Parser}
+use Rattle.vl_read.specs.inner.Lexemes.{Move, lexemes_from}
+use Rattle.vl_read.specs.inner.Plain.{step, parse}
 
 -- the lexeme after a byte
 abbrev pub pending_after : Pending → List ℕ → ℕ → List ℕ

@@ -19,7 +19,7 @@ use Rattle.vl_read.specs.declared.places.Place.TheVariants.{Start, Attributes, T
 use Rattle.vl_read.specs.declared.places.Frame.{Frame}
 use Rattle.vl_read.specs.declared.places.Held.{Held}
 use Rattle.vl_read.specs.declared.places.Reader.{Reader}
-use Rattle.vl_read.specs.Places as plain
+use Rattle.vl_read.specs.inner.Places as plain
 
 -- what the reader holds where no operand was read
 abbrev pub nothing : Expr

@@ -1,0 +1,5 @@
+pub mod Lexemes
+pub mod Places
+pub mod Plain
+pub mod Seen
+pub mod Turns
