@@ -12,6 +12,7 @@ pub mod LaidModule
 pub mod LaidNets
 pub mod Layers
 pub mod Places
+mod Rows
 pub mod Settled
 pub mod Stepped
 pub mod Stimulated
