@@ -3,13 +3,29 @@
 use Rattle.std.specs.Prelude.{ℕ, ℤ, Option}
 use Rattle.fx_type.specs.declared.kind.FxType.{FxType}
 
+-- a block's place in the diagram's list
+abbrev pub BlockPlace : Type 0
+BlockPlace = ℕ
+
+-- the number of a port of a block, or of a root Inport or Outport
+abbrev pub PortNumber : Type 0
+PortNumber = ℕ
+
+-- an element's place in a signal
+abbrev pub ElementPlace : Type 0
+ElementPlace = ℕ
+
+-- the number of a base sample
+abbrev pub Sample : Type 0
+Sample = ℕ
+
 -- the stored integer at a block, an output port, an element and a base sample; a root Outport stands at port 1
 abbrev pub Table : Type 0
-Table = ℕ → ℕ → ℕ → ℕ → ℤ
+Table = BlockPlace → PortNumber → ElementPlace → Sample → ℤ
 
 -- the stored integer that the root Inport of a number takes at an element and a base sample
 abbrev pub Stimulus : Type 0
-Stimulus = ℕ → ℕ → ℕ → ℤ
+Stimulus = PortNumber → ElementPlace → Sample → ℤ
 
 -- what is known of the blocks before any value is
 pub record Attributes : Type 0 where
