@@ -1,5 +1,5 @@
 -- The module of one delay carries the bits of its model.
-use Rattle.std.proofs.Common.{◌≡◌, ◌<◌, ◌≤◌, ◌%◌, ◌+◌, ◌*◌, ◌-◌, ◌^◌, if◌then◌else◌, ℕ, zero, suc, ℤ, List, [], ◌∷◌, Bool, true, false, None, Some, Contains, slice_get, codes, refl, ap, sym, ◌∙◌, subst, arith}
+use Rattle.std.proofs.Common.{◌≡◌, ◌<◌, ◌%◌, ◌+◌, ◌*◌, ◌-◌, ◌^◌, if◌then◌else◌, ℕ, zero, suc, ℤ, List, [], ◌∷◌, Bool, true, false, None, Some, Contains, slice_get, codes, refl, ap, sym, ◌∙◌, subst, arith}
 use Rattle.std.proofs.Math.Nat.{mod-eq_of_lt}
 use Rattle.vl_ast.specs.declared.expressions.Expr.TheVariants.{Name}
 use Rattle.vl_ast.specs.Context.{Net}
@@ -8,9 +8,10 @@ use Rattle.vl_ast.specs.Nets.{Declared, Kind, InputPort, OutputPort, Register, d
 use Rattle.vl_ast.specs.Driven.{Driven, stimulus_ports}
 use Rattle.vl_ast.specs.Runs.{Row, Rows, Runs, next_bits}
 use Rattle.vl_ast.specs.Windows.{PortNumbers, Window, Shows, AtHits}
-use Rattle.fx_top.specs.Carries.{Carries, CarriesBits, OutputElement, input_port, bit_input}
+use Rattle.fx_top.specs.Carries.{Carries, CarriesBits, OutputElement, input_port, bit_input, port_period}
+use Rattle.fx_type.specs.FxType.{width_of}
 use Rattle.fx_top.specs.declared.one_delay.OneDelay.{OneDelay}
-use Rattle.fx_top.specs.OneDelay.{delay_interface, delay_entries, delayed, byte_element}
+use Rattle.fx_top.specs.OneDelay.{delay_interface, SolvesDelay, byte_element, byte_output}
 use Rattle.fx_top.specs.inner.DelayModule.{register, delay_module}
 use Rattle.fx_top.proofs.Names.{AreDifferent, names_read-name, own_length-name, is_signed-name, value_in-name}
 use Rattle.fx_top.proofs.Bits.{bits-fit}
@@ -21,7 +22,7 @@ extended-same : (negative : Bool) (bits width : ℕ) → (if negative then bits 
 extended-same true bits width = omega arith
 extended-same false bits width = refl
 
-abbrev byte_net : Net
+abbrev pub byte_net : Net
 byte_net = record { width = 8; signed = true }
 
 -- eight bits from one net to another
@@ -36,13 +37,13 @@ assigned-number number =
     let bits : Bits = record { width = 8; signed = true; bits = bits_of 8 number } in
     ap (λ (n : ℕ). n % 256) (extended-same (is_negative bits) (bits_of 8 number) 8) ∙ mod-eq_of_lt (bits-fit number)
 
-abbrev declared_as : List ℕ → Kind → Net → Declared
+abbrev pub declared_as : List ℕ → Kind → Net → Declared
 declared_as name kind net = record { name = name; kind = kind; net = net }
 
-abbrev bit_net : Net
+abbrev pub bit_net : Net
 bit_net = record { width = 1; signed = false }
 
-declarations-are : (d : OneDelay) → declarations (delay_module d)
+pub declarations-are : (d : OneDelay) → declarations (delay_module d)
     ≡ declared_as (codes "clk") InputPort bit_net ∷ declared_as (codes "reset") InputPort bit_net ∷ declared_as d.input InputPort byte_net
     ∷ declared_as d.output OutputPort byte_net ∷ declared_as register Register byte_net ∷ []
 declarations-are d = simp names_read-name
@@ -57,10 +58,11 @@ module _ (d : OneDelay) (n : AreDifferent d.input d.output) where
   net-register : nets_of (delay_module d) register ≡ byte_net
   net-register = simp (names_read-name, n.u-register, n.y-register)
 
-  stimulus-port : slice_get (stimulus_ports (delay_module d)) 0 ≡ Some (input_port (byte_element d.input))
+  stimulus-port : slice_get (stimulus_ports (delay_module d)) 0 ≡ Some (input_port (byte_element d.input 0))
   stimulus-port = simp (n.u-clk, n.u-reset)
 
-  module _ (samples : ℕ) (window : Window) (stimulus : PortNumbers) (start : Row) (inputs rows : Rows)
+  module _ (samples : ℕ) (window : Window) (stimulus entries : PortNumbers) (start : Row) (inputs rows : Rows)
+      (solves : SolvesDelay d.initial samples stimulus entries)
       (driven : Driven (delay_module d) stimulus samples window inputs) (runs : Runs (delay_module d) window.rows start inputs rows) where
     abbrev count : ℕ
     count = window.rows
@@ -74,7 +76,7 @@ module _ (d : OneDelay) (n : AreDifferent d.input d.output) where
         (subst (λ (all : List Declared). Contains all (declared_as register Register byte_net)) (sym (declarations-are d)) (4, omega arith, refl))
 
     input-shown : (k : ℕ) → k < count → rows k d.input ≡ inputs k d.input
-    input-shown k below = runs.driven k below (input_port (byte_element d.input)) (2, omega arith, refl) refl
+    input-shown k below = runs.driven k below (input_port (byte_element d.input 0)) (2, omega arith, refl) refl
 
     reset-shown : (k : ℕ) → k < count → rows k (codes "reset") ≡ inputs k (codes "reset")
     reset-shown k below = runs.driven k below (bit_input (codes "reset")) (1, omega arith, refl) refl
@@ -98,38 +100,49 @@ module _ (d : OneDelay) (n : AreDifferent d.input d.output) where
         let here : last + 1 + t < count = omega arith in
         let released : rows (last + 1 + t) (codes "reset") ≡ 0 = reset-shown (last + 1 + t) here ∙ driven.released (last + 1 + t) (omega arith) here in
         let given : rows (last + 1 + t) d.input ≡ bits_of 8 (stimulus 0 t) =
-        input-shown (last + 1 + t) here ∙ driven.shows 1 refl 0 (input_port (byte_element d.input)) stimulus-port 1 refl t sample (grind arith) t (omega arith) (omega arith) here in
+        input-shown (last + 1 + t) here ∙ driven.shows 1 refl 0 (input_port (byte_element d.input 0)) stimulus-port 1 refl t sample (grind arith) t (omega arith) (omega arith) here in
         let fits : rows (last + 1 + t) d.input < 256 = subst (λ (bits : ℕ). bits < 256) (sym given) (bits-fit (stimulus 0 t)) in
         stepped (last + 1 + t) below ∙ simp (released, net-register) (assigned-byte (nets_of (delay_module d)) (rows (last + 1 + t)) d.input net-input fits ∙ given)
 
-    carried : (t : ℕ) → t < samples → last + 1 + t < count → rows (last + 1 + t) d.output ≡ bits_of 8 (delayed d.initial (stimulus 0) t)
+    carried : (t : ℕ) → t < samples → last + 1 + t < count → rows (last + 1 + t) d.output ≡ bits_of 8 (entries 0 t)
     carried zero sample below =
         output-shown (last + 1 + 0) below ∙ ap (λ (k : ℕ). rows k register) (omega arith) ∙ at-first (omega arith)
+        ∙ ap (bits_of 8) (sym (solves.first sample))
     carried (suc t) sample below =
+        let next : t + 1 ≡ suc t = omega arith in
         output-shown (last + 1 + suc t) below ∙ ap (λ (k : ℕ). rows k register) (omega arith) ∙ at-later t (omega arith) (omega arith)
+        ∙ ap (bits_of 8) (sym (solves.later t (omega arith)) ∙ ap (entries 0) next)
 
     -- the output shows its entry at each clock of its frame
     abbrev Shown : OutputElement → Type 0
-    Shown output = AtHits output.element.period samples (λ t.
-        Shows window rows output.element.name output.element.width (delayed d.initial (stimulus 0) t)
-        (t * 1 + output.latency) ((t + output.lat + output.element.period) * 1))
+    Shown output =
+        let period = port_period output.element.root.period in
+        AtHits period samples (λ t.
+        Shows window rows output.element.name (width_of output.element.root.type) (entries 0 t)
+        (t * 1 + output.latency) ((t + output.lat + period) * 1))
 
-    shown : Shown (record { element = byte_element d.output; lat = 0; latency = 0 })
+    abbrev only : OutputElement
+    only = byte_output d.output 0
+
+    shown : Shown only
     shown t sample hit clock from until below =
         let here : t ≡ clock = omega arith in
-        subst (λ (k : ℕ). rows (last + 1 + k) d.output ≡ bits_of 8 (delayed d.initial (stimulus 0) t)) here (carried t sample (omega arith))
+        subst (λ (k : ℕ). rows (last + 1 + k) d.output ≡ bits_of 8 (entries 0 t)) here (carried t sample (omega arith))
 
-    shown-at : (place : ℕ) (output : OutputElement) → slice_get (delay_interface d).outputs place ≡ Some output → Shown output
+    shown-at : (place : ℕ) (output : OutputElement) → slice_get (delay_interface d).outputs place ≡ Some output
+        → (t : ℕ) → t < samples → t % port_period output.element.root.period ≡ 0
+        → Shows window rows output.element.name (width_of output.element.root.type) (entries place t)
+        (t * 1 + output.latency) ((t + output.lat + port_period output.element.root.period) * 1)
     shown-at zero output same =
-        let is : record { element = byte_element d.output; lat = 0; latency = 0 } ≡ output = cc in
+        let is : only ≡ output = cc in
         subst Shown is shown
     shown-at (suc place) output same = absurd (cc)
 
-  carries-bits : CarriesBits (delay_module d) (delay_interface d) (delay_entries d)
+  carries-bits : CarriesBits (delay_module d) (delay_interface d) (SolvesDelay d.initial)
   carries-bits = record {
-    shows = λ samples window stimulus start inputs rows within driven runs place output same.
-        shown-at samples window stimulus start inputs rows driven runs place output same;
+    shows = λ samples window stimulus entries start inputs rows within solves driven runs place output same.
+        shown-at samples window stimulus entries start inputs rows solves driven runs place output same;
   }
 
-pub carries : (d : OneDelay) → AreDifferent d.input d.output → Carries (delay_module d) (delay_interface d) (delay_entries d)
+pub carries : (d : OneDelay) → AreDifferent d.input d.output → Carries (delay_module d) (delay_interface d) (SolvesDelay d.initial)
 carries d n = record { header = has-header d n; bits = carries-bits d n }

@@ -1,10 +1,10 @@
 -- Why `generate` answers as it does.
-use Rattle.std.proofs.Common.{◌≡◌, ◌<◌, ℕ, List, [], ◌∷◌, length, ◌⊎◌, inl, inr, ⊎_elim, All, None, Some, refl, ap, sym, ◌∙◌, subst, arith}
+use Rattle.std.proofs.Common.{◌≡◌, ◌<◌, ℕ, List, [], ◌∷◌, length, ⊎_elim, All, None, Some, refl, ap, sym, ◌∙◌, subst, arith}
 use Rattle.std.proofs.lemmas.Bool.{lt-ltb}
 use Rattle.std.proofs.lemmas.List.Elements.{All-cons, All-nil}
 use Rattle.fx_io.specs.Shelf.{Told, Fetched, IsOverlong}
 use Rattle.fx_top.specs.declared.answer.Answer.{Answer}
-use Rattle.fx_top.specs.declared.answer.Answer.TheVariants.{OutOfMemory, CannotRead, TooLong}
+use Rattle.fx_top.specs.declared.answer.Answer.TheVariants.{CannotRead, TooLong}
 use Rattle.fx_top.specs.Call.{Files, Stream, IsUntouched}
 use Rattle.fx_top.specs.Caused.{HasCause, HasWritten}
 use Rattle.fx_top.specs.Command.{Generate}

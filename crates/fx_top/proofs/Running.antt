@@ -1,5 +1,5 @@
 -- What a command's cause says of its status.
-use Rattle.std.proofs.Common.{◌≡◌, ◌≤◌, ◌<◌, ◌⊎◌, inl, inr, ℕ, List, [], ◌∷◌, length, nat_lt, false, All, Contains, Option, None, Some, refl, ap, sym, ◌∙◌, subst, arith}
+use Rattle.std.proofs.Common.{◌≡◌, ◌≤◌, ◌<◌, inl, inr, ℕ, List, [], ◌∷◌, length, nat_lt, false, All, Option, None, Some, refl, sym, ◌∙◌, subst, arith}
 use Rattle.std.proofs.lemmas.Bool.{false_from_ne_true, ltb-true}
 use Rattle.std.proofs.lemmas.List.Elements.{All-head, All-tail}
 use Rattle.mdl_text.specs.declared.tree.Tree.{Tree}
@@ -13,7 +13,7 @@ use Rattle.fx_top.specs.Cause.{IsFetched, AreFetched}
 use Rattle.fx_top.specs.Caused.{HasCause, HasWritten, IsCarriedOut}
 use Rattle.fx_top.specs.Command.{Command, Generate, command_of, model_of, files_of}
 use Rattle.fx_top.specs.DelayTree.{IsOneDelay}
-use Rattle.fx_top.specs.Outcome.{Yields, Tells, IfCommand, IsDue, CanBeDone, GivesAll, IsComplete}
+use Rattle.fx_top.specs.Outcome.{Yields, Tells, IfCommand, IsDue, CanBeDone, IsComplete}
 use Rattle.fx_top.specs.Output.{IsBuilt, IsNoText, IsNotBuilt, IsOutput}
 use Rattle.fx_top.specs.Trouble.{Trouble, Absent, Overlong, trouble_or, first_trouble, file_limit}
 
@@ -49,7 +49,7 @@ module _ (files : Files) (out : Stream) (unique : (bytes : List ℕ) (one other 
       let told : Tells files own bytes = subst (λ (file : List ℕ). Tells files file bytes) same tells in
       let verilog = output.1.1 in
       subst IsBuilt (sym (told-is own bytes output.0 output.1.0 told))
-      (record { tree = verilog.tree; stands = verilog.stands; delay = verilog.delay; form = verilog.form })
+      (record { tree = verilog.tree; stands = verilog.stands; delay = verilog.carries.delay; form = verilog.carries.form })
 
   -- no bytes are of two of the three sorts
   not-both : (bytes : List ℕ) → IsBuilt bytes → IsNotBuilt bytes → ⊥

@@ -3,7 +3,7 @@ use Rattle.std.proofs.Common.{◌≡◌, ◌≤◌, ◌+◌, ℕ, List, ◌++◌
 use Rattle.std.proofs.Math.Seq.{take-append-add}
 use Rattle.fx_io.specs.Sink.{also_took}
 use Rattle.fx_io.specs.Cause.{Rose}
-use Rattle.fx_top.specs.Call.{Said, Stream}
+use Rattle.fx_top.specs.Call.{Said}
 
 took-both : (told : Option (List ℕ)) (first second : List ℕ) → also_took (also_took told first) second ≡ also_took told (first ++ second)
 took-both None first second = refl

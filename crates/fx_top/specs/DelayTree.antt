@@ -47,7 +47,8 @@ line_items source target =
 -- the items of such a tree
 abbrev pub delay_tree : DelayTexts → List Item
 delay_tree texts =
-    section 0 (codes "Model") ∷ record { depth = 1; name = codes "Name"; value = Quoted texts.model } ∷ section 1 (codes "System")
+    section 0 (codes "Model") ∷ record { depth = 1; name = codes "Name"; value = Quoted texts.model }
+    ∷ section 1 (codes "System")
     ∷ (delay_blocks texts ++ (line_items texts.input texts.delay ++ line_items texts.delay texts.output))
 
 -- a magnitude with its sign
@@ -62,7 +63,7 @@ IsByte number = (negsuc 127 ≤ℤ number) × (number ≤ℤ pos 127)
 pub record IsSmallNumber (text : List ℕ) (number : ℤ) : Type 0 where
   pub negative : Bool
   pub digits : List ℕ
-  pub form : text ≡ (if negative then 45 ∷ digits else digits)
+  pub form : text ≡ (if negative then codes "-" ++ digits else digits)
   pub numeral : IsNumeral 10 digits
   pub short : length digits ≤ 3
   pub value : number ≡ signed_value negative (digits_value 10 digits)

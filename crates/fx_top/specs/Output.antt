@@ -1,5 +1,5 @@
 -- The text that a command writes (own).
-use Rattle.std.specs.Prelude.{◌≡◌, ℕ, List}
+use Rattle.std.specs.Prelude.{◌≡◌, ℕ, List, []}
 use Rattle.fx_io.specs.Shelf.{Told, Fetched}
 use Rattle.mdl_text.specs.declared.tree.Tree.{Tree}
 use Rattle.mdl_text.specs.Stands.{Stands}
@@ -11,7 +11,7 @@ use Rattle.fx_top.specs.declared.one_delay.OneDelay.{OneDelay}
 use Rattle.fx_top.specs.Carries.{Carries}
 use Rattle.fx_top.specs.Command.{Command, Generate}
 use Rattle.fx_top.specs.DelayTree.{IsOneDelay}
-use Rattle.fx_top.specs.OneDelay.{delay_interface, delay_entries}
+use Rattle.fx_top.specs.OneDelay.{delay_interface, SolvesDelay}
 use Rattle.fx_top.specs.Trouble.{file_limit}
 
 -- the text spells this module and no other
@@ -19,16 +19,26 @@ pub record SpellsAlone (text : List ℕ) (made : Module) : Type 0 where
   pub spells : Spells text made
   pub alone : (other : Module) → Spells text other → other ≡ made
 
--- the text is the written one of a module that carries the bits of the model of the bytes, and spells it alone
-pub record IsVerilogOf (bytes text : List ℕ) : Type 0 where
-  pub tree : Tree
-  pub stands : Stands bytes tree
+-- the plan is the empty one: one clock per base sample, no shared multipliers and no pipelines
+abbrev pub IsPlainPlan : List ℕ → Type 0
+IsPlainPlan plan = plan ≡ []
+
+-- the module carries the bits of the model of the tree under the plan
+pub record CarriesModel (m : Module) (tree : Tree) (plan : List ℕ) : Type 0 where
+  pub plain : IsPlainPlan plan
   pub delay : OneDelay
   pub form : IsOneDelay tree delay
+  pub carries : Carries m (delay_interface delay) (SolvesDelay delay.initial)
+
+-- of the bytes of a model and of a plan the text is the written one of a module that carries the model's
+-- bits, and it spells this module alone
+pub record IsVerilogOf (model plan text : List ℕ) : Type 0 where
+  pub tree : Tree
+  pub stands : Stands model tree
   pub made : Module
   pub spelled : text ≡ spelling made
   pub alone : SpellsAlone text made
-  pub carries : Carries made (delay_interface delay) (delay_entries delay)
+  pub carries : CarriesModel made tree plan
 
 -- the bytes are no MDL text
 abbrev pub IsNoText : List ℕ → Type 0
@@ -54,4 +64,4 @@ pub record IsBuilt (bytes : List ℕ) : Type 0 where
 
 -- the text that a command writes of what was fetched from the shelf
 abbrev pub IsOutput : Command → (List ℕ → Told) → List ℕ → Type 0
-IsOutput (Generate model) held text = (bytes : List ℕ) × (Fetched (held model) file_limit bytes × IsVerilogOf bytes text)
+IsOutput (Generate model) held text = (bytes : List ℕ) × (Fetched (held model) file_limit bytes × IsVerilogOf bytes [] text)

@@ -81,7 +81,8 @@ impl Answer<'_> {
 
 /// Puts the pieces one after another, up to a failure.
 fn say<E: Sink>(err: &mut E, pieces: &[&[u8]])
-    ensures said { Said (stream_in E.taken E.faults err.old err.new) (flat_map (λ piece. piece.now) pieces.now) }
+    ensures said { Said (stream_in E.taken E.faults err.old err.new)
+        (flat_map (λ piece. piece.now) pieces.now) }
     ensures later { E.faults err.old ≤ E.faults err.new }
 {
     let Some((piece, more)) = pieces.split_first() else {

@@ -2,7 +2,7 @@ ghost use Rattle.std.specs.Prelude.{◌≡◌, [], ◌∷◌, true, IfOk, OnOk, 
 ghost use Rattle.vl_ast.specs.Value.{bits_of};
 ghost use Rattle.vl_ast.specs.declared.expressions.Expr.TheVariants.{Name};
 ghost use Rattle.fx_top.specs.Carries.{attribute_of, bit_input, input_port, output_port};
-ghost use Rattle.fx_top.specs.OneDelay.{byte_element};
+ghost use Rattle.fx_top.specs.OneDelay.{byte_element, byte_output};
 ghost use Rattle.fx_top.specs.inner.DelayModule.{delay_items, delay_module};
 
 use crate::one_delay::OneDelay;
@@ -91,7 +91,7 @@ fn bit_input(alloc: Global, name: &[u8]) -> Result<Port, OutOfMemory>
 }
 
 fn byte_input(alloc: Global, name: Text) -> Result<Port, OutOfMemory>
-    ensures { IfOk result (λ port. port ≡ input_port (byte_element name)) }
+    ensures { IfOk result (λ port. port ≡ input_port (byte_element name 0)) }
 {
     let mut attrs = Attrs::new(alloc);
     attrs.push(attribute(alloc, b"fx_period", 1)?)?;
@@ -105,7 +105,7 @@ fn byte_input(alloc: Global, name: Text) -> Result<Port, OutOfMemory>
 }
 
 fn byte_output(alloc: Global, name: Text) -> Result<Port, OutOfMemory>
-    ensures { IfOk result (λ port. port ≡ output_port (record { element = byte_element name; lat = 0; latency = 0 })) }
+    ensures { IfOk result (λ port. port ≡ output_port (byte_output name 0)) }
 {
     let mut attrs = Attrs::new(alloc);
     attrs.push(attribute(alloc, b"fx_period", 1)?)?;

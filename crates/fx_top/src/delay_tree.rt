@@ -30,7 +30,8 @@ pub struct TreeTexts<'a> {
 
 /// The texts of a tree, where it is laid out as one of a model of one delay.
 fn delay_texts<'a>(items: &'a [Item]) -> Option<TreeTexts<'a>>
-    ensures { MatchOption result ((texts : DelayTexts) → items.now ≢ delay_tree texts) (λ texts. items.now ≡ delay_tree (texts_of texts)) }
+    ensures { MatchOption result ((texts : DelayTexts) → items.now ≢ delay_tree texts)
+        (λ texts. items.now ≡ delay_tree (texts_of texts)) }
 {
     let texts = TreeTexts {
         model: quoted_text(items, 1)?,
@@ -148,7 +149,8 @@ fn is_taken(name: &[u8]) -> bool
 /// The texts of a tree of a model of one delay, and the number of its initial condition.
 fn sound_texts<'a>(tree: &'a Tree) -> Option<(TreeTexts<'a>, i8)>
     ensures { MatchOption result ((delay : OneDelay) → IsOneDelay tree.now delay → ⊥)
-        (λ found. IsOneDelay tree.now (record { input = found.0.input.now; output = found.0.output.now; initial = found.1 })) }
+        (λ found. IsOneDelay tree.now
+        (record { input = found.0.input.now; output = found.0.output.now; initial = found.1 })) }
 {
     let Some(texts) = delay_texts(tree.items.as_slice()) else {
         return None;
@@ -170,7 +172,8 @@ fn are_sound_names(texts: &TreeTexts<'_>) -> bool
 }
 
 fn are_different(texts: &TreeTexts<'_>) -> bool
-    ensures { IsTrue result ↔ (texts.now.input.now ≢ texts.now.output.now) × (texts.now.input.now ≢ texts.now.delay.now)
+    ensures { IsTrue result ↔ (texts.now.input.now ≢ texts.now.output.now)
+        × (texts.now.input.now ≢ texts.now.delay.now)
         × (texts.now.output.now ≢ texts.now.delay.now) }
 {
     texts.input != texts.output && texts.input != texts.delay && texts.output != texts.delay
@@ -178,7 +181,8 @@ fn are_different(texts: &TreeTexts<'_>) -> bool
 
 /// The model of one delay that a tree is, if it is one.
 pub fn one_delay(alloc: Global, tree: &Tree) -> Result<Option<OneDelay>, OutOfMemory>
-    ensures { IfOk result (λ found. MatchOption found ((delay : OneDelay) → IsOneDelay tree.now delay → ⊥) (λ delay. IsOneDelay tree.now delay)) }
+    ensures { IfOk result (λ found. MatchOption found
+        ((delay : OneDelay) → IsOneDelay tree.now delay → ⊥) (λ delay. IsOneDelay tree.now delay)) }
 {
     let Some((texts, initial)) = sound_texts(tree) else {
         return Ok(None);

@@ -1,4 +1,4 @@
-ghost use Rattle.std.specs.Prelude.{◌≡◌, ℕ, Err, IfOk};
+ghost use Rattle.std.specs.Prelude.{◌≡◌, ℕ, [], Err, IfOk};
 ghost use Rattle.fx_io.specs.Sink.{also_took, TookProperPrefix};
 ghost use Rattle.fx_top.specs.Call.{files_in, stream_in};
 ghost use Rattle.fx_top.specs.Caused.{HasCause, HasWritten};
@@ -65,8 +65,9 @@ pub fn generate<'a, S: Shelf, K: Sink>(
 
 /// The Verilog text of a model.
 fn verilog_of(alloc: Global, bytes: &[u8]) -> Result<Text, GenerateFault>
-    ensures made { IfOk result (λ text. IsVerilogOf bytes.now text) }
-    ensures syntax { (line : ℕ) → result ≡ Err (GenerateFault.NotMdl line) → IsNotMdl bytes.now line }
+    ensures made { IfOk result (λ text. IsVerilogOf bytes.now [] text) }
+    ensures syntax { (line : ℕ) → result ≡ Err (GenerateFault.NotMdl line) →
+        IsNotMdl bytes.now line }
     ensures not_built { result ≡ Err GenerateFault.NotBuilt → IsNotBuilt bytes.now }
 {
     vl_ast::numbers_are_writable();

@@ -5,7 +5,8 @@ ghost use Rattle.fx_top.specs.DelayTree.{IsSmallNumber, IsByte, signed_value};
 
 /// The number of an optional minus and one to three digits, where it is from -128 to 127.
 pub fn small_number(text: &[u8]) -> Option<i8>
-    ensures { MatchOption result ((number : ℤ) → IsSmallNumber text.now number → ⊥) (λ number. IsSmallNumber text.now number) }
+    ensures { MatchOption result ((number : ℤ) → IsSmallNumber text.now number → ⊥)
+        (λ number. IsSmallNumber text.now number) }
 {
     match text.strip_prefix(b"-") {
         Some(digits) => signed_byte(true, short_numeral(digits)?),
@@ -26,7 +27,8 @@ fn signed_byte(negative: bool, magnitude: u32) -> Option<i8>
 /// The number of one to three digits.
 fn short_numeral(digits: &[u8]) -> Option<u32>
     ensures { MatchOption result ((length digits.now ≤ 3) → IsNumeral 10 digits.now → ⊥)
-        (λ value. (value < 1000) × IsNumeral 10 digits.now × (length digits.now ≤ 3) × (value ≡ digits_value 10 digits.now)) }
+        (λ value. (value < 1000) × IsNumeral 10 digits.now × (length digits.now ≤ 3)
+        × (value ≡ digits_value 10 digits.now)) }
 {
     match digits {
         [ones] => digit(*ones),
@@ -39,7 +41,8 @@ fn short_numeral(digits: &[u8]) -> Option<u32>
 }
 
 fn digit(byte: u8) -> Option<u32>
-    ensures { MatchOption result (10 ≤ digit_value byte) (λ value. (digit_value byte < 10) × (value ≡ digit_value byte)) }
+    ensures { MatchOption result (10 ≤ digit_value byte)
+        (λ value. (digit_value byte < 10) × (value ≡ digit_value byte)) }
 {
     if byte.is_ascii_digit() {
         Some((byte - b'0') as u32)

@@ -7,7 +7,7 @@ use Rattle.vl_ast.specs.declared.modules.Module.{Module}
 use Rattle.vl_ast.specs.Value.{bits_of}
 use Rattle.fx_top.specs.Carries.{attribute_of, bit_input, input_port, output_port}
 use Rattle.fx_top.specs.declared.one_delay.OneDelay.{OneDelay}
-use Rattle.fx_top.specs.OneDelay.{byte_element}
+use Rattle.fx_top.specs.OneDelay.{byte_element, byte_output}
 
 -- the name of the register, `fx_delay`
 abbrev pub register : List ℕ
@@ -25,7 +25,7 @@ abbrev pub delay_module : OneDelay → Module
 delay_module delay = record {
   name = codes "fx_model";
   attrs = attribute_of (codes "fx_cycles") 1 ∷ [];
-  ports = bit_input (codes "clk") ∷ bit_input (codes "reset") ∷ input_port (byte_element delay.input)
-      ∷ output_port (record { element = byte_element delay.output; lat = 0; latency = 0 }) ∷ [];
+  ports = bit_input (codes "clk") ∷ bit_input (codes "reset") ∷ input_port (byte_element delay.input 0)
+      ∷ output_port (byte_output delay.output 0) ∷ [];
   items = delay_items delay.input delay.output delay.initial;
 }

@@ -1,4 +1,4 @@
-use Rattle.std.proofs.Common.{◌≡◌, ℕ, List, true, ap, sym, subst, ◌∙◌}
+use Rattle.std.proofs.Common.{◌≡◌, ℕ, List, true, refl, ap, sym, subst, ◌∙◌}
 use Rattle.vl_ast.specs.Grammar.{Spells}
 use Rattle.vl_ast.specs.Spelling.{spelling}
 use Rattle.fx_top.specs.DelayTree.{is_port_name}
@@ -20,10 +20,8 @@ returns-clause-made c =
     record {
       tree = c.in-Ok.tree;
       stands = c.in-Ok.ensures.found;
-      delay = c.in-Some.delay;
-      form = form;
-      made = delay_module c.in-Some.delay;
+      made = delay_module d;
       spelled = spelled;
       alone = record { spells = spells; alone = λ other s. c.unique.ensures _ other (delay_module d) s spells };
-      carries = carries c.in-Some.delay (delay-different c.in-Ok.tree c.in-Some.delay form);
+      carries = record { plain = refl; delay = d; form = form; carries = carries d (delay-different c.in-Ok.tree d form) };
     }
