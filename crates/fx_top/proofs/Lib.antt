@@ -5,7 +5,9 @@ pub mod Generated
 pub mod Header
 pub mod Loop
 pub mod Names
+mod Outcomes
 pub mod Running
 pub mod Sayings
 pub mod Spelled
 pub mod Texts
+mod UnitDelay

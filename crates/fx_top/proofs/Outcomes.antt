@@ -1,0 +1,42 @@
+-- Ends of calls, worked out by hand.
+use Rattle.std.specs.Prelude.{⊤}
+use Rattle.std.specs.Borrow.{Bor}
+use Rattle.std.proofs.Common.{◌≡◌, ℕ, List, [], ◌∷◌, length, take_all, codes, Some, None, refl, ap, sym, subst, ◌∙◌, arith}
+use Rattle.fx_top.specs.declared.answer.Answer.TheVariants.{Usage, CannotRead}
+use Rattle.fx_top.specs.Answer.{status_of}
+use Rattle.fx_top.specs.Call.{Files, Stream, Said}
+use Rattle.fx_top.specs.Caused.{Ends, HasCause}
+use Rattle.fx_top.specs.Command.{Generate}
+use Rattle.fx_top.specs.Messages.{usage_line, unread_line}
+
+-- a steady shelf that holds nothing, and fails where it is asked
+abbrev empty : Files
+empty = record { held = λ file. Some None; steady = ⊤; failed = ⊤; met_overlong = ⊥ }
+
+-- a stream that took these bytes in the call
+abbrev took : List ℕ → Stream
+took bytes = record { before = Some []; now = Some bytes; failed = ⊥ }
+
+said : (bytes : List ℕ) → Said (took bytes) bytes
+said bytes = record { prefix = (length bytes, ap Some (sym (take_all (length bytes) bytes (omega arith)))); whole = λ calm. refl }
+
+-- no words: status 2, with the line of usage, and no other
+without-words : Ends [] empty (took []) (took usage_line) 2
+without-words = record { answer = Usage; status_is = refl; said = said usage_line; carried_out = (refl, refl) }
+
+only-usage : (files : Files) (out err : Stream) (status : ℕ) → Ends [] files out err status → status ≡ 2
+only-usage files out err status ends = ends.status_is ∙ ap status_of ends.carried_out.0
+
+-- `generate m -` where nothing is held: status 3, with the file's line
+without-file : (file : Bor (List ℕ)) → file.now ≡ codes "m"
+    → Ends (codes "generate" ∷ codes "m" ∷ codes "-" ∷ []) empty (took []) (took (unread_line (codes "m"))) 3
+without-file file is = record {
+  answer = CannotRead file;
+  status_is = refl;
+  said = subst (λ (name : List ℕ). Said (took (unread_line (codes "m"))) (unread_line name)) (sym is) (said (unread_line (codes "m")));
+  carried_out = (
+    subst (λ (name : List ℕ). HasCause empty (Generate name) (CannotRead file)) is
+        (record { rise = tt; asked = (0, omega arith, refl); first = λ steady. refl }),
+    refl,
+  );
+}

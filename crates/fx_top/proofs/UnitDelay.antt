@@ -1,0 +1,259 @@
+-- The unit delay with initial value 3, worked out by hand: 5, -1, 127 shows 3, 5, -1.
+use Rattle.std.specs.Prelude.{⊤}
+use Rattle.std.proofs.Common.{◌≡◌, ◌<◌, ◌≤◌, ◌+◌, ◌*◌, ◌^◌, ◌||◌, if◌then◌else◌, ℕ, zero, suc, pos, negsuc, List, [], ◌∷◌, Bool, true, Option, None, Some, Contains, slice_get, bytes_eq, codes, refl, ap, sym, ◌∙◌, subst, arith}
+use Rattle.vl_ast.specs.declared.expressions.Sized.{Sized}
+use Rattle.vl_ast.specs.declared.expressions.Expr.{Expr}
+use Rattle.vl_ast.specs.declared.expressions.Expr.TheVariants.{Name}
+use Rattle.vl_ast.specs.declared.modules.Port.{Port}
+use Rattle.vl_ast.specs.declared.modules.Module.{Module}
+use Rattle.vl_ast.specs.declared.modules.ModItem.{ModItem}
+use Rattle.vl_ast.specs.declared.modules.ModItem.TheVariants.{Wire, Reg, Assign, Always}
+use Rattle.vl_ast.specs.Attributes.{cycles_of, period_of}
+use Rattle.vl_ast.specs.Driven.{Driven, stimulus_ports}
+use Rattle.vl_ast.specs.Nets.{Declared, InputPort, OutputPort, Register, nets_of}
+use Rattle.vl_ast.specs.Context.{Net}
+use Rattle.fx_type.specs.FxType.{width_of, InRange}
+use Rattle.fx_type.specs.declared.kind.FxType.TheVariants.{Num}
+use Rattle.dg_model.specs.RootElements.{RootElement}
+use lib.Signed.{le_z_yes}
+use Rattle.vl_ast.specs.Runs.{Row, Rows, Runs, next_bits}
+use Rattle.vl_ast.specs.Value.{bits_of, assigned, assigned_number}
+use Rattle.vl_ast.specs.Windows.{PortNumbers, Window}
+use Rattle.fx_top.specs.declared.one_delay.OneDelay.{OneDelay}
+use Rattle.fx_top.specs.Carries.{IsStimulus, OutputsShow, OutputElement, input_port, port_period}
+use Rattle.fx_top.specs.OneDelay.{byte_element, byte_output, delay_interface, SolvesDelay}
+use Rattle.fx_top.specs.inner.DelayModule.{register, delay_module}
+use Rattle.fx_top.proofs.Carried.{assigned-byte, declarations-are, declared_as, bit_net, byte_net}
+
+abbrev delay : OneDelay
+delay = record { input = codes "u"; output = codes "y"; initial = pos 3 }
+
+abbrev m : Module
+m = delay_module delay
+
+-- five rows: any inputs, `reset`, and then the three samples at clocks 0, 1 and 2
+abbrev window : Window
+window = record { rows = 5; last_reset = 1 }
+
+abbrev stimulus : PortNumbers
+stimulus place zero = pos 5
+stimulus place (suc zero) = negsuc 0
+stimulus place (suc (suc t)) = pos 127
+
+abbrev entries : PortNumbers
+entries place zero = pos 3
+entries place (suc zero) = pos 5
+entries place (suc (suc t)) = negsuc 0
+
+abbrev reset_at : ℕ → ℕ
+reset_at zero = 0
+reset_at (suc zero) = 1
+reset_at (suc (suc k)) = 0
+
+abbrev input_at : ℕ → ℕ
+input_at zero = 0
+input_at (suc zero) = 0
+input_at (suc (suc zero)) = 5
+input_at (suc (suc (suc zero))) = 255
+input_at (suc (suc (suc (suc k)))) = 127
+
+-- the register holds 9 before the first edge
+abbrev register_at : ℕ → ℕ
+register_at zero = 9
+register_at (suc zero) = 0
+register_at (suc (suc zero)) = 3
+register_at (suc (suc (suc zero))) = 5
+register_at (suc (suc (suc (suc k)))) = 255
+
+abbrev start : Row
+start name = 9
+
+abbrev inputs : Rows
+inputs k name =
+    if bytes_eq name (codes "reset") then reset_at k else (if bytes_eq name (codes "u") then input_at k else 0)
+
+abbrev rows : Rows
+rows k name = if bytes_eq name (codes "y") || bytes_eq name register then register_at k else inputs k name
+
+-- ---- the premises are met
+
+input-shown : (t : ℕ) → t < 3 → input_at (2 + t) ≡ bits_of 8 (stimulus 0 t)
+input-shown zero below = refl
+input-shown (suc zero) below = refl
+input-shown (suc (suc zero)) below = refl
+input-shown (suc (suc (suc t))) below = absurd (omega arith)
+
+released : (k : ℕ) → 1 < k → reset_at k ≡ 0
+released zero after = absurd (omega arith)
+released (suc zero) after = absurd (omega arith)
+released (suc (suc k)) after = refl
+
+shown-by : (place : ℕ) (port : Port) → slice_get (stimulus_ports m) place ≡ Some port → (period : ℕ) → period_of port ≡ Some period
+    → (cycles : ℕ) → cycles_of m ≡ Some cycles → (t : ℕ) → t < 3
+    → (clock : ℕ) → t * cycles ≤ clock → clock < (t + period) * cycles → inputs (2 + clock) port.name ≡ bits_of port.width (stimulus place t)
+shown-by zero port is period has cycles each t below clock from until =
+    let port_is : input_port (byte_element (codes "u") 0) ≡ port = cc is in
+    let period_is : period ≡ 1 = cc (has, port_is) in
+    let cycles_is : cycles ≡ 1 = cc each in
+    let begun : t * 1 ≤ clock = subst (λ (c : ℕ). t * c ≤ clock) cycles_is from in
+    let within : clock < (t + 1) * 1 = subst (λ (p : ℕ). clock < (t + p) * 1) period_is (subst (λ (c : ℕ). clock < (t + period) * c) cycles_is until) in
+    let here : clock ≡ t = omega (arith, begun, within) in
+    subst (λ (p : Port). inputs (2 + clock) p.name ≡ bits_of p.width (stimulus 0 t)) port_is
+    (ap input_at (ap (λ (c : ℕ). 2 + c) here) ∙ input-shown t below)
+shown-by (suc place) port is period has cycles each t below clock from until = absurd (cc is)
+
+driven : Driven m stimulus 3 window inputs
+driven = record {
+  within = omega arith;
+  reset = refl;
+  released = λ k after below. released k after;
+  shows = λ cycles each place port is period has t below hit clock from until there.
+      shown-by place port is period has cycles each t below clock from until;
+}
+
+solves : SolvesDelay (pos 3) 3 stimulus entries
+solves = record { first = λ some. refl; later = later } where
+  later : (t : ℕ) → t + 1 < 3 → entries 0 (t + 1) ≡ stimulus 0 t
+  later zero below = refl
+  later (suc zero) below = refl
+  later (suc (suc t)) below = absurd (omega arith)
+
+reset-fits : (k : ℕ) → reset_at k < 2
+reset-fits zero = omega arith
+reset-fits (suc zero) = omega arith
+reset-fits (suc (suc k)) = omega arith
+
+input-fits : (k : ℕ) → input_at k < 256
+input-fits zero = omega arith
+input-fits (suc zero) = omega arith
+input-fits (suc (suc zero)) = omega arith
+input-fits (suc (suc (suc zero))) = omega arith
+input-fits (suc (suc (suc (suc k)))) = omega arith
+
+register-fits : (k : ℕ) → register_at k < 256
+register-fits zero = omega arith
+register-fits (suc zero) = omega arith
+register-fits (suc (suc zero)) = omega arith
+register-fits (suc (suc (suc zero))) = omega arith
+register-fits (suc (suc (suc (suc k)))) = omega arith
+
+abbrev declared_all : List Declared
+declared_all = declared_as (codes "clk") InputPort bit_net ∷ declared_as (codes "reset") InputPort bit_net ∷ declared_as (codes "u") InputPort byte_net
+    ∷ declared_as (codes "y") OutputPort byte_net ∷ declared_as register Register byte_net ∷ []
+
+fits : (k : ℕ) (declared : Declared) → Contains declared_all declared → rows k declared.name < 2 ^ declared.net.width
+fits k declared (zero, below, is) = subst (λ (x : Declared). rows k x.name < 2 ^ x.net.width) is (omega arith)
+fits k declared (suc zero, below, is) = subst (λ (x : Declared). rows k x.name < 2 ^ x.net.width) is (reset-fits k)
+fits k declared (suc (suc zero), below, is) = subst (λ (x : Declared). rows k x.name < 2 ^ x.net.width) is (input-fits k)
+fits k declared (suc (suc (suc zero)), below, is) = subst (λ (x : Declared). rows k x.name < 2 ^ x.net.width) is (register-fits k)
+fits k declared (suc (suc (suc (suc zero))), below, is) = subst (λ (x : Declared). rows k x.name < 2 ^ x.net.width) is (register-fits k)
+fits k declared (suc (suc (suc (suc (suc i)))), below, is) = absurd (omega arith)
+
+starts : (signed : Bool) (width : ℕ) (name : List ℕ) → Contains m.items (Reg signed width name) → rows 0 name ≡ 9
+starts signed width name (zero, below, is) = let same : register ≡ name = cc is in subst (λ (n : List ℕ). rows 0 n ≡ 9) same refl
+starts signed width name (suc zero, below, is) = absurd (cc is)
+starts signed width name (suc (suc zero), below, is) = absurd (cc is)
+starts signed width name (suc (suc (suc i)), below, is) = absurd (omega arith)
+
+given : (k : ℕ) (port : Port) → Contains m.ports port → port.input ≡ true → rows k port.name ≡ inputs k port.name
+given k port (zero, below, is) input = subst (λ (p : Port). rows k p.name ≡ inputs k p.name) is refl
+given k port (suc zero, below, is) input = subst (λ (p : Port). rows k p.name ≡ inputs k p.name) is refl
+given k port (suc (suc zero), below, is) input = subst (λ (p : Port). rows k p.name ≡ inputs k p.name) is refl
+given k port (suc (suc (suc zero)), below, is) input = absurd (cc (is, input))
+given k port (suc (suc (suc (suc i))), below, is) input = absurd (omega arith)
+
+abbrev first : Sized
+first = record { width = 8; signed = true; bits = 3 }
+
+net-u : nets_of m (codes "u") ≡ byte_net
+net-u = refl
+
+net-y : nets_of m (codes "y") ≡ byte_net
+net-y = refl
+
+net-delay : nets_of m register ≡ byte_net
+net-delay = refl
+
+taken-u : (k : ℕ) → assigned (nets_of m) (rows k) 8 (Name (codes "u")) ≡ input_at k
+taken-u k = assigned-byte (nets_of m) (rows k) (codes "u") net-u (input-fits k)
+
+assigns : (k : ℕ) (name : List ℕ) (value : Expr) → Contains m.items (Assign name value) → rows k name ≡ assigned (nets_of m) (rows k) (nets_of m name).width value
+assigns k name value (zero, below, is) = absurd (cc is)
+assigns k name value (suc zero, below, is) = absurd (cc is)
+assigns k name value (suc (suc zero), below, is) =
+    let name_is : codes "y" ≡ name = cc is in
+    let value_is : Name register ≡ value = cc is in
+    subst (λ (n : List ℕ). rows k n ≡ assigned (nets_of m) (rows k) (nets_of m n).width value) name_is
+    (subst (λ (v : Expr). register_at k ≡ assigned (nets_of m) (rows k) (nets_of m (codes "y")).width v) value_is
+    (sym (ap (λ (net : Net). assigned (nets_of m) (rows k) net.width (Name register)) net-y ∙ assigned-byte (nets_of m) (rows k) register net-delay (register-fits k))))
+assigns k name value (suc (suc (suc i)), below, is) = absurd (omega arith)
+
+-- what the register takes at the edge that ends row k
+stepped : (k : ℕ) → k + 1 < 5 → register_at (k + 1) ≡ next_bits m (rows k) register first None (Name (codes "u"))
+stepped zero below = sym (ap (λ (net : Net). assigned (nets_of m) (rows 0) net.width (Name (codes "u"))) net-delay ∙ taken-u 0)
+stepped (suc zero) below = sym (ap (λ (net : Net). assigned_number net.width first) net-delay)
+stepped (suc (suc zero)) below = sym (ap (λ (net : Net). assigned (nets_of m) (rows 2) net.width (Name (codes "u"))) net-delay ∙ taken-u 2)
+stepped (suc (suc (suc zero))) below = sym (ap (λ (net : Net). assigned (nets_of m) (rows 3) net.width (Name (codes "u"))) net-delay ∙ taken-u 3)
+stepped (suc (suc (suc (suc k)))) below = absurd (omega arith)
+
+abbrev HasStepped : ℕ → ModItem → Type 0
+HasStepped k (Wire signed width name) = ⊤
+HasStepped k (Reg signed width name) = ⊤
+HasStepped k (Assign name value) = ⊤
+HasStepped k (Always name of_reset condition value) = rows (k + 1) name ≡ next_bits m (rows k) name of_reset condition value
+
+steps : (k : ℕ) → k + 1 < 5 → (name : List ℕ) (of_reset : Sized) (condition : Option Expr) (value : Expr) → Contains m.items (Always name of_reset condition value)
+    → rows (k + 1) name ≡ next_bits m (rows k) name of_reset condition value
+steps k more name of_reset condition value (zero, below, is) = absurd (cc is)
+steps k more name of_reset condition value (suc zero, below, is) =
+    subst (λ (item : ModItem). HasStepped k item) is (stepped k more)
+steps k more name of_reset condition value (suc (suc zero), below, is) = absurd (cc is)
+steps k more name of_reset condition value (suc (suc (suc i)), below, is) = absurd (omega arith)
+
+runs : Runs m 5 start inputs rows
+runs = record {
+  fits = λ k below declared has. fits k declared (subst (λ (all : List Declared). Contains all declared) (declarations-are delay) has);
+  starts = λ some signed width name has. starts signed width name has;
+  driven = λ k below port has input. given k port has input;
+  assigns = λ k below name value has. assigns k name value has;
+  steps = steps;
+}
+
+-- ---- and so is the conclusion: 3, 5, -1 at clocks 0, 1 and 2
+
+output-shown : (t : ℕ) → t < 3 → register_at (2 + t) ≡ bits_of 8 (entries 0 t)
+output-shown zero below = refl
+output-shown (suc zero) below = refl
+output-shown (suc (suc zero)) below = refl
+output-shown (suc (suc (suc t))) below = absurd (omega arith)
+
+abbrev only : OutputElement
+only = byte_output (codes "y") 0
+
+outputs-show : OutputsShow (delay_interface delay) 3 window rows entries
+outputs-show zero output is t below hit clock from until there =
+    let same : only ≡ output = cc is in
+    let period_is : port_period output.element.root.period ≡ 1 = ap (λ (o : OutputElement). port_period o.element.root.period) (sym same) in
+    let latency_is : output.latency ≡ 0 = ap (λ (o : OutputElement). o.latency) (sym same) in
+    let lat_is : output.lat ≡ 0 = ap (λ (o : OutputElement). o.lat) (sym same) in
+    let here : clock ≡ t = omega (arith, period_is, latency_is, lat_is) in
+    subst (λ (o : OutputElement). rows (2 + clock) o.element.name ≡ bits_of (width_of o.element.root.type) (entries 0 t)) same
+    (ap register_at (ap (λ (c : ℕ). 2 + c) here) ∙ output-shown t below)
+outputs-show (suc place) output is t below hit clock from until there = absurd (cc is)
+
+-- rows whose output is not delayed show no such entries
+not-undelayed : OutputsShow (delay_interface delay) 3 window (λ k name. input_at k) entries → ⊥
+not-undelayed shows =
+    let five : 5 ≡ 3 = shows 0 only refl 0 (omega arith) refl 0 (omega arith) (omega arith) (omega arith) in omega (arith, five)
+
+-- the stimulus is one
+in-range : (t : ℕ) → InRange (Num true 8 (pos 0)) (stimulus 0 t)
+in-range zero = record { low = le_z_yes tt; high = le_z_yes tt }
+in-range (suc zero) = record { low = le_z_yes tt; high = le_z_yes tt }
+in-range (suc (suc t)) = record { low = le_z_yes tt; high = le_z_yes tt }
+
+is-stimulus : IsStimulus (delay_interface delay) 3 stimulus
+is-stimulus zero e t is below hit = subst (λ (root : RootElement). InRange root.type (stimulus 0 t)) (some-is is) (in-range t) where
+  some-is : Some (byte_element (codes "u") 0).root ≡ Some e → (byte_element (codes "u") 0).root ≡ e
+  some-is same = cc same
+is-stimulus (suc place) e t is below hit = absurd (cc is)
