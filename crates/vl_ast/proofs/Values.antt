@@ -1,4 +1,5 @@
--- Values of expressions, worked out by hand after IEEE 1364-2005, 5.1, 5.4 and 5.5.
+-- Values of expressions, worked out by hand after IEEE 1364-2005, 5.1, 5.4 and 5.5. Crates above may
+-- cite the lemmas on one layer, whose names end in `-roll`.
 use Rattle.std.specs.Prelude.{◌≡◌, ℕ, Bool, true, false, List, [], ◌∷◌, codes, bytes_eq}
 use Rattle.std.proofs.Common.{ap}
 use Rattle.vl_ast.specs.declared.expressions.UnOp.{UnOp}

@@ -6,18 +6,18 @@ use Rattle.std.proofs.Math.Nat.{mod-eq_of_lt, div-eq_of_lt, add-mul, mul-sub, po
 use Rattle.std.proofs.lemmas.Bool.{cond_both, eqb-true, leb-true, leb-false}
 use Rattle.std.specs.Int.{bit_at}
 use Rattle.fx_num.specs.Word.{InWord, IsWord, IsCongruent}
-use Rattle.fx_num.proofs.Scaled.{double}
+use Rattle.fx_num.proofs.Arithmetic.{double, IsCongruent-part}
 use Rattle.vl_ast.specs.declared.expressions.Expr.{Expr}
 use Rattle.vl_ast.specs.declared.expressions.Expr.TheVariants.{Name, Bit, Part, Concat, Repeat}
 use Rattle.vl_ast.specs.Context.{Net, own_length, is_signed}
 use Rattle.vl_ast.specs.Value.{beside, extended, is_negative, value_in, assigned}
-use Rattle.vl_ast.specs.Driven.{bits_of}
+use Rattle.vl_ast.specs.Value.{bits_of}
 use Rattle.vl_emit.specs.Names.{Wire}
 use Rattle.vl_emit.specs.inner.Spelled.{zeros, fill, inside, piece, at_width}
 use Rattle.vl_emit.specs.inner.Written.{IsWritten, Shows}
 use Rattle.hw_net.specs.Operation.{shifted_down}
 use Rattle.vl_emit.proofs.Layers.{sign-Name, sign-Part, sign-Concat, sign-Literal, length-Name, length-Bit, length-Part, length-Literal, length-Concat, length-Repeat, value-Name, value-Bit, value-Part, value-Literal, value-Concat, value-Repeat}
-use Rattle.vl_emit.proofs.Twos.{bits-below, bits-congruent, bits-unique, IsCongruent-part, bits-mod}
+use Rattle.vl_emit.proofs.Twos.{bits-below, bits-congruent, bits-unique, bits-mod}
 
 -- no extension at the same width
 pub extended-same : (negative : Bool) (bits width : ℕ) → (if negative then bits + (2 ^ width - 2 ^ width) else bits) ≡ bits

@@ -7,7 +7,7 @@ use Rattle.vl_ast.specs.declared.expressions.BinOp.TheVariants.{And, Or, Xor}
 use Rattle.vl_ast.specs.declared.expressions.Expr.{Expr}
 use Rattle.vl_ast.specs.declared.expressions.Expr.TheVariants.{Unary, Binary}
 use Rattle.vl_ast.specs.Context.{Net, own_length}
-use Rattle.vl_ast.specs.Driven.{bits_of}
+use Rattle.vl_ast.specs.Value.{bits_of}
 use Rattle.vl_emit.specs.inner.Written.{IsWritten}
 use Rattle.hw_net.specs.Operation.{low_bits}
 use Rattle.vl_emit.proofs.Layers.{length-Unary, length-Binary, value-Unary, value-Binary}

@@ -22,7 +22,7 @@ use Rattle.vl_ast.specs.Multiplications.{Multiplication, multiplications_in, mul
 use Rattle.vl_emit.specs.Names.{Wire}
 use Rattle.vl_emit.specs.inner.Spelled.{zeros, fill, inside, piece, at_width}
 use Rattle.vl_ast.specs.declared.expressions.ShiftOp.TheVariants.{Left}
-use Rattle.vl_ast.specs.Driven.{bits_of}
+use Rattle.vl_ast.specs.Value.{bits_of}
 use Rattle.hw_net.specs.declared.netlist.NetOp.{NetOp}
 use Rattle.hw_net.specs.declared.netlist.NetOp.TheVariants as operation
 use Rattle.hw_net.specs.Operation.{arity}

@@ -13,7 +13,7 @@ use Rattle.vl_ast.specs.declared.modules.ModItem.{ModItem}
 use Rattle.vl_ast.specs.declared.modules.ModItem.TheVariants as item
 use Rattle.vl_ast.specs.Context.{Net as DeclaredNet, own_length, is_signed}
 use Rattle.vl_ast.specs.Conditions.{is_narrow, is_number, is_width}
-use Rattle.vl_ast.specs.Driven.{bits_of}
+use Rattle.vl_ast.specs.Value.{bits_of}
 use Rattle.hw_net.specs.declared.netlist.Frame.{Frame}
 use Rattle.hw_net.specs.declared.netlist.Net.{Net}
 use Rattle.hw_net.specs.declared.netlist.NetOp.{NetOp}

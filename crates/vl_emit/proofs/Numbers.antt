@@ -5,17 +5,17 @@ use Rattle.std.proofs.lemmas.Bool.{cond_both, leb-true, leb-false}
 use Rattle.std.proofs.lemmas.Slice.Eq.{bytes_eq-Decides}
 use Rattle.std.proofs.Math.Nat.{mod-eq_of_lt}
 use Rattle.fx_num.specs.Word.{IsWord, InWord, IsCongruent, IsWrapped}
-use Rattle.fx_num.proofs.Scaled.{double, IsCongruent-trans}
+use Rattle.fx_num.proofs.Arithmetic.{double, IsCongruent-sym, IsCongruent-trans}
 use Rattle.vl_ast.specs.declared.modules.Module.{Module}
 use Rattle.vl_ast.specs.Context.{Net as DeclaredNet}
 use Rattle.vl_ast.specs.Value.{Bits, number_of}
 use Rattle.vl_ast.specs.Nets.{Declared, declarations, nets_of, net_or_none}
-use Rattle.vl_ast.specs.Driven.{bits_of}
+use Rattle.vl_ast.specs.Value.{bits_of}
 use Rattle.vl_emit.proofs.AtWidth.{size-half}
 use Rattle.vl_emit.proofs.Found.{found-is}
 use Rattle.vl_emit.proofs.OfOperations.{plain-back, width-at-least}
 use Rattle.vl_emit.proofs.Operations.{number-back}
-use Rattle.vl_emit.proofs.Twos.{bits-congruent, IsCongruent-sym}
+use Rattle.vl_emit.proofs.Twos.{bits-congruent}
 
 -- numbers with the same bits are congruent
 pub congruent-bits : (w : ℕ) (a b : ℤ) → bits_of w a ≡ bits_of w b → IsCongruent a b (2 ^ w)

@@ -8,13 +8,13 @@ use Rattle.std.proofs.Math.Nat.{mod-eq_of_lt, div-eq_of_lt, mul-mod_left}
 use Rattle.vl_ast.specs.declared.expressions.ShiftOp.TheVariants.{Left}
 use Rattle.std.specs.Ordering.{int_eq}
 use Rattle.fx_num.specs.Word.{InWord, IsWord}
-use Rattle.fx_num.proofs.Scaled.{double}
+use Rattle.fx_num.proofs.Arithmetic.{double}
 use Rattle.vl_ast.specs.declared.expressions.BinOp.TheVariants as binary
 use Rattle.vl_ast.specs.declared.expressions.Expr.{Expr}
 use Rattle.vl_ast.specs.declared.expressions.Expr.TheVariants as expression
 use Rattle.vl_ast.specs.Context.{Net}
 use Rattle.vl_ast.specs.Value.{number_of, truth}
-use Rattle.vl_ast.specs.Driven.{bits_of}
+use Rattle.vl_ast.specs.Value.{bits_of}
 use Rattle.hw_net.specs.declared.netlist.NetOp.{NetOp}
 use Rattle.hw_net.specs.declared.netlist.NetOp.TheVariants.{Input, Const, Resize, ShiftUp, ShiftDown, Add, Subtract, Negate, Multiply, And, Or, Xor, Not, Less, Equal, Choose, Slice}
 use Rattle.hw_net.specs.Operation.{Operands, shifted_down, low_bits, truth as truth_number, arity, given_by}

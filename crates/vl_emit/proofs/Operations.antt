@@ -6,7 +6,7 @@ use Rattle.std.proofs.lemmas.Bool.Decides.{Decides-int_eq}
 use Rattle.std.specs.Ordering.{int_eq}
 use Rattle.std.proofs.Math.Nat.{mod-eq_of_lt}
 use Rattle.fx_num.specs.Word.{IsCongruent}
-use Rattle.fx_num.proofs.Scaled.{double, IsCongruent-trans}
+use Rattle.fx_num.proofs.Arithmetic.{double, IsCongruent-times, IsCongruent-trans}
 use Rattle.vl_ast.specs.declared.expressions.UnOp.TheVariants.{Negate}
 use Rattle.vl_ast.specs.declared.expressions.BinOp.TheVariants.{Add, Subtract, Multiply, Equal, NotEqual, Less}
 use Rattle.vl_ast.specs.declared.expressions.ShiftOp.TheVariants.{Left}
@@ -15,11 +15,11 @@ use Rattle.vl_ast.specs.declared.expressions.Expr.{Expr}
 use Rattle.vl_ast.specs.declared.expressions.Expr.TheVariants.{Literal, AsSigned, Unary, Binary, Shift, Choose}
 use Rattle.vl_ast.specs.Context.{Net, own_length, is_signed}
 use Rattle.vl_ast.specs.Value.{extended, is_negative, number_of, truth, value_in}
-use Rattle.vl_ast.specs.Driven.{bits_of}
+use Rattle.vl_ast.specs.Value.{bits_of}
 use Rattle.vl_emit.specs.inner.Written.{IsWritten}
 use Rattle.vl_emit.proofs.Layers.{length-Unary, length-Binary, length-Shift, length-Choose, length-AsSigned, length-Literal, sign-AsSigned, value-Unary, value-Binary, value-Shift, value-Choose, value-AsSigned, value-Literal, by_itself}
 use Rattle.vl_emit.proofs.AtWidth.{alone-written, extended-same, size_of}
-use Rattle.vl_emit.proofs.Twos.{bits-below, bits-congruent, bits-unique, IsCongruent-add, IsCongruent-neg, IsCongruent-mul, IsCongruent-times}
+use Rattle.vl_emit.proofs.Twos.{bits-below, bits-congruent, bits-unique, IsCongruent-add, IsCongruent-neg, IsCongruent-mul}
 
 add-bits : (w : ℕ) (a b : ℤ) → (bits_of w a + bits_of w b) % 2 ^ w ≡ bits_of w (a +ℤ b)
 add-bits w a b = bits-unique w (bits_of w a + bits_of w b) (a +ℤ b) (IsCongruent-add (2 ^ w) (bits-congruent w a) (bits-congruent w b))

@@ -4,7 +4,7 @@ use Rattle.std.proofs.lemmas.Bool.{cond_both, ltb-true, ltb-false, and_right, ne
 use Rattle.std.proofs.lemmas.Nat.{mod_below}
 use Rattle.std.proofs.Math.Nat.{mod-eq_of_lt, mul-le-mul_right, add-mul}
 use Rattle.fx_num.specs.Word.{IsCongruent}
-use Rattle.fx_num.proofs.Scaled.{IsCongruent-trans}
+use Rattle.fx_num.proofs.Arithmetic.{IsCongruent-trans}
 use Rattle.vl_ast.specs.declared.expressions.BinOp.TheVariants as binary
 use Rattle.vl_ast.specs.declared.expressions.Sized.{Sized}
 use Rattle.vl_ast.specs.declared.expressions.Expr.{Expr}
@@ -13,7 +13,7 @@ use Rattle.vl_ast.specs.declared.modules.Module.{Module}
 use Rattle.vl_ast.specs.Context.{Net, own_length, is_signed}
 use Rattle.vl_ast.specs.Value.{extended, is_negative, number_of, truth, assigned, assigned_number, is_true}
 use Rattle.vl_ast.specs.Nets.{nets_of}
-use Rattle.vl_ast.specs.Driven.{bits_of}
+use Rattle.vl_ast.specs.Value.{bits_of}
 use Rattle.vl_ast.specs.Runs.{next_bits, takes_value}
 use Rattle.hw_net.specs.declared.netlist.Frame.{Frame}
 use Rattle.vl_emit.specs.Names.{Wire}

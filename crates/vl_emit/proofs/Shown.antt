@@ -18,7 +18,7 @@ use Rattle.vl_ast.specs.declared.modules.Module.{Module}
 use Rattle.vl_ast.specs.Context.{Net as DeclaredNet}
 use Rattle.vl_ast.specs.Value.{assigned, truth}
 use Rattle.vl_ast.specs.Nets.{nets_of}
-use Rattle.vl_ast.specs.Driven.{bits_of}
+use Rattle.vl_ast.specs.Value.{bits_of}
 use Rattle.vl_ast.specs.Runs.{Runs, next_bits}
 use Rattle.hw_net.specs.declared.netlist.Frame.{Frame}
 use Rattle.hw_net.specs.declared.netlist.Net.{Net}

@@ -5,7 +5,7 @@ use Rattle.vl_ast.specs.declared.expressions.Expr.{Expr}
 use Rattle.vl_ast.specs.declared.modules.Module.{Module}
 use Rattle.vl_ast.specs.Nets.{nets_of}
 use Rattle.vl_ast.specs.Value.{value_in}
-use Rattle.vl_ast.specs.Driven.{bits_of}
+use Rattle.vl_ast.specs.Value.{bits_of}
 use Rattle.vl_ast.specs.Multiplications.{Multiplication, multiplications}
 use Rattle.vl_ast.specs.Runs.{Runs}
 use Rattle.hw_net.specs.declared.netlist.NetOp.{NetOp}

@@ -1,6 +1,6 @@
 ghost use Rattle.std.specs.Prelude.{◌≡◌, ◌+◌, ◌-◌, ◌*◌, ◌≤◌, ◌<◌, ◌^◌, [], false, IfOk};
 ghost use Rattle.fx_num.specs.Word.{IsWord};
-ghost use Rattle.vl_ast.specs.Driven.{bits_of};
+ghost use Rattle.vl_ast.specs.Value.{bits_of};
 ghost use Rattle.vl_ast.specs.declared.expressions.Expr.TheVariants.{Unary, Binary, AsSigned, Shift, Choose};
 ghost use Rattle.vl_ast.specs.declared.expressions.ShiftOp.TheVariants.{Left};
 ghost use Rattle.hw_net.specs.declared.netlist.NetOp.TheVariants.{Less, Equal};

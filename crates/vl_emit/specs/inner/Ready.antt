@@ -10,7 +10,7 @@ use Rattle.hw_net.specs.declared.netlist.NetKind.{NetKind}
 use Rattle.hw_net.specs.declared.netlist.NetKind.TheVariants.{Comb, Reg, EnReg, Bridge, Unit, Counter}
 use Rattle.hw_net.specs.Circuit.{Circuit}
 use Rattle.hw_net.specs.Operation.{arity}
-use Rattle.hw_net.specs.Frames.{counter_of}
+use Rattle.hw_net.specs.Frames.{frame_of, counter_of}
 use Rattle.vl_emit.specs.declared.source.Source.{Source}
 use Rattle.vl_emit.specs.Names.{net_at, port_at, net_name, name_by}
 use Rattle.vl_emit.specs.inner.Spoken.{IsWithin}
@@ -64,3 +64,7 @@ circuit_of source = source.netlist.now
 pub record IsSource (source : Source) : Type 0 where
   pub labels : IsIndex (circuit_of source).labels (length (circuit_of source).nets) source.labels.now
   pub ready : AreReady (circuit_of source)
+
+-- the frame that a register of this kind names has a Counter
+abbrev pub IsCounted : Circuit → NetKind → Type 0
+IsCounted netlist kind = (frame : Frame) → frame_of kind ≡ Some frame → IsSome (counter_of netlist.nets frame)

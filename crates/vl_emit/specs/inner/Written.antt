@@ -4,7 +4,7 @@ use Rattle.fx_num.specs.Word.{IsWord, InWord}
 use Rattle.vl_ast.specs.declared.expressions.Expr.{Expr}
 use Rattle.vl_ast.specs.Context.{Net, own_length}
 use Rattle.vl_ast.specs.Value.{value_in}
-use Rattle.vl_ast.specs.Driven.{bits_of}
+use Rattle.vl_ast.specs.Value.{bits_of}
 use Rattle.vl_emit.specs.Names.{Wire}
 
 -- the expression has this length, and in a context of this length, whatever its sign, the bits of z
