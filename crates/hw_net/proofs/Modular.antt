@@ -7,7 +7,7 @@ use Rattle.std.proofs.lemmas.Bool.{cases_lt}
 use Rattle.std.proofs.lemmas.Bool.Decides.{Decides-int_eq}
 use Rattle.std.proofs.Math.Nat.{div-eq_of_lt, mul-lt-mul_of_pos_right}
 use Rattle.fx_num.specs.Word.{IsWord, InWord, IsCongruent, IsWrapped}
-use Rattle.fx_num.proofs.Scaled.{double, add-scaled, IsCongruent-trans}
+use Rattle.fx_num.proofs.Arithmetic.{double, add-scaled, IsCongruent-trans}
 use borrow.Author.Differences.{up, down, neg_is}
 use Rattle.std.proofs.Math.IntN.{*ℤ_comm, *ℤ-negsuc}
 use Rattle.std.specs.Ordering.{int_eq}
