@@ -1,6 +1,7 @@
 -- One more name gets a number.
 use Rattle.std.proofs.Common.{◌≡◌, ◌<◌, ◌≤◌, ⊎_elim, ℕ, Bool, true, false, List, [], ◌∷◌, ◌++◌, length, map, slice_index, slice_index_or, slice_get, Some, Bor, bytes_eq, if◌then◌else◌, refl, sym, ap, subst, ◌∙◌, inl, inr, ◌⊎◌, true≢false, arith}
 use Rattle.std.specs.List.{list_any, IsDistinct}
+use Rattle.std.proofs.lemmas.List.Sums.{fold-append}
 use Rattle.std.proofs.lemmas.Bool.{cases_lt}
 use Rattle.std.proofs.lemmas.Map.Keys.{IsDistinct-from_apart, apart_from_distinct}
 use Rattle.std.proofs.lemmas.Slice.Eq.{bytes_eq-Decides}
@@ -11,7 +12,9 @@ use Rattle.vl_ast.specs.Conditions.{mentioned}
 use Rattle.vl_check.specs.declared.mentions.Mention.{Mention as MentionHere}
 use Rattle.vl_check.specs.inner.Mentioned.{mention_of, shown, texts}
 use Rattle.vl_check.specs.inner.Marks.{AreNumbers}
+use Rattle.vl_check.specs.Names.{with_name}
 use Rattle.vl_check.specs.inner.Names.{Numbered}
+use Rattle.vl_check.proofs.Searched.{any-map}
 
 -- an element of the front stands at the same place in the whole
 pub slice_get-front : {X : Type 0} (xs ys : List X) (k : ℕ) (x : X) → slice_get xs k ≡ Some x → slice_get (xs ++ ys) k ≡ Some x
@@ -22,13 +25,25 @@ slice_get-front xs ys k x e =
 
 -- keys after one is put in
 abbrev pub IsGrown : List (List ℕ) → List (List ℕ) → List ℕ → Type 0
-IsGrown keys keys' name = (keys' ≡ keys) ⊎ (keys' ≡ keys ++ name ∷ [])
+IsGrown keys keys' name = keys' ≡ with_name keys name
+
+abbrev Longer : List (List ℕ) → List (List ℕ) → List ℕ → Type 0
+Longer keys keys' name = (keys' ≡ keys) ⊎ (keys' ≡ keys ++ name ∷ [])
+
+longer : (keys keys' : List (List ℕ)) (name : List ℕ) → IsGrown keys keys' name → Longer keys keys' name
+longer keys keys' name is = by (list_any (bytes_eq name) keys) is where
+  by : (t : Bool) → keys' ≡ (if t then keys else keys ++ name ∷ []) → Longer keys keys' name
+  by true e = inl e
+  by false e = inr e
 
 pub grown : (keys : List (Bor (List ℕ))) (key : Bor (List ℕ)) → IsGrown (texts keys) (texts (insert_key (λ (x y : Bor (List ℕ)). bytes_eq x.now y.now) keys key)) key.now
-grown keys key = by (list_any (λ (y : Bor (List ℕ)). bytes_eq key.now y.now) keys) where
-  by : (t : Bool) → IsGrown (texts keys) (texts (if t then keys else keys ++ key ∷ [])) key.now
-  by true = inl refl
-  by false = inr (map-append (λ (x : Bor (List ℕ)). x.now) keys (key ∷ []))
+grown keys key =
+    by (list_any (λ (y : Bor (List ℕ)). bytes_eq key.now y.now) keys)
+    ∙ ap (λ t. if t then texts keys else texts keys ++ key.now ∷ []) (any-map (λ (y : Bor (List ℕ)). y.now) (bytes_eq key.now) keys)
+  where
+    by : (t : Bool) → texts (if t then keys else keys ++ key ∷ []) ≡ (if t then texts keys else texts keys ++ key.now ∷ [])
+    by true = refl
+    by false = map-append (λ (x : Bor (List ℕ)). x.now) keys (key ∷ [])
 
 -- a name stands at one place alone
 pub one-place : (keys : List (List ℕ)) → IsDistinct bytes_eq keys → (a b : ℕ) (x : List ℕ) → slice_get keys a ≡ Some x → slice_get keys b ≡ Some x → a ≡ b
@@ -47,12 +62,12 @@ one-place keys apart a b x ea eb = by (cases_lt a b) (cases_lt b a) where
   by (inr more) (inr less) = omega arith
 
 module _ (names : List (List ℕ)) (keys keys' : List (List ℕ)) (numbers : List ℕ) (number : ℕ) (name : List ℕ) where
-  still : IsGrown keys keys' name → (k : ℕ) (x : List ℕ) → slice_get keys k ≡ Some x → slice_get keys' k ≡ Some x
+  still : Longer keys keys' name → (k : ℕ) (x : List ℕ) → slice_get keys k ≡ Some x → slice_get keys' k ≡ Some x
   still (inl same) k x e = ap (λ ks. slice_get ks k) same ∙ e
   still (inr more) k x e = ap (λ ks. slice_get ks k) more ∙ slice_get-front keys (name ∷ []) k x e
 
   -- the key that is new is that of the number
-  last : IsGrown keys keys' name → IsDistinct bytes_eq keys' → slice_get keys' number ≡ Some name → (k : ℕ) → length keys ≤ k → k < length keys' → number ≡ k
+  last : Longer keys keys' name → IsDistinct bytes_eq keys' → slice_get keys' number ≡ Some name → (k : ℕ) → length keys ≤ k → k < length keys' → number ≡ k
   last (inl same) different here k new below = let l = ap length same in absurd (omega (arith, l, new, below))
   last (inr more) different here k new below =
       let l = ap length more in
@@ -70,7 +85,7 @@ module _ (names : List (List ℕ)) (keys keys' : List (List ℕ)) (numbers : Lis
         let b = length-append names (name ∷ []) in
         ⊎_elim
         (λ old. ap (slice_get keys') (get_or_append_left numbers (number ∷ []) 0 i (omega (arith, l, old)))
-        ∙ still is (slice_index numbers i) (slice_index_or names i d) (n.at i d old)
+        ∙ still (longer keys keys' name is) (slice_index numbers i) (slice_index_or names i d) (n.at i d old)
         ∙ ap Some (sym (get_or_append_left names (name ∷ []) d i old)))
         (λ new. let e : length names ≡ i = omega (arith, b, below) in
         let e' : length numbers ≡ i = omega (arith, l, e) in
@@ -85,9 +100,10 @@ module _ (names : List (List ℕ)) (keys keys' : List (List ℕ)) (numbers : Lis
         let there : u.0 < length (names ++ name ∷ []) = omega (arith, fewer, b) in
         let low : u.0 < length numbers = omega (arith, l, b) in
         (u.0, there, get_or_append_left numbers (number ∷ []) 0 u.0 low ∙ u.2))
-        (λ new. let there : length names < length (names ++ name ∷ []) = omega (arith, fewer) in (length names, there, get_or_at numbers number [] 0 (length names) l ∙ last is different here k new below))
+        (λ new. let there : length names < length (names ++ name ∷ []) = omega (arith, fewer) in (length names, there, get_or_at numbers number [] 0 (length names) l ∙ last (longer keys keys' name is) different here k new below))
         (cases_lt k (length keys));
     different = different;
+    whole = is ∙ ap (λ ks. with_name ks name) n.whole ∙ sym (fold-append with_name [] names (name ∷ []));
   }
 
 -- names apart as texts
@@ -103,7 +119,7 @@ distinct-texts keys d = IsDistinct-from_apart bytes_eq (texts keys) (λ i j e le
 pub no-names : (keys : List (Bor (List ℕ))) (numbers : List ℕ) → keys ≡ [] → numbers ≡ [] → Numbered [] (texts keys) numbers
 no-names keys numbers e f =
     subst (λ ns. Numbered [] (texts keys) ns) (sym f) (subst (λ ks. Numbered [] (texts ks) []) (sym e)
-    (record { long = refl; at = λ i d below. absurd (omega arith); used = λ k below. absurd (omega arith); different = IsDistinct-from_apart bytes_eq [] (λ i j e less below. absurd (omega arith)) }))
+    (record { long = refl; at = λ i d below. absurd (omega arith); used = λ k below. absurd (omega arith); different = IsDistinct-from_apart bytes_eq [] (λ i j e less below. absurd (omega arith)); whole = refl }))
 
 slice_get-map : {X Y : Type 0} (f : X → Y) (xs : List X) (k : ℕ) (x : X) → slice_get xs k ≡ Some x → slice_get (map f xs) k ≡ Some (f x)
 slice_get-map f xs k x e =

@@ -1,4 +1,4 @@
--- The numbers and the declarations of names are those of the text.
+-- The numbers and the declarations of names are those of the text. Crates above may cite this file.
 use Rattle.std.proofs.Common.{◌≡◌, ◌<◌, ℕ, Bool, true, false, cond, ltb, if◌then◌else◌, List, [], ◌∷◌, length, map, flat_map, find, slice_index, slice_index_or, slice_get, Contains, Option, None, Some, Bor, bytes_eq, refl, sym, ap, subst, ◌∙◌, arith}
 use Rattle.std.specs.Option.{option_map, option_and_then}
 use Rattle.std.specs.List.{IsDistinct, position}
@@ -19,6 +19,8 @@ use Rattle.vl_check.specs.declared.scope.Scope.{Scope}
 use Rattle.vl_check.specs.inner.Mentioned.{declared_of, shown, texts}
 use Rattle.vl_check.specs.inner.Names.{Numbered}
 use Rattle.vl_check.specs.inner.Marks.{AreFirst}
+use Rattle.std.specs.Prelude.{fold}
+use Rattle.vl_check.specs.Names.{with_name}
 use Rattle.vl_check.specs.Scope.{IsScopeOf, declaration_in, names_in, number_in}
 
 head-in' : {X : Type 0} (y x : X) (ys : List X) → y ≡ x → Contains (y ∷ ys) x
@@ -106,6 +108,7 @@ module _ (m : Module) (scope : Scope) (text : List MentionHere) (numbers : List 
     declares = λ name. by name (number_in scope name) refl;
     knows = λ name h. knows name (subst (λ all. Contains (map mentioned all) name) (sym whole) h);
     apart = n.different;
+    names = n.whole ∙ ap (λ all. fold with_name [] (map mentioned all)) whole;
   }
     where
       missing : (name : List ℕ) (o : Option Declared) → declaration_of m name ≡ o → number_in scope name ≡ None → None ≡ declaration_of m name

@@ -1,4 +1,5 @@
 pub mod Cause
+pub mod Names
 pub mod Ordering
 pub mod Scope
 pub mod Shape

@@ -6,6 +6,7 @@ use Rattle.std.specs.Borrow.{Bor}
 use Rattle.vl_ast.specs.declared.modules.Module.{Module}
 use Rattle.vl_ast.specs.Context.{Net}
 use Rattle.vl_ast.specs.Nets.{Declared, declaration_of, mentions, net_or_none}
+use Rattle.vl_check.specs.Names.{names_of}
 use Rattle.vl_check.specs.declared.scope.Scope.{Scope}
 use Rattle.vl_check.specs.inner.Mentioned.{declared_of, texts}
 
@@ -34,3 +35,4 @@ pub record IsScopeOf (m : Module) (scope : Scope) : Type 0 where
   pub declares : (name : List ℕ) → declaration_in scope name ≡ declaration_of m name
   pub knows : (name : List ℕ) → Contains (map mentioned (mentions m)) name → (k : ℕ) × (number_in scope name ≡ Some k)
   pub apart : IsDistinct bytes_eq (names_in scope)
+  pub names : names_in scope ≡ names_of m

@@ -1,6 +1,7 @@
 -- Names by their numbers.
-use Rattle.std.specs.Prelude.{◌≡◌, ℕ, ◌<◌, List, length, slice_index, slice_index_or, slice_get, bytes_eq, Some}
+use Rattle.std.specs.Prelude.{◌≡◌, ℕ, ◌<◌, List, length, slice_index, slice_index_or, slice_get, bytes_eq, fold, [], Some}
 use Rattle.std.specs.List.{IsDistinct}
+use Rattle.vl_check.specs.Names.{with_name}
 
 -- the number of each of these names is its place among the keys, which are different
 pub record Numbered (names keys : List (List ℕ)) (numbers : List ℕ) : Type 0 where
@@ -8,3 +9,4 @@ pub record Numbered (names keys : List (List ℕ)) (numbers : List ℕ) : Type 0
   pub at : (i : ℕ) (d : List ℕ) → i < length names → slice_get keys (slice_index numbers i) ≡ Some (slice_index_or names i d)
   pub used : (k : ℕ) → k < length keys → (i : ℕ) × (i < length names) × (slice_index numbers i ≡ k)
   pub different : IsDistinct bytes_eq keys
+  pub whole : keys ≡ fold with_name [] names
