@@ -7,6 +7,7 @@ mod EnabledAccumulator
 mod EnabledOutput
 mod Examples
 mod FastToSlow
+mod Flattened
 mod GainTypes
 mod Late
 mod Listed
@@ -26,3 +27,4 @@ mod Vectors
 mod WidthRounds
 mod WiredRows
 pub mod Ports
+pub mod Propagation

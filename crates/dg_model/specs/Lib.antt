@@ -26,3 +26,4 @@ pub mod Types
 pub mod Widths
 pub mod Wired
 pub mod Wires
+pub mod inner

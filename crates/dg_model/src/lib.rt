@@ -8,9 +8,11 @@
 //! has one row for each kind of block, with the columns of `KindRow`: what it may carry, and how its
 //! widths, its type and its period come from its inputs. `Wired` says which diagrams are well formed,
 //! and `Sound` which nested ones. `RootElements` and `LatencyEdges` number what files, ports and
-//! latencies are told by, and `Instant` says which values a block needs in its own sample.
+//! latencies are told by, and `Instant` says which values a block needs in its own sample. `Checked` is
+//! a diagram that keeps the rules, with what propagation gives its blocks.
 #![tactic(auto)]
 
+mod checked;
 mod diagram;
 mod fault;
 mod gain_param;
@@ -19,8 +21,11 @@ mod laws;
 mod nested;
 mod op;
 mod plan;
+mod port_widths;
+mod propagated;
 mod resolved;
 
+pub use checked::Checked;
 pub use diagram::{Block, Blocks, Diagram, Edge, Edges, PeriodSpec};
 pub use fault::{CheckFault, RuleFault, Shown};
 pub use gain_param::param_type_is_one;
@@ -29,4 +34,6 @@ pub use laws::{columns_are_a_stimulus, edges_stand_by_port, root_elements_are_li
 pub use nested::{Nested, NestedBlock, NestedBlocks, NestedLine, NestedLines, Part, Target};
 pub use op::{Op, OpCall};
 pub use plan::{Pipeline, Pipelines, Plan};
+pub use port_widths::PortWidths;
+pub use propagated::{FxTypes, Propagated};
 pub use resolved::Resolved;
