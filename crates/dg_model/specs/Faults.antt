@@ -1,7 +1,9 @@
 -- How a broken rule is told: by the first place that doesn't keep a part of it (own).
-use Rattle.std.specs.Prelude.{◌≡◌, ℕ, ◌<◌, List, [], Option, Some, None, slice_get}
+use Rattle.std.specs.Prelude.{◌≡◌, ℕ, ◌<◌, List, [], Option, Some, None, slice_get, ⊤}
 use Rattle.dg_model.specs.declared.diagram.Diagram.{Diagram}
 use Rattle.dg_model.specs.declared.diagram.Block.{Block}
+use Rattle.dg_model.specs.declared.fault.CheckFault.{CheckFault}
+use Rattle.dg_model.specs.declared.fault.CheckFault.TheVariants.{Broken, OutOfMemory}
 use Rattle.dg_model.specs.declared.fault.RuleFault.{RuleFault}
 use Rattle.dg_model.specs.declared.fault.Shown.{Shown}
 
@@ -32,3 +34,8 @@ pub record BreaksAt (diagram : Diagram) (rule : ℕ) (Keeps : ℕ → Block → 
   pub block : Block
   pub first : IsFirstBroken diagram Keeps place block
   pub fault_is : fault ≡ fault_of rule (path_of diagram place) (shown place block)
+
+-- what a check that answers no has told: a fault of a rule that is broken so, or want of memory
+abbrev pub IsRefusal : (RuleFault → Type 0) → CheckFault → Type 0
+IsRefusal Breaks (Broken fault) = Breaks fault
+IsRefusal Breaks OutOfMemory = ⊤

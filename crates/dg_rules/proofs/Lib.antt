@@ -1,0 +1,2 @@
+mod LineStates
+mod PlanLines

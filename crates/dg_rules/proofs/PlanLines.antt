@@ -1,0 +1,135 @@
+-- The paths of a plan's lines differ, so that a path has one number.
+use Rattle.std.proofs.Common.{◌≡◌, ℕ, zero, suc, Bool, true, false, if◌then◌else◌, List, [], ◌∷◌, ◌++◌, map, take, length, Some, None, bytes_eq, Bor, refl, sym, ap, subst, ◌∙◌, true≢false, inl, inr, arith}
+use Rattle.std.specs.Prelude.{find, position, slice_get, nat_lt, ◌⊎◌, ◌+◌, ◌<◌, ◌≤◌, not, cond, ◌||◌}
+use Rattle.std.specs.List.{list_any, AllByRecursion, position_or_len}
+use Rattle.std.proofs.lemmas.Bool.{cases_lt, cond-true, cond-false, lt-ltb, le-ltb}
+use Rattle.std.proofs.lemmas.List.{length-map, map-append}
+use Rattle.std.proofs.lemmas.List.Folds.{find_at}
+use Rattle.std.proofs.lemmas.List.Quantifiers.{position-Some}
+use Rattle.std.proofs.lemmas.Option.{none-some, same_Some, get_or_from_slice_get, slice_get_past}
+use Rattle.std.proofs.lemmas.Slice.Eq.{bytes_eq-Decides}
+use Rattle.indexmap.specs.IndexSet.{insert_key}
+use Rattle.dg_model.specs.declared.plan.Pipeline.{Pipeline}
+use Rattle.dg_model.specs.declared.plan.Plan.{Plan}
+use Rattle.dg_model.specs.PlanNames.{count_of}
+use Rattle.dg_model.specs.PlanRange.{AreDifferent}
+use Rattle.dg_rules.specs.inner.Lines.{texts_of, number_of}
+use Rattle.dg_rules.specs.inner.Standings.{count_in}
+
+same_path : (a b : List ℕ) → a ≡ b → bytes_eq a b ≡ true
+same_path a b e = (bytes_eq-Decides a b).1 e
+
+other_path : (a b : List ℕ) → (a ≡ b → ⊥) → bytes_eq a b ≡ false
+other_path a b ne = by (bytes_eq a b) refl where
+  by : (t : Bool) → bytes_eq a b ≡ t → bytes_eq a b ≡ false
+  by true e = absurd (ne ((bytes_eq-Decides a b).0 e))
+  by false e = e
+
+-- what holds of all holds of each
+each_of : {X : Type 0} (P : X → Type 0) (xs : List X) (k : ℕ) (x : X) → AllByRecursion P xs → slice_get xs k ≡ Some x → P x
+each_of P [] k x all at = absurd (none-some x at)
+each_of P (y ∷ ys) zero x all at = subst P (same_Some y x at) all.0
+each_of P (y ∷ ys) (suc k) x all at = each_of P ys k x all.1 at
+
+any_key : (name : List ℕ) (keys : List (Bor (List ℕ))) → list_any (λ (key : Bor (List ℕ)). bytes_eq name key.now) keys ≡ list_any (bytes_eq name) (texts_of keys)
+any_key name [] = refl
+any_key name (key ∷ keys) = ap (λ rest. bytes_eq name key.now || rest) (any_key name keys)
+
+grown : (keys : List (Bor (List ℕ))) (key : Bor (List ℕ)) → list_any (bytes_eq key.now) (texts_of keys) ≡ false
+    → texts_of (insert_key (λ (x y : Bor (List ℕ)). bytes_eq x.now y.now) keys key) ≡ texts_of keys ++ key.now ∷ []
+grown keys key new =
+    ap (λ there. texts_of (if there then keys else keys ++ key ∷ [])) (any_key key.now keys ∙ new)
+    ∙ map-append (λ (k : Bor (List ℕ)). k.now) keys (key ∷ [])
+
+-- the path of a line is none of those before it
+fresh : (lines : List Pipeline) (k : ℕ) (line : Pipeline) → AreDifferent lines → slice_get lines k ≡ Some line
+    → list_any (bytes_eq line.path) (map (λ (l : Pipeline). l.path) (take k lines)) ≡ false
+fresh [] k line apart at = absurd (none-some line at)
+fresh (x ∷ xs) zero line apart at = refl
+fresh (x ∷ xs) (suc k) line apart at =
+    let differs = each_of (λ (other : Pipeline). x.path ≡ other.path → ⊥) xs k line apart.0 at in
+    rw (other_path line.path x.path (λ e. differs (sym e))) (fresh xs k line apart.1 at)
+
+-- one more line
+pub one_more : (lines : List Pipeline) (keys : List (Bor (List ℕ))) (key : Bor (List ℕ)) (k : ℕ) (line : Pipeline)
+    → AreDifferent lines → slice_get lines k ≡ Some line → key.now ≡ line.path
+    → texts_of keys ≡ map (λ (l : Pipeline). l.path) (take k lines)
+    → texts_of (insert_key (λ (x y : Bor (List ℕ)). bytes_eq x.now y.now) keys key) ≡ map (λ (l : Pipeline). l.path) (take k lines) ++ line.path ∷ []
+one_more lines keys key k line apart at named texts =
+    grown keys key (ap (λ name. list_any (bytes_eq name) (texts_of keys)) named ∙ ap (list_any (bytes_eq line.path)) texts ∙ fresh lines k line apart at)
+    ∙ ap (λ front. front ++ key.now ∷ []) texts
+    ∙ ap (λ name. map (λ (l : Pipeline). l.path) (take k lines) ++ name ∷ []) named
+
+-- ---- the number of a path
+
+-- a line has this path
+abbrev pub has : List ℕ → Pipeline → Bool
+has path line = bytes_eq path line.path
+
+first_mapped : {X Y : Type 0} (f : X → Y) (p : Y → Bool) (xs : List X) → position_or_len p (map f xs) ≡ position_or_len (λ x. p (f x)) xs
+first_mapped f p [] = refl
+first_mapped f p (x ∷ xs) = ap (λ n. cond (not (p (f x))) (1 + n) 0) (first_mapped f p xs)
+
+-- the number of a path is the place of the first line that has it
+pub number_is : (keys : List (Bor (List ℕ))) (lines : List Pipeline) (path : List ℕ) → texts_of keys ≡ map (λ (line : Pipeline). line.path) lines
+    → number_of keys path ≡ position (has path) lines
+number_is keys lines path texts =
+    let first : position_or_len (λ (key : Bor (List ℕ)). bytes_eq path key.now) keys ≡ position_or_len (has path) lines =
+    sym (first_mapped (λ (key : Bor (List ℕ)). key.now) (bytes_eq path) keys) ∙ ap (position_or_len (bytes_eq path)) texts
+    ∙ first_mapped (λ (line : Pipeline). line.path) (bytes_eq path) lines in
+    let long : length keys ≡ length lines =
+    sym (length-map keys (λ (key : Bor (List ℕ)). key.now)) ∙ ap length texts ∙ length-map lines (λ (line : Pipeline). line.path) in
+    rw (first, long) refl
+
+pub found : (lines : List Pipeline) (path : List ℕ) (k : ℕ) (line : Pipeline) → position (has path) lines ≡ Some k → slice_get lines k ≡ Some line → line.path ≡ path
+found lines path k line at there =
+    let passes = (position-Some (has path) lines k line at).1 in
+    sym ((bytes_eq-Decides path line.path).0 (ap (has path) (sym (get_or_from_slice_get lines k line line there)) ∙ passes))
+
+pub within : (lines : List Pipeline) (path : List ℕ) (k : ℕ) → position (has path) lines ≡ Some k → k < length lines
+within lines path k at = (position-Some (has path) lines k (record { path = []; count = 0 }) at).0
+
+missing_from : (lines : List Pipeline) (path : List ℕ) → length lines ≤ position_or_len (has path) lines
+    → (k : ℕ) (line : Pipeline) → slice_get lines k ≡ Some line → line.path ≡ path → ⊥
+missing_from [] path none k line at same = none-some line at
+missing_from (x ∷ xs) path none k line at same = by (has path x) refl k at none (λ below j there. missing_from xs path below j line there same) where
+  by : (t : Bool) → has path x ≡ t → (k : ℕ) → slice_get (x ∷ xs) k ≡ Some line → suc (length xs) ≤ cond (not t) (1 + position_or_len (has path) xs) 0
+      → (length xs ≤ position_or_len (has path) xs → (j : ℕ) → slice_get xs j ≡ Some line → ⊥) → ⊥
+  by true is k at none rest = omega arith
+  by false is zero at none rest = true≢false (sym (same_path path x.path (sym (ap (λ (l : Pipeline). l.path) (same_Some x line at) ∙ same))) ∙ is)
+  by false is (suc k) at none rest = rest (omega arith) k at
+
+pub missing : (lines : List Pipeline) (path : List ℕ) → position (has path) lines ≡ None
+    → (k : ℕ) (line : Pipeline) → slice_get lines k ≡ Some line → line.path ≡ path → ⊥
+missing lines path none = by (cases_lt (position_or_len (has path) lines) (length lines)) where
+  by : (position_or_len (has path) lines < length lines) ⊎ (length lines ≤ position_or_len (has path) lines) → (k : ℕ) (line : Pipeline) → slice_get lines k ≡ Some line → line.path ≡ path → ⊥
+  by (inl less) = absurd (none-some _ (sym none ∙ cond-true (nat_lt (position_or_len (has path) lines) (length lines)) (Some (position_or_len (has path) lines)) None (lt-ltb _ _ less)))
+  by (inr more) = missing_from lines path more
+
+-- two lines with one path are one
+pub one_line : (lines : List Pipeline) (i j : ℕ) (a b : Pipeline) → AreDifferent lines → slice_get lines i ≡ Some a → slice_get lines j ≡ Some b → a.path ≡ b.path → i ≡ j
+one_line [] i j a b apart ai bj same = absurd (none-some a ai)
+one_line (x ∷ xs) zero zero a b apart ai bj same = refl
+one_line (x ∷ xs) zero (suc j) a b apart ai bj same =
+    absurd (each_of (λ (other : Pipeline). x.path ≡ other.path → ⊥) xs j b apart.0 bj (ap (λ (l : Pipeline). l.path) (same_Some x a ai) ∙ same))
+one_line (x ∷ xs) (suc i) zero a b apart ai bj same =
+    absurd (each_of (λ (other : Pipeline). x.path ≡ other.path → ⊥) xs i a apart.0 ai (ap (λ (l : Pipeline). l.path) (same_Some x b bj) ∙ sym same))
+one_line (x ∷ xs) (suc i) (suc j) a b apart ai bj same = ap (λ n. suc n) (one_line xs i j a b apart.1 ai bj same)
+
+-- ---- the registers of a path
+
+turned : (path : List ℕ) (lines : List Pipeline) → find (λ (line : Pipeline). bytes_eq line.path path) lines ≡ find (has path) lines
+turned path [] = refl
+turned path (x ∷ xs) = rw (both x.path path) (ap (λ rest. cond (bytes_eq path x.path) (Some x) rest) (turned path xs)) where
+  both : (a b : List ℕ) → bytes_eq a b ≡ bytes_eq b a
+  both a b = by (bytes_eq a b) refl where
+    by : (t : Bool) → bytes_eq a b ≡ t → t ≡ bytes_eq b a
+    by true e = sym (same_path b a (sym ((bytes_eq-Decides a b).0 e)))
+    by false e = sym (other_path b a (λ same. true≢false (sym (same_path a b (sym same)) ∙ e)))
+
+pub count_is : (plan : Plan) (path : List ℕ) → count_in (position (has path) plan.pipelines) plan.pipelines ≡ count_of plan path
+count_is plan path = by (cases_lt (position_or_len (has path) plan.pipelines) (length plan.pipelines)) where
+  by : (position_or_len (has path) plan.pipelines < length plan.pipelines) ⊎ (length plan.pipelines ≤ position_or_len (has path) plan.pipelines)
+      → count_in (position (has path) plan.pipelines) plan.pipelines ≡ count_of plan path
+  by (inl less) = rw (cond-true (nat_lt (position_or_len (has path) plan.pipelines) (length plan.pipelines)) (Some (position_or_len (has path) plan.pipelines)) None (lt-ltb _ _ less), turned path plan.pipelines, find_at (has path) plan.pipelines) refl
+  by (inr more) = rw (cond-false (nat_lt (position_or_len (has path) plan.pipelines) (length plan.pipelines)) (Some (position_or_len (has path) plan.pipelines)) None (le-ltb _ _ more), turned path plan.pipelines, find_at (has path) plan.pipelines, slice_get_past plan.pipelines (position_or_len (has path) plan.pipelines) more) refl
