@@ -2,6 +2,7 @@ mod Biased
 mod Congruence
 mod Converting
 mod Exactly
+mod NumeralForms
 mod Orders
 mod Reading
 mod Rounding

@@ -5,10 +5,7 @@ use Rattle.std.specs.Str.Parse.{digits_value_after}
 use Rattle.std.proofs.lemmas.List.{take_more}
 use Rattle.std.proofs.lemmas.List.Elements.{All-nil, All-cons}
 use Rattle.std.proofs.lemmas.Str.{digit_value_digit}
-use Rattle.fx_round.specs.DecimalText.{front_digits, after_digits, fraction_digits, after_sign, after_fraction, is_minus, exponent_of, whole_digits, fraction_of, all_digits, IsShort, IsDecimalOf, Explains}
-use Rattle.fx_type.specs.declared.decimal.Decimal.{Decimal}
-use Rattle.fx_round.specs.declared.decimal.DecimalFault.{DecimalFault}
-use Rattle.fx_round.specs.declared.decimal.DecimalFault.TheVariants.{TooLong}
+use Rattle.fx_round.specs.inner.DecimalReading.{front_digits, after_digits, fraction_digits}
 
 both : (a b : Bool) → (a && b) ≡ true → (a ≡ true) × (b ≡ true)
 both true b e = (refl, e)
@@ -59,22 +56,3 @@ after_push n (d ∷ ds) c = after_push (n * 10 + digit_value d) ds c
 
 pub after_more : (n : ℕ) (ds : List ℕ) (i : ℕ) → i < length ds → digits_value_after 10 n (take (i + 1) ds) ≡ digits_value_after 10 n (take i ds) * 10 + digit_value (get_or ds i 0)
 after_more n ds i h = ap (digits_value_after 10 n) (take_more ds i 0 h) ∙ after_push n (take i ds) (get_or ds i 0)
-
--- ---- what was read
-pub read_known : (text : List ℕ) (r : Result Decimal DecimalFault) (digits behind : ℕ) (written : ℤ) (negative : Bool)
-    → MatchResult r (λ d. IsShort digits behind written × (d.negative ≡ negative) × (d.digits ≡ digits) × (d.exponent ≡ written -ℤ pos behind)) (λ fault. (fault ≡ TooLong) × (¬ IsShort digits behind written))
-    → negative ≡ is_minus text → digits ≡ min (all_digits text) 1000000000000000000 → behind ≡ length (fraction_of text)
-    → 1 ≤ length (whole_digits text) + length (fraction_of text) → exponent_of (after_fraction (after_digits (after_sign text))) ≡ Some written
-    → MatchResult r (IsDecimalOf text) (Explains text)
-read_known text (Ok d) digits behind written negative (short, n, v, x) en ed eb some e = record {
-  numeral = record { exponent = written; some_digit = some; is_exponent = e };
-  short = record { few_digits = omega (arith, ed, short.few_digits); few_behind = omega (arith, eb, short.few_behind); least = short.least; greatest = short.greatest };
-  negative = n ∙ en;
-  digits = v ∙ omega (arith, ed, short.few_digits);
-  exponent = x ∙ ap (λ (k : ℕ). written -ℤ pos k) eb;
-}
-read_known text (Err fault) digits behind written negative (f, long) en ed eb some e =
-    subst (λ (x : DecimalFault). Explains text x) (sym f) (record {
-      numeral = record { exponent = written; some_digit = some; is_exponent = e };
-      long = λ s. long (record { few_digits = omega (arith, ed, s.few_digits); few_behind = omega (arith, eb, s.few_behind); least = s.least; greatest = s.greatest });
-    })

@@ -1,79 +1,68 @@
--- Decimals as text: an optional sign, digits with at most one point and at least one digit, and then, after `e` or
--- `E`, an optional sign and one or two digits. `true` is 1, and `false` is 0 (own).
-use Rattle.std.specs.Prelude.{◌≡◌, ℕ, ◌+◌, ◌-◌, ◌*◌, ◌^◌, ◌<◌, ◌≤◌, ◌==◌, Bool, true, false, ◌&&◌, ◌||◌, if◌then◌else◌, List, [], ◌∷◌, length, Option, Some, None, ℤ, pos, negsuc, ◌-ℤ◌, neg_ℤ, ◌≤ℤ◌, codes, ◌⊎◌}
+-- Decimals as text: an optional sign, digits with at most one point and at least one digit, and
+-- then, after `e` or `E`, an optional sign and one or two digits. `true` is 1, and `false` is 0 (own).
+use Rattle.std.specs.Prelude.{◌≡◌, ℕ, ◌^◌, ◌<◌, ◌≤◌, Bool, true, false, List, [], ◌∷◌, ◌++◌, length, ℤ, pos, negsuc, ◌-ℤ◌, neg_ℤ, ◌≤ℤ◌, codes, ◌⊎◌, IsTrue}
+use Rattle.std.specs.List.{list_all}
 use Rattle.std.specs.Char.{is_ascii_digit}
-use Rattle.std.specs.Str.Parse.{digits_value_after}
+use Rattle.std.specs.Str.Parse.{digits_value}
 use Rattle.fx_type.specs.declared.decimal.Decimal.{Decimal}
-use Rattle.fx_round.specs.declared.decimal.DecimalFault.{DecimalFault}
-use Rattle.fx_round.specs.declared.decimal.DecimalFault.TheVariants.{NotANumber, TooLong}
 
--- the digits that the text begins with, and what follows them
-abbrev pub front_digits : List ℕ → List ℕ
-front_digits [] = []
-front_digits (c ∷ cs) = if is_ascii_digit c then c ∷ front_digits cs else []
+-- digits alone, or nothing
+abbrev pub AreDigits : List ℕ → Type 0
+AreDigits text = IsTrue (list_all is_ascii_digit text)
 
--- what follows the digits that the text begins with
-abbrev pub after_digits : List ℕ → List ℕ
-after_digits [] = []
-after_digits (c ∷ cs) = if is_ascii_digit c then after_digits cs else c ∷ cs
+-- `-` where the number is negative, and else `+` or nothing
+abbrev pub IsSign : List ℕ → Bool → Type 0
+IsSign text true = text ≡ codes "-"
+IsSign text false = (text ≡ []) ⊎ (text ≡ codes "+")
 
--- whether the text begins with a minus sign, and what follows its sign
-abbrev pub is_minus : List ℕ → Bool
-is_minus [] = false
-is_minus (c ∷ cs) = c == 45
+-- n with its sign
+abbrev pub signed : Bool → ℕ → ℤ
+signed true n = neg_ℤ (pos n)
+signed false n = pos n
 
--- what follows the sign, where there is one
-abbrev pub after_sign : List ℕ → List ℕ
-after_sign [] = []
-after_sign (c ∷ cs) = if (c == 43) || (c == 45) then cs else c ∷ cs
+-- a point and the digits behind it, or nothing
+abbrev pub IsFraction : List ℕ → List ℕ → Type 0
+IsFraction text digits = (text ≡ codes "." ++ digits) ⊎ ((text ≡ []) × (digits ≡ []))
 
--- the digits behind a point, and what follows them; where there is no point, no digits and the text
-abbrev pub fraction_digits : List ℕ → List ℕ
-fraction_digits [] = []
-fraction_digits (c ∷ cs) = if c == 46 then front_digits cs else []
+-- `e` or `E`, a sign, and one or two digits
+pub record IsWrittenExponent (text : List ℕ) (exponent : ℤ) : Type 0 where
+  pub mark : List ℕ
+  pub sign : List ℕ
+  pub digits : List ℕ
+  pub negative : Bool
+  pub form : text ≡ mark ++ (sign ++ digits)
+  pub is_mark : (mark ≡ codes "e") ⊎ (mark ≡ codes "E")
+  pub is_sign : IsSign sign negative
+  pub are_digits : AreDigits digits
+  pub some_digit : 1 ≤ length digits
+  pub few_digits : length digits ≤ 2
+  pub value : exponent ≡ signed negative (digits_value 10 digits)
 
--- what follows them
-abbrev pub after_fraction : List ℕ → List ℕ
-after_fraction [] = []
-after_fraction (c ∷ cs) = if c == 46 then after_digits cs else c ∷ cs
+-- an exponent, or nothing, which is the exponent 0
+abbrev pub IsExponent : List ℕ → ℤ → Type 0
+IsExponent text exponent = IsWrittenExponent text exponent ⊎ ((text ≡ []) × (exponent ≡ pos 0))
 
--- the number that one or two digits are
-abbrev pub one_or_two : List ℕ → Option ℕ
-one_or_two [] = None
-one_or_two (a ∷ []) = if is_ascii_digit a then Some (a - 48) else None
-one_or_two (a ∷ b ∷ []) = if is_ascii_digit a && is_ascii_digit b then Some ((a - 48) * 10 + (b - 48)) else None
-one_or_two (a ∷ b ∷ c ∷ cs) = None
-
--- a number with a sign
-abbrev pub signed : Bool → Option ℕ → Option ℤ
-signed negative None = None
-signed true (Some n) = Some (neg_ℤ (pos n))
-signed false (Some n) = Some (pos n)
-
--- the exponent that a text is: 0 where it is empty, and nothing where it is none
-abbrev pub exponent_of : List ℕ → Option ℤ
-exponent_of [] = Some (pos 0)
-exponent_of (c ∷ cs) = if (c == 101) || (c == 69) then signed (is_minus cs) (one_or_two (after_sign cs)) else None
-
--- the digits before the point, those behind it, and all as one number
-abbrev pub whole_digits : List ℕ → List ℕ
-whole_digits text = front_digits (after_sign text)
-
--- the digits behind the point
-abbrev pub fraction_of : List ℕ → List ℕ
-fraction_of text = fraction_digits (after_digits (after_sign text))
-
--- all digits of the text as one number
-abbrev pub all_digits : List ℕ → ℕ
-all_digits text = digits_value_after 10 (digits_value_after 10 0 (whole_digits text)) (fraction_of text)
-
--- the text is a number: it has a digit, and what follows its digits is an exponent
+-- the text is a number: a sign, digits, a point with digits behind it, and an exponent; `digits` is
+-- all digits as one number
 pub record IsNumeral (text : List ℕ) : Type 0 where
+  pub sign : List ℕ
+  pub negative : Bool
+  pub whole : List ℕ
+  pub point : List ℕ
+  pub fraction : List ℕ
+  pub digits : ℕ
+  pub written : List ℕ
   pub exponent : ℤ
-  pub some_digit : 1 ≤ length (whole_digits text) + length (fraction_of text)
-  pub is_exponent : exponent_of (after_fraction (after_digits (after_sign text))) ≡ Some exponent
+  pub form : text ≡ sign ++ (whole ++ (point ++ written))
+  pub is_sign : IsSign sign negative
+  pub are_digits : AreDigits (whole ++ fraction)
+  pub some_digit : 1 ≤ length (whole ++ fraction)
+  pub value : digits ≡ digits_value 10 (whole ++ fraction)
+  pub is_fraction : IsFraction point fraction
+  pub is_exponent : IsExponent written exponent
 
--- at most 18 digits behind the leading zeros, which is a number below 10 to the power 18; at most 18 behind the point; an exponent of at most 18 either way
+-- at most 18 digits behind the leading zeros, which is a number below 10 to the power 18; at most
+-- 18 behind the point; an exponent of at most 18 either way
 pub record IsShort (digits behind : ℕ) (exponent : ℤ) : Type 0 where
   pub few_digits : digits < 10 ^ 18
   pub few_behind : behind ≤ 18
@@ -83,20 +72,15 @@ pub record IsShort (digits behind : ℕ) (exponent : ℤ) : Type 0 where
 -- d is the number that the text is
 pub record IsDecimalOf (text : List ℕ) (d : Decimal) : Type 0 where
   pub numeral : IsNumeral text
-  pub short : IsShort (all_digits text) (length (fraction_of text)) numeral.exponent
-  pub negative : d.negative ≡ is_minus text
-  pub digits : d.digits ≡ all_digits text
-  pub exponent : d.exponent ≡ numeral.exponent -ℤ pos (length (fraction_of text))
+  pub short : IsShort numeral.digits (length numeral.fraction) numeral.exponent
+  pub negative : d.negative ≡ numeral.negative
+  pub digits : d.digits ≡ numeral.digits
+  pub exponent : d.exponent ≡ numeral.exponent -ℤ pos (length numeral.fraction)
 
 -- the text is a number that is too long
 pub record IsLong (text : List ℕ) : Type 0 where
   pub numeral : IsNumeral text
-  pub long : ¬ IsShort (all_digits text) (length (fraction_of text)) numeral.exponent
-
--- why a text that is no word is refused
-abbrev pub Explains : List ℕ → DecimalFault → Type 0
-Explains text NotANumber = ¬ IsNumeral text
-Explains text TooLong = IsLong text
+  pub long : ¬ IsShort numeral.digits (length numeral.fraction) numeral.exponent
 
 -- a word, or a number
 abbrev pub IsDecimalText : List ℕ → Type 0
@@ -110,4 +94,6 @@ pub record IsWhole (d : Decimal) (n : ℕ) : Type 0 where
 
 -- d is what the text says
 abbrev pub IsDecimal : List ℕ → Decimal → Type 0
-IsDecimal text d = ((text ≡ codes "true") × IsWhole d 1) ⊎ (((text ≡ codes "false") × IsWhole d 0) ⊎ IsDecimalOf text d)
+IsDecimal text d =
+    ((text ≡ codes "true") × IsWhole d 1)
+    ⊎ (((text ≡ codes "false") × IsWhole d 0) ⊎ IsDecimalOf text d)

@@ -3,7 +3,8 @@ ghost use Rattle.std.specs.Prelude.{◌≡◌, ℕ, ◌^◌, ◌≤◌, ◌↔�
 ghost use Rattle.std.specs.List.{AllPass};
 ghost use Rattle.std.specs.Char.{is_ascii_digit};
 ghost use Rattle.std.specs.Str.Parse.{digits_value_after};
-ghost use Rattle.fx_round.specs.DecimalText.{front_digits, after_digits, is_minus, after_sign, fraction_digits, after_fraction, one_or_two, exponent_of, IsShort, IsDecimalOf, IsDecimal, IsDecimalText, IsLong, Explains};
+ghost use Rattle.fx_round.specs.DecimalText.{IsShort, IsDecimalOf, IsDecimal, IsDecimalText, IsLong};
+ghost use Rattle.fx_round.specs.inner.DecimalReading.{front_digits, after_digits, is_minus, after_sign, fraction_digits, after_fraction, one_or_two, exponent_of, Explains};
 
 use fx_type::Decimal;
 

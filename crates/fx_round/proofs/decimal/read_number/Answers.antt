@@ -2,8 +2,9 @@ use Rattle.std.proofs.Common.{◌≡◌, ℕ, ◌+◌, ◌≤◌, min, length, L
 use Rattle.std.specs.Int.{w16}
 use Rattle.std.proofs.lemmas.Int.{to_z-of_z}
 use Rattle.std.specs.Str.Parse.{digits_value_after}
-use Rattle.fx_round.specs.DecimalText.{whole_digits, fraction_of, all_digits, front_digits, after_digits, after_sign, fraction_digits, after_fraction, exponent_of}
-use Rattle.fx_round.proofs.Reading.{front_pass, fraction_pass, read_known}
+use Rattle.fx_round.specs.inner.DecimalReading.{whole_digits, fraction_of, all_digits, front_digits, after_digits, after_sign, fraction_digits, after_fraction, exponent_of}
+use Rattle.fx_round.proofs.Reading.{front_pass, fraction_pass}
+use Rattle.fx_round.proofs.NumeralForms.{no_digit, no_exponent, read_known}
 use Rattle.fx_round.proofs.decimal.read_number.Goals as goal
 
 pub read_on-requires-clause-digits : goal.read_on-requires-clause-digits
@@ -28,3 +29,18 @@ returns-in-Some c =
     let e : exponent_of (after_fraction (after_digits (after_sign text))) ≡ Some c.in-Some.written = ap exponent_of (sym tail) ∙ sym c.exponent_of.ensures ∙ c.in-Some.is in
     read_known text c.decimal_of.result c.read_on-digits.result (length c.split_fraction.result.0.now) c.in-Some.written c.is_minus.result
     (rw w at c.decimal_of.ensures) c.is_minus.ensures digits (ap length fraction) some e
+
+pub returns-then-whole-fraction-eq0 : goal.returns-then-whole-fraction-eq0
+returns-then-whole-fraction-eq0 c =
+    let text = c.args.text.now in
+    let whole : c.split_digits.result.0.now ≡ whole_digits text = c.split_digits.ensures.front ∙ ap front_digits c.after_sign.ensures in
+    let rest : c.split_digits.result.1.now ≡ after_digits (after_sign text) = c.split_digits.ensures.back ∙ ap after_digits c.after_sign.ensures in
+    let fraction : c.split_fraction.result.0.now ≡ fraction_of text = c.split_fraction.ensures.front ∙ ap fraction_digits rest in
+    no_digit text (omega (arith, c.if-whole-fraction-eq0.true, ap length whole, ap length fraction))
+
+pub returns-in-None : goal.returns-in-None
+returns-in-None c =
+    let text = c.args.text.now in
+    let rest : c.split_digits.result.1.now ≡ after_digits (after_sign text) = c.split_digits.ensures.back ∙ ap after_digits c.after_sign.ensures in
+    let tail : c.split_fraction.result.1.now ≡ after_fraction (after_digits (after_sign text)) = c.split_fraction.ensures.back ∙ ap after_fraction rest in
+    no_exponent text (ap exponent_of (sym tail) ∙ sym c.exponent_of.ensures ∙ c.in-None.is)
