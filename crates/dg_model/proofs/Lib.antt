@@ -10,10 +10,12 @@ mod FastToSlow
 mod Flattened
 mod GainTypes
 mod Late
+mod LeastLoop
 mod Listed
 mod Numbers
 mod ParamTypes
 mod PeriodRounds
+mod PlanFaults
 mod RateAndLoop
 mod ReadableRows
 mod Roots
@@ -21,6 +23,7 @@ mod Roundings
 mod SlowToFast
 mod SoundRows
 mod SumTypes
+mod TypeFaults
 mod TypeOfSmall
 mod TypeRows
 mod Vectors
