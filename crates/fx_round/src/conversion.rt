@@ -62,5 +62,16 @@ fn lowered(v: i128, by: u32, to: FxType, mode: Rounding, saturate: bool) -> i128
             return i128::from(settled(rounded, to.width(), to.is_signed(), saturate));
         }
     }
+    lowered_far(v, by, to, mode, saturate)
+}
+
+/// The same in 128 bits. It stands apart, so that the short way needs few registers.
+#[inline(never)]
+fn lowered_far(v: i128, by: u32, to: FxType, mode: Rounding, saturate: bool) -> i128
+    requires some { 1 ≤ by }
+    requires to { IsType to }
+    requires number { IsNumber to }
+    ensures { StoresQuotient v (2 ^ by) to mode saturate result }
+{
     settle(split::rounded_down(v, by, mode), to, saturate)
 }

@@ -1,9 +1,30 @@
 //! Whole numbers put into a type.
-ghost use Rattle.std.specs.Prelude.{◌^◌, true, pos, ◌*ℤ◌};
+ghost use Rattle.std.specs.Prelude.{◌≡◌, ◌^◌, true, ℤ, pos, ◌*ℤ◌};
+ghost use Rattle.fx_num.specs.Word.{IsWord, word_lowest, word_highest};
+ghost use Rattle.fx_type.specs.declared.kind.FxType.TheVariants.{Num};
 ghost use Rattle.fx_type.specs.FxType.{IsType, IsNumber};
 ghost use Rattle.fx_type.specs.Conversion.{Settles};
 
 use fx_type::FxType;
+
+/// The least number of the word whose greatest one this is.
+fn lowest(highest: i128, width: u8, signed: bool) -> i128
+    requires word { IsWord width signed }
+    requires highest { highest ≡ word_highest width signed }
+    ensures { result ≡ word_lowest width signed }
+{
+    let _ = width;
+    if signed { -1 - highest } else { 0 }
+}
+
+/// The number of a word that is nearest to `r`.
+fn nearest(r: i128, width: u8, signed: bool) -> i128
+    requires { IsWord width signed }
+    ensures { (frac : ℤ) → Settles (Num signed width frac) true r result }
+{
+    let highest = fx_num::highest(width, signed);
+    r.clamp(lowest(highest, width, signed), highest)
+}
 
 /// What the number type `to` stores for the whole number `r`.
 pub fn settle(r: i128, to: FxType, saturate: bool) -> i128
@@ -11,13 +32,18 @@ pub fn settle(r: i128, to: FxType, saturate: bool) -> i128
     ensures { Settles to saturate r result }
 {
     if saturate {
-        r.clamp(to.lowest(), to.highest())
+        match to {
+            FxType::Num { signed, width, .. } => nearest(r, width, signed),
+            FxType::Logical => r.clamp(0, 1),
+        }
     } else {
         fx_num::wrap(r, to.width(), to.is_signed())
     }
 }
 
-/// What the number type `to` stores for `v` times 2 to the power `by`.
+/// What the number type `to` stores for `v` times 2 to the power `by`. It stands apart, so that the
+/// short way of a conversion needs few registers.
+#[inline(never)]
 pub fn settle_up(v: i128, by: u32, to: FxType, saturate: bool) -> i128
     requires { IsType to }
     ensures { Settles to saturate (v *ℤ pos (2 ^ by)) result }
