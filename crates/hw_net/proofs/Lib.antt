@@ -1,3 +1,4 @@
+pub mod At
 pub mod Clocks
 pub mod Exists
 pub mod Growing

@@ -7,6 +7,7 @@ pub mod NetRows
 pub mod Netlist
 pub mod Operation
 pub mod Registers
+pub mod Run
 pub mod State
 pub mod Step
 pub mod inner

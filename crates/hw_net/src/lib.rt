@@ -22,7 +22,8 @@ pub use circuit::Netlist;
 pub use frame_index::FrameIndex;
 pub use laws::{
     bridge_is_closed, counter_is_closed, counter_is_telling, enabled_register_is_closed,
-    register_is_closed, rows_are_one, rows_are_there, steps_give_rows,
+    register_is_closed, rows_are_one, rows_are_there, runs_go_on, state_shows_rows,
+    steps_give_rows,
 };
 pub use netlist::{Frame, Net, NetKind, NetLabel, NetLabels, NetOp, NetPort, NetPorts, Nets};
 pub use state::NetState;
