@@ -11,7 +11,9 @@ is_same_frame one other = (one.period == other.period) && (one.latency == other.
 
 -- the order in which an index has its frames
 abbrev pub compare_frames : Frame → Frame → Ordering
-compare_frames = then_cmp (on (λ (frame : Frame). frame.period) nat_cmp) (on (λ (frame : Frame). frame.latency) nat_cmp)
+compare_frames =
+    then_cmp (on (λ (frame : Frame). frame.period) nat_cmp)
+    (on (λ (frame : Frame). frame.latency) nat_cmp)
 
 -- the number of a frame among the entries of an index
 abbrev pub number_at_frame : List (Frame × ℕ) → Frame → Option ℕ

@@ -1,9 +1,11 @@
 -- Which nets name a frame, and the Counter of a frame (own).
-use Rattle.std.specs.Prelude.{◌≡◌, ℕ, ◌+◌, ◌<◌, List, [], ◌∷◌, slice_get, Option, None, Some, IsSome, Bool, true, false, if◌then◌else◌}
+use Rattle.std.specs.Prelude.{◌≡◌, ℕ, ◌+◌, ◌<◌, List, [], ◌∷◌, slice_get, Option, None, Some}
+use Rattle.std.specs.Prelude.{IsSome, Bool, true, false, if◌then◌else◌}
 use Rattle.hw_net.specs.declared.netlist.Frame.{Frame}
 use Rattle.hw_net.specs.declared.netlist.Net.{Net}
 use Rattle.hw_net.specs.declared.netlist.NetKind.{NetKind}
-use Rattle.hw_net.specs.declared.netlist.NetKind.TheVariants.{Comb, Reg, EnReg, Bridge, Unit, Counter}
+use Rattle.hw_net.specs.declared.netlist.NetKind.TheVariants.{Comb, Reg, EnReg, Bridge, Unit}
+use Rattle.hw_net.specs.declared.netlist.NetKind.TheVariants.{Counter}
 use Rattle.hw_net.specs.ByFrame.{is_same_frame}
 
 -- the frame that a register names
@@ -32,7 +34,9 @@ is_frame frame (Some own) = is_same_frame own frame
 -- the number of the first Counter of a frame, the nets being numbered from `start` on
 abbrev pub counter_from : List Net → ℕ → Frame → Option ℕ
 counter_from [] start frame = None
-counter_from (net ∷ nets) start frame = if is_frame frame (counted_frame net.kind) then Some start else counter_from nets (start + 1) frame
+counter_from (net ∷ nets) start frame =
+    if is_frame frame (counted_frame net.kind) then Some start else counter_from nets
+    (start + 1) frame
 
 abbrev pub counter_of : List Net → Frame → Option ℕ
 counter_of nets frame = counter_from nets 0 frame
@@ -50,7 +54,8 @@ pub record IsCounter (nets : List Net) (number : ℕ) : Type 0 where
 
 -- there is a Counter of each frame that a register names
 pub record HasCounters (nets : List Net) : Type 0 where
-  pub each : (k : ℕ) (net : Net) (frame : Frame) → slice_get nets k ≡ Some net → frame_of net.kind ≡ Some frame → IsSome (counter_of nets frame)
+  pub each : (k : ℕ) (net : Net) (frame : Frame) → slice_get nets k ≡ Some net
+      → frame_of net.kind ≡ Some frame → IsSome (counter_of nets frame)
 
 -- no two Counters have one frame
 pub record CountersDiffer (nets : List Net) : Type 0 where

@@ -1,5 +1,6 @@
 -- Netlists that grow at their end, and what a later netlist keeps of one (own).
-use Rattle.std.specs.Prelude.{◌≡◌, ℕ, ◌+◌, ◌-◌, ◌*◌, ◌<◌, ◌≤◌, ◌⊎◌, ◌++◌, ◌∷◌, List, [], length, All, Contains, slice_get, slice_set, None, Some, IsSome, pos}
+use Rattle.std.specs.Prelude.{◌≡◌, ℕ, ◌+◌, ◌-◌, ◌*◌, ◌<◌, ◌≤◌, ◌⊎◌, ◌++◌, ◌∷◌, List, [], length}
+use Rattle.std.specs.Prelude.{All, Contains, slice_get, slice_set, None, Some, IsSome, pos}
 use Rattle.fx_num.specs.Word.{IsWord, InWord}
 use Rattle.hw_net.specs.declared.netlist.Frame.{Frame}
 use Rattle.hw_net.specs.declared.netlist.Net.{Net}
@@ -51,7 +52,11 @@ pub record IsResize (nets : List Net) (number : ℕ) : Type 0 where
 pub record IsConnected (before after : Circuit) (number argument : ℕ) : Type 0 where
   pub net : Net
   pub was : slice_get before.nets number ≡ Some net
-  pub is : after ≡ record before { nets = slice_set before.nets number (record net { kind = Comb Resize (argument ∷ []) }) }
+  pub is : after
+      ≡ record before {
+        nets = slice_set before.nets number
+            (record net { kind = Comb Resize (argument ∷ []) });
+      }
 
 -- at this number both lists have a Resize of one word, maybe of another argument
 pub record IsReopened (before later : List Net) (k : ℕ) : Type 0 where
@@ -66,24 +71,30 @@ pub record IsReopened (before later : List Net) (k : ℕ) : Type 0 where
   pub wide : is.width ≡ was.width
   pub sign : is.signed ≡ was.signed
 
--- A call was given the netlist `before` and left `after`. The later netlist keeps the nets of `after`,
--- but that a Resize net of `before` may have another argument.
+-- A call was given the netlist `before` and left `after`. The later netlist keeps the nets of
+-- `after`, but that a Resize net of `before` may have another argument.
 pub record Keeps (before after later : Circuit) : Type 0 where
   pub cycles : later.cycles ≡ after.cycles
-  pub nets : (k : ℕ) → k < length after.nets → (slice_get later.nets k ≡ slice_get after.nets k) ⊎ ((k < length before.nets) × IsReopened before.nets later.nets k)
+  pub nets : (k : ℕ) → k < length after.nets
+      → (slice_get later.nets k ≡ slice_get after.nets k)
+      ⊎ ((k < length before.nets) × IsReopened before.nets later.nets k)
 
 -- P holds of the rows of every later netlist that keeps what the call left
 pub record InRows (before after : Circuit) (P : ℕ → Rows → Type 0) : Type 0 where
-  pub holds : (later : Circuit) → Keeps before after later → (n : ℕ) (inputs : Inputs) (rows : Rows) → NetRows later n inputs rows → P n rows
+  pub holds : (later : Circuit) → Keeps before after later → (n : ℕ) (inputs : Inputs) (rows : Rows)
+      → NetRows later n inputs rows → P n rows
 
--- What a call appends may read this net, if the call names it, it was appended too, or it is a Counter.
-abbrev pub MayRead : Circuit → Circuit → List ℕ → ℕ → Type 0
-MayRead before after named read = Contains named read ⊎ (length before.nets ≤ read) ⊎ IsCounter after.nets read
-
--- In its own clock the appended net k may read it, if the call names it, it was appended before, or it is a
+-- What a call appends may read this net, if the call names it, it was appended too, or it is a
 -- Counter.
+abbrev pub MayRead : Circuit → Circuit → List ℕ → ℕ → Type 0
+MayRead before after named read =
+    Contains named read ⊎ (length before.nets ≤ read) ⊎ IsCounter after.nets read
+
+-- In its own clock the appended net k may read it, if the call names it, it was appended before, or
+-- it is a Counter.
 abbrev pub MayReadNow : Circuit → Circuit → List ℕ → ℕ → ℕ → Type 0
-MayReadNow before after named k read = Contains named read ⊎ ((length before.nets ≤ read) × (read < k)) ⊎ IsCounter after.nets read
+MayReadNow before after named k read =
+    Contains named read ⊎ ((length before.nets ≤ read) × (read < k)) ⊎ IsCounter after.nets read
 
 -- an appended net as a netlist that can be run needs it, and the Counter of the frame that it names
 pub record IsAppended (before after : Circuit) (named : List ℕ) (k : ℕ) (net : Net) : Type 0 where
@@ -92,11 +103,13 @@ pub record IsAppended (before after : Circuit) (named : List ℕ) (k : ℕ) (net
   pub there : All (λ read. read < length after.nets) (reads net.kind)
   pub allowed : All (MayRead before after named) (reads net.kind)
   pub now : All (MayReadNow before after named k) (reads_now net.kind)
-  pub counted : (frame : Frame) → frame_of net.kind ≡ Some frame → IsSome (counter_of after.nets frame)
+  pub counted : (frame : Frame) → frame_of net.kind ≡ Some frame
+      → IsSome (counter_of after.nets frame)
 
--- A call that names some nets puts nets behind the others: they are sound, read in their clock nothing that
--- stands behind them, and no frame gets a second Counter.
+-- A call that names some nets puts nets behind the others: they are sound, read in their clock
+-- nothing that stands behind them, and no frame gets a second Counter.
 pub record Appends (before after : Circuit) (named : List ℕ) : Type 0 where
   pub extends : Extends before after
-  pub each : (k : ℕ) (net : Net) → length before.nets ≤ k → slice_get after.nets k ≡ Some net → IsAppended before after named k net
+  pub each : (k : ℕ) (net : Net) → length before.nets ≤ k → slice_get after.nets k ≡ Some net
+      → IsAppended before after named k net
   pub differ : CountersDiffer before.nets → CountersDiffer after.nets

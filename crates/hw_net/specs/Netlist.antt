@@ -1,12 +1,17 @@
 -- Which netlists can be run (own).
-use Rattle.std.specs.Prelude.{◌≡◌, ℕ, ◌+◌, ◌-◌, ◌*◌, ◌<◌, ◌≤◌, List, [], ◌∷◌, length, All, slice_get, Some, Bool, ℤ, pos, ◌*ℤ◌, ⊤}
+use Rattle.std.specs.Prelude.{◌≡◌, ℕ, ◌+◌, ◌-◌, ◌*◌, ◌<◌, ◌≤◌, List, [], ◌∷◌, length, All}
+use Rattle.std.specs.Prelude.{slice_get, Some, Bool, ℤ, pos, ◌*ℤ◌, ⊤}
 use Rattle.fx_num.specs.Word.{IsWord, InWord}
 use Rattle.hw_net.specs.declared.netlist.Net.{Net}
 use Rattle.hw_net.specs.declared.netlist.NetPort.{NetPort}
 use Rattle.hw_net.specs.declared.netlist.NetOp.{NetOp}
-use Rattle.hw_net.specs.declared.netlist.NetOp.TheVariants.{Input, Const, Resize, ShiftUp, ShiftDown, Add, Subtract, Negate, Multiply, And, Or, Xor, Not, Less, Equal, Choose, Slice}
+use Rattle.hw_net.specs.declared.netlist.NetOp.TheVariants.{Input, Const, Resize, ShiftUp}
+use Rattle.hw_net.specs.declared.netlist.NetOp.TheVariants.{ShiftDown, Add, Subtract, Negate}
+use Rattle.hw_net.specs.declared.netlist.NetOp.TheVariants.{Multiply, And, Or, Xor, Not, Less}
+use Rattle.hw_net.specs.declared.netlist.NetOp.TheVariants.{Equal, Choose, Slice}
 use Rattle.hw_net.specs.declared.netlist.NetKind.{NetKind}
-use Rattle.hw_net.specs.declared.netlist.NetKind.TheVariants.{Comb, Reg, EnReg, Bridge, Unit, Counter}
+use Rattle.hw_net.specs.declared.netlist.NetKind.TheVariants.{Comb, Reg, EnReg, Bridge, Unit}
+use Rattle.hw_net.specs.declared.netlist.NetKind.TheVariants.{Counter}
 use Rattle.hw_net.specs.Circuit.{Circuit}
 use Rattle.hw_net.specs.Operation.{arity}
 
@@ -38,12 +43,14 @@ pub record HasWord (nets : List Net) (number width : ℕ) (signed : Bool) : Type
 -- these bits are there in the word of each of the nets
 pub record HasBits (nets : List Net) (args : List ℕ) (high low : ℕ) : Type 0 where
   pub ordered : low ≤ high
-  pub within : (k read : ℕ) (net : Net) → slice_get args k ≡ Some read → slice_get nets read ≡ Some net → high < net.width
+  pub within : (k read : ℕ) (net : Net) → slice_get args k ≡ Some read
+      → slice_get nets read ≡ Some net → high < net.width
 
 -- the word holds every product of numbers of the words of two nets
 pub record HoldsProducts (nets : List Net) (left right width : ℕ) (signed : Bool) : Type 0 where
   pub holds : (one other : Net) → slice_get nets left ≡ Some one → slice_get nets right ≡ Some other
-      → (x y : ℤ) → InWord one.width one.signed x → InWord other.width other.signed y → InWord width signed (x *ℤ y)
+      → (x y : ℤ) → InWord one.width one.signed x → InWord other.width other.signed y
+      → InWord width signed (x *ℤ y)
 
 -- what an operation names is there: an input, and bits of its argument's word
 abbrev pub HasParts : List Net → ℕ → List ℕ → NetOp → Type 0
@@ -65,15 +72,22 @@ HasParts nets inputs args Equal = ⊤
 HasParts nets inputs args Choose = ⊤
 HasParts nets inputs args (Slice high low) = HasBits nets args high low
 
--- an operation has its arguments, a frame has clocks, a bridge lives, a register has the word of what
--- it takes, and a word holds every number that can come
+-- an operation has its arguments, a frame has clocks, a bridge lives, a register has the word of
+-- what it takes, and a word holds every number that can come
 abbrev pub IsKind : List Net → ℕ → ℕ → ℕ → Bool → NetKind → Type 0
-IsKind nets cycles inputs width signed (Comb op args) = (length args ≡ arity op) × HasParts nets inputs args op
-IsKind nets cycles inputs width signed (Reg frame slot first from) = (0 < frame.period) × HasWord nets from width signed × InWord width signed first
-IsKind nets cycles inputs width signed (EnReg frame enable reset first from) = (0 < frame.period) × HasWord nets from width signed × InWord width signed first
-IsKind nets cycles inputs width signed (Bridge frame live from) = (0 < frame.period) × (0 < live) × HasWord nets from width signed
-IsKind nets cycles inputs width signed (Unit left right) = HoldsProducts nets left right width signed
-IsKind nets cycles inputs width signed (Counter frame) = (0 < frame.period) × InWord width signed (pos (frame.latency * cycles + frame.period * cycles - 1))
+IsKind nets cycles inputs width signed (Comb op args) =
+    (length args ≡ arity op) × HasParts nets inputs args op
+IsKind nets cycles inputs width signed (Reg frame slot first from) =
+    (0 < frame.period) × HasWord nets from width signed × InWord width signed first
+IsKind nets cycles inputs width signed (EnReg frame enable reset first from) =
+    (0 < frame.period) × HasWord nets from width signed × InWord width signed first
+IsKind nets cycles inputs width signed (Bridge frame live from) =
+    (0 < frame.period) × (0 < live) × HasWord nets from width signed
+IsKind nets cycles inputs width signed (Unit left right) =
+    HoldsProducts nets left right width signed
+IsKind nets cycles inputs width signed (Counter frame) =
+    (0 < frame.period) × InWord width signed
+    (pos (frame.latency * cycles + frame.period * cycles - 1))
 
 -- the net of this number shows this input
 pub record IsInput (nets : List Net) (number input : ℕ) : Type 0 where
@@ -83,13 +97,17 @@ pub record IsInput (nets : List Net) (number input : ℕ) : Type 0 where
 
 -- no net reaches itself in one clock: each stands above those that it reads in the same clock
 pub record IsRanked (nets : List Net) (rank : ℕ → ℕ) : Type 0 where
-  pub falls : (k : ℕ) (net : Net) → slice_get nets k ≡ Some net → All (λ read. rank read < rank k) (reads_now net.kind)
+  pub falls : (k : ℕ) (net : Net) → slice_get nets k ≡ Some net
+      → All (λ read. rank read < rank k) (reads_now net.kind)
 
 pub record IsNetlist (netlist : Circuit) : Type 0 where
   pub cycles : 0 < netlist.cycles
   pub words : All (λ net. IsWord net.width net.signed) netlist.nets
-  pub kinds : All (λ net. IsKind netlist.nets netlist.cycles (length netlist.inputs) net.width net.signed net.kind) netlist.nets
+  pub kinds : All
+      (λ net. IsKind netlist.nets netlist.cycles
+      (length netlist.inputs) net.width net.signed net.kind) netlist.nets
   pub there : All (λ net. All (λ read. read < length netlist.nets) (reads net.kind)) netlist.nets
   pub ranked : (rank : ℕ → ℕ) × IsRanked netlist.nets rank
-  pub inputs : (k : ℕ) (port : NetPort) → slice_get netlist.inputs k ≡ Some port → IsInput netlist.nets port.net k
+  pub inputs : (k : ℕ) (port : NetPort) → slice_get netlist.inputs k ≡ Some port
+      → IsInput netlist.nets port.net k
   pub outputs : All (λ port. port.net < length netlist.nets) netlist.outputs

@@ -8,7 +8,8 @@ use Rattle.hw_net.specs.Netlist.{IsRanked}
 abbrev pub row_of : List ℤ → ℕ → ℤ
 row_of values net = slice_index_or values net (pos 0)
 
--- how many clocks were made, the numbers of the nets in the last of them, and the nets in an order in which each stands after those that it reads in the same clock
+-- how many clocks were made, the numbers of the nets in the last of them, and the nets in an order
+-- in which each stands after those that it reads in the same clock
 pub record State : Type 0 where
   pub clocks : ℕ
   pub values : List ℤ

@@ -1,11 +1,13 @@
 //! Whether a netlist can be run.
-ghost use Rattle.std.specs.Prelude.{◌≡◌, ◌+◌, ◌-◌, ◌*◌, ◌<◌, ◌≤◌, ◌*ℤ◌, [], ℕ, length, All, IfOk, true, slice_get, Some, pos, IsTrue};
+ghost use Rattle.std.specs.Prelude.{◌≡◌, ◌+◌, ◌-◌, ◌*◌, ◌<◌, ◌≤◌, ◌*ℤ◌, [], ℕ, length, All, IfOk};
+ghost use Rattle.std.specs.Prelude.{true, slice_get, Some, pos, IsTrue};
 ghost use Rattle.fx_num.specs.Word.{IsWord, InWord, word_lowest, word_highest};
 ghost use Rattle.hw_net.specs.declared.netlist.NetPort.{NetPort};
 ghost use Rattle.hw_net.specs.declared.netlist.NetKind.TheVariants.{Comb};
 ghost use Rattle.hw_net.specs.declared.netlist.NetOp.TheVariants.{Input};
 ghost use Rattle.hw_net.specs.Operation.{arity};
-ghost use Rattle.hw_net.specs.Netlist.{IsNetlist, IsKind, HasWord, HasBits, HasParts, HoldsProducts, IsInput, IsRanked, reads, reads_now};
+ghost use Rattle.hw_net.specs.Netlist.{IsNetlist, IsKind, HasWord, HasBits, HasParts};
+ghost use Rattle.hw_net.specs.Netlist.{HoldsProducts, IsInput, IsRanked, reads, reads_now};
 
 use crate::circuit::Netlist;
 use crate::netlist::{Frame, Net, NetKind, NetOp, NetPort};
@@ -45,7 +47,8 @@ fn reads_are_there(count: usize, kind: &NetKind) -> bool
 
 /// Whether all nets that are read are there.
 fn are_there(nets: &[Net]) -> bool
-    ensures { result ≡ true → All (λ net. All (λ read. read < length nets.now) (reads net.kind)) nets.now }
+    ensures { result ≡ true
+        → All (λ net. All (λ read. read < length nets.now) (reads net.kind)) nets.now }
 {
     nets.iter()
         .all(|net| reads_are_there(nets.len(), &net.kind))
@@ -142,14 +145,17 @@ fn holds_product(left: i128, right: i128, width: u8, signed: bool) -> bool
 fn holds_ends(left: i128, other: &Net, width: u8, signed: bool) -> bool
     requires word { IsWord width signed }
     requires other { IsWord other.now.width other.now.signed }
-    ensures low { result ≡ true → InWord width signed (left *ℤ word_lowest other.now.width other.now.signed) }
-    ensures high { result ≡ true → InWord width signed (left *ℤ word_highest other.now.width other.now.signed) }
+    ensures low { result ≡ true → InWord width signed
+        (left *ℤ word_lowest other.now.width other.now.signed) }
+    ensures high { result ≡ true → InWord width signed
+        (left *ℤ word_highest other.now.width other.now.signed) }
 {
     holds_product(left, lowest(other.width, other.signed), width, signed)
         && holds_product(left, highest(other.width, other.signed), width, signed)
 }
 
-/// Whether the word has every product of numbers of the words of two nets: it has those of the ends.
+/// Whether the word has every product of numbers of the words of two nets: it has those of the
+/// ends.
 fn holds_products(nets: &[Net], left: u32, right: u32, width: u8, signed: bool) -> bool
     requires word { IsWord width signed }
     requires words { All (λ net. IsWord net.width net.signed) nets.now }
@@ -167,7 +173,9 @@ fn holds_products(nets: &[Net], left: u32, right: u32, width: u8, signed: bool) 
 fn is_held(nets: &[Net], frame: Frame, first: i128, from: u32, one: &Net) -> bool
     requires word { IsWord one.now.width one.now.signed }
     requires from { from < length nets.now }
-    ensures { result ≡ true → (0 < frame.period) × HasWord nets.now from one.now.width one.now.signed × InWord one.now.width one.now.signed first }
+    ensures { result ≡ true → (0 < frame.period)
+        × HasWord nets.now from one.now.width one.now.signed
+        × InWord one.now.width one.now.signed first }
 {
     0 < frame.period
         && has_word(nets, from, one.width, one.signed)
@@ -177,7 +185,8 @@ fn is_held(nets: &[Net], frame: Frame, first: i128, from: u32, one: &Net) -> boo
 /// Whether a bridge has a frame with clocks, lives, and has the word of what it passes.
 fn is_bridge(nets: &[Net], frame: Frame, live: u32, from: u32, one: &Net) -> bool
     requires { from < length nets.now }
-    ensures { result ≡ true → (0 < frame.period) × (0 < live) × HasWord nets.now from one.now.width one.now.signed }
+    ensures { result ≡ true → (0 < frame.period) × (0 < live)
+        × HasWord nets.now from one.now.width one.now.signed }
 {
     0 < frame.period && 0 < live && has_word(nets, from, one.width, one.signed)
 }
@@ -186,7 +195,9 @@ fn is_bridge(nets: &[Net], frame: Frame, live: u32, from: u32, one: &Net) -> boo
 fn is_counter(frame: Frame, cycles: u32, one: &Net) -> bool
     requires word { IsWord one.now.width one.now.signed }
     requires cycles { 0 < cycles }
-    ensures { result ≡ true → (0 < frame.period) × InWord one.now.width one.now.signed (pos (frame.latency * cycles + frame.period * cycles - 1)) }
+    ensures { result ≡ true → (0 < frame.period)
+        × InWord one.now.width one.now.signed
+        (pos (frame.latency * cycles + frame.period * cycles - 1)) }
 {
     0 < frame.period && fits(first_count(frame, cycles), one.width, one.signed)
 }
@@ -197,7 +208,8 @@ fn is_kind(nets: &[Net], cycles: u32, inputs: usize, one: &Net) -> bool
     requires words { All (λ net. IsWord net.width net.signed) nets.now }
     requires word { IsWord one.now.width one.now.signed }
     requires there { All (λ read. read < length nets.now) (reads one.now.kind) }
-    ensures { result ≡ true → IsKind nets.now cycles inputs one.now.width one.now.signed one.now.kind }
+    ensures { result ≡ true
+        → IsKind nets.now cycles inputs one.now.width one.now.signed one.now.kind }
 {
     match &one.kind {
         NetKind::Comb { op, args } => is_operation(nets, inputs, *op, args.as_slice()),
@@ -225,7 +237,8 @@ fn are_kinds(nets: &[Net], cycles: u32, inputs: usize) -> bool
     requires cycles { 0 < cycles }
     requires words { All (λ net. IsWord net.width net.signed) nets.now }
     requires there { All (λ net. All (λ read. read < length nets.now) (reads net.kind)) nets.now }
-    ensures { result ≡ true → All (λ net. IsKind nets.now cycles inputs net.width net.signed net.kind) nets.now }
+    ensures { result ≡ true
+        → All (λ net. IsKind nets.now cycles inputs net.width net.signed net.kind) nets.now }
 {
     nets.iter().all(|one| is_kind(nets, cycles, inputs, one))
 }
@@ -259,7 +272,8 @@ fn is_input(nets: &[Net], number: u32, place: usize) -> bool
 
 /// Whether the net of each input port shows that input.
 fn are_inputs(nets: &[Net], inputs: &[NetPort]) -> bool
-    ensures { result ≡ true → (k : ℕ) (port : NetPort) → slice_get inputs.now k ≡ Some port → IsInput nets.now port.net k }
+    ensures { result ≡ true → (k : ℕ) (port : NetPort) → slice_get inputs.now k ≡ Some port
+        → IsInput nets.now port.net k }
 {
     for k in 0..inputs.len() {
         if !is_input(nets, inputs[k].net, k) {
@@ -276,8 +290,8 @@ fn are_outputs(nets: &[Net], outputs: &[NetPort]) -> bool
     outputs.iter().all(|port| (port.net as usize) < nets.len())
 }
 
-/// Whether a netlist can be run: all that its nets name is there, words hold what can come, and no net
-/// reaches itself in a clock. It takes time in the nets and what they read.
+/// Whether a netlist can be run: all that its nets name is there, words hold what can come, and no
+/// net reaches itself in a clock. It takes time in the nets and what they read.
 pub fn is_netlist(alloc: Global, net: &Netlist) -> Result<bool, OutOfMemory>
     ensures { IfOk result (λ is. is ≡ true → IsNetlist net.now) }
 {

@@ -1,5 +1,7 @@
 //! A netlist that grows: its data, with an index of its Counters.
-ghost use Rattle.std.specs.Prelude.{◌≡◌, ℕ, List, true, ◌+◌, ◌*◌, ◌-◌, ◌<◌, ◌++◌, ◌∷◌, [], length, slice_get, slice_set, slice_index, IfOk, OnOk, OnErr, Option, None, Some, false, pos};
+ghost use Rattle.std.specs.Prelude.{◌≡◌, ℕ, List, true, ◌+◌, ◌*◌, ◌-◌, ◌<◌, ◌++◌, ◌∷◌, [], length};
+ghost use Rattle.std.specs.Prelude.{slice_get, slice_set, slice_index, IfOk, OnOk, OnErr, Option};
+ghost use Rattle.std.specs.Prelude.{None, Some, false, pos};
 ghost use Rattle.hw_net.specs.Circuit.{Circuit};
 ghost use Rattle.hw_net.specs.declared.netlist.NetKind.TheVariants.{Comb};
 ghost use Rattle.hw_net.specs.declared.netlist.NetOp.TheVariants.{Resize};
@@ -14,8 +16,8 @@ use fx_io::{OutOfMemory, Sequence, Sizes};
 use std::alloc::Global;
 use std::marker::Model;
 
-/// Nets with the ports of a module (own). Contracts see its data (`Circuit`): how many clocks a base
-/// sample has, the nets by number, the ports in order, and names for some nets.
+/// Nets with the ports of a module (own). Contracts see its data (`Circuit`): how many clocks a
+/// base sample has, the nets by number, the ports in order, and names for some nets.
 #[derive(Drop)]
 pub struct Netlist {
     cycles: u32,
@@ -33,7 +35,14 @@ impl Model for Netlist {
 
     ghost Value = { Circuit };
 
-    ghost view = { λ netlist. record { cycles = netlist.cycles; nets = netlist.nets; inputs = netlist.inputs; outputs = netlist.outputs; labels = netlist.labels } };
+    ghost view = { λ netlist.
+        record {
+          cycles = netlist.cycles;
+          nets = netlist.nets;
+          inputs = netlist.inputs;
+          outputs = netlist.outputs;
+          labels = netlist.labels;
+        } };
 
     ghost invariant = { λ netlist. IsIndex netlist.nets netlist.counters };
 }
@@ -41,7 +50,8 @@ impl Model for Netlist {
 impl Netlist {
     /// A netlist without a net. A base sample has so many clocks.
     pub fn new(alloc: Global, cycles: u32) -> Netlist
-        ensures { result ≡ record { cycles = cycles; nets = []; inputs = []; outputs = []; labels = [] } }
+        ensures { result
+            ≡ record { cycles = cycles; nets = []; inputs = []; outputs = []; labels = [] } }
     {
         Netlist {
             cycles,
@@ -97,8 +107,8 @@ impl Netlist {
 }
 
 impl Netlist {
-    /// Puts a net behind the others and gives its number. Where memory is wanting, or the number has
-    /// no room in 32 bits, the netlist stays.
+    /// Puts a net behind the others and gives its number. Where memory is wanting, or the number
+    /// has no room in 32 bits, the netlist stays.
     pub fn add(&mut self, net: Net) -> Result<u32, OutOfMemory>
         ensures number { IfOk result (λ number. number ≡ length self.old.nets) }
         ensures grown { OnOk result (self.new ≡ with_net self.old net) }
@@ -153,7 +163,8 @@ impl Netlist {
 
     /// Puts an input port behind the others. Where memory is wanting the netlist stays.
     pub fn add_input(&mut self, port: NetPort) -> Result<(), OutOfMemory>
-        ensures grown { OnOk result (self.new ≡ record self.old { inputs = self.old.inputs ++ port ∷ [] }) }
+        ensures grown { OnOk result (self.new
+            ≡ record self.old { inputs = self.old.inputs ++ port ∷ [] }) }
         ensures kept { OnErr result (self.new ≡ self.old) }
     {
         self.inputs.push(port)
@@ -161,7 +172,8 @@ impl Netlist {
 
     /// Puts an output port behind the others. Where memory is wanting the netlist stays.
     pub fn add_output(&mut self, port: NetPort) -> Result<(), OutOfMemory>
-        ensures grown { OnOk result (self.new ≡ record self.old { outputs = self.old.outputs ++ port ∷ [] }) }
+        ensures grown { OnOk result (self.new
+            ≡ record self.old { outputs = self.old.outputs ++ port ∷ [] }) }
         ensures kept { OnErr result (self.new ≡ self.old) }
     {
         self.outputs.push(port)
@@ -169,7 +181,8 @@ impl Netlist {
 
     /// Puts a label behind the others. Where memory is wanting the netlist stays.
     pub fn add_label(&mut self, label: NetLabel) -> Result<(), OutOfMemory>
-        ensures grown { OnOk result (self.new ≡ record self.old { labels = self.old.labels ++ label ∷ [] }) }
+        ensures grown { OnOk result (self.new
+            ≡ record self.old { labels = self.old.labels ++ label ∷ [] }) }
         ensures kept { OnErr result (self.new ≡ self.old) }
     {
         self.labels.push(label)

@@ -41,9 +41,12 @@ impl FrameIndex {
         self.by_frame.get(&frame).copied()
     }
 
-    /// Gives a frame its number, in place of any that it had. Where memory is wanting the index stays.
+    /// Gives a frame its number, in place of any that it had. Where memory is wanting the index
+    /// stays.
     pub fn put(&mut self, frame: Frame, number: u32) -> Result<(), OutOfMemory>
-        ensures found { OnOk result ((other : Frame) → number_at_frame self.new other ≡ (if is_same_frame frame other then Some number else number_at_frame self.old other)) }
+        ensures found { OnOk result ((other : Frame)
+            → number_at_frame self.new other
+            ≡ (if is_same_frame frame other then Some number else number_at_frame self.old other)) }
         ensures kept { OnErr result (self.new ≡ self.old) }
     {
         let _ = self.by_frame.insert(frame, number)?;
@@ -52,7 +55,8 @@ impl FrameIndex {
 
     /// Takes out a frame. It takes no memory.
     pub fn remove(&mut self, frame: Frame)
-        ensures { (other : Frame) → number_at_frame self.new other ≡ (if is_same_frame frame other then None else number_at_frame self.old other) }
+        ensures { (other : Frame) → number_at_frame self.new other
+            ≡ (if is_same_frame frame other then None else number_at_frame self.old other) }
     {
         let _ = self.by_frame.remove(&frame);
     }

@@ -1,9 +1,9 @@
 //! Netlists: nets with a word each, what each net shows at each clock, and a plain run of them.
 //!
 //! A netlist is data (`specs/Circuit`) with an index of its Counters. `specs/NetRows` says what its
-//! nets show, as a fact about a function of net and clock: no order of evaluation and no state stands
-//! in it. `specs/Netlist` says which netlists can be run, and `specs/Growing` what a later netlist
-//! keeps of one that grows.
+//! nets show, as a fact about a function of net and clock: no order of evaluation and no state
+//! stands in it. `specs/Netlist` says which netlists can be run, and `specs/Growing` what a later
+//! netlist keeps of one that grows.
 #![tactic(auto)]
 
 mod checking;
@@ -27,3 +27,6 @@ pub use laws::{
 };
 pub use netlist::{Frame, Net, NetKind, NetLabel, NetLabels, NetOp, NetPort, NetPorts, Nets};
 pub use state::NetState;
+
+#[cfg(test)]
+mod tests;

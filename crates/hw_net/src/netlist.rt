@@ -42,8 +42,8 @@ pub enum NetKind {
         first: i128,
         from: u32,
     },
-    /// A register that takes at the edge that ends the frame, where `enable` is not 0. Else it keeps
-    /// its value, or takes `first` where `reset` is set.
+    /// A register that takes at the edge that ends the frame, where `enable` is not 0. Else it
+    /// keeps its value, or takes `first` where `reset` is set.
     EnReg {
         frame: Frame,
         enable: u32,

@@ -1,5 +1,7 @@
 //! What an operation gives, modulo 2 to the power 128 and then cut to a word.
-ghost use Rattle.std.specs.Prelude.{◌≡◌, ◌^◌, ◌<◌, ◌≤◌, ◌+◌, ◌/◌, ◌%◌, length, pos, ◌+ℤ◌, ◌-ℤ◌, ◌*ℤ◌, neg_ℤ, negsuc, not, if◌then◌else◌, int_lt, bit_and, bit_or, bit_xor};
+ghost use Rattle.std.specs.Prelude.{◌≡◌, ◌^◌, ◌<◌, ◌≤◌, ◌+◌, ◌/◌, ◌%◌, length, pos, ◌+ℤ◌, ◌-ℤ◌};
+ghost use Rattle.std.specs.Prelude.{◌*ℤ◌, neg_ℤ, negsuc, not, if◌then◌else◌, int_lt, bit_and};
+ghost use Rattle.std.specs.Prelude.{bit_or, bit_xor};
 ghost use Rattle.fx_num.specs.Word.{IsCongruent, IsWord, IsWrapped};
 ghost use Rattle.hw_net.specs.Operation.{low_bits, shifted_down, truth, given_by};
 ghost use Rattle.std.specs.Ordering.{int_eq};
@@ -130,7 +132,9 @@ fn chosen(a: i128, b: i128, c: i128) -> i128
 /// What an operation gives of three numbers, of which it looks at those that it asks for.
 fn given(op: NetOp, inputs: &[i128], first: i128, second: i128, third: i128) -> i128
     requires { CanGive (length inputs.now) op }
-    ensures { IsCongruent result (given_by op (row_of inputs.now) (record { first = first; second = second; third = third })) (2 ^ 128) }
+    ensures { IsCongruent result
+        (given_by op (row_of inputs.now) (record { first = first; second = second; third = third }))
+        (2 ^ 128) }
 {
     match op {
         NetOp::Input(number) => kept(inputs[number as usize]),
@@ -165,7 +169,9 @@ pub fn operate(
 ) -> i128
     requires word { IsWord width signed }
     requires parts { CanGive (length inputs.now) op }
-    ensures { IsWrapped (given_by op (row_of inputs.now) (record { first = first; second = second; third = third })) width signed result }
+    ensures { IsWrapped
+        (given_by op (row_of inputs.now) (record { first = first; second = second; third = third }))
+        width signed result }
 {
     wrap(given(op, inputs, first, second, third), width, signed)
 }

@@ -1,8 +1,11 @@
 //! An order in which each net stands after those that it reads in the same clock.
-ghost use Rattle.std.specs.Prelude.{◌≡◌, ◌+◌, ◌<◌, ◌∷◌, [], ◌++◌, length, slice_set, slice_index_or, OnOk, IfOk, All, true, false, Option, Some, None, IsSome, ℕ};
+ghost use Rattle.std.specs.Prelude.{◌≡◌, ◌+◌, ◌<◌, ◌∷◌, [], ◌++◌, length, slice_set};
+ghost use Rattle.std.specs.Prelude.{slice_index_or, OnOk, IfOk, All, true, false, Option, Some};
+ghost use Rattle.std.specs.Prelude.{None, IsSome, ℕ};
 ghost use Rattle.hw_net.specs.Netlist.{IsNetlist, IsRanked, reads, reads_now};
 ghost use Rattle.hw_net.specs.State.{IsOrder};
-ghost use Rattle.hw_net.specs.inner.Ordering.{IsPlaced, IsGrowing, Keeps, Serves, Grows, IsReader, IsLinked, IsLonger, IsClosed, place_of};
+ghost use Rattle.hw_net.specs.inner.Ordering.{IsPlaced, IsGrowing, Keeps, Serves, Grows, IsReader};
+ghost use Rattle.hw_net.specs.inner.Ordering.{IsLinked, IsLonger, IsClosed, place_of};
 
 use crate::circuit::Netlist;
 use crate::netlist::{Net, NetKind};
@@ -34,7 +37,8 @@ fn link_all(readers: &mut [Sizes], reads: &[u32], reader: u32) -> Result<(), Out
 fn link_net(readers: &mut [Sizes], one: &Net, reader: u32) -> Result<(), OutOfMemory>
     requires { All (λ read. read < length readers.old) (reads_now one.now.kind) }
     ensures grows { OnOk result (Grows readers.old readers.new) }
-    ensures knows { OnOk result (All (λ read. IsReader readers.new read reader) (reads_now one.now.kind)) }
+    ensures knows { OnOk result
+        (All (λ read. IsReader readers.new read reader) (reads_now one.now.kind)) }
 {
     match &one.kind {
         NetKind::Comb { op: _, args } => link_all(readers, args.as_slice(), reader),
@@ -95,7 +99,8 @@ fn visit(
     ranks: &mut [Option<u32>],
     k: u32,
 ) -> Result<(), OutOfMemory>
-    requires there { All (λ net. All (λ read. read < length nets.now) (reads_now net.kind)) nets.now }
+    requires there { All (λ net. All (λ read. read < length nets.now) (reads_now net.kind))
+        nets.now }
     requires growing { IsGrowing nets.now order.old.items ranks.old }
     ensures growing { OnOk result (IsGrowing nets.now order.new.items ranks.new) }
     ensures longer { OnOk result (IsLonger order.old.items order.new.items) }
@@ -121,7 +126,8 @@ fn visit(
 
 /// Puts each net behind the readers of those that it reads in the same clock.
 fn link_nets(readers: &mut [Sizes], nets: &[Net]) -> Result<(), OutOfMemory>
-    requires there { All (λ net. All (λ read. read < length nets.now) (reads_now net.kind)) nets.now }
+    requires there { All (λ net. All (λ read. read < length nets.now) (reads_now net.kind))
+        nets.now }
     requires size { length readers.old ≡ length nets.now }
     ensures { OnOk result (IsLinked nets.now readers.new (length nets.now)) }
 {
@@ -152,7 +158,8 @@ fn visit_all(
     ranks: &mut [Option<u32>],
     list: &[u32],
 ) -> Result<(), OutOfMemory>
-    requires there { All (λ net. All (λ read. read < length nets.now) (reads_now net.kind)) nets.now }
+    requires there { All (λ net. All (λ read. read < length nets.now) (reads_now net.kind))
+        nets.now }
     requires growing { IsGrowing nets.now order.old.items ranks.old }
     ensures growing { OnOk result (IsGrowing nets.now order.new.items ranks.new) }
     ensures longer { OnOk result (IsLonger order.old.items order.new.items) }
@@ -167,7 +174,8 @@ fn visit_all(
 
 /// Gives its place to each net that reads none in the same clock, and to those that can follow.
 fn begin(nets: &[Net], order: &mut Vec<u32>, ranks: &mut [Option<u32>]) -> Result<(), OutOfMemory>
-    requires there { All (λ net. All (λ read. read < length nets.now) (reads_now net.kind)) nets.now }
+    requires there { All (λ net. All (λ read. read < length nets.now) (reads_now net.kind))
+        nets.now }
     requires growing { IsGrowing nets.now order.old.items ranks.old }
     ensures growing { OnOk result (IsGrowing nets.now order.new.items ranks.new) }
     ensures closed { OnOk result (IsClosed nets.now ranks.new 0 (length nets.now)) }
@@ -188,13 +196,15 @@ fn spread(
     order: &mut Vec<u32>,
     ranks: &mut [Option<u32>],
 ) -> Result<(), OutOfMemory>
-    requires there { All (λ net. All (λ read. read < length nets.now) (reads_now net.kind)) nets.now }
+    requires there { All (λ net. All (λ read. read < length nets.now) (reads_now net.kind))
+        nets.now }
     requires size { length readers.now ≡ length nets.now }
     requires linked { IsLinked nets.now readers.now (length nets.now) }
     requires growing { IsGrowing nets.now order.old.items ranks.old }
     requires closed { IsClosed nets.now ranks.old 0 (length nets.now) }
     ensures growing { OnOk result (IsGrowing nets.now order.new.items ranks.new) }
-    ensures closed { OnOk result (IsClosed nets.now ranks.new (length order.new.items) (length nets.now)) }
+    ensures closed { OnOk result
+        (IsClosed nets.now ranks.new (length order.new.items) (length nets.now)) }
 {
     for done in 0..usize::MAX {
         if done >= order.len() {
@@ -214,12 +224,14 @@ fn ordered(
     readers: &mut [Sizes],
     ranks: &mut [Option<u32>],
 ) -> Result<Vec<u32>, OutOfMemory>
-    requires there { All (λ one. All (λ read. read < length nets.now) (reads_now one.kind)) nets.now }
+    requires there { All (λ one. All (λ read. read < length nets.now) (reads_now one.kind))
+        nets.now }
     requires readers { length readers.old ≡ length nets.now }
     requires ranks { length ranks.old ≡ length nets.now }
     requires fresh { (k : ℕ) → place_of ranks.old k ≡ None }
     ensures growing { IfOk result (λ order. IsGrowing nets.now order.items ranks.new) }
-    ensures closed { IfOk result (λ order. IsClosed nets.now ranks.new (length order.items) (length nets.now)) }
+    ensures closed { IfOk result (λ order.
+        IsClosed nets.now ranks.new (length order.items) (length nets.now)) }
 {
     link_nets(readers, nets)?;
     let mut order: Vec<u32> = Vec::new(alloc);
@@ -253,7 +265,8 @@ fn are_ordered(
     readers: &mut [Sizes],
     ranks: &mut [Option<u32>],
 ) -> Result<bool, OutOfMemory>
-    requires there { All (λ one. All (λ read. read < length nets.now) (reads_now one.kind)) nets.now }
+    requires there { All (λ one. All (λ read. read < length nets.now) (reads_now one.kind))
+        nets.now }
     requires readers { length readers.old ≡ length nets.now }
     requires ranks { length ranks.old ≡ length nets.now }
     requires fresh { (k : ℕ) → place_of ranks.old k ≡ None }

@@ -28,7 +28,8 @@ impl Model for NetState {
 
     ghost Value = { State };
 
-    ghost view = { λ state. record { clocks = state.clocks; values = state.row.items; order = state.order.items } };
+    ghost view = { λ state.
+        record { clocks = state.clocks; values = state.row.items; order = state.order.items } };
 
     ghost invariant = { λ state. length state.spare.items ≡ length state.row.items };
 }
@@ -62,7 +63,8 @@ impl NetState {
         requires inputs { length inputs.now ≡ length net.now.inputs }
         ensures state { IsStateOf net.now self.new }
         ensures clocks { self.new.clocks ≡ self.old.clocks + 1 }
-        ensures goes { Goes net.now self.old.clocks (row_of inputs.now) (row_of self.old.values) (row_of self.new.values) }
+        ensures goes { Goes net.now self.old.clocks (row_of inputs.now) (row_of self.old.values)
+            (row_of self.new.values) }
     {
         sweep(
             net,

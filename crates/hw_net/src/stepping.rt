@@ -6,7 +6,8 @@ ghost use Rattle.hw_net.specs.Netlist.{reads};
 ghost use Rattle.hw_net.specs.inner.Running.{CanGive, CanStep};
 ghost use Rattle.hw_net.specs.NetRows.{number_at, operands_at, span_of};
 ghost use Rattle.hw_net.specs.State.{row_of};
-ghost use Rattle.hw_net.specs.Step.{RegSteps, EnRegSteps, BridgeSteps, CounterSteps, NetStarts, NetSteps, NetGoes};
+ghost use Rattle.hw_net.specs.Step.{RegSteps, EnRegSteps, BridgeSteps, CounterSteps, NetStarts};
+ghost use Rattle.hw_net.specs.Step.{NetSteps, NetGoes};
 
 use crate::netlist::{Frame, Net, NetKind, NetOp};
 use crate::operation::{multiplied, operate};
@@ -28,7 +29,8 @@ fn operated(op: NetOp, args: &[u32], row: &[i128], inputs: &[i128], width: u8, s
     requires word { IsWord width signed }
     requires there { All (λ net. net < length row.now) args.now }
     requires parts { CanGive (length inputs.now) op }
-    ensures { IsWrapped (given_by op (row_of inputs.now) (operands_at (row_of row.now) args.now)) width signed result }
+    ensures { IsWrapped (given_by op (row_of inputs.now) (operands_at (row_of row.now) args.now))
+        width signed result }
 {
     let first = number_at(row, args, 0);
     let second = number_at(row, args, 1);
@@ -107,7 +109,8 @@ pub fn started(one: &Net, cycles: u32, row: &[i128], inputs: &[i128]) -> i128
     requires cycles { 0 < cycles }
     requires kind { CanStep (length inputs.now) one.now.kind }
     requires there { All (λ net. net < length row.now) (reads one.now.kind) }
-    ensures { NetStarts cycles (row_of inputs.now) (row_of row.now) one.now.width one.now.signed one.now.kind result }
+    ensures { NetStarts cycles (row_of inputs.now)
+        (row_of row.now) one.now.width one.now.signed one.now.kind result }
 {
     match &one.kind {
         NetKind::Comb { op, args } => {
@@ -145,7 +148,8 @@ pub fn stepped(
     requires kind { CanStep (length inputs.now) one.now.kind }
     requires there_now { All (λ net. net < length now.now) (reads one.now.kind) }
     requires there_next { All (λ net. net < length next.now) (reads one.now.kind) }
-    ensures { NetSteps cycles clock (row_of inputs.now) (row_of now.now) (row_of next.now) one.now.width one.now.signed one.now.kind old result }
+    ensures { NetSteps cycles clock (row_of inputs.now) (row_of now.now)
+        (row_of next.now) one.now.width one.now.signed one.now.kind old result }
 {
     match &one.kind {
         NetKind::Comb { op, args } => {
@@ -200,7 +204,8 @@ pub fn shown(
     requires kind { CanStep (length inputs.now) one.now.kind }
     requires there_now { All (λ net. net < length now.now) (reads one.now.kind) }
     requires there_next { All (λ net. net < length next.now) (reads one.now.kind) }
-    ensures { NetGoes cycles clock (row_of inputs.now) (row_of now.now) (row_of next.now) one.now.width one.now.signed one.now.kind old result }
+    ensures { NetGoes cycles clock (row_of inputs.now) (row_of now.now)
+        (row_of next.now) one.now.width one.now.signed one.now.kind old result }
 {
     if clock == 0 {
         started(one, cycles, next, inputs)
