@@ -1,10 +1,13 @@
 -- What a chain of registers owes for a source and its uses (own).
-use Rattle.std.specs.Prelude.{◌≡◌, ℕ, ◌+◌, ◌-◌, ◌*◌, ◌/◌, ◌%◌, ◌^◌, ◌<◌, ◌≤◌, ◌⊎◌, ◌||◌, max, ℤ, List, [], ◌∷◌, ◌++◌, map, length, Contains, slice_get, Some, Bool, true, false, if◌then◌else◌, ⊤}
+use Rattle.std.specs.Prelude.{◌≡◌, ℕ, ◌+◌, ◌-◌, ◌*◌, ◌/◌, ◌%◌, ◌^◌, ◌<◌, ◌≤◌, ◌⊎◌, ◌||◌, max, ℤ}
+use Rattle.std.specs.Prelude.{List, [], ◌∷◌, ◌++◌, map, length, Contains, slice_get, Some, Bool}
+use Rattle.std.specs.Prelude.{true, false, if◌then◌else◌, ⊤}
 use Rattle.fx_num.specs.Word.{IsWord, InWord}
 use Rattle.hw_net.specs.declared.netlist.Frame.{Frame}
 use Rattle.hw_net.specs.declared.netlist.Net.{Net}
 use Rattle.hw_net.specs.declared.netlist.NetKind.{NetKind}
-use Rattle.hw_net.specs.declared.netlist.NetKind.TheVariants.{Comb, Reg, EnReg, Bridge, Unit, Counter}
+use Rattle.hw_net.specs.declared.netlist.NetKind.TheVariants.{Comb, Reg, EnReg, Bridge, Unit}
+use Rattle.hw_net.specs.declared.netlist.NetKind.TheVariants.{Counter}
 use Rattle.hw_net.specs.Circuit.{Circuit}
 use Rattle.hw_net.specs.ByFrame.{is_same_frame}
 use Rattle.hw_net.specs.Frames.{register_count}
@@ -16,11 +19,17 @@ use Rattle.hw_lines.specs.declared.source.Use.{Use}
 use Rattle.hw_lines.specs.Line.{Line, ShowsLater}
 
 abbrev pub source_of : ℕ → Frame → ℤ → Bool → Source
-source_of from frame first registered = record { from = from; frame = frame; first = first; registered = registered }
+source_of from frame first registered =
+    record { from = from; frame = frame; first = first; registered = registered }
 
 -- the frame in which a use is seen
 abbrev pub reader_of : Source → Use → Frame
-reader_of source one = record { period = max source.frame.period one.period; latency = source.frame.latency + one.shift }
+reader_of source one =
+    record {
+      period = max source.frame.period one.period;
+      latency = source.frame.latency
+          + one.shift;
+    }
 
 abbrev pub line_to : ℕ → Source → Frame → Line
 line_to cycles source reader = record { cycles = cycles; own = source.frame; reader = reader }
@@ -41,7 +50,8 @@ pub record IsUse (source : Source) (one : Use) : Type 0 where
   pub most : one.period ≤ 4096
   pub near : one.shift < 2 ^ 62
   pub plain : source.registered ≡ false → one.period % source.frame.period ≡ 0
-  pub registered : source.registered ≡ true → (source.frame.period % one.period ≡ 0) × (1 ≤ one.shift)
+  pub registered : source.registered ≡ true
+      → (source.frame.period % one.period ≡ 0) × (1 ≤ one.shift)
 
 -- the net of this number is a Reg that was put behind those of the first netlist
 pub record IsNewReg (before after : Circuit) (number : ℕ) : Type 0 where
@@ -55,15 +65,22 @@ pub record IsNewReg (before after : Circuit) (number : ℕ) : Type 0 where
   pub new : length before.nets ≤ number
 
 -- an answer shows the source in the reader's frame, in every later netlist, and has its word
-pub record IsAnswer (before after : Circuit) (source : Source) (reader : Frame) (number : ℕ) : Type 0 where
-  pub shows : InRows before after (λ n rows. ShowsLater source.registered n (line_to before.cycles source reader) source.first (rows source.from) (rows number))
-  pub word : (net : Net) → slice_get before.nets source.from ≡ Some net → HasWord after.nets number net.width net.signed
+pub record IsAnswer (before after : Circuit) (source : Source) (reader : Frame)
+    (number : ℕ) : Type 0 where
+  pub shows : InRows before after (λ n rows.
+      ShowsLater source.registered n (line_to before.cycles source reader) source.first
+      (rows source.from) (rows number))
+  pub word : (net : Net) → slice_get before.nets source.from ≡ Some net
+      → HasWord after.nets number net.width net.signed
   pub holds : source.registered ≡ true → IsNewReg before after number
 
 -- one answer for each use, in order
-pub record AreAnswers (before after : Circuit) (source : Source) (uses : List Use) (answers : List ℕ) : Type 0 where
+pub record AreAnswers (before after : Circuit) (source : Source) (uses : List Use)
+    (answers : List ℕ) : Type 0 where
   pub count : length answers ≡ length uses
-  pub each : (k : ℕ) (one : Use) (number : ℕ) → slice_get uses k ≡ Some one → slice_get answers k ≡ Some number → IsAnswer before after source (reader_of source one) number
+  pub each : (k : ℕ) (one : Use) (number : ℕ) → slice_get uses k ≡ Some one
+      → slice_get answers k ≡ Some number
+      → IsAnswer before after source (reader_of source one) number
 
 -- registers, bridges only where they may be, and Counters of such frames alone
 abbrev pub IsPart : Type 0 → (Frame → Type 0) → NetKind → Type 0
@@ -76,7 +93,10 @@ IsPart bridges frames (Counter frame) = frames frame
 
 -- the source's frame, and of plain uses those of the readers
 abbrev pub IsCountedIn : Source → List Use → Frame → Type 0
-IsCountedIn source uses frame = (frame ≡ source.frame) ⊎ ((source.registered ≡ false) × ((one : Use) × (Contains uses one × (frame ≡ reader_of source one))))
+IsCountedIn source uses frame =
+    (frame ≡ source.frame)
+    ⊎ ((source.registered ≡ false)
+    × ((one : Use) × (Contains uses one × (frame ≡ reader_of source one))))
 
 -- how many of the frames are different: those that none before is
 abbrev pub is_among : Frame → List Frame → Bool
@@ -85,7 +105,8 @@ is_among frame (one ∷ frames) = is_same_frame one frame || is_among frame fram
 
 abbrev pub different_after : List Frame → List Frame → ℕ
 different_after before [] = 0
-different_after before (one ∷ frames) = (if is_among one before then 0 else 1) + different_after (before ++ one ∷ []) frames
+different_after before (one ∷ frames) =
+    (if is_among one before then 0 else 1) + different_after (before ++ one ∷ []) frames
 
 abbrev pub different : List Frame → ℕ
 different frames = different_after [] frames
@@ -95,9 +116,11 @@ abbrev pub most_frames : ℕ → List Use → ℕ
 most_frames period [] = 0
 most_frames period (one ∷ uses) = max (one.shift / period) (most_frames period uses)
 
--- what a chain puts behind the nets: one register for each frame of the source up to the last that is
--- used, and at most one more for each different use
+-- what a chain puts behind the nets: one register for each frame of the source up to the last that
+-- is used, and at most one more for each different use
 pub record IsChained (before after : Circuit) (source : Source) (uses : List Use) : Type 0 where
   pub appends : Appends before after (source.from ∷ [])
-  pub parts : (k : ℕ) (net : Net) → length before.nets ≤ k → slice_get after.nets k ≡ Some net → IsPart (source.registered ≡ false) (IsCountedIn source uses) net.kind
-  pub few : register_count after.nets ≤ register_count before.nets + most_frames source.frame.period uses + different (map (reader_of source) uses)
+  pub parts : (k : ℕ) (net : Net) → length before.nets ≤ k → slice_get after.nets k ≡ Some net
+      → IsPart (source.registered ≡ false) (IsCountedIn source uses) net.kind
+  pub few : register_count after.nets ≤ register_count before.nets
+      + most_frames source.frame.period uses + different (map (reader_of source) uses)

@@ -20,8 +20,8 @@ pub fn reader_of(source: Source, one: Use) -> Frame
     }
 }
 
-/// The end of a registered line: the tap where the shift is of whole periods, else a register behind
-/// it with a slot of its own.
+/// The end of a registered line: the tap where the shift is of whole periods, else a register
+/// behind it with a slot of its own.
 fn registered_end(
     net: &mut Netlist,
     source: Source,
@@ -45,8 +45,8 @@ fn registered_end(
     register_at(net, tap, source.frame, slot, source.first)
 }
 
-/// The end of a plain line: the tap where the shift is of whole periods and the reader has the period
-/// of the source, else a bridge behind it.
+/// The end of a plain line: the tap where the shift is of whole periods and the reader has the
+/// period of the source, else a bridge behind it.
 fn plain_end(net: &mut Netlist, source: Source, taps: &[u32], one: Use) -> Result<u32, OutOfMemory>
     requires can { CanEnd net.old source taps.now one }
     requires plain { source.registered ≡ false }

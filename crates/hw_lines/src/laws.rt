@@ -1,5 +1,6 @@
 //! Why a chain shows its source later. The functions do nothing.
-ghost use Rattle.hw_lines.specs.Taps.{TapSteps, TapMeets, TapHolds, PhaseRegisterMeets, BridgeMeets};
+ghost use Rattle.hw_lines.specs.Taps.{TapSteps, TapMeets, TapHolds, PhaseRegisterMeets};
+ghost use Rattle.hw_lines.specs.Taps.{BridgeMeets};
 
 use hw_net::{bridge_is_closed, register_is_closed};
 

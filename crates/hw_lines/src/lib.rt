@@ -1,8 +1,8 @@
 //! Lines: a source shown later to its readers, by one chain of registers with a tap for each use.
 //!
-//! `specs/Line` says what a line owes its reader, and `specs/Chain` what a chain owes for all uses of a
-//! source: its answers, and which nets it puts behind the others. `laws` says which registers pay it,
-//! from what a register shows alone (`specs/Taps`).
+//! `specs/Line` says what a line owes its reader, and `specs/Chain` what a chain owes for all uses
+//! of a source: its answers, and which nets it puts behind the others. `laws` says which registers
+//! pay it, from what a register shows alone (`specs/Taps`).
 #![tactic(auto)]
 
 mod ends;

@@ -1,6 +1,8 @@
 //! One chain of registers for all uses of a source.
-ghost use Rattle.std.specs.Prelude.{◌≡◌, ◌+◌, ◌*◌, ◌<◌, ◌≤◌, ◌^◌, ◌∷◌, [], All, length, slice_get, Some, IfOk, OnOk};
-ghost use Rattle.hw_lines.specs.Chain.{IsSource, IsUse, AreAnswers, IsChained, IsAnswer, source_of, reader_of};
+ghost use Rattle.std.specs.Prelude.{◌≡◌, ◌+◌, ◌*◌, ◌<◌, ◌≤◌, ◌^◌, ◌∷◌, [], All, length, slice_get};
+ghost use Rattle.std.specs.Prelude.{Some, IfOk, OnOk};
+ghost use Rattle.hw_lines.specs.Chain.{IsSource, IsUse, AreAnswers, IsChained, IsAnswer, source_of};
+ghost use Rattle.hw_lines.specs.Chain.{reader_of};
 
 use crate::ends::{end_for, reader_of};
 use crate::source::{Source, Use};
@@ -9,8 +11,9 @@ use fx_io::{OutOfMemory, Sizes};
 use hw_net::{Frame, FrameIndex, Netlist};
 use std::alloc::Global;
 
-/// The chain of a source: one register for each of its frames up to the last that is used, and behind
-/// these at most one more net for each different use. Uses that are seen in one frame share it.
+/// The chain of a source: one register for each of its frames up to the last that is used, and
+/// behind these at most one more net for each different use. Uses that are seen in one frame share
+/// it.
 fn chained(
     alloc: Global,
     net: &mut Netlist,
@@ -36,12 +39,13 @@ fn chained(
     Ok(answers)
 }
 
-/// Shows a net later to its readers, by one chain of registers: for each use the number of a net that
-/// shows it `shift` base samples later, over frames of the greater of its period and the reader's. A
-/// plain line shows what the net shows at the clock itself, as long as its own frame stands. A
-/// registered one shows what the net had just before the reader sees it, and `first` before that. The
-/// values hold in the rows of every later netlist that keeps these nets. Time is in the registers and
-/// the uses. Where memory is wanting the netlist is of no more use. Source: own.
+/// Shows a net later to its readers, by one chain of registers: for each use the number of a net
+/// that shows it `shift` base samples later, over frames of the greater of its period and the
+/// reader's. A plain line shows what the net shows at the clock itself, as long as its own frame
+/// stands. A registered one shows what the net had just before the reader sees it, and `first`
+/// before that. The values hold in the rows of every later netlist that keeps these nets. Time is
+/// in the registers and the uses. Where memory is wanting the netlist is of no more use. Source:
+/// own.
 pub fn chain(
     alloc: Global,
     net: &mut Netlist,
@@ -55,8 +59,10 @@ pub fn chain(
     requires high { net.old.cycles ≤ 1024 }
     requires source { IsSource net.old (source_of from frame first registered) }
     requires uses { All (IsUse (source_of from frame first registered)) uses.now }
-    ensures answers { IfOk result (λ answers. AreAnswers net.old net.new (source_of from frame first registered) uses.now answers) }
-    ensures chained { OnOk result (IsChained net.old net.new (source_of from frame first registered) uses.now) }
+    ensures answers { IfOk result (λ answers.
+        AreAnswers net.old net.new (source_of from frame first registered) uses.now answers) }
+    ensures chained { OnOk result
+        (IsChained net.old net.new (source_of from frame first registered) uses.now) }
 {
     let source = Source {
         from,
@@ -81,9 +87,15 @@ pub fn line(
     requires low { 0 < net.old.cycles }
     requires high { net.old.cycles ≤ 1024 }
     requires source { IsSource net.old (source_of from frame first registered) }
-    requires use_is { IsUse (source_of from frame first registered) (record { shift = shift; period = period }) }
-    ensures answer { IfOk result (λ number. IsAnswer net.old net.new (source_of from frame first registered) (reader_of (source_of from frame first registered) (record { shift = shift; period = period })) number) }
-    ensures chained { OnOk result (IsChained net.old net.new (source_of from frame first registered) (record { shift = shift; period = period } ∷ [])) }
+    requires use_is { IsUse (source_of from frame first registered)
+        (record { shift = shift; period = period }) }
+    ensures answer { IfOk result (λ number.
+        IsAnswer net.old net.new (source_of from frame first registered)
+        (reader_of (source_of from frame first registered)
+        (record { shift = shift; period = period })) number) }
+    ensures chained { OnOk result
+        (IsChained net.old net.new (source_of from frame first registered)
+        (record { shift = shift; period = period } ∷ [])) }
 {
     let uses = [Use { shift, period }];
     let answers = chain(alloc, net, from, frame, first, registered, &uses)?;

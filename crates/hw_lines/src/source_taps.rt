@@ -23,8 +23,8 @@ pub fn most_frames(period: u32, uses: &[Use]) -> u64
     most
 }
 
-/// The nets that show a source 0, 1, .. of its frames later, up to a count: the source itself, and a
-/// register for each frame.
+/// The nets that show a source 0, 1, .. of its frames later, up to a count: the source itself, and
+/// a register for each frame.
 pub fn taps_of(
     alloc: Global,
     net: &mut Netlist,
@@ -36,7 +36,8 @@ pub fn taps_of(
     requires room { source.frame.period * net.old.cycles < 2 ^ 32 }
     ensures size { IfOk result (λ taps. length taps.items ≡ count + 1) }
     ensures taps { IfOk result (λ taps. AreTaps net.old net.new source taps.items) }
-    ensures grown { OnOk result (Grows net.old net.new source.from ⊥ (λ other. other ≡ source.frame)) }
+    ensures grown { OnOk result
+        (Grows net.old net.new source.from ⊥ (λ other. other ≡ source.frame)) }
     ensures few { OnOk result (register_count net.new.nets ≡ register_count net.old.nets + count) }
 {
     tap_steps();

@@ -7,7 +7,8 @@ use Rattle.hw_net.specs.declared.netlist.NetLabel.{NetLabel}
 use Rattle.hw_net.specs.Circuit.{Circuit}
 use Rattle.hw_net.specs.Frames.{HasCounters}
 
--- a port's name is an identifier, and none that the module has itself or that a clock enable would have
+-- a port's name is an identifier, and none that the module has itself or that a clock enable would
+-- have
 pub record IsPortName (name : List ℕ) : Type 0 where
   pub identifier : is_identifier name ≡ true
   pub no_clock : name ≢ codes "clk"
@@ -30,7 +31,8 @@ pub record ArePorts (inputs outputs : List NetPort) : Type 0 where
 -- a label is an identifier that begins with `fx_m` or `fx_p`
 pub record IsLabelName (name : List ℕ) : Type 0 where
   pub identifier : is_identifier name ≡ true
-  pub begins : ((rest : List ℕ) × (name ≡ codes "fx_m" ++ rest)) ⊎ ((rest : List ℕ) × (name ≡ codes "fx_p" ++ rest))
+  pub begins : ((rest : List ℕ) × (name ≡ codes "fx_m" ++ rest))
+      ⊎ ((rest : List ℕ) × (name ≡ codes "fx_p" ++ rest))
 
 -- each label is of a net that is there; no net has two, and no two have one name
 pub record AreLabels (count : ℕ) (labels : List NetLabel) : Type 0 where

@@ -25,16 +25,24 @@ input_port netlist port = record {
 
 abbrev pub output_port : Circuit → NetPort → Port
 output_port netlist port = record {
-  attrs = attribute_of (codes "fx_period") port.period ∷ attribute_of (codes "fx_latency") port.latency ∷ [];
+  attrs = attribute_of (codes "fx_period") port.period
+      ∷ attribute_of (codes "fx_latency") port.latency ∷ [];
   input = false;
   signed = (net_at netlist.nets port.net).signed;
   width = (net_at netlist.nets port.net).width;
   name = port.name;
 }
 
+abbrev pub input_ports : Circuit → List Port
+input_ports netlist = map (input_port netlist) netlist.inputs
+
+abbrev pub output_ports : Circuit → List Port
+output_ports netlist = map (output_port netlist) netlist.outputs
+
 abbrev pub ports_of : Circuit → List Port
 ports_of netlist =
-    bit_input (codes "clk") ∷ bit_input (codes "reset") ∷ (map (input_port netlist) netlist.inputs ++ map (output_port netlist) netlist.outputs)
+    bit_input (codes "clk") ∷ bit_input (codes "reset")
+    ∷ (input_ports netlist ++ output_ports netlist)
 
 pub record HasHeader (netlist : Circuit) (m : Module) : Type 0 where
   pub name : m.name ≡ codes "fx_model"

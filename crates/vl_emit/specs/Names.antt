@@ -1,5 +1,6 @@
 -- The names that the nets and the ports of a netlist have in its module, each with its word (own).
-use Rattle.std.specs.Prelude.{ℕ, zero, suc, ◌==◌, Bool, false, if◌then◌else◌, List, [], ◌∷◌, ◌++◌, slice_index_or, codes, ℤ}
+use Rattle.std.specs.Prelude.{ℕ, zero, suc, ◌==◌, Bool, false, if◌then◌else◌, List, [], ◌∷◌, ◌++◌}
+use Rattle.std.specs.Prelude.{slice_index_or, codes, ℤ}
 use Rattle.std.specs.Fmt.{decimal}
 use Rattle.vl_ast.specs.Value.{number_of}
 use Rattle.hw_net.specs.declared.netlist.Net.{Net}
@@ -48,7 +49,12 @@ name_of netlist k = name_by netlist.labels k
 
 -- a name with the word of a net
 abbrev pub wire_as : Circuit → ℕ → List ℕ → Wire
-wire_as netlist k name = record { name = name; width = (net_at netlist.nets k).width; signed = (net_at netlist.nets k).signed }
+wire_as netlist k name =
+    record {
+      name = name;
+      width = (net_at netlist.nets k).width;
+      signed = (net_at netlist.nets k).signed;
+    }
 
 abbrev pub net_wire : Circuit → ℕ → Wire
 net_wire netlist k = wire_as netlist k (name_of netlist k)
@@ -62,4 +68,5 @@ input_wire netlist i = port_wire netlist (port_at netlist.inputs i)
 
 -- the number that a name shows in a row
 abbrev pub shown : (List ℕ → ℕ) → Wire → ℤ
-shown row wire = number_of (record { width = wire.width; signed = wire.signed; bits = row wire.name })
+shown row wire =
+    number_of (record { width = wire.width; signed = wire.signed; bits = row wire.name })

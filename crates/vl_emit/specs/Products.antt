@@ -9,9 +9,13 @@ use Rattle.vl_ast.specs.Value.{bits_of}
 use Rattle.vl_ast.specs.Multiplications.{Multiplication, multiplications}
 use Rattle.vl_ast.specs.Runs.{Runs}
 use Rattle.hw_net.specs.declared.netlist.NetOp.{NetOp}
-use Rattle.hw_net.specs.declared.netlist.NetOp.TheVariants.{Input, Const, Resize, ShiftUp, ShiftDown, Add, Subtract, Negate, Multiply, And, Or, Xor, Not, Less, Equal, Choose, Slice}
+use Rattle.hw_net.specs.declared.netlist.NetOp.TheVariants.{Input, Const, Resize, ShiftUp}
+use Rattle.hw_net.specs.declared.netlist.NetOp.TheVariants.{ShiftDown, Add, Subtract, Negate}
+use Rattle.hw_net.specs.declared.netlist.NetOp.TheVariants.{Multiply, And, Or, Xor, Not, Less}
+use Rattle.hw_net.specs.declared.netlist.NetOp.TheVariants.{Equal, Choose, Slice}
 use Rattle.hw_net.specs.declared.netlist.NetKind.{NetKind}
-use Rattle.hw_net.specs.declared.netlist.NetKind.TheVariants.{Comb, Reg, EnReg, Bridge, Unit, Counter}
+use Rattle.hw_net.specs.declared.netlist.NetKind.TheVariants.{Comb, Reg, EnReg, Bridge, Unit}
+use Rattle.hw_net.specs.declared.netlist.NetKind.TheVariants.{Counter}
 use Rattle.hw_net.specs.Circuit.{Circuit}
 use Rattle.vl_emit.specs.Names.{Wire, places, net_at, net_wire, shown}
 
@@ -40,7 +44,8 @@ op_product width args (ShiftDown places) = []
 op_product width args Add = []
 op_product width args Subtract = []
 op_product width args Negate = []
-op_product width args Multiply = record { left = get_or args 0 0; right = get_or args 1 0; width = width } ∷ []
+op_product width args Multiply =
+    record { left = get_or args 0 0; right = get_or args 1 0; width = width } ∷ []
 op_product width args And = []
 op_product width args Or = []
 op_product width args Xor = []
@@ -61,18 +66,27 @@ comb_product width (Counter frame) = []
 -- the products of the Unit nets in order, and then those of the Multiply nets
 abbrev pub products_of : Circuit → List Product
 products_of netlist =
-    flat_map (λ k. unit_product (net_at netlist.nets k).width (net_at netlist.nets k).kind) (places (length netlist.nets))
-    ++ flat_map (λ k. comb_product (net_at netlist.nets k).width (net_at netlist.nets k).kind) (places (length netlist.nets))
+    flat_map (λ k. unit_product (net_at netlist.nets k).width (net_at netlist.nets k).kind)
+    (places (length netlist.nets))
+    ++ flat_map (λ k. comb_product (net_at netlist.nets k).width (net_at netlist.nets k).kind)
+    (places (length netlist.nets))
 
--- in every row of every run the expression has in its context the bits of the number that the wire shows
-pub record HasFactor (m : Module) (width : ℕ) (signed : Bool) (e : Expr) (wire : Wire) : Type 0 where
-  pub is : (count : ℕ) (start : List ℕ → ℕ) (inputs rows : ℕ → List ℕ → ℕ) → Runs m count start inputs rows
-      → (k : ℕ) → k < count → value_in (nets_of m) (rows k) width signed e ≡ bits_of width (shown (rows k) wire)
+-- in every row of every run the expression has in its context the bits of the number that the wire
+-- shows
+pub record HasFactor (m : Module) (width : ℕ) (signed : Bool) (e : Expr)
+    (wire : Wire) : Type 0 where
+  pub is : (count : ℕ) (start : List ℕ → ℕ) (inputs rows : ℕ → List ℕ → ℕ)
+      → Runs m count start inputs rows
+      → (k : ℕ) → k < count → value_in (nets_of m) (rows k) width signed e
+      ≡ bits_of width (shown (rows k) wire)
 
-pub record IsProduct (netlist : Circuit) (m : Module) (product : Product) (multiplication : Multiplication) : Type 0 where
+pub record IsProduct (netlist : Circuit) (m : Module) (product : Product)
+    (multiplication : Multiplication) : Type 0 where
   pub width : multiplication.width ≡ product.width
-  pub left : HasFactor m multiplication.width multiplication.signed multiplication.left (net_wire netlist product.left)
-  pub right : HasFactor m multiplication.width multiplication.signed multiplication.right (net_wire netlist product.right)
+  pub left : HasFactor m multiplication.width multiplication.signed multiplication.left
+      (net_wire netlist product.left)
+  pub right : HasFactor m multiplication.width multiplication.signed multiplication.right
+      (net_wire netlist product.right)
 
 -- the multiplications of the module are these, one by one
 pub record ProductsAre (netlist : Circuit) (m : Module) : Type 0 where

@@ -4,7 +4,8 @@ use Rattle.vl_ast.specs.declared.modules.ModItem.{ModItem}
 use Rattle.vl_ast.specs.declared.modules.ModItem.TheVariants as item
 use Rattle.vl_ast.specs.declared.modules.Module.{Module}
 use Rattle.hw_net.specs.declared.netlist.NetKind.{NetKind}
-use Rattle.hw_net.specs.declared.netlist.NetKind.TheVariants.{Comb, Reg, EnReg, Bridge, Unit, Counter}
+use Rattle.hw_net.specs.declared.netlist.NetKind.TheVariants.{Comb, Reg, EnReg, Bridge, Unit}
+use Rattle.hw_net.specs.declared.netlist.NetKind.TheVariants.{Counter}
 use Rattle.hw_net.specs.Circuit.{Circuit}
 use Rattle.vl_emit.specs.Names.{places, net_at, name_of, hold_name}
 
@@ -26,4 +27,5 @@ register_name netlist k (Counter frame) = name_of netlist k ∷ []
 
 pub record RegistersAre (netlist : Circuit) (m : Module) : Type 0 where
   pub are : flat_map declared_register m.items
-      ≡ flat_map (λ k. register_name netlist k (net_at netlist.nets k).kind) (places (length netlist.nets))
+      ≡ flat_map (λ k. register_name netlist k (net_at netlist.nets k).kind)
+      (places (length netlist.nets))

@@ -1,11 +1,12 @@
 //! What drives each net.
-ghost use Rattle.std.specs.Prelude.{◌≡◌, ◌++◌, ◌∷◌, [], ◌<◌, ◌+◌, ◌-◌, ◌*◌, ℕ, true, false, length, get_or, IfOk, OnOk};
+ghost use Rattle.std.specs.Prelude.{◌≡◌, ◌++◌, ◌<◌, ◌-◌, ◌*◌, ℕ, true, false, length, get_or};
+ghost use Rattle.std.specs.Prelude.{IfOk, OnOk};
 ghost use Rattle.hw_net.specs.declared.netlist.NetOp.TheVariants.{Input};
-ghost use Rattle.hw_net.specs.declared.netlist.NetKind.TheVariants.{Comb, Reg, EnReg, Bridge, Unit, Counter};
-ghost use Rattle.vl_emit.specs.Names.{net_at, net_wire, input_wire, hold_name};
-ghost use Rattle.vl_emit.specs.inner.Operators.{expression_of};
-ghost use Rattle.vl_emit.specs.inner.Emitted.{counter_wire, slot_test, live_test, drivers_at};
-ghost use Rattle.vl_emit.specs.inner.Ready.{IsSource, IsReady, IsTimed, circuit_of};
+ghost use Rattle.hw_net.specs.declared.netlist.NetKind.TheVariants.{Comb, Reg, EnReg, Bridge};
+ghost use Rattle.hw_net.specs.declared.netlist.NetKind.TheVariants.{Unit, Counter};
+ghost use Rattle.vl_emit.specs.inner.Ready.{IsSource, IsReady, IsTimed, IsDriver, circuit_of};
+ghost use Rattle.vl_emit.specs.inner.Ready.{net_count, input_count, cycles_in, value_in, bridge_in};
+ghost use Rattle.vl_emit.specs.inner.Ready.{argument_in, input_in, counter_in, slot_in, live_in};
 ghost use Rattle.vl_emit.specs.inner.Spoken.{wire_at, CanBeWritten};
 
 use crate::operands::{Operand, at_width, hold_text, named, text_of, zeros};
@@ -19,9 +20,10 @@ use vl_ast::{BinOp, Expr, ModItem, ModItems, Sized};
 /// An argument by its place, or the net itself where there is none.
 fn argument<'a>(source: Source<'a>, args: &[u32], place: usize, own: usize) -> Operand<'a>
     requires source { IsSource source }
-    requires own { own < length (circuit_of source).nets }
-    requires there { (j : ℕ) → j < length args.now → get_or args.now j 0 < length (circuit_of source).nets }
-    ensures wire { place < length args.now → wire_at result ≡ net_wire (circuit_of source.entry) (get_or args.now place 0) }
+    requires own { own < net_count source }
+    requires there { (j : ℕ) → j < length args.now → get_or args.now j 0 < net_count source }
+    ensures wire { place < length args.now → wire_at result
+        ≡ argument_in source.entry args.now place }
     ensures word { CanBeWritten result }
 {
     if place < args.len() {
@@ -34,9 +36,9 @@ fn argument<'a>(source: Source<'a>, args: &[u32], place: usize, own: usize) -> O
 /// The port that an Input shows, or the net itself for another operation.
 fn port<'a>(source: Source<'a>, op: NetOp, own: usize) -> Operand<'a>
     requires source { IsSource source }
-    requires own { own < length (circuit_of source).nets }
-    requires there { (input : ℕ) → op ≡ Input input → input < length (circuit_of source).inputs }
-    ensures wire { (input : ℕ) → op ≡ Input input → wire_at result ≡ input_wire (circuit_of source.entry) input }
+    requires own { own < net_count source }
+    requires there { (input : ℕ) → op ≡ Input input → input < input_count source }
+    ensures wire { (input : ℕ) → op ≡ Input input → wire_at result ≡ input_in source.entry input }
     ensures word { CanBeWritten result }
 {
     if let NetOp::Input(input) = op {
@@ -54,9 +56,9 @@ fn operation(
     args: &[u32],
 ) -> Result<Expr, OutOfMemory>
     requires source { IsSource source }
-    requires own { own < length (circuit_of source).nets }
+    requires own { own < net_count source }
     requires kind { IsReady (circuit_of source) (Comb op args.now) }
-    ensures { IfOk result (λ e. e ≡ expression_of op (input_wire (circuit_of source.entry)) (λ j. net_wire (circuit_of source.entry) (get_or args.now j 0)) (net_at (circuit_of source.entry).nets own).width) }
+    ensures { IfOk result (λ e. e ≡ value_in source.entry own op args.now) }
 {
     let net = &source.netlist.nets()[own];
     let word = (net.width, net.signed);
@@ -76,9 +78,9 @@ pub fn comb_item(
     args: &[u32],
 ) -> Result<ModItem, OutOfMemory>
     requires source { IsSource source }
-    requires own { own < length (circuit_of source).nets }
+    requires own { own < net_count source }
     requires kind { IsReady (circuit_of source) (Comb op args.now) }
-    ensures { IfOk result (λ i. i ∷ [] ≡ drivers_at (circuit_of source.entry) own (Comb op args.now)) }
+    ensures { IfOk result (IsDriver source.entry own (Comb op args.now)) }
 {
     let name = text_of(alloc, operand(source, own).called)?;
     let value = operation(alloc, source, own, op, args)?;
@@ -94,9 +96,9 @@ pub fn unit_item(
     right: u32,
 ) -> Result<ModItem, OutOfMemory>
     requires source { IsSource source }
-    requires own { own < length (circuit_of source).nets }
+    requires own { own < net_count source }
     requires kind { IsReady (circuit_of source) (Unit left right) }
-    ensures { IfOk result (λ i. i ∷ [] ≡ drivers_at (circuit_of source.entry) own (Unit left right)) }
+    ensures { IfOk result (IsDriver source.entry own (Unit left right)) }
 {
     let net = operand(source, own);
     let name = text_of(alloc, net.called)?;
@@ -108,7 +110,7 @@ pub fn unit_item(
 
 /// How many clocks a frame has.
 fn clocks(source: Source, frame: Frame) -> u64
-    ensures { result ≡ frame.period * (circuit_of source.entry).cycles }
+    ensures { result ≡ frame.period * cycles_in source.entry }
 {
     u64::from(frame.period) * u64::from(source.netlist.cycles())
 }
@@ -117,7 +119,7 @@ fn clocks(source: Source, frame: Frame) -> u64
 fn counter<'a>(source: Source<'a>, frame: Frame) -> Operand<'a>
     requires source { IsSource source }
     requires timed { IsTimed (circuit_of source) frame }
-    ensures wire { wire_at result ≡ counter_wire (circuit_of source.entry) frame }
+    ensures wire { wire_at result ≡ counter_in source.entry frame }
     ensures word { CanBeWritten result }
 {
     let number = source.netlist.counter_of(frame).unwrap();
@@ -128,7 +130,7 @@ fn counter<'a>(source: Source<'a>, frame: Frame) -> Operand<'a>
 fn slot_test(alloc: Global, source: Source, frame: Frame, slot: u64) -> Result<Expr, OutOfMemory>
     requires source { IsSource source }
     requires timed { IsTimed (circuit_of source) frame }
-    ensures { IfOk result (λ e. e ≡ slot_test (circuit_of source.entry).cycles frame (counter_wire (circuit_of source.entry) frame) slot) }
+    ensures { IfOk result (λ e. e ≡ slot_in source.entry frame slot) }
 {
     let clocks = clocks(source, frame);
     if clocks <= slot {
@@ -144,7 +146,7 @@ fn slot_test(alloc: Global, source: Source, frame: Frame, slot: u64) -> Result<E
 fn live_test(alloc: Global, source: Source, frame: Frame, live: u32) -> Result<Expr, OutOfMemory>
     requires source { IsSource source }
     requires timed { IsTimed (circuit_of source) frame }
-    ensures { IfOk result (λ e. e ≡ live_test (circuit_of source.entry).cycles frame (counter_wire (circuit_of source.entry) frame) live) }
+    ensures { IfOk result (λ e. e ≡ live_in source.entry frame live) }
 {
     let left = u64::from(frame.period.saturating_sub(live));
     let bound = left * u64::from(source.netlist.cycles());
@@ -162,9 +164,9 @@ pub fn counter_item(
     frame: Frame,
 ) -> Result<ModItem, OutOfMemory>
     requires source { IsSource source }
-    requires own { own < length (circuit_of source).nets }
+    requires own { own < net_count source }
     requires kind { IsReady (circuit_of source) (Counter frame) }
-    ensures { IfOk result (λ i. i ∷ [] ≡ drivers_at (circuit_of source.entry) own (Counter frame)) }
+    ensures { IfOk result (IsDriver source.entry own (Counter frame)) }
 {
     let net = operand(source, own);
     let top = u128::from(clocks(source, frame) - 1);
@@ -192,9 +194,9 @@ pub fn reg_item(
     from: u32,
 ) -> Result<ModItem, OutOfMemory>
     requires source { IsSource source }
-    requires own { own < length (circuit_of source).nets }
+    requires own { own < net_count source }
     requires kind { IsReady (circuit_of source) (Reg frame slot first from) }
-    ensures { IfOk result (λ i. i ∷ [] ≡ drivers_at (circuit_of source.entry) own (Reg frame slot first from)) }
+    ensures { IfOk result (IsDriver source.entry own (Reg frame slot first from)) }
 {
     let net = &source.netlist.nets()[own];
     let name = text_of(alloc, operand(source, own).called)?;
@@ -218,9 +220,9 @@ pub fn reset_item(
     from: u32,
 ) -> Result<ModItem, OutOfMemory>
     requires source { IsSource source }
-    requires own { own < length (circuit_of source).nets }
+    requires own { own < net_count source }
     requires kind { IsReady (circuit_of source) (EnReg frame enable true first from) }
-    ensures { IfOk result (λ i. i ∷ [] ≡ drivers_at (circuit_of source.entry) own (EnReg frame enable true first from)) }
+    ensures { IfOk result (IsDriver source.entry own (EnReg frame enable true first from)) }
 {
     let net = &source.netlist.nets()[own];
     let begun = constant(net.width, net.signed, first);
@@ -248,9 +250,9 @@ pub fn held_item(
     from: u32,
 ) -> Result<ModItem, OutOfMemory>
     requires source { IsSource source }
-    requires own { own < length (circuit_of source).nets }
+    requires own { own < net_count source }
     requires kind { IsReady (circuit_of source) (EnReg frame enable false first from) }
-    ensures { IfOk result (λ i. i ∷ [] ≡ drivers_at (circuit_of source.entry) own (EnReg frame enable false first from)) }
+    ensures { IfOk result (IsDriver source.entry own (EnReg frame enable false first from)) }
 {
     let net = &source.netlist.nets()[own];
     let name = text_of(alloc, operand(source, own).called)?;
@@ -270,7 +272,7 @@ pub fn held_item(
 fn last_slot(source: Source, frame: Frame) -> u64
     requires period { 0 < frame.period }
     requires source { IsSource source }
-    ensures { result ≡ frame.period * (circuit_of source.entry).cycles - 1 }
+    ensures { result ≡ frame.period * cycles_in source.entry - 1 }
 {
     clocks(source, frame) - 1
 }
@@ -286,9 +288,9 @@ pub fn put_bridge(
     from: u32,
 ) -> Result<(), OutOfMemory>
     requires source { IsSource source }
-    requires own { own < length (circuit_of source).nets }
+    requires own { own < net_count source }
     requires kind { IsReady (circuit_of source) (Bridge frame live from) }
-    ensures { OnOk result (items.new ≡ items.old ++ drivers_at (circuit_of source.entry) own (Bridge frame live from)) }
+    ensures { OnOk result (items.new ≡ items.old ++ bridge_in source.entry own frame live from) }
 {
     let net = operand(source, own);
     let test = live_test(alloc, source, frame, live)?;

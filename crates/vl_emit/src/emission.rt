@@ -1,8 +1,7 @@
 //! The module of a netlist.
-ghost use Rattle.std.specs.Prelude.{◌≡◌, ◌<◌, ◌^◌, length, Contains, IfOk};
+ghost use Rattle.std.specs.Prelude.{◌≡◌, ◌<◌, ◌^◌, length, IfOk};
 ghost use Rattle.hw_net.specs.Frames.{HasCounters};
 ghost use Rattle.hw_net.specs.Netlist.{IsNetlist};
-ghost use Rattle.hw_net.specs.declared.netlist.NetLabel.{NetLabel};
 ghost use Rattle.vl_ast.specs.Conditions.{BreaksNone};
 ghost use Rattle.vl_emit.specs.Emittable.{IsEmittable};
 ghost use Rattle.vl_emit.specs.Header.{HasHeader};
@@ -12,6 +11,7 @@ ghost use Rattle.vl_emit.specs.Reads.{ReadsOnly};
 ghost use Rattle.vl_emit.specs.Registers.{RegistersAre};
 ghost use Rattle.vl_emit.specs.Shown.{NetsAreShown, OutputsAreShown};
 ghost use Rattle.vl_emit.specs.inner.Emitted.{module_of};
+ghost use Rattle.vl_emit.specs.inner.Ready.{HaveNets};
 
 use crate::header::{attribute, module_ports};
 use crate::items::module_items;
@@ -21,8 +21,8 @@ use hw_net::{Netlist, counter_is_telling, steps_give_rows};
 use std::alloc::Global;
 use vl_ast::{Attrs, Module};
 
-/// The module of a netlist: a wire or a register for each net, and a port for each of its ports. Its
-/// time is linear in the nets. The only error is want of memory.
+/// The module of a netlist: a wire or a register for each net, and a port for each of its ports
+/// (own). Its time is linear in the nets. The only error is want of memory.
 pub fn emit(alloc: Global, netlist: &Netlist) -> Result<Module, OutOfMemory>
     requires runs { IsNetlist netlist.now }
     requires emittable { IsEmittable netlist.now }
@@ -44,7 +44,7 @@ pub fn emit(alloc: Global, netlist: &Netlist) -> Result<Module, OutOfMemory>
 pub fn module_of(alloc: Global, netlist: &Netlist) -> Result<Module, OutOfMemory>
     requires runs { IsNetlist netlist.now }
     requires counters { HasCounters netlist.now.nets }
-    requires labels { (label : NetLabel) → Contains netlist.now.labels label → label.net < length netlist.now.nets }
+    requires labels { HaveNets netlist.now }
     ensures is { IfOk result (λ made. made ≡ module_of netlist.now) }
     ensures few { IfOk result (λ made. length netlist.now.nets < 2 ^ 64) }
 {

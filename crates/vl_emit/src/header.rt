@@ -1,6 +1,7 @@
 //! The header of a netlist's module.
-ghost use Rattle.std.specs.Prelude.{◌≡◌, ◌++◌, ◌∷◌, [], ◌<◌, length, take, map, IfOk, OnOk};
-ghost use Rattle.vl_emit.specs.Header.{attribute_of, bit_input, input_port, output_port, ports_of};
+ghost use Rattle.std.specs.Prelude.{◌≡◌, ◌++◌, ◌<◌, length, IfOk, OnOk};
+ghost use Rattle.vl_emit.specs.Header.{attribute_of, bit_input, input_port, output_port};
+ghost use Rattle.vl_emit.specs.Header.{input_ports, output_ports, ports_of};
 ghost use Rattle.vl_emit.specs.inner.Ready.{AreReady};
 
 use fx_io::{OutOfMemory, Text};
@@ -63,7 +64,7 @@ fn output_port(alloc: Global, netlist: &Netlist, port: &NetPort) -> Result<Port,
 
 fn put_inputs(alloc: Global, netlist: &Netlist, ports: &mut Ports) -> Result<(), OutOfMemory>
     requires { AreReady netlist.now }
-    ensures { OnOk result (ports.new ≡ ports.old ++ map (input_port netlist.now) netlist.now.inputs) }
+    ensures { OnOk result (ports.new ≡ ports.old ++ input_ports netlist.now) }
 {
     for port in netlist.inputs() {
         ports.push(input_port(alloc, netlist, port)?)?;
@@ -73,7 +74,7 @@ fn put_inputs(alloc: Global, netlist: &Netlist, ports: &mut Ports) -> Result<(),
 
 fn put_outputs(alloc: Global, netlist: &Netlist, ports: &mut Ports) -> Result<(), OutOfMemory>
     requires { AreReady netlist.now }
-    ensures { OnOk result (ports.new ≡ ports.old ++ map (output_port netlist.now) netlist.now.outputs) }
+    ensures { OnOk result (ports.new ≡ ports.old ++ output_ports netlist.now) }
 {
     for port in netlist.outputs() {
         ports.push(output_port(alloc, netlist, port)?)?;

@@ -1,9 +1,10 @@
 //! The items of a netlist's module: declarations, then the drivers of Unit nets, then the other
 //! drivers, then the output ports.
-ghost use Rattle.std.specs.Prelude.{◌≡◌, ◌++◌, ◌∷◌, [], ◌<◌, length, take, map, IfOk, OnOk};
-ghost use Rattle.vl_emit.specs.Names.{net_at};
-ghost use Rattle.vl_emit.specs.inner.Emitted.{declarers_at, units_at, others_at, first_declared, first_units, first_others, output_item, naming_of, items_of};
-ghost use Rattle.vl_emit.specs.inner.Ready.{IsSource, IsReady, circuit_of};
+ghost use Rattle.std.specs.Prelude.{◌≡◌, ◌++◌, ◌<◌, length, IfOk, OnOk};
+ghost use Rattle.vl_emit.specs.inner.Emitted.{items_of};
+ghost use Rattle.vl_emit.specs.inner.Ready.{IsSource, circuit_of, net_count};
+ghost use Rattle.vl_emit.specs.inner.Ready.{declarers_in, units_in, others_in};
+ghost use Rattle.vl_emit.specs.inner.Ready.{all_declared, all_units, all_others, all_shown};
 
 use crate::driving::{
     comb_item, counter_item, held_item, put_bridge, reg_item, reset_item, unit_item,
@@ -23,8 +24,8 @@ fn declare(
     own: usize,
 ) -> Result<(), OutOfMemory>
     requires source { IsSource source }
-    requires own { own < length (circuit_of source).nets }
-    ensures { OnOk result (items.new ≡ items.old ++ declarers_at (circuit_of source.entry) own (net_at (circuit_of source.entry).nets own).kind) }
+    requires own { own < net_count source }
+    ensures { OnOk result (items.new ≡ items.old ++ declarers_in source.entry own) }
 {
     let net = operand(source, own);
     let signed = net.signed;
@@ -68,8 +69,8 @@ fn drive_unit(
     own: usize,
 ) -> Result<(), OutOfMemory>
     requires source { IsSource source }
-    requires own { own < length (circuit_of source).nets }
-    ensures { OnOk result (items.new ≡ items.old ++ units_at (circuit_of source.entry) own (net_at (circuit_of source.entry).nets own).kind) }
+    requires own { own < net_count source }
+    ensures { OnOk result (items.new ≡ items.old ++ units_in source.entry own) }
 {
     match &source.netlist.nets()[own].kind {
         NetKind::Unit { left, right } => {
@@ -86,8 +87,8 @@ fn drive_unit(
 /// The drivers of a net that is no Unit.
 fn drive(alloc: Global, source: Source, items: &mut ModItems, own: usize) -> Result<(), OutOfMemory>
     requires source { IsSource source }
-    requires own { own < length (circuit_of source).nets }
-    ensures { OnOk result (items.new ≡ items.old ++ others_at (circuit_of source.entry) own (net_at (circuit_of source.entry).nets own).kind) }
+    requires own { own < net_count source }
+    ensures { OnOk result (items.new ≡ items.old ++ others_in source.entry own) }
 {
     match &source.netlist.nets()[own].kind {
         NetKind::Unit { .. } => Ok(()),
@@ -123,7 +124,7 @@ fn drive(alloc: Global, source: Source, items: &mut ModItems, own: usize) -> Res
 
 fn declare_all(alloc: Global, source: Source, items: &mut ModItems) -> Result<(), OutOfMemory>
     requires { IsSource source }
-    ensures { OnOk result (items.new ≡ items.old ++ first_declared (circuit_of source.entry) (length (circuit_of source.entry).nets)) }
+    ensures { OnOk result (items.new ≡ items.old ++ all_declared source.entry) }
 {
     for own in 0..source.netlist.nets().len() {
         declare(alloc, source, items, own)?;
@@ -133,7 +134,7 @@ fn declare_all(alloc: Global, source: Source, items: &mut ModItems) -> Result<()
 
 fn drive_units(alloc: Global, source: Source, items: &mut ModItems) -> Result<(), OutOfMemory>
     requires { IsSource source }
-    ensures { OnOk result (items.new ≡ items.old ++ first_units (circuit_of source.entry) (length (circuit_of source.entry).nets)) }
+    ensures { OnOk result (items.new ≡ items.old ++ all_units source.entry) }
 {
     for own in 0..source.netlist.nets().len() {
         drive_unit(alloc, source, items, own)?;
@@ -143,7 +144,7 @@ fn drive_units(alloc: Global, source: Source, items: &mut ModItems) -> Result<()
 
 fn drive_others(alloc: Global, source: Source, items: &mut ModItems) -> Result<(), OutOfMemory>
     requires { IsSource source }
-    ensures { OnOk result (items.new ≡ items.old ++ first_others (circuit_of source.entry) (length (circuit_of source.entry).nets)) }
+    ensures { OnOk result (items.new ≡ items.old ++ all_others source.entry) }
 {
     for own in 0..source.netlist.nets().len() {
         drive(alloc, source, items, own)?;
@@ -153,7 +154,7 @@ fn drive_others(alloc: Global, source: Source, items: &mut ModItems) -> Result<(
 
 fn show_outputs(alloc: Global, source: Source, items: &mut ModItems) -> Result<(), OutOfMemory>
     requires { IsSource source }
-    ensures { OnOk result (items.new ≡ items.old ++ map (output_item (naming_of (circuit_of source.entry))) (circuit_of source.entry).outputs) }
+    ensures { OnOk result (items.new ≡ items.old ++ all_shown source.entry) }
 {
     for output in source.netlist.outputs() {
         let name = Text::copy(alloc, output.name.bytes())?;

@@ -1,10 +1,10 @@
 //! Netlists as modules of the Verilog subset.
 //!
 //! `emit` gives a netlist's module: a wire or a register for each net, named by its label or its
-//! number, and a port for each of its ports. `specs/Emittable` says which netlists it takes beside that
-//! they can be run, and `specs/Header`, `Shown`, `Products`, `Reads` and `Registers` what the module is:
-//! its header, the rows that its names show, its multiplications, what its items read, and its
-//! registers. It breaks none of the conditions of `vl_ast`.
+//! number, and a port for each of its ports. `specs/Emittable` says what it asks of a netlist
+//! beside that it can be run. `specs/Header`, `Shown`, `Products`, `Reads` and `Registers` say what
+//! the module is: its header, the rows that its names show, its multiplications, what its items
+//! read, and its registers. It breaks none of the conditions of `vl_ast`.
 #![tactic(auto)]
 
 mod driving;

@@ -1,13 +1,12 @@
-ghost use Rattle.std.specs.Prelude.{◌≡◌, ◌+◌, ◌-◌, ◌*◌, ◌≤◌, ◌<◌, ◌^◌, [], false, IfOk};
+ghost use Rattle.std.specs.Prelude.{◌≡◌, ◌+◌, ◌-◌, ◌*◌, ◌≤◌, ◌<◌, ◌^◌, false, IfOk};
 ghost use Rattle.fx_num.specs.Word.{IsWord};
-ghost use Rattle.vl_ast.specs.Value.{bits_of};
-ghost use Rattle.vl_ast.specs.declared.expressions.Expr.TheVariants.{Unary, Binary, AsSigned, Shift, Choose};
-ghost use Rattle.vl_ast.specs.declared.expressions.ShiftOp.TheVariants.{Left};
+ghost use Rattle.vl_ast.specs.declared.expressions.Expr.TheVariants.{Unary, Binary, Choose};
 ghost use Rattle.hw_net.specs.declared.netlist.NetOp.TheVariants.{Less, Equal};
-ghost use Rattle.vl_emit.specs.inner.Spelled.{at_width};
-ghost use Rattle.vl_emit.specs.inner.Operators.{compared, widened, signed_width, common_width, test_of, in_width, slice_at, shifted_up, expression_of};
+ghost use Rattle.vl_emit.specs.inner.Operators.{compared, widened, signed_width, common_width};
+ghost use Rattle.vl_emit.specs.inner.Operators.{test_of, slice_at, shifted_up};
 ghost use Rattle.vl_emit.specs.inner.Emitted.{constant, plain_number};
-ghost use Rattle.vl_emit.specs.inner.Spoken.{wire_at, triple, CanBeWritten, HasRoom, IsWithin};
+ghost use Rattle.vl_emit.specs.inner.Spoken.{wire_at, CanBeWritten, HasRoom, IsWithin};
+ghost use Rattle.vl_emit.specs.inner.Spoken.{both_at, comparison_at, choice_at, operation_at};
 
 use crate::operands::{Operand, at_width, beside, named, piece, zeros};
 use fx_io::{Boxed, OutOfMemory};
@@ -71,7 +70,7 @@ fn in_width(
     requires left { CanBeWritten left }
     requires right { CanBeWritten right }
     requires width { HasRoom width }
-    ensures { IfOk result (λ e. e ≡ Binary op (at_width width (wire_at left.entry)) (at_width width (wire_at right.entry))) }
+    ensures { IfOk result (λ e. e ≡ both_at op width left.entry right.entry) }
 {
     let left = at_width(alloc, left, width)?;
     let right = at_width(alloc, right, width)?;
@@ -129,7 +128,7 @@ fn less(alloc: Global, left: Operand, right: Operand, width: u32) -> Result<Expr
     requires left { CanBeWritten left }
     requires right { CanBeWritten right }
     requires width { HasRoom width }
-    ensures { IfOk result (λ e. e ≡ expression_of Less (λ port. wire_at left.entry) (triple (wire_at left.entry) (wire_at right.entry) (wire_at right.entry)) width) }
+    ensures { IfOk result (λ e. e ≡ comparison_at Less width left.entry right.entry) }
 {
     let common = common_width(left, right);
     let signed = left.signed || right.signed;
@@ -145,7 +144,7 @@ fn equal(alloc: Global, left: Operand, right: Operand, width: u32) -> Result<Exp
     requires left { CanBeWritten left }
     requires right { CanBeWritten right }
     requires width { HasRoom width }
-    ensures { IfOk result (λ e. e ≡ expression_of Equal (λ port. wire_at left.entry) (triple (wire_at left.entry) (wire_at right.entry) (wire_at right.entry)) width) }
+    ensures { IfOk result (λ e. e ≡ comparison_at Equal width left.entry right.entry) }
 {
     let bit = in_width(alloc, BinOp::Equal, left, right, common_width(left, right))?;
     widened(alloc, width, bit)
@@ -171,7 +170,7 @@ fn choice(
     requires chosen { CanBeWritten chosen }
     requires other { CanBeWritten other }
     requires width { HasRoom width }
-    ensures { IfOk result (λ e. e ≡ Choose (test_of (wire_at test.entry)) (at_width width (wire_at chosen.entry)) (at_width width (wire_at other.entry))) }
+    ensures { IfOk result (λ e. e ≡ choice_at width test.entry chosen.entry other.entry) }
 {
     let test = test_of(alloc, test)?;
     let chosen = at_width(alloc, chosen, width)?;
@@ -232,7 +231,8 @@ pub fn expression(
     requires port { CanBeWritten port }
     requires word { IsWord word.0 word.1 }
     requires bounds { IsWithin op first.width }
-    ensures { IfOk result (λ e. e ≡ expression_of op (λ place. wire_at port.entry) (triple (wire_at first.entry) (wire_at second.entry) (wire_at third.entry)) word.0) }
+    ensures { IfOk result (λ e. e ≡ operation_at op word.0 port.entry first.entry second.entry
+        third.entry) }
 {
     let width = word.0 as u32;
     match op {

@@ -1,9 +1,9 @@
 //! The nets and the ports of a netlist as operands, each by its name.
 ghost use Rattle.std.specs.Prelude.{◌≡◌, ◌<◌, ℕ, length, Contains, IfOk, None, slice_index_or};
 ghost use Rattle.hw_net.specs.declared.netlist.NetLabel.{NetLabel};
-ghost use Rattle.vl_emit.specs.Names.{net_wire, input_wire};
 ghost use Rattle.vl_emit.specs.inner.Spoken.{wire_at, CanBeWritten};
-ghost use Rattle.vl_emit.specs.inner.Ready.{IsIndex, IsSource, circuit_of};
+ghost use Rattle.vl_emit.specs.inner.Ready.{IsIndex, IsSource, net_count, input_count, wire_in};
+ghost use Rattle.vl_emit.specs.inner.Ready.{input_in};
 
 use crate::operands::{Called, Operand};
 use fx_io::OutOfMemory;
@@ -49,8 +49,8 @@ fn no_places(alloc: Global, count: usize) -> Result<Vec<Option<usize>>, OutOfMem
 /// A net by its number.
 pub fn operand<'a>(source: Source<'a>, number: usize) -> Operand<'a>
     requires source { IsSource source }
-    requires there { number < length (circuit_of source).nets }
-    ensures wire { wire_at result ≡ net_wire (circuit_of source.entry) number }
+    requires there { number < net_count source }
+    ensures wire { wire_at result ≡ wire_in source.entry number }
     ensures word { CanBeWritten result }
 {
     let net = &source.netlist.nets()[number];
@@ -68,8 +68,8 @@ pub fn operand<'a>(source: Source<'a>, number: usize) -> Operand<'a>
 /// An input port by its place.
 pub fn input_operand<'a>(source: Source<'a>, input: u32) -> Operand<'a>
     requires source { IsSource source }
-    requires there { input < length (circuit_of source).inputs }
-    ensures wire { wire_at result ≡ input_wire (circuit_of source.entry) input }
+    requires there { input < input_count source }
+    ensures wire { wire_at result ≡ input_in source.entry input }
     ensures word { CanBeWritten result }
 {
     let port = &source.netlist.inputs()[input as usize];

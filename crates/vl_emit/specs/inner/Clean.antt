@@ -9,15 +9,17 @@ use Rattle.vl_ast.specs.Nets.{names_read}
 use Rattle.vl_emit.specs.Reads.{item_reads}
 use Rattle.vl_ast.specs.Multiplications.{multiplications_in, item_multiplications}
 
-pub record IsClean (nets : List ℕ → Net) (allowed : List ℕ → Type 0) (width : ℕ) (e : Expr) : Type 0 where
+pub record IsClean (nets : List ℕ → Net) (allowed : List ℕ → Type 0) (width : ℕ)
+    (e : Expr) : Type 0 where
   pub length : own_length nets e ≡ width
   pub sound : para-Expr Bool (is_sound_step nets) e ≡ true
   pub reads : (name : List ℕ) → Contains (names_read e) name → allowed name
   pub products : (context : ℕ) (signed : Bool) → multiplications_in nets context signed e ≡ []
 
--- an item that breaks no condition on its expressions, reads allowed names only, and where it may not
--- multiply has no multiplication
-pub record IsCleanItem (nets : List ℕ → Net) (allowed : List ℕ → Type 0) (multiplies : Bool) (item : ModItem) : Type 0 where
+-- an item that breaks no condition on its expressions, reads allowed names only, and where it may
+-- not multiply has no multiplication
+pub record IsCleanItem (nets : List ℕ → Net) (allowed : List ℕ → Type 0) (multiplies : Bool)
+    (item : ModItem) : Type 0 where
   pub sound : is_sound_item nets item ≡ true
   pub reads : (name : List ℕ) → Contains (item_reads item) name → allowed name
   pub products : multiplies ≡ false → item_multiplications nets item ≡ []

@@ -1,5 +1,7 @@
 -- The items of each net.
-use Rattle.std.specs.Prelude.{length, codes, unwrap_or, ℕ, ◌+◌, ◌-◌, ◌*◌, nat_lt, true, false, if◌then◌else◌, List, [], ◌∷◌, ◌++◌, map, flat_map, get_or, Some, None, ℤ}
+use Rattle.std.specs.Prelude.{length, codes, unwrap_or, ℕ, ◌+◌, ◌-◌, ◌*◌, nat_lt, true, false}
+use Rattle.std.specs.Prelude.{if◌then◌else◌, List, [], ◌∷◌, ◌++◌, map, flat_map, get_or, Some, None}
+use Rattle.std.specs.Prelude.{ℤ}
 use Rattle.vl_ast.specs.declared.expressions.BinOp.TheVariants as binary
 use Rattle.vl_ast.specs.declared.expressions.Sized.{Sized}
 use Rattle.vl_ast.specs.declared.expressions.Expr.{Expr}
@@ -11,7 +13,8 @@ use Rattle.hw_net.specs.declared.netlist.Frame.{Frame}
 use Rattle.hw_net.specs.declared.netlist.Net.{Net}
 use Rattle.hw_net.specs.declared.netlist.NetPort.{NetPort}
 use Rattle.hw_net.specs.declared.netlist.NetKind.{NetKind}
-use Rattle.hw_net.specs.declared.netlist.NetKind.TheVariants.{Comb, Reg, EnReg, Bridge, Unit, Counter}
+use Rattle.hw_net.specs.declared.netlist.NetKind.TheVariants.{Comb, Reg, EnReg, Bridge, Unit}
+use Rattle.hw_net.specs.declared.netlist.NetKind.TheVariants.{Counter}
 use Rattle.vl_emit.specs.Names.{Wire}
 use Rattle.vl_emit.specs.inner.Spelled.{zeros, at_width}
 use Rattle.vl_emit.specs.inner.Operators.{test_of, expression_of}
@@ -21,8 +24,8 @@ use Rattle.hw_net.specs.Circuit.{Circuit}
 use Rattle.hw_net.specs.Frames.{counter_of}
 use Rattle.vl_ast.specs.declared.modules.Module.{Module}
 
--- how the parts of a netlist are named: the ports of its inputs, its nets, the registers that bridges
--- hold their values in, and the net that counts a frame
+-- how the parts of a netlist are named: the ports of its inputs, its nets, the registers that
+-- bridges hold their values in, and the net that counts a frame
 pub record Naming : Type 0 where
   pub port : ℕ → Wire
   pub net : ℕ → List ℕ
@@ -30,7 +33,8 @@ pub record Naming : Type 0 where
   pub counter : Frame → ℕ
 
 abbrev pub wire_of : Naming → (ℕ → Net) → ℕ → Wire
-wire_of naming net k = record { name = naming.net k; width = (net k).width; signed = (net k).signed }
+wire_of naming net k =
+    record { name = naming.net k; width = (net k).width; signed = (net k).signed }
 
 abbrev pub plain_number : ℕ → ℕ → Sized
 plain_number width bits = record { width = width; signed = false; bits = bits }
@@ -41,12 +45,14 @@ constant width number = plain_number width (bits_of width number)
 -- whether a frame's counter has this number
 abbrev pub counts : Wire → ℕ → Expr
 counts counter number =
-    expression.Binary binary.Equal (expression.Name counter.name) (expression.Literal (plain_number counter.width number))
+    expression.Binary binary.Equal (expression.Name counter.name)
+    (expression.Literal (plain_number counter.width number))
 
 -- whether a clock is that of a slot; a slot past the frame never comes
 abbrev pub slot_test : ℕ → Frame → Wire → ℕ → Expr
 slot_test cycles frame counter slot =
-    if nat_lt slot (frame.period * cycles) then counts counter (frame.period * cycles - 1 - slot) else zeros 1
+    if nat_lt slot (frame.period * cycles) then counts counter
+    (frame.period * cycles - 1 - slot) else zeros 1
 
 abbrev pub live_test : ℕ → Frame → Wire → ℕ → Expr
 live_test cycles frame counter live =
@@ -56,39 +62,55 @@ live_test cycles frame counter live =
 -- what drives net k
 abbrev pub drivers : ℕ → Naming → (ℕ → Net) → ℕ → NetKind → List ModItem
 drivers cycles naming net k (Comb op args) =
-    item.Assign (naming.net k) (expression_of op naming.port (λ j. wire_of naming net (get_or args j 0)) (net k).width) ∷ []
+    item.Assign (naming.net k) (expression_of op naming.port
+    (λ j. wire_of naming net (get_or args j 0)) (net k).width) ∷ []
 drivers cycles naming net k (Unit left right) =
-    item.Assign (naming.net k) (expression.Binary binary.Multiply (at_width (net k).width (wire_of naming net left)) (at_width (net k).width (wire_of naming net right))) ∷ []
+    item.Assign (naming.net k) (expression.Binary binary.Multiply
+    (at_width (net k).width (wire_of naming net left))
+    (at_width (net k).width (wire_of naming net right))) ∷ []
 drivers cycles naming net k (Counter frame) =
-    item.Always (naming.net k) (plain_number (net k).width (frame.latency * cycles + (frame.period * cycles - 1))) None
+    item.Always (naming.net k) (plain_number (net k).width
+    (frame.latency * cycles + (frame.period * cycles - 1))) None
     (expression.Choose (test_of (wire_of naming net k))
-    (expression.Binary binary.Subtract (expression.Name (naming.net k)) (expression.Literal (plain_number (net k).width 1)))
+    (expression.Binary binary.Subtract (expression.Name (naming.net k))
+    (expression.Literal (plain_number (net k).width 1)))
     (expression.Literal (plain_number (net k).width (frame.period * cycles - 1)))) ∷ []
 drivers cycles naming net k (Reg frame slot first from) =
     item.Always (naming.net k) (constant (net k).width first)
-    (Some (slot_test cycles frame (wire_of naming net (naming.counter frame)) slot)) (expression.Name (naming.net from)) ∷ []
+    (Some (slot_test cycles frame (wire_of naming net (naming.counter frame)) slot))
+    (expression.Name (naming.net from)) ∷ []
 drivers cycles naming net k (EnReg frame enable true first from) =
     item.Always (naming.net k) (constant (net k).width first)
-    (Some (slot_test cycles frame (wire_of naming net (naming.counter frame)) (frame.period * cycles - 1)))
-    (expression.Choose (test_of (wire_of naming net enable)) (expression.Name (naming.net from)) (expression.Literal (constant (net k).width first))) ∷ []
+    (Some (slot_test cycles frame (wire_of naming net (naming.counter frame))
+    (frame.period * cycles - 1)))
+    (expression.Choose (test_of (wire_of naming net enable)) (expression.Name (naming.net from))
+    (expression.Literal (constant (net k).width first))) ∷ []
 drivers cycles naming net k (EnReg frame enable false first from) =
     item.Always (naming.net k) (constant (net k).width first)
-    (Some (expression.Binary binary.Both (slot_test cycles frame (wire_of naming net (naming.counter frame)) (frame.period * cycles - 1)) (test_of (wire_of naming net enable))))
+    (Some (expression.Binary binary.Both (slot_test cycles frame
+    (wire_of naming net (naming.counter frame)) (frame.period * cycles - 1))
+    (test_of (wire_of naming net enable))))
     (expression.Name (naming.net from)) ∷ []
 drivers cycles naming net k (Bridge frame live from) =
-    item.Assign (naming.net k) (expression.Choose (live_test cycles frame (wire_of naming net (naming.counter frame)) live)
+    item.Assign (naming.net k) (expression.Choose
+    (live_test cycles frame (wire_of naming net (naming.counter frame)) live)
     (expression.Name (naming.net from)) (expression.Name (naming.hold k)))
-    ∷ item.Always (naming.hold k) (plain_number (net k).width 0) None (expression.Name (naming.net k)) ∷ []
+    ∷ item.Always (naming.hold k) (plain_number (net k).width 0) None
+    (expression.Name (naming.net k)) ∷ []
 
 -- what declares net k
 abbrev pub declarers : Naming → (ℕ → Net) → ℕ → NetKind → List ModItem
 declarers naming net k (Comb op args) = item.Wire (net k).signed (net k).width (naming.net k) ∷ []
-declarers naming net k (Unit left right) = item.Wire (net k).signed (net k).width (naming.net k) ∷ []
+declarers naming net k (Unit left right) =
+    item.Wire (net k).signed (net k).width (naming.net k) ∷ []
 declarers naming net k (Counter frame) = item.Reg (net k).signed (net k).width (naming.net k) ∷ []
-declarers naming net k (Reg frame slot first from) = item.Reg (net k).signed (net k).width (naming.net k) ∷ []
-declarers naming net k (EnReg frame enable reset first from) = item.Reg (net k).signed (net k).width (naming.net k) ∷ []
+declarers naming net k (Reg frame slot first from) =
+    item.Reg (net k).signed (net k).width (naming.net k) ∷ []
+declarers naming net k (EnReg frame enable reset first from) =
+    item.Reg (net k).signed (net k).width (naming.net k) ∷ []
 declarers naming net k (Bridge frame live from) =
-    item.Wire (net k).signed (net k).width (naming.net k) ∷ item.Reg (net k).signed (net k).width (naming.hold k) ∷ []
+    item.Wire (net k).signed (net k).width (naming.net k)
+    ∷ item.Reg (net k).signed (net k).width (naming.hold k) ∷ []
 
 -- the drivers of units stand before the others, so that theirs are the first multiplications
 abbrev pub unit_drivers : ℕ → Naming → (ℕ → Net) → ℕ → NetKind → List ModItem
@@ -103,9 +125,12 @@ abbrev pub other_drivers : ℕ → Naming → (ℕ → Net) → ℕ → NetKind 
 other_drivers cycles naming net k (Comb op args) = drivers cycles naming net k (Comb op args)
 other_drivers cycles naming net k (Unit left right) = []
 other_drivers cycles naming net k (Counter frame) = drivers cycles naming net k (Counter frame)
-other_drivers cycles naming net k (Reg frame slot first from) = drivers cycles naming net k (Reg frame slot first from)
-other_drivers cycles naming net k (EnReg frame enable reset first from) = drivers cycles naming net k (EnReg frame enable reset first from)
-other_drivers cycles naming net k (Bridge frame live from) = drivers cycles naming net k (Bridge frame live from)
+other_drivers cycles naming net k (Reg frame slot first from) =
+    drivers cycles naming net k (Reg frame slot first from)
+other_drivers cycles naming net k (EnReg frame enable reset first from) =
+    drivers cycles naming net k (EnReg frame enable reset first from)
+other_drivers cycles naming net k (Bridge frame live from) =
+    drivers cycles naming net k (Bridge frame live from)
 
 -- an output port shows its net
 abbrev pub output_item : Naming → NetPort → ModItem
@@ -139,14 +164,17 @@ abbrev pub drivers_at : Circuit → ℕ → NetKind → List ModItem
 drivers_at netlist k kind = drivers netlist.cycles (naming_of netlist) (net_at netlist.nets) k kind
 
 abbrev pub units_at : Circuit → ℕ → NetKind → List ModItem
-units_at netlist k kind = unit_drivers netlist.cycles (naming_of netlist) (net_at netlist.nets) k kind
+units_at netlist k kind =
+    unit_drivers netlist.cycles (naming_of netlist) (net_at netlist.nets) k kind
 
 abbrev pub others_at : Circuit → ℕ → NetKind → List ModItem
-others_at netlist k kind = other_drivers netlist.cycles (naming_of netlist) (net_at netlist.nets) k kind
+others_at netlist k kind =
+    other_drivers netlist.cycles (naming_of netlist) (net_at netlist.nets) k kind
 
 -- those of the first nets
 abbrev pub first_declared : Circuit → ℕ → List ModItem
-first_declared netlist n = flat_map (λ k. declarers_at netlist k (net_at netlist.nets k).kind) (places n)
+first_declared netlist n =
+    flat_map (λ k. declarers_at netlist k (net_at netlist.nets k).kind) (places n)
 
 abbrev pub first_units : Circuit → ℕ → List ModItem
 first_units netlist n = flat_map (λ k. units_at netlist k (net_at netlist.nets k).kind) (places n)
@@ -155,7 +183,9 @@ abbrev pub first_others : Circuit → ℕ → List ModItem
 first_others netlist n = flat_map (λ k. others_at netlist k (net_at netlist.nets k).kind) (places n)
 
 abbrev pub items_of : Circuit → List ModItem
-items_of netlist = module_items netlist.cycles (length netlist.nets) (naming_of netlist) (net_at netlist.nets) netlist.outputs
+items_of netlist =
+    module_items netlist.cycles (length netlist.nets) (naming_of netlist)
+    (net_at netlist.nets) netlist.outputs
 
 abbrev pub module_of : Circuit → Module
 module_of netlist = record {

@@ -1,7 +1,8 @@
--- How an operation of the netlist is written as an expression. Each operand is written at the width at
--- which it is used. Where one operand of a comparison is signed and the other isn't, both are written
--- one bit longer than the unsigned one and are compared as signed.
-use Rattle.std.specs.Prelude.{Bool, ℕ, ◌+◌, ◌-◌, ◌==◌, nat_le, nat_lt, max, false, if◌then◌else◌, List, [], ◌∷◌, ◌||◌}
+-- How an operation of the netlist is written as an expression. Each operand is written at the width
+-- at which it is used. Where one operand of a comparison is signed and the other isn't, both are
+-- written one bit longer than the unsigned one and are compared as signed.
+use Rattle.std.specs.Prelude.{Bool, ℕ, ◌+◌, ◌-◌, ◌==◌, nat_le, nat_lt, max, false, if◌then◌else◌}
+use Rattle.std.specs.Prelude.{List, [], ◌∷◌, ◌||◌}
 use Rattle.vl_ast.specs.declared.expressions.UnOp.TheVariants as unary
 use Rattle.vl_ast.specs.declared.expressions.BinOp.{BinOp}
 use Rattle.vl_ast.specs.declared.expressions.BinOp.TheVariants as binary
@@ -10,7 +11,10 @@ use Rattle.vl_ast.specs.declared.expressions.Expr.{Expr}
 use Rattle.vl_ast.specs.declared.expressions.Expr.TheVariants as expression
 use Rattle.vl_ast.specs.Value.{bits_of}
 use Rattle.hw_net.specs.declared.netlist.NetOp.{NetOp}
-use Rattle.hw_net.specs.declared.netlist.NetOp.TheVariants.{Input, Const, Resize, ShiftUp, ShiftDown, Add, Subtract, Negate, Multiply, And, Or, Xor, Not, Less, Equal, Choose, Slice}
+use Rattle.hw_net.specs.declared.netlist.NetOp.TheVariants.{Input, Const, Resize, ShiftUp}
+use Rattle.hw_net.specs.declared.netlist.NetOp.TheVariants.{ShiftDown, Add, Subtract, Negate}
+use Rattle.hw_net.specs.declared.netlist.NetOp.TheVariants.{Multiply, And, Or, Xor, Not, Less}
+use Rattle.hw_net.specs.declared.netlist.NetOp.TheVariants.{Equal, Choose, Slice}
 use Rattle.vl_emit.specs.Names.{Wire}
 use Rattle.vl_emit.specs.inner.Spelled.{zeros, piece, at_width}
 
@@ -29,7 +33,8 @@ by_sign left right = left.signed || right.signed
 -- where two nets are compared: with a sign bit each where one of them is signed
 abbrev pub common_width : Wire → Wire → ℕ
 common_width left right =
-    if by_sign left right then max (signed_width left) (signed_width right) else max left.width right.width
+    if by_sign left right then max (signed_width left)
+    (signed_width right) else max left.width right.width
 
 abbrev pub compared : Bool → Expr → Expr
 compared signed e = if signed then expression.AsSigned e else e
@@ -52,13 +57,15 @@ slice_at width wire low count =
 -- a shift of all places or more leaves zeros
 abbrev pub shifted_up : Wire → ℕ → ℕ → Expr
 shifted_up wire places width =
-    if nat_lt places width then expression.Shift Left (at_width width wire) (record { width = 8; signed = false; bits = places })
+    if nat_lt places width then expression.Shift Left (at_width width wire)
+    (record { width = 8; signed = false; bits = places })
     else zeros width
 
 -- from the input ports, the nets of the arguments and the width of the result
 abbrev pub expression_of : NetOp → (ℕ → Wire) → (ℕ → Wire) → ℕ → Expr
 expression_of (Input port) ports a width = at_width width (ports port)
-expression_of (Const number) ports a width = expression.Literal (record { width = width; signed = false; bits = bits_of width number })
+expression_of (Const number) ports a width =
+    expression.Literal (record { width = width; signed = false; bits = bits_of width number })
 expression_of Resize ports a width = at_width width (a 0)
 expression_of (ShiftUp places) ports a width = shifted_up (a 0) places width
 expression_of (ShiftDown places) ports a width = piece (a 0) places width
@@ -73,7 +80,10 @@ expression_of Not ports a width = expression.Unary unary.Invert (at_width width 
 expression_of Less ports a width =
     let common : ℕ = common_width (a 0) (a 1) in
     let signed : Bool = by_sign (a 0) (a 1) in
-    widened width (expression.Binary binary.Less (compared signed (at_width common (a 0))) (compared signed (at_width common (a 1))))
-expression_of Equal ports a width = widened width (in_width binary.Equal (common_width (a 0) (a 1)) a)
-expression_of Choose ports a width = expression.Choose (test_of (a 0)) (at_width width (a 1)) (at_width width (a 2))
+    widened width (expression.Binary binary.Less (compared signed (at_width common (a 0)))
+    (compared signed (at_width common (a 1))))
+expression_of Equal ports a width =
+    widened width (in_width binary.Equal (common_width (a 0) (a 1)) a)
+expression_of Choose ports a width =
+    expression.Choose (test_of (a 0)) (at_width width (a 1)) (at_width width (a 2))
 expression_of (Slice high low) ports a width = slice_at width (a 0) low (high + 1 - low)

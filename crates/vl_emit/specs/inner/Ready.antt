@@ -1,5 +1,6 @@
 -- What the code asks of a netlist and of the places of its labels.
-use Rattle.std.specs.Prelude.{◌≡◌, ◌+◌, ◌*◌, ◌<◌, ℕ, List, length, get_or, slice_index_or, [], Option, None, Some, IsSome, ⊤}
+use Rattle.std.specs.Prelude.{◌≡◌, ◌+◌, ◌*◌, ◌<◌, ℕ, List, length, get_or, slice_index_or, [], ◌∷◌}
+use Rattle.std.specs.Prelude.{map, Option, None, Some, IsSome, ⊤, Contains}
 use Rattle.fx_num.specs.Word.{IsWord}
 use Rattle.hw_net.specs.declared.netlist.Frame.{Frame}
 use Rattle.hw_net.specs.declared.netlist.NetPort.{NetPort}
@@ -7,12 +8,19 @@ use Rattle.hw_net.specs.declared.netlist.NetLabel.{NetLabel}
 use Rattle.hw_net.specs.declared.netlist.NetOp.{NetOp}
 use Rattle.hw_net.specs.declared.netlist.NetOp.TheVariants.{Input}
 use Rattle.hw_net.specs.declared.netlist.NetKind.{NetKind}
-use Rattle.hw_net.specs.declared.netlist.NetKind.TheVariants.{Comb, Reg, EnReg, Bridge, Unit, Counter}
+use Rattle.hw_net.specs.declared.netlist.NetKind.TheVariants.{Comb, Reg, EnReg, Bridge, Unit}
+use Rattle.hw_net.specs.declared.netlist.NetKind.TheVariants.{Counter}
 use Rattle.hw_net.specs.Circuit.{Circuit}
 use Rattle.hw_net.specs.Operation.{arity}
 use Rattle.hw_net.specs.Frames.{frame_of, counter_of}
 use Rattle.vl_emit.specs.declared.source.Source.{Source}
-use Rattle.vl_emit.specs.Names.{net_at, port_at, net_name, name_by}
+use Rattle.vl_ast.specs.declared.expressions.Expr.{Expr}
+use Rattle.vl_ast.specs.declared.modules.ModItem.{ModItem}
+use Rattle.vl_emit.specs.Names.{Wire, net_at, port_at, net_name, name_by, net_wire, input_wire}
+use Rattle.vl_emit.specs.inner.Emitted.{naming_of, counter_wire, slot_test, live_test, declarers_at}
+use Rattle.vl_emit.specs.inner.Emitted.{drivers_at, units_at, others_at, first_declared}
+use Rattle.vl_emit.specs.inner.Emitted.{first_units, first_others, output_item}
+use Rattle.vl_emit.specs.inner.Operators.{expression_of}
 use Rattle.vl_emit.specs.inner.Spoken.{IsWithin}
 
 abbrev pub label_at : List NetLabel → ℕ → NetLabel
@@ -24,10 +32,12 @@ label_text labels None k = net_name k
 label_text labels (Some i) k = (label_at labels i).name
 
 -- for each net the place of its label, where the first labels were not looked at
-pub record IsIndexFrom (labels others : List NetLabel) (count : ℕ) (places : List (Option ℕ)) : Type 0 where
+pub record IsIndexFrom (labels others : List NetLabel) (count : ℕ)
+    (places : List (Option ℕ)) : Type 0 where
   pub size : length places ≡ count
   pub there : (k i : ℕ) → slice_index_or places k None ≡ Some i → i < length labels
-  pub names : (k : ℕ) → k < count → label_text labels (slice_index_or places k None) k ≡ name_by others k
+  pub names : (k : ℕ) → k < count → label_text labels (slice_index_or places k None) k
+      ≡ name_by others k
 
 abbrev pub IsIndex : List NetLabel → ℕ → List (Option ℕ) → Type 0
 IsIndex labels count places = IsIndexFrom labels labels count places
@@ -43,28 +53,108 @@ pub record IsTimed (netlist : Circuit) (frame : Frame) : Type 0 where
 abbrev pub IsReady : Circuit → NetKind → Type 0
 IsReady netlist (Comb op args) =
     (length args ≡ arity op) × ((j : ℕ) → j < length args → get_or args j 0 < length netlist.nets)
-    × IsWithin op (net_at netlist.nets (get_or args 0 0)).width × ((input : ℕ) → op ≡ Input input → input < length netlist.inputs)
+    × IsWithin op (net_at netlist.nets (get_or args 0 0)).width
+    × ((input : ℕ) → op ≡ Input input → input < length netlist.inputs)
 IsReady netlist (Reg frame slot first from) = IsTimed netlist frame × (from < length netlist.nets)
-IsReady netlist (EnReg frame enable reset first from) = IsTimed netlist frame × (from < length netlist.nets) × (enable < length netlist.nets)
+IsReady netlist (EnReg frame enable reset first from) =
+    IsTimed netlist frame × (from < length netlist.nets) × (enable < length netlist.nets)
 IsReady netlist (Bridge frame live from) = IsTimed netlist frame × (from < length netlist.nets)
 IsReady netlist (Unit left right) = (left < length netlist.nets) × (right < length netlist.nets)
 IsReady netlist (Counter frame) = 0 < frame.period
 
+-- the net of each label is there
+abbrev pub HaveNets : Circuit → Type 0
+HaveNets netlist =
+    (label : NetLabel) → Contains netlist.labels label → label.net < length netlist.nets
+
 pub record AreReady (netlist : Circuit) : Type 0 where
   pub cycles : 0 < netlist.cycles
-  pub words : (k : ℕ) → k < length netlist.nets → IsWord (net_at netlist.nets k).width (net_at netlist.nets k).signed
+  pub words : (k : ℕ) → k < length netlist.nets
+      → IsWord (net_at netlist.nets k).width (net_at netlist.nets k).signed
   pub kinds : (k : ℕ) → k < length netlist.nets → IsReady netlist (net_at netlist.nets k).kind
-  pub inputs : (i : ℕ) → i < length netlist.inputs → (port_at netlist.inputs i).net < length netlist.nets
-  pub outputs : (i : ℕ) → i < length netlist.outputs → (port_at netlist.outputs i).net < length netlist.nets
+  pub inputs : (i : ℕ) → i < length netlist.inputs
+      → (port_at netlist.inputs i).net < length netlist.nets
+  pub outputs : (i : ℕ) → i < length netlist.outputs
+      → (port_at netlist.outputs i).net < length netlist.nets
 
 abbrev pub circuit_of : Source → Circuit
 circuit_of source = source.netlist.now
 
 -- the labels of a source are those of its netlist, which is ready
 pub record IsSource (source : Source) : Type 0 where
-  pub labels : IsIndex (circuit_of source).labels (length (circuit_of source).nets) source.labels.now
+  pub labels : IsIndex (circuit_of source).labels
+      (length (circuit_of source).nets) source.labels.now
   pub ready : AreReady (circuit_of source)
+
+-- how many nets and inputs there are
+abbrev pub net_count : Source → ℕ
+net_count source = length (circuit_of source).nets
+
+abbrev pub input_count : Source → ℕ
+input_count source = length (circuit_of source).inputs
+
+abbrev pub kind_at : Source → ℕ → NetKind
+kind_at source k = (net_at (circuit_of source).nets k).kind
+
+-- a net and an input port by name
+abbrev pub wire_in : Source → ℕ → Wire
+wire_in source k = net_wire (circuit_of source) k
+
+abbrev pub input_in : Source → ℕ → Wire
+input_in source i = input_wire (circuit_of source) i
+
+abbrev pub counter_in : Source → Frame → Wire
+counter_in source frame = counter_wire (circuit_of source) frame
+
+abbrev pub cycles_in : Source → ℕ
+cycles_in source = (circuit_of source).cycles
+
+-- the value of an operation on others
+abbrev pub value_in : Source → ℕ → NetOp → List ℕ → Expr
+value_in source own op args =
+    expression_of op (input_in source) (λ j. wire_in source (get_or args j 0))
+    (net_at (circuit_of source).nets own).width
+
+-- an argument by its place
+abbrev pub argument_in : Source → List ℕ → ℕ → Wire
+argument_in source args place = wire_in source (get_or args place 0)
+
+abbrev pub slot_in : Source → Frame → ℕ → Expr
+slot_in source frame slot = slot_test (cycles_in source) frame (counter_in source frame) slot
+
+abbrev pub live_in : Source → Frame → ℕ → Expr
+live_in source frame live = live_test (cycles_in source) frame (counter_in source frame) live
+
+-- the item is the one driver of a net of this kind
+abbrev pub IsDriver : Source → ℕ → NetKind → ModItem → Type 0
+IsDriver source own kind item = item ∷ [] ≡ drivers_at (circuit_of source) own kind
+
+abbrev pub bridge_in : Source → ℕ → Frame → ℕ → ℕ → List ModItem
+bridge_in source own frame live from = drivers_at (circuit_of source) own (Bridge frame live from)
+
+abbrev pub declarers_in : Source → ℕ → List ModItem
+declarers_in source own = declarers_at (circuit_of source) own (kind_at source own)
+
+abbrev pub units_in : Source → ℕ → List ModItem
+units_in source own = units_at (circuit_of source) own (kind_at source own)
+
+abbrev pub others_in : Source → ℕ → List ModItem
+others_in source own = others_at (circuit_of source) own (kind_at source own)
+
+-- those of all nets, and of the output ports
+abbrev pub all_declared : Source → List ModItem
+all_declared source = first_declared (circuit_of source) (net_count source)
+
+abbrev pub all_units : Source → List ModItem
+all_units source = first_units (circuit_of source) (net_count source)
+
+abbrev pub all_others : Source → List ModItem
+all_others source = first_others (circuit_of source) (net_count source)
+
+abbrev pub all_shown : Source → List ModItem
+all_shown source = map (output_item (naming_of (circuit_of source))) (circuit_of source).outputs
 
 -- the frame that a register of this kind names has a Counter
 abbrev pub IsCounted : Circuit → NetKind → Type 0
-IsCounted netlist kind = (frame : Frame) → frame_of kind ≡ Some frame → IsSome (counter_of netlist.nets frame)
+IsCounted netlist kind =
+    (frame : Frame) → frame_of kind ≡ Some frame → IsSome (counter_of netlist.nets frame)

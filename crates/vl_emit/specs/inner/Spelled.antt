@@ -1,9 +1,10 @@
--- How a piece of a net is written as an expression, at the width at which it is used. A select is of a
--- net of at least two bits.
+-- How a piece of a net is written as an expression, at the width at which it is used. A select is
+-- of a net of at least two bits.
 use Rattle.std.specs.Prelude.{ℕ, ◌+◌, ◌-◌, ◌==◌, nat_le, Bool, false, if◌then◌else◌, List, [], ◌∷◌}
 use Rattle.vl_emit.specs.Names.{Wire}
 use Rattle.vl_ast.specs.declared.expressions.Expr.{Expr}
-use Rattle.vl_ast.specs.declared.expressions.Expr.TheVariants.{Name, Bit, Part, Literal, Concat, Repeat}
+use Rattle.vl_ast.specs.declared.expressions.Expr.TheVariants.{Name, Bit, Part, Literal, Concat}
+use Rattle.vl_ast.specs.declared.expressions.Expr.TheVariants.{Repeat}
 
 abbrev pub zeros : ℕ → Expr
 zeros width = Literal (record { width = width; signed = false; bits = 0 })
@@ -15,7 +16,8 @@ fill wire count =
 
 -- so many bits of a net, from a place up
 abbrev pub inside : Wire → ℕ → ℕ → Expr
-inside wire low width = if width == wire.width then Name wire.name else Part wire.name (low + width - 1) low
+inside wire low width =
+    if width == wire.width then Name wire.name else Part wire.name (low + width - 1) low
 
 -- the same where the bits may go past the net
 abbrev pub piece : Wire → ℕ → ℕ → Expr

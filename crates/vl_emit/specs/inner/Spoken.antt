@@ -1,12 +1,21 @@
 -- What the code's operands stand for.
 use Rattle.std.specs.Prelude.{ℕ, zero, suc, ◌≤◌, ◌<◌, List}
 use Rattle.fx_num.specs.Word.{IsWord}
+use Rattle.vl_ast.specs.declared.expressions.BinOp.{BinOp}
+use Rattle.vl_ast.specs.declared.expressions.Expr.{Expr}
+use Rattle.vl_ast.specs.declared.expressions.Expr.TheVariants.{Binary}
+use Rattle.vl_ast.specs.declared.expressions.Expr.TheVariants as expression
 use Rattle.hw_net.specs.declared.netlist.NetOp.{NetOp}
-use Rattle.hw_net.specs.declared.netlist.NetOp.TheVariants.{Input, Const, Resize, ShiftUp, ShiftDown, Add, Subtract, Negate, Multiply, And, Or, Xor, Not, Less, Equal, Choose, Slice}
+use Rattle.hw_net.specs.declared.netlist.NetOp.TheVariants.{Input, Const, Resize, ShiftUp}
+use Rattle.hw_net.specs.declared.netlist.NetOp.TheVariants.{ShiftDown, Add, Subtract, Negate}
+use Rattle.hw_net.specs.declared.netlist.NetOp.TheVariants.{Multiply, And, Or, Xor, Not, Less}
+use Rattle.hw_net.specs.declared.netlist.NetOp.TheVariants.{Equal, Choose, Slice}
 use Rattle.vl_emit.specs.declared.operands.Called.{Called}
 use Rattle.vl_emit.specs.declared.operands.Called.TheVariants.{Number, Named}
 use Rattle.vl_emit.specs.declared.operands.Operand.{Operand}
 use Rattle.vl_emit.specs.Names.{net_name}
+use Rattle.vl_emit.specs.inner.Operators.{expression_of, test_of}
+use Rattle.vl_emit.specs.inner.Spelled.{at_width}
 use Rattle.vl_emit.specs.Names.{Wire}
 
 -- the name that is meant
@@ -15,7 +24,8 @@ called_text (Number number) = net_name number
 called_text (Named name) = name.now
 
 abbrev pub wire_at : Operand → Wire
-wire_at operand = record { name = called_text operand.called; width = operand.width; signed = operand.signed }
+wire_at operand =
+    record { name = called_text operand.called; width = operand.width; signed = operand.signed }
 
 -- three arguments by their numbers
 abbrev pub triple : Wire → Wire → Wire → ℕ → Wire
@@ -49,3 +59,23 @@ IsWithin Less width = Unit
 IsWithin Equal width = Unit
 IsWithin Choose width = Unit
 IsWithin (Slice high low) width = (low ≤ high) × (high < width)
+
+-- operators over operands that are written at a width
+abbrev pub both_at : BinOp → ℕ → Operand → Operand → Expr
+both_at op width left right =
+    Binary op (at_width width (wire_at left)) (at_width width (wire_at right))
+
+abbrev pub comparison_at : NetOp → ℕ → Operand → Operand → Expr
+comparison_at op width left right =
+    expression_of op (λ port. wire_at left) (triple (wire_at left) (wire_at right) (wire_at right))
+    width
+
+abbrev pub choice_at : ℕ → Operand → Operand → Operand → Expr
+choice_at width test chosen other =
+    expression.Choose (test_of (wire_at test)) (at_width width (wire_at chosen))
+    (at_width width (wire_at other))
+
+abbrev pub operation_at : NetOp → ℕ → Operand → Operand → Operand → Operand → Expr
+operation_at op width port first second third =
+    expression_of op (λ place. wire_at port) (triple (wire_at first) (wire_at second)
+    (wire_at third)) width

@@ -8,7 +8,8 @@ use Rattle.vl_ast.specs.Value.{bits_of}
 use Rattle.vl_emit.specs.Names.{Wire}
 
 -- the expression has this length, and in a context of this length, whatever its sign, the bits of z
-pub record IsWritten (nets : List ℕ → Net) (row : List ℕ → ℕ) (width : ℕ) (z : ℤ) (e : Expr) : Type 0 where
+pub record IsWritten (nets : List ℕ → Net) (row : List ℕ → ℕ) (width : ℕ) (z : ℤ)
+    (e : Expr) : Type 0 where
   pub length : own_length nets e ≡ width
   pub value : (signed : Bool) → value_in nets row width signed e ≡ bits_of width z
 
