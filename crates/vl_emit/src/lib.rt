@@ -14,5 +14,7 @@ mod items;
 mod operands;
 mod operators;
 mod source;
+#[cfg(test)]
+mod tests;
 
 pub use emission::emit;
