@@ -1,0 +1,44 @@
+-- Lists that loops make, one more at the end.
+use Rattle.std.proofs.Common.{◌≡◌, ◌<◌, ◌+◌, ⊎_elim, ℕ, zero, suc, Bool, true, false, if◌then◌else◌, List, [], ◌∷◌, ◌++◌, length, map, filter, slice_index, refl, sym, ap, subst, ◌∙◌, arith}
+use Rattle.std.proofs.lemmas.Bool.{cases_lt}
+use Rattle.std.proofs.lemmas.List.{append-nil, get_or_append_left, get_or_at, length-append, map-append}
+use Rattle.std.proofs.lemmas.List.Elements.{filter-append}
+use Rattle.vl_eval.specs.inner.Edges.{AreZeros}
+use Rattle.vl_eval.specs.inner.Planned.{AreNumbers}
+
+pub numbers-none : AreNumbers 0 []
+numbers-none = record { long = refl; at = λ k low. absurd (omega (arith, low)) }
+
+pub numbers-more : (n : ℕ) (xs : List ℕ) → AreNumbers n xs → AreNumbers (n + 1) (xs ++ n ∷ [])
+numbers-more n xs a = record {
+  long = (let l = length-append xs (n ∷ []) in let m = a.long in omega (arith, l, m));
+  at = λ k low. ⊎_elim
+      (λ old. let m = a.long in get_or_append_left xs (n ∷ []) 0 k (omega (arith, m, old)) ∙ a.at k old)
+      (λ new. let e : k ≡ n = omega (arith, low, new) in let m = a.long in ap (λ j. slice_index (xs ++ n ∷ []) j) (e ∙ sym m) ∙ get_or_at xs n [] 0 (length xs) refl ∙ sym e)
+      (cases_lt k n);
+}
+
+pub zeros-none : AreZeros 0 []
+zeros-none = record { long = refl; at = λ k. refl }
+
+zero-last : (xs : List ℕ) → ((k : ℕ) → slice_index xs k ≡ 0) → (k : ℕ) → slice_index (xs ++ 0 ∷ []) k ≡ 0
+zero-last [] all zero = refl
+zero-last [] all (suc k) = refl
+zero-last (x ∷ xs) all zero = all zero
+zero-last (x ∷ xs) all (suc k) = zero-last xs (λ j. all (suc j)) k
+
+pub zeros-more : (n : ℕ) (xs : List ℕ) → AreZeros n xs → AreZeros (n + 1) (xs ++ 0 ∷ [])
+zeros-more n xs a = record {
+  long = (let l = length-append xs (0 ∷ []) in let m = a.long in omega (arith, l, m));
+  at = zero-last xs a.at;
+}
+
+-- one more that passes a test, or one that doesn't
+pub kept-one : {X Y : Type 0} (f : X → Y) (test : X → Bool) (xs : List X) (x : X) → test x ≡ true → map f (filter test xs) ++ f x ∷ [] ≡ map f (filter test (xs ++ x ∷ []))
+kept-one f test xs x e =
+    sym (map-append f (filter test xs) (x ∷ [])) ∙ ap (λ ys. map f (filter test xs ++ ys)) (ap (λ t. if t then x ∷ [] else []) (sym e))
+    ∙ ap (map f) (sym (filter-append test xs (x ∷ [])))
+
+pub kept-none : {X Y : Type 0} (f : X → Y) (test : X → Bool) (xs : List X) (x : X) → test x ≡ false → map f (filter test xs) ≡ map f (filter test (xs ++ x ∷ []))
+kept-none f test xs x e =
+    ap (map f) (sym (append-nil (filter test xs)) ∙ ap (λ ys. filter test xs ++ ys) (ap (λ t. if t then x ∷ [] else []) (sym e)) ∙ sym (filter-append test xs (x ∷ [])))

@@ -1,0 +1,466 @@
+use Rattle.std.proofs.Common.{rules, ◌≡◌, ◌<◌, ◌≤◌, ◌+◌, ◌-◌, ◌*◌, ◌^◌, ◌∷◌, [], ◌++◌, ℕ, List, length, take, true, false, refl, sym, ap, subst, ◌∙◌, arith}
+use Rattle.vl_ast.specs.declared.expressions.Expr.{Expr}
+use Rattle.vl_ast.specs.Context.{own_length}
+use Rattle.vl_ast.specs.Nets.{names_read}
+use Rattle.vl_check.specs.declared.shapes.Shape.{Shape}
+use Rattle.vl_check.specs.Scope.{nets_in}
+use Rattle.vl_eval.specs.declared.ops.Op.{Op}
+use Rattle.vl_eval.specs.declared.site.Site.{Site}
+use Rattle.vl_eval.specs.inner.Shown.{Pushed}
+use Rattle.vl_eval.specs.inner.Site.{ArePlaced}
+use Rattle.vl_eval.proofs.Results.{if-ok}
+use Rattle.vl_eval.proofs.Operands.{few-of, sound-unary, names-unary, sound-as-signed, length-as-signed, names-as-signed, sound-as-unsigned, names-as-unsigned, sound-binary, names-binary, sound-shift, length-shift, names-shift, sound-choose, length-choose, names-choose, sound-repeat, names-repeat, sound-concat, names-concat}
+use Rattle.vl_eval.proofs.Rooms.{unary-room, left-context-room, right-context-room}
+use Rattle.std.proofs.lemmas.List.{take_all}
+use Rattle.vl_eval.proofs.Builds.{Copied, Joined, beside-grows, built-copies, built-no-parts, built-parts, copied-more, copied-one, copies-few, grows-more, grows-none, joined-more, lengths-more, one-copy, part-in, part-placed, part-size, part-sound, parts-few, parts-more, value-at, placed-left, placed-right, placed-later, built-unary, built-binary, built-as-signed, built-as-signed-plain, built-as-unsigned, built-shift, built-choice}
+use Rattle.vl_eval.proofs.building.+build.Given as given
+use Rattle.vl_eval.proofs.building.+build.Goals as goal
+
+placed : (site : Site) (ops : List Op) (names names' : List (List ℕ)) → names ≡ names' → ArePlaced site.base site.scope.now site.slots.now ops names → ArePlaced site.base site.scope.now site.slots.now ops names'
+placed site ops names names' e p = subst (λ ns. ArePlaced site.base site.scope.now site.slots.now ops ns) e p
+
+pub build_unary-unary_context-context-requires : goal.build_unary-unary_context-context-requires
+build_unary-unary_context-context-requires t c = sound-unary (nets_in c.args.site.now.scope.now) c.args.op c.args.part.now c.requires.sound
+
+pub build_unary-build-requires : goal.build_unary-build-requires
+build_unary-build-requires t c =
+    let site = c.args.site.now in
+    let nets = nets_in site.scope.now in
+    let scope = site.scope.now in
+    let slots = site.slots.now in
+    let room = unary-room nets c.args.op c.args.part.now c.args.width c.args.signed c.requires.sound c.requires.longer c.requires.most in
+    let context = c.unary_context-context.ensures in (
+      omega arith,
+      (
+        sound-unary nets c.args.op c.args.part.now c.requires.sound,
+        (
+          subst (λ (s : Shape). own_length nets c.args.part.now ≤ s.length) (sym context) room.0,
+          (
+            subst (λ (s : Shape). s.length ≤ 128) (sym context) room.1,
+            placed site c.args.ops.now.items _ _ (names-unary nets c.args.op c.args.part.now) c.requires.placed,
+          ),
+        ),
+      ),
+    )
+
+pub build_unary-returns : goal.build_unary-returns
+build_unary-returns t c =
+    let site = c.args.site.now in
+    let nets = nets_in site.scope.now in
+    let scope = site.scope.now in
+    let slots = site.slots.now in
+    if-ok c.push.result (λ slot p. built-unary c.meaning_by_layer.ensures.value site.base site.scope.now site.slots.now c.args.op c.args.part.now c.args.ops.now.items c.build.new.ops.items c.push.new.ops.items c.in_ok-slot.slot slot c.args.width c.mask_of.result c.args.signed c.unary_context-context.result
+    c.requires.sound c.requires.longer c.requires.most c.mask_of.ensures c.unary_context-context.ensures c.in_ok-slot.ensures
+    (subst (λ o. Pushed site.base c.build.new.ops.items c.push.new.ops.items slot o) c.unary_op.ensures p)) c.push.ensures
+
+pub build_as_signed-shape_of-context-requires : goal.build_as_signed-shape_of-context-requires
+build_as_signed-shape_of-context-requires t c = sound-as-signed (nets_in c.args.site.now.scope.now) c.args.part.now c.requires.sound
+
+pub build_as_signed-build-requires : goal.build_as_signed-build-requires
+build_as_signed-build-requires t c =
+    let site = c.args.site.now in
+    let nets = nets_in site.scope.now in
+    let scope = site.scope.now in
+    let slots = site.slots.now in (
+      omega arith,
+      (
+        sound-as-signed nets c.args.part.now c.requires.sound,
+        (
+          omega (arith, c.shape_of-context.ensures.length),
+          (
+            c.shape_of-context.ensures.few,
+            placed site c.args.ops.now.items _ _ (names-as-signed nets c.args.part.now) c.requires.placed,
+          ),
+        ),
+      ),
+    )
+
+pub build_as_signed-returns-then-not-signed : goal.build_as_signed-returns-then-not-signed
+build_as_signed-returns-then-not-signed t c =
+    let site = c.args.site.now in
+    let nets = nets_in site.scope.now in
+    let scope = site.scope.now in
+    let slots = site.slots.now in
+    built-as-signed-plain c.meaning_by_layer.ensures.value site.base site.scope.now site.slots.now c.args.part.now c.args.ops.now.items c.build.new.ops.items c.in_ok-slot.slot c.args.width c.args.signed c.shape_of-context.result c.shape_of-context.ensures.length c.shape_of-context.ensures.sign c.if-not-signed.true c.in_ok-slot.ensures
+
+pub build_as_signed-returns : goal.build_as_signed-returns
+build_as_signed-returns t c =
+    let site = c.args.site.now in
+    let nets = nets_in site.scope.now in
+    let scope = site.scope.now in
+    let slots = site.slots.now in
+    if-ok c.extend.result (λ slot x. built-as-signed c.meaning_by_layer.ensures.value site.base site.scope.now site.slots.now c.args.part.now c.args.ops.now.items c.build.new.ops.items c.extend.new.ops.items c.in_ok-slot.slot slot c.args.width c.args.signed c.shape_of-context.result
+    c.requires.sound c.requires.longer c.requires.most c.shape_of-context.ensures.length c.shape_of-context.ensures.sign c.if-not-signed.false c.in_ok-slot.ensures x) c.extend.ensures
+
+pub build_as_unsigned-shape_of-context-requires : goal.build_as_unsigned-shape_of-context-requires
+build_as_unsigned-shape_of-context-requires t c = sound-as-unsigned (nets_in c.args.site.now.scope.now) c.args.part.now c.requires.sound
+
+pub build_as_unsigned-build-requires : goal.build_as_unsigned-build-requires
+build_as_unsigned-build-requires t c =
+    let site = c.args.site.now in
+    let nets = nets_in site.scope.now in
+    let scope = site.scope.now in
+    let slots = site.slots.now in (
+      omega arith,
+      (
+        sound-as-unsigned nets c.args.part.now c.requires.sound,
+        (
+          omega (arith, c.shape_of-context.ensures.length),
+          (
+            c.shape_of-context.ensures.few,
+            placed site c.args.ops.now.items _ _ (names-as-unsigned nets c.args.part.now) c.requires.placed,
+          ),
+        ),
+      ),
+    )
+
+pub build_as_unsigned-returns : goal.build_as_unsigned-returns
+build_as_unsigned-returns t c =
+    let site = c.args.site.now in
+    let nets = nets_in site.scope.now in
+    let scope = site.scope.now in
+    let slots = site.slots.now in
+    if-ok c.build.result (λ slot b. built-as-unsigned c.meaning_by_layer.ensures.value site.base site.scope.now site.slots.now c.args.part.now c.args.ops.now.items c.build.new.ops.items slot c.args.width c.args.signed c.shape_of-context.result c.shape_of-context.ensures.length c.shape_of-context.ensures.sign b) c.build.ensures
+
+pub build_binary-left_context-on_left-requires-clause-left : goal.build_binary-left_context-on_left-requires-clause-left
+build_binary-left_context-on_left-requires-clause-left t c = (sound-binary (nets_in c.args.site.now.scope.now) c.args.op c.args.left.now c.args.right.now c.requires.sound).0
+
+pub build_binary-left_context-on_left-requires-clause-right : goal.build_binary-left_context-on_left-requires-clause-right
+build_binary-left_context-on_left-requires-clause-right t c = (sound-binary (nets_in c.args.site.now.scope.now) c.args.op c.args.left.now c.args.right.now c.requires.sound).1
+
+pub build_binary-left_context-on_right-requires-clause-left : goal.build_binary-left_context-on_right-requires-clause-left
+build_binary-left_context-on_right-requires-clause-left t c = (sound-binary (nets_in c.args.site.now.scope.now) c.args.op c.args.left.now c.args.right.now c.requires.sound).1
+
+pub build_binary-left_context-on_right-requires-clause-right : goal.build_binary-left_context-on_right-requires-clause-right
+build_binary-left_context-on_right-requires-clause-right t c = (sound-binary (nets_in c.args.site.now.scope.now) c.args.op c.args.left.now c.args.right.now c.requires.sound).0
+
+pub build_binary-build-requires : goal.build_binary-build-requires
+build_binary-build-requires t c =
+    let site = c.args.site.now in
+    let nets = nets_in site.scope.now in
+    let scope = site.scope.now in
+    let slots = site.slots.now in
+    let room = left-context-room nets c.args.op c.args.left.now c.args.right.now c.args.width c.args.signed c.requires.sound c.requires.longer c.requires.most in
+    let context = c.left_context-on_left.ensures in
+    let all = placed site c.args.ops.now.items _ _ (names-binary nets c.args.op c.args.left.now c.args.right.now) c.requires.placed in (
+      omega arith,
+      (
+        (sound-binary nets c.args.op c.args.left.now c.args.right.now c.requires.sound).0,
+        (
+          subst (λ (s : Shape). own_length nets c.args.left.now ≤ s.length) (sym context) room.0,
+          (
+            subst (λ (s : Shape). s.length ≤ 128) (sym context) room.1,
+            placed-left c.meaning_by_layer.ensures.value site.base site.scope.now site.slots.now c.args.ops.now.items (names_read c.args.left.now) (names_read c.args.right.now) all,
+          ),
+        ),
+      ),
+    )
+
+pub build_binary-build-requires-2 : goal.build_binary-build-requires-2
+build_binary-build-requires-2 t c =
+    let site = c.args.site.now in
+    let nets = nets_in site.scope.now in
+    let scope = site.scope.now in
+    let slots = site.slots.now in
+    let room = right-context-room nets c.args.op c.args.left.now c.args.right.now c.args.width c.args.signed c.requires.sound c.requires.longer c.requires.most in
+    let context = c.left_context-on_right.ensures in
+    let all = placed site c.args.ops.now.items _ _ (names-binary nets c.args.op c.args.left.now c.args.right.now) c.requires.placed in
+    let right = placed-right c.meaning_by_layer.ensures.value site.base site.scope.now site.slots.now c.args.ops.now.items (names_read c.args.left.now) (names_read c.args.right.now) all in (
+      omega arith,
+      (
+        (sound-binary nets c.args.op c.args.left.now c.args.right.now c.requires.sound).1,
+        (
+          subst (λ (s : Shape). own_length nets c.args.right.now ≤ s.length) (sym context) room.0,
+          (
+            subst (λ (s : Shape). s.length ≤ 128) (sym context) room.1,
+            placed-later c.meaning_by_layer.ensures.value site.base site.scope.now site.slots.now c.args.ops.now.items c.build.new.ops.items (names_read c.args.right.now) c.in_ok-first.ensures.grows right,
+          ),
+        ),
+      ),
+    )
+
+pub build_binary-half_in-requires : goal.build_binary-half_in-requires
+build_binary-half_in-requires t c =
+    let site = c.args.site.now in
+    let nets = nets_in site.scope.now in
+    let scope = site.scope.now in
+    let slots = site.slots.now in
+    let room = left-context-room nets c.args.op c.args.left.now c.args.right.now c.args.width c.args.signed c.requires.sound c.requires.longer c.requires.most in
+    subst (λ (s : Shape). s.length ≤ 128) (sym c.left_context-on_left.ensures) room.1
+
+pub build_binary-returns : goal.build_binary-returns
+build_binary-returns t c =
+    let site = c.args.site.now in
+    let nets = nets_in site.scope.now in
+    let scope = site.scope.now in
+    let slots = site.slots.now in
+    if-ok c.push.result (λ slot p. built-binary c.meaning_by_layer.ensures.value site.base site.scope.now site.slots.now c.args.op c.args.left.now c.args.right.now c.args.ops.now.items c.build.new.ops.items c.build-2.new.ops.items c.push.new.ops.items c.in_ok-first.first c.in_ok-second.second slot c.args.width c.mask_of.result c.half_in.result c.args.signed
+    c.left_context-on_left.result c.left_context-on_right.result c.requires.sound c.requires.longer c.requires.most c.mask_of.ensures c.left_context-on_left.ensures c.left_context-on_right.ensures c.half_in.ensures c.in_ok-first.ensures c.in_ok-second.ensures
+    (subst (λ o. Pushed site.base c.build-2.new.ops.items c.push.new.ops.items slot o) c.binary_op.ensures p)) c.push.ensures
+
+pub build_choice-shape_of-context-requires : goal.build_choice-shape_of-context-requires
+build_choice-shape_of-context-requires t c = (sound-choose (nets_in c.args.site.now.scope.now) c.args.test.now c.args.chosen.now c.args.other.now c.requires.sound).0
+
+pub build_choice-build-requires : goal.build_choice-build-requires
+build_choice-build-requires t c =
+    let site = c.args.site.now in
+    let nets = nets_in site.scope.now in
+    let scope = site.scope.now in
+    let slots = site.slots.now in
+    let all = placed site c.args.ops.now.items _ _ (names-choose nets c.args.test.now c.args.chosen.now c.args.other.now) c.requires.placed in (
+      omega arith,
+      (
+        (sound-choose nets c.args.test.now c.args.chosen.now c.args.other.now c.requires.sound).0,
+        (
+          omega (arith, c.shape_of-context.ensures.length),
+          (
+            c.shape_of-context.ensures.few,
+            placed-left c.meaning_by_layer.ensures.value site.base site.scope.now site.slots.now c.args.ops.now.items (names_read c.args.test.now) (names_read c.args.chosen.now ++ names_read c.args.other.now) all,
+          ),
+        ),
+      ),
+    )
+
+pub build_choice-build-requires-2 : goal.build_choice-build-requires-2
+build_choice-build-requires-2 t c =
+    let site = c.args.site.now in
+    let nets = nets_in site.scope.now in
+    let scope = site.scope.now in
+    let slots = site.slots.now in
+    let all = placed site c.args.ops.now.items _ _ (names-choose nets c.args.test.now c.args.chosen.now c.args.other.now) c.requires.placed in
+    let rest = placed-right c.meaning_by_layer.ensures.value site.base site.scope.now site.slots.now c.args.ops.now.items (names_read c.args.test.now) (names_read c.args.chosen.now ++ names_read c.args.other.now) all in
+    let mine = placed-left c.meaning_by_layer.ensures.value site.base site.scope.now site.slots.now c.args.ops.now.items (names_read c.args.chosen.now) (names_read c.args.other.now) rest in
+    let l = length-choose nets c.args.test.now c.args.chosen.now c.args.other.now in (
+      omega arith,
+      (
+        (sound-choose nets c.args.test.now c.args.chosen.now c.args.other.now c.requires.sound).1,
+        (
+          omega (arith, l, c.requires.longer),
+          (
+            c.requires.most,
+            placed-later c.meaning_by_layer.ensures.value site.base site.scope.now site.slots.now c.args.ops.now.items c.build.new.ops.items (names_read c.args.chosen.now) c.in_ok-tested.ensures.grows mine,
+          ),
+        ),
+      ),
+    )
+
+pub build_choice-build-requires-3 : goal.build_choice-build-requires-3
+build_choice-build-requires-3 t c =
+    let site = c.args.site.now in
+    let nets = nets_in site.scope.now in
+    let scope = site.scope.now in
+    let slots = site.slots.now in
+    let all = placed site c.args.ops.now.items _ _ (names-choose nets c.args.test.now c.args.chosen.now c.args.other.now) c.requires.placed in
+    let rest = placed-right c.meaning_by_layer.ensures.value site.base site.scope.now site.slots.now c.args.ops.now.items (names_read c.args.test.now) (names_read c.args.chosen.now ++ names_read c.args.other.now) all in
+    let mine = placed-right c.meaning_by_layer.ensures.value site.base site.scope.now site.slots.now c.args.ops.now.items (names_read c.args.chosen.now) (names_read c.args.other.now) rest in
+    let l = length-choose nets c.args.test.now c.args.chosen.now c.args.other.now in (
+      omega arith,
+      (
+        (sound-choose nets c.args.test.now c.args.chosen.now c.args.other.now c.requires.sound).2,
+        (
+          omega (arith, l, c.requires.longer),
+          (
+            c.requires.most,
+            placed-later c.meaning_by_layer.ensures.value site.base site.scope.now site.slots.now c.build.new.ops.items c.build-2.new.ops.items (names_read c.args.other.now) c.in_ok-first.ensures.grows
+                (placed-later c.meaning_by_layer.ensures.value site.base site.scope.now site.slots.now c.args.ops.now.items c.build.new.ops.items (names_read c.args.other.now) c.in_ok-tested.ensures.grows mine),
+          ),
+        ),
+      ),
+    )
+
+pub build_choice-returns : goal.build_choice-returns
+build_choice-returns t c =
+    let site = c.args.site.now in
+    let nets = nets_in site.scope.now in
+    let scope = site.scope.now in
+    let slots = site.slots.now in
+    if-ok c.push.result (λ slot p. built-choice c.meaning_by_layer.ensures.value site.base site.scope.now site.slots.now c.args.test.now c.args.chosen.now c.args.other.now c.args.ops.now.items c.build.new.ops.items c.build-2.new.ops.items c.build-3.new.ops.items c.push.new.ops.items c.in_ok-tested.tested c.in_ok-first.first c.in_ok-second.second slot c.args.width c.args.signed c.shape_of-context.result
+    c.shape_of-context.ensures.length c.shape_of-context.ensures.sign c.in_ok-tested.ensures c.in_ok-first.ensures c.in_ok-second.ensures p) c.push.ensures
+
+pub build_shift-build-requires : goal.build_shift-build-requires
+build_shift-build-requires t c =
+    let site = c.args.site.now in
+    let nets = nets_in site.scope.now in
+    let scope = site.scope.now in
+    let slots = site.slots.now in
+    let l = length-shift nets c.args.op c.args.part.now c.args.amount.now in (
+      omega arith,
+      (
+        (sound-shift nets c.args.op c.args.part.now c.args.amount.now c.requires.sound).0,
+        (
+          omega (arith, l, c.requires.longer),
+          (
+            c.requires.most,
+            placed site c.args.ops.now.items _ _ (names-shift nets c.args.op c.args.part.now c.args.amount.now) c.requires.placed,
+          ),
+        ),
+      ),
+    )
+
+pub build_shift-returns : goal.build_shift-returns
+build_shift-returns t c =
+    let site = c.args.site.now in
+    let nets = nets_in site.scope.now in
+    let scope = site.scope.now in
+    let slots = site.slots.now in
+    if-ok c.push.result (λ slot p. built-shift c.meaning_by_layer.ensures.value site.base site.scope.now site.slots.now c.args.op c.args.part.now c.args.amount.now c.args.ops.now.items c.build.new.ops.items c.push.new.ops.items c.in_ok-slot.slot slot c.args.width c.args.signed
+    c.requires.sound c.requires.longer c.requires.most c.in_ok-slot.ensures (subst (λ o. Pushed site.base c.build.new.ops.items c.push.new.ops.items slot o) c.shift_op.ensures p)) c.push.ensures
+
+pub build_copies-shape_of-context-requires : goal.build_copies-shape_of-context-requires
+build_copies-shape_of-context-requires t c = (sound-repeat (nets_in c.args.site.now.scope.now) c.args.count c.args.part.now c.requires.sound).1
+
+pub build_copies-build-requires : goal.build_copies-build-requires
+build_copies-build-requires t c =
+    let site = c.args.site.now in
+    let nets = nets_in site.scope.now in
+    let ok = sound-repeat nets c.args.count c.args.part.now c.requires.sound in (
+      omega arith,
+      (
+        ok.1,
+        (
+          omega (arith, c.shape_of-context.ensures.length),
+          (
+            c.shape_of-context.ensures.few,
+            placed site c.args.ops.now.items _ _ (names-repeat nets c.args.count c.args.part.now) c.requires.placed,
+          ),
+        ),
+      ),
+    )
+
+pub build_copies-loop-copy-init : goal.build_copies-loop-copy-init
+build_copies-loop-copy-init t c =
+    let site = c.args.site.now in
+    let ok = sound-repeat (nets_in site.scope.now) c.args.count c.args.part.now c.requires.sound in
+    record {
+      later = grows-none site.base c.build.new.ops.items;
+      copied = λ b. copied-one b site.base site.scope.now site.slots.now c.args.ops.now.items c.build.new.ops.items c.in_ok-slot.slot c.args.part.now c.shape_of-context.result ok.1
+          c.shape_of-context.ensures.length c.shape_of-context.ensures.sign c.in_ok-slot.ensures;
+    }
+
+pub build_copies-overflow_add-length : goal.build_copies-overflow_add-length
+build_copies-overflow_add-length t c =
+    let site = c.args.site.now in
+    let by_layer = c.meaning_by_layer.ensures.value in
+    let nets = nets_in site.scope.now in
+    let own = own_length nets c.args.part.now in
+    let ok = sound-repeat nets c.args.count c.args.part.now c.requires.sound in
+    let few = copies-few by_layer site.base site.scope.now site.slots.now c.loop-copy._copy c.args.count own c.loop-copy-test.true ok.2 in
+    let more = one-copy by_layer site.base site.scope.now site.slots.now c.loop-copy._copy own in
+    let now = (c.loop-copy.invariant.copied by_layer).long in
+    omega (arith, few, more, now, c.shape_of-context.ensures.length)
+
+pub build_copies-loop-copy-preserved : goal.build_copies-loop-copy-preserved
+build_copies-loop-copy-preserved t c =
+    let site = c.args.site.now in
+    let by_layer = c.meaning_by_layer.ensures.value in
+    let nets = nets_in site.scope.now in
+    let own = own_length nets c.args.part.now in
+    let ok = sound-repeat nets c.args.count c.args.part.now c.requires.sound in
+    let few = copies-few by_layer site.base site.scope.now site.slots.now c.loop-copy._copy c.args.count own c.loop-copy-test.true ok.2 in
+    let more = one-copy by_layer site.base site.scope.now site.slots.now c.loop-copy._copy own in
+    let copied = c.loop-copy.invariant.copied by_layer in
+    let now = copied.long in
+    let value = value-at by_layer site.base site.scope.now site.slots.now c.args.ops.now.items c.build.new.ops.items c.loop-copy.ops.items c.in_ok-slot.slot c.args.part.now c.shape_of-context.result ok.1
+    c.shape_of-context.ensures.length c.shape_of-context.ensures.sign c.in_ok-slot.ensures c.loop-copy.invariant.later in
+    record {
+      later = grows-more site.base c.build.new.ops.items c.loop-copy.ops.items c.beside.new.ops.items c.loop-copy.invariant.later
+          (beside-grows by_layer site.base site.scope.now site.slots.now c.loop-copy.ops.items c.beside.new.ops.items c.loop-copy.joined c.in_ok-joined.joined c.in_ok-slot.slot c.loop-copy.length c.shape_of-context.result.length
+          copied.shows.below value.here.below (omega (arith, few, more, now, c.shape_of-context.ensures.length)) c.in_ok-joined.ensures);
+      copied = λ b. copied-more b site.base site.scope.now site.slots.now c.args.ops.now.items c.loop-copy.ops.items c.beside.new.ops.items c.loop-copy.joined c.in_ok-joined.joined c.in_ok-slot.slot c.loop-copy.length c.loop-copy._copy
+          c.args.part.now c.shape_of-context.result ok.1 few c.shape_of-context.ensures.length
+          (value-at b site.base site.scope.now site.slots.now c.args.ops.now.items c.build.new.ops.items c.loop-copy.ops.items c.in_ok-slot.slot c.args.part.now c.shape_of-context.result ok.1
+          c.shape_of-context.ensures.length c.shape_of-context.ensures.sign c.in_ok-slot.ensures c.loop-copy.invariant.later)
+          (c.loop-copy.invariant.copied b) c.in_ok-joined.ensures;
+    }
+
+pub build_copies-returns : goal.build_copies-returns
+build_copies-returns t c =
+    let site = c.args.site.now in
+    let by_layer = c.meaning_by_layer.ensures.value in
+    let ok = sound-repeat (nets_in site.scope.now) c.args.count c.args.part.now c.requires.sound in
+    let all : c.loop-copy._copy ≡ c.args.count = omega (arith, ok.0) in
+    built-copies by_layer site.base site.scope.now site.slots.now c.args.count c.args.part.now c.args.ops.now.items c.loop-copy.ops.items c.loop-copy.joined c.loop-copy.length c.args.width c.args.signed
+    (subst (λ n. Copied by_layer site.base site.scope.now site.slots.now c.args.ops.now.items c.loop-copy.ops.items c.loop-copy.joined c.loop-copy.length n c.args.part.now) all (c.loop-copy.invariant.copied by_layer))
+
+pub build_parts-shape_of-context-requires-in-loop-part : goal.build_parts-shape_of-context-requires-in-loop-part
+build_parts-shape_of-context-requires-in-loop-part t c =
+    let site = c.args.site.now in
+    let nets = nets_in site.scope.now in
+    part-sound c.meaning_by_layer.ensures.value site.base site.scope.now site.slots.now c.args.parts.now c.loop-part.part-index c.part-item.result (sound-concat nets c.args.parts.now c.requires.sound).0 c.loop-part-test.true c.part-item.is
+
+pub build_parts-build-requires : goal.build_parts-build-requires
+build_parts-build-requires t c =
+    let site = c.args.site.now in
+    let by_layer = c.meaning_by_layer.ensures.value in
+    let nets = nets_in site.scope.now in
+    let parts = c.args.parts.now in
+    let part = c.part-item.result in
+    let there = part-in by_layer site.base site.scope.now site.slots.now parts c.loop-part.part-index part c.loop-part-test.true c.part-item.is in
+    let all = placed site c.args.ops.now.items _ _ (names-concat nets parts) c.requires.placed in
+    let sizes : List Expr → ℕ = (λ (ps : List Expr). given.size-build_parts (record {
+      the-lifetimes = ([], ([], ([], ([], ([], tt)))));
+      ops = c.args.ops;
+      site = c.args.site;
+      parts = record { ref_ptr = c.args.parts.ref_ptr; now = ps };
+      width = c.args.width;
+      signed = c.args.signed;
+    })) in (
+      (let less = part-size sizes (λ x xs. refl) parts c.loop-part.part-index part c.loop-part-test.true c.part-item.is in omega (arith, less)),
+      (
+        part-sound by_layer site.base site.scope.now site.slots.now parts c.loop-part.part-index part (sound-concat nets parts c.requires.sound).0 c.loop-part-test.true c.part-item.is,
+        (
+          omega (arith, c.shape_of-context.ensures.length),
+          (
+            c.shape_of-context.ensures.few,
+            placed-later by_layer site.base site.scope.now site.slots.now c.args.ops.now.items c.loop-part.ops.items (names_read part) (c.loop-part.invariant by_layer).grows
+                (part-placed by_layer site.base site.scope.now site.slots.now c.args.ops.now.items parts part there all),
+          ),
+        ),
+      ),
+    )
+
+pub build_parts-overflow_add-length : goal.build_parts-overflow_add-length
+build_parts-overflow_add-length t c =
+    let site = c.args.site.now in
+    let by_layer = c.meaning_by_layer.ensures.value in
+    let nets = nets_in site.scope.now in
+    let parts = c.args.parts.now in
+    let few = parts-few by_layer site.base site.scope.now site.slots.now parts c.loop-part.part-index c.part-item.result (sound-concat nets parts c.requires.sound).1 c.loop-part-test.true c.part-item.is in
+    let more = lengths-more by_layer site.base site.scope.now site.slots.now (take c.loop-part.part-index parts) c.part-item.result in
+    let now = (c.loop-part.invariant by_layer).long in
+    omega (arith, few, more, now, c.shape_of-context.ensures.length)
+
+pub build_parts-loop-part-preserved : goal.build_parts-loop-part-preserved
+build_parts-loop-part-preserved t c = λ b.
+    let site = c.args.site.now in
+    let nets = nets_in site.scope.now in
+    let parts = c.args.parts.now in
+    let part = c.part-item.result in
+    let i = c.loop-part.part-index in
+    let ok = sound-concat nets parts c.requires.sound in
+    let there = part-in b site.base site.scope.now site.slots.now parts i part c.loop-part-test.true c.part-item.is in
+    subst (λ done. Joined b site.base site.scope.now site.slots.now c.args.ops.now.items c.beside.new.ops.items c.in_ok-joined.joined (c.loop-part.length + c.shape_of-context.result.length) done parts)
+    (sym (parts-more b site.base site.scope.now site.slots.now parts i part c.loop-part-test.true c.part-item.is))
+    (joined-more b site.base site.scope.now site.slots.now c.args.ops.now.items c.loop-part.ops.items c.build.new.ops.items c.beside.new.ops.items c.loop-part.joined c.in_ok-joined.joined c.in_ok-slot.slot c.loop-part.length
+    (take i parts) parts part c.shape_of-context.result there (part-sound b site.base site.scope.now site.slots.now parts i part ok.0 c.loop-part-test.true c.part-item.is)
+    (parts-few b site.base site.scope.now site.slots.now parts i part ok.1 c.loop-part-test.true c.part-item.is)
+    c.shape_of-context.ensures.length c.shape_of-context.ensures.sign (c.loop-part.invariant b) c.in_ok-slot.ensures c.in_ok-joined.ensures)
+
+pub build_parts-returns-then-length-eq0 : goal.build_parts-returns-then-length-eq0
+build_parts-returns-then-length-eq0 t c =
+    let site = c.args.site.now in
+    let by_layer = c.meaning_by_layer.ensures.value in
+    let parts = c.args.parts.now in
+    let all = take_all c.loop-part.part-index parts (omega (arith, c.loop-part-test.false)) in
+    let joined = subst (λ done. Joined by_layer site.base site.scope.now site.slots.now c.args.ops.now.items c.loop-part.ops.items c.loop-part.joined c.loop-part.length done parts) all (c.loop-part.invariant by_layer) in
+    if-ok c.push.result (λ slot p. built-no-parts by_layer site.base site.scope.now site.slots.now parts c.args.ops.now.items c.loop-part.ops.items c.push.new.ops.items slot c.loop-part.joined c.loop-part.length c.args.width c.args.signed
+    joined c.if-length-eq0.true p) c.push.ensures
+
+pub build_parts-returns : goal.build_parts-returns
+build_parts-returns t c =
+    let site = c.args.site.now in
+    let by_layer = c.meaning_by_layer.ensures.value in
+    let parts = c.args.parts.now in
+    let all = take_all c.loop-part.part-index parts (omega (arith, c.loop-part-test.false)) in
+    let joined = subst (λ done. Joined by_layer site.base site.scope.now site.slots.now c.args.ops.now.items c.loop-part.ops.items c.loop-part.joined c.loop-part.length done parts) all (c.loop-part.invariant by_layer) in
+    built-parts by_layer site.base site.scope.now site.slots.now parts c.args.ops.now.items c.loop-part.ops.items c.loop-part.joined c.loop-part.length c.args.width c.args.signed joined (omega (arith, c.if-length-eq0.false))

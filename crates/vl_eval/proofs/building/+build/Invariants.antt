@@ -1,0 +1,43 @@
+use Rattle.std.proofs.Common.{◌+◌, ◌*◌, max, take}
+use Rattle.vl_ast.specs.declared.expressions.Expr.TheViews.{size-Expr}
+use Rattle.vl_ast.proofs.Agree.{ByLayer}
+use Rattle.vl_eval.specs.inner.Shown.{Grows}
+use Rattle.vl_eval.proofs.Builds.{Copied, Joined}
+use Rattle.vl_eval.proofs.building.+build.Given as goal
+
+abbrev pub invariant-build_parts-loop-part : goal.invariant-build_parts-loop-part
+invariant-build_parts-loop-part l =
+    (b : ByLayer) → Joined b l.site.base l.site.scope.now l.site.slots.now l.fn.ops.items l.ops.items l.joined l.length (take l.part-index l.parts) l.parts
+
+abbrev pub invariant-build_copies-loop-copy : goal.invariant-build_copies-loop-copy
+invariant-build_copies-loop-copy l = record {
+  later : Grows l.site.base l.initial.ops.items l.ops.items;
+  copied : (b : ByLayer) → Copied b l.site.base l.site.scope.now l.site.slots.now l.fn.ops.items l.ops.items l.joined l.length l._copy l.part;
+}
+
+abbrev pub decreases-build : goal.decreases-build
+decreases-build l = 2 * size-Expr l.e.now
+
+abbrev pub decreases-build_unary : goal.decreases-build_unary
+decreases-build_unary l = 2 * size-Expr l.part.now + 1
+
+abbrev pub decreases-build_binary : goal.decreases-build_binary
+decreases-build_binary l = 2 * max (size-Expr l.left.now) (size-Expr l.right.now) + 1
+
+abbrev pub decreases-build_shift : goal.decreases-build_shift
+decreases-build_shift l = 2 * size-Expr l.part.now + 1
+
+abbrev pub decreases-build_choice : goal.decreases-build_choice
+decreases-build_choice l = 2 * max (size-Expr l.test.now) (max (size-Expr l.chosen.now) (size-Expr l.other.now)) + 1
+
+abbrev pub decreases-build_as_signed : goal.decreases-build_as_signed
+decreases-build_as_signed l = 2 * size-Expr l.part.now + 1
+
+abbrev pub decreases-build_as_unsigned : goal.decreases-build_as_unsigned
+decreases-build_as_unsigned l = 2 * size-Expr l.part.now + 1
+
+abbrev pub decreases-build_parts : goal.decreases-build_parts
+decreases-build_parts l = 2 * goal.size-build_parts l + 1
+
+abbrev pub decreases-build_copies : goal.decreases-build_copies
+decreases-build_copies l = 2 * size-Expr l.part.now + 1

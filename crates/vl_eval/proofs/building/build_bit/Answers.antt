@@ -1,0 +1,19 @@
+use Rattle.std.proofs.Common.{rules, ◌≡◌, ◌<◌, ◌≤◌, ◌+◌, ◌-◌, ◌^◌, ◌∷◌, [], ◌++◌, length, true, false, refl, sym, ap, subst, ◌∙◌, arith}
+use Rattle.vl_ast.proofs.Places.{head-in}
+use Rattle.std.proofs.Common.{Contains}
+use Rattle.vl_check.specs.Scope.{nets_in}
+use Rattle.vl_eval.proofs.Results.{if-ok}
+use Rattle.vl_eval.proofs.Operands.{names-bit, sound-bit}
+use Rattle.vl_eval.proofs.Builds.{built-bit}
+use Rattle.vl_eval.proofs.building.build_bit.Goals as goal
+
+pub returns : goal.returns
+returns c =
+    let site = c.args.site.now in
+    let nets = nets_in site.scope.now in
+    let here = subst (λ ns. Contains ns c.args.name.now) (sym (names-bit nets c.args.name.now c.args.low)) (head-in c.args.name.now []) in
+    let below = c.requires.placed.below c.args.name.now here in
+    let few = c.requires.placed.few c.args.name.now here in
+    let low = sound-bit nets c.args.name.now c.args.low c.requires.sound in
+    if-ok c.push.result (λ slot p. built-bit c.meaning_by_layer.ensures.value site.base site.scope.now site.slots.now c.args.name.now c.args.low c.args.ops.now.items c.push.new.ops.items c.slot-part.result slot c.args.width c.args.signed
+    c.slot-part.ensures below (omega (arith, few, low)) p) c.push.ensures

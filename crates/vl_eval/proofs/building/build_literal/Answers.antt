@@ -1,0 +1,18 @@
+use Rattle.std.proofs.Common.{rules, ◌≡◌, ◌<◌, ◌≤◌, ◌+◌, ◌-◌, ◌^◌, ◌∷◌, [], ◌++◌, length, true, false, refl, sym, ap, subst, ◌∙◌, arith}
+use Rattle.vl_check.specs.Scope.{nets_in}
+use Rattle.vl_eval.proofs.Results.{if-ok}
+use Rattle.vl_eval.proofs.Operands.{length-literal, sound-literal}
+use Rattle.vl_eval.proofs.Builds.{built-literal}
+use Rattle.vl_eval.proofs.building.build_literal.Goals as goal
+
+pub literal-requires-clause-number : goal.literal-requires-clause-number
+literal-requires-clause-number c = sound-literal (nets_in c.args.site.now.scope.now) c.args.number.now c.requires.sound
+
+pub literal-requires-clause-longer : goal.literal-requires-clause-longer
+literal-requires-clause-longer c = let l = length-literal (nets_in c.args.site.now.scope.now) c.args.number.now in omega (arith, l, c.requires.longer)
+
+pub returns : goal.returns
+returns c =
+    let site = c.args.site.now in
+    if-ok c.push.result (λ slot p. built-literal c.meaning_by_layer.ensures.value site.base site.scope.now site.slots.now c.args.number.now c.args.ops.now.items c.push.new.ops.items c.literal.result slot c.args.width c.args.signed
+    c.literal.ensures p) c.push.ensures

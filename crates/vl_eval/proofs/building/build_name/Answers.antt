@@ -1,0 +1,32 @@
+use Rattle.std.proofs.Common.{rules, ◌≡◌, ◌<◌, ◌≤◌, ◌+◌, ◌-◌, ◌^◌, ◌∷◌, [], ◌++◌, length, true, false, refl, sym, ap, subst, ◌∙◌, arith}
+use Rattle.vl_ast.proofs.Places.{head-in}
+use Rattle.std.proofs.Common.{Contains}
+use Rattle.vl_ast.specs.Context.{Net}
+use Rattle.vl_check.specs.Scope.{nets_in}
+use Rattle.vl_eval.proofs.Results.{if-ok}
+use Rattle.vl_eval.proofs.Operands.{length-name, names-name}
+use Rattle.vl_eval.proofs.Builds.{built-name, built-signed-name}
+use Rattle.vl_eval.proofs.building.build_name.Goals as goal
+
+pub returns-then-not-signed : goal.returns-then-not-signed
+returns-then-not-signed c =
+    let site = c.args.site.now in
+    let below = c.requires.placed.below c.args.name.now (subst (λ ns. Contains ns c.args.name.now) (sym (names-name (nets_in site.scope.now) c.args.name.now)) (head-in c.args.name.now [])) in
+    built-name c.meaning_by_layer.ensures.value site.base site.scope.now site.slots.now c.args.name.now c.args.ops.now.items c.slot-part.result c.args.width c.args.signed c.slot-part.ensures below c.if-not-signed.true
+
+pub extend-requires-clause-longer : goal.extend-requires-clause-longer
+extend-requires-clause-longer c =
+    let nets = nets_in c.args.site.now.scope.now in
+    let l = length-name nets c.args.name.now in
+    let e = ap (λ (n : Net). n.width) c.net.ensures in
+    omega (arith, l, e, c.requires.longer)
+
+pub returns : goal.returns
+returns c =
+    let site = c.args.site.now in
+    let nets = nets_in site.scope.now in
+    let below = c.requires.placed.below c.args.name.now (subst (λ ns. Contains ns c.args.name.now) (sym (names-name nets c.args.name.now)) (head-in c.args.name.now [])) in
+    let l = length-name nets c.args.name.now in
+    let e = ap (λ (n : Net). n.width) c.net.ensures in
+    if-ok c.extend.result (λ slot x. built-signed-name c.meaning_by_layer.ensures.value site.base site.scope.now site.slots.now c.args.name.now c.args.ops.now.items c.extend.new.ops.items c.slot-part.result slot c.args.width c.net.result.length c.args.signed
+    c.slot-part.ensures e below (omega (arith, l, e, c.requires.longer)) c.requires.most c.if-not-signed.false x) c.extend.ensures

@@ -1,0 +1,37 @@
+use Rattle.std.proofs.Common.{rules, ◌≡◌, ◌<◌, ◌≤◌, ◌+◌, ◌-◌, ◌^◌, ◌∷◌, [], ◌++◌, length, true, false, refl, sym, ap, subst, ◌∙◌, arith}
+use Rattle.vl_ast.proofs.Places.{head-in}
+use Rattle.std.proofs.Common.{Contains}
+use Rattle.vl_check.specs.Scope.{nets_in}
+use Rattle.vl_eval.proofs.Results.{if-ok}
+use Rattle.vl_eval.proofs.Operands.{names-part, sound-part}
+use Rattle.vl_eval.proofs.Builds.{built-part}
+use Rattle.vl_eval.proofs.building.build_part.Goals as goal
+
+pub overflow_sub-high : goal.overflow_sub-high
+overflow_sub-high c = (sound-part (nets_in c.args.site.now.scope.now) c.args.name.now c.args.high c.args.low c.requires.sound).0
+
+pub overflow_add-high : goal.overflow_add-high
+overflow_add-high c =
+    let nets = nets_in c.args.site.now.scope.now in
+    let s = sound-part nets c.args.name.now c.args.high c.args.low c.requires.sound in
+    let few = c.requires.placed.few c.args.name.now (subst (λ ns. Contains ns c.args.name.now) (sym (names-part nets c.args.name.now c.args.high c.args.low)) (head-in c.args.name.now [])) in
+    record { fits = omega (arith, s.0, s.1, few) }
+
+pub mask_of-mask-requires : goal.mask_of-mask-requires
+mask_of-mask-requires c =
+    let nets = nets_in c.args.site.now.scope.now in
+    let s = sound-part nets c.args.name.now c.args.high c.args.low c.requires.sound in
+    let few = c.requires.placed.few c.args.name.now (subst (λ ns. Contains ns c.args.name.now) (sym (names-part nets c.args.name.now c.args.high c.args.low)) (head-in c.args.name.now [])) in
+    omega (arith, s.0, s.1, few)
+
+pub returns : goal.returns
+returns c =
+    let site = c.args.site.now in
+    let nets = nets_in site.scope.now in
+    let here = subst (λ ns. Contains ns c.args.name.now) (sym (names-part nets c.args.name.now c.args.high c.args.low)) (head-in c.args.name.now []) in
+    let below = c.requires.placed.below c.args.name.now here in
+    let few = c.requires.placed.few c.args.name.now here in
+    let s = sound-part nets c.args.name.now c.args.high c.args.low c.requires.sound in
+    let bits : c.args.high - c.args.low + 1 ≡ c.args.high + 1 - c.args.low = (let le = s.0 in omega (arith, le)) in
+    if-ok c.push.result (λ slot p. built-part c.meaning_by_layer.ensures.value site.base site.scope.now site.slots.now c.args.name.now c.args.high c.args.low c.args.ops.now.items c.push.new.ops.items c.slot-part.result slot c.args.width c.mask_of-mask.result c.args.signed
+    c.slot-part.ensures below (omega (arith, few, s.0, s.1)) (c.mask_of-mask.ensures ∙ ap (λ n. 2 ^ n - 1) bits) p) c.push.ensures

@@ -1,0 +1,18 @@
+use Rattle.std.proofs.Common.{◌≡◌, map, subst}
+use Rattle.vl_ast.specs.Driven.{output_ports}
+use Rattle.vl_eval.specs.Given.{driven_ports}
+use Rattle.vl_eval.specs.inner.Planned.{AreCaptured, output_of, slot_of_port}
+use Rattle.vl_eval.proofs.plan.plan_in.Goals as goal
+
+pub returns : goal.returns
+returns c =
+    let m = c.args.source.now in
+    let scope = c.args.scope.now in
+    record {
+      base = c.count-base.ensures;
+      wires = c.wires.new.ops.items;
+      wired = c.in_ok-wires.ensures;
+      captured = subst (λ xs. AreCaptured m scope xs m.items c.wires.new.ops.items c.captures-2.new.ops.items c.in_ok-captures.captures.items) c.as_slice.ensures.value c.in_ok-captures.ensures;
+      inputs = subst (λ xs. c.in_ok-inputs.inputs.items ≡ map (slot_of_port scope xs) (driven_ports m)) c.as_slice.ensures.value c.in_ok-inputs.ensures;
+      outputs = subst (λ xs. c.in_ok-outputs.outputs.items ≡ map (output_of scope xs) (output_ports m)) c.as_slice.ensures.value c.in_ok-outputs.ensures;
+    }

@@ -1,0 +1,9 @@
+use Rattle.vl_eval.proofs.plan.plan_of.Goals as goal
+
+pub returns-clause-planned : goal.returns-clause-planned
+returns-clause-planned c = record {
+  sound = c.in_ok-checked.ensures.sound;
+  scope = c.in_ok-checked.checked.scope;
+  scope_is = c.in_ok-checked.ensures.scope;
+  plan_is = c.in_ok-plan.ensures;
+}

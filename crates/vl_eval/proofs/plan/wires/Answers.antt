@@ -1,0 +1,82 @@
+use Rattle.std.proofs.Common.{◌≡◌, ◌<◌, ◌+◌, List, ℕ, length, slice_index, Option, None, Some, sym, subst, ap, ◌∙◌, arith}
+use Rattle.vl_ast.specs.Context.{Net}
+use Rattle.vl_ast.specs.Conditions.{is_sound}
+use Rattle.vl_ast.specs.Nets.{names_read}
+use Rattle.vl_ast.specs.declared.expressions.Expr.{Expr}
+use Rattle.std.specs.Option.{option_map}
+use Rattle.vl_check.specs.Scope.{names_in, nets_in}
+use Rattle.vl_eval.specs.inner.Assigning.{Assigns}
+use Rattle.vl_eval.specs.inner.Planned.{AreWired, IsWired, the_assignment}
+use Rattle.vl_eval.specs.inner.Site.{ArePlaced}
+use Rattle.vl_eval.proofs.Sounds.{scope-few, scope-sound}
+use Rattle.vl_eval.proofs.Wiring.{in-items, no-assignment, some-assignment, wired-all, wired-more, wired-none, wired-placed, wired-same}
+use Rattle.vl_eval.proofs.plan.wires.Goals as goal
+
+pub loop-number-preserved-in_default : goal.loop-number-preserved-in_default
+loop-number-preserved-in_default c =
+    let m = c.args.source.now in
+    let a = c.requires.sound.acyclic in
+    let places = c.args.places.now in
+    let order = c.args.order.now in
+    let p = c.loop-number.number-index in
+    let none = no-assignment c.meaning_by_layer.ensures.value m c.args.scope.now order places c.requires.scope a.driven a.once c.requires.order (slice_index order p) (sym c.in_default.ensures) in
+    wired-same c.meaning_by_layer.ensures.value m c.args.scope.now order places c.requires.scope a.driven a.once c.requires.order p c.loop-number.slots.items c.loop-number.ops.items c.loop-number-test.true none c.loop-number.invariant
+
+pub build_assigned-requires-clause-sound : goal.build_assigned-requires-clause-sound
+build_assigned-requires-clause-sound c =
+    let m = c.args.source.now in
+    let a = c.requires.sound.acyclic in
+    let order = c.args.order.now in
+    let p = c.loop-number.number-index in
+    let here = c.in-Some.field-0 in
+    let found = some-assignment c.meaning_by_layer.ensures.value m c.args.scope.now order c.args.places.now c.requires.scope a.driven a.once c.requires.order (slice_index order p) here.name.now here.value.now (sym c.in-Some.ensures) in
+    scope-sound m c.requires.sound.narrow c.args.scope.now c.requires.scope here.name.now here.value.now
+    (in-items c.meaning_by_layer.ensures.value m c.args.scope.now order c.args.places.now c.requires.scope a.driven a.once c.requires.order here.name.now here.value.now found.j found.item)
+
+pub build_assigned-requires-clause-most : goal.build_assigned-requires-clause-most
+build_assigned-requires-clause-most c =
+    let m = c.args.source.now in
+    let a = c.requires.sound.acyclic in
+    let e = ap (λ (n : Net). n.width) c.net-width.ensures in
+    let f = scope-few m c.requires.sound.narrow a.driven a.once c.args.scope.now c.requires.scope c.in-Some.field-0.name.now in
+    omega (arith, e, f)
+
+pub build_assigned-requires-clause-placed : goal.build_assigned-requires-clause-placed
+build_assigned-requires-clause-placed c =
+    let m = c.args.source.now in
+    let scope = c.args.scope.now in
+    let a = c.requires.sound.acyclic in
+    let order = c.args.order.now in
+    let places = c.args.places.now in
+    let p = c.loop-number.number-index in
+    let here = c.in-Some.field-0 in
+    let found = some-assignment c.meaning_by_layer.ensures.value m scope order places c.requires.scope a.driven a.once c.requires.order (slice_index order p) here.name.now here.value.now (sym c.in-Some.ensures) in
+    subst (λ n. ArePlaced n scope c.as_slice.result.now c.loop-number.ops.items (names_read here.value.now)) (sym c.count.ensures)
+    (subst (λ xs. ArePlaced (length (names_in scope)) scope xs c.loop-number.ops.items (names_read here.value.now)) (sym c.as_slice.ensures.value)
+    (wired-placed c.meaning_by_layer.ensures.value m scope order places c.requires.scope a.driven a.once c.requires.order p found.j here.name.now here.value.now c.loop-number-test.true found.place found.item
+    c.loop-number.slots.items 0 c.loop-number.ops.items (scope-few m c.requires.sound.narrow a.driven a.once scope c.requires.scope) c.loop-number.invariant))
+
+pub loop-number-preserved : goal.loop-number-preserved
+loop-number-preserved c =
+    let m = c.args.source.now in
+    let scope = c.args.scope.now in
+    let a = c.requires.sound.acyclic in
+    let order = c.args.order.now in
+    let places = c.args.places.now in
+    let p = c.loop-number.number-index in
+    let here = c.in-Some.field-0 in
+    let found = some-assignment c.meaning_by_layer.ensures.value m scope order places c.requires.scope a.driven a.once c.requires.order (slice_index order p) here.name.now here.value.now (sym c.in-Some.ensures) in
+    let assigns =
+    subst (λ xs. Assigns (length (names_in scope)) scope xs c.loop-number.ops.items c.build_assigned.new.ops.items c.in_ok-slot.slot c.net-width.result.length here.value.now) c.as_slice.ensures.value
+    (subst (λ n. Assigns n scope c.as_slice.result.now c.loop-number.ops.items c.build_assigned.new.ops.items c.in_ok-slot.slot c.net-width.result.length here.value.now) c.count.ensures c.in_ok-slot.ensures) in
+    wired-more c.meaning_by_layer.ensures.value m scope order places c.requires.scope a.driven a.once c.requires.order p found.j here.name.now here.value.now c.loop-number-test.true found.place found.item
+    c.loop-number.slots.items c.in_ok-slot.slot c.loop-number.ops.items c.build_assigned.new.ops.items c.net-width.result.length (ap (λ (n : Net). n.width) c.net-width.ensures) assigns c.loop-number.invariant
+
+pub returns : goal.returns
+returns c =
+    let m = c.args.source.now in
+    let a = c.requires.sound.acyclic in
+    let order = c.args.order.now in
+    let all : c.loop-number.number-index ≡ length order = omega (arith, c.loop-number-test.false, c.loop-number.auto.number-index-end) in
+    wired-all c.meaning_by_layer.ensures.value m c.args.scope.now order c.args.places.now c.requires.scope a.driven a.once c.requires.order c.loop-number.slots.items c.loop-number.ops.items
+    (subst (λ n. IsWired m c.args.scope.now order c.args.places.now n c.loop-number.slots.items c.loop-number.ops.items) all c.loop-number.invariant)

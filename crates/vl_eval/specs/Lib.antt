@@ -1,0 +1,3 @@
+pub mod Given
+pub mod Machine
+pub mod inner

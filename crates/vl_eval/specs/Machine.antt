@@ -1,0 +1,36 @@
+-- The row that a machine is in, and what it keeps from one row to the next.
+use Rattle.std.specs.Prelude.{◌≡◌, ℕ, ◌+◌, ◌^◌, ◌<◌, true, List, length, position, slice_get, slice_index, bytes_eq, codes, Contains, Some}
+use Rattle.vl_ast.specs.declared.modules.Port.{Port}
+use Rattle.vl_ast.specs.declared.modules.Module.{Module}
+use Rattle.vl_ast.specs.Nets.{Declared, declarations}
+use Rattle.vl_ast.specs.Runs.{Row}
+use Rattle.vl_check.specs.Names.{names_of}
+use Rattle.vl_eval.specs.declared.machine.Machine.{Machine}
+use Rattle.vl_eval.specs.inner.Ops.{IsSettled}
+use Rattle.vl_eval.specs.inner.Planned.{IsPlanOf}
+use Rattle.vl_eval.specs.inner.Site.{slot_at}
+
+-- the module that it was made with
+abbrev pub source_of : Machine → Module
+source_of machine = machine.source
+
+-- the place of a name's value
+abbrev pub slot_of : Machine → List ℕ → ℕ
+slot_of machine name = slot_at machine.plan.slots.items (position (bytes_eq name) (names_of machine.source))
+
+-- the bits of each name
+abbrev pub row_of : Machine → Row
+row_of machine name = slice_index machine.values.items (slot_of machine name)
+
+-- each of these ports has bits that fit it
+pub record AreFit (ports : List Port) (bits : List ℕ) : Type 0 where
+  pub count : length bits ≡ length ports
+  pub narrow : (k : ℕ) (port : Port) → slice_get ports k ≡ Some port → slice_index bits k < 2 ^ port.width
+
+-- it is made of a module that breaks no condition, and each of its values is worked out
+pub record IsReady (machine : Machine) : Type 0 where
+  pub plan_is : IsPlanOf machine.source machine.plan
+  pub room : length machine.values.items ≡ machine.plan.base + length machine.plan.ops.items
+  pub settled : IsSettled machine.plan.base machine.plan.ops.items (λ k. slice_index machine.values.items k)
+  pub fits : (declared : Declared) → Contains (declarations machine.source) declared → row_of machine declared.name < 2 ^ declared.net.width
+  pub still : (port : Port) → Contains machine.source.ports port → port.input ≡ true → bytes_eq port.name (codes "clk") ≡ true → row_of machine port.name ≡ 0

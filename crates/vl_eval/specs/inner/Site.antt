@@ -1,0 +1,25 @@
+-- What is built for the expressions of a module, whose names have places by their numbers.
+use Rattle.std.specs.Prelude.{◌≡◌, ℕ, ◌+◌, ◌≤◌, ◌<◌, Bool, List, length, slice_index, Contains, Option, Some, None}
+use Rattle.vl_ast.specs.declared.expressions.Expr.{Expr}
+use Rattle.vl_check.specs.declared.scope.Scope.{Scope}
+use Rattle.vl_check.specs.Scope.{nets_in, number_in}
+use Rattle.vl_eval.specs.declared.ops.Op.{Op}
+use Rattle.vl_eval.specs.inner.Shown.{Grows, Shows}
+
+-- the place of a name
+abbrev pub slot_at : List ℕ → Option ℕ → ℕ
+slot_at slots None = 0
+slot_at slots (Some number) = slice_index slots number
+
+abbrev pub slot_in : Scope → List ℕ → List ℕ → ℕ
+slot_in scope slots name = slot_at slots (number_in scope name)
+
+-- operations were added, and the place shows the expression
+pub record Built (base : ℕ) (scope : Scope) (slots : List ℕ) (before after : List Op) (slot width : ℕ) (signed : Bool) (e : Expr) : Type 0 where
+  pub grows : Grows base before after
+  pub shows : Shows base (nets_in scope) (slot_in scope slots) after slot width signed e
+
+-- the names have places that stand before the next operation, and 1 to 128 bits
+pub record ArePlaced (base : ℕ) (scope : Scope) (slots : List ℕ) (ops : List Op) (names : List (List ℕ)) : Type 0 where
+  pub below : (name : List ℕ) → Contains names name → slot_in scope slots name < base + length ops
+  pub few : (name : List ℕ) → Contains names name → (nets_in scope name).width ≤ 128

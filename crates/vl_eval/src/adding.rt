@@ -1,0 +1,62 @@
+ghost use Rattle.std.specs.Prelude.{◌≤◌, IfOk};
+ghost use Rattle.vl_eval.specs.inner.Shown.{IsBeside, IsExtended, Pushed};
+
+use crate::operators::{half_of, mask_of};
+use crate::ops::Op;
+use fx_io::OutOfMemory;
+
+/// Adds an operation, and gives its place.
+pub fn push(ops: &mut Vec<Op>, base: usize, op: Op) -> Result<usize, OutOfMemory>
+    ensures { IfOk result (λ slot. Pushed base ops.old.items ops.new.items slot op) }
+{
+    let Some(slot) = base.checked_add(ops.len()) else {
+        return Err(OutOfMemory);
+    };
+    ops.push(op)?;
+    Ok(slot)
+}
+
+/// The place of a word, extended by its sign bit to a context with sign.
+pub fn extend(
+    ops: &mut Vec<Op>,
+    base: usize,
+    part: usize,
+    from: u32,
+    to: u32,
+) -> Result<usize, OutOfMemory>
+    requires longer { from ≤ to }
+    requires most { to ≤ 128 }
+    ensures { IfOk result (λ slot. IsExtended base ops.old.items ops.new.items slot part from to) }
+{
+    if from == to {
+        return Ok(part);
+    }
+    let half = half_of(from);
+    let fill = mask_of(to) - mask_of(from);
+    push(ops, base, Op::Extended { part, half, fill })
+}
+
+/// One operand with so many bits on the right of another; where that has none, the operand itself.
+pub fn beside(
+    ops: &mut Vec<Op>,
+    base: usize,
+    left: usize,
+    left_length: u32,
+    right: usize,
+    right_length: u32,
+) -> Result<usize, OutOfMemory>
+    ensures { IfOk result (λ slot. IsBeside base ops.old.items ops.new.items slot left left_length right right_length) }
+{
+    if left_length == 0 {
+        return Ok(right);
+    }
+    push(
+        ops,
+        base,
+        Op::Beside {
+            left,
+            right,
+            places: right_length,
+        },
+    )
+}

@@ -1,0 +1,108 @@
+ghost use Rattle.std.specs.Prelude.{◌≡◌, ◌≤◌, ◌<◌, true, IfOk};
+ghost use Rattle.vl_ast.specs.Conditions.{is_number, is_sound, is_sound_condition};
+ghost use Rattle.vl_ast.specs.Nets.{condition_names, names_read};
+ghost use Rattle.vl_ast.specs.Value.{assigned_number};
+ghost use Rattle.vl_check.specs.Scope.{nets_in};
+ghost use Rattle.vl_eval.specs.inner.Site.{ArePlaced};
+ghost use Rattle.vl_eval.specs.inner.Assigning.{Assigns, Captures, Tests, next_names};
+
+use crate::adding::push;
+use crate::building::build;
+use crate::operators::{literal, mask_of};
+use crate::ops::Op;
+use crate::site::{Site, shape_of, slot};
+use fx_io::OutOfMemory;
+use std::alloc::Global;
+use vl_ast::{Expr, Sized, meaning_by_layer};
+use vl_check::net;
+
+/// Adds the operations of an assignment to a net of this width, and gives the place of its bits.
+pub fn build_assigned(
+    ops: &mut Vec<Op>,
+    site: &Site<'_, '_>,
+    e: &Expr,
+    width: u32,
+) -> Result<usize, OutOfMemory>
+    requires sound { is_sound (nets_in site.now.scope.now) e.now ≡ true }
+    requires most { width ≤ 128 }
+    requires placed { ArePlaced site.now.base site.now.scope.now site.now.slots.now ops.old.items (names_read e.now) }
+    ensures { IfOk result (λ slot. Assigns site.now.base site.now.scope.now site.now.slots.now ops.old.items ops.new.items slot width e.now) }
+{
+    meaning_by_layer();
+    let shape = shape_of(site, e);
+    let slot = build(ops, site, e, shape.length.max(width), shape.signed)?;
+    if shape.length <= width {
+        return Ok(slot);
+    }
+    let mask = mask_of(width);
+    push(
+        ops,
+        site.base,
+        Op::Select {
+            part: slot,
+            low: 0,
+            mask,
+        },
+    )
+}
+
+/// Adds the operations of a condition, and gives the place of bits that aren't 0 where it is true.
+fn build_condition(
+    ops: &mut Vec<Op>,
+    site: &Site<'_, '_>,
+    condition: &Option<Expr>,
+) -> Result<usize, OutOfMemory>
+    requires sound { is_sound_condition (nets_in site.now.scope.now) condition.now ≡ true }
+    requires placed { ArePlaced site.now.base site.now.scope.now site.now.slots.now ops.old.items (condition_names condition.now) }
+    ensures { IfOk result (λ slot. Tests site.now.base site.now.scope.now site.now.slots.now ops.old.items ops.new.items slot condition.now) }
+{
+    match condition {
+        None => push(ops, site.base, Op::Constant(1)),
+        Some(e) => {
+            let shape = shape_of(site, e);
+            build(ops, site, e, shape.length, shape.signed)
+        }
+    }
+}
+
+/// What the assignment of a number gives a net of this width.
+fn first_bits(number: &Sized, width: u32) -> u128
+    requires number { is_number number.now ≡ true }
+    requires most { width ≤ 128 }
+    ensures { result ≡ assigned_number width number.now }
+{
+    let length = number.width.max(width);
+    literal(number, length, number.signed) & mask_of(width)
+}
+
+/// Adds the operations of what a register takes at an edge, and gives the place of its bits.
+pub fn build_next(
+    ops: &mut Vec<Op>,
+    site: &Site<'_, '_>,
+    name: &[u8],
+    first: &Sized,
+    condition: &Option<Expr>,
+    value: &Expr,
+) -> Result<usize, OutOfMemory>
+    requires number { is_number first.now ≡ true }
+    requires condition { is_sound_condition (nets_in site.now.scope.now) condition.now ≡ true }
+    requires value { is_sound (nets_in site.now.scope.now) value.now ≡ true }
+    requires placed { ArePlaced site.now.base site.now.scope.now site.now.slots.now ops.old.items (next_names name.now condition.now value.now) }
+    ensures { IfOk result (λ slot. Captures site.now.base site.now.scope.now site.now.slots.now ops.old.items ops.new.items slot name.now first.now condition.now value.now) }
+{
+    meaning_by_layer();
+    let width = net(site.scope, name).length;
+    let test = build_condition(ops, site, condition)?;
+    let taken = build_assigned(ops, site, value, width)?;
+    push(
+        ops,
+        site.base,
+        Op::Next {
+            reset: slot(site, b"reset"),
+            first: first_bits(first, width),
+            test,
+            value: taken,
+            kept: slot(site, name),
+        },
+    )
+}

@@ -1,0 +1,146 @@
+ghost use Rattle.std.specs.Prelude.{◌≡◌, ◌≢◌, ◌<◌, ◌≤◌, ◌^◌, ℕ, true, IfErr, IfOk, Contains, length, slice_get, slice_index};
+ghost use Rattle.vl_ast.specs.declared.modules.Port.{Port};
+ghost use Rattle.vl_ast.specs.Conditions.{BreaksNone};
+ghost use Rattle.vl_ast.specs.Driven.{output_ports, port_number};
+ghost use Rattle.vl_ast.specs.Steps.{IsEdge, IsFirstRow};
+ghost use Rattle.vl_ast.specs.Value.{number_of};
+ghost use Rattle.vl_check.specs.Cause.{IsCause};
+ghost use Rattle.vl_eval.specs.Given.{driven_ports, given};
+ghost use Rattle.vl_eval.specs.declared.plan.Capture.{Capture};
+ghost use Rattle.vl_eval.specs.inner.Edges.{AreZeros, IsPut, IsTaken};
+
+use crate::operators::{half_of, mask_of};
+use crate::ops::sweep;
+use crate::plan::{Capture, Output, Plan, plan_of};
+use fx_io::OutOfMemory;
+use std::alloc::Global;
+use vl_ast::{Module, meaning_by_layer};
+use vl_check::VlFault;
+
+/// A module that breaks no condition, in one row of its run (IEEE 1364-2005, 6.1 and 9.2.2). It makes the
+/// room for a row once.
+#[derive(Drop)]
+pub struct Machine {
+    source: Module,
+    plan: Plan,
+    /// The values of the input ports and registers, and then of the operations.
+    values: Vec<u128>,
+}
+
+/// So many zeros.
+fn zeros(alloc: Global, count: usize) -> Result<Vec<u128>, OutOfMemory>
+    ensures { IfOk result (λ values. AreZeros count values.items) }
+{
+    let mut values = Vec::new(alloc);
+    for _place in 0..count {
+        values.push(0)?;
+    }
+    Ok(values)
+}
+
+/// Captures what the registers take: each value at a `from` goes to its `to`.
+fn capture(captures: &[Capture], values: &mut [u128])
+    requires within { (c : Capture) → Contains captures.now c → (c.from < length values.old) × (c.to < length values.old) }
+    requires apart { (c d : Capture) → Contains captures.now c → Contains captures.now d → c.to ≢ d.from }
+    ensures { IsTaken captures.now values.old values.new }
+{
+    for capture in captures {
+        let Capture { from, to } = *capture;
+        values[to] = values[from];
+    }
+}
+
+/// Puts the bits of the input ports to their places.
+fn put(places: &[usize], bits: &[u128], values: &mut [u128])
+    requires count { length bits.now ≡ length places.now }
+    requires within { (k : ℕ) → k < length places.now → slice_index places.now k < length values.old }
+    requires apart { (i j : ℕ) → i < j → j < length places.now → slice_index places.now i ≢ slice_index places.now j }
+    ensures { IsPut places.now bits.now values.old values.new }
+{
+    for k in 0..places.len() {
+        values[places[k]] = bits[k];
+    }
+}
+
+/// The number of a word, by two's complement where it is signed.
+fn number_in(bits: u128, width: u32, signed: bool) -> i128
+    requires most { width ≤ 128 }
+    requires fits { bits < 2 ^ width }
+    requires wide { width ≡ 128 → signed ≡ true }
+    ensures { result ≡ number_of (record { width = width; signed = signed; bits = bits }) }
+{
+    if signed && bits >= half_of(width) {
+        -((mask_of(width) - bits) as i128) - 1
+    } else {
+        bits as i128
+    }
+}
+
+impl Machine {
+    ghost use Rattle.vl_eval.specs.Machine.{AreFit, IsReady, row_of, source_of};
+
+    /// A machine in row 0 of its module, in which every register and input is 0. The time is linear in
+    /// the module, but for the lengths of operands, which are worked out at each depth (own).
+    ///
+    /// # Errors
+    /// The first of the six conditions that the module breaks, or want of memory.
+    pub fn new(alloc: Global, source: Module) -> Result<Machine, VlFault>
+        ensures sound { IfOk result (λ machine. BreaksNone source) }
+        ensures source { IfOk result (λ machine. source_of machine ≡ source) }
+        ensures row { IfOk result (λ machine. IsFirstRow source (λ name. 0) (λ name. 0) (row_of machine)) }
+        ensures ready { IfOk result IsReady }
+        ensures fault { IfErr result (IsCause source) }
+    {
+        meaning_by_layer();
+        let plan = plan_of(alloc, &source)?;
+        let Some(room) = plan.base.checked_add(plan.ops.len()) else {
+            return Err(VlFault::OutOfMemory);
+        };
+        let mut values = zeros(alloc, room)?;
+        sweep(plan.ops.as_slice(), plan.base, values.as_mut_slice());
+        Ok(Machine {
+            source,
+            plan,
+            values,
+        })
+    }
+
+    /// One edge of `clk`: the registers take their next values from the present row, and the next row
+    /// follows from them and from the bits of each input port but `clk`. It takes no memory.
+    pub fn edge(&mut self, inputs: &[u128])
+        requires ready { IsReady self.old }
+        requires fit { AreFit (driven_ports (source_of self.old)) inputs.now }
+        ensures row { IsEdge (source_of self.old) (row_of self.old) (given (driven_ports (source_of self.old)) inputs.now) (row_of self.new) }
+        ensures source { source_of self.new ≡ source_of self.old }
+        ensures ready { IsReady self.new }
+    {
+        meaning_by_layer();
+        let values = self.values.as_mut_slice();
+        capture(self.plan.captures.as_slice(), values);
+        put(self.plan.inputs.as_slice(), inputs, values);
+        sweep(self.plan.ops.as_slice(), self.plan.base, values);
+    }
+
+    /// The number that an output port shows, by its place among the output ports.
+    pub fn port(&self, place: usize) -> i128
+        requires ready { IsReady self.now }
+        requires within { place < length (output_ports (source_of self.now)) }
+        ensures { (port : Port) → slice_get (output_ports (source_of self.now)) place ≡ Some port → result ≡ port_number port (row_of self.now port.name) }
+    {
+        meaning_by_layer();
+        let Output {
+            slot,
+            width,
+            signed,
+        } = self.plan.outputs[place];
+        let bits = self.values[slot];
+        number_in(bits, width, signed)
+    }
+
+    /// The module that it was made with.
+    pub fn module(&self) -> &Module
+        ensures { result.now ≡ source_of self.now }
+    {
+        &self.source
+    }
+}

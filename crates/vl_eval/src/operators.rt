@@ -1,0 +1,133 @@
+ghost use Rattle.std.specs.Prelude.{◌≡◌, ◌≤◌, ◌-◌, ◌^◌, true};
+ghost use Rattle.vl_ast.specs.Conditions.{is_number};
+ghost use Rattle.vl_ast.specs.Value.{extended};
+ghost use Rattle.vl_eval.specs.inner.Built.{binary_op, down, shift_op, unary_op};
+
+use crate::ops::Op;
+use vl_ast::{BinOp, ShiftOp, Sized, UnOp};
+
+/// The bits of a word of this width.
+pub fn mask_of(width: u32) -> u128
+    requires { width ≤ 128 }
+    ensures { result ≡ 2 ^ width - 1 }
+{
+    if width == 128 {
+        u128::MAX
+    } else {
+        (1 << width) - 1
+    }
+}
+
+/// The weight of the sign bit of a word of this width.
+pub fn half_of(width: u32) -> u128
+    requires { width ≤ 128 }
+    ensures { result ≡ 2 ^ (width - 1) }
+{
+    if width == 0 { 1 } else { 1 << (width - 1) }
+}
+
+/// The bits of a number in a context.
+pub fn literal(number: &Sized, width: u32, signed: bool) -> u128
+    requires number { is_number number.now ≡ true }
+    requires longer { number.now.width ≤ width }
+    requires most { width ≤ 128 }
+    ensures { result ≡ extended (record { width = number.now.width; signed = signed; bits = number.now.bits }) width }
+{
+    let Sized {
+        width: from,
+        signed: _,
+        bits,
+    } = *number;
+    if signed && bits >= half_of(from) {
+        bits + (mask_of(width) - mask_of(from))
+    } else {
+        bits
+    }
+}
+
+pub fn unary_op(op: UnOp, part: usize, mask: u128) -> Op
+    ensures { result ≡ unary_op op part mask }
+{
+    match op {
+        UnOp::Negate => Op::Negate { part, mask },
+        UnOp::Invert => Op::Invert { part, mask },
+        UnOp::IsZero => Op::IsZero { part },
+    }
+}
+
+pub fn binary_op(op: BinOp, left: usize, right: usize, mask: u128, half: u128) -> Op
+    ensures { result ≡ binary_op op left right mask half }
+{
+    match op {
+        BinOp::Add => Op::Add { left, right, mask },
+        BinOp::Subtract => Op::Subtract { left, right, mask },
+        BinOp::Multiply => Op::Multiply { left, right, mask },
+        BinOp::And => Op::And { left, right },
+        BinOp::Or => Op::Or { left, right },
+        BinOp::Xor => Op::Xor { left, right },
+        BinOp::Equal => Op::Equal { left, right },
+        BinOp::NotEqual => Op::NotEqual { left, right },
+        BinOp::Less => Op::Less { left, right, half },
+        BinOp::LessEqual => Op::LessEqual { left, right, half },
+        BinOp::Greater => Op::Less {
+            left: right,
+            right: left,
+            half,
+        },
+        BinOp::GreaterEqual => Op::LessEqual {
+            left: right,
+            right: left,
+            half,
+        },
+        BinOp::Both => Op::Both { left, right },
+        BinOp::Either => Op::Either { left, right },
+    }
+}
+
+/// A shift down without sign, by a number that may be longer than the word.
+fn down(part: usize, amount: u128, width: u32) -> Op
+    requires { width ≤ 128 }
+    ensures { result ≡ down part amount width }
+{
+    if amount < u128::from(width) {
+        Op::Select {
+            part,
+            low: amount as u32,
+            mask: mask_of(width),
+        }
+    } else {
+        Op::Constant(0)
+    }
+}
+
+pub fn shift_op(op: ShiftOp, part: usize, amount: u128, width: u32, signed: bool) -> Op
+    requires { width ≤ 128 }
+    ensures { result ≡ shift_op op part amount width signed }
+{
+    match op {
+        ShiftOp::Left => {
+            if amount < u128::from(width) {
+                Op::Up {
+                    part,
+                    places: amount as u32,
+                    mask: mask_of(width),
+                }
+            } else {
+                Op::Constant(0)
+            }
+        }
+        ShiftOp::Right => down(part, amount, width),
+        ShiftOp::RightSigned => {
+            if signed {
+                Op::SignedDown {
+                    part,
+                    places: amount.min(u128::from(width.saturating_sub(1))) as u32,
+                    half: half_of(width),
+                    mask: mask_of(width),
+                }
+            } else {
+                down(part, amount, width)
+            }
+        }
+    }
+}

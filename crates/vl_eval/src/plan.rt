@@ -1,0 +1,233 @@
+ghost use Rattle.std.specs.Prelude.{◌≡◌, ◌≤◌, ◌<◌, ◌+◌, [], IfErr, IfOk, OnOk, length, map, option_map};
+ghost use Rattle.vl_ast.specs.Conditions.{BreaksNone};
+ghost use Rattle.vl_ast.specs.Driven.{output_ports};
+ghost use Rattle.vl_check.specs.Cause.{IsCause};
+ghost use Rattle.vl_check.specs.Ordering.{IsOrdering};
+ghost use Rattle.vl_check.specs.Scope.{IsScopeOf, names_in};
+ghost use Rattle.vl_eval.specs.Given.{driven_ports};
+ghost use Rattle.vl_eval.specs.inner.Planned.{AreCaptured, AreNumbers, AreWired, IsPlan, IsPlanOf, assignment_at, output_of, slot_of_port, the_assignment};
+
+use crate::assigning::{build_assigned, build_next};
+use crate::ops::Op;
+use crate::site::{Site, slot};
+use fx_io::OutOfMemory;
+use std::alloc::Global;
+use vl_ast::{Expr, ModItem, Module, meaning_by_layer};
+use vl_check::{Scope, VlFault, check, net};
+
+/// What a register takes at an edge: the value at a place, into its own.
+#[derive(Clone, Copy, Debug)]
+pub struct Capture {
+    pub from: usize,
+    pub to: usize,
+}
+
+/// Where an output port has its value, and how it is read.
+#[derive(Clone, Copy, Debug)]
+pub struct Output {
+    pub slot: usize,
+    pub width: u32,
+    /// Whether the bits are read by two's complement.
+    pub signed: bool,
+}
+
+/// The operations of a module, and where its names have their values: input ports and registers below
+/// `base`, and each wire and output where its assignment's last operation has it.
+#[derive(Drop)]
+pub struct Plan {
+    pub base: usize,
+    pub ops: Vec<Op>,
+    /// By the number of each name in the order of first places.
+    pub slots: Vec<usize>,
+    pub captures: Vec<Capture>,
+    /// The places of the input ports but `clk`.
+    pub inputs: Vec<usize>,
+    pub outputs: Vec<Output>,
+}
+
+/// The numbers below a count.
+fn numbers(alloc: Global, count: usize) -> Result<Vec<usize>, OutOfMemory>
+    ensures { IfOk result (λ numbers. AreNumbers count numbers.items) }
+{
+    let mut numbers = Vec::new(alloc);
+    for number in 0..count {
+        numbers.push(number)?;
+    }
+    Ok(numbers)
+}
+
+/// What an item assigns to a name.
+#[derive(Clone, Copy)]
+struct Assignment<'a> {
+    name: &'a [u8],
+    value: &'a Expr,
+}
+
+/// The assignment at the place that a number has, if it has one.
+fn assignment_of<'a>(
+    source: &'a Module,
+    places: &[Option<usize>],
+    number: usize,
+) -> Option<Assignment<'a>>
+    ensures { option_map the_assignment result ≡ assignment_at source.now.items places.now number }
+{
+    let Some(place) = places.get(number) else {
+        return None;
+    };
+    let Some(place) = *place else {
+        return None;
+    };
+    match source.items.as_slice().get(place) {
+        Some(ModItem::Assign { name, value }) => Some(Assignment {
+            name: name.bytes(),
+            value,
+        }),
+        _ => None,
+    }
+}
+
+/// Adds the operations of the assignments, each behind those whose names it reads, and notes where the
+/// names then have their values.
+fn wires(
+    ops: &mut Vec<Op>,
+    slots: &mut Vec<usize>,
+    scope: &Scope<'_>,
+    source: &Module,
+    order: &[usize],
+    places: &[Option<usize>],
+) -> Result<(), OutOfMemory>
+    requires sound { BreaksNone source.now }
+    requires scope { IsScopeOf source.now scope.now }
+    requires order { IsOrdering source.now scope.now order.now places.now }
+    requires numbers { AreNumbers (length (names_in scope.now)) slots.old.items }
+    requires none { ops.old.items ≡ [] }
+    ensures { OnOk result (AreWired source.now scope.now slots.new.items ops.new.items) }
+{
+    meaning_by_layer();
+    for number in order {
+        let Some(Assignment { name, value }) = assignment_of(source, places, *number) else {
+            continue;
+        };
+        let width = net(scope, name).length;
+        let site = Site {
+            scope,
+            slots: slots.as_slice(),
+            base: scope.count(),
+        };
+        let slot = build_assigned(ops, &site, value, width)?;
+        slots[*number] = slot;
+    }
+    Ok(())
+}
+
+/// Adds the operations of what the registers take at an edge.
+fn captures(
+    alloc: Global,
+    ops: &mut Vec<Op>,
+    site: &Site<'_, '_>,
+    source: &Module,
+) -> Result<Vec<Capture>, OutOfMemory>
+    requires sound { BreaksNone source.now }
+    requires scope { IsScopeOf source.now site.now.scope.now }
+    requires base { site.now.base ≡ length (names_in site.now.scope.now) }
+    requires wired { AreWired source.now site.now.scope.now site.now.slots.now ops.old.items }
+    ensures { IfOk result (λ captures. AreCaptured source.now site.now.scope.now site.now.slots.now source.now.items ops.old.items ops.new.items captures.items) }
+{
+    meaning_by_layer();
+    let mut captures = Vec::new(alloc);
+    for item in source.items.as_slice() {
+        if let ModItem::Always {
+            name,
+            first,
+            condition,
+            value,
+        } = item
+        {
+            let from = build_next(ops, site, name.bytes(), first, condition, value)?;
+            let to = slot(site, name.bytes());
+            captures.push(Capture { from, to })?;
+        }
+    }
+    Ok(captures)
+}
+
+/// The places of the input ports but `clk`, in order.
+fn inputs(alloc: Global, site: &Site<'_, '_>, source: &Module) -> Result<Vec<usize>, OutOfMemory>
+    ensures { IfOk result (λ places. places.items ≡ map (slot_of_port site.now.scope.now site.now.slots.now) (driven_ports source.now)) }
+{
+    let mut places = Vec::new(alloc);
+    for port in source.ports.as_slice() {
+        if port.input && port.name.bytes() != b"clk".as_slice() {
+            places.push(slot(site, port.name.bytes()))?;
+        }
+    }
+    Ok(places)
+}
+
+/// Where the output ports have their values, in order.
+fn outputs(alloc: Global, site: &Site<'_, '_>, source: &Module) -> Result<Vec<Output>, OutOfMemory>
+    ensures { IfOk result (λ outputs. outputs.items ≡ map (output_of site.now.scope.now site.now.slots.now) (output_ports source.now)) }
+{
+    let mut outputs = Vec::new(alloc);
+    for port in source.ports.as_slice() {
+        if !port.input {
+            outputs.push(Output {
+                slot: slot(site, port.name.bytes()),
+                width: port.width,
+                signed: port.signed || port.width == 128,
+            })?;
+        }
+    }
+    Ok(outputs)
+}
+
+/// The operations of a module that breaks no condition.
+fn plan_in(
+    alloc: Global,
+    scope: &Scope<'_>,
+    source: &Module,
+    order: &[usize],
+    places: &[Option<usize>],
+) -> Result<Plan, OutOfMemory>
+    requires sound { BreaksNone source.now }
+    requires scope { IsScopeOf source.now scope.now }
+    requires order { IsOrdering source.now scope.now order.now places.now }
+    ensures { IfOk result (IsPlan source.now scope.now) }
+{
+    let base = scope.count();
+    let mut slots = numbers(alloc, base)?;
+    let mut ops = Vec::new(alloc);
+    wires(&mut ops, &mut slots, scope, source, order, places)?;
+    let site = Site {
+        scope,
+        slots: slots.as_slice(),
+        base,
+    };
+    let captures = captures(alloc, &mut ops, &site, source)?;
+    let inputs = inputs(alloc, &site, source)?;
+    let outputs = outputs(alloc, &site, source)?;
+    Ok(Plan {
+        base,
+        ops,
+        slots,
+        captures,
+        inputs,
+        outputs,
+    })
+}
+
+/// Tries the six conditions, and works out the operations of a module that breaks none.
+pub fn plan_of(alloc: Global, source: &Module) -> Result<Plan, VlFault>
+    ensures planned { IfOk result (IsPlanOf source.now) }
+    ensures fault { IfErr result (IsCause source.now) }
+{
+    let checked = check(alloc, source)?;
+    let plan = plan_in(
+        alloc,
+        &checked.scope,
+        source,
+        checked.order.as_slice(),
+        checked.places.as_slice(),
+    )?;
+    Ok(plan)
+}
