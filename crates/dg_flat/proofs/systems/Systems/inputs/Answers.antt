@@ -1,0 +1,19 @@
+use Rattle.std.proofs.Common.{ap, ◌∙◌}
+use Rattle.dg_model.specs.declared.nested.NestedBlock.{NestedBlock}
+use Rattle.dg_model.specs.declared.nested.Part.TheVariants.{SubSystem}
+use Rattle.dg_flat.specs.declared.numbering.Side.TheVariants.{In}
+use Rattle.dg_flat.proofs.PortReads.{inputs_read}
+use Rattle.dg_flat.proofs.systems.Systems.inputs.Goals as goal
+
+pub returns-in-SubSystem : goal.returns-in-SubSystem
+returns-in-SubSystem c =
+    c.count.ensures c.args.blocks.now In c.requires.systems.ins
+    ∙ inputs_read c.args.blocks.now c.args.place c.index-blocks-place.result SubSystem c.requires.there c.index-blocks-place.is (ap (λ (b : NestedBlock). b.part) c.index-blocks-place.is ∙ c.in-SubSystem.is)
+
+pub returns-in-In : goal.returns-in-In
+returns-in-In c =
+    inputs_read c.args.blocks.now c.args.place c.index-blocks-place.result _ c.requires.there c.index-blocks-place.is (ap (λ (b : NestedBlock). b.part) c.index-blocks-place.is ∙ c.in-In.is)
+
+pub returns-in-Enable : goal.returns-in-Enable
+returns-in-Enable c =
+    inputs_read c.args.blocks.now c.args.place c.index-blocks-place.result _ c.requires.there c.index-blocks-place.is (ap (λ (b : NestedBlock). b.part) c.index-blocks-place.is ∙ c.in-Enable.is)

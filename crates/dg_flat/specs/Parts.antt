@@ -1,0 +1,126 @@
+-- The blocks of Systems: their paths, their ports, and the enabled subsystem that holds each (Simulink reference, subsystems; paths are own).
+use Rattle.std.specs.Prelude.{ℕ, zero, suc, ◌==◌, ◌&&◌, Bool, true, false, if◌then◌else◌, List, [], ◌∷◌, ◌++◌, length, codes, count_by, Option, Some, None, slice_get}
+use Rattle.std.specs.List.{flat_map, position}
+use Rattle.std.specs.Str.{bytes_eq}
+use Rattle.std.specs.Option.{is_some}
+use Rattle.dg_model.specs.declared.nested.NestedBlock.{NestedBlock}
+use Rattle.dg_model.specs.declared.nested.Part.{Part}
+use Rattle.dg_model.specs.declared.nested.Part.TheVariants.{Plain, In, Out, SubSystem, Enable}
+
+-- ---- paths
+
+-- a name in a path: a `/` inside it stands twice
+abbrev pub escaped : List ℕ → List ℕ
+escaped name = flat_map (λ byte. if bytes_eq (byte ∷ []) (codes "/") then codes "//" else byte ∷ []) name
+
+-- a name in a System, behind the path of the subsystem that holds it
+abbrev pub below : (ℕ → List ℕ) → List ℕ → Option ℕ → List ℕ
+below path name None = name
+below path name (Some system) = path system ++ codes "/" ++ name
+
+abbrev pub path_by : (ℕ → List ℕ) → Option NestedBlock → List ℕ
+path_by path None = []
+path_by path (Some block) = below path (escaped block.name) block.parent
+
+-- the path of the block at a place, through at most so many Systems
+abbrev pub path_within : List NestedBlock → ℕ → ℕ → List ℕ
+path_within blocks zero place = []
+path_within blocks (suc levels) place = path_by (path_within blocks levels) (slice_get blocks place)
+
+-- the names from the root to the block, joined by `/`; each System stands before the blocks in it
+abbrev pub nested_path : List NestedBlock → ℕ → List ℕ
+nested_path blocks place = path_within blocks (suc place) place
+
+-- ---- what stands in a System
+
+abbrev pub same_system : Option ℕ → Option ℕ → Bool
+same_system None None = true
+same_system (Some system) (Some other) = system == other
+same_system None (Some other) = false
+same_system (Some system) None = false
+
+abbrev pub is_subsystem : Part → Bool
+is_subsystem (Plain block) = false
+is_subsystem (In block number) = false
+is_subsystem (Out block number) = false
+is_subsystem SubSystem = true
+is_subsystem (Enable reset) = false
+
+abbrev pub is_enable_port : Part → Bool
+is_enable_port (Plain block) = false
+is_enable_port (In block number) = false
+is_enable_port (Out block number) = false
+is_enable_port SubSystem = false
+is_enable_port (Enable reset) = true
+
+-- the number of an Inport, and of an Outport
+abbrev pub in_number : Part → Option ℕ
+in_number (Plain block) = None
+in_number (In block number) = Some number
+in_number (Out block number) = None
+in_number SubSystem = None
+in_number (Enable reset) = None
+
+abbrev pub out_number : Part → Option ℕ
+out_number (Plain block) = None
+out_number (In block number) = None
+out_number (Out block number) = Some number
+out_number SubSystem = None
+out_number (Enable reset) = None
+
+abbrev pub is_number : ℕ → Option ℕ → Bool
+is_number number None = false
+is_number number (Some own) = own == number
+
+-- how many blocks of a System are such
+abbrev pub count_in : List NestedBlock → Option ℕ → (Part → Bool) → ℕ
+count_in blocks system is_such = count_by (λ block. same_system block.parent system && is_such block.part) blocks
+
+-- the first block of a System that is such
+abbrev pub first_in : List NestedBlock → Option ℕ → (Part → Bool) → Option ℕ
+first_in blocks system is_such = position (λ block. same_system block.parent system && is_such block.part) blocks
+
+-- ---- ports
+
+-- how many output and input ports the block at a place has: a subsystem has one for each Outport and Inport in it
+abbrev pub outputs_of : List NestedBlock → ℕ → Part → ℕ
+outputs_of blocks place (Plain block) = block.outputs
+outputs_of blocks place (In block number) = 1
+outputs_of blocks place (Out block number) = 0
+outputs_of blocks place SubSystem = count_in blocks (Some place) (λ part. is_some (out_number part))
+outputs_of blocks place (Enable reset) = 0
+
+abbrev pub inputs_of : List NestedBlock → ℕ → Part → ℕ
+inputs_of blocks place (Plain block) = block.inputs
+inputs_of blocks place (In block number) = 0
+inputs_of blocks place (Out block number) = 1
+inputs_of blocks place SubSystem = count_in blocks (Some place) (λ part. is_some (in_number part))
+inputs_of blocks place (Enable reset) = 0
+
+-- the EnablePort of a System
+abbrev pub enable_port : List NestedBlock → Option ℕ → Option ℕ
+enable_port blocks system = first_in blocks system is_enable_port
+
+-- ---- enabled subsystems
+
+-- the subsystem that holds that of a System
+abbrev pub system_around : List NestedBlock → Option ℕ → Option ℕ
+system_around blocks None = None
+system_around blocks (Some system) = parent_of (slice_get blocks system) where
+  parent_of : Option NestedBlock → Option ℕ
+  parent_of None = None
+  parent_of (Some block) = block.parent
+
+-- the EnablePort of a System, or else of the nearest System around it that has one
+abbrev pub control_else : Option ℕ → Option ℕ → (Option ℕ → Option ℕ) → List NestedBlock → Option ℕ
+control_else (Some port) system around blocks = Some port
+control_else None None around blocks = None
+control_else None (Some system) around blocks = around (system_around blocks (Some system))
+
+abbrev pub control_within : List NestedBlock → ℕ → Option ℕ → Option ℕ
+control_within blocks zero system = None
+control_within blocks (suc levels) system = control_else (enable_port blocks system) system (control_within blocks levels) blocks
+
+-- there are no more levels of Systems than blocks and the root
+abbrev pub control_of : List NestedBlock → Option ℕ → Option ℕ
+control_of blocks system = control_within blocks (suc (length blocks)) system

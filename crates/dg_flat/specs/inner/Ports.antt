@@ -1,0 +1,52 @@
+-- The ports at a place, and the lines that meet none (own).
+use Rattle.std.specs.Prelude.{ℕ, ◌+◌, nat_lt, ◌==◌, ◌||◌, ◌&&◌, not, Bool, min, List, Option, Some, None, slice_get}
+use Rattle.std.specs.List.{list_any}
+use Rattle.std.specs.Option.{is_some}
+use Rattle.dg_model.specs.declared.nested.NestedBlock.{NestedBlock}
+use Rattle.dg_model.specs.declared.nested.NestedLine.{NestedLine}
+use Rattle.dg_model.specs.declared.nested.Target.{Target}
+use Rattle.dg_model.specs.declared.nested.Target.TheVariants.{Port, Enable as ToEnable}
+use Rattle.dg_flat.specs.Parts.{inputs_of, outputs_of, enable_port}
+use Rattle.dg_flat.specs.Rules.{drivers, is_port, is_enable_end}
+
+-- how many input and output ports stand at a place
+abbrev pub inputs_at : List NestedBlock → ℕ → ℕ
+inputs_at blocks place = inputs_or (slice_get blocks place) where
+  inputs_or : Option NestedBlock → ℕ
+  inputs_or None = 0
+  inputs_or (Some block) = inputs_of blocks place block.part
+
+abbrev pub outputs_at : List NestedBlock → ℕ → ℕ
+outputs_at blocks place = outputs_or (slice_get blocks place) where
+  outputs_or : Option NestedBlock → ℕ
+  outputs_or None = 0
+  outputs_or (Some block) = outputs_of blocks place block.part
+
+-- a number is none of those from 1 to a count
+abbrev pub is_past : ℕ → ℕ → Bool
+is_past number count = (number == 0) || nat_lt count number
+
+-- the line leaves from a port that its block lacks, or ends at one
+abbrev pub lacks_output : List NestedBlock → NestedLine → Bool
+lacks_output blocks line = is_past line.from_port (outputs_at blocks line.from)
+
+abbrev pub lacks_end : List NestedBlock → ℕ → Target → Bool
+lacks_end blocks place (Port port) = is_past port (inputs_at blocks place)
+lacks_end blocks place ToEnable = not (is_some (enable_port blocks (Some place)))
+
+abbrev pub lacks_input : List NestedBlock → NestedLine → Bool
+lacks_input blocks line = lacks_end blocks line.to line.target
+
+-- the block at a place lacks a port that some line meets
+abbrev pub is_lacking : List NestedBlock → List NestedLine → ℕ → Bool
+is_lacking blocks lines place = list_any (λ line. ((line.from == place) && lacks_output blocks line) || ((line.to == place) && lacks_input blocks line)) lines
+
+-- one driver more, where 2 stands for more than one
+abbrev pub one_more : ℕ → ℕ
+one_more count = min 2 (count + 1)
+
+abbrev pub port_drivers : List NestedLine → ℕ → ℕ → ℕ
+port_drivers lines place port = min 2 (drivers lines place (is_port port))
+
+abbrev pub control_drivers : List NestedLine → ℕ → ℕ
+control_drivers lines place = min 2 (drivers lines place is_enable_end)

@@ -1,0 +1,78 @@
+ghost use Rattle.std.specs.Prelude.{◌≡◌, ◌<◌, length, slice_get, IfOk, IfErr, Some};
+ghost use Rattle.dg_model.specs.Faults.{fault_of, IsRefusal};
+ghost use Rattle.dg_model.specs.Sound.{IsSound};
+ghost use Rattle.dg_model.specs.Wired.{IsWired};
+ghost use Rattle.dg_model.specs.declared.fault.Shown.TheVariants.{Nothing};
+ghost use Rattle.dg_flat.specs.Flat.{IsFlatOf};
+ghost use Rattle.dg_flat.specs.Parts.{nested_path};
+ghost use Rattle.dg_flat.specs.Rules.{BreaksWiringOrEnable, AllNestedKeep, KeepsWiring, KeepsEnable};
+ghost use Rattle.dg_flat.specs.inner.Paths.{ArePaths};
+ghost use Rattle.dg_flat.specs.inner.Slots.{HaveParents};
+
+use crate::blocks::{flat_blocks, flat_places};
+use crate::edges::flat_edges;
+use crate::enables::first_misplaced;
+use crate::paths::{path_in, system_paths};
+use crate::systems::Systems;
+use crate::wiring::first_unwired;
+use dg_model::{CheckFault, Diagram, Nested, NestedBlock, RuleFault, Shown};
+use fx_io::{OutOfMemory, Text};
+use std::alloc::Global;
+
+/// A rule is broken at a block.
+fn broken(
+    alloc: Global,
+    rule: u8,
+    blocks: &[NestedBlock],
+    paths: &[Text],
+    place: u32,
+) -> Result<RuleFault, OutOfMemory>
+    requires parents { HaveParents blocks.now }
+    requires paths { ArePaths blocks.now (length blocks.now) paths.now }
+    requires there { place < length blocks.now }
+    ensures { IfOk result (λ fault. fault ≡ fault_of rule (nested_path blocks.now place) Nothing) }
+{
+    let block = &blocks[place as usize];
+    let place = path_in(alloc, paths, block.parent, &block.name)?;
+    Ok(RuleFault {
+        rule,
+        place,
+        shown: Shown::Nothing,
+    })
+}
+
+/// The flat diagram of nested blocks and lines, or the first broken rule of wiring (4) and of enabled
+/// subsystems (5), at its first block in file order.
+///
+/// Blocks stand in file order, each with its path; subsystems are left out, and an EnablePort becomes
+/// the test of its System's enable line. A line into or out of a subsystem ends at the block of its
+/// port inside. Edges are ordered by destination block and port (Simulink reference, subsystems and
+/// signal lines).
+pub fn flatten(alloc: Global, nested: &Nested) -> Result<Diagram, CheckFault>
+    requires { IsSound nested.now }
+    ensures flat { IfOk result (IsFlatOf nested.now) }
+    ensures wired { IfOk result IsWired }
+    ensures wiring { IfOk result (λ _. AllNestedKeep nested.now KeepsWiring) }
+    ensures enables { IfOk result (λ _. AllNestedKeep nested.now KeepsEnable) }
+    ensures refused { IfErr result (IsRefusal (BreaksWiringOrEnable nested.now)) }
+{
+    let blocks = nested.blocks.as_slice();
+    let lines = nested.lines.as_slice();
+    let systems = Systems::of(alloc, blocks)?;
+    let paths = system_paths(alloc, blocks)?;
+    if let Some(place) = first_unwired(alloc, &systems, nested)? {
+        let fault = broken(alloc, 4, blocks, paths.as_slice(), place)?;
+        return Err(CheckFault::Broken(fault));
+    }
+    if let Some(place) = first_misplaced(&systems, nested) {
+        let fault = broken(alloc, 5, blocks, paths.as_slice(), place)?;
+        return Err(CheckFault::Broken(fault));
+    }
+    let places = flat_places(alloc, blocks)?;
+    let flat = flat_blocks(alloc, &systems, blocks, &places, paths.as_slice())?;
+    let edges = flat_edges(alloc, &systems, blocks, &places, lines)?;
+    Ok(Diagram {
+        blocks: flat,
+        edges,
+    })
+}
