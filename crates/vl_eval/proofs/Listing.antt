@@ -33,6 +33,12 @@ zeros-more n xs a = record {
   at = zero-last xs a.at;
 }
 
+pub filter-one : {X : Type 0} (test : X → Bool) (xs : List X) (x : X) → test x ≡ true → filter test (xs ++ x ∷ []) ≡ filter test xs ++ x ∷ []
+filter-one test xs x e = filter-append test xs (x ∷ []) ∙ ap (λ t. filter test xs ++ (if t then x ∷ [] else [])) e
+
+pub filter-none : {X : Type 0} (test : X → Bool) (xs : List X) (x : X) → test x ≡ false → filter test (xs ++ x ∷ []) ≡ filter test xs
+filter-none test xs x e = filter-append test xs (x ∷ []) ∙ ap (λ t. filter test xs ++ (if t then x ∷ [] else [])) e ∙ append-nil (filter test xs)
+
 -- one more that passes a test, or one that doesn't
 pub kept-one : {X Y : Type 0} (f : X → Y) (test : X → Bool) (xs : List X) (x : X) → test x ≡ true → map f (filter test xs) ++ f x ∷ [] ≡ map f (filter test (xs ++ x ∷ []))
 kept-one f test xs x e =

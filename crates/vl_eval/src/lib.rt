@@ -23,5 +23,7 @@ mod operators;
 mod ops;
 mod plan;
 mod site;
+#[cfg(test)]
+mod tests;
 
 pub use machine::Machine;
