@@ -1,0 +1,13 @@
+pub mod Bits
+pub mod Cells
+pub mod Clocks
+pub mod Filled
+pub mod OneResponse
+pub mod Putting
+pub mod Ranges
+pub mod Rows
+pub mod Scores
+pub mod Stimulated
+pub mod Times
+pub mod Widths
+pub mod Words

@@ -1,0 +1,5 @@
+use Rattle.vl_replay.specs.inner.Driving.{AreBits, reset_bits}
+use Rattle.vl_replay.proofs.drivers.put_reset.Given as goal
+
+abbrev pub invariant-loop-k : goal.invariant-loop-k
+invariant-loop-k l = AreBits reset_bits l.drivers l.k l.bits

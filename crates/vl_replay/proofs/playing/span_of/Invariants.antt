@@ -1,0 +1,9 @@
+use Rattle.std.proofs.Common.{◌≡◌, ◌≤◌, ◌<◌, ℕ, Some, slice_get}
+use Rattle.vl_replay.specs.declared.samplers.Sampler.{Sampler}
+use Rattle.vl_replay.proofs.playing.span_of.Given as goal
+
+abbrev pub invariant-loop-sampler : goal.invariant-loop-sampler
+invariant-loop-sampler l = record {
+  few : l.delay ≤ 16777216;
+  most : (place : ℕ) (sampler : Sampler) → slice_get l.score.samplers.items place ≡ Some sampler → place < l.sampler-index → sampler.delay ≤ l.delay;
+}

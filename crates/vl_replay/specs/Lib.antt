@@ -1,0 +1,4 @@
+pub mod Columns
+pub mod Replays
+pub mod Sampled
+pub mod inner

@@ -1,0 +1,4 @@
+-- What private contracts cite.
+pub mod Driving
+pub mod Played
+pub mod Sampling

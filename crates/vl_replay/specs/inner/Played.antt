@@ -1,0 +1,49 @@
+-- How far a machine is driven, and what was sampled on the way.
+use Rattle.std.specs.Prelude.{◌≡◌, ℕ, ◌+◌, ◌*◌, ◌^◌, ◌<◌, ◌≤◌, List, length, map, slice_get, slice_index_or, Some, ℤ, pos}
+use Rattle.vl_ast.specs.declared.modules.Module.{Module}
+use Rattle.vl_ast.specs.Conditions.{BreaksNone}
+use Rattle.vl_ast.specs.Driven.{output_ports, port_number, stimulus_ports}
+use Rattle.vl_ast.specs.Runs.{Rows}
+use Rattle.vl_ast.specs.Steps.{AreSteps}
+use Rattle.vl_ast.specs.Windows.{Each, Sample}
+use Rattle.vl_eval.specs.Given.{driven_ports}
+use Rattle.vl_eval.specs.Machine.{IsReady, row_of, source_of}
+use Rattle.vl_eval.specs.declared.machine.Machine.{Machine}
+use Rattle.vl_replay.specs.declared.playing.Score.{Score}
+use Rattle.vl_replay.specs.declared.samplers.Sampler.{Sampler}
+use Rattle.vl_replay.specs.Columns.{step_of}
+use Rattle.vl_replay.specs.Sampled.{hit_at, numbers_of}
+use Rattle.vl_replay.specs.inner.Driving.{clocks_of, drivers_from, inputs_of}
+use Rattle.vl_replay.specs.inner.Sampling.{lateness_of, sampler_of}
+
+-- a score of a module that breaks no condition
+pub record IsScoreOf (m : Module) (score : Score) : Type 0 where
+  pub sound : BreaksNone m
+  pub columns : score.stimulus.columns ≡ length (stimulus_ports m)
+  pub cycles : score.cycles ≡ clocks_of m
+  pub drivers : score.drivers.items ≡ drivers_from 0 (driven_ports m)
+  pub samplers : score.samplers.items ≡ map (sampler_of (clocks_of m)) (output_ports m)
+
+-- the cells whose clocks are among so many have the numbers of their hits
+pub record HaveCells (m : Module) (samples clocks : ℕ) (rows : Rows) (cells : List ℤ) : Type 0 where
+  pub long : length cells ≡ samples * length (output_ports m)
+  pub at : Each (output_ports m) (λ place port. (t : Sample) → t < samples → t * clocks_of m + lateness_of port < clocks
+      → slice_index_or cells (t * length (output_ports m) + place) (pos 0) ≡ port_number port (rows (2 + (hit_at (step_of port) t * clocks_of m + lateness_of port)) port.name))
+
+-- so many clocks are passed: the rows up to the machine's run, and their numbers stand in the cells
+pub record IsPlayed (score : Score) (clocks : ℕ) (machine : Machine) (cells : List ℤ) : Type 0 where
+  pub ready : IsReady machine
+  pub score_is : IsScoreOf (source_of machine) score
+  pub rows : Rows
+  pub steps : AreSteps (source_of machine) (2 + clocks) (λ name. 0) (inputs_of (source_of machine) (numbers_of score.stimulus) score.stimulus.lines) rows
+  pub last : rows (1 + clocks) ≡ row_of machine
+  pub have : HaveCells (source_of machine) score.stimulus.lines clocks rows cells
+
+-- no output is sampled more than 16,777,216 samples late
+pub record AreNear (samplers : List Sampler) : Type 0 where
+  pub delay : (place : ℕ) (sampler : Sampler) → slice_get samplers place ≡ Some sampler → sampler.delay ≤ 16777216
+
+-- by the end of so many samples each number was sampled; with no samples there are none
+pub record IsSpan (score : Score) (span : ℕ) : Type 0 where
+  pub few : span < 2 ^ 32
+  pub enough : (place : ℕ) (sampler : Sampler) → slice_get score.samplers.items place ≡ Some sampler → 0 < score.stimulus.lines → score.stimulus.lines + sampler.delay ≤ span

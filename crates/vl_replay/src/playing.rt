@@ -1,0 +1,145 @@
+ghost use Rattle.std.specs.Prelude.{◌≡◌, ◌≤◌, ◌<◌, ◌+◌, ◌*◌, IfOk, length};
+ghost use Rattle.vl_ast.specs.Conditions.{BreaksNone};
+ghost use Rattle.vl_ast.specs.Driven.{stimulus_ports};
+ghost use Rattle.vl_ast.specs.Steps.{IsFirstRow};
+ghost use Rattle.vl_eval.specs.Machine.{IsReady, row_of, source_of};
+ghost use Rattle.vl_replay.specs.Sampled.{numbers_of};
+ghost use Rattle.vl_replay.specs.inner.Driving.{AreBits, driver_bits};
+ghost use Rattle.vl_replay.specs.inner.Played.{AreNear, IsPlayed, IsScoreOf, IsSpan};
+
+use crate::drivers::{Driver, drivers_of, put_bits, put_reset};
+use crate::samplers::{Sampler, put_numbers, samplers_of};
+use fx_io::OutOfMemory;
+use fx_tables::Rows;
+use std::alloc::Global;
+use vl_ast::Module;
+use vl_check::cycles_of;
+use vl_eval::Machine;
+
+/// What stays the same while a module is driven.
+#[derive(Drop)]
+pub struct Score {
+    pub stimulus: Rows,
+    /// By the input ports but `clk`.
+    pub drivers: Vec<Driver>,
+    /// By the output ports.
+    pub samplers: Vec<Sampler>,
+    /// The clocks of a sample.
+    pub cycles: u64,
+}
+
+/// The score of a module and its stimulus.
+pub fn score_of(alloc: Global, source: &Module, stimulus: Rows) -> Result<Score, OutOfMemory>
+    requires sound { BreaksNone source.now }
+    requires columns { stimulus.columns ≡ length (stimulus_ports source.now) }
+    ensures score { IfOk result (IsScoreOf source.now) }
+    ensures stimulus { IfOk result (λ score. score.stimulus ≡ stimulus) }
+{
+    let cycles = match cycles_of(source) {
+        None => 1,
+        Some(cycles) => cycles,
+    };
+    let drivers = drivers_of(alloc, source)?;
+    let samplers = samplers_of(alloc, source, cycles)?;
+    Ok(Score {
+        stimulus,
+        drivers,
+        samplers,
+        cycles,
+    })
+}
+
+/// By the end of how many samples each number was sampled.
+pub fn span_of(score: &Score) -> u64
+    requires few { score.now.stimulus.lines ≤ 50000000 }
+    requires late { AreNear score.now.samplers.items }
+    ensures { IsSpan score.now result }
+{
+    let samples = score.stimulus.count();
+    if samples == 0 {
+        return 0;
+    }
+    let mut delay = 0;
+    for sampler in score.samplers.as_slice() {
+        delay = sampler.delay.max(delay);
+    }
+    samples + delay
+}
+
+/// Passes one clock of this phase of a sample, and samples what is due.
+fn step(
+    machine: &mut Machine,
+    score: &Score,
+    bits: &[u128],
+    sample: u64,
+    phase: u64,
+    cells: &mut [i128],
+)
+    requires played { IsPlayed score.now (sample * score.now.cycles + phase) machine.old cells.old }
+    requires phase { phase < score.now.cycles }
+    requires bits { AreBits (driver_bits (numbers_of score.now.stimulus) score.now.stimulus.lines sample) score.now.drivers.items (length score.now.drivers.items) bits.now }
+    ensures played { IsPlayed score.now (sample * score.now.cycles + phase + 1) machine.new cells.new }
+    ensures source { source_of machine.new ≡ source_of machine.old }
+{
+    machine.edge(bits);
+    put_numbers(
+        machine,
+        score.samplers.as_slice(),
+        score.stimulus.count(),
+        sample,
+        phase,
+        cells,
+    );
+}
+
+/// Passes the clocks of a sample.
+fn play_sample(
+    machine: &mut Machine,
+    score: &Score,
+    sample: u64,
+    bits: &mut [u128],
+    cells: &mut [i128],
+)
+    requires played { IsPlayed score.now (sample * score.now.cycles) machine.old cells.old }
+    requires wide { length bits.old ≡ length score.now.drivers.items }
+    ensures played { IsPlayed score.now (sample * score.now.cycles + score.now.cycles) machine.new cells.new }
+    ensures wide { length bits.new ≡ length score.now.drivers.items }
+    ensures source { source_of machine.new ≡ source_of machine.old }
+{
+    put_bits(score.drivers.as_slice(), &score.stimulus, sample, bits);
+    for phase in 0..score.cycles {
+        step(machine, score, bits, sample, phase, cells);
+    }
+}
+
+/// Passes the row with `reset`.
+fn begin(machine: &mut Machine, score: &Score, bits: &mut [u128], cells: &[i128])
+    requires ready { IsReady machine.old }
+    requires score { IsScoreOf (source_of machine.old) score.now }
+    requires row { IsFirstRow (source_of machine.old) (λ name. 0) (λ name. 0) (row_of machine.old) }
+    requires room { length cells.now ≡ score.now.stimulus.lines * length score.now.samplers.items }
+    requires wide { length bits.old ≡ length score.now.drivers.items }
+    ensures played { IsPlayed score.now 0 machine.new cells.now }
+    ensures wide { length bits.new ≡ length score.now.drivers.items }
+    ensures source { source_of machine.new ≡ source_of machine.old }
+{
+    let _ = cells;
+    put_reset(score.drivers.as_slice(), bits);
+    machine.edge(bits);
+}
+
+/// Passes the row with `reset` and the clocks of so many samples.
+pub fn play(machine: &mut Machine, score: &Score, span: u64, bits: &mut [u128], cells: &mut [i128])
+    requires ready { IsReady machine.old }
+    requires score { IsScoreOf (source_of machine.old) score.now }
+    requires row { IsFirstRow (source_of machine.old) (λ name. 0) (λ name. 0) (row_of machine.old) }
+    requires room { length cells.old ≡ score.now.stimulus.lines * length score.now.samplers.items }
+    requires wide { length bits.old ≡ length score.now.drivers.items }
+    ensures played { IsPlayed score.now (span * score.now.cycles) machine.new cells.new }
+    ensures source { source_of machine.new ≡ source_of machine.old }
+{
+    begin(machine, score, bits, cells);
+    for sample in 0..span {
+        play_sample(machine, score, sample, bits, cells);
+    }
+}

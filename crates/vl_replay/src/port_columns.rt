@@ -1,0 +1,102 @@
+ghost use Rattle.std.specs.Prelude.{◌≡◌, ◌<◌, ◌+◌, ◌^◌, All, IfOk, length, true};
+ghost use Rattle.vl_ast.specs.Conditions.{BreaksNone, is_width};
+ghost use Rattle.vl_ast.specs.Driven.{output_ports, stimulus_ports};
+ghost use Rattle.vl_eval.specs.Machine.{source_of};
+ghost use Rattle.vl_replay.specs.Columns.{column_of, columns_of, step_of};
+
+use fx_io::{OutOfMemory, Sequence};
+use fx_tables::{Column, Columns};
+use std::alloc::Global;
+use vl_ast::Port;
+use vl_check::{is_clock_or_reset, period_of};
+use vl_eval::Machine;
+
+/// The columns of a stimulus and of its response (own).
+#[derive(Drop)]
+pub struct PortColumns {
+    /// One for each input port but `clk` and `reset`.
+    pub inputs: Columns,
+    /// One for each output port.
+    pub outputs: Columns,
+}
+
+/// No table has so many columns.
+const MOST_COLUMNS: usize = 4_294_967_296;
+
+/// The base samples from one number of a port to the next.
+pub fn step_of(port: &Port) -> u32
+    ensures step { result ≡ step_of port.now }
+    ensures some { 0 < result }
+{
+    match period_of(port) {
+        None => 1,
+        Some(period) => period as u32,
+    }
+}
+
+/// The number whose lowest `width` bits are set.
+pub fn mask_of(width: u32) -> u128
+    requires { is_width width ≡ true }
+    ensures { result + 1 ≡ 2 ^ width }
+{
+    u128::MAX >> (128 - width)
+}
+
+/// The period of a port and the range of its numbers: two's complement where it is signed or has
+/// 128 bits.
+fn column(port: &Port) -> Column
+    requires { is_width port.now.width ≡ true }
+    ensures column { result ≡ column_of port.now }
+    ensures period { 0 < result.period }
+{
+    let width = port.width;
+    let period = step_of(port);
+    let greatest = mask_of(width);
+    if port.signed || width == 128 {
+        let high = (greatest / 2) as i128;
+        Column {
+            low: !high,
+            high,
+            period,
+        }
+    } else {
+        Column {
+            low: 0,
+            high: greatest as i128,
+            period,
+        }
+    }
+}
+
+/// The columns of a machine's stimulus and response, in the order of its ports.
+///
+/// # Errors
+/// Want of memory, or of numbers for the ports where these are 2^32 and more.
+pub fn columns(alloc: Global, machine: &Machine) -> Result<PortColumns, OutOfMemory>
+    requires sound { BreaksNone (source_of machine.now) }
+    ensures inputs { IfOk result (λ columns.
+        columns.inputs ≡ columns_of (stimulus_ports (source_of machine.now))) }
+    ensures outputs { IfOk result (λ columns.
+        columns.outputs ≡ columns_of (output_ports (source_of machine.now))) }
+    ensures input_periods { IfOk result (λ columns.
+        All (λ column. 0 < column.period) columns.inputs) }
+    ensures few_inputs { IfOk result (λ columns. length columns.inputs < 2 ^ 32) }
+    ensures few_outputs { IfOk result (λ columns. length columns.outputs < 2 ^ 32) }
+    ensures output_periods { IfOk result (λ columns.
+        All (λ column. 0 < column.period) columns.outputs) }
+{
+    let mut inputs = Sequence::new(alloc);
+    let mut outputs = Sequence::new(alloc);
+    let ports = machine.module().ports.as_slice();
+    for port in ports {
+        if !port.input {
+            outputs.push(column(port))?;
+        } else if !is_clock_or_reset(port) {
+            inputs.push(column(port))?;
+        }
+    }
+    if inputs.as_slice().len() >= MOST_COLUMNS || outputs.as_slice().len() >= MOST_COLUMNS {
+        return Err(OutOfMemory);
+    }
+    Ok(PortColumns { inputs, outputs })
+}

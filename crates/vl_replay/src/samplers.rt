@@ -1,0 +1,164 @@
+ghost use Rattle.std.specs.Prelude.{◌≡◌, ◌≤◌, ◌<◌, ◌+◌, ◌*◌, ◌==◌, ℕ, ℤ, List, if◌then◌else◌, IfOk, Some, length, map, slice_get, slice_index_or, slice_set, pos};
+ghost use Rattle.vl_ast.specs.Driven.{output_ports};
+ghost use Rattle.vl_eval.specs.Machine.{IsReady, row_of, source_of};
+ghost use Rattle.vl_replay.specs.Sampled.{hit_at};
+ghost use Rattle.vl_replay.specs.declared.samplers.Sampler.{Sampler};
+ghost use Rattle.vl_replay.specs.inner.Sampling.{ArePut, number_at, sampler_of};
+
+use crate::port_columns::step_of;
+use fx_io::OutOfMemory;
+use std::alloc::Global;
+use vl_ast::Module;
+use vl_check::latency_of;
+use vl_eval::Machine;
+
+/// When an output is sampled: at a clock of `phase` in its sample, so many samples late.
+#[derive(Clone, Copy, Debug)]
+pub struct Sampler {
+    pub period: u32,
+    pub delay: u64,
+    pub phase: u64,
+}
+
+/// The hit of a period at a sample, or the last before it.
+#[inline(always)]
+pub fn hit_at(period: u32, sample: u64) -> u64
+    requires { 0 < period }
+    ensures { result ≡ hit_at period sample }
+{
+    if period == 1 {
+        sample
+    } else {
+        sample - sample % u64::from(period)
+    }
+}
+
+/// When the output ports of a module are sampled, in order, at so many clocks per sample.
+pub fn samplers_of(alloc: Global, source: &Module, cycles: u64) -> Result<Vec<Sampler>, OutOfMemory>
+    requires { 0 < cycles }
+    ensures { IfOk result (λ samplers. samplers.items ≡ map (sampler_of cycles) (output_ports source.now)) }
+{
+    let mut samplers = Vec::new(alloc);
+    for port in source.ports.as_slice() {
+        if !port.input {
+            let latency = match latency_of(port) {
+                None => 0,
+                Some(latency) => latency,
+            };
+            samplers.push(Sampler {
+                period: step_of(port),
+                delay: latency / cycles,
+                phase: latency % cycles,
+            })?;
+        }
+    }
+    Ok(samplers)
+}
+
+/// The number of an output at a sample: what it shows at a hit, and between hits the number of the
+/// last.
+fn number_for(
+    machine: &Machine,
+    period: u32,
+    outputs: usize,
+    place: usize,
+    sample: u64,
+    cells: &[i128],
+) -> i128
+    requires ready { IsReady machine.now }
+    requires period { 0 < period }
+    requires within { place < outputs }
+    requires outputs { outputs ≡ length (output_ports (source_of machine.now)) }
+    requires room { sample * outputs + outputs ≤ length cells.now }
+    ensures { result ≡ (if hit_at period sample == sample
+        then number_at (source_of machine.now) (row_of machine.now) place
+        else slice_index_or cells.now (hit_at period sample * outputs + place) (pos 0)) }
+{
+    let hit = hit_at(period, sample);
+    if hit == sample {
+        return machine.port(place);
+    }
+    cells[hit as usize * outputs + place]
+}
+
+/// Puts the number of an output at a sample into its cell.
+fn put_number(
+    machine: &Machine,
+    period: u32,
+    outputs: usize,
+    place: usize,
+    sample: u64,
+    cells: &mut [i128],
+)
+    requires ready { IsReady machine.now }
+    requires period { 0 < period }
+    requires within { place < outputs }
+    requires outputs { outputs ≡ length (output_ports (source_of machine.now)) }
+    requires room { sample * outputs + outputs ≤ length cells.old }
+    ensures { cells.new ≡ slice_set cells.old (sample * outputs + place) (if hit_at period sample == sample
+        then number_at (source_of machine.now) (row_of machine.now) place
+        else slice_index_or cells.old (hit_at period sample * outputs + place) (pos 0)) }
+{
+    let number = number_for(machine, period, outputs, place, sample, cells);
+    cells[sample as usize * outputs + place] = number;
+}
+
+/// Puts the number of the output at a place, if it is due at a clock of this phase of a sample.
+fn put_if_due(
+    machine: &Machine,
+    samplers: &[Sampler],
+    samples: u64,
+    sample: u64,
+    phase: u64,
+    place: usize,
+    cells: &mut [i128],
+)
+    requires ready { IsReady machine.now }
+    requires outputs { length samplers.now ≡ length (output_ports (source_of machine.now)) }
+    requires periods { (place : ℕ) (sampler : Sampler) → slice_get samplers.now place ≡ Some sampler → 0 < sampler.period }
+    requires room { length cells.old ≡ samples * length samplers.now }
+    requires within { place < length samplers.now }
+    ensures { (before : List ℤ) → ArePut (number_at (source_of machine.now) (row_of machine.now)) samplers.now samples sample phase place before cells.old
+        → ArePut (number_at (source_of machine.now) (row_of machine.now)) samplers.now samples sample phase (place + 1) before cells.new }
+{
+    let Sampler {
+        period,
+        delay,
+        phase: own,
+    } = samplers[place];
+    if own != phase || sample < delay {
+        return;
+    }
+    if samples <= sample - delay {
+        return;
+    }
+    put_number(
+        machine,
+        period,
+        samplers.len(),
+        place,
+        sample - delay,
+        cells,
+    );
+}
+
+/// Puts the numbers that are due at a clock of this phase of a sample into their cells, of which
+/// there are so many for each output.
+pub fn put_numbers(
+    machine: &Machine,
+    samplers: &[Sampler],
+    samples: u64,
+    sample: u64,
+    phase: u64,
+    cells: &mut [i128],
+)
+    requires ready { IsReady machine.now }
+    requires outputs { length samplers.now ≡ length (output_ports (source_of machine.now)) }
+    requires periods { (place : ℕ) (sampler : Sampler) → slice_get samplers.now place ≡ Some sampler → 0 < sampler.period }
+    requires room { length cells.old ≡ samples * length samplers.now }
+    ensures { ArePut (number_at (source_of machine.now) (row_of machine.now)) samplers.now samples sample phase (length samplers.now) cells.old cells.new }
+{
+    for place in 0..samplers.len() {
+        put_if_due(machine, samplers, samples, sample, phase, place, cells);
+    }
+}
