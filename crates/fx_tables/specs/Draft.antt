@@ -19,7 +19,9 @@ pub record Describes (draft : Draft) (entries : List PlanEntry) : Type 0 where
   pub clocks : filter_map cycles_of entries ≡ option_to_list draft.cycles
   pub shared : filter_map multipliers_of entries ≡ option_to_list draft.multipliers
   pub registers : filter_map pipeline_of entries ≡ draft.pipelines
-  pub paths : (path : Vec ℕ Global) → contains (λ x y. slice_cmp nat_cmp x.items y.items) draft.paths path ≡ list_any (λ other. bytes_eq other.path path.items) draft.pipelines
+  pub paths : (path : Vec ℕ Global) →
+      contains (λ x y. slice_cmp nat_cmp x.items y.items) draft.paths path
+      ≡ list_any (λ other. bytes_eq other.path path.items) draft.pipelines
 
 -- what a line of a plan says is in range
 abbrev pub IsEntryInRange : PlanEntry → Type 0
@@ -34,5 +36,6 @@ pub record IsDraftInRange (draft : Draft) : Type 0 where
   pub shared : IfSome draft.multipliers (λ count. count ≤ 64)
   pub counts : AllByRecursion IsRegisterCount draft.pipelines
   pub different : AreDifferent draft.pipelines
-  pub known : (path : Vec ℕ Global) → contains (λ x y. slice_cmp nat_cmp x.items y.items) draft.paths path
+  pub known : (path : Vec ℕ Global) →
+      contains (λ x y. slice_cmp nat_cmp x.items y.items) draft.paths path
       ≡ list_any (λ other. bytes_eq other.path path.items) draft.pipelines

@@ -1,5 +1,5 @@
--- The fields of a line. Its lines are std's `lines`: each ends with a newline, which the last may lack, and a
--- carriage return right before the newline is not of the line (own).
+-- The fields of a line. Its lines are std's `lines`: each ends with a newline, which the last may
+-- lack, and a carriage return right before the newline is not of the line (own).
 use Rattle.std.specs.Prelude.{ℕ, Bool, true, false, List, [], ◌∷◌, ◌==◌, ◌||◌, if◌then◌else◌, filter}
 use Rattle.std.specs.List.{slice_split}
 

@@ -10,7 +10,8 @@ use Rattle.fx_tables.specs.declared.number.Whole.TheVariants.{Not, Far, Near}
 -- the number of 1 to 64 digits, at most the greatest of 128 bits
 abbrev pub IsMagnitude : List ℕ → Option ℕ → Type 0
 IsMagnitude text r =
-    MatchOption r (is_number 64 text ≡ false) (λ magnitude. (is_number 64 text ≡ true) × (magnitude ≡ min (digits_value 10 text) (2 ^ 128 - 1)))
+    MatchOption r (is_number 64 text ≡ false) (λ magnitude.
+    (is_number 64 text ≡ true) × (magnitude ≡ min (digits_value 10 text) (2 ^ 128 - 1)))
 
 -- z, or that it does not fit 128 bits with a sign
 abbrev pub IsNumber : ℤ → Whole → Type 0

@@ -38,7 +38,8 @@ abbrev pub is_repeated : List PlanEntry → PlanEntry → Bool
 is_repeated earlier Passed = false
 is_repeated earlier (Cycles count) = nat_lt 0 (length (filter_map cycles_of earlier))
 is_repeated earlier (Multipliers count) = nat_lt 0 (length (filter_map multipliers_of earlier))
-is_repeated earlier (Pipelined pipeline) = list_any (λ other. bytes_eq other.path pipeline.path) (filter_map pipeline_of earlier)
+is_repeated earlier (Pipelined pipeline) =
+    list_any (λ other. bytes_eq other.path pipeline.path) (filter_map pipeline_of earlier)
 
 -- the lines say the entries, one each
 abbrev pub SayEach : List (List ℕ) → List PlanEntry → Type 0

@@ -12,13 +12,16 @@ text_of_field hit value = if hit then signed_decimal value else 45 ∷ []
 abbrev pub response_fields : ℕ → List ℕ → List ℤ → List (List ℕ)
 response_fields sample [] values = []
 response_fields sample (period ∷ periods) [] = []
-response_fields sample (period ∷ periods) (value ∷ values) = text_of_field (hits_at period sample) value ∷ response_fields sample periods values
+response_fields sample (period ∷ periods) (value ∷ values) =
+    text_of_field (hits_at period sample) value ∷ response_fields sample periods values
 
 -- the line of a sample: its fields with one space between, and a newline
 abbrev pub response_line : List ℕ → ℕ → List ℤ → List ℕ
-response_line periods sample values = join_with_byte 32 (response_fields sample periods values) ++ 10 ∷ []
+response_line periods sample values =
+    join_with_byte 32 (response_fields sample periods values) ++ 10 ∷ []
 
 -- the lines of the first `samples` samples, where `row` gives the values of each
 abbrev pub response : List ℕ → (ℕ → List ℤ) → ℕ → List ℕ
 response periods row zero = []
-response periods row (suc samples) = response periods row samples ++ response_line periods samples (row samples)
+response periods row (suc samples) =
+    response periods row samples ++ response_line periods samples (row samples)

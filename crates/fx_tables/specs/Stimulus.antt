@@ -1,5 +1,5 @@
--- What a stimulus stands for, and its first fault. Samples, lines and columns count from 0; the line that a fault
--- names counts from 1 (own).
+-- What a stimulus stands for, and its first fault. Samples, lines and columns count from 0; the
+-- line that a fault names counts from 1 (own).
 use Rattle.std.specs.Prelude.{◌≡◌, ℕ, ℤ, pos, Bool, true, false, ◌<◌, slice_get, List, [], ◌∷◌, Option, None, Some, ◌+◌, ◌*◌, ◌%◌, ◌==◌, ◌&&◌, not, nat_lt, max, int_le, length, map, slice_index, if◌then◌else◌}
 use Rattle.std.specs.List.{flat_map}
 use Rattle.std.specs.Option.{option_or}
@@ -38,7 +38,8 @@ field_fault sample column field =
 abbrev pub fields_fault : ℕ → List Column → List (List ℕ) → Option TableCause
 fields_fault sample [] fields = None
 fields_fault sample (column ∷ columns) [] = None
-fields_fault sample (column ∷ columns) (field ∷ fields) = option_or (field_fault sample column field) (fields_fault sample columns fields)
+fields_fault sample (column ∷ columns) (field ∷ fields) =
+    option_or (field_fault sample column field) (fields_fault sample columns fields)
 
 -- this many rows of inputs and outputs are above the bound
 abbrev pub is_too_large : ℕ → ℕ → ℕ → Bool
@@ -64,7 +65,8 @@ fault_or None line later = later
 abbrev pub lines_fault : List Column → ℕ → ℕ → List (List ℕ) → Option TableFault
 lines_fault columns outputs sample [] = None
 lines_fault columns outputs sample (line ∷ later) =
-    fault_or (line_fault columns outputs sample line) (sample + 1) (lines_fault columns outputs (sample + 1) later)
+    fault_or (line_fault columns outputs sample line) (sample + 1)
+    (lines_fault columns outputs (sample + 1) later)
 
 -- the fault of the first bad line of a stimulus
 abbrev pub stimulus_fault : List Column → ℕ → List ℕ → Option TableFault
@@ -93,4 +95,6 @@ pub record IsCell (column : Column) (sample : ℕ) (value : ℤ) : Type 0 where
 -- each number of the rows is one of its column
 abbrev pub FitsColumns : List Column → Rows → Type 0
 FitsColumns inputs rows =
-    (sample k : ℕ) (column : Column) (value : ℤ) → sample < rows.lines → slice_get inputs k ≡ Some column → slice_get rows.cells (sample * rows.columns + k) ≡ Some value → IsCell column sample value
+    (sample k : ℕ) (column : Column) (value : ℤ) → sample < rows.lines →
+    slice_get inputs k ≡ Some column →
+    slice_get rows.cells (sample * rows.columns + k) ≡ Some value → IsCell column sample value

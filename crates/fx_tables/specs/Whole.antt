@@ -14,4 +14,5 @@ is_whole text = is_number 64 (digits_of_whole text)
 -- the number that such a text is
 abbrev pub whole_value : List ℕ → ℤ
 whole_value text =
-    if starts_with_minus text then neg_ℤ (pos (digits_value 10 (digits_of_whole text))) else pos (digits_value 10 (digits_of_whole text))
+    if starts_with_minus text then neg_ℤ (pos (digits_value 10 (digits_of_whole text)))
+    else pos (digits_value 10 (digits_of_whole text))

@@ -27,7 +27,8 @@ struct NumberCut<'a> {
 #[inline(always)]
 pub(crate) fn cut_cell<'a>(line: &'a [u8], column: &Column, sample: u64) -> Option<CellCut<'a>>
     requires { 0 < column.now.period }
-    ensures { IfSome result (λ cell. IsFirstCell line.now column.now sample cell.value cell.tail.now) }
+    ensures { IfSome result (λ cell.
+        IsFirstCell line.now column.now sample cell.value cell.tail.now) }
 {
     let NumberCut { value, tail } = cut_number(line)?;
     let value = i128::from(value);

@@ -43,7 +43,8 @@ fn without_return(line: &[u8]) -> &[u8]
 /// Cuts the first field off a line; an empty head says that there is none.
 pub(crate) fn cut_field(line: &[u8]) -> Cut<'_>
     ensures none { length result.head.now ≡ 0 → fields_of line.now ≡ [] }
-    ensures field { 0 < length result.head.now → fields_of line.now ≡ result.head.now ∷ fields_of result.tail.now }
+    ensures field { 0 < length result.head.now
+        → fields_of line.now ≡ result.head.now ∷ fields_of result.tail.now }
     ensures rest { result.tail.now ≡ drop (length result.head.now) (after_blanks line.now) }
     ensures shorter { length result.head.now + length result.tail.now ≤ length line.now }
 {

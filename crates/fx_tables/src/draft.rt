@@ -59,7 +59,8 @@ impl Draft {
             (new ≡ not (is_repeated earlier entry))
             × OnTrue new (Describes self.new (earlier ++ entry ∷ []))) }
         ensures in_range { IfOk result (λ new.
-            IsTrue new → IsEntryInRange entry → IsDraftInRange self.old → IsDraftInRange self.new) }
+            IsTrue new → IsEntryInRange entry →
+            IsDraftInRange self.old → IsDraftInRange self.new) }
     {
         match entry {
             PlanEntry::Passed => Ok(true),

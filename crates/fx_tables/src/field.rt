@@ -23,7 +23,9 @@ fn is_dash(field: &[u8]) -> bool
 /// Reads the field of a column at a sample: its number, or 0 where none stands.
 pub(crate) fn read_field(field: &[u8], column: &Column, sample: u64) -> Result<i128, TableCause>
     requires { 0 < column.now.period }
-    ensures { MatchResult result (λ value. (field_fault sample column.now field.now ≡ None) × (value ≡ cell_of field.now)) (λ cause. field_fault sample column.now field.now ≡ Some cause) }
+    ensures { MatchResult result
+        (λ value. (field_fault sample column.now field.now ≡ None) × (value ≡ cell_of field.now))
+        (λ cause. field_fault sample column.now field.now ≡ Some cause) }
 {
     let Column { low, high, period } = *column;
     let hit = hits(period, sample);

@@ -1,11 +1,12 @@
 //! The texts beside a model: the stimulus and the response of a run, and the plan of its hardware.
 //!
 //! `read_rows` gives the rows that a stimulus stands for (`IsRows`), or its first bad line with the
-//! first cause there (`stimulus_fault`). `read_plan` gives the plan that a text says (`IsPlan`), which
-//! is in range, or its first bad line (`IsPlanFault`). `RowText::line` writes one line of a response
-//! (`response_line`). The definitions are in `specs/`: `Fields` and `Whole` on the parts of a line,
-//! `PlanLines` on the forms that a line of a plan may have, `Stimulus`, `Response` and `Plan` on the
-//! three texts. `specs/inner` has the plain reading of a plan, which private contracts cite.
+//! first cause there (`stimulus_fault`). `read_plan` gives the plan that a text says (`IsPlan`),
+//! which is in range, or its first bad line (`IsPlanFault`). `RowText::line` writes one line of a
+//! response (`response_line`). The definitions are in `specs/`: `Fields` and `Whole` on the parts
+//! of a line, `PlanLines` on the forms that a line of a plan may have, `Stimulus`, `Response` and
+//! `Plan` on the three texts. `specs/inner` has the plain reading of a plan, which private
+//! contracts cite.
 #![tactic(auto)]
 
 mod cell;

@@ -24,7 +24,8 @@ fn put_minus(bytes: &mut [u8], start: usize, wanted: bool) -> usize
     requires within { start ≤ length bytes.old }
     ensures before { result ≤ start }
     ensures near { start ≤ result + 1 }
-    ensures text { drop result bytes.new ≡ (if wanted then 45 ∷ drop start bytes.old else drop start bytes.old) }
+    ensures text { drop result bytes.new
+        ≡ (if wanted then 45 ∷ drop start bytes.old else drop start bytes.old) }
 {
     bytes[start - 1] = b'-';
     start - usize::from(wanted)

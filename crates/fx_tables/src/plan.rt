@@ -10,8 +10,9 @@ use dg_model::Plan;
 use std::alloc::Global;
 
 /// Reads a plan (own). A line is blank, begins with `#`, or is one of `cycles F` with F from 1 to
-/// 1024, `multipliers M` with M from 0 to 64, each at most once, and `pipeline "PATH" N` with N from
-/// 1 to 64, at most once for a path, which is quoted as in MDL. Without a line F is 1 and M is 0.
+/// 1024, `multipliers M` with M from 0 to 64, each at most once, and `pipeline "PATH" N` with N
+/// from 1 to 64, at most once for a path, which is quoted as in MDL. Without a line F is 1 and M
+/// is 0.
 /// `Bad` names the first other line, always with the cause `PlanLine`.
 pub fn read_plan(alloc: Global, bytes: &[u8]) -> Result<Plan, TableFault>
     ensures plan { IfOk result (IsPlan bytes.now) }

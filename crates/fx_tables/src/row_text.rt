@@ -31,7 +31,8 @@ impl RowText {
     pub fn new(alloc: Global, columns: &[Column]) -> Result<RowText, OutOfMemory>
         requires periods { All (λ column. 0 < column.period) columns.now }
         requires few_columns { length columns.now < 2 ^ 32 }
-        ensures { IfOk result (λ text. periods_of text ≡ map (λ column. column.period) columns.now) }
+        ensures { IfOk result (λ text.
+            periods_of text ≡ map (λ column. column.period) columns.now) }
     {
         let mut periods = Vec::new(alloc);
         for column in columns {
@@ -46,7 +47,8 @@ impl RowText {
     pub fn line(&mut self, t: u64, values: &[i128]) -> &[u8]
         requires { length values.now ≡ length (periods_of self.old) }
         ensures line { result.now ≡ response_line (periods_of self.old) t values.now }
-        ensures* kept { sem 𝓛 (follows_so the_row the_row self.entry.ghost_name none (λ _ _. ⊤) (λ after. periods_of after ≡ periods_of self.old)) }
+        ensures* kept { sem 𝓛 (follows_so the_row the_row self.entry.ghost_name none (λ _ _. ⊤)
+            (λ after. periods_of after ≡ periods_of self.old)) }
     {
         let start = write_line(&mut self.bytes, &self.periods, t, values);
         &self.bytes[start..]
@@ -80,7 +82,8 @@ fn put_field(bytes: &mut [u8], end: usize, hit: bool, value: i128) -> usize
     requires within { end ≤ length bytes.old }
     ensures before { result < end }
     ensures near { end ≤ result + 41 }
-    ensures text { drop result bytes.new ≡ 32 ∷ (text_of_field hit value ++ drop end bytes.old) }
+    ensures text { drop result bytes.new
+        ≡ 32 ∷ (text_of_field hit value ++ drop end bytes.old) }
 {
     let start = put_text(bytes, end, hit, value);
     bytes[start - 1] = b' ';

@@ -15,8 +15,8 @@ const MOST_CELLS: u128 = 50_000_000;
 /// Reads a stimulus: a line per base sample and in it a field per column, numbers at hits and `-`
 /// elsewhere (own). `outputs` counts the elements of the outputs, for the bound of 50,000,000 on
 /// the rows times the greater of 1 and all elements. `Bad` names the first bad line with its first
-/// cause, in this order: too many rows, the count of the fields, and then from left to right a field
-/// that is no whole number, a dash at a hit, a number off a hit, a number out of range.
+/// cause, in this order: too many rows, the count of the fields, and then from left to right a
+/// field that is no whole number, a dash at a hit, a number off a hit, a number out of range.
 pub fn read_rows(
     alloc: Global,
     bytes: &[u8],
@@ -28,7 +28,9 @@ pub fn read_rows(
     ensures rows { IfOk result (IsRows columns.now outputs bytes.now) }
     ensures fits { IfOk result (FitsColumns columns.now) }
     ensures few { IfOk result (λ rows. rows.lines ≤ 50000000) }
-    ensures refused { IfErr result (λ fault. fault ≢ TableFault.OutOfMemory → stimulus_fault columns.now outputs bytes.now ≡ Some fault) }
+    ensures refused { IfErr result (λ fault.
+        fault ≢ TableFault.OutOfMemory →
+        stimulus_fault columns.now outputs bytes.now ≡ Some fault) }
 {
     let most = most_rows(columns.len(), outputs);
     let mut cells = Cells::new(alloc);
@@ -80,8 +82,12 @@ fn read_line(
     requires few { sample < 2 ^ 32 }
     ensures read { OnOk result (cells.new ≡ cells.old ++ cells_of line.now) }
     ensures full { OnOk result (length cells.new ≡ length cells.old + length columns.now) }
-    ensures good { OnOk result (count_or_fields_fault columns.now sample (fields_of line.now) ≡ None) }
-    ensures bad { IfErr result (λ fault. fault ≢ TableFault.OutOfMemory → fault_or (count_or_fields_fault columns.now sample (fields_of line.now)) (sample + 1) None ≡ Some fault) }
+    ensures good { OnOk result
+        (count_or_fields_fault columns.now sample (fields_of line.now) ≡ None) }
+    ensures bad { IfErr result (λ fault.
+        fault ≢ TableFault.OutOfMemory →
+        fault_or (count_or_fields_fault columns.now sample (fields_of line.now)) (sample + 1) None
+        ≡ Some fault) }
 {
     let mut rest = line;
     for (k, column) in columns.iter().enumerate() {
@@ -120,7 +126,8 @@ fn has_no_field(line: &[u8]) -> bool
 
 /// The first cause of a line with a bad field: a wrong count of fields comes before it.
 fn cause_of_line(rest: &[u8], wanted: usize, cause: TableCause) -> TableCause
-    ensures { result ≡ (if length (fields_of rest.now) == wanted then cause else TableCause.FieldCount) }
+    ensures { result
+        ≡ (if length (fields_of rest.now) == wanted then cause else TableCause.FieldCount) }
 {
     if count_fields(rest) == wanted {
         cause

@@ -20,7 +20,10 @@ use Rattle.fx_tables.specs.declared.table.TableCause.TheVariants.{PlanLine}
 abbrev pub sole_number : ℕ → ℕ → List (List ℕ) → Option ℕ
 sole_number low high [] = None
 sole_number low high (field ∷ []) =
-    if is_number 9 field && nat_le low (digits_value 10 field) && nat_le (digits_value 10 field) high then Some (digits_value 10 field) else None
+    if is_number 9 field
+    && nat_le low (digits_value 10 field) && nat_le (digits_value 10 field) high
+    then Some (digits_value 10 field)
+    else None
 sole_number low high (field ∷ next ∷ more) = None
 
 -- the entry of a `cycles` line with this count
@@ -41,11 +44,14 @@ pipelined_entry path (Some count) = Some (Pipelined (record { path = path; count
 -- a path with its closing quote read, and then a blank and the count
 abbrev pub counted_entry : Option (List ℕ × List ℕ) → Option PlanEntry
 counted_entry None = None
-counted_entry (Some (path, rest)) = if is_blank (slice_index rest 0) then pipelined_entry path (sole_number 1 64 (fields_of rest)) else None
+counted_entry (Some (path, rest)) =
+    if is_blank (slice_index rest 0) then pipelined_entry path (sole_number 1 64 (fields_of rest))
+    else None
 
 -- a quoted path and a count
 abbrev pub pipeline_entry : List ℕ → Option PlanEntry
-pipeline_entry text = if slice_index text 0 == 34 then counted_entry (string_behind (drop 1 text)) else None
+pipeline_entry text =
+    if slice_index text 0 == 34 then counted_entry (string_behind (drop 1 text)) else None
 
 -- what a line says whose fields are these, where `text` stands behind its first field
 abbrev pub words_entry : List (List ℕ) → List ℕ → Option PlanEntry
