@@ -1,0 +1,14 @@
+mod Built
+mod Carried
+mod Edges
+mod Given
+mod Growing
+mod Known
+mod Lists
+mod Moved
+mod Ranks
+mod Single
+mod Sources
+mod Staying
+mod TypeRules
+mod Unique

@@ -1,0 +1,4 @@
+pub mod Laws
+pub mod State
+pub mod Steps
+pub mod inner
