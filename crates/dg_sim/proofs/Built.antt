@@ -14,8 +14,8 @@ use Rattle.dg_blocks.specs.Laws.{OperationGivesAtMostOne, OperationGivesOne}
 use Rattle.dg_model.specs.Library.{row_of}
 use Rattle.dg_model.specs.Wired.{root_input}
 use Rattle.dg_model.specs.declared.kind.Kind.{Kind}
-use Rattle.dg_sim.specs.inner.Ground.{IsRanked, IsRunnable}
-use Rattle.dg_sim.specs.Laws.{SomeTableSolves, EntriesAreInRange, SolvedIsInRange}
+use Rattle.dg_sim.proofs.Ground.{IsRanked, IsRunnable, RankedTableSolves, RankedIsInRange}
+use Rattle.dg_sim.specs.Laws.{EntriesAreInRange}
 use Rattle.dg_sim.proofs.Unique.{tables_one}
 use Rattle.dg_sim.proofs.Lists.{hit_or_not, last_before}
 use Rattle.dg_sim.proofs.Carried.{carried}
@@ -193,12 +193,12 @@ module _ (storing : StoringGivesOne) (exactly : OperationGivesOne) (diagram : Di
           λ block b port element t shown below. (f.1.entry block b port element t shown (inl below)).in_range,
         )
 
-pub table_solves : StoringGivesOne → OperationGivesOne → SomeTableSolves
+pub table_solves : StoringGivesOne → OperationGivesOne → RankedTableSolves
 table_solves storing exactly diagram attributes rank stimulus n checked runnable is_stimulus =
     let t = table_some storing exactly diagram attributes rank stimulus n checked runnable is_stimulus in
     (t.0, t.1)
 
-pub solved_in_range : StoringGivesOne → OperationGivesAtMostOne → OperationGivesOne → SolvedIsInRange
+pub solved_in_range : StoringGivesOne → OperationGivesAtMostOne → OperationGivesOne → RankedIsInRange
 solved_in_range storing at_most exactly diagram attributes rank stimulus n table checked runnable is_stimulus solves block b port element t shown below =
     let built = table_some storing exactly diagram attributes rank stimulus n checked runnable is_stimulus in
     subst (λ (v : ℤ). InRange (attributes.type_at block port) v) (tables_one storing at_most diagram attributes rank stimulus n built.0 table checked built.1 solves block t below b port element shown)

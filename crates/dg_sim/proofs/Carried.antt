@@ -1,5 +1,5 @@
 -- The equation of a block reads its instant drivers at the sample, and anything before it: tables that agree there have the same equations.
-use Rattle.std.proofs.Common.{◌≡◌, ℕ, suc, ◌+◌, ◌-◌, ◌<◌, ◌≤◌, ◌⊎◌, inl, inr, Bool, true, false, not, MatchBool, List, map, sum, length, filter, slice_get, Option, Some, None, ℤ, pos, int_lt, All, ap, sym, ◌∙◌, subst, refl, arith, eq-or-lt_of_le, le_of_suc-le-suc}
+use Rattle.std.proofs.Common.{◌≡◌, ℕ, suc, ◌+◌, ◌-◌, ◌<◌, ◌≤◌, ◌⊎◌, inl, inr, Bool, true, false, not, MatchBool, List, map, sum, length, filter, slice_get, Option, Some, None, ℤ, pos, int_lt, ap, sym, ◌∙◌, subst, refl, arith, eq-or-lt_of_le, le_of_suc-le-suc}
 use Rattle.std.specs.Ordering.{int_eq}
 use Rattle.std.proofs.lemmas.List.Elements.{All-filter}
 use Rattle.fx_type.specs.declared.decimal.Decimal.{Decimal}
@@ -17,7 +17,7 @@ use Rattle.dg_waves.specs.Rounds.{numbers_from}
 use Rattle.dg_model.specs.Wires.{width_into, type_into, types_into, value_into, period_into}
 use Rattle.dg_model.specs.Equation.{StoresEntry, IsOpOf, signs_of, is_enabled, IsInputAt, ElementEquation, DelayEquation, MuxEquation, DemuxEquation, RateEquation, EnableEquation, EnOutEquation, KindEquation}
 use Rattle.dg_model.specs.Instant.{reads_now, asks_now}
-use Rattle.dg_sim.specs.inner.Ground.{IsRanked, AreRepeated, HasWidths}
+use Rattle.dg_sim.proofs.Ground.{IsRanked, HasWidths}
 use Rattle.dg_sim.proofs.Lists.{get_holds, any_same, get_number, length_numbers, sum_before, hits_all, second_hit, filter_same, since_same, counted_below, below_repeated}
 use Rattle.dg_sim.proofs.Sources.{IsRead, SourceAgrees, same_into, same_values, control_shown, is_readable}
 

@@ -1,6 +1,6 @@
 -- The edges into a block by its ports.
-use Rattle.std.proofs.Common.{◌≡◌, ℕ, zero, suc, ◌+◌, ◌<◌, ◌≤◌, List, [], ◌∷◌, length, map, slice_get, Option, Some, None, ap, sym, ◌∙◌, subst, refl, arith}
-use Rattle.std.proofs.lemmas.Option.{none-some, same_Some, slice_get_within}
+use Rattle.std.proofs.Common.{◌≡◌, ℕ, zero, suc, ◌+◌, ◌<◌, List, [], ◌∷◌, length, map, slice_get, Option, Some, ap, sym, ◌∙◌, refl, arith}
+use Rattle.std.proofs.lemmas.Option.{none-some, same_Some}
 use Rattle.dg_waves.specs.Rounds.{numbers_from}
 use Rattle.dg_waves.proofs.Waved.{mapped_at}
 use Rattle.dg_model.specs.declared.diagram.Diagram.{Diagram}

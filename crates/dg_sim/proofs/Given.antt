@@ -19,7 +19,7 @@ use Rattle.dg_model.specs.declared.op.Op.{Op}
 use Rattle.dg_model.specs.declared.op.Op.TheVariants.{Sum as OpSum, Gain as OpGain, Product as OpProduct, Switch as OpSwitch, Relational as OpRelational, Logic as OpLogic, Convert as OpConvert, Pass as OpPass}
 use Rattle.dg_model.specs.Signals.{Attributes, Stimulus, Table}
 use Rattle.dg_model.specs.Library.{HasPorts}
-use Rattle.dg_model.specs.Hits.{hits_before, is_enabled_at, counted_hits, is_slow_to_fast}
+use Rattle.dg_model.specs.Hits.{hits_before, counted_hits, is_slow_to_fast}
 use Rattle.dg_model.specs.Operation.{AreInRange, stored_truth, type_of, value_of}
 use Rattle.dg_model.specs.Solves.{IsShown, shown_ports, shown_width}
 use Rattle.dg_waves.specs.Rounds.{numbers_from}
@@ -29,7 +29,7 @@ use Rattle.fx_round.specs.Laws.{StoringGivesOne}
 use Rattle.dg_blocks.specs.Laws.{OperationGivesOne}
 use Rattle.dg_model.specs.Instant.{reads_now}
 use Rattle.dg_model.specs.Dimension.{IsRepeated}
-use Rattle.dg_sim.specs.inner.Ground.{IsRanked, IsRunnable, HasLists, KeepsType, HasWidths, operation_at}
+use Rattle.dg_sim.proofs.Ground.{IsRanked, IsRunnable, HasLists, KeepsType, HasWidths, operation_at}
 use Rattle.dg_sim.proofs.Lists.{get_holds, get_some, get_mapped, length_mapped, get_number, length_numbers, sum_before, part_some, hits_all, second_hit, counted_below, below_repeated}
 use Rattle.dg_sim.proofs.Sources.{IsRead, source_shown, is_readable, type_into_valid, elements_read}
 

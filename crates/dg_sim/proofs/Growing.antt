@@ -1,6 +1,6 @@
 -- Rounds in which what is known stays: after as many as there are blocks nothing more becomes known.
-use Rattle.std.proofs.Common.{◌≡◌, ℕ, zero, suc, ◌<◌, ◌≤◌, ◌⊎◌, inl, inr, List, [], ◌∷◌, length, slice_get, get_or, Option, Some, None, ap, ap₂, sym, ◌∙◌, subst, refl, arith}
-use Rattle.std.proofs.lemmas.Option.{none-some, same_Some, slice_get_within, get_or_from_slice_get, slice_get-get_or}
+use Rattle.std.proofs.Common.{◌≡◌, ℕ, zero, suc, ◌<◌, ◌≤◌, ◌⊎◌, inl, inr, List, [], ◌∷◌, length, slice_get, Option, Some, None, ap, ap₂, sym, ◌∙◌, subst, refl, arith}
+use Rattle.std.proofs.lemmas.Option.{none-some, same_Some, slice_get_within, get_or_from_slice_get}
 use Rattle.dg_waves.specs.Rounds.{round, after_rounds}
 use Rattle.dg_waves.proofs.Waved.{same_places, length_round, round_at, length_after}
 use Rattle.dg_model.specs.Periods.{known_or, known_at}

@@ -1,5 +1,5 @@
 -- The types of a diagram's blocks after all rounds: they are valid, and each is the one that its block takes of those of its inputs.
-use Rattle.std.proofs.Common.{◌≡◌, ℕ, zero, suc, ◌<◌, ◌⊎◌, inl, inr, List, [], ◌∷◌, length, map, slice_get, Option, Some, None, ap, sym, ◌∙◌, subst, refl, arith}
+use Rattle.std.proofs.Common.{◌≡◌, ℕ, zero, suc, ◌<◌, ◌⊎◌, inl, inr, List, [], ◌∷◌, length, map, slice_get, Option, Some, None, ap, sym, ◌∙◌, subst, refl}
 use Rattle.std.proofs.lemmas.Option.{none-some, same_Some, slice_get_within}
 use Rattle.dg_waves.specs.Rounds.{round}
 use Rattle.dg_waves.proofs.Waved.{length_after}
@@ -63,7 +63,7 @@ module _ (sums : FullSumIsOne) (products : FullProductIsOne) (unions : UnionIsOn
   abbrev pub AreTaken : Types → Type 0
   AreTaken types = (place : ℕ) (block : Block) (t : FxType) → slice_get diagram.blocks place ≡ Some block → known_at types place ≡ Some t → taken_type block.kind block.result (input_types diagram types place) ≡ Some t
 
-  inputs_valid : (types : Types) (place : ℕ) → AreValid types → AreValid (input_types diagram types place)
+  pub inputs_valid : (types : Types) (place : ℕ) → AreValid types → AreValid (input_types diagram types place)
   inputs_valid types place v i t e = let s = known_source types (edges_into diagram place) i t e in v s.0 t s.1
 
   start_valid : AreValid start

@@ -1,7 +1,10 @@
 mod Built
 mod Carried
 mod Edges
+mod Fitting
 mod Given
+mod Ground
+mod Grounded
 mod Growing
 mod Known
 mod Lists
@@ -11,4 +14,5 @@ mod Single
 mod Sources
 mod Staying
 mod TypeRules
+mod Typed
 mod Unique

@@ -1,10 +1,10 @@
 -- A rank from an order of the blocks: the place of a block in it.
-use Rattle.std.proofs.Common.{◌≡◌, ℕ, zero, suc, ◌+◌, ◌<◌, ◌≤◌, ◌==◌, ◌&&◌, Bool, true, false, true≢false, cond, List, [], ◌∷◌, ◌++◌, length, map, find, slice_get, Option, Some, None, ap, sym, ◌∙◌, subst, refl, arith, eqb-true, eq-eqb}
+use Rattle.std.proofs.Common.{◌≡◌, ℕ, zero, suc, ◌+◌, ◌<◌, ◌≤◌, ◌==◌, ◌&&◌, Bool, true, false, true≢false, cond, List, [], ◌∷◌, ◌++◌, length, map, find, slice_get, Option, Some, ap, sym, ◌∙◌, subst, refl, arith, eqb-true, eq-eqb}
 use Rattle.std.proofs.lemmas.Option.{none-some, same_Some, slice_get_within, get_or_from_slice_get, slice_get-get_or}
 use Rattle.dg_model.specs.declared.diagram.Diagram.{Diagram}
 use Rattle.dg_model.specs.declared.diagram.Block.{Block}
 use Rattle.dg_model.specs.declared.diagram.Edge.{Edge}
-use Rattle.dg_model.specs.declared.nested.Target.TheVariants.{Port, Enable}
+use Rattle.dg_model.specs.declared.nested.Target.TheVariants.{Enable}
 use Rattle.dg_model.specs.KindRow.{Asking}
 use Rattle.dg_model.specs.Library.{row_of}
 use Rattle.dg_model.specs.Signals.{Attributes}

@@ -15,7 +15,7 @@ use Rattle.dg_model.specs.Hits.{hits_before, counted_hits, is_slow_to_fast}
 use Rattle.dg_model.specs.Operation.{OpGives}
 use Rattle.dg_model.specs.Wires.{widths_into, type_into, types_into, value_into, values_into, entry_of, period_into}
 use Rattle.dg_model.specs.Equation.{StoresEntry, IsOpOf, signs_of, is_enabled, IsInputAt, ElementEquation, MuxEquation, RateEquation, EnOutEquation, KindEquation}
-use Rattle.dg_sim.specs.inner.Ground.{IsRanked}
+use Rattle.dg_sim.proofs.Ground.{IsRanked}
 use Rattle.dg_sim.proofs.Lists.{parts_one}
 use Rattle.fx_round.specs.Laws.{StoringGivesOne}
 use Rattle.dg_blocks.specs.Laws.{OperationGivesAtMostOne}

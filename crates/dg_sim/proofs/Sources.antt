@@ -13,7 +13,7 @@ use Rattle.dg_model.specs.Library.{row_of, HasPorts, IsReadable}
 use Rattle.dg_model.specs.Solves.{IsShown, shown_ports, shown_width, AgreeAt}
 use Rattle.dg_model.specs.Wired.{IsWired, Joins, NamesControl}
 use Rattle.dg_model.specs.Wires.{enters, driver_of, at_source, repeated, width_into, type_into, value_into, values_into}
-use Rattle.dg_sim.specs.inner.Ground.{AreRepeated, HasWidths}
+use Rattle.dg_sim.proofs.Ground.{HasWidths}
 use Rattle.dg_sim.proofs.Lists.{find_holds, get_holds, map_same, below_repeated}
 
 -- the role of a control

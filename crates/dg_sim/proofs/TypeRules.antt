@@ -1,5 +1,5 @@
 -- What a block takes for its type stays while more becomes known, and is a valid type.
-use Rattle.std.proofs.Common.{◌≡◌, ℕ, zero, suc, ◌≤◌, ◌<◌, ◌==◌, ◌&&◌, ◌||◌, Bool, true, false, true≢false, cond, MatchBool, List, [], ◌∷◌, length, map, zip, All, slice_get, Option, Some, None, ℤ, pos, negsuc, ◌≤ℤ◌, ap, sym, ◌∙◌, subst, refl, arith, eq-eqb}
+use Rattle.std.proofs.Common.{◌≡◌, ℕ, suc, ◌==◌, ◌&&◌, ◌||◌, Bool, true, false, true≢false, cond, MatchBool, List, [], ◌∷◌, zip, All, Option, Some, None, ℤ, pos, negsuc, ◌≤ℤ◌, ap, sym, ◌∙◌, subst, refl, arith, eq-eqb}
 use Rattle.std.specs.Ordering.{int_eq}
 use Rattle.std.specs.List.{list_all, list_any}
 use Rattle.std.proofs.lemmas.Int.{ints}
@@ -12,9 +12,9 @@ use Rattle.fx_type.specs.declared.kind.FxType.TheVariants.{Num, Logical}
 use Rattle.fx_type.specs.declared.spec.TypeSpec.{TypeSpec}
 use Rattle.fx_type.specs.declared.spec.TypeSpec.TheVariants.{Fixed, Internal, SameFirst, Auto}
 use Rattle.fx_type.specs.declared.decimal.Decimal.{Decimal}
-use Rattle.fx_type.specs.FxType.{IsType, is_signed, width_of, frac_of}
+use Rattle.fx_type.specs.FxType.{IsType, is_signed, width_of}
 use Rattle.fx_type.specs.FullType.{IsUnion}
-use Rattle.fx_type.specs.FullTypeOf.{full_sum_of, full_product_of, union_of, same_sign, same_type, narrowest_of}
+use Rattle.fx_type.specs.FullTypeOf.{full_sum_of, full_product_of, union_of, same_sign, same_type}
 use Rattle.fx_type.specs.Laws.{FullSumIsOne, FullProductIsOne, UnionIsOne}
 use Rattle.dg_model.specs.declared.kind.Kind.{Kind}
 use Rattle.dg_model.specs.declared.kind.Kind.TheVariants.{Ground}
@@ -22,7 +22,7 @@ use Rattle.dg_model.specs.KindRow.{OwnType, FullRule, IsSpec}
 use Rattle.dg_model.specs.Library.{row_of}
 use Rattle.dg_model.specs.GainParam.{ParamTypeIsOne, IsInternalParam, IsGreatestFit, is_negative, is_zero, is_param_signed, param_width, param_type_of}
 use Rattle.dg_model.specs.Periods.{known_at}
-use Rattle.dg_model.specs.TypeRounds.{with_known, all_known, Types, specified_type, full_type, own_type, taken_type}
+use Rattle.dg_model.specs.TypeRounds.{with_known, all_known, Types, full_type, own_type, taken_type}
 use Rattle.dg_sim.proofs.Growing.{Grows, known_there, there_known, rest_grows}
 
 -- ---- what follows from a known value
@@ -89,7 +89,7 @@ all_valid (x ∷ xs) known v e =
     let k = with_some (all_known xs) (λ tail. Some (h.0 ∷ tail)) known h.2 in
     subst (All IsType) (same_Some (h.0 ∷ k.0) known k.2) (All-cons IsType h.0 k.0 (v 0 h.0 h.1) (all_valid xs k.0 (λ i t e. v (suc i) t e) k.1))
 
-terms_valid : (negative : List Bool) (known : List FxType) → All IsType known → All (λ (term : Bool × FxType). IsType term.1) (zip negative known)
+pub terms_valid : (negative : List Bool) (known : List FxType) → All IsType known → All (λ (term : Bool × FxType). IsType term.1) (zip negative known)
 terms_valid [] known all = All-nil (λ (term : Bool × FxType). IsType term.1)
 terms_valid (b ∷ bs) [] all = All-nil (λ (term : Bool × FxType). IsType term.1)
 terms_valid (b ∷ bs) (t ∷ ts) all = All-cons (λ (term : Bool × FxType). IsType term.1) (b, t) (zip bs ts) (All-head IsType t ts all) (terms_valid bs ts (All-tail IsType t ts all))

@@ -7,10 +7,9 @@ use Rattle.dg_model.specs.Signals.{Attributes, Stimulus, Table}
 use Rattle.dg_model.specs.Hits.{Hits, last_hit}
 use Rattle.dg_model.specs.Equation.{KindEquation, Equation}
 use Rattle.dg_model.specs.Solves.{Solves, AgreeAt, AgreeBelow}
-use Rattle.dg_sim.specs.inner.Ground.{IsRanked}
+use Rattle.dg_sim.proofs.Ground.{IsRanked, RankedTablesAreOne}
 use Rattle.fx_round.specs.Laws.{StoringGivesOne}
 use Rattle.dg_blocks.specs.Laws.{OperationGivesAtMostOne}
-use Rattle.dg_sim.specs.Laws.{TablesAreOne}
 use Rattle.dg_sim.proofs.Lists.{hit_or_not, last_before}
 use Rattle.dg_sim.proofs.Carried.{carried}
 use Rattle.dg_sim.proofs.Single.{kind_one}
@@ -55,5 +54,5 @@ module _ (storing : StoringGivesOne) (at_most : OperationGivesAtMostOne) (diagra
     pub agree : AgreeBelow diagram attributes table other n
     agree block t l = by_sample n (omega arith) block t l
 
-pub tables_one : StoringGivesOne → OperationGivesAtMostOne → TablesAreOne
+pub tables_one : StoringGivesOne → OperationGivesAtMostOne → RankedTablesAreOne
 tables_one storing at_most diagram attributes rank stimulus n table other checked solves solved = agree storing at_most diagram attributes rank stimulus n table other checked solves solved

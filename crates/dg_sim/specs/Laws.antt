@@ -1,22 +1,29 @@
--- Laws of the equations.
-use Rattle.std.specs.Prelude.{◌≡◌, ℕ, suc, ◌<◌}
+-- For a diagram that keeps the rules exactly one table solves (own). The order of its blocks is the one that `Checked` holds; the table is the same by any.
+use Rattle.std.specs.Prelude.{◌≡◌, ℕ, suc, ◌<◌, List}
 use Rattle.fx_type.specs.FxType.{InRange}
 use Rattle.dg_model.specs.declared.diagram.Diagram.{Diagram}
 use Rattle.dg_model.specs.declared.diagram.Block.{Block}
 use Rattle.dg_model.specs.Signals.{Attributes, Stimulus, Table}
+use Rattle.dg_model.specs.Attributes.{attributes_of}
+use Rattle.dg_model.specs.Checked.{IsChecked}
+use Rattle.dg_model.specs.Loop.{IsOrder}
 use Rattle.dg_model.specs.Hits.{Hits}
 use Rattle.dg_model.specs.Solves.{IsStimulus, IsShown, Solves, AgreeBelow}
-use Rattle.dg_sim.specs.inner.Ground.{IsRanked, IsRunnable}
 
--- at most one table solves
+-- the diagram keeps the rules, and this is an order of its blocks along the instant edges
+pub record IsOrdered (diagram : Diagram) (order : List ℕ) : Type 0 where
+  pub checked : IsChecked diagram
+  pub ordered : IsOrder diagram (attributes_of diagram) order
+
+-- at most one table solves: any two agree on all that they show
 abbrev pub TablesAreOne : Type 0
-TablesAreOne = (diagram : Diagram) (attributes : Attributes) (rank : ℕ → ℕ) (stimulus : Stimulus) (n : ℕ) (table other : Table)
-    → IsRanked diagram attributes rank → Solves diagram attributes stimulus n table → Solves diagram attributes stimulus n other → AgreeBelow diagram attributes table other n
+TablesAreOne = (diagram : Diagram) (order : List ℕ) (stimulus : Stimulus) (n : ℕ) (table other : Table)
+    → IsOrdered diagram order → Solves diagram (attributes_of diagram) stimulus n table → Solves diagram (attributes_of diagram) stimulus n other → AgreeBelow diagram (attributes_of diagram) table other n
 
--- some table solves
+-- some table solves, for every stimulus in range
 abbrev pub SomeTableSolves : Type 0
-SomeTableSolves = (diagram : Diagram) (attributes : Attributes) (rank : ℕ → ℕ) (stimulus : Stimulus) (n : ℕ)
-    → IsRanked diagram attributes rank → IsRunnable diagram attributes rank → IsStimulus diagram attributes stimulus n → (table : Table) × Solves diagram attributes stimulus n table
+SomeTableSolves = (diagram : Diagram) (order : List ℕ) (stimulus : Stimulus) (n : ℕ)
+    → IsOrdered diagram order → IsStimulus diagram (attributes_of diagram) stimulus n → (table : Table) × Solves diagram (attributes_of diagram) stimulus n table
 
 -- what a table shows below n is in the range of its type
 abbrev pub EntriesAreInRange : Diagram → Attributes → Table → ℕ → Type 0
@@ -24,8 +31,8 @@ EntriesAreInRange diagram attributes table n = (block : ℕ) (b : Block) (port e
 
 -- so are the entries of each table that solves
 abbrev pub SolvedIsInRange : Type 0
-SolvedIsInRange = (diagram : Diagram) (attributes : Attributes) (rank : ℕ → ℕ) (stimulus : Stimulus) (n : ℕ) (table : Table)
-    → IsRanked diagram attributes rank → IsRunnable diagram attributes rank → IsStimulus diagram attributes stimulus n → Solves diagram attributes stimulus n table → EntriesAreInRange diagram attributes table n
+SolvedIsInRange = (diagram : Diagram) (order : List ℕ) (stimulus : Stimulus) (n : ℕ) (table : Table)
+    → IsOrdered diagram order → IsStimulus diagram (attributes_of diagram) stimulus n → Solves diagram (attributes_of diagram) stimulus n table → EntriesAreInRange diagram (attributes_of diagram) table n
 
 -- off its hits a block keeps the entry of the sample before
 abbrev pub EntriesStay : Type 0

@@ -1,4 +1,3 @@
 pub mod Laws
 pub mod State
 pub mod Steps
-pub mod inner

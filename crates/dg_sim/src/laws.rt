@@ -2,38 +2,50 @@
 ghost use Rattle.dg_sim.specs.Laws.{TablesAreOne, SomeTableSolves, SolvedIsInRange, EntriesStay};
 ghost use Rattle.dg_sim.specs.Steps.{KeptMoves, KeptIsRead, StepsStand};
 
-/// At most one table solves.
+/// For a diagram that keeps the rules at most one table solves (own).
 pub fn tables_are_one()
     ensures { TablesAreOne }
 {
     dg_blocks::operation_gives_one();
     fx_round::storing_gives_one();
+    fx_type::full_sum_is_one();
+    fx_type::full_product_is_one();
+    fx_type::union_is_one();
+    dg_model::param_type_is_one();
 }
 
-/// Some table solves.
+/// For a diagram that keeps the rules and every stimulus in range some table solves (own).
 pub fn some_table_solves()
     ensures { SomeTableSolves }
 {
     dg_blocks::operation_gives_one();
     fx_round::storing_gives_one();
+    fx_type::full_sum_is_one();
+    fx_type::full_product_is_one();
+    fx_type::union_is_one();
+    dg_model::param_type_is_one();
 }
 
-/// What is kept after a sample is what was kept, moved by the sample, and serves the equations.
-pub fn kept_moves()
-    ensures moves { KeptMoves }
-    ensures read { KeptIsRead }
-    ensures stand { StepsStand }
-{}
-
-/// Off its hits a block keeps the entry of the sample before.
-pub fn entries_stay()
-    ensures { EntriesStay }
-{}
-
-/// What a table that solves shows is in range.
+/// What a table that solves shows is in the range of its type (own).
 pub fn solved_is_in_range()
     ensures { SolvedIsInRange }
 {
     dg_blocks::operation_gives_one();
     fx_round::storing_gives_one();
+    fx_type::full_sum_is_one();
+    fx_type::full_product_is_one();
+    fx_type::union_is_one();
+    dg_model::param_type_is_one();
 }
+
+/// Off its hits a block keeps the entry of the sample before (Simulink reference, discrete sample time).
+pub fn entries_stay()
+    ensures { EntriesStay }
+{}
+
+/// What is kept after a sample is what was kept, moved by the sample, and serves the equations (own).
+pub fn kept_moves()
+    ensures moves { KeptMoves }
+    ensures read { KeptIsRead }
+    ensures stand { StepsStand }
+{}

@@ -1,5 +1,5 @@
 -- What the rules of a model give the laws: widths and types that fit, and a rank of each block above those that it reads at once (own).
-use Rattle.std.specs.Prelude.{◌≡◌, ℕ, ◌≤◌, ◌<◌, ◌⊎◌, true, ℤ, List, length, map, sum, All, Some, slice_get, ⊤}
+use Rattle.std.specs.Prelude.{◌≡◌, ℕ, ◌≤◌, ◌<◌, true, length, map, sum, All, Some, slice_get, ⊤}
 use Rattle.fx_type.specs.declared.kind.FxType.TheVariants.{Logical}
 use Rattle.fx_type.specs.FxType.{IsType}
 use Rattle.dg_waves.specs.Rounds.{numbers_from}
@@ -14,9 +14,10 @@ use Rattle.dg_model.specs.Library.{row_of}
 use Rattle.dg_model.specs.Dimension.{IsRepeated}
 use Rattle.dg_model.specs.Instant.{reads_now, asks_now}
 use Rattle.dg_model.specs.Operation.{Operation, CanPrepare}
-use Rattle.dg_model.specs.Signals.{Attributes}
+use Rattle.dg_model.specs.Signals.{Attributes, Stimulus, Table}
 use Rattle.dg_model.specs.Equation.{IsOpOf, signs_of}
-use Rattle.dg_model.specs.Solves.{shown_ports, shown_width}
+use Rattle.dg_model.specs.Solves.{IsStimulus, Solves, AgreeBelow, shown_ports, shown_width}
+use Rattle.dg_sim.specs.Laws.{EntriesAreInRange}
 use Rattle.dg_model.specs.Wires.{driver_of, width_into, widths_into, type_into, types_into}
 use Rattle.dg_model.specs.Wired.{IsWired}
 
@@ -87,3 +88,20 @@ pub record IsRunnable (diagram : Diagram) (attributes : Attributes) (rank : ℕ 
   -- the ranks lie below a bound
   pub bound : ℕ
   pub ranks : (block : ℕ) (b : Block) → slice_get diagram.blocks block ≡ Some b → rank block < bound
+
+-- ---- the laws, from a rank
+
+-- at most one table solves
+abbrev pub RankedTablesAreOne : Type 0
+RankedTablesAreOne = (diagram : Diagram) (attributes : Attributes) (rank : ℕ → ℕ) (stimulus : Stimulus) (n : ℕ) (table other : Table)
+    → IsRanked diagram attributes rank → Solves diagram attributes stimulus n table → Solves diagram attributes stimulus n other → AgreeBelow diagram attributes table other n
+
+-- some table solves
+abbrev pub RankedTableSolves : Type 0
+RankedTableSolves = (diagram : Diagram) (attributes : Attributes) (rank : ℕ → ℕ) (stimulus : Stimulus) (n : ℕ)
+    → IsRanked diagram attributes rank → IsRunnable diagram attributes rank → IsStimulus diagram attributes stimulus n → (table : Table) × Solves diagram attributes stimulus n table
+
+-- what it shows is in range
+abbrev pub RankedIsInRange : Type 0
+RankedIsInRange = (diagram : Diagram) (attributes : Attributes) (rank : ℕ → ℕ) (stimulus : Stimulus) (n : ℕ) (table : Table)
+    → IsRanked diagram attributes rank → IsRunnable diagram attributes rank → IsStimulus diagram attributes stimulus n → Solves diagram attributes stimulus n table → EntriesAreInRange diagram attributes table n

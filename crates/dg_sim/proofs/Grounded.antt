@@ -1,0 +1,59 @@
+-- A diagram that keeps the rules, with an order of its blocks, is ranked and runnable.
+use Rattle.std.proofs.Common.{ℕ, length, List}
+use Rattle.fx_type.specs.Laws.{FullSumIsOne, FullProductIsOne, UnionIsOne}
+use Rattle.fx_round.specs.Laws.{StoringGivesOne}
+use Rattle.dg_model.specs.declared.diagram.Diagram.{Diagram}
+use Rattle.dg_model.specs.GainParam.{ParamTypeIsOne}
+use Rattle.dg_model.specs.Attributes.{attributes_of}
+use Rattle.dg_sim.specs.Laws.{IsOrdered, TablesAreOne, SomeTableSolves, SolvedIsInRange}
+use Rattle.dg_sim.proofs.Ground.{IsRanked, IsRunnable}
+use Rattle.dg_blocks.specs.Laws.{OperationGivesAtMostOne, OperationGivesOne}
+use Rattle.dg_sim.proofs.Unique.{tables_one}
+use Rattle.dg_sim.proofs.Built.{table_solves, solved_in_range}
+use Rattle.dg_sim.proofs.Ranks.{rank, driver_lower, control_lower, rank_below}
+use Rattle.dg_sim.proofs.Fitting.{widths_fit, lists_fit}
+use Rattle.dg_sim.proofs.Known.{type_valid}
+use Rattle.dg_sim.proofs.Typed.{type_kept, param_type_valid, operation_prepares}
+
+module _ (storing : StoringGivesOne) (sums : FullSumIsOne) (products : FullProductIsOne) (unions : UnionIsOne) (params : ParamTypeIsOne)
+    (diagram : Diagram) (order : List ℕ) (ordered : IsOrdered diagram order)
+  where
+    abbrev pub order_rank : ℕ → ℕ
+    order_rank place = rank diagram (attributes_of diagram) order ordered.ordered place
+
+    pub ranked : IsRanked diagram (attributes_of diagram) order_rank
+    ranked = record {
+      wired = ordered.checked.wired;
+      widths = λ block b e. widths_fit diagram ordered.checked.wired ordered.checked.dimensions block b e;
+      types = λ block b port e from to. type_valid sums products unions params diagram ordered.checked.wired block;
+      params = λ block b e. param_type_valid storing sums products unions params diagram ordered.checked.wired ordered.checked.types block b e;
+      drivers = λ block b port edge e now driver. driver_lower diagram (attributes_of diagram) order ordered.ordered block b port edge e now driver;
+      controls = λ block b control e asks is. control_lower diagram (attributes_of diagram) order ordered.ordered block b control e asks is;
+    }
+
+    pub runnable : IsRunnable diagram (attributes_of diagram) order_rank
+    runnable = record {
+      lists = λ block b e. lists_fit diagram ordered.checked.wired ordered.checked.dimensions block b e;
+      kept = λ block b e. type_kept storing sums products unions params diagram ordered.checked.wired ordered.checked.types block b e;
+      operations = λ block b element op e is. operation_prepares storing sums products unions params diagram ordered.checked.wired ordered.checked.types block b e element op is;
+      bound = length order;
+      ranks = λ block b e. rank_below diagram (attributes_of diagram) order ordered.ordered block b e;
+    }
+
+module _ (storing : StoringGivesOne) (at_most : OperationGivesAtMostOne) (exactly : OperationGivesOne)
+    (sums : FullSumIsOne) (products : FullProductIsOne) (unions : UnionIsOne) (params : ParamTypeIsOne)
+  where
+    pub checked_tables_one : TablesAreOne
+    checked_tables_one diagram order stimulus n table other ordered solves solved =
+        tables_one storing at_most diagram (attributes_of diagram) (order_rank storing sums products unions params diagram order ordered) stimulus n table other
+        (ranked storing sums products unions params diagram order ordered) solves solved
+
+    pub checked_table_solves : SomeTableSolves
+    checked_table_solves diagram order stimulus n ordered is_stimulus =
+        table_solves storing exactly diagram (attributes_of diagram) (order_rank storing sums products unions params diagram order ordered) stimulus n
+        (ranked storing sums products unions params diagram order ordered) (runnable storing sums products unions params diagram order ordered) is_stimulus
+
+    pub checked_in_range : SolvedIsInRange
+    checked_in_range diagram order stimulus n table ordered is_stimulus solves =
+        solved_in_range storing at_most exactly diagram (attributes_of diagram) (order_rank storing sums products unions params diagram order ordered) stimulus n table
+        (ranked storing sums products unions params diagram order ordered) (runnable storing sums products unions params diagram order ordered) is_stimulus solves
