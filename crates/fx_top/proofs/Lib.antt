@@ -3,11 +3,15 @@ pub mod Carried
 pub mod Different
 pub mod Generated
 pub mod Header
+pub mod Lines
 pub mod Loop
 pub mod Names
 mod Outcomes
+pub mod Replayed
+pub mod Responses
 pub mod Running
 pub mod Sayings
 pub mod Spelled
 pub mod Texts
+pub mod Unfetched
 mod UnitDelay

@@ -1,11 +1,14 @@
 -- Bytes said in two steps.
-use Rattle.std.proofs.Common.{◌≡◌, ◌≤◌, ◌+◌, ℕ, List, ◌++◌, length, take, Option, None, Some, refl, ap, append_assoc, ◌∙◌, sym, arith}
+use Rattle.std.proofs.Common.{◌≡◌, ◌<◌, ◌≤◌, ◌+◌, ℕ, zero, suc, codes, List, ◌∷◌, get_or, ◌++◌, length, length-append, take, Option, None, Some, refl, ap, [], append_assoc, append-nil, ◌∙◌, subst, sym, arith}
+use Rattle.std.proofs.lemmas.List.{take-append-le}
 use Rattle.std.proofs.Math.Seq.{take-append-add}
-use Rattle.fx_io.specs.Sink.{also_took}
+use Rattle.fx_io.specs.Sink.{TookProperPrefix, also_took}
 use Rattle.fx_io.specs.Cause.{Rose}
+use Rattle.std.specs.List.{flat_map}
 use Rattle.fx_top.specs.Call.{Said}
+use Rattle.fx_top.specs.Messages.{names_end}
 
-took-both : (told : Option (List ℕ)) (first second : List ℕ) → also_took (also_took told first) second ≡ also_took told (first ++ second)
+pub took-both : (told : Option (List ℕ)) (first second : List ℕ) → also_took (also_took told first) second ≡ also_took told (first ++ second)
 took-both None first second = refl
 took-both (Some earlier) first second = ap Some (append_assoc earlier first second)
 
@@ -19,3 +22,35 @@ said-more told before now f0 f1 f2 piece more took later said =
       prefix = (length piece + said.prefix.0, joined (take said.prefix.0 more) said.prefix.1 ∙ ap (also_took told) (sym (take-append-add piece more said.prefix.0)));
       whole = λ calm. joined more (said.whole (λ rose. calm (omega arith)));
     }
+
+-- part of a piece, after a fault
+pub took-more : (told before now : Option (List ℕ)) (done piece rest : List ℕ) → before ≡ also_took told done → TookProperPrefix before now piece → TookProperPrefix told now (done ++ (piece ++ rest))
+took-more told before now done piece rest took part =
+    let count = part.0 in
+    let short : count < length piece = part.1.0 in
+    let cut : take (length done + count) (done ++ (piece ++ rest)) ≡ done ++ take count piece =
+    take-append-add done (piece ++ rest) count ∙ ap (λ xs. done ++ xs) (take-append-le count piece rest (omega (arith, short))) in (
+      length done + count,
+      (
+        (let a = length-append done (piece ++ rest) in let b = length-append piece rest in omega (arith, a, b, short)),
+        part.1.1 ∙ ap (λ state. also_took state (take count piece)) took ∙ took-both told done (take count piece) ∙ ap (also_took told) (sym cut),
+      ),
+    )
+
+pub took-last : (told before now : Option (List ℕ)) (done piece : List ℕ) → before ≡ also_took told done → TookProperPrefix before now piece → TookProperPrefix told now (done ++ piece)
+took-last told before now done piece took part =
+    subst (λ bytes. TookProperPrefix told now (done ++ bytes)) (append-nil piece) (took-more told before now done piece [] took part)
+
+-- a proper prefix, after a fault
+pub said-cut : (told now : Option (List ℕ)) (f0 f1 f2 : ℕ) (bytes : List ℕ) → f0 ≤ f1 → Rose f1 f2 → TookProperPrefix told now bytes → Said (record { before = told; now = now; failed = Rose f0 f2 }) bytes
+said-cut told now f0 f1 f2 bytes later rose part = record { prefix = (part.0, part.1.1); whole = λ calm. absurd (calm (omega (arith, rose, later))) }
+
+-- a name among those of a loop, between those before it and what follows
+pub names-split : (names : List (List ℕ)) (k : ℕ) (name : List ℕ) → k < length names → name ≡ get_or names k name
+    → (rest : List ℕ) × (names_end names ≡ flat_map (λ name. 32 ∷ name) (take k names) ++ ((32 ∷ name) ++ rest))
+names-split [] k name below is = absurd (omega (arith, below))
+names-split (x ∷ names) zero name below is =
+    (names_end names, ap (λ (n : List ℕ). ((32 ∷ n) ++ flat_map (λ name. 32 ∷ name) names) ++ codes "\n") (sym is) ∙ append_assoc (32 ∷ name) (flat_map (λ name. 32 ∷ name) names) (codes "\n"))
+names-split (x ∷ names) (suc k) name below is =
+    let more = names-split names k name (omega (arith, below)) is in
+    (more.0, append_assoc (32 ∷ x) (flat_map (λ name. 32 ∷ name) names) (codes "\n") ∙ ap (λ bytes. (32 ∷ x) ++ bytes) more.1 ∙ sym (append_assoc (32 ∷ x) (flat_map (λ name. 32 ∷ name) (take k names)) ((32 ∷ name) ++ more.0)))

@@ -3,9 +3,12 @@ use Rattle.std.specs.Prelude.{◌≡◌, ℕ, List, Contains, All, Some}
 use Rattle.fx_io.specs.Shelf.{Fetched, IsOverlong}
 use Rattle.fx_io.specs.Sink.{also_took, TookProperPrefix}
 use Rattle.fx_top.specs.Call.{Files, Stream}
-use Rattle.fx_top.specs.Command.{Command, model_of, files_of}
+use Rattle.fx_top.specs.Command.{Command, model_of, verilog_of, stimulus_of, files_of}
 use Rattle.fx_top.specs.Trouble.{Absent, Overlong, first_trouble, file_limit}
 use Rattle.fx_top.specs.Output.{IsNotMdl, IsNotBuilt, IsOutput}
+use Rattle.fx_top.specs.Replayed.{IsBadStimulus, IsBroken, IsNotVerilog}
+use Rattle.fx_tables.specs.declared.table.TableCause.{TableCause}
+use Rattle.vl_check.specs.declared.fault.VlFault.{VlFault}
 
 -- a fetched file was not to be had; over a steady shelf it is the first in trouble, and it isn't held
 pub record CannotBeRead (files : Files) (command : Command) (file : List ℕ) : Type 0 where
@@ -42,6 +45,33 @@ pub record HasOtherForm (files : Files) (command : Command) (file : List ℕ) : 
   pub bytes : List ℕ
   pub fetched : IsFetched files file bytes
   pub not_built : IsNotBuilt bytes
+
+-- the file is the stimulus, and what was fetched of it has its first bad line there, by the columns of the
+-- module that the Verilog text spells, which breaks no condition
+pub record HasBadLine (files : Files) (command : Command) (file : List ℕ) (line : ℕ) (cause : TableCause) : Type 0 where
+  pub is_stimulus : stimulus_of command ≡ Some file
+  pub verilog_file : List ℕ
+  pub is_verilog : verilog_of command ≡ Some verilog_file
+  pub verilog : List ℕ
+  pub stimulus : List ℕ
+  pub verilog_fetched : IsFetched files verilog_file verilog
+  pub stimulus_fetched : IsFetched files file stimulus
+  pub bad : IsBadStimulus verilog stimulus line cause
+
+-- the file is the Verilog text, and what was fetched of it isn't in the subset, and stops being the beginning
+-- of a text at this line
+pub record HasNoVerilog (files : Files) (command : Command) (file : List ℕ) (line : ℕ) : Type 0 where
+  pub is_verilog : verilog_of command ≡ Some file
+  pub bytes : List ℕ
+  pub fetched : IsFetched files file bytes
+  pub not_verilog : IsNotVerilog bytes line
+
+-- the file is the Verilog text, and the first condition that its module breaks is this one
+pub record BreaksCondition (files : Files) (command : Command) (file : List ℕ) (fault : VlFault) : Type 0 where
+  pub is_verilog : verilog_of command ≡ Some file
+  pub bytes : List ℕ
+  pub fetched : IsFetched files file bytes
+  pub broken : IsBroken bytes fault
 
 -- the command's text was taken whole
 pub record WroteAll (files : Files) (out : Stream) (command : Command) : Type 0 where

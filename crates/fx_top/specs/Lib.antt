@@ -9,5 +9,6 @@ pub mod Messages
 pub mod OneDelay
 pub mod Outcome
 pub mod Output
+pub mod Replayed
 pub mod Trouble
 pub mod inner

@@ -9,9 +9,10 @@ use Rattle.vl_ast.specs.Grammar.{Spells}
 use Rattle.vl_ast.specs.Spelling.{spelling}
 use Rattle.fx_top.specs.declared.one_delay.OneDelay.{OneDelay}
 use Rattle.fx_top.specs.Carries.{Carries}
-use Rattle.fx_top.specs.Command.{Command, Generate}
+use Rattle.fx_top.specs.Command.{Command, Generate, Replay}
 use Rattle.fx_top.specs.DelayTree.{IsOneDelay}
 use Rattle.fx_top.specs.OneDelay.{delay_interface, SolvesDelay}
+use Rattle.fx_top.specs.Replayed.{IsReplayOf}
 use Rattle.fx_top.specs.Trouble.{file_limit}
 
 -- the text spells this module and no other
@@ -62,6 +63,15 @@ pub record IsBuilt (bytes : List ℕ) : Type 0 where
   pub delay : OneDelay
   pub form : IsOneDelay tree delay
 
+-- the text is the response of what was fetched of two files
+pub record IsReplayOfFiles (verilog stimulus : Told) (text : List ℕ) : Type 0 where
+  pub verilog_bytes : List ℕ
+  pub stimulus_bytes : List ℕ
+  pub verilog_fetched : Fetched verilog file_limit verilog_bytes
+  pub stimulus_fetched : Fetched stimulus file_limit stimulus_bytes
+  pub replay : IsReplayOf verilog_bytes stimulus_bytes text
+
 -- the text that a command writes of what was fetched from the shelf
 abbrev pub IsOutput : Command → (List ℕ → Told) → List ℕ → Type 0
 IsOutput (Generate model) held text = (bytes : List ℕ) × (Fetched (held model) file_limit bytes × IsVerilogOf bytes [] text)
+IsOutput (Replay verilog stimulus) held text = IsReplayOfFiles (held verilog) (held stimulus) text

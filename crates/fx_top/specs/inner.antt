@@ -1,4 +1,5 @@
 pub mod DelayModule
 pub mod Fetching
 pub mod Named
+pub mod Responding
 pub mod Template

@@ -8,6 +8,8 @@ ghost use Rattle.fx_top.specs.inner.Named.{named};
 pub enum Command<'a> {
     /// To write the Verilog text of a model under the empty plan.
     Generate { model: &'a str },
+    /// To write the response of a Verilog text to a stimulus.
+    Replay { verilog: &'a str, stimulus: &'a str },
 }
 
 impl<'a> Command<'a> {
@@ -21,6 +23,10 @@ impl<'a> Command<'a> {
                     model: model.as_str(),
                 })
             }
+            [verb, verilog, stimulus] if verb.as_str() == "replay" => Some(Command::Replay {
+                verilog: verilog.as_str(),
+                stimulus: stimulus.as_str(),
+            }),
             _ => None,
         }
     }

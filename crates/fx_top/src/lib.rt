@@ -10,6 +10,8 @@
 //! A further command adds a case to `Command`, `command_of`, `files_of`, `IsOutput` and `CanBeDone`; a
 //! further answer adds one to `Answer`, `status_of`, `line_of`, `HasCause` and `HasWritten`.
 //!
+//! `replay` writes a response that is `IsReplayOf` (`specs/Replayed.antt`) the two texts.
+//!
 //! The headline is `IsVerilogOf` in `specs/Output.antt`: the text spells a module alone that carries
 //! the model. `specs/Carries.antt` says what that is, for any interface and any relation of stimulus and
 //! entries; `specs/OneDelay.antt` and `specs/DelayTree.antt` have those of the one form that is built.
@@ -22,6 +24,8 @@ mod delay_tree;
 mod fetch;
 mod generate;
 mod one_delay;
+mod replay;
+mod response;
 mod small_number;
 mod template;
 mod top;

@@ -1,3 +1,5 @@
+mod replays;
+
 use crate::run;
 use fx_io::{Failed, MemShelf, MemSink, Sink};
 use std::test::Fail;
@@ -22,8 +24,29 @@ fn answered(
     failing_puts: &[u64],
     piece: usize,
 ) -> Result<(u8, String, String), Fail> {
+    answered_over(
+        rt,
+        words,
+        &[("m", model)],
+        failing_fetches,
+        failing_puts,
+        piece,
+    )
+}
+
+/// The status of a call over a shelf with these files, and what the two sinks took.
+fn answered_over(
+    rt: &HostRuntime,
+    words: &[&str],
+    files: &[(&str, &str)],
+    failing_fetches: &[u64],
+    failing_puts: &[u64],
+    piece: usize,
+) -> Result<(u8, String, String), Fail> {
     let mut shelf = MemShelf::new(rt.alloc(), failing_fetches)?;
-    shelf.add("m", model.as_bytes())?;
+    for (name, text) in files {
+        shelf.add(name, text.as_bytes())?;
+    }
     let mut out = MemSink::new(rt.alloc(), failing_puts, piece, ROOM)?;
     let mut err = MemSink::new(rt.alloc(), &[], ROOM, ROOM)?;
     let mut texts = Vec::new(rt.alloc());
@@ -64,20 +87,25 @@ fn each_status_has_its_line(rt: HostRuntime) -> Result<(), Fail> {
             &["generate", "m"],
             UNIT_DELAY,
             2,
-            "usage: generate MODEL -\n",
+            "usage: generate MODEL -, replay VERILOG STIM\n",
         ),
-        (&[], UNIT_DELAY, 2, "usage: generate MODEL -\n"),
+        (
+            &[],
+            UNIT_DELAY,
+            2,
+            "usage: generate MODEL -, replay VERILOG STIM\n",
+        ),
         (
             &["invent", "m", "-"],
             UNIT_DELAY,
             2,
-            "usage: generate MODEL -\n",
+            "usage: generate MODEL -, replay VERILOG STIM\n",
         ),
         (
             &["generate", "m", "p"],
             UNIT_DELAY,
             2,
-            "usage: generate MODEL -\n",
+            "usage: generate MODEL -, replay VERILOG STIM\n",
         ),
         (
             &["generate", "n", "-"],

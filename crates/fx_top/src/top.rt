@@ -7,12 +7,14 @@ ghost use Rattle.fx_top.specs.Outcome.{IfCommand, IsDue, IsComplete};
 use crate::answer::Answer;
 use crate::command::Command;
 use crate::generate::generate;
+use crate::replay::replay;
 use fx_io::{Shelf, Sink};
 use std::alloc::Global;
 
 /// Does what the words after the program's name ask for, and gives the exit status (own).
 ///
-/// `generate MODEL -` writes the Verilog text of a model. The files come from `shelf`, the text goes
+/// `generate MODEL -` writes the Verilog text of a model. `replay VERILOG STIM` writes what the module
+/// of a Verilog text of the subset shows under a stimulus. The files come from `shelf`, the text goes
 /// to `out`, and each status but 0 puts one line to `err`, whose failure changes nothing.
 pub fn run<S: Shelf, K: Sink, E: Sink>(
     alloc: Global,
@@ -32,6 +34,7 @@ pub fn run<S: Shelf, K: Sink, E: Sink>(
         (stream_in K.taken K.faults out.old out.new) command result) }
 {
     mdl_text::unique();
+    vl_read::unique();
     let answer = carry_out(alloc, words, shelf, out);
     answer.report(err);
     answer.status()
@@ -51,5 +54,8 @@ fn carry_out<'a, S: Shelf, K: Sink>(
     match Command::of_words(words) {
         None => Answer::Usage,
         Some(Command::Generate { model }) => generate(alloc, model, shelf, out),
+        Some(Command::Replay { verilog, stimulus }) => {
+            replay(alloc, verilog, stimulus, shelf, out)
+        }
     }
 }

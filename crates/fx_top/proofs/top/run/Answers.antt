@@ -15,10 +15,10 @@ pub returns-clause-due : goal.returns-clause-due
 returns-clause-due g c = rw c.status.ensures (due-clause
     (files_in g.S.Shelf.held g.S.Shelf.steady g.S.Shelf.faults g.S.Shelf.overlong c.args.shelf.now c.carry_out-answer.new.shelf)
     (stream_in g.K.Sink.taken g.K.Sink.faults c.args.out.now c.carry_out-answer.new.out)
-    c.unique.ensures (map string_bytes c.args.words.now) c.carry_out-answer.result c.carry_out-answer.ensures)
+    c.unique.ensures c.unique-2.ensures (map string_bytes c.args.words.now) c.carry_out-answer.result c.carry_out-answer.ensures)
 
 pub returns-clause-complete : goal.returns-clause-complete
 returns-clause-complete g c = rw c.status.ensures (complete-clause
     (files_in g.S.Shelf.held g.S.Shelf.steady g.S.Shelf.faults g.S.Shelf.overlong c.args.shelf.now c.carry_out-answer.new.shelf)
     (stream_in g.K.Sink.taken g.K.Sink.faults c.args.out.now c.carry_out-answer.new.out)
-    c.unique.ensures (map string_bytes c.args.words.now) c.carry_out-answer.result c.carry_out-answer.ensures)
+    c.unique.ensures c.unique-2.ensures (map string_bytes c.args.words.now) c.carry_out-answer.result c.carry_out-answer.ensures)

@@ -1,0 +1,44 @@
+-- What a filled replay and the writer of its lines are.
+use Rattle.std.proofs.Common.{◌≡◌, ◌<◌, ℕ, List, [], ◌∷◌, length, map, refl, sym, ap, subst, ◌∙◌}
+use Rattle.std.proofs.lemmas.List.{length-map}
+use Rattle.fx_tables.specs.declared.row_text.RowText.{RowText}
+use Rattle.fx_tables.specs.declared.table.Column.{Column}
+use Rattle.fx_tables.specs.declared.table.Rows.{Rows as Table}
+use Rattle.fx_tables.specs.Response.{response}
+use Rattle.fx_tables.specs.RowText.{periods_of}
+use Rattle.fx_tables.specs.Stimulus.{IsRows}
+use Rattle.vl_ast.specs.declared.modules.Port.{Port}
+use Rattle.vl_ast.specs.declared.modules.Module.{Module}
+use Rattle.vl_ast.specs.Driven.{output_ports, stimulus_ports}
+use Rattle.vl_replay.specs.declared.replay.Replay.{Replay}
+use Rattle.vl_replay.specs.Columns.{columns_of, step_of}
+use Rattle.vl_replay.specs.Replays.{HasRoom, stimulus_of, table_of}
+use Rattle.vl_replay.specs.Sampled.{Sampled, numbers_of}
+use Rattle.fx_top.specs.Replayed.{IsSoundText}
+use Rattle.fx_top.specs.inner.Responding.{IsResponseTo}
+
+periods-are : (ports : List Port) → map (λ (column : Column). column.period) (columns_of ports) ≡ map step_of ports
+periods-are [] = refl
+periods-are (port ∷ ports) = ap (λ periods. step_of port ∷ periods) (periods-are ports)
+
+pub responds : (verilog stimulus : List ℕ) (m : Module) (rows : Table) (inputs outputs : List Column) (count samples : ℕ) (replay : Replay) (text : RowText)
+    → IsSoundText verilog m → inputs ≡ columns_of (stimulus_ports m) → outputs ≡ columns_of (output_ports m) → count ≡ length outputs → IsRows inputs count stimulus rows → samples ≡ rows.lines
+    → periods_of text ≡ map (λ (column : Column). column.period) outputs → HasRoom replay → stimulus_of replay ≡ rows → Sampled m (numbers_of rows) rows.lines (table_of replay)
+    → IsResponseTo verilog stimulus (record { samples = samples; replay = replay; text = text })
+responds verilog stimulus m rows inputs outputs count samples replay text sound ins outs many are lines periods room of sampled =
+    let number : count ≡ length (output_ports m) = many ∙ ap length outs ∙ length-map (output_ports m) _ in
+    let steps : periods_of text ≡ map step_of (output_ports m) = periods ∙ ap (λ columns. map (λ (column : Column). column.period) columns) outs ∙ periods-are (output_ports m) in
+    record {
+      room = room;
+      samples = lines ∙ ap (λ (table : Table). table.lines) (sym of);
+      wide = λ t below. sampled.long t (subst (λ n. t < n) lines below) ∙ sym (ap length steps ∙ length-map (output_ports m) step_of);
+      replay = record {
+        made = m;
+        spelled = sound;
+        rows = rows;
+        rows_are = subst (λ columns. IsRows columns (length (output_ports m)) stimulus rows) ins (subst (λ n. IsRows inputs n stimulus rows) number are);
+        table = table_of replay;
+        sampled = sampled;
+        text_is = ap (λ p. response p (table_of replay) samples) steps ∙ ap (response (map step_of (output_ports m)) (table_of replay)) lines;
+      };
+    }

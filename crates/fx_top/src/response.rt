@@ -1,0 +1,142 @@
+ghost use Rattle.std.specs.Prelude.{◌≡◌, ◌<◌, ℕ, Err, IfOk, OnErr, OnOk, is_some, length};
+ghost use Rattle.fx_io.specs.Cause.{Rose};
+ghost use Rattle.fx_io.specs.Sink.{TookProperPrefix, also_took};
+ghost use Rattle.fx_tables.specs.Response.{response};
+ghost use Rattle.fx_tables.specs.RowText.{periods_of};
+ghost use Rattle.fx_tables.specs.declared.table.TableCause.{TableCause as CauseOf};
+ghost use Rattle.vl_check.specs.declared.fault.VlFault.{VlFault as FaultOf};
+ghost use Rattle.fx_top.specs.Replayed.{IsBadStimulus, IsBroken, IsNotVerilog, condition_of};
+ghost use Rattle.fx_top.specs.inner.Responding.{IsMachineOf, IsResponseTo};
+ghost use Rattle.vl_replay.specs.Replays.{HasRoom, stimulus_of, table_of};
+
+use fx_io::{OutOfMemory, PutFault, Sink, put_all};
+use fx_tables::{RowText, TableCause, TableFault, read_rows};
+use std::alloc::Global;
+use vl_check::VlFault;
+use vl_eval::Machine;
+use vl_read::VlSyntax;
+use vl_replay::{PortColumns, Replay, columns};
+
+/// Why a Verilog text has no response to a stimulus.
+#[derive(Drop)]
+pub enum ReplayFault {
+    /// The text is not in the subset; it stops being the beginning of one at this line, from 1.
+    NotVerilog { line: u64 },
+    /// The module of the text breaks this condition first.
+    Broken { fault: VlFault },
+    /// The stimulus has its first bad line there, from 1.
+    BadTable { line: u64, cause: TableCause },
+    /// Memory is wanting.
+    OutOfMemory,
+}
+
+impl From<OutOfMemory> for ReplayFault {
+    ghost use Rattle.std.specs.Prelude.{◌≡◌};
+    ghost use Rattle.fx_top.specs.declared.response.ReplayFault.TheVariants.{OutOfMemory as WithoutMemory};
+
+    ghost from_gives = { λ _ fault. fault ≡ WithoutMemory };
+
+    fn from(_refused: OutOfMemory) -> ReplayFault {
+        ReplayFault::OutOfMemory
+    }
+}
+
+/// A replay that is filled, and the writer of its lines.
+#[derive(Drop)]
+pub struct Response {
+    pub samples: u64,
+    pub replay: Replay,
+    pub text: RowText,
+}
+
+/// The machine of a Verilog text.
+fn machine_of(alloc: Global, verilog: &[u8]) -> Result<Machine, ReplayFault>
+    ensures made { IfOk result (IsMachineOf verilog.now) }
+    ensures not_verilog { (line : ℕ) → result ≡ Err (ReplayFault.NotVerilog line) → IsNotVerilog verilog.now line }
+    ensures broken { (fault : FaultOf) → result ≡ Err (ReplayFault.Broken fault) → IsBroken verilog.now fault }
+    ensures good { (line : ℕ) (cause : CauseOf) → result ≡ Err (ReplayFault.BadTable line cause) → ⊥ }
+{
+    let made = match vl_read::read(alloc, verilog) {
+        Ok(made) => made,
+        Err(VlSyntax::Syntax { line }) => return Err(ReplayFault::NotVerilog { line }),
+        Err(VlSyntax::OutOfMemory) => return Err(ReplayFault::OutOfMemory),
+    };
+    match Machine::new(alloc, made) {
+        Ok(machine) => Ok(machine),
+        Err(fault) => {
+            if is_condition(&fault) {
+                Err(ReplayFault::Broken { fault })
+            } else {
+                Err(ReplayFault::OutOfMemory)
+            }
+        }
+    }
+}
+
+/// Whether the fault is a broken condition, and not want of memory.
+fn is_condition(fault: &VlFault) -> bool
+    ensures { result ≡ is_some (condition_of fault.now) }
+{
+    match fault {
+        VlFault::Undriven { .. }
+        | VlFault::Doubly { .. }
+        | VlFault::CombLoop { .. }
+        | VlFault::TooWide { .. }
+        | VlFault::NoReset { .. }
+        | VlFault::NoAttribute { .. } => true,
+        VlFault::OutOfMemory => false,
+    }
+}
+
+/// The response of a Verilog text to a stimulus.
+pub fn response_of(alloc: Global, verilog: &[u8], stimulus: &[u8]) -> Result<Response, ReplayFault>
+    ensures made { IfOk result (IsResponseTo verilog.now stimulus.now) }
+    ensures not_verilog { (line : ℕ) → result ≡ Err (ReplayFault.NotVerilog line) → IsNotVerilog verilog.now line }
+    ensures broken { (fault : FaultOf) → result ≡ Err (ReplayFault.Broken fault) → IsBroken verilog.now fault }
+    ensures bad { (line : ℕ) (cause : CauseOf) → result ≡ Err (ReplayFault.BadTable line cause) → IsBadStimulus verilog.now stimulus.now line cause }
+{
+    let machine = match machine_of(alloc, verilog) {
+        Ok(machine) => machine,
+        Err(fault) => return Err(fault),
+    };
+    let PortColumns { inputs, outputs } = columns(alloc, &machine)?;
+    let count = outputs.as_slice().len() as u64;
+    let rows = match read_rows(alloc, stimulus, inputs.as_slice(), count) {
+        Ok(rows) => rows,
+        Err(TableFault::Bad { line, cause }) => {
+            return Err(ReplayFault::BadTable { line, cause });
+        }
+        Err(TableFault::OutOfMemory) => return Err(ReplayFault::OutOfMemory),
+    };
+    let samples = rows.count();
+    let text = RowText::new(alloc, outputs.as_slice())?;
+    let mut replay = Replay::new(alloc, machine, rows)?;
+    replay.fill();
+    Ok(Response {
+        samples,
+        replay,
+        text,
+    })
+}
+
+/// Puts the lines of so many samples, each by itself. It takes no memory.
+pub fn write_lines<K: Sink>(
+    replay: &Replay,
+    text: &mut RowText,
+    samples: u64,
+    out: &mut K,
+) -> Result<(), PutFault>
+    requires room { HasRoom replay.now }
+    requires samples { samples ≡ (stimulus_of replay.now).lines }
+    requires wide { (t : ℕ) → t < samples → length (table_of replay.now t) ≡ length (periods_of text.old) }
+    ensures whole { OnOk result (K.taken out.new ≡ also_took (K.taken out.old) (response (periods_of text.old) (table_of replay.now) samples)) }
+    ensures cut { OnErr result (TookProperPrefix (K.taken out.old) (K.taken out.new) (response (periods_of text.old) (table_of replay.now) samples)) }
+    ensures cause { OnErr result (Rose (K.faults out.old) (K.faults out.new)) }
+{
+    for sample in 0..samples {
+        if let Err(fault) = put_all(out, text.line(sample, replay.row(sample))) {
+            return Err(fault);
+        }
+    }
+    Ok(())
+}
