@@ -19,3 +19,5 @@ pub mod Given
 pub mod Named
 pub mod Numbers
 pub mod Edges
+pub mod Sorting
+pub mod Rearranged

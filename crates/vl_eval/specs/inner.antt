@@ -7,3 +7,4 @@ pub mod Site
 pub mod Assigning
 pub mod Planned
 pub mod Edges
+pub mod Arranged

@@ -1,23 +1,27 @@
 //! The Verilog machine: a module that breaks no condition, row after row of its run.
 //!
 //! `Machine::new` has the module checked (`vl_check`) and makes a plan of it: each assignment and what
-//! each register takes become operations over places of values (`plan`, `assigning`, `building`, `ops`),
-//! each behind those that it reads. Widths, signs and contexts are worked out then (`contexts`,
-//! `operators`). At run time no name is looked up: `Machine::edge` captures what the registers take,
-//! puts the inputs in and works out all operations in one sweep. Its contract: the machine's row is
-//! first the first row of the module with all registers and inputs 0, and each edge leads from a row to
-//! the next (`row`); a fault comes only where its condition is the first that is broken (`fault`).
+//! each register takes become operations over places of values (`plan`, `assigning`, `building`, `ops`).
+//! Widths, signs and contexts are worked out then (`contexts`, `operators`), and the operations are
+//! sorted by level and kind (`leveling`, `arranging`), so that the jump on the kind of an operation is
+//! foreseen. At run time no name is looked up: `Machine::edge` captures what the registers take, puts
+//! the inputs in and works out all operations in one sweep. Its contract: the machine's row is first the
+//! first row of the module with all registers and inputs 0, and each edge leads from a row to the next
+//! (`row`); a fault comes only where its condition is the first that is broken (`fault`).
 //!
 //! The definitions: rows and edges stand in `vl_ast`; `specs/` says what row a machine is in
 //! (`Machine`) and which inputs an edge is given (`Given`). `specs/inner` is cited by private contracts
 //! alone: what an operation gives (`Ops`, `Built`), what a place shows of an expression (`Shown`,
-//! `Contexts`, `Site`), of an assignment and a register (`Assigning`), and what a plan is (`Planned`).
+//! `Contexts`, `Site`), of an assignment and a register (`Assigning`), and what a plan is
+//! (`Planned`, `Arranged`, `Edges`).
 #![tactic(auto)]
 
 mod adding;
+mod arranging;
 mod assigning;
 mod building;
 mod contexts;
+mod leveling;
 mod machine;
 mod operators;
 mod ops;

@@ -7,6 +7,7 @@ ghost use Rattle.vl_check.specs.Scope.{IsScopeOf, names_in};
 ghost use Rattle.vl_eval.specs.Given.{driven_ports};
 ghost use Rattle.vl_eval.specs.inner.Planned.{AreCaptured, AreNumbers, AreWired, IsPlan, IsPlanOf, assignment_at, output_of, slot_of_port, the_assignment};
 
+use crate::arranging::{Arranged, arrange};
 use crate::assigning::{build_assigned, build_next};
 use crate::ops::Op;
 use crate::site::{Site, slot};
@@ -194,6 +195,7 @@ fn plan_in(
     requires order { IsOrdering source.now scope.now order.now places.now }
     ensures { IfOk result (IsPlan source.now scope.now) }
 {
+    meaning_by_layer();
     let base = scope.count();
     let mut slots = numbers(alloc, base)?;
     let mut ops = Vec::new(alloc);
@@ -203,7 +205,17 @@ fn plan_in(
         slots: slots.as_slice(),
         base,
     };
-    let captures = captures(alloc, &mut ops, &site, source)?;
+    let taken = captures(alloc, &mut ops, &site, source)?;
+    let Arranged {
+        ops,
+        slots,
+        captures,
+    } = arrange(alloc, base, ops, slots, taken)?;
+    let site = Site {
+        scope,
+        slots: slots.as_slice(),
+        base,
+    };
     let inputs = inputs(alloc, &site, source)?;
     let outputs = outputs(alloc, &site, source)?;
     Ok(Plan {

@@ -1,0 +1,292 @@
+ghost use Rattle.std.specs.Prelude.{◌≡◌, ◌<◌, ◌≤◌, ◌+◌, ◌^◌, ℕ, IfOk, length, map, slice_index};
+ghost use Rattle.vl_eval.specs.inner.Arranged.{AreEntries, ArePlaces, IsArranged, moved, moved_capture, number_of, op_at, renamed};
+ghost use Rattle.vl_eval.specs.inner.Ops.{IsOrdered};
+
+use crate::leveling::{kind_of, level_of};
+use crate::ops::Op;
+use crate::plan::Capture;
+use fx_io::OutOfMemory;
+use std::alloc::Global;
+
+/// The most operations that are arranged: an entry has 29 bits for the number.
+const MOST: usize = 1 << 29;
+
+/// Operations in an order in which each stands behind those that it reads, with the places of names and
+/// of captures.
+#[derive(Drop)]
+pub struct Arranged {
+    pub ops: Vec<Op>,
+    pub slots: Vec<usize>,
+    pub captures: Vec<Capture>,
+}
+
+/// The level, the kind and the number of each operation, in one number that is sorted by them in turn.
+fn entries(alloc: Global, ops: &[Op], base: usize) -> Result<Vec<u64>, OutOfMemory>
+    requires ordered { IsOrdered base ops.now }
+    requires few { length ops.now ≤ 2 ^ 29 }
+    ensures { IfOk result (λ entries. AreEntries base ops.now entries.items) }
+{
+    let mut levels = Vec::new(alloc);
+    let mut entries = Vec::new(alloc);
+    for (number, op) in ops.iter().enumerate() {
+        let level = level_of(*op, base, levels.as_slice());
+        levels.push(level)?;
+        entries.push((level as u64 * 32 + kind_of(*op)) * (1 << 29) + number as u64)?;
+    }
+    Ok(entries)
+}
+
+/// The number of an operation from its entry.
+fn number_of(entry: u64) -> usize
+    ensures { result ≡ number_of entry }
+{
+    (entry % (1 << 29)) as usize
+}
+
+/// By the number of each operation, its place among the entries.
+fn places_of(alloc: Global, entries: &[u64], base: usize) -> Result<Vec<usize>, OutOfMemory>
+    requires numbers { (i : ℕ) → i < length entries.now → number_of (slice_index entries.now i) < length entries.now }
+    requires end { base + length entries.now < 2 ^ 64 }
+    ensures { IfOk result (λ places. ArePlaces base entries.now (length entries.now) places.items) }
+{
+    let mut places = vec![in alloc; 0; entries.len()]?;
+    for (place, entry) in entries.iter().enumerate() {
+        places[number_of(*entry)] = base + place;
+    }
+    Ok(places)
+}
+
+/// Where what stood at a place stands in the new order.
+fn moved(place: usize, base: usize, places: &[usize]) -> usize
+    ensures { result ≡ moved base places.now place }
+{
+    if place < base {
+        return place;
+    }
+    match places.get(place - base) {
+        Some(moved) => *moved,
+        None => 0,
+    }
+}
+
+fn renamed(op: Op, base: usize, moves: &[usize]) -> Op
+    ensures { result ≡ renamed (moved base moves.now) op }
+{
+    match op {
+        Op::Constant(bits) => Op::Constant(bits),
+        Op::Extended { part, half, fill } => Op::Extended {
+            part: moved(part, base, moves),
+            half,
+            fill,
+        },
+        Op::Select { part, low, mask } => Op::Select {
+            part: moved(part, base, moves),
+            low,
+            mask,
+        },
+        Op::Add { left, right, mask } => Op::Add {
+            left: moved(left, base, moves),
+            right: moved(right, base, moves),
+            mask,
+        },
+        Op::Subtract { left, right, mask } => Op::Subtract {
+            left: moved(left, base, moves),
+            right: moved(right, base, moves),
+            mask,
+        },
+        Op::Multiply { left, right, mask } => Op::Multiply {
+            left: moved(left, base, moves),
+            right: moved(right, base, moves),
+            mask,
+        },
+        Op::And { left, right } => Op::And {
+            left: moved(left, base, moves),
+            right: moved(right, base, moves),
+        },
+        Op::Or { left, right } => Op::Or {
+            left: moved(left, base, moves),
+            right: moved(right, base, moves),
+        },
+        Op::Xor { left, right } => Op::Xor {
+            left: moved(left, base, moves),
+            right: moved(right, base, moves),
+        },
+        Op::Equal { left, right } => Op::Equal {
+            left: moved(left, base, moves),
+            right: moved(right, base, moves),
+        },
+        Op::NotEqual { left, right } => Op::NotEqual {
+            left: moved(left, base, moves),
+            right: moved(right, base, moves),
+        },
+        Op::Less { left, right, half } => Op::Less {
+            left: moved(left, base, moves),
+            right: moved(right, base, moves),
+            half,
+        },
+        Op::LessEqual { left, right, half } => Op::LessEqual {
+            left: moved(left, base, moves),
+            right: moved(right, base, moves),
+            half,
+        },
+        Op::Both { left, right } => Op::Both {
+            left: moved(left, base, moves),
+            right: moved(right, base, moves),
+        },
+        Op::Either { left, right } => Op::Either {
+            left: moved(left, base, moves),
+            right: moved(right, base, moves),
+        },
+        Op::Negate { part, mask } => Op::Negate {
+            part: moved(part, base, moves),
+            mask,
+        },
+        Op::Invert { part, mask } => Op::Invert {
+            part: moved(part, base, moves),
+            mask,
+        },
+        Op::IsZero { part } => Op::IsZero {
+            part: moved(part, base, moves),
+        },
+        Op::Up { part, places, mask } => Op::Up {
+            part: moved(part, base, moves),
+            places,
+            mask,
+        },
+        Op::SignedDown {
+            part,
+            places,
+            half,
+            mask,
+        } => Op::SignedDown {
+            part: moved(part, base, moves),
+            places,
+            half,
+            mask,
+        },
+        Op::Choose {
+            test,
+            chosen,
+            other,
+        } => Op::Choose {
+            test: moved(test, base, moves),
+            chosen: moved(chosen, base, moves),
+            other: moved(other, base, moves),
+        },
+        Op::Beside {
+            left,
+            right,
+            places,
+        } => Op::Beside {
+            left: moved(left, base, moves),
+            right: moved(right, base, moves),
+            places,
+        },
+        Op::Next {
+            reset,
+            first,
+            test,
+            value,
+            kept,
+        } => Op::Next {
+            reset: moved(reset, base, moves),
+            first,
+            test: moved(test, base, moves),
+            value: moved(value, base, moves),
+            kept: moved(kept, base, moves),
+        },
+    }
+}
+
+/// The operations in the order of their entries.
+fn in_order(
+    alloc: Global,
+    ops: &[Op],
+    entries: &[u64],
+    base: usize,
+    places: &[usize],
+) -> Result<Vec<Op>, OutOfMemory>
+    requires { (i : ℕ) → i < length entries.now → number_of (slice_index entries.now i) < length ops.now }
+    ensures { IfOk result (λ arranged. arranged.items ≡ map (op_at base places.now ops.now) entries.now) }
+{
+    let mut arranged = Vec::new(alloc);
+    for entry in entries {
+        arranged.push(renamed(ops[number_of(*entry)], base, places))?;
+    }
+    Ok(arranged)
+}
+
+fn moved_slots(
+    alloc: Global,
+    slots: &[usize],
+    base: usize,
+    places: &[usize],
+) -> Result<Vec<usize>, OutOfMemory>
+    ensures { IfOk result (λ arranged. arranged.items ≡ map (moved base places.now) slots.now) }
+{
+    let mut arranged = Vec::new(alloc);
+    for slot in slots {
+        arranged.push(moved(*slot, base, places))?;
+    }
+    Ok(arranged)
+}
+
+fn moved_captures(
+    alloc: Global,
+    captures: &[Capture],
+    base: usize,
+    places: &[usize],
+) -> Result<Vec<Capture>, OutOfMemory>
+    ensures { IfOk result (λ arranged. arranged.items ≡ map (moved_capture (moved base places.now)) captures.now) }
+{
+    let mut arranged = Vec::new(alloc);
+    for capture in captures {
+        let Capture { from, to } = *capture;
+        arranged.push(Capture {
+            from: moved(from, base, places),
+            to: moved(to, base, places),
+        })?;
+    }
+    Ok(arranged)
+}
+
+/// Sorts operations by level and, within a level, by kind, so that the jump on the kind of an operation
+/// is foreseen. An operation is of a level above those that it reads.
+pub fn arrange(
+    alloc: Global,
+    base: usize,
+    ops: Vec<Op>,
+    slots: Vec<usize>,
+    captures: Vec<Capture>,
+) -> Result<Arranged, OutOfMemory>
+    requires ordered { IsOrdered base ops.items }
+    ensures { IfOk result (IsArranged base ops.items slots.items captures.items) }
+{
+    if ops.len() > MOST {
+        return Ok(Arranged {
+            ops,
+            slots,
+            captures,
+        });
+    }
+    let Some(_end) = base.checked_add(ops.len()) else {
+        return Err(OutOfMemory);
+    };
+    let mut entries = entries(alloc, ops.as_slice(), base)?;
+    entries.sort_unstable();
+    let places = places_of(alloc, entries.as_slice(), base)?;
+    let arranged = in_order(
+        alloc,
+        ops.as_slice(),
+        entries.as_slice(),
+        base,
+        places.as_slice(),
+    )?;
+    let slots = moved_slots(alloc, slots.as_slice(), base, places.as_slice())?;
+    let captures = moved_captures(alloc, captures.as_slice(), base, places.as_slice())?;
+    Ok(Arranged {
+        ops: arranged,
+        slots,
+        captures,
+    })
+}
