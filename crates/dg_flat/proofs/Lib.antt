@@ -28,3 +28,4 @@ pub mod Standings
 pub mod Law
 pub mod FlatBlock
 mod Crossed
+pub mod Trial

@@ -20,3 +20,6 @@ mod tally;
 mod wiring;
 
 pub use flattening::flatten;
+
+#[cfg(test)]
+mod tests;
