@@ -1,5 +1,5 @@
 -- The lexemes that end an expression, and the item that it stands in.
-use Rattle.std.proofs.Common.{◌≡◌, ◌⊎◌, inl, inr, ℕ, Bool, false, List, [], ◌∷◌, ◌++◌, Some, refl, sym, ◌∙◌, ap, subst, codes, append_assoc, append-nil, option_and_then}
+use Rattle.std.proofs.Common.{◌≡◌, ℕ, Bool, false, List, [], ◌∷◌, ◌++◌, Some, refl, sym, ◌∙◌, ap, subst, codes, append_assoc, append-nil, option_and_then}
 use Rattle.vl_ast.specs.declared.expressions.UnOp.{UnOp}
 use Rattle.vl_ast.specs.declared.expressions.BinOp.{BinOp}
 use Rattle.vl_ast.specs.declared.expressions.BinOp.TheVariants.{Add}

@@ -2,9 +2,7 @@
 use Rattle.std.proofs.Common.{suc, subst, ◌+◌, ◌*◌, ◌≡◌, ℕ, ◌<◌, ◌≤◌, ◌^◌, cond, List, [], ◌∷◌, ◌++◌, length, take, drop, Option, Some, None, refl, sym, ◌∙◌, ap, arith, option_and_then, option_map, append_assoc}
 use Rattle.std.specs.Prelude.{◌==◌, ◌&&◌, not, nat_lt}
 use Rattle.std.proofs.lemmas.Bool.{and_parts, cond_both, ltb-true, cond-true, cond-false}
-use Rattle.std.proofs.Math.Nat.{pow-le-pow_right}
-use Rattle.std.proofs.lemmas.Int.Digits.{digits_value-lt}
-use Rattle.std.specs.Str.Parse.{digits_value_after, AllDigits, digits_value}
+use Rattle.std.specs.Str.Parse.{digits_value_after, AllDigits}
 use Rattle.std.specs.Char.{digit_value}
 use Rattle.vl_ast.specs.declared.expressions.Sized.{Sized}
 use Rattle.vl_read.specs.inner.Lexemes.{number_after, around_quote, quote_place, is_digit, dec_of, sized_in, sized_of}
@@ -16,16 +14,6 @@ number_gives base (d ∷ ds) n m e =
     (λ h e. let r = number_gives base ds (n * base + digit_value d) m e in ((ltb-true (digit_value d) base (and_parts (is_digit base d) (nat_lt (n * base + digit_value d) (2 ^ 128)) h).0, r.0), r.1))
     (λ h e. let no : ⊥ = cc in absurd no)
     e
-
--- a number of at most nine digits
-pub short_number : (digits : List ℕ) (m : ℕ) → length digits ≤ 9 → number_after 10 0 digits ≡ Some m → m < 1000000000
-short_number digits m short e =
-    let r = number_gives 10 digits 0 m e in
-    let ten : 0 < 10 = omega arith in
-    let below : digits_value 10 digits < 10 ^ length digits = digits_value-lt 10 digits r.0 in
-    let bound : 10 ^ length digits ≤ 10 ^ 9 = pow-le-pow_right ten short in
-    let same : digits_value 10 digits ≡ m = r.1 in
-    omega (arith, below, bound, same)
 
 -- one more digit
 pub number_some : (base n m d : ℕ) (ds : List ℕ) → Some m ≡ number_after base n (d ∷ []) → number_after base n (d ∷ ds) ≡ number_after base m ds

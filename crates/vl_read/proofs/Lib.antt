@@ -16,7 +16,10 @@ mod SafeMarks
 mod SafeExpressions
 mod SafeTokens
 mod Complete
+mod Classes
+mod Counted
 mod Digits
+mod ShortNumbers
 mod KindSound
 mod OneKind
 mod LaidGaps

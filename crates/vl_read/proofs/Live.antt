@@ -1,6 +1,6 @@
 -- What holds in each state that the reading comes to, and lets it be ended: the names of items with a clock are
 -- identifiers, and the marks that are next are brackets.
-use Rattle.std.proofs.Common.{bytes_eq, codes, ◌≡◌, ◌⊎◌, inl, inr, ℕ, ◌+◌, Bool, true, false, cond, List, [], ◌∷◌, ◌++◌, Option, Some, None, refl, subst}
+use Rattle.std.proofs.Common.{bytes_eq, codes, ◌≡◌, ℕ, ◌+◌, Bool, true, false, cond, List, [], ◌∷◌, ◌++◌, Option, Some, None, refl, subst}
 use Rattle.std.specs.Prelude.{⊤, nat_lt}
 use Rattle.vl_ast.specs.declared.expressions.UnOp.{UnOp}
 use Rattle.vl_ast.specs.declared.expressions.BinOp.{BinOp}

@@ -4,6 +4,7 @@ ghost use Rattle.vl_read.specs.inner.Lexemes.{number_after, dec_of, quote_place,
 ghost use Rattle.vl_read.specs.inner.Plain.{is_name, count_of, constant_of};
 
 use crate::scan::Kind;
+use fx_text::{SHORT_DIGITS, read_short};
 use vl_ast::{Sized, is_identifier};
 
 /// How many digits a number without base has at most (own).
@@ -45,7 +46,7 @@ fn with_digit(base: u32, number: u128, byte: u8) -> Option<u128>
 }
 
 /// A number of one to nine decimal digits.
-#[tactic(auto, using(crate::proofs::Digits::short_number), unfolding(crate::specs::inner::Lexemes::dec_of))]
+#[tactic(auto, using(crate::proofs::ShortNumbers::short_is, crate::proofs::ShortNumbers::short_none, crate::proofs::ShortNumbers::short_below), unfolding(crate::specs::inner::Lexemes::dec_of))]
 fn dec_of(digits: &[u8]) -> Option<u32>
     ensures value { result ≡ dec_of digits.now }
     ensures small { IfSome result (λ number. number < 1000000000) }
@@ -53,7 +54,7 @@ fn dec_of(digits: &[u8]) -> Option<u32>
     if digits.is_empty() || digits.len() > DEC_DIGITS {
         return None;
     }
-    match number_in(10, digits) {
+    match read_short(digits) {
         None => None,
         Some(number) => Some(number as u32),
     }
@@ -74,6 +75,31 @@ fn base_of(letter: u8) -> Option<u32>
     }
 }
 
+/// The number of digits in a base, by a short way for few decimal ones.
+fn digits_in(base: u32, digits: &[u8]) -> Option<u128>
+    requires low { 2 ≤ base }
+    requires high { base ≤ 16 }
+    ensures { result ≡ number_after base 0 digits.now }
+{
+    if base == 10 && digits.len() <= SHORT_DIGITS {
+        few_digits(digits)
+    } else {
+        number_in(base, digits)
+    }
+}
+
+/// The number of at most 18 decimal digits.
+#[tactic(auto, using(crate::proofs::ShortNumbers::short_is, crate::proofs::ShortNumbers::short_none))]
+fn few_digits(digits: &[u8]) -> Option<u128>
+    requires { length digits.now ≤ 18 }
+    ensures { result ≡ number_after 10 0 digits.now }
+{
+    match read_short(digits) {
+        None => None,
+        Some(number) => Some(u128::from(number)),
+    }
+}
+
 /// One to 128 digits in a base.
 fn sized_by(width: u32, signed: bool, base: u32, digits: &[u8]) -> Option<Sized>
     requires low { 2 ≤ base }
@@ -83,7 +109,7 @@ fn sized_by(width: u32, signed: bool, base: u32, digits: &[u8]) -> Option<Sized>
     if digits.is_empty() || digits.len() > SIZED_DIGITS {
         return None;
     }
-    match number_in(base, digits) {
+    match digits_in(base, digits) {
         None => None,
         Some(bits) => Some(Sized {
             width,

@@ -1,14 +1,15 @@
-ghost use Rattle.std.specs.Prelude.{◌≡◌, ◌≤◌, ◌<◌, ◌+◌, ◌-◌, ◌^◌, ◌==◌, if◌then◌else◌, Some, None, Bool, true, false, length, IfOk, OnOk, option_and_then};
+ghost use Rattle.std.specs.Prelude.{◌≡◌, ◌≤◌, ◌<◌, ◌-◌, ◌^◌, length, IfOk, IsTrue, option_and_then};
 ghost use Rattle.vl_ast.specs.Grammar.{Spells, most_items};
-ghost use Rattle.vl_read.specs.inner.Lexemes.{last_lexemes};
-ghost use Rattle.vl_read.specs.inner.Plain.{parse, reading};
+ghost use Rattle.vl_read.specs.declared.scan.ByteClass.TheVariants.{OfWord};
+ghost use Rattle.vl_read.specs.inner.Lexemes.{class_of, last_lexemes};
+ghost use Rattle.vl_read.specs.inner.Plain.{parse};
 ghost use Rattle.vl_read.specs.Prefix.{IsRefused, IsVerilogFaultLine, IfSyntax};
 ghost use Rattle.vl_read.specs.inner.Seen.{seen};
-ghost use Rattle.vl_read.specs.inner.Turns.{start_after, ended_by, feed, stepped};
+ghost use Rattle.vl_read.specs.inner.Turns.{start_after, ended_by, feed, stepped, line_at};
 
 use crate::fault::VlSyntax;
 use crate::places::Reader;
-use crate::scan::Mode;
+use crate::scan::{ByteClass, Mode, class_of};
 use crate::turns::{Pending, next_turn};
 use fx_io::OutOfMemory;
 use std::alloc::Global;
@@ -41,12 +42,25 @@ fn start_after(pending: Pending, start: usize, at: usize) -> usize
     }
 }
 
-/// The line after a byte.
-fn line_after(line: u64, byte: u8) -> u64
-    requires { line < 2 ^ 64 - 1 }
-    ensures { result ≡ line + (if byte == 10 then 1 else 0) }
+/// The line at the end of the bytes, counted from 1.
+fn line_at(bytes: &[u8]) -> u64
+    ensures { result ≡ line_at bytes.now }
 {
-    if byte == b'\n' { line + 1 } else { line }
+    let mut line = 1;
+    for byte in bytes {
+        if *byte == b'\n' {
+            line += 1;
+        }
+    }
+    line
+}
+
+/// Whether a byte goes on with a word.
+fn goes_on(mode: Mode, byte: u8) -> bool
+    ensures word { IsTrue result → mode ≡ Mode.Word }
+    ensures byte { IsTrue result → class_of byte ≡ OfWord }
+{
+    matches!(mode, Mode::Word) && matches!(class_of(byte), ByteClass::OfWord)
 }
 
 /// The module at the end of the bytes. `None` where a text may not end so.
@@ -88,21 +102,28 @@ pub fn read(alloc: Global, bytes: &[u8]) -> Result<Module, VlSyntax>
     let mut reader = Reader::new(alloc, MOST_ITEMS);
     let mut mode = Mode::Between;
     let mut start = 0;
-    let mut line: u64 = 1;
     for (i, byte) in bytes.iter().enumerate() {
+        if goes_on(mode, *byte) {
+            continue;
+        }
         let lexeme = &bytes[start..i];
         let Some(turn) = next_turn(mode, lexeme, *byte) else {
-            return Err(VlSyntax::Syntax { line });
+            return Err(VlSyntax::Syntax {
+                line: line_at(&bytes[..i]),
+            });
         };
         if !fed(&mut reader, alloc, turn.ends, lexeme)? {
-            return Err(VlSyntax::Syntax { line });
+            return Err(VlSyntax::Syntax {
+                line: line_at(&bytes[..i]),
+            });
         }
         start = start_after(turn.pending, start, i);
         mode = turn.mode;
-        line = line_after(line, *byte);
     }
     match last(reader, alloc, mode, &bytes[start..])? {
-        None => Err(VlSyntax::Syntax { line }),
+        None => Err(VlSyntax::Syntax {
+            line: line_at(bytes),
+        }),
         Some(module) => Ok(module),
     }
 }

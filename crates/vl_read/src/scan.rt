@@ -1,6 +1,5 @@
 ghost use Rattle.std.specs.Prelude.{◌≡◌, bytes_eq};
-ghost use Rattle.vl_ast.specs.Tokens.{is_blank};
-ghost use Rattle.vl_read.specs.inner.Lexemes.{is_word_byte, is_mark_byte, class_of, extends};
+ghost use Rattle.vl_read.specs.inner.Lexemes.{class_of, class_by, extends};
 
 use vl_ast::Sized;
 
@@ -57,64 +56,40 @@ pub fn is(lexeme: &[u8], word: &str) -> bool
     lexeme == word.as_bytes()
 }
 
-/// Whether a byte may stand in a word.
-fn is_word_byte(byte: u8) -> bool
-    ensures { result ≡ is_word_byte byte }
-{
-    byte.is_ascii_alphanumeric() || byte == b'_' || byte == b'$' || byte == b'\''
-}
+/// Of each byte, what it is outside of comments: `w` of a word, `b` a blank, `/` what begins a comment,
+/// `m` of a mark.
+const CLASSES: &[u8; 256] = b"\
+    ---------bb-bb------------------\
+    bm--w-mwmmmmmm-/wwwwwwwwwwmmmmmm\
+    mwwwwwwwwwwwwwwwwwwwwwwwwwwm-mmw\
+    -wwwwwwwwwwwwwwwwwwwwwwwwwwmmmm-\
+    --------------------------------\
+    --------------------------------\
+    --------------------------------\
+    --------------------------------";
 
-/// Whether a byte is a blank.
-fn is_blank(byte: u8) -> bool
-    ensures { result ≡ is_blank byte }
+/// The class that a letter of the table names.
+fn class_by(mark: u8) -> ByteClass
+    ensures { result ≡ class_by mark }
 {
-    byte == b' ' || byte == b'\t' || byte == b'\n' || byte == 12 || byte == b'\r'
-}
-
-/// Whether a byte may stand in a mark.
-fn is_mark_byte(byte: u8) -> bool
-    ensures { result ≡ is_mark_byte byte }
-{
-    byte == b'('
-        || byte == b')'
-        || byte == b'['
-        || byte == b']'
-        || byte == b'{'
-        || byte == b'}'
-        || byte == b','
-        || byte == b';'
-        || byte == b':'
-        || byte == b'='
-        || byte == b'@'
-        || byte == b'?'
-        || byte == b'+'
-        || byte == b'-'
-        || byte == b'*'
-        || byte == b'&'
-        || byte == b'|'
-        || byte == b'^'
-        || byte == b'~'
-        || byte == b'!'
-        || byte == b'<'
-        || byte == b'>'
-}
-
-/// What a byte is outside of comments.
-#[tactic(auto, unfolding(crate::specs::inner::Lexemes::class_of))]
-pub fn class_of(byte: u8) -> ByteClass
-    ensures { result ≡ class_of byte }
-{
-    if is_word_byte(byte) {
+    if mark == b'w' {
         ByteClass::OfWord
-    } else if is_blank(byte) {
+    } else if mark == b'b' {
         ByteClass::OfBlank
-    } else if byte == b'/' {
+    } else if mark == b'/' {
         ByteClass::OfComment
-    } else if is_mark_byte(byte) {
+    } else if mark == b'm' {
         ByteClass::OfMark
     } else {
         ByteClass::OfNone
     }
+}
+
+/// What a byte is outside of comments.
+pub fn class_of(byte: u8) -> ByteClass
+    ensures { result ≡ class_of byte }
+{
+    class_by(CLASSES[usize::from(byte)])
 }
 
 /// Whether a mark and the byte after it are one mark, or the beginning of one (the longest is taken).

@@ -34,6 +34,23 @@ class_of byte =
     else (if is_mark_byte byte then OfMark
     else OfNone)))
 
+-- the letter of a class in a table of bytes
+abbrev pub class_mark : ByteClass → ℕ
+class_mark OfWord = code "w"
+class_mark OfBlank = code "b"
+class_mark OfComment = code "/"
+class_mark OfMark = code "m"
+class_mark OfNone = code "-"
+
+-- the class that a letter names
+abbrev pub class_by : ℕ → ByteClass
+class_by mark =
+    if mark == code "w" then OfWord
+    else (if mark == code "b" then OfBlank
+    else (if mark == code "/" then OfComment
+    else (if mark == code "m" then OfMark
+    else OfNone)))
+
 -- whether a mark and the byte after it are one mark, or the beginning of one
 unfoldable pub extends : List ℕ → ℕ → Bool
 extends mark byte =

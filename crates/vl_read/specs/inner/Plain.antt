@@ -3,11 +3,8 @@
 use Prim.Native.Char.{code}
 use Rattle.std.specs.Prelude.{ℕ, ◌+◌, ◌==◌, nat_lt, Bool, true, false, ◌&&◌, if◌then◌else◌, List, [], ◌∷◌, ◌++◌, length, bytes_eq, codes, Option, Some, None, option_and_then}
 use Rattle.vl_ast.specs.declared.expressions.UnOp.{UnOp}
-use Rattle.vl_ast.specs.declared.expressions.UnOp.TheVariants.{Negate, Invert, IsZero}
 use Rattle.vl_ast.specs.declared.expressions.BinOp.{BinOp}
-use Rattle.vl_ast.specs.declared.expressions.BinOp.TheVariants.{Add, Subtract, Multiply, And, Or, Xor, Equal, NotEqual, Less, LessEqual, Greater, GreaterEqual, Both, Either}
 use Rattle.vl_ast.specs.declared.expressions.ShiftOp.{ShiftOp}
-use Rattle.vl_ast.specs.declared.expressions.ShiftOp.TheVariants.{Left, Right, RightSigned}
 use Rattle.vl_ast.specs.declared.expressions.Sized.{Sized}
 use Rattle.vl_ast.specs.declared.expressions.Expr.{Expr}
 use Rattle.vl_ast.specs.declared.expressions.Expr.TheOpen.{Expr-F}

@@ -1,5 +1,5 @@
 -- What a byte makes of the lexeme before it (own).
-use Rattle.std.specs.Prelude.{ℕ, ◌+◌, Bool, true, false, List, [], ◌∷◌, ◌++◌, Option, Some, None, option_and_then}
+use Rattle.std.specs.Prelude.{ℕ, ◌+◌, ◌==◌, Bool, true, false, List, [], ◌∷◌, ◌++◌, count_by, Option, Some, None, option_and_then}
 use Rattle.vl_ast.specs.declared.modules.Module.{Module}
 use Rattle.vl_read.specs.declared.scan.ByteClass.{ByteClass}
 use Rattle.vl_read.specs.declared.scan.ByteClass.TheVariants.{OfWord, OfBlank, OfComment, OfMark, OfNone}
@@ -55,3 +55,10 @@ ahead parser mode lexeme bytes = option_and_then (parse parser) (lexemes_from mo
 abbrev pub stepped : Bool → Parser → Option Parser
 stepped true parser = Some parser
 stepped false parser = None
+
+abbrev pub is_newline : ℕ → Bool
+is_newline byte = byte == 10
+
+-- the line at the end of the bytes, counted from 1
+abbrev pub line_at : List ℕ → ℕ
+line_at bytes = 1 + count_by is_newline bytes
