@@ -1,5 +1,5 @@
 -- The operations of an assignment, of a condition and of a register's next bits.
-use Rattle.std.proofs.Common.{◌≡◌, ◌<◌, ◌≤◌, ◌+◌, ◌-◌, ◌/◌, ◌%◌, ◌^◌, ◌==◌, not, ℕ, zero, suc, max, Bool, true, false, if◌then◌else◌, List, [], ◌∷◌, ◌++◌, length, codes, bit_and, Contains, Option, None, Some, refl, sym, ap, subst, ◌∙◌, arith}
+use Rattle.std.proofs.Common.{◌≡◌, ◌<◌, ◌≤◌, ◌+◌, ◌-◌, ◌%◌, ◌^◌, ◌==◌, not, ℕ, max, Bool, true, false, if◌then◌else◌, List, [], ◌∷◌, ◌++◌, length, codes, Option, None, Some, sym, ap, subst, ◌∙◌, arith}
 use Rattle.std.proofs.Math.Nat.{max_comm, mod-eq_of_lt, div-one}
 use Rattle.std.proofs.lemmas.List.{length-append}
 use Rattle.vl_ast.specs.declared.expressions.Sized.{Sized}
@@ -15,10 +15,10 @@ use Rattle.vl_check.specs.declared.shapes.Shape.{Shape}
 use Rattle.vl_check.specs.Scope.{nets_in}
 use Rattle.vl_eval.specs.declared.ops.Op.{Op}
 use Rattle.vl_eval.specs.declared.ops.Op.TheVariants.{Constant, Select, Next}
-use Rattle.vl_eval.specs.inner.Ops.{IsSettled, op_value, reads_below}
-use Rattle.vl_eval.specs.inner.Shown.{Grows, NamesFit, Pushed, row_of}
+use Rattle.vl_eval.specs.inner.Ops.{IsSettled, op_value}
+use Rattle.vl_eval.specs.inner.Shown.{NamesFit, Pushed, row_of}
 use Rattle.vl_eval.specs.inner.Site.{ArePlaced, Built, slot_in}
-use Rattle.vl_eval.specs.inner.Assigning.{Assigns, Captures, Tests, next_in, next_names, takes_in}
+use Rattle.vl_eval.specs.inner.Assigning.{Assigns, Captures, Tests, next_names, takes_in}
 use Rattle.vl_eval.proofs.Builds.{grows-length, grows-more, grows-push, settled-later}
 use Rattle.vl_eval.proofs.Fits.{left-room, right-room, value-fits}
 use Rattle.vl_eval.proofs.Forms.{last-value}

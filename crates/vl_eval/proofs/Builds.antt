@@ -1,5 +1,5 @@
 -- The operations of each form of expression, added behind those of its operands.
-use Rattle.std.proofs.Common.{◌≡◌, ◌<◌, ◌≤◌, ◌+◌, ◌-◌, ◌*◌, ◌/◌, ◌%◌, ◌^◌, inl, inr, ◌⊎◌, ⊎_elim, ℕ, zero, suc, max, sum, Bool, true, false, ◌&&◌, if◌then◌else◌, nat_le, List, [], ◌∷◌, ◌++◌, length, map, flat_map, replicate, Contains, refl, sym, ap, subst, ◌∙◌, arith, take, drop, slice_index_or}
+use Rattle.std.proofs.Common.{◌≡◌, ◌<◌, ◌≤◌, ◌+◌, ◌-◌, ◌*◌, ◌^◌, inl, inr, ⊎_elim, ℕ, zero, suc, max, sum, Bool, true, false, ◌&&◌, List, [], ◌∷◌, ◌++◌, length, map, flat_map, replicate, Contains, refl, sym, ap, subst, ◌∙◌, arith, take, drop, slice_index_or}
 use Rattle.std.proofs.lemmas.Bool.{cases_lt, false≢true}
 use Rattle.std.proofs.Math.Nat.{max_comm, mul-le-mul_right}
 use Rattle.std.proofs.lemmas.List.{get_or_append_left, get_or_at, length-append, append_assoc, append-nil, map-append, take-append-drop, take_more}
@@ -37,7 +37,7 @@ use Rattle.vl_eval.specs.inner.Shown.{NamesFit, row_of, Shows, Grows, Pushed, Is
 use Rattle.vl_eval.proofs.Words.{shift-gives, shift-reads}
 use Rattle.vl_eval.specs.inner.Site.{ArePlaced, Built, slot_in}
 use Rattle.vl_eval.proofs.Forms.{Value, and-turned, still-shows, shows-unary-whole, shows-unary-alone, shows-whole, shows-together, shows-alone, shows-choice, shows-as-unsigned, shows-cast, shows-as-signed, shows-name, shows-signed-name, shows-bit, shows-part, shows-literal, shows-shift, shows-op, ShowsBeside, still-beside, settled-before, shows-beside, shows-first, shows-concat, shows-repeat}
-use Rattle.vl_eval.proofs.Operands.{steps-of, few-of, sound-unary, length-unary, sound-binary, length-binary, sound-as-signed, length-as-signed, sound-shift, length-shift}
+use Rattle.vl_eval.proofs.Operands.{steps-of, sound-unary, length-unary, sound-binary, length-binary, sound-as-signed, length-as-signed, sound-shift, length-shift}
 
 -- none of some expressions is deeper than the deepest of them
 pub part-size : (deepest : List Expr → ℕ) → ((x : Expr) (xs : List Expr) → deepest (x ∷ xs) ≡ max (size-Expr x) (deepest xs)) → (xs : List Expr) (i : ℕ) (x : Expr) → i < length xs → x ≡ slice_index_or xs i x → size-Expr x ≤ deepest xs

@@ -1,17 +1,16 @@
 -- What the registers take, one item after another.
-use Rattle.std.proofs.Common.{◌≡◌, ◌<◌, ◌≤◌, ◌+◌, ◌%◌, ◌^◌, inl, inr, ◌⊎◌, ⊎_elim, ℕ, Bool, true, false, List, [], ◌∷◌, ◌++◌, length, map, take, slice_get, slice_index, slice_index_or, codes, Contains, Option, None, Some, refl, sym, ap, subst, ◌∙◌, arith}
+use Rattle.std.proofs.Common.{◌≡◌, ◌<◌, ◌≤◌, ◌+◌, ◌^◌, ⊎_elim, ℕ, true, List, [], ◌∷◌, ◌++◌, length, take, slice_index, slice_index_or, codes, Contains, Option, None, Some, sym, ap, subst, ◌∙◌, arith}
 use Rattle.std.proofs.lemmas.Nat.{mod_below, pow_pos}
-use Rattle.std.proofs.lemmas.Option.{get_or_from_slice_get, slice_get_within}
+use Rattle.std.proofs.lemmas.Option.{slice_get_within}
 use Rattle.std.proofs.lemmas.List.{get_or_default, take_more}
-use Rattle.std.proofs.lemmas.List.Elements.{Contains-append_left, Contains-append_right, Contains-append_cases, Contains-push}
+use Rattle.std.proofs.lemmas.List.Elements.{Contains-append_left, Contains-append_cases, Contains-push}
 use Rattle.vl_ast.specs.declared.expressions.Sized.{Sized}
 use Rattle.vl_ast.specs.declared.expressions.Expr.{Expr}
 use Rattle.vl_ast.specs.declared.modules.ModItem.{ModItem}
-use Rattle.vl_ast.specs.declared.modules.ModItem.TheVariants.{Assign, Always}
+use Rattle.vl_ast.specs.declared.modules.ModItem.TheVariants.{Always}
 use Rattle.vl_ast.specs.declared.modules.Module.{Module}
 use Rattle.vl_ast.specs.Conditions.{mentioned, no_reset, undriven, doubly}
 use Rattle.vl_ast.specs.Nets.{Declared, port_declared, Declares, declarations, mentions, condition_names, names_read}
-use Rattle.vl_ast.specs.Value.{assigned}
 use Rattle.vl_ast.proofs.Agree.{ByLayer}
 use Rattle.vl_ast.proofs.Alone.{reset-port}
 use Rattle.vl_ast.proofs.Places.{cons-cases, none-in, map-in}
@@ -21,10 +20,10 @@ use Rattle.vl_check.specs.declared.scope.Scope.{Scope}
 use Rattle.vl_check.specs.Scope.{IsScopeOf, names_in, nets_in, number_in}
 use Rattle.vl_eval.specs.declared.ops.Op.{Op}
 use Rattle.vl_eval.specs.declared.plan.Capture.{Capture}
-use Rattle.vl_eval.specs.inner.Assigning.{Captures, next_in, next_names}
+use Rattle.vl_eval.specs.inner.Assigning.{Captures, next_names}
 use Rattle.vl_eval.specs.inner.Ops.{IsSettled}
 use Rattle.vl_eval.specs.inner.Planned.{AreCaptured, AreWired, FixedFit, IsCaptured, IsFixed, row_in}
-use Rattle.vl_eval.specs.inner.Shown.{Grows, NamesFit}
+use Rattle.vl_eval.specs.inner.Shown.{Grows}
 use Rattle.vl_eval.specs.inner.Site.{ArePlaced, slot_at, slot_in}
 use Rattle.vl_eval.proofs.Builds.{grows-length, grows-more, grows-none, settled-later}
 

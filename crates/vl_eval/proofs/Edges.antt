@@ -1,5 +1,5 @@
 -- What is captured, then put in and then swept is the row after an edge.
-use Rattle.std.proofs.Common.{◌≡◌, ◌≢◌, ◌<◌, ◌≤◌, ◌+◌, ◌%◌, ◌^◌, ◌==◌, ◌||◌, inl, inr, ◌⊎◌, ⊎_elim, ℕ, Bool, true, false, not, ◌&&◌, if◌then◌else◌, List, [], ◌∷◌, ◌++◌, length, map, take, slice_get, slice_index, slice_index_or, codes, bytes_eq, Contains, Option, None, Some, refl, sym, ap, subst, ◌∙◌, arith}
+use Rattle.std.proofs.Common.{◌≡◌, ◌≢◌, ◌<◌, ◌≤◌, ◌+◌, ◌^◌, ◌==◌, ◌||◌, inl, inr, ◌⊎◌, ⊎_elim, ℕ, Bool, true, false, not, ◌&&◌, if◌then◌else◌, List, [], length, take, slice_get, slice_index, slice_index_or, codes, bytes_eq, Contains, Option, None, Some, refl, sym, ap, subst, ◌∙◌, arith}
 use Rattle.std.proofs.lemmas.Bool.{and_parts, cases_Bool, eq-eqb, false≢true, not-true}
 use Rattle.std.specs.List.{position}
 use Rattle.std.proofs.lemmas.Nat.{mod_below, pow_pos}
@@ -9,17 +9,17 @@ use Rattle.std.proofs.lemmas.Slice.Eq.{bytes_eq-Decides}
 use Rattle.vl_ast.specs.declared.expressions.Sized.{Sized}
 use Rattle.vl_ast.specs.declared.expressions.Expr.{Expr}
 use Rattle.vl_ast.specs.declared.modules.Port.{Port}
-use Rattle.vl_ast.specs.declared.modules.ModItem.TheVariants.{Reg, Assign, Always}
+use Rattle.vl_ast.specs.declared.modules.ModItem.TheVariants.{Always}
 use Rattle.vl_ast.specs.declared.modules.Module.{Module}
 use Rattle.vl_ast.specs.Conditions.{BreaksNone, IsLoop, doubly, may_drive, needs_driver, undriven}
 use Rattle.vl_ast.specs.Context.{Net}
 use Rattle.vl_ast.specs.Nets.{Kind, InputPort, OutputPort, Declared, Declares, Drives, declarations, mentions, net_or_none, nets_of, port_declared}
-use Rattle.vl_ast.specs.Runs.{next_bits, takes_value}
+use Rattle.vl_ast.specs.Runs.{takes_value}
 use Rattle.vl_ast.specs.Steps.{IsEdge, IsFirstRow, IsRow}
 use Rattle.vl_ast.specs.Value.{assigned, assigned_number, number_of}
 use Rattle.vl_ast.proofs.Agree.{ByLayer}
 use Rattle.vl_eval.proofs.Drivers.{stored, wired}
-use Rattle.vl_ast.proofs.Facts.{Declaration, OfPort, OfReg, OfWire, always-drives, assign-drives, declaration-by, driven-declared, in-port, listed-mention, mention-listed, not-both, one-always, reg-declared}
+use Rattle.vl_ast.proofs.Facts.{Declaration, OfPort, OfReg, OfWire, always-drives, assign-drives, declaration-by, driven-declared, in-port, listed-mention, mention-listed, not-both, one-always}
 use Rattle.vl_eval.proofs.PortLists.{filter-in, filtered-apart, ports-apart, slice-in}
 use Rattle.vl_ast.proofs.Settled.{may-not, net-is}
 use Rattle.vl_check.proofs.Scoped.{at-number}

@@ -1,6 +1,5 @@
 -- What the last operation shows of an expression, from what the operations of its operands show.
-use Rattle.std.proofs.Common.{◌≡◌, ◌<◌, ◌≤◌, ◌+◌, ◌-◌, ◌*◌, ◌/◌, ◌%◌, ◌^◌, ◌==◌, ℕ, zero, suc, max, Bool, true, false, ◌&&◌, if◌then◌else◌, nat_le, List, [], ◌∷◌, ◌++◌, length, map, flat_map, replicate, Contains, bit_and, refl, sym, ap, subst, ◌∙◌, arith}
-use Rattle.std.specs.Int.{bit_at}
+use Rattle.std.proofs.Common.{◌≡◌, ◌<◌, ◌≤◌, ◌+◌, ◌-◌, ◌*◌, ◌%◌, ◌^◌, ◌==◌, ℕ, max, Bool, true, false, ◌&&◌, if◌then◌else◌, List, [], ◌∷◌, ◌++◌, length, map, flat_map, replicate, Contains, refl, sym, ap, subst, ◌∙◌, arith}
 use Rattle.std.specs.Prelude.{fold}
 use Rattle.std.proofs.lemmas.List.{get_or_append_left, get_or_at, length-append}
 use Rattle.std.proofs.lemmas.List.Sums.{fold-append}
@@ -13,7 +12,7 @@ use Rattle.vl_ast.specs.declared.expressions.Expr.{Expr}
 use Rattle.vl_ast.specs.declared.expressions.Expr.TheOpen.{Expr-F}
 use Rattle.vl_ast.specs.declared.expressions.Expr.TheViews.{roll-Expr}
 use Rattle.vl_ast.specs.declared.expressions.Expr.TheFolds.{map-Expr, fold-roll-Expr}
-use Rattle.vl_ast.specs.Context.{Net, Operand, Place, InWhole, Together, Alone, own_length, is_signed, alone, together, operand_at, unary_place, binary_place, in_context}
+use Rattle.vl_ast.specs.Context.{Net, Operand, InWhole, Together, Alone, own_length, is_signed, alone, operand_at, unary_place, binary_place, in_context}
 use Rattle.vl_ast.specs.Nets.{names_read, names_step}
 use Rattle.vl_ast.specs.Value.{Bits, bits_step, extended, unary_bits, binary_bits, shift_bits, value_in, beside, bits_in, operand_of}
 use Rattle.vl_ast.proofs.Agree.{ByLayer, values-agree}

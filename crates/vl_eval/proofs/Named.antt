@@ -1,12 +1,11 @@
 -- The number of a name in a scope is its place among the names of the module.
-use Rattle.std.proofs.Common.{◌≡◌, ◌+◌, ℕ, Bool, not, if◌then◌else◌, nat_lt, List, [], ◌∷◌, length, map, bytes_eq, Bor, Option, None, Some, refl, sym, ap, ◌∙◌}
+use Rattle.std.proofs.Common.{◌≡◌, ◌+◌, ℕ, Bool, not, if◌then◌else◌, nat_lt, List, [], ◌∷◌, length, map, bytes_eq, Bor, None, Some, refl, sym, ap, ◌∙◌}
 use Rattle.std.specs.List.{position, position_or_len, prefix_len}
 use Rattle.std.proofs.lemmas.List.{length-map}
 use Rattle.vl_ast.specs.declared.modules.Module.{Module}
 use Rattle.vl_check.specs.declared.scope.Scope.{Scope}
 use Rattle.vl_check.specs.Names.{names_of}
 use Rattle.vl_check.specs.Scope.{names_in, number_in}
-use Rattle.vl_check.specs.inner.Mentioned.{texts}
 
 prefix-map : {X Y : Type 0} (p : Y → Bool) (f : X → Y) (xs : List X) → prefix_len p (map f xs) ≡ prefix_len (λ x. p (f x)) xs
 prefix-map p f [] = refl

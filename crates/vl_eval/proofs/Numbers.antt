@@ -1,10 +1,9 @@
 -- The number of a word whose sign bit is set, as the code works it out.
-use Rattle.std.proofs.Common.{◌≡◌, SFits, ⊎_elim, ◌<◌, ◌≤◌, ◌-◌, ◌^◌, ℕ, zero, suc, Bool, true, false, if◌then◌else◌, ℤ, pos, negsuc, ◌-ℤ◌, nat_le, ◌&&◌, refl, sym, ap, subst, ◌∙◌, arith}
+use Rattle.std.proofs.Common.{◌≡◌, SFits, ⊎_elim, ◌<◌, ◌≤◌, ◌-◌, ◌^◌, ℕ, zero, suc, Bool, true, false, if◌then◌else◌, ℤ, pos, negsuc, ◌-ℤ◌, refl, sym, ap, subst, ◌∙◌, arith}
 use Rattle.std.proofs.Math.Pow.{pow_mono}
 use Rattle.std.specs.Int.{w128}
 use Rattle.std.proofs.lemmas.Bool.{cases_eq, false≢true, le-leb, lt-leb}
 use Rattle.std.proofs.lemmas.Int.{ints}
-use Rattle.std.proofs.lemmas.Nat.{pow_pos}
 use Rattle.vl_ast.specs.Value.{number_of}
 use Rattle.vl_eval.proofs.Bias.{double}
 

@@ -1,5 +1,5 @@
 -- What an expression's soundness, length and names say of its operands.
-use Rattle.std.proofs.Common.{◌≡◌, ◌<◌, ◌≤◌, ◌+◌, ◌-◌, ◌*◌, ◌^◌, ℕ, max, sum, Bool, true, false, ◌&&◌, if◌then◌else◌, nat_le, nat_lt, List, [], ◌∷◌, ◌++◌, map, flat_map, refl, sym, ap, ◌∙◌, arith}
+use Rattle.std.proofs.Common.{◌≡◌, ◌<◌, ◌≤◌, ◌*◌, ℕ, max, sum, Bool, true, ◌&&◌, nat_le, nat_lt, List, [], ◌∷◌, ◌++◌, map, flat_map, refl, sym, ap, ◌∙◌, arith}
 use Rattle.std.specs.List.{list_all}
 use Rattle.std.proofs.lemmas.Bool.{and_parts, leb-true, ltb-true}
 use Rattle.vl_ast.specs.declared.expressions.UnOp.{UnOp}
@@ -11,8 +11,8 @@ use Rattle.vl_ast.specs.declared.expressions.Expr.TheOpen.{Expr-F}
 use Rattle.vl_ast.specs.declared.expressions.Expr.TheViews.{roll-Expr}
 use Rattle.vl_ast.specs.declared.expressions.Expr.TheVariants.{Name, Bit, Part, Literal, Concat, Repeat, AsSigned, AsUnsigned, Unary, Binary, Shift, Choose, rolls-Name, rolls-Bit, rolls-Part, rolls-Literal, rolls-Concat, rolls-Repeat, rolls-AsSigned, rolls-AsUnsigned, rolls-Unary, rolls-Binary, rolls-Shift, rolls-Choose}
 use Rattle.vl_ast.specs.declared.expressions.Expr.TheFolds.{map-Expr, para-Expr, para-roll-Expr, fold-roll-Expr}
-use Rattle.vl_ast.specs.Context.{Net, own_length, length_step, is_signed, length_at, unary_place, binary_place}
-use Rattle.vl_ast.specs.Conditions.{is_number, is_sound, is_sound_step, is_narrow, is_width}
+use Rattle.vl_ast.specs.Context.{Net, own_length, length_step, length_at, unary_place, binary_place}
+use Rattle.vl_ast.specs.Conditions.{is_number, is_sound, is_sound_step, is_narrow}
 use Rattle.vl_ast.specs.Nets.{names_read, names_step}
 
 module _ (nets : List ℕ → Net) where

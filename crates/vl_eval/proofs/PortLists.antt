@@ -1,14 +1,11 @@
 -- The ports of a module have different names, and so have those of them that pass a test.
-use Rattle.std.proofs.Common.{◌≡◌, ◌≢◌, ◌<◌, ◌+◌, ⊎_elim, ℕ, zero, suc, Bool, true, false, not, ◌&&◌, if◌then◌else◌, nat_le, ◌==◌, List, [], ◌∷◌, ◌++◌, map, flat_map, filter, slice_get, Contains, bytes_eq, codes, Option, Some, None, refl, sym, ap, subst, ◌∙◌, arith}
-use Rattle.std.specs.List.{list_any}
+use Rattle.std.proofs.Common.{◌≡◌, ◌≢◌, ◌<◌, ⊎_elim, ℕ, zero, suc, Bool, true, false, List, [], ◌∷◌, ◌++◌, map, flat_map, filter, slice_get, Contains, Some, None, refl, sym, ap, subst, ◌∙◌, arith}
 use Rattle.std.proofs.lemmas.List.{append_assoc, map-append}
-use Rattle.std.proofs.lemmas.List.Folds.{Any-from_list_any}
-use Rattle.std.proofs.lemmas.Bool.{and_parts, cond-true, cond-false, not-false, eqb-true}
-use Rattle.std.proofs.lemmas.Slice.Eq.{bytes_eq-Decides}
+use Rattle.std.proofs.lemmas.Bool.{cond-true, cond-false}
 use Rattle.vl_ast.specs.declared.modules.Port.{Port}
 use Rattle.vl_ast.specs.declared.modules.Module.{Module}
-use Rattle.vl_ast.specs.Nets.{port_declared, Mention, Declares, mentions, item_mentions, place_of}
-use Rattle.vl_ast.specs.Conditions.{undriven, doubly, no_reset, is_bit_input, is_reset_at_fault, is_clk_at_fault}
+use Rattle.vl_ast.specs.Nets.{port_declared, Mention, Declares, mentions, item_mentions}
+use Rattle.vl_ast.specs.Conditions.{undriven, doubly}
 use Rattle.vl_ast.proofs.Places.{cons-cases, head-in, tail-in, none-in, cut-at, in-cut}
 use Rattle.vl_ast.proofs.Facts.{no-earlier-declaration}
 

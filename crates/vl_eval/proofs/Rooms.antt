@@ -1,7 +1,6 @@
 -- The contexts of operands have room for them, and the bounds of literals and selects.
-use Rattle.std.proofs.Common.{◌≡◌, ◌<◌, ◌≤◌, ◌+◌, ◌-◌, ◌^◌, ℕ, max, Bool, true, false, ◌&&◌, if◌then◌else◌, nat_le, nat_lt, List, refl, sym, ap, subst, ◌∙◌, arith}
+use Rattle.std.proofs.Common.{◌≡◌, ◌<◌, ◌≤◌, ◌-◌, ◌^◌, ℕ, max, Bool, true, nat_le, nat_lt, List, sym, ap, subst, ◌∙◌, arith}
 use Rattle.std.proofs.Math.Pow.{pow_mono}
-use Rattle.std.proofs.lemmas.Nat.{pow_pos}
 use Rattle.std.proofs.lemmas.Bool.{and_parts, leb-true, ltb-true}
 use Rattle.vl_ast.specs.declared.expressions.UnOp.{UnOp}
 use Rattle.vl_ast.specs.declared.expressions.BinOp.{BinOp}
@@ -11,7 +10,7 @@ use Rattle.vl_ast.specs.declared.expressions.Expr.TheVariants.{Unary, Binary}
 use Rattle.vl_ast.specs.Context.{Net, Place, InWhole, Together, Alone, own_length, is_signed, length_at, unary_place, binary_place}
 use Rattle.vl_ast.specs.Conditions.{is_number, is_sound, is_width}
 use Rattle.vl_check.specs.Shape.{shape_of}
-use Rattle.vl_eval.specs.inner.Contexts.{context_at, context_of, left_context, right_context, unary_context}
+use Rattle.vl_eval.specs.inner.Contexts.{context_at, context_of, left_context, unary_context}
 use Rattle.vl_eval.proofs.Operands.{few-of, length-binary, length-unary, sound-binary, sound-unary}
 
 pub number-few : (n : Sized) → is_number n ≡ true → (1 ≤ n.width) × (n.width ≤ 128) × (n.bits < 2 ^ n.width)

@@ -1,5 +1,5 @@
 -- Operations that are sorted by level and then by kind are the same operations.
-use Rattle.std.proofs.Common.{◌≡◌, ◌<◌, ◌≤◌, ◌+◌, ◌-◌, ◌*◌, ◌%◌, ◌^◌, ◌⊎◌, inl, inr, ⊎_elim, ℕ, zero, suc, nat_lt, List, [], ◌∷◌, ◌++◌, length, map, set, slice_index, slice_index_or, Contains, refl, sym, ap, subst, ◌∙◌, arith}
+use Rattle.std.proofs.Common.{◌≡◌, ◌<◌, ◌≤◌, ◌+◌, ◌-◌, ◌*◌, ◌%◌, ◌^◌, ⊎_elim, ℕ, nat_lt, List, [], ◌∷◌, ◌++◌, length, map, set, slice_index, slice_index_or, refl, sym, ap, subst, ◌∙◌, arith}
 use Rattle.std.specs.List.Sorted.{IsPermutation, IsNonDecreasing}
 use Rattle.std.proofs.lemmas.Bool.{cases_eq, cases_lt, cond-false, cond-true, lt-ltb, le-ltb}
 use Rattle.std.proofs.lemmas.List.{get_or-map, get_or_append_left, get_or_at, get_or_default, get_or-set_other, get_or-set_same, length-append, length-map, length-set}
@@ -9,7 +9,7 @@ use Rattle.vl_eval.specs.declared.leveling.Reads.{Reads}
 use Rattle.vl_eval.specs.declared.leveling.Reads.TheVariants.{Nothing, One, Two, Three, Four}
 use Rattle.vl_eval.specs.declared.ops.Op.{Op}
 use Rattle.vl_eval.specs.declared.ops.Op.TheVariants.{Constant, Extended, Select, Add, Subtract, Multiply, And, Or, Xor, Equal, NotEqual, Less, LessEqual, Both, Either, Negate, Invert, IsZero, Up, SignedDown, Choose, Beside, Next}
-use Rattle.vl_eval.specs.inner.Arranged.{AreEntered, AreEntries, AreLow, ArePlaces, IsAbove, IsEntry, each_of, moved, number_of, op_at, reads_of, renamed}
+use Rattle.vl_eval.specs.inner.Arranged.{AreEntered, AreEntries, ArePlaces, IsAbove, IsEntry, each_of, moved, number_of, op_at, reads_of, renamed}
 use Rattle.vl_eval.specs.inner.Ops.{IsOrdered, IsSettled, op_value, reads_below}
 
 pub reads-all : (op : Op) (end : ℕ) → reads_below op end → each_of (λ r. r < end) (reads_of op)

@@ -1,5 +1,5 @@
 -- What the fourth condition says of each item and each name of a module.
-use Rattle.std.proofs.Common.{◌≡◌, ◌<◌, ◌≤◌, ℕ, Bool, true, false, not, ◌&&◌, if◌then◌else◌, nat_le, ◌⊎◌, inl, inr, bytes_eq, List, [], ◌∷◌, ◌++◌, map, find, Contains, Option, None, Some, refl, sym, ap, subst, ◌∙◌, arith}
+use Rattle.std.proofs.Common.{◌≡◌, ◌≤◌, ℕ, Bool, true, false, not, ◌&&◌, if◌then◌else◌, nat_le, ◌⊎◌, inl, inr, bytes_eq, List, [], ◌∷◌, map, find, Contains, Option, None, Some, refl, sym, subst, ◌∙◌, arith}
 use Rattle.std.specs.Option.{option_map}
 use Rattle.std.proofs.lemmas.Bool.{and_parts, leb-true, not-false}
 use Rattle.std.proofs.lemmas.List.Elements.{Contains-append_left, Contains-append_right}
@@ -11,7 +11,7 @@ use Rattle.vl_ast.specs.declared.modules.ModItem.TheVariants.{Wire, Reg, Assign,
 use Rattle.vl_ast.specs.declared.modules.Module.{Module}
 use Rattle.vl_ast.specs.Context.{Net}
 use Rattle.vl_ast.specs.Conditions.{is_number, is_sound, is_sound_condition, is_width, is_sound_item, item_name, soundness, too_wide, undriven, doubly}
-use Rattle.vl_ast.specs.Nets.{Declared, port_declared, Declares, mentions, declarations, declaration_of, nets_of, net_or_none}
+use Rattle.vl_ast.specs.Nets.{Declared, Declares, mentions, declarations, declaration_of, nets_of, net_or_none}
 use Rattle.vl_check.specs.declared.scope.Scope.{Scope}
 use Rattle.vl_check.specs.Scope.{IsScopeOf, nets_in}
 use Rattle.vl_ast.proofs.Places.{cons-cases, head-in, none-in, map-in, tail-in}

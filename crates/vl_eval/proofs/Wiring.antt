@@ -1,5 +1,5 @@
 -- One more number in the order: its assignment's operations, and the places of those before it stay.
-use Rattle.std.proofs.Common.{◌≡◌, ◌≢◌, ◌<◌, ◌≤◌, ◌+◌, ◌%◌, ◌^◌, inl, inr, ◌⊎◌, ⊎_elim, ℕ, max, Bool, true, false, List, [], ◌∷◌, ◌++◌, length, map, set, slice_get, slice_index, slice_index_or, Contains, Option, None, Some, refl, sym, ap, subst, ◌∙◌, arith}
+use Rattle.std.proofs.Common.{◌≡◌, ◌≢◌, ◌<◌, ◌≤◌, ◌+◌, ◌%◌, ◌^◌, inl, inr, ◌⊎◌, ⊎_elim, ℕ, max, List, [], length, set, slice_get, slice_index, slice_index_or, Contains, Option, None, Some, refl, sym, ap, subst, ◌∙◌, arith}
 use Rattle.std.specs.Option.{option_and_then}
 use Rattle.std.proofs.lemmas.Bool.{cases_lt, cases_eq}
 use Rattle.std.proofs.lemmas.Nat.{mod_below, pow_pos}
@@ -11,8 +11,8 @@ use Rattle.vl_ast.specs.declared.modules.ModItem.TheVariants.{Wire, Reg, Assign,
 use Rattle.vl_ast.specs.declared.modules.Module.{Module}
 use Rattle.vl_ast.specs.Conditions.{mentioned, undriven, doubly}
 use Rattle.vl_ast.specs.Context.{own_length, is_signed}
-use Rattle.vl_ast.specs.Nets.{Reads, Drives, Declared, Declares, declarations, mentions, names_read}
-use Rattle.vl_ast.specs.Value.{assigned, value_in}
+use Rattle.vl_ast.specs.Nets.{Reads, Declared, Declares, declarations, mentions, names_read}
+use Rattle.vl_ast.specs.Value.{assigned}
 use Rattle.vl_ast.proofs.Agree.{ByLayer, values-agree}
 use Rattle.vl_ast.proofs.Places.{map-in}
 use Rattle.vl_ast.proofs.Facts.{listed-mention, mention-listed, read-declared, reads-of-assign}
@@ -24,7 +24,7 @@ use Rattle.vl_eval.specs.declared.ops.Op.{Op}
 use Rattle.vl_eval.specs.inner.Assigning.{Assigns}
 use Rattle.vl_eval.specs.inner.Ops.{IsSettled}
 use Rattle.vl_eval.specs.inner.Planned.{AreNumbers, AreWired, FixedFit, IsAssigned, IsFixed, IsGiven, IsWired, as_assignment, assignment_at, row_in}
-use Rattle.vl_eval.specs.inner.Shown.{Grows, NamesFit, row_of}
+use Rattle.vl_eval.specs.inner.Shown.{Grows, NamesFit}
 use Rattle.vl_eval.specs.inner.Site.{ArePlaced, slot_at, slot_in}
 use Rattle.vl_eval.proofs.Builds.{grows-length, grows-more, grows-none, settled-later}
 

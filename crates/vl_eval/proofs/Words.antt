@@ -1,7 +1,7 @@
 -- Words of 128 bits: what wraps, is masked, shifted and set side by side.
-use Rattle.std.proofs.Common.{◌≡◌, ◌<◌, ◌≤◌, ◌+◌, ◌-◌, ◌*◌, ◌/◌, ◌%◌, ◌^◌, ◌==◌, inl, inr, ◌⊎◌, ⊎_elim, min, ℕ, zero, suc, max, Bool, true, false, not, ◌&&◌, if◌then◌else◌, nat_le, nat_lt, bit_and, bit_xor, int_lt, zero-add, refl, sym, ap, subst, ◌∙◌, arith}
+use Rattle.std.proofs.Common.{◌≡◌, ◌<◌, ◌≤◌, ◌+◌, ◌-◌, ◌*◌, ◌/◌, ◌%◌, ◌^◌, inl, inr, ◌⊎◌, ⊎_elim, min, ℕ, zero, suc, Bool, true, false, not, ◌&&◌, if◌then◌else◌, nat_le, nat_lt, bit_and, zero-add, refl, sym, ap, subst, ◌∙◌, arith}
 use Rattle.std.specs.Int.{bit_at}
-use Rattle.std.proofs.lemmas.Bool.{cases_lt, false≢true, leb-true, leb-false, ltb-true, ltb-false}
+use Rattle.std.proofs.lemmas.Bool.{cases_lt, leb-true, leb-false, ltb-true, ltb-false}
 use Rattle.std.proofs.lemmas.Nat.{pow_pos, pow-add, and_mask}
 use Rattle.std.proofs.Math.Nat.{mod-eq_of_lt, mul-le-mul_right, div-le_self, div-eq_of_lt, add-mul-mod_self_right}
 use Rattle.std.proofs.Math.Pow.{pow_mono, mod-mod-pow}
@@ -11,9 +11,8 @@ use Rattle.vl_ast.specs.declared.expressions.BinOp.{BinOp}
 use Rattle.vl_ast.specs.declared.expressions.BinOp.TheVariants.{Add as AddOf, Subtract as SubtractOf, Multiply as MultiplyOf, And as AndOf, Or as OrOf, Xor as XorOf, Equal as EqualOf, NotEqual as NotEqualOf, Less as LessOf, LessEqual as LessEqualOf, Greater as GreaterOf, GreaterEqual as GreaterEqualOf, Both as BothOf, Either as EitherOf}
 use Rattle.vl_ast.specs.declared.expressions.ShiftOp.{ShiftOp}
 use Rattle.vl_ast.specs.declared.expressions.ShiftOp.TheVariants.{Left, Right, RightSigned}
-use Rattle.vl_ast.specs.Context.{Place, InWhole, Together, Alone, unary_place, binary_place}
-use Rattle.vl_ast.specs.Value.{Bits, extended, is_negative, number_of, truth, unary_bits, binary_bits, shift_bits}
-use Rattle.vl_eval.specs.declared.ops.Op.{Op}
+use Rattle.vl_ast.specs.Context.{InWhole, Together, Alone, unary_place, binary_place}
+use Rattle.vl_ast.specs.Value.{Bits, extended, truth, unary_bits, binary_bits, shift_bits}
 use Rattle.vl_eval.specs.declared.ops.Op.TheVariants.{Constant, Select, Up, SignedDown}
 use Rattle.vl_eval.specs.inner.Ops.{op_value, reads_below}
 use Rattle.vl_eval.specs.inner.Built.{unary_op, binary_op, down, shift_op}

@@ -1,5 +1,5 @@
 -- The operations of a module's assignments and registers, while they are added, by the numbers of names.
-use Rattle.std.specs.Prelude.{◌≡◌, ◌⊎◌, ℕ, ◌+◌, ◌^◌, ◌<◌, ◌≤◌, ◌==◌, ◌||◌, Bool, true, List, [], length, map, slice_get, slice_index, slice_index_or, Contains, Option, None, Some, option_and_then}
+use Rattle.std.specs.Prelude.{◌≡◌, ◌⊎◌, ℕ, ◌+◌, ◌^◌, ◌<◌, ◌≤◌, ◌==◌, ◌||◌, List, [], length, map, slice_get, slice_index, slice_index_or, Contains, Option, None, Some, option_and_then}
 use Rattle.vl_ast.specs.declared.expressions.Sized.{Sized}
 use Rattle.vl_ast.specs.declared.expressions.Expr.{Expr}
 use Rattle.vl_ast.specs.declared.modules.Port.{Port}

@@ -1,6 +1,5 @@
-use Rattle.std.proofs.Common.{◌≡◌, ◌<◌, ◌≤◌, ◌+◌, ◌*◌, ◌^◌, ◌++◌, ◌∷◌, [], length, take, slice_index_or, sym, ap, subst, ◌∙◌, arith}
+use Rattle.std.proofs.Common.{◌≡◌, ◌+◌, ◌*◌, ◌^◌, ◌++◌, ◌∷◌, [], length, take, slice_index_or, sym, ap, subst, ◌∙◌, arith}
 use Rattle.std.proofs.lemmas.List.{get_or_default, length-take-le, take_more}
-use Rattle.vl_eval.specs.declared.ops.Op.{Op}
 use Rattle.vl_eval.specs.declared.ops.Op.TheVariants.{Constant}
 use Rattle.vl_eval.specs.inner.Arranged.{AreEntered, AreLow, IsAbove, each_of, reads_of}
 use Rattle.vl_eval.proofs.Sorting.{entered-more, entered-none, reads-levelled}

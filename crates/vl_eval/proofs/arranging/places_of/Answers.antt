@@ -1,4 +1,4 @@
-use Rattle.std.proofs.Common.{rules, ◌≡◌, ◌<◌, ◌+◌, length, set, sym, subst, arith}
+use Rattle.std.proofs.Common.{rules, ◌≡◌, ◌+◌, length, set, sym, subst, arith}
 use Rattle.vl_eval.specs.inner.Arranged.{ArePlaces}
 use Rattle.vl_eval.proofs.Sorting.{places-more, places-none}
 use Rattle.vl_eval.proofs.arranging.places_of.Goals as goal

@@ -1,4 +1,4 @@
-use Rattle.std.proofs.Common.{rules, ◌≡◌, ◌<◌, ◌≤◌, ◌+◌, ◌-◌, ◌*◌, ◌^◌, ◌∷◌, [], ◌++◌, ℕ, List, length, take, true, false, refl, sym, ap, subst, ◌∙◌, arith}
+use Rattle.std.proofs.Common.{◌≡◌, ◌≤◌, ◌+◌, [], ◌++◌, ℕ, List, take, refl, sym, subst, arith}
 use Rattle.vl_ast.specs.declared.expressions.Expr.{Expr}
 use Rattle.vl_ast.specs.Context.{own_length}
 use Rattle.vl_ast.specs.Nets.{names_read}
@@ -9,7 +9,7 @@ use Rattle.vl_eval.specs.declared.site.Site.{Site}
 use Rattle.vl_eval.specs.inner.Shown.{Pushed}
 use Rattle.vl_eval.specs.inner.Site.{ArePlaced}
 use Rattle.vl_eval.proofs.Results.{if-ok}
-use Rattle.vl_eval.proofs.Operands.{few-of, sound-unary, names-unary, sound-as-signed, length-as-signed, names-as-signed, sound-as-unsigned, names-as-unsigned, sound-binary, names-binary, sound-shift, length-shift, names-shift, sound-choose, length-choose, names-choose, sound-repeat, names-repeat, sound-concat, names-concat}
+use Rattle.vl_eval.proofs.Operands.{sound-unary, names-unary, sound-as-signed, names-as-signed, sound-as-unsigned, names-as-unsigned, sound-binary, names-binary, sound-shift, length-shift, names-shift, sound-choose, length-choose, names-choose, sound-repeat, names-repeat, sound-concat, names-concat}
 use Rattle.vl_eval.proofs.Rooms.{unary-room, left-context-room, right-context-room}
 use Rattle.std.proofs.lemmas.List.{take_all}
 use Rattle.vl_eval.proofs.Builds.{Copied, Joined, beside-grows, built-copies, built-no-parts, built-parts, copied-more, copied-one, copies-few, grows-more, grows-none, joined-more, lengths-more, one-copy, part-in, part-placed, part-size, part-sound, parts-few, parts-more, value-at, placed-left, placed-right, placed-later, built-unary, built-binary, built-as-signed, built-as-signed-plain, built-as-unsigned, built-shift, built-choice}

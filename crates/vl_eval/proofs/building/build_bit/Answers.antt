@@ -1,4 +1,4 @@
-use Rattle.std.proofs.Common.{rules, ◌≡◌, ◌<◌, ◌≤◌, ◌+◌, ◌-◌, ◌^◌, ◌∷◌, [], ◌++◌, length, true, false, refl, sym, ap, subst, ◌∙◌, arith}
+use Rattle.std.proofs.Common.{[], sym, subst, arith}
 use Rattle.vl_ast.proofs.Places.{head-in}
 use Rattle.std.proofs.Common.{Contains}
 use Rattle.vl_check.specs.Scope.{nets_in}

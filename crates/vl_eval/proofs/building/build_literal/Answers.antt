@@ -1,4 +1,4 @@
-use Rattle.std.proofs.Common.{rules, ◌≡◌, ◌<◌, ◌≤◌, ◌+◌, ◌-◌, ◌^◌, ◌∷◌, [], ◌++◌, length, true, false, refl, sym, ap, subst, ◌∙◌, arith}
+use Rattle.std.proofs.Common.{arith}
 use Rattle.vl_check.specs.Scope.{nets_in}
 use Rattle.vl_eval.proofs.Results.{if-ok}
 use Rattle.vl_eval.proofs.Operands.{length-literal, sound-literal}

@@ -1,9 +1,9 @@
-use Rattle.std.proofs.Common.{rules, ◌≡◌, ◌<◌, ◌+◌, ◌++◌, ◌∷◌, [], length, set, take, drop, slice_index, slice_index_or, Contains, refl, sym, subst, arith}
-use Rattle.std.proofs.lemmas.List.{get_or_default, take-append-drop, take_more}
+use Rattle.std.proofs.Common.{rules, set, take, drop, slice_index, slice_index_or, Contains, sym, subst, arith}
+use Rattle.std.proofs.lemmas.List.{take-append-drop, take_more}
 use Rattle.std.proofs.lemmas.List.Elements.{Contains-append_left}
 use Rattle.vl_eval.specs.declared.plan.Capture.{Capture}
 use Rattle.vl_eval.specs.inner.Edges.{IsTaken}
-use Rattle.vl_eval.proofs.Taking.{capture-in, taken-none, taken-more}
+use Rattle.vl_eval.proofs.Taking.{capture-in, taken-more}
 use Rattle.vl_eval.proofs.machine.capture.Goals as goal
 
 pub offset_bounds-values-from : goal.offset_bounds-values-from

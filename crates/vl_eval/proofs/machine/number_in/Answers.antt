@@ -1,6 +1,5 @@
-use Rattle.std.proofs.Common.{SFits, of_z, to_z, ◌≡◌, ◌<◌, ◌≤◌, ◌-◌, ◌^◌, Bool, true, false, ℤ, pos, ◌-ℤ◌, refl, sym, ap, subst, ◌∙◌, arith}
+use Rattle.std.proofs.Common.{SFits, of_z, to_z, ◌<◌, ◌≤◌, ◌-◌, ◌^◌, pos, ◌-ℤ◌, sym, ap, subst, ◌∙◌, arith}
 use Rattle.std.specs.Int.{w128}
-use Rattle.std.proofs.Math.Pow.{pow_mono}
 use Rattle.std.proofs.lemmas.Bool.{false≢true}
 use Rattle.std.proofs.lemmas.Int.{to_z_pos, to_z-of_z}
 use Rattle.vl_ast.specs.Value.{number_of}

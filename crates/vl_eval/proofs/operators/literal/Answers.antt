@@ -1,4 +1,3 @@
-use Rattle.std.proofs.Common.{rules, ◌≡◌, ◌<◌, ◌≤◌, ◌+◌, ◌-◌, ◌^◌, ◌∷◌, [], ◌++◌, length, true, false, refl, sym, ap, subst, ◌∙◌, arith}
 use Rattle.vl_eval.proofs.Rooms.{masks}
 use Rattle.vl_eval.proofs.operators.literal.Goals as goal
 

@@ -1,5 +1,4 @@
-use Rattle.std.proofs.Common.{◌≡◌, ◌<◌, ◌+◌, ◌++◌, ◌∷◌, [], List, ℕ, length, take, codes, Contains, Vec, Global, refl, sym, subst, ap, ◌∙◌}
-use Rattle.std.proofs.lemmas.List.{take_more}
+use Rattle.std.proofs.Common.{◌≡◌, ◌++◌, ◌∷◌, [], length, take, Vec, Global, refl, sym, subst, ap, ◌∙◌}
 use Rattle.vl_ast.specs.declared.modules.ModItem.TheVariants.{Always}
 use Rattle.vl_check.specs.Scope.{names_in}
 use Rattle.vl_eval.specs.inner.Assigning.{Captures, next_names}
@@ -7,7 +6,7 @@ use Rattle.vl_eval.specs.declared.ops.Op.{Op}
 use Rattle.vl_eval.specs.declared.plan.Capture.{Capture}
 use Rattle.vl_eval.specs.inner.Planned.{AreCaptured}
 use Rattle.vl_eval.specs.inner.Site.{ArePlaced, slot_in}
-use Rattle.vl_eval.proofs.Capturing.{captured-more, captured-none, captured-same, item-there, items-more, known-placed, next-known, reset-known}
+use Rattle.vl_eval.proofs.Capturing.{captured-more, captured-same, item-there, items-more, known-placed, next-known, reset-known}
 use Rattle.vl_eval.proofs.Sounds.{scope-always, scope-few}
 use Rattle.vl_eval.proofs.plan.captures.Goals as goal
 use Rattle.vl_eval.proofs.plan.captures.Goals.{in-Always+in_ok-from+in_ok-push, in_default}

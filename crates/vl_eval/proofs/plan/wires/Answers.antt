@@ -1,15 +1,12 @@
-use Rattle.std.proofs.Common.{◌≡◌, ◌<◌, ◌+◌, List, ℕ, length, slice_index, Option, None, Some, sym, subst, ap, ◌∙◌, arith}
+use Rattle.std.proofs.Common.{◌≡◌, length, slice_index, sym, subst, ap, arith}
 use Rattle.vl_ast.specs.Context.{Net}
-use Rattle.vl_ast.specs.Conditions.{is_sound}
 use Rattle.vl_ast.specs.Nets.{names_read}
-use Rattle.vl_ast.specs.declared.expressions.Expr.{Expr}
-use Rattle.std.specs.Option.{option_map}
-use Rattle.vl_check.specs.Scope.{names_in, nets_in}
+use Rattle.vl_check.specs.Scope.{names_in}
 use Rattle.vl_eval.specs.inner.Assigning.{Assigns}
-use Rattle.vl_eval.specs.inner.Planned.{AreWired, IsWired, the_assignment}
+use Rattle.vl_eval.specs.inner.Planned.{IsWired}
 use Rattle.vl_eval.specs.inner.Site.{ArePlaced}
 use Rattle.vl_eval.proofs.Sounds.{scope-few, scope-sound}
-use Rattle.vl_eval.proofs.Wiring.{in-items, no-assignment, some-assignment, wired-all, wired-more, wired-none, wired-placed, wired-same}
+use Rattle.vl_eval.proofs.Wiring.{in-items, no-assignment, some-assignment, wired-all, wired-more, wired-placed, wired-same}
 use Rattle.vl_eval.proofs.plan.wires.Goals as goal
 
 pub loop-number-preserved-in_default : goal.loop-number-preserved-in_default

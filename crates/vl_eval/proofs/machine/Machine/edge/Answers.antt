@@ -1,5 +1,4 @@
-use Rattle.std.proofs.Common.{◌≡◌, ◌<◌, ◌+◌, List, ℕ, length, take, slice_index, Contains, sym, ap, subst, ◌∙◌, arith}
-use Rattle.vl_eval.specs.declared.plan.Capture.{Capture}
+use Rattle.std.proofs.Common.{◌≡◌, ◌<◌, ℕ, length, take, slice_index, Contains, sym, ap, subst, ◌∙◌}
 use Rattle.std.specs.Vec.{with_items}
 use Rattle.std.proofs.lemmas.List.{with_items_is}
 use Rattle.vl_eval.specs.inner.Edges.{IsPut, IsTaken}
