@@ -1,0 +1,11 @@
+pub mod Finding
+pub mod Joining
+pub mod Meeting
+pub mod Noting
+pub mod Passing
+pub mod Places
+pub mod Placing
+pub mod Stepping
+pub mod Telling
+pub mod Walking
+pub mod Ways

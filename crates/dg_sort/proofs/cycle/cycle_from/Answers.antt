@@ -1,0 +1,16 @@
+use Rattle.dg_sort.proofs.Walking.{walk_lower, walk_goes, walk_ends}
+use Rattle.dg_sort.proofs.cycle.cycle_from.Goals as goal
+
+pub loop-at-smaller : goal.loop-at-smaller
+loop-at-smaller c =
+    walk_lower c.args.rows.now c.args.first c.loop-at.at c.index-step.result.now c.steps_back.new.steps.items c.loop-at.cycle c.loop-at.invariant.met c.loop-at.invariant.walked c.loop-at-test.true c.index-step.ensures
+
+pub loop-at-preserved : goal.loop-at-preserved
+loop-at-preserved c = record {
+  met = c.loop-at.invariant.met;
+  walked = rw c.in_ok-push-2.ensures.appended
+      (walk_goes c.args.rows.now c.args.first c.loop-at.at c.index-step.result.now c.steps_back.new.steps.items c.loop-at.cycle c.loop-at.invariant.met c.loop-at.invariant.walked c.loop-at-test.true c.index-step.ensures);
+}
+
+pub returns : goal.returns
+returns c = walk_ends c.args.rows.now c.args.first c.loop-at.at c.steps_back.new.steps.items c.loop-at.cycle c.loop-at.invariant.met c.loop-at.invariant.walked c.loop-at-test.false

@@ -1,0 +1,32 @@
+use Rattle.std.proofs.Common.{◌<◌, length, arith}
+use Rattle.dg_sort.specs.inner.Search.{seen}
+use Rattle.dg_sort.proofs.Finding.{found}
+use Rattle.dg_sort.proofs.Stepping.{roots_more, roots_same}
+use Rattle.dg_sort.proofs.search.search_all.Goals.{in-Unmet+in_ok-search_from, in_default}
+use Rattle.dg_sort.proofs.search.search_all.Goals as goal
+
+pub loop-root-preserved : goal.loop-root-preserved
+loop-root-preserved c =
+    let size = c.loop-root.invariant.state.places.marked in
+    let below = c.loop-root-test.true in
+    let inside : c.loop-root.root < length c.loop-root.search.marks.items = omega (arith, size, below) in
+    elim c.match-index.branch [
+      | in-Unmet+in_ok-search_from w ↦
+          let searched = w.in_ok-search_from.ensures in
+          rw w.search-is (record {
+            state = searched.state;
+            free = searched.free;
+            met = roots_more c.args.rows.now (seen c.loop-root.search) (seen w.search_from.new.self) c.loop-root.root searched c.loop-root.invariant.met;
+          })
+      | in_default w ↦
+          rw w.search-is (record {
+            state = c.loop-root.invariant.state;
+            free = c.loop-root.invariant.free;
+            met = roots_same c.loop-root.search.marks.items c.loop-root.root c.index.result.now inside c.index.ensures w.in_default.not-Unmet c.loop-root.invariant.met;
+          })
+    ]
+
+pub returns : goal.returns
+returns c =
+    let end = c.loop-root-test.false in
+    found c.args.rows.now (seen c.loop-root.search) c.requires.known c.loop-root.invariant.state c.loop-root.invariant.free (λ block inside at. c.loop-root.invariant.met block (omega (arith, inside, end)) at)

@@ -1,0 +1,5 @@
+pub mod Back
+pub mod Cycle
+pub mod Rows
+pub mod Search
+pub mod State

@@ -1,0 +1,146 @@
+ghost use Rattle.std.specs.Prelude.{◌≡◌, ◌<◌, [], IfOk, OnOk, length, replicate};
+ghost use Rattle.dg_model.specs.Hits.{is_slow_to_fast};
+ghost use Rattle.dg_model.specs.Instant.{is_now, asks_now as asks_now_of};
+ghost use Rattle.dg_model.specs.Library.{row_of};
+ghost use Rattle.dg_model.specs.Periods.{periods_of};
+ghost use Rattle.dg_model.specs.Wired.{IsWired};
+ghost use Rattle.dg_sort.specs.inner.Rows.{AreRows, control_now, is_line_instant, noted};
+
+use dg_model::{Block, Diagram, Edge, Kind};
+use fx_io::{OutOfMemory, Sizes};
+use std::alloc::Global;
+
+/// Whether a block of this kind reads its inputs in its own sample, by whether its input is slower.
+fn reads_now(kind: &Kind, slower: bool) -> bool
+    ensures { result ≡ is_now (row_of kind.now).timing.reads slower }
+{
+    match kind {
+        Kind::Delay { .. } => false,
+        Kind::RateTransition { .. } => !slower,
+        Kind::Inport { .. }
+        | Kind::Outport { .. }
+        | Kind::Constant { .. }
+        | Kind::Ground
+        | Kind::Sum { .. }
+        | Kind::Gain { .. }
+        | Kind::Product
+        | Kind::Switch { .. }
+        | Kind::Relational { .. }
+        | Kind::Logic { .. }
+        | Kind::Convert { .. }
+        | Kind::Mux { .. }
+        | Kind::Demux { .. }
+        | Kind::Pass { .. }
+        | Kind::EnableTest
+        | Kind::EnOut { .. }
+        | Kind::Terminator => true,
+    }
+}
+
+/// Whether a block of this kind asks in its own sample whether it is enabled.
+fn asks_now(kind: &Kind) -> bool
+    ensures { result ≡ asks_now_of kind.now }
+{
+    match kind {
+        Kind::EnOut { .. } => true,
+        Kind::Inport { .. }
+        | Kind::Outport { .. }
+        | Kind::Constant { .. }
+        | Kind::Ground
+        | Kind::Sum { .. }
+        | Kind::Gain { .. }
+        | Kind::Product
+        | Kind::Switch { .. }
+        | Kind::Relational { .. }
+        | Kind::Logic { .. }
+        | Kind::Convert { .. }
+        | Kind::Delay { .. }
+        | Kind::Mux { .. }
+        | Kind::Demux { .. }
+        | Kind::RateTransition { .. }
+        | Kind::Pass { .. }
+        | Kind::EnableTest
+        | Kind::Terminator => false,
+    }
+}
+
+/// Whether a block's period is shorter than its driver's.
+fn is_slower(driver: Option<u32>, own: Option<u32>) -> bool
+    ensures { result ≡ is_slow_to_fast driver own }
+{
+    match (driver, own) {
+        (Some(driver), Some(own)) => own < driver,
+        (Some(_), None) => false,
+        (None, Some(_)) => false,
+        (None, None) => false,
+    }
+}
+
+/// Whether an edge's end is read in the sample of its source.
+fn is_instant(blocks: &[Block], periods: &[Option<u32>], edge: Edge) -> bool
+    requires from { edge.from < length periods.now }
+    requires to { edge.to < length blocks.now }
+    requires timed { length periods.now ≡ length blocks.now }
+    ensures { result ≡ is_line_instant blocks.now periods.now edge }
+{
+    let slower = is_slower(periods[edge.from as usize], periods[edge.to as usize]);
+    reads_now(&blocks[edge.to as usize].kind, slower)
+}
+
+/// So many empty rows.
+fn empty_rows(alloc: Global, count: usize) -> Result<Vec<Sizes>, OutOfMemory>
+    ensures { IfOk result (λ rows. rows.items ≡ replicate count []) }
+{
+    let mut rows: Vec<Sizes> = Vec::new(alloc);
+    for _block in 0..count {
+        rows.push(Sizes::new(alloc))?;
+    }
+    Ok(rows)
+}
+
+/// Puts a source at the end of a block's row.
+fn note(rows: &mut Vec<Sizes>, block: u32, source: u32) -> Result<(), OutOfMemory>
+    requires { block < length rows.old.items }
+    ensures { OnOk result (rows.new.items ≡ noted rows.old.items block source) }
+{
+    rows[block as usize].push(source)?;
+    Ok(())
+}
+
+/// The control that a block asks in its own sample, where it asks one.
+fn control_of(block: &Block) -> Option<u32>
+    ensures { result ≡ control_now block.now }
+{
+    if asks_now(&block.kind) {
+        block.enable
+    } else {
+        None
+    }
+}
+
+/// By block, the blocks that it reads in its own sample: its drivers by port, and the control that
+/// it asks.
+pub fn rows_of(
+    alloc: Global,
+    diagram: &Diagram,
+    periods: &[Option<u32>],
+) -> Result<Vec<Sizes>, OutOfMemory>
+    requires wired { IsWired diagram.now }
+    requires periods { periods.now ≡ periods_of diagram.now }
+    ensures { IfOk result (λ rows. AreRows diagram.now rows.items) }
+{
+    let blocks = diagram.blocks.as_slice();
+    let mut rows = empty_rows(alloc, blocks.len())?;
+    for edge in diagram.edges.as_slice() {
+        let edge = *edge;
+        if is_instant(blocks, periods, edge) {
+            note(&mut rows, edge.to, edge.from)?;
+        }
+    }
+    for (place, block) in blocks.iter().enumerate() {
+        if let Some(control) = control_of(block) {
+            note(&mut rows, place as u32, control)?;
+        }
+    }
+    Ok(rows)
+}
