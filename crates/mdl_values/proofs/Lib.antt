@@ -1,0 +1,4 @@
+mod BracketLemmas
+mod ElementLemmas
+mod PieceLemmas
+mod WordLemmas

@@ -1,0 +1,85 @@
+//! Elements in brackets.
+ghost use Rattle.std.specs.Prelude.{◌≡◌, None, Some, IfOk, MatchOption};
+ghost use Rattle.mdl_values.specs.Pieces.{pieces_at, words_of, two_of, opens, bracketed, bracket_elements, alone, list_elements};
+
+use crate::pieces::{cut, elements, first_word, unblanked};
+use fx_io::{OutOfMemory, Text, Texts};
+use std::alloc::Global;
+
+/// The two pieces of a text that has no more.
+pub fn two_of(text: &[u8], separator: u8) -> Option<(&[u8], &[u8])>
+    ensures { MatchOption result (two_of (pieces_at separator text.now) ≡ None)
+        (λ found. two_of (pieces_at separator text.now) ≡ Some (found.0.now, found.1.now)) }
+{
+    let (first, behind) = cut(text, separator);
+    let Some(rest) = behind else {
+        return None;
+    };
+    let (second, more) = cut(rest, separator);
+    match more {
+        Some(_) => None,
+        None => Some((first, second)),
+    }
+}
+
+/// Whether an opening bracket stands first.
+pub fn opens(text: &[u8]) -> bool
+    ensures { result ≡ opens text.now }
+{
+    !text.is_empty() && text[0] == b'['
+}
+
+/// What stands behind an opening bracket before the only closing one, and what follows that.
+fn bracketed(text: &[u8]) -> Option<(&[u8], &[u8])>
+    ensures { MatchOption result (bracketed text.now ≡ None)
+        (λ found. bracketed text.now ≡ Some (found.0.now, found.1.now)) }
+{
+    if opens(text) {
+        two_of(&text[1..], b']')
+    } else {
+        None
+    }
+}
+
+/// The elements in the brackets that a text is.
+pub fn bracket_elements(alloc: Global, text: &[u8]) -> Result<Option<Texts>, OutOfMemory>
+    ensures { IfOk result (λ found. found ≡ bracket_elements text.now) }
+{
+    match bracketed(text) {
+        Some((inside, after)) if after.is_empty() => elements(alloc, inside),
+        _ => Ok(None),
+    }
+}
+
+/// The only word of a text, as a list of one.
+fn alone(alloc: Global, text: &[u8]) -> Result<Option<Texts>, OutOfMemory>
+    ensures { IfOk result (λ found. found ≡ alone (words_of text.now)) }
+{
+    let Some((word, after)) = first_word(text) else {
+        return Ok(None);
+    };
+    if first_word(after).is_some() {
+        return Ok(None);
+    }
+    let mut only = Texts::new(alloc);
+    only.push(Text::copy(alloc, word)?)?;
+    Ok(Some(only))
+}
+
+/// The elements of a list: those in its brackets, or the one that it is. Blanks around are passed
+/// over.
+pub fn list_elements(alloc: Global, text: &[u8]) -> Result<Option<Texts>, OutOfMemory>
+    ensures { IfOk result (λ found. found ≡ list_elements text.now) }
+{
+    let text = unblanked(text);
+    if !opens(text) {
+        return alone(alloc, text);
+    }
+    let Some((inside, after)) = bracketed(text) else {
+        return Ok(None);
+    };
+    if first_word(after).is_some() {
+        return Ok(None);
+    }
+    elements(alloc, inside)
+}
