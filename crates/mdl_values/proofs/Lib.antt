@@ -1,4 +1,12 @@
 mod BracketLemmas
+mod DecimalForms
+mod DecimalLemmas
 mod ElementLemmas
+mod ListLemmas
+mod PeriodLemmas
 mod PieceLemmas
+mod ReadLemmas
+mod SignLemmas
+mod TypeLemmas
 mod WordLemmas
+mod ZipLemmas

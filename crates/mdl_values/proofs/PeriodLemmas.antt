@@ -1,0 +1,51 @@
+-- Decimals that are 0, and those above it.
+use Rattle.std.proofs.Common.{◌≡◌, ℕ, ◌≤◌, ◌⊎◌, inl, inr, true, false, eqb, List, Option, None, Some, sym, ◌∙◌, ap, arith, true≢false, eqb-true, get_or, ◌∷◌, [], length, ap₂, subst}
+use Rattle.std.specs.Prelude.{IsTrue, ◌↔◌}
+use Rattle.fx_type.specs.declared.decimal.Decimal.{Decimal}
+use Rattle.fx_round.specs.DecimalText.{IsDecimal}
+use Rattle.mdl_values.specs.Reads.{Finds}
+use Rattle.mdl_values.specs.Pieces.{bracket_elements}
+use Rattle.mdl_values.specs.Periods.{IsZeroText, IsAboveZero, IsWithOffset}
+use Rattle.mdl_values.proofs.DecimalLemmas.{one_decimal}
+
+-- a decimal is 0 where its digits are
+pub zero_known : (text : List ℕ) (d : Decimal) → IsDecimal text d → IsTrue (eqb d.digits 0) ↔ IsZeroText text
+zero_known text d read = (
+  λ test. record { decimal = d; read = read; zero = eqb-true d.digits 0 test },
+  λ z. let same = one_decimal text d z.decimal read z.read in ap (λ (n : ℕ). eqb n 0) (same.1 ∙ z.zero),
+)
+
+-- a text that is none isn't 0
+pub zero_unknown : (text : List ℕ) → ((d : Decimal) → ¬ IsDecimal text d) → IsTrue false ↔ IsZeroText text
+zero_unknown text none = (λ test. absurd (true≢false (sym test)), λ z. absurd (none z.decimal z.read))
+
+-- one that is negative, or 0, isn't above 0
+pub not_above : (text : List ℕ) (d : Decimal) → IsDecimal text d → (d.negative ≡ true) ⊎ (d.digits ≤ 0) → (period : Decimal) → ¬ IsAboveZero text period
+not_above text d read (inl negative) period above =
+    let same = one_decimal text d period read above.read in
+    true≢false (sym negative ∙ same.0 ∙ above.above.sign)
+not_above text d read (inr small) period above =
+    let same = one_decimal text d period read above.read in
+    omega (arith, same.1, above.above.above, small)
+
+some_same : (xs ys : List (List ℕ)) → Some xs ≡ Some ys → xs ≡ ys
+some_same xs ys e = cc
+
+first_same : (a b x y : List ℕ) → a ∷ b ∷ [] ≡ x ∷ y ∷ [] → a ≡ x
+first_same a b x y e = cc
+
+-- a period with its offset, by the two elements
+pub offset_found : (text : List ℕ) (texts : List (List ℕ)) (first second : List ℕ) (found : Option Decimal) → bracket_elements text ≡ Some texts → length texts ≡ 2
+    → get_or texts 0 [] ≡ first → get_or texts 1 [] ≡ second → IsZeroText second → Finds (IsAboveZero first) found → Finds (IsWithOffset text) found
+offset_found text [] first second found are long f s zero read = absurd (omega arith)
+offset_found text (a ∷ []) first second found are long f s zero read = absurd (omega arith)
+offset_found text (a ∷ b ∷ c ∷ more) first second found are long f s zero read = absurd (omega arith)
+offset_found text (a ∷ b ∷ []) first second None are long f s zero none = λ period is.
+    none period (subst (λ (t : List ℕ). IsAboveZero t period) (sym (first_same a b is.first is.second (some_same (a ∷ b ∷ []) (is.first ∷ is.second ∷ []) (sym are ∙ is.elements))) ∙ f) is.read)
+offset_found text (a ∷ b ∷ []) first second (Some period) are long f s zero read = record {
+  first = first;
+  second = second;
+  elements = are ∙ ap₂ (λ (x y : List ℕ). Some (x ∷ y ∷ [])) f s;
+  read = read;
+  offset = zero;
+}

@@ -1,0 +1,24 @@
+use Rattle.std.proofs.Common.{◌≡◌, ℕ, List, [], get_or, subst, sym, arith}
+use Rattle.std.proofs.lemmas.Grind.{common_steps}
+use Rattle.fx_type.specs.declared.decimal.Decimal.{Decimal}
+use Rattle.fx_round.specs.DecimalText.{IsDecimal}
+use Rattle.mdl_values.proofs.ListLemmas.{all_read, one_unread}
+use Rattle.mdl_values.proofs.ZipLemmas.{zip_more}
+use Rattle.mdl_values.proofs.lists.decimals.Goals as goal
+
+pub returns-in_default : goal.returns-in_default
+returns-in_default c =
+    let here : get_or c.as_slice-texts.result.now c.loop-element.element-index [] ≡ c.bytes.result.now = first_of (cc, grind (arith, common_steps)) in
+    one_unread IsDecimal c.as_slice-texts.result.now c.args.elements.now c.loop-element.element-index [] c.as_slice-texts.ensures (omega arith)
+    (λ (value : Decimal) read. c.in_default.ensures value (subst (λ (t : List ℕ). IsDecimal t value) here read))
+
+pub loop-element-preserved : goal.loop-element-preserved
+loop-element-preserved c =
+    let here : get_or c.as_slice-texts.result.now c.loop-element.element-index [] ≡ c.bytes.result.now = first_of (cc, grind (arith, common_steps)) in
+    λ more rest. rw c.in_ok-push.ensures.appended
+    (zip_more IsDecimal c.as_slice-texts.result.now c.loop-element.list c.loop-element.element-index [] c.in-Some.value (omega arith)
+    (subst (λ (t : List ℕ). IsDecimal t c.in-Some.value) (sym here) c.in-Some.ensures) c.loop-element.invariant more rest)
+
+pub returns : goal.returns
+returns c =
+    all_read IsDecimal c.as_slice-texts.result.now c.args.elements.now c.loop-element.list c.loop-element.element-index c.as_slice-texts.ensures (omega arith) c.loop-element.invariant
