@@ -1,0 +1,5 @@
+mod Aligning
+mod Ends
+mod Linking
+mod Stepping
+mod Tying

@@ -1,0 +1,68 @@
+-- Rows of sources and readers once one more block reads one more source.
+use Rattle.std.proofs.Common.{◌≡◌, ℕ, zero, suc, ◌+◌, ◌<◌, ◌≤◌, ◌⊎◌, ⊎_elim, Bool, true, false, List, [], ◌∷◌, ◌++◌, length, map, filter, cond, Some, None, refl, sym, ap, subst, ◌∙◌, inl, inr, arith}
+use Rattle.std.specs.Prelude.{All, Option, nat_lt, if◌then◌else◌, slice_get, slice_index_or, ◌==◌, replicate}
+use Rattle.std.proofs.lemmas.Bool.{cases_lt, cases_eq, eq-eqb, ne_eqb, cond-true, cond-false, lt-ltb, le-ltb}
+use Rattle.std.proofs.lemmas.Grind.{get_or-set_at}
+use Rattle.std.proofs.lemmas.List.{get_or-set_other, length-set, length-replicate, map-append, append-nil, get_or_past}
+use Rattle.std.proofs.lemmas.List.Elements.{All-push, All-nil, All-replicate}
+use Rattle.std.proofs.lemmas.Option.{same_Some, slice_get_within}
+use Rattle.dg_waves.specs.inner.Waves.{is_in}
+use Rattle.dg_waves.proofs.Waved.{is_in_push, is_in_last, pushed_at}
+use Rattle.dg_model.specs.declared.diagram.Diagram.{Diagram}
+use Rattle.dg_model.specs.declared.diagram.Block.{Block}
+use Rattle.dg_model.specs.declared.diagram.Edge.{Edge}
+use Rattle.dg_model.specs.Periods.{control_of, drivers_of, sources_of}
+use Rattle.dg_rates.specs.inner.Links.{row_at, noted, AreTied, AreDrivers, AreControlled, AreSources}
+
+pub noted_here : (rows : List (List ℕ)) (block number k : ℕ) → block < length rows → k ≡ block → row_at (noted rows block number) k ≡ row_at rows k ++ number ∷ []
+noted_here rows block number k inside same =
+    get_or-set_at rows block k (row_at rows block ++ number ∷ []) [] same inside ∙ ap (λ n. row_at rows n ++ number ∷ []) (sym same)
+
+pub noted_other : (rows : List (List ℕ)) (block number k : ℕ) → (k ≡ block → ⊥) → row_at (noted rows block number) k ≡ row_at rows k
+noted_other rows block number k other = get_or-set_other rows block k (row_at rows block ++ number ∷ []) [] other
+
+-- a fact of each row that a further number keeps
+each_row : (P : ℕ → List ℕ → Type 0) (rows : List (List ℕ)) (block number : ℕ) → block < length rows
+    → ((k : ℕ) → P k (row_at rows k)) → ((k : ℕ) → k ≡ block → P k (row_at rows k) → P k (row_at rows k ++ number ∷ []))
+    → (k : ℕ) → P k (row_at (noted rows block number) k)
+each_row P rows block number inside before more k =
+    ⊎_elim
+    (λ same. subst (P k) (sym (noted_here rows block number k inside same)) (more k same (before k)))
+    (λ other. subst (P k) (sym (noted_other rows block number k other)) (before k))
+    (cases_eq k block)
+
+pub tie_more : (count : ℕ) (sources readers : List (List ℕ)) (reader source : ℕ) → reader < count → source < count → AreTied count sources readers
+    → AreTied count (noted sources reader source) (noted readers source reader)
+tie_more count sources readers reader source reader_there source_there t = record {
+  sources_size = length-set sources reader (row_at sources reader ++ source ∷ []) ∙ t.sources_size;
+  readers_size = length-set readers source (row_at readers source ++ reader ∷ []) ∙ t.readers_size;
+  there = each_row (λ k row. All (λ s. s < count) row) sources reader source reader_inside t.there
+      (λ k same before. All-push (λ s. s < count) (row_at sources k) source before source_there);
+  readers_there = each_row (λ k row. All (λ r. r < count) row) readers source reader source_inside t.readers_there
+      (λ k same before. All-push (λ r. r < count) (row_at readers k) reader before reader_there);
+  own = λ block inside. still block block (t.own block inside);
+  known = λ block k s at.
+      ⊎_elim
+      (λ same. at_reader block k s same (subst (λ row. slice_get row k ≡ Some s) (noted_here sources reader source block reader_inside same) at))
+      (λ other. still s block (t.known block k s (subst (λ row. slice_get row k ≡ Some s) (noted_other sources reader source block other) at)))
+      (cases_eq block reader);
+}
+  where
+    reader_inside : reader < length sources
+    reader_inside = omega (arith, reader_there, t.sources_size)
+
+    source_inside : source < length readers
+    source_inside = omega (arith, source_there, t.readers_size)
+
+    still : (s block : ℕ) → is_in block (row_at readers s) ≡ true → is_in block (row_at (noted readers source reader) s) ≡ true
+    still s block is =
+        ⊎_elim
+        (λ same. subst (λ row. is_in block row ≡ true) (sym (noted_here readers source reader s source_inside same)) (is_in_push (row_at readers s) reader block is))
+        (λ other. subst (λ row. is_in block row ≡ true) (sym (noted_other readers source reader s other)) is)
+        (cases_eq s source)
+
+    new_reader : (s block : ℕ) → s ≡ source → block ≡ reader → is_in block (row_at (noted readers source reader) s) ≡ true
+    new_reader s block same is = subst (λ row. is_in block row ≡ true) (sym (noted_here readers source reader s source_inside same)) (is_in_last (row_at readers s) reader block (sym is))
+
+    at_reader : (block k s : ℕ) → block ≡ reader → slice_get (row_at sources block ++ source ∷ []) k ≡ Some s → is_in block (row_at (noted readers source reader) s) ≡ true
+    at_reader block k s same at = pushed_at (λ x. is_in block (row_at (noted readers source reader) x) ≡ true) (row_at sources block) source (λ j x there. still x block (t.known block j x there)) (new_reader source block refl same) k s at

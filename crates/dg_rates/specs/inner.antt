@@ -1,0 +1,5 @@
+-- What private contracts cite.
+pub mod Links
+pub mod StepLaws
+pub mod Steps
+pub mod Units
