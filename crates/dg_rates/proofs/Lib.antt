@@ -1,5 +1,7 @@
 mod Aligning
+mod Declaring
 mod Ends
+mod Keeping
 mod Linking
 mod Stepping
 mod Tying

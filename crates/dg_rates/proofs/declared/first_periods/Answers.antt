@@ -1,0 +1,26 @@
+use Rattle.std.proofs.Common.{◌≡◌, ◌<◌, Some, length, ap, sym, subst, ◌∙◌, arith}
+use Rattle.std.specs.Prelude.{slice_get}
+use Rattle.dg_model.specs.Periods.{units_of}
+use Rattle.dg_model.specs.Rate.{KeepsDeclared}
+use Rattle.dg_rates.proofs.Declaring.{first_is, first_more, kept_in}
+use Rattle.dg_rates.proofs.Ends.{read_at}
+use Rattle.dg_rates.proofs.Keeping.{keep_more, keep_all}
+use Rattle.dg_rates.proofs.declared.first_periods.Goals as goal
+
+pub loop-block-preserved : goal.loop-block-preserved
+loop-block-preserved c =
+    let diagram = c.args.diagram.now in
+    let place = c.loop-block.block-index in
+    let block = c.block-item.result in
+    let at : slice_get diagram.blocks place ≡ Some block =
+    read_at diagram.blocks place block (rw c.as_slice-block-items.ensures at c.loop-block-test.true) (rw c.as_slice-block-items.ensures at c.block-item.is) in
+    let known = c.in-Ok.ensures.known ∙ first_is diagram (units_of c.args.base) block.kind block.period c.requires.base_is in
+    record {
+      known = rw c.in_ok-push-in-Ok.ensures.appended (first_more diagram c.loop-block.first place block c.in-Ok.known at c.loop-block.invariant.known known);
+      kept = keep_more diagram (KeepsDeclared diagram) place block at (kept_in diagram (units_of c.args.base) place block c.requires.base_is c.in-Ok.ensures.kept) c.loop-block.invariant.kept;
+    }
+
+pub returns-clause-kept : goal.returns-clause-kept
+returns-clause-kept c =
+    let diagram = c.args.diagram.now in
+    keep_all diagram (KeepsDeclared diagram) c.loop-block.block-index (rw c.as_slice-block-items.ensures at c.loop-block-test.false) c.loop-block.invariant.kept
