@@ -1,10 +1,9 @@
 -- Periods compared in one unit.
-use Rattle.std.proofs.Common.{◌≡◌, ℕ, zero, suc, ◌+◌, ◌-◌, ◌*◌, ◌^◌, ◌<◌, ◌≤◌, ◌⊎◌, ⊎_elim, Option, Some, None, refl, sym, ap, subst, ◌∙◌, inl, inr, arith}
+use Rattle.std.proofs.Common.{◌≡◌, ℕ, zero, suc, ◌+◌, ◌-◌, ◌*◌, ◌^◌, ◌<◌, ◌≤◌, ◌⊎◌, Option, Some, None, sym, ap, ◌∙◌, inl, inr, arith}
 use Rattle.std.specs.Prelude.{◌↔◌, IfSome}
-use Rattle.std.proofs.Math.Nat.{mul_assoc, eq_of_mul-eq-mul_right, lt_of_mul-lt-mul_right, le_of_mul-le-mul_right, mul-le-mul_right, pow-suc}
+use Rattle.std.proofs.Math.Nat.{mul_assoc, eq_of_mul-eq-mul_right, lt_of_mul-lt-mul_right, mul-le-mul_right, pow-suc}
 use Rattle.std.proofs.lemmas.Nat.{mul-le, pow-add}
-use Rattle.std.proofs.lemmas.Bool.{cases_lt}
-use Rattle.dg_rates.specs.inner.Units.{IsTimes, IsAligned, Shows}
+use Rattle.dg_rates.specs.inner.Units.{IsTimes, IsAligned}
 use Rattle.dg_rates.specs.declared.units.Aligned.{Aligned}
 
 pub ten_positive : (e : ℕ) → 0 < 10 ^ e

@@ -1,3 +1,4 @@
+mod Agreed
 mod Aligning
 mod Declaring
 mod Ends

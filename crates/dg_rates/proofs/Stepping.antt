@@ -1,14 +1,15 @@
 -- The code's step of periods is that of the diagram.
-use Rattle.std.proofs.Common.{◌≡◌, ℕ, zero, suc, ◌<◌, Bool, true, false, List, [], ◌∷◌, length, Some, None, Option, get_or, refl, sym, ap, ◌∙◌, arith}
+use Rattle.std.proofs.Common.{◌≡◌, ℕ, zero, suc, ◌<◌, Bool, false, List, [], ◌∷◌, length, Some, None, Option, get_or, refl, sym, ap, ◌∙◌, arith}
 use Rattle.std.specs.Prelude.{slice_get}
+use Rattle.std.proofs.lemmas.List.{length-map}
 use Rattle.std.proofs.lemmas.Option.{none-some, same_Some}
 use Rattle.dg_waves.specs.Rounds.{after_rounds}
-use Rattle.dg_waves.proofs.Waved.{rounds_agree}
+use Rattle.dg_waves.proofs.Waved.{length_after, rounds_agree}
 use Rattle.dg_model.specs.declared.diagram.Diagram.{Diagram}
 use Rattle.dg_model.specs.declared.diagram.Block.{Block}
 use Rattle.dg_model.specs.KindRow.{Inherited}
 use Rattle.dg_model.specs.Library.{row_of}
-use Rattle.dg_model.specs.Periods.{Periods, known_at, known_or, least_finite, next_periods, period_of_next, sources_of, taken_period}
+use Rattle.dg_model.specs.Periods.{Periods, first_period, first_periods, known_at, known_or, least_finite, next_periods, or_one, period_of_next, periods_after, periods_of, sources_of, taken_period}
 use Rattle.dg_rates.specs.inner.Links.{row_at, AreSources}
 use Rattle.dg_rates.specs.inner.Steps.{all_rests, is_of_sources, known_of, next_known, taken_by}
 
@@ -48,3 +49,9 @@ rounds_are diagram rests sources n start same are size =
     ∙ rounds_agree (next_known (all_rests diagram.blocks) sources) (next_periods diagram) (length diagram.blocks) (λ values k values_size inside.
     let block = block_at diagram.blocks k inside in
     step_at diagram sources values k block.0 are block.1) n start size
+
+pub length_periods : (diagram : Diagram) → length (periods_of diagram) ≡ length diagram.blocks
+length_periods diagram =
+    length-map (periods_after diagram (length diagram.blocks)) or_one
+    ∙ length_after (next_periods diagram) (length diagram.blocks) (first_periods diagram)
+    ∙ length-map diagram.blocks (λ block. first_period diagram block.kind block.period)

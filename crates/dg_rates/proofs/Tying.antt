@@ -1,18 +1,13 @@
 -- Rows of sources and readers once one more block reads one more source.
-use Rattle.std.proofs.Common.{◌≡◌, ℕ, zero, suc, ◌+◌, ◌<◌, ◌≤◌, ◌⊎◌, ⊎_elim, Bool, true, false, List, [], ◌∷◌, ◌++◌, length, map, filter, cond, Some, None, refl, sym, ap, subst, ◌∙◌, inl, inr, arith}
-use Rattle.std.specs.Prelude.{All, Option, nat_lt, if◌then◌else◌, slice_get, slice_index_or, ◌==◌, replicate}
-use Rattle.std.proofs.lemmas.Bool.{cases_lt, cases_eq, eq-eqb, ne_eqb, cond-true, cond-false, lt-ltb, le-ltb}
+use Rattle.std.proofs.Common.{◌≡◌, ℕ, ◌<◌, ⊎_elim, true, List, [], ◌∷◌, ◌++◌, length, Some, refl, sym, ap, subst, ◌∙◌, arith}
+use Rattle.std.specs.Prelude.{All, slice_get}
+use Rattle.std.proofs.lemmas.Bool.{cases_eq}
 use Rattle.std.proofs.lemmas.Grind.{get_or-set_at}
-use Rattle.std.proofs.lemmas.List.{get_or-set_other, length-set, length-replicate, map-append, append-nil, get_or_past}
-use Rattle.std.proofs.lemmas.List.Elements.{All-push, All-nil, All-replicate}
-use Rattle.std.proofs.lemmas.Option.{same_Some, slice_get_within}
+use Rattle.std.proofs.lemmas.List.{get_or-set_other, length-set}
+use Rattle.std.proofs.lemmas.List.Elements.{All-push}
 use Rattle.dg_waves.specs.inner.Waves.{is_in}
 use Rattle.dg_waves.proofs.Waved.{is_in_push, is_in_last, pushed_at}
-use Rattle.dg_model.specs.declared.diagram.Diagram.{Diagram}
-use Rattle.dg_model.specs.declared.diagram.Block.{Block}
-use Rattle.dg_model.specs.declared.diagram.Edge.{Edge}
-use Rattle.dg_model.specs.Periods.{control_of, drivers_of, sources_of}
-use Rattle.dg_rates.specs.inner.Links.{row_at, noted, AreTied, AreDrivers, AreControlled, AreSources}
+use Rattle.dg_rates.specs.inner.Links.{row_at, noted, AreTied}
 
 pub noted_here : (rows : List (List ℕ)) (block number k : ℕ) → block < length rows → k ≡ block → row_at (noted rows block number) k ≡ row_at rows k ++ number ∷ []
 noted_here rows block number k inside same =

@@ -1,4 +1,5 @@
 -- What private contracts cite.
+pub mod Agreeing
 pub mod Declared
 pub mod Links
 pub mod StepLaws

@@ -1,9 +1,15 @@
 //! The periods of a diagram's blocks, or the first block that breaks the rule of rates.
+//!
+//! `rates` gives the periods of the rounds (`periods_of` of `dg_model`) of a diagram that keeps the rule
+//! (`KeepsRates`), or the fault of one that breaks it (`BreaksRate`). Declared periods are decimals of
+//! any size, compared without rounding.
 #![tactic(auto)]
 
+mod agreeing;
 mod declared;
 mod links;
+mod rating;
 mod rounds;
 mod units;
 
-pub use declared::{base_period, first_periods};
+pub use rating::rates;

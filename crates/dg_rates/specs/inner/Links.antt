@@ -1,5 +1,5 @@
 -- What each block reads, and which blocks read it, by rows of their numbers (own).
-use Rattle.std.specs.Prelude.{◌≡◌, ℕ, ◌<◌, ◌++◌, ◌==◌, nat_lt, Bool, true, if◌then◌else◌, List, [], ◌∷◌, All, length, map, filter, Some, slice_get, slice_index_or, slice_set}
+use Rattle.std.specs.Prelude.{◌≡◌, ℕ, ◌<◌, ◌++◌, ◌==◌, nat_lt, true, if◌then◌else◌, List, [], ◌∷◌, All, length, map, filter, Some, slice_get, slice_index_or, slice_set}
 use Rattle.dg_waves.specs.inner.Waves.{is_in}
 use Rattle.dg_model.specs.declared.diagram.Diagram.{Diagram}
 use Rattle.dg_model.specs.declared.diagram.Block.{Block}

@@ -1,4 +1,4 @@
-use Rattle.std.proofs.Common.{◌≡◌, ◌/◌, Some, sym, ap, ◌∙◌}
+use Rattle.std.proofs.Common.{Some, sym, ap, ◌∙◌}
 use Rattle.dg_model.specs.Periods.{units_of}
 use Rattle.dg_rates.specs.inner.Declared.{first_in}
 use Rattle.dg_rates.proofs.Declaring.{times_are, units_above}

@@ -1,4 +1,4 @@
-use Rattle.std.proofs.Common.{◌≡◌, ◌<◌, Some, length, ap, sym, subst, ◌∙◌, arith}
+use Rattle.std.proofs.Common.{◌≡◌, Some, ◌∙◌}
 use Rattle.std.specs.Prelude.{slice_get}
 use Rattle.dg_model.specs.Periods.{units_of}
 use Rattle.dg_model.specs.Rate.{KeepsDeclared}

@@ -1,6 +1,4 @@
-use Rattle.std.proofs.Common.{◌≡◌, ℕ, ◌*◌, ◌^◌, ◌-◌, ◌<◌, ◌≤◌, refl, sym, ap, subst, ◌∙◌, inl, inr, negsuc, arith}
-use Rattle.std.specs.Int.{int_gap}
-use Rattle.dg_rates.specs.inner.Units.{IsAligned, Shows}
+use Rattle.std.proofs.Common.{◌*◌, ◌^◌, ◌-◌, ◌≤◌, sym, ap, ◌∙◌, inl, inr, arith}
 use Rattle.dg_rates.proofs.Aligning.{raised, some_zeros, ten_positive}
 use Rattle.dg_rates.proofs.units.in_one_unit.Goals as goal
 

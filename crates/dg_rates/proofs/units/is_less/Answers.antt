@@ -1,4 +1,4 @@
-use Rattle.std.proofs.Common.{◌≡◌, ℕ, ◌^◌, ◌<◌, ◌≤◌, true, false, Some, None, refl, sym, subst, true≢false, arith}
+use Rattle.std.proofs.Common.{◌≡◌, ◌^◌, ◌≤◌, sym, subst, true≢false, arith}
 use Rattle.std.proofs.lemmas.Bool.{ltb-true, lt-ltb}
 use Rattle.dg_model.specs.Periods.{units_of}
 use Rattle.dg_rates.specs.inner.Units.{Shows}

@@ -1,6 +1,5 @@
-use Rattle.std.proofs.Common.{◌≡◌, ℕ, ◌*◌, ◌%◌, refl, sym, ap, ◌∙◌, arith}
+use Rattle.std.proofs.Common.{◌%◌, ap, ◌∙◌}
 use Rattle.std.proofs.Math.Nat.{mul-mod_left}
-use Rattle.dg_rates.specs.inner.Units.{IsTimes}
 use Rattle.dg_rates.proofs.units.quotient.Goals as goal
 
 pub returns-then-number-divisor-ne0-clause-none : goal.returns-then-number-divisor-ne0-clause-none

@@ -1,4 +1,4 @@
-use Rattle.std.proofs.Common.{◌≡◌, ℕ, ◌*◌, ◌^◌, ◌<◌, ◌≤◌, arith}
+use Rattle.std.proofs.Common.{◌^◌, arith}
 use Rattle.std.proofs.lemmas.Nat.{mul-le}
 use Rattle.dg_rates.proofs.Aligning.{ten_mono}
 use Rattle.dg_rates.proofs.units.scaled.Goals as goal

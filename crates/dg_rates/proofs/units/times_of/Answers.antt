@@ -1,4 +1,4 @@
-use Rattle.std.proofs.Common.{◌≡◌, ℕ, ◌^◌, ◌<◌, ◌≤◌, Some, None, refl, sym, subst, arith}
+use Rattle.std.proofs.Common.{◌≡◌, ◌^◌, ◌≤◌, sym, subst}
 use Rattle.dg_model.specs.Periods.{units_of}
 use Rattle.dg_rates.specs.inner.Units.{IsTimes, Shows}
 use Rattle.dg_rates.proofs.Aligning.{times_aligned, too_small, first_few, if_some_also}

@@ -1,0 +1,146 @@
+ghost use Rattle.std.specs.Prelude.{◌≡◌, ◌<◌, ◌≤◌, ℕ, All, IfErr, IfOk, IfSome, IsSome, OnOk, find, length, not, true};
+ghost use Rattle.dg_model.specs.declared.fault.Shown.TheVariants.{Periods as ShownPeriods};
+ghost use Rattle.dg_model.specs.Faults.{AllKeep, BreaksAt, IsRefusal, fault_of};
+ghost use Rattle.dg_model.specs.Library.{row_of};
+ghost use Rattle.dg_model.specs.Periods.{period_at};
+ghost use Rattle.dg_model.specs.Rate.{KeepsPeriods, joins_periods as joins_periods_of, shown_period, shown_periods, suits as suits_of};
+ghost use Rattle.dg_rates.specs.inner.Agreeing.{asked_among, without_control as without_control_of};
+ghost use Rattle.dg_rates.specs.inner.Links.{AreSources};
+
+use crate::links::Links;
+use dg_model::{Block, CheckFault, Diagram, Kind, RuleFault, Shown};
+use fx_io::{OutOfMemory, Text};
+use std::alloc::Global;
+
+/// Whether a block of this kind joins two periods.
+fn joins_periods(kind: &Kind) -> bool
+    ensures { result ≡ joins_periods_of (row_of kind.now).timing.reads }
+{
+    match kind {
+        Kind::RateTransition { .. } => true,
+        Kind::Inport { .. }
+        | Kind::Outport { .. }
+        | Kind::Constant { .. }
+        | Kind::Ground
+        | Kind::Sum { .. }
+        | Kind::Gain { .. }
+        | Kind::Product
+        | Kind::Switch { .. }
+        | Kind::Relational { .. }
+        | Kind::Logic { .. }
+        | Kind::Convert { .. }
+        | Kind::Delay { .. }
+        | Kind::Mux { .. }
+        | Kind::Demux { .. }
+        | Kind::Pass { .. }
+        | Kind::EnableTest
+        | Kind::EnOut { .. }
+        | Kind::Terminator => false,
+    }
+}
+
+/// Whether one of two periods divides the other.
+fn divide(own: u32, source: u32) -> bool
+    ensures { result ≡ suits_of true (Some own) (Some source) }
+{
+    own.is_multiple_of(source) || source.is_multiple_of(own)
+}
+
+/// Whether a source of this period suits a block of that (Simulink reference, Rate Transition; the
+/// bounds are own).
+fn suits(joins: bool, own: Option<u32>, source: Option<u32>) -> bool
+    ensures { result ≡ suits_of joins own source }
+{
+    let Some(source) = source else {
+        return true;
+    };
+    let Some(own) = own else {
+        return false;
+    };
+    if joins {
+        divide(own, source)
+    } else {
+        own == source
+    }
+}
+
+/// The first source that doesn't suit a block, if there is one.
+fn disagreeing(periods: &[Option<u32>], joins: bool, own: Option<u32>, asked: &[u32]) -> Option<u32>
+    requires { All (λ source. source < length periods.now) asked.now }
+    ensures first { result ≡ find (λ source. not (suits_of joins own (period_at periods.now source))) asked.now }
+    ensures there { IfSome result (λ source. source < length periods.now) }
+{
+    for source in asked {
+        if !suits(joins, own, periods[*source as usize]) {
+            return Some(*source);
+        }
+    }
+    None
+}
+
+/// The sources of a block without the control of its enabled subsystem, which is the last one.
+fn without_control<'a>(sources: &'a [u32], enable: Option<u32>) -> &'a [u32]
+    requires { IsSome enable → 0 < length sources.now }
+    ensures { result.now ≡ without_control_of enable sources.now }
+{
+    match enable {
+        Some(_) => &sources[..sources.len() - 1],
+        None => sources,
+    }
+}
+
+/// The sources that a block's period is held against: the control isn't asked of a block whose value
+/// never changes.
+fn asked_of<'a>(sources: &'a [u32], own: Option<u32>, enable: Option<u32>) -> &'a [u32]
+    requires { IsSome enable → 0 < length sources.now }
+    ensures { result.now ≡ asked_among own enable sources.now }
+{
+    match own {
+        Some(_) => sources,
+        None => without_control(sources, enable),
+    }
+}
+
+/// The fault of a block whose period isn't that of a source.
+fn periods_fault(
+    alloc: Global,
+    block: &Block,
+    own: Option<u32>,
+    other: Option<u32>,
+) -> Result<RuleFault, OutOfMemory>
+    ensures { IfOk result (λ fault. fault ≡ fault_of 8 block.now.path (ShownPeriods (shown_period own) (shown_period other))) }
+{
+    Ok(RuleFault {
+        rule: 8,
+        place: Text::copy(alloc, block.path.bytes())?,
+        shown: Shown::Periods {
+            own: own.unwrap_or(0),
+            other: other.unwrap_or(0),
+        },
+    })
+}
+
+/// Whether every source suits its block, or the fault of the first block that one doesn't suit.
+pub fn check_periods(
+    alloc: Global,
+    diagram: &Diagram,
+    links: &Links,
+    periods: &[Option<u32>],
+) -> Result<(), CheckFault>
+    requires few { length diagram.now.blocks ≤ 20000 }
+    requires size { length links.now.sources ≡ length diagram.now.blocks }
+    requires sources { AreSources diagram.now links.now.sources }
+    requires periods { length periods.now ≡ length diagram.now.blocks }
+    ensures kept { OnOk result (AllKeep diagram.now (KeepsPeriods diagram.now periods.now)) }
+    ensures refused { IfErr result (IsRefusal (BreaksAt diagram.now 8 (KeepsPeriods diagram.now periods.now) (shown_periods diagram.now periods.now))) }
+{
+    for (place, block) in diagram.blocks.as_slice().iter().enumerate() {
+        let own = periods[place];
+        let asked = asked_of(links.sources_of(place as u32), own, block.enable);
+        if let Some(source) = disagreeing(periods, joins_periods(&block.kind), own, asked) {
+            let fault = periods_fault(alloc, block, own, periods[source as usize])?;
+            return Err(CheckFault::Broken(fault));
+        }
+    }
+    Ok(())
+}
