@@ -1,0 +1,128 @@
+-- Rows that are filled edge by edge hold the sources and the readers of a diagram.
+use Rattle.std.proofs.Common.{◌≡◌, ℕ, zero, suc, ◌<◌, ◌≤◌, Bool, true, false, List, [], ◌∷◌, ◌++◌, length, map, filter, cond, set, All, Some, Option, get_or, eqb, refl, sym, ap, subst, ◌∙◌, inl, inr, arith}
+use Rattle.std.specs.Prelude.{slice_get, unwrap_or, ◌==◌}
+use Rattle.std.proofs.lemmas.Bool.{cases_lt, cases_Bool, eqb-true, eqb-false}
+use Rattle.std.proofs.lemmas.List.{length-set, get_or-set_same, get_or-set_other, map-append, append-nil}
+use Rattle.std.proofs.lemmas.Option.{unwrap_or-slice_get, slice_get_past, slice_get-get_or, none-some, same_Some}
+use Rattle.dg_model.specs.declared.diagram.Block.{Block}
+use Rattle.dg_model.specs.declared.diagram.Edge.{Edge}
+use Rattle.dg_waves.specs.inner.Waves.{is_in}
+use Rattle.dg_waves.proofs.Waved.{is_in_push, is_in_last, pushed_at}
+use Rattle.dg_types.specs.declared.linked.Source.{Source}
+use Rattle.dg_types.specs.declared.linked.Form.{Form}
+use Rattle.dg_types.specs.inner.Linked.{AreLinked, is_shared_out}
+use Rattle.dg_model.specs.Widths.{list_length}
+use Rattle.dg_types.specs.inner.Shown.{source_of, form_of, shape_of, Mirrors}
+use Rattle.dg_types.specs.declared.linked.Form.TheVariants.{Single}
+use Rattle.dg_model.specs.declared.diagram.Diagram.{Diagram}
+use Rattle.dg_types.specs.inner.Build.{CanLink, Gathered, Known, all_forms}
+
+filter_push : (p : Edge → Bool) (xs : List Edge) (x : Edge) → filter p (xs ++ x ∷ []) ≡ filter p xs ++ cond (p x) (x ∷ []) []
+filter_push p [] x = go (p x) where
+  go : (b : Bool) → cond b (x ∷ []) [] ≡ [] ++ cond b (x ∷ []) []
+  go true = refl
+  go false = refl
+filter_push p (y ∷ xs) x = go (p y) (filter_push p xs x) where
+  go : (b : Bool) → filter p (xs ++ x ∷ []) ≡ filter p xs ++ cond (p x) (x ∷ []) [] → cond b (y ∷ filter p (xs ++ x ∷ [])) (filter p (xs ++ x ∷ [])) ≡ cond b (y ∷ filter p xs) (filter p xs) ++ cond (p x) (x ∷ []) []
+  go true e = ap (λ (es : List Edge). y ∷ es) e
+  go false e = e
+
+pub gathered_more : {A : Type 0} (count : ℕ) (entry_of : Edge → A) (done : List Edge) (rows : List (List A)) (edge : Edge) → edge.to < count → Gathered count entry_of done rows →
+    Gathered count entry_of (done ++ edge ∷ []) (set rows edge.to (get_or rows edge.to [] ++ entry_of edge ∷ []))
+gathered_more {A} count entry_of done rows edge inside before = record {
+  size = length-set rows edge.to (get_or rows edge.to [] ++ entry_of edge ∷ []) ∙ before.size;
+  row = λ k there.
+      let added = get_or rows edge.to [] ++ entry_of edge ∷ [] in
+      elim (cases_Bool (eqb edge.to k)) [
+        | inl e ↦
+            let same : edge.to ≡ k = eqb-true edge.to k e in
+            let now : get_or (set rows edge.to added) k [] ≡ added = subst (λ (j : ℕ). get_or (set rows edge.to added) j [] ≡ added) same (get_or-set_same rows edge.to added [] (omega (arith, before.size))) in
+            let old : get_or rows edge.to [] ≡ map entry_of (filter (λ edge. edge.to == k) done) = ap (λ (j : ℕ). get_or rows j []) same ∙ before.row k there in
+            now ∙ ap (λ (r : List A). r ++ entry_of edge ∷ []) old
+            ∙ sym (ap (map entry_of) (filter_push (λ edge. edge.to == k) done edge ∙ rw e refl) ∙ map-append entry_of (filter (λ edge. edge.to == k) done) (edge ∷ []))
+        | inr e ↦
+            get_or-set_other rows edge.to k added [] (λ s. eqb-false edge.to k e (sym s)) ∙ before.row k there
+            ∙ sym (ap (map entry_of) (filter_push (λ edge. edge.to == k) done edge ∙ rw e (append-nil (filter (λ edge. edge.to == k) done))))
+      ];
+}
+
+all_push : (P : ℕ → Type 0) (xs : List ℕ) (x : ℕ) → All P xs → P x → All P (xs ++ x ∷ [])
+all_push P [] x all here zero d inside = here
+all_push P [] x all here (suc k) d inside = absurd (omega arith)
+all_push P (y ∷ xs) x all here zero d inside = all 0 d (omega arith)
+all_push P (y ∷ xs) x all here (suc k) d inside = all_push P xs x (λ j e i. all (suc j) e (omega arith)) here k d (omega arith)
+
+pub known_more : (count : ℕ) (done : List Edge) (rows : List (List ℕ)) (edge : Edge) → edge.from < count → edge.to < count → Known count done rows →
+    Known count (done ++ edge ∷ []) (set rows edge.from (get_or rows edge.from [] ++ edge.to ∷ []))
+known_more count done rows edge inside to_inside before =
+    let old = get_or rows edge.from [] in
+    let added = old ++ edge.to ∷ [] in
+    let here : get_or (set rows edge.from added) edge.from [] ≡ added = get_or-set_same rows edge.from added [] (omega (arith, before.size)) in
+    let still : (k reader : ℕ) → is_in reader (get_or rows k []) ≡ true → is_in reader (get_or (set rows edge.from added) k []) ≡ true = λ k reader is.
+    elim (cases_Bool (eqb edge.from k)) [
+      | inl e ↦ subst (λ (j : ℕ). is_in reader (get_or rows j []) ≡ true → is_in reader (get_or (set rows edge.from added) j []) ≡ true) (eqb-true edge.from k e) (λ was. rw here (is_in_push old edge.to reader was)) is
+      | inr e ↦ ap (is_in reader) (get_or-set_other rows edge.from k added [] (λ s. eqb-false edge.from k e (sym s))) ∙ is
+    ] in
+    record {
+      size = length-set rows edge.from added ∙ before.size;
+      own = λ k there. still k k (before.own k there);
+      known = pushed_at (λ (e : Edge). is_in e.to (get_or (set rows edge.from added) e.from []) ≡ true) done edge (λ j e at. still e.from e.to (before.known j e at)) (rw here (is_in_last old edge.to edge.to refl));
+      there = λ k.
+          elim (cases_Bool (eqb edge.from k)) [
+            | inl e ↦ subst (λ (j : ℕ). All (λ reader. reader < count) (get_or (set rows edge.from added) j [])) (eqb-true edge.from k e) (rw here (all_push (λ reader. reader < count) old edge.to (before.there edge.from) to_inside))
+            | inr e ↦ rw (get_or-set_other rows edge.from k added [] (λ s. eqb-false edge.from k e (sym s))) (before.there k)
+          ];
+    }
+
+-- ---- together
+
+-- what holds of the source of every edge into a block holds of each entry of its row
+row_from : (P : Source → Type 0) (f : Edge → Source) (to : ℕ) (edges : List Edge) → ((j : ℕ) (edge : Edge) → slice_get edges j ≡ Some edge → edge.to ≡ to → P (f edge)) →
+    (k : ℕ) (y : Source) → slice_get (map f (filter (λ edge. edge.to == to) edges)) k ≡ Some y → P y
+row_from P f to [] all k y at = absurd (none-some y at)
+row_from P f to (x ∷ xs) all k y at = go (eqb x.to to) refl (row_from P f to xs (λ j edge e same. all (suc j) edge e same)) k at where
+  go : (b : Bool) → eqb x.to to ≡ b → ((i : ℕ) (z : Source) → slice_get (map f (filter (λ edge. edge.to == to) xs)) i ≡ Some z → P z) → (i : ℕ) → slice_get (map f (cond b (x ∷ filter (λ edge. edge.to == to) xs) (filter (λ edge. edge.to == to) xs))) i ≡ Some y → P y
+  go true e later zero here = subst P (same_Some (f x) y here) (all 0 x refl (eqb-true x.to to e))
+  go true e later (suc i) here = later i y here
+  go false e later i here = later i y here
+
+all_places : (P : Source → Type 0) (xs : List Source) → ((k : ℕ) (y : Source) → slice_get xs k ≡ Some y → P y) → All P xs
+all_places P xs all k d inside = all k (get_or xs k d) (slice_get-get_or xs k d inside)
+
+no_row : (rows : List (List Source)) (k : ℕ) → length rows ≤ k → get_or rows k [] ≡ []
+no_row rows k past = sym (unwrap_or-slice_get rows k []) ∙ ap (λ (o : Option (List Source)). unwrap_or o []) (slice_get_past rows k past)
+
+-- the entries of the row of any block
+entries : (P : Source → Type 0) (blocks : List Block) (edges : List Edge) (rows : List (List Source)) (block : ℕ) → Gathered (length blocks) (source_of blocks) edges rows → ((j : ℕ) (edge : Edge) → slice_get edges j ≡ Some edge → edge.to ≡ block → P (source_of blocks edge)) →
+    (k : ℕ) (y : Source) → slice_get (get_or rows block []) k ≡ Some y → P y
+entries P blocks edges rows block gathered all k y at =
+    elim (cases_lt block (length blocks)) [
+      | inl inside ↦ row_from P (source_of blocks) block edges all k y (ap (λ (r : List Source). slice_get r k) (sym (gathered.row block inside)) ∙ at)
+      | inr past ↦ absurd (none-some y (ap (λ (r : List Source). slice_get r k) (sym (no_row rows block (omega (arith, gathered.size)))) ∙ at))
+    ]
+
+pub are_linked : (blocks : List Block) (edges : List Edge) (forms : List Form) (sources : List (List Source)) (readers : List (List ℕ)) → length forms ≡ length blocks → CanLink blocks edges → Gathered (length blocks) (source_of blocks) edges sources → Known (length blocks) edges readers → AreLinked forms sources readers
+are_linked blocks edges forms sources readers size can gathered known = record {
+  forms_size = size ∙ sym gathered.size;
+  readers_size = known.size ∙ sym gathered.size;
+  there = λ block. all_places (λ source. source.block < length sources) (get_or sources block []) (entries (λ source. source.block < length sources) blocks edges sources block gathered (λ j edge at same. omega (arith, can.ends j edge at, gathered.size)));
+  shared_out = λ block. all_places (λ source. is_shared_out source.share ≡ true) (get_or sources block []) (entries (λ source. is_shared_out source.share ≡ true) blocks edges sources block gathered (λ j edge at same. can.shared_out j edge at));
+  readers_there = λ block. rw gathered.size (known.there block);
+  own = λ block inside. known.own block (omega (arith, gathered.size));
+  known = λ block. entries (λ source. is_in block (get_or readers source.block []) ≡ true) blocks edges sources block gathered (λ j edge at same. subst (λ (b : ℕ). is_in b (get_or readers edge.from []) ≡ true) same (known.known j edge at));
+}
+
+pub length_forms : (blocks : List Block) → length (all_forms blocks) ≡ length blocks
+length_forms [] = refl
+length_forms (block ∷ blocks) = ap suc (length_forms blocks)
+
+form_at : (blocks : List Block) (k : ℕ) (block : Block) → slice_get blocks k ≡ Some block → get_or (all_forms blocks) k Single ≡ form_of (shape_of block.kind) (list_length block.kind)
+form_at [] k block at = absurd (none-some block at)
+form_at (b ∷ blocks) zero block at = ap (λ (o : Block). form_of (shape_of o.kind) (list_length o.kind)) (same_Some b block at)
+form_at (b ∷ blocks) (suc k) block at = form_at blocks k block at
+
+pub mirrors_built : (diagram : Diagram) (forms : List Form) (sources : List (List Source)) → forms ≡ all_forms diagram.blocks → Gathered (length diagram.blocks) (source_of diagram.blocks) diagram.edges sources → Mirrors diagram forms sources
+mirrors_built diagram forms sources is gathered = record {
+  form = λ k block at. rw is (form_at diagram.blocks k block at);
+  source = gathered.row;
+}

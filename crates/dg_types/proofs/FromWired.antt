@@ -1,0 +1,196 @@
+-- A wired diagram has what the rounds of widths ask of it.
+use Rattle.std.proofs.Common.{◌≡◌, ℕ, ◌-◌, ◌≤◌, ◌^◌, Bool, true, false, List, [], ◌∷◌, length, All, Some, None, Option, get_or, refl, sym, subst, ◌∙◌, inl, inr, arith}
+use Rattle.std.specs.Prelude.{slice_get, MatchOption, ◌⊎◌, if◌then◌else◌, nat_lt}
+use Rattle.std.proofs.lemmas.Bool.{lt-ltb, cases_lt}
+use Rattle.std.proofs.lemmas.List.{get_or_past}
+use Rattle.std.proofs.lemmas.Option.{same_Some, slice_get_within, get_or_from_slice_get}
+use Rattle.dg_model.specs.declared.diagram.Diagram.{Diagram}
+use Rattle.dg_model.specs.declared.diagram.Block.{Block}
+use Rattle.dg_model.specs.declared.diagram.Edge.{Edge}
+use Rattle.dg_model.specs.declared.kind.Gate.TheVariants.{And, Or, Nand, Nor, Xor, Nxor, Not}
+use Rattle.dg_model.specs.declared.kind.Kind.{Kind}
+use Rattle.dg_model.specs.declared.kind.Kind.TheVariants.{Inport, Outport, Constant, Ground, Sum, Gain, Product, Switch, Relational, Logic, Convert, Delay, Mux, Demux, RateTransition, Pass, EnableTest, EnOut, Terminator}
+use Rattle.dg_model.specs.KindRow.{Shape, IsBetween}
+use Rattle.dg_model.specs.Library.{HasPorts, IsReadable, row_of}
+use Rattle.dg_model.specs.Widths.{are_open, list_length}
+use Rattle.dg_model.specs.Wired.{IsWired, Joins}
+use Rattle.dg_types.specs.declared.linked.Share.TheVariants.{Even, Fixed}
+use Rattle.dg_types.specs.inner.Linked.{is_shared_out}
+use Rattle.dg_types.specs.inner.Shown.{shape_of, declared_width, IsPort, HasParts, IsLaid, share_at}
+use Rattle.dg_types.specs.inner.Build.{CanLink, IsPortOf}
+
+port_is : (kind : Kind) (inputs outputs port : ℕ) → HasPorts kind inputs outputs → 1 ≤ port → port ≤ outputs → IsPort (shape_of kind) port
+port_is (Inport number width) inputs outputs port has low high = omega (arith, has.1)
+port_is (Outport number) inputs outputs port has low high = omega (arith, has.1)
+port_is (Constant value) inputs outputs port has low high = omega (arith, has.1)
+port_is Ground inputs outputs port has low high = omega (arith, has.1)
+port_is (Sum negative) inputs outputs port has low high = omega (arith, has.1)
+port_is (Gain value param) inputs outputs port has low high = omega (arith, has.1)
+port_is Product inputs outputs port has low high = omega (arith, has.1)
+port_is (Switch criterion threshold) inputs outputs port has low high = omega (arith, has.1)
+port_is (Relational operator) inputs outputs port has low high = omega (arith, has.1)
+port_is (Logic And) inputs outputs port has low high = omega (arith, has.1)
+port_is (Logic Or) inputs outputs port has low high = omega (arith, has.1)
+port_is (Logic Nand) inputs outputs port has low high = omega (arith, has.1)
+port_is (Logic Nor) inputs outputs port has low high = omega (arith, has.1)
+port_is (Logic Xor) inputs outputs port has low high = omega (arith, has.1)
+port_is (Logic Nxor) inputs outputs port has low high = omega (arith, has.1)
+port_is (Logic Not) inputs outputs port has low high = omega (arith, has.1)
+port_is (Convert stored) inputs outputs port has low high = omega (arith, has.1)
+port_is (Delay delay initial reset) inputs outputs port has low high = omega (arith, has.1)
+port_is (Mux []) inputs outputs port has low high = omega (arith, has.1)
+port_is (Mux (size ∷ sizes)) inputs outputs port has low high = omega (arith, has.1)
+port_is (Demux sizes) inputs outputs port has low high = (low, omega (arith, has.1))
+port_is (RateTransition period initial) inputs outputs port has low high = omega (arith, has.1)
+port_is (Pass width) inputs outputs port has low high = omega (arith, has.1)
+port_is EnableTest inputs outputs port has low high = omega (arith, has.1)
+port_is (EnOut reset initial) inputs outputs port has low high = omega (arith, has.1)
+port_is Terminator inputs outputs port has low high = omega (arith, has.1)
+
+size_fits : (sizes : List ℕ) → (All (IsBetween 1 1024) sizes ⊎ All (λ size. size ≡ 0) sizes) → (k : ℕ) → get_or sizes k 0 ≤ 1025
+size_fits sizes has k =
+    elim (cases_lt k (length sizes)) [
+      | inl inside ↦ elim has [ inl between ↦ omega (arith, (between k 0 inside).1) | inr zeros ↦ omega (arith, zeros k 0 inside) ]
+      | inr past ↦ omega (arith, get_or_past sizes k 0 past)
+    ]
+
+parts_are : (kind : Kind) → (row_of kind).parameters → HasParts (shape_of kind)
+parts_are (Inport number width) has = tt
+parts_are (Outport number) has = tt
+parts_are (Constant value) has = tt
+parts_are Ground has = tt
+parts_are (Sum negative) has = tt
+parts_are (Gain value param) has = tt
+parts_are Product has = tt
+parts_are (Switch criterion threshold) has = tt
+parts_are (Relational operator) has = tt
+parts_are (Logic operator) has = tt
+parts_are (Convert stored) has = tt
+parts_are (Delay delay initial reset) has = tt
+parts_are (Mux sizes) has = tt
+parts_are (Demux sizes) has = (has.0.0, size_fits sizes (has.1))
+parts_are (RateTransition period initial) has = tt
+parts_are (Pass width) has = tt
+parts_are EnableTest has = tt
+parts_are (EnOut reset initial) has = tt
+parts_are Terminator has = tt
+
+declared_fits : (kind : Kind) → (row_of kind).parameters → declared_width kind ≤ 1025
+declared_fits (Inport number width) has = omega (arith, has.1.1)
+declared_fits (Outport number) has = omega arith
+declared_fits (Constant value) has = omega (arith, has.1)
+declared_fits Ground has = omega arith
+declared_fits (Sum negative) has = omega arith
+declared_fits (Gain value param) has = omega arith
+declared_fits Product has = omega arith
+declared_fits (Switch criterion threshold) has = omega arith
+declared_fits (Relational operator) has = omega arith
+declared_fits (Logic operator) has = omega arith
+declared_fits (Convert stored) has = omega arith
+declared_fits (Delay delay initial reset) has = omega arith
+declared_fits (Mux sizes) has = omega arith
+declared_fits (Demux sizes) has = omega arith
+declared_fits (RateTransition period initial) has = omega arith
+declared_fits (Pass width) has = omega (arith, has.1)
+declared_fits EnableTest has = omega arith
+declared_fits (EnOut reset initial) has = omega arith
+declared_fits Terminator has = omega arith
+
+-- the lists of a kind are short
+lists_are : (kind : Kind) → (row_of kind).parameters → list_length kind ≤ 1024
+lists_are (Inport number width) has = omega arith
+lists_are (Outport number) has = omega arith
+lists_are (Constant value) has = omega (arith, has.1)
+lists_are Ground has = omega arith
+lists_are (Sum negative) has = omega arith
+lists_are (Gain value param) has = omega (arith, has.0.1)
+lists_are Product has = omega arith
+lists_are (Switch criterion threshold) has = omega (arith, has.1)
+lists_are (Relational operator) has = omega arith
+lists_are (Logic operator) has = omega arith
+lists_are (Convert stored) has = omega arith
+lists_are (Delay delay initial reset) has = omega (arith, has.1.1)
+lists_are (Mux sizes) has = omega arith
+lists_are (Demux sizes) has = omega arith
+lists_are (RateTransition period initial) has = omega (arith, has.1.1)
+lists_are (Pass width) has = omega arith
+lists_are EnableTest has = omega arith
+lists_are (EnOut reset initial) has = omega (arith, has.1)
+lists_are Terminator has = omega arith
+
+pub found : (o : Option Block) (P : Block → Type 0) → MatchOption o ⊥ P → (block : Block) × (o ≡ Some block) × P block
+found None P is = absurd is
+found (Some block) P is = (block, refl, is)
+
+readable : (diagram : Diagram) (k : ℕ) (block : Block) → IsWired diagram → slice_get diagram.blocks k ≡ Some block → IsReadable block
+readable diagram k block wired at = subst IsReadable (get_or_from_slice_get diagram.blocks k block block at) (wired.blocks k block (slice_get_within diagram.blocks k block at))
+
+pub joins : (diagram : Diagram) (k : ℕ) (edge : Edge) → IsWired diagram → slice_get diagram.edges k ≡ Some edge → Joins diagram.blocks edge
+joins diagram k edge wired at = subst (Joins diagram.blocks) (get_or_from_slice_get diagram.edges k edge edge at) (wired.edges k edge (slice_get_within diagram.edges k edge at))
+
+pub is_laid : (diagram : Diagram) → IsWired diagram → IsLaid diagram
+is_laid diagram wired = record {
+  ports = λ k edge at.
+      let from = found (slice_get diagram.blocks edge.from) (λ block. (1 ≤ edge.from_port) × (edge.from_port ≤ block.outputs)) (joins diagram k edge wired at).source in
+      (from.0, from.1, port_is from.0.kind from.0.inputs from.0.outputs edge.from_port (readable diagram edge.from (from.0) wired (from.1)).ports (from.2.0) (from.2.1));
+  parts = λ k block at. parts_are block.kind (readable diagram k block wired at).parameters;
+  declared = λ k block at. declared_fits block.kind (readable diagram k block wired at).parameters;
+}
+
+part_shared : (shape : Shape) (port : ℕ) → HasParts shape → is_shared_out (share_at shape port) ≡ true
+part_shared Shape.Elementwise port has = refl
+part_shared (Shape.Joined sizes) port has = refl
+part_shared Shape.Single port has = refl
+part_shared (Shape.Parted sizes) port has = go (are_open sizes) where
+  go : (b : Bool) → is_shared_out (if b then Even (length sizes) (port - 1) else Fixed (get_or sizes (port - 1) 0)) ≡ true
+  go true = lt-ltb 0 (length sizes) (omega (arith, has.0))
+  go false = refl
+
+port_of : (shape : Shape) (port : ℕ) → (are_few : (sizes : List ℕ) → shape ≡ Shape.Parted sizes → length sizes ≤ 1024) → IsPort shape port → IsPortOf shape port
+port_of Shape.Elementwise port are_few is = tt
+port_of (Shape.Joined sizes) port are_few is = tt
+port_of Shape.Single port are_few is = tt
+port_of (Shape.Parted sizes) port are_few is = (is.1, omega (arith, are_few sizes refl))
+
+few_parts : (kind : Kind) (sizes : List ℕ) → (row_of kind).parameters → shape_of kind ≡ Shape.Parted sizes → length sizes ≤ 1024
+few_parts (Inport number width) sizes has is = absurd (cc)
+few_parts (Outport number) sizes has is = absurd (cc)
+few_parts (Constant value) sizes has is = absurd (cc)
+few_parts Ground sizes has is = absurd (cc)
+few_parts (Sum negative) sizes has is = absurd (cc)
+few_parts (Gain value param) sizes has is = absurd (cc)
+few_parts Product sizes has is = absurd (cc)
+few_parts (Switch criterion threshold) sizes has is = absurd (cc)
+few_parts (Relational operator) sizes has is = absurd (cc)
+few_parts (Logic operator) sizes has is = absurd (cc)
+few_parts (Convert stored) sizes has is = absurd (cc)
+few_parts (Delay delay initial reset) sizes has is = absurd (cc)
+few_parts (Mux others) sizes has is = absurd (cc)
+few_parts (Demux others) sizes has is =
+    let same : others ≡ sizes = cc in subst (λ (xs : List ℕ). length xs ≤ 1024) same (has.0.1)
+few_parts (RateTransition period initial) sizes has is = absurd (cc)
+few_parts (Pass width) sizes has is = absurd (cc)
+few_parts EnableTest sizes has is = absurd (cc)
+few_parts (EnOut reset initial) sizes has is = absurd (cc)
+few_parts Terminator sizes has is = absurd (cc)
+
+pub can_link : (diagram : Diagram) → IsWired diagram → CanLink diagram.blocks diagram.edges
+can_link diagram wired = record {
+  lists = λ k block inside. lists_are (get_or diagram.blocks k block).kind (wired.blocks k block inside).parameters;
+  ends = λ k edge at.
+      let edge_joins = joins diagram k edge wired at in
+      let from = found (slice_get diagram.blocks edge.from) (λ block. (1 ≤ edge.from_port) × (edge.from_port ≤ block.outputs)) edge_joins.source in
+      let to = found (slice_get diagram.blocks edge.to) (λ block. (1 ≤ edge.to_port) × (edge.to_port ≤ block.inputs)) edge_joins.target in
+      (slice_get_within diagram.blocks edge.from (from.0) (from.1), slice_get_within diagram.blocks edge.to (to.0) (to.1));
+  ports = λ k edge at block here.
+      let from = (is_laid diagram wired).ports k edge at in
+      let same : from.0 ≡ block = same_Some (from.0) block (sym (from.1) ∙ here) in
+      let port : IsPort (shape_of block.kind) edge.from_port = subst (λ (b : Block). IsPort (shape_of b.kind) edge.from_port) same (from.2) in
+      port_of (shape_of block.kind) edge.from_port (λ sizes is. few_parts block.kind sizes (readable diagram edge.from block wired here).parameters is) port;
+  first_port = λ k edge inside.
+      let e = get_or diagram.edges k edge in
+      (found (slice_get diagram.blocks e.from) (λ block. (1 ≤ e.from_port) × (e.from_port ≤ block.outputs)) (wired.edges k edge inside).source).2.0;
+  shared_out = λ k edge at.
+      let from = (is_laid diagram wired).ports k edge at in
+      rw (from.1) (part_shared (shape_of from.0.kind) edge.from_port (parts_are from.0.kind (readable diagram edge.from (from.0) wired (from.1)).parameters));
+}

@@ -1,0 +1,7 @@
+use Rattle.std.proofs.Common.{◌≡◌, drop, max}
+use Rattle.dg_types.specs.inner.Linked.{source_widths}
+use Rattle.dg_model.specs.Widths.{greatest}
+use Rattle.dg_types.proofs.linked.greatest_width.Given as goal
+
+abbrev pub invariant-loop-source : goal.invariant-loop-source
+invariant-loop-source l = max l.most (greatest (source_widths l.values (drop l.source-index l.sources))) ≡ max l.least (greatest (source_widths l.values l.sources))

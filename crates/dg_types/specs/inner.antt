@@ -1,0 +1,4 @@
+pub mod Build
+pub mod Linked
+pub mod LinkedLaws
+pub mod Shown

@@ -1,0 +1,214 @@
+ghost use Rattle.std.specs.Prelude.{◌≡◌, ℕ, ◌^◌, ◌<◌, ◌≤◌, ◌∷◌, ◌++◌, [], true, length, map, set, replicate, slice_get, slice_index_or, All, Some, IfOk, OnOk};
+ghost use Rattle.dg_model.specs.declared.diagram.Block.{Block};
+ghost use Rattle.dg_types.specs.inner.Build.{CanLink, Gathered, Known, IsPortOf, all_forms as all_forms_of};
+ghost use Rattle.dg_types.specs.inner.Shown.{shape_of, form_of as form_of_shape, share_at as share_at_shape, part_of, source_of as source_of_edge, IsLaid, Mirrors};
+ghost use Rattle.dg_model.specs.Widths.{are_open as are_open_of, list_length};
+
+use crate::linked::{Form, Share, Source, WidthRound};
+use dg_model::{Block, Diagram, Edge, Kind};
+use fx_io::{OutOfMemory, Sequence, Sizes};
+use std::alloc::Global;
+
+/// No size is fixed.
+pub fn are_open(sizes: &[u32]) -> bool
+    ensures { result ≡ are_open_of sizes.now }
+{
+    sizes.iter().all(|size| *size == 0)
+}
+
+/// How a block whose one list has this length takes its width.
+fn of_list(length: usize) -> Form
+    requires { length < 2 ^ 32 }
+    ensures { result ≡ Form.Elementwise length }
+{
+    Form::Elementwise {
+        least: length as u32,
+    }
+}
+
+/// How a block of this kind takes its width.
+fn form_of(kind: &Kind) -> Form
+    requires { list_length kind.now ≤ 1024 }
+    ensures { result ≡ form_of_shape (shape_of kind.now) (list_length kind.now) }
+{
+    match kind {
+        Kind::Constant { value } => of_list(value.as_slice().len()),
+        Kind::Gain { value, .. } => of_list(value.as_slice().len()),
+        Kind::Switch { threshold, .. } => of_list(threshold.as_slice().len()),
+        Kind::Delay { initial, .. } => of_list(initial.as_slice().len()),
+        Kind::RateTransition { initial, .. } => of_list(initial.as_slice().len()),
+        Kind::EnOut { initial, .. } => of_list(initial.as_slice().len()),
+        Kind::Mux { .. } => Form::Joined,
+        Kind::Demux { .. } => Form::Divided,
+        Kind::EnableTest => Form::Single,
+        Kind::Inport { .. }
+        | Kind::Outport { .. }
+        | Kind::Ground
+        | Kind::Sum { .. }
+        | Kind::Product
+        | Kind::Relational { .. }
+        | Kind::Logic { .. }
+        | Kind::Convert { .. }
+        | Kind::Pass { .. }
+        | Kind::Terminator => Form::Elementwise { least: 0 },
+    }
+}
+
+/// What a reader of this port of a block sees.
+fn share_at(kind: &Kind, port: u32) -> Share
+    requires port { 1 ≤ port }
+    requires fits { IsPortOf (shape_of kind.now) port }
+    ensures { result ≡ share_at_shape (shape_of kind.now) port }
+{
+    match kind {
+        Kind::Demux { sizes } => part_at(sizes.as_slice(), port - 1),
+        Kind::Inport { .. }
+        | Kind::Outport { .. }
+        | Kind::Constant { .. }
+        | Kind::Ground
+        | Kind::Sum { .. }
+        | Kind::Gain { .. }
+        | Kind::Product
+        | Kind::Switch { .. }
+        | Kind::Relational { .. }
+        | Kind::Logic { .. }
+        | Kind::Convert { .. }
+        | Kind::Delay { .. }
+        | Kind::Mux { .. }
+        | Kind::RateTransition { .. }
+        | Kind::Pass { .. }
+        | Kind::EnableTest
+        | Kind::EnOut { .. }
+        | Kind::Terminator => Share::Whole,
+    }
+}
+
+/// The part at a place, from 0.
+fn part_at(sizes: &[u32], place: u32) -> Share
+    requires there { place < length sizes.now }
+    requires few { length sizes.now < 2 ^ 32 }
+    ensures { result ≡ part_of sizes.now place }
+{
+    if are_open(sizes) {
+        Share::Even {
+            parts: sizes.len() as u32,
+            place,
+        }
+    } else {
+        Share::Fixed {
+            size: sizes[place as usize],
+        }
+    }
+}
+
+/// The forms of the blocks.
+fn all_forms(alloc: Global, blocks: &[Block]) -> Result<Sequence<Form>, OutOfMemory>
+    requires { All (λ block. list_length block.kind ≤ 1024) blocks.now }
+    ensures { IfOk result (λ forms. forms ≡ all_forms_of blocks.now) }
+{
+    let mut forms = Sequence::new(alloc);
+    for block in blocks {
+        forms.push(form_of(&block.kind))?;
+    }
+    Ok(forms)
+}
+
+/// Puts an item at the end of a row.
+pub fn push_at<E: Drop>(rows: &mut Vec<Sequence<E>>, row: u32, item: E) -> Result<(), OutOfMemory>
+    requires { row < length rows.old.items }
+    ensures { let old = slice_index_or rows.old.items row [] in
+        OnOk result (rows.new.items ≡ set rows.old.items row (old ++ item ∷ [])) }
+{
+    rows[row as usize].push(item)?;
+    Ok(())
+}
+
+/// So many empty rows.
+pub fn empty_rows<E: Drop>(alloc: Global, count: usize) -> Result<Vec<Sequence<E>>, OutOfMemory>
+    ensures { IfOk result (λ rows. rows.items ≡ replicate count []) }
+{
+    let mut rows: Vec<Sequence<E>> = Vec::new(alloc);
+    for k in 0..count {
+        rows.push(Sequence::new(alloc))?;
+    }
+    Ok(rows)
+}
+
+/// So many rows, each with its own number.
+fn own_rows(alloc: Global, count: usize) -> Result<Vec<Sizes>, OutOfMemory>
+    requires { count < 2 ^ 32 }
+    ensures { IfOk result (λ rows. Known count [] rows.items) }
+{
+    let mut rows: Vec<Sizes> = Vec::new(alloc);
+    for k in 0..count {
+        let mut own = Sizes::new(alloc);
+        own.push(k as u32)?;
+        rows.push(own)?;
+    }
+    Ok(rows)
+}
+
+/// What each edge shows its reader.
+fn source_of(blocks: &[Block], edge: Edge) -> Source
+    requires from { edge.from < length blocks.now }
+    requires port { 1 ≤ edge.from_port }
+    requires fits { (block : Block) → slice_get blocks.now edge.from ≡ Some block →
+        IsPortOf (shape_of block.kind) edge.from_port }
+    ensures { result ≡ source_of_edge blocks.now edge }
+{
+    Source {
+        block: edge.from,
+        share: share_at(&blocks[edge.from as usize].kind, edge.from_port),
+    }
+}
+
+/// The sources of each block's inputs.
+pub fn all_sources(
+    alloc: Global,
+    blocks: &[Block],
+    edges: &[Edge],
+) -> Result<Vec<Sequence<Source>>, OutOfMemory>
+    requires can { CanLink blocks.now edges.now }
+    ensures { IfOk result (λ rows.
+        Gathered (length blocks.now) (source_of_edge blocks.now) edges.now rows.items) }
+{
+    let mut rows: Vec<Sequence<Source>> = empty_rows(alloc, blocks.len())?;
+    for edge in edges {
+        let source = source_of(blocks, *edge);
+        push_at(&mut rows, edge.to, source)?;
+    }
+    Ok(rows)
+}
+
+/// The readers of each block.
+pub fn all_readers(alloc: Global, count: usize, edges: &[Edge]) -> Result<Vec<Sizes>, OutOfMemory>
+    requires few { count < 2 ^ 32 }
+    requires from { All (λ edge. edge.from < count) edges.now }
+    requires to { All (λ edge. edge.to < count) edges.now }
+    ensures { IfOk result (λ rows. Known count edges.now rows.items) }
+{
+    let mut rows = own_rows(alloc, count)?;
+    for edge in edges {
+        push_at(&mut rows, edge.from, edge.to)?;
+    }
+    Ok(rows)
+}
+
+/// The blocks of a diagram as the rounds see them.
+pub fn linked(alloc: Global, diagram: &Diagram) -> Result<WidthRound, OutOfMemory>
+    requires few { length diagram.now.blocks < 2 ^ 32 }
+    requires can { CanLink diagram.now.blocks diagram.now.edges }
+    ensures size { IfOk result (λ round. length round.sources ≡ length diagram.now.blocks) }
+    ensures mirrors { IfOk result (λ round. Mirrors diagram.now round.forms round.sources) }
+{
+    let blocks = diagram.blocks.as_slice();
+    let edges = diagram.edges.as_slice();
+    let forms = all_forms(alloc, blocks)?;
+    let sources = all_sources(alloc, blocks, edges)?;
+    let readers = all_readers(alloc, blocks.len(), edges)?;
+    Ok(WidthRound {
+        forms,
+        sources: Sequence::from_vec(sources),
+        readers: Sequence::from_vec(readers),
+    })
+}
