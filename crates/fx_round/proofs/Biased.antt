@@ -1,11 +1,14 @@
 -- Each mode is the whole number below, with a bias added before.
-use Rattle.std.proofs.Common.{◌≡◌, ℕ, suc, ◌+◌, ◌-◌, ◌*◌, ◌/◌, ◌%◌, ◌^◌, ◌≤◌, Bool, true, false, ℤ, pos, negsuc, neg_ℤ, ◌+ℤ◌, ◌*ℤ◌, bit_and, to_z, of_z, FitsSigned, cond, int_lt, ap, sym, ◌∙◌, refl, subst, arith, pow_mono}
+use Rattle.std.proofs.Common.{◌≡◌, ℕ, suc, ◌+◌, ◌-◌, ◌*◌, ◌/◌, ◌%◌, ◌^◌, ◌≤◌, Bool, true, false, ℤ, pos, negsuc, neg_ℤ, ◌+ℤ◌, ◌*ℤ◌, bit_and, to_z, of_z, FitsSigned, cond, int_lt, ap, sym, ◌∙◌, refl, subst, arith, pow_mono, pow_pos}
 use Rattle.std.specs.Int.{w64}
 use Rattle.std.specs.Int.Signed.{shr_z}
 use Rattle.std.proofs.lemmas.Int.{ints, by_lt_z, to_z_pos}
 use Rattle.std.proofs.lemmas.Nat.{and_mask, one_shl, pow-add}
 use Rattle.fx_num.proofs.Arithmetic.{next-scaled, scaled-mono, scaled-neg, unit_apart}
 use Rattle.fx_num.proofs.Shifted.{shr-divided}
+use Rattle.fx_type.specs.declared.kind.FxType.{FxType}
+use Rattle.fx_type.specs.declared.kind.FxType.TheVariants.{Num, Logical}
+use Rattle.fx_type.specs.FxType.{width_of, InRange}
 use Rattle.fx_type.specs.Conversion.{twice, IsEven, BySign, RoundsDown, RoundsUp, RoundsTiesUp, RoundsTiesDown, RoundsTiesEven}
 use Rattle.fx_round.specs.inner.Narrow.{IsWithin, IsTie}
 
@@ -92,10 +95,29 @@ one_shifted by h =
     ap (to_z w64) e ∙ to_z_pos w64 (2 ^ by) (omega (arith, small))
 
 -- a number of few bits, shifted up
-pub raised_fits : (by : ℕ) (v : ℤ) → by ≤ 60 → IsWithin (60 - by) v → FitsSigned w64 (v *ℤ pos (2 ^ by))
+pub raised_fits : (by : ℕ) (v : ℤ) → by ≤ 62 → IsWithin (62 - by) v → FitsSigned w64 (v *ℤ pos (2 ^ by))
 raised_fits by v h within =
-    let k = 60 - by in
-    let all : k + by ≡ 60 = omega arith in
-    let e : 2 ^ k * 2 ^ by ≡ 2 ^ 60 = sym (pow-add 2 k by) ∙ ap (λ (i : ℕ). 2 ^ i) all in
+    let k = 62 - by in
+    let all : k + by ≡ 62 = omega arith in
+    let e : 2 ^ k * 2 ^ by ≡ 2 ^ 62 = sym (pow-add 2 k by) ∙ ap (λ (i : ℕ). 2 ^ i) all in
     let n : neg_ℤ (pos (2 ^ k)) *ℤ pos (2 ^ by) ≡ neg_ℤ (pos (2 ^ k) *ℤ pos (2 ^ by)) = scaled-neg (pos (2 ^ k)) (2 ^ by) in
     omega (arith, ints, e, n, scaled-mono (neg_ℤ (pos (2 ^ k))) v (2 ^ by) within.low, scaled-mono v (pos (2 ^ k)) (2 ^ by) within.high)
+
+-- what has few bits has no more
+pub within_more : (bits most : ℕ) (v : ℤ) → bits ≤ most → IsWithin bits v → IsWithin most v
+within_more bits most v h within =
+    let p : 2 ^ bits ≤ 2 ^ most = pow_mono h in
+    record { low = omega (arith, ints, p, within.low); high = omega (arith, ints, p, within.high) }
+
+-- a number of a type has no more bits than the type
+pub within_type : (t : FxType) (v : ℤ) → InRange t v → IsWithin (width_of t) v
+within_type (Num true w f) v range =
+    let p : 2 ^ (w - 1) ≤ 2 ^ w = pow_mono (omega arith) in
+    record { low = omega (arith, ints, p, range.low); high = omega (arith, ints, p, pow_pos (w - 1), range.high) }
+within_type (Num false w f) v range =
+    record { low = omega (arith, ints, pow_pos w, range.low); high = omega (arith, ints, pow_pos w, range.high) }
+within_type Logical v range = record { low = omega (arith, ints, range.low); high = omega (arith, ints, range.high) }
+
+-- a number of at most 62 bits is one of 64
+pub within_fits : (v : ℤ) → IsWithin 62 v → FitsSigned w64 v
+within_fits v within = omega (arith, ints, within.low, within.high)

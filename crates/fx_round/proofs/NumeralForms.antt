@@ -1,14 +1,14 @@
 -- What is read of a decimal has the form of one, and a form is read.
-use Rattle.std.proofs.Common.{◌≡◌, ℕ, zero, suc, ◌+◌, ◌-◌, ◌*◌, ◌<◌, ◌≤◌, ◌⊎◌, inl, inr, Bool, true, false, cond, ◌&&◌, ◌||◌, Option, Some, None, List, [], ◌∷◌, ◌++◌, length, ap, ap₂, sym, ◌∙◌, refl, subst, arith, rules, eqb, true≢false, length-append, min, ℤ, pos, ◌-ℤ◌, ⊎_elim, Result, Ok, Err, MatchResult}
-use Rattle.std.specs.Prelude.{codes, IsTrue}
+use Rattle.std.proofs.Common.{◌≡◌, ℕ, ◌+◌, ◌-◌, ◌*◌, ◌≤◌, ◌⊎◌, inl, inr, Bool, true, false, cond, ◌&&◌, ◌||◌, Option, Some, None, List, [], ◌∷◌, ◌++◌, length, ap, ap₂, sym, ◌∙◌, refl, subst, arith, rules, eqb, length-append, min, ℤ, pos, ◌-ℤ◌, ⊎_elim, Result, Ok, Err, MatchResult}
+use Rattle.std.specs.Prelude.{codes}
 use Rattle.std.specs.List.{list_all}
 use Rattle.std.specs.Char.{is_ascii_digit, digit_value}
 use Rattle.std.specs.Str.Parse.{digits_value, digits_value_after}
-use Rattle.std.proofs.lemmas.Bool.{and_parts, and_from, cond-true, cond-false, false≢true}
+use Rattle.std.proofs.lemmas.Bool.{and_parts, and_from}
 use Rattle.std.proofs.lemmas.Bool.Decides.{nat_tests}
 use Rattle.std.proofs.lemmas.List.Folds.{list_all-append}
 use Rattle.fx_type.specs.declared.decimal.Decimal.{Decimal}
-use Rattle.fx_round.specs.DecimalText.{AreDigits, IsSign, signed, IsFraction, IsWrittenExponent, IsExponent, IsNumeral, IsShort, IsDecimalOf, IsLong}
+use Rattle.fx_round.specs.DecimalText.{AreDigits, IsSign, signed, IsFraction, IsExponent, IsNumeral, IsShort, IsDecimalOf, IsLong}
 use Rattle.fx_round.specs.inner.DecimalReading.{front_digits, after_digits, is_minus, after_sign, fraction_digits, after_fraction, one_or_two, signed_some, exponent_of, whole_digits, fraction_of, all_digits, Explains}
 use Rattle.fx_round.specs.declared.decimal.DecimalFault.{DecimalFault}
 use Rattle.fx_round.specs.declared.decimal.DecimalFault.TheVariants.{NotANumber, TooLong}

@@ -1,11 +1,13 @@
 //! Conversion of a stored integer from one type to another.
 ghost use Rattle.std.specs.Prelude.{ℤ, pos, ◌*ℤ◌, ◌^◌, ◌≤◌};
-ghost use Rattle.fx_type.specs.FxType.{IsType, IsNumber, InRange};
+ghost use Rattle.fx_num.specs.Word.{IsWord};
+ghost use Rattle.fx_type.specs.declared.kind.FxType.TheVariants.{Num};
+ghost use Rattle.fx_type.specs.FxType.{IsType, InRange};
 ghost use Rattle.fx_type.specs.Conversion.{Settles, StoresQuotient, Converts};
+ghost use Rattle.fx_round.specs.inner.Narrow.{IsWithin};
 
-use crate::narrow::{self, settled, small};
-use crate::settle::{settle, settle_up};
-use crate::split;
+use crate::settle::{settled, settled_up};
+use crate::{narrow, split};
 use fx_type::{FxType, Rounding};
 
 /// The stored integer `v` of the type `from`, in the type `to`: its value rounded by the mode to a
@@ -20,58 +22,68 @@ pub fn convert(v: i128, from: FxType, to: FxType, mode: Rounding, saturate: bool
 {
     match to {
         FxType::Logical => i128::from(v != 0),
-        FxType::Num { frac, .. } => {
+        FxType::Num {
+            signed,
+            width,
+            frac,
+        } => {
+            let bits = from.width();
             let up = frac - from.frac();
             if up >= 0 {
-                raised(v, up as u32, to, saturate)
+                raised(v, bits, up as u32, width, signed, saturate)
             } else {
-                lowered(v, -up as u32, to, mode, saturate)
+                lowered(v, bits, -up as u32, width, signed, mode, saturate)
             }
         }
     }
 }
 
-/// The greatest shift of the short way, in 64 bits.
-const SHORT: u32 = 60;
-
-/// What the type stores for `v` times 2 to the power `by`.
-fn raised(v: i128, by: u32, to: FxType, saturate: bool) -> i128
-    requires to { IsType to }
-    requires number { IsNumber to }
-    ensures { Settles to saturate (v *ℤ pos (2 ^ by)) result }
+/// What a number type of this word stores for `v`, which has at most so many bits, times 2 to the
+/// power `by`.
+fn raised(v: i128, bits: u8, by: u32, width: u8, signed: bool, saturate: bool) -> i128
+    requires few { IsWithin bits v }
+    requires shift { by ≤ 192 }
+    requires word { IsWord width signed }
+    ensures { (frac : ℤ) → Settles (Num signed width frac) saturate (v *ℤ pos (2 ^ by)) result }
 {
-    if to.width() <= 62 && by <= SHORT {
-        if let Some(few) = small(v, SHORT - by) {
-            let shifted = narrow::raised(few, by);
-            return i128::from(settled(shifted, to.width(), to.is_signed(), saturate));
-        }
+    if width <= 62 && u32::from(bits) + by <= 62 {
+        let shifted = narrow::raised(v as i64, by);
+        i128::from(narrow::settled(shifted, width, signed, saturate))
+    } else {
+        settled_up(v, by, width, signed, saturate)
     }
-    settle_up(v, by, to, saturate)
 }
 
-/// What the type stores for `v` over 2 to the power `by`.
-fn lowered(v: i128, by: u32, to: FxType, mode: Rounding, saturate: bool) -> i128
+/// What a number type of this word stores for `v`, which has at most so many bits, over 2 to the
+/// power `by`.
+fn lowered(
+    v: i128,
+    bits: u8,
+    by: u32,
+    width: u8,
+    signed: bool,
+    mode: Rounding,
+    saturate: bool,
+) -> i128
+    requires few { IsWithin bits v }
     requires some { 1 ≤ by }
-    requires to { IsType to }
-    requires number { IsNumber to }
-    ensures { StoresQuotient v (2 ^ by) to mode saturate result }
+    requires word { IsWord width signed }
+    ensures { (frac : ℤ) → StoresQuotient v (2 ^ by) (Num signed width frac) mode saturate result }
 {
-    if to.width() <= 62 && by <= SHORT {
-        if let Some(few) = small(v, 61) {
-            let rounded = narrow::rounded_down(few, by, mode);
-            return i128::from(settled(rounded, to.width(), to.is_signed(), saturate));
-        }
+    if width <= 62 && bits <= 62 && by <= 60 {
+        let rounded = narrow::rounded_down(v as i64, by, mode);
+        i128::from(narrow::settled(rounded, width, signed, saturate))
+    } else {
+        lowered_far(v, by, width, signed, mode, saturate)
     }
-    lowered_far(v, by, to, mode, saturate)
 }
 
 /// The same in 128 bits. It stands apart, so that the short way needs few registers.
 #[inline(never)]
-fn lowered_far(v: i128, by: u32, to: FxType, mode: Rounding, saturate: bool) -> i128
+fn lowered_far(v: i128, by: u32, width: u8, signed: bool, mode: Rounding, saturate: bool) -> i128
     requires some { 1 ≤ by }
-    requires to { IsType to }
-    requires number { IsNumber to }
-    ensures { StoresQuotient v (2 ^ by) to mode saturate result }
+    requires word { IsWord width signed }
+    ensures { (frac : ℤ) → StoresQuotient v (2 ^ by) (Num signed width frac) mode saturate result }
 {
-    settle(split::rounded_down(v, by, mode), to, saturate)
+    settled(split::rounded_down(v, by, mode), width, signed, saturate)
 }

@@ -7,31 +7,10 @@ ghost use Rattle.fx_round.specs.inner.Narrow.{IsWithin, IsTie};
 
 use fx_type::Rounding;
 
-/// Whether `v` is at most 2 to the power `bits`, with either sign.
-fn is_within(v: i128, bits: u32) -> bool
-    requires { bits ≤ 61 }
-    ensures { IsTrue result ↔ IsWithin bits v }
-{
-    let bound = i128::from(1i64 << bits);
-    -bound <= v && v <= bound
-}
-
-/// `v` itself, where it is at most 2 to the power `bits`, with either sign.
-pub fn small(v: i128, bits: u32) -> Option<i64>
-    requires { bits ≤ 61 }
-    ensures { IfSome result (λ few. (few ≡ v) × IsWithin bits v) }
-{
-    if is_within(v, bits) {
-        Some(v as i64)
-    } else {
-        None
-    }
-}
-
 /// `v` times 2 to the power `by`.
 pub fn raised(v: i64, by: u32) -> i64
-    requires few { by ≤ 60 }
-    requires small { IsWithin (60 - by) v }
+    requires few { by ≤ 62 }
+    requires small { IsWithin (62 - by) v }
     ensures { result ≡ v *ℤ pos (2 ^ by) }
 {
     v << by
@@ -64,7 +43,7 @@ fn odd_bit(v: i64) -> i64
 
 /// The whole number below `v` over 2 to the power `by`, with the bias added before.
 fn floor_of(v: i64, bias: i64, by: u32) -> i64
-    requires small { IsWithin 61 v }
+    requires small { IsWithin 62 v }
     requires low { pos 0 ≤ℤ bias }
     requires high { bias ≤ℤ pos (2 ^ 60) }
     requires few { by ≤ 60 }
@@ -75,7 +54,7 @@ fn floor_of(v: i64, bias: i64, by: u32) -> i64
 
 /// `v` over 2 to the power `by`, rounded by the mode.
 pub fn rounded_down(v: i64, by: u32, mode: Rounding) -> i64
-    requires small { IsWithin 61 v }
+    requires small { IsWithin 62 v }
     requires some { 1 ≤ by }
     requires few { by ≤ 60 }
     ensures { Rounds mode v (2 ^ by) result }
@@ -94,15 +73,6 @@ pub fn rounded_down(v: i64, by: u32, mode: Rounding) -> i64
     }
 }
 
-/// The least number of a word.
-fn lowest(width: u8, signed: bool) -> i64
-    requires word { IsWord width signed }
-    requires few { width ≤ 62 }
-    ensures { result ≡ word_lowest width signed }
-{
-    if signed { -(1 << (width - 1)) } else { 0 }
-}
-
 /// The greatest number of a word.
 fn highest(width: u8, signed: bool) -> i64
     requires word { IsWord width signed }
@@ -111,6 +81,16 @@ fn highest(width: u8, signed: bool) -> i64
 {
     let bits = if signed { width - 1 } else { width };
     (1 << bits) - 1
+}
+
+/// The least number of the word whose greatest one this is.
+fn lowest(highest: i64, width: u8, signed: bool) -> i64
+    requires word { IsWord width signed }
+    requires highest { highest ≡ word_highest width signed }
+    ensures { result ≡ word_lowest width signed }
+{
+    let _ = width;
+    if signed { -1 - highest } else { 0 }
 }
 
 /// The number of a word that is congruent to `r`.
@@ -134,7 +114,8 @@ pub fn settled(r: i64, width: u8, signed: bool, saturate: bool) -> i64
     ensures { (frac : ℤ) → Settles (Num signed width frac) saturate r result }
 {
     if saturate {
-        r.clamp(lowest(width, signed), highest(width, signed))
+        let highest = highest(width, signed);
+        r.clamp(lowest(highest, width, signed), highest)
     } else {
         wrapped(r, width, signed)
     }

@@ -6,7 +6,7 @@ ghost use Rattle.fx_type.specs.FxType.{IsType};
 ghost use Rattle.fx_type.specs.Conversion.{StoresQuotient, Stores, signed_digits};
 ghost use Rattle.fx_round.specs.inner.Split.{IsPart, IsSplit, IsSize, IsMagnitude, mixed_count};
 
-use crate::settle::settle;
+use crate::settle::saturated;
 use crate::split::{Part, Split, part_of, rounded};
 use fx_type::{Decimal, FxType, Rounding};
 
@@ -163,9 +163,9 @@ fn settle_size(size: Option<Split>, negative: bool, to: FxType) -> i128
     match size {
         Some(split) => {
             if negative {
-                settle(rounded(mirrored(split), Rounding::Nearest), to, true)
+                saturated(rounded(mirrored(split), Rounding::Nearest), to)
             } else if split.floor < i128::MAX {
-                settle(rounded(split, Rounding::Nearest), to, true)
+                saturated(rounded(split, Rounding::Nearest), to)
             } else {
                 to.highest()
             }

@@ -5,6 +5,7 @@ use Rattle.fx_type.specs.declared.kind.FxType.TheVariants.{Num}
 use Rattle.fx_type.specs.FxType.{IsType, frac_of}
 use Rattle.fx_type.specs.Conversion.{Settles, StoresQuotient}
 use Rattle.fx_type.proofs.Ranges.{frac_bounds, gap_is, gap_none}
+use Rattle.fx_round.proofs.Biased.{within_type}
 use Rattle.fx_round.proofs.Converting.{converts_up, converts_down}
 use Rattle.fx_round.proofs.conversion.convert.Goals as goal
 
@@ -23,7 +24,7 @@ returns-then-up-ge0 c =
     let order : frac_of c.args.from ≤ℤ c.in-Num.frac = omega (arith, ints, difference, c.if-up-ge0.true) in
     let v = to_z-of_z w128 c.args.v c.ranges.v in
     let e = to_z-of_z w128 c.raised.result (record { sfits = c.raised.type_inv }) in
-    let settled : Settles (Num c.in-Num.signed c.in-Num.width c.in-Num.frac) c.args.saturate (c.args.v *ℤ pos (2 ^ nat_abs x)) c.raised.result = rw v at c.raised.ensures in
+    let settled : Settles (Num c.in-Num.signed c.in-Num.width c.in-Num.frac) c.args.saturate (c.args.v *ℤ pos (2 ^ nat_abs x)) c.raised.result = rw v at (c.raised.ensures c.in-Num.frac) in
     rw (c.in-Num.is, e) (converts_up c.args.v c.args.from c.in-Num.signed c.in-Num.width c.in-Num.frac c.args.mode c.args.saturate c.raised.result (nat_abs x)
     (gap_is (frac_of c.args.from) c.in-Num.frac x order difference) (gap_none c.in-Num.frac (frac_of c.args.from) order) settled)
 
@@ -36,6 +37,12 @@ returns-else-up-ge0 c =
     let order : c.in-Num.frac ≤ℤ frac_of c.args.from = omega (arith, ints, to_type.1, to_type.2, from_frac, c.frac.ensures, c.if-up-ge0.false) in
     let v = to_z-of_z w128 c.args.v c.ranges.v in
     let e = to_z-of_z w128 c.lowered.result (record { sfits = c.lowered.type_inv }) in
-    let stored : StoresQuotient c.args.v (2 ^ nat_abs x) (Num c.in-Num.signed c.in-Num.width c.in-Num.frac) c.args.mode c.args.saturate c.lowered.result = rw v at c.lowered.ensures in
+    let stored : StoresQuotient c.args.v (2 ^ nat_abs x) (Num c.in-Num.signed c.in-Num.width c.in-Num.frac) c.args.mode c.args.saturate c.lowered.result = rw v at (c.lowered.ensures c.in-Num.frac) in
     rw (c.in-Num.is, e) (converts_down c.args.v c.args.from c.in-Num.signed c.in-Num.width c.in-Num.frac c.args.mode c.args.saturate c.lowered.result (nat_abs x)
     (gap_is c.in-Num.frac (frac_of c.args.from) x order difference) (gap_none (frac_of c.args.from) c.in-Num.frac order) stored)
+
+pub raised-requires-clause-few : goal.raised-requires-clause-few
+raised-requires-clause-few c = rw (to_z-of_z w128 c.args.v c.ranges.v, c.width-bits.ensures) (within_type c.args.from c.args.v c.requires.in_range)
+
+pub lowered-requires-clause-few : goal.lowered-requires-clause-few
+lowered-requires-clause-few c = rw (to_z-of_z w128 c.args.v c.ranges.v, c.width-bits.ensures) (within_type c.args.from c.args.v c.requires.in_range)
