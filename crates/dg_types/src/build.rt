@@ -1,7 +1,7 @@
-ghost use Rattle.std.specs.Prelude.{◌≡◌, ℕ, ◌^◌, ◌<◌, ◌≤◌, ◌∷◌, ◌++◌, [], true, length, map, set, replicate, slice_get, slice_index_or, All, Some, IfOk, OnOk};
+ghost use Rattle.std.specs.Prelude.{◌≡◌, ◌^◌, ◌<◌, ◌≤◌, ◌∷◌, ◌++◌, [], length, set, replicate, slice_get, slice_index_or, All, Some, IfOk, OnOk};
 ghost use Rattle.dg_model.specs.declared.diagram.Block.{Block};
 ghost use Rattle.dg_types.specs.inner.Build.{CanLink, Gathered, Known, IsPortOf, all_forms as all_forms_of};
-ghost use Rattle.dg_types.specs.inner.Shown.{shape_of, form_of as form_of_shape, share_at as share_at_shape, part_of, source_of as source_of_edge, IsLaid, Mirrors};
+ghost use Rattle.dg_types.specs.inner.Shown.{shape_of, form_of as form_of_shape, share_at as share_at_shape, part_of, source_of as source_of_edge, Mirrors};
 ghost use Rattle.dg_model.specs.Widths.{are_open as are_open_of, list_length};
 
 use crate::linked::{Form, Share, Source, WidthRound};

@@ -1,5 +1,5 @@
-ghost use Rattle.std.specs.Prelude.{◌≡◌, true, ℕ, ◌<◌, ◌≤◌, [], min, max, sum, All, length, slice_index_or};
-ghost use Rattle.dg_types.specs.inner.Linked.{width_through as width_through_of, is_shared_out, source_widths, next_held, taken_by as taken_by_of, AreLinked};
+ghost use Rattle.std.specs.Prelude.{◌≡◌, true, ◌<◌, ◌≤◌, [], min, max, sum, All, length, slice_index_or};
+ghost use Rattle.dg_types.specs.inner.Linked.{width_through as width_through_of, is_shared_out, source_widths, next_held, AreLinked};
 ghost use Rattle.dg_types.specs.inner.LinkedLaws.{is_local, stays};
 ghost use Rattle.dg_model.specs.Widths.{share as share_of, greatest, most_width};
 
@@ -136,7 +136,8 @@ impl Round for WidthRound {
 
     ghost readers_there = { λ round block there. round.linked.readers_there block };
 
-    ghost fit = { λ round values block size there fit. stays round.forms round.sources values block };
+    ghost fit = { λ round values block size there fit.
+        stays round.forms round.sources values block };
 
     ghost local = { λ round old new block old_size new_size there same.
         is_local round.forms round.sources round.readers old new block round.linked there same };

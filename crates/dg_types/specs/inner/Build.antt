@@ -1,9 +1,7 @@
 -- What building the rounds' data keeps (own).
-use Rattle.std.specs.Prelude.{◌≡◌, ℕ, ◌<◌, ◌≤◌, ◌^◌, nat_lt, ◌==◌, Bool, true, List, [], ◌∷◌, length, map, filter, All, Some, slice_get, slice_index_or, ⊤}
+use Rattle.std.specs.Prelude.{◌≡◌, ℕ, ◌<◌, ◌≤◌, ◌^◌, ◌==◌, true, List, [], length, map, filter, All, Some, slice_get, slice_index_or, ⊤}
 use Rattle.dg_model.specs.declared.diagram.Block.{Block}
 use Rattle.dg_model.specs.declared.diagram.Edge.{Edge}
-use Rattle.dg_model.specs.declared.kind.Kind.{Kind}
-use Rattle.dg_types.specs.declared.linked.Source.{Source}
 use Rattle.dg_types.specs.declared.linked.Form.{Form}
 use Rattle.dg_types.specs.inner.Linked.{is_shared_out}
 use Rattle.dg_model.specs.KindRow.{Shape}

@@ -1,0 +1,31 @@
+use Rattle.std.proofs.Common.{◌≡◌, true, false, refl, ap, sym, ◌∙◌, arith}
+use Rattle.std.specs.Prelude.{slice_get, Some}
+use Rattle.std.proofs.lemmas.Option.{slice_get-get_or}
+use Rattle.dg_model.specs.declared.diagram.Block.{Block}
+use Rattle.dg_types.proofs.ScanFacts.{ends_there}
+use Rattle.dg_types.proofs.Verdicts.{breaks_at, breaks_bounds, keeps_all}
+use Rattle.dg_types.proofs.dimensions.widths.Goals as goal
+
+pub returns-in-Some-clause-refused : goal.returns-in-Some-clause-refused
+returns-in-Some-clause-refused c =
+    let diagram = c.args.diagram.now in
+    let place = c.in-Some.place in
+    let block = c.index-as_slice-place.result in
+    let at : slice_get diagram.blocks place ≡ Some block = slice_get-get_or diagram.blocks place block c.in-Some.ensures.there ∙ ap Some (sym (rw c.as_slice.ensures at c.index-as_slice-place.is)) in
+    let path : c.bytes.result.now ≡ block.path = c.bytes.ensures ∙ ap (λ (b : Block). b.path) (sym c.index-as_slice-place.is) in
+    breaks_at diagram place block c.bytes.result.now c.in_ok-fault.fault at (c.in-Some.ensures.broken block at) c.in-Some.ensures.before path c.in_ok-fault.ensures
+
+pub is_bounded-requires-clause-from : goal.is_bounded-requires-clause-from
+is_bounded-requires-clause-from c =
+    rw c.as_slice-2.ensures (λ k edge inside. (ends_there c.args.diagram.now c.in_ok-scan.scan.widths c.requires c.in_ok-scan.ensures.size k edge inside).0)
+
+pub returns-then-not-is_bounded-clause-refused : goal.returns-then-not-is_bounded-clause-refused
+returns-then-not-is_bounded-clause-refused c =
+    let no : c.is_bounded.result ≡ false = grind arith in
+    breaks_bounds c.args.diagram.now c.as_slice-2.result.now c.in_ok-fault-2.fault (c.in_default.ensures.none refl) (c.as_slice-2.ensures ∙ c.in_ok-scan.ensures.widths)
+    (λ bounded. let yes = c.is_bounded.ensures.1 bounded in cc) c.in_ok-fault-2.ensures
+
+pub returns-clause-kept : goal.returns-clause-kept
+returns-clause-kept c =
+    let yes : c.is_bounded.result ≡ true = grind arith in
+    keeps_all c.args.diagram.now c.as_slice-2.result.now (c.in_default.ensures.none refl) (c.as_slice-2.ensures ∙ c.in_ok-scan.ensures.widths) (c.is_bounded.ensures.0 yes)

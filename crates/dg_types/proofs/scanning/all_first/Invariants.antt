@@ -1,0 +1,6 @@
+use Rattle.std.proofs.Common.{◌≡◌, take}
+use Rattle.dg_types.specs.inner.Shown.{all_first}
+use Rattle.dg_types.proofs.scanning.all_first.Given as goal
+
+abbrev pub invariant-loop-block : goal.invariant-loop-block
+invariant-loop-block l = l.first.items ≡ all_first (take l.block-index l.blocks)

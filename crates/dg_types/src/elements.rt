@@ -1,0 +1,107 @@
+ghost use Rattle.std.specs.Prelude.{◌≡◌, ◌<◌, ◌-◌, ◌^◌, ◌↔◌, true, min, All, length};
+ghost use Rattle.dg_model.specs.Dimension.{IsBounded};
+ghost use Rattle.dg_types.specs.inner.Elements.{delay_length as delay_length_of, outputs_from, delays_from, inputs_of, elements_of as elements_of_block, delayed as delayed_of};
+
+use crate::fitting::{first_of, total};
+use crate::rows::edge_width;
+use dg_model::{Block, Diagram, Edge, Kind};
+use fx_io::Sizes;
+
+/// The most elements that all output ports, all input ports and all Delays with their lengths have.
+const MOST_OUTPUTS: u64 = 200_000;
+
+const MOST_INPUTS: u64 = 400_000;
+
+const MOST_DELAYED: u64 = 4_000_000;
+
+/// How many elements the output ports of a block have, saturating.
+fn elements_of(block: &Block, row: &[u32]) -> u64
+    ensures { result ≡ min (2 ^ 64 - 1) (elements_of_block block.now row.now) }
+{
+    if block.outputs == 0 { 0 } else { total(row) }
+}
+
+/// How many elements all output ports have, saturating.
+fn all_outputs(blocks: &[Block], widths: &[Sizes]) -> u64
+    requires { length widths.now ≡ length blocks.now }
+    ensures { result ≡ min (2 ^ 64 - 1) (outputs_from widths.now 0 blocks.now) }
+{
+    let mut total: u64 = 0;
+    for place in 0..blocks.len() {
+        let row = widths[place].as_slice();
+        total = total.saturating_add(elements_of(&blocks[place], row));
+    }
+    total
+}
+
+/// How many elements all input ports have, saturating.
+fn all_inputs(edges: &[Edge], widths: &[Sizes]) -> u64
+    requires { All (λ edge. edge.from < length widths.now) edges.now }
+    ensures { result ≡ min (2 ^ 64 - 1) (inputs_of widths.now edges.now) }
+{
+    let mut total: u64 = 0;
+    for edge in edges {
+        total = total.saturating_add(u64::from(edge_width(widths, *edge)));
+    }
+    total
+}
+
+/// How many samples a block of this kind keeps of each element.
+fn delay_length(kind: &Kind) -> u32
+    ensures { result ≡ delay_length_of kind.now }
+{
+    match kind {
+        Kind::Delay { length, .. } => *length,
+        Kind::Inport { .. }
+        | Kind::Outport { .. }
+        | Kind::Constant { .. }
+        | Kind::Ground
+        | Kind::Sum { .. }
+        | Kind::Gain { .. }
+        | Kind::Product
+        | Kind::Switch { .. }
+        | Kind::Relational { .. }
+        | Kind::Logic { .. }
+        | Kind::Convert { .. }
+        | Kind::Mux { .. }
+        | Kind::Demux { .. }
+        | Kind::RateTransition { .. }
+        | Kind::Pass { .. }
+        | Kind::EnableTest
+        | Kind::EnOut { .. }
+        | Kind::Terminator => 0,
+    }
+}
+
+/// How many samples a block keeps of all of its elements, saturating.
+fn delayed(block: &Block, row: &[u32]) -> u64
+    ensures { result ≡ min (2 ^ 64 - 1) (delayed_of block.now row.now) }
+{
+    u64::from(delay_length(&block.kind)).saturating_mul(u64::from(first_of(row)))
+}
+
+/// How many samples all Delays keep of all of their elements, saturating.
+fn all_delayed(blocks: &[Block], widths: &[Sizes]) -> u64
+    requires { length widths.now ≡ length blocks.now }
+    ensures { result ≡ min (2 ^ 64 - 1) (delays_from widths.now 0 blocks.now) }
+{
+    let mut total: u64 = 0;
+    for place in 0..blocks.len() {
+        let row = widths[place].as_slice();
+        total = total.saturating_add(delayed(&blocks[place], row));
+    }
+    total
+}
+
+/// Whether there are few enough elements.
+pub fn is_bounded(diagram: &Diagram, widths: &[Sizes]) -> bool
+    requires size { length widths.now ≡ length diagram.now.blocks }
+    requires from { All (λ edge. edge.from < length widths.now) diagram.now.edges }
+    ensures { (result ≡ true) ↔ IsBounded diagram.now widths.now }
+{
+    let blocks = diagram.blocks.as_slice();
+    let outputs = all_outputs(blocks, widths);
+    let inputs = all_inputs(diagram.edges.as_slice(), widths);
+    let delayed = all_delayed(blocks, widths);
+    outputs <= MOST_OUTPUTS && inputs <= MOST_INPUTS && delayed <= MOST_DELAYED
+}

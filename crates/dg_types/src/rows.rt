@@ -1,0 +1,137 @@
+ghost use Rattle.std.specs.Prelude.{◌≡◌, ℕ, ◌<◌, ◌≤◌, ◌∷◌, [], All, length, map, IfOk};
+ghost use Rattle.dg_waves.specs.Rounds.{numbers_from};
+ghost use Rattle.dg_model.specs.KindRow.{Shape};
+ghost use Rattle.dg_model.specs.Widths.{share};
+ghost use Rattle.dg_types.specs.inner.Build.{Gathered};
+ghost use Rattle.dg_types.specs.inner.Shown.{shape_of, outputs_of, shown};
+ghost use Rattle.dg_types.specs.inner.Rows.{HasRow, width_of_edge};
+
+use crate::build::{are_open, empty_rows, push_at};
+use crate::linked::part;
+use dg_model::{Block, Edge, Kind};
+use fx_io::{OutOfMemory, PortSizes, Sizes};
+use std::alloc::Global;
+
+/// A row of ones, as long as another.
+fn ones(alloc: Global, sizes: &[u32]) -> Result<Sizes, OutOfMemory>
+    ensures { IfOk result (λ row. row ≡ map (λ (size : ℕ). 1) sizes.now) }
+{
+    let mut row = Sizes::new(alloc);
+    for _size in sizes {
+        row.push(1)?;
+    }
+    Ok(row)
+}
+
+/// The parts of a width, as even as can be.
+fn shares(alloc: Global, width: u32, parts: u32) -> Result<Sizes, OutOfMemory>
+    requires { width ≤ 1025 }
+    ensures { IfOk result (λ row. row ≡ map (share width parts) (numbers_from 0 parts)) }
+{
+    let mut row = Sizes::new(alloc);
+    for place in 0..parts {
+        row.push(part(width, parts, place))?;
+    }
+    Ok(row)
+}
+
+/// A copy of a row.
+fn copy_of(alloc: Global, row: &[u32]) -> Result<Sizes, OutOfMemory>
+    ensures { IfOk result (λ copy. copy ≡ row.now) }
+{
+    let items = Vec::from_slice(alloc, row)?;
+    Ok(Sizes::from_vec(items))
+}
+
+/// The widths at the outputs of a Demux of these sizes that holds this.
+fn parts_of(alloc: Global, sizes: &[u32], held: u32) -> Result<Sizes, OutOfMemory>
+    requires few { length sizes.now ≤ 1024 }
+    requires small { held ≤ 1026 }
+    ensures { IfOk result (λ row. row ≡ outputs_of (Shape.Parted sizes.now) held) }
+{
+    if held == 0 {
+        ones(alloc, sizes)
+    } else if are_open(sizes) {
+        shares(alloc, held - 1, sizes.len() as u32)
+    } else {
+        copy_of(alloc, sizes)
+    }
+}
+
+/// A row of one entry.
+fn one(alloc: Global, width: u32) -> Result<Sizes, OutOfMemory>
+    ensures { IfOk result (λ row. row ≡ width ∷ []) }
+{
+    let mut row = Sizes::new(alloc);
+    row.push(width)?;
+    Ok(row)
+}
+
+/// The widths at the outputs of a block of this kind that holds this.
+fn outputs(alloc: Global, kind: &Kind, held: u32) -> Result<Sizes, OutOfMemory>
+    requires row { HasRow (shape_of kind.now) }
+    requires small { held ≤ 1026 }
+    ensures { IfOk result (λ row. row ≡ outputs_of (shape_of kind.now) held) }
+{
+    match kind {
+        Kind::Demux { sizes } => parts_of(alloc, sizes.as_slice(), held),
+        Kind::Inport { .. }
+        | Kind::Outport { .. }
+        | Kind::Constant { .. }
+        | Kind::Ground
+        | Kind::Sum { .. }
+        | Kind::Gain { .. }
+        | Kind::Product
+        | Kind::Switch { .. }
+        | Kind::Relational { .. }
+        | Kind::Logic { .. }
+        | Kind::Convert { .. }
+        | Kind::Delay { .. }
+        | Kind::Mux { .. }
+        | Kind::RateTransition { .. }
+        | Kind::Pass { .. }
+        | Kind::EnableTest
+        | Kind::EnOut { .. }
+        | Kind::Terminator => one(alloc, held),
+    }
+}
+
+/// The widths at the outputs of blocks that hold these.
+pub fn rows_of(alloc: Global, blocks: &[Block], held: &[u32]) -> Result<PortSizes, OutOfMemory>
+    requires size { length held.now ≡ length blocks.now }
+    requires rows { All (λ block. HasRow (shape_of block.kind)) blocks.now }
+    requires small { All (λ value. value ≤ 1026) held.now }
+    ensures { IfOk result (λ rows. rows ≡ shown blocks.now held.now) }
+{
+    let mut rows = PortSizes::new(alloc);
+    for place in 0..blocks.len() {
+        let row = outputs(alloc, &blocks[place].kind, held[place])?;
+        rows.push(row)?;
+    }
+    Ok(rows)
+}
+
+/// The width of the signal on an edge, 0 where its port isn't there.
+pub fn edge_width(widths: &[Sizes], edge: Edge) -> u32
+    requires { edge.from < length widths.now }
+    ensures { result ≡ width_of_edge widths.now edge }
+{
+    let row = widths[edge.from as usize].as_slice();
+    let place = edge.from_port.saturating_sub(1) as usize;
+    if place < row.len() { row[place] } else { 0 }
+}
+
+/// The widths of the inputs of each block.
+pub fn input_rows(alloc: Global, edges: &[Edge], widths: &[Sizes]) -> Result<PortSizes, OutOfMemory>
+    requires from { All (λ edge. edge.from < length widths.now) edges.now }
+    requires to { All (λ edge. edge.to < length widths.now) edges.now }
+    ensures { IfOk result (λ rows.
+        Gathered (length widths.now) (width_of_edge widths.now) edges.now rows) }
+{
+    let mut rows: Vec<Sizes> = empty_rows(alloc, widths.len())?;
+    for edge in edges {
+        let width = edge_width(widths, *edge);
+        push_at(&mut rows, edge.to, width)?;
+    }
+    Ok(PortSizes::from_vec(rows))
+}

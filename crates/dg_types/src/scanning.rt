@@ -1,0 +1,83 @@
+ghost use Rattle.std.specs.Prelude.{◌≡◌, ℕ, ◌^◌, ◌<◌, Some, slice_get, IfOk};
+ghost use Rattle.dg_model.specs.declared.diagram.Block.{Block};
+ghost use Rattle.dg_model.specs.Wired.{IsWired};
+ghost use Rattle.dg_types.specs.inner.Shown.{shape_of, declared_width as declared_width_of, first_held as first_held_of, all_first as all_first_of};
+ghost use Rattle.dg_types.specs.inner.Scanned.{IsScan};
+
+use crate::build::linked;
+use crate::fitting::declared_width;
+use crate::rows::{input_rows, rows_of};
+use dg_model::{Block, Diagram, Kind};
+use fx_io::{OutOfMemory, PortSizes};
+use std::alloc::Global;
+
+/// What a block of this kind holds before the first round.
+fn first_held(kind: &Kind) -> u32
+    requires { declared_width_of kind.now < 2 ^ 32 }
+    ensures { result ≡ first_held_of (shape_of kind.now) (declared_width_of kind.now) }
+{
+    match kind {
+        Kind::Demux { .. } => 0,
+        Kind::Mux { .. } | Kind::EnableTest => 1,
+        Kind::Inport { .. }
+        | Kind::Outport { .. }
+        | Kind::Constant { .. }
+        | Kind::Ground
+        | Kind::Sum { .. }
+        | Kind::Gain { .. }
+        | Kind::Product
+        | Kind::Switch { .. }
+        | Kind::Relational { .. }
+        | Kind::Logic { .. }
+        | Kind::Convert { .. }
+        | Kind::Delay { .. }
+        | Kind::RateTransition { .. }
+        | Kind::Pass { .. }
+        | Kind::EnOut { .. }
+        | Kind::Terminator => declared_width(kind).max(1) as u32,
+    }
+}
+
+/// What the blocks hold before the first round.
+fn all_first(alloc: Global, blocks: &[Block]) -> Result<Vec<u32>, OutOfMemory>
+    requires { (k : ℕ) (block : Block) → slice_get blocks.now k ≡ Some block →
+        declared_width_of block.kind < 2 ^ 32 }
+    ensures { IfOk result (λ first. first.items ≡ all_first_of blocks.now) }
+{
+    let mut first: Vec<u32> = Vec::new(alloc);
+    for block in blocks {
+        first.push(first_held(&block.kind))?;
+    }
+    Ok(first)
+}
+
+/// The widths of a diagram, and what is looked at to tell whether they keep the rule.
+#[derive(Drop)]
+pub struct Scan {
+    /// The widths at the output ports of each block.
+    pub widths: PortSizes,
+    /// Those after one more round.
+    pub again: PortSizes,
+    /// The widths at the input ports of each block.
+    pub inputs: PortSizes,
+}
+
+/// Works out the rounds.
+pub fn scan_of(alloc: Global, diagram: &Diagram) -> Result<Scan, OutOfMemory>
+    requires { IsWired diagram.now }
+    ensures { IfOk result (IsScan diagram.now) }
+{
+    let blocks = diagram.blocks.as_slice();
+    let round = linked(alloc, diagram)?;
+    let first = all_first(alloc, blocks)?;
+    let held = dg_waves::after_rounds(alloc, &round, first, blocks.len() as u32)?;
+    let widths = rows_of(alloc, blocks, held.as_slice())?;
+    let held_again = dg_waves::after_rounds(alloc, &round, held, 1)?;
+    let again = rows_of(alloc, blocks, held_again.as_slice())?;
+    let inputs = input_rows(alloc, diagram.edges.as_slice(), widths.as_slice())?;
+    Ok(Scan {
+        widths,
+        again,
+        inputs,
+    })
+}
