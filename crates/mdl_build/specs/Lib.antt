@@ -1,0 +1,11 @@
+pub mod Blocks
+pub mod Library
+pub mod Lines
+pub mod Lookup
+pub mod Nested
+pub mod Parts
+pub mod Roles
+pub mod Rules
+pub mod Sections
+pub mod Settings
+pub mod inner

@@ -1,0 +1,32 @@
+-- The blocks and lines of a tree that keeps the rules of structure, library and parameter (Simulink reference, model files).
+use Rattle.std.specs.Prelude.{◌≡◌, ℕ, List, Some, None, option_map, codes}
+use Rattle.std.specs.List.{AllZip}
+use Rattle.dg_model.specs.declared.nested.Nested.{Nested}
+use Rattle.dg_model.specs.declared.nested.NestedBlock.{NestedBlock}
+use Rattle.mdl_text.specs.declared.tree.Item.{Item}
+use Rattle.mdl_text.specs.declared.tree.Tree.{Tree}
+use Rattle.mdl_build.specs.declared.library.BlockType.{BlockType}
+use Rattle.mdl_build.specs.declared.settings.Settings.{Settings}
+use Rattle.mdl_build.specs.Blocks.{number_at, parent_of, standing_of, HasSettings}
+use Rattle.mdl_build.specs.Lines.{lines_of}
+use Rattle.mdl_build.specs.Parts.{part_of}
+use Rattle.mdl_build.specs.Roles.{blocks_of}
+use Rattle.mdl_build.specs.Rules.{structure_fault, library_fault, type_at}
+use Rattle.mdl_build.specs.Sections.{value_of}
+
+-- the block that the section at a place becomes
+pub record IsBlockAt (items : List Item) (place : ℕ) (block : NestedBlock) : Type 0 where
+  pub name : value_of items place (codes "Name") ≡ Some block.name
+  pub parent : block.parent ≡ option_map (number_at items) (parent_of items place)
+  pub block_type : BlockType
+  pub type_is : type_at items place ≡ Some block_type
+  pub settings : Settings
+  pub has : HasSettings items block_type place settings
+  pub part : block.part ≡ part_of (standing_of items place) block_type settings
+
+-- the tree keeps the rules, and these are its blocks in file order and its lines
+pub record IsNestedOf (tree : Tree) (nested : Nested) : Type 0 where
+  pub structured : structure_fault tree.items ≡ None
+  pub known : library_fault tree.items ≡ None
+  pub blocks : AllZip (IsBlockAt tree.items) (blocks_of tree.items) nested.blocks
+  pub lines : nested.lines ≡ lines_of tree.items

@@ -1,0 +1,138 @@
+-- What the value of a parameter says, and what the parameters of a block say together (Simulink reference, each block's page; the spellings are own).
+use Rattle.std.specs.Prelude.{◌≡◌, ℕ, ◌++◌, Bool, true, false, List, [], ◌∷◌, Option, Some, None, ◌⊎◌, pos, length, MatchBool, codes}
+use Rattle.std.proofs.Math.Dec.{lit<}
+use lib.Signed.{le_z_yes}
+use Rattle.fx_type.specs.declared.decimal.Decimal.{Decimal}
+use Rattle.fx_type.specs.declared.rounding.Rounding.{Rounding}
+use Rattle.fx_type.specs.declared.kind.FxType.{FxType}
+use Rattle.fx_type.specs.declared.spec.TypeSpec.{TypeSpec}
+use Rattle.fx_type.specs.declared.spec.TypeSpec.TheVariants.{Fixed, Internal, SameFirst, Auto}
+use Rattle.dg_model.specs.declared.diagram.PeriodSpec.{PeriodSpec}
+use Rattle.dg_model.specs.declared.diagram.PeriodSpec.TheVariants.{Inherit, Every}
+use Rattle.dg_model.specs.declared.kind.Criterion.{Criterion}
+use Rattle.dg_model.specs.declared.kind.Gate.{Gate}
+use Rattle.dg_model.specs.declared.kind.Relation.{Relation}
+use Rattle.mdl_values.specs.Lists.{IsListText, IsSizesText}
+use Rattle.mdl_values.specs.Numbers.{IsNumberText}
+use Rattle.mdl_values.specs.Periods.{IsPeriodText, IsSampleTime, IsConstantTime, IsWidthText}
+use Rattle.mdl_values.specs.Signs.{IsSignsText}
+use Rattle.mdl_values.specs.Types.{IsTypeText}
+use Rattle.mdl_values.specs.Words.{rounding_of, switch_of, reset_of, criterion_of, relation_of, gate_of}
+use Rattle.mdl_build.specs.declared.library.Reader.{Reader}
+use Rattle.mdl_build.specs.declared.settings.Said.{Said}
+use Rattle.mdl_build.specs.declared.settings.Setting.{Setting}
+use Rattle.mdl_build.specs.declared.settings.Settings.{Settings}
+
+-- 0 as a decimal
+abbrev pub zero_decimal : Decimal
+zero_decimal = record { negative = false; digits = 0; exponent = pos 0; eighteen_digits = lit< tt; least_exponent = le_z_yes tt; greatest_exponent = le_z_yes tt }
+
+-- what is said of a block of which nothing is said
+abbrev pub unsaid : Said
+unsaid = record {
+  number = 0;
+  width = 0;
+  result = Auto;
+  coefficient = Auto;
+  period = Inherit;
+  rate = zero_decimal;
+  rounding = Rounding.Floor;
+  saturate = false;
+  flag = false;
+  criterion = Criterion.AtLeast;
+  relation = Relation.Eq;
+  gate = Gate.And;
+}
+
+-- the same, with no lists
+abbrev pub unset : Settings
+unset = record { said = unsaid; list = []; signs = []; sizes = [] }
+
+-- one setting in its place
+abbrev pub with_setting : Settings → Setting → Settings
+with_setting settings Setting.Unsaid = settings
+with_setting settings (Setting.Number number) = record settings { said = record settings.said { number = number } }
+with_setting settings (Setting.Width width) = record settings { said = record settings.said { width = width } }
+with_setting settings (Setting.Result spec) = record settings { said = record settings.said { result = spec } }
+with_setting settings (Setting.Coefficient spec) = record settings { said = record settings.said { coefficient = spec } }
+with_setting settings (Setting.Period spec) = record settings { said = record settings.said { period = spec } }
+with_setting settings (Setting.Rate rate) = record settings { said = record settings.said { period = Every rate; rate = rate } }
+with_setting settings (Setting.List list) = record settings { list = list }
+with_setting settings (Setting.Signs count signs) = record settings { said = record settings.said { number = count }; signs = signs }
+with_setting settings (Setting.Parts count sizes) = record settings { said = record settings.said { number = count }; sizes = sizes }
+with_setting settings (Setting.Rounding rounding) = record settings { said = record settings.said { rounding = rounding } }
+with_setting settings (Setting.Saturate flag) = record settings { said = record settings.said { saturate = flag } }
+with_setting settings (Setting.Flag flag) = record settings { said = record settings.said { flag = flag } }
+with_setting settings (Setting.Criterion criterion) = record settings { said = record settings.said { criterion = criterion } }
+with_setting settings (Setting.Relation relation) = record settings { said = record settings.said { relation = relation } }
+with_setting settings (Setting.Gate gate) = record settings { said = record settings.said { gate = gate } }
+
+-- a type
+abbrev pub IsGivenType : List ℕ → Setting → Type 0
+IsGivenType text setting = (type : FxType) × IsTypeText text type × (setting ≡ Setting.Result (Fixed type))
+
+-- a word that says how a type is chosen
+pub record IsChoiceWord (word : List ℕ) (choice : TypeSpec) (text : List ℕ) (setting : Setting) : Type 0 where
+  pub text_is : text ≡ word
+  pub setting_is : setting ≡ Setting.Result choice
+
+-- a type, or such a word
+abbrev pub IsTypeOr : List ℕ → TypeSpec → List ℕ → Setting → Type 0
+IsTypeOr word choice text setting = IsChoiceWord word choice text setting ⊎ IsGivenType text setting
+
+-- a type, the internal rule, or the word for the type of the first input
+abbrev pub IsTypeOrFirst : List ℕ → List ℕ → List ℕ → Setting → Type 0
+IsTypeOrFirst default first text setting = IsChoiceWord first SameFirst text setting ⊎ IsTypeOr default Internal text setting
+
+-- how the type of a coefficient is chosen
+abbrev pub IsCoefficient : List ℕ → List ℕ → TypeSpec → Type 0
+IsCoefficient default text (Fixed type) = IsTypeText text type
+IsCoefficient default text Internal = text ≡ default
+IsCoefficient default text SameFirst = text ≡ codes "Inherit: Same as input"
+IsCoefficient default text Auto = ⊥
+
+-- a list, or `[]`, which is 0
+abbrev pub IsListOrEmpty : List ℕ → List Decimal → Type 0
+IsListOrEmpty text list = ((text ≡ codes "[]") × (list ≡ zero_decimal ∷ [])) ⊎ IsListText text list
+
+-- a number of parts, or their sizes
+abbrev pub IsPartsText : List ℕ → ℕ → List ℕ → Type 0
+IsPartsText text count sizes =
+    (IsNumberText 1 1024 text count × (sizes ≡ [])) ⊎ (IsSizesText text sizes × (count ≡ length sizes))
+
+-- a number of operands; a gate of one input doesn't look at it
+abbrev pub IsOperands : Bool → List ℕ → ℕ → Type 0
+IsOperands single text number = MatchBool single (number ≡ 1) (IsNumberText 2 32 text number)
+
+-- `boolean`, which is the default, or a text that begins so
+abbrev pub IsTruth : List ℕ → List ℕ → Type 0
+IsTruth default text = (text ≡ default) ⊎ ((more : List ℕ) × (text ≡ codes "Inherit: Logical" ++ more))
+
+-- a reader, at its parameter's default, reads a text as a setting; `single` says that the block is a gate of one input
+abbrev pub ReadsAs : Bool → Reader → List ℕ → List ℕ → Setting → Type 0
+ReadsAs single Reader.Default default text setting = (text ≡ default) × (setting ≡ Setting.Unsaid)
+ReadsAs single Reader.Port default text setting = (number : ℕ) × IsNumberText 1 20000 text number × (setting ≡ Setting.Number number)
+ReadsAs single Reader.Width default text setting = (width : ℕ) × IsWidthText text width × (setting ≡ Setting.Width width)
+ReadsAs single Reader.Length default text setting = (number : ℕ) × IsNumberText 1 1024 text number × (setting ≡ Setting.Number number)
+ReadsAs single Reader.Operands default text setting = (number : ℕ) × IsOperands single text number × (setting ≡ Setting.Number number)
+ReadsAs single Reader.TypeOrAuto default text setting = IsTypeOr default Auto text setting
+ReadsAs single Reader.TypeOrFirst default text setting = IsTypeOrFirst default (codes "Inherit: Same as first input") text setting
+ReadsAs single Reader.TypeOrInput default text setting = IsTypeOrFirst default (codes "Inherit: Same as input") text setting
+ReadsAs single Reader.CoefficientType default text setting = (spec : TypeSpec) × IsCoefficient default text spec × (setting ≡ Setting.Coefficient spec)
+ReadsAs single Reader.Type default text setting = IsGivenType text setting
+ReadsAs single Reader.Truth default text setting = IsTruth default text × (setting ≡ Setting.Unsaid)
+ReadsAs single Reader.SampleTime default text setting = (spec : PeriodSpec) × IsSampleTime text spec × (setting ≡ Setting.Period spec)
+ReadsAs single Reader.ConstantTime default text setting = (spec : PeriodSpec) × IsConstantTime text spec × (setting ≡ Setting.Period spec)
+ReadsAs single Reader.Period default text setting = (period : Decimal) × IsPeriodText text period × (setting ≡ Setting.Rate period)
+ReadsAs single Reader.List default text setting = (list : List Decimal) × IsListText text list × (setting ≡ Setting.List list)
+ReadsAs single Reader.ListOrEmpty default text setting = (list : List Decimal) × IsListOrEmpty text list × (setting ≡ Setting.List list)
+ReadsAs single Reader.Signs default text setting = (signs : List Bool) × IsSignsText text signs × (setting ≡ Setting.Signs (length signs) signs)
+ReadsAs single Reader.Factors default text setting = ((text ≡ codes "2") ⊎ (text ≡ codes "**")) × (setting ≡ Setting.Unsaid)
+ReadsAs single Reader.Parts default text setting = (count : ℕ) × ((sizes : List ℕ) × IsPartsText text count sizes × (setting ≡ Setting.Parts count sizes))
+ReadsAs single Reader.Rounding default text setting = (rounding : Rounding) × (rounding_of text ≡ Some rounding) × (setting ≡ Setting.Rounding rounding)
+ReadsAs single Reader.Saturation default text setting = (flag : Bool) × (switch_of text ≡ Some flag) × (setting ≡ Setting.Saturate flag)
+ReadsAs single Reader.Reset default text setting = (flag : Bool) × (reset_of text ≡ Some flag) × (setting ≡ Setting.Flag flag)
+ReadsAs single Reader.Criterion default text setting = (criterion : Criterion) × (criterion_of text ≡ Some criterion) × (setting ≡ Setting.Criterion criterion)
+ReadsAs single Reader.Relation default text setting = (relation : Relation) × (relation_of text ≡ Some relation) × (setting ≡ Setting.Relation relation)
+ReadsAs single Reader.Gate default text setting = (gate : Gate) × (gate_of text ≡ Some gate) × (setting ≡ Setting.Gate gate)
+ReadsAs single Reader.Conversion default text setting = ((text ≡ default) × (setting ≡ Setting.Flag false)) ⊎ ((text ≡ codes "Stored Integer (SI)") × (setting ≡ Setting.Flag true))

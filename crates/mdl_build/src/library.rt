@@ -1,0 +1,383 @@
+//! The block types that are known, and the parameters that are read of each, in one table.
+//!
+//! A new block type is a variant of `BlockType`, a row here, the same row in `specs/Library.antt`,
+//! and a row of its kind in `dg_model`.
+ghost use Rattle.std.specs.Prelude.{◌≡◌, map};
+ghost use Rattle.mdl_build.specs.Library.{row_of, parameters_of, number_of, type_name, type_of_name};
+
+/// A block type (Simulink reference, block library).
+#[derive(Clone, Copy, Debug, PartialEq, Eq)]
+pub enum BlockType {
+    Inport,
+    Outport,
+    Constant,
+    Ground,
+    Terminator,
+    Sum,
+    Gain,
+    Product,
+    UnitDelay,
+    Delay,
+    Switch,
+    RelationalOperator,
+    Logic,
+    DataTypeConversion,
+    Mux,
+    Demux,
+    RateTransition,
+    SubSystem,
+    EnablePort,
+}
+
+/// How the value of a parameter is read, and which setting it gives (own).
+#[derive(Clone, Copy, Debug, PartialEq, Eq)]
+pub enum Reader {
+    /// The default alone; it gives no setting.
+    Default,
+    /// A port's number, 1 to 20,000.
+    Port,
+    /// A declared width: -1, a number from 1 to 1024, or that in brackets.
+    Width,
+    /// A number from 1 to 1024.
+    Length,
+    /// A number from 2 to 32, which a gate of one input doesn't look at.
+    Operands,
+    /// A type, or the default, which gives none.
+    TypeOrAuto,
+    /// A type, the default, which is the internal rule, or `Inherit: Same as first input`.
+    TypeOrFirst,
+    /// A type, the default, which is the internal rule, or `Inherit: Same as input`.
+    TypeOrInput,
+    /// The same, for a coefficient.
+    CoefficientType,
+    /// A type alone.
+    Type,
+    /// The default, or a text that begins with `Inherit: Logical`; both are `boolean`.
+    Truth,
+    /// -1, or a period.
+    SampleTime,
+    /// inf, -1, or a period.
+    ConstantTime,
+    /// A period alone.
+    Period,
+    /// 1 to 1024 decimals.
+    List,
+    /// The same, or `[]`, which is 0.
+    ListOrEmpty,
+    /// Signs, or their number.
+    Signs,
+    /// `2` or `**`; it gives no setting.
+    Factors,
+    /// A number from 1 to 1024, or so many sizes in brackets.
+    Parts,
+    /// A rounding.
+    Rounding,
+    /// `on` or `off`.
+    Saturation,
+    /// `held` or `reset`.
+    Reset,
+    /// What a Switch asks.
+    Criterion,
+    /// A relation.
+    Relation,
+    /// A gate.
+    Gate,
+    /// The default, or `Stored Integer (SI)`.
+    Conversion,
+}
+
+/// A parameter of a block type: its name, its value where the model gives none, and how it is read.
+#[derive(Clone, Copy, Debug)]
+pub struct Parameter(&'static str, &'static str, Reader);
+
+impl Parameter {
+    /// Its name.
+    pub fn name(&self) -> &'static str
+        ensures { result.now ≡ (row_of self.now).name }
+    {
+        self.0
+    }
+
+    /// Its value where the model gives none.
+    pub fn default(&self) -> &'static str
+        ensures { result.now ≡ (row_of self.now).default }
+    {
+        self.1
+    }
+
+    /// How it is read.
+    pub fn reader(&self) -> Reader
+        ensures { result ≡ (row_of self.now).reader }
+    {
+        self.2
+    }
+}
+
+const INPORT: &[Parameter] = &[
+    Parameter("Port", "1", Reader::Port),
+    Parameter("OutDataTypeStr", "Inherit: auto", Reader::TypeOrAuto),
+    Parameter("SampleTime", "-1", Reader::SampleTime),
+    Parameter("PortDimensions", "-1", Reader::Width),
+];
+
+const OUTPORT: &[Parameter] = &[
+    Parameter("Port", "1", Reader::Port),
+    Parameter("OutDataTypeStr", "Inherit: auto", Reader::TypeOrAuto),
+    Parameter("SampleTime", "-1", Reader::SampleTime),
+    Parameter("OutputWhenDisabled", "held", Reader::Reset),
+    Parameter("InitialOutput", "[]", Reader::ListOrEmpty),
+];
+
+const CONSTANT: &[Parameter] = &[
+    Parameter("Value", "1", Reader::List),
+    Parameter(
+        "OutDataTypeStr",
+        "Inherit: Inherit from 'Constant value'",
+        Reader::TypeOrAuto,
+    ),
+    Parameter("SampleTime", "inf", Reader::ConstantTime),
+];
+
+const SUM: &[Parameter] = &[
+    Parameter("Inputs", "++", Reader::Signs),
+    Parameter(
+        "AccumDataTypeStr",
+        "Inherit: Inherit via internal rule",
+        Reader::Default,
+    ),
+    Parameter(
+        "OutDataTypeStr",
+        "Inherit: Inherit via internal rule",
+        Reader::TypeOrFirst,
+    ),
+    Parameter("RndMeth", "Floor", Reader::Rounding),
+    Parameter("SaturateOnIntegerOverflow", "off", Reader::Saturation),
+    Parameter("SampleTime", "-1", Reader::SampleTime),
+];
+
+const GAIN: &[Parameter] = &[
+    Parameter("Gain", "1", Reader::List),
+    Parameter(
+        "ParamDataTypeStr",
+        "Inherit: Inherit via internal rule",
+        Reader::CoefficientType,
+    ),
+    Parameter("Multiplication", "Element-wise(K.*u)", Reader::Default),
+    Parameter(
+        "OutDataTypeStr",
+        "Inherit: Inherit via internal rule",
+        Reader::TypeOrInput,
+    ),
+    Parameter("RndMeth", "Floor", Reader::Rounding),
+    Parameter("SaturateOnIntegerOverflow", "off", Reader::Saturation),
+    Parameter("SampleTime", "-1", Reader::SampleTime),
+];
+
+const PRODUCT: &[Parameter] = &[
+    Parameter("Inputs", "2", Reader::Factors),
+    Parameter("Multiplication", "Element-wise(.*)", Reader::Default),
+    Parameter(
+        "OutDataTypeStr",
+        "Inherit: Inherit via internal rule",
+        Reader::TypeOrFirst,
+    ),
+    Parameter("RndMeth", "Floor", Reader::Rounding),
+    Parameter("SaturateOnIntegerOverflow", "off", Reader::Saturation),
+    Parameter("SampleTime", "-1", Reader::SampleTime),
+];
+
+const UNIT_DELAY: &[Parameter] = &[
+    Parameter("InitialCondition", "0", Reader::List),
+    Parameter("SampleTime", "-1", Reader::SampleTime),
+];
+
+const DELAY: &[Parameter] = &[
+    Parameter("DelayLength", "2", Reader::Length),
+    Parameter("InitialCondition", "0", Reader::List),
+    Parameter("SampleTime", "-1", Reader::SampleTime),
+    Parameter("DelayLengthSource", "Dialog", Reader::Default),
+    Parameter("InitialConditionSource", "Dialog", Reader::Default),
+    Parameter("ExternalReset", "None", Reader::Default),
+    Parameter("ShowEnablePort", "off", Reader::Default),
+];
+
+const SWITCH: &[Parameter] = &[
+    Parameter("Criteria", "u2 >= Threshold", Reader::Criterion),
+    Parameter("Threshold", "0", Reader::List),
+    Parameter(
+        "OutDataTypeStr",
+        "Inherit: Inherit via internal rule",
+        Reader::TypeOrFirst,
+    ),
+    Parameter("RndMeth", "Floor", Reader::Rounding),
+    Parameter("SaturateOnIntegerOverflow", "off", Reader::Saturation),
+    Parameter("SampleTime", "-1", Reader::SampleTime),
+];
+
+const RELATIONAL_OPERATOR: &[Parameter] = &[
+    Parameter("Operator", "<=", Reader::Relation),
+    Parameter("OutDataTypeStr", "boolean", Reader::Truth),
+    Parameter("SampleTime", "-1", Reader::SampleTime),
+];
+
+const LOGIC: &[Parameter] = &[
+    Parameter("Operator", "AND", Reader::Gate),
+    Parameter("Inputs", "2", Reader::Operands),
+    Parameter("OutDataTypeStr", "boolean", Reader::Truth),
+    Parameter("SampleTime", "-1", Reader::SampleTime),
+];
+
+const DATA_TYPE_CONVERSION: &[Parameter] = &[
+    Parameter(
+        "OutDataTypeStr",
+        "Inherit: Inherit via back propagation",
+        Reader::Type,
+    ),
+    Parameter(
+        "ConvertRealWorld",
+        "Real World Value (RWV)",
+        Reader::Conversion,
+    ),
+    Parameter("RndMeth", "Floor", Reader::Rounding),
+    Parameter("SaturateOnIntegerOverflow", "off", Reader::Saturation),
+    Parameter("SampleTime", "-1", Reader::SampleTime),
+];
+
+const MUX: &[Parameter] = &[Parameter("Inputs", "4", Reader::Parts)];
+
+const DEMUX: &[Parameter] = &[
+    Parameter("Outputs", "4", Reader::Parts),
+    Parameter("BusSelectionMode", "off", Reader::Default),
+];
+
+const RATE_TRANSITION: &[Parameter] = &[
+    Parameter("OutPortSampleTime", "-1", Reader::Period),
+    Parameter("OutPortSampleTimeOpt", "Specify", Reader::Default),
+    Parameter("Deterministic", "on", Reader::Default),
+    Parameter("InitialCondition", "0", Reader::List),
+];
+
+const SUB_SYSTEM: &[Parameter] = &[Parameter("SystemSampleTime", "-1", Reader::Default)];
+
+const ENABLE_PORT: &[Parameter] = &[
+    Parameter("StatesWhenEnabling", "held", Reader::Reset),
+    Parameter("ShowOutputPort", "off", Reader::Default),
+];
+
+/// How many block types there are.
+pub const TYPES: usize = 19;
+
+/// The parameters that are read of a block type, in the order in which they are tried (Simulink
+/// reference, each block's page; the defaults are own).
+pub fn parameters(block_type: BlockType) -> &'static [Parameter]
+    ensures { map row_of result.now ≡ parameters_of block_type }
+{
+    match block_type {
+        BlockType::Inport => INPORT,
+        BlockType::Outport => OUTPORT,
+        BlockType::Constant => CONSTANT,
+        BlockType::Ground => &[],
+        BlockType::Terminator => &[],
+        BlockType::Sum => SUM,
+        BlockType::Gain => GAIN,
+        BlockType::Product => PRODUCT,
+        BlockType::UnitDelay => UNIT_DELAY,
+        BlockType::Delay => DELAY,
+        BlockType::Switch => SWITCH,
+        BlockType::RelationalOperator => RELATIONAL_OPERATOR,
+        BlockType::Logic => LOGIC,
+        BlockType::DataTypeConversion => DATA_TYPE_CONVERSION,
+        BlockType::Mux => MUX,
+        BlockType::Demux => DEMUX,
+        BlockType::RateTransition => RATE_TRANSITION,
+        BlockType::SubSystem => SUB_SYSTEM,
+        BlockType::EnablePort => ENABLE_PORT,
+    }
+}
+
+/// The place of a block type among all of them.
+pub fn number_of(block_type: BlockType) -> usize
+    ensures { result ≡ number_of block_type }
+{
+    match block_type {
+        BlockType::Inport => 0,
+        BlockType::Outport => 1,
+        BlockType::Constant => 2,
+        BlockType::Ground => 3,
+        BlockType::Terminator => 4,
+        BlockType::Sum => 5,
+        BlockType::Gain => 6,
+        BlockType::Product => 7,
+        BlockType::UnitDelay => 8,
+        BlockType::Delay => 9,
+        BlockType::Switch => 10,
+        BlockType::RelationalOperator => 11,
+        BlockType::Logic => 12,
+        BlockType::DataTypeConversion => 13,
+        BlockType::Mux => 14,
+        BlockType::Demux => 15,
+        BlockType::RateTransition => 16,
+        BlockType::SubSystem => 17,
+        BlockType::EnablePort => 18,
+    }
+}
+
+/// The name of a block type.
+pub fn type_name(block_type: BlockType) -> &'static str
+    ensures { result.now ≡ type_name block_type }
+{
+    match block_type {
+        BlockType::Inport => "Inport",
+        BlockType::Outport => "Outport",
+        BlockType::Constant => "Constant",
+        BlockType::Ground => "Ground",
+        BlockType::Terminator => "Terminator",
+        BlockType::Sum => "Sum",
+        BlockType::Gain => "Gain",
+        BlockType::Product => "Product",
+        BlockType::UnitDelay => "UnitDelay",
+        BlockType::Delay => "Delay",
+        BlockType::Switch => "Switch",
+        BlockType::RelationalOperator => "RelationalOperator",
+        BlockType::Logic => "Logic",
+        BlockType::DataTypeConversion => "DataTypeConversion",
+        BlockType::Mux => "Mux",
+        BlockType::Demux => "Demux",
+        BlockType::RateTransition => "RateTransition",
+        BlockType::SubSystem => "SubSystem",
+        BlockType::EnablePort => "EnablePort",
+    }
+}
+
+/// All block types, each at its number.
+pub const BLOCK_TYPES: [BlockType; TYPES] = [
+    BlockType::Inport,
+    BlockType::Outport,
+    BlockType::Constant,
+    BlockType::Ground,
+    BlockType::Terminator,
+    BlockType::Sum,
+    BlockType::Gain,
+    BlockType::Product,
+    BlockType::UnitDelay,
+    BlockType::Delay,
+    BlockType::Switch,
+    BlockType::RelationalOperator,
+    BlockType::Logic,
+    BlockType::DataTypeConversion,
+    BlockType::Mux,
+    BlockType::Demux,
+    BlockType::RateTransition,
+    BlockType::SubSystem,
+    BlockType::EnablePort,
+];
+
+/// The block type of a name.
+pub fn type_of_name(name: &[u8]) -> Option<BlockType>
+    ensures { result ≡ type_of_name name.now }
+{
+    BLOCK_TYPES
+        .iter()
+        .copied()
+        .find(|block_type| type_name(*block_type).as_bytes() == name)
+}

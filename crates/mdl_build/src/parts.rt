@@ -1,0 +1,170 @@
+//! The part that a block of a type becomes, by what its parameters say.
+ghost use Rattle.std.specs.Prelude.{◌≡◌, false, IfOk};
+ghost use Rattle.dg_model.specs.declared.kind.Kind.{Kind};
+ghost use Rattle.mdl_build.specs.Parts.{block_with, open_sizes, in_part, out_part, part_of};
+
+use crate::library::BlockType;
+use crate::settings::{Said, Settings};
+use dg_model::{Block, Criterion, Decimals, Gate, Kind, Part, Relation};
+use fx_io::{OutOfMemory, Sizes, Text};
+use fx_type::{Decimal, TypeSpec};
+use std::alloc::Global;
+
+/// Where a block stands (own).
+#[derive(Clone, Copy, Debug, PartialEq, Eq)]
+pub enum Standing {
+    /// In the System of the Model.
+    Root,
+    /// In the System of a subsystem that has no EnablePort.
+    Plain,
+    /// In the System of a subsystem that has one.
+    Enabled,
+}
+
+/// A block of a kind and with so many ports, of which the parameters say the rest.
+fn block_with(alloc: Global, said: Said, kind: Kind, inputs: u32, outputs: u32) -> Block
+    ensures { result ≡ block_with said kind inputs outputs }
+{
+    Block {
+        path: Text::from_vec(Vec::new(alloc)),
+        kind,
+        inputs,
+        outputs,
+        result: said.result,
+        rounding: said.rounding,
+        saturate: said.saturate,
+        period: said.period,
+        enable: None,
+    }
+}
+
+/// The sizes of the parts of a Demux: those that are given, or so many open ones.
+fn open_sizes(alloc: Global, count: u32, sizes: Sizes) -> Result<Sizes, OutOfMemory>
+    ensures { IfOk result (λ parts. parts ≡ open_sizes count sizes) }
+{
+    if sizes.as_slice().is_empty() {
+        Ok(Sizes::from_vec(vec![in alloc; 0; count as usize]?))
+    } else {
+        Ok(sizes)
+    }
+}
+
+/// The part of an Inport.
+fn in_part(alloc: Global, standing: Standing, said: Said) -> Part
+    ensures { result ≡ in_part standing said }
+{
+    let number = said.number;
+    let width = said.width;
+    let block = match standing {
+        Standing::Root => block_with(alloc, said, Kind::Inport { number, width }, 0, 1),
+        Standing::Plain => block_with(alloc, said, Kind::Pass { width }, 1, 1),
+        Standing::Enabled => block_with(alloc, said, Kind::Pass { width }, 1, 1),
+    };
+    Part::In(block, number)
+}
+
+/// The part of an Outport.
+fn out_part(alloc: Global, standing: Standing, said: Said, initial: Decimals) -> Part
+    ensures { result ≡ out_part standing said initial }
+{
+    let number = said.number;
+    let reset = said.flag;
+    let block = match standing {
+        Standing::Root => block_with(alloc, said, Kind::Outport { number }, 1, 0),
+        Standing::Plain => block_with(alloc, said, Kind::Pass { width: 0 }, 1, 1),
+        Standing::Enabled => block_with(alloc, said, Kind::EnOut { reset, initial }, 1, 1),
+    };
+    Part::Out(block, number)
+}
+
+/// A product of the input and a coefficient.
+fn gain(value: Decimals, param: TypeSpec) -> Kind
+    ensures { result ≡ Kind.Gain value param }
+{
+    Kind::Gain { value, param }
+}
+
+/// A choice of the first or the third input.
+fn switch(criterion: Criterion, threshold: Decimals) -> Kind
+    ensures { result ≡ Kind.Switch criterion threshold }
+{
+    Kind::Switch {
+        criterion,
+        threshold,
+    }
+}
+
+/// A relation of two inputs.
+fn relational(operator: Relation) -> Kind
+    ensures { result ≡ Kind.Relational operator }
+{
+    Kind::Relational { operator }
+}
+
+/// A gate.
+fn logic(operator: Gate) -> Kind
+    ensures { result ≡ Kind.Logic operator }
+{
+    Kind::Logic { operator }
+}
+
+/// A delay by so many hits, which goes on where a subsystem is enabled again.
+fn delay(length: u32, initial: Decimals) -> Kind
+    ensures { result ≡ Kind.Delay length initial false }
+{
+    Kind::Delay {
+        length,
+        initial,
+        reset: false,
+    }
+}
+
+/// A change of the period.
+fn rate_transition(period: Decimal, initial: Decimals) -> Kind
+    ensures { result ≡ Kind.RateTransition period initial }
+{
+    Kind::RateTransition { period, initial }
+}
+
+/// The part of a block of a type, by what its parameters say.
+pub fn part_of(
+    alloc: Global,
+    standing: Standing,
+    block_type: BlockType,
+    settings: Settings,
+) -> Result<Part, OutOfMemory>
+    ensures { IfOk result (λ part. part ≡ part_of standing block_type settings) }
+{
+    let Settings {
+        said,
+        list,
+        signs,
+        sizes,
+    } = settings;
+    let number = said.number;
+    let (kind, inputs, outputs) = match block_type {
+        BlockType::Inport => return Ok(in_part(alloc, standing, said)),
+        BlockType::Outport => return Ok(out_part(alloc, standing, said, list)),
+        BlockType::SubSystem => return Ok(Part::SubSystem),
+        BlockType::EnablePort => return Ok(Part::Enable { reset: said.flag }),
+        BlockType::Constant => (Kind::Constant { value: list }, 0, 1),
+        BlockType::Ground => (Kind::Ground, 0, 1),
+        BlockType::Terminator => (Kind::Terminator, 1, 0),
+        BlockType::Sum => (Kind::Sum { negative: signs }, number, 1),
+        BlockType::Gain => (gain(list, said.coefficient), 1, 1),
+        BlockType::Product => (Kind::Product, 2, 1),
+        BlockType::UnitDelay => (delay(1, list), 1, 1),
+        BlockType::Delay => (delay(number, list), 1, 1),
+        BlockType::Switch => (switch(said.criterion, list), 3, 1),
+        BlockType::RelationalOperator => (relational(said.relation), 2, 1),
+        BlockType::Logic => (logic(said.gate), number, 1),
+        BlockType::DataTypeConversion => (Kind::Convert { stored: said.flag }, 1, 1),
+        BlockType::Mux => (Kind::Mux { sizes }, number, 1),
+        BlockType::Demux => {
+            let sizes = open_sizes(alloc, number, sizes)?;
+            (Kind::Demux { sizes }, 1, number)
+        }
+        BlockType::RateTransition => (rate_transition(said.rate, list), 1, 1),
+    };
+    Ok(Part::Plain(block_with(alloc, said, kind, inputs, outputs)))
+}

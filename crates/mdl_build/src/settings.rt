@@ -1,0 +1,156 @@
+//! What the values of a block's parameters say.
+ghost use Rattle.std.specs.Prelude.{◌≡◌};
+
+use dg_model::{Criterion, Decimals, Gate, PeriodSpec, Relation};
+use fx_io::{Flags, Sizes};
+use fx_type::{Decimal, Rounding, TypeSpec};
+use std::alloc::Global;
+
+/// What the value of a parameter says (own).
+#[derive(Debug, Drop)]
+pub enum Setting {
+    /// Nothing that is kept.
+    Unsaid,
+    /// A port's number, a length, or a number of inputs.
+    Number(u32),
+    /// A declared width, 0 for none.
+    Width(u32),
+    /// How the type of its output is chosen.
+    Result(TypeSpec),
+    /// How the type of its coefficient is chosen.
+    Coefficient(TypeSpec),
+    /// How its period is chosen.
+    Period(PeriodSpec),
+    /// The period of its output.
+    Rate(Decimal),
+    /// A value of each element.
+    List(Decimals),
+    /// How many inputs there are, and of each whether it is subtracted.
+    Signs(u32, Flags),
+    /// How many parts there are, and their sizes where these are given.
+    Parts(u32, Sizes),
+    /// How results are rounded.
+    Rounding(Rounding),
+    /// Whether results saturate.
+    Saturate(bool),
+    /// Whether a block is reset, or reads stored integers.
+    Flag(bool),
+    /// What a Switch asks.
+    Criterion(Criterion),
+    /// A relation.
+    Relation(Relation),
+    /// A gate.
+    Gate(Gate),
+}
+
+/// What the parameters of a block say, but for its lists. One that its type doesn't have says nothing
+/// (own).
+#[derive(Clone, Copy, Debug)]
+pub struct Said {
+    /// A port's number, a length, or a number of inputs or parts.
+    pub number: u32,
+    /// A declared width, 0 for none.
+    pub width: u32,
+    /// How the type of its output is chosen.
+    pub result: TypeSpec,
+    /// How the type of its coefficient is chosen.
+    pub coefficient: TypeSpec,
+    /// How its period is chosen.
+    pub period: PeriodSpec,
+    /// The period of its output.
+    pub rate: Decimal,
+    /// How results are rounded.
+    pub rounding: Rounding,
+    /// Whether results saturate.
+    pub saturate: bool,
+    /// Whether it is reset, or reads stored integers.
+    pub flag: bool,
+    /// What a Switch asks.
+    pub criterion: Criterion,
+    /// A relation.
+    pub relation: Relation,
+    /// A gate.
+    pub gate: Gate,
+}
+
+/// What the parameters of a block say, with its lists (own).
+#[derive(Debug, Drop)]
+pub struct Settings {
+    /// All but the lists.
+    pub said: Said,
+    /// A value of each element.
+    pub list: Decimals,
+    /// Of each input, whether it is subtracted.
+    pub signs: Flags,
+    /// The sizes of its parts where these are given.
+    pub sizes: Sizes,
+}
+
+/// What is said of a block of which nothing is said.
+const UNSAID: Said = Said {
+    number: 0,
+    width: 0,
+    result: TypeSpec::Auto,
+    coefficient: TypeSpec::Auto,
+    period: PeriodSpec::Inherit,
+    rate: Decimal {
+        negative: false,
+        digits: 0,
+        exponent: 0,
+    },
+    rounding: Rounding::Floor,
+    saturate: false,
+    flag: false,
+    criterion: Criterion::AtLeast,
+    relation: Relation::Eq,
+    gate: Gate::And,
+};
+
+impl Settings {
+    ghost use Rattle.mdl_build.specs.Settings.{unset, with_setting};
+
+    /// Those of a block of which nothing is said.
+    pub fn unset(alloc: Global) -> Settings
+        ensures { result ≡ unset }
+    {
+        Settings {
+            said: UNSAID,
+            list: Decimals::new(alloc),
+            signs: Flags::new(alloc),
+            sizes: Sizes::new(alloc),
+        }
+    }
+
+    /// Puts what one parameter says in its place.
+    pub fn put(&mut self, setting: Setting)
+        ensures { self.new ≡ with_setting self.old setting }
+    {
+        match setting {
+            Setting::Unsaid => {}
+            Setting::Number(number) => self.said.number = number,
+            Setting::Width(width) => self.said.width = width,
+            Setting::Result(spec) => self.said.result = spec,
+            Setting::Coefficient(spec) => self.said.coefficient = spec,
+            Setting::Period(spec) => self.said.period = spec,
+            Setting::Rate(rate) => {
+                self.said.period = PeriodSpec::Every(rate);
+                self.said.rate = rate;
+            }
+            Setting::List(list) => self.list = list,
+            Setting::Signs(count, signs) => {
+                self.said.number = count;
+                self.signs = signs;
+            }
+            Setting::Parts(count, sizes) => {
+                self.said.number = count;
+                self.sizes = sizes;
+            }
+            Setting::Rounding(rounding) => self.said.rounding = rounding,
+            Setting::Saturate(flag) => self.said.saturate = flag,
+            Setting::Flag(flag) => self.said.flag = flag,
+            Setting::Criterion(criterion) => self.said.criterion = criterion,
+            Setting::Relation(relation) => self.said.relation = relation,
+            Setting::Gate(gate) => self.said.gate = gate,
+        }
+    }
+}
