@@ -1,5 +1,5 @@
 -- Trees worked by hand: what their items are, which lines they have, and the faults of broken ones.
-use Rattle.std.proofs.Common.{◌≡◌, ℕ, Bool, true, false, List, [], ◌∷◌, ◌++◌, ◌+◌, Option, Some, None, refl, inl, inr, pos}
+use Rattle.std.proofs.Common.{◌≡◌, ℕ, List, [], ◌∷◌, ◌++◌, ◌+◌, Some, None, refl}
 use Rattle.std.specs.Prelude.{codes}
 use Rattle.dg_model.specs.declared.fault.Shown.TheVariants.{Nothing, Word}
 use Rattle.dg_model.specs.declared.nested.NestedLine.{NestedLine}

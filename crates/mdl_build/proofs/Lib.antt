@@ -1,3 +1,4 @@
 mod Above
 mod Examples
+pub mod Found
 mod Zeros

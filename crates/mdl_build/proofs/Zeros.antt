@@ -1,5 +1,5 @@
 -- A decimal of no digits, whatever shows that it is one.
-use Rattle.std.proofs.Common.{◌≡◌, ℕ, ◌<◌, ◌^◌, Bool, false, List, [], refl, sym, ◌∙◌, ap, subst, pos, negsuc}
+use Rattle.std.proofs.Common.{◌≡◌, ℕ, ◌<◌, ◌^◌, Bool, false, List, [], ◌∷◌, ◌++◌, refl, ap, subst, pos, negsuc}
 use Rattle.std.specs.Prelude.{◌≤ℤ◌}
 use Rattle.std.proofs.Props.{props}
 use Rattle.fx_type.specs.declared.decimal.Decimal.{Decimal}
@@ -25,3 +25,8 @@ pub unset_by : (digits : 0 < 10 ^ 18) (least : negsuc 35 ≤ℤ pos 0) (greatest
     record unset { said = record unsaid { rate = zero_by digits least greatest }; list = list; signs = signs; sizes = sizes } ≡ unset
 unset_by digits least greatest list signs sizes no_list no_signs no_sizes =
     let same = same_zero digits least greatest in rw (no_list, no_signs, no_sizes) (ap (λ (rate : Decimal). let settings : Settings = record unset { said = record unsaid { rate = rate } } in settings) same)
+
+-- behind an empty list
+pub zero_alone : (digits : 0 < 10 ^ 18) (least : negsuc 35 ≤ℤ pos 0) (greatest : pos 0 ≤ℤ pos 18) (list : List Decimal) → list ≡ [] → list ++ (zero_by digits least greatest ∷ []) ≡ zero_decimal ∷ []
+zero_alone digits least greatest list none =
+    let same = same_zero digits least greatest in rw none (ap (λ (zero : Decimal). zero ∷ []) same)

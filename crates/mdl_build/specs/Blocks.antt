@@ -1,6 +1,6 @@
 -- The blocks of a tree: their names, where they stand, and what their parameters say (Simulink reference, model files).
-use Rattle.std.specs.Prelude.{◌≡◌, ℕ, zero, suc, ◌++◌, ◌==◌, ◌&&◌, Bool, true, false, List, [], ◌∷◌, Option, Some, None, position, option_map, codes, bytes_eq, if◌then◌else◌}
-use Rattle.std.specs.List.{find, flat_map, list_any}
+use Rattle.std.specs.Prelude.{◌≡◌, ℕ, zero, suc, ◌++◌, ◌==◌, ◌&&◌, Bool, false, List, [], ◌∷◌, Option, Some, None, position, codes, bytes_eq, if◌then◌else◌}
+use Rattle.std.specs.List.{flat_map, list_any}
 use Rattle.std.specs.Option.{unwrap_or}
 use Rattle.mdl_text.specs.declared.tree.Item.{Item}
 use Rattle.mdl_build.specs.declared.library.BlockType.{BlockType}
@@ -10,10 +10,10 @@ use Rattle.mdl_build.specs.declared.roles.Role.{Role}
 use Rattle.mdl_build.specs.declared.roles.Role.TheVariants.{Other, Model, System, Block, SubSystem, Branch, Defaults, TypeDefaults}
 use Rattle.mdl_build.specs.declared.settings.Setting.{Setting}
 use Rattle.mdl_build.specs.declared.settings.Settings.{Settings}
-use Rattle.mdl_build.specs.Library.{ParameterRow, parameters_of, type_of_name, type_name}
+use Rattle.mdl_build.specs.Library.{ParameterRow, parameters_of, type_name}
 use Rattle.mdl_build.specs.Lookup.{text_of}
 use Rattle.mdl_build.specs.Roles.{role_of, blocks_of, says}
-use Rattle.mdl_build.specs.Sections.{value_of, holder_of, depth_at, last_above}
+use Rattle.mdl_build.specs.Sections.{value_of, holder_of, depth_at}
 use Rattle.mdl_build.specs.Settings.{ReadsAs, unset, with_setting}
 
 -- ---- names

@@ -1,5 +1,5 @@
 -- Which block types are known, and which parameters are read of each: the same table as the code has, line by line (Simulink reference, each block's page; the defaults are own).
-use Rattle.std.specs.Prelude.{ℕ, List, [], ◌∷◌, Option, Some, None, codes}
+use Rattle.std.specs.Prelude.{ℕ, List, [], ◌∷◌, Option, codes}
 use Rattle.std.specs.List.{find}
 use Rattle.std.specs.Str.{bytes_eq}
 use Rattle.mdl_build.specs.declared.library.BlockType.{BlockType}

@@ -1,5 +1,5 @@
 -- Where the value of a block's parameter is looked for: in the block's section, then in that of the defaults of its type, then in the table (Simulink reference, model files; the table is own).
-use Rattle.std.specs.Prelude.{ℕ, ◌==◌, ◌&&◌, Bool, true, false, List, [], ◌∷◌, Option, Some, None, position, codes, bytes_eq, if◌then◌else◌}
+use Rattle.std.specs.Prelude.{ℕ, ◌==◌, ◌&&◌, Bool, true, false, List, Option, Some, None, position, codes, bytes_eq, if◌then◌else◌}
 use Rattle.std.specs.List.{find}
 use Rattle.std.specs.Option.{unwrap_or}
 use Rattle.mdl_text.specs.declared.tree.Item.{Item}

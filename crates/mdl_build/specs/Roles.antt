@@ -1,5 +1,5 @@
 -- What each item of a tree is: which Systems, blocks and lines count (Simulink reference, model files; which count is own).
-use Rattle.std.specs.Prelude.{ℕ, zero, suc, ◌==◌, Bool, true, false, is_some, List, Option, Some, None, map, length, filter, nat_lt, codes, bytes_eq, if◌then◌else◌}
+use Rattle.std.specs.Prelude.{ℕ, zero, suc, ◌==◌, Bool, true, false, is_some, List, Option, Some, None, map, filter, nat_lt, codes, bytes_eq, if◌then◌else◌}
 use Rattle.mdl_text.specs.declared.tree.Item.{Item}
 use Rattle.mdl_build.specs.declared.roles.Role.{Role}
 use Rattle.mdl_build.specs.declared.roles.Role.TheVariants.{Other, Model, System, Block, SubSystem, Branch, Defaults, TypeDefaults}

@@ -1,5 +1,5 @@
 -- What the value of a parameter says, and what the parameters of a block say together (Simulink reference, each block's page; the spellings are own).
-use Rattle.std.specs.Prelude.{◌≡◌, ℕ, ◌++◌, Bool, true, false, List, [], ◌∷◌, Option, Some, None, ◌⊎◌, pos, length, MatchBool, codes}
+use Rattle.std.specs.Prelude.{◌≡◌, ℕ, ◌++◌, Bool, true, false, List, [], ◌∷◌, Some, ◌⊎◌, pos, length, MatchBool, codes}
 use Rattle.std.proofs.Math.Dec.{lit<}
 use lib.Signed.{le_z_yes}
 use Rattle.fx_type.specs.declared.decimal.Decimal.{Decimal}

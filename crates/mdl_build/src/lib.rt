@@ -9,6 +9,9 @@
 
 mod library;
 mod lines;
+mod list_readers;
 mod parts;
+mod plain_readers;
+mod reading;
 mod roles;
 mod settings;

@@ -1,0 +1,203 @@
+//! The readers that take no memory.
+ghost use Rattle.std.specs.Prelude.{◌≡◌, true, false, [], codes};
+ghost use Rattle.mdl_values.specs.Reads.{Finds};
+ghost use Rattle.mdl_build.specs.declared.library.Reader.{Reader};
+ghost use Rattle.mdl_build.specs.Settings.{ReadsAs, IsTypeOr, IsTypeOrFirst};
+
+use crate::settings::Setting;
+use fx_type::TypeSpec;
+use mdl_values::{
+    read_criterion, read_gate, read_number, read_relation, read_reset, read_rounding, read_switch,
+    read_type,
+};
+
+/// The default alone.
+pub fn default_alone(text: &[u8], default: &[u8]) -> Option<Setting>
+    ensures { Finds (ReadsAs false Reader.Default default.now text.now) result }
+{
+    if text == default {
+        Some(Setting::Unsaid)
+    } else {
+        None
+    }
+}
+
+/// A port's number.
+pub fn port(text: &[u8]) -> Option<Setting>
+    ensures { Finds (ReadsAs false Reader.Port [] text.now) result }
+{
+    match read_number(text, 1, 20000) {
+        None => None,
+        Some(number) => Some(Setting::Number(number)),
+    }
+}
+
+/// A length.
+pub fn length(text: &[u8]) -> Option<Setting>
+    ensures { Finds (ReadsAs false Reader.Length [] text.now) result }
+{
+    match read_number(text, 1, 1024) {
+        None => None,
+        Some(number) => Some(Setting::Number(number)),
+    }
+}
+
+/// A number of operands, which a gate of one input doesn't look at.
+pub fn operands(single: bool, text: &[u8]) -> Option<Setting>
+    ensures { Finds (ReadsAs single Reader.Operands [] text.now) result }
+{
+    if single {
+        return Some(Setting::Number(1));
+    }
+    match read_number(text, 2, 32) {
+        None => None,
+        Some(number) => Some(Setting::Number(number)),
+    }
+}
+
+/// A type alone.
+pub fn type_alone(text: &[u8]) -> Option<Setting>
+    ensures { Finds (ReadsAs false Reader.Type [] text.now) result }
+{
+    match read_type(text) {
+        None => None,
+        Some(read) => Some(Setting::Result(TypeSpec::Fixed(read))),
+    }
+}
+
+/// A word that says how a type is chosen, or a type.
+pub fn type_or(text: &[u8], word: &[u8], choice: TypeSpec) -> Option<Setting>
+    ensures { Finds (IsTypeOr word.now choice text.now) result }
+{
+    if text == word {
+        Some(Setting::Result(choice))
+    } else {
+        type_alone(text)
+    }
+}
+
+/// The word for the type of the first input, the internal rule, or a type.
+pub fn type_or_first(text: &[u8], default: &[u8], first: &[u8]) -> Option<Setting>
+    ensures { Finds (IsTypeOrFirst default.now first.now text.now) result }
+{
+    if text == first {
+        Some(Setting::Result(TypeSpec::SameFirst))
+    } else {
+        type_or(text, default, TypeSpec::Internal)
+    }
+}
+
+/// How the type of a coefficient is chosen.
+pub fn coefficient(text: &[u8], default: &[u8]) -> Option<Setting>
+    ensures { Finds (ReadsAs false Reader.CoefficientType default.now text.now) result }
+{
+    if text == default {
+        return Some(Setting::Coefficient(TypeSpec::Internal));
+    }
+    if text == b"Inherit: Same as input".as_slice() {
+        return Some(Setting::Coefficient(TypeSpec::SameFirst));
+    }
+    match read_type(text) {
+        None => None,
+        Some(read) => Some(Setting::Coefficient(TypeSpec::Fixed(read))),
+    }
+}
+
+/// `boolean`, which is the default, or a text that begins so.
+pub fn truth(text: &[u8], default: &[u8]) -> Option<Setting>
+    ensures { Finds (ReadsAs false Reader.Truth default.now text.now) result }
+{
+    if text == default {
+        return Some(Setting::Unsaid);
+    }
+    if text.starts_with(b"Inherit: Logical") {
+        return Some(Setting::Unsaid);
+    }
+    None
+}
+
+/// A number of factors, which is 2.
+pub fn factors(text: &[u8]) -> Option<Setting>
+    ensures { Finds (ReadsAs false Reader.Factors [] text.now) result }
+{
+    if text == b"2".as_slice() {
+        return Some(Setting::Unsaid);
+    }
+    if text == b"**".as_slice() {
+        return Some(Setting::Unsaid);
+    }
+    None
+}
+
+/// A rounding.
+pub fn rounding(text: &[u8]) -> Option<Setting>
+    ensures { Finds (ReadsAs false Reader.Rounding [] text.now) result }
+{
+    match read_rounding(text) {
+        None => None,
+        Some(read) => Some(Setting::Rounding(read)),
+    }
+}
+
+/// `on` or `off`.
+pub fn saturation(text: &[u8]) -> Option<Setting>
+    ensures { Finds (ReadsAs false Reader.Saturation [] text.now) result }
+{
+    match read_switch(text) {
+        None => None,
+        Some(read) => Some(Setting::Saturate(read)),
+    }
+}
+
+/// `held` or `reset`.
+pub fn reset(text: &[u8]) -> Option<Setting>
+    ensures { Finds (ReadsAs false Reader.Reset [] text.now) result }
+{
+    match read_reset(text) {
+        None => None,
+        Some(read) => Some(Setting::Flag(read)),
+    }
+}
+
+/// What a Switch asks.
+pub fn criterion(text: &[u8]) -> Option<Setting>
+    ensures { Finds (ReadsAs false Reader.Criterion [] text.now) result }
+{
+    match read_criterion(text) {
+        None => None,
+        Some(read) => Some(Setting::Criterion(read)),
+    }
+}
+
+/// A relation.
+pub fn relation(text: &[u8]) -> Option<Setting>
+    ensures { Finds (ReadsAs false Reader.Relation [] text.now) result }
+{
+    match read_relation(text) {
+        None => None,
+        Some(read) => Some(Setting::Relation(read)),
+    }
+}
+
+/// A gate.
+pub fn gate(text: &[u8]) -> Option<Setting>
+    ensures { Finds (ReadsAs false Reader.Gate [] text.now) result }
+{
+    match read_gate(text) {
+        None => None,
+        Some(read) => Some(Setting::Gate(read)),
+    }
+}
+
+/// The default, or `Stored Integer (SI)`.
+pub fn conversion(text: &[u8], default: &[u8]) -> Option<Setting>
+    ensures { Finds (ReadsAs false Reader.Conversion default.now text.now) result }
+{
+    if text == default {
+        return Some(Setting::Flag(false));
+    }
+    if text == b"Stored Integer (SI)".as_slice() {
+        return Some(Setting::Flag(true));
+    }
+    None
+}
