@@ -2,6 +2,7 @@ mod Biased
 mod Congruence
 mod Converting
 mod Exactly
+mod Halves
 mod NumeralForms
 mod Orders
 mod Reading

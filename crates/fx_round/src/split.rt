@@ -1,6 +1,6 @@
 //! A number between two whole numbers, and which of them a rounding mode takes.
-ghost use Rattle.std.specs.Prelude.{◌≡◌, ℕ, ◌*◌, ◌^◌, ◌<◌, ◌≤◌, ◌-◌, ℤ, pos, ◌<ℤ◌};
-ghost use Rattle.fx_type.specs.Conversion.{Rounds};
+ghost use Rattle.std.specs.Prelude.{◌≡◌, ℕ, ◌+◌, ◌*◌, ◌^◌, ◌<◌, ◌≤◌, ◌-◌, ℤ, pos, ◌<ℤ◌};
+ghost use Rattle.fx_type.specs.Conversion.{Rounds, RoundsTiesUp};
 ghost use Rattle.fx_round.specs.declared.split.Part.{Part};
 ghost use Rattle.fx_round.specs.inner.Split.{IsPart, IsSplit, takes_upper as takes_upper_of};
 
@@ -49,14 +49,51 @@ pub fn rounded_down(v: i128, by: u32, mode: Rounding) -> i128
     ensures { Rounds mode v (2 ^ by) result }
 {
     if by < 128 {
-        let half = 1 << (by - 1);
-        let rest = v.cast_unsigned() & (half + (half - 1));
-        let floor = v >> by;
-        let next = is_upper(mode, rest, half, floor < 0, floor % 2 != 0);
-        floor + i128::from(next)
+        match mode {
+            Rounding::Floor => v >> by,
+            Rounding::Nearest => nearest(v, by),
+            Rounding::Ceiling | Rounding::Zero | Rounding::Round | Rounding::Convergent => {
+                by_rest(v, by, mode)
+            }
+        }
     } else {
         rounded(far_split(v, by), mode)
     }
+}
+
+/// `v` over 2 to the power `by`, rounded to the nearest, ties toward plus infinity: half of the whole
+/// number of halves, and the half that is left.
+fn nearest(v: i128, by: u32) -> i128
+    requires some { 1 ≤ by }
+    requires near { by ≤ 127 }
+    ensures { RoundsTiesUp v (2 ^ by) result }
+{
+    let halves = v >> (by - 1);
+    (halves >> 1) + (halves & 1)
+}
+
+/// 2 to the power `by`, less one.
+fn mask(by: u32) -> u128
+    requires some { 1 ≤ by }
+    requires near { by ≤ 127 }
+    ensures { result + 1 ≡ 2 ^ by }
+{
+    u128::MAX >> (128 - by)
+}
+
+/// `v` over 2 to the power `by`, rounded by the mode: the whole number below it or the next, by what
+/// is left above the lower one.
+fn by_rest(v: i128, by: u32, mode: Rounding) -> i128
+    requires some { 1 ≤ by }
+    requires near { by ≤ 127 }
+    ensures { Rounds mode v (2 ^ by) result }
+{
+    let mask = mask(by);
+    let half = (mask >> 1) + 1;
+    let rest = v.cast_unsigned() & mask;
+    let floor = v >> by;
+    let next = is_upper(mode, rest, half, floor < 0, floor % 2 != 0);
+    floor + i128::from(next)
 }
 
 /// Whether the mode takes the upper one of the whole numbers around a number that lies `rest` over
