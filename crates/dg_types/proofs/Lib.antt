@@ -5,3 +5,7 @@ pub mod FromWired
 pub mod ScanFacts
 pub mod Shown
 pub mod Verdicts
+pub mod TypedFits
+pub mod TypedGreatest
+pub mod TypedRanges
+pub mod TypedSearch

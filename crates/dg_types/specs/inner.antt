@@ -6,3 +6,4 @@ pub mod Rows
 pub mod Scanned
 pub mod Shown
 pub mod Tests
+pub mod TypedFit

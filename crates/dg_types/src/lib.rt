@@ -14,5 +14,7 @@ mod fitting;
 mod linked;
 mod rows;
 mod scanning;
+mod typed_fit;
+mod typed_param;
 
 pub use dimensions::widths;

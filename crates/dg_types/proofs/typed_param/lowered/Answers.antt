@@ -1,0 +1,26 @@
+use Rattle.std.proofs.Common.{◌≡◌, ℕ, ◌+◌, ◌-◌, Bool, true, cond, ℤ, pos, ◌-ℤ◌, to_z, of_z, Some, Option, ap, sym, ◌∙◌, arith}
+use Rattle.std.specs.Int.{w16}
+use Rattle.std.specs.List.{find, range_with_len}
+use Rattle.std.proofs.lemmas.Int.{ints}
+use Rattle.fx_type.specs.declared.kind.FxType.TheVariants.{Num}
+use Rattle.fx_type.specs.StoredOf.{rounded_of, is_in_range}
+use Rattle.dg_model.specs.GainParam.{frac_down}
+use Rattle.dg_types.specs.inner.TypedFit.{at_step}
+use Rattle.dg_types.proofs.TypedSearch.{search_step}
+use Rattle.dg_types.proofs.typed_param.lowered.Goals as goal
+
+pub returns-then-fits_at : goal.returns-then-fits_at
+returns-then-fits_at c =
+    let k = c.loop-k.k in
+    let test = at_step c.args.decimal c.args.signed c.args.width in
+    let frac : to_z w16 (of_z w16 (pos 128 -ℤ to_z w16 (of_z w16 c.from.result))) ≡ frac_down k = omega (arith, ints, c.from.ensures, c.loop-k-test.true) in
+    let at : c.fits_at.result ≡ test k = c.fits_at.ensures ∙ ap (λ (z : ℤ). is_in_range (Num c.args.signed c.args.width z) (rounded_of c.args.decimal z)) frac in
+    sym (search_step test k 193 c.loop-k-test.true ∙ ap (λ (b : Bool). cond b (Some k) (find test (range_with_len (k + 1) (193 - (k + 1))))) (sym at ∙ c.if-fits_at.true)) ∙ c.loop-k.invariant
+
+pub loop-k-preserved : goal.loop-k-preserved
+loop-k-preserved c =
+    let k = c.loop-k.k in
+    let test = at_step c.args.decimal c.args.signed c.args.width in
+    let frac : to_z w16 (of_z w16 (pos 128 -ℤ to_z w16 (of_z w16 c.from.result))) ≡ frac_down k = omega (arith, ints, c.from.ensures, c.loop-k-test.true) in
+    let at : c.fits_at.result ≡ test k = c.fits_at.ensures ∙ ap (λ (z : ℤ). is_in_range (Num c.args.signed c.args.width z) (rounded_of c.args.decimal z)) frac in
+    sym (search_step test k 193 c.loop-k-test.true ∙ ap (λ (b : Bool). cond b (Some k) (find test (range_with_len (k + 1) (193 - (k + 1))))) (sym at ∙ c.if-fits_at.false)) ∙ c.loop-k.invariant
