@@ -2,6 +2,7 @@
 use Rattle.std.proofs.Common.{◌≡◌, ℕ, zero, suc, ◌<◌, ◌≤◌, Bool, true, false, List, [], ◌∷◌, ◌++◌, length, map, filter, cond, set, All, Some, Option, get_or, eqb, refl, sym, ap, subst, ◌∙◌, inl, inr, arith}
 use Rattle.std.specs.Prelude.{slice_get, unwrap_or, ◌==◌}
 use Rattle.std.proofs.lemmas.Bool.{cases_lt, cases_Bool, eqb-true, eqb-false}
+use Rattle.std.proofs.lemmas.Bool.Decides.{Decides-by_and, Decides-eqb, nat_tests}
 use Rattle.std.proofs.lemmas.List.{length-set, get_or-set_same, get_or-set_other, map-append, append-nil}
 use Rattle.std.proofs.lemmas.Option.{unwrap_or-slice_get, slice_get_past, slice_get-get_or, none-some, same_Some}
 use Rattle.dg_model.specs.declared.diagram.Block.{Block}
@@ -11,11 +12,11 @@ use Rattle.dg_waves.proofs.Waved.{is_in_push, is_in_last, pushed_at}
 use Rattle.dg_types.specs.declared.linked.Source.{Source}
 use Rattle.dg_types.specs.declared.linked.Form.{Form}
 use Rattle.dg_types.specs.inner.Linked.{AreLinked, is_shared_out}
-use Rattle.dg_model.specs.Widths.{list_length}
+use Rattle.dg_model.specs.Widths.{are_open, list_length}
 use Rattle.dg_types.specs.inner.Shown.{source_of, form_of, shape_of, Mirrors}
 use Rattle.dg_types.specs.declared.linked.Form.TheVariants.{Single}
 use Rattle.dg_model.specs.declared.diagram.Diagram.{Diagram}
-use Rattle.dg_types.specs.inner.Build.{CanLink, Gathered, Known, all_forms}
+use Rattle.dg_types.specs.inner.Build.{AreAlike, CanLink, Gathered, Known, all_forms}
 
 filter_push : (p : Edge → Bool) (xs : List Edge) (x : Edge) → filter p (xs ++ x ∷ []) ≡ filter p xs ++ cond (p x) (x ∷ []) []
 filter_push p [] x = go (p x) where
@@ -126,3 +127,16 @@ mirrors_built diagram forms sources is gathered = record {
   form = λ k block at. rw is (form_at diagram.blocks k block at);
   source = gathered.row;
 }
+
+-- where each size is fixed or none, the first tells which
+pub open_by_first : (sizes : List ℕ) (d : ℕ) → 0 < length sizes → AreAlike sizes → are_open sizes ≡ eqb (get_or sizes 0 d) 0
+open_by_first [] d some alike = absurd (omega arith)
+open_by_first (x ∷ xs) d some (inl fixed) =
+    let above : 1 ≤ x = (fixed 0 d (omega arith)).0 in
+    let no : eqb x 0 ≡ false = grind (arith, nat_tests) in
+    rw no refl
+open_by_first (x ∷ xs) d some (inr zeros) =
+    let none : x ≡ 0 = zeros 0 d (omega arith) in
+    let yes : eqb x 0 ≡ true = grind (arith, nat_tests) in
+    let rest : are_open xs ≡ true = (Decides-by_and (λ size. eqb size 0) (λ size. size ≡ 0) are_open (λ size. Decides-eqb size 0) refl (λ _ _. refl) xs).1 (λ k e inside. zeros (suc k) e (omega arith)) in
+    rw (yes, rest) refl

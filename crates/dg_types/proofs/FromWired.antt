@@ -17,7 +17,7 @@ use Rattle.dg_model.specs.Wired.{IsWired, Joins}
 use Rattle.dg_types.specs.declared.linked.Share.TheVariants.{Even, Fixed}
 use Rattle.dg_types.specs.inner.Linked.{is_shared_out}
 use Rattle.dg_types.specs.inner.Shown.{shape_of, declared_width, IsPort, HasParts, IsLaid, share_at}
-use Rattle.dg_types.specs.inner.Build.{CanLink, IsPortOf}
+use Rattle.dg_types.specs.inner.Build.{AreAlike, CanLink, IsPortOf}
 
 port_is : (kind : Kind) (inputs outputs port : ℕ) → HasPorts kind inputs outputs → 1 ≤ port → port ≤ outputs → IsPort (shape_of kind) port
 port_is (Inport number width) inputs outputs port has low high = omega (arith, has.1)
@@ -146,33 +146,33 @@ part_shared (Shape.Parted sizes) port has = go (are_open sizes) where
   go true = lt-ltb 0 (length sizes) (omega (arith, has.0))
   go false = refl
 
-port_of : (shape : Shape) (port : ℕ) → (are_few : (sizes : List ℕ) → shape ≡ Shape.Parted sizes → length sizes ≤ 1024) → IsPort shape port → IsPortOf shape port
-port_of Shape.Elementwise port are_few is = tt
-port_of (Shape.Joined sizes) port are_few is = tt
-port_of Shape.Single port are_few is = tt
-port_of (Shape.Parted sizes) port are_few is = (is.1, omega (arith, are_few sizes refl))
+port_of : (shape : Shape) (port : ℕ) → (parted : (sizes : List ℕ) → shape ≡ Shape.Parted sizes → (length sizes ≤ 1024) × AreAlike sizes) → IsPort shape port → IsPortOf shape port
+port_of Shape.Elementwise port parted is = tt
+port_of (Shape.Joined sizes) port parted is = tt
+port_of Shape.Single port parted is = tt
+port_of (Shape.Parted sizes) port parted is = (is.1, omega (arith, (parted sizes refl).0), (parted sizes refl).1)
 
-few_parts : (kind : Kind) (sizes : List ℕ) → (row_of kind).parameters → shape_of kind ≡ Shape.Parted sizes → length sizes ≤ 1024
-few_parts (Inport number width) sizes has is = absurd (cc)
-few_parts (Outport number) sizes has is = absurd (cc)
-few_parts (Constant value) sizes has is = absurd (cc)
-few_parts Ground sizes has is = absurd (cc)
-few_parts (Sum negative) sizes has is = absurd (cc)
-few_parts (Gain value param) sizes has is = absurd (cc)
-few_parts Product sizes has is = absurd (cc)
-few_parts (Switch criterion threshold) sizes has is = absurd (cc)
-few_parts (Relational operator) sizes has is = absurd (cc)
-few_parts (Logic operator) sizes has is = absurd (cc)
-few_parts (Convert stored) sizes has is = absurd (cc)
-few_parts (Delay delay initial reset) sizes has is = absurd (cc)
-few_parts (Mux others) sizes has is = absurd (cc)
-few_parts (Demux others) sizes has is =
-    let same : others ≡ sizes = cc in subst (λ (xs : List ℕ). length xs ≤ 1024) same (has.0.1)
-few_parts (RateTransition period initial) sizes has is = absurd (cc)
-few_parts (Pass width) sizes has is = absurd (cc)
-few_parts EnableTest sizes has is = absurd (cc)
-few_parts (EnOut reset initial) sizes has is = absurd (cc)
-few_parts Terminator sizes has is = absurd (cc)
+parts_alike : (kind : Kind) (sizes : List ℕ) → (row_of kind).parameters → shape_of kind ≡ Shape.Parted sizes → (length sizes ≤ 1024) × AreAlike sizes
+parts_alike (Inport number width) sizes has is = absurd (cc)
+parts_alike (Outport number) sizes has is = absurd (cc)
+parts_alike (Constant value) sizes has is = absurd (cc)
+parts_alike Ground sizes has is = absurd (cc)
+parts_alike (Sum negative) sizes has is = absurd (cc)
+parts_alike (Gain value param) sizes has is = absurd (cc)
+parts_alike Product sizes has is = absurd (cc)
+parts_alike (Switch criterion threshold) sizes has is = absurd (cc)
+parts_alike (Relational operator) sizes has is = absurd (cc)
+parts_alike (Logic operator) sizes has is = absurd (cc)
+parts_alike (Convert stored) sizes has is = absurd (cc)
+parts_alike (Delay delay initial reset) sizes has is = absurd (cc)
+parts_alike (Mux others) sizes has is = absurd (cc)
+parts_alike (Demux others) sizes has is =
+    let same : others ≡ sizes = cc in subst (λ (xs : List ℕ). (length xs ≤ 1024) × AreAlike xs) same (has.0.1, has.1)
+parts_alike (RateTransition period initial) sizes has is = absurd (cc)
+parts_alike (Pass width) sizes has is = absurd (cc)
+parts_alike EnableTest sizes has is = absurd (cc)
+parts_alike (EnOut reset initial) sizes has is = absurd (cc)
+parts_alike Terminator sizes has is = absurd (cc)
 
 pub can_link : (diagram : Diagram) → IsWired diagram → CanLink diagram.blocks diagram.edges
 can_link diagram wired = record {
@@ -186,7 +186,7 @@ can_link diagram wired = record {
       let from = (is_laid diagram wired).ports k edge at in
       let same : from.0 ≡ block = same_Some (from.0) block (sym (from.1) ∙ here) in
       let port : IsPort (shape_of block.kind) edge.from_port = subst (λ (b : Block). IsPort (shape_of b.kind) edge.from_port) same (from.2) in
-      port_of (shape_of block.kind) edge.from_port (λ sizes is. few_parts block.kind sizes (readable diagram edge.from block wired here).parameters is) port;
+      port_of (shape_of block.kind) edge.from_port (λ sizes is. parts_alike block.kind sizes (readable diagram edge.from block wired here).parameters is) port;
   first_port = λ k edge inside.
       let e = get_or diagram.edges k edge in
       (found (slice_get diagram.blocks e.from) (λ block. (1 ≤ e.from_port) × (e.from_port ≤ block.outputs)) (wired.edges k edge inside).source).2.0;

@@ -1,6 +1,6 @@
 ghost use Rattle.std.specs.Prelude.{◌≡◌, ◌^◌, ◌<◌, ◌≤◌, ◌∷◌, ◌++◌, [], length, set, replicate, slice_get, slice_index_or, All, Some, IfOk, OnOk};
 ghost use Rattle.dg_model.specs.declared.diagram.Block.{Block};
-ghost use Rattle.dg_types.specs.inner.Build.{CanLink, Gathered, Known, IsPortOf, all_forms as all_forms_of};
+ghost use Rattle.dg_types.specs.inner.Build.{AreAlike, CanLink, Gathered, Known, IsPortOf, all_forms as all_forms_of};
 ghost use Rattle.dg_types.specs.inner.Shown.{shape_of, form_of as form_of_shape, share_at as share_at_shape, part_of, source_of as source_of_edge, Mirrors};
 ghost use Rattle.dg_model.specs.Widths.{are_open as are_open_of, list_length};
 
@@ -14,6 +14,15 @@ pub fn are_open(sizes: &[u32]) -> bool
     ensures { result ≡ are_open_of sizes.now }
 {
     sizes.iter().all(|size| *size == 0)
+}
+
+/// The same in one step, where each size is fixed or none.
+fn are_all_open(sizes: &[u32]) -> bool
+    requires some { 0 < length sizes.now }
+    requires alike { AreAlike sizes.now }
+    ensures { result ≡ are_open_of sizes.now }
+{
+    sizes[0] == 0
 }
 
 /// How a block whose one list has this length takes its width.
@@ -87,9 +96,10 @@ fn share_at(kind: &Kind, port: u32) -> Share
 fn part_at(sizes: &[u32], place: u32) -> Share
     requires there { place < length sizes.now }
     requires few { length sizes.now < 2 ^ 32 }
+    requires alike { AreAlike sizes.now }
     ensures { result ≡ part_of sizes.now place }
 {
-    if are_open(sizes) {
+    if are_all_open(sizes) {
         Share::Even {
             parts: sizes.len() as u32,
             place,

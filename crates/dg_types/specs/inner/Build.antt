@@ -1,10 +1,10 @@
 -- What building the rounds' data keeps (own).
-use Rattle.std.specs.Prelude.{◌≡◌, ℕ, ◌<◌, ◌≤◌, ◌^◌, ◌==◌, true, List, [], length, map, filter, All, Some, slice_get, slice_index_or, ⊤}
+use Rattle.std.specs.Prelude.{◌≡◌, ℕ, ◌⊎◌, ◌<◌, ◌≤◌, ◌^◌, ◌==◌, true, List, [], length, map, filter, All, Some, slice_get, slice_index_or, ⊤}
 use Rattle.dg_model.specs.declared.diagram.Block.{Block}
 use Rattle.dg_model.specs.declared.diagram.Edge.{Edge}
 use Rattle.dg_types.specs.declared.linked.Form.{Form}
 use Rattle.dg_types.specs.inner.Linked.{is_shared_out}
-use Rattle.dg_model.specs.KindRow.{Shape}
+use Rattle.dg_model.specs.KindRow.{IsBetween, Only, Shape}
 use Rattle.dg_model.specs.Widths.{list_length}
 use Rattle.dg_types.specs.inner.Shown.{form_of, shape_of, source_of}
 use Rattle.dg_waves.specs.inner.Waves.{is_in}
@@ -12,11 +12,15 @@ use Rattle.dg_waves.specs.inner.Waves.{is_in}
 abbrev pub all_forms : List Block → List Form
 all_forms blocks = map (λ block. form_of (shape_of block.kind) (list_length block.kind)) blocks
 
--- a Demux has the port
+-- each size is fixed, or none
+abbrev pub AreAlike : List ℕ → Type 0
+AreAlike sizes = All (IsBetween 1 1024) sizes ⊎ All (Only 0) sizes
+
+-- a Demux has the port, and sizes that are alike
 abbrev pub IsPortOf : Shape → ℕ → Type 0
 IsPortOf Shape.Elementwise port = ⊤
 IsPortOf (Shape.Joined sizes) port = ⊤
-IsPortOf (Shape.Parted sizes) port = (port ≤ length sizes) × (length sizes < 2 ^ 32)
+IsPortOf (Shape.Parted sizes) port = (port ≤ length sizes) × (length sizes < 2 ^ 32) × AreAlike sizes
 IsPortOf Shape.Single port = ⊤
 
 -- what building asks of a diagram; a wired one has it
