@@ -4,6 +4,7 @@ pub mod Deciding
 pub mod FromWired
 pub mod ScanFacts
 pub mod Shown
+pub mod Trial
 pub mod Verdicts
 pub mod TypedFits
 pub mod TypedGreatest

@@ -18,3 +18,6 @@ mod typed_fit;
 mod typed_param;
 
 pub use dimensions::widths;
+
+#[cfg(test)]
+mod tests;
