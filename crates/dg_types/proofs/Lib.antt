@@ -10,3 +10,7 @@ pub mod TypedFits
 pub mod TypedGreatest
 pub mod TypedRanges
 pub mod TypedSearch
+pub mod TypedSums
+pub mod TypedWired
+pub mod TypedTests
+pub mod TypedParts

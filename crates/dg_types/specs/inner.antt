@@ -7,3 +7,6 @@ pub mod Scanned
 pub mod Shown
 pub mod Tests
 pub mod TypedFit
+pub mod TypedInputs
+pub mod TypedLaws
+pub mod TypedScan

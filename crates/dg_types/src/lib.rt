@@ -14,10 +14,12 @@ mod fitting;
 mod linked;
 mod rows;
 mod scanning;
+mod typed;
 mod typed_fit;
 mod typed_param;
+mod typed_round;
+mod typed_rule;
+mod typed_step;
 
 pub use dimensions::widths;
-
-#[cfg(test)]
-mod tests;
+pub use typed::{BlockTypes, types};

@@ -1,12 +1,13 @@
 //! The type of a Gain's coefficients. Each element lowers the frac until it fits, so a list of n
 //! elements asks at most n + 192 times whether one is in range.
-ghost use Rattle.std.specs.Prelude.{◌≡◌, ◌-◌, ◌<◌, ◌≤ℤ◌, ◌==◌, ◌&&◌, cond, pos, negsuc, All};
+ghost use Rattle.std.specs.Prelude.{◌≡◌, ◌-◌, ◌<◌, ◌≤ℤ◌, ◌==◌, ◌&&◌, cond, pos, negsuc, All, IfSome};
 ghost use Rattle.std.specs.List.{find, list_all, list_any, range_with_len};
 ghost use Rattle.fx_num.specs.Word.{IsWord};
 ghost use Rattle.fx_type.specs.declared.kind.FxType.TheVariants.{Num};
 ghost use Rattle.fx_type.specs.FxType.{IsType};
 ghost use Rattle.fx_type.specs.StoredOf.{rounded_of, is_in_range};
 ghost use Rattle.dg_model.specs.GainParam.{is_negative as is_negative_of, is_zero as is_zero_of, is_param_signed as is_param_signed_of};
+ghost use Rattle.dg_model.specs.KindRow.{IsSpec};
 ghost use Rattle.dg_types.specs.inner.TypedFit.{at_step, HasSign, greatest_fit as greatest_fit_of, internal_param as internal_param_of, param_type as param_type_of};
 
 use crate::typed_fit::{fits, fraction_of};
@@ -81,7 +82,8 @@ fn lowered(decimal: Decimal, signed: bool, width: u8, steps: u8) -> Option<u8>
 fn greatest_fit(value: &[Decimal], signed: bool, width: u8) -> Option<i16>
     requires word { IsWord width signed }
     requires sign { All (HasSign signed) value.now }
-    ensures { result ≡ greatest_fit_of value.now signed width }
+    ensures value { result ≡ greatest_fit_of value.now signed width }
+    ensures valid { IfSome result (λ frac. (negsuc 63 ≤ℤ frac) × (frac ≤ℤ pos 128)) }
 {
     let mut steps = 0;
     for decimal in value {
@@ -103,7 +105,8 @@ fn param_width(signed: bool, width: u8) -> u8
 /// The type of coefficients under the internal rule.
 fn internal_param(value: &[Decimal], input: FxType) -> Option<FxType>
     requires { IsType input }
-    ensures { result ≡ internal_param_of value.now input }
+    ensures value { result ≡ internal_param_of value.now input }
+    ensures valid { IfSome result IsType }
 {
     let signed = is_param_signed(value, input);
     let width = param_width(signed, input.width());
@@ -127,8 +130,10 @@ fn internal_param(value: &[Decimal], input: FxType) -> Option<FxType>
 /// The type of a Gain's coefficients, from its list, its specification and the type of its input;
 /// none where the internal rule finds no frac at which all of the list fits.
 pub fn param_type(value: &[Decimal], spec: TypeSpec, input: FxType) -> Option<FxType>
-    requires { IsType input }
-    ensures { result ≡ param_type_of value.now spec input }
+    requires input { IsType input }
+    requires spec { IsSpec spec }
+    ensures value { result ≡ param_type_of value.now spec input }
+    ensures valid { IfSome result IsType }
 {
     match spec {
         TypeSpec::Fixed(kind) => Some(kind),

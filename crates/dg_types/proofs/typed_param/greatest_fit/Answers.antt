@@ -11,8 +11,8 @@ use Rattle.dg_types.proofs.TypedSearch.{lowered_more}
 use Rattle.dg_types.proofs.TypedGreatest.{greatest_none, greatest_some}
 use Rattle.dg_types.proofs.typed_param.greatest_fit.Goals as goal
 
-pub returns-in_default : goal.returns-in_default
-returns-in_default c =
+pub returns-in_default-clause-value : goal.returns-in_default-clause-value
+returns-in_default-clause-value c =
     let steps = c.loop-decimal.steps in
     let e : find (at_step (get_or c.args.value.now c.loop-decimal.decimal-index c.decimal-item.result) c.args.signed c.args.width) (range_with_len steps (193 - steps)) ≡ None =
     ap (λ (d : Decimal). find (at_step d c.args.signed c.args.width) (range_with_len steps (193 - steps))) (sym c.decimal-item.is) ∙ sym c.lowered.ensures ∙ c.in_default.is in
@@ -26,8 +26,8 @@ loop-decimal-preserved c =
     lowered_more c.args.value.now c.args.signed c.args.width c.loop-decimal.decimal-index steps c.in-Some.next c.decimal-item.result c.requires.word
     (All-take (HasSign c.args.signed) c.loop-decimal.decimal-index c.args.value.now c.requires.sign) c.loop-decimal-test.true c.loop-decimal.invariant e
 
-pub returns : goal.returns
-returns c =
+pub returns-clause-value : goal.returns-clause-value
+returns-clause-value c =
     let steps = c.loop-decimal.steps in
     let whole : take c.loop-decimal.decimal-index c.args.value.now ≡ c.args.value.now = take_all c.loop-decimal.decimal-index c.args.value.now c.loop-decimal-test.false in
     let few : steps < 193 = c.loop-decimal.invariant.few in

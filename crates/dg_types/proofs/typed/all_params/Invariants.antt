@@ -1,0 +1,8 @@
+use Rattle.std.proofs.Common.{◌≡◌, map}
+use Rattle.dg_waves.specs.Rounds.{numbers_from}
+use Rattle.dg_model.specs.Attributes.{or_logical, param_type_at}
+use Rattle.dg_model.specs.TypeRounds.{types_of}
+use Rattle.dg_types.proofs.typed.all_params.Given as goal
+
+abbrev pub invariant-loop-place : goal.invariant-loop-place
+invariant-loop-place l = l.params ≡ map (λ place. or_logical (param_type_at l.diagram (types_of l.diagram) place)) (numbers_from 0 l.place)

@@ -1,0 +1,31 @@
+use Rattle.std.proofs.Common.{◌≡◌, ℕ, List, [], get_or, Option, Some, ap, sym, ◌∙◌}
+use Rattle.std.specs.Prelude.{slice_get}
+use Rattle.std.proofs.lemmas.Option.{slice_get-get_or}
+use Rattle.dg_model.specs.declared.diagram.Block.{Block}
+use Rattle.dg_model.specs.Attributes.{or_logical, coefficient_type}
+use Rattle.dg_model.specs.Library.{row_of}
+use Rattle.dg_model.specs.Periods.{known_at}
+use Rattle.dg_model.specs.TypeRounds.{Types, input_types, types_of}
+use Rattle.dg_types.specs.declared.linked.Source.{Source}
+use Rattle.dg_types.specs.inner.TypedInputs.{source_types}
+use Rattle.dg_types.proofs.TypedSums.{known_step}
+use Rattle.dg_types.proofs.TypedWired.{inputs_are_typed}
+use Rattle.dg_types.proofs.typed.param_at.Goals as goal
+
+pub returns : goal.returns
+returns c =
+    let diagram = c.args.diagram.now in
+    let place = c.args.place in
+    let sources = c.args.round.now.links.sources in
+    let types = c.args.types.now in
+    let none = c.index-round-place.result in
+    let own = get_or diagram.blocks place none in
+    let there : slice_get diagram.blocks place ≡ Some own = slice_get-get_or diagram.blocks place none c.requires.there in
+    let inputs : source_types types c.sources_of.result.now ≡ input_types diagram (types_of diagram) place =
+    ap (λ (ss : List Source). source_types types ss) c.sources_of.ensures.value ∙ ap (λ (ts : Types). source_types ts (get_or sources place [])) c.requires.typed.types_are
+    ∙ inputs_are_typed diagram c.args.round.now.links.forms sources (types_of diagram) place c.requires.typed.mirrors c.requires.there in
+    c.kind_or_logical.ensures
+    ∙ ap or_logical (c.coefficient_type.ensures
+    ∙ ap (λ (bs : List Block). coefficient_type (row_of (get_or bs place none).kind).types.full (known_at (source_types types c.sources_of.result.now) 0)) c.requires.typed.blocks_are
+    ∙ ap (λ (ts : Types). coefficient_type (row_of own.kind).types.full (known_at ts 0)) inputs
+    ∙ sym (known_step (slice_get diagram.blocks place) own (λ block. coefficient_type (row_of block.kind).types.full (known_at (input_types diagram (types_of diagram) place) 0)) there))

@@ -1,0 +1,7 @@
+use Rattle.std.proofs.Common.{◌≡◌, ℕ, ◌<◌}
+use Rattle.dg_model.specs.Periods.{known_at}
+use Rattle.dg_types.specs.inner.TypedInputs.{source_types}
+use Rattle.dg_types.proofs.typed_rule.are_all.Given as goal
+
+abbrev pub invariant-loop-source : goal.invariant-loop-source
+invariant-loop-source l = (k : ℕ) → k < l.source-index → known_at (source_types l.values l.sources) k ≡ l.kind

@@ -1,0 +1,23 @@
+use Rattle.std.proofs.Common.{◌≡◌, ℕ, true, false, Option, refl, sym, subst, below_more, ◌∙◌, arith}
+use Rattle.std.proofs.lemmas.Bool.{false≢true}
+use Rattle.std.specs.Prelude.{IsSome}
+use Rattle.fx_type.specs.declared.kind.FxType.{FxType}
+use Rattle.dg_model.specs.Periods.{known_at}
+use Rattle.dg_types.specs.inner.TypedInputs.{source_types}
+use Rattle.dg_types.proofs.TypedTests.{source_at, all_inputs, at_input}
+use Rattle.dg_types.proofs.typed_rule.are_known.Goals as goal
+
+pub returns : goal.returns
+returns c = ((λ _. all_inputs (λ (o : Option FxType). IsSome o) c.args.values.now c.args.sources.now c.loop-source.source-index c.loop-source-test.false c.loop-source.invariant), (λ _. refl))
+
+pub loop-source-preserved : goal.loop-source-preserved
+loop-source-preserved c =
+    let types = source_types c.args.values.now c.args.sources.now in
+    let yes : c.is_known.result ≡ true = grind arith in
+    below_more (λ (k : ℕ). (λ (o : Option FxType). IsSome o) (known_at types k)) c.loop-source.source-index c.loop-source.invariant
+    (subst (λ (o : Option FxType). IsSome o) (sym (source_at c.args.values.now c.args.sources.now c.loop-source.source-index _ c.loop-source-test.true)) (c.is_known.ensures.0 yes))
+
+pub returns-then-not-is_known : goal.returns-then-not-is_known
+returns-then-not-is_known c =
+    let no : c.is_known.result ≡ false = grind arith in
+    ((λ impossible. absurd (false≢true impossible)), (λ all. absurd (false≢true (sym no ∙ c.is_known.ensures.1 (at_input (λ (o : Option FxType). IsSome o) c.args.values.now c.args.sources.now c.loop-source.source-index _ c.loop-source-test.true all)))))

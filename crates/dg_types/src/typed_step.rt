@@ -1,0 +1,259 @@
+//! The type that a block takes from those of its inputs: one function for each choice of a kind's row.
+ghost use Rattle.std.specs.Prelude.{◌≡◌, ◌≤◌, All, length, true, IfSome};
+ghost use Rattle.fx_type.specs.FullTypeOf.{full_sum_of, full_product_of, union_of as union_of_types};
+ghost use Rattle.fx_type.specs.FxType.{IsType};
+ghost use Rattle.dg_model.specs.Attributes.{coefficient_type as coefficient_type_of};
+ghost use Rattle.dg_model.specs.GainParam.{param_type_of};
+ghost use Rattle.dg_model.specs.KindRow.{FullRule, IsSpec};
+ghost use Rattle.dg_model.specs.Library.{row_of};
+ghost use Rattle.dg_model.specs.Periods.{known_at};
+ghost use Rattle.dg_model.specs.TypeRounds.{with_known, full_type as full_type_of, own_type as own_type_of, taken_type as taken_type_of};
+ghost use Rattle.dg_types.specs.inner.TypedInputs.{source_types, IsKnownValid, CanRead, is_ready, is_full_ready};
+
+use crate::linked::Source;
+use crate::typed_param::param_type;
+use dg_model::{Block, Kind};
+use fx_type::{Decimal, FxType, TypeSpec, full_product, full_sum, union};
+
+/// The type that an input reads, from 0; none where it isn't known or there is no such input.
+pub fn input_at(values: &[Option<FxType>], sources: &[Source], input: usize) -> Option<FxType>
+    requires { CanRead values.now sources.now }
+    ensures value { result ≡ known_at (source_types values.now sources.now) input }
+    ensures valid { IsKnownValid result }
+{
+    match sources.get(input) {
+        Some(source) => values[source.block as usize],
+        None => None,
+    }
+}
+
+/// The type of a sum, where it is valid.
+fn sum_of(terms: &[(bool, FxType)]) -> Option<FxType>
+    requires valid { All (λ term. IsType term.1) terms.now }
+    requires some { 1 ≤ length terms.now }
+    requires few { length terms.now ≤ 32 }
+    ensures { result ≡ full_sum_of terms.now }
+{
+    fx_type::full_sum_is_one();
+    match full_sum(terms) {
+        Ok(kind) => Some(kind),
+        Err(_) => None,
+    }
+}
+
+/// The type of a product, where it is valid.
+fn product_of(left: FxType, right: FxType) -> Option<FxType>
+    requires left { IsType left }
+    requires right { IsType right }
+    ensures { result ≡ full_product_of left right }
+{
+    fx_type::full_product_is_one();
+    match full_product(left, right) {
+        Ok(kind) => Some(kind),
+        Err(_) => None,
+    }
+}
+
+/// The type of a choice between two, where it is valid.
+fn union_of(left: FxType, right: FxType) -> Option<FxType>
+    requires left { IsType left }
+    requires right { IsType right }
+    ensures { result ≡ union_of_types left right }
+{
+    fx_type::union_is_one();
+    match union(left, right) {
+        Ok(kind) => Some(kind),
+        Err(_) => None,
+    }
+}
+
+/// The full sum of all inputs.
+fn sum_at(negative: &[bool], values: &[Option<FxType>], sources: &[Source]) -> Option<FxType>
+    requires read { CanRead values.now sources.now }
+    requires all { length negative.now ≡ length sources.now }
+    requires some { 1 ≤ length negative.now }
+    requires few { length negative.now ≤ 32 }
+    ensures { result ≡ full_type_of (FullRule.FullSum negative.now) (source_types values.now sources.now) }
+{
+    let mut terms = [(false, FxType::Logical); 32];
+    for (input, subtracted) in negative.iter().enumerate() {
+        let Some(kind) = input_at(values, sources, input) else {
+            return None;
+        };
+        terms[input] = (*subtracted, kind);
+    }
+    sum_of(&terms[..negative.len()])
+}
+
+/// The full product of input 1 and coefficients.
+fn scaled_at(
+    value: &[Decimal],
+    param: TypeSpec,
+    values: &[Option<FxType>],
+    sources: &[Source],
+) -> Option<FxType>
+    requires read { CanRead values.now sources.now }
+    requires param { IsSpec param }
+    ensures { result ≡ full_type_of (FullRule.FullScaled value.now param) (source_types values.now sources.now) }
+{
+    let Some(input) = input_at(values, sources, 0) else {
+        return None;
+    };
+    let Some(kind) = param_type(value, param, input) else {
+        return None;
+    };
+    product_of(input, kind)
+}
+
+/// The full product of inputs 1 and 2.
+fn product_at(values: &[Option<FxType>], sources: &[Source]) -> Option<FxType>
+    requires { CanRead values.now sources.now }
+    ensures { result ≡ full_type_of FullRule.FullProduct (source_types values.now sources.now) }
+{
+    let Some(left) = input_at(values, sources, 0) else {
+        return None;
+    };
+    let Some(right) = input_at(values, sources, 1) else {
+        return None;
+    };
+    product_of(left, right)
+}
+
+/// The union of input 1 and another.
+fn union_at(values: &[Option<FxType>], sources: &[Source], other: usize) -> Option<FxType>
+    requires { CanRead values.now sources.now }
+    ensures { let types = source_types values.now sources.now in
+        result ≡ with_known (known_at types 0) (λ left. with_known (known_at types other) (union_of_types left)) }
+{
+    let Some(left) = input_at(values, sources, 0) else {
+        return None;
+    };
+    let Some(right) = input_at(values, sources, other) else {
+        return None;
+    };
+    union_of(left, right)
+}
+
+/// The full type or union that a kind's equation names of these inputs, where the types that it needs
+/// are known and it is valid.
+pub fn full_type(kind: &Kind, values: &[Option<FxType>], sources: &[Source]) -> Option<FxType>
+    requires read { CanRead values.now sources.now }
+    requires ready { is_full_ready (row_of kind.now).types.full (length sources.now) ≡ true }
+    ensures { result ≡ full_type_of (row_of kind.now).types.full (source_types values.now sources.now) }
+{
+    match kind {
+        Kind::Sum { negative } => sum_at(negative.as_slice(), values, sources),
+        Kind::Gain { value, param } => scaled_at(value.as_slice(), *param, values, sources),
+        Kind::Product => product_at(values, sources),
+        Kind::Relational { .. } => union_at(values, sources, 1),
+        Kind::Switch { .. } => union_at(values, sources, 2),
+        Kind::Inport { .. }
+        | Kind::Outport { .. }
+        | Kind::Constant { .. }
+        | Kind::Ground
+        | Kind::Logic { .. }
+        | Kind::Convert { .. }
+        | Kind::Delay { .. }
+        | Kind::Mux { .. }
+        | Kind::Demux { .. }
+        | Kind::RateTransition { .. }
+        | Kind::Pass { .. }
+        | Kind::EnableTest
+        | Kind::EnOut { .. }
+        | Kind::Terminator => None,
+    }
+}
+
+/// The type that a kind has of itself.
+fn own_type(kind: &Kind, values: &[Option<FxType>], sources: &[Source]) -> Option<FxType>
+    requires { CanRead values.now sources.now }
+    ensures { result ≡ own_type_of (row_of kind.now).types.own (source_types values.now sources.now) }
+{
+    match kind {
+        Kind::Ground => Some(FxType::Num {
+            signed: false,
+            width: 1,
+            frac: 0,
+        }),
+        Kind::Relational { .. } | Kind::Logic { .. } | Kind::EnableTest => Some(FxType::Logical),
+        Kind::Outport { .. }
+        | Kind::Delay { .. }
+        | Kind::Mux { .. }
+        | Kind::Demux { .. }
+        | Kind::RateTransition { .. }
+        | Kind::Pass { .. }
+        | Kind::EnOut { .. } => input_at(values, sources, 0),
+        Kind::Inport { .. }
+        | Kind::Constant { .. }
+        | Kind::Sum { .. }
+        | Kind::Gain { .. }
+        | Kind::Product
+        | Kind::Switch { .. }
+        | Kind::Convert { .. }
+        | Kind::Terminator => None,
+    }
+}
+
+/// The type that a block takes, where the types that it needs are known.
+pub fn taken_type(block: &Block, values: &[Option<FxType>], sources: &[Source]) -> Option<FxType>
+    requires read { CanRead values.now sources.now }
+    requires ready { is_ready block.now (length sources.now) ≡ true }
+    ensures { result ≡ taken_type_of block.now.kind block.now.result (source_types values.now sources.now) }
+{
+    match block.result {
+        TypeSpec::Fixed(kind) => Some(kind),
+        TypeSpec::Internal => full_type(&block.kind, values, sources),
+        TypeSpec::SameFirst => input_at(values, sources, 0),
+        TypeSpec::Auto => own_type(&block.kind, values, sources),
+    }
+}
+
+/// The type of a block's coefficients, where it has any and the type of its input is known.
+pub fn coefficient_type(
+    kind: &Kind,
+    values: &[Option<FxType>],
+    sources: &[Source],
+) -> Option<FxType>
+    requires read { CanRead values.now sources.now }
+    requires ready { is_full_ready (row_of kind.now).types.full (length sources.now) ≡ true }
+    ensures { result ≡ coefficient_type_of (row_of kind.now).types.full (known_at (source_types values.now sources.now) 0) }
+{
+    match kind {
+        Kind::Gain { value, param } => param_at(value.as_slice(), *param, values, sources),
+        Kind::Inport { .. }
+        | Kind::Outport { .. }
+        | Kind::Constant { .. }
+        | Kind::Ground
+        | Kind::Sum { .. }
+        | Kind::Product
+        | Kind::Switch { .. }
+        | Kind::Relational { .. }
+        | Kind::Logic { .. }
+        | Kind::Convert { .. }
+        | Kind::Delay { .. }
+        | Kind::Mux { .. }
+        | Kind::Demux { .. }
+        | Kind::RateTransition { .. }
+        | Kind::Pass { .. }
+        | Kind::EnableTest
+        | Kind::EnOut { .. }
+        | Kind::Terminator => None,
+    }
+}
+
+/// The type of coefficients, where that of input 1 is known.
+fn param_at(
+    value: &[Decimal],
+    param: TypeSpec,
+    values: &[Option<FxType>],
+    sources: &[Source],
+) -> Option<FxType>
+    requires read { CanRead values.now sources.now }
+    requires param { IsSpec param }
+    ensures { result ≡ with_known (known_at (source_types values.now sources.now) 0) (param_type_of value.now param) }
+{
+    let Some(input) = input_at(values, sources, 0) else {
+        return None;
+    };
+    param_type(value, param, input)
+}
