@@ -1,9 +1,9 @@
--- Rows that are filled edge by edge hold the sources and the readers of a diagram.
+-- Rows that are filled edge by edge hold the readers of a diagram, and with the sources they are its links.
 use Rattle.std.proofs.Common.{◌≡◌, ℕ, zero, suc, ◌<◌, ◌≤◌, Bool, true, false, List, [], ◌∷◌, ◌++◌, length, map, filter, cond, set, All, Some, Option, get_or, eqb, refl, sym, ap, subst, ◌∙◌, inl, inr, arith}
 use Rattle.std.specs.Prelude.{slice_get, unwrap_or, ◌==◌}
 use Rattle.std.proofs.lemmas.Bool.{cases_lt, cases_Bool, eqb-true, eqb-false}
 use Rattle.std.proofs.lemmas.Bool.Decides.{Decides-by_and, Decides-eqb, nat_tests}
-use Rattle.std.proofs.lemmas.List.{length-set, get_or-set_same, get_or-set_other, map-append, append-nil}
+use Rattle.std.proofs.lemmas.List.{length-set, get_or-set_same, get_or-set_other}
 use Rattle.std.proofs.lemmas.Option.{unwrap_or-slice_get, slice_get_past, slice_get-get_or, none-some, same_Some}
 use Rattle.dg_model.specs.declared.diagram.Block.{Block}
 use Rattle.dg_model.specs.declared.diagram.Edge.{Edge}
@@ -17,35 +17,6 @@ use Rattle.dg_types.specs.inner.Shown.{source_of, form_of, shape_of, Mirrors}
 use Rattle.dg_types.specs.declared.linked.Form.TheVariants.{Single}
 use Rattle.dg_model.specs.declared.diagram.Diagram.{Diagram}
 use Rattle.dg_types.specs.inner.Build.{AreAlike, CanLink, Gathered, Known, all_forms}
-
-filter_push : (p : Edge → Bool) (xs : List Edge) (x : Edge) → filter p (xs ++ x ∷ []) ≡ filter p xs ++ cond (p x) (x ∷ []) []
-filter_push p [] x = go (p x) where
-  go : (b : Bool) → cond b (x ∷ []) [] ≡ [] ++ cond b (x ∷ []) []
-  go true = refl
-  go false = refl
-filter_push p (y ∷ xs) x = go (p y) (filter_push p xs x) where
-  go : (b : Bool) → filter p (xs ++ x ∷ []) ≡ filter p xs ++ cond (p x) (x ∷ []) [] → cond b (y ∷ filter p (xs ++ x ∷ [])) (filter p (xs ++ x ∷ [])) ≡ cond b (y ∷ filter p xs) (filter p xs) ++ cond (p x) (x ∷ []) []
-  go true e = ap (λ (es : List Edge). y ∷ es) e
-  go false e = e
-
-pub gathered_more : {A : Type 0} (count : ℕ) (entry_of : Edge → A) (done : List Edge) (rows : List (List A)) (edge : Edge) → edge.to < count → Gathered count entry_of done rows →
-    Gathered count entry_of (done ++ edge ∷ []) (set rows edge.to (get_or rows edge.to [] ++ entry_of edge ∷ []))
-gathered_more {A} count entry_of done rows edge inside before = record {
-  size = length-set rows edge.to (get_or rows edge.to [] ++ entry_of edge ∷ []) ∙ before.size;
-  row = λ k there.
-      let added = get_or rows edge.to [] ++ entry_of edge ∷ [] in
-      elim (cases_Bool (eqb edge.to k)) [
-        | inl e ↦
-            let same : edge.to ≡ k = eqb-true edge.to k e in
-            let now : get_or (set rows edge.to added) k [] ≡ added = subst (λ (j : ℕ). get_or (set rows edge.to added) j [] ≡ added) same (get_or-set_same rows edge.to added [] (omega (arith, before.size))) in
-            let old : get_or rows edge.to [] ≡ map entry_of (filter (λ edge. edge.to == k) done) = ap (λ (j : ℕ). get_or rows j []) same ∙ before.row k there in
-            now ∙ ap (λ (r : List A). r ++ entry_of edge ∷ []) old
-            ∙ sym (ap (map entry_of) (filter_push (λ edge. edge.to == k) done edge ∙ rw e refl) ∙ map-append entry_of (filter (λ edge. edge.to == k) done) (edge ∷ []))
-        | inr e ↦
-            get_or-set_other rows edge.to k added [] (λ s. eqb-false edge.to k e (sym s)) ∙ before.row k there
-            ∙ sym (ap (map entry_of) (filter_push (λ edge. edge.to == k) done edge ∙ rw e (append-nil (filter (λ edge. edge.to == k) done))))
-      ];
-}
 
 all_push : (P : ℕ → Type 0) (xs : List ℕ) (x : ℕ) → All P xs → P x → All P (xs ++ x ∷ [])
 all_push P [] x all here zero d inside = here

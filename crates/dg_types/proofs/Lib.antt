@@ -1,7 +1,7 @@
 pub mod Built
-pub mod Counted
 pub mod Deciding
 pub mod FromWired
+pub mod Numbered
 pub mod ScanFacts
 pub mod Shown
 pub mod Trial

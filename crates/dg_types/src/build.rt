@@ -2,21 +2,15 @@ ghost use Rattle.std.specs.Prelude.{◌≡◌, ◌^◌, ◌<◌, ◌≤◌, ◌�
 ghost use Rattle.dg_model.specs.declared.diagram.Block.{Block};
 ghost use Rattle.dg_types.specs.inner.Build.{AreAlike, CanLink, Gathered, Known, IsPortOf, all_forms as all_forms_of};
 ghost use Rattle.dg_types.specs.inner.Shown.{shape_of, form_of as form_of_shape, share_at as share_at_shape, part_of, source_of as source_of_edge, Mirrors};
-ghost use Rattle.dg_model.specs.Widths.{are_open as are_open_of, list_length};
+ghost use Rattle.dg_model.specs.Widths.{are_open as are_open_of, list_length as list_length_of};
 
+use crate::kinds::list_length;
 use crate::linked::{Form, Share, Source, WidthRound};
 use dg_model::{Block, Diagram, Edge, Kind};
 use fx_io::{OutOfMemory, Sequence, Sizes};
 use std::alloc::Global;
 
-/// No size is fixed.
-pub fn are_open(sizes: &[u32]) -> bool
-    ensures { result ≡ are_open_of sizes.now }
-{
-    sizes.iter().all(|size| *size == 0)
-}
-
-/// The same in one step, where each size is fixed or none.
+/// Whether no size is fixed, in one step, where each is or none.
 fn are_all_open(sizes: &[u32]) -> bool
     requires some { 0 < length sizes.now }
     requires alike { AreAlike sizes.now }
@@ -25,41 +19,33 @@ fn are_all_open(sizes: &[u32]) -> bool
     sizes[0] == 0
 }
 
-/// How a block whose one list has this length takes its width.
-fn of_list(length: usize) -> Form
-    requires { length < 2 ^ 32 }
-    ensures { result ≡ Form.Elementwise length }
-{
-    Form::Elementwise {
-        least: length as u32,
-    }
-}
-
 /// How a block of this kind takes its width.
 fn form_of(kind: &Kind) -> Form
-    requires { list_length kind.now ≤ 1024 }
-    ensures { result ≡ form_of_shape (shape_of kind.now) (list_length kind.now) }
+    requires { list_length_of kind.now ≤ 1024 }
+    ensures { result ≡ form_of_shape (shape_of kind.now) (list_length_of kind.now) }
 {
     match kind {
-        Kind::Constant { value } => of_list(value.as_slice().len()),
-        Kind::Gain { value, .. } => of_list(value.as_slice().len()),
-        Kind::Switch { threshold, .. } => of_list(threshold.as_slice().len()),
-        Kind::Delay { initial, .. } => of_list(initial.as_slice().len()),
-        Kind::RateTransition { initial, .. } => of_list(initial.as_slice().len()),
-        Kind::EnOut { initial, .. } => of_list(initial.as_slice().len()),
         Kind::Mux { .. } => Form::Joined,
         Kind::Demux { .. } => Form::Divided,
         Kind::EnableTest => Form::Single,
         Kind::Inport { .. }
         | Kind::Outport { .. }
+        | Kind::Constant { .. }
         | Kind::Ground
         | Kind::Sum { .. }
+        | Kind::Gain { .. }
         | Kind::Product
+        | Kind::Switch { .. }
         | Kind::Relational { .. }
         | Kind::Logic { .. }
         | Kind::Convert { .. }
+        | Kind::Delay { .. }
+        | Kind::RateTransition { .. }
         | Kind::Pass { .. }
-        | Kind::Terminator => Form::Elementwise { least: 0 },
+        | Kind::EnOut { .. }
+        | Kind::Terminator => Form::Elementwise {
+            least: list_length(kind) as u32,
+        },
     }
 }
 
@@ -113,7 +99,7 @@ fn part_at(sizes: &[u32], place: u32) -> Share
 
 /// The forms of the blocks.
 fn all_forms(alloc: Global, blocks: &[Block]) -> Result<Sequence<Form>, OutOfMemory>
-    requires { All (λ block. list_length block.kind ≤ 1024) blocks.now }
+    requires { All (λ block. list_length_of block.kind ≤ 1024) blocks.now }
     ensures { IfOk result (λ forms. forms ≡ all_forms_of blocks.now) }
 {
     let mut forms = Sequence::new(alloc);

@@ -1,10 +1,11 @@
 ghost use Rattle.std.specs.Prelude.{◌≡◌, ◌<◌, ◌-◌, ◌^◌, ◌↔◌, true, min, All, length};
 ghost use Rattle.dg_model.specs.Dimension.{IsBounded};
-ghost use Rattle.dg_types.specs.inner.Elements.{delay_length as delay_length_of, outputs_from, delays_from, inputs_of, elements_of as elements_of_block, delayed as delayed_of};
+ghost use Rattle.dg_types.specs.inner.Elements.{outputs_from, delays_from, inputs_of, elements_of as elements_of_block, delayed as delayed_of};
 
 use crate::fitting::{first_of, total};
+use crate::kinds::delay_length;
 use crate::rows::edge_width;
-use dg_model::{Block, Diagram, Edge, Kind};
+use dg_model::{Block, Diagram, Edge};
 use fx_io::Sizes;
 
 /// The most elements that all output ports, all input ports and all Delays with their lengths have.
@@ -44,33 +45,6 @@ fn all_inputs(edges: &[Edge], widths: &[Sizes]) -> u64
         total = total.saturating_add(u64::from(edge_width(widths, *edge)));
     }
     total
-}
-
-/// How many samples a block of this kind keeps of each element.
-fn delay_length(kind: &Kind) -> u32
-    ensures { result ≡ delay_length_of kind.now }
-{
-    match kind {
-        Kind::Delay { length, .. } => *length,
-        Kind::Inport { .. }
-        | Kind::Outport { .. }
-        | Kind::Constant { .. }
-        | Kind::Ground
-        | Kind::Sum { .. }
-        | Kind::Gain { .. }
-        | Kind::Product
-        | Kind::Switch { .. }
-        | Kind::Relational { .. }
-        | Kind::Logic { .. }
-        | Kind::Convert { .. }
-        | Kind::Mux { .. }
-        | Kind::Demux { .. }
-        | Kind::RateTransition { .. }
-        | Kind::Pass { .. }
-        | Kind::EnableTest
-        | Kind::EnOut { .. }
-        | Kind::Terminator => 0,
-    }
 }
 
 /// How many samples a block keeps of all of its elements, saturating.

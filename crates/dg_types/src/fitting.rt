@@ -1,9 +1,9 @@
 ghost use Rattle.std.specs.Prelude.{◌≡◌, ◌^◌, ◌-◌, min, sum, slice_index_or};
 ghost use Rattle.dg_model.specs.Library.{row_of};
-ghost use Rattle.dg_types.specs.inner.Shown.{shape_of, declared_width as declared_width_of};
+ghost use Rattle.dg_types.specs.inner.Shown.{shape_of};
 ghost use Rattle.dg_types.specs.inner.Tests as test;
 
-use crate::build::are_open;
+use crate::kinds::{are_open, declared_width, list_of};
 use dg_model::{Block, Kind};
 
 /// Whether something so wide or so long serves each of so many elements: one is repeated.
@@ -86,52 +86,9 @@ fn agrees(kind: &Kind, outputs: &[u32], inputs: &[u32]) -> bool
 fn lists_fit(kind: &Kind, own: u32) -> bool
     ensures { result ≡ test.lists_fit own (row_of kind.now).signal.lists }
 {
-    match kind {
-        Kind::Constant { value } => is_repeated(own, value.as_slice().len()),
-        Kind::Gain { value, .. } => is_repeated(own, value.as_slice().len()),
-        Kind::Switch { threshold, .. } => is_repeated(own, threshold.as_slice().len()),
-        Kind::Delay { initial, .. } => is_repeated(own, initial.as_slice().len()),
-        Kind::RateTransition { initial, .. } => is_repeated(own, initial.as_slice().len()),
-        Kind::EnOut { initial, .. } => is_repeated(own, initial.as_slice().len()),
-        Kind::Inport { .. }
-        | Kind::Outport { .. }
-        | Kind::Ground
-        | Kind::Sum { .. }
-        | Kind::Product
-        | Kind::Relational { .. }
-        | Kind::Logic { .. }
-        | Kind::Convert { .. }
-        | Kind::Mux { .. }
-        | Kind::Demux { .. }
-        | Kind::Pass { .. }
-        | Kind::EnableTest
-        | Kind::Terminator => true,
-    }
-}
-
-/// The width that a block declares, 0 where it declares none.
-pub fn declared_width(kind: &Kind) -> usize
-    ensures { result ≡ declared_width_of kind.now }
-{
-    match kind {
-        Kind::Inport { width, .. } | Kind::Pass { width } => *width as usize,
-        Kind::Constant { value } => value.as_slice().len(),
-        Kind::Outport { .. }
-        | Kind::Ground
-        | Kind::Sum { .. }
-        | Kind::Gain { .. }
-        | Kind::Product
-        | Kind::Switch { .. }
-        | Kind::Relational { .. }
-        | Kind::Logic { .. }
-        | Kind::Convert { .. }
-        | Kind::Delay { .. }
-        | Kind::Mux { .. }
-        | Kind::Demux { .. }
-        | Kind::RateTransition { .. }
-        | Kind::EnableTest
-        | Kind::EnOut { .. }
-        | Kind::Terminator => 0,
+    match list_of(kind) {
+        Some(list) => is_repeated(own, list.len()),
+        None => true,
     }
 }
 

@@ -1,16 +1,17 @@
 //! How wide the signals of a diagram are, by rounds in which every block takes its widths from
 //! those of the round before, and whether they keep the rule of dimensions.
 //!
-//! `widths` works out the rounds in waves (`linked`, `build`, `scanning`), looks at each block once
-//! (`fitting`) and counts the elements of all ports (`elements`). Its contract cites the
-//! definitions of `dg_model`: `widths_of` for the rounds, `KeepsDimensions` and `BreaksDimension`
-//! for the rule.
+//! `widths` works out the rounds in waves (`linked`, `build`, `scanning`, `rows`), looks at each
+//! block once (`fitting`) and counts the elements of all ports (`elements`); `kinds` tells what a
+//! kind of block says of its widths. Its contract cites the definitions of `dg_model`: `widths_of`
+//! for the rounds, `KeepsDimensions` and `BreaksDimension` for the rule.
 #![tactic(auto)]
 
 mod build;
 mod dimensions;
 mod elements;
 mod fitting;
+mod kinds;
 mod linked;
 mod rows;
 mod scanning;

@@ -6,7 +6,8 @@ ghost use Rattle.dg_types.specs.inner.Build.{Gathered};
 ghost use Rattle.dg_types.specs.inner.Shown.{shape_of, outputs_of, shown};
 ghost use Rattle.dg_types.specs.inner.Rows.{HasRow, width_of_edge};
 
-use crate::build::{are_open, empty_rows, push_at};
+use crate::build::{empty_rows, push_at};
+use crate::kinds::are_open;
 use crate::linked::part;
 use dg_model::{Block, Edge, Kind};
 use fx_io::{OutOfMemory, PortSizes, Sizes};

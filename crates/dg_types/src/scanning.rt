@@ -5,7 +5,7 @@ ghost use Rattle.dg_types.specs.inner.Shown.{shape_of, declared_width as declare
 ghost use Rattle.dg_types.specs.inner.Scanned.{IsScan};
 
 use crate::build::linked;
-use crate::fitting::declared_width;
+use crate::kinds::declared_width;
 use crate::rows::{input_rows, rows_of};
 use dg_model::{Block, Diagram, Kind};
 use fx_io::{OutOfMemory, PortSizes};

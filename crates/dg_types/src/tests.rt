@@ -1,5 +1,5 @@
 //! Widths of a small diagram, worked out by hand.
-ghost use Rattle.std.specs.Prelude.{◌≡◌, ℕ, ◌≤◌, [], ◌∷◌, false, None, IfOk};
+ghost use Rattle.std.specs.Prelude.{◌≡◌, ◌≤◌, [], ◌∷◌, false, None, IfOk};
 ghost use Rattle.fx_type.specs.declared.rounding.Rounding.TheVariants.{Floor};
 ghost use Rattle.dg_model.specs.declared.diagram.PeriodSpec.TheVariants.{Inherit};
 ghost use Rattle.dg_model.specs.Wired.{IsWired};

@@ -1,0 +1,17 @@
+-- One more number, and what is made of each.
+use Rattle.std.proofs.Common.{◌≡◌, ℕ, zero, suc, ◌+◌, [], ◌∷◌, ◌++◌, map, ap, ◌∙◌, arith}
+use Rattle.std.proofs.lemmas.List.{map-append}
+use Rattle.dg_waves.specs.Rounds.{numbers_from}
+
+numbers_push : (from n : ℕ) → numbers_from from (suc n) ≡ numbers_from from n ++ (from + n) ∷ []
+numbers_push from zero = ap (λ (k : ℕ). k ∷ []) (omega arith)
+numbers_push from (suc n) =
+    let more = numbers_push (suc from) n in
+    let last : suc from + n ≡ from + suc n = omega arith in
+    cc
+
+pub mapped_more : (f : ℕ → ℕ) (n : ℕ) → map f (numbers_from 0 (n + 1)) ≡ map f (numbers_from 0 n) ++ f n ∷ []
+mapped_more f n =
+    let next : n + 1 ≡ suc n = omega arith in
+    let last : (0 + n) ≡ n = omega arith in
+    ap (λ (k : ℕ). map f (numbers_from 0 k)) next ∙ ap (map f) (numbers_push 0 n) ∙ map-append f (numbers_from 0 n) ((0 + n) ∷ []) ∙ ap (λ (k : ℕ). map f (numbers_from 0 n) ++ f k ∷ []) last
