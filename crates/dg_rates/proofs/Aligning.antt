@@ -1,7 +1,7 @@
 -- Periods compared in one unit.
-use Rattle.std.proofs.Common.{◌≡◌, ℕ, zero, suc, ◌+◌, ◌-◌, ◌*◌, ◌^◌, ◌<◌, ◌≤◌, ◌⊎◌, Option, Some, None, sym, ap, ◌∙◌, inl, inr, arith}
+use Rattle.std.proofs.Common.{◌≡◌, ℕ, zero, suc, ◌+◌, ◌-◌, ◌*◌, ◌%◌, ◌^◌, ◌<◌, ◌≤◌, ◌⊎◌, Option, Some, None, sym, ap, ◌∙◌, inl, inr, arith}
 use Rattle.std.specs.Prelude.{◌↔◌, IfSome}
-use Rattle.std.proofs.Math.Nat.{mul_assoc, eq_of_mul-eq-mul_right, lt_of_mul-lt-mul_right, mul-le-mul_right, pow-suc}
+use Rattle.std.proofs.Math.Nat.{mul_assoc, mul-mod_left, eq_of_mul-eq-mul_right, lt_of_mul-lt-mul_right, mul-le-mul_right, pow-suc}
 use Rattle.std.proofs.lemmas.Nat.{mul-le, pow-add}
 use Rattle.dg_rates.specs.inner.Units.{IsTimes, IsAligned}
 use Rattle.dg_rates.specs.declared.units.Aligned.{Aligned}
@@ -41,6 +41,10 @@ times_aligned first second aligned a times = (
   λ t. record { few = t.few; whole = rw (a.first_is, a.second_is) (ap (λ n. n * a.unit) t.whole ∙ mul_assoc times a.right a.unit) },
   λ t. record { few = t.few; whole = eq_of_mul-eq-mul_right a.unit a.some a.left (times * a.right) (sym a.first_is ∙ t.whole ∙ ap (λ n. times * n) a.second_is ∙ sym (mul_assoc times a.right a.unit)) },
 )
+
+-- what leaves a remainder is no such multiple
+pub no_times : (number divisor times : ℕ) → (number % divisor ≡ 0 → ⊥) → ¬ IsTimes number divisor times
+no_times number divisor times some t = some (ap (λ n. n % divisor) t.whole ∙ mul-mod_left times divisor)
 
 -- what has no room in 128 bits is no such multiple of few digits, and few digits are none of it
 pub too_large : (left right times : ℕ) → 2 ^ 128 ≤ left → right < 10 ^ 18 → ¬ IsTimes left right times

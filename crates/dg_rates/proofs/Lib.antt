@@ -1,8 +1,9 @@
 mod Agreed
-mod Aligning
+pub mod Aligning
 mod Declaring
 mod Ends
 mod Keeping
 mod Linking
 mod Stepping
+mod Trial
 mod Tying

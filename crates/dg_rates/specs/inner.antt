@@ -4,4 +4,5 @@ pub mod Declared
 pub mod Links
 pub mod StepLaws
 pub mod Steps
+pub mod Trial
 pub mod Units

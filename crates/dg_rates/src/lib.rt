@@ -13,3 +13,6 @@ mod rounds;
 mod units;
 
 pub use rating::rates;
+
+#[cfg(test)]
+mod tests;
