@@ -67,7 +67,8 @@ fn suits(joins: bool, own: Option<u32>, source: Option<u32>) -> bool
 /// The first source that doesn't suit a block, if there is one.
 fn disagreeing(periods: &[Option<u32>], joins: bool, own: Option<u32>, asked: &[u32]) -> Option<u32>
     requires { All (λ source. source < length periods.now) asked.now }
-    ensures first { result ≡ find (λ source. not (suits_of joins own (period_at periods.now source))) asked.now }
+    ensures first { result ≡
+        find (λ source. not (suits_of joins own (period_at periods.now source))) asked.now }
     ensures there { IfSome result (λ source. source < length periods.now) }
 {
     for source in asked {
@@ -89,8 +90,8 @@ fn without_control<'a>(sources: &'a [u32], enable: Option<u32>) -> &'a [u32]
     }
 }
 
-/// The sources that a block's period is held against: the control isn't asked of a block whose value
-/// never changes.
+/// The sources that a block's period is held against: the control isn't asked of a block whose
+/// value never changes.
 fn asked_of<'a>(sources: &'a [u32], own: Option<u32>, enable: Option<u32>) -> &'a [u32]
     requires { IsSome enable → 0 < length sources.now }
     ensures { result.now ≡ asked_among own enable sources.now }
@@ -108,7 +109,8 @@ fn periods_fault(
     own: Option<u32>,
     other: Option<u32>,
 ) -> Result<RuleFault, OutOfMemory>
-    ensures { IfOk result (λ fault. fault ≡ fault_of 8 block.now.path (ShownPeriods (shown_period own) (shown_period other))) }
+    ensures { IfOk result (λ fault. fault ≡
+        fault_of 8 block.now.path (ShownPeriods (shown_period own) (shown_period other))) }
 {
     Ok(RuleFault {
         rule: 8,
@@ -132,7 +134,8 @@ pub fn check_periods(
     requires sources { AreSources diagram.now links.now.sources }
     requires periods { length periods.now ≡ length diagram.now.blocks }
     ensures kept { OnOk result (AllKeep diagram.now (KeepsPeriods diagram.now periods.now)) }
-    ensures refused { IfErr result (IsRefusal (BreaksAt diagram.now 8 (KeepsPeriods diagram.now periods.now) (shown_periods diagram.now periods.now))) }
+    ensures refused { IfErr result (IsRefusal (BreaksAt diagram.now 8
+        (KeepsPeriods diagram.now periods.now) (shown_periods diagram.now periods.now))) }
 {
     for (place, block) in diagram.blocks.as_slice().iter().enumerate() {
         let own = periods[place];

@@ -24,7 +24,8 @@ pub struct NotWhole;
 fn shorter(other: Option<Decimal>, period: Decimal) -> Decimal
     requires period { 0 < period.digits }
     requires other { IfSome other (λ decimal. 0 < decimal.digits) }
-    ensures value { Some (units_of result) ≡ least_of (option_map units_of other) (Some (units_of period)) }
+    ensures value { Some (units_of result) ≡
+        least_of (option_map units_of other) (Some (units_of period)) }
     ensures above { 0 < result.digits }
 {
     match other {
@@ -101,7 +102,8 @@ fn inherited(kind: &Kind) -> Known
 fn first_period(block: &Block, base: Decimal) -> Result<Known, NotWhole>
     requires above { IsAbove block.now }
     requires base { 0 < base.digits }
-    ensures known { IfOk result (λ known. known ≡ first_in (units_of base) block.now.kind block.now.period) }
+    ensures known { IfOk result (λ known. known ≡
+        first_in (units_of base) block.now.kind block.now.period) }
     ensures kept { OnOk result (KeepsIn (units_of base) block.now) }
     ensures broken { OnErr result (¬ KeepsIn (units_of base) block.now) }
 {
@@ -138,7 +140,8 @@ pub fn first_periods(
     requires base_is { units_of base ≡ base_units diagram.now }
     ensures known { IfOk result (λ first. first.items ≡ first_periods_of diagram.now) }
     ensures kept { OnOk result (AllKeep diagram.now (KeepsDeclared diagram.now)) }
-    ensures refused { IfErr result (IsRefusal (BreaksAt diagram.now 8 (KeepsDeclared diagram.now) (λ place block. Word (codes "declared")))) }
+    ensures refused { IfErr result (IsRefusal (BreaksAt diagram.now 8
+        (KeepsDeclared diagram.now) (λ place block. Word (codes "declared")))) }
 {
     let mut first: Sequence<Known> = Sequence::new(alloc);
     for block in diagram.blocks.as_slice() {

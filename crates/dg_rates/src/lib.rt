@@ -1,8 +1,8 @@
 //! The periods of a diagram's blocks, or the first block that breaks the rule of rates.
 //!
-//! `rates` gives the periods of the rounds (`periods_of` of `dg_model`) of a diagram that keeps the rule
-//! (`KeepsRates`), or the fault of one that breaks it (`BreaksRate`). Declared periods are decimals of
-//! any size, compared without rounding.
+//! `rates` gives the periods of the rounds (`periods_of` of `dg_model`) of a diagram that keeps the
+//! rule (`KeepsRates`), or the fault of one that breaks it (`BreaksRate`). Declared periods are decimals
+//! that are compared without rounding.
 #![tactic(auto)]
 
 mod agreeing;

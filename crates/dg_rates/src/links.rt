@@ -6,8 +6,8 @@ use dg_model::{Diagram, Edge};
 use fx_io::{OutOfMemory, Sequence, Sizes};
 use std::alloc::Global;
 
-/// What each block reads, in order of its ports and then its control, and which blocks read it, itself
-/// among them.
+/// What each block reads, in order of its ports and then its control, and which blocks read it,
+/// itself among them.
 #[derive(Drop)]
 pub struct Links {
     pub sources: Sequence<Sizes>,
@@ -60,9 +60,12 @@ fn note(rows: &mut Vec<Sizes>, block: u32, number: u32) -> Result<(), OutOfMemor
 fn link(rows: &mut Rows, reader: u32, source: u32) -> Result<(), OutOfMemory>
     requires reader { reader < length rows.old.sources.items }
     requires source { source < length rows.old.sources.items }
-    requires tied { AreTied (length rows.old.sources.items) rows.old.sources.items rows.old.readers.items }
-    ensures sources { OnOk result (rows.new.sources.items ≡ noted rows.old.sources.items reader source) }
-    ensures tied { OnOk result (AreTied (length rows.old.sources.items) rows.new.sources.items rows.new.readers.items) }
+    requires tied { AreTied (length rows.old.sources.items)
+        rows.old.sources.items rows.old.readers.items }
+    ensures sources { OnOk result
+        (rows.new.sources.items ≡ noted rows.old.sources.items reader source) }
+    ensures tied { OnOk result (AreTied (length rows.old.sources.items)
+        rows.new.sources.items rows.new.readers.items) }
 {
     note(&mut rows.sources, reader, source)?;
     note(&mut rows.readers, source, reader)?;
@@ -88,8 +91,8 @@ fn edge_rows(alloc: Global, count: usize, edges: &[Edge]) -> Result<Rows, OutOfM
 }
 
 impl Links {
-    /// The links of a diagram: along its edges, and from the control of an enabled subsystem to each
-    /// block in it.
+    /// The links of a diagram: along its edges, and from the control of an enabled subsystem to
+    /// each block in it.
     pub fn of(alloc: Global, diagram: &Diagram) -> Result<Links, OutOfMemory>
         requires { IsWired diagram.now }
         ensures size { IfOk result (λ links. length links.sources ≡ length diagram.now.blocks) }

@@ -11,18 +11,19 @@ use dg_model::{CheckFault, Diagram};
 use fx_io::Periods;
 use std::alloc::Global;
 
-/// The period of each block of a diagram in base samples, in file order; `None` is a value that never
-/// changes (Simulink reference, sample times and their propagation; the rounds are own).
+/// The period of each block of a diagram in base samples, in file order; `None` is a value that
+/// never changes (Simulink reference, sample times and their propagation; the rounds are own).
 ///
-/// The base period is the least declared one, and 1 where none is declared. A block that inherits takes
-/// the least finite period of its sources: the blocks that drive it, and the control of the enabled
-/// subsystem that holds it.
+/// The base period is the least declared one, and 1 where none is declared. A block that inherits
+/// takes the least finite period of its sources: the blocks that drive it, and the control of the
+/// enabled subsystem that holds it.
 ///
 /// # Errors
-/// Broken exactly where the rule of rates is broken, rule 8. First at the first block whose declared
-/// period is no whole multiple of the base period or more than 4096 times that (the word `declared`).
-/// Then at the first block with a source whose period isn't its own, where neither divides the other if
-/// the block is a RateTransition (the two periods). Or want of memory.
+/// Broken exactly where the rule of rates is broken, rule 8: at the first block whose declared
+/// period is no whole multiple of the base period or more than 4096 times that, shown as
+/// `declared`; or where there is none, at the first block with a source of another period, which at
+/// a RateTransition neither divides nor is divided by its own, shown as the two periods. Or want of
+/// memory.
 pub fn rates(alloc: Global, diagram: &Diagram) -> Result<Periods, CheckFault>
     requires { IsWired diagram.now }
     ensures periods { IfOk result (λ periods. periods ≡ periods_of diagram.now) }

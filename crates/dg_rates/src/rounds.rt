@@ -104,7 +104,8 @@ fn all_rest(values: &[Known], sources: &[u32]) -> bool
     true
 }
 
-/// Whether a block takes the period of a value that never changes, where no source has a finite one.
+/// Whether a block takes the period of a value that never changes, where no source has a finite
+/// one.
 fn takes_rest(values: &[Known], sources: &[u32], rests: bool) -> bool
     requires { All (λ source. source < length values.now) sources.now }
     ensures { result ≡ (rests && are_unchanging (known_of values.now sources.now)) }
@@ -131,7 +132,9 @@ impl Round for PeriodRound {
 
     ghost fit = { λ round values block size there fit. tt };
 
-    ghost local = { λ round old new block old_size new_size there same. step_is_local round.rests round.links.sources round.links.readers old new block round.links.tied there same };
+    ghost local = { λ round old new block old_size new_size there same.
+        step_is_local round.rests round.links.sources round.links.readers old new block
+        round.links.tied there same };
 
     fn next(&self, values: &[Known], block: u32) -> Known {
         let own = values[block as usize];
@@ -154,7 +157,8 @@ impl PeriodRound {
     /// The rounds of a diagram.
     pub fn of(alloc: Global, diagram: &Diagram) -> Result<PeriodRound, OutOfMemory>
         requires { IsWired diagram.now }
-        ensures size { IfOk result (λ round. length round.links.sources ≡ length diagram.now.blocks) }
+        ensures size { IfOk result
+            (λ round. length round.links.sources ≡ length diagram.now.blocks) }
         ensures rests { IfOk result (λ round. round.rests ≡ all_rests diagram.now.blocks) }
         ensures sources { IfOk result (λ round. AreSources diagram.now round.links.sources) }
     {
@@ -167,7 +171,8 @@ impl PeriodRound {
     fn taken(&self, values: &[Known], block: u32) -> Known
         requires inside { block < length self.now.links.sources }
         requires size { length values.now ≡ length self.now.links.sources }
-        ensures { result ≡ taken_by (slice_index_or self.now.rests block false) (known_of values.now (row_at self.now.links.sources block)) }
+        ensures { result ≡ taken_by (slice_index_or self.now.rests block false)
+            (known_of values.now (row_at self.now.links.sources block)) }
     {
         let sources = self.links.sources_of(block);
         let rests = self.rests.as_slice()[block as usize];
@@ -183,8 +188,8 @@ impl PeriodRound {
         }
     }
 
-    /// The periods of a diagram's blocks: those after as many rounds as there are blocks, and 1 where
-    /// there is none by then (Simulink reference, sample time propagation; the rounds are own).
+    /// The periods of a diagram's blocks: those after as many rounds as there are blocks, and 1
+    /// where there is none by then (Simulink reference, sample time propagation; the rounds are own).
     pub fn periods(
         &self,
         alloc: Global,
@@ -196,7 +201,8 @@ impl PeriodRound {
         requires first_size { length first.items ≡ length diagram.now.blocks }
         requires rests { self.now.rests ≡ all_rests diagram.now.blocks }
         requires sources { AreSources diagram.now self.now.links.sources }
-        ensures { IfOk result (λ periods. periods ≡ map or_one (after_rounds_of (next_periods diagram.now) (length diagram.now.blocks) first.items)) }
+        ensures { IfOk result (λ periods. periods ≡ map or_one
+            (after_rounds_of (next_periods diagram.now) (length diagram.now.blocks) first.items)) }
     {
         let rounds = diagram.blocks.as_slice().len() as u32;
         let known = dg_waves::after_rounds(alloc, self, first, rounds)?;

@@ -7,6 +7,9 @@ ghost use Rattle.dg_model.specs.Wired.{IsWired};
 ghost use Rattle.dg_rates.specs.inner.Trial.{IsPart, IsSecond};
 
 use crate::rates;
+use Middle::{Delay, Pass, Test, Transition};
+use Source::{Never, Tenths, Whole};
+use Told::{Declared, Disagree, Known};
 use dg_model::{
     Block, Blocks, CheckFault, Decimals, Diagram, Edge, Edges, Kind, PeriodSpec, RuleFault, Shown,
 };
@@ -23,8 +26,8 @@ enum Source {
     Tenths(u16),
 }
 
-/// The second block, which reads the first; a test is the control of the last block. A transition has a
-/// period of so many tenths.
+/// The second block, which reads the first; a test is the control of the last block. A transition
+/// has a period of so many tenths.
 #[derive(Clone, Copy, Debug)]
 enum Middle {
     Pass,
@@ -44,10 +47,10 @@ struct Row {
     reader: Option<u16>,
 }
 
-/// What is told: the periods, or the block at fault.
+/// What is told: the periods, 0 for a value that never changes, or the block at fault.
 #[derive(Clone, Copy, Debug)]
 enum Told {
-    Periods(Option<u32>, Option<u32>, Option<u32>, Option<u32>),
+    Known(u32, u32, u32, u32),
     Declared(u8),
     Disagree(u8, u32, u32),
 }
@@ -246,13 +249,13 @@ fn is_fault(fault: &RuleFault, told: Told) -> bool {
         return false;
     }
     match told {
-        Told::Periods(..) => false,
-        Told::Declared(name) => match &fault.shown {
+        Known(..) => false,
+        Declared(name) => match &fault.shown {
             Shown::Word(word) => fault.place.bytes() == [name].as_slice()
                 && word.bytes() == b"declared".as_slice(),
             _ => false,
         },
-        Told::Disagree(name, first, second) => match fault.shown {
+        Disagree(name, first, second) => match fault.shown {
             Shown::Periods { own, other } => fault.place.bytes() == [name].as_slice()
                 && own == first
                 && other == second,
@@ -261,155 +264,67 @@ fn is_fault(fault: &RuleFault, told: Told) -> bool {
     }
 }
 
+/// A period as it is told.
+fn finite(period: u32) -> Option<u32> {
+    if period == 0 { None } else { Some(period) }
+}
+
 /// Whether that is told.
 fn is_told(answer: &Result<Periods, CheckFault>, told: Told) -> bool {
     match answer {
         Ok(periods) => match told {
-            Told::Periods(first, second, third, last) => periods.as_slice()
-                == [first, second, third, last].as_slice(),
-            Told::Declared(_) | Told::Disagree(..) => false,
+            Known(first, second, third, last) => periods.as_slice()
+                == [finite(first), finite(second), finite(third), finite(last)].as_slice(),
+            Declared(_) | Disagree(..) => false,
         },
         Err(CheckFault::Broken(fault)) => is_fault(fault, told),
         Err(CheckFault::OutOfMemory) => false,
     }
 }
 
-const NONE: Source = Source::Never;
-
 const ROWS: &[(Source, Middle, Source, u8, Option<u16>, Told)] = &[
     // 3 is no multiple of 2, and 4 isn't 2
-    (
-        Source::Whole(2),
-        Middle::Pass,
-        NONE,
-        1,
-        Some(30),
-        Told::Declared(b'd'),
-    ),
-    (
-        Source::Whole(2),
-        Middle::Pass,
-        NONE,
-        1,
-        Some(40),
-        Told::Disagree(b'd', 2, 1),
-    ),
+    (Whole(2), Pass, Never, 1, Some(30), Declared(b'd')),
+    (Whole(2), Pass, Never, 1, Some(40), Disagree(b'd', 2, 1)),
     // at most 4096 times the base
     (
-        Source::Tenths(4096),
-        Middle::Pass,
-        Source::Tenths(1),
+        Tenths(4096),
+        Pass,
+        Tenths(1),
         2,
         None,
-        Told::Periods(Some(4096), Some(4096), Some(1), Some(1)),
+        Known(4096, 4096, 1, 1),
     ),
-    (
-        Source::Tenths(4097),
-        Middle::Pass,
-        Source::Tenths(1),
-        2,
-        None,
-        Told::Declared(b'a'),
-    ),
+    (Tenths(4097), Pass, Tenths(1), 2, None, Declared(b'a')),
     // fast, slow and never on each side of a transition
+    (Tenths(1), Transition(3), Never, 1, None, Known(1, 3, 0, 3)),
+    (Tenths(3), Transition(1), Never, 1, None, Known(3, 1, 0, 1)),
+    (Whole(1), Transition(10), Never, 1, None, Known(1, 1, 0, 1)),
+    (Never, Transition(3), Never, 1, None, Known(0, 1, 0, 1)),
+    (Never, Transition(3), Tenths(1), 1, None, Known(0, 3, 1, 3)),
     (
-        Source::Tenths(1),
-        Middle::Transition(3),
-        NONE,
+        Tenths(2),
+        Transition(3),
+        Tenths(1),
         1,
         None,
-        Told::Periods(Some(1), Some(3), None, Some(3)),
+        Disagree(b'b', 3, 2),
     ),
     (
-        Source::Tenths(3),
-        Middle::Transition(1),
-        NONE,
-        1,
-        None,
-        Told::Periods(Some(3), Some(1), None, Some(1)),
-    ),
-    (
-        Source::Whole(1),
-        Middle::Transition(10),
-        NONE,
-        1,
-        None,
-        Told::Periods(Some(1), Some(1), None, Some(1)),
-    ),
-    (
-        NONE,
-        Middle::Transition(3),
-        NONE,
-        1,
-        None,
-        Told::Periods(None, Some(1), None, Some(1)),
-    ),
-    (
-        NONE,
-        Middle::Transition(3),
-        Source::Tenths(1),
-        1,
-        None,
-        Told::Periods(None, Some(3), Some(1), Some(3)),
-    ),
-    (
-        Source::Tenths(2),
-        Middle::Transition(3),
-        Source::Tenths(1),
-        1,
-        None,
-        Told::Disagree(b'b', 3, 2),
-    ),
-    (
-        Source::Tenths(1),
-        Middle::Transition(3),
-        NONE,
+        Tenths(1),
+        Transition(3),
+        Never,
         1,
         Some(1),
-        Told::Disagree(b'd', 1, 3),
+        Disagree(b'd', 1, 3),
     ),
     // a delay moves on, another block doesn't
-    (
-        NONE,
-        Middle::Delay,
-        NONE,
-        1,
-        None,
-        Told::Periods(None, Some(1), None, Some(1)),
-    ),
-    (
-        NONE,
-        Middle::Pass,
-        NONE,
-        1,
-        None,
-        Told::Periods(None, None, None, None),
-    ),
+    (Never, Delay, Never, 1, None, Known(0, 1, 0, 1)),
+    (Never, Pass, Never, 1, None, Known(0, 0, 0, 0)),
     // a control that is slower than its block, that gives it its period, and that never changes
-    (
-        Source::Tenths(2),
-        Middle::Test,
-        Source::Tenths(1),
-        2,
-        None,
-        Told::Disagree(b'd', 1, 2),
-    ),
-    (
-        Source::Tenths(2),
-        Middle::Test,
-        NONE,
-        2,
-        None,
-        Told::Periods(Some(1), Some(1), None, Some(1)),
-    ),
-    (
-        NONE,
-        Middle::Test,
-        NONE,
-        2,
-        None,
-        Told::Periods(None, None, None, None),
-    ),
+    (Tenths(2), Test, Tenths(1), 2, None, Disagree(b'd', 1, 2)),
+    (Tenths(2), Test, Never, 2, None, Known(1, 1, 0, 1)),
+    (Never, Test, Never, 2, None, Known(0, 0, 0, 0)),
 ];
 
 #[test]

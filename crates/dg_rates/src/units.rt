@@ -68,7 +68,8 @@ pub fn is_less(period: Decimal, other: Decimal) -> bool
     }
 }
 
-/// How many times the second number the first is, where it is a whole number of times and at most 4096.
+/// How many times the second number the first is, where it is a whole number of times and at most
+/// 4096.
 #[tactic(auto, using(crate::proofs::Aligning::no_times))]
 fn quotient(number: u128, divisor: u128) -> Option<u32>
     requires { 0 < divisor }
@@ -85,7 +86,8 @@ fn quotient(number: u128, divisor: u128) -> Option<u32>
     Some(times as u32)
 }
 
-/// How many times the base period a period is, where it is a whole number of times and at most 4096.
+/// How many times the base period a period is, where it is a whole number of times and at most
+/// 4096.
 pub fn times_of(period: Decimal, base: Decimal) -> Option<u32>
     requires period { 0 < period.digits }
     requires base { 0 < base.digits }
