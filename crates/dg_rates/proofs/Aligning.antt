@@ -46,10 +46,6 @@ times_aligned first second aligned a times = (
 pub no_times : (number divisor times : ℕ) → (number % divisor ≡ 0 → ⊥) → ¬ IsTimes number divisor times
 no_times number divisor times some t = some (ap (λ n. n % divisor) t.whole ∙ mul-mod_left times divisor)
 
--- what has no room in 128 bits is no such multiple of few digits, and few digits are none of it
-pub too_large : (left right times : ℕ) → 2 ^ 128 ≤ left → right < 10 ^ 18 → ¬ IsTimes left right times
-too_large left right times large few t = omega (arith, large, t.whole, mul-le times right 4096 (10 ^ 18) t.few (omega (arith, few)))
-
 pub too_small : (left right times : ℕ) → 0 < left → left < 10 ^ 18 → 2 ^ 128 ≤ right → ¬ IsTimes left right times
 too_small left right zero some few large t = omega (arith, some, t.whole)
 too_small left right (suc times) some few large t = omega (arith, few, large, t.whole, mul-le 1 right (suc times) right (omega arith) (omega arith))

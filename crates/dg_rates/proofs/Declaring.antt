@@ -1,5 +1,5 @@
 -- Declared periods as whole multiples of the base period.
-use Rattle.std.proofs.Common.{◌≡◌, ℕ, ◌+◌, ◌*◌, ◌/◌, ◌^◌, ◌<◌, [], ◌∷◌, ◌++◌, map, take, get_or, Option, Some, refl, sym, ap, subst, ◌∙◌}
+use Rattle.std.proofs.Common.{◌≡◌, ℕ, ◌+◌, ◌/◌, ◌<◌, [], ◌∷◌, ◌++◌, map, take, get_or, Option, Some, refl, sym, ap, subst, ◌∙◌}
 use Rattle.std.specs.Prelude.{All, slice_get}
 use Rattle.std.proofs.lemmas.List.{map-append, take_more}
 use Rattle.std.proofs.lemmas.Option.{slice_get_within, get_or_from_slice_get}
@@ -18,13 +18,9 @@ use Rattle.dg_model.specs.Rate.{KeepsDeclared}
 use Rattle.dg_model.specs.Wired.{IsWired}
 use Rattle.dg_rates.specs.inner.Declared.{IsAbove, KeepsIn, first_in}
 use Rattle.dg_rates.specs.inner.Units.{IsTimes}
-use Rattle.dg_rates.proofs.Aligning.{some_zeros}
 
 pub times_are : (units base times : ℕ) → 0 < base → IsTimes units base times → units / base ≡ times
 times_are units base times some t = ap (λ n. n / base) t.whole ∙ mul-div_cancel times some
-
-pub units_above : (digits zeros : ℕ) → 0 < digits → 0 < digits * 10 ^ zeros
-units_above digits zeros some = some_zeros digits zeros some
 
 pub first_is : (diagram : Diagram) (base : ℕ) (kind : Kind) (period : PeriodSpec) → base ≡ base_units diagram → first_in base kind period ≡ first_period diagram kind period
 first_is diagram base kind Inherit same = refl

@@ -1,8 +1,8 @@
--- A part of a rule, kept block by block, and the fault of the first block that breaks it.
-use Rattle.std.proofs.Common.{◌≡◌, ℕ, ◌+◌, ◌<◌, ◌≤◌, ⊎_elim, List, length, Some, refl, sym, ap, subst, ◌∙◌, arith}
+-- Blocks that are read one by one: a part of a rule that they keep, and the fault of the first block that breaks it.
+use Rattle.std.proofs.Common.{◌≡◌, ℕ, ◌+◌, ◌<◌, ◌≤◌, ⊎_elim, List, get_or, length, Some, refl, sym, ap, subst, ◌∙◌, arith}
 use Rattle.std.specs.Prelude.{slice_get}
 use Rattle.std.proofs.lemmas.Bool.{cases_eq}
-use Rattle.std.proofs.lemmas.Option.{same_Some, slice_get_within}
+use Rattle.std.proofs.lemmas.Option.{same_Some, slice_get_within, slice_get-get_or}
 use Rattle.dg_model.specs.declared.diagram.Diagram.{Diagram}
 use Rattle.dg_model.specs.declared.diagram.Block.{Block}
 use Rattle.dg_model.specs.declared.fault.RuleFault.{RuleFault}
@@ -35,3 +35,7 @@ breaks_at diagram Keeps shown place block fault at broken before is = record {
   where
     path_at : slice_get diagram.blocks place ≡ Some block → path_of diagram place ≡ block.path
     path_at here = rw here refl
+
+-- what is read at a place is the block there
+pub read_at : (blocks : List Block) (place : ℕ) (block : Block) → place < length blocks → block ≡ get_or blocks place block → slice_get blocks place ≡ Some block
+read_at blocks place block inside is = slice_get-get_or blocks place block inside ∙ ap Some (sym is)

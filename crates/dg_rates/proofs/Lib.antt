@@ -1,7 +1,6 @@
 mod Agreed
 pub mod Aligning
 mod Declaring
-mod Ends
 mod Keeping
 mod Linking
 mod Stepping

@@ -3,8 +3,7 @@ use Rattle.std.specs.Prelude.{slice_get, All}
 use Rattle.dg_model.specs.Periods.{drivers_of, period_at}
 use Rattle.dg_model.specs.Rate.{KeepsPeriods}
 use Rattle.dg_rates.proofs.Agreed.{all_asked, breaks_periods, found_is, some_source}
-use Rattle.dg_rates.proofs.Ends.{read_at}
-use Rattle.dg_rates.proofs.Keeping.{keep_more, keep_all}
+use Rattle.dg_rates.proofs.Keeping.{keep_more, keep_all, read_at}
 use Rattle.dg_rates.proofs.agreeing.check_periods.Goals as goal
 
 pub asked_of-asked-requires : goal.asked_of-asked-requires

@@ -3,8 +3,7 @@ use Rattle.std.specs.Prelude.{slice_get}
 use Rattle.dg_model.specs.Periods.{units_of}
 use Rattle.dg_model.specs.Rate.{KeepsDeclared}
 use Rattle.dg_rates.proofs.Declaring.{first_is, first_more, kept_in}
-use Rattle.dg_rates.proofs.Ends.{read_at}
-use Rattle.dg_rates.proofs.Keeping.{keep_more, keep_all}
+use Rattle.dg_rates.proofs.Keeping.{keep_more, keep_all, read_at}
 use Rattle.dg_rates.proofs.declared.first_periods.Goals as goal
 
 pub loop-block-preserved : goal.loop-block-preserved

@@ -1,7 +1,7 @@
 use Rattle.std.proofs.Common.{◌≡◌, ◌<◌, Some, length, ap, subst, arith}
 use Rattle.std.specs.Prelude.{slice_get}
 use Rattle.dg_rates.specs.inner.Links.{AreTied}
-use Rattle.dg_rates.proofs.Ends.{read_at}
+use Rattle.dg_rates.proofs.Keeping.{read_at}
 use Rattle.dg_rates.proofs.Linking.{controlled_more, controlled_same, sources_all}
 use Rattle.dg_rates.proofs.links.Links.of.Goals as goal
 use Rattle.dg_rates.proofs.links.Links.of.Goals.{in-Some+in_ok-link, in_default}
