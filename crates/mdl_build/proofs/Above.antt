@@ -1,7 +1,10 @@
 -- The last item before a place that is less deep, found by leaps.
-use Rattle.std.proofs.Common.{◌≡◌, ℕ, zero, suc, ◌+◌, ◌≤◌, Bool, true, false, cond, List, Option, Some, None, sym, ◌∙◌, ap, refl, arith}
+use Rattle.std.proofs.Common.{◌≡◌, ℕ, zero, suc, ◌+◌, ◌-◌, ◌<◌, ◌≤◌, Bool, true, false, cond, List, length, get_or, map, Option, Some, None, sym, ◌∙◌, ap, refl, arith}
 use Rattle.std.specs.Prelude.{nat_lt}
+use Rattle.std.specs.List.{range_with_len}
+use Rattle.std.proofs.lemmas.List.FromFn.{get_or-map-range_with_len, length-map-range_with_len}
 use Rattle.mdl_text.specs.declared.tree.Item.{Item}
+use Rattle.mdl_build.proofs.Ends.{depth_is}
 use Rattle.mdl_build.specs.Sections.{depth_at, last_above, holder_of}
 
 -- where none is less deep than a depth, none is less deep than a lesser one
@@ -53,3 +56,29 @@ leap items depth last holder h is = step ∙ by_holder holder is
     by_holder (Some k) e =
         let plus : suc k ≡ k + 1 = omega arith in
         some_above items depth (depth_at items last) last k h (sym e) ∙ ap (last_above items depth) plus
+
+-- the one that is found stands before
+pub above_before : (items : List Item) (depth place holder : ℕ) → last_above items depth place ≡ Some holder → holder < place
+above_before items depth zero holder some = let bad : ◌≡◌ {A = Option ℕ} None (Some holder) = some in cc
+above_before items depth (suc k) holder some = by_test (above_before items depth k holder) (nat_lt (depth_at items k) depth) refl
+  where
+    by_test : (last_above items depth k ≡ Some holder → holder < k) → (b : Bool) → nat_lt (depth_at items k) depth ≡ b → holder < suc k
+    by_test before true e =
+        let same : k ≡ holder = some_one k holder (sym (ap (λ (b : Bool). cond b (Some k) (last_above items depth k)) e) ∙ some) in omega arith
+    by_test before false e =
+        let earlier : holder < k = before (sym (ap (λ (b : Bool). cond b (Some k) (last_above items depth k)) e) ∙ some) in omega arith
+
+-- what is written of the holders
+pub holder_known : (items : List Item) (holders : List (Option ℕ)) (count place : ℕ) → holders ≡ map (holder_of items) (range_with_len 0 count) → place < count → (other : Option ℕ) → get_or holders place other ≡ holder_of items place
+holder_known items holders count place is within other = rw is (get_or-map-range_with_len (holder_of items) 0 count place place other within (omega arith))
+
+pub holders_length : (items : List Item) (holders : List (Option ℕ)) (count : ℕ) → holders ≡ map (holder_of items) (range_with_len 0 count) → length holders ≡ count
+holders_length items holders count is = rw is (length-map-range_with_len (holder_of items) 0 count)
+
+-- a leap from a place to behind the holder of the item before it
+pub leap_from : (items : List Item) (depth from place : ℕ) (other : Item) (holder : Option ℕ) → 0 < from → from ≤ length items → depth ≤ (get_or items (from - 1) other).depth → holder ≡ holder_of items (from - 1) → last_above items depth from ≡ last_above items depth place → last_above items depth (behind holder) ≡ last_above items depth place
+leap_from items depth from place other holder some within deep there same =
+    let inside : from - 1 < length items = omega arith in
+    let at_least : depth ≤ depth_at items (from - 1) = omega (arith, depth_is items (from - 1) other inside) in
+    let plus : from - 1 + 1 ≡ from = omega arith in
+    sym (leap items depth (from - 1) holder at_least there) ∙ ap (last_above items depth) plus ∙ same

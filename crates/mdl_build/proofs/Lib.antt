@@ -1,4 +1,6 @@
-mod Above
+pub mod Above
+pub mod Ends
 mod Examples
 pub mod Found
+pub mod Places
 mod Zeros

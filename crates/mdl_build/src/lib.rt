@@ -7,6 +7,7 @@
 //! types.
 #![tactic(auto)]
 
+mod layout;
 mod library;
 mod lines;
 mod list_readers;
