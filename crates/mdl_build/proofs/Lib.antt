@@ -3,4 +3,5 @@ pub mod Ends
 mod Examples
 pub mod Found
 pub mod Places
+pub mod RoleSteps
 mod Zeros
