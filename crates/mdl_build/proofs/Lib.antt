@@ -1,7 +1,13 @@
 pub mod Above
+pub mod BlockPlaces
+pub mod CountLemmas
 pub mod Ends
 mod Examples
 pub mod Found
+pub mod LineLemmas
+pub mod NameNumbers
 pub mod Places
+pub mod Ranges
+pub mod RoleLemmas
 pub mod RoleSteps
 mod Zeros

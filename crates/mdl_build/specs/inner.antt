@@ -1,1 +1,5 @@
 pub mod Layout
+pub mod Lines
+pub mod Names
+pub mod Paths
+pub mod Structure

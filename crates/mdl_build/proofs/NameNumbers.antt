@@ -1,0 +1,71 @@
+-- The numbers of names, with one more block.
+use Rattle.std.proofs.Common.{◌≡◌, ℕ, Bool, true, false, cond, List, [], ◌∷◌, ◌++◌, length, Option, Some, None, refl, sym, ap, ◌∙◌, true≢false, eqb-true}
+use Rattle.std.specs.Prelude.{◌==◌, ◌&&◌, position, bytes_eq, is_some}
+use Rattle.std.proofs.lemmas.Slice.Eq.{bytes_eq-Decides}
+use Rattle.mdl_text.specs.declared.tree.Item.{Item}
+use Rattle.mdl_build.specs.declared.names.Key.{Key}
+use Rattle.mdl_build.specs.Blocks.{is_named_in}
+use Rattle.mdl_build.specs.inner.Names.{IsKeyAt, key_eq}
+use Rattle.mdl_build.proofs.Ranges.{pushed, pushed-false, position-push}
+
+both : (a b : Bool) → (a && b) ≡ true → (a ≡ true) × (b ≡ true)
+both true true e = (refl, refl)
+both true false e = absurd (true≢false (sym e))
+both false b e = absurd (true≢false (sym e))
+
+module _ (items : List Item) (places : List ℕ) (place : ℕ) (found : Key → Option ℕ)
+    (old : (key : Key) → found key ≡ position (is_named_in items key.system key.name.now) places) where
+  abbrev pub first_of_name : Key → Option ℕ
+  first_of_name key = position (is_named_in items key.system key.name.now) (places ++ place ∷ [])
+
+  -- a block of another name changes nothing
+  pub other_name : (key : Key) → is_named_in items key.system key.name.now place ≡ false → found key ≡ first_of_name key
+  other_name key other =
+      old key
+      ∙ sym (position-push (is_named_in items key.system key.name.now) places place
+      ∙ ap (λ (b : Bool). pushed b (length places) (position (is_named_in items key.system key.name.now) places)) other
+      ∙ pushed-false (length places) (position (is_named_in items key.system key.name.now) places))
+
+  module _ (own : Key) (is : IsKeyAt items place (Some own)) where
+    -- equal keys have the same number
+    same_key : (key : Key) → key_eq own key ≡ true → found key ≡ found own
+    same_key key e =
+        let t = both (own.system == key.system) (bytes_eq own.name.now key.name.now) e in
+        let system : own.system ≡ key.system = eqb-true own.system key.system t.0 in
+        let name : own.name.now ≡ key.name.now = (bytes_eq-Decides own.name.now key.name.now).0 t.1 in
+        old key
+        ∙ sym (ap (λ (n : ℕ). position (is_named_in items n own.name.now) places) system ∙ ap (λ (text : List ℕ). position (is_named_in items key.system text) places) name)
+        ∙ sym (old own)
+
+    -- the first block of its name
+    pub new_name : found own ≡ None → (key : Key) → cond (key_eq own key) (Some (length places)) (found key) ≡ first_of_name key
+    new_name none key = by (key_eq own key) refl
+      where
+        by : (b : Bool) → key_eq own key ≡ b → cond b (Some (length places)) (found key) ≡ first_of_name key
+        by true e =
+            sym (position-push (is_named_in items key.system key.name.now) places place
+            ∙ ap (λ (b : Bool). pushed b (length places) (position (is_named_in items key.system key.name.now) places)) (is key.system key.name.now ∙ e)
+            ∙ ap (pushed true (length places)) (sym (old key) ∙ same_key key e ∙ none))
+        by false e = other_name key (is key.system key.name.now ∙ e)
+
+    -- a further one
+    pub known_name : (k : ℕ) → found own ≡ Some k → (key : Key) → found key ≡ first_of_name key
+    known_name k some key = by (key_eq own key) refl
+      where
+        by : (b : Bool) → key_eq own key ≡ b → found key ≡ first_of_name key
+        by true e =
+            let there : position (is_named_in items key.system key.name.now) places ≡ Some k = sym (old key) ∙ same_key key e ∙ some in
+            same_key key e ∙ some
+            ∙ sym (position-push (is_named_in items key.system key.name.now) places place
+            ∙ ap (pushed (is_named_in items key.system key.name.now place) (length places)) there)
+        by false e = other_name key (is key.system key.name.now ∙ e)
+
+-- ---- whether a name is known
+
+pub none_known : {A : Type 0} (found : Option A) → is_some found ≡ false → found ≡ None
+none_known None e = refl
+none_known (Some x) e = absurd (true≢false e)
+
+pub one_known : {A : Type 0} (found : Option A) → is_some found ≡ true → (x : A) × (found ≡ Some x)
+one_known None e = absurd (true≢false (sym e))
+one_known (Some x) e = (x, refl)

@@ -1,0 +1,35 @@
+-- The blocks of a tree and the numbers of their names, as the code keeps them (own).
+use Rattle.std.specs.Prelude.{◌≡◌, ℕ, ◌==◌, ◌&&◌, Bool, true, false, List, Option, Some, None, filter, position, length, nat_eq, codes, bytes_eq}
+use Rattle.std.specs.List.{range_with_len}
+use Rattle.indexmap.specs.IndexMap.{get}
+use Rattle.mdl_text.specs.declared.tree.Item.{Item}
+use Rattle.mdl_build.specs.declared.names.Blocks.{Blocks}
+use Rattle.mdl_build.specs.declared.names.Key.{Key}
+use Rattle.mdl_build.specs.Blocks.{is_named_in}
+use Rattle.mdl_build.specs.Roles.{role_of, is_block, blocks_of}
+
+-- the key has this name in the System at a place
+abbrev pub matches : ℕ → List ℕ → Option Key → Bool
+matches system name None = false
+matches system name (Some key) = (key.system == system) && bytes_eq key.name.now name
+
+-- the key of the block at a place
+abbrev pub IsKeyAt : List Item → ℕ → Option Key → Type 0
+IsKeyAt items place key = (system : ℕ) (name : List ℕ) → is_named_in items system name place ≡ matches system name key
+
+-- two keys are equal
+abbrev pub key_eq : Key → Key → Bool
+key_eq key other = (key.system == other.system) && bytes_eq key.name.now other.name.now
+
+-- of each name the number of the first block that has it
+abbrev pub AreNumbered : List Item → Blocks → Type 0
+AreNumbered items blocks = (key : Key) → get key_eq blocks.numbers key ≡ position (is_named_in items key.system key.name.now) blocks.places.items
+
+-- the blocks before a place
+abbrev pub blocks_before : List Item → ℕ → List ℕ
+blocks_before items place = filter (λ other. is_block (role_of items other)) (range_with_len 0 place)
+
+-- the blocks of the tree, and the numbers of their names
+pub record AreBlocks (items : List Item) (blocks : Blocks) : Type 0 where
+  pub places : blocks.places.items ≡ blocks_of items
+  pub numbers : AreNumbered items blocks
