@@ -3,6 +3,7 @@ pub mod BlockPlaces
 pub mod CountLemmas
 pub mod Ends
 mod Examples
+pub mod FirstDefaults
 pub mod Found
 pub mod LineLemmas
 pub mod NameNumbers

@@ -37,10 +37,13 @@ is_in (Some section) (Branch line) = false
 is_in (Some section) Defaults = false
 is_in (Some section) (TypeDefaults holder) = holder == section
 
+-- the item at a place has the defaults of this type, in the section of all of them
+abbrev pub has_defaults : List Item → BlockType → ℕ → Bool
+has_defaults items block_type place = is_in (first_defaults items) (role_of items place) && says items place (codes "BlockType") (type_name block_type)
+
 -- the section that has the defaults of a type; of two for one type the first counts
 abbrev pub defaults_of : List Item → BlockType → Option ℕ
-defaults_of items block_type =
-    find (λ place. is_in (first_defaults items) (role_of items place) && says items place (codes "BlockType") (type_name block_type)) (places_of items)
+defaults_of items block_type = find (has_defaults items block_type) (places_of items)
 
 -- the value of a parameter in a section; `X0` is looked for after `InitialCondition`
 abbrev pub value_under : List Item → ℕ → List ℕ → Option (List ℕ)

@@ -3,3 +3,4 @@ pub mod Lines
 pub mod Names
 pub mod Paths
 pub mod Structure
+pub mod Texts

@@ -11,6 +11,7 @@ mod layout;
 mod library;
 mod lines;
 mod list_readers;
+mod lookup;
 mod names;
 mod parts;
 mod paths;

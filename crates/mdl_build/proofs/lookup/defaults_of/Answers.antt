@@ -1,0 +1,27 @@
+use Rattle.std.proofs.Common.{length, sym, ◌∙◌, ◌≤◌, ◌<◌, arith}
+use Rattle.mdl_build.specs.Lookup.{has_defaults, defaults_of}
+use Rattle.mdl_build.proofs.FirstDefaults.{find_here, find_behind, find_at_end, roles_long, asks}
+use Rattle.mdl_build.proofs.lookup.defaults_of.Goals as goal
+
+pub has_defaults-requires : goal.has_defaults-requires
+has_defaults-requires c = let t = c.loop-place-test.true in omega (arith, roles_long c.args.layout.now.items.now c.args.roles.now c.requires.roles)
+
+pub returns-then-has_defaults : goal.returns-then-has_defaults
+returns-then-has_defaults c =
+    let t = c.loop-place-test.true in
+    let within : c.loop-place.place < length c.args.layout.now.items.now = omega (arith, roles_long c.args.layout.now.items.now c.args.roles.now c.requires.roles) in
+    find_here (has_defaults c.args.layout.now.items.now c.args.block_type) c.loop-place.place (length c.args.layout.now.items.now) _ within c.loop-place.invariant
+    (asks c.args.layout.now.items.now c.args.roles.now c.args.block_type c.args.section c.loop-place.place _ c.requires.roles c.requires.section within ∙ sym c.if-has_defaults.ensures)
+
+pub loop-place-preserved : goal.loop-place-preserved
+loop-place-preserved c =
+    let t = c.loop-place-test.true in
+    let within : c.loop-place.place < length c.args.layout.now.items.now = omega (arith, roles_long c.args.layout.now.items.now c.args.roles.now c.requires.roles) in
+    find_behind (has_defaults c.args.layout.now.items.now c.args.block_type) c.loop-place.place (length c.args.layout.now.items.now) _ within c.loop-place.invariant
+    (asks c.args.layout.now.items.now c.args.roles.now c.args.block_type c.args.section c.loop-place.place _ c.requires.roles c.requires.section within ∙ sym c.if-has_defaults.ensures)
+
+pub returns : goal.returns
+returns c =
+    let t = c.loop-place-test.false in
+    let past : length c.args.layout.now.items.now ≤ c.loop-place.place = omega (arith, roles_long c.args.layout.now.items.now c.args.roles.now c.requires.roles) in
+    find_at_end (has_defaults c.args.layout.now.items.now c.args.block_type) c.loop-place.place (length c.args.layout.now.items.now) (defaults_of c.args.layout.now.items.now c.args.block_type) past c.loop-place.invariant
