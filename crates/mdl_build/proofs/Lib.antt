@@ -5,10 +5,13 @@ pub mod Ends
 mod Examples
 pub mod FirstDefaults
 pub mod Found
+pub mod KnownLemmas
 pub mod LineLemmas
+pub mod MakingLemmas
 pub mod NameNumbers
 pub mod Places
 pub mod Ranges
+pub mod ReadingLemmas
 pub mod RoleLemmas
 pub mod RoleSteps
 mod Zeros

@@ -1,6 +1,9 @@
+pub mod Known
 pub mod Layout
 pub mod Lines
+pub mod Makers
 pub mod Names
 pub mod Paths
+pub mod Readings
 pub mod Structure
 pub mod Texts

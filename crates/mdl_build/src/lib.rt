@@ -7,11 +7,15 @@
 //! types.
 #![tactic(auto)]
 
+mod blocks;
+mod building;
+mod known;
 mod layout;
 mod library;
 mod lines;
 mod list_readers;
 mod lookup;
+mod making;
 mod names;
 mod parts;
 mod paths;
@@ -20,3 +24,5 @@ mod reading;
 mod roles;
 mod settings;
 mod structure;
+
+pub use building::build;

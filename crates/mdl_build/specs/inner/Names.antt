@@ -1,5 +1,5 @@
 -- The blocks of a tree and the numbers of their names, as the code keeps them (own).
-use Rattle.std.specs.Prelude.{◌≡◌, ℕ, ◌==◌, ◌&&◌, Bool, true, false, List, Option, Some, None, filter, position, length, nat_eq, codes, bytes_eq}
+use Rattle.std.specs.Prelude.{◌≡◌, ℕ, ◌≤◌, ◌==◌, ◌&&◌, Bool, true, false, List, Option, Some, None, filter, position, length, nat_eq, codes, bytes_eq}
 use Rattle.std.specs.List.{range_with_len}
 use Rattle.indexmap.specs.IndexMap.{get}
 use Rattle.mdl_text.specs.declared.tree.Item.{Item}
@@ -33,3 +33,4 @@ blocks_before items place = filter (λ other. is_block (role_of items other)) (r
 pub record AreBlocks (items : List Item) (blocks : Blocks) : Type 0 where
   pub places : blocks.places.items ≡ blocks_of items
   pub numbers : AreNumbered items blocks
+  pub few : length (blocks_of items) ≤ 20000

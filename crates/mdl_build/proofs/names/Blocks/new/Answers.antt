@@ -63,4 +63,5 @@ pub returns : goal.returns
 returns c =
     let items = c.args.layout.now.items.now in
     let all : c.loop-place.place ≡ length items = omega (arith, c.loop-place-test.false, c.loop-place.auto.place-end, roles_long items c.args.roles.now c.requires) in
-    record { places = c.loop-place.invariant.places ∙ ap (blocks_before items) all; numbers = c.loop-place.invariant.numbered }
+    let places_are = c.loop-place.invariant.places ∙ ap (blocks_before items) all in
+    record { places = places_are; numbers = c.loop-place.invariant.numbered; few = omega (arith, ap length places_are, c.loop-place.invariant.few) }

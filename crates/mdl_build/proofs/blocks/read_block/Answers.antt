@@ -1,0 +1,30 @@
+use Rattle.std.proofs.Common.{◌≡◌, ℕ, ◌<◌, length, map, subst, sym, ap, ◌∙◌, arith}
+use Rattle.std.proofs.lemmas.List.{length-map}
+use Rattle.mdl_build.specs.Library.{row_of}
+use Rattle.mdl_build.specs.inner.Readings.{AreReadTo}
+use Rattle.mdl_build.proofs.ReadingLemmas.{none_read, one_read, all_read, first_wrong, row_here, read_some, read_none}
+use Rattle.mdl_build.proofs.blocks.read_block.Goals as goal
+
+pub loop-number-init : goal.loop-number-init
+loop-number-init c = subst (AreReadTo c.args.layout.now.items.now c.args.block_type c.args.place 0) (sym c.unset-settings.ensures) (none_read c.args.layout.now.items.now c.args.block_type c.args.place)
+
+pub returns-in-None : goal.returns-in-None
+returns-in-None c =
+    let items = c.args.layout.now.items.now in
+    let row = row_here items c.args.block_type c.args.place c.parameters-parameter-items.result.now c.args.defaults.now c.loop-number.number _ _ c.parameters-parameter-items.ensures c.requires.texts c.loop-number-test.true in
+    first_wrong items c.args.block_type c.args.place c.loop-number.number _ c.loop-number.settings c.name.result.now c.loop-number.invariant row.at_number
+    (read_none items c.args.block_type c.args.place _ c.is_single-single.result _ c.in_ok-read_parameter.field-0 c.is_single-single.ensures row.text_is c.in_ok-read_parameter.ensures c.in-None.is)
+    c.name.ensures
+
+pub loop-number-preserved : goal.loop-number-preserved
+loop-number-preserved c =
+    let items = c.args.layout.now.items.now in
+    let row = row_here items c.args.block_type c.args.place c.parameters-parameter-items.result.now c.args.defaults.now c.loop-number.number _ _ c.parameters-parameter-items.ensures c.requires.texts c.loop-number-test.true in
+    subst (AreReadTo items c.args.block_type c.args.place _) (sym c.put.ensures)
+    (one_read items c.args.block_type c.args.place c.loop-number.number _ c.loop-number.settings c.in-Some.setting c.loop-number.invariant row.at_number
+    (read_some items c.args.block_type c.args.place _ c.is_single-single.result _ c.in_ok-read_parameter.field-0 c.in-Some.setting c.is_single-single.ensures row.text_is c.in_ok-read_parameter.ensures c.in-Some.is))
+
+pub returns : goal.returns
+returns c =
+    all_read c.args.layout.now.items.now c.args.block_type c.args.place c.loop-number.number c.loop-number.settings c.loop-number.invariant
+    (omega (arith, c.loop-number-test.false, ap length c.parameters-parameter-items.ensures, length-map c.parameters-parameter-items.result.now row_of))

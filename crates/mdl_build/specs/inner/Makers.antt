@@ -1,0 +1,26 @@
+-- What the blocks of a tree are made by (own).
+use Rattle.std.specs.Prelude.{◌≡◌, ℕ, ◌<◌, Bool, List, length, map, slice_get, Some}
+use Rattle.dg_model.specs.declared.nested.NestedBlock.{NestedBlock}
+use Rattle.mdl_text.specs.declared.tree.Item.{Item}
+use Rattle.mdl_build.specs.declared.making.Maker.{Maker}
+use Rattle.mdl_build.specs.Library.{block_types}
+use Rattle.mdl_build.specs.Nested.{IsBlockAt}
+use Rattle.mdl_build.specs.Roles.{blocks_of}
+use Rattle.mdl_build.specs.inner.Known.{IsKnown, AreEnabled, AreNumbers}
+use Rattle.mdl_build.specs.inner.Texts.{contents_of, fallbacks_of}
+
+-- the items
+abbrev pub items_of : Maker → List Item
+items_of maker = maker.known.layout.items.now
+
+-- all that it holds is that of its items
+pub record IsMaker (maker : Maker) : Type 0 where
+  pub known : IsKnown maker.known
+  pub enabled : AreEnabled (items_of maker) (blocks_of (items_of maker)) maker.enabled.items
+  pub numbers : AreNumbers (items_of maker) maker.numbers.items
+  pub defaults : map (λ texts. contents_of texts.items) maker.defaults.items ≡ map (fallbacks_of (items_of maker)) block_types
+
+-- so many blocks are made
+pub record AreMade (items : List Item) (count : ℕ) (blocks : List NestedBlock) : Type 0 where
+  pub long : length blocks ≡ count
+  pub each : (k place : ℕ) → k < count → slice_get (blocks_of items) k ≡ Some place → (block : NestedBlock) × (slice_get blocks k ≡ Some block) × IsBlockAt items place block

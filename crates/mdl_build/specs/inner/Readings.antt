@@ -1,0 +1,21 @@
+-- What the parameters of a block are read as (own).
+use Rattle.std.specs.Prelude.{◌≡◌, ℕ, ◌<◌, List, drop, slice_get, Some}
+use Rattle.mdl_text.specs.declared.tree.Item.{Item}
+use Rattle.mdl_build.specs.declared.blocks.Reading.{Reading}
+use Rattle.mdl_build.specs.declared.blocks.Reading.TheVariants.{Read, Wrong}
+use Rattle.mdl_build.specs.declared.library.BlockType.{BlockType}
+use Rattle.mdl_build.specs.declared.settings.Settings.{Settings}
+use Rattle.mdl_build.specs.Blocks.{HasSettings, AreRead, IsReadable}
+use Rattle.mdl_build.specs.Library.{ParameterRow, parameters_of}
+use Rattle.mdl_build.specs.Rules.{IsFirstWrong}
+use Rattle.mdl_build.specs.Settings.{unset}
+
+-- all are read so, or one is the first that isn't read
+abbrev pub IsReading : List Item → BlockType → ℕ → Reading → Type 0
+IsReading items block_type place (Read settings) = HasSettings items block_type place settings
+IsReading items block_type place (Wrong name) = IsFirstWrong items block_type place (parameters_of block_type) name.now
+
+-- so many parameters are read, and these are the settings so far
+pub record AreReadTo (items : List Item) (block_type : BlockType) (place number : ℕ) (settings : Settings) : Type 0 where
+  pub rest : (after : Settings) → AreRead items block_type place (drop number (parameters_of block_type)) settings after → HasSettings items block_type place after
+  pub readable : (k : ℕ) (other : ParameterRow) → k < number → slice_get (parameters_of block_type) k ≡ Some other → IsReadable items block_type place other

@@ -1,0 +1,209 @@
+//! The blocks of a tree that keeps the rules of structure and of library.
+ghost use Rattle.std.specs.Prelude.{◌≡◌, ℕ, ◌<◌, ◌++◌, ◌∷◌, [], true, Some, List, length, option_map, unwrap_or, is_some, codes, slice_get, IfOk, IfErr};
+ghost use Rattle.std.specs.Option.{ForSome, option_copied};
+ghost use Rattle.dg_model.specs.Faults.{IsRefusal};
+ghost use Rattle.mdl_build.specs.Blocks.{number_at, parent_of, standing_in, HasSettings};
+ghost use Rattle.mdl_build.specs.Nested.{IsBlockAt};
+ghost use Rattle.mdl_build.specs.Roles.{role_of, is_block, blocks_of};
+ghost use Rattle.mdl_build.specs.Rules.{type_at};
+ghost use Rattle.mdl_build.specs.Sections.{holder_of, value_of};
+ghost use Rattle.mdl_build.specs.inner.Known.{IsKnown, AreEnabled, AreNumbers, AreNumbersTo, IsWrongAt};
+
+use crate::blocks::{Reading, read_block};
+use crate::known::Known;
+use crate::layout::Layout;
+use crate::library::{BlockType, number_of};
+use crate::lookup::{Defaults, defaults};
+use crate::parts::{Standing, part_of};
+use crate::paths::parent;
+use crate::settings::Settings;
+use dg_model::{CheckFault, NestedBlock};
+use fx_io::{OutOfMemory, Text};
+use std::alloc::Global;
+
+/// What the blocks of a tree are made by.
+#[derive(Drop)]
+pub struct Maker<'a> {
+    /// The tree.
+    pub known: Known<'a>,
+    /// Of each item whether it is a System that has an EnablePort.
+    enabled: Vec<bool>,
+    /// Of each item that is a block its number.
+    numbers: Vec<u32>,
+    /// What the parameters say that a block lacks.
+    defaults: Defaults<'a>,
+}
+
+/// The value of a parameter of the section at a place; none is empty.
+pub fn text_or_empty<'a>(layout: &Layout<'a>, place: usize, name: &[u8]) -> &'a [u8]
+    requires { place < length layout.now.items.now }
+    ensures { result.now ≡ unwrap_or (value_of layout.now.items.now place name.now) [] }
+{
+    match layout.value(place, name) {
+        None => b"",
+        Some(text) => text,
+    }
+}
+
+/// Notes the System of the block at a place, if that is an EnablePort.
+fn add_enable(enabled: &mut Vec<bool>, layout: &Layout, place: usize)
+    requires within { place < length layout.now.items.now }
+    requires long { length enabled.old.items ≡ length layout.now.items.now }
+    ensures { (before : List ℕ) → AreEnabled layout.now.items.now before enabled.old.items
+        → AreEnabled layout.now.items.now (before ++ place ∷ []) enabled.new.items }
+{
+    if !layout.says(place, b"BlockType", b"EnablePort") {
+        return;
+    }
+    let Some(system) = layout.holder(place) else {
+        return;
+    };
+    enabled[system] = true;
+}
+
+/// Of each item whether it is a System that has an EnablePort.
+fn enabled(alloc: Global, known: &Known) -> Result<Vec<bool>, OutOfMemory>
+    requires { IsKnown known.now }
+    ensures { IfOk result (λ enabled. AreEnabled known.now.layout.items.now
+        (blocks_of known.now.layout.items.now) enabled.items) }
+{
+    let mut enabled = vec![in alloc; false; known.layout.count()]?;
+    for place in known.blocks.places() {
+        add_enable(&mut enabled, &known.layout, *place);
+    }
+    Ok(enabled)
+}
+
+/// Of each item that is a block its number.
+fn numbers(alloc: Global, known: &Known) -> Result<Vec<u32>, OutOfMemory>
+    requires { IsKnown known.now }
+    ensures { IfOk result (λ numbers. AreNumbers known.now.layout.items.now numbers.items) }
+{
+    let mut numbers = vec![in alloc; 0; known.layout.count()]?;
+    for (number, place) in known.blocks.places().iter().enumerate() {
+        numbers[*place] = number as u32;
+    }
+    Ok(numbers)
+}
+
+impl<'a> Maker<'a> {
+    ghost use Rattle.mdl_build.specs.inner.Makers.{IsMaker, items_of};
+    ghost use Rattle.mdl_build.specs.inner.Readings.{IsReading};
+
+    /// What makes the blocks of a tree.
+    pub fn new(alloc: Global, known: Known<'a>) -> Result<Maker<'a>, OutOfMemory>
+        requires { IsKnown known }
+        ensures maker { IfOk result IsMaker }
+        ensures items { IfOk result (λ maker. items_of maker ≡ known.entry.layout.items.now) }
+    {
+        let enabled = enabled(alloc, &known)?;
+        let numbers = numbers(alloc, &known)?;
+        let defaults = defaults(alloc, &known.layout, &known.roles)?;
+        Ok(Maker {
+            known,
+            enabled,
+            numbers,
+            defaults,
+        })
+    }
+
+    /// Where the block at a place stands.
+    fn standing(&self, place: usize, parent: Option<usize>) -> Standing
+        requires maker { IsMaker self.now }
+        requires within { place < length (items_of self.now) }
+        ensures { result ≡ standing_in (items_of self.now) parent (holder_of (items_of self.now) place) }
+    {
+        if parent.is_none() {
+            return Standing::Root;
+        }
+        let Some(system) = self.known.layout.holder(place) else {
+            return Standing::Root;
+        };
+        if self.enabled[system] {
+            Standing::Enabled
+        } else {
+            Standing::Plain
+        }
+    }
+
+    /// The number of a subsystem.
+    fn number(&self, parent: Option<usize>) -> Option<u32>
+        requires maker { IsMaker self.now }
+        requires within { ForSome parent (λ place. place < length (items_of self.now)) }
+        requires counts { ForSome parent (λ place. is_block (role_of (items_of self.now) place) ≡ true) }
+        ensures { result ≡ option_map (number_at (items_of self.now)) parent }
+    {
+        match parent {
+            None => None,
+            Some(place) => Some(self.numbers[place]),
+        }
+    }
+
+    /// What the parameters of the block at a place are read as.
+    fn reading(
+        &self,
+        alloc: Global,
+        place: usize,
+        block_type: BlockType,
+    ) -> Result<Reading, OutOfMemory>
+        requires maker { IsMaker self.now }
+        requires within { place < length (items_of self.now) }
+        ensures { IfOk result (IsReading (items_of self.now) block_type place) }
+    {
+        let defaults = &self.defaults[number_of(block_type)];
+        read_block(alloc, &self.known.layout, defaults, block_type, place)
+    }
+
+    /// The block at a place with these settings.
+    fn block_with(
+        &self,
+        alloc: Global,
+        place: usize,
+        block_type: BlockType,
+        settings: Settings,
+    ) -> Result<NestedBlock, OutOfMemory>
+        requires maker { IsMaker self.now }
+        requires within { place < length (items_of self.now) }
+        requires named { is_some (value_of (items_of self.now) place (codes "Name")) ≡ true }
+        requires typed { type_at (items_of self.now) place ≡ Some block_type }
+        requires has { HasSettings (items_of self.now) block_type place settings }
+        ensures { IfOk result (IsBlockAt (items_of self.now) place) }
+    {
+        let layout = &self.known.layout;
+        let parent = parent(layout, &self.known.roles, place);
+        let part = part_of(alloc, self.standing(place, parent), block_type, settings)?;
+        let name = Text::copy(alloc, text_or_empty(layout, place, b"Name"))?;
+        Ok(NestedBlock {
+            name,
+            parent: self.number(parent),
+            part,
+        })
+    }
+
+    /// The block at a place.
+    pub fn block(
+        &self,
+        alloc: Global,
+        place: usize,
+        block_type: BlockType,
+    ) -> Result<NestedBlock, CheckFault>
+        requires maker { IsMaker self.now }
+        requires within { place < length (items_of self.now) }
+        requires counts { is_block (role_of (items_of self.now) place) ≡ true }
+        requires named { is_some (value_of (items_of self.now) place (codes "Name")) ≡ true }
+        requires typed { type_at (items_of self.now) place ≡ Some block_type }
+        ensures ok { IfOk result (IsBlockAt (items_of self.now) place) }
+        ensures err { IfErr result (IsRefusal (IsWrongAt (items_of self.now) block_type place)) }
+    {
+        match self.reading(alloc, place, block_type)? {
+            Reading::Read(settings) => {
+                let block = self.block_with(alloc, place, block_type, settings)?;
+                Ok(block)
+            }
+            Reading::Wrong(name) => {
+                let fault = self.known.broken_at(alloc, 3, place, name.as_bytes())?;
+                Err(CheckFault::Broken(fault))
+            }
+        }
+    }
+}
