@@ -1,8 +1,9 @@
 -- Decimals that are 0, and those above it.
-use Rattle.std.proofs.Common.{◌≡◌, ℕ, ◌≤◌, ◌⊎◌, inl, inr, true, false, eqb, List, Option, None, Some, sym, ◌∙◌, ap, arith, true≢false, eqb-true, get_or, ◌∷◌, [], length, ap₂, subst}
+use Rattle.std.proofs.Common.{◌≡◌, ℕ, false, eqb, List, Option, None, Some, sym, ◌∙◌, ap, arith, true≢false, eqb-true, get_or, ◌∷◌, [], length, ap₂, subst}
 use Rattle.std.specs.Prelude.{IsTrue, ◌↔◌}
 use Rattle.fx_type.specs.declared.decimal.Decimal.{Decimal}
 use Rattle.fx_round.specs.DecimalText.{IsDecimal}
+use Rattle.dg_model.specs.KindRow.{IsPeriod}
 use Rattle.mdl_values.specs.Reads.{Finds}
 use Rattle.mdl_values.specs.Pieces.{bracket_elements}
 use Rattle.mdl_values.specs.Periods.{IsZeroText, IsAboveZero, IsWithOffset}
@@ -20,13 +21,11 @@ pub zero_unknown : (text : List ℕ) → ((d : Decimal) → ¬ IsDecimal text d)
 zero_unknown text none = (λ test. absurd (true≢false (sym test)), λ z. absurd (none z.decimal z.read))
 
 -- one that is negative, or 0, isn't above 0
-pub not_above : (text : List ℕ) (d : Decimal) → IsDecimal text d → (d.negative ≡ true) ⊎ (d.digits ≤ 0) → (period : Decimal) → ¬ IsAboveZero text period
-not_above text d read (inl negative) period above =
+pub not_above : (text : List ℕ) (d : Decimal) → IsDecimal text d → ¬ IsPeriod d → (period : Decimal) → ¬ IsAboveZero text period
+not_above text d read small period above =
     let same = one_decimal text d period read above.read in
-    true≢false (sym negative ∙ same.0 ∙ above.above.sign)
-not_above text d read (inr small) period above =
-    let same = one_decimal text d period read above.read in
-    omega (arith, same.1, above.above.above, small)
+    let more = above.above.above in
+    small (record { sign = same.0 ∙ above.above.sign; above = omega (arith, same.1, more) })
 
 some_same : (xs ys : List (List ℕ)) → Some xs ≡ Some ys → xs ≡ ys
 some_same xs ys e = cc

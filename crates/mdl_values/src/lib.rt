@@ -11,6 +11,8 @@ mod numbers;
 mod periods;
 mod pieces;
 mod signs;
+#[cfg(test)]
+mod tests;
 mod types;
 mod words;
 

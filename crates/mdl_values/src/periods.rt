@@ -1,5 +1,6 @@
 //! Periods and declared widths.
 ghost use Rattle.std.specs.Prelude.{◌≡◌, IsTrue, ◌↔◌, IfOk};
+ghost use Rattle.dg_model.specs.KindRow.{IsPeriod};
 ghost use Rattle.mdl_values.specs.Reads.{Finds};
 ghost use Rattle.mdl_values.specs.Periods.{IsZeroText, IsAboveZero, IsWithOffset, IsPeriodText, IsSampleTime, IsConstantTime, IsBracketedNumber, IsWidthNumber, IsWidthText};
 
@@ -21,13 +22,20 @@ fn is_zero(text: &[u8]) -> bool
     }
 }
 
+/// Whether a decimal is above 0.
+fn is_above(value: Decimal) -> bool
+    ensures { IsTrue result ↔ IsPeriod value }
+{
+    !value.negative && value.digits > 0
+}
+
 /// Reads a decimal above 0.
 fn above_zero(text: &[u8]) -> Option<Decimal>
     ensures { Finds (IsAboveZero text.now) result }
 {
     match decimal(text) {
-        Some(value) if !value.negative && value.digits > 0 => Some(value),
-        _ => None,
+        Some(value) => { if is_above(value) { Some(value) } else { None } }
+        None => None,
     }
 }
 
