@@ -9,9 +9,12 @@ pub mod KnownLemmas
 pub mod LineLemmas
 pub mod MakingLemmas
 pub mod NameNumbers
+pub mod PartRanges
 pub mod Places
 pub mod Ranges
 pub mod ReadingLemmas
+pub mod Readable
 pub mod RoleLemmas
 pub mod RoleSteps
+pub mod SettingRanges
 mod Zeros
