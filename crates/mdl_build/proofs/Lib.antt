@@ -1,4 +1,5 @@
 pub mod Above
+pub mod BlockNumbers
 pub mod BlockPlaces
 pub mod CountLemmas
 pub mod Ends
@@ -17,4 +18,8 @@ pub mod Readable
 pub mod RoleLemmas
 pub mod RoleSteps
 pub mod SettingRanges
+pub mod SoundBlocks
+pub mod SoundParts
+pub mod SoundSearch
+pub mod SoundTree
 mod Zeros

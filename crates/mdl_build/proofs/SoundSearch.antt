@@ -1,0 +1,83 @@
+-- What is found in lists.
+use Rattle.std.proofs.Common.{◌≡◌, ℕ, zero, suc, ◌+◌, ◌-◌, ◌<◌, ◌≤◌, Bool, true, false, cond, List, [], ◌∷◌, length, get_or, Option, Some, None, refl, sym, ◌∙◌, ap, arith, true≢false}
+use Rattle.std.specs.Prelude.{◌||◌, All, count_by, filter_map, position, slice_get}
+use Rattle.std.specs.List.{list_any, range_with_len, position_from, AllZip}
+use Rattle.std.proofs.lemmas.Option.{slice_get-get_or, slice_get_within}
+use Rattle.mdl_build.proofs.BlockNumbers.{count_cons}
+
+-- one of them passes
+pub any_here : {A : Type 0} (P : A → Bool) (xs : List A) (k : ℕ) (x : A) → slice_get xs k ≡ Some x → P x ≡ true → list_any P xs ≡ true
+any_here {A} P [] k x there passes = let bad : ◌≡◌ {A = Option A} None (Some x) = there in absurd (cc)
+any_here {A} P (y ∷ ys) zero x there passes =
+    let first : ◌≡◌ {A = Option A} (Some y) (Some x) = there in
+    let same : y ≡ x = cc in
+    or_left (P y) (list_any P ys) (ap P same ∙ passes)
+  where
+    or_left : (a b : Bool) → a ≡ true → (a || b) ≡ true
+    or_left true b e = refl
+    or_left false b e = absurd (true≢false (sym e))
+any_here {A} P (y ∷ ys) (suc k) x there passes = or_right (P y) (list_any P ys) (any_here P ys k x there passes)
+  where
+    or_right : (a b : Bool) → b ≡ true → (a || b) ≡ true
+    or_right true b e = refl
+    or_right false b e = e
+
+pub any_found : {A : Type 0} (P : A → Bool) (xs : List A) → list_any P xs ≡ true → (k : ℕ) × (x : A) × (slice_get xs k ≡ Some x) × (P x ≡ true)
+any_found P [] some = absurd (true≢false (sym some))
+any_found {A} P (y ∷ ys) some = by_test (any_found P ys) (P y) refl some
+  where
+    by_test : (list_any P ys ≡ true → (k : ℕ) × (x : A) × (slice_get ys k ≡ Some x) × (P x ≡ true)) → (b : Bool) → P y ≡ b → (b || list_any P ys) ≡ true → (k : ℕ) × (x : A) × (slice_get (y ∷ ys) k ≡ Some x) × (P x ≡ true)
+    by_test rest true e h = (0, y, refl, e)
+    by_test rest false e h = let found = rest h in (suc found.0, found.1, found.2, found.3)
+
+-- one that is counted
+pub one_counted : (P : ℕ → Bool) (from count : ℕ) → count_by P (range_with_len from count) ≡ 1 → (place : ℕ) × (from ≤ place) × (place < from + count) × (P place ≡ true)
+one_counted P from zero one = let bad : 0 ≡ 1 = one in absurd (omega (arith, bad))
+one_counted P from (suc count) one = by_test (λ h. one_counted P (from + 1) count h) (P from) refl
+  where
+    by_test : (count_by P (range_with_len (from + 1) count) ≡ 1 → (place : ℕ) × (from + 1 ≤ place) × (place < from + 1 + count) × (P place ≡ true)) → (b : Bool) → P from ≡ b → (place : ℕ) × (from ≤ place) × (place < from + suc count) × (P place ≡ true)
+    by_test rest true e = (from, omega arith, omega arith, e)
+    by_test rest false e =
+        let counted = sym (ap (λ (b : Bool). (0 + cond b 1 0) + count_by P (range_with_len (from + 1) count)) e) ∙ sym (count_cons P from (range_with_len (from + 1) count)) ∙ one in
+        let found = rest (omega (arith, counted)) in
+        let low = found.1 in
+        let high = found.2 in
+        (found.0, omega arith, omega arith, found.3)
+
+-- the first that passes: it is there, and none before it passes
+pub first_from : {A : Type 0} (P : A → Bool) (start : ℕ) (xs : List A) (k : ℕ) → position_from P start xs ≡ Some k → (start ≤ k) × ((x : A) × (slice_get xs (k - start) ≡ Some x) × (P x ≡ true)) × ((i : ℕ) (y : A) → slice_get xs i ≡ Some y → P y ≡ true → k ≤ start + i)
+first_from {A} P start [] k found = let bad : ◌≡◌ {A = Option ℕ} None (Some k) = found in absurd (cc)
+first_from {A} P start (y ∷ ys) k found = by_test (first_from P (start + 1) ys k) (P y) refl found
+  where
+    by_test : (position_from P (start + 1) ys ≡ Some k → (start + 1 ≤ k) × ((x : A) × (slice_get ys (k - (start + 1)) ≡ Some x) × (P x ≡ true)) × ((i : ℕ) (z : A) → slice_get ys i ≡ Some z → P z ≡ true → k ≤ start + 1 + i))
+        → (b : Bool) → P y ≡ b → cond b (Some start) (position_from P (start + 1) ys) ≡ Some k
+        → (start ≤ k) × ((x : A) × (slice_get (y ∷ ys) (k - start) ≡ Some x) × (P x ≡ true)) × ((i : ℕ) (z : A) → slice_get (y ∷ ys) i ≡ Some z → P z ≡ true → k ≤ start + i)
+    by_test rest true e h =
+        let first : ◌≡◌ {A = Option ℕ} (Some start) (Some k) = h in
+        let same : start ≡ k = cc in
+        let none : k - start ≡ 0 = omega arith in
+        (omega arith, (y, ap (slice_get (y ∷ ys)) none, e), λ i z there passes. omega arith)
+    by_test rest false e h =
+        let more = rest h in
+        let low = more.0 in
+        let behind : k - start ≡ suc (k - (start + 1)) = omega arith in
+        (omega arith, (more.1.0, ap (slice_get (y ∷ ys)) behind ∙ more.1.1, more.1.2), later (λ i z there passes. more.2 i z there passes))
+      where
+        later : ((i : ℕ) (z : A) → slice_get ys i ≡ Some z → P z ≡ true → k ≤ start + 1 + i) → (i : ℕ) (z : A) → slice_get (y ∷ ys) i ≡ Some z → P z ≡ true → k ≤ start + i
+        later each zero z there passes =
+            let head : ◌≡◌ {A = Option A} (Some y) (Some z) = there in
+            let same : y ≡ z = cc in absurd (true≢false (sym passes ∙ ap P (sym same) ∙ e))
+        later each (suc i) z there passes = let bound = each i z there passes in omega arith
+
+-- what a map that skips gives
+pub all_mapped : {A B : Type 0} (P : B → Type 0) (h : A → Option B) (xs : List A) → ((x : A) (y : B) → h x ≡ Some y → P y) → All P (filter_map h xs)
+all_mapped P h [] each = λ k d below. absurd (omega arith)
+all_mapped {A} {B} P h (x ∷ xs) each = by_value (all_mapped P h xs each) (h x) refl
+  where
+    by_value : All P (filter_map h xs) → (found : Option B) → h x ≡ found → All P (filter_map h (x ∷ xs))
+    by_value rest None e = rw e rest
+    by_value rest (Some y) e = rw e (both rest (each x y e))
+      where
+        both : All P (filter_map h xs) → P y → All P (y ∷ filter_map h xs)
+        both rest here zero d below = here
+        both rest here (suc k) d below = rest k d (omega arith)
