@@ -19,6 +19,7 @@ pub mod RoleLemmas
 pub mod RoleSteps
 pub mod SettingRanges
 pub mod SoundBlocks
+pub mod SoundLines
 pub mod SoundParts
 pub mod SoundSearch
 pub mod SoundTree
