@@ -21,6 +21,7 @@ pub mod SettingRanges
 pub mod SoundBlocks
 pub mod SoundLines
 pub mod SoundParts
+pub mod SoundPorts
 pub mod SoundSearch
 pub mod SoundTree
 mod Zeros
