@@ -18,8 +18,10 @@ pub mod Readable
 pub mod RoleLemmas
 pub mod RoleSteps
 pub mod SettingRanges
+pub mod Sound
 pub mod SoundBlocks
 pub mod SoundLines
+pub mod SoundNames
 pub mod SoundParts
 pub mod SoundPorts
 pub mod SoundSearch

@@ -64,8 +64,8 @@ has_parts (size ∷ sizes) count some is = is
 
 pub mux_parts : (text : List ℕ) (count : ℕ) (sizes : List ℕ) → IsPartsText text count sizes → HasParts sizes count × IsBetween 0 1024 (length sizes) × All (IsBetween 1 1024) sizes
 mux_parts text count sizes read = elim read [
-  inl number ↦ let none = number.1 in rw none (number.0.in_range, (omega arith, omega arith), λ k d below. absurd (omega arith)) |
-  inr list ↦ (has_parts sizes count list.0.size.0 list.1, (omega arith, list.0.size.1), each_size list.0.texts sizes list.0.read)
+  | inl number ↦ let none = number.1 in rw none (number.0.in_range, (omega arith, omega arith), λ k d below. absurd (omega arith))
+  | inr list ↦ (has_parts sizes count list.0.size.0 list.1, (omega arith, list.0.size.1), each_size list.0.texts sizes list.0.read)
 ]
 
 -- sizes that are there stay
@@ -75,11 +75,11 @@ open_some (size ∷ sizes) count some = refl
 
 pub demux_parts : (text : List ℕ) (count : ℕ) (sizes : List ℕ) → IsPartsText text count sizes → (count ≡ length (open_sizes count sizes)) × IsBetween 1 1024 (length (open_sizes count sizes)) × (All (IsBetween 1 1024) (open_sizes count sizes) ⊎ All (Only 0) (open_sizes count sizes))
 demux_parts text count sizes read = elim read [
-  inl number ↦
-    let none = number.1 in
-    let zero_number : ℕ = 0 in
-    let long : length (replicate count zero_number) ≡ count = length-replicate count zero_number in
-    let zeros : All (Only zero_number) (replicate count zero_number) = All-replicate (Only zero_number) count zero_number refl in
-    rw none (sym long, (rw long (number.0.in_range.0), rw long (number.0.in_range.1)), inr zeros) |
-  inr list ↦ let same = open_some sizes count list.0.size.0 in rw same (list.1, list.0.size, inl (each_size list.0.texts sizes list.0.read))
+  | inl number ↦
+      let none = number.1 in
+      let zero_number : ℕ = 0 in
+      let long : length (replicate count zero_number) ≡ count = length-replicate count zero_number in
+      let zeros : All (Only zero_number) (replicate count zero_number) = All-replicate (Only zero_number) count zero_number refl in
+      rw none (sym long, (rw long (number.0.in_range.0), rw long (number.0.in_range.1)), inr zeros)
+  | inr list ↦ let same = open_some sizes count list.0.size.0 in rw same (list.1, list.0.size, inl (each_size list.0.texts sizes list.0.read))
 ]

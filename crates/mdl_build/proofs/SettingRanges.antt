@@ -52,8 +52,8 @@ auto_of word text setting read = elim read [ inl chosen ↦ (Auto, tt, tt, chose
 
 pub choice_of : (default first text : List ℕ) (setting : Setting) → IsTypeOrFirst default first text setting → (spec : TypeSpec) × IsChoice spec × IsSpec spec × (setting ≡ Setting.Result spec)
 choice_of default first text setting read = elim read [
-  inl same ↦ (SameFirst, tt, tt, same.setting_is) |
-  inr other ↦ elim other [ inl internal ↦ (Internal, tt, tt, internal.setting_is) | inr given ↦ (Fixed given.0, tt, type_valid text given.0 given.1, given.2) ]
+  | inl same ↦ (SameFirst, tt, tt, same.setting_is)
+  | inr other ↦ elim other [ inl internal ↦ (Internal, tt, tt, internal.setting_is) | inr given ↦ (Fixed given.0, tt, type_valid text given.0 given.1, given.2) ]
 ]
 
 pub coefficient_of : (default text : List ℕ) (spec : TypeSpec) → IsCoefficient default text spec → IsChoice spec × IsSpec spec
@@ -87,20 +87,20 @@ width_range text width read = by_word _ read
     by_word : (b : Bool) → MatchBool b (width ≡ 0) (IsWidthNumber text width) → IsBetween 0 1024 width
     by_word true none = (omega arith, omega (arith, none))
     by_word false some = elim some [
-      inl alone ↦ let most = alone.in_range.1 in (omega arith, most) |
-      inr inside ↦ let most = inside.read.in_range.1 in (omega arith, most)
+      | inl alone ↦ let most = alone.in_range.1 in (omega arith, most)
+      | inr inside ↦ let most = inside.read.in_range.1 in (omega arith, most)
     ]
 
 pub list_size : (text : List ℕ) (list : List Decimal) → IsListOrEmpty text list → IsList list
 list_size text list read = elim read [
-  inl empty ↦ let alone = empty.1 in rw alone (lit≤ tt, lit≤ tt) |
-  inr some ↦ some.size
+  | inl empty ↦ let alone = empty.1 in rw alone (lit≤ tt, lit≤ tt)
+  | inr some ↦ some.size
 ]
 
 pub signs_size : (text : List ℕ) (signs : List Bool) → IsSignsText text signs → IsBetween 2 32 (length signs)
 signs_size text signs read = elim read [
-  inl counted ↦ let all = counted.all_add in rw (all, length-replicate) counted.read.in_range |
-  inr signed ↦ signed.size
+  | inl counted ↦ let all = counted.all_add in rw (all, length-replicate) counted.read.in_range
+  | inr signed ↦ signed.size
 ]
 
 -- a conversion says one of two

@@ -113,16 +113,16 @@ pub has_parent : (items : List Item) (blocks : List NestedBlock) → AllZip (IsB
 has_parent items blocks zip number block there =
     let h = block_here items blocks zip number block there in
     elim h.stands.cases [
-      inl root ↦ subst (HasParent blocks number) (sym (h.here.parent ∙ ap (option_map (number_at items)) root.1)) tt |
-      inr sub ↦
-        let before : h.stands.holder < h.place = omega (arith, h.stands.before, h.stands.holder_before) in
-        let inside : h.stands.holder < length items = omega (arith, before, h.within) in
-        let counts : is_block (role_of items h.stands.holder) ≡ true = ap is_block sub.1 in
-        let less : number_at items h.stands.holder < number = omega (arith, number_before items h.stands.holder h.place h.within counts h.counts before, h.number_is) in
-        let other = block_there items blocks zip (number_at items h.stands.holder) h.stands.holder (block_at items h.stands.holder inside counts) in
-        let is_sub : IsSubSystem other.0.part = role_sub items h.stands.holder sub.0 other.0 (stand items h.stands.holder counts) sub.1 other.2 in
-        subst (HasParent blocks number) (sym (h.here.parent ∙ ap (option_map (number_at items)) sub.3))
-        (less, subst (λ (found : Option NestedBlock). MatchOption found ⊥ (λ o. IsSubSystem o.part)) (sym other.1) is_sub)
+      | inl root ↦ subst (HasParent blocks number) (sym (h.here.parent ∙ ap (option_map (number_at items)) root.1)) tt
+      | inr sub ↦
+          let before : h.stands.holder < h.place = omega (arith, h.stands.before, h.stands.holder_before) in
+          let inside : h.stands.holder < length items = omega (arith, before, h.within) in
+          let counts : is_block (role_of items h.stands.holder) ≡ true = ap is_block sub.1 in
+          let less : number_at items h.stands.holder < number = omega (arith, number_before items h.stands.holder h.place h.within counts h.counts before, h.number_is) in
+          let other = block_there items blocks zip (number_at items h.stands.holder) h.stands.holder (block_at items h.stands.holder inside counts) in
+          let is_sub : IsSubSystem other.0.part = role_sub items h.stands.holder sub.0 other.0 (stand items h.stands.holder counts) sub.1 other.2 in
+          subst (HasParent blocks number) (sym (h.here.parent ∙ ap (option_map (number_at items)) sub.3))
+          (less, subst (λ (found : Option NestedBlock). MatchOption found ⊥ (λ o. IsSubSystem o.part)) (sym other.1) is_sub)
     ]
 
 -- ---- levels
@@ -160,13 +160,13 @@ have_levels items blocks known zip = record {
       let h = block_here items blocks zip number block there in
       let own = level_at items number h.place h.stands.level h.there (sub_role items number block h is) in
       let around : h.stands.level ≡ level_of items block.parent = elim h.stands.cases [
-        inl root ↦ root.0 ∙ sym (ap (level_of items) (h.here.parent ∙ ap (option_map (number_at items)) root.1)) |
-        inr sub ↦
-          let inside : h.stands.holder < length items = omega (arith, h.stands.before, h.stands.holder_before, h.within) in
-          let counts : is_block (role_of items h.stands.holder) ≡ true = ap is_block sub.1 in
-          let most : deeper sub.0 ≤ 64 = omega (arith, known.shallow h.stands.system h.stands.level (omega (arith, h.stands.before, h.within)) h.stands.system_is, sub.2) in
-          sub.2 ∙ deeper_is sub.0 most ∙ sym (level_at items (number_at items h.stands.holder) h.stands.holder sub.0 (block_at items h.stands.holder inside counts) sub.1)
-          ∙ sym (ap (level_of items) (h.here.parent ∙ ap (option_map (number_at items)) sub.3))
+        | inl root ↦ root.0 ∙ sym (ap (level_of items) (h.here.parent ∙ ap (option_map (number_at items)) root.1))
+        | inr sub ↦
+            let inside : h.stands.holder < length items = omega (arith, h.stands.before, h.stands.holder_before, h.within) in
+            let counts : is_block (role_of items h.stands.holder) ≡ true = ap is_block sub.1 in
+            let most : deeper sub.0 ≤ 64 = omega (arith, known.shallow h.stands.system h.stands.level (omega (arith, h.stands.before, h.within)) h.stands.system_is, sub.2) in
+            sub.2 ∙ deeper_is sub.0 most ∙ sym (level_at items (number_at items h.stands.holder) h.stands.holder sub.0 (block_at items h.stands.holder inside counts) sub.1)
+            ∙ sym (ap (level_of items) (h.here.parent ∙ ap (option_map (number_at items)) sub.3))
       ] in
       own ∙ ap suc around;
   deepest = λ number block there is.
@@ -207,9 +207,9 @@ have_levels items blocks known zip = record {
         let holder : above.holder ≡ place = same_Some above.holder place (sym above.under.at_holder ∙ held) in
         let most = known.shallow system is.0 within is.1 in
         elim above.holder_is [
-          inl model ↦ let bad : Model ≡ SubSystem level = sym model.0 ∙ ap (role_of items) holder ∙ role_is in absurd (cc) |
-          inr sub ↦
-            let outer : sub.0 ≡ level = same_sub sub.0 level (sym sub.1 ∙ ap (role_of items) holder ∙ role_is) in
-            let bound : deeper sub.0 ≤ 64 = omega (arith, sub.2, most) in
-            omega (arith, deeper_is sub.0 bound, bound, outer)
+          | inl model ↦ let bad : Model ≡ SubSystem level = sym model.0 ∙ ap (role_of items) holder ∙ role_is in absurd (cc)
+          | inr sub ↦
+              let outer : sub.0 ≡ level = same_sub sub.0 level (sym sub.1 ∙ ap (role_of items) holder ∙ role_is) in
+              let bound : deeper sub.0 ≤ 64 = omega (arith, sub.2, most) in
+              omega (arith, deeper_is sub.0 bound, bound, outer)
         ]

@@ -96,6 +96,7 @@ named_block items system name number e =
     by_test : (place holder : ℕ) (b : Bool) → (holder == system) ≡ b → holder_of items place ≡ Some holder → (b && says items place (codes "Name") name) ≡ true → holder_of items place ≡ Some system
     by_test place holder true t there f = there ∙ ap Some (eqb-true holder system t)
     by_test place holder false t there f = absurd (true≢false (sym f))
+
     by_holder : (found : Option ℕ) → holder_of items (get_or (blocks_of items) number 0) ≡ found → is_named_in items system name (get_or (blocks_of items) number 0) ≡ true → holder_of items (get_or (blocks_of items) number 0) ≡ Some system
     by_holder None there f = absurd (true≢false (sym (sym (ap (λ (o : Option ℕ). elim o [ None ↦ false | Some holder ↦ holder == system ] && says items (get_or (blocks_of items) number 0) (codes "Name") name) there) ∙ f)))
     by_holder (Some holder) there f =
@@ -139,6 +140,7 @@ target_between (Some text) target e = by (bytes_eq text (codes "enable")) e
     by_port : (found : Option ℕ) → port_of (Some text) ≡ found → to_port found ≡ Some target → IsTarget target
     by_port None there f = absurd (none-some target f)
     by_port (Some port) there f = subst IsTarget (same_Some (Target.Port port) target f) (port_between (Some text) port there)
+
     by : (b : Bool) → cond b (Some Target.Enable) (to_port (port_of (Some text))) ≡ Some target → IsTarget target
     by true f = subst IsTarget (same_Some Target.Enable target f) tt
     by false f = by_port (port_of (Some text)) refl f
@@ -200,6 +202,7 @@ goal_parts items line place to target e = by (value_of items place (codes "DstBl
           block = subst (IsNamedBlock items h.0) same_to h.2;
           port = subst IsTarget same_target (target_between (value_of items place (codes "DstPort")) end is);
         }
+
     by : (name : Option (List ℕ)) → goal_by items line name (value_of items place (codes "DstPort")) ≡ Goal.To to target → IsGoalOf items line to target
     by None f = let bad : Goal.Nowhere ≡ Goal.To to target = f in cc
     by (Some name) f = by_ends name (named_by items line (Some name)) refl (target_of (value_of items place (codes "DstPort"))) refl f

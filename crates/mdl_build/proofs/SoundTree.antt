@@ -78,7 +78,7 @@ kept items none =
     let small = and_right _ (nat_le (length (blocks_of items)) 20000) fronts in
     let joined = and_right _ (list_all (λ place. keeps_line items place (role_of items place)) (places_of items)) parts.0 in
     let one : count_by (λ (place : ℕ). is_system (λ level. level == 1) (role_of items place)) (range_with_len 0 (length items)) ≡ 1 =
-        sym (count_map (is_system (λ level. level == 1)) (role_of items) (range_with_len 0 (length items))) ∙ grind (arith, nat_tests, root) in
+    sym (count_map (is_system (λ level. level == 1)) (role_of items) (range_with_len 0 (length items))) ∙ grind (arith, nat_tests, root) in
     record {
       one_root = λ a b within within' is is'. only_one (λ (place : ℕ). is_system (λ level. level == 1) (role_of items place)) 0 (length items) a b one (omega arith) (omega arith) (ap (is_system (λ level. level == 1)) is) (omega arith) (omega arith) (ap (is_system (λ level. level == 1)) is');
       shallow = λ place level within is.
@@ -122,8 +122,8 @@ stand items place counts = record {
   in_holder = above.under.at_holder;
   holder_before = holder_before items own.system above.holder above.under.at_holder;
   cases = elim above.holder_is [
-    inl model ↦ inl (model.1, parent_is ∙ ap (if_subsystem above.holder) model.0) |
-    inr sub ↦ inr (sub.0, sub.1, sub.2, parent_is ∙ ap (if_subsystem above.holder) sub.1)
+    | inl model ↦ inl (model.1, parent_is ∙ ap (if_subsystem above.holder) model.0)
+    | inr sub ↦ inr (sub.0, sub.1, sub.2, parent_is ∙ ap (if_subsystem above.holder) sub.1)
   ];
 }
   where
@@ -164,17 +164,17 @@ same_Some a b e = cc
 -- two blocks of one parent stand in one System
 pub same_system : (items : List Item) → IsKept items → (one other : ℕ) → one < length items → other < length items → (s : Stand items one) → (t : Stand items other) → option_map (number_at items) (parent_of items one) ≡ option_map (number_at items) (parent_of items other) → s.system ≡ t.system
 same_system items known one other within within' s t same = elim s.cases [
-  inl root ↦ elim t.cases [
-    inl root' ↦ known.one_root s.system t.system (omega (arith, s.before)) (omega (arith, t.before)) (s.system_is ∙ ap System root.0) (t.system_is ∙ ap System root'.0) |
-    inr sub' ↦ let bad : ◌≡◌ {A = Option ℕ} None (Some (number_at items t.holder)) = sym (ap (option_map (number_at items)) root.1) ∙ same ∙ ap (option_map (number_at items)) sub'.3 in cc
-  ] |
-  inr sub ↦ elim t.cases [
-    inl root' ↦ let bad : ◌≡◌ {A = Option ℕ} (Some (number_at items s.holder)) None = sym (ap (option_map (number_at items)) sub.3) ∙ same ∙ ap (option_map (number_at items)) root'.1 in cc |
-    inr sub' ↦
-      let numbers = same_Some (number_at items s.holder) (number_at items t.holder) (sym (ap (option_map (number_at items)) sub.3) ∙ same ∙ ap (option_map (number_at items)) sub'.3) in
-      let inside : s.holder < length items = omega (arith, s.before, s.holder_before) in
-      let inside' : t.holder < length items = omega (arith, t.before, t.holder_before) in
-      let holders : s.holder ≡ t.holder = one_number items s.holder t.holder inside (ap is_block sub.1) inside' (ap is_block sub'.1) numbers in
-      one_system items known s.holder sub.0 s.system t.system s.level t.level inside sub.1 (omega (arith, s.before)) (omega (arith, t.before)) s.system_is t.system_is s.in_holder (t.in_holder ∙ ap (λ (h : ℕ). Some h) (sym holders))
+  | inl root ↦ elim t.cases [
+    | inl root' ↦ known.one_root s.system t.system (omega (arith, s.before)) (omega (arith, t.before)) (s.system_is ∙ ap System root.0) (t.system_is ∙ ap System root'.0)
+    | inr sub' ↦ let bad : ◌≡◌ {A = Option ℕ} None (Some (number_at items t.holder)) = sym (ap (option_map (number_at items)) root.1) ∙ same ∙ ap (option_map (number_at items)) sub'.3 in cc
+  ]
+  | inr sub ↦ elim t.cases [
+    | inl root' ↦ let bad : ◌≡◌ {A = Option ℕ} (Some (number_at items s.holder)) None = sym (ap (option_map (number_at items)) sub.3) ∙ same ∙ ap (option_map (number_at items)) root'.1 in cc
+    | inr sub' ↦
+        let numbers = same_Some (number_at items s.holder) (number_at items t.holder) (sym (ap (option_map (number_at items)) sub.3) ∙ same ∙ ap (option_map (number_at items)) sub'.3) in
+        let inside : s.holder < length items = omega (arith, s.before, s.holder_before) in
+        let inside' : t.holder < length items = omega (arith, t.before, t.holder_before) in
+        let holders : s.holder ≡ t.holder = one_number items s.holder t.holder inside (ap is_block sub.1) inside' (ap is_block sub'.1) numbers in
+        one_system items known s.holder sub.0 s.system t.system s.level t.level inside sub.1 (omega (arith, s.before)) (omega (arith, t.before)) s.system_is t.system_is s.in_holder (t.in_holder ∙ ap (λ (h : ℕ). Some h) (sym holders))
   ]
 ]

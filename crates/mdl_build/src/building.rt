@@ -2,6 +2,7 @@
 ghost use Rattle.std.specs.Prelude.{◌≡◌, None, IfOk, IfErr};
 ghost use Rattle.std.specs.List.{AllZip};
 ghost use Rattle.dg_model.specs.Faults.{IsRefusal};
+ghost use Rattle.dg_model.specs.Sound.{IsSound};
 ghost use Rattle.mdl_build.specs.Nested.{IsBlockAt, IsNestedOf};
 ghost use Rattle.mdl_build.specs.Roles.{blocks_of};
 ghost use Rattle.mdl_build.specs.Rules.{structure_fault, library_fault, IsWrongFirst, Breaks};
@@ -55,7 +56,7 @@ fn blocks(alloc: Global, maker: &Maker) -> Result<NestedBlocks, CheckFault>
 /// Broken exactly where the rule of structure, of library or of parameter is: the first of them, at its
 /// first place. Or want of memory.
 pub fn build(alloc: Global, tree: &Tree) -> Result<Nested, CheckFault>
-    ensures ok { IfOk result (IsNestedOf tree.now) }
+    ensures ok { IfOk result (λ nested. IsNestedOf tree.now nested × IsSound nested) }
     ensures err { IfErr result (IsRefusal (Breaks tree.now)) }
 {
     let structured = structure_of(alloc, tree.items.as_slice())?;
