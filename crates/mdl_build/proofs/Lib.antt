@@ -13,8 +13,8 @@ pub mod NameNumbers
 pub mod PartRanges
 pub mod Places
 pub mod Ranges
-pub mod ReadingLemmas
 pub mod Readable
+pub mod ReadingLemmas
 pub mod RoleLemmas
 pub mod RoleSteps
 pub mod SettingRanges
