@@ -266,6 +266,27 @@ module _ (by_layer : ByLayer) (m : Module) (b : BreaksNone m) (scope : Scope) (s
         absurd (false≢true (sym d.2 ∙ subst (λ n. bytes_eq n (codes "clk") ≡ true) named clk)))
         ∙ input-taken port h i
 
+    -- the operations' places stay
+    pub ops-stay : (place : ℕ) → plan.base ≤ place → slice_index v2 place ≡ slice_index v0 place
+    ops-stay place above =
+        put.others place (λ k low same.
+        let a = place-at k low in
+        let d = driven-in k a.0 a.1 in
+        let c = fixed-slot a.0.name (input-known a.0 d.0) (input-fixed a.0 d.0 d.1) in
+        let there = a.2 in let number = c.2 in let below = c.3 in let base = p.base in
+        omega (arith, there, number, below, base, above, same))
+        ∙ by (taken.each place)
+      where
+        by : (IsFree plan.captures.items place × (slice_index v1 place ≡ slice_index v0 place))
+            ⊎ ((c : Capture) × Contains plan.captures.items c × (c.to ≡ place) × (slice_index v1 place ≡ slice_index v0 c.from))
+            → slice_index v1 place ≡ slice_index v0 place
+        by (inl (free, same)) = same
+        by (inr (c, inside, to, same)) =
+            let r = p.captured.only c inside in
+            let a = fixed-slot r.0 (register-known r.0 r.1 r.2 r.3 r.4) (register-fixed r.0 r.1 r.2 r.3 r.4) in
+            let there = r.5.to in let number = a.2 in let below = a.3 in let base = p.base in
+            absurd (omega (arith, to, there, number, below, base, above))
+
     module _ (fit : AreFit (driven_ports m) bits) where
       driven-put : (port : Port) → Contains m.ports port → port.input ≡ true → bytes_eq port.name (codes "clk") ≡ false
           → (row v2 port.name ≡ given (driven_ports m) bits port.name) × (row v2 port.name < 2 ^ port.width)

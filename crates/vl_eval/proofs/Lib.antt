@@ -1,6 +1,7 @@
 pub mod Bias
 pub mod Fits
 pub mod Forms
+pub mod Halves
 pub mod Swept
 pub mod Words
 pub mod Operands

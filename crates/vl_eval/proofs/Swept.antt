@@ -1,10 +1,13 @@
 -- An operation's value hangs on the places that it reads, so a sweep in order settles them all.
-use Rattle.std.proofs.Common.{◌≡◌, ◌<◌, ◌≤◌, ◌+◌, ⊎_elim, ℕ, List, length, set, slice_index, slice_index_or, refl, sym, ap, ◌∙◌, arith}
-use Rattle.std.proofs.lemmas.List.{get_or-set_same, get_or-set_other, get_or_default}
-use Rattle.std.proofs.lemmas.Bool.{cases_lt}
+use Rattle.std.proofs.Common.{true, subst, [], ◌∷◌, ◌++◌, ◌≡◌, ◌<◌, ◌≤◌, ◌+◌, ⊎_elim, ℕ, List, length, set, slice_index, slice_index_or, refl, sym, ap, ◌∙◌, arith}
+use Rattle.std.proofs.Math.Seq.{get_or-append_seam}
+use Rattle.std.proofs.lemmas.List.{get_or_append_left, get_or-set_same, get_or-set_other, get_or_default, length-append}
+use Rattle.std.proofs.lemmas.Bool.{cases_lt, false≢true}
 use Rattle.vl_eval.specs.declared.ops.Op.{Op}
 use Rattle.vl_eval.specs.declared.ops.Op.TheVariants.{Constant, Extended, Select, Add, Subtract, Multiply, And, Or, Xor, Equal, NotEqual, Less, LessEqual, Both, Either, Negate, Invert, IsZero, Up, SignedDown, Choose, Beside, Next}
-use Rattle.vl_eval.specs.inner.Ops.{op_value, reads_below, IsOrdered}
+use Rattle.vl_eval.specs.inner.Ops.{op_value, reads_below, AreSettled, IsOrdered, IsSettled}
+use Rattle.vl_eval.specs.inner.Steps.{AreConstants, AreSteps, is_constant, op_of}
+use Rattle.vl_eval.specs.declared.steps.Step.{Step}
 
 pub op-agrees : (op : Op) (end : ℕ) → reads_below op end → (f g : ℕ → ℕ) → ((i : ℕ) → i < end → f i ≡ g i) → op_value op f ≡ op_value op g
 op-agrees (Constant bits) end r f g same = refl
@@ -31,16 +34,12 @@ op-agrees (Choose test chosen other) end r f g same = rw (same test r.0, same ch
 op-agrees (Beside left right places) end r f g same = rw (same left r.0, same right r.1) refl
 op-agrees (Next reset first test value kept) end r f g same = rw (same reset r.0, same test r.1, same value r.2, same kept r.3) refl
 
--- the first `count` operations are settled
-pub record Settled (base count : ℕ) (ops : List Op) (values : List ℕ) : Type 0 where
-  pub at : (k : ℕ) (d : Op) → k < count → slice_index values (base + k) ≡ op_value (slice_index_or ops k d) (λ i. slice_index values i)
-
-pub settled-none : (base : ℕ) (ops : List Op) (values : List ℕ) → Settled base 0 ops values
+pub settled-none : (base : ℕ) (ops : List Op) (values : List ℕ) → AreSettled base 0 ops values
 settled-none base ops values = record { at = λ k d below. absurd (omega arith) }
 
 pub settled-more : (base count at : ℕ) (ops : List Op) (values : List ℕ) (op : Op) → at ≡ base + count → IsOrdered base ops → count < length ops → base + length ops ≤ length values
     → op ≡ slice_index_or ops count op
-    → Settled base count ops values → Settled base (count + 1) ops (set values at (op_value op (λ i. slice_index values i)))
+    → AreSettled base count ops values → AreSettled base (count + 1) ops (set values at (op_value op (λ i. slice_index values i)))
 settled-more base count at ops values op here ordered within room is s = record { at = λ k d below. ⊎_elim (old k d) (new k d below) (cases_lt k count) } where
   same : (end : ℕ) → end ≤ at → (i : ℕ) → i < end → slice_index values i ≡ slice_index (set values at (op_value op (λ i. slice_index values i))) i
   same end low i below = sym (get_or-set_other values at i (op_value op (λ i. slice_index values i)) 0 (λ e. omega (arith, e)))
@@ -59,3 +58,96 @@ settled-more base count at ops values op here ordered within room is s = record 
       ∙ get_or-set_same values at (op_value op (λ i. slice_index values i)) 0 (omega arith)
       ∙ ap (λ o. op_value o (λ i. slice_index values i)) this
       ∙ op-agrees (slice_index_or ops k d) (base + k) (ordered.at k d (omega arith)) (λ i. slice_index values i) (λ i. slice_index (set values at (op_value op (λ i. slice_index values i))) i) (same (base + k) (omega arith))
+
+-- the value of the next operation goes to its place
+pub settled-step : (base count value : ℕ) (ops : List Op) (values : List ℕ) → IsOrdered base ops → count < length ops → base + length ops ≤ length values
+    → value ≡ op_value (slice_index_or ops count (Constant 0)) (λ i. slice_index values i)
+    → AreSettled base count ops values → AreSettled base (count + 1) ops (set values (base + count) value)
+settled-step base count value ops values ordered within room is s =
+    let op = slice_index_or ops count (Constant 0) in
+    subst (λ n. AreSettled base (count + 1) ops (set values (base + count) n)) (sym is)
+    (settled-more base count (base + count) ops values op refl ordered within room (get_or_default ops count (Constant 0) op within) s)
+
+constant-agrees : (op : Op) → is_constant op ≡ true → (f g : ℕ → ℕ) → op_value op f ≡ op_value op g
+constant-agrees (Constant bits) e f g = refl
+constant-agrees (Extended part half fill) e f g = absurd (false≢true e)
+constant-agrees (Select part low mask) e f g = absurd (false≢true e)
+constant-agrees (Add left right mask) e f g = absurd (false≢true e)
+constant-agrees (Subtract left right mask) e f g = absurd (false≢true e)
+constant-agrees (Multiply left right mask) e f g = absurd (false≢true e)
+constant-agrees (And left right) e f g = absurd (false≢true e)
+constant-agrees (Or left right) e f g = absurd (false≢true e)
+constant-agrees (Xor left right) e f g = absurd (false≢true e)
+constant-agrees (Equal left right) e f g = absurd (false≢true e)
+constant-agrees (NotEqual left right) e f g = absurd (false≢true e)
+constant-agrees (Less left right half) e f g = absurd (false≢true e)
+constant-agrees (LessEqual left right half) e f g = absurd (false≢true e)
+constant-agrees (Both left right) e f g = absurd (false≢true e)
+constant-agrees (Either left right) e f g = absurd (false≢true e)
+constant-agrees (Negate part mask) e f g = absurd (false≢true e)
+constant-agrees (Invert part mask) e f g = absurd (false≢true e)
+constant-agrees (IsZero part) e f g = absurd (false≢true e)
+constant-agrees (Up part places mask) e f g = absurd (false≢true e)
+constant-agrees (SignedDown part places half mask) e f g = absurd (false≢true e)
+constant-agrees (Choose test chosen other) e f g = absurd (false≢true e)
+constant-agrees (Beside left right places) e f g = absurd (false≢true e)
+constant-agrees (Next reset first test value kept) e f g = absurd (false≢true e)
+
+-- constants keep their values where the places of operations stay
+pub constants-settled : (base count : ℕ) (ops : List Op) (before after : List ℕ) → AreConstants count ops → IsSettled base ops (λ k. slice_index before k)
+    → ((place : ℕ) → base ≤ place → slice_index after place ≡ slice_index before place) → AreSettled base count ops after
+constants-settled base count ops before after constant st stay = record {
+  at = λ k d low.
+      stay (base + k) (omega arith) ∙ st.at k d (let few = constant.few in omega (arith, few, low))
+      ∙ constant-agrees (slice_index_or ops k d) (constant.at k d low) (λ i. slice_index before i) (λ i. slice_index after i);
+}
+
+pub reads-longer : (op : Op) (end more : ℕ) → end ≤ more → reads_below op end → reads_below op more
+reads-longer (Constant bits) end more le r = r
+reads-longer (Extended part half fill) end more le r = omega (arith, r, le)
+reads-longer (Select part low mask) end more le r = (omega (arith, (r.0), le), (r.1))
+reads-longer (Add left right mask) end more le r = (omega (arith, (r.0), le), omega (arith, (r.1), le))
+reads-longer (Subtract left right mask) end more le r = (omega (arith, (r.0), le), omega (arith, (r.1), le))
+reads-longer (Multiply left right mask) end more le r = (omega (arith, (r.0), le), omega (arith, (r.1), le))
+reads-longer (And left right) end more le r = (omega (arith, (r.0), le), omega (arith, (r.1), le))
+reads-longer (Or left right) end more le r = (omega (arith, (r.0), le), omega (arith, (r.1), le))
+reads-longer (Xor left right) end more le r = (omega (arith, (r.0), le), omega (arith, (r.1), le))
+reads-longer (Equal left right) end more le r = (omega (arith, (r.0), le), omega (arith, (r.1), le))
+reads-longer (NotEqual left right) end more le r = (omega (arith, (r.0), le), omega (arith, (r.1), le))
+reads-longer (Less left right half) end more le r = (omega (arith, (r.0), le), omega (arith, (r.1), le))
+reads-longer (LessEqual left right half) end more le r = (omega (arith, (r.0), le), omega (arith, (r.1), le))
+reads-longer (Both left right) end more le r = (omega (arith, (r.0), le), omega (arith, (r.1), le))
+reads-longer (Either left right) end more le r = (omega (arith, (r.0), le), omega (arith, (r.1), le))
+reads-longer (Negate part mask) end more le r = omega (arith, r, le)
+reads-longer (Invert part mask) end more le r = omega (arith, r, le)
+reads-longer (IsZero part) end more le r = omega (arith, r, le)
+reads-longer (Up part places mask) end more le r = (omega (arith, (r.0), le), (r.1))
+reads-longer (SignedDown part places half mask) end more le r = (omega (arith, (r.0), le), (r.1))
+reads-longer (Choose test chosen other) end more le r = (omega (arith, (r.0), le), omega (arith, (r.1), le), omega (arith, (r.2), le))
+reads-longer (Beside left right places) end more le r = (omega (arith, (r.0), le), omega (arith, (r.1), le), (r.2))
+reads-longer (Next reset first test value kept) end more le r = (omega (arith, (r.0), le), omega (arith, (r.1), le), omega (arith, (r.2), le), omega (arith, (r.3), le))
+
+-- a step reads what its operation reads
+pub step-reads : (base k end : ℕ) (ops : List Op) (steps : List Step) (s : Step) (d : Op) → IsOrdered base ops → AreSteps ops steps → k < length ops → base + k ≤ end
+    → reads_below (op_of (slice_index_or steps k s) (slice_index_or ops k d)) end
+step-reads base k end ops steps s d ordered are low le =
+    subst (λ op. reads_below op end) (sym (are.at k s d low)) (reads-longer (slice_index_or ops k d) (base + k) end le (ordered.at k d low))
+
+pub step-of-more : (ops : List Op) (op : Op) (steps : List Step) (step : Step) → op_of step op ≡ op → AreSteps ops steps → AreSteps (ops ++ op ∷ []) (steps ++ step ∷ [])
+step-of-more ops op steps step is are = record {
+  long = length-append steps (step ∷ []) ∙ ap (λ n. n + 1) are.long ∙ sym (length-append ops (op ∷ []));
+  at = λ k s d low. ⊎_elim (old k s d) (new k s d (let n = length-append ops (op ∷ []) in omega (arith, low, n))) (cases_lt k (length ops));
+} where
+  old : (k : ℕ) (s : Step) (d : Op) → k < length ops → op_of (slice_index_or (steps ++ step ∷ []) k s) (slice_index_or (ops ++ op ∷ []) k d) ≡ slice_index_or (ops ++ op ∷ []) k d
+  old k s d low =
+      let e = get_or_append_left steps (step ∷ []) s k (let n = are.long in omega (arith, n, low)) in
+      let e' = get_or_append_left ops (op ∷ []) d k low in
+      (λ i. op_of (e i) (e' i)) ∙ are.at k s d low ∙ sym e'
+
+  new : (k : ℕ) (s : Step) (d : Op) → k < length ops + 1 → length ops ≤ k → op_of (slice_index_or (steps ++ step ∷ []) k s) (slice_index_or (ops ++ op ∷ []) k d) ≡ slice_index_or (ops ++ op ∷ []) k d
+  new k s d below above =
+      let here : k ≡ length ops = omega arith in
+      let there : k ≡ length steps = here ∙ sym are.long in
+      let e = ap (λ j. slice_index_or (steps ++ step ∷ []) j s) there ∙ get_or-append_seam steps step [] s in
+      let e' = ap (λ j. slice_index_or (ops ++ op ∷ []) j d) here ∙ get_or-append_seam ops op [] d in
+      (λ i. op_of (e i) (e' i)) ∙ is ∙ sym e'

@@ -1,6 +1,7 @@
 -- What private contracts cite.
 pub mod Built
 pub mod Ops
+pub mod Steps
 pub mod Shown
 pub mod Contexts
 pub mod Site

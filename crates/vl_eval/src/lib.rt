@@ -4,14 +4,16 @@
 //! each register takes become operations over places of values (`plan`, `assigning`, `building`, `ops`).
 //! Widths, signs and contexts are worked out then (`contexts`, `operators`), and the operations are
 //! sorted by level and kind (`leveling`, `arranging`), so that the jump on the kind of an operation is
-//! foreseen. At run time no name is looked up: `Machine::edge` captures what the registers take, puts
-//! the inputs in and works out all operations in one sweep. Its contract: the machine's row is first the
-//! first row of the module with all registers and inputs 0, and each edge leads from a row to the next
-//! (`row`); a fault comes only where its condition is the first that is broken (`fault`).
+//! foreseen. Those whose numbers have at most 64 bits get a step half as long, whose sums and products
+//! are of 64 bits (`steps`, `sweeping`). At run time no name is looked up: `Machine::edge` captures what
+//! the registers take, puts the inputs in and works out all operations but constants in one sweep. Its
+//! contract: the machine's row is first the first row of the module with all registers and inputs 0, and
+//! each edge leads from a row to the next (`row`); a fault comes only where its condition is the first
+//! that is broken (`fault`).
 //!
 //! The definitions: rows and edges stand in `vl_ast`; `specs/` says what row a machine is in
 //! (`Machine`) and which inputs an edge is given (`Given`). `specs/inner` is cited by private contracts
-//! alone: what an operation gives (`Ops`, `Built`), what a place shows of an expression (`Shown`,
+//! alone: what an operation gives (`Ops`, `Steps`, `Built`), what a place shows of an expression (`Shown`,
 //! `Contexts`, `Site`), of an assignment and a register (`Assigning`), and what a plan is
 //! (`Planned`, `Arranged`, `Edges`).
 #![tactic(auto)]
@@ -27,6 +29,8 @@ mod operators;
 mod ops;
 mod plan;
 mod site;
+mod steps;
+mod sweeping;
 #[cfg(test)]
 mod tests;
 

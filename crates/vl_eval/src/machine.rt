@@ -10,8 +10,8 @@ ghost use Rattle.vl_eval.specs.declared.plan.Capture.{Capture};
 ghost use Rattle.vl_eval.specs.inner.Edges.{AreZeros, IsPut, IsTaken};
 
 use crate::operators::{half_of, mask_of};
-use crate::ops::sweep;
 use crate::plan::{Capture, Output, Plan, plan_of};
+use crate::sweeping::sweep;
 use fx_io::OutOfMemory;
 use std::alloc::Global;
 use vl_ast::{Module, meaning_by_layer};
@@ -97,7 +97,13 @@ impl Machine {
             return Err(VlFault::OutOfMemory);
         };
         let mut values = zeros(alloc, room)?;
-        sweep(plan.ops.as_slice(), plan.base, values.as_mut_slice());
+        sweep(
+            plan.steps.as_slice(),
+            plan.ops.as_slice(),
+            plan.base,
+            0,
+            values.as_mut_slice(),
+        );
         Ok(Machine {
             source,
             plan,
@@ -118,7 +124,13 @@ impl Machine {
         let values = self.values.as_mut_slice();
         capture(self.plan.captures.as_slice(), values);
         put(self.plan.inputs.as_slice(), inputs, values);
-        sweep(self.plan.ops.as_slice(), self.plan.base, values);
+        sweep(
+            self.plan.steps.as_slice(),
+            self.plan.ops.as_slice(),
+            self.plan.base,
+            self.plan.constants,
+            values,
+        );
     }
 
     /// The number that an output port shows, by its place among the output ports.

@@ -1,5 +1,5 @@
-ghost use Rattle.std.specs.Prelude.{◌≡◌, ◌<◌, ◌+◌, length, take, slice_index, if◌then◌else◌};
-ghost use Rattle.vl_eval.specs.inner.Ops.{IsOrdered, IsSettled, op_value, reads_below};
+ghost use Rattle.std.specs.Prelude.{◌≡◌, length, slice_index, if◌then◌else◌};
+ghost use Rattle.vl_eval.specs.inner.Ops.{op_value, reads_below};
 
 /// One step of a row: a value from values that stand before it. Widths, signs and contexts are worked
 /// out when it is made, so that it is arithmetic on whole words alone. Operands are places of values.
@@ -128,7 +128,8 @@ pub enum Op {
     },
 }
 
-fn truth(holds: bool) -> u128
+/// 1 where it holds.
+pub fn truth(holds: bool) -> u128
     ensures { result ≡ (if holds then 1 else 0) }
 {
     if holds { 1 } else { 0 }
@@ -210,21 +211,5 @@ pub fn value_of(op: Op, values: &[u128]) -> u128
                 values[value]
             }
         }
-    }
-}
-
-/// Works out all operations in one sweep, each into its place after the first `base` values.
-pub fn sweep(ops: &[Op], base: usize, values: &mut [u128])
-    requires room { length values.now ≡ base + length ops.now }
-    requires ordered { IsOrdered base ops.now }
-    ensures settled { IsSettled base ops.now (λ k. slice_index values.new k) }
-    ensures kept { take base values.new ≡ take base values.old }
-    ensures long { length values.new ≡ length values.old }
-{
-    let mut at = base;
-    for &op in ops {
-        let value = value_of(op, values);
-        values[at] = value;
-        at += 1;
     }
 }

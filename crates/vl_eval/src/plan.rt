@@ -11,6 +11,7 @@ use crate::arranging::{Arranged, arrange};
 use crate::assigning::{build_assigned, build_next};
 use crate::ops::Op;
 use crate::site::{Site, slot};
+use crate::steps::{Step, constants, steps_of};
 use fx_io::OutOfMemory;
 use std::alloc::Global;
 use vl_ast::{Expr, ModItem, Module, meaning_by_layer};
@@ -38,6 +39,10 @@ pub struct Output {
 pub struct Plan {
     pub base: usize,
     pub ops: Vec<Op>,
+    /// The operations as an edge carries them out.
+    pub steps: Vec<Step>,
+    /// How many constants stand first among them.
+    pub constants: usize,
     /// By the number of each name in the order of first places.
     pub slots: Vec<usize>,
     pub captures: Vec<Capture>,
@@ -216,11 +221,15 @@ fn plan_in(
         slots: slots.as_slice(),
         base,
     };
+    let steps = steps_of(alloc, ops.as_slice(), base)?;
+    let constants = constants(ops.as_slice());
     let inputs = inputs(alloc, &site, source)?;
     let outputs = outputs(alloc, &site, source)?;
     Ok(Plan {
         base,
         ops,
+        steps,
+        constants,
         slots,
         captures,
         inputs,

@@ -1,5 +1,5 @@
 -- What an operation gives, and what a whole sweep of them leaves.
-use Rattle.std.specs.Prelude.{◌≡◌, ℕ, ◌+◌, ◌-◌, ◌*◌, ◌/◌, ◌%◌, ◌^◌, ◌<◌, ◌==◌, nat_le, nat_lt, not, ◌&&◌, ◌||◌, if◌then◌else◌, List, length, slice_index_or, bit_and, bit_or, bit_xor, ⊤}
+use Rattle.std.specs.Prelude.{◌≡◌, ℕ, ◌+◌, ◌-◌, ◌*◌, ◌/◌, ◌%◌, ◌^◌, ◌<◌, ◌==◌, nat_le, nat_lt, not, ◌&&◌, ◌||◌, if◌then◌else◌, List, length, slice_index, slice_index_or, bit_and, bit_or, bit_xor, ⊤}
 use Rattle.vl_ast.specs.Value.{truth}
 use Rattle.vl_eval.specs.declared.ops.Op.{Op}
 use Rattle.vl_eval.specs.declared.ops.Op.TheVariants.{Constant, Extended, Select, Add, Subtract, Multiply, And, Or, Xor, Equal, NotEqual, Less, LessEqual, Both, Either, Negate, Invert, IsZero, Up, SignedDown, Choose, Beside, Next}
@@ -65,3 +65,7 @@ pub record IsOrdered (base : ℕ) (ops : List Op) : Type 0 where
 -- each operation's place has its value
 pub record IsSettled (base : ℕ) (ops : List Op) (values : ℕ → ℕ) : Type 0 where
   pub at : (k : ℕ) (d : Op) → k < length ops → values (base + k) ≡ op_value (slice_index_or ops k d) values
+
+-- the first so many places of operations have their values
+pub record AreSettled (base count : ℕ) (ops : List Op) (values : List ℕ) : Type 0 where
+  pub at : (k : ℕ) (d : Op) → k < count → slice_index values (base + k) ≡ op_value (slice_index_or ops k d) (λ i. slice_index values i)

@@ -20,6 +20,7 @@ use Rattle.vl_eval.specs.declared.plan.Output.{Output}
 use Rattle.vl_eval.specs.declared.plan.Plan.{Plan}
 use Rattle.vl_eval.specs.inner.Assigning.{next_in}
 use Rattle.vl_eval.specs.inner.Ops.{IsSettled}
+use Rattle.vl_eval.specs.inner.Steps.{AreConstants, AreSteps}
 use Rattle.vl_eval.specs.inner.Shown.{Grows, row_of}
 use Rattle.vl_eval.specs.inner.Site.{slot_in}
 
@@ -110,6 +111,8 @@ pub record IsPlan (m : Module) (scope : Scope) (plan : Plan) : Type 0 where
   pub wires : List Op
   pub wired : AreWired m scope plan.slots.items wires
   pub captured : AreCaptured m scope plan.slots.items m.items wires plan.ops.items plan.captures.items
+  pub steps : AreSteps plan.ops.items plan.steps.items
+  pub constants : AreConstants plan.constants plan.ops.items
   pub inputs : plan.inputs.items ≡ map (slot_of_port scope plan.slots.items) (driven_ports m)
   pub outputs : plan.outputs.items ≡ map (output_of scope plan.slots.items) (output_ports m)
 

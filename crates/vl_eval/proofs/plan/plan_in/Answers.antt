@@ -5,6 +5,7 @@ use Rattle.vl_check.proofs.Scoped.{at-number}
 use Rattle.vl_check.specs.Scope.{names_in}
 use Rattle.vl_eval.specs.Given.{driven_ports}
 use Rattle.vl_eval.specs.inner.Arranged.{IsArranged}
+use Rattle.vl_eval.specs.inner.Steps.{AreConstants, AreSteps}
 use Rattle.vl_eval.specs.inner.Planned.{AreCaptured, output_of, slot_of_port}
 use Rattle.vl_eval.proofs.Capturing.{number-of, reset-known}
 use Rattle.vl_eval.proofs.Rearranged.{arranged-captured, arranged-wired}
@@ -34,6 +35,8 @@ returns c =
       wires = arranged.ops.items;
       wired = arranged-wired by_layer m scope some wires ops slots taken wired captured arranged is;
       captured = arranged-captured by_layer m scope some wires ops slots taken wired captured arranged is;
+      steps = subst (λ os. AreSteps os c.in_ok-steps.steps.items) c.as_slice-3.ensures.value c.in_ok-steps.ensures;
+      constants = subst (λ os. AreConstants c.constants-constants.result os) c.as_slice-4.ensures.value c.constants-constants.ensures;
       inputs = subst (λ xs. c.in_ok-inputs.inputs.items ≡ map (slot_of_port scope xs) (driven_ports m)) c.as_slice-2.ensures.value c.in_ok-inputs.ensures;
       outputs = subst (λ xs. c.in_ok-outputs.outputs.items ≡ map (output_of scope xs) (output_ports m)) c.as_slice-2.ensures.value c.in_ok-outputs.ensures;
     }
