@@ -1,4 +1,4 @@
--- The names, lines and ports of the blocks that a tree has are well formed.
+-- The names of a tree's blocks differ in each System.
 use Rattle.std.proofs.Common.{◌≡◌, ℕ, ◌-◌, Bool, true, false, cond, List, length, get_or, Option, Some, None, refl, sym, ◌∙◌, ap, subst, arith, true≢false}
 use Rattle.std.specs.Prelude.{◌==◌, ◌&&◌, nat_lt, nat_le, AllPairs, slice_get, is_some, bytes_eq, codes}
 use Rattle.std.specs.List.{AllZip, list_all}
@@ -67,63 +67,3 @@ have_names items blocks known zip i j d less below parents names =
     let named = named_here items one.place other.stands.system (get_or blocks j d).name (one.stands.in_system ∙ ap (λ (s : ℕ). Some s) systems) (one.here.name ∙ ap (λ (n : List ℕ). Some n) names) in
     let bound = first.2 i one.place one.there named in
     omega (arith, bound, other.number_is, less)
-
--- ---- lines
-
--- the block that an end names stands in the line's System
-pub number_named : (items : List Item) (system number : ℕ) (name : List ℕ) → number_of items system name ≡ Some number → (place : ℕ) × (slice_get (blocks_of items) number ≡ Some place) × (holder_of items place ≡ Some system)
-number_named items system number name found =
-    let first = first_from (is_named_in items system name) 0 (blocks_of items) number (sym (position_from-zero (is_named_in items system name) (blocks_of items)) ∙ found) in
-    let plain : number - 0 ≡ number = omega arith in
-    (first.1.0, ap (slice_get (blocks_of items)) (sym plain) ∙ first.1.1, held_by (holder_of items first.1.0) (and_left (at false (λ (h : ℕ). h == system) (holder_of items first.1.0)) _ (in_system first.1.0 first.1.2)))
-  where
-    in_system : (place : ℕ) → is_named_in items system name place ≡ true → (at false (λ (h : ℕ). h == system) (holder_of items place) && says items place (codes "Name") name) ≡ true
-    in_system place e = e
-
-    held_by : (held : Option ℕ) → at false (λ (h : ℕ). h == system) held ≡ true → held ≡ Some system
-    held_by None e = absurd (true≢false (sym e))
-    held_by (Some other) e = let same : other ≡ system = grind (arith, nat_tests) in ap (λ (n : ℕ). Some n) same
-
--- the end of a line: its System, and the block that it names there
-pub line_end : (items : List Item) (line number : ℕ) (name : Option (List ℕ)) → named_by items line name ≡ Some number → (place : ℕ) × (slice_get (blocks_of items) number ≡ Some place) × (holder_of items place ≡ holder_of items line)
-line_end items line number None e = let bad : ◌≡◌ {A = Option ℕ} None (Some number) = e in absurd (cc)
-line_end items line number (Some name) e = by_holder (holder_of items line) refl e
-  where
-    by_holder : (held : Option ℕ) → holder_of items line ≡ held → at None (λ system. number_of items system name) held ≡ Some number → (place : ℕ) × (slice_get (blocks_of items) number ≡ Some place) × (holder_of items place ≡ holder_of items line)
-    by_holder None h e = let bad : ◌≡◌ {A = Option ℕ} None (Some number) = e in absurd (cc)
-    by_holder (Some system) h e = let found = number_named items system number name e in (found.0, found.1, found.2 ∙ sym h)
-
--- ports are from 1 to 20,000
-pub port_range : (text : Option (List ℕ)) (port : ℕ) → port_of text ≡ Some port → IsBetween 1 20000 port
-port_range None port e =
-    let first : ◌≡◌ {A = Option ℕ} (Some 1) (Some port) = e in
-    let same : 1 ≡ port = cc in (omega arith, omega arith)
-port_range (Some text) port e = by_test (is_port text) refl e
-  where
-    by_test : (b : Bool) → is_port text ≡ b → cond b (Some (digits_value 10 text)) None ≡ Some port → IsBetween 1 20000 port
-    by_test true t h =
-        let first : ◌≡◌ {A = Option ℕ} (Some (digits_value 10 text)) (Some port) = h in
-        let same : digits_value 10 text ≡ port = cc in
-        let most : nat_le (digits_value 10 text) 20000 ≡ true = and_right (nat_lt 0 (length text) && list_all is_ascii_digit text && nat_le 1 (digits_value 10 text)) _ t in
-        let least : nat_le 1 (digits_value 10 text) ≡ true = and_right (nat_lt 0 (length text) && list_all is_ascii_digit text) _ (and_left (nat_lt 0 (length text) && list_all is_ascii_digit text && nat_le 1 (digits_value 10 text)) _ t) in
-        (grind (arith, nat_tests), grind (arith, nat_tests))
-    by_test false t h = let bad : ◌≡◌ {A = Option ℕ} None (Some port) = h in absurd (cc)
-
-pub target_range : (text : Option (List ℕ)) (target : Target) → target_of text ≡ Some target → IsTarget target
-target_range None target e =
-    let first : ◌≡◌ {A = Option Target} (Some (Target.Port 1)) (Some target) = e in
-    let same : Target.Port 1 ≡ target = cc in
-    let range : IsTarget (Target.Port 1) = (omega arith, omega arith) in subst IsTarget same range
-target_range (Some text) target e = by_test (bytes_eq text (codes "enable")) e
-  where
-    by_port : (found : Option ℕ) → port_of (Some text) ≡ found → to_port found ≡ Some target → IsTarget target
-    by_port None f h = let bad : ◌≡◌ {A = Option Target} None (Some target) = h in absurd (cc)
-    by_port (Some port) f h =
-        let first : ◌≡◌ {A = Option Target} (Some (Target.Port port)) (Some target) = h in
-        let same : Target.Port port ≡ target = cc in subst IsTarget same (port_range (Some text) port f)
-
-    by_test : (b : Bool) → cond b (Some Target.Enable) (to_port (port_of (Some text))) ≡ Some target → IsTarget target
-    by_test true h =
-        let first : ◌≡◌ {A = Option Target} (Some Target.Enable) (Some target) = h in
-        let same : Target.Enable ≡ target = cc in subst IsTarget same tt
-    by_test false h = by_port (port_of (Some text)) refl h
