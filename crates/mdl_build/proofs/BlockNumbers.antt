@@ -1,6 +1,6 @@
 -- The numbers of blocks, and the blocks of numbers.
 use Rattle.std.proofs.Common.{◌≡◌, ℕ, zero, suc, ◌+◌, ◌<◌, ◌≤◌, Bool, true, false, cond, List, [], ◌∷◌, length, Option, Some, None, refl, sym, ◌∙◌, ap, arith, true≢false}
-use Rattle.std.specs.Prelude.{◌==◌, filter, position, slice_get, unwrap_or, count_by, find}
+use Rattle.std.specs.Prelude.{◌==◌, filter, slice_get, unwrap_or, count_by, find}
 use Rattle.std.specs.List.{range_with_len}
 use Rattle.std.proofs.lemmas.Bool.Decides.{nat_tests}
 use Rattle.std.proofs.lemmas.List.Sums.{sum_by-append}

@@ -1,5 +1,5 @@
 -- How many Systems stand in each section, with one more item.
-use Rattle.std.proofs.Common.{◌≡◌, ◌≢◌, ℕ, ◌+◌, ◌<◌, ◌≤◌, Bool, true, false, cond, List, [], ◌∷◌, ◌++◌, length, set, Option, Some, None, get_or, refl, sym, ap, ◌∙◌, ◌⊎◌, ⊎_elim, eq-eqb, ne_eqb, true≢false, arith}
+use Rattle.std.proofs.Common.{◌≡◌, ◌≢◌, ℕ, ◌+◌, ◌<◌, ◌≤◌, Bool, true, false, cond, List, [], ◌∷◌, length, set, Option, Some, None, get_or, refl, sym, ap, ◌∙◌, ⊎_elim, eq-eqb, ne_eqb, true≢false, arith}
 use Rattle.std.specs.Prelude.{◌==◌, ◌&&◌, count_by, is_some}
 use Rattle.std.specs.Option.{option_map_or}
 use Rattle.std.specs.List.{range_with_len}
@@ -8,7 +8,6 @@ use Rattle.std.proofs.lemmas.List.{get_or-set_same, get_or-set_other, length-set
 use Rattle.std.proofs.lemmas.List.FromFn.{length-range_with_len}
 use Rattle.std.proofs.lemmas.List.Sums.{sum_by-append, count_by-le-length}
 use Rattle.mdl_text.specs.declared.tree.Item.{Item}
-use Rattle.mdl_build.specs.declared.roles.Role.{Role}
 use Rattle.mdl_build.specs.Blocks.{at}
 use Rattle.mdl_build.specs.Roles.{role_of}
 use Rattle.mdl_build.specs.Rules.{is_system, is_system_in}

@@ -1,7 +1,6 @@
 -- The rule of structure, by its parts.
-use Rattle.std.proofs.Common.{suc, zero, ◌+◌, ◌≤◌, ◌∷◌, true≢false, le-leb, arith, ◌≡◌, ℕ, ◌<◌, Bool, true, false, cond, List, [], Option, Some, None, refl, sym, ap, ◌∙◌, length}
+use Rattle.std.proofs.Common.{suc, zero, ◌≤◌, ◌∷◌, true≢false, le-leb, ◌≡◌, ℕ, Bool, true, false, cond, List, [], Option, Some, None, refl, sym, ap, ◌∙◌, length}
 use Rattle.std.specs.Prelude.{◌&&◌, find, not, option_map, slice_get, is_some, is_none, codes, nat_le}
-use Rattle.std.specs.Option.{unwrap_or}
 use Rattle.std.proofs.lemmas.Option.{none-some, same_Some}
 use Rattle.std.specs.List.{position_or_len}
 use Rattle.std.proofs.lemmas.List.Folds.{find_at}

@@ -1,6 +1,6 @@
 -- The lines of one more item.
-use Rattle.std.proofs.Common.{◌≡◌, ℕ, zero, suc, ◌+◌, ◌<◌, Bool, true, false, cond, List, [], ◌∷◌, ◌++◌, length, map, Option, Some, None, get_or, refl, sym, ap, ◌∙◌, true≢false, eq-eqb, arith}
-use Rattle.std.specs.Prelude.{◌==◌, ◌&&◌, filter_map}
+use Rattle.std.proofs.Common.{◌≡◌, ℕ, zero, suc, ◌+◌, ◌<◌, Bool, true, false, cond, List, [], ◌∷◌, ◌++◌, length, map, Option, Some, None, get_or, refl, sym, ap, ◌∙◌, eq-eqb, arith}
+use Rattle.std.specs.Prelude.{◌&&◌, filter_map}
 use Rattle.std.specs.List.{range_with_len, list_all}
 use Rattle.std.proofs.lemmas.List.Elements.{filter_map-append}
 use Rattle.std.proofs.lemmas.List.Folds.{list_all-append}
@@ -12,7 +12,7 @@ use Rattle.mdl_text.specs.declared.tree.Item.{Item}
 use Rattle.mdl_build.specs.declared.lines.Source.{Source}
 use Rattle.mdl_build.specs.declared.roles.Role.{Role}
 use Rattle.mdl_build.specs.declared.roles.Role.TheVariants.{Other, Model, System, Block, SubSystem, Branch, Defaults, TypeDefaults}
-use Rattle.mdl_build.specs.Lines.{source_of, goal_of, is_joined, line_from, keeps_line, line_at}
+use Rattle.mdl_build.specs.Lines.{source_of, keeps_line, line_at}
 use Rattle.mdl_build.specs.Roles.{role_of}
 use Rattle.mdl_build.specs.inner.Lines.{branch_of, source_if, sources_before, are_joined_before, lines_before, line_list}
 use Rattle.mdl_build.proofs.Ranges.{range_next}

@@ -1,6 +1,6 @@
 -- The tables that blocks are made by, and the blocks that are made.
-use Rattle.std.proofs.Common.{◌≡◌, ◌≢◌, ℕ, zero, suc, ◌+◌, ◌<◌, ◌≤◌, ◌⊎◌, ⊎_elim, Bool, true, false, cond, List, [], ◌∷◌, ◌++◌, length, filter, map, set, get_or, Option, Some, None, refl, sym, ap, subst, ◌∙◌, true≢false, arith}
-use Rattle.std.specs.Prelude.{slice_get, option_map, is_some, codes, ⊤}
+use Rattle.std.proofs.Common.{◌≡◌, ◌≢◌, ℕ, zero, suc, ◌+◌, ◌<◌, ◌≤◌, ⊎_elim, Bool, true, false, cond, List, [], ◌∷◌, ◌++◌, length, filter, map, set, get_or, Option, Some, None, refl, sym, ap, subst, ◌∙◌, true≢false, arith}
+use Rattle.std.specs.Prelude.{slice_get, option_map, is_some}
 use Rattle.std.specs.List.{range_with_len, AllZip}
 use Rattle.std.specs.Option.{unwrap_or}
 use Rattle.std.proofs.lemmas.Bool.{cases_lt, cases_eq}
@@ -23,7 +23,7 @@ use Rattle.mdl_build.specs.Rules.{IsWrongFirst, AllRead, type_at}
 use Rattle.mdl_build.specs.inner.Known.{AreNumbersTo, AreNumbers, IsWrongAt}
 use Rattle.mdl_build.specs.inner.Makers.{AreMade}
 use Rattle.mdl_build.specs.inner.Texts.{fallbacks_of}
-use Rattle.mdl_build.proofs.BlockPlaces.{IsBlockOf, block_of}
+use Rattle.mdl_build.proofs.BlockPlaces.{block_of}
 use Rattle.mdl_build.proofs.ReadingLemmas.{read_each}
 
 -- ---- numbers by place

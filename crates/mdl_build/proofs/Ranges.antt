@@ -1,6 +1,6 @@
 -- Ranges of places, and what is found among them.
-use Rattle.std.proofs.Common.{◌≡◌, ◌≢◌, ℕ, zero, suc, ◌+◌, ◌<◌, ◌≤◌, Bool, true, false, cond, List, [], ◌∷◌, ◌++◌, length, map, filter, take, drop, Option, Some, None, refl, sym, ap, ◌∙◌, subst, true≢false, add-zero, zero-add, arith}
-use Rattle.std.specs.Prelude.{◌==◌, ◌-◌, nat_eq, nat_le, position, slice_get, find, not}
+use Rattle.std.proofs.Common.{◌≡◌, ℕ, zero, suc, ◌+◌, ◌<◌, ◌≤◌, Bool, true, false, cond, List, [], ◌∷◌, ◌++◌, length, filter, Option, Some, None, refl, sym, ap, ◌∙◌, arith}
+use Rattle.std.specs.Prelude.{◌==◌, ◌-◌, nat_eq, nat_le, position, slice_get}
 use Rattle.std.specs.List.{range_with_len, position_from}
 use Rattle.std.proofs.lemmas.Bool.Decides.{nat_tests}
 use Rattle.std.proofs.lemmas.Iterator.Adapters.{position_from-zero}

@@ -1,5 +1,5 @@
 -- Each block is such as its text can be: one lemma a type.
-use Rattle.std.proofs.Common.{◌≡◌, ℕ, Bool, true, false, List, refl, sym, ◌∙◌}
+use Rattle.std.proofs.Common.{ℕ, List, refl}
 use Rattle.std.proofs.Math.Dec.{lit≤}
 use Rattle.dg_model.specs.Sound.{HasReadable}
 use Rattle.mdl_text.specs.declared.tree.Item.{Item}

@@ -1,5 +1,5 @@
 -- Where the roles of items come from, and what stands above a block.
-use Rattle.std.proofs.Common.{◌≡◌, ℕ, zero, suc, ◌+◌, ◌<◌, ◌≤◌, ◌⊎◌, inl, inr, ⊎_elim, Bool, true, false, cond, List, [], ◌∷◌, ◌++◌, length, Option, Some, None, refl, sym, ap, subst, ◌∙◌, true≢false, eqb-true, get_or, arith}
+use Rattle.std.proofs.Common.{◌≡◌, ℕ, zero, suc, ◌+◌, ◌<◌, ◌≤◌, ◌⊎◌, inl, inr, ⊎_elim, Bool, true, false, cond, List, [], ◌++◌, length, Option, Some, None, refl, sym, ap, ◌∙◌, true≢false, eqb-true, get_or, arith}
 use Rattle.std.specs.Prelude.{◌==◌, nat_lt, codes, is_some}
 use Rattle.std.proofs.lemmas.List.FromFn.{length-map-range_with_len, get_or-map-range_with_len}
 use Rattle.std.proofs.lemmas.Option.{none-some, same_Some}
@@ -7,7 +7,7 @@ use Rattle.mdl_text.specs.declared.tree.Item.{Item}
 use Rattle.mdl_build.specs.declared.roles.Role.{Role}
 use Rattle.mdl_build.specs.declared.roles.Role.TheVariants.{Other, Model, System, Block, SubSystem, Branch, Defaults, TypeDefaults}
 use Rattle.mdl_build.specs.Blocks.{at, if_subsystem, parent_of, path_name, path_at, path_of}
-use Rattle.mdl_build.specs.Roles.{role_of, roles_of, role_at, role_if, role_under, role_in_model, role_in_system, block_role, line_role, deeper, says, is_block}
+use Rattle.mdl_build.specs.Roles.{role_of, roles_of, role_at, role_if, role_under, block_role, line_role, deeper, says, is_block}
 use Rattle.mdl_build.specs.Sections.{is_section_at, depth_at, last_above, holder_of, value_of}
 use Rattle.mdl_build.specs.inner.Paths.{path_above}
 

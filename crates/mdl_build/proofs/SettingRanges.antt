@@ -1,7 +1,7 @@
 -- What is read is in range.
-use Rattle.std.proofs.Common.{◌≡◌, ℕ, ◌≤◌, Bool, true, false, cond, List, [], ◌∷◌, length, Option, Some, None, refl, sym, ◌∙◌, subst, inl, inr, pos, arith}
+use Rattle.std.proofs.Common.{◌≡◌, ℕ, Bool, true, false, cond, List, length, Option, Some, None, subst, inl, inr, pos, arith}
 use Rattle.std.proofs.lemmas.List.{length-replicate}
-use Rattle.std.specs.Prelude.{MatchBool, codes, bytes_eq, All}
+use Rattle.std.specs.Prelude.{MatchBool, codes, bytes_eq}
 use Rattle.std.proofs.Math.Dec.{lit≤}
 use lib.Signed.{le_z_yes}
 use Rattle.fx_type.specs.FxType.{IsType}
@@ -10,16 +10,14 @@ use Rattle.fx_type.specs.declared.kind.FxType.{FxType}
 use Rattle.fx_type.specs.declared.kind.FxType.TheVariants.{Num, Logical}
 use Rattle.fx_type.specs.declared.spec.TypeSpec.{TypeSpec}
 use Rattle.fx_type.specs.declared.spec.TypeSpec.TheVariants.{Fixed, Internal, SameFirst, Auto}
-use Rattle.dg_model.specs.KindRow.{IsBetween, IsList, IsPeriod, IsSpec, MayBeFixed, IsChoice, IsFixed, MayDeclare, IsConstantPeriod}
+use Rattle.dg_model.specs.KindRow.{IsBetween, IsList, IsPeriod, IsSpec, MayBeFixed, IsChoice, MayDeclare, IsConstantPeriod}
 use Rattle.dg_model.specs.declared.diagram.PeriodSpec.{PeriodSpec}
 use Rattle.dg_model.specs.declared.diagram.PeriodSpec.TheVariants.{Inherit, Constant, Every}
-use Rattle.mdl_values.specs.Lists.{IsListText, IsSizesText}
-use Rattle.mdl_values.specs.Numbers.{IsNumberText}
 use Rattle.mdl_values.specs.Periods.{IsPeriodText, IsSampleTime, IsConstantTime, IsWidthText, IsWidthNumber, IsWithOffset, IsAboveZero}
 use Rattle.mdl_values.specs.Signs.{IsSignsText}
-use Rattle.mdl_values.specs.Types.{IsTypeText, IsFixdtText, named_type}
+use Rattle.mdl_values.specs.Types.{IsTypeText, named_type}
 use Rattle.mdl_build.specs.declared.settings.Setting.{Setting}
-use Rattle.mdl_build.specs.Settings.{IsTypeOr, IsTypeOrFirst, IsGivenType, IsCoefficient, IsListOrEmpty, ReadsAs}
+use Rattle.mdl_build.specs.Settings.{IsTypeOr, IsTypeOrFirst, IsCoefficient, IsListOrEmpty, ReadsAs}
 use Rattle.mdl_build.specs.declared.library.Reader.{Reader}
 
 some_type : (a b : FxType) → ◌≡◌ {A = Option FxType} (Some a) (Some b) → a ≡ b

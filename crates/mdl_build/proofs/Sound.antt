@@ -1,12 +1,9 @@
 -- The blocks and lines of a tree are well formed.
-use Rattle.std.proofs.Common.{◌≡◌, ℕ, suc, ◌≤◌, refl, List, [], ◌∷◌, length, get_or, sym, ap, subst, ◌∙◌, arith}
-use Rattle.std.specs.Prelude.{All}
+use Rattle.std.proofs.Common.{◌≡◌, suc, refl, List, [], ◌∷◌, length, get_or, sym, ap, subst, arith}
 use Rattle.std.specs.List.{AllZip}
 use Rattle.std.proofs.lemmas.Option.{slice_get-get_or}
 use Rattle.dg_model.specs.declared.nested.Nested.{Nested}
-use Rattle.dg_model.specs.declared.nested.NestedBlock.{NestedBlock}
 use Rattle.dg_model.specs.Sound.{IsSound, HasReadable, HasPlainRole}
-use Rattle.mdl_text.specs.declared.tree.Item.{Item}
 use Rattle.mdl_text.specs.declared.tree.Tree.{Tree}
 use Rattle.mdl_build.specs.Blocks.{standing_of}
 use Rattle.mdl_build.specs.Nested.{IsBlockAt, IsNestedOf}
@@ -17,7 +14,7 @@ use Rattle.mdl_build.proofs.SoundLines.{sound_lines}
 use Rattle.mdl_build.proofs.SoundNames.{have_names}
 use Rattle.mdl_build.proofs.SoundParts.{plain_role}
 use Rattle.mdl_build.proofs.SoundPorts.{sound_ins, sound_outs}
-use Rattle.mdl_build.proofs.SoundTree.{IsKept, kept}
+use Rattle.mdl_build.proofs.SoundTree.{kept}
 
 zip_length : {X Y : Type 0} (R : X → Y → Type 0) (xs : List X) (ys : List Y) → AllZip R xs ys → length ys ≡ length xs
 zip_length R [] [] all = refl

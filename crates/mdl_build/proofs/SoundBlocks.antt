@@ -1,31 +1,29 @@
 -- The blocks that a tree has are well formed.
-use Rattle.std.proofs.Common.{◌≡◌, ℕ, zero, suc, ◌+◌, ◌<◌, ◌≤◌, Bool, true, false, cond, List, [], ◌∷◌, length, get_or, Option, Some, None, refl, sym, ◌∙◌, ap, subst, inl, inr, arith, true≢false}
-use Rattle.std.specs.Prelude.{◌==◌, ◌&&◌, ◌⊎◌, nat_lt, All, AllPairs, Any, count_by, slice_get, option_map, unwrap_or, is_some, bytes_eq, codes, IsSomeAnd, MatchOption}
-use Rattle.std.specs.List.{AllZip, range_with_len, list_any}
+use Rattle.std.proofs.Common.{◌≡◌, ℕ, suc, ◌<◌, ◌≤◌, Bool, true, false, cond, List, length, get_or, Option, Some, None, refl, sym, ◌∙◌, ap, subst, inl, inr, arith, true≢false}
+use Rattle.std.specs.Prelude.{◌==◌, ◌&&◌, nat_lt, count_by, slice_get, option_map, is_some, codes, IsSomeAnd, MatchOption}
+use Rattle.std.specs.List.{AllZip, range_with_len}
 use Rattle.std.proofs.lemmas.Bool.Decides.{nat_tests}
-use Rattle.std.proofs.lemmas.Option.{slice_get-get_or, slice_get_within, get_or_from_slice_get}
-use Rattle.std.proofs.lemmas.Slice.Zip.{AllZip-left, AllZip-right, AllZip-long}
+use Rattle.std.proofs.lemmas.Option.{get_or_from_slice_get}
+use Rattle.std.proofs.lemmas.Slice.Zip.{AllZip-left, AllZip-right}
 use Rattle.dg_model.specs.declared.nested.NestedBlock.{NestedBlock}
-use Rattle.dg_model.specs.declared.nested.Part.{Part}
-use Rattle.dg_model.specs.Sound.{IsSubSystem, IsEnable, HasParent, AreLevels, HasEnablePort}
+use Rattle.dg_model.specs.Sound.{IsSubSystem, HasParent, AreLevels}
 use Rattle.mdl_text.specs.declared.tree.Item.{Item}
 use Rattle.mdl_build.specs.declared.library.BlockType.{BlockType}
-use Rattle.mdl_build.specs.declared.library.BlockType.TheVariants.{SubSystem as SubSystemType, EnablePort}
+use Rattle.mdl_build.specs.declared.library.BlockType.TheVariants.{SubSystem as SubSystemType}
 use Rattle.mdl_build.specs.declared.roles.Role.{Role}
 use Rattle.mdl_build.specs.declared.roles.Role.TheVariants.{Other, Model, System, Block, SubSystem, Branch, Defaults, TypeDefaults}
-use Rattle.mdl_build.specs.Blocks.{at, number_at, parent_of, standing_of, standing_in, has_enable, is_of}
-use Rattle.mdl_build.specs.Library.{type_name}
+use Rattle.mdl_build.specs.Blocks.{at, number_at, standing_of}
 use Rattle.mdl_build.specs.Nested.{IsBlockAt}
 use Rattle.mdl_build.specs.Parts.{part_of}
-use Rattle.mdl_build.specs.Roles.{role_of, is_block, block_role, blocks_of, deeper, says}
-use Rattle.mdl_build.specs.Rules.{is_system, is_system_in, has_one_system, has_own_name, type_at}
+use Rattle.mdl_build.specs.Roles.{role_of, is_block, blocks_of, deeper, says}
+use Rattle.mdl_build.specs.Rules.{is_system, is_system_in, has_one_system, has_own_name}
 use Rattle.mdl_build.specs.Sections.{places_of, holder_of, is_section_at, value_of}
 use Rattle.mdl_build.proofs.BlockNumbers.{block_at, number_before}
 use Rattle.mdl_build.proofs.BlockPlaces.{block_of}
 use Rattle.mdl_build.proofs.RoleLemmas.{system_above}
-use Rattle.mdl_build.proofs.SoundParts.{says_type, type_says, sub_system_type, enable_type}
-use Rattle.mdl_build.proofs.SoundSearch.{any_here, any_found, one_counted}
-use Rattle.mdl_build.proofs.SoundTree.{IsKept, Stand, stand, same_system}
+use Rattle.mdl_build.proofs.SoundParts.{says_type, type_says, sub_system_type}
+use Rattle.mdl_build.proofs.SoundSearch.{one_counted}
+use Rattle.mdl_build.proofs.SoundTree.{IsKept, Stand, stand}
 
 and_right : (a b : Bool) → (a && b) ≡ true → b ≡ true
 and_right true b e = e

@@ -1,20 +1,15 @@
 -- The names of a tree's blocks differ in each System.
-use Rattle.std.proofs.Common.{◌≡◌, ℕ, ◌-◌, Bool, true, false, cond, List, length, get_or, Option, Some, None, refl, sym, ◌∙◌, ap, subst, arith, true≢false}
-use Rattle.std.specs.Prelude.{◌==◌, ◌&&◌, nat_lt, nat_le, AllPairs, slice_get, is_some, bytes_eq, codes}
-use Rattle.std.specs.List.{AllZip, list_all}
-use Rattle.std.specs.Char.{is_ascii_digit}
-use Rattle.std.specs.Str.Parse.{digits_value}
+use Rattle.std.proofs.Common.{◌≡◌, ℕ, Bool, true, false, List, get_or, Option, Some, None, refl, sym, ◌∙◌, ap, arith, true≢false}
+use Rattle.std.specs.Prelude.{◌==◌, ◌&&◌, AllPairs, is_some, bytes_eq, codes}
+use Rattle.std.specs.List.{AllZip}
 use Rattle.std.proofs.lemmas.Bool.Decides.{nat_tests}
 use Rattle.std.proofs.lemmas.Iterator.Adapters.{position_from-zero}
 use Rattle.std.proofs.lemmas.Option.{slice_get-get_or}
 use Rattle.std.proofs.lemmas.Slice.Eq.{bytes_eq-Decides}
 use Rattle.dg_model.specs.declared.nested.NestedBlock.{NestedBlock}
-use Rattle.dg_model.specs.declared.nested.Target.{Target}
-use Rattle.dg_model.specs.KindRow.{IsBetween}
-use Rattle.dg_model.specs.Sound.{HaveNames, IsTarget}
+use Rattle.dg_model.specs.Sound.{HaveNames}
 use Rattle.mdl_text.specs.declared.tree.Item.{Item}
 use Rattle.mdl_build.specs.Blocks.{at, is_named_in, number_at, number_of}
-use Rattle.mdl_build.specs.Lines.{is_port, port_of, to_port, target_of, named_by}
 use Rattle.mdl_build.specs.Nested.{IsBlockAt}
 use Rattle.mdl_build.specs.Roles.{blocks_of, says}
 use Rattle.mdl_build.specs.Rules.{is_number, is_first_named, has_own_name}

@@ -1,7 +1,7 @@
 -- Each Inport and Outport becomes a block of the role that its System asks for.
-use Rattle.std.proofs.Common.{◌≡◌, ℕ, ◌<◌, Bool, true, false, cond, List, length, get_or, Option, Some, None, refl, sym, ap, subst, ◌∙◌, true≢false, eqb-true, eq-eqb, arith}
+use Rattle.std.proofs.Common.{◌≡◌, ℕ, ◌<◌, Bool, true, false, cond, List, length, get_or, Option, Some, None, refl, sym, ap, subst, ◌∙◌, true≢false, eqb-true, eq-eqb}
 use Rattle.std.specs.Prelude.{◌==◌, ◌&&◌, All, slice_get, option_map, codes}
-use Rattle.std.specs.List.{AllZip, list_any}
+use Rattle.std.specs.List.{AllZip}
 use Rattle.std.proofs.lemmas.Option.{slice_get-get_or, slice_get_within, get_or_from_slice_get}
 use Rattle.dg_model.specs.declared.nested.NestedBlock.{NestedBlock}
 use Rattle.dg_model.specs.declared.nested.Part.{Part}
@@ -12,13 +12,12 @@ use Rattle.mdl_build.specs.declared.library.BlockType.TheVariants.{Inport, Outpo
 use Rattle.mdl_build.specs.declared.parts.Standing.{Standing}
 use Rattle.mdl_build.specs.declared.settings.Settings.{Settings}
 use Rattle.mdl_build.specs.Blocks.{at, if_subsystem, number_at, parent_of, is_of, has_enable, standing_in, standing_of}
-use Rattle.mdl_build.specs.Library.{type_name}
 use Rattle.mdl_build.specs.Nested.{IsBlockAt}
 use Rattle.mdl_build.specs.Parts.{in_part, out_part, part_of}
 use Rattle.mdl_build.specs.Roles.{role_of, blocks_of, says}
 use Rattle.mdl_build.specs.Sections.{holder_of}
 use Rattle.mdl_build.specs.inner.Known.{is_enable_in}
-use Rattle.mdl_build.proofs.SoundBlocks.{BlockHere, block_here, block_there}
+use Rattle.mdl_build.proofs.SoundBlocks.{block_here, block_there}
 use Rattle.mdl_build.proofs.SoundParts.{says_type, type_says, enable_type}
 use Rattle.mdl_build.proofs.SoundSearch.{any_here, any_found}
 use Rattle.mdl_build.proofs.SoundTree.{IsKept, Stand, same_system}

@@ -1,8 +1,7 @@
 -- What is found in lists.
-use Rattle.std.proofs.Common.{◌≡◌, ℕ, zero, suc, ◌+◌, ◌-◌, ◌<◌, ◌≤◌, Bool, true, false, cond, List, [], ◌∷◌, length, get_or, Option, Some, None, refl, sym, ◌∙◌, ap, arith, true≢false}
-use Rattle.std.specs.Prelude.{◌||◌, All, count_by, filter_map, position, slice_get}
-use Rattle.std.specs.List.{list_any, range_with_len, position_from, AllZip}
-use Rattle.std.proofs.lemmas.Option.{slice_get-get_or, slice_get_within}
+use Rattle.std.proofs.Common.{◌≡◌, ℕ, zero, suc, ◌+◌, ◌-◌, ◌<◌, ◌≤◌, Bool, true, false, cond, List, [], ◌∷◌, Option, Some, None, refl, sym, ◌∙◌, ap, arith, true≢false}
+use Rattle.std.specs.Prelude.{◌||◌, All, count_by, filter_map, slice_get}
+use Rattle.std.specs.List.{list_any, range_with_len, position_from}
 use Rattle.mdl_build.proofs.BlockNumbers.{count_cons}
 
 -- one of them passes

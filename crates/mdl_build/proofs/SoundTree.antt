@@ -1,19 +1,18 @@
 -- What a tree that keeps the rule of structure has.
 use Rattle.std.proofs.Common.{◌≡◌, ℕ, zero, suc, ◌+◌, ◌<◌, ◌≤◌, Bool, true, false, cond, not, List, [], ◌∷◌, length, map, Option, Some, None, refl, sym, ◌∙◌, ap, inl, inr, arith, true≢false}
-use Rattle.std.specs.Prelude.{◌==◌, ◌&&◌, ◌⊎◌, nat_le, count_by, find, slice_get, option_map, is_some, codes}
+use Rattle.std.specs.Prelude.{◌==◌, ◌&&◌, ◌⊎◌, nat_le, count_by, slice_get, option_map, is_some, codes}
 use Rattle.std.specs.List.{range_with_len, list_all}
 use Rattle.std.proofs.lemmas.Bool.Decides.{nat_tests}
 use Rattle.dg_model.specs.declared.fault.RuleFault.{RuleFault}
 use Rattle.mdl_text.specs.declared.tree.Item.{Item}
 use Rattle.mdl_build.specs.declared.roles.Role.{Role}
-use Rattle.mdl_build.specs.declared.roles.Role.TheVariants.{Model, System, SubSystem}
+use Rattle.mdl_build.specs.declared.roles.Role.TheVariants.{System, SubSystem}
 use Rattle.mdl_build.specs.Blocks.{at, if_subsystem, parent_of, number_at}
 use Rattle.mdl_build.specs.Lines.{keeps_line}
 use Rattle.mdl_build.specs.Roles.{role_of, roles_of, role_under, role_in_system, is_block, blocks_of, deeper}
 use Rattle.mdl_build.specs.Rules.{is_system, is_system_in, has_root, are_shallow, has_one_system, has_own_name, keeps_model, keeps_structure, structure_fault}
 use Rattle.mdl_build.specs.Sections.{places_of, holder_of, value_of}
 use Rattle.mdl_build.proofs.BlockNumbers.{count_cons, only_one, none_passes, block_at, one_number}
-use Rattle.mdl_build.proofs.BlockPlaces.{block_of}
 use Rattle.mdl_build.proofs.RoleLemmas.{BlockAbove, SystemAbove, block_above, system_above, holder_before}
 
 -- ---- tests

@@ -1,9 +1,7 @@
 -- What is known of the items of a tree (own).
-use Rattle.std.specs.Prelude.{◌≡◌, ℕ, ◌<◌, ◌≤◌, ◌++◌, ◌==◌, ◌&&◌, nat_le, Bool, true, false, List, [], ◌∷◌, length, slice_get, slice_index, slice_index_or, Option, Some, None, option_map, codes}
-use Rattle.std.specs.List.{list_any, AllZip}
-use Rattle.std.specs.Option.{unwrap_or}
+use Rattle.std.specs.Prelude.{◌≡◌, ℕ, ◌<◌, ◌≤◌, ◌==◌, ◌&&◌, nat_le, Bool, true, false, List, length, slice_get, slice_index, slice_index_or, Some, None}
+use Rattle.std.specs.List.{list_any}
 use Rattle.dg_model.specs.declared.fault.RuleFault.{RuleFault}
-use Rattle.dg_model.specs.declared.nested.NestedBlock.{NestedBlock}
 use Rattle.dg_model.specs.declared.fault.Shown.TheVariants.{Word}
 use Rattle.dg_model.specs.Faults.{fault_of}
 use Rattle.mdl_text.specs.declared.tree.Item.{Item}
@@ -16,7 +14,7 @@ use Rattle.mdl_build.specs.Library.{parameters_of}
 use Rattle.mdl_build.specs.Lines.{lines_of}
 use Rattle.mdl_build.specs.Roles.{role_of, roles_of, is_block, blocks_of}
 use Rattle.mdl_build.specs.Rules.{has_root, are_shallow, structure_fault, IsFirstWrong}
-use Rattle.mdl_build.specs.Sections.{holder_of, value_of}
+use Rattle.mdl_build.specs.Sections.{holder_of}
 use Rattle.mdl_build.specs.inner.Names.{AreBlocks}
 
 -- the model has its root, is shallow, and has no more blocks than it may

@@ -1,5 +1,5 @@
 -- The lines of a tree, as the code gathers them (own).
-use Rattle.std.specs.Prelude.{ℕ, ◌==◌, Bool, true, false, List, [], ◌∷◌, Option, Some, None, map, length, filter_map, if◌then◌else◌}
+use Rattle.std.specs.Prelude.{ℕ, ◌==◌, Bool, List, [], ◌∷◌, Option, Some, None, map, filter_map, if◌then◌else◌}
 use Rattle.std.specs.List.{list_all, range_with_len}
 use Rattle.dg_model.specs.declared.nested.NestedLine.{NestedLine}
 use Rattle.mdl_text.specs.declared.tree.Item.{Item}

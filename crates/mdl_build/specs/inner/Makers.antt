@@ -1,5 +1,5 @@
 -- What the blocks of a tree are made by (own).
-use Rattle.std.specs.Prelude.{◌≡◌, ℕ, ◌<◌, Bool, List, length, map, slice_get, Some}
+use Rattle.std.specs.Prelude.{◌≡◌, ℕ, ◌<◌, List, length, map, slice_get, Some}
 use Rattle.dg_model.specs.declared.nested.NestedBlock.{NestedBlock}
 use Rattle.mdl_text.specs.declared.tree.Item.{Item}
 use Rattle.mdl_build.specs.declared.making.Maker.{Maker}

@@ -1,5 +1,5 @@
 -- The blocks of a tree and the numbers of their names, as the code keeps them (own).
-use Rattle.std.specs.Prelude.{◌≡◌, ℕ, ◌≤◌, ◌==◌, ◌&&◌, Bool, true, false, List, Option, Some, None, filter, position, length, nat_eq, codes, bytes_eq}
+use Rattle.std.specs.Prelude.{◌≡◌, ℕ, ◌≤◌, ◌==◌, ◌&&◌, Bool, false, List, Option, Some, None, filter, position, length, bytes_eq}
 use Rattle.std.specs.List.{range_with_len}
 use Rattle.indexmap.specs.IndexMap.{get}
 use Rattle.mdl_text.specs.declared.tree.Item.{Item}

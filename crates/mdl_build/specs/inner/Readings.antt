@@ -8,7 +8,6 @@ use Rattle.mdl_build.specs.declared.settings.Settings.{Settings}
 use Rattle.mdl_build.specs.Blocks.{HasSettings, AreRead, IsReadable}
 use Rattle.mdl_build.specs.Library.{ParameterRow, parameters_of}
 use Rattle.mdl_build.specs.Rules.{IsFirstWrong}
-use Rattle.mdl_build.specs.Settings.{unset}
 
 -- all are read so, or one is the first that isn't read
 abbrev pub IsReading : List Item → BlockType → ℕ → Reading → Type 0

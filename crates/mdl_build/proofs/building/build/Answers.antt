@@ -1,4 +1,4 @@
-use Rattle.std.proofs.Common.{◌≡◌, List, subst, sym, ap, ◌∙◌}
+use Rattle.std.proofs.Common.{List, subst, sym, ap, ◌∙◌}
 use Rattle.std.specs.List.{AllZip}
 use Rattle.mdl_text.specs.declared.tree.Item.{Item}
 use Rattle.mdl_build.specs.Nested.{IsBlockAt, IsNestedOf}

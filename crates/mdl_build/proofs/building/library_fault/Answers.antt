@@ -1,4 +1,4 @@
-use Rattle.std.proofs.Common.{◌≡◌, ℕ, Some, sym, ap, ◌∙◌}
+use Rattle.std.proofs.Common.{ℕ, sym, ap, ◌∙◌}
 use Rattle.std.specs.Prelude.{find, is_none}
 use Rattle.mdl_build.specs.Rules.{type_at}
 use Rattle.mdl_build.proofs.BlockPlaces.{block_here}

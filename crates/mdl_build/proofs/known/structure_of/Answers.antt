@@ -1,4 +1,4 @@
-use Rattle.std.proofs.Common.{◌≡◌, ℕ, length, true, sym, ap, ◌∙◌}
+use Rattle.std.proofs.Common.{◌≡◌, length, true, sym, ap, ◌∙◌}
 use Rattle.mdl_build.specs.Rules.{structure_fault}
 use Rattle.mdl_build.specs.inner.Known.{keeps_sizes}
 use Rattle.mdl_build.specs.inner.Lines.{are_joined_before}

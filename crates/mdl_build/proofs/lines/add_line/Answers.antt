@@ -1,11 +1,9 @@
-use Rattle.std.proofs.Common.{rules, ◌≡◌, ℕ, ◌<◌, ◌≤◌, ◌++◌, List, length, Option, None, get_or, sym, ap, ◌∙◌, arith}
-use Rattle.dg_model.specs.declared.nested.NestedLine.{NestedLine}
+use Rattle.std.proofs.Common.{rules, ◌≡◌, ◌<◌, ◌++◌, List, length, Option, None, get_or, sym, ap, ◌∙◌, arith}
 use Rattle.mdl_build.specs.declared.lines.Goal.{Goal}
 use Rattle.mdl_build.specs.declared.lines.Source.{Source}
 use Rattle.mdl_build.specs.declared.roles.Role.{Role}
 use Rattle.mdl_build.specs.declared.roles.Role.TheVariants.{Branch}
-use Rattle.mdl_build.specs.Lines.{source_of, goal_of, is_joined, line_from, keeps_line, line_at}
-use Rattle.mdl_build.specs.Roles.{role_of}
+use Rattle.mdl_build.specs.Lines.{source_of, is_joined, line_from, keeps_line, line_at}
 use Rattle.mdl_build.specs.inner.Lines.{line_list}
 use Rattle.mdl_build.proofs.LineLemmas.{branch_is, sources_long, source_found}
 use Rattle.mdl_build.proofs.RoleLemmas.{branch_line}

@@ -1,8 +1,7 @@
-use Rattle.std.proofs.Common.{◌≡◌, ℕ, ◌<◌, ◌++◌, List, length, true, false, sym, ap, ◌∙◌, arith}
+use Rattle.std.proofs.Common.{◌≡◌, ◌<◌, ◌++◌, length, sym, ap, ◌∙◌, arith}
 use Rattle.mdl_build.specs.declared.roles.Role.{Role}
 use Rattle.mdl_build.specs.declared.roles.Role.TheVariants.{Other}
 use Rattle.mdl_build.specs.Lines.{keeps_line, line_at}
-use Rattle.mdl_build.specs.Roles.{role_of}
 use Rattle.mdl_build.specs.inner.Lines.{are_joined_before, lines_before, line_list}
 use Rattle.mdl_build.proofs.LineLemmas.{lines_next, joined_next, joined_fails}
 use Rattle.mdl_build.proofs.RoleLemmas.{roles_long, role_here}

@@ -1,7 +1,6 @@
-use Rattle.std.proofs.Common.{◌≡◌, ℕ, ◌<◌, ◌++◌, ◌∷◌, [], List, length, Option, sym, ap, ◌∙◌, arith}
+use Rattle.std.proofs.Common.{◌≡◌, ◌<◌, ◌++◌, ◌∷◌, [], List, length, Option, sym, ap, ◌∙◌, arith}
 use Rattle.mdl_build.specs.declared.lines.Source.{Source}
 use Rattle.mdl_build.specs.declared.roles.Role.TheVariants.{Other}
-use Rattle.mdl_build.specs.Roles.{role_of}
 use Rattle.mdl_build.specs.inner.Lines.{branch_of, source_if, sources_before}
 use Rattle.mdl_build.proofs.LineLemmas.{sources_next}
 use Rattle.mdl_build.proofs.RoleLemmas.{roles_long, role_here}

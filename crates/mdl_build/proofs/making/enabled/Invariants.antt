@@ -1,4 +1,4 @@
-use Rattle.std.proofs.Common.{◌≡◌, take}
+use Rattle.std.proofs.Common.{take}
 use Rattle.mdl_build.specs.Roles.{blocks_of}
 use Rattle.mdl_build.specs.inner.Known.{AreEnabled}
 use Rattle.mdl_build.proofs.making.enabled.Given as goal

@@ -2,7 +2,6 @@ use Rattle.std.proofs.Common.{rules, ◌≡◌, ℕ, ◌<◌, length, Option, So
 use Rattle.mdl_build.specs.Blocks.{at, if_subsystem}
 use Rattle.mdl_build.specs.Roles.{role_of}
 use Rattle.mdl_build.specs.Sections.{holder_of}
-use Rattle.mdl_build.specs.declared.roles.Role.{Role}
 use Rattle.mdl_build.specs.declared.roles.Role.TheVariants.{Other}
 use Rattle.mdl_build.proofs.RoleLemmas.{holder_before, roles_long, role_here}
 use Rattle.mdl_build.proofs.paths.parent.Goals as goal

@@ -1,6 +1,5 @@
-use Rattle.std.proofs.Common.{◌≡◌, ℕ, ◌<◌, ◌+◌, List, length, get_or, Some, true, false, not, sym, ap, ◌∙◌, arith}
+use Rattle.std.proofs.Common.{◌≡◌, ℕ, ◌<◌, ◌+◌, length, get_or, Some, true, not, sym, ap, ◌∙◌, arith}
 use Rattle.std.proofs.lemmas.List.{get_or_default}
-use Rattle.mdl_build.specs.Roles.{role_of}
 use Rattle.mdl_build.specs.Rules.{is_system, is_system_in}
 use Rattle.mdl_build.specs.Sections.{holder_of}
 use Rattle.mdl_build.proofs.CountLemmas.{count_bound, no_system, no_holder, one_system, none_level, some_level}

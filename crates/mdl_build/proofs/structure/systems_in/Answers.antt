@@ -1,4 +1,4 @@
-use Rattle.std.proofs.Common.{◌≡◌, ℕ, ◌<◌, List, length, subst, sym, ap, ◌∙◌, arith}
+use Rattle.std.proofs.Common.{◌≡◌, length, subst, arith}
 use Rattle.mdl_build.specs.declared.roles.Role.TheVariants.{Other}
 use Rattle.mdl_build.specs.inner.Structure.{AreCounts}
 use Rattle.mdl_build.proofs.RoleLemmas.{roles_long, role_here}

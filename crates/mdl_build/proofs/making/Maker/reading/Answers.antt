@@ -1,4 +1,4 @@
-use Rattle.std.proofs.Common.{◌≡◌, ℕ, List, ap, ◌∙◌}
+use Rattle.std.proofs.Common.{ap, ◌∙◌}
 use Rattle.mdl_build.specs.inner.Makers.{items_of}
 use Rattle.mdl_build.specs.inner.Texts.{contents_of}
 use Rattle.mdl_build.proofs.MakingLemmas.{defaults_here}

@@ -1,4 +1,4 @@
-use Rattle.std.proofs.Common.{◌≡◌, ℕ, ◌++◌, ◌∷◌, [], List, Option, Some, None, cond, sym, ap, ◌∙◌, length, true}
+use Rattle.std.proofs.Common.{◌≡◌, ℕ, ◌++◌, ◌∷◌, [], Some, None, cond, sym, ap, ◌∙◌}
 use Rattle.std.specs.Prelude.{position}
 use Rattle.indexmap.specs.IndexMap.{get}
 use Rattle.mdl_build.specs.declared.names.Blocks.{Blocks}
