@@ -21,7 +21,8 @@ use std::alloc::Global;
 /// The types of a diagram's blocks (Simulink reference, signal data types).
 #[derive(Debug, Drop)]
 pub struct BlockTypes {
-    /// The type of the outputs of each block; Logical where it has no output and nothing gives it one.
+    /// The type of the outputs of each block; Logical where it has no output and nothing gives it
+    /// one.
     pub results: FxTypes,
     /// The type of the coefficients of each Gain, and Logical at every other block.
     pub params: FxTypes,
@@ -57,7 +58,8 @@ fn keeps(
     types: &[Option<FxType>],
     place: u32,
 ) -> bool
-    requires typed { IsTyped diagram.now round.now.blocks.now round.now.links.forms round.now.links.sources types.now }
+    requires typed { IsTyped diagram.now round.now.blocks.now round.now.links.forms
+        round.now.links.sources types.now }
     requires there { place < length diagram.now.blocks }
     ensures { (block : Block) → slice_get diagram.now.blocks place ≡ Some block →
         (result ≡ true) ↔ keeps_part part diagram.now (types_of diagram.now) place block }
@@ -79,9 +81,11 @@ fn first_broken(
     types: &[Option<FxType>],
 ) -> Option<usize>
     requires wired { IsWired diagram.now }
-    requires typed { IsTyped diagram.now round.now.blocks.now round.now.links.forms round.now.links.sources types.now }
+    requires typed { IsTyped diagram.now round.now.blocks.now round.now.links.forms
+        round.now.links.sources types.now }
     ensures there { IfSome result (λ place. place < length diagram.now.blocks) }
-    ensures broken { IfSome result (λ place. (block : Block) → slice_get diagram.now.blocks place ≡ Some block →
+    ensures broken { IfSome result (λ place. (block : Block) →
+        slice_get diagram.now.blocks place ≡ Some block →
         ¬ keeps_part part diagram.now (types_of diagram.now) place block) }
     ensures before { IfSome result (KeepBelow part diagram.now) }
     ensures none { result ≡ None → KeepBelow part diagram.now (length diagram.now.blocks) }
@@ -114,9 +118,13 @@ fn check(
     types: &[Option<FxType>],
 ) -> Result<(), CheckFault>
     requires wired { IsWired diagram.now }
-    requires typed { IsTyped diagram.now round.now.blocks.now round.now.links.forms round.now.links.sources types.now }
-    ensures kept { OnOk result (AllKeep diagram.now (keeps_part part diagram.now (types_of diagram.now))) }
-    ensures refused { IfErr result (IsRefusal (BreaksAt diagram.now 7 (keeps_part part diagram.now (types_of diagram.now)) (λ place block. Word (word_of_part part)))) }
+    requires typed { IsTyped diagram.now round.now.blocks.now round.now.links.forms
+        round.now.links.sources types.now }
+    ensures kept { OnOk result
+        (AllKeep diagram.now (keeps_part part diagram.now (types_of diagram.now))) }
+    ensures refused { IfErr result (IsRefusal (BreaksAt diagram.now 7
+        (keeps_part part diagram.now (types_of diagram.now))
+        (λ place block. Word (word_of_part part)))) }
 {
     let Some(place) = first_broken(part, diagram, round, types) else {
         return Ok(());
@@ -153,7 +161,8 @@ fn param_at(
     types: &[Option<FxType>],
     place: u32,
 ) -> FxType
-    requires typed { IsTyped diagram.now round.now.blocks.now round.now.links.forms round.now.links.sources types.now }
+    requires typed { IsTyped diagram.now round.now.blocks.now round.now.links.forms
+        round.now.links.sources types.now }
     requires there { place < length diagram.now.blocks }
     ensures { result ≡ or_logical (param_type_at diagram.now (types_of diagram.now) place) }
 {
@@ -169,7 +178,8 @@ fn all_params(
     types: &[Option<FxType>],
 ) -> Result<FxTypes, OutOfMemory>
     requires wired { IsWired diagram.now }
-    requires typed { IsTyped diagram.now round.now.blocks.now round.now.links.forms round.now.links.sources types.now }
+    requires typed { IsTyped diagram.now round.now.blocks.now round.now.links.forms
+        round.now.links.sources types.now }
     ensures { IfOk result (λ params. params ≡ params_of diagram.now) }
 {
     let mut params = FxTypes::new(alloc);
@@ -181,22 +191,23 @@ fn all_params(
 
 /// The types of a diagram: those after as many rounds as it has blocks, where in each round every
 /// block whose type isn't known takes it once the types that it needs are (Simulink reference,
-/// `OutDataTypeStr`; the rounds and the internal rule own). The rule of dimensions comes before that of
-/// types, so a caller has the widths; no type hangs on them.
+/// `OutDataTypeStr`; the rounds and the internal rule own). The rule of dimensions comes before that
+/// of types, so a caller has the widths; no type hangs on them.
 ///
 /// # Errors
-/// Broken exactly where the rule of types is broken. First, at the first block of which all input types
-/// are known and a full type, a union or a Gain's parameter type that its equation names is not valid
-/// (`wide`); else at the first block of which the type of an output or of an input isn't known
-/// (`missing`); else at the first Outport, inner port or Mux whose types don't agree (`differs`). Or want
-/// of memory.
+/// Broken exactly where the rule of types is broken. First, at the first block of which all input
+/// types are known and a full type, a union or a Gain's parameter type that its equation names is
+/// not valid (`wide`); else at the first block of which the type of an output or of an input isn't
+/// known (`missing`); else at the first Outport, inner port or Mux whose types don't agree
+/// (`differs`). Or want of memory.
 pub fn types(
     alloc: Global,
     diagram: &Diagram,
     _widths: &PortWidths,
 ) -> Result<BlockTypes, CheckFault>
     requires { IsWired diagram.now }
-    ensures results { IfOk result (λ types. types.results ≡ map or_logical (types_of diagram.now)) }
+    ensures results { IfOk result (λ types.
+        types.results ≡ map or_logical (types_of diagram.now)) }
     ensures params { IfOk result (λ types. types.params ≡ params_of diagram.now) }
     ensures kept { OnOk result (KeepsTypes diagram.now) }
     ensures refused { IfErr result (IsRefusal (BreaksType diagram.now)) }

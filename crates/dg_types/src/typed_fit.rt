@@ -62,7 +62,8 @@ pub fn fraction_of(decimal: Decimal) -> Fraction
 /// The number times 2 to the power `by`, where that is below 2 to the power 128.
 fn shifted_up(number: u128, by: u32) -> Option<u128>
     requires { 0 < number }
-    ensures { MatchOption result (2 ^ 128 ≤ number * 2 ^ by) (λ shifted. shifted ≡ number * 2 ^ by) }
+    ensures { MatchOption result (2 ^ 128 ≤ number * 2 ^ by)
+        (λ shifted. shifted ≡ number * 2 ^ by) }
 {
     if by < 128 {
         number.checked_mul(1 << by)
@@ -94,7 +95,8 @@ fn fits_halved(fraction: Fraction, bits: u32, by: u32) -> bool
     requires some { 2 ≤ bits }
     requires few { bits ≤ 128 }
     requires small { by < 128 }
-    ensures { result ≡ is_within fraction.negative bits fraction.over (fraction.under * 2 ^ (by + 1)) }
+    ensures { result ≡ is_within fraction.negative bits fraction.over
+        (fraction.under * 2 ^ (by + 1)) }
 {
     let Some(bound) = shifted_up(fraction.under, bits) else {
         return true;
@@ -112,7 +114,8 @@ fn fits_doubled(fraction: Fraction, bits: u32, by: u32) -> bool
     requires some { 2 ≤ bits }
     requires few { bits ≤ 128 }
     requires doubled { 1 ≤ by }
-    ensures { result ≡ is_within fraction.negative bits (fraction.over * 2 ^ (by - 1)) fraction.under }
+    ensures { result ≡ is_within fraction.negative bits (fraction.over * 2 ^ (by - 1))
+        fraction.under }
 {
     if by <= bits {
         let half = shifted_down(fraction.under, by);
@@ -136,7 +139,8 @@ pub fn fits(fraction: Fraction, bits: u32, frac: i16) -> bool
     requires few { bits ≤ 128 }
     requires low { negsuc 63 ≤ℤ frac }
     requires high { frac ≤ℤ pos 128 }
-    ensures { result ≡ is_within fraction.negative bits (fraction.over * 2 ^ int_gap (pos 0) frac) (fraction.under * 2 ^ int_gap frac (pos 0)) }
+    ensures { result ≡ is_within fraction.negative bits
+        (fraction.over * 2 ^ int_gap (pos 0) frac) (fraction.under * 2 ^ int_gap frac (pos 0)) }
 {
     if frac < 0 {
         fits_halved(fraction, bits, (-1 - frac) as u32)

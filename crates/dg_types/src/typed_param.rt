@@ -63,7 +63,8 @@ fn fits_at(decimal: Decimal, signed: bool, width: u8, frac: i16) -> bool
     fits(fraction_of(decimal), u32::from(bits), frac)
 }
 
-/// The least number of steps down from the frac 128, no fewer than these, after which a decimal fits.
+/// The least number of steps down from the frac 128, no fewer than these, after which a decimal
+/// fits.
 fn lowered(decimal: Decimal, signed: bool, width: u8, steps: u8) -> Option<u8>
     requires word { IsWord width signed }
     requires sign { HasSign signed decimal }

@@ -43,7 +43,8 @@ impl Round for TypeRound<'_> {
 
     ghost IsValue = { λ round value. IsKnownValid value };
 
-    ghost next = { λ round values block. next_typed round.blocks.now round.links.sources values block };
+    ghost next = { λ round values block.
+        next_typed round.blocks.now round.links.sources values block };
 
     ghost readers_of = { λ round block. slice_index_or round.links.readers block [] };
 
@@ -53,7 +54,8 @@ impl Round for TypeRound<'_> {
         typed_stays round.blocks.now round.links.sources values block round.ready round.valid fit };
 
     ghost local = { λ round old new block old_size new_size there same.
-        typed_is_local round.blocks.now round.links.forms round.links.sources round.links.readers old new block round.links.linked there same };
+        typed_is_local round.blocks.now round.links.forms round.links.sources
+        round.links.readers old new block round.links.linked there same };
 
     fn next(&self, values: &[Option<FxType>], block: u32) -> Option<FxType> {
         let own = values[block as usize];
@@ -97,7 +99,8 @@ fn all_explicit(alloc: Global, blocks: &[Block]) -> Result<Vec<Option<FxType>>, 
 pub fn round_of(alloc: Global, diagram: &Diagram) -> Result<TypeRound<'_>, OutOfMemory>
     requires { IsWired diagram.now }
     ensures blocks { IfOk result (λ round. round.blocks.now ≡ diagram.now.blocks) }
-    ensures mirrors { IfOk result (λ round. Mirrors diagram.now round.links.forms round.links.sources) }
+    ensures mirrors { IfOk result (λ round.
+        Mirrors diagram.now round.links.forms round.links.sources) }
 {
     fx_type::full_sum_is_one();
     fx_type::union_is_one();

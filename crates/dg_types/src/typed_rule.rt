@@ -1,5 +1,5 @@
-//! Whether the types of a diagram keep the rule of types: its three parts, each of them a test of one
-//! block.
+//! Whether the types of a diagram keep the rule of types: its three parts, each of them a test of
+//! one block.
 ghost use Rattle.std.specs.Prelude.{◌≡◌, ◌↔◌, ◌≤◌, true, All, Some, IsSome, length, slice_get, MatchOption};
 ghost use Rattle.dg_model.specs.declared.diagram.Block.{Block};
 ghost use Rattle.dg_model.specs.KindRow.{FullRule};
@@ -68,7 +68,8 @@ pub fn are_known(values: &[Option<FxType>], sources: &[Source]) -> bool
 /// Whether each input has this type.
 fn are_all(kind: Option<FxType>, values: &[Option<FxType>], sources: &[Source]) -> bool
     requires { CanRead values.now sources.now }
-    ensures { (result ≡ true) ↔ All (λ input. input ≡ kind) (source_types values.now sources.now) }
+    ensures { (result ≡ true) ↔
+        All (λ input. input ≡ kind) (source_types values.now sources.now) }
 {
     for source in sources {
         if !is_same(values[source.block as usize], kind) {
@@ -83,8 +84,8 @@ pub fn is_narrow(block: &Block, values: &[Option<FxType>], sources: &[Source]) -
     requires read { CanRead values.now sources.now }
     requires ready { is_ready block.now (length sources.now) ≡ true }
     ensures { let types = source_types values.now sources.now in
-        (result ≡ true) ↔ (names_full_type_of block.now.kind block.now.result ≡ true → All IsSome types →
-        IsSome (full_type_of (row_of block.now.kind).types.full types)) }
+        (result ≡ true) ↔ (names_full_type_of block.now.kind block.now.result ≡ true →
+        All IsSome types → IsSome (full_type_of (row_of block.now.kind).types.full types)) }
 {
     if names_full_type(block) && are_known(values, sources) {
         full_type(&block.kind, values, sources).is_some()
@@ -101,7 +102,8 @@ pub fn has_types(
     sources: &[Source],
 ) -> bool
     requires { CanRead values.now sources.now }
-    ensures { (result ≡ true) ↔ ((1 ≤ block.now.outputs → IsSome own) × All IsSome (source_types values.now sources.now)) }
+    ensures { (result ≡ true) ↔ ((1 ≤ block.now.outputs → IsSome own) ×
+        All IsSome (source_types values.now sources.now)) }
 {
     if block.outputs > 0 && !is_known(own) {
         false
@@ -132,7 +134,8 @@ fn are_one(values: &[Option<FxType>], sources: &[Source]) -> bool
 /// Whether the type that a port writes out is its driver's.
 fn agrees_with(block: &Block, values: &[Option<FxType>], sources: &[Source]) -> bool
     requires { CanRead values.now sources.now }
-    ensures { (result ≡ true) ↔ AgreesWith (row_of block.now.kind).place.role block.now.result (source_types values.now sources.now) }
+    ensures { (result ≡ true) ↔ AgreesWith (row_of block.now.kind).place.role block.now.result
+        (source_types values.now sources.now) }
 {
     match &block.kind {
         Kind::Outport { .. } | Kind::Pass { .. } | Kind::EnOut { .. } => is_drivers(
@@ -162,7 +165,8 @@ fn agrees_with(block: &Block, values: &[Option<FxType>], sources: &[Source]) -> 
 /// Whether the inputs of a Mux have one type.
 fn agree_inside(kind: &Kind, values: &[Option<FxType>], sources: &[Source]) -> bool
     requires { CanRead values.now sources.now }
-    ensures { (result ≡ true) ↔ AgreeInside (row_of kind.now).signal.shape (source_types values.now sources.now) }
+    ensures { (result ≡ true) ↔ AgreeInside (row_of kind.now).signal.shape
+        (source_types values.now sources.now) }
 {
     match kind {
         Kind::Mux { .. } => are_one(values, sources),
@@ -191,7 +195,8 @@ fn agree_inside(kind: &Kind, values: &[Option<FxType>], sources: &[Source]) -> b
 pub fn agrees(block: &Block, values: &[Option<FxType>], sources: &[Source]) -> bool
     requires { CanRead values.now sources.now }
     ensures { let types = source_types values.now sources.now in
-        (result ≡ true) ↔ (AgreesWith (row_of block.now.kind).place.role block.now.result types × AgreeInside (row_of block.now.kind).signal.shape types) }
+        (result ≡ true) ↔ (AgreesWith (row_of block.now.kind).place.role block.now.result types ×
+        AgreeInside (row_of block.now.kind).signal.shape types) }
 {
     if agrees_with(block, values, sources) {
         agree_inside(&block.kind, values, sources)

@@ -1,4 +1,5 @@
-//! The type that a block takes from those of its inputs: one function for each choice of a kind's row.
+//! The type that a block takes from those of its inputs: one function for each choice of a kind's
+//! row.
 ghost use Rattle.std.specs.Prelude.{◌≡◌, ◌≤◌, All, length, true, IfSome};
 ghost use Rattle.fx_type.specs.FullTypeOf.{full_sum_of, full_product_of, union_of as union_of_types};
 ghost use Rattle.fx_type.specs.FxType.{IsType};
@@ -73,7 +74,8 @@ fn sum_at(negative: &[bool], values: &[Option<FxType>], sources: &[Source]) -> O
     requires all { length negative.now ≡ length sources.now }
     requires some { 1 ≤ length negative.now }
     requires few { length negative.now ≤ 32 }
-    ensures { result ≡ full_type_of (FullRule.FullSum negative.now) (source_types values.now sources.now) }
+    ensures { result ≡ full_type_of (FullRule.FullSum negative.now)
+        (source_types values.now sources.now) }
 {
     let mut terms = [(false, FxType::Logical); 32];
     for (input, subtracted) in negative.iter().enumerate() {
@@ -94,7 +96,8 @@ fn scaled_at(
 ) -> Option<FxType>
     requires read { CanRead values.now sources.now }
     requires param { IsSpec param }
-    ensures { result ≡ full_type_of (FullRule.FullScaled value.now param) (source_types values.now sources.now) }
+    ensures { result ≡ full_type_of (FullRule.FullScaled value.now param)
+        (source_types values.now sources.now) }
 {
     let Some(input) = input_at(values, sources, 0) else {
         return None;
@@ -123,7 +126,8 @@ fn product_at(values: &[Option<FxType>], sources: &[Source]) -> Option<FxType>
 fn union_at(values: &[Option<FxType>], sources: &[Source], other: usize) -> Option<FxType>
     requires { CanRead values.now sources.now }
     ensures { let types = source_types values.now sources.now in
-        result ≡ with_known (known_at types 0) (λ left. with_known (known_at types other) (union_of_types left)) }
+        result ≡ with_known (known_at types 0)
+        (λ left. with_known (known_at types other) (union_of_types left)) }
 {
     let Some(left) = input_at(values, sources, 0) else {
         return None;
@@ -134,12 +138,13 @@ fn union_at(values: &[Option<FxType>], sources: &[Source], other: usize) -> Opti
     union_of(left, right)
 }
 
-/// The full type or union that a kind's equation names of these inputs, where the types that it needs
-/// are known and it is valid.
+/// The full type or union that a kind's equation names of these inputs, where the types that it
+/// needs are known and it is valid.
 pub fn full_type(kind: &Kind, values: &[Option<FxType>], sources: &[Source]) -> Option<FxType>
     requires read { CanRead values.now sources.now }
     requires ready { is_full_ready (row_of kind.now).types.full (length sources.now) ≡ true }
-    ensures { result ≡ full_type_of (row_of kind.now).types.full (source_types values.now sources.now) }
+    ensures { result ≡ full_type_of (row_of kind.now).types.full
+        (source_types values.now sources.now) }
 {
     match kind {
         Kind::Sum { negative } => sum_at(negative.as_slice(), values, sources),
@@ -167,7 +172,8 @@ pub fn full_type(kind: &Kind, values: &[Option<FxType>], sources: &[Source]) -> 
 /// The type that a kind has of itself.
 fn own_type(kind: &Kind, values: &[Option<FxType>], sources: &[Source]) -> Option<FxType>
     requires { CanRead values.now sources.now }
-    ensures { result ≡ own_type_of (row_of kind.now).types.own (source_types values.now sources.now) }
+    ensures { result ≡ own_type_of (row_of kind.now).types.own
+        (source_types values.now sources.now) }
 {
     match kind {
         Kind::Ground => Some(FxType::Num {
@@ -198,7 +204,8 @@ fn own_type(kind: &Kind, values: &[Option<FxType>], sources: &[Source]) -> Optio
 pub fn taken_type(block: &Block, values: &[Option<FxType>], sources: &[Source]) -> Option<FxType>
     requires read { CanRead values.now sources.now }
     requires ready { is_ready block.now (length sources.now) ≡ true }
-    ensures { result ≡ taken_type_of block.now.kind block.now.result (source_types values.now sources.now) }
+    ensures { result ≡ taken_type_of block.now.kind block.now.result
+        (source_types values.now sources.now) }
 {
     match block.result {
         TypeSpec::Fixed(kind) => Some(kind),
@@ -216,7 +223,8 @@ pub fn coefficient_type(
 ) -> Option<FxType>
     requires read { CanRead values.now sources.now }
     requires ready { is_full_ready (row_of kind.now).types.full (length sources.now) ≡ true }
-    ensures { result ≡ coefficient_type_of (row_of kind.now).types.full (known_at (source_types values.now sources.now) 0) }
+    ensures { result ≡ coefficient_type_of (row_of kind.now).types.full
+        (known_at (source_types values.now sources.now) 0) }
 {
     match kind {
         Kind::Gain { value, param } => param_at(value.as_slice(), *param, values, sources),
@@ -250,7 +258,8 @@ fn param_at(
 ) -> Option<FxType>
     requires read { CanRead values.now sources.now }
     requires param { IsSpec param }
-    ensures { result ≡ with_known (known_at (source_types values.now sources.now) 0) (param_type_of value.now param) }
+    ensures { result ≡ with_known (known_at (source_types values.now sources.now) 0)
+        (param_type_of value.now param) }
 {
     let Some(input) = input_at(values, sources, 0) else {
         return None;
