@@ -1,3 +1,4 @@
 mod expressions;
+mod large;
 mod modules;
 mod running;
