@@ -1,0 +1,58 @@
+-- The line that tells a broken rule, without the name of a file (own).
+use Rattle.std.specs.Prelude.{ℕ, ◌==◌, ◌||◌, if◌then◌else◌, List, [], ◌∷◌, ◌++◌, codes, slice_index_or}
+use Rattle.std.specs.Fmt.{decimal, signed_decimal}
+use Rattle.std.specs.List.{flat_map}
+use Rattle.dg_model.specs.declared.fault.RuleFault.{RuleFault}
+use Rattle.dg_model.specs.declared.fault.Shown.{Shown}
+use Rattle.dg_model.specs.declared.fault.Shown.TheVariants.{Nothing, Word, Periods, Cycle, Latency, Budget, Size}
+
+-- what a rule is about, by its number
+abbrev pub rule_word : ℕ → List ℕ
+rule_word rule =
+    if rule == 1 then codes "structure" else (if rule == 2 then codes "library" else (if rule == 3 then codes "parameter"
+    else (if rule == 4 then codes "wiring" else (if rule == 5 then codes "enable" else (if rule == 6 then codes "dimension"
+    else (if rule == 7 then codes "type" else (if rule == 8 then codes "rate" else (if rule == 9 then codes "loop"
+    else (if rule == 10 then codes "plan" else (if rule == 11 then codes "latency" else (if rule == 12 then codes "budget"
+    else codes "size")))))))))))
+
+-- a byte of a path between quotes, as MDL writes it: `\n` for a newline, `\t` for a tab, and a backslash before a
+-- quote or a backslash
+abbrev pub quoted_byte : ℕ → List ℕ
+quoted_byte byte =
+    if byte == 10 then codes "\\n"
+    else (if byte == 9 then codes "\\t"
+    else (if byte == 34 || byte == 92 then 92 ∷ byte ∷ []
+    else byte ∷ []))
+
+-- a path between quotes
+abbrev pub quoted_path : List ℕ → List ℕ
+quoted_path path = codes "\"" ++ flat_map quoted_byte path ++ codes "\""
+
+-- the place of a broken rule; the empty path is the whole model
+abbrev pub place_text : List ℕ → List ℕ
+place_text [] = codes "model"
+place_text (byte ∷ path) = quoted_path (byte ∷ path)
+
+-- a period in base samples; 0 is a value that never changes
+abbrev pub period_text : ℕ → List ℕ
+period_text period = if period == 0 then codes "inf" else decimal period
+
+-- blocks by their numbers, each behind a space
+abbrev pub cycle_text : List (List ℕ) → List ℕ → List ℕ
+cycle_text paths blocks = flat_map (λ block. codes " " ++ quoted_path (slice_index_or paths block [])) blocks
+
+-- what is told of a broken rule beside its place
+abbrev pub shown_text : List (List ℕ) → Shown → List ℕ
+shown_text paths Nothing = []
+shown_text paths (Word word) = codes ": " ++ word
+shown_text paths (Periods own other) = codes ": periods " ++ period_text own ++ codes " " ++ period_text other
+shown_text paths (Cycle blocks) = codes ": cycle" ++ cycle_text paths blocks
+shown_text paths (Latency blocks total) = codes ": total " ++ signed_decimal total ++ codes " cycle" ++ cycle_text paths blocks
+shown_text paths (Budget period need have) = codes ": period " ++ decimal period ++ codes " need " ++ decimal need ++ codes " have " ++ decimal have
+shown_text paths (Size storage latency) = codes ": storage " ++ decimal storage ++ codes " latency " ++ decimal latency
+
+-- the line; the paths are those of the diagram's blocks
+abbrev pub rule_line : List (List ℕ) → RuleFault → List ℕ
+rule_line paths fault =
+    codes "rule " ++ decimal fault.rule ++ codes " (" ++ rule_word fault.rule ++ codes "): " ++ place_text fault.place
+    ++ shown_text paths fault.shown ++ codes "\n"

@@ -1,0 +1,16 @@
+//! From the bytes of a model to its checked diagram.
+//!
+//! `accept` goes the whole way: text, tree, blocks and lines, flat diagram, and the rules 1 to 9 in
+//! this order. `specs/Model.antt` says which diagram a model has (`IsModelOf`) and when it has none:
+//! its bytes are no MDL text (`IsNotMdl`), or its tree breaks a rule (`IsBrokenModel`). `rule_text` writes
+//! the line of a broken rule (`rule_line` of `specs/RuleLine.antt`).
+#![tactic(auto)]
+
+mod accepting;
+mod rule_lines;
+
+pub use accepting::{ModelFault, accept};
+pub use rule_lines::rule_text;
+
+#[cfg(test)]
+mod tests;

@@ -1,0 +1,202 @@
+//! The line that tells a broken rule.
+ghost use Rattle.std.specs.Prelude.{◌≡◌, ◌++◌, [], IfOk, OnOk, map, slice_index_or};
+ghost use Rattle.std.specs.Fmt.{decimal, signed_decimal};
+ghost use Rattle.std.specs.List.{flat_map};
+ghost use Rattle.fx_model.specs.RuleLine.{cycle_text, period_text, place_text, quoted_byte, quoted_path, rule_line, rule_word, shown_text};
+
+use dg_model::{Block, RuleFault, Shown};
+use fx_io::{OutOfMemory, Text};
+use itoa::Buffer;
+use std::alloc::Global;
+
+/// The line of a broken rule; the blocks are those whose numbers it may show.
+pub fn rule_text(alloc: Global, fault: &RuleFault, blocks: &[Block]) -> Result<Text, OutOfMemory>
+    ensures { IfOk result (λ text. text ≡ rule_line (map (λ block. block.path) blocks.now) fault.now) }
+{
+    let mut line = Vec::new(alloc);
+    push(&mut line, b"rule ")?;
+    push_number(&mut line, u64::from(fault.rule))?;
+    push(&mut line, b" (")?;
+    push(&mut line, word_of(fault.rule))?;
+    push(&mut line, b"): ")?;
+    push_place(&mut line, fault.place.bytes())?;
+    push_shown(&mut line, &fault.shown, blocks)?;
+    push(&mut line, b"\n")?;
+    Ok(Text::from_vec(line))
+}
+
+/// What a rule is about.
+fn word_of(rule: u8) -> &'static [u8]
+    ensures { result.now ≡ rule_word rule }
+{
+    match rule {
+        1 => b"structure",
+        2 => b"library",
+        3 => b"parameter",
+        4 => b"wiring",
+        5 => b"enable",
+        6 => b"dimension",
+        7 => b"type",
+        8 => b"rate",
+        9 => b"loop",
+        10 => b"plan",
+        11 => b"latency",
+        12 => b"budget",
+        _ => b"size",
+    }
+}
+
+/// Adds bytes.
+fn push(line: &mut Vec<u8>, bytes: &[u8]) -> Result<(), OutOfMemory>
+    ensures { OnOk result (line.new.items ≡ line.old.items ++ bytes.now) }
+{
+    line.extend_from_slice(bytes)?;
+    Ok(())
+}
+
+/// Adds a number in decimal.
+fn push_number(line: &mut Vec<u8>, number: u64) -> Result<(), OutOfMemory>
+    ensures { OnOk result (line.new.items ≡ line.old.items ++ decimal number) }
+{
+    let mut digits = Buffer::new();
+    push(line, digits.format(number).as_bytes())
+}
+
+/// Adds a number in decimal, with a minus where it is below 0.
+fn push_signed(line: &mut Vec<u8>, number: i64) -> Result<(), OutOfMemory>
+    ensures { OnOk result (line.new.items ≡ line.old.items ++ signed_decimal number) }
+{
+    let mut digits = Buffer::new();
+    push(line, digits.format(number).as_bytes())
+}
+
+/// Adds a path between quotes.
+fn push_quoted(line: &mut Vec<u8>, path: &[u8]) -> Result<(), OutOfMemory>
+    ensures { OnOk result (line.new.items ≡ line.old.items ++ quoted_path path.now) }
+{
+    push(line, b"\"")?;
+    push_escaped(line, path)?;
+    push(line, b"\"")
+}
+
+/// Adds the bytes of a path as they stand between quotes.
+fn push_escaped(line: &mut Vec<u8>, path: &[u8]) -> Result<(), OutOfMemory>
+    ensures { OnOk result (line.new.items ≡ line.old.items ++ flat_map quoted_byte path.now) }
+{
+    for byte in path {
+        push_byte(line, *byte)?;
+    }
+    Ok(())
+}
+
+/// Adds a byte of a path as it stands between quotes.
+fn push_byte(line: &mut Vec<u8>, byte: u8) -> Result<(), OutOfMemory>
+    ensures { OnOk result (line.new.items ≡ line.old.items ++ quoted_byte byte) }
+{
+    match byte {
+        b'\n' => push(line, b"\\n"),
+        b'\t' => push(line, b"\\t"),
+        b'"' => push(line, b"\\\""),
+        b'\\' => push(line, b"\\\\"),
+        _ => push(line, &[byte]),
+    }
+}
+
+/// Adds the place of a broken rule.
+fn push_place(line: &mut Vec<u8>, path: &[u8]) -> Result<(), OutOfMemory>
+    ensures { OnOk result (line.new.items ≡ line.old.items ++ place_text path.now) }
+{
+    if path.is_empty() {
+        push(line, b"model")
+    } else {
+        push_quoted(line, path)
+    }
+}
+
+/// Adds a period.
+fn push_period(line: &mut Vec<u8>, period: u32) -> Result<(), OutOfMemory>
+    ensures { OnOk result (line.new.items ≡ line.old.items ++ period_text period) }
+{
+    if period == 0 {
+        push(line, b"inf")
+    } else {
+        push_number(line, u64::from(period))
+    }
+}
+
+/// Adds the paths of blocks, each behind a space.
+fn push_cycle(line: &mut Vec<u8>, numbers: &[u32], blocks: &[Block]) -> Result<(), OutOfMemory>
+    ensures { OnOk result (line.new.items ≡ line.old.items ++ cycle_text (map (λ block. block.path) blocks.now) numbers.now) }
+{
+    for number in numbers {
+        push(line, b" ")?;
+        push_quoted(line, path_of(blocks, *number))?;
+    }
+    Ok(())
+}
+
+/// The path of a block; where there is no such block it is empty.
+fn path_of(blocks: &[Block], number: u32) -> &[u8]
+    ensures { result.now ≡ slice_index_or (map (λ block. block.path) blocks.now) number [] }
+{
+    match blocks.get(number as usize) {
+        Some(block) => block.path.bytes(),
+        None => b"",
+    }
+}
+
+/// Adds what is told beside the place.
+fn push_shown(line: &mut Vec<u8>, shown: &Shown, blocks: &[Block]) -> Result<(), OutOfMemory>
+    ensures { OnOk result (line.new.items ≡ line.old.items ++ shown_text (map (λ block. block.path) blocks.now) shown.now) }
+{
+    match shown {
+        Shown::Nothing => Ok(()),
+        Shown::Word(word) => {
+            push(line, b": ")?;
+            push(line, word.bytes())
+        }
+        Shown::Periods { own, other } => {
+            push(line, b": periods ")?;
+            push_period(line, *own)?;
+            push(line, b" ")?;
+            push_period(line, *other)
+        }
+        Shown::Cycle { blocks: numbers } => {
+            push(line, b": cycle")?;
+            push_cycle(line, numbers.as_slice(), blocks)
+        }
+        Shown::Latency {
+            blocks: numbers,
+            total,
+        } => {
+            push(line, b": total ")?;
+            push_signed(line, *total)?;
+            push(line, b" cycle")?;
+            push_cycle(line, numbers.as_slice(), blocks)
+        }
+        Shown::Budget { period, need, have } => {
+            push(line, b": period ")?;
+            push_number(line, u64::from(*period))?;
+            push_pair(line, b" need ", *need, b" have ", *have)
+        }
+        Shown::Size { storage, latency } => {
+            push_pair(line, b": storage ", *storage, b" latency ", *latency)
+        }
+    }
+}
+
+/// Adds two numbers, each behind its word.
+fn push_pair(
+    line: &mut Vec<u8>,
+    first: &[u8],
+    one: u64,
+    second: &[u8],
+    other: u64,
+) -> Result<(), OutOfMemory>
+    ensures { OnOk result (line.new.items ≡ line.old.items ++ (first.now ++ decimal one ++ second.now ++ decimal other)) }
+{
+    push(line, first)?;
+    push_number(line, one)?;
+    push(line, second)?;
+    push_number(line, other)
+}
