@@ -26,7 +26,7 @@ use Rattle.dg_sort.proofs.Places.{get_left, get_right, push_cases, last_at}
 
 -- ---- a source put at the end of a row
 
-reads_cases : (rows : List (List ℕ)) (block source x y : ℕ) → block < length rows → Reads (noted rows block source) x y → Reads rows x y ⊎ ((block ≡ x) × (source ≡ y))
+pub reads_cases : (rows : List (List ℕ)) (block source x y : ℕ) → block < length rows → Reads (noted rows block source) x y → Reads rows x y ⊎ ((block ≡ x) × (source ≡ y))
 reads_cases rows block source x y inside reads = ⊎_elim
     (λ (same : block ≡ x).
     let row : row_at (noted rows block source) x ≡ row_at rows block ++ source ∷ [] =

@@ -13,5 +13,7 @@ mod cycle;
 mod ordering;
 mod rows;
 mod search;
+#[cfg(test)]
+mod tests;
 
 pub use ordering::order;

@@ -88,7 +88,7 @@ fn is_instant(blocks: &[Block], periods: &[Option<u32>], edge: Edge) -> bool
 }
 
 /// So many empty rows.
-fn empty_rows(alloc: Global, count: usize) -> Result<Vec<Sizes>, OutOfMemory>
+pub fn empty_rows(alloc: Global, count: usize) -> Result<Vec<Sizes>, OutOfMemory>
     ensures { IfOk result (λ rows. rows.items ≡ replicate count []) }
 {
     let mut rows: Vec<Sizes> = Vec::new(alloc);
@@ -99,7 +99,7 @@ fn empty_rows(alloc: Global, count: usize) -> Result<Vec<Sizes>, OutOfMemory>
 }
 
 /// Puts a source at the end of a block's row.
-fn note(rows: &mut Vec<Sizes>, block: u32, source: u32) -> Result<(), OutOfMemory>
+pub fn note(rows: &mut Vec<Sizes>, block: u32, source: u32) -> Result<(), OutOfMemory>
     requires { block < length rows.old.items }
     ensures { OnOk result (rows.new.items ≡ noted rows.old.items block source) }
 {
