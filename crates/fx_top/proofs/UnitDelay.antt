@@ -14,13 +14,13 @@ use Rattle.vl_ast.specs.Nets.{Declared, InputPort, OutputPort, Register, nets_of
 use Rattle.vl_ast.specs.Context.{Net}
 use Rattle.fx_type.specs.FxType.{width_of, InRange}
 use Rattle.fx_type.specs.declared.kind.FxType.TheVariants.{Num}
-use Rattle.dg_model.specs.RootElements.{RootElement}
+use Rattle.dg_model.specs.RootElements.{RootElement, AreColumns}
 use lib.Signed.{le_z_yes}
 use Rattle.vl_ast.specs.Runs.{Row, Rows, Runs, next_bits}
 use Rattle.vl_ast.specs.Value.{bits_of, assigned, assigned_number}
 use Rattle.vl_ast.specs.Windows.{PortNumbers, Window}
 use Rattle.fx_top.specs.declared.one_delay.OneDelay.{OneDelay}
-use Rattle.fx_top.specs.Carries.{IsStimulus, OutputsShow, OutputElement, input_port, port_period}
+use Rattle.fx_top.specs.Carries.{input_roots, OutputsShow, OutputElement, input_port, port_period}
 use Rattle.fx_top.specs.OneDelay.{byte_element, byte_output, delay_interface, SolvesDelay}
 use Rattle.fx_top.specs.inner.DelayModule.{register, delay_module}
 use Rattle.fx_top.proofs.Carried.{assigned-byte, declarations-are, declared_as, bit_net, byte_net}
@@ -252,7 +252,7 @@ in-range zero = record { low = le_z_yes tt; high = le_z_yes tt }
 in-range (suc zero) = record { low = le_z_yes tt; high = le_z_yes tt }
 in-range (suc (suc t)) = record { low = le_z_yes tt; high = le_z_yes tt }
 
-is-stimulus : IsStimulus (delay_interface delay) 3 stimulus
+is-stimulus : AreColumns (input_roots (delay_interface delay)) stimulus 3
 is-stimulus zero e t is below hit = subst (λ (root : RootElement). InRange root.type (stimulus 0 t)) (some-is is) (in-range t) where
   some-is : Some (byte_element (codes "u") 0).root ≡ Some e → (byte_element (codes "u") 0).root ≡ e
   some-is same = cc same

@@ -69,9 +69,9 @@ pub record HasHeader (m : Module) (interface : Interface) : Type 0 where
       ∷ (map input_port interface.inputs ++ map output_port interface.outputs)
   pub sound : BreaksNone m
 
--- the stimulus gives each input element a number in the range of its type at each of its hits
-abbrev pub IsStimulus : Interface → ℕ → PortNumbers → Type 0
-IsStimulus interface samples stimulus = AreColumns (map (λ element. element.root) interface.inputs) stimulus samples
+-- the elements of the root inputs, in order
+abbrev pub input_roots : Interface → List RootElement
+input_roots interface = map (λ element. element.root) interface.inputs
 
 -- each output element shows its entry of each hit t at every clock from t F + latency to the end of its frame
 abbrev pub OutputsShow : Interface → ℕ → Window → Rows → PortNumbers → Type 0
@@ -91,7 +91,7 @@ Solution = (samples : ℕ) (stimulus entries : PortNumbers) → Type 0
 pub record CarriesBits (m : Module) (interface : Interface) (solves : Solution) : Type 0 where
   pub shows : (samples : ℕ) (window : Window) (stimulus entries : PortNumbers)
       → (start : Row) (inputs rows : Rows)
-      → IsStimulus interface samples stimulus
+      → AreColumns (input_roots interface) stimulus samples
       → solves samples stimulus entries
       → Driven m stimulus samples window inputs
       → Runs m window.rows start inputs rows
