@@ -26,3 +26,6 @@ mod settings;
 mod structure;
 
 pub use building::build;
+
+#[cfg(test)]
+mod tests;
