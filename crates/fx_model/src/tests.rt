@@ -1,11 +1,14 @@
 //! Models with one part exchanged, and what the rules say of them.
 use crate::{ModelFault, accept, rule_text};
+use dg_model::CheckFault;
+use dg_rules::resolve;
+use fx_tables::read_plan;
 use std::alloc::Global;
 use std::test::Fail;
 
 mod texts;
 
-use texts::{ENABLED, ENABLED_ROWS, FEEDBACK, FEEDBACK_ROWS};
+use texts::{CONSTANT, ENABLED, ENABLED_ROWS, FEEDBACK, FEEDBACK_ROWS, PLAN_ROWS};
 
 /// What is said of a model: the number of its blocks, the line of a text that is none, or the line of
 /// the first rule that it breaks.
@@ -43,5 +46,32 @@ fn an_enabled_subsystem_breaks_its_rule(rt: HostRuntime) -> Result<(), Fail> {
     for &(old, new, line) in ENABLED_ROWS {
         assert_eq!(rt; told_of(alloc, ENABLED, old, new)?.as_str(), line, "{new}");
     }
+    Ok(())
+}
+
+/// What a plan sets behind each block of a model, or the line of the rule that it breaks.
+fn planned(alloc: Global, text: &str, plan: &str) -> Result<String, Fail> {
+    let Ok(checked) = accept(alloc, text.as_bytes()) else {
+        return Err(Fail::from("the model is not accepted"));
+    };
+    let plan = read_plan(alloc, plan.as_bytes())?;
+    match resolve(alloc, &checked, &plan) {
+        Ok(resolved) => Ok(format!(in alloc; "{:?}", resolved.stages.as_slice())?),
+        Err(CheckFault::OutOfMemory) => Err(Fail::from("out of memory")),
+        Err(CheckFault::Broken(fault)) => {
+            let line = rule_text(alloc, &fault, checked.diagram().blocks.as_slice())?;
+            Ok(String::from_utf8_lossy(alloc, line.bytes())?)
+        }
+    }
+}
+
+#[test]
+fn a_plan_sets_registers_where_they_may_stand(rt: HostRuntime) -> Result<(), Fail> {
+    let alloc = rt.alloc();
+    for &(plan, line) in PLAN_ROWS {
+        assert_eq!(rt; planned(alloc, FEEDBACK, plan)?.as_str(), line, "{plan}");
+    }
+    let line = planned(alloc, CONSTANT, "pipeline \"H\" 1\n")?;
+    assert_eq!(rt; line.as_str(), "rule 10 (plan): \"H\"\n");
     Ok(())
 }

@@ -231,3 +231,49 @@ pub const ENABLED_ROWS: &[(&str, &str, &str)] = &[
         "rule 3 (parameter): \"E/on\": StatesWhenEnabling\n",
     ),
 ];
+
+/// Lines of a plan for the model with a loop, and the registers that they set behind each block, or
+/// what is said then; worked out by hand.
+pub const PLAN_ROWS: &[(&str, &str)] = &[
+    ("pipeline \"G\" 2\n", "[0, 2, 0, 0, 0]"),
+    ("pipeline \"S\" 1\npipeline \"G\" 3\n", "[0, 3, 1, 0, 0]"),
+    ("pipeline \"Q\" 1\n", "rule 10 (plan): \"Q\"\n"),
+    ("pipeline \"y\" 1\n", "rule 10 (plan): \"y\"\n"),
+    (
+        "pipeline \"S\" 1\npipeline \"D\" 2\npipeline \"Q\" 1\n",
+        "rule 10 (plan): \"D\"\n",
+    ),
+];
+
+/// A Constant, a Gain of it and an output.
+pub const CONSTANT: &str = "Model {
+  System {
+    Block {
+      BlockType Constant
+      Name \"C\"
+      OutDataTypeStr \"int8\"
+    }
+    Block {
+      BlockType Gain
+      Name \"H\"
+      OutDataTypeStr \"int8\"
+    }
+    Block {
+      BlockType Outport
+      Name \"y\"
+    }
+    Line {
+      SrcBlock \"C\"
+      SrcPort 1
+      DstBlock \"H\"
+      DstPort 1
+    }
+    Line {
+      SrcBlock \"H\"
+      SrcPort 1
+      DstBlock \"y\"
+      DstPort 1
+    }
+  }
+}
+";
