@@ -5,6 +5,7 @@ pub mod Numbered
 pub mod ScanFacts
 pub mod Shown
 pub mod Trial
+pub mod TypedTrial
 pub mod Verdicts
 pub mod TypedFits
 pub mod TypedGreatest

@@ -22,15 +22,15 @@ use Rattle.dg_model.specs.Wired.{IsWired, Joins, StandsBefore, NamesControl, May
 
 -- ---- lists written out
 
-all_of : {A : Type 0} (P : A → Type 0) (xs : List A) → AllByRecursion P xs → All P xs
+pub all_of : {A : Type 0} (P : A → Type 0) (xs : List A) → AllByRecursion P xs → All P xs
 all_of P [] each = All-nil P
 all_of P (x ∷ xs) each = All-cons P x xs (each.0) (all_of P xs (each.1))
 
-abbrev PairsByRecursion : {A : Type 0} → (A → A → Type 0) → List A → Type 0
+abbrev pub PairsByRecursion : {A : Type 0} → (A → A → Type 0) → List A → Type 0
 PairsByRecursion R [] = ⊤
 PairsByRecursion R (x ∷ xs) = AllByRecursion (R x) xs × PairsByRecursion R xs
 
-pairs_of : {A : Type 0} (R : A → A → Type 0) (xs : List A) → PairsByRecursion R xs → AllPairs R xs
+pub pairs_of : {A : Type 0} (R : A → A → Type 0) (xs : List A) → PairsByRecursion R xs → AllPairs R xs
 pairs_of R [] each = λ i j d before inside. absurd (omega (arith, inside))
 pairs_of R (x ∷ xs) each = AllPairs-cons R x xs (all_of (R x) xs (each.0)) (pairs_of R xs (each.1))
 
@@ -92,7 +92,7 @@ demux_readable = record {
 joined_readable : IsReadable joined
 joined_readable = record { ports = (refl, refl); parameters = (lit≤ tt, lit≤ tt); types = tt; result = tt; rounding = tt; period = tt }
 
-inputs_are : (all : List Block) (block : ℕ) (b known : Block) → slice_get all block ≡ Some b → slice_get all block ≡ Some known → b.inputs ≡ known.inputs
+pub inputs_are : (all : List Block) (block : ℕ) (b known : Block) → slice_get all block ≡ Some b → slice_get all block ≡ Some known → b.inputs ≡ known.inputs
 inputs_are all block b known at is = let e : b ≡ known = same_Some b known (sym at ∙ is) in ap (λ (o : Block). o.inputs) e
 
 driven : (u v first second block port : ℕ) (b : Block) → slice_get (blocks u v first second) block ≡ Some b → 1 ≤ port → port ≤ b.inputs → count_by (enters block port) edges ≡ 1

@@ -29,3 +29,5 @@ pub use typed::{BlockTypes, types};
 
 #[cfg(test)]
 mod tests;
+#[cfg(test)]
+mod typed_tests;

@@ -13,7 +13,7 @@ use std::alloc::Global;
 use std::test::Fail;
 
 /// A block of this kind with its ports and the specification of its type.
-fn block(
+pub fn block(
     alloc: Global,
     path: &[u8],
     kind: Kind,
@@ -69,7 +69,7 @@ fn four_open(alloc: Global) -> Result<Sizes, OutOfMemory>
 }
 
 /// Two signs.
-fn signs(alloc: Global) -> Result<Flags, OutOfMemory>
+pub fn signs(alloc: Global) -> Result<Flags, OutOfMemory>
     ensures { IfOk result (λ negative. negative ≡ false ∷ false ∷ []) }
 {
     let mut negative = Flags::new(alloc);
@@ -79,7 +79,7 @@ fn signs(alloc: Global) -> Result<Flags, OutOfMemory>
 }
 
 /// An edge from output port 1.
-fn edge(from: u32, to: u32, to_port: u32) -> Edge
+pub fn edge(from: u32, to: u32, to_port: u32) -> Edge
     ensures { result ≡ record { from = from; from_port = 1; to = to; to_port = to_port } }
 {
     Edge {
