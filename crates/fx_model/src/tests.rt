@@ -8,7 +8,7 @@ use std::test::Fail;
 
 mod texts;
 
-use texts::{CONSTANT, ENABLED, ENABLED_ROWS, FEEDBACK, FEEDBACK_ROWS, PLAN_ROWS};
+use texts::{CONSTANT, ENABLED, ENABLED_ROWS, FEEDBACK, FEEDBACK_ROWS, PLAN_ROWS, TOOL};
 
 /// What is said of a model: the number of its blocks, the line of a text that is none, or the line of
 /// the first rule that it breaks.
@@ -41,11 +41,12 @@ fn a_loop_with_a_gain_breaks_each_rule(rt: HostRuntime) -> Result<(), Fail> {
 }
 
 #[test]
-fn an_enabled_subsystem_breaks_its_rule(rt: HostRuntime) -> Result<(), Fail> {
+fn an_enabled_subsystem_and_a_tools_file_are_read(rt: HostRuntime) -> Result<(), Fail> {
     let alloc = rt.alloc();
     for &(old, new, line) in ENABLED_ROWS {
         assert_eq!(rt; told_of(alloc, ENABLED, old, new)?.as_str(), line, "{new}");
     }
+    assert_eq!(rt; told(alloc, TOOL)?.as_str(), "4 blocks");
     Ok(())
 }
 

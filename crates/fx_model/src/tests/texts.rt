@@ -277,3 +277,101 @@ pub const CONSTANT: &str = "Model {
   }
 }
 ";
+
+/// A sum that saturates, as the usual tool writes it.
+pub const TOOL: &str = "Model {
+  Name\t\t\t  \"acc\"
+  Version\t\t  8.1
+  SavedCharacterEncoding  \"UTF-8\"
+  Array {
+    Type\t\t    \"Handle\"
+    Dimension\t\t    1
+    Simulink.ConfigSet {
+      $ObjectID\t\t      1
+      Name\t\t      \"Configuration\"
+    }
+    PropName\t\t    \"ConfigurationSets\"
+  }
+  BlockDefaults {
+    ForegroundColor\t    \"black\"
+  }
+  BlockParameterDefaults {
+    Block {
+      BlockType\t\t      Sum
+      IconShape\t\t      \"rectangular\"
+      Inputs\t\t      \"++\"
+      OutDataTypeStr\t      \"Inherit: Same as first input\"
+      RndMeth\t\t      \"Floor\"
+      SaturateOnIntegerOverflow on
+    }
+    Block {
+      BlockType\t\t      UnitDelay
+      X0\t\t      \"0\"
+      SampleTime\t      \"-1\"
+    }
+  }
+  System {
+    Name\t\t    \"acc\"
+    Location\t\t    [2, 82, 1264, 740]
+    Block {
+      BlockType\t\t      Inport
+      Name\t\t      \"Speed\\nin\"
+      SID\t\t      \"1\"
+      Position\t\t      [35, 63, 65, 77]
+      OutDataTypeStr\t      \"fixdt(1,16,\"
+      \"8)\"
+    }
+    Block {
+      BlockType\t\t      Sum
+      Name\t\t      \"Add\"
+      Ports\t\t      [2, 1]
+    }
+    Block {
+      BlockType\t\t      UnitDelay
+      Name\t\t      \"Unit Delay\"
+    }
+    Block {
+      BlockType\t\t      Outport
+      Name\t\t      \"Total\"
+    }
+    Line {
+      SrcBlock\t\t      \"Speed\\nin\"
+      SrcPort\t\t      1
+      DstBlock\t\t      \"Add\"
+      DstPort\t\t      1
+    }
+    Line {
+      SrcBlock\t\t      \"Unit Delay\"
+      SrcPort\t\t      1
+      DstBlock\t\t      \"Add\"
+      DstPort\t\t      2
+    }
+    Line {
+      SrcBlock\t\t      \"Add\"
+      SrcPort\t\t      1
+      Points\t\t      [35, 0]
+      Branch {
+        DstBlock\t        \"Total\"
+        DstPort\t\t        1
+      }
+      Branch {
+        Points\t\t        [0, 50]
+        DstBlock\t        \"Unit Delay\"
+        DstPort\t\t        1
+      }
+    }
+    Annotation {
+      Name\t\t      \"sums the input\"
+      Position\t\t      [10, 20]
+    }
+  }
+}
+MatData {
+  NumRecords\t\t  1
+  DataRecord {
+    Tag\t\t\t    DataTag0
+    Data\t\t    \"  %)30     .    \\\"0  $\"
+    \"  8\"
+  }
+}
+";
