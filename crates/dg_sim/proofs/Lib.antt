@@ -10,6 +10,7 @@ mod Known
 mod Lists
 mod Moved
 mod Ranks
+mod Rings
 mod Single
 mod Sources
 mod Staying

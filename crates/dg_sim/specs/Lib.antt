@@ -1,3 +1,4 @@
 pub mod Laws
+pub mod Ring
 pub mod State
 pub mod Steps

@@ -1,4 +1,4 @@
--- What a simulator keeps, and what it means that it stands at a sample of a table.
+-- What a simulator keeps, and what it means that it stands at a sample of a table (own).
 use Rattle.std.specs.Prelude.{◌≡◌, ℕ, suc, ◌<◌, ◌&&◌, Bool, true, false, ℤ, List, [], ◌∷◌, take, map, filter, Option, Some, None, slice_get}
 use Rattle.dg_model.specs.declared.diagram.Diagram.{Diagram}
 use Rattle.dg_model.specs.declared.diagram.Block.{Block}

@@ -38,12 +38,14 @@ pub fn solved_is_in_range()
     dg_model::param_type_is_one();
 }
 
-/// Off its hits a block keeps the entry of the sample before (Simulink reference, discrete sample time).
+/// Off its hits a block keeps the entry of the sample before (Simulink reference, discrete sample
+/// time).
 pub fn entries_stay()
     ensures { EntriesStay }
 {}
 
-/// What is kept after a sample is what was kept, moved by the sample, and serves the equations (own).
+/// What is kept after a sample is what was kept, moved by the sample, and serves the equations
+/// (own).
 pub fn kept_moves()
     ensures moves { KeptMoves }
     ensures read { KeptIsRead }
