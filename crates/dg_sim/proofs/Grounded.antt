@@ -1,11 +1,15 @@
 -- A diagram that keeps the rules, with an order of its blocks, is ranked and runnable.
-use Rattle.std.proofs.Common.{ℕ, length, List}
+use Rattle.std.proofs.Common.{ℕ, ℤ, length, List, arith, le_trans}
+use Rattle.std.proofs.lemmas.Option.{MatchOption-at_some}
+use Rattle.dg_model.specs.declared.diagram.Block.{Block}
+use Rattle.dg_model.specs.Equation.{KindEquation, Equation}
+use Rattle.dg_sim.proofs.Single.{kind_one}
 use Rattle.fx_type.specs.Laws.{FullSumIsOne, FullProductIsOne, UnionIsOne}
 use Rattle.fx_round.specs.Laws.{StoringGivesOne}
 use Rattle.dg_model.specs.declared.diagram.Diagram.{Diagram}
 use Rattle.dg_model.specs.GainParam.{ParamTypeIsOne}
 use Rattle.dg_model.specs.Attributes.{attributes_of}
-use Rattle.dg_sim.specs.Laws.{IsOrdered, TablesAreOne, SomeTableSolves, SolvedIsInRange}
+use Rattle.dg_sim.specs.Laws.{IsOrdered, TablesAreOne, SomeTableSolves, SolvedIsInRange, EntryIsOne}
 use Rattle.dg_sim.proofs.Ground.{IsRanked, IsRunnable}
 use Rattle.dg_blocks.specs.Laws.{OperationGivesAtMostOne, OperationGivesOne}
 use Rattle.dg_sim.proofs.Unique.{tables_one}
@@ -57,3 +61,13 @@ module _ (storing : StoringGivesOne) (at_most : OperationGivesAtMostOne) (exactl
     checked_in_range diagram order stimulus n table ordered is_stimulus solves =
         solved_in_range storing at_most exactly diagram (attributes_of diagram) (order_rank storing sums products unions params diagram order ordered) stimulus n table
         (ranked storing sums products unions params diagram order ordered) (runnable storing sums products unions params diagram order ordered) is_stimulus solves
+
+    pub checked_entry_one : EntryIsOne
+    checked_entry_one diagram order stimulus n table ordered solves block b port element t v shown below hit equation =
+        let ground = ranked storing sums products unions params diagram order ordered in
+        kind_one storing at_most diagram (attributes_of diagram) (order_rank storing sums products unions params diagram order ordered) ground stimulus table block b shown.block_is
+        (ground.types block b 1 shown.block_is (omega arith) (le_trans shown.port_from shown.port_to)) t v (table block port element t) b.kind port element
+        (of_kind v equation) (of_kind (table block port element t) (solves.at_hits block b port element t shown below hit))
+      where
+        of_kind : (w : ℤ) → Equation diagram (attributes_of diagram) stimulus table block port element t w → KindEquation diagram (attributes_of diagram) stimulus table b.kind b block port element t w
+        of_kind w h = MatchOption-at_some ⊥ (λ (b : Block). KindEquation diagram (attributes_of diagram) stimulus table b.kind b block port element t w) b shown.block_is h

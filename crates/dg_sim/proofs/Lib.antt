@@ -7,6 +7,7 @@ mod Ground
 mod Grounded
 mod Growing
 mod Known
+mod Moves
 mod Lists
 mod Moved
 mod Ranks
@@ -14,6 +15,8 @@ mod Rings
 mod Single
 mod Sources
 mod Staying
+mod Stepped
+mod Swept
 mod TypeRules
 mod Typed
 mod Unique

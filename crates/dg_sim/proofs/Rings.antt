@@ -1,6 +1,7 @@
 -- A push into a ring puts a value before what it keeps.
-use Rattle.std.proofs.Common.{◌≡◌, ℕ, zero, suc, ◌+◌, ◌-◌, ◌<◌, ◌≤◌, ◌⊎◌, inl, inr, Bool, cond, ℤ, pos, List, ◌∷◌, map, length, take, get_or, set, length-set, get_or-set_same, get_or-set_other, ap, ap₂, sym, ◌∙◌, refl, arith, lt-ltb, le-ltb, add-one}
+use Rattle.std.proofs.Common.{◌≡◌, ℕ, zero, suc, ◌+◌, ◌-◌, ◌<◌, ◌≤◌, ◌⊎◌, inl, inr, Bool, cond, ℤ, pos, Option, Some, None, slice_get, List, ◌∷◌, map, length, take, get_or, set, length-set, get_or-set_same, get_or-set_other, ap, ap₂, sym, ◌∙◌, refl, arith, lt-ltb, le-ltb, add-one}
 use Rattle.std.proofs.lemmas.Bool.{cases_lt}
+use Rattle.dg_waves.proofs.Waved.{mapped_at}
 use Rattle.dg_waves.specs.Rounds.{numbers_from}
 use Rattle.dg_sim.specs.Ring.{place, ring_values}
 
@@ -100,3 +101,17 @@ module _ (values : List ℤ) (v : ℤ) (head before filled : ℕ) (below : head 
   pub pushed : (more : ℕ) → ((filled < length values) × (more ≡ filled + 1)) ⊎ ((length values ≤ filled) × (more ≡ length values)) → ring_values (set values before v) before more ≡ take (length values) (v ∷ ring_values values head filled)
   pushed more (inl e) = ap (λ (n : ℕ). ring_values (set values before v) before n) e.1 ∙ pushed_more e.0
   pushed more (inr e) = ap (λ (n : ℕ). ring_values (set values before v) before n) e.1 ∙ pushed_full e.0
+
+-- what is read of a ring
+pub value_there : (values : List ℤ) (head filled age : ℕ) → age < filled → slice_get (ring_values values head filled) age ≡ Some (get_or values (place (length values) head age) (pos 0))
+value_there values head filled age below =
+    let zero_more : 0 + age ≡ age = omega arith in
+    mapped_at (λ k. get_or values (place (length values) head k) (pos 0)) 0 filled age below ∙ ap (λ (k : ℕ). Some (get_or values (place (length values) head k) (pos 0))) zero_more
+
+none_mapped : (f : ℕ → ℤ) (from n k : ℕ) → n ≤ k → slice_get (map f (numbers_from from n)) k ≡ None
+none_mapped f from zero k h = refl
+none_mapped f from (suc n) zero h = absurd (omega (arith, h))
+none_mapped f from (suc n) (suc k) h = none_mapped f (suc from) n k (omega (arith, h))
+
+pub value_none : (values : List ℤ) (head filled age : ℕ) → filled ≤ age → None ≡ slice_get (ring_values values head filled) age
+value_none values head filled age h = sym (none_mapped (λ k. get_or values (place (length values) head k) (pos 0)) 0 filled age h)

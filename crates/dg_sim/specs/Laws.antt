@@ -1,5 +1,5 @@
 -- For a diagram that keeps the rules exactly one table solves (own). The order of its blocks is the one that `Checked` holds; the table is the same by any.
-use Rattle.std.specs.Prelude.{◌≡◌, ℕ, suc, ◌<◌, List}
+use Rattle.std.specs.Prelude.{◌≡◌, ℕ, ℤ, suc, ◌<◌, List}
 use Rattle.fx_type.specs.FxType.{InRange}
 use Rattle.dg_model.specs.declared.diagram.Diagram.{Diagram}
 use Rattle.dg_model.specs.declared.diagram.Block.{Block}
@@ -8,6 +8,7 @@ use Rattle.dg_model.specs.Attributes.{attributes_of}
 use Rattle.dg_model.specs.Checked.{IsChecked}
 use Rattle.dg_model.specs.Loop.{IsOrder}
 use Rattle.dg_model.specs.Hits.{Hits}
+use Rattle.dg_model.specs.Equation.{Equation}
 use Rattle.dg_model.specs.Solves.{IsStimulus, IsShown, Solves, AgreeBelow}
 
 -- the diagram keeps the rules, and this is an order of its blocks along the instant edges
@@ -38,3 +39,9 @@ SolvedIsInRange = (diagram : Diagram) (order : List ℕ) (stimulus : Stimulus) (
 abbrev pub EntriesStay : Type 0
 EntriesStay = (diagram : Diagram) (attributes : Attributes) (stimulus : Stimulus) (n : ℕ) (table : Table) → Solves diagram attributes stimulus n table
     → (block : ℕ) (b : Block) (port element t : ℕ) → IsShown diagram attributes block b port element → suc t < n → ¬ Hits (attributes.period_at block) (suc t) → table block port element (suc t) ≡ table block port element t
+
+-- at a hit an equation gives a table that solves no other number than its entry
+abbrev pub EntryIsOne : Type 0
+EntryIsOne = (diagram : Diagram) (order : List ℕ) (stimulus : Stimulus) (n : ℕ) (table : Table) → IsOrdered diagram order → Solves diagram (attributes_of diagram) stimulus n table
+    → (block : ℕ) (b : Block) (port element t : ℕ) (v : ℤ) → IsShown diagram (attributes_of diagram) block b port element → t < n → Hits ((attributes_of diagram).period_at block) t
+    → Equation diagram (attributes_of diagram) stimulus table block port element t v → v ≡ table block port element t

@@ -1,4 +1,6 @@
 pub mod Laws
+pub mod Program
 pub mod Ring
+pub mod Sim
 pub mod State
 pub mod Steps

@@ -1,5 +1,5 @@
 //! Laws of the equations. The functions do nothing.
-ghost use Rattle.dg_sim.specs.Laws.{TablesAreOne, SomeTableSolves, SolvedIsInRange, EntriesStay};
+ghost use Rattle.dg_sim.specs.Laws.{TablesAreOne, SomeTableSolves, SolvedIsInRange, EntriesStay, EntryIsOne};
 ghost use Rattle.dg_sim.specs.Steps.{KeptMoves, KeptIsRead, StepsStand};
 
 /// For a diagram that keeps the rules at most one table solves (own).
@@ -29,6 +29,18 @@ pub fn some_table_solves()
 /// What a table that solves shows is in the range of its type (own).
 pub fn solved_is_in_range()
     ensures { SolvedIsInRange }
+{
+    dg_blocks::operation_gives_one();
+    fx_round::storing_gives_one();
+    fx_type::full_sum_is_one();
+    fx_type::full_product_is_one();
+    fx_type::union_is_one();
+    dg_model::param_type_is_one();
+}
+
+/// At a hit the entry of a table that solves is the one number that its equation gives (own).
+pub fn entry_is_one()
+    ensures { EntryIsOne }
 {
     dg_blocks::operation_gives_one();
     fx_round::storing_gives_one();

@@ -7,8 +7,18 @@
 //! keeps the values of a Delay.
 #![tactic(auto)]
 
+mod giving;
 mod laws;
+mod past;
+mod program;
 mod ring;
+mod sim;
+mod sweeping;
 
-pub use laws::{entries_stay, kept_moves, solved_is_in_range, some_table_solves, tables_are_one};
+pub use laws::{
+    entries_stay, entry_is_one, kept_moves, solved_is_in_range, some_table_solves, tables_are_one,
+};
+pub use past::Past;
+pub use program::{Cell, Cells, Memories, Memory, Place, Program, Rule, Work};
 pub use ring::Ring;
+pub use sim::Sim;

@@ -1,0 +1,12 @@
+use Rattle.std.proofs.Common.{◌≡◌, ◌≤◌, ℕ, length}
+use Rattle.dg_sim.specs.Program.{value_at}
+use Rattle.dg_sim.proofs.Swept.{IsSwept}
+use Rattle.dg_sim.proofs.sweeping.sweep.Given as goal
+
+abbrev pub invariant-loop-k : goal.invariant-loop-k
+invariant-loop-k l = record {
+  size : length l.row ≡ length l.program.cells;
+  inputs : length l.inputs ≡ 32;
+  swept : IsSwept l.checked l.program l.t l.pasts l.numbers l.initial.row l.k l.row;
+  later : (j : ℕ) → l.k ≤ j → value_at l.row j ≡ value_at l.initial.row j;
+}

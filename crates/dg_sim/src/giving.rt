@@ -1,0 +1,161 @@
+//! What the rule of a cell gives.
+ghost use Rattle.std.specs.Prelude.{◌≡◌, ◌≤◌, ◌+◌, ℕ, ℤ, pos, int_lt, length, map, take, slice_get, Some};
+ghost use Rattle.std.specs.List.{list_any};
+ghost use Rattle.dg_model.specs.Hits.{is_hit};
+ghost use Rattle.dg_model.specs.Operation.{CanCarryOut, OpGives};
+ghost use Rattle.dg_sim.specs.Program.{value_at, part, operation_at, looked_at, kept_or, is_on, Gives, CanGive};
+ghost use Rattle.dg_sim.specs.Sim.{kept_at};
+
+use crate::past::Past;
+use crate::program::{Program, Rule, Work};
+use dg_model::OpCall;
+
+/// Whether a block of this period hits at a base sample.
+pub fn hits(period: Option<u32>, t: u64) -> bool
+    ensures { result ≡ is_hit period t }
+{
+    match period {
+        None => t == 0,
+        Some(every) => {
+            if every == 0 {
+                t == 0
+            } else {
+                t % u64::from(every) == 0
+            }
+        }
+    }
+}
+
+/// The value of a cell.
+pub fn read(row: &[i128], cell: u32) -> i128
+    ensures { result ≡ value_at row.now cell }
+{
+    match row.get(cell as usize) {
+        Some(value) => *value,
+        None => 0,
+    }
+}
+
+/// Whether a control is on.
+pub fn on(row: &[i128], control: Option<u32>) -> bool
+    ensures { result ≡ is_on (value_at row.now) control }
+{
+    match control {
+        None => true,
+        Some(control) => read(row, control) == 1,
+    }
+}
+
+/// The values of these cells, written to the front of a list.
+fn gather(row: &[i128], args: &[u32], inputs: &mut [i128])
+    requires { length args.now ≤ length inputs.old }
+    ensures { take (length args.now) inputs.new ≡ map (value_at row.now) args.now }
+{
+    for (i, cell) in args.iter().enumerate() {
+        inputs[i] = read(row, *cell);
+    }
+}
+
+/// What an operation gives.
+fn work(program: &Program, work: Work, row: &[i128], inputs: &mut [i128]) -> i128
+    requires inputs { 32 ≤ length inputs.old }
+    requires few { work.count ≤ 32 }
+    requires args { work.first + work.count ≤ length program.now.args }
+    requires types { work.first + work.count ≤ length program.now.types }
+    requires signs { work.first_sign + work.signs ≤ length program.now.signs }
+    requires can { CanCarryOut (operation_at program.now work)
+        (looked_at program.now (value_at row.now) work.first work.count) }
+    ensures { OpGives (operation_at program.now work)
+        (looked_at program.now (value_at row.now) work.first work.count) result }
+{
+    let (first, count) = (work.first as usize, work.count as usize);
+    let (first_sign, signs) = (work.first_sign as usize, work.signs as usize);
+    gather(row, &program.args.as_slice()[first..first + count], inputs);
+    let call = OpCall {
+        op: work.op,
+        signs: &program.signs.as_slice()[first_sign..first_sign + signs],
+        types: &program.types.as_slice()[first..first + count],
+        result: work.result,
+        rounding: work.rounding,
+        saturate: work.saturate,
+    };
+    dg_blocks::output(&call, &inputs[..count])
+}
+
+/// Whether one of these cells is above 0.
+fn some_above(row: &[i128], args: &[u32]) -> bool
+    ensures { result ≡ list_any (λ x. int_lt (pos 0) x) (map (value_at row.now) args.now) }
+{
+    args.iter()
+        .map(|cell| read(row, *cell))
+        .any(|value| value > 0)
+}
+
+/// What a memory keeps, or else an initial value.
+fn recalled(pasts: &[Past], memory: u32, age: u32, initial: i128) -> i128
+    ensures { result ≡ kept_or (kept_at pasts.now memory) age initial }
+{
+    match pasts.get(memory as usize) {
+        Some(past) => past.get(age as usize).unwrap_or(initial),
+        None => initial,
+    }
+}
+
+/// What the rule of a cell gives in a sample.
+pub fn give(
+    program: &Program,
+    rule: Rule,
+    t: u64,
+    row: &[i128],
+    pasts: &[Past],
+    numbers: &[i128],
+    inputs: &mut [i128],
+) -> i128
+    requires inputs { 32 ≤ length inputs.old }
+    requires can { CanGive program.now (value_at row.now) rule }
+    ensures { Gives program.now (value_at row.now) (kept_at pasts.now) numbers.now t rule result }
+{
+    match rule {
+        Rule::Input { column } => read(numbers, column),
+        Rule::Fixed { value } => value,
+        Rule::Same { from } => read(row, from),
+        Rule::Works { work: one } => work(program, one, row, inputs),
+        Rule::Above { first, count } => {
+            let (first, count) = (first as usize, count as usize);
+            i128::from(some_above(row, &program.args.as_slice()[first..first + count]))
+        }
+        Rule::Past {
+            memory,
+            age,
+            initial,
+        } => recalled(pasts, memory, age, initial),
+        Rule::Slower {
+            memory,
+            period,
+            initial,
+        } => recalled(pasts, memory, if hits(period, t) { 0 } else { 1 }, initial),
+        Rule::Held {
+            memory,
+            from,
+            control,
+            initial,
+        } => {
+            if on(row, Some(control)) {
+                read(row, from)
+            } else {
+                recalled(pasts, memory, 0, initial)
+            }
+        }
+        Rule::Reset {
+            from,
+            control,
+            initial,
+        } => {
+            if on(row, Some(control)) {
+                read(row, from)
+            } else {
+                initial
+            }
+        }
+    }
+}

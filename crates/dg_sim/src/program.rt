@@ -1,0 +1,117 @@
+//! A checked diagram as a list of cells in its order, one for each entry that a sample has.
+use dg_model::{FxTypes, Op};
+use fx_io::{Flags, Sequence, Sizes};
+use fx_type::{FxType, Rounding};
+
+/// Where entries of a table stand: a block by its place, an output port from 1 and an element from 0.
+#[derive(Clone, Copy, Debug, PartialEq, Eq)]
+pub struct Place {
+    pub block: u32,
+    pub port: u32,
+    pub element: u32,
+}
+
+/// An operation with the cells of its inputs: where they begin among the arguments of the program, and
+/// how many there are. Its signs stand likewise.
+#[derive(Clone, Copy, Debug)]
+pub struct Work {
+    pub op: Op,
+    pub first: u32,
+    pub count: u32,
+    pub first_sign: u32,
+    pub signs: u32,
+    pub result: FxType,
+    pub rounding: Rounding,
+    pub saturate: bool,
+}
+
+/// How the value of a cell comes about at a hit. Other cells are named by their places in the list.
+#[derive(Clone, Copy, Debug)]
+pub enum Rule {
+    /// The number of the stimulus in a column.
+    Input {
+        column: u32,
+    },
+    /// Always this one.
+    Fixed {
+        value: i128,
+    },
+    /// That of another cell.
+    Same {
+        from: u32,
+    },
+    /// What an operation gives.
+    Works {
+        work: Work,
+    },
+    /// Whether some of these cells is above 0.
+    Above {
+        first: u32,
+        count: u32,
+    },
+    /// A value so much older than the latest that is kept, or else `initial`.
+    Past {
+        memory: u32,
+        age: u32,
+        initial: i128,
+    },
+    /// The value kept before the last one up to the sample, where one is kept in each hit of the period.
+    Slower {
+        memory: u32,
+        period: Option<u32>,
+        initial: i128,
+    },
+    /// That of another cell where the control is on, else the latest kept.
+    Held {
+        memory: u32,
+        from: u32,
+        control: u32,
+        initial: i128,
+    },
+    /// That of another cell where the control is on, else `initial`.
+    Reset {
+        from: u32,
+        control: u32,
+        initial: i128,
+    },
+}
+
+/// An entry of the table, worked out in each sample.
+#[derive(Clone, Copy, Debug)]
+pub struct Cell {
+    pub place: Place,
+    pub period: Option<u32>,
+    pub rule: Rule,
+}
+
+/// What keeps values of a cell: in each hit of the period, where the control is on. Where it is off, a
+/// memory with `reset` forgets all.
+#[derive(Clone, Copy, Debug)]
+pub struct Memory {
+    /// The block and element for which it keeps them.
+    pub place: Place,
+    pub from: u32,
+    pub period: Option<u32>,
+    pub control: Option<u32>,
+    pub reset: bool,
+}
+
+/// What a simulator does in each sample.
+#[derive(Debug, Drop)]
+pub struct Program {
+    /// Each after those that it looks at.
+    pub cells: Cells,
+    /// The cells that rules look at.
+    pub args: Sizes,
+    /// The types of these, one for each.
+    pub types: FxTypes,
+    /// The signs of Sums.
+    pub signs: Flags,
+    pub memories: Memories,
+    /// The cells of the root output elements.
+    pub outputs: Sizes,
+}
+
+pub type Cells = Sequence<Cell>;
+
+pub type Memories = Sequence<Memory>;

@@ -1,0 +1,68 @@
+//! A simulator of a checked diagram.
+ghost use Rattle.std.specs.Prelude.{◌≡◌, ◌<◌, ◌+◌, ◌^◌, ℕ, length};
+ghost use Rattle.dg_model.specs.Attributes.{attributes_of};
+ghost use Rattle.dg_model.specs.RootElements.{root_outputs};
+ghost use Rattle.dg_model.specs.Signals.{Stimulus, Table};
+ghost use Rattle.dg_sim.specs.Sim.{Simulation, IsSimOf, IsAt, IsStepped};
+
+use crate::laws::kept_moves;
+use crate::past::Past;
+use crate::program::Program;
+use crate::sweeping::{keep, show, sweep};
+use dg_model::Checked;
+use std::marker::Model;
+
+/// A run of a checked diagram as it stands (own): the samples that were made, the value of each entry
+/// in the last of them, and what its blocks keep for later ones.
+#[derive(Drop)]
+pub struct Sim {
+    program: Program,
+    samples: u64,
+    row: Vec<i128>,
+    pasts: Vec<Past>,
+}
+
+impl Model for Sim {
+    ghost use Rattle.dg_sim.specs.Sim.{Simulation};
+
+    ghost Value = { Simulation };
+
+    ghost view = { λ sim. record {
+      program = sim.program;
+      samples = sim.samples;
+      row = sim.row.items;
+      pasts = sim.pasts.items;
+    } };
+}
+
+impl Sim {
+    /// One sample more: `numbers` has one number for each root input element, and the numbers of the
+    /// root output elements are written to `out`. A number of an input that doesn't hit is not looked
+    /// at, and an output that doesn't hit shows the value of its last hit. It takes no memory.
+    /// Source: Simulink reference, simulation of discrete models.
+    pub fn step(&mut self, checked: &Checked, numbers: &[i128], out: &mut [i128])
+        requires sim { IsSimOf checked.now self.old }
+        requires room { self.old.samples < 2 ^ 63 }
+        requires at { (stimulus : Stimulus) × (n : ℕ) × (table : Table)
+            × IsAt checked.now self.old numbers.now stimulus n table }
+        requires out { length out.old
+            ≡ length (root_outputs checked.now.diagram (attributes_of checked.now.diagram)) }
+        ensures sim { IsSimOf checked.now self.new }
+        ensures samples { self.new.samples ≡ self.old.samples + 1 }
+        ensures stepped { IsStepped checked.now self.old self.new numbers.now out.new }
+    {
+        kept_moves();
+        let (program, t) = (&self.program, self.samples);
+        sweep(
+            checked,
+            program,
+            t,
+            self.pasts.as_slice(),
+            numbers,
+            self.row.as_mut_slice(),
+        );
+        keep(program, t, self.row.as_slice(), self.pasts.as_mut_slice());
+        show(self.row.as_slice(), program.outputs.as_slice(), out);
+        self.samples += 1;
+    }
+}
