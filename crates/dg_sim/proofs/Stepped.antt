@@ -34,7 +34,7 @@ module _ (checked : CheckedDiagram) (program : Program) (t : ℕ) (row later_row
 
     module _ (numbers out : List ℤ) (moves : KeptMoves)
         (agrees : (stimulus : Stimulus) (n : ℕ) (table : Table) → IsAt checked (record { program = program; samples = t; row = row; pasts = pasts }) numbers stimulus n table
-        → Agrees checked.diagram (attributes_of checked.diagram) program.cells (length program.cells) (value_at later_row) table t)
+        → Agrees checked.diagram (attributes_of checked.diagram) program.places (length program.places) (value_at later_row) table t)
         (out_is : out ≡ map (value_at later_row) program.outputs)
       where
         now_keeps : (stimulus : Stimulus) (n : ℕ) (table : Table) → IsAt checked (record { program = program; samples = t; row = row; pasts = pasts }) numbers stimulus n table
@@ -58,19 +58,20 @@ module _ (checked : CheckedDiagram) (program : Program) (t : ℕ) (row later_row
         shows : (stimulus : Stimulus) (n : ℕ) (table : Table) → IsAt checked (record { program = program; samples = t; row = row; pasts = pasts }) numbers stimulus n table → Shows checked table t out
         shows stimulus n table at place e here =
             let s = is_sim.program.shows place e here in
-            let agree : value_at later_row s.0 ≡ entry table s.1.place t = agrees stimulus n table at s.0 s.1 (slice_get_within program.cells s.0 s.1 s.3) s.3 in
+            let agree : value_at later_row s.0 ≡ entry table (record { block = e.block; port = 1; element = e.element }) t =
+            agrees stimulus n table at s.0 (record { block = e.block; port = 1; element = e.element }) (slice_get_within program.places s.0 (record { block = e.block; port = 1; element = e.element }) s.2) s.2 in
             ap (λ (out : List ℤ). value_at out place) out_is
-            ∙ get_or_from_slice_get (map (value_at later_row) program.outputs) place (value_at later_row s.0) (pos 0) (there_map (value_at later_row) program.outputs place s.0 s.2)
-            ∙ agree ∙ ap (λ (p : Place). entry table p t) s.4
+            ∙ get_or_from_slice_get (map (value_at later_row) program.outputs) place (value_at later_row s.0) (pos 0) (there_map (value_at later_row) program.outputs place s.0 s.1)
+            ∙ agree
 
         pub is_stepped : (samples : ℕ) → samples ≡ suc t
             → IsStepped checked (record { program = program; samples = t; row = row; pasts = pasts }) (record { program = program; samples = samples; row = later_row; pasts = later }) numbers out
         is_stepped samples next stimulus n table at = (
           record {
             samples = next;
-            row = λ k cell s here e.
+            row = λ k place s here e.
                 let same : t ≡ s = omega (arith, e) in
-                agrees stimulus n table at k cell (slice_get_within program.cells k cell here) here ∙ ap (λ (s : ℕ). entry table cell.place s) same;
+                agrees stimulus n table at k place (slice_get_within program.places k place here) here ∙ ap (λ (s : ℕ). entry table place s) same;
             kept = now_keeps stimulus n table at;
           },
           shows stimulus n table at,

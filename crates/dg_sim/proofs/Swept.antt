@@ -8,6 +8,7 @@ use Rattle.dg_model.specs.Checked.{CheckedDiagram}
 use Rattle.dg_model.specs.Hits.{Hits, is_hit}
 use Rattle.dg_model.specs.Solves.{IsShown}
 use Rattle.dg_sim.specs.declared.program.Cell.{Cell}
+use Rattle.dg_sim.specs.declared.program.Place.{Place}
 use Rattle.dg_sim.specs.declared.program.Program.{Program}
 use Rattle.dg_sim.specs.Laws.{IsOrdered, EntriesAreInRange, SolvedIsInRange, EntriesStay, EntryIsOne}
 use Rattle.dg_sim.specs.Ring.{PastValues}
@@ -35,7 +36,7 @@ before program t pasts row = record { program = program; samples = t; row = row;
 -- the cells before k have the entries of whatever table the simulator stood at
 abbrev pub IsSwept : CheckedDiagram → Program → ℕ → List PastValues → List ℤ → List ℤ → ℕ → List ℤ → Type 0
 IsSwept checked program t pasts numbers old k row = (stimulus : Stimulus) (n : ℕ) (table : Table) → IsAt checked (before program t pasts old) numbers stimulus n table
-    → Agrees checked.diagram (attributes_of checked.diagram) program.cells k (value_at row) table t
+    → Agrees checked.diagram (attributes_of checked.diagram) program.places k (value_at row) table t
 
 module _ (checked : CheckedDiagram) (program : Program) (t : ℕ) (pasts : List PastValues) (numbers old : List ℤ)
     (ordered : IsOrdered checked.diagram checked.order) (is_program : IsProgram checked.diagram (attributes_of checked.diagram) program)
@@ -47,56 +48,56 @@ module _ (checked : CheckedDiagram) (program : Program) (t : ℕ) (pasts : List 
         in_range checked.diagram checked.order stimulus n table ordered at.is_stimulus at.solves block b port element s shown (omega (arith, below, at.below))
 
     -- so a rule can be carried out
-    pub can_give : (k : ℕ) (cell : Cell) (row : List ℤ) (stimulus : Stimulus) (n : ℕ) (table : Table) → slice_get program.cells k ≡ Some cell → IsAt checked (before program t pasts old) numbers stimulus n table
+    pub can_give : (k : ℕ) (place : Place) (cell : Cell) (row : List ℤ) (stimulus : Stimulus) (n : ℕ) (table : Table) → slice_get program.places k ≡ Some place → slice_get program.cells k ≡ Some cell → IsAt checked (before program t pasts old) numbers stimulus n table
         → IsSwept checked program t pasts numbers old k row → CanGive program (value_at row) cell.rule
-    can_give k cell row stimulus n table here at swept =
-        (is_program.cells k cell here).can table t (value_at row) (swept stimulus n table at) (range_now stimulus n table at)
+    can_give k place cell row stimulus n table at_place here at swept =
+        (is_program.cells k place cell at_place here).can table t (value_at row) (swept stimulus n table at) (range_now stimulus n table at)
 
     -- what it gives is the entry
-    given_entry : (k : ℕ) (cell : Cell) (row : List ℤ) (v : ℤ) (stimulus : Stimulus) (n : ℕ) (table : Table) → slice_get program.cells k ≡ Some cell → is_hit cell.period t ≡ true
-        → IsSwept checked program t pasts numbers old k row → Gives program (value_at row) (kept_at pasts) numbers t cell.rule v → IsAt checked (before program t pasts old) numbers stimulus n table → v ≡ entry table cell.place t
-    given_entry k cell row v stimulus n table here hit swept gives at =
-        let is = is_program.cells k cell here in
+    given_entry : (k : ℕ) (place : Place) (cell : Cell) (row : List ℤ) (v : ℤ) (stimulus : Stimulus) (n : ℕ) (table : Table) → slice_get program.places k ≡ Some place → slice_get program.cells k ≡ Some cell → is_hit cell.period t ≡ true
+        → IsSwept checked program t pasts numbers old k row → Gives program (value_at row) (kept_at pasts) numbers t cell.rule v → IsAt checked (before program t pasts old) numbers stimulus n table → v ≡ entry table place t
+    given_entry k place cell row v stimulus n table at_place here hit swept gives at =
+        let is = is_program.cells k place cell at_place here in
         let hits : Hits cell.period t = hit_true cell.period t hit in
-        one checked.diagram checked.order stimulus n table ordered at.solves cell.place.block is.block cell.place.port cell.place.element t v is.shown at.below
+        one checked.diagram checked.order stimulus n table ordered at.solves place.block is.block place.port place.element t v is.shown at.below
         (subst (λ (period : Option ℕ). Hits period t) is.period hits)
         (is.serves stimulus table t (value_at row) (kept_at pasts) numbers v (swept stimulus n table at) at.stands.kept at.row_is hits gives)
 
     -- where it doesn't hit, the entry stays
-    stayed_entry : (k : ℕ) (cell : Cell) (stimulus : Stimulus) (n : ℕ) (table : Table) → slice_get program.cells k ≡ Some cell → is_hit cell.period t ≡ false
-        → IsAt checked (before program t pasts old) numbers stimulus n table → value_at old k ≡ entry table cell.place t
-    stayed_entry k cell stimulus n table here miss at = go t refl
+    stayed_entry : (k : ℕ) (place : Place) (cell : Cell) (stimulus : Stimulus) (n : ℕ) (table : Table) → slice_get program.places k ≡ Some place → slice_get program.cells k ≡ Some cell → is_hit cell.period t ≡ false
+        → IsAt checked (before program t pasts old) numbers stimulus n table → value_at old k ≡ entry table place t
+    stayed_entry k place cell stimulus n table at_place here miss at = go t refl
       where
-        go : (s : ℕ) → t ≡ s → value_at old k ≡ entry table cell.place t
+        go : (s : ℕ) → t ≡ s → value_at old k ≡ entry table place t
         go zero e = absurd (hit_false cell.period t miss (subst (λ (s : ℕ). Hits cell.period s) (sym e) (hit_first cell.period)))
         go (suc s) e =
-            let is = is_program.cells k cell here in
-            let off : Hits ((attributes_of checked.diagram).period_at cell.place.block) (suc s) → ⊥ =
+            let is = is_program.cells k place cell at_place here in
+            let off : Hits ((attributes_of checked.diagram).period_at place.block) (suc s) → ⊥ =
             λ hit. hit_false cell.period t miss (subst (λ (s : ℕ). Hits cell.period s) (sym e) (subst (λ (period : Option ℕ). Hits period (suc s)) (sym is.period) hit)) in
-            at.stands.row k cell s here e
-            ∙ sym (stay checked.diagram (attributes_of checked.diagram) stimulus n table at.solves cell.place.block is.block cell.place.port cell.place.element s is.shown (subst (λ (m : ℕ). m < n) e at.below) off)
-            ∙ ap (λ (m : ℕ). entry table cell.place m) (sym e)
+            at.stands.row k place s at_place e
+            ∙ sym (stay checked.diagram (attributes_of checked.diagram) stimulus n table at.solves place.block is.block place.port place.element s is.shown (subst (λ (m : ℕ). m < n) e at.below) off)
+            ∙ ap (λ (m : ℕ). entry table place m) (sym e)
 
     -- the cells before k + 1 agree
-    more : (k : ℕ) (cell : Cell) (row later : List ℤ) → slice_get program.cells k ≡ Some cell → IsSwept checked program t pasts numbers old k row
+    more : (k : ℕ) (place : Place) (cell : Cell) (row later : List ℤ) → slice_get program.places k ≡ Some place → slice_get program.cells k ≡ Some cell → IsSwept checked program t pasts numbers old k row
         → ((j : ℕ) → j < k → value_at later j ≡ value_at row j)
-        → ((stimulus : Stimulus) (n : ℕ) (table : Table) → IsAt checked (before program t pasts old) numbers stimulus n table → value_at later k ≡ entry table cell.place t)
+        → ((stimulus : Stimulus) (n : ℕ) (table : Table) → IsAt checked (before program t pasts old) numbers stimulus n table → value_at later k ≡ entry table place t)
         → IsSwept checked program t pasts numbers old (suc k) later
-    more k cell row later here swept same last stimulus n table at j c below at_j = go (eq-or-lt_of_le (le_of_suc-le-suc below))
+    more k place cell row later at_place here swept same last stimulus n table at j c below at_j = go (eq-or-lt_of_le (le_of_suc-le-suc below))
       where
-        go : (j ≡ k) ⊎ (j < k) → value_at later j ≡ entry table c.place t
+        go : (j ≡ k) ⊎ (j < k) → value_at later j ≡ entry table c t
         go (inl e) =
-            let found : cell ≡ c = same_Some cell c (sym here ∙ ap (slice_get program.cells) (sym e) ∙ at_j) in
-            ap (value_at later) e ∙ last stimulus n table at ∙ ap (λ (c : Cell). entry table c.place t) found
+            let found : place ≡ c = same_Some place c (sym at_place ∙ ap (slice_get program.places) (sym e) ∙ at_j) in
+            ap (value_at later) e ∙ last stimulus n table at ∙ ap (λ (c : Place). entry table c t) found
         go (inr l) = same j l ∙ swept stimulus n table at j c l at_j
 
-    pub swept_hit : (k : ℕ) (cell : Cell) (row : List ℤ) (v : ℤ) → slice_get program.cells k ≡ Some cell → k < length row → is_hit cell.period t ≡ true
+    pub swept_hit : (k : ℕ) (place : Place) (cell : Cell) (row : List ℤ) (v : ℤ) → slice_get program.places k ≡ Some place → slice_get program.cells k ≡ Some cell → k < length row → is_hit cell.period t ≡ true
         → IsSwept checked program t pasts numbers old k row → Gives program (value_at row) (kept_at pasts) numbers t cell.rule v → IsSwept checked program t pasts numbers old (suc k) (set row k v)
-    swept_hit k cell row v here inside hit swept gives =
-        more k cell row (set row k v) here swept (λ j l. let apart : j ≡ k → ⊥ = λ e. absurd (omega (arith, e, l)) in get_or-set_other row k j v (pos 0) apart)
-        (λ stimulus n table at. get_or-set_same row k v (pos 0) inside ∙ given_entry k cell row v stimulus n table here hit swept gives at)
+    swept_hit k place cell row v at_place here inside hit swept gives =
+        more k place cell row (set row k v) at_place here swept (λ j l. let apart : j ≡ k → ⊥ = λ e. absurd (omega (arith, e, l)) in get_or-set_other row k j v (pos 0) apart)
+        (λ stimulus n table at. get_or-set_same row k v (pos 0) inside ∙ given_entry k place cell row v stimulus n table at_place here hit swept gives at)
 
-    pub swept_miss : (k : ℕ) (cell : Cell) (row : List ℤ) → slice_get program.cells k ≡ Some cell → is_hit cell.period t ≡ false → value_at row k ≡ value_at old k
+    pub swept_miss : (k : ℕ) (place : Place) (cell : Cell) (row : List ℤ) → slice_get program.places k ≡ Some place → slice_get program.cells k ≡ Some cell → is_hit cell.period t ≡ false → value_at row k ≡ value_at old k
         → IsSwept checked program t pasts numbers old k row → IsSwept checked program t pasts numbers old (suc k) row
-    swept_miss k cell row here miss same swept =
-        more k cell row row here swept (λ j l. refl) (λ stimulus n table at. same ∙ stayed_entry k cell stimulus n table here miss at)
+    swept_miss k place cell row at_place here miss same swept =
+        more k place cell row row at_place here swept (λ j l. refl) (λ stimulus n table at. same ∙ stayed_entry k place cell stimulus n table at_place here miss at)

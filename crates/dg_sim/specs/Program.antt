@@ -1,5 +1,5 @@
 -- What the rules of a program's cells give, from the values of the cells before, from what is kept and from a row of numbers (own).
-use Rattle.std.specs.Prelude.{◌≡◌, ℕ, ◌+◌, ◌≤◌, ℤ, pos, int_lt, Bool, true, false, if◌then◌else◌, List, map, take, drop, length, slice_get, slice_index_or, unwrap_or, Option, Some, None, ⊤}
+use Rattle.std.specs.Prelude.{◌≡◌, ℕ, ◌+◌, ◌≤◌, ◌<◌, ℤ, pos, int_lt, Bool, true, false, if◌then◌else◌, List, map, take, drop, length, slice_get, slice_index_or, unwrap_or, Option, Some, None, ⊤}
 use Rattle.std.specs.List.{list_any}
 use Rattle.std.specs.Ordering.{int_eq}
 use Rattle.dg_model.specs.Operation.{Operation, OpGives, CanCarryOut, stored_truth}
@@ -75,6 +75,18 @@ CanGive program look (Past memory age initial) = ⊤
 CanGive program look (Slower memory period initial) = ⊤
 CanGive program look (Held memory from control initial) = ⊤
 CanGive program look (Reset from control initial) = ⊤
+
+-- what a rule names is there
+abbrev pub IsWithin : Program → Rule → Type 0
+IsWithin program (Input column) = ⊤
+IsWithin program (Fixed value) = ⊤
+IsWithin program (Same from) = ⊤
+IsWithin program (Works work) = (work.first + work.count ≤ length program.args) × (work.first + work.count ≤ length program.types) × (work.first_sign + work.signs ≤ length program.signs)
+IsWithin program (Above first count) = first + count ≤ length program.args
+IsWithin program (Past memory age initial) = memory < length program.memories
+IsWithin program (Slower memory period initial) = memory < length program.memories
+IsWithin program (Held memory from control initial) = memory < length program.memories
+IsWithin program (Reset from control initial) = ⊤
 
 -- what a memory does at a sample, by whether its period hits and its control is on
 abbrev pub move_of : Bool → Bool → Bool → Move

@@ -18,7 +18,7 @@ use Rattle.dg_sim.specs.declared.program.Program.{Program}
 use Rattle.dg_sim.specs.Laws.{EntriesAreInRange}
 use Rattle.dg_sim.specs.Ring.{PastValues}
 use Rattle.dg_sim.specs.State.{Move, moved, move_at, kept_count, kept_values}
-use Rattle.dg_sim.specs.Program.{entry, value_at, Gives, CanGive, is_on, move_of}
+use Rattle.dg_sim.specs.Program.{entry, value_at, Gives, CanGive, IsWithin, is_on, move_of}
 
 -- a simulator: its program, how many samples were made, the value of each cell in the last of them, and what each memory keeps
 pub record Simulation : Type 0 where
@@ -41,8 +41,8 @@ past_moved move v past = record { room = past.room; values = moved move past.roo
 
 module _ (diagram : Diagram) (attributes : Attributes) where
   -- the cells before one have the entries of a table at t
-  abbrev pub Agrees : List Cell → ℕ → (ℕ → ℤ) → Table → ℕ → Type 0
-  Agrees cells k look table t = (j : ℕ) (c : Cell) → j < k → slice_get cells j ≡ Some c → look j ≡ entry table c.place t
+  abbrev pub Agrees : List Place → ℕ → (ℕ → ℤ) → Table → ℕ → Type 0
+  Agrees places k look table t = (j : ℕ) (place : Place) → j < k → slice_get places j ≡ Some place → look j ≡ entry table place t
 
   -- memories keep what the table's equations ask for at t
   abbrev pub Keep : List Memory → (ℕ → List ℤ) → Table → ℕ → Type 0
@@ -54,43 +54,46 @@ module _ (diagram : Diagram) (attributes : Attributes) where
   IsRowOf stimulus t row = (place : ℕ) (e : RootElement) → slice_get (root_inputs diagram attributes) place ≡ Some e → Hits e.period t → value_at row place ≡ stimulus e.number e.element t
 
   -- what a cell's rule gives at a hit is the value of its block's equation
-  abbrev pub Serves : Program → ℕ → Cell → Type 0
-  Serves program k cell = (stimulus : Stimulus) (table : Table) (t : ℕ) (look : ℕ → ℤ) (kept : ℕ → List ℤ) (row : List ℤ) (v : ℤ)
-      → Agrees program.cells k look table t → Keep program.memories kept table t → IsRowOf stimulus t row → Hits cell.period t → Gives program look kept row t cell.rule v
-      → Equation diagram attributes stimulus table cell.place.block cell.place.port cell.place.element t v
+  abbrev pub Serves : Program → ℕ → Place → Cell → Type 0
+  Serves program k place cell = (stimulus : Stimulus) (table : Table) (t : ℕ) (look : ℕ → ℤ) (kept : ℕ → List ℤ) (row : List ℤ) (v : ℤ)
+      → Agrees program.places k look table t → Keep program.memories kept table t → IsRowOf stimulus t row → Hits cell.period t → Gives program look kept row t cell.rule v
+      → Equation diagram attributes stimulus table place.block place.port place.element t v
 
   -- and it can be carried out, where the table's entries are in range
   abbrev pub CanServe : Program → ℕ → Cell → Type 0
-  CanServe program k cell = (table : Table) (t : ℕ) (look : ℕ → ℤ) → Agrees program.cells k look table t → EntriesAreInRange diagram attributes table (suc t) → CanGive program look cell.rule
+  CanServe program k cell = (table : Table) (t : ℕ) (look : ℕ → ℤ) → Agrees program.places k look table t → EntriesAreInRange diagram attributes table (suc t) → CanGive program look cell.rule
 
-  -- a cell of a program, which looks only at cells before it
-  pub record IsCell (program : Program) (k : ℕ) (cell : Cell) : Type 0 where
+  -- a cell of a program, which looks only at entries before its own
+  pub record IsCell (program : Program) (k : ℕ) (place : Place) (cell : Cell) : Type 0 where
     pub block : Block
-    pub shown : IsShown diagram attributes cell.place.block block cell.place.port cell.place.element
-    pub period : cell.period ≡ attributes.period_at cell.place.block
-    pub serves : Serves program k cell
+    pub shown : IsShown diagram attributes place.block block place.port place.element
+    pub period : cell.period ≡ attributes.period_at place.block
+    pub within : IsWithin program cell.rule
+    pub serves : Serves program k place cell
     pub can : CanServe program k cell
 
   -- a memory moves as its block's equation asks for
   pub record IsMemory (program : Program) (memory : Memory) (block : Block) : Type 0 where
     pub block_is : slice_get diagram.blocks memory.place.block ≡ Some block
-    pub moves : (table : Table) (t : ℕ) (look : ℕ → ℤ) → Agrees program.cells (length program.cells) look table t
+    pub room : memory.room ≡ kept_count block.kind
+    pub moves : (table : Table) (t : ℕ) (look : ℕ → ℤ) → Agrees program.places (length program.places) look table t
         → move_of (is_hit memory.period t) (is_on look memory.control) memory.reset ≡ move_at diagram attributes table memory.place.block block.enable block.kind t
-    pub from : (table : Table) (t : ℕ) (look : ℕ → ℤ) → Agrees program.cells (length program.cells) look table t
+    pub from : (table : Table) (t : ℕ) (look : ℕ → ℤ) → Agrees program.places (length program.places) look table t
         → look memory.from ≡ value_into diagram attributes table memory.place.block 1 memory.place.element t
 
   -- the program simulates the diagram
   pub record IsProgram (program : Program) : Type 0 where
-    pub cells : (k : ℕ) (cell : Cell) → slice_get program.cells k ≡ Some cell → IsCell program k cell
+    pub size : length program.cells ≡ length program.places
+    pub cells : (k : ℕ) (place : Place) (cell : Cell) → slice_get program.places k ≡ Some place → slice_get program.cells k ≡ Some cell → IsCell program k place cell
     pub memories : (m : ℕ) (memory : Memory) → slice_get program.memories m ≡ Some memory → (b : Block) × IsMemory program memory b
     pub outputs : length program.outputs ≡ length (root_outputs diagram attributes)
     pub shows : (place : ℕ) (e : RootElement) → slice_get (root_outputs diagram attributes) place ≡ Some e
-        → (k : ℕ) × (cell : Cell) × (slice_get program.outputs place ≡ Some k) × (slice_get program.cells k ≡ Some cell) × (cell.place ≡ record { block = e.block; port = 1; element = e.element })
+        → (k : ℕ) × (slice_get program.outputs place ≡ Some k) × (slice_get program.places k ≡ Some (record { block = e.block; port = 1; element = e.element }))
 
   -- the simulator stands at sample t of the table
   pub record Stands (sim : Simulation) (table : Table) (t : ℕ) : Type 0 where
     pub samples : sim.samples ≡ t
-    pub row : (k : ℕ) (cell : Cell) (s : ℕ) → slice_get sim.program.cells k ≡ Some cell → t ≡ suc s → value_at sim.row k ≡ entry table cell.place s
+    pub row : (k : ℕ) (place : Place) (s : ℕ) → slice_get sim.program.places k ≡ Some place → t ≡ suc s → value_at sim.row k ≡ entry table place s
     pub kept : Keep sim.program.memories (kept_at sim.pasts) table t
 
 -- each memory has its room
@@ -101,7 +104,7 @@ HasRooms diagram memories pasts = (m : ℕ) (memory : Memory) (b : Block) → sl
 -- it simulates this checked diagram
 pub record IsSimOf (checked : CheckedDiagram) (sim : Simulation) : Type 0 where
   pub program : IsProgram checked.diagram (attributes_of checked.diagram) sim.program
-  pub row : length sim.row ≡ length sim.program.cells
+  pub row : length sim.row ≡ length sim.program.places
   pub pasts : length sim.pasts ≡ length sim.program.memories
   pub rooms : HasRooms checked.diagram sim.program.memories sim.pasts
 

@@ -19,6 +19,6 @@ pub use laws::{
     entries_stay, entry_is_one, kept_moves, solved_is_in_range, some_table_solves, tables_are_one,
 };
 pub use past::Past;
-pub use program::{Cell, Cells, Memories, Memory, Place, Program, Rule, Work};
+pub use program::{Cell, Cells, Memories, Memory, Place, Places, Program, Rule, Work};
 pub use ring::Ring;
 pub use sim::Sim;

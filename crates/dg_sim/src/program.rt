@@ -76,10 +76,9 @@ pub enum Rule {
     },
 }
 
-/// An entry of the table, worked out in each sample.
+/// How an entry of the table is worked out in each sample.
 #[derive(Clone, Copy, Debug)]
 pub struct Cell {
-    pub place: Place,
     pub period: Option<u32>,
     pub rule: Rule,
 }
@@ -94,12 +93,16 @@ pub struct Memory {
     pub period: Option<u32>,
     pub control: Option<u32>,
     pub reset: bool,
+    /// How many values it keeps.
+    pub room: u32,
 }
 
 /// What a simulator does in each sample.
 #[derive(Debug, Drop)]
 pub struct Program {
-    /// Each after those that it looks at.
+    /// The entries that a sample has, each after those whose values it needs.
+    pub places: Places,
+    /// How each of them is worked out.
     pub cells: Cells,
     /// The cells that rules look at.
     pub args: Sizes,
@@ -111,6 +114,8 @@ pub struct Program {
     /// The cells of the root output elements.
     pub outputs: Sizes,
 }
+
+pub type Places = Sequence<Place>;
 
 pub type Cells = Sequence<Cell>;
 

@@ -3,7 +3,6 @@ ghost use Rattle.std.specs.Prelude.{◌≡◌, ◌<◌, ℕ, suc, length, map, S
 ghost use Rattle.dg_model.specs.Attributes.{attributes_of};
 ghost use Rattle.dg_model.specs.Signals.{Stimulus, Table};
 ghost use Rattle.dg_model.specs.Hits.{is_hit};
-ghost use Rattle.dg_sim.specs.declared.program.Cell.{Cell};
 ghost use Rattle.dg_sim.specs.declared.program.Memory.{Memory};
 ghost use Rattle.dg_sim.specs.Ring.{PastValues};
 ghost use Rattle.dg_sim.specs.State.{moved};
@@ -26,12 +25,12 @@ pub fn sweep(
     row: &mut [i128],
 )
     requires program { IsProgram checked.now.diagram (attributes_of checked.now.diagram) program.now }
-    requires row { length row.old ≡ length program.now.cells }
+    requires row { length row.old ≡ length program.now.places }
     requires at { (stimulus : Stimulus) × (n : ℕ) × (table : Table)
         × IsAt checked.now (record { program = program.now; samples = t; row = row.old; pasts = pasts.now }) numbers.now stimulus n table }
     ensures { (stimulus : Stimulus) (n : ℕ) (table : Table)
         → IsAt checked.now (record { program = program.now; samples = t; row = row.old; pasts = pasts.now }) numbers.now stimulus n table
-        → Agrees checked.now.diagram (attributes_of checked.now.diagram) program.now.cells (length program.now.cells) (value_at row.new) table t }
+        → Agrees checked.now.diagram (attributes_of checked.now.diagram) program.now.places (length program.now.places) (value_at row.new) table t }
 {
     entry_is_one();
     solved_is_in_range();
