@@ -120,3 +120,11 @@ module _ (diagram : Diagram) (wired : IsWired diagram) (dimensions : KeepsDimens
 
   pub lists_fit : HasLists b.kind ((attributes_of diagram).width_at block 1)
   lists_fit = keeps.lists
+
+  -- it has a width for each of its output ports
+  outputs_by : (kind : Kind) → HasPorts kind b.inputs b.outputs → Settled (row_of kind).signal.shape kind → b.outputs ≤ length own
+  outputs_by (Demux sizes) ports e = omega (arith, parts_length sizes (Demux sizes) e, ports.1)
+  outputs_by _ ports e = let one = ap (λ (list : List ℕ). length list) e in omega (arith, one, ports.1)
+
+  pub outputs_there : b.outputs ≤ length (slice_index_or (widths_of diagram) block [])
+  outputs_there = outputs_by b.kind (get_holds IsReadable diagram.blocks block b wired.blocks block_is).ports settled

@@ -4,12 +4,13 @@ use Rattle.std.proofs.lemmas.Option.{MatchOption-at_some}
 use Rattle.dg_model.specs.declared.diagram.Block.{Block}
 use Rattle.dg_model.specs.Equation.{KindEquation, Equation}
 use Rattle.dg_sim.proofs.Single.{kind_one}
+use Rattle.dg_sim.proofs.Sources.{type_into_valid}
 use Rattle.fx_type.specs.Laws.{FullSumIsOne, FullProductIsOne, UnionIsOne}
 use Rattle.fx_round.specs.Laws.{StoringGivesOne}
 use Rattle.dg_model.specs.declared.diagram.Diagram.{Diagram}
 use Rattle.dg_model.specs.GainParam.{ParamTypeIsOne}
 use Rattle.dg_model.specs.Attributes.{attributes_of}
-use Rattle.dg_sim.specs.Laws.{IsOrdered, TablesAreOne, SomeTableSolves, SolvedIsInRange, EntryIsOne}
+use Rattle.dg_sim.specs.Laws.{IsOrdered, TablesAreOne, SomeTableSolves, SolvedIsInRange, EntryIsOne, OperationsPrepare, TypesAreValid}
 use Rattle.dg_sim.proofs.Ground.{IsRanked, IsRunnable}
 use Rattle.dg_blocks.specs.Laws.{OperationGivesAtMostOne, OperationGivesOne}
 use Rattle.dg_sim.proofs.Unique.{tables_one}
@@ -71,3 +72,14 @@ module _ (storing : StoringGivesOne) (at_most : OperationGivesAtMostOne) (exactl
       where
         of_kind : (w : ℤ) → Equation diagram (attributes_of diagram) stimulus table block port element t w → KindEquation diagram (attributes_of diagram) stimulus table b.kind b block port element t w
         of_kind w h = MatchOption-at_some ⊥ (λ (b : Block). KindEquation diagram (attributes_of diagram) stimulus table b.kind b block port element t w) b shown.block_is h
+
+    pub checked_prepares : OperationsPrepare
+    checked_prepares diagram order block b element op ordered block_is is =
+        (runnable storing sums products unions params diagram order ordered).operations block b element op block_is is
+
+    pub checked_valid : TypesAreValid
+    checked_valid diagram order block b ordered block_is = (
+      type_valid sums products unions params diagram ordered.checked.wired block,
+      (ranked storing sums products unions params diagram order ordered).params block b block_is,
+      type_into_valid diagram (attributes_of diagram) ordered.checked.wired (ranked storing sums products unions params diagram order ordered).types block,
+    )

@@ -1,6 +1,6 @@
 -- For a diagram that keeps the rules exactly one table solves (own). The order of its blocks is the one that `Checked` holds; the table is the same by any.
-use Rattle.std.specs.Prelude.{◌≡◌, ℕ, ℤ, suc, ◌<◌, List}
-use Rattle.fx_type.specs.FxType.{InRange}
+use Rattle.std.specs.Prelude.{◌≡◌, ℕ, ℤ, suc, ◌<◌, List, Some, slice_get}
+use Rattle.fx_type.specs.FxType.{IsType, InRange}
 use Rattle.dg_model.specs.declared.diagram.Diagram.{Diagram}
 use Rattle.dg_model.specs.declared.diagram.Block.{Block}
 use Rattle.dg_model.specs.Signals.{Attributes, Stimulus, Table}
@@ -8,7 +8,10 @@ use Rattle.dg_model.specs.Attributes.{attributes_of}
 use Rattle.dg_model.specs.Checked.{IsChecked}
 use Rattle.dg_model.specs.Loop.{IsOrder}
 use Rattle.dg_model.specs.Hits.{Hits}
-use Rattle.dg_model.specs.Equation.{Equation}
+use Rattle.dg_model.specs.Equation.{Equation, IsOpOf, signs_of}
+use Rattle.dg_model.specs.declared.op.Op.{Op}
+use Rattle.dg_model.specs.Operation.{CanPrepare}
+use Rattle.dg_model.specs.Wires.{type_into, types_into}
 use Rattle.dg_model.specs.Solves.{IsStimulus, IsShown, Solves, AgreeBelow}
 
 -- the diagram keeps the rules, and this is an order of its blocks along the instant edges
@@ -45,3 +48,14 @@ abbrev pub EntryIsOne : Type 0
 EntryIsOne = (diagram : Diagram) (order : List ℕ) (stimulus : Stimulus) (n : ℕ) (table : Table) → IsOrdered diagram order → Solves diagram (attributes_of diagram) stimulus n table
     → (block : ℕ) (b : Block) (port element t : ℕ) (v : ℤ) → IsShown diagram (attributes_of diagram) block b port element → t < n → Hits ((attributes_of diagram).period_at block) t
     → Equation diagram (attributes_of diagram) stimulus table block port element t v → v ≡ table block port element t
+
+-- the operation of a block can be prepared
+abbrev pub OperationsPrepare : Type 0
+OperationsPrepare = (diagram : Diagram) (order : List ℕ) (block : ℕ) (b : Block) (element : ℕ) (op : Op) → IsOrdered diagram order → slice_get diagram.blocks block ≡ Some b
+    → IsOpOf b.kind element ((attributes_of diagram).param_at block) (type_into diagram (attributes_of diagram) block 2) op
+    → CanPrepare (record { op = op; signs = signs_of b.kind; types = types_into diagram (attributes_of diagram) block b.inputs; result = (attributes_of diagram).type_at block 1; rounding = b.rounding; saturate = b.saturate })
+
+-- the type of what a block shows is valid, and that of its coefficients
+abbrev pub TypesAreValid : Type 0
+TypesAreValid = (diagram : Diagram) (order : List ℕ) (block : ℕ) (b : Block) → IsOrdered diagram order → slice_get diagram.blocks block ≡ Some b
+    → IsType ((attributes_of diagram).type_at block 1) × IsType ((attributes_of diagram).param_at block) × ((port : ℕ) → IsType (type_into diagram (attributes_of diagram) block port))

@@ -4,3 +4,4 @@ pub mod Ring
 pub mod Sim
 pub mod State
 pub mod Steps
+pub mod inner

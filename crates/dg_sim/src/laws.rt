@@ -1,5 +1,5 @@
 //! Laws of the equations. The functions do nothing.
-ghost use Rattle.dg_sim.specs.Laws.{TablesAreOne, SomeTableSolves, SolvedIsInRange, EntriesStay, EntryIsOne};
+ghost use Rattle.dg_sim.specs.Laws.{TablesAreOne, SomeTableSolves, SolvedIsInRange, EntriesStay, EntryIsOne, OperationsPrepare, TypesAreValid};
 ghost use Rattle.dg_sim.specs.Steps.{KeptMoves, KeptIsRead, StepsStand};
 
 /// For a diagram that keeps the rules at most one table solves (own).
@@ -63,3 +63,16 @@ pub fn kept_moves()
     ensures read { KeptIsRead }
     ensures stand { StepsStand }
 {}
+
+/// The types of a checked diagram are valid, and its operations can be prepared.
+pub fn operations_prepare()
+    ensures operations { OperationsPrepare }
+    ensures types { TypesAreValid }
+{
+    dg_blocks::operation_gives_one();
+    fx_round::storing_gives_one();
+    fx_type::full_sum_is_one();
+    fx_type::full_product_is_one();
+    fx_type::union_is_one();
+    dg_model::param_type_is_one();
+}

@@ -7,11 +7,17 @@
 //! keeps the values of a Delay.
 #![tactic(auto)]
 
+mod building;
 mod giving;
 mod laws;
+mod layout;
+mod memories;
 mod past;
 mod program;
+mod reading;
 mod ring;
+mod roots;
+mod rules;
 mod sim;
 mod sweeping;
 

@@ -1,15 +1,19 @@
 //! A simulator of a checked diagram.
-ghost use Rattle.std.specs.Prelude.{◌≡◌, ◌<◌, ◌+◌, ◌^◌, ℕ, length};
+ghost use Rattle.std.specs.Prelude.{◌≡◌, ◌<◌, ◌+◌, ◌^◌, ℕ, IfOk, length};
 ghost use Rattle.dg_model.specs.Attributes.{attributes_of};
 ghost use Rattle.dg_model.specs.RootElements.{root_outputs};
 ghost use Rattle.dg_model.specs.Signals.{Stimulus, Table};
-ghost use Rattle.dg_sim.specs.Sim.{Simulation, IsSimOf, IsAt, IsStepped};
+ghost use Rattle.dg_sim.specs.Sim.{Simulation, IsSimOf, IsAt, IsStepped, Stands};
+ghost use Rattle.dg_sim.specs.inner.Building.{AreRooms};
 
+use crate::building::program_of;
 use crate::laws::kept_moves;
 use crate::past::Past;
-use crate::program::Program;
+use crate::program::{Memory, Program};
 use crate::sweeping::{keep, show, sweep};
 use dg_model::Checked;
+use fx_io::OutOfMemory;
+use std::alloc::Global;
 use std::marker::Model;
 
 /// A run of a checked diagram as it stands (own): the samples that were made, the value of each entry
@@ -64,5 +68,42 @@ impl Sim {
         keep(program, t, self.row.as_slice(), self.pasts.as_mut_slice());
         show(self.row.as_slice(), program.outputs.as_slice(), out);
         self.samples += 1;
+    }
+}
+
+/// Room for what each memory keeps.
+fn pasts_of(alloc: Global, memories: &[Memory]) -> Result<Vec<Past>, OutOfMemory>
+    ensures { IfOk result (λ pasts. AreRooms memories.now pasts.items (length memories.now)) }
+{
+    let mut pasts = Vec::new(alloc);
+    for memory in memories {
+        if memory.room == 0 {
+            return Err(OutOfMemory);
+        }
+        pasts.push(Past::new(alloc, memory.room as usize)?)?;
+    }
+    Ok(pasts)
+}
+
+impl Sim {
+    /// A simulator of a checked diagram before its first sample.
+    ///
+    /// # Errors
+    /// Want of memory.
+    pub fn new(alloc: Global, checked: &Checked) -> Result<Sim, OutOfMemory>
+        ensures sim { IfOk result (λ sim. IsSimOf checked.now sim) }
+        ensures stands { IfOk result (λ sim. (table : Table) → Stands checked.now.diagram
+            (attributes_of checked.now.diagram) sim table 0) }
+    {
+        let program = program_of(alloc, checked)?;
+        let pasts = pasts_of(alloc, program.memories.as_slice())?;
+        let count = program.places.as_slice().len();
+        let row: Vec<i128> = vec![in alloc; 0; count]?;
+        Ok(Sim {
+            program,
+            samples: 0,
+            row,
+            pasts,
+        })
     }
 }

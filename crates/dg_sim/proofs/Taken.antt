@@ -1,0 +1,36 @@
+-- A root input port takes its number from the row.
+use Rattle.std.proofs.Common.{◌≡◌, ℕ, Option, Some, slice_get, sym, ◌∙◌, subst, ap, ap₂, refl}
+use Rattle.dg_model.specs.declared.diagram.Diagram.{Diagram}
+use Rattle.dg_model.specs.declared.diagram.Block.{Block}
+use Rattle.dg_model.specs.declared.kind.Kind.TheVariants.{Inport}
+use Rattle.dg_model.specs.Attributes.{attributes_of}
+use Rattle.dg_model.specs.Hits.{Hits}
+use Rattle.dg_model.specs.Laws.{InputsAreListed}
+use Rattle.dg_model.specs.RootElements.{RootElement, root_element, root_inputs}
+use Rattle.dg_model.specs.Wired.{IsWired}
+use Rattle.dg_sim.specs.declared.program.Place.{Place}
+use Rattle.dg_sim.specs.declared.program.Program.{Program}
+use Rattle.dg_sim.specs.declared.program.Rule.TheVariants.{Input}
+use Rattle.dg_sim.specs.declared.roots.Root.{Root}
+use Rattle.dg_sim.specs.inner.Building.{IsRule}
+use Rattle.dg_sim.specs.inner.Roots.{root_at, roots_of}
+use Rattle.dg_sim.proofs.ByKind.{of_kind}
+use Rattle.dg_sim.proofs.Edges.{map_there}
+
+pub input_rule : (diagram : Diagram) (program : Program) (k : ℕ) (place : Place) (b : Block) → slice_get diagram.blocks place.block ≡ Some b → IsWired diagram → InputsAreListed
+    → (number width column : ℕ) → b.kind ≡ Inport number width → slice_get (roots_of (root_inputs diagram (attributes_of diagram))) column ≡ Some (root_at number place.block place.element)
+    → IsRule diagram (attributes_of diagram) program k place (Input column)
+input_rule diagram program k place b block_is wired listed number width column kind at = record {
+  within = tt;
+  serves = λ stimulus table t look kept row v agrees keep row_is hit gives.
+      let found = map_there (λ (e : RootElement). root_at e.number e.block e.element) (root_inputs diagram (attributes_of diagram)) column (root_at number place.block place.element) at in
+      let e = found.0 in
+      let same_number : e.number ≡ number = ap (λ (r : Root). r.number) found.2 in
+      let same_block : e.block ≡ place.block = ap (λ (r : Root). r.block) found.2 in
+      let same_element : e.element ≡ place.element = ap (λ (r : Root). r.element) found.2 in
+      let is = (listed diagram (attributes_of diagram) wired).elements_of column e found.1 in
+      let period : e.period ≡ (attributes_of diagram).period_at place.block = ap (λ (e : RootElement). e.period) is.4 ∙ ap (attributes_of diagram).period_at same_block in
+      of_kind diagram (attributes_of diagram) place b block_is (Inport number width) kind stimulus table t v
+      (gives ∙ row_is column e found.1 (subst (λ (p : Option ℕ). Hits p t) (sym period) hit) ∙ ap₂ (λ (n m : ℕ). stimulus n m t) same_number same_element);
+  can = λ table t look agrees in_range. tt;
+}

@@ -1,0 +1,15 @@
+use Rattle.std.proofs.Common.{◌≡◌, ◌∙◌, ℕ, List, length, ap, sym, subst, subst₂}
+use Rattle.dg_model.specs.Attributes.{attributes_of}
+use Rattle.dg_sim.specs.declared.program.Place.{Place}
+use Rattle.dg_sim.specs.declared.roots.Root.{Root}
+use Rattle.dg_sim.specs.inner.Building.{AreShown}
+use Rattle.dg_sim.proofs.Filled.{finished}
+use Rattle.dg_sim.proofs.building.program_of.Goals as goal
+
+pub returns : goal.returns
+returns c =
+    let diagram = c.args.checked.now.diagram in
+    let places : c.as_slice-2.result.now ≡ c.fill.new.program.places = c.as_slice-2.ensures in
+    let roots : c.as_slice-3.result.now ≡ c.in_ok-outputs.outputs = c.as_slice-3.ensures in
+    finished diagram (attributes_of diagram) c.fill.new.program c.in_ok-shown.shown c.in_ok-outputs.outputs c.in_ok-fill.ensures c.in_ok-outputs.ensures
+    (subst₂ (λ (places : List Place) (roots : List Root). AreShown places roots c.in_ok-shown.shown (length roots)) places roots c.in_ok-shown.ensures)

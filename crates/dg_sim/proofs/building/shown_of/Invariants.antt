@@ -1,0 +1,5 @@
+use Rattle.dg_sim.specs.inner.Building.{AreShown}
+use Rattle.dg_sim.proofs.building.shown_of.Given as goal
+
+abbrev pub invariant-loop-root : goal.invariant-loop-root
+invariant-loop-root l = AreShown l.places l.roots l.shown l.root-index

@@ -1,0 +1,6 @@
+use Rattle.dg_model.specs.Attributes.{attributes_of}
+use Rattle.dg_sim.specs.inner.Building.{AreEntries}
+use Rattle.dg_sim.proofs.layout.put_entries.Given as goal
+
+abbrev pub invariant-loop-element : goal.invariant-loop-element
+invariant-loop-element l = AreEntries l.checked.diagram (attributes_of l.checked.diagram) l.places

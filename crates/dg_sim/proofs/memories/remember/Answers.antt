@@ -1,0 +1,17 @@
+use Rattle.std.proofs.Common.{◌≡◌, ◌∙◌, List, length, ap, sym, subst, refl}
+use Rattle.dg_model.specs.Attributes.{attributes_of}
+use Rattle.dg_sim.specs.declared.program.Place.{Place}
+use Rattle.dg_sim.specs.declared.program.Memory.{Memory}
+use Rattle.dg_sim.specs.inner.Building.{Reads}
+use Rattle.dg_sim.proofs.Kept.{remembered}
+use Rattle.dg_sim.proofs.memories.remember.Goals as goal
+
+pub returns : goal.returns
+returns c =
+    let diagram = c.args.checked.now.diagram in
+    let old = c.args.program.now in
+    let place = c.args.place in
+    let reads = subst (λ (places : List Place). Reads diagram (attributes_of diagram) places place.block 1 place.element c.in-Some.from) c.as_slice.ensures c.in-Some.ensures in
+    let memory : Memory = record { place = place; from = c.in-Some.from; period = c.args.period; control = c.args.control; reset = c.args.reset; room = c.args.room } in
+    remembered diagram (attributes_of diagram) old (record { places = old.places; cells = old.cells; args = old.args; types = old.types; signs = old.signs; memories = c.push.new.self; outputs = old.outputs }) place c.args.block.now c.requires.block
+    memory refl c.requires.room c.requires.moves reads refl refl refl refl refl c.in_ok-push.ensures.appended c.in-Ok.number (c.in-Ok.ensures.1 ∙ ap length c.as_slice-2.ensures)

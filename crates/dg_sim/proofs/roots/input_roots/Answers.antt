@@ -1,0 +1,27 @@
+use Rattle.std.proofs.Common.{◌≡◌, ◌++◌, ◌+◌, ℕ, List, Some, Option, filter_map, count_by, is_some, length, ap, sym, ◌∙◌, arith, subst}
+use Rattle.std.specs.List.{position, flat_map}
+use Rattle.dg_waves.specs.Rounds.{numbers_from}
+use Rattle.dg_model.specs.declared.diagram.Block.{Block}
+use Rattle.dg_model.specs.declared.diagram.Diagram.{Diagram}
+use Rattle.dg_model.specs.Attributes.{attributes_of}
+use Rattle.dg_model.specs.RootElements.{RootElement, has_number, number_in, elements_of_port}
+use Rattle.dg_model.specs.Wired.{root_input}
+use Rattle.dg_model.specs.Wires.{width_into}
+use Rattle.dg_sim.specs.declared.roots.Root.{Root}
+use Rattle.dg_sim.specs.inner.Roots.{roots_of}
+use Rattle.dg_sim.proofs.Rooted.{roots_more, counted_map}
+use Rattle.dg_sim.proofs.roots.input_roots.Goals as goal
+
+pub loop-i-preserved : goal.loop-i-preserved
+loop-i-preserved c =
+    let part : ℕ → List RootElement = λ number. elements_of_port (attributes_of c.args.checked.now.diagram) (λ (block : ℕ). (attributes_of c.args.checked.now.diagram).width_at block 1) number (position (has_number root_input number) c.args.checked.now.diagram.blocks) in
+    roots_more part c.loop-i.i c.put_input_port.new.roots (c.in_ok-put_input_port.ensures ∙ ap (λ (xs : List Root). xs ++ roots_of (part (c.loop-i.i + 1))) c.loop-i.invariant)
+
+pub returns : goal.returns
+returns c =
+    let part : ℕ → List RootElement = λ number. elements_of_port (attributes_of c.args.checked.now.diagram) (λ (block : ℕ). (attributes_of c.args.checked.now.diagram).width_at block 1) number (position (has_number root_input number) c.args.checked.now.diagram.blocks) in
+    let blocks : c.as_slice.result.now ≡ c.args.checked.now.diagram.blocks = c.as_slice.ensures ∙ ap (λ (d : Diagram). d.blocks) c.diagram.ensures in
+    let all : c.count_inputs-count.result ≡ length (filter_map (number_in root_input) c.args.checked.now.diagram.blocks) =
+    c.count_inputs-count.ensures ∙ counted_map (number_in root_input) c.as_slice.result.now ∙ ap (λ (xs : List Block). length (filter_map (number_in root_input) xs)) blocks in
+    let last : c.loop-i.i ≡ c.in-Ok.count = omega arith in
+    c.loop-i.invariant ∙ ap (λ (n : ℕ). roots_of (flat_map part (numbers_from 1 n))) (last ∙ c.in-Ok.ensures.1 ∙ all)

@@ -1,0 +1,22 @@
+use Rattle.std.proofs.Common.{◌≡◌, sym, subst, FitsSigned, rules}
+use Rattle.std.specs.Int.{w128}
+use Rattle.std.proofs.lemmas.Int.{to_z-of_z}
+use Rattle.fx_type.specs.FxType.{IsType}
+use Rattle.fx_type.specs.declared.kind.FxType.{FxType}
+use Rattle.dg_model.specs.Attributes.{attributes_of}
+use Rattle.dg_model.specs.Equation.{StoresEntry}
+use Rattle.dg_sim.proofs.ByKind.{constant_always}
+use Rattle.dg_sim.proofs.rules.constant.Goals as goal
+
+pub stored-requires : goal.stored-requires
+stored-requires c =
+    let checked = c.args.checked.now in
+    let valid = c.operations_prepare.ensures.types checked.diagram checked.order c.args.place.block c.args.block.now (record { checked = c.keeps_rules.ensures.checked; ordered = c.keeps_rules.ensures.ordered }) c.requires.block in
+    subst IsType (sym (c.result.ensures 1)) valid.0
+
+pub fixed-requires : goal.fixed-requires
+fixed-requires c =
+    let diagram = c.args.checked.now.diagram in
+    let stores = subst (λ (kind : FxType). StoresEntry c.args.value.now c.args.place.element kind c.in-Some.first) (c.result.ensures 1) c.in-Some.ensures in
+    let fits : FitsSigned w128 c.in-Some.first = search rules in
+    rw (to_z-of_z w128 c.in-Some.first fits) (constant_always diagram (attributes_of diagram) c.args.place c.args.block.now c.requires.block c.args.value.now c.in-Some.first c.requires.kind stores)

@@ -1,0 +1,85 @@
+use Rattle.std.proofs.Common.{◌≡◌, ◌∙◌, List, Some, slice_get, ap}
+use Rattle.dg_model.specs.declared.diagram.Block.{Block}
+use Rattle.dg_model.specs.declared.diagram.Diagram.{Diagram}
+use Rattle.dg_model.specs.declared.kind.Kind.TheVariants.{Outport, Pass}
+use Rattle.dg_model.specs.Attributes.{attributes_of}
+use Rattle.dg_sim.proofs.ByKind.{outport_hands, pass_hands, ground_always}
+use Rattle.dg_sim.proofs.Entries.{block_there, ports_are, delay_some}
+use Rattle.dg_sim.proofs.rules.rule_of.Goals as goal
+
+pub hand_on-requires : goal.hand_on-requires
+hand_on-requires c =
+    let diagram = c.args.checked.now.diagram in
+    let attributes = attributes_of diagram in
+    let place = c.args.place in
+    let one : Block = c.index-as_slice-place.result in
+    let list = c.as_slice.ensures ∙ ap (λ (d : Diagram). d.blocks) c.diagram.ensures in
+    let here : slice_get diagram.blocks place.block ≡ Some one = block_there diagram attributes place c.as_slice.result.now one list c.requires.entry c.index-as_slice-place.is in
+    let wired = c.keeps_rules.ensures.checked.wired in
+    outport_hands diagram attributes place one here c.in-Outport.number c.in-Outport.is (ports_are diagram wired place.block one here (Outport c.in-Outport.number) c.in-Outport.is).0
+
+pub hand_on-requires-in-Pass : goal.hand_on-requires-in-Pass
+hand_on-requires-in-Pass c =
+    let diagram = c.args.checked.now.diagram in
+    let attributes = attributes_of diagram in
+    let place = c.args.place in
+    let one : Block = c.index-as_slice-place.result in
+    let list = c.as_slice.ensures ∙ ap (λ (d : Diagram). d.blocks) c.diagram.ensures in
+    let here : slice_get diagram.blocks place.block ≡ Some one = block_there diagram attributes place c.as_slice.result.now one list c.requires.entry c.index-as_slice-place.is in
+    let wired = c.keeps_rules.ensures.checked.wired in
+    pass_hands diagram attributes place one here c.in-Pass.width c.in-Pass.is (ports_are diagram wired place.block one here (Pass c.in-Pass.width) c.in-Pass.is).0
+
+pub constant-requires-clause-block : goal.constant-requires-clause-block
+constant-requires-clause-block c =
+    let diagram = c.args.checked.now.diagram in
+    let attributes = attributes_of diagram in
+    let place = c.args.place in
+    let one : Block = c.index-as_slice-place.result in
+    let list = c.as_slice.ensures ∙ ap (λ (d : Diagram). d.blocks) c.diagram.ensures in
+    let here : slice_get diagram.blocks place.block ≡ Some one = block_there diagram attributes place c.as_slice.result.now one list c.requires.entry c.index-as_slice-place.is in
+    let wired = c.keeps_rules.ensures.checked.wired in
+    here
+
+pub fixed-requires : goal.fixed-requires
+fixed-requires c =
+    let diagram = c.args.checked.now.diagram in
+    let attributes = attributes_of diagram in
+    let place = c.args.place in
+    let one : Block = c.index-as_slice-place.result in
+    let list = c.as_slice.ensures ∙ ap (λ (d : Diagram). d.blocks) c.diagram.ensures in
+    let here : slice_get diagram.blocks place.block ≡ Some one = block_there diagram attributes place c.as_slice.result.now one list c.requires.entry c.index-as_slice-place.is in
+    let wired = c.keeps_rules.ensures.checked.wired in
+    ground_always diagram attributes place one here c.in-Ground.is
+
+pub delayed-requires-clause-block : goal.delayed-requires-clause-block
+delayed-requires-clause-block c =
+    let diagram = c.args.checked.now.diagram in
+    let attributes = attributes_of diagram in
+    let place = c.args.place in
+    let one : Block = c.index-as_slice-place.result in
+    let list = c.as_slice.ensures ∙ ap (λ (d : Diagram). d.blocks) c.diagram.ensures in
+    let here : slice_get diagram.blocks place.block ≡ Some one = block_there diagram attributes place c.as_slice.result.now one list c.requires.entry c.index-as_slice-place.is in
+    let wired = c.keeps_rules.ensures.checked.wired in
+    here
+
+pub delayed-requires-clause-some : goal.delayed-requires-clause-some
+delayed-requires-clause-some c =
+    let diagram = c.args.checked.now.diagram in
+    let attributes = attributes_of diagram in
+    let place = c.args.place in
+    let one : Block = c.index-as_slice-place.result in
+    let list = c.as_slice.ensures ∙ ap (λ (d : Diagram). d.blocks) c.diagram.ensures in
+    let here : slice_get diagram.blocks place.block ≡ Some one = block_there diagram attributes place c.as_slice.result.now one list c.requires.entry c.index-as_slice-place.is in
+    let wired = c.keeps_rules.ensures.checked.wired in
+    delay_some diagram wired place.block one here c.in-Delay.length _ c.in-Delay.reset c.in-Delay.is
+
+pub works-requires : goal.works-requires
+works-requires c =
+    let diagram = c.args.checked.now.diagram in
+    let attributes = attributes_of diagram in
+    let place = c.args.place in
+    let one : Block = c.index-as_slice-place.result in
+    let list = c.as_slice.ensures ∙ ap (λ (d : Diagram). d.blocks) c.diagram.ensures in
+    let here : slice_get diagram.blocks place.block ≡ Some one = block_there diagram attributes place c.as_slice.result.now one list c.requires.entry c.index-as_slice-place.is in
+    let wired = c.keeps_rules.ensures.checked.wired in
+    record { block = here; entries = c.requires.entries; op = c.in-Some.ensures }

@@ -1,0 +1,18 @@
+use Rattle.std.proofs.Common.{◌≡◌, ◌∙◌, ap, length, sym, arith}
+use Rattle.dg_model.specs.Attributes.{attributes_of}
+use Rattle.dg_sim.proofs.ByKind.{op_elementwise}
+use Rattle.dg_sim.proofs.Worked.{works_made}
+use Rattle.dg_sim.proofs.rules.works.Goals as goal
+
+pub returns : goal.returns
+returns c =
+    let diagram = c.args.checked.now.diagram in
+    let attributes = attributes_of diagram in
+    let place = c.args.place in
+    let b = c.args.block.now in
+    let read = c.in_ok-put_inputs.ensures in
+    let prepared = c.operations_prepare.ensures.operations diagram c.args.checked.now.order place.block b place.element c.args.op (record { checked = c.keeps_rules.ensures.checked; ordered = c.keeps_rules.ensures.ordered }) c.requires.block c.requires.op in
+    let types : length c.as_slice-3.result.now ≡ length c.args.program.now.types = ap length c.as_slice-3.ensures in
+    works_made diagram attributes c.args.program.now c.args.k place b c.args.op c.in-Ok.first c.in-Ok-try_from.first_sign c.in-Ok-try_from-2.signs c.result.result read.0 c.put_inputs.new.args c.put_inputs.new.types c.negative_of-negative.result.now c.put_signs.new.signs
+    (op_elementwise diagram attributes place b c.requires.block c.args.op c.requires.op) c.requires.entries c.requires.op prepared (omega arith) (c.result.ensures 1) (c.in-Ok.ensures.1 ∙ ap length c.as_slice.ensures) (omega (arith, types))
+    (c.in-Ok-try_from.ensures.1 ∙ ap length c.as_slice-2.ensures) c.in-Ok-try_from-2.ensures.1 c.negative_of-negative.ensures read.1 read.2 read.3 read.4 c.in_ok-put_signs.ensures

@@ -1,0 +1,20 @@
+use Rattle.std.proofs.Common.{◌≡◌, ◌∙◌, ℕ, List, length, ap, sym, subst, replicate}
+use Rattle.std.proofs.lemmas.List.{length-replicate}
+use Rattle.dg_sim.specs.declared.program.Memory.{Memory}
+use Rattle.dg_sim.specs.declared.program.Place.{Place}
+use Rattle.dg_sim.specs.inner.Building.{AreRooms}
+use Rattle.dg_sim.proofs.Begun.{begun_sim, begun_stands}
+use Rattle.dg_sim.proofs.sim.Sim.new.Goals as goal
+
+pub returns-clause-sim : goal.returns-clause-sim
+returns-clause-sim c =
+    let memories : c.as_slice.result.now ≡ c.in_ok-program.program.memories = c.as_slice.ensures in
+    let rooms = subst (λ (xs : List Memory). AreRooms xs c.in_ok-pasts.pasts.items (length xs)) memories c.in_ok-pasts.ensures in
+    let places : c.as_slice-count.result.now ≡ c.in_ok-program.program.places = c.as_slice-count.ensures in
+    begun_sim c.args.checked.now c.in_ok-program.program c.in_ok-row.row.items c.in_ok-pasts.pasts.items c.in_ok-program.ensures rooms (sym c.in_ok-row.row.ok.0 ∙ c.in_ok-row.ensures.len ∙ ap length places)
+
+pub returns-clause-stands : goal.returns-clause-stands
+returns-clause-stands c =
+    let memories : c.as_slice.result.now ≡ c.in_ok-program.program.memories = c.as_slice.ensures in
+    let rooms = subst (λ (xs : List Memory). AreRooms xs c.in_ok-pasts.pasts.items (length xs)) memories c.in_ok-pasts.ensures in
+    begun_stands c.args.checked.now c.in_ok-program.program c.in_ok-row.row.items c.in_ok-pasts.pasts.items c.in_ok-program.ensures rooms

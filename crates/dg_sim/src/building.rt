@@ -1,0 +1,119 @@
+//! The program of a checked diagram.
+ghost use Rattle.std.specs.Prelude.{◌≡◌, ◌<◌, ◌+◌, ℕ, Some, length, slice_get, IfOk, OnOk};
+ghost use Rattle.dg_model.specs.Attributes.{attributes_of};
+ghost use Rattle.dg_model.specs.RootElements.{root_inputs, root_outputs};
+ghost use Rattle.dg_sim.specs.Sim.{IsProgram};
+ghost use Rattle.dg_sim.specs.inner.Building.{AreShown, IsFilled};
+ghost use Rattle.dg_sim.specs.inner.Roots.{roots_of};
+
+use crate::layout::lay_out;
+use crate::program::{Cell, Cells, Memories, Place, Program};
+use crate::reading::{Starts, look_up};
+use crate::roots::{Root, input_roots, output_roots};
+use crate::rules::rule_of;
+use dg_model::{Checked, FxTypes};
+use fx_io::{Flags, OutOfMemory, Sizes};
+use std::alloc::Global;
+
+/// One more cell, for the entry at its place.
+fn put_cell(
+    checked: &Checked,
+    starts: &Starts,
+    roots: &[Root],
+    program: &mut Program,
+    k: u32,
+) -> Result<(), OutOfMemory>
+    requires roots { roots.now
+        ≡ roots_of (root_inputs checked.now.diagram (attributes_of checked.now.diagram)) }
+    requires filled { IsFilled checked.now.diagram (attributes_of checked.now.diagram)
+        program.old k }
+    requires there { k < length program.old.places }
+    ensures filled { OnOk result (IsFilled checked.now.diagram
+        (attributes_of checked.now.diagram) program.new (k + 1)) }
+    ensures places { OnOk result (program.new.places ≡ program.old.places) }
+{
+    checked.keeps_rules();
+    let place = program.places.as_slice()[k as usize];
+    let rule = rule_of(checked, starts, roots, program, k, place)?;
+    let period = checked.period(place.block);
+    program.cells.push(Cell { period, rule })?;
+    Ok(())
+}
+
+/// The cells of all entries.
+fn fill(
+    checked: &Checked,
+    starts: &Starts,
+    roots: &[Root],
+    program: &mut Program,
+) -> Result<(), OutOfMemory>
+    requires roots { roots.now
+        ≡ roots_of (root_inputs checked.now.diagram (attributes_of checked.now.diagram)) }
+    requires filled { IsFilled checked.now.diagram (attributes_of checked.now.diagram)
+        program.old 0 }
+    ensures { OnOk result (IsFilled checked.now.diagram (attributes_of checked.now.diagram)
+        program.new (length program.new.places)) }
+{
+    let Ok(count) = u32::try_from(program.places.as_slice().len()) else {
+        return Err(OutOfMemory);
+    };
+    for k in 0..count {
+        put_cell(checked, starts, roots, program, k)?;
+    }
+    Ok(())
+}
+
+/// The entries of root output elements.
+fn shown_of(
+    alloc: Global,
+    starts: &Starts,
+    places: &[Place],
+    roots: &[Root],
+) -> Result<Sizes, OutOfMemory>
+    ensures { IfOk result (λ shown. AreShown places.now roots.now shown (length roots.now)) }
+{
+    let mut shown = Sizes::new(alloc);
+    for root in roots {
+        let place = Place {
+            block: root.block,
+            port: 1,
+            element: root.element,
+        };
+        let Some(cell) = look_up(places, starts, place) else {
+            return Err(OutOfMemory);
+        };
+        shown.push(cell)?;
+    }
+    Ok(shown)
+}
+
+/// The program of a checked diagram.
+///
+/// # Errors
+/// Want of memory.
+pub fn program_of(alloc: Global, checked: &Checked) -> Result<Program, OutOfMemory>
+    ensures { IfOk result (λ program.
+        IsProgram checked.now.diagram (attributes_of checked.now.diagram) program) }
+{
+    let (starts, places) = lay_out(alloc, checked)?;
+    let roots = input_roots(alloc, checked)?;
+    let mut program = Program {
+        places,
+        cells: Cells::new(alloc),
+        args: Sizes::new(alloc),
+        types: FxTypes::new(alloc),
+        signs: Flags::new(alloc),
+        memories: Memories::new(alloc),
+        outputs: Sizes::new(alloc),
+    };
+    fill(checked, &starts, roots.as_slice(), &mut program)?;
+    let outputs = output_roots(alloc, checked, &starts)?;
+    let shown = shown_of(
+        alloc,
+        &starts,
+        program.places.as_slice(),
+        outputs.as_slice(),
+    )?;
+    program.outputs = shown;
+    Ok(program)
+}

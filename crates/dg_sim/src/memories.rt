@@ -1,0 +1,120 @@
+//! What is kept for the rules that look back.
+ghost use Rattle.std.specs.Prelude.{◌≡◌, ◌≤◌, Some, slice_get, IfOk};
+ghost use Rattle.dg_model.specs.Attributes.{attributes_of};
+ghost use Rattle.dg_model.specs.declared.kind.Kind.{Kind};
+ghost use Rattle.dg_sim.specs.State.{kept_count};
+ghost use Rattle.dg_sim.specs.inner.Building.{IsControl, Moves, IsRemembered, IsMade};
+
+use crate::laws::{kept_moves, operations_prepare};
+use crate::program::{Memory, Place, Program, Rule};
+use crate::reading::{Starts, input, look_up};
+use crate::rules::stored;
+use dg_model::{Block, Checked};
+use fx_io::OutOfMemory;
+use fx_type::Decimal;
+
+/// The cell of the control that enables a block; none outside of enabled subsystems.
+fn control_of(
+    checked: &Checked,
+    starts: &Starts,
+    program: &Program,
+    block: &Block,
+) -> Result<Option<u32>, OutOfMemory>
+    ensures { IfOk result (λ control. IsControl checked.now.diagram
+        (attributes_of checked.now.diagram) program.now.places block.now.enable control) }
+{
+    let _ = checked.order();
+    let Some(enable) = block.enable else {
+        return Ok(None);
+    };
+    let place = Place {
+        block: enable,
+        port: 1,
+        element: 0,
+    };
+    let Some(cell) = look_up(program.places.as_slice(), starts, place) else {
+        return Err(OutOfMemory);
+    };
+    Ok(Some(cell))
+}
+
+/// One more memory for an entry of a block, which keeps what its input port offers.
+fn remember(
+    checked: &Checked,
+    starts: &Starts,
+    program: &mut Program,
+    place: Place,
+    block: &Block,
+    period: Option<u32>,
+    control: Option<u32>,
+    reset: bool,
+    room: u32,
+) -> Result<u32, OutOfMemory>
+    requires block { slice_get checked.now.diagram.blocks place.block ≡ Some block.now }
+    requires room { room ≡ kept_count block.now.kind }
+    requires moves { Moves checked.now.diagram (attributes_of checked.now.diagram)
+        program.old.places place block.now period control reset }
+    ensures { IfOk result (λ m. IsRemembered checked.now.diagram
+        (attributes_of checked.now.diagram) program.old program.new place m) }
+{
+    let _name = &block.path;
+    let found = input(
+        checked,
+        starts,
+        program.places.as_slice(),
+        place.block,
+        1,
+        place.element,
+    );
+    let Some(from) = found else {
+        return Err(OutOfMemory);
+    };
+    let Ok(number) = u32::try_from(program.memories.as_slice().len()) else {
+        return Err(OutOfMemory);
+    };
+    program.memories.push(Memory {
+        place,
+        from,
+        period,
+        control,
+        reset,
+        room,
+    })?;
+    Ok(number)
+}
+
+/// The rule of a Delay.
+pub fn delayed(
+    checked: &Checked,
+    starts: &Starts,
+    program: &mut Program,
+    k: u32,
+    place: Place,
+    block: &Block,
+    length: u32,
+    initial: &[Decimal],
+    reset: bool,
+) -> Result<Rule, OutOfMemory>
+    requires block { slice_get checked.now.diagram.blocks place.block ≡ Some block.now }
+    requires kind { block.now.kind ≡ Kind.Delay length initial.now reset }
+    requires some { 1 ≤ length }
+    ensures { IfOk result (λ rule. IsMade checked.now.diagram (attributes_of checked.now.diagram)
+        program.old program.new k place rule) }
+{
+    operations_prepare();
+    kept_moves();
+    checked.keeps_rules();
+    let control = control_of(checked, starts, program, block)?;
+    let Some(first) = stored(initial, place.element, checked.result(place.block)) else {
+        return Err(OutOfMemory);
+    };
+    let period = checked.period(place.block);
+    let memory = remember(
+        checked, starts, program, place, block, period, control, reset, length,
+    )?;
+    Ok(Rule::Past {
+        memory,
+        age: length - 1,
+        initial: first,
+    })
+}

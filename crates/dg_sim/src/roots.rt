@@ -1,0 +1,232 @@
+//! The elements of the root inputs and outputs, in the order in which rows have their numbers.
+ghost use Rattle.std.specs.Prelude.{◌≡◌, ◌++◌, ◌≤◌, ℕ, map, count_by, is_some, position, IfOk, IfSome, OnOk, Some, slice_get};
+ghost use Rattle.dg_waves.specs.Rounds.{numbers_from};
+ghost use Rattle.dg_model.specs.Attributes.{attributes_of};
+ghost use Rattle.dg_model.specs.Library.{row_of};
+ghost use Rattle.dg_model.specs.Wired.{root_input, root_output};
+ghost use Rattle.dg_model.specs.RootElements.{number_in, has_number, elements_of_port, root_inputs, root_outputs};
+ghost use Rattle.dg_sim.specs.inner.Roots.{root_at, roots_of};
+ghost use Rattle.dg_model.specs.Wires.{width_into};
+
+use crate::reading::{Starts, width_of_input, width_of_output};
+use dg_model::{Block, Checked, Kind};
+use fx_io::{OutOfMemory, Sequence};
+use std::alloc::Global;
+
+/// An element of a root port: the number of the port, its block and the element's place.
+#[derive(Clone, Copy, Debug, PartialEq, Eq)]
+pub struct Root {
+    pub number: u32,
+    pub block: u32,
+    pub element: u32,
+}
+
+pub type Roots = Sequence<Root>;
+
+/// The number of a root input port.
+fn input_number(kind: &Kind) -> Option<u32>
+    ensures { result ≡ root_input (row_of kind.now).place.role }
+{
+    match kind {
+        Kind::Inport { number, .. } => Some(*number),
+        _ => None,
+    }
+}
+
+/// The number of a root output port.
+pub fn output_number(kind: &Kind) -> Option<u32>
+    ensures { result ≡ root_output (row_of kind.now).place.role }
+{
+    match kind {
+        Kind::Outport { number } => Some(*number),
+        _ => None,
+    }
+}
+
+/// Whether a block is a root input port.
+fn is_input(block: &Block) -> bool
+    ensures { result ≡ is_some (number_in root_input block.now) }
+{
+    input_number(&block.kind).is_some()
+}
+
+/// How many root input ports there are.
+fn count_inputs(blocks: &[Block]) -> usize
+    ensures { result ≡ count_by (λ block. is_some (number_in root_input block)) blocks.now }
+{
+    let mut count: usize = 0;
+    for block in blocks {
+        if is_input(block) {
+            count += 1;
+        }
+    }
+    count
+}
+
+/// Whether a block is a root output port.
+fn is_output(block: &Block) -> bool
+    ensures { result ≡ is_some (number_in root_output block.now) }
+{
+    output_number(&block.kind).is_some()
+}
+
+/// How many root output ports there are.
+fn count_outputs(blocks: &[Block]) -> usize
+    ensures { result ≡ count_by (λ block. is_some (number_in root_output block)) blocks.now }
+{
+    let mut count: usize = 0;
+    for block in blocks {
+        if is_output(block) {
+            count += 1;
+        }
+    }
+    count
+}
+
+/// The block that is the root input port of a number.
+fn input_of(blocks: &[Block], number: u32) -> Option<usize>
+    ensures { result ≡ position (has_number root_input number) blocks.now }
+{
+    blocks
+        .iter()
+        .position(|block| input_number(&block.kind) == Some(number))
+}
+
+/// The block that is the root output port of a number.
+fn output_of(blocks: &[Block], number: u32) -> Option<usize>
+    ensures { result ≡ position (has_number root_output number) blocks.now }
+{
+    blocks
+        .iter()
+        .position(|block| output_number(&block.kind) == Some(number))
+}
+
+/// Puts the elements of a port behind the others.
+fn put_port(roots: &mut Roots, number: u32, block: u32, width: u32) -> Result<(), OutOfMemory>
+    ensures { OnOk result (roots.new
+        ≡ roots.old ++ map (root_at number block) (numbers_from 0 width)) }
+{
+    for element in 0..width {
+        roots.push(Root {
+            number,
+            block,
+            element,
+        })?;
+    }
+    Ok(())
+}
+
+/// Puts the elements of the root input port of a number behind the others.
+fn put_input_port(roots: &mut Roots, checked: &Checked, number: u32) -> Result<(), OutOfMemory>
+    ensures { OnOk result (roots.new ≡ roots.old ++ roots_of (elements_of_port
+        (attributes_of checked.now.diagram) (λ block. (attributes_of checked.now.diagram).width_at block 1)
+        number (position (has_number root_input number) checked.now.diagram.blocks))) }
+{
+    match input_of(checked.diagram().blocks.as_slice(), number) {
+        Some(place) => {
+            let Ok(block) = u32::try_from(place) else {
+                return Err(OutOfMemory);
+            };
+            let Some(width) = width_of_output(checked, block, 1) else {
+                return Err(OutOfMemory);
+            };
+            put_port(roots, number, block, width)?;
+            Ok(())
+        }
+        None => Ok(()),
+    }
+}
+
+/// Puts the elements of the root output port of a number behind the others.
+fn put_output_port(
+    roots: &mut Roots,
+    checked: &Checked,
+    starts: &Starts,
+    number: u32,
+) -> Result<(), OutOfMemory>
+    ensures { OnOk result (roots.new ≡ roots.old ++ roots_of (elements_of_port
+        (attributes_of checked.now.diagram)
+        (λ block. width_into checked.now.diagram (attributes_of checked.now.diagram) block 1)
+        number (position (has_number root_output number) checked.now.diagram.blocks))) }
+{
+    match output_of(checked.diagram().blocks.as_slice(), number) {
+        Some(place) => {
+            let Ok(block) = u32::try_from(place) else {
+                return Err(OutOfMemory);
+            };
+            let Some(width) = width_of_input(checked, starts, block, 1) else {
+                return Err(OutOfMemory);
+            };
+            put_port(roots, number, block, width)?;
+            Ok(())
+        }
+        None => Ok(()),
+    }
+}
+
+/// The elements of the root inputs.
+pub fn input_roots(alloc: Global, checked: &Checked) -> Result<Roots, OutOfMemory>
+    ensures { IfOk result (λ roots. roots ≡ roots_of
+        (root_inputs checked.now.diagram (attributes_of checked.now.diagram))) }
+{
+    let mut roots = Roots::new(alloc);
+    let count = count_inputs(checked.diagram().blocks.as_slice());
+    let Ok(count) = u32::try_from(count) else {
+        return Err(OutOfMemory);
+    };
+    for i in 0..count {
+        put_input_port(&mut roots, checked, i + 1)?;
+    }
+    Ok(roots)
+}
+
+/// The elements of the root outputs.
+pub fn output_roots(alloc: Global, checked: &Checked, starts: &Starts) -> Result<Roots, OutOfMemory>
+    ensures { IfOk result (λ roots. roots ≡ roots_of
+        (root_outputs checked.now.diagram (attributes_of checked.now.diagram))) }
+{
+    let mut roots = Roots::new(alloc);
+    let count = count_outputs(checked.diagram().blocks.as_slice());
+    let Ok(count) = u32::try_from(count) else {
+        return Err(OutOfMemory);
+    };
+    for i in 0..count {
+        put_output_port(&mut roots, checked, starts, i + 1)?;
+    }
+    Ok(roots)
+}
+
+/// Whether a root element stands before another one.
+fn is_before(root: Root, other: Root) -> bool {
+    root.number < other.number || root.number == other.number && root.element < other.element
+}
+
+/// The place of a root element in a list in order.
+pub fn find_root(roots: &[Root], root: Root) -> Option<u32>
+    ensures { IfSome result (λ j. slice_get roots.now j ≡ Some root) }
+{
+    let mut low: usize = 0;
+    let mut high = roots.len();
+    while low < high {
+        let middle = low + (high - low) / 2;
+        if is_before(roots[middle], root) {
+            low = middle + 1;
+        } else {
+            high = middle;
+        }
+    }
+    root_there(roots, low, root)
+}
+
+/// The place of a root element, where it stands there.
+fn root_there(roots: &[Root], at: usize, root: Root) -> Option<u32>
+    ensures { IfSome result (λ j. slice_get roots.now j ≡ Some root) }
+{
+    let Ok(number) = u32::try_from(at) else {
+        return None;
+    };
+    match roots.get(number as usize) {
+        Some(found) if *found == root => Some(number),
+        _ => None,
+    }
+}
