@@ -1,9 +1,12 @@
 //! What is kept for the rules that look back.
-ghost use Rattle.std.specs.Prelude.{◌≡◌, ◌≤◌, Some, slice_get, IfOk};
+ghost use Rattle.std.specs.Prelude.{◌≡◌, ◌≤◌, Some, slice_get, true, IfOk, IfSome};
 ghost use Rattle.dg_model.specs.Attributes.{attributes_of};
+ghost use Rattle.fx_type.specs.declared.decimal.Decimal.{Decimal};
 ghost use Rattle.dg_model.specs.declared.kind.Kind.{Kind};
+ghost use Rattle.dg_model.specs.Hits.{is_slow_to_fast};
+ghost use Rattle.dg_model.specs.Wires.{period_into};
 ghost use Rattle.dg_sim.specs.State.{kept_count};
-ghost use Rattle.dg_sim.specs.inner.Building.{IsControl, Moves, IsRemembered, IsMade};
+ghost use Rattle.dg_sim.specs.inner.Building.{IsControl, Moves, IsRemembered, IsMade, IsControlCell};
 
 use crate::laws::{kept_moves, operations_prepare};
 use crate::program::{Memory, Place, Program, Rule};
@@ -115,6 +118,124 @@ pub fn delayed(
     Ok(Rule::Past {
         memory,
         age: length - 1,
+        initial: first,
+    })
+}
+
+/// The rule of a rate transition from slow to fast.
+pub fn slowed(
+    checked: &Checked,
+    starts: &Starts,
+    program: &mut Program,
+    k: u32,
+    place: Place,
+    block: &Block,
+    initial: &[Decimal],
+    slow: Option<u32>,
+) -> Result<Rule, OutOfMemory>
+    requires block { slice_get checked.now.diagram.blocks place.block ≡ Some block.now }
+    requires kind { (period : Decimal) × (block.now.kind ≡ Kind.RateTransition period initial.now) }
+    requires slow { slow ≡ period_into checked.now.diagram (attributes_of checked.now.diagram)
+        place.block 1 }
+    requires slower { is_slow_to_fast slow
+        ((attributes_of checked.now.diagram).period_at place.block) ≡ true }
+    ensures { IfOk result (λ rule. IsMade checked.now.diagram (attributes_of checked.now.diagram)
+        program.old program.new k place rule) }
+{
+    operations_prepare();
+    kept_moves();
+    checked.keeps_rules();
+    let Some(first) = stored(initial, place.element, checked.result(place.block)) else {
+        return Err(OutOfMemory);
+    };
+    let memory = remember(checked, starts, program, place, block, slow, None, false, 2)?;
+    Ok(Rule::Slower {
+        memory,
+        period: slow,
+        initial: first,
+    })
+}
+
+/// The cell of the control of the enabled subsystem that holds a block.
+fn control_cell(starts: &Starts, program: &Program, block: &Block) -> Option<u32>
+    ensures { IfSome result (λ cell. IsControlCell program.now.places block.now.enable cell) }
+{
+    let Some(enable) = block.enable else {
+        return None;
+    };
+    let place = Place {
+        block: enable,
+        port: 1,
+        element: 0,
+    };
+    look_up(program.places.as_slice(), starts, place)
+}
+
+/// The rule of an output port of an enabled subsystem.
+pub fn gated(
+    checked: &Checked,
+    starts: &Starts,
+    program: &mut Program,
+    k: u32,
+    place: Place,
+    block: &Block,
+    reset: bool,
+    initial: &[Decimal],
+) -> Result<Rule, OutOfMemory>
+    requires block { slice_get checked.now.diagram.blocks place.block ≡ Some block.now }
+    requires kind { block.now.kind ≡ Kind.EnOut reset initial.now }
+    ensures { IfOk result (λ rule. IsMade checked.now.diagram (attributes_of checked.now.diagram)
+        program.old program.new k place rule) }
+{
+    operations_prepare();
+    kept_moves();
+    checked.keeps_rules();
+    let Some(cell) = control_cell(starts, program, block) else {
+        return Err(OutOfMemory);
+    };
+    if cell >= k {
+        return Err(OutOfMemory);
+    }
+    let found = input(
+        checked,
+        starts,
+        program.places.as_slice(),
+        place.block,
+        1,
+        place.element,
+    );
+    let Some(from) = found else {
+        return Err(OutOfMemory);
+    };
+    if from >= k {
+        return Err(OutOfMemory);
+    }
+    let Some(first) = stored(initial, place.element, checked.result(place.block)) else {
+        return Err(OutOfMemory);
+    };
+    if reset {
+        return Ok(Rule::Reset {
+            from,
+            control: cell,
+            initial: first,
+        });
+    }
+    let period = checked.period(place.block);
+    let memory = remember(
+        checked,
+        starts,
+        program,
+        place,
+        block,
+        period,
+        Some(cell),
+        false,
+        1,
+    )?;
+    Ok(Rule::Held {
+        memory,
+        from,
+        control: cell,
         initial: first,
     })
 }

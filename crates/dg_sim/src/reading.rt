@@ -1,7 +1,8 @@
 //! Where the values come from that a block reads.
 ghost use Rattle.std.specs.Prelude.{◌≡◌, ◌≤◌, ◌<◌, Some, None, IfSome, slice_get};
 ghost use Rattle.dg_model.specs.Attributes.{attributes_of};
-ghost use Rattle.dg_model.specs.Wires.{driver_of, width_into, type_into, repeated};
+ghost use Rattle.dg_model.specs.Wires.{driver_of, width_into, type_into, period_into, repeated};
+ghost use Rattle.dg_model.specs.Hits.{is_slow_to_fast};
 ghost use Rattle.dg_sim.specs.inner.Building.{IsSource, Reads, IsShownPort};
 
 use crate::program::Place;
@@ -116,6 +117,33 @@ pub fn type_of_input(checked: &Checked, starts: &Starts, block: u32, port: u32) 
         return None;
     };
     Some(checked.result(edge.from))
+}
+
+/// The period of the block that drives an input port.
+pub fn period_of_input(
+    checked: &Checked,
+    starts: &Starts,
+    block: u32,
+    port: u32,
+) -> Option<Option<u32>>
+    ensures { IfSome result (λ period.
+        period ≡ period_into checked.now.diagram (attributes_of checked.now.diagram) block port) }
+{
+    checked.keeps_rules();
+    let Some(edge) = driver(checked, starts, block, port) else {
+        return None;
+    };
+    Some(checked.period(edge.from))
+}
+
+/// Whether a rate transition leads from slow to fast.
+pub fn is_slower(driver: Option<u32>, own: Option<u32>) -> bool
+    ensures { result ≡ is_slow_to_fast driver own }
+{
+    match (driver, own) {
+        (Some(slow), Some(fast)) => fast < slow,
+        _ => false,
+    }
 }
 
 /// The entry that an input port offers to an element.

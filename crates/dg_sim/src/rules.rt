@@ -1,6 +1,7 @@
 //! The rules of cells, kind by kind.
 ghost use Rattle.std.specs.Prelude.{◌≡◌, ◌<◌, ◌≤◌, ◌++◌, ◌∷◌, [], ℕ, ℤ, List, Some, length, slice_get, IfSome, IfOk, OnOk};
 ghost use Rattle.fx_type.specs.FxType.{IsType};
+ghost use Rattle.fx_type.specs.declared.decimal.Decimal.{Decimal};
 ghost use Rattle.dg_model.specs.Attributes.{attributes_of};
 ghost use Rattle.dg_model.specs.declared.diagram.Block.{Block};
 ghost use Rattle.dg_model.specs.Equation.{StoresEntry, IsOpOf, signs_of};
@@ -12,9 +13,9 @@ ghost use Rattle.dg_model.specs.RootElements.{root_inputs};
 ghost use Rattle.dg_model.specs.declared.kind.Kind.{Kind};
 
 use crate::laws::operations_prepare;
-use crate::memories::delayed;
+use crate::memories::{delayed, gated, slowed};
 use crate::program::{Place, Places, Program, Rule, Work};
-use crate::reading::{Starts, input, place_in, type_of_input};
+use crate::reading::{Starts, input, is_slower, period_of_input, place_in, type_of_input};
 use crate::roots::{Root, find_root};
 use dg_model::{Block, Checked, FxTypes, Kind, Op};
 use fx_io::{Flags, OutOfMemory, Sizes};
@@ -321,6 +322,33 @@ fn from_row(
     Ok(Rule::Input { column })
 }
 
+/// The rule of a rate transition.
+fn transition(
+    checked: &Checked,
+    starts: &Starts,
+    program: &mut Program,
+    k: u32,
+    place: Place,
+    block: &Block,
+    initial: &[Decimal],
+) -> Result<Rule, OutOfMemory>
+    requires block { slice_get checked.now.diagram.blocks place.block ≡ Some block.now }
+    requires kind { (period : Decimal) × (block.now.kind ≡ Kind.RateTransition period initial.now) }
+    ensures { IfOk result (λ rule. IsMade checked.now.diagram (attributes_of checked.now.diagram)
+        program.old program.new k place rule) }
+{
+    checked.keeps_rules();
+    let Some(slow) = period_of_input(checked, starts, place.block, 1) else {
+        return Err(OutOfMemory);
+    };
+    let own = checked.period(place.block);
+    if is_slower(slow, own) {
+        slowed(checked, starts, program, k, place, block, initial, slow)
+    } else {
+        hand_on(checked, starts, program, k, place, 1, place.element)
+    }
+}
+
 /// The rule for an entry, with what the program needs for it.
 pub fn rule_of(
     checked: &Checked,
@@ -363,6 +391,29 @@ pub fn rule_of(
                 *length,
                 initial.as_slice(),
                 *reset,
+            )
+        }
+        Kind::RateTransition { initial, .. } => {
+            transition(
+                checked,
+                starts,
+                program,
+                k,
+                place,
+                block,
+                initial.as_slice(),
+            )
+        }
+        Kind::EnOut { reset, initial } => {
+            gated(
+                checked,
+                starts,
+                program,
+                k,
+                place,
+                block,
+                *reset,
+                initial.as_slice(),
             )
         }
         _ => {

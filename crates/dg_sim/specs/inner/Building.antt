@@ -127,3 +127,7 @@ pub record AreShown (places : List Place) (roots : List Root) (shown : List ℕ)
 pub record AreRooms (memories : List Memory) (pasts : List PastValues) (n : ℕ) : Type 0 where
   pub size : length pasts ≡ n
   pub each : (m : ℕ) (memory : Memory) (past : PastValues) → slice_get memories m ≡ Some memory → slice_get pasts m ≡ Some past → past ≡ record { room = memory.room; values = [] }
+
+-- the cell stands for the control of the enabled subsystem
+abbrev pub IsControlCell : List Place → Option ℕ → ℕ → Type 0
+IsControlCell places enable cell = (control : ℕ) × (enable ≡ Some control) × (slice_get places cell ≡ Some (record { block = control; port = 1; element = 0 }))

@@ -1,7 +1,8 @@
-use Rattle.std.proofs.Common.{◌≡◌, ◌∙◌, List, Some, slice_get, ap}
+use Rattle.std.proofs.Common.{◌≡◌, ◌∙◌, List, Some, slice_get, ap, sym}
+use Rattle.fx_type.specs.declared.decimal.Decimal.{Decimal}
 use Rattle.dg_model.specs.declared.diagram.Block.{Block}
 use Rattle.dg_model.specs.declared.diagram.Diagram.{Diagram}
-use Rattle.dg_model.specs.declared.kind.Kind.TheVariants.{Outport, Pass}
+use Rattle.dg_model.specs.declared.kind.Kind.TheVariants.{Outport, Pass, RateTransition}
 use Rattle.dg_model.specs.Attributes.{attributes_of}
 use Rattle.dg_sim.proofs.ByKind.{outport_hands, pass_hands, ground_always}
 use Rattle.dg_sim.proofs.Entries.{block_there, ports_are, delay_some}
@@ -83,3 +84,17 @@ works-requires c =
     let here : slice_get diagram.blocks place.block ≡ Some one = block_there diagram attributes place c.as_slice.result.now one list c.requires.entry c.index-as_slice-place.is in
     let wired = c.keeps_rules.ensures.checked.wired in
     record { block = here; entries = c.requires.entries; op = c.in-Some.ensures }
+
+pub gated-requires-clause-block : goal.gated-requires-clause-block
+gated-requires-clause-block c =
+    let diagram = c.args.checked.now.diagram in
+    let attributes = attributes_of diagram in
+    let place = c.args.place in
+    let one : Block = c.index-as_slice-place.result in
+    let list = c.as_slice.ensures ∙ ap (λ (d : Diagram). d.blocks) c.diagram.ensures in
+    let here : slice_get diagram.blocks place.block ≡ Some one = block_there diagram attributes place c.as_slice.result.now one list c.requires.entry c.index-as_slice-place.is in
+    let wired = c.keeps_rules.ensures.checked.wired in
+    here
+
+pub transition-requires-clause-kind : goal.transition-requires-clause-kind
+transition-requires-clause-kind c = (c.in-RateTransition.period, c.in-RateTransition.is ∙ ap (λ (initial : List Decimal). RateTransition c.in-RateTransition.period initial) (sym c.as_slice-in-RateTransition.ensures))

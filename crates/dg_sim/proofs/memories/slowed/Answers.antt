@@ -1,0 +1,29 @@
+use Rattle.std.proofs.Common.{◌≡◌, ◌∙◌, ap, sym, subst, ℕ, FitsSigned, rules}
+use Rattle.std.specs.Int.{w128}
+use Rattle.std.proofs.lemmas.Int.{to_z-of_z}
+use Rattle.fx_type.specs.FxType.{IsType}
+use Rattle.fx_type.specs.declared.kind.FxType.{FxType}
+use Rattle.dg_model.specs.Attributes.{attributes_of}
+use Rattle.dg_model.specs.Equation.{StoresEntry}
+use Rattle.dg_sim.proofs.Kept.{slow_made, slow_moves}
+use Rattle.dg_sim.proofs.memories.slowed.Goals as goal
+
+pub stored-requires : goal.stored-requires
+stored-requires c =
+    let checked = c.args.checked.now in
+    let valid = c.operations_prepare.ensures.types checked.diagram checked.order c.args.place.block c.args.block.now (record { checked = c.keeps_rules.ensures.checked; ordered = c.keeps_rules.ensures.ordered }) c.requires.block in
+    subst IsType (sym (c.result.ensures 1)) valid.0
+
+pub remember-requires-clause-moves : goal.remember-requires-clause-moves
+remember-requires-clause-moves c =
+    let diagram = c.args.checked.now.diagram in
+    slow_moves diagram (attributes_of diagram) c.args.program.now c.args.program.now c.args.place c.args.block.now c.requires.block c.args.program.now.places c.args.slow c.requires.kind.0 c.args.initial.now c.requires.kind.1 c.requires.slow
+
+pub returns : goal.returns
+returns c =
+    let diagram = c.args.checked.now.diagram in
+    let fits : FitsSigned w128 c.in-Some.first = search rules in
+    let stores = subst (λ (kind : FxType). StoresEntry c.args.initial.now c.args.place.element kind c.in-Some.first) (c.result.ensures 1) c.in-Some.ensures in
+    rw (to_z-of_z w128 c.in-Some.first fits)
+    (slow_made diagram (attributes_of diagram) c.args.program.now c.remember.new.program c.args.place c.args.block.now c.requires.block c.kept_moves.ensures.read c.args.k c.in_ok-memory.memory c.args.slow c.requires.kind.0 c.args.initial.now c.in-Some.first
+    c.requires.kind.1 c.requires.slow c.requires.slower stores c.in_ok-memory.ensures)
