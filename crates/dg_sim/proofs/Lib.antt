@@ -28,6 +28,7 @@ mod Staying
 mod Stepped
 mod Swept
 mod Taken
+mod Tested
 mod TypeRules
 mod Typed
 mod Unique

@@ -60,7 +60,7 @@ map_last f n = rw add-one (go 1 n ∙ (let e : 1 + n ≡ suc n = omega arith in 
     go from (suc n) = let e : suc from + n ≡ from + suc n = omega arith in ap (λ xs. f from ∷ xs) (go (suc from) n ∙ ap (λ (m : ℕ). map f (numbers_from (suc from) n) ++ f m ∷ []) e)
 
 -- entries by place give the values of a block's input ports
-values_same : (look : ℕ → ℤ) (f : ℕ → ℤ) (numbers : List ℕ) (n from : ℕ) → length numbers ≡ n → ((i j : ℕ) → slice_get numbers i ≡ Some j → look j ≡ f (from + i)) → map look numbers ≡ map f (numbers_from from n)
+pub values_same : (look : ℕ → ℤ) (f : ℕ → ℤ) (numbers : List ℕ) (n from : ℕ) → length numbers ≡ n → ((i j : ℕ) → slice_get numbers i ≡ Some j → look j ≡ f (from + i)) → map look numbers ≡ map f (numbers_from from n)
 values_same look f [] zero from size same = refl
 values_same look f [] (suc n) from size same = absurd (omega (arith, size))
 values_same look f (j ∷ numbers) zero from size same = absurd (omega (arith, size))

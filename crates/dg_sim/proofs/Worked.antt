@@ -17,11 +17,11 @@ use Rattle.dg_sim.specs.inner.Building.{AreRead, AreEntries, IsMade, IsElementwi
 use Rattle.dg_sim.proofs.Lists.{length_mapped}
 use Rattle.dg_sim.proofs.Serving.{part_last, operation_of_block, work_rule}
 
-part_there : {A : Type 0} (old more all : List A) (first count : ℕ) → all ≡ old ++ more → first ≡ length old → count ≡ length more → part all first count ≡ more
+pub part_there : {A : Type 0} (old more all : List A) (first count : ℕ) → all ≡ old ++ more → first ≡ length old → count ≡ length more → part all first count ≡ more
 part_there old more all first count e at size =
     ap₂ (λ (xs : List _) (n : ℕ). part xs n count) e at ∙ ap (λ (n : ℕ). part (old ++ more) (length old) n) size ∙ part_last old more
 
-end_there : {A : Type 0} (old more all : List A) (first count : ℕ) → all ≡ old ++ more → first ≡ length old → count ≡ length more → first + count ≤ length all
+pub end_there : {A : Type 0} (old more all : List A) (first count : ℕ) → all ≡ old ++ more → first ≡ length old → count ≡ length more → first + count ≤ length all
 end_there old more all first count e at size = let long : length all ≡ length old + length more = ap length e ∙ length-append old more in omega (arith, long, at, size)
 
 module _ (diagram : Diagram) (attributes : Attributes) (old : Program) (k : ℕ) (place : Place) (b : Block) (op : Op) (first first_sign signs : ℕ) (result : FxType)

@@ -2,9 +2,14 @@
 //! keep.
 //!
 //! `specs/Laws.antt` says that for a diagram that keeps the rules exactly one table solves, for
-//! every number of samples and every stimulus; `specs/State.antt` what it means that a simulator
-//! stands at a sample of a table, and `specs/Steps.antt` what a sample does to such a state. `Ring`
-//! keeps the values of a Delay.
+//! every number of samples and every stimulus; `specs/State.antt` what blocks keep from sample to
+//! sample, and `specs/Steps.antt` what a sample does to it.
+//!
+//! `Sim::new` makes a program of cells, one for each entry that a sample has, in the order of the
+//! blocks (`specs/Program.antt`), and `Sim::step` goes through it. `specs/Sim.antt` says when a
+//! program simulates a diagram and what it means that a simulator stands at a sample of a table.
+//! The steps that make the program are `reading` (where values come from), `roots`, `layout`,
+//! `rules`, `memories` and `building`; those of a sample are `giving` and `sweeping`.
 #![tactic(auto)]
 
 mod building;

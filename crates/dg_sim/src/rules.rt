@@ -1,13 +1,14 @@
 //! The rules of cells, kind by kind.
 ghost use Rattle.std.specs.Prelude.{◌≡◌, ◌<◌, ◌≤◌, ◌++◌, ◌∷◌, [], ℕ, ℤ, List, Some, length, slice_get, IfSome, IfOk, OnOk};
 ghost use Rattle.fx_type.specs.FxType.{IsType};
+ghost use Rattle.fx_type.specs.declared.kind.FxType.{FxType};
 ghost use Rattle.fx_type.specs.declared.decimal.Decimal.{Decimal};
 ghost use Rattle.dg_model.specs.Attributes.{attributes_of};
 ghost use Rattle.dg_model.specs.declared.diagram.Block.{Block};
 ghost use Rattle.dg_model.specs.Equation.{StoresEntry, IsOpOf, signs_of};
 ghost use Rattle.dg_model.specs.Wires.{type_into, types_into};
 ghost use Rattle.dg_model.specs.Checked.{IsChecked};
-ghost use Rattle.dg_sim.specs.inner.Building.{HandsOn, IsAlways, Reads, AreRead, AreEntries, IsEntry, IsMade};
+ghost use Rattle.dg_sim.specs.inner.Building.{HandsOn, IsAlways, Reads, AreRead, AreElements, AreEntries, IsEntry, IsMade};
 ghost use Rattle.dg_sim.specs.inner.Roots.{roots_of};
 ghost use Rattle.dg_model.specs.RootElements.{root_inputs};
 ghost use Rattle.dg_model.specs.declared.kind.Kind.{Kind};
@@ -15,7 +16,9 @@ ghost use Rattle.dg_model.specs.declared.kind.Kind.{Kind};
 use crate::laws::operations_prepare;
 use crate::memories::{delayed, gated, slowed};
 use crate::program::{Place, Places, Program, Rule, Work};
-use crate::reading::{Starts, input, is_slower, period_of_input, place_in, type_of_input};
+use crate::reading::{
+    Starts, input, is_slower, period_of_input, place_in, type_of_input, width_of_input,
+};
 use crate::roots::{Root, find_root};
 use dg_model::{Block, Checked, FxTypes, Kind, Op};
 use fx_io::{Flags, OutOfMemory, Sizes};
@@ -349,6 +352,93 @@ fn transition(
     }
 }
 
+/// Puts an element that input port 1 of a block offers behind the arguments.
+fn put_element(
+    checked: &Checked,
+    starts: &Starts,
+    places: &Places,
+    k: u32,
+    block: u32,
+    element: u32,
+    args: &mut Sizes,
+    types: &mut FxTypes,
+) -> Result<(), OutOfMemory>
+    ensures { OnOk result ((number : ℕ) × (args.new ≡ args.old ++ number ∷ [])
+        × (number < k) × Reads checked.now.diagram (attributes_of checked.now.diagram) places.now
+        block 1 element number
+        × (types.new ≡ types.old ++ FxType.Logical ∷ [])) }
+{
+    let found = input(checked, starts, places.as_slice(), block, 1, element);
+    let Some(number) = found else {
+        return Err(OutOfMemory);
+    };
+    if number >= k {
+        return Err(OutOfMemory);
+    }
+    args.push(number)?;
+    types.push(FxType::Logical)?;
+    Ok(())
+}
+
+/// Puts all elements that input port 1 of a block offers behind the arguments.
+fn put_elements(
+    checked: &Checked,
+    starts: &Starts,
+    places: &Places,
+    k: u32,
+    block: u32,
+    width: u32,
+    args: &mut Sizes,
+    types: &mut FxTypes,
+) -> Result<(), OutOfMemory>
+    ensures { OnOk result ((numbers : List ℕ) × (length numbers ≡ width)
+        × (args.new ≡ args.old ++ numbers)
+        × AreElements checked.now.diagram (attributes_of checked.now.diagram) places.now block k
+        numbers × (more : List FxType) × (types.new ≡ types.old ++ more)) }
+{
+    for element in 0..width {
+        put_element(checked, starts, places, k, block, element, args, types)?;
+    }
+    Ok(())
+}
+
+/// The rule of the control of an enabled subsystem.
+fn above(
+    checked: &Checked,
+    starts: &Starts,
+    program: &mut Program,
+    k: u32,
+    place: Place,
+    block: &Block,
+) -> Result<Rule, OutOfMemory>
+    requires block { slice_get checked.now.diagram.blocks place.block ≡ Some block.now }
+    requires kind { block.now.kind ≡ Kind.EnableTest }
+    ensures { IfOk result (λ rule. IsMade checked.now.diagram (attributes_of checked.now.diagram)
+        program.old program.new k place rule) }
+{
+    let _name = &block.path;
+    let Some(width) = width_of_input(checked, starts, place.block, 1) else {
+        return Err(OutOfMemory);
+    };
+    let Ok(first) = u32::try_from(program.args.as_slice().len()) else {
+        return Err(OutOfMemory);
+    };
+    put_elements(
+        checked,
+        starts,
+        &program.places,
+        k,
+        place.block,
+        width,
+        &mut program.args,
+        &mut program.types,
+    )?;
+    Ok(Rule::Above {
+        first,
+        count: width,
+    })
+}
+
 /// The rule for an entry, with what the program needs for it.
 pub fn rule_of(
     checked: &Checked,
@@ -404,6 +494,7 @@ pub fn rule_of(
                 initial.as_slice(),
             )
         }
+        Kind::EnableTest => above(checked, starts, program, k, place, block),
         Kind::EnOut { reset, initial } => {
             gated(
                 checked,

@@ -131,3 +131,8 @@ pub record AreRooms (memories : List Memory) (pasts : List PastValues) (n : ℕ)
 -- the cell stands for the control of the enabled subsystem
 abbrev pub IsControlCell : List Place → Option ℕ → ℕ → Type 0
 IsControlCell places enable cell = (control : ℕ) × (enable ≡ Some control) × (slice_get places cell ≡ Some (record { block = control; port = 1; element = 0 }))
+
+-- these entries, of which each stands before k, are the elements that input port 1 of a block offers
+abbrev pub AreElements : Diagram → Attributes → List Place → ℕ → ℕ → List ℕ → Type 0
+AreElements diagram attributes places block k numbers =
+    (i j : ℕ) → slice_get numbers i ≡ Some j → (j < k) × Reads diagram attributes places block 1 i j

@@ -1,0 +1,19 @@
+use Rattle.std.proofs.Common.{◌≡◌, ℕ, suc, ◌+◌, ◌++◌, List, [], ◌∷◌, length, ap, sym, ◌∙◌, arith, append_assoc, length-append}
+use Rattle.fx_type.specs.declared.kind.FxType.{FxType}
+use Rattle.fx_type.specs.declared.kind.FxType.TheVariants.{Logical}
+use Rattle.dg_model.specs.Attributes.{attributes_of}
+use Rattle.dg_sim.proofs.Tested.{elements_more}
+use Rattle.dg_sim.proofs.rules.put_elements.Goals as goal
+
+pub loop-element-preserved : goal.loop-element-preserved
+loop-element-preserved c =
+    let inv = c.loop-element.invariant in
+    let new = c.in_ok-put_element.ensures in
+    let diagram = c.args.checked.now.diagram in (
+      inv.0 ++ new.0 ∷ [],
+      length-append inv.0 (new.0 ∷ []) ∙ omega (arith, inv.1),
+      new.1 ∙ ap (λ (xs : List ℕ). xs ++ new.0 ∷ []) inv.2 ∙ append_assoc c.args.args.now inv.0 (new.0 ∷ []),
+      elements_more diagram (attributes_of diagram) c.args.places.now c.args.block c.args.k inv.0 new.0 c.loop-element.element inv.1 new.2 new.3 inv.3,
+      inv.4 ++ Logical ∷ [],
+      new.4 ∙ ap (λ (xs : List FxType). xs ++ Logical ∷ []) inv.5 ∙ append_assoc c.args.types.now inv.4 (Logical ∷ []),
+    )
