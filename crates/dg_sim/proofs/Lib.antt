@@ -15,6 +15,7 @@ mod Grown
 mod Kept
 mod Known
 mod Moves
+mod Listed
 mod Lists
 mod Moved
 mod Ranks

@@ -1,4 +1,5 @@
 pub mod Laws
+pub mod Listing
 pub mod Program
 pub mod Ring
 pub mod Sim

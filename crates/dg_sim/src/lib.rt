@@ -16,6 +16,7 @@ mod building;
 mod giving;
 mod laws;
 mod layout;
+mod listing;
 mod memories;
 mod past;
 mod program;
@@ -29,6 +30,7 @@ mod sweeping;
 pub use laws::{
     entries_stay, entry_is_one, kept_moves, solved_is_in_range, some_table_solves, tables_are_one,
 };
+pub use listing::{input_blocks, output_blocks};
 pub use past::Past;
 pub use program::{Cell, Cells, Memories, Memory, Place, Places, Program, Rule, Work};
 pub use ring::Ring;
