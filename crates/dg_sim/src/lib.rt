@@ -9,11 +9,14 @@
 //! blocks (`specs/Program.antt`), and `Sim::step` goes through it. `specs/Sim.antt` says when a
 //! program simulates a diagram and what it means that a simulator stands at a sample of a table.
 //! The steps that make the program are `reading` (where values come from), `roots`, `layout`,
-//! `rules`, `memories` and `building`; those of a sample are `giving` and `sweeping`.
+//! `rules` (with `handing`, `working` and `enabling`), `memories` and `building`; those of
+//! a sample are `giving` and `sweeping`.
 #![tactic(auto)]
 
 mod building;
+mod enabling;
 mod giving;
+mod handing;
 mod laws;
 mod layout;
 mod listing;
@@ -26,6 +29,7 @@ mod roots;
 mod rules;
 mod sim;
 mod sweeping;
+mod working;
 
 pub use laws::{
     entries_stay, entry_is_one, kept_moves, solved_is_in_range, some_table_solves, tables_are_one,

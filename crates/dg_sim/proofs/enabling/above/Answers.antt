@@ -1,7 +1,7 @@
 use Rattle.std.proofs.Common.{◌≡◌, ◌∙◌, length, ap, sym}
 use Rattle.dg_model.specs.Attributes.{attributes_of}
 use Rattle.dg_sim.proofs.Tested.{above_made}
-use Rattle.dg_sim.proofs.rules.above.Goals as goal
+use Rattle.dg_sim.proofs.enabling.above.Goals as goal
 
 pub returns : goal.returns
 returns c =

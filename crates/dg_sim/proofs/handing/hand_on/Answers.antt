@@ -4,7 +4,7 @@ use Rattle.dg_sim.specs.declared.program.Place.{Place}
 use Rattle.dg_sim.specs.inner.Building.{Reads}
 use Rattle.dg_sim.proofs.Serving.{same_rule}
 use Rattle.dg_sim.proofs.Grown.{grows_same}
-use Rattle.dg_sim.proofs.rules.hand_on.Goals as goal
+use Rattle.dg_sim.proofs.handing.hand_on.Goals as goal
 
 pub returns-then-from-k : goal.returns-then-from-k
 returns-then-from-k c =

@@ -4,7 +4,7 @@ use Rattle.dg_model.specs.Attributes.{attributes_of}
 use Rattle.dg_model.specs.Wires.{type_into}
 use Rattle.dg_sim.specs.inner.Building.{Reads}
 use Rattle.dg_sim.proofs.Serving.{read_more, map_last}
-use Rattle.dg_sim.proofs.rules.put_inputs.Goals as goal
+use Rattle.dg_sim.proofs.working.put_inputs.Goals as goal
 
 pub loop-i-preserved : goal.loop-i-preserved
 loop-i-preserved c =

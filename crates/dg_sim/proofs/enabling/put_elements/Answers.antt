@@ -3,7 +3,7 @@ use Rattle.fx_type.specs.declared.kind.FxType.{FxType}
 use Rattle.fx_type.specs.declared.kind.FxType.TheVariants.{Logical}
 use Rattle.dg_model.specs.Attributes.{attributes_of}
 use Rattle.dg_sim.proofs.Tested.{elements_more}
-use Rattle.dg_sim.proofs.rules.put_elements.Goals as goal
+use Rattle.dg_sim.proofs.enabling.put_elements.Goals as goal
 
 pub loop-element-preserved : goal.loop-element-preserved
 loop-element-preserved c =

@@ -3,7 +3,7 @@ use Rattle.std.proofs.lemmas.Option.{slice_get_within}
 use Rattle.dg_model.specs.Attributes.{attributes_of}
 use Rattle.dg_model.specs.Hits.{is_slow_to_fast}
 use Rattle.dg_sim.proofs.Kept.{fast_hands}
-use Rattle.dg_sim.proofs.rules.transition.Goals as goal
+use Rattle.dg_sim.proofs.handing.transition.Goals as goal
 
 pub hand_on-requires : goal.hand_on-requires
 hand_on-requires c =

@@ -1,6 +1,6 @@
 use Rattle.std.proofs.Common.{sym, subst}
 use Rattle.fx_type.specs.FxType.{IsType}
-use Rattle.dg_sim.proofs.rules.op_of.Goals as goal
+use Rattle.dg_sim.proofs.working.op_of.Goals as goal
 
 pub stored-requires : goal.stored-requires
 stored-requires c =

@@ -2,7 +2,7 @@ use Rattle.std.proofs.Common.{◌≡◌, ◌∙◌, ap, length, sym, arith}
 use Rattle.dg_model.specs.Attributes.{attributes_of}
 use Rattle.dg_sim.proofs.ByKind.{op_elementwise}
 use Rattle.dg_sim.proofs.Worked.{works_made}
-use Rattle.dg_sim.proofs.rules.works.Goals as goal
+use Rattle.dg_sim.proofs.working.works.Goals as goal
 
 pub returns : goal.returns
 returns c =

@@ -1,0 +1,208 @@
+//! The rules of blocks that work element by element.
+ghost use Rattle.std.specs.Prelude.{◌≡◌, ◌<◌, ◌++◌, ◌∷◌, [], ℕ, List, Some, length, slice_get, IfSome, IfOk, OnOk};
+ghost use Rattle.dg_model.specs.Attributes.{attributes_of};
+ghost use Rattle.dg_model.specs.declared.diagram.Block.{Block};
+ghost use Rattle.dg_model.specs.Equation.{IsOpOf, signs_of};
+ghost use Rattle.dg_model.specs.Wires.{type_into, types_into};
+ghost use Rattle.dg_sim.specs.inner.Building.{Reads, AreRead, AreEntries, IsMade};
+ghost use Rattle.dg_model.specs.declared.kind.Kind.{Kind};
+
+use crate::laws::operations_prepare;
+use crate::program::{Place, Places, Program, Rule, Work};
+use crate::reading::{Starts, input, type_of_input};
+use crate::rules::stored;
+use dg_model::{Block, Checked, FxTypes, Kind, Op};
+use fx_io::{Flags, OutOfMemory, Sizes};
+
+/// Puts what the input ports of a block offer to an element behind the arguments, with their types.
+fn put_inputs(
+    checked: &Checked,
+    starts: &Starts,
+    places: &Places,
+    k: u32,
+    place: Place,
+    inputs: u32,
+    args: &mut Sizes,
+    types: &mut FxTypes,
+) -> Result<(), OutOfMemory>
+    ensures { OnOk result ((numbers : List ℕ) × (length numbers ≡ inputs)
+        × (args.new ≡ args.old ++ numbers)
+        × AreRead checked.now.diagram (attributes_of checked.now.diagram) places.now place.block
+        place.element k numbers
+        × (types.new ≡ types.old
+        ++ types_into checked.now.diagram (attributes_of checked.now.diagram) place.block inputs)) }
+{
+    for i in 0..inputs {
+        put_input(checked, starts, places, k, place, i + 1, args, types)?;
+    }
+    Ok(())
+}
+
+/// The same of one input port.
+fn put_input(
+    checked: &Checked,
+    starts: &Starts,
+    places: &Places,
+    k: u32,
+    place: Place,
+    port: u32,
+    args: &mut Sizes,
+    types: &mut FxTypes,
+) -> Result<(), OutOfMemory>
+    ensures { OnOk result ((number : ℕ) × (args.new ≡ args.old ++ number ∷ [])
+        × (number < k) × Reads checked.now.diagram (attributes_of checked.now.diagram) places.now
+        place.block port place.element number
+        × (types.new ≡ types.old
+        ++ type_into checked.now.diagram (attributes_of checked.now.diagram) place.block port ∷ [])) }
+{
+    let Some(kind) = type_of_input(checked, starts, place.block, port) else {
+        return Err(OutOfMemory);
+    };
+    let found = input(
+        checked,
+        starts,
+        places.as_slice(),
+        place.block,
+        port,
+        place.element,
+    );
+    let Some(number) = found else {
+        return Err(OutOfMemory);
+    };
+    if number >= k {
+        return Err(OutOfMemory);
+    }
+    args.push(number)?;
+    types.push(kind)?;
+    Ok(())
+}
+
+/// Puts signs behind the others.
+fn put_signs(signs: &mut Flags, negative: &[bool]) -> Result<(), OutOfMemory>
+    ensures { OnOk result (signs.new ≡ signs.old ++ negative.now) }
+{
+    for sign in negative {
+        signs.push(*sign)?;
+    }
+    Ok(())
+}
+
+/// The operation of a block that works element by element.
+pub fn op_of(checked: &Checked, starts: &Starts, place: Place, kind: &Kind) -> Option<Op>
+    requires { (b : Block) × (slice_get checked.now.diagram.blocks place.block ≡ Some b) }
+    ensures { IfSome result (λ op. IsOpOf kind.now place.element
+        ((attributes_of checked.now.diagram).param_at place.block)
+        (type_into checked.now.diagram (attributes_of checked.now.diagram) place.block 2) op) }
+{
+    operations_prepare();
+    checked.keeps_rules();
+    match kind {
+        Kind::Sum { .. } => Some(Op::Sum),
+        Kind::Gain { value, .. } => {
+            let param = checked.param(place.block);
+            let Some(coefficient) = stored(value.as_slice(), place.element, param) else {
+                return None;
+            };
+            Some(Op::Gain { coefficient, param })
+        }
+        Kind::Product => Some(Op::Product),
+        Kind::Switch {
+            criterion,
+            threshold,
+        } => {
+            let Some(control) = type_of_input(checked, starts, place.block, 2) else {
+                return None;
+            };
+            let Some(threshold) = stored(threshold.as_slice(), place.element, control) else {
+                return None;
+            };
+            Some(Op::Switch {
+                criterion: *criterion,
+                threshold,
+            })
+        }
+        Kind::Relational { operator } => {
+            Some(Op::Relational {
+                operator: *operator,
+            })
+        }
+        Kind::Logic { operator } => {
+            Some(Op::Logic {
+                operator: *operator,
+            })
+        }
+        Kind::Convert { stored: integer } => Some(Op::Convert { stored: *integer }),
+        _ => None,
+    }
+}
+
+/// The signs of a Sum; no other kind has any.
+fn negative_of(kind: &Kind) -> &[bool]
+    ensures { result.now ≡ signs_of kind.now }
+{
+    match kind {
+        Kind::Sum { negative } => negative.as_slice(),
+        _ => &[],
+    }
+}
+
+/// The rule of a block that works element by element.
+pub fn works(
+    checked: &Checked,
+    starts: &Starts,
+    program: &mut Program,
+    k: u32,
+    place: Place,
+    block: &Block,
+    op: Op,
+) -> Result<Rule, OutOfMemory>
+    requires block { slice_get checked.now.diagram.blocks place.block ≡ Some block.now }
+    requires entries { AreEntries checked.now.diagram (attributes_of checked.now.diagram)
+        program.old.places }
+    requires op { IsOpOf block.now.kind place.element
+        ((attributes_of checked.now.diagram).param_at place.block)
+        (type_into checked.now.diagram (attributes_of checked.now.diagram) place.block 2) op }
+    ensures { IfOk result (λ rule. IsMade checked.now.diagram (attributes_of checked.now.diagram)
+        program.old program.new k place rule) }
+{
+    operations_prepare();
+    checked.keeps_rules();
+    let negative = negative_of(&block.kind);
+    let Ok(first) = u32::try_from(program.args.as_slice().len()) else {
+        return Err(OutOfMemory);
+    };
+    let Ok(first_sign) = u32::try_from(program.signs.as_slice().len()) else {
+        return Err(OutOfMemory);
+    };
+    let Ok(signs) = u32::try_from(negative.len()) else {
+        return Err(OutOfMemory);
+    };
+    if program.types.as_slice().len() != first as usize {
+        return Err(OutOfMemory);
+    }
+    if block.inputs > 32 {
+        return Err(OutOfMemory);
+    }
+    put_inputs(
+        checked,
+        starts,
+        &program.places,
+        k,
+        place,
+        block.inputs,
+        &mut program.args,
+        &mut program.types,
+    )?;
+    put_signs(&mut program.signs, negative)?;
+    let work = Work {
+        op,
+        first,
+        count: block.inputs,
+        first_sign,
+        signs,
+        result: checked.result(place.block),
+        rounding: block.rounding,
+        saturate: block.saturate,
+    };
+    Ok(Rule::Works { work })
+}
