@@ -12,6 +12,7 @@ mod Ground
 mod Grounded
 mod Growing
 mod Grown
+mod Joined
 mod Kept
 mod Known
 mod Moves

@@ -9,7 +9,7 @@
 //! blocks (`specs/Program.antt`), and `Sim::step` goes through it. `specs/Sim.antt` says when a
 //! program simulates a diagram and what it means that a simulator stands at a sample of a table.
 //! The steps that make the program are `reading` (where values come from), `roots`, `layout`,
-//! `rules` (with `handing`, `working` and `enabling`), `memories` and `building`; those of
+//! `rules` (with `handing`, `joining`, `working` and `enabling`), `memories` and `building`; those of
 //! a sample are `giving` and `sweeping`.
 #![tactic(auto)]
 
@@ -17,6 +17,7 @@ mod building;
 mod enabling;
 mod giving;
 mod handing;
+mod joining;
 mod laws;
 mod layout;
 mod listing;

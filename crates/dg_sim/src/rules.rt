@@ -13,6 +13,7 @@ ghost use Rattle.dg_model.specs.declared.kind.Kind.{Kind};
 
 use crate::enabling::above;
 use crate::handing::{hand_on, transition};
+use crate::joining::{joined, parted};
 use crate::laws::operations_prepare;
 use crate::memories::{delayed, gated};
 use crate::program::{Place, Program, Rule};
@@ -161,6 +162,8 @@ pub fn rule_of(
                 initial.as_slice(),
             )
         }
+        Kind::Mux { .. } => joined(checked, starts, program, k, place, block),
+        Kind::Demux { .. } => parted(checked, starts, program, k, place),
         Kind::EnableTest => above(checked, starts, program, k, place, block),
         Kind::EnOut { reset, initial } => {
             gated(

@@ -89,7 +89,7 @@ impl Sim {
     /// A simulator of a checked diagram before its first sample.
     ///
     /// # Errors
-    /// Want of memory. So is answered too to a diagram with a Mux or a Demux: these have no rule yet.
+    /// Want of memory.
     pub fn new(alloc: Global, checked: &Checked) -> Result<Sim, OutOfMemory>
         ensures sim { IfOk result (λ sim. IsSimOf checked.now sim) }
         ensures stands { IfOk result (λ sim. (table : Table) → Stands checked.now.diagram
