@@ -33,7 +33,8 @@ mod sweeping;
 mod working;
 
 pub use laws::{
-    entries_stay, entry_is_one, kept_moves, solved_is_in_range, some_table_solves, tables_are_one,
+    entries_stay, entry_is_one, kept_moves, operations_prepare, solved_is_in_range,
+    some_table_solves, tables_are_one,
 };
 pub use listing::{input_blocks, output_blocks};
 pub use past::Past;
