@@ -16,6 +16,7 @@ mod Joined
 mod Kept
 mod Known
 mod Moves
+mod Numbered
 mod Listed
 mod Lists
 mod Moved

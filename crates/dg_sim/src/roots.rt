@@ -1,5 +1,5 @@
 //! The elements of the root inputs and outputs, in the order in which rows have their numbers.
-ghost use Rattle.std.specs.Prelude.{◌≡◌, ◌++◌, ◌≤◌, ℕ, map, count_by, is_some, position, IfOk, IfSome, OnOk, Some, slice_get};
+ghost use Rattle.std.specs.Prelude.{◌≡◌, ◌≢◌, ◌++◌, ◌≤◌, ℕ, map, filter_map, count_by, is_some, position, AllPairs, IfOk, IfSome, OnOk, Some, slice_get};
 ghost use Rattle.dg_waves.specs.Rounds.{numbers_from};
 ghost use Rattle.dg_model.specs.Attributes.{attributes_of};
 ghost use Rattle.dg_model.specs.Library.{row_of};
@@ -83,22 +83,76 @@ fn count_outputs(blocks: &[Block]) -> usize
     count
 }
 
+/// Writes down the block of a port's number, from 1.
+fn put_place(places: &mut [u32], number: u32, block: usize) {
+    let at = number.saturating_sub(1) as usize;
+    if let Ok(block) = u32::try_from(block) {
+        if at < places.len() {
+            places[at] = block;
+        }
+    }
+}
+
+/// The blocks of the root input ports by number, as many as there are. One that is not right finds
+/// nothing.
+fn input_places(alloc: Global, blocks: &[Block], count: u32) -> Result<Vec<u32>, OutOfMemory> {
+    let mut places: Vec<u32> = vec![in alloc; 0; count as usize]?;
+    for (i, block) in blocks.iter().enumerate() {
+        if let Some(number) = input_number(&block.kind) {
+            put_place(places.as_mut_slice(), number, i);
+        }
+    }
+    Ok(places)
+}
+
+/// The blocks of the root output ports by number, as many as there are. One that is not right finds
+/// nothing.
+fn output_places(alloc: Global, blocks: &[Block], count: u32) -> Result<Vec<u32>, OutOfMemory> {
+    let mut places: Vec<u32> = vec![in alloc; 0; count as usize]?;
+    for (i, block) in blocks.iter().enumerate() {
+        if let Some(number) = output_number(&block.kind) {
+            put_place(places.as_mut_slice(), number, i);
+        }
+    }
+    Ok(places)
+}
+
 /// The block that is the root input port of a number.
-fn input_of(blocks: &[Block], number: u32) -> Option<usize>
-    ensures { result ≡ position (has_number root_input number) blocks.now }
+fn input_of(blocks: &[Block], places: &[u32], number: u32) -> Option<u32>
+    requires { AllPairs (λ number other. number ≢ other) (filter_map (number_in root_input)
+        blocks.now) }
+    ensures { IfSome result (λ block.
+        position (has_number root_input number) blocks.now ≡ Some block) }
 {
-    blocks
-        .iter()
-        .position(|block| input_number(&block.kind) == Some(number))
+    let Some(place) = places.get(number.saturating_sub(1) as usize) else {
+        return None;
+    };
+    let Some(block) = blocks.get(*place as usize) else {
+        return None;
+    };
+    let Some(own) = input_number(&block.kind) else {
+        return None;
+    };
+    if own == number { Some(*place) } else { None }
 }
 
 /// The block that is the root output port of a number.
-fn output_of(blocks: &[Block], number: u32) -> Option<usize>
-    ensures { result ≡ position (has_number root_output number) blocks.now }
+fn output_of(blocks: &[Block], places: &[u32], number: u32) -> Option<u32>
+    requires { AllPairs (λ number other. number ≢ other) (filter_map (number_in root_output)
+        blocks.now) }
+    ensures { IfSome result (λ block.
+        position (has_number root_output number) blocks.now ≡ Some block) }
 {
-    blocks
-        .iter()
-        .position(|block| output_number(&block.kind) == Some(number))
+    let Some(place) = places.get(number.saturating_sub(1) as usize) else {
+        return None;
+    };
+    let Some(block) = blocks.get(*place as usize) else {
+        return None;
+    };
+    let Some(own) = output_number(&block.kind) else {
+        return None;
+    };
+    if own == number { Some(*place) } else { None }
 }
 
 /// Puts the elements of a port behind the others.
@@ -117,24 +171,25 @@ fn put_port(roots: &mut Roots, number: u32, block: u32, width: u32) -> Result<()
 }
 
 /// Puts the elements of the root input port of a number behind the others.
-fn put_input_port(roots: &mut Roots, checked: &Checked, number: u32) -> Result<(), OutOfMemory>
+fn put_input_port(
+    roots: &mut Roots,
+    checked: &Checked,
+    places: &[u32],
+    number: u32,
+) -> Result<(), OutOfMemory>
     ensures { OnOk result (roots.new ≡ roots.old ++ roots_of (elements_of_port
         (attributes_of checked.now.diagram) (λ block. (attributes_of checked.now.diagram).width_at block 1)
         number (position (has_number root_input number) checked.now.diagram.blocks))) }
 {
-    match input_of(checked.diagram().blocks.as_slice(), number) {
-        Some(place) => {
-            let Ok(block) = u32::try_from(place) else {
-                return Err(OutOfMemory);
-            };
-            let Some(width) = width_of_output(checked, block, 1) else {
-                return Err(OutOfMemory);
-            };
-            put_port(roots, number, block, width)?;
-            Ok(())
-        }
-        None => Ok(()),
-    }
+    checked.keeps_rules();
+    let Some(block) = input_of(checked.diagram().blocks.as_slice(), places, number) else {
+        return Err(OutOfMemory);
+    };
+    let Some(width) = width_of_output(checked, block, 1) else {
+        return Err(OutOfMemory);
+    };
+    put_port(roots, number, block, width)?;
+    Ok(())
 }
 
 /// Puts the elements of the root output port of a number behind the others.
@@ -142,6 +197,7 @@ fn put_output_port(
     roots: &mut Roots,
     checked: &Checked,
     starts: &Starts,
+    places: &[u32],
     number: u32,
 ) -> Result<(), OutOfMemory>
     ensures { OnOk result (roots.new ≡ roots.old ++ roots_of (elements_of_port
@@ -149,19 +205,15 @@ fn put_output_port(
         (λ block. width_into checked.now.diagram (attributes_of checked.now.diagram) block 1)
         number (position (has_number root_output number) checked.now.diagram.blocks))) }
 {
-    match output_of(checked.diagram().blocks.as_slice(), number) {
-        Some(place) => {
-            let Ok(block) = u32::try_from(place) else {
-                return Err(OutOfMemory);
-            };
-            let Some(width) = width_of_input(checked, starts, block, 1) else {
-                return Err(OutOfMemory);
-            };
-            put_port(roots, number, block, width)?;
-            Ok(())
-        }
-        None => Ok(()),
-    }
+    checked.keeps_rules();
+    let Some(block) = output_of(checked.diagram().blocks.as_slice(), places, number) else {
+        return Err(OutOfMemory);
+    };
+    let Some(width) = width_of_input(checked, starts, block, 1) else {
+        return Err(OutOfMemory);
+    };
+    put_port(roots, number, block, width)?;
+    Ok(())
 }
 
 /// The elements of the root inputs.
@@ -174,8 +226,9 @@ pub fn input_roots(alloc: Global, checked: &Checked) -> Result<Roots, OutOfMemor
     let Ok(count) = u32::try_from(count) else {
         return Err(OutOfMemory);
     };
+    let places = input_places(alloc, checked.diagram().blocks.as_slice(), count)?;
     for i in 0..count {
-        put_input_port(&mut roots, checked, i + 1)?;
+        put_input_port(&mut roots, checked, places.as_slice(), i + 1)?;
     }
     Ok(roots)
 }
@@ -190,8 +243,9 @@ pub fn output_roots(alloc: Global, checked: &Checked, starts: &Starts) -> Result
     let Ok(count) = u32::try_from(count) else {
         return Err(OutOfMemory);
     };
+    let places = output_places(alloc, checked.diagram().blocks.as_slice(), count)?;
     for i in 0..count {
-        put_output_port(&mut roots, checked, starts, i + 1)?;
+        put_output_port(&mut roots, checked, starts, places.as_slice(), i + 1)?;
     }
     Ok(roots)
 }

@@ -1,4 +1,4 @@
-use Rattle.std.proofs.Common.{◌≡◌, ◌++◌, ◌+◌, ℕ, List, Some, Option, filter_map, count_by, is_some, length, ap, sym, ◌∙◌, arith, subst}
+use Rattle.std.proofs.Common.{◌≡◌, ◌++◌, ◌+◌, ℕ, List, filter_map, length, ap, ◌∙◌, arith}
 use Rattle.std.specs.List.{position, flat_map}
 use Rattle.dg_waves.specs.Rounds.{numbers_from}
 use Rattle.dg_model.specs.declared.diagram.Block.{Block}
@@ -6,7 +6,6 @@ use Rattle.dg_model.specs.declared.diagram.Diagram.{Diagram}
 use Rattle.dg_model.specs.Attributes.{attributes_of}
 use Rattle.dg_model.specs.RootElements.{RootElement, has_number, number_in, elements_of_port}
 use Rattle.dg_model.specs.Wired.{root_input}
-use Rattle.dg_model.specs.Wires.{width_into}
 use Rattle.dg_sim.specs.declared.roots.Root.{Root}
 use Rattle.dg_sim.specs.inner.Roots.{roots_of}
 use Rattle.dg_sim.proofs.Rooted.{roots_more, counted_map}

@@ -1,4 +1,4 @@
-use Rattle.std.proofs.Common.{◌≡◌, ◌++◌, ◌+◌, ℕ, List, Some, Option, filter_map, count_by, is_some, length, ap, sym, ◌∙◌, arith, subst}
+use Rattle.std.proofs.Common.{◌≡◌, ◌++◌, ◌+◌, ℕ, List, filter_map, length, ap, ◌∙◌, arith}
 use Rattle.std.specs.List.{position, flat_map}
 use Rattle.dg_waves.specs.Rounds.{numbers_from}
 use Rattle.dg_model.specs.declared.diagram.Block.{Block}

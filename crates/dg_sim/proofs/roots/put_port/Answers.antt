@@ -1,4 +1,4 @@
-use Rattle.std.proofs.Common.{◌≡◌, ◌++◌, ◌+◌, [], ◌∷◌, List, map, ap, sym, ◌∙◌, append_assoc, add-one}
+use Rattle.std.proofs.Common.{◌++◌, [], ◌∷◌, List, map, ap, sym, ◌∙◌, append_assoc, add-one}
 use Rattle.dg_waves.specs.Rounds.{numbers_from}
 use Rattle.dg_sim.specs.declared.roots.Root.{Root}
 use Rattle.dg_sim.specs.inner.Roots.{root_at}
