@@ -1,5 +1,5 @@
 -- Signals end to end: which element of an input a Mux and a Demux hand on.
-use Rattle.std.proofs.Common.{◌≡◌, ℕ, zero, suc, ◌<◌, ◌≤◌, ◌+◌, ◌-◌, ◌++◌, ℤ, List, [], ◌∷◌, length, map, take, sum, Some, slice_get, slice_index, sym, ◌∙◌, subst, ap, refl, arith}
+use Rattle.std.proofs.Common.{◌≡◌, ℕ, zero, suc, ◌<◌, ◌≤◌, ◌+◌, ◌-◌, List, [], ◌∷◌, map, take, sum, Some, slice_get, slice_index, sym, ◌∙◌, subst, ap, refl, arith}
 use Rattle.std.proofs.lemmas.List.Sums.{sum_by-append, sum_by-cons}
 use Rattle.dg_waves.specs.Rounds.{numbers_from}
 use Rattle.dg_model.specs.declared.diagram.Diagram.{Diagram}

@@ -4,8 +4,10 @@ ghost use Rattle.dg_model.specs.Attributes.{attributes_of};
 ghost use Rattle.dg_model.specs.RootElements.{root_inputs, root_outputs};
 ghost use Rattle.dg_sim.specs.Sim.{IsProgram};
 ghost use Rattle.dg_sim.specs.inner.Building.{AreShown, IsFilled};
+ghost use Rattle.dg_sim.specs.inner.Cursors.{AreCursors};
 ghost use Rattle.dg_sim.specs.inner.Roots.{roots_of};
 
+use crate::joining::Cursors;
 use crate::layout::lay_out;
 use crate::program::{Cell, Cells, Memories, Place, Program};
 use crate::reading::{Starts, look_up};
@@ -20,6 +22,7 @@ fn put_cell(
     checked: &Checked,
     starts: &Starts,
     roots: &[Root],
+    cursors: &mut Cursors,
     program: &mut Program,
     k: u32,
 ) -> Result<(), OutOfMemory>
@@ -28,13 +31,15 @@ fn put_cell(
     requires filled { IsFilled checked.now.diagram (attributes_of checked.now.diagram)
         program.old k }
     requires there { k < length program.old.places }
+    requires cursors { AreCursors checked.now.diagram (attributes_of checked.now.diagram) cursors.old }
     ensures filled { OnOk result (IsFilled checked.now.diagram
         (attributes_of checked.now.diagram) program.new (k + 1)) }
     ensures places { OnOk result (program.new.places ≡ program.old.places) }
+    ensures cursors { AreCursors checked.now.diagram (attributes_of checked.now.diagram) cursors.new }
 {
     checked.keeps_rules();
     let place = program.places.as_slice()[k as usize];
-    let rule = rule_of(checked, starts, roots, program, k, place)?;
+    let rule = rule_of(checked, starts, roots, cursors, program, k, place)?;
     let period = checked.period(place.block);
     program.cells.push(Cell { period, rule })?;
     Ok(())
@@ -57,8 +62,9 @@ fn fill(
     let Ok(count) = u32::try_from(program.places.as_slice().len()) else {
         return Err(OutOfMemory);
     };
+    let mut cursors = Cursors::new();
     for k in 0..count {
-        put_cell(checked, starts, roots, program, k)?;
+        put_cell(checked, starts, roots, &mut cursors, program, k)?;
     }
     Ok(())
 }

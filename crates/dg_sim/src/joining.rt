@@ -1,12 +1,15 @@
 //! The rules of a Mux and of a Demux: which element of an input they hand on.
-ghost use Rattle.std.specs.Prelude.{◌≡◌, ◌-◌, ℕ, suc, map, sum, List, Some, slice_get, IfOk, IfSome};
+ghost use Rattle.std.specs.Prelude.{◌≡◌, ◌≤◌, ◌-◌, ℕ, suc, map, sum, List, Some, slice_get, IfOk, IfSome};
 ghost use Rattle.dg_waves.specs.Rounds.{numbers_from};
 ghost use Rattle.dg_model.specs.Attributes.{attributes_of};
+ghost use Rattle.dg_model.specs.Signals.{Attributes};
+ghost use Rattle.dg_model.specs.declared.diagram.Diagram.{Diagram};
 ghost use Rattle.dg_model.specs.declared.diagram.Block.{Block};
 ghost use Rattle.dg_model.specs.declared.kind.Kind.{Kind};
 ghost use Rattle.dg_model.specs.Equation.{IsPart};
-ghost use Rattle.dg_model.specs.Wires.{widths_into};
+ghost use Rattle.dg_model.specs.Wires.{width_into, widths_into};
 ghost use Rattle.dg_sim.specs.inner.Building.{IsMade};
+ghost use Rattle.dg_sim.specs.inner.Cursors.{AreCursors, IsInto, IsOut};
 
 use crate::handing::hand_on;
 use crate::program::{Place, Program, Rule};
@@ -14,50 +17,113 @@ use crate::reading::{Starts, width_of_input, width_of_output};
 use dg_model::{Block, Checked};
 use fx_io::OutOfMemory;
 
-/// An element of what an input port offers.
+/// How many elements the first ports of a block have together.
+#[derive(Clone, Copy, Debug)]
+pub struct Cursor {
+    pub block: u32,
+    pub ports: u32,
+    pub before: u32,
+}
+
+/// Where the walks along the input ports of a Mux and along the output ports of a Demux stand.
+#[derive(Clone, Copy, Debug)]
+pub struct Cursors {
+    pub into: Cursor,
+    pub out: Cursor,
+}
+
+impl Cursors {
+    /// Before the first ports of the first block.
+    pub fn new() -> Cursors
+        ensures { (diagram : Diagram) (attributes : Attributes)
+            → AreCursors diagram attributes result }
+    {
+        let first = Cursor {
+            block: 0,
+            ports: 0,
+            before: 0,
+        };
+        Cursors {
+            into: first,
+            out: first,
+        }
+    }
+}
+
+/// An element of what an input port offers, and how many elements the ports before it have.
 #[derive(Clone, Copy, Debug)]
 struct Part {
     port: u32,
     element: u32,
+    before: u32,
+}
+
+/// The cursor itself where it stands in the block and not behind a port and an element, or else before
+/// the first port.
+fn begun(cursor: Cursor, block: u32, ports: u32, element: u32) -> Cursor
+    ensures block { result.block ≡ block }
+    ensures ports { result.ports ≤ ports }
+    ensures before { result.before ≤ element }
+    ensures sums { (widths : ℕ → ℕ → ℕ)
+        → cursor.before ≡ sum (map (widths cursor.block) (numbers_from 1 cursor.ports))
+        → result.before ≡ sum (map (widths block) (numbers_from 1 result.ports)) }
+{
+    if cursor.block == block && cursor.ports <= ports && cursor.before <= element {
+        cursor
+    } else {
+        Cursor {
+            block,
+            ports: 0,
+            before: 0,
+        }
+    }
 }
 
 /// The input port of a Mux from which an element of its output comes, and the element's place there.
 fn part_into(
     checked: &Checked,
     starts: &Starts,
+    from: Cursor,
     block: u32,
     inputs: u32,
     element: u32,
 ) -> Option<Part>
+    requires { IsInto checked.now.diagram (attributes_of checked.now.diagram) from }
     ensures { IfSome result (λ part. (signal : ℕ) × (part.port ≡ suc signal) × IsPart (widths_into
         checked.now.diagram (attributes_of checked.now.diagram) block inputs) element signal
-        part.element) }
+        part.element × (part.before ≡ sum (map (width_into checked.now.diagram
+        (attributes_of checked.now.diagram) block) (numbers_from 1 signal)))) }
 {
-    let mut left = element;
-    for signal in 0..inputs {
+    let start = begun(from, block, inputs, element);
+    let mut before = start.before;
+    for signal in start.ports..inputs {
         let port = signal + 1;
         let Some(width) = width_of_input(checked, starts, block, port) else {
             return None;
         };
+        let left = element - before;
         if left < width {
             return Some(Part {
                 port,
                 element: left,
+                before,
             });
         }
-        left -= width;
+        before += width;
     }
     None
 }
 
 /// How many elements the output ports of a block before one of them have.
-fn width_before(checked: &Checked, block: u32, port: u32) -> Option<u32>
+fn width_before(checked: &Checked, from: Cursor, block: u32, port: u32) -> Option<u32>
+    requires { IsOut (attributes_of checked.now.diagram) from }
     ensures { IfSome result (λ width. width ≡ sum (map
         ((attributes_of checked.now.diagram).width_at block) (numbers_from 1 (port - 1)))) }
 {
     let count = port.saturating_sub(1);
-    let mut total: u32 = 0;
-    for i in 0..count {
+    let start = begun(from, block, count, u32::MAX);
+    let mut total = start.before;
+    for i in start.ports..count {
         let Some(width) = width_of_output(checked, block, i + 1) else {
             return None;
         };
@@ -73,6 +139,7 @@ fn width_before(checked: &Checked, block: u32, port: u32) -> Option<u32>
 pub fn joined(
     checked: &Checked,
     starts: &Starts,
+    cursors: &mut Cursors,
     program: &Program,
     k: u32,
     place: Place,
@@ -80,12 +147,27 @@ pub fn joined(
 ) -> Result<Rule, OutOfMemory>
     requires block { slice_get checked.now.diagram.blocks place.block ≡ Some block.now }
     requires kind { (sizes : List ℕ) × (block.now.kind ≡ Kind.Mux sizes) }
-    ensures { IfOk result (λ rule. IsMade checked.now.diagram (attributes_of checked.now.diagram)
+    requires cursors { AreCursors checked.now.diagram (attributes_of checked.now.diagram) cursors.old }
+    ensures made { IfOk result (λ rule. IsMade checked.now.diagram (attributes_of checked.now.diagram)
         program.now program.now k place rule) }
+    ensures cursors { AreCursors checked.now.diagram (attributes_of checked.now.diagram) cursors.new }
 {
-    let _name = &block.path;
-    let Some(part) = part_into(checked, starts, place.block, block.inputs, place.element) else {
+    let from = cursors.into;
+    let found = part_into(
+        checked,
+        starts,
+        from,
+        place.block,
+        block.inputs,
+        place.element,
+    );
+    let Some(part) = found else {
         return Err(OutOfMemory);
+    };
+    cursors.into = Cursor {
+        block: place.block,
+        ports: part.port - 1,
+        before: part.before,
     };
     hand_on(checked, starts, program, k, place, part.port, part.element)
 }
@@ -94,17 +176,26 @@ pub fn joined(
 pub fn parted(
     checked: &Checked,
     starts: &Starts,
+    cursors: &mut Cursors,
     program: &Program,
     k: u32,
     place: Place,
 ) -> Result<Rule, OutOfMemory>
-    requires { (b : Block) × (slice_get checked.now.diagram.blocks place.block ≡ Some b)
+    requires block { (b : Block) × (slice_get checked.now.diagram.blocks place.block ≡ Some b)
         × (sizes : List ℕ) × (b.kind ≡ Kind.Demux sizes) }
-    ensures { IfOk result (λ rule. IsMade checked.now.diagram (attributes_of checked.now.diagram)
+    requires cursors { AreCursors checked.now.diagram (attributes_of checked.now.diagram) cursors.old }
+    ensures made { IfOk result (λ rule. IsMade checked.now.diagram (attributes_of checked.now.diagram)
         program.now program.now k place rule) }
+    ensures cursors { AreCursors checked.now.diagram (attributes_of checked.now.diagram) cursors.new }
 {
-    let Some(before) = width_before(checked, place.block, place.port) else {
+    let from = cursors.out;
+    let Some(before) = width_before(checked, from, place.block, place.port) else {
         return Err(OutOfMemory);
+    };
+    cursors.out = Cursor {
+        block: place.block,
+        ports: place.port.saturating_sub(1),
+        before,
     };
     let Some(element) = before.checked_add(place.element) else {
         return Err(OutOfMemory);

@@ -7,13 +7,14 @@ ghost use Rattle.dg_model.specs.Attributes.{attributes_of};
 ghost use Rattle.dg_model.specs.declared.diagram.Block.{Block};
 ghost use Rattle.dg_model.specs.Equation.{StoresEntry};
 ghost use Rattle.dg_sim.specs.inner.Building.{IsAlways, AreEntries, IsEntry, IsMade};
+ghost use Rattle.dg_sim.specs.inner.Cursors.{AreCursors};
 ghost use Rattle.dg_sim.specs.inner.Roots.{roots_of};
 ghost use Rattle.dg_model.specs.RootElements.{root_inputs};
 ghost use Rattle.dg_model.specs.declared.kind.Kind.{Kind};
 
 use crate::enabling::above;
 use crate::handing::{hand_on, transition};
-use crate::joining::{joined, parted};
+use crate::joining::{Cursors, joined, parted};
 use crate::laws::operations_prepare;
 use crate::memories::{delayed, gated};
 use crate::program::{Place, Program, Rule};
@@ -112,6 +113,7 @@ pub fn rule_of(
     checked: &Checked,
     starts: &Starts,
     roots: &[Root],
+    cursors: &mut Cursors,
     program: &mut Program,
     k: u32,
     place: Place,
@@ -121,8 +123,10 @@ pub fn rule_of(
     requires entries { AreEntries checked.now.diagram (attributes_of checked.now.diagram)
         program.old.places }
     requires entry { IsEntry checked.now.diagram (attributes_of checked.now.diagram) place }
-    ensures { IfOk result (λ rule. IsMade checked.now.diagram (attributes_of checked.now.diagram)
+    requires cursors { AreCursors checked.now.diagram (attributes_of checked.now.diagram) cursors.old }
+    ensures made { IfOk result (λ rule. IsMade checked.now.diagram (attributes_of checked.now.diagram)
         program.old program.new k place rule) }
+    ensures cursors { AreCursors checked.now.diagram (attributes_of checked.now.diagram) cursors.new }
 {
     checked.keeps_rules();
     let block = &checked.diagram().blocks.as_slice()[place.block as usize];
@@ -162,8 +166,8 @@ pub fn rule_of(
                 initial.as_slice(),
             )
         }
-        Kind::Mux { .. } => joined(checked, starts, program, k, place, block),
-        Kind::Demux { .. } => parted(checked, starts, program, k, place),
+        Kind::Mux { .. } => joined(checked, starts, cursors, program, k, place, block),
+        Kind::Demux { .. } => parted(checked, starts, cursors, program, k, place),
         Kind::EnableTest => above(checked, starts, program, k, place, block),
         Kind::EnOut { reset, initial } => {
             gated(

@@ -1,4 +1,4 @@
-use Rattle.std.proofs.Common.{◌≡◌, ◌∙◌, ℕ, List, length, ap, sym, subst, subst₂}
+use Rattle.std.proofs.Common.{◌≡◌, List, length, subst₂}
 use Rattle.dg_model.specs.Attributes.{attributes_of}
 use Rattle.dg_sim.specs.declared.program.Place.{Place}
 use Rattle.dg_sim.specs.declared.roots.Root.{Root}

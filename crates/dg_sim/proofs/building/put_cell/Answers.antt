@@ -1,4 +1,4 @@
-use Rattle.std.proofs.Common.{◌≡◌, ◌<◌, ◌∙◌, ℕ, List, Some, length, slice_get, ap, sym, subst}
+use Rattle.std.proofs.Common.{◌<◌, ◌∙◌, List, length, slice_get, ap, sym, subst}
 use Rattle.std.proofs.lemmas.Option.{slice_get-get_or, slice_get_within}
 use Rattle.dg_model.specs.Attributes.{attributes_of}
 use Rattle.dg_sim.specs.declared.program.Place.{Place}
@@ -21,4 +21,4 @@ returns-clause-filled c =
     let diagram = c.args.checked.now.diagram in
     let within : c.args.k < length c.as_slice.result.now = subst (λ (xs : List Place). c.args.k < length xs) (sym c.as_slice.ensures) c.requires.there in
     let here = ap (λ (xs : List Place). slice_get xs c.args.k) (sym c.as_slice.ensures) ∙ slice_get-get_or c.as_slice.result.now c.args.k _ within in
-    filled_more diagram (attributes_of diagram) c.args.program.now c.rule_of.new.program c.args.k _ c.in_ok-rule.rule c.period-period.result c.push.new.self c.requires.filled here c.in_ok-rule.ensures c.period-period.ensures c.in_ok-push.ensures.appended
+    filled_more diagram (attributes_of diagram) c.args.program.now c.rule_of.new.program c.args.k _ c.in_ok-rule.rule c.period-period.result c.push.new.self c.requires.filled here c.in_ok-rule.ensures.made c.period-period.ensures c.in_ok-push.ensures.appended

@@ -107,7 +107,7 @@ joined-requires c =
     let one : Block = c.index-as_slice-place.result in
     let list = c.as_slice.ensures ∙ ap (λ (d : Diagram). d.blocks) c.diagram.ensures in
     let here : slice_get diagram.blocks place.block ≡ Some one = block_there diagram attributes place c.as_slice.result.now one list c.requires.entry c.index-as_slice-place.is in
-    record { block = here; kind = (c.in-Mux.sizes, c.in-Mux.is) }
+    record { block = here; kind = (c.in-Mux.sizes, c.in-Mux.is); cursors = c.requires.cursors }
 
 pub parted-requires : goal.parted-requires
 parted-requires c =
@@ -117,4 +117,4 @@ parted-requires c =
     let one : Block = c.index-as_slice-place.result in
     let list = c.as_slice.ensures ∙ ap (λ (d : Diagram). d.blocks) c.diagram.ensures in
     let here : slice_get diagram.blocks place.block ≡ Some one = block_there diagram attributes place c.as_slice.result.now one list c.requires.entry c.index-as_slice-place.is in
-    (one, here, c.in-Demux.sizes, c.in-Demux.is)
+    record { block = (one, here, c.in-Demux.sizes, c.in-Demux.is); cursors = c.requires.cursors }
