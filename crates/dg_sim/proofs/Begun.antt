@@ -13,7 +13,7 @@ use Rattle.dg_model.specs.Wires.{value_into}
 use Rattle.dg_sim.specs.declared.program.Memory.{Memory}
 use Rattle.dg_sim.specs.declared.program.Program.{Program}
 use Rattle.dg_sim.specs.Ring.{PastValues}
-use Rattle.dg_sim.specs.State.{kept_count, kept_values, kept_hits}
+use Rattle.dg_sim.specs.State.{kept_count, kept_hits}
 use Rattle.dg_sim.specs.Sim.{values_of, IsProgram, IsSimOf, Stands}
 use Rattle.dg_sim.specs.inner.Building.{AreRooms}
 use Rattle.dg_sim.proofs.Lists.{get_some}

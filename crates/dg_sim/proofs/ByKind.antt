@@ -1,15 +1,13 @@
 -- The equation of each kind from what its rule gives.
-use Rattle.std.proofs.Common.{◌≡◌, ℕ, suc, ◌<◌, ◌≤◌, ◌+◌, ℤ, pos, List, Option, Some, slice_get, MatchOption, sym, ◌∙◌, subst, ap, refl, arith}
-use Rattle.fx_type.specs.declared.kind.FxType.{FxType}
+use Rattle.std.proofs.Common.{◌≡◌, ℕ, ◌<◌, ℤ, pos, List, Option, Some, slice_get, MatchOption, sym, subst, refl, arith}
 use Rattle.fx_type.specs.declared.decimal.Decimal.{Decimal}
 use Rattle.dg_model.specs.declared.diagram.Diagram.{Diagram}
 use Rattle.dg_model.specs.declared.diagram.Block.{Block}
 use Rattle.dg_model.specs.declared.kind.Kind.{Kind}
-use Rattle.dg_model.specs.declared.kind.Kind.TheVariants.{Inport, Outport, Constant, Ground, Sum, Gain, Product, Switch, Relational, Logic, Convert, Delay, Mux, Demux, RateTransition, Pass, EnableTest, EnOut, Terminator}
+use Rattle.dg_model.specs.declared.kind.Kind.TheVariants.{Outport, Constant, Ground, Sum, Gain, Product, Switch, Relational, Logic, Convert, Pass}
 use Rattle.dg_model.specs.declared.op.Op.{Op}
 use Rattle.dg_model.specs.declared.op.Op.TheVariants.{Pass as OpPass}
 use Rattle.dg_model.specs.Signals.{Attributes, Stimulus, Table}
-use Rattle.dg_model.specs.Library.{row_of}
 use Rattle.dg_model.specs.Equation.{Equation, KindEquation, ElementEquation, StoresEntry, IsOpOf}
 use Rattle.dg_model.specs.Wires.{type_into, value_into}
 use Rattle.dg_sim.specs.declared.program.Place.{Place}

@@ -1,5 +1,5 @@
 -- The line that stands in the list is the one into its port.
-use Rattle.std.proofs.Common.{◌≡◌, ℕ, zero, suc, ◌<◌, ◌≤◌, ◌+◌, ◌-◌, ◌&&◌, Bool, true, false, true≢false, List, [], ◌∷◌, length, count_by, find, Option, Some, None, slice_get, slice_index_or, MatchOption, cond, ap, sym, ◌∙◌, subst, refl, arith, eqb-true, eq-eqb, ◌==◌}
+use Rattle.std.proofs.Common.{◌≡◌, ℕ, zero, suc, ◌<◌, ◌≤◌, ◌+◌, ◌-◌, ◌&&◌, Bool, true, false, List, [], ◌∷◌, length, count_by, find, Option, Some, None, slice_get, slice_index_or, MatchOption, cond, ap, sym, ◌∙◌, refl, arith, eq-eqb, ◌==◌}
 use Rattle.std.proofs.lemmas.Option.{none-some, same_Some, slice_get_within}
 use Rattle.std.proofs.lemmas.List.Sums.{sum_by-cons}
 use Rattle.dg_model.specs.declared.diagram.Diagram.{Diagram}

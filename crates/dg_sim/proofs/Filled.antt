@@ -1,8 +1,7 @@
 -- One more cell.
-use Rattle.std.proofs.Common.{◌≡◌, ℕ, suc, ◌<◌, ◌+◌, ◌++◌, [], ◌∷◌, ◌⊎◌, inl, inr, Option, List, length, Some, slice_get, ap, sym, ◌∙◌, subst, subst₂, refl, arith, length-append}
+use Rattle.std.proofs.Common.{◌≡◌, ℕ, ◌<◌, ◌+◌, ◌++◌, [], ◌∷◌, ◌⊎◌, inl, inr, Option, List, length, Some, slice_get, ap, sym, ◌∙◌, subst, subst₂, length-append}
 use Rattle.std.proofs.lemmas.Option.{same_Some, slice_get_within}
 use Rattle.dg_model.specs.declared.diagram.Diagram.{Diagram}
-use Rattle.dg_model.specs.declared.diagram.Block.{Block}
 use Rattle.dg_model.specs.Signals.{Attributes}
 use Rattle.dg_model.specs.Hits.{Hits}
 use Rattle.dg_sim.specs.declared.program.Place.{Place}
@@ -12,12 +11,12 @@ use Rattle.dg_sim.specs.declared.program.Rule.{Rule}
 use Rattle.dg_sim.specs.declared.program.Rule.TheVariants.{Input}
 use Rattle.dg_sim.specs.declared.roots.Root.{Root}
 use Rattle.dg_model.specs.RootElements.{RootElement, root_outputs}
-use Rattle.dg_sim.specs.Sim.{IsCell, IsMemory, IsProgram}
+use Rattle.dg_sim.specs.Sim.{IsCell, IsProgram}
 use Rattle.dg_sim.specs.inner.Roots.{root_at, roots_of}
 use Rattle.dg_sim.proofs.Lists.{get_some}
 use Rattle.dg_sim.proofs.Edges.{length_map}
 use Rattle.dg_sim.proofs.Ranks.{there_map}
-use Rattle.dg_sim.specs.inner.Building.{Grows, IsMade, IsRule, IsEntry, IsFilled, AreShown}
+use Rattle.dg_sim.specs.inner.Building.{IsMade, IsRule, IsEntry, IsFilled, AreShown}
 use Rattle.dg_sim.proofs.Grown.{rule_grows}
 use Rattle.dg_sim.proofs.Serving.{get_last}
 

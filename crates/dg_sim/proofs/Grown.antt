@@ -1,5 +1,5 @@
 -- A program that grows keeps its rules.
-use Rattle.std.proofs.Common.{◌≡◌, ℕ, suc, ◌<◌, ◌≤◌, ◌+◌, ◌++◌, List, [], ◌∷◌, length, map, Some, slice_get, sym, ◌∙◌, subst, subst₂, ap, refl, arith, append_assoc, append-nil, length-append, ℤ, pos, int_lt, Bool, ap₂}
+use Rattle.std.proofs.Common.{◌≡◌, ℕ, ◌<◌, ◌≤◌, ◌+◌, ◌++◌, List, [], length, map, slice_get, sym, ◌∙◌, subst, subst₂, ap, refl, arith, append-nil, length-append, ℤ, pos, int_lt, Bool, ap₂}
 use Rattle.std.specs.List.{list_any}
 use Rattle.fx_type.specs.declared.kind.FxType.{FxType}
 use Rattle.dg_model.specs.declared.diagram.Diagram.{Diagram}

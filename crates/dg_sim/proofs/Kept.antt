@@ -1,6 +1,6 @@
 -- Rules that look back serve the equations of their blocks.
-use Rattle.std.proofs.Common.{◌≡◌, ℕ, zero, suc, ◌<◌, ◌≤◌, ◌+◌, ◌-◌, ◌++◌, ◌&&◌, Bool, true, false, ℤ, pos, List, [], ◌∷◌, length, map, Option, Some, None, slice_get, MatchOption, MatchBool, if◌then◌else◌, cond, filter, unwrap_or, sym, ◌∙◌, subst, subst₂, ap, refl, arith, append-nil, length-append, ◌⊎◌, inl, inr}
-use Rattle.std.proofs.lemmas.Option.{none-some, same_Some, slice_get_within}
+use Rattle.std.proofs.Common.{◌≡◌, ℕ, suc, ◌<◌, ◌≤◌, ◌-◌, ◌++◌, ◌&&◌, Bool, true, false, ℤ, pos, List, [], ◌∷◌, length, Option, Some, None, slice_get, MatchOption, MatchBool, if◌then◌else◌, cond, filter, unwrap_or, sym, ◌∙◌, subst, ap, refl, arith, append-nil, ◌⊎◌, inl, inr}
+use Rattle.std.proofs.lemmas.Option.{slice_get_within}
 use Rattle.fx_type.specs.declared.decimal.Decimal.{Decimal}
 use Rattle.dg_model.specs.declared.diagram.Diagram.{Diagram}
 use Rattle.dg_model.specs.declared.diagram.Block.{Block}
@@ -9,16 +9,16 @@ use Rattle.dg_model.specs.declared.kind.Kind.TheVariants.{Delay, RateTransition,
 use Rattle.dg_model.specs.Signals.{Attributes, Stimulus, Table}
 use Rattle.dg_model.specs.Hits.{Hits, is_hit, hits_before, is_slow_to_fast}
 use Rattle.dg_model.specs.Wires.{value_into, period_into}
-use Rattle.dg_model.specs.Equation.{Equation, StoresEntry, is_enabled, IsInputAt}
+use Rattle.dg_model.specs.Equation.{StoresEntry, is_enabled, IsInputAt}
 use Rattle.dg_sim.specs.declared.program.Place.{Place}
 use Rattle.dg_sim.specs.declared.program.Memory.{Memory}
 use Rattle.dg_sim.specs.declared.program.Program.{Program}
 use Rattle.dg_sim.specs.declared.program.Rule.TheVariants.{Past, Slower, Held, Reset}
-use Rattle.dg_sim.specs.State.{Move, Count, Stay, count_if, count_or_forget, delay_move, move_at, kept_count, kept_values, kept_hits}
+use Rattle.dg_sim.specs.State.{count_if, count_or_forget, delay_move, move_at, kept_count, kept_values}
 use Rattle.dg_sim.specs.Steps.{KeptIsRead}
 use Rattle.dg_sim.specs.Program.{kept_or, is_on, move_of}
 use Rattle.dg_sim.specs.Sim.{Agrees, Keep, IsMemory}
-use Rattle.dg_sim.specs.inner.Building.{IsControl, Moves, IsRemembered, IsMade, IsRule, IsControlCell, HandsOn, Grows, Reads, AreMemories}
+use Rattle.dg_sim.specs.inner.Building.{IsControl, Moves, IsRemembered, IsMade, IsRule, IsControlCell, HandsOn, Reads, AreMemories}
 use Rattle.std.specs.Ordering.{int_eq}
 use Rattle.dg_sim.proofs.Swept.{hit_false}
 use Rattle.dg_sim.proofs.ByKind.{of_kind}

@@ -1,6 +1,6 @@
 -- Memories move one after another.
-use Rattle.std.proofs.Common.{◌≡◌, ℕ, zero, suc, ◌+◌, ◌<◌, ◌≤◌, ◌⊎◌, inl, inr, ℤ, List, [], ◌∷◌, length, Option, Some, slice_get, set, ap, sym, ◌∙◌, subst, refl, arith, add-one, eq-or-lt_of_le, le_of_suc-le-suc}
-use Rattle.std.proofs.lemmas.Option.{none-some, same_Some}
+use Rattle.std.proofs.Common.{◌≡◌, ℕ, zero, suc, ◌<◌, ◌≤◌, ◌⊎◌, inl, inr, ℤ, List, [], ◌∷◌, length, Some, slice_get, set, ap, sym, ◌∙◌, refl, arith, eq-or-lt_of_le, le_of_suc-le-suc}
+use Rattle.std.proofs.lemmas.Option.{same_Some}
 use Rattle.dg_model.specs.Hits.{is_hit}
 use Rattle.dg_sim.specs.declared.program.Memory.{Memory}
 use Rattle.dg_sim.specs.declared.program.Program.{Program}

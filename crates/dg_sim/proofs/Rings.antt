@@ -1,5 +1,5 @@
 -- A push into a ring puts a value before what it keeps.
-use Rattle.std.proofs.Common.{◌≡◌, ℕ, zero, suc, ◌+◌, ◌-◌, ◌<◌, ◌≤◌, ◌⊎◌, inl, inr, Bool, cond, ℤ, pos, Option, Some, None, slice_get, List, ◌∷◌, map, length, take, get_or, set, length-set, get_or-set_same, get_or-set_other, ap, ap₂, sym, ◌∙◌, refl, arith, lt-ltb, le-ltb, add-one}
+use Rattle.std.proofs.Common.{◌≡◌, ℕ, zero, suc, ◌+◌, ◌-◌, ◌<◌, ◌≤◌, ◌⊎◌, inl, inr, Bool, cond, ℤ, pos, Some, None, slice_get, List, ◌∷◌, map, length, take, get_or, set, length-set, get_or-set_same, get_or-set_other, ap, ap₂, sym, ◌∙◌, refl, arith, lt-ltb, le-ltb, add-one}
 use Rattle.std.proofs.lemmas.Bool.{cases_lt}
 use Rattle.dg_waves.proofs.Waved.{mapped_at}
 use Rattle.dg_waves.specs.Rounds.{numbers_from}

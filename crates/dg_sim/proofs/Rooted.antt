@@ -1,5 +1,5 @@
 -- Lists of root elements, port after port.
-use Rattle.std.proofs.Common.{◌≡◌, ℕ, zero, suc, ◌+◌, ◌++◌, Bool, List, [], ◌∷◌, length, map, filter_map, count_by, cond, Option, Some, None, is_some, slice_get, ap, sym, ◌∙◌, refl, arith, append_assoc, append-nil, add-one}
+use Rattle.std.proofs.Common.{◌≡◌, ℕ, zero, suc, ◌+◌, ◌++◌, List, [], ◌∷◌, length, map, filter_map, count_by, Option, Some, None, is_some, ap, sym, ◌∙◌, refl, arith, append_assoc, append-nil, add-one}
 use Rattle.std.specs.List.{flat_map, cons_option}
 use Rattle.std.proofs.lemmas.List.{map-append}
 use Rattle.dg_waves.specs.Rounds.{numbers_from}

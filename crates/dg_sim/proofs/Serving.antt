@@ -1,5 +1,5 @@
 -- Rules serve the equations of their blocks.
-use Rattle.std.proofs.Common.{◌≡◌, ℕ, suc, ◌<◌, ◌≤◌, ◌+◌, ◌++◌, ℤ, pos, Bool, List, [], ◌∷◌, length, map, take, drop, Some, slice_get, sym, ◌∙◌, subst, ap, refl, arith, zero, length-append, ◌⊎◌, inl, inr, ap₂, subst₂, add-one, false}
+use Rattle.std.proofs.Common.{◌≡◌, ℕ, suc, ◌<◌, ◌≤◌, ◌+◌, ◌++◌, ℤ, pos, List, [], ◌∷◌, length, map, take, Some, slice_get, sym, ◌∙◌, subst, ap, refl, arith, zero, ◌⊎◌, inl, inr, ap₂, subst₂, add-one, false}
 use Rattle.dg_model.specs.declared.diagram.Diagram.{Diagram}
 use Rattle.dg_model.specs.Signals.{Attributes, Stimulus, Table}
 use Rattle.std.proofs.lemmas.Option.{none-some, same_Some}

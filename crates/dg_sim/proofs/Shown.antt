@@ -1,5 +1,5 @@
 -- What a table shows of a block.
-use Rattle.std.proofs.Common.{◌≡◌, ℕ, Some, None, refl, sym}
+use Rattle.std.proofs.Common.{◌≡◌, ℕ, None, refl}
 use Rattle.std.proofs.lemmas.Option.{none-some}
 use Rattle.dg_model.specs.declared.diagram.Diagram.{Diagram}
 use Rattle.dg_model.specs.declared.kind.Kind.{Kind}

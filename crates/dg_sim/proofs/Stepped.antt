@@ -1,5 +1,5 @@
 -- A simulator after its passes stands at the next sample.
-use Rattle.std.proofs.Common.{◌≡◌, ℕ, zero, suc, ◌<◌, ◌+◌, ℤ, pos, List, map, length, Option, Some, slice_get, get_or, ap, sym, ◌∙◌, subst, refl, arith}
+use Rattle.std.proofs.Common.{◌≡◌, ℕ, suc, ℤ, pos, List, map, length, Some, slice_get, ap, sym, ◌∙◌, arith}
 use Rattle.std.proofs.lemmas.Option.{same_Some, slice_get_within, get_or_from_slice_get}
 use Rattle.dg_model.specs.declared.diagram.Block.{Block}
 use Rattle.dg_model.specs.Attributes.{attributes_of}
@@ -7,15 +7,13 @@ use Rattle.dg_model.specs.Checked.{CheckedDiagram}
 use Rattle.dg_model.specs.Hits.{is_hit}
 use Rattle.dg_model.specs.Signals.{Stimulus, Table}
 use Rattle.dg_model.specs.Wires.{value_into}
-use Rattle.dg_sim.specs.declared.program.Cell.{Cell}
 use Rattle.dg_sim.specs.declared.program.Memory.{Memory}
-use Rattle.dg_sim.specs.declared.program.Place.{Place}
 use Rattle.dg_sim.specs.declared.program.Program.{Program}
 use Rattle.dg_sim.specs.Ring.{PastValues}
 use Rattle.dg_sim.specs.State.{Move, moved, move_at, kept_count, kept_values}
 use Rattle.dg_sim.specs.Steps.{KeptMoves}
 use Rattle.dg_sim.specs.Program.{entry, value_at, is_on, move_of}
-use Rattle.dg_sim.specs.Sim.{Simulation, values_of, kept_at, past_moved, Agrees, IsSimOf, IsAt, IsStepped, Keep, Shows}
+use Rattle.dg_sim.specs.Sim.{values_of, kept_at, Agrees, IsSimOf, IsAt, IsStepped, Keep, Shows}
 use Rattle.dg_sim.proofs.Ranks.{there_map}
 use Rattle.dg_sim.proofs.Moves.{after}
 

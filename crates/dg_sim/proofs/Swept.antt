@@ -1,12 +1,10 @@
 -- One cell after another takes the table's entry.
-use Rattle.std.proofs.Common.{◌≡◌, ℕ, zero, suc, ◌<◌, ◌≤◌, ◌⊎◌, inl, inr, Bool, true, false, true≢false, ℤ, pos, List, length, Option, Some, None, slice_get, set, get_or, get_or-set_same, get_or-set_other, ap, sym, ◌∙◌, subst, refl, arith, eqb-true, eq-eqb, eq-or-lt_of_le, le_of_suc-le-suc}
+use Rattle.std.proofs.Common.{◌≡◌, ℕ, zero, suc, ◌<◌, ◌⊎◌, inl, inr, true, false, true≢false, ℤ, pos, List, length, Option, Some, None, slice_get, set, get_or-set_same, get_or-set_other, ap, sym, ◌∙◌, subst, refl, arith, eqb-true, eq-eqb, eq-or-lt_of_le, le_of_suc-le-suc}
 use Rattle.std.proofs.lemmas.Option.{same_Some}
-use Rattle.dg_model.specs.declared.diagram.Block.{Block}
 use Rattle.dg_model.specs.Signals.{Stimulus, Table}
 use Rattle.dg_model.specs.Attributes.{attributes_of}
 use Rattle.dg_model.specs.Checked.{CheckedDiagram}
 use Rattle.dg_model.specs.Hits.{Hits, is_hit}
-use Rattle.dg_model.specs.Solves.{IsShown}
 use Rattle.dg_sim.specs.declared.program.Cell.{Cell}
 use Rattle.dg_sim.specs.declared.program.Place.{Place}
 use Rattle.dg_sim.specs.declared.program.Program.{Program}

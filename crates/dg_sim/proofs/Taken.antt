@@ -1,12 +1,12 @@
 -- A root input port takes its number from the row.
-use Rattle.std.proofs.Common.{◌≡◌, ℕ, Option, Some, slice_get, sym, ◌∙◌, subst, ap, ap₂, refl}
+use Rattle.std.proofs.Common.{◌≡◌, ℕ, Option, Some, slice_get, sym, ◌∙◌, subst, ap, ap₂}
 use Rattle.dg_model.specs.declared.diagram.Diagram.{Diagram}
 use Rattle.dg_model.specs.declared.diagram.Block.{Block}
 use Rattle.dg_model.specs.declared.kind.Kind.TheVariants.{Inport}
 use Rattle.dg_model.specs.Attributes.{attributes_of}
 use Rattle.dg_model.specs.Hits.{Hits}
 use Rattle.dg_model.specs.Laws.{InputsAreListed}
-use Rattle.dg_model.specs.RootElements.{RootElement, root_element, root_inputs}
+use Rattle.dg_model.specs.RootElements.{RootElement, root_inputs}
 use Rattle.dg_model.specs.Wired.{IsWired}
 use Rattle.dg_sim.specs.declared.program.Place.{Place}
 use Rattle.dg_sim.specs.declared.program.Program.{Program}

@@ -1,12 +1,12 @@
 -- The control of an enabled subsystem asks for some element above 0.
-use Rattle.std.proofs.Common.{◌≡◌, ℕ, zero, suc, ◌<◌, ◌≤◌, ◌+◌, ◌++◌, ◌||◌, Bool, ℤ, pos, int_lt, List, [], ◌∷◌, ◌⊎◌, inl, inr, length, map, Some, slice_get, ap, sym, ◌∙◌, subst, subst₂, refl, arith, append-nil}
+use Rattle.std.proofs.Common.{◌≡◌, ℕ, ◌<◌, ◌+◌, ◌++◌, ◌||◌, Bool, ℤ, pos, int_lt, List, [], ◌∷◌, ◌⊎◌, inl, inr, length, map, Some, slice_get, ap, sym, ◌∙◌, subst, subst₂, refl, arith, append-nil}
 use Rattle.std.specs.List.{list_any}
 use Rattle.fx_type.specs.declared.kind.FxType.{FxType}
 use Rattle.dg_waves.specs.Rounds.{numbers_from}
 use Rattle.dg_model.specs.declared.diagram.Diagram.{Diagram}
 use Rattle.dg_model.specs.declared.diagram.Block.{Block}
 use Rattle.dg_model.specs.declared.kind.Kind.TheVariants.{EnableTest}
-use Rattle.dg_model.specs.Signals.{Attributes, Table}
+use Rattle.dg_model.specs.Signals.{Attributes}
 use Rattle.dg_model.specs.Operation.{stored_truth}
 use Rattle.dg_model.specs.Wires.{width_into, value_into}
 use Rattle.dg_sim.specs.declared.program.Place.{Place}

@@ -1,19 +1,19 @@
 -- The rule of an operation whose inputs and signs were put behind the others.
-use Rattle.std.proofs.Common.{◌≡◌, ℕ, suc, ◌<◌, ◌≤◌, ◌+◌, ◌++◌, Bool, List, [], length, Some, slice_get, sym, ◌∙◌, subst, subst₂, ap, ap₂, refl, arith, append-nil, length-append}
+use Rattle.std.proofs.Common.{◌≡◌, ℕ, ◌≤◌, ◌+◌, ◌++◌, Bool, List, [], length, sym, ◌∙◌, ap, ap₂, refl, arith, append-nil, length-append}
 use Rattle.fx_type.specs.declared.kind.FxType.{FxType}
 use Rattle.dg_model.specs.declared.diagram.Diagram.{Diagram}
 use Rattle.dg_model.specs.declared.diagram.Block.{Block}
 use Rattle.dg_model.specs.declared.op.Op.{Op}
 use Rattle.dg_model.specs.Signals.{Attributes}
 use Rattle.dg_model.specs.Equation.{IsOpOf, signs_of}
-use Rattle.dg_model.specs.Operation.{Operation, CanPrepare}
+use Rattle.dg_model.specs.Operation.{CanPrepare}
 use Rattle.dg_model.specs.Wires.{type_into, types_into}
 use Rattle.dg_sim.specs.declared.program.Place.{Place}
 use Rattle.dg_sim.specs.declared.program.Work.{Work}
 use Rattle.dg_sim.specs.declared.program.Program.{Program}
 use Rattle.dg_sim.specs.declared.program.Rule.TheVariants.{Works}
 use Rattle.dg_sim.specs.Program.{part, operation_at}
-use Rattle.dg_sim.specs.inner.Building.{AreRead, AreEntries, IsMade, IsElementwise, Grows}
+use Rattle.dg_sim.specs.inner.Building.{AreRead, AreEntries, IsMade, IsElementwise}
 use Rattle.dg_sim.proofs.Lists.{length_mapped}
 use Rattle.dg_sim.proofs.Serving.{part_last, operation_of_block, work_rule}
 

@@ -1,6 +1,5 @@
 -- What it means that a program simulates a checked diagram, and that a simulator stands at a sample of a table (own).
-use Rattle.std.specs.Prelude.{◌≡◌, ℕ, suc, ◌<◌, ◌≤◌, ℤ, List, [], length, map, Option, Some, None, slice_get, slice_index_or}
-use Rattle.fx_type.specs.FxType.{InRange}
+use Rattle.std.specs.Prelude.{◌≡◌, ℕ, suc, ◌<◌, ℤ, List, [], length, Option, Some, None, slice_get}
 use Rattle.dg_model.specs.declared.diagram.Diagram.{Diagram}
 use Rattle.dg_model.specs.declared.diagram.Block.{Block}
 use Rattle.dg_model.specs.Signals.{Attributes, Stimulus, Table}

@@ -1,9 +1,9 @@
-use Rattle.std.proofs.Common.{◌≡◌, ◌+◌, ◌-◌, ◌≤◌, ℕ, ℤ, List, map, take, drop, length, slice_range, sym, subst, subst₂, ap, ◌∙◌, arith, length-drop}
+use Rattle.std.proofs.Common.{◌≡◌, ◌+◌, ◌-◌, ◌≤◌, ℕ, ℤ, List, map, take, drop, length, slice_range, arith, length-drop}
 use Rattle.std.specs.Int.{w128}
 use Rattle.std.proofs.lemmas.Int.{to_z-of_z}
 use Rattle.std.proofs.lemmas.List.{length-take-le}
 use Rattle.dg_model.specs.Operation.{OpGives}
-use Rattle.dg_sim.specs.Program.{part, value_at, looked_at}
+use Rattle.dg_sim.specs.Program.{part, value_at}
 use Rattle.dg_sim.proofs.giving.work.Goals as goal
 
 -- what was gathered are the values of the arguments

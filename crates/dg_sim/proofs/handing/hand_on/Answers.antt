@@ -1,4 +1,4 @@
-use Rattle.std.proofs.Common.{◌≡◌, List, subst}
+use Rattle.std.proofs.Common.{List, subst}
 use Rattle.dg_model.specs.Attributes.{attributes_of}
 use Rattle.dg_sim.specs.declared.program.Place.{Place}
 use Rattle.dg_sim.specs.inner.Building.{Reads}

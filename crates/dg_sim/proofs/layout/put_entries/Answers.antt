@@ -1,6 +1,4 @@
-use Rattle.std.proofs.Common.{◌≡◌, ◌++◌, [], ◌∷◌, List, slice_get, ap, sym, ◌∙◌}
 use Rattle.dg_model.specs.Attributes.{attributes_of}
-use Rattle.dg_sim.specs.declared.program.Place.{Place}
 use Rattle.dg_sim.proofs.Entries.{entries_more}
 use Rattle.dg_sim.proofs.layout.put_entries.Goals as goal
 

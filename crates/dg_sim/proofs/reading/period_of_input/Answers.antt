@@ -1,4 +1,4 @@
-use Rattle.std.proofs.Common.{◌≡◌, Option, None, ℕ, ap, sym, ◌∙◌}
+use Rattle.std.proofs.Common.{Option, None, ℕ, ap, sym, ◌∙◌}
 use Rattle.dg_model.specs.declared.diagram.Edge.{Edge}
 use Rattle.dg_model.specs.Attributes.{attributes_of}
 use Rattle.dg_model.specs.Wires.{at_source}

@@ -1,6 +1,4 @@
-use Rattle.std.proofs.Common.{◌≡◌, ◌∙◌, ℕ, List, Some, slice_get, ap, sym}
-use Rattle.dg_model.specs.Attributes.{attributes_of}
-use Rattle.dg_model.specs.RootElements.{root_inputs}
+use Rattle.std.proofs.Common.{◌∙◌, List, slice_get, ap, sym}
 use Rattle.dg_sim.specs.declared.roots.Root.{Root}
 use Rattle.dg_sim.proofs.Grown.{grows_same}
 use Rattle.dg_sim.proofs.Taken.{input_rule}

@@ -1,4 +1,4 @@
-use Rattle.std.proofs.Common.{◌≡◌, ◌≤◌, ◌<◌, ℕ, Some, slice_get, length}
+use Rattle.std.proofs.Common.{◌≡◌, ◌≤◌, ℕ, slice_get, length}
 use Rattle.dg_sim.proofs.Moves.{AreMoved}
 use Rattle.dg_sim.proofs.sweeping.keep.Given as goal
 

@@ -1,4 +1,4 @@
-use Rattle.std.proofs.Common.{◌≡◌, map, take, length}
+use Rattle.std.proofs.Common.{◌≡◌, map, take}
 use Rattle.dg_sim.specs.Program.{value_at}
 use Rattle.dg_sim.proofs.sweeping.show.Given as goal
 

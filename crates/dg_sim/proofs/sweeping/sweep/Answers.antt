@@ -1,9 +1,8 @@
-use Rattle.std.proofs.Common.{◌≡◌, ◌<◌, ◌≤◌, ℕ, ℤ, pos, suc, List, length, get_or, set, Some, slice_get, length-set, get_or-set_other, ap, sym, ◌∙◌, subst, arith, add-one}
+use Rattle.std.proofs.Common.{◌≡◌, ◌<◌, ℕ, ℤ, pos, List, length, set, slice_get, length-set, get_or-set_other, ap, sym, ◌∙◌, subst, arith, add-one}
 use Rattle.std.specs.Int.{w128}
 use Rattle.std.proofs.lemmas.Int.{to_z-of_z}
 use Rattle.std.proofs.lemmas.Option.{slice_get-get_or}
 use Rattle.dg_sim.specs.declared.program.Cell.{Cell}
-use Rattle.dg_sim.specs.Program.{value_at, Gives}
 use Rattle.dg_sim.proofs.Lists.{get_some}
 use Rattle.dg_sim.proofs.Swept.{can_give, swept_hit, swept_miss}
 use Rattle.dg_sim.proofs.sweeping.sweep.Goals as goal

@@ -1,4 +1,4 @@
-use Rattle.std.proofs.Common.{◌≡◌, ℕ, suc, ◌+◌, ◌++◌, List, [], ◌∷◌, length, map, ap, sym, ◌∙◌, subst, arith, append_assoc, add-one, length-append}
+use Rattle.std.proofs.Common.{ℕ, ◌+◌, ◌++◌, List, [], ◌∷◌, ap, sym, ◌∙◌, subst, arith, append_assoc, length-append}
 use Rattle.fx_type.specs.declared.kind.FxType.{FxType}
 use Rattle.dg_model.specs.Attributes.{attributes_of}
 use Rattle.dg_model.specs.Wires.{type_into}

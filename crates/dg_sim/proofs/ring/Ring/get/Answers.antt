@@ -1,4 +1,4 @@
-use Rattle.std.proofs.Common.{◌≡◌, ◌∙◌, ap, sym, ℤ, pos, Some, get_or, FitsSigned, rules}
+use Rattle.std.proofs.Common.{◌∙◌, ap, sym, pos, Some, get_or, FitsSigned, rules}
 use Rattle.std.specs.Int.{w128}
 use Rattle.std.proofs.lemmas.Int.{to_z-of_z}
 use Rattle.dg_sim.proofs.Rings.{value_there, value_none}

@@ -1,7 +1,5 @@
-use Rattle.std.proofs.Common.{◌≡◌, ◌∙◌, ℕ, List, length, ap, sym, subst, replicate}
-use Rattle.std.proofs.lemmas.List.{length-replicate}
+use Rattle.std.proofs.Common.{◌≡◌, ◌∙◌, List, length, ap, sym, subst}
 use Rattle.dg_sim.specs.declared.program.Memory.{Memory}
-use Rattle.dg_sim.specs.declared.program.Place.{Place}
 use Rattle.dg_sim.specs.inner.Building.{AreRooms}
 use Rattle.dg_sim.proofs.Begun.{begun_sim, begun_stands}
 use Rattle.dg_sim.proofs.sim.Sim.new.Goals as goal

@@ -1,8 +1,5 @@
-use Rattle.std.proofs.Common.{◌≡◌, ℕ, suc, ◌+◌, List, ℤ, map, length, ap, sym, ◌∙◌, subst, arith, add-one}
-use Rattle.std.specs.Vec.{with_items}
+use Rattle.std.proofs.Common.{◌≡◌, ◌+◌, length, ap, sym, ◌∙◌, arith}
 use Rattle.std.proofs.lemmas.List.{with_items_is}
-use Rattle.dg_sim.specs.Program.{value_at}
-use Rattle.dg_sim.specs.Sim.{Simulation, IsSimOf, IsStepped}
 use Rattle.dg_sim.proofs.Stepped.{still_sim, is_stepped}
 use Rattle.dg_sim.proofs.sim.Sim.step.Goals as goal
 
