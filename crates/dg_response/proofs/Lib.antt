@@ -1,0 +1,5 @@
+pub mod Elements
+pub mod Lists
+pub mod Single
+pub mod Stepping
+pub mod Stimulated

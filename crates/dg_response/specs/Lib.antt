@@ -1,0 +1,4 @@
+pub mod Laws
+pub mod Responded
+pub mod Response
+pub mod inner

@@ -1,0 +1,68 @@
+ghost use Rattle.std.specs.Prelude.{◌≡◌, ◌<◌, ℕ, IfOk, Some, length, map, slice_get};
+ghost use Rattle.dg_model.specs.Attributes.{attributes_of};
+ghost use Rattle.dg_response.specs.Response.{input_columns, output_columns};
+ghost use Rattle.dg_response.specs.inner.Columns.{column_at};
+
+use dg_model::Checked;
+use dg_sim::{input_blocks, output_blocks};
+use fx_io::OutOfMemory;
+use fx_tables::{Column, Columns};
+use std::alloc::Global;
+
+/// The columns of a diagram's stimulus and response.
+#[derive(Debug, Drop)]
+pub struct RootColumns {
+    /// One for each root input element, in order of ports and elements.
+    pub inputs: Columns,
+    /// One for each root output element, in order of ports and elements.
+    pub outputs: Columns,
+}
+
+/// The column of each element of a root port. A type that is not valid, as no checked diagram has,
+/// is answered like want of memory.
+fn column(checked: &Checked, block: u32) -> Result<Column, OutOfMemory>
+    requires { block < length checked.now.diagram.blocks }
+    ensures { IfOk result (λ column. column ≡ column_at (attributes_of checked.now.diagram) block) }
+{
+    let kind = checked.result(block);
+    if !kind.is_valid() {
+        return Err(OutOfMemory);
+    }
+    Ok(Column {
+        low: kind.lowest(),
+        high: kind.highest(),
+        period: checked.period(block).unwrap_or(1),
+    })
+}
+
+/// The columns of elements of these blocks.
+fn columns_of(alloc: Global, checked: &Checked, blocks: &[u32]) -> Result<Columns, OutOfMemory>
+    requires { (place block : ℕ) → slice_get blocks.now place ≡ Some block
+        → block < length checked.now.diagram.blocks }
+    ensures { IfOk result (λ columns.
+        columns ≡ map (column_at (attributes_of checked.now.diagram)) blocks.now) }
+{
+    let mut columns = Columns::new(alloc);
+    for block in blocks {
+        let next = column(checked, *block)?;
+        columns.push(next)?;
+    }
+    Ok(columns)
+}
+
+/// The columns of a diagram's root input and output elements (own).
+///
+/// # Errors
+/// Want of memory.
+pub fn columns(alloc: Global, checked: &Checked) -> Result<RootColumns, OutOfMemory>
+    ensures inputs { IfOk result (λ columns. columns.inputs ≡ input_columns checked.now.diagram) }
+    ensures outputs { IfOk result (λ columns. columns.outputs ≡ output_columns checked.now.diagram) }
+{
+    checked.keeps_rules();
+    dg_model::root_elements_are_listed();
+    let read = input_blocks(alloc, checked)?;
+    let inputs = columns_of(alloc, checked, read.as_slice())?;
+    let shown = output_blocks(alloc, checked)?;
+    let outputs = columns_of(alloc, checked, shown.as_slice())?;
+    Ok(RootColumns { inputs, outputs })
+}
