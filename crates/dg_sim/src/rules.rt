@@ -138,6 +138,41 @@ pub fn rule_of(
         Kind::Pass { .. } => hand_on(checked, starts, program, k, place, 1, place.element),
         Kind::Constant { value } => constant(checked, program, k, place, block, value.as_slice()),
         Kind::Ground => fixed(checked, program, k, place, 0),
+        Kind::Mux { .. } => joined(checked, starts, cursors, program, k, place, block),
+        Kind::Demux { .. } => parted(checked, starts, cursors, program, k, place),
+        Kind::RateTransition { initial, .. } => {
+            transition(
+                checked,
+                starts,
+                program,
+                k,
+                place,
+                block,
+                initial.as_slice(),
+            )
+        }
+        Kind::EnableTest => above(checked, starts, program, k, place, block),
+        _ => kept_rule(checked, starts, program, k, place, block),
+    }
+}
+
+/// The rule of a block that keeps values from hit to hit, or else of one that works element by element.
+fn kept_rule(
+    checked: &Checked,
+    starts: &Starts,
+    program: &mut Program,
+    k: u32,
+    place: Place,
+    block: &Block,
+) -> Result<Rule, OutOfMemory>
+    requires block { slice_get checked.now.diagram.blocks place.block ≡ Some block.now }
+    requires entries { AreEntries checked.now.diagram (attributes_of checked.now.diagram)
+        program.old.places }
+    ensures { IfOk result (λ rule. IsMade checked.now.diagram (attributes_of checked.now.diagram)
+        program.old program.new k place rule) }
+{
+    checked.keeps_rules();
+    match &block.kind {
         Kind::Delay {
             length,
             initial,
@@ -155,20 +190,6 @@ pub fn rule_of(
                 *reset,
             )
         }
-        Kind::RateTransition { initial, .. } => {
-            transition(
-                checked,
-                starts,
-                program,
-                k,
-                place,
-                block,
-                initial.as_slice(),
-            )
-        }
-        Kind::Mux { .. } => joined(checked, starts, cursors, program, k, place, block),
-        Kind::Demux { .. } => parted(checked, starts, cursors, program, k, place),
-        Kind::EnableTest => above(checked, starts, program, k, place, block),
         Kind::EnOut { reset, initial } => {
             gated(
                 checked,

@@ -5,7 +5,7 @@ use Rattle.dg_model.specs.declared.diagram.Diagram.{Diagram}
 use Rattle.dg_model.specs.declared.kind.Kind.TheVariants.{Outport, Pass, RateTransition}
 use Rattle.dg_model.specs.Attributes.{attributes_of}
 use Rattle.dg_sim.proofs.ByKind.{outport_hands, pass_hands, ground_always}
-use Rattle.dg_sim.proofs.Entries.{block_there, ports_are, delay_some}
+use Rattle.dg_sim.proofs.Entries.{block_there, ports_are}
 use Rattle.dg_sim.proofs.rules.rule_of.Goals as goal
 
 pub hand_on-requires : goal.hand_on-requires
@@ -52,50 +52,6 @@ fixed-requires c =
     let wired = c.keeps_rules.ensures.checked.wired in
     ground_always diagram attributes place one here c.in-Ground.is
 
-pub delayed-requires-clause-block : goal.delayed-requires-clause-block
-delayed-requires-clause-block c =
-    let diagram = c.args.checked.now.diagram in
-    let attributes = attributes_of diagram in
-    let place = c.args.place in
-    let one : Block = c.index-as_slice-place.result in
-    let list = c.as_slice.ensures ∙ ap (λ (d : Diagram). d.blocks) c.diagram.ensures in
-    let here : slice_get diagram.blocks place.block ≡ Some one = block_there diagram attributes place c.as_slice.result.now one list c.requires.entry c.index-as_slice-place.is in
-    let wired = c.keeps_rules.ensures.checked.wired in
-    here
-
-pub delayed-requires-clause-some : goal.delayed-requires-clause-some
-delayed-requires-clause-some c =
-    let diagram = c.args.checked.now.diagram in
-    let attributes = attributes_of diagram in
-    let place = c.args.place in
-    let one : Block = c.index-as_slice-place.result in
-    let list = c.as_slice.ensures ∙ ap (λ (d : Diagram). d.blocks) c.diagram.ensures in
-    let here : slice_get diagram.blocks place.block ≡ Some one = block_there diagram attributes place c.as_slice.result.now one list c.requires.entry c.index-as_slice-place.is in
-    let wired = c.keeps_rules.ensures.checked.wired in
-    delay_some diagram wired place.block one here c.in-Delay.length _ c.in-Delay.reset c.in-Delay.is
-
-pub works-requires : goal.works-requires
-works-requires c =
-    let diagram = c.args.checked.now.diagram in
-    let attributes = attributes_of diagram in
-    let place = c.args.place in
-    let one : Block = c.index-as_slice-place.result in
-    let list = c.as_slice.ensures ∙ ap (λ (d : Diagram). d.blocks) c.diagram.ensures in
-    let here : slice_get diagram.blocks place.block ≡ Some one = block_there diagram attributes place c.as_slice.result.now one list c.requires.entry c.index-as_slice-place.is in
-    let wired = c.keeps_rules.ensures.checked.wired in
-    record { block = here; entries = c.requires.entries; op = c.in-Some.ensures }
-
-pub gated-requires-clause-block : goal.gated-requires-clause-block
-gated-requires-clause-block c =
-    let diagram = c.args.checked.now.diagram in
-    let attributes = attributes_of diagram in
-    let place = c.args.place in
-    let one : Block = c.index-as_slice-place.result in
-    let list = c.as_slice.ensures ∙ ap (λ (d : Diagram). d.blocks) c.diagram.ensures in
-    let here : slice_get diagram.blocks place.block ≡ Some one = block_there diagram attributes place c.as_slice.result.now one list c.requires.entry c.index-as_slice-place.is in
-    let wired = c.keeps_rules.ensures.checked.wired in
-    here
-
 pub transition-requires-clause-kind : goal.transition-requires-clause-kind
 transition-requires-clause-kind c = (c.in-RateTransition.period, c.in-RateTransition.is ∙ ap (λ (initial : List Decimal). RateTransition c.in-RateTransition.period initial) (sym c.as_slice-in-RateTransition.ensures))
 
@@ -118,3 +74,12 @@ parted-requires c =
     let list = c.as_slice.ensures ∙ ap (λ (d : Diagram). d.blocks) c.diagram.ensures in
     let here : slice_get diagram.blocks place.block ≡ Some one = block_there diagram attributes place c.as_slice.result.now one list c.requires.entry c.index-as_slice-place.is in
     record { block = (one, here, c.in-Demux.sizes, c.in-Demux.is); cursors = c.requires.cursors }
+
+pub kept_rule-requires : goal.kept_rule-requires
+kept_rule-requires c =
+    let diagram = c.args.checked.now.diagram in
+    let attributes = attributes_of diagram in
+    let place = c.args.place in
+    let one : Block = c.index-as_slice-place.result in
+    let list = c.as_slice.ensures ∙ ap (λ (d : Diagram). d.blocks) c.diagram.ensures in
+    record { block = block_there diagram attributes place c.as_slice.result.now one list c.requires.entry c.index-as_slice-place.is; entries = c.requires.entries }
