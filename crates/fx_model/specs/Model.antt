@@ -66,3 +66,15 @@ pub record IsBrokenModel (bytes : List ℕ) (fault : RuleFault) (paths : List (L
   pub tree : Tree
   pub stands : Stands bytes tree
   pub broken : BreaksModel tree fault paths
+
+-- the bytes stand for a tree that breaks none of the rules 1 to 9
+pub record IsAccepted (bytes : List ℕ) : Type 0 where
+  pub tree : Tree
+  pub stands : Stands bytes tree
+  pub kept : (fault : RuleFault) (paths : List (List ℕ)) → IsBrokenModel bytes fault paths → ⊥
+
+-- the bytes stand for a tree, and are the model of no diagram
+pub record IsWithoutDiagram (bytes : List ℕ) : Type 0 where
+  pub tree : Tree
+  pub stands : Stands bytes tree
+  pub none : (diagram : Diagram) → IsModelOf bytes diagram → ⊥

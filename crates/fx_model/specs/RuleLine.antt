@@ -1,10 +1,11 @@
 -- The line that tells a broken rule, without the name of a file (own).
-use Rattle.std.specs.Prelude.{ℕ, ◌==◌, ◌||◌, if◌then◌else◌, List, [], ◌∷◌, ◌++◌, codes, slice_index_or}
+use Rattle.std.specs.Prelude.{◌≡◌, ℕ, ◌==◌, ◌||◌, if◌then◌else◌, List, [], ◌∷◌, ◌++◌, codes, slice_index_or}
 use Rattle.std.specs.Fmt.{decimal, signed_decimal}
 use Rattle.std.specs.List.{flat_map}
 use Rattle.dg_model.specs.declared.fault.RuleFault.{RuleFault}
 use Rattle.dg_model.specs.declared.fault.Shown.{Shown}
 use Rattle.dg_model.specs.declared.fault.Shown.TheVariants.{Nothing, Word, Periods, Cycle, Latency, Budget, Size}
+use Rattle.fx_model.specs.Model.{IsBrokenModel}
 
 -- what a rule is about, by its number
 abbrev pub rule_word : ℕ → List ℕ
@@ -56,3 +57,10 @@ abbrev pub rule_line : List (List ℕ) → RuleFault → List ℕ
 rule_line paths fault =
     codes "rule " ++ decimal fault.rule ++ codes " (" ++ rule_word fault.rule ++ codes "): " ++ place_text fault.place
     ++ shown_text paths fault.shown ++ codes "\n"
+
+-- the line tells the first rule that the model of these bytes breaks
+pub record TellsRule (bytes line : List ℕ) : Type 0 where
+  pub fault : RuleFault
+  pub paths : List (List ℕ)
+  pub broken : IsBrokenModel bytes fault paths
+  pub line_is : line ≡ rule_line paths fault
