@@ -1,5 +1,6 @@
 pub mod Bits
 pub mod Carried
+pub mod Commands
 pub mod Different
 pub mod Generated
 pub mod Header
@@ -11,6 +12,7 @@ pub mod Replayed
 pub mod Responses
 pub mod Running
 pub mod Sayings
+pub mod Simulations
 pub mod Spelled
 pub mod Texts
 pub mod Unfetched

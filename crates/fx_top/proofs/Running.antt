@@ -6,21 +6,25 @@ use Rattle.mdl_text.specs.declared.tree.Tree.{Tree}
 use Rattle.mdl_text.specs.Stands.{Stands}
 use Rattle.fx_tables.specs.declared.table.TableCause.{TableCause}
 use Rattle.vl_ast.specs.declared.modules.Module.{Module}
-use Rattle.vl_ast.specs.Conditions.{BreaksNone, Fault, IsFirstFault}
+use Rattle.vl_ast.specs.Conditions.{Fault, IsFirstFault}
 use Rattle.vl_ast.specs.Grammar.{Spells}
+use Rattle.vl_check.specs.declared.fault.VlFault.{VlFault}
 use Rattle.fx_io.specs.Shelf.{Told, Fetched}
 use Rattle.fx_top.specs.declared.answer.Answer.{Answer}
-use Rattle.fx_top.specs.declared.answer.Answer.TheVariants.{Done, OutOfMemory, Usage, CannotRead, CannotWrite, NotMdl, BadTable, NotVerilog, Broken, TooLong, NotBuilt}
+use Rattle.fx_top.specs.declared.answer.Answer.TheVariants.{Done, OutOfMemory, Usage, CannotRead, CannotWrite, NotMdl, BadTable, BreaksRule, NotVerilog, Broken, TooLong, NotBuilt}
 use Rattle.fx_top.specs.Answer.{status_of}
 use Rattle.fx_top.specs.Call.{Files, Stream}
-use Rattle.fx_top.specs.Cause.{IsFetched, AreFetched, HasBadLine}
+use Rattle.fx_top.specs.Cause.{IsFetched, AreFetched, HasNoTree, HasOtherForm, HasBrokenRule, HasBadLine, HasNoVerilog, BreaksCondition}
 use Rattle.fx_top.specs.Caused.{HasCause, HasWritten, IsCarriedOut}
-use Rattle.fx_top.specs.Command.{Command, Generate, Replay, command_of, model_of, verilog_of, stimulus_of, files_of}
+use Rattle.fx_top.specs.Command.{Command, Generate, Replay, Simulate, command_of, model_of, generated_of, checked_of, verilog_of, stimulus_of, first_of, files_of}
 use Rattle.fx_top.specs.DelayTree.{IsOneDelay}
-use Rattle.fx_top.specs.Outcome.{Yields, Tells, IfCommand, IsDue, CanBeDone, IsComplete}
-use Rattle.fx_top.specs.Output.{IsBuilt, IsNoText, IsNotBuilt, IsOutput}
-use Rattle.fx_top.specs.Replayed.{HasFault, IsBadStimulus, IsNoVerilog, IsSoundText, fault_for}
+use Rattle.fx_model.specs.Model.{IsNoText, IsModelOf, IsBrokenModel, IsWithoutDiagram}
+use Rattle.fx_top.specs.Outcome.{Yields, Tells, IfCommand, IsBadFor, IsDue, CanBeDone, IsComplete}
+use Rattle.fx_top.specs.Output.{IsBuilt, IsNotBuilt, IsOutput}
+use Rattle.fx_top.specs.Replayed.{HasFault, IsNoVerilog, IsSoundText, fault_for}
+use Rattle.fx_top.specs.Simulated.{fault_in}
 use Rattle.fx_top.specs.Trouble.{Trouble, Absent, Overlong, trouble_or, first_trouble, file_limit}
+use Rattle.fx_top.proofs.Commands.{IsFit, IsGood, bad-fit, checked-model, first-model, first-verilog, fit-kept, fit-sound, fit-tree, generated-alone, generated-model, good-diagram, good-sound, good-tree, model-alone, own-first, sound-first, table-good}
 
 -- a file that was fetched is in no trouble
 pub untroubled : (file : List ℕ) (told : Told) (bytes : List ℕ) → Fetched told file_limit bytes → (later : Option Trouble) → trouble_or file told later ≡ later
@@ -48,48 +52,143 @@ module _ (files : Files) (out : Stream) (unique : (bytes : List ℕ) (one other 
   told-is : (file told bytes : List ℕ) → IsFetched files file bytes → Tells files file told → told ≡ bytes
   told-is file told bytes fetched tells = let same : Some told ≡ Some bytes = fetched.held (Some told) tells in cc same
 
-  -- the model of an output is of a form that is built
-  written-built : (command : Command) (text model bytes : List ℕ) → IsOutput command files.held text → model_of command ≡ Some model → Tells files model bytes → IsBuilt bytes
-  written-built (Replay verilog stimulus) text model bytes output is tells = absurd (cc is)
-  written-built (Generate own) text model bytes output is tells =
-      let same : model ≡ own = cc is in
-      let told : Tells files own bytes = subst (λ (file : List ℕ). Tells files file bytes) same tells in
+  -- what was fetched under a name is what the shelf tells under it
+  fetched-told : (name file told bytes : List ℕ) → name ≡ file → IsFetched files file bytes → Tells files name told → told ≡ bytes
+  fetched-told name file told bytes same fetched tells = told-is file told bytes fetched (subst (λ (n : List ℕ). Tells files n told) same tells)
+
+  -- ---- what an output says of the first file
+
+  written-good : (command : Command) (text bytes : List ℕ) → IsOutput command files.held text → Tells files (first_of command) bytes → IsGood command bytes
+  written-good (Generate model) text bytes output tells =
       let verilog = output.1.1 in
-      subst IsBuilt (sym (told-is own bytes output.0 output.1.0 told))
+      subst IsBuilt (sym (told-is model bytes output.0 output.1.0 tells))
       (record { tree = verilog.tree; stands = verilog.stands; delay = verilog.carries.delay; form = verilog.carries.form })
+  written-good (Replay verilog stimulus) text bytes output tells =
+      (output.replay.made, subst (λ (b : List ℕ). IsSoundText b output.replay.made) (sym (told-is verilog bytes output.verilog_bytes output.verilog_fetched tells)) output.replay.spelled)
+  written-good (Simulate model stimulus) text bytes output tells =
+      (output.simulation.diagram, subst (λ (b : List ℕ). IsModelOf b output.simulation.diagram) (sym (told-is model bytes output.model_bytes output.model_fetched tells)) output.simulation.accepted)
 
-  -- a command that reads a model reads no Verilog text
-  model-alone : (command : Command) (model verilog : List ℕ) → model_of command ≡ Some model → verilog_of command ≡ Some verilog → ⊥
-  model-alone (Generate own) model verilog is other = absurd (cc other)
-  model-alone (Replay own stimulus) model verilog is other = absurd (cc is)
+  bad-good : (command : Command) (bytes file : List ℕ) (line : ℕ) (cause : TableCause) → Tells files (first_of command) bytes → HasBadLine files command file line cause → IsGood command bytes
+  bad-good command bytes file line cause tells why =
+      subst (IsGood command) (sym (told-is (first_of command) bytes why.first why.first_fetched tells)) (table-good command why.first why.stimulus line cause why.bad)
 
-  -- the Verilog text of an output is sound, and so is the stimulus
-  written-sound : (command : Command) (text verilog bytes : List ℕ) → IsOutput command files.held text → verilog_of command ≡ Some verilog → Tells files verilog bytes → (made : Module) × IsSoundText bytes made
-  written-sound (Generate own) text verilog bytes output is tells = absurd (cc is)
-  written-sound (Replay own stimulus) text verilog bytes output is tells =
-      let same : verilog ≡ own = cc is in
-      let told : Tells files own bytes = subst (λ (file : List ℕ). Tells files file bytes) same tells in
-      (output.replay.made, subst (λ (b : List ℕ). IsSoundText b output.replay.made) (sym (told-is own bytes output.verilog_bytes output.verilog_fetched told)) output.replay.spelled)
+  -- ---- what the faults of the first file exclude
 
-  -- no module breaks a condition and breaks none
-  sound-first : (m : Module) (condition : Fault) → BreaksNone m → IsFirstFault m condition → ⊥
-  sound-first m (Fault.Undriven name) sound first = let e = sound.acyclic.driven in absurd (cc (e, first))
-  sound-first m (Fault.Doubly name) sound first = let e = sound.acyclic.once in let f = first.1 in absurd (cc (e, f))
-  sound-first m (Fault.CombLoop []) sound first = first.2
-  sound-first m (Fault.CombLoop (name ∷ names)) sound first = sound.acyclic.acyclic name names first.2
-  sound-first m (Fault.TooWide name) sound first = let e = sound.narrow in let f = first.1 in absurd (cc (e, f))
-  sound-first m (Fault.NoReset name) sound first = let e = sound.clocked in let f = first.2 in absurd (cc (e, f))
-  sound-first m (Fault.NoAttribute name) sound first = let e = sound.attributed in let f = first.3 in absurd (cc (e, f))
+  -- no bytes are of two of the sorts
+  not-both : (bytes : List ℕ) → IsBuilt bytes → IsNotBuilt bytes → ⊥
+  not-both bytes built other =
+      other.other built.delay (subst (λ (known : Tree). IsOneDelay known built.delay) (unique bytes built.tree other.tree built.stands other.stands) built.form)
+
+  good-built : (command : Command) (model bytes : List ℕ) → generated_of command ≡ Some model → IsGood command bytes → IsNotBuilt bytes → ⊥
+  good-built (Generate own) model bytes is good other = not-both bytes good other
+  good-built (Replay own stimulus) model bytes is good other = absurd (cc is)
+  good-built (Simulate own stimulus) model bytes is good other = absurd (cc is)
+
+  -- ---- bytes of the first file at which a command tells no fault
+
+  fit-built : (command : Command) (model bytes : List ℕ) → generated_of command ≡ Some model → IsFit command bytes → IsNotBuilt bytes → ⊥
+  fit-built (Generate own) model bytes is fit other = not-both bytes fit other
+  fit-built (Replay own stimulus) model bytes is fit other = absurd (cc is)
+  fit-built (Simulate own stimulus) model bytes is fit other = absurd (cc is)
 
   -- no bytes spell a sound module and one that isn't
   not-sound : (bytes : List ℕ) (made : Module) (condition : Fault) → IsSoundText bytes made → HasFault bytes condition → ⊥
   not-sound bytes made condition sound has =
       sound-first made condition sound.sound (subst (λ (m : Module). IsFirstFault m condition) (one_module bytes has.made made has.spells sound.spells) has.first)
 
-  -- no bytes are of two of the three sorts
-  not-both : (bytes : List ℕ) → IsBuilt bytes → IsNotBuilt bytes → ⊥
-  not-both bytes built other =
-      other.other built.delay (subst (λ (known : Tree). IsOneDelay known built.delay) (unique bytes built.tree other.tree built.stands other.stands) built.form)
+  -- ---- what a fault says of the told bytes of the first file
+
+  -- they are no text of MDL
+  told-none : (command : Command) (bytes file : List ℕ) (line : ℕ) → Tells files (first_of command) bytes → HasNoTree files command file line → IsNoText bytes
+  told-none command bytes file line tells why =
+      subst IsNoText (sym (fetched-told (first_of command) file bytes why.bytes (sym (first-model command file why.is_model)) why.fetched tells)) why.not_mdl.no_tree
+
+  told-rule : (command : Command) (bytes line : List ℕ) → Tells files (first_of command) bytes → (why : HasBrokenRule files command line) → IsBrokenModel bytes why.told.fault why.told.paths
+  told-rule command bytes line tells why =
+      let first = first-model command why.file (checked-model command why.file why.is_model) in
+      subst (λ (b : List ℕ). IsBrokenModel b why.told.fault why.told.paths) (sym (fetched-told (first_of command) why.file bytes why.bytes (sym first) why.fetched tells)) why.told.broken
+
+  told-other : (command : Command) (bytes file : List ℕ) → Tells files (first_of command) bytes → HasOtherForm files command file → IsNotBuilt bytes
+  told-other command bytes file tells why =
+      let first = first-model command file (generated-model command file why.is_model) in
+      subst IsNotBuilt (sym (fetched-told (first_of command) file bytes why.bytes (sym first) why.fetched tells)) why.not_built
+
+  told-no_verilog : (command : Command) (bytes file : List ℕ) (line : ℕ) → Tells files (first_of command) bytes → HasNoVerilog files command file line → IsNoVerilog bytes
+  told-no_verilog command bytes file line tells why =
+      subst IsNoVerilog (sym (fetched-told (first_of command) file bytes why.bytes (sym (first-verilog command file why.is_verilog)) why.fetched tells)) why.not_verilog.refused
+
+  told-fault : (command : Command) (bytes file : List ℕ) (fault : VlFault) → Tells files (first_of command) bytes → (why : BreaksCondition files command file fault) → HasFault bytes why.broken.condition
+  told-fault command bytes file fault tells why =
+      subst (λ (b : List ℕ). HasFault b why.broken.condition) (sym (fetched-told (first_of command) file bytes why.bytes (sym (first-verilog command file why.is_verilog)) why.fetched tells)) why.broken.has
+
+  -- ---- such bytes exclude each fault
+
+  module _ (command : Command) (bytes : List ℕ) (tells : Tells files (first_of command) bytes) (fit : IsFit command bytes) where
+    not-none : (file : List ℕ) (line : ℕ) → HasNoTree files command file line → ⊥
+    not-none file line why = let tree = fit-tree command file bytes why.is_model fit in told-none command bytes file line tells why tree.0 tree.1
+
+    not-rule : (line : List ℕ) → HasBrokenRule files command line → ⊥
+    not-rule line why = fit-kept command why.file bytes why.told.fault why.told.paths why.is_model fit (told-rule command bytes line tells why)
+
+    not-other : (file : List ℕ) → HasOtherForm files command file → ⊥
+    not-other file why = fit-built command file bytes why.is_model fit (told-other command bytes file tells why)
+
+    not-no_verilog : (file : List ℕ) (line : ℕ) → HasNoVerilog files command file line → ⊥
+    not-no_verilog file line why =
+        let made = fit-sound command file bytes why.is_verilog fit in
+        told-no_verilog command bytes file line tells why made.0 made.1.spells made.1.few
+
+    not-fault : (file : List ℕ) (fault : VlFault) → BreaksCondition files command file fault → ⊥
+    not-fault file fault why =
+        let made = fit-sound command file bytes why.is_verilog fit in
+        not-sound bytes made.0 why.broken.condition made.1 (told-fault command bytes file fault tells why)
+
+  -- ---- a stimulus
+
+  -- a bad line, by what is told of the first file, excludes an output
+  written-bad : (command : Command) (text bytes stimulus numbers : List ℕ) → IsOutput command files.held text → stimulus_of command ≡ Some stimulus → Tells files (first_of command) bytes → Tells files stimulus numbers → IsBadFor command bytes numbers → ⊥
+  written-bad (Generate model) text bytes stimulus numbers output is tells told bad = bad
+  written-bad (Replay verilog rows) text bytes stimulus numbers output is tells told bad =
+      let same : stimulus ≡ rows = sym (cc is) in
+      let first = told-is verilog bytes output.verilog_bytes output.verilog_fetched tells in
+      let second = fetched-told stimulus rows numbers output.stimulus_bytes same output.stimulus_fetched told in
+      let sound = subst (λ (b : List ℕ). IsSoundText b output.replay.made) (sym first) output.replay.spelled in
+      let fault = bad.1.1 in
+      let one = one_module bytes output.replay.made fault.made sound.spells fault.spelled.spells in
+      let e = ap (λ (m : Module). fault_for m numbers) (sym one) ∙ ap (fault_for output.replay.made) second ∙ output.replay.rows_are.no_fault in
+      let f = fault.bad in
+      absurd (cc (e, f))
+  written-bad (Simulate model rows) text bytes stimulus numbers output is tells told bad =
+      let same : stimulus ≡ rows = sym (cc is) in
+      let first = told-is model bytes output.model_bytes output.model_fetched tells in
+      let second = fetched-told stimulus rows numbers output.stimulus_bytes same output.stimulus_fetched told in
+      let fault = bad.bad output.simulation.diagram (subst (λ (b : List ℕ). IsModelOf b output.simulation.diagram) (sym first) output.simulation.accepted) in
+      let e = ap (fault_in output.simulation.diagram) second ∙ output.simulation.rows_are.no_fault in
+      let f = fault.1.1 in
+      absurd (cc (e, f))
+
+  -- ---- a clause on the status, answer by answer
+
+  by-answer : (own : ℕ) (command : Command) → ((text : List ℕ) → IsOutput command files.held text → ⊥)
+      → ((file : List ℕ) (line : ℕ) → HasNoTree files command file line → Yields own (3 ∷ 9 ∷ []) 5)
+      → ((file : List ℕ) (line : ℕ) (cause : TableCause) → HasBadLine files command file line cause → Yields own (3 ∷ 9 ∷ []) 6)
+      → ((line : List ℕ) → HasBrokenRule files command line → Yields own (3 ∷ 9 ∷ []) 7)
+      → ((file : List ℕ) (line : ℕ) → HasNoVerilog files command file line → Yields own (3 ∷ 9 ∷ []) 8)
+      → ((file : List ℕ) (fault : VlFault) → BreaksCondition files command file fault → Yields own (3 ∷ 9 ∷ []) 8)
+      → ((file : List ℕ) → HasOtherForm files command file → Yields own (3 ∷ 9 ∷ []) 10)
+      → (answer : Answer) → HasCause files command answer → HasWritten files out command answer → Yields own (3 ∷ 9 ∷ []) (status_of answer)
+  by-answer own command none not_mdl bad rule no_verilog fault other Done why wrote = absurd (none wrote.text wrote.output)
+  by-answer own command none not_mdl bad rule no_verilog fault other OutOfMemory why wrote = (1, omega arith, refl)
+  by-answer own command none not_mdl bad rule no_verilog fault other Usage why wrote = absurd why
+  by-answer own command none not_mdl bad rule no_verilog fault other (CannotRead file) why wrote = (2, omega arith, refl)
+  by-answer own command none not_mdl bad rule no_verilog fault other CannotWrite why wrote = absurd (none wrote.text wrote.output)
+  by-answer own command none not_mdl bad rule no_verilog fault other (NotMdl file line) why wrote = not_mdl file.now line why.1
+  by-answer own command none not_mdl bad rule no_verilog fault other (BadTable file line cause) why wrote = bad file.now line cause why.1
+  by-answer own command none not_mdl bad rule no_verilog fault other (BreaksRule line) why wrote = rule line why.1
+  by-answer own command none not_mdl bad rule no_verilog fault other (NotVerilog file line) why wrote = no_verilog file.now line why.1
+  by-answer own command none not_mdl bad rule no_verilog fault other (Broken file condition) why wrote = fault file.now condition why.1
+  by-answer own command none not_mdl bad rule no_verilog fault other (TooLong file length) why wrote = (3, omega arith, refl)
+  by-answer own command none not_mdl bad rule no_verilog fault other (NotBuilt file) why wrote = other file.now why.1
 
   module _ (command : Command) where
     read_fault-due : (file : List ℕ) → first_trouble files.held (files_of command) ≡ Some (Absent file) → files.steady → (answer : Answer) → HasCause files command answer → Yields 3 [] (status_of answer)
@@ -100,6 +199,7 @@ module _ (files : Files) (out : Stream) (unique : (bytes : List ℕ) (one other 
     read_fault-due file is steady CannotWrite why = absurd (fetched-whole command (Absent file) why is)
     read_fault-due file is steady (NotMdl answered line) why = absurd (fetched-whole command (Absent file) why.0 is)
     read_fault-due file is steady (BadTable answered line cause) why = absurd (fetched-whole command (Absent file) why.0 is)
+    read_fault-due file is steady (BreaksRule line) why = absurd (fetched-whole command (Absent file) why.0 is)
     read_fault-due file is steady (NotVerilog answered line) why = absurd (fetched-whole command (Absent file) why.0 is)
     read_fault-due file is steady (Broken answered fault) why = absurd (fetched-whole command (Absent file) why.0 is)
     read_fault-due file is steady (TooLong answered reported) why = let first = why.first steady in absurd (cc (first, is))
@@ -113,159 +213,118 @@ module _ (files : Files) (out : Stream) (unique : (bytes : List ℕ) (one other 
     too_long-due file length is steady CannotWrite why = absurd (fetched-whole command (Overlong file length) why is)
     too_long-due file length is steady (NotMdl answered line) why = absurd (fetched-whole command (Overlong file length) why.0 is)
     too_long-due file length is steady (BadTable answered line cause) why = absurd (fetched-whole command (Overlong file length) why.0 is)
+    too_long-due file length is steady (BreaksRule line) why = absurd (fetched-whole command (Overlong file length) why.0 is)
     too_long-due file length is steady (NotVerilog answered line) why = absurd (fetched-whole command (Overlong file length) why.0 is)
     too_long-due file length is steady (Broken answered fault) why = absurd (fetched-whole command (Overlong file length) why.0 is)
     too_long-due file length is steady (TooLong answered reported) why = (0, omega arith, refl)
     too_long-due file length is steady (NotBuilt answered) why = absurd (fetched-whole command (Overlong file length) why.0 is)
 
-    module _ (model bytes : List ℕ) (is_model : model_of command ≡ Some model) (tells : Tells files model bytes) where
-      -- what was fetched of the model is what the shelf tells
-      fetched-is : (file own : List ℕ) → model_of command ≡ Some file → IsFetched files file own → bytes ≡ own
-      fetched-is file own is fetched =
-          let same : model ≡ file = cc (is_model, is) in
-          told-is file bytes own fetched (subst (λ (name : List ℕ). Tells files name bytes) same tells)
+    -- a fault of the first file's told bytes, which excludes an output
+    module _ (bytes : List ℕ) (tells : Tells files (first_of command) bytes) (spoilt : IsGood command bytes → ⊥) where
+      no-output : (text : List ℕ) → IsOutput command files.held text → ⊥
+      no-output text output = spoilt (written-good command text bytes output tells)
 
-      syntax-due : IsNoText bytes → (answer : Answer) → HasCause files command answer → HasWritten files out command answer → Yields 5 (3 ∷ 9 ∷ []) (status_of answer)
-      syntax-due none Done why wrote = let built = written-built command wrote.text model bytes wrote.output is_model tells in absurd (none built.tree built.stands)
-      syntax-due none OutOfMemory why wrote = (1, omega arith, refl)
-      syntax-due none Usage why wrote = absurd why
-      syntax-due none (CannotRead answered) why wrote = (2, omega arith, refl)
-      syntax-due none CannotWrite why wrote = let built = written-built command wrote.text model bytes wrote.output is_model tells in absurd (none built.tree built.stands)
-      syntax-due none (NotMdl answered line) why wrote = (0, omega arith, refl)
-      syntax-due none (BadTable answered line cause) why wrote = absurd (model-alone command model why.1.verilog_file is_model why.1.is_verilog)
-      syntax-due none (NotVerilog answered line) why wrote = absurd (model-alone command model answered.now is_model why.1.is_verilog)
-      syntax-due none (Broken answered fault) why wrote = absurd (model-alone command model answered.now is_model why.1.is_verilog)
-      syntax-due none (TooLong answered reported) why wrote = (3, omega arith, refl)
-      syntax-due none (NotBuilt answered) why wrote =
-          let other = subst IsNotBuilt (sym (fetched-is answered.now why.1.bytes why.1.is_model why.1.fetched)) why.1.not_built in
-          absurd (none other.tree other.stands)
+      no-bad : (own : ℕ) (file : List ℕ) (line : ℕ) (cause : TableCause) → HasBadLine files command file line cause → Yields own (3 ∷ 9 ∷ []) 6
+      no-bad own file line cause why = absurd (spoilt (bad-good command bytes file line cause tells why))
 
-      not_built-due : IsNotBuilt bytes → (answer : Answer) → HasCause files command answer → HasWritten files out command answer → Yields 10 (3 ∷ 9 ∷ []) (status_of answer)
-      not_built-due other Done why wrote = absurd (not-both bytes (written-built command wrote.text model bytes wrote.output is_model tells) other)
-      not_built-due other OutOfMemory why wrote = (1, omega arith, refl)
-      not_built-due other Usage why wrote = absurd why
-      not_built-due other (CannotRead answered) why wrote = (2, omega arith, refl)
-      not_built-due other CannotWrite why wrote = absurd (not-both bytes (written-built command wrote.text model bytes wrote.output is_model tells) other)
-      not_built-due other (NotMdl answered line) why wrote =
-          let none = subst IsNoText (sym (fetched-is answered.now why.1.bytes why.1.is_model why.1.fetched)) why.1.not_mdl.no_tree in
-          absurd (none other.tree other.stands)
-      not_built-due other (BadTable answered line cause) why wrote = absurd (model-alone command model why.1.verilog_file is_model why.1.is_verilog)
-      not_built-due other (NotVerilog answered line) why wrote = absurd (model-alone command model answered.now is_model why.1.is_verilog)
-      not_built-due other (Broken answered fault) why wrote = absurd (model-alone command model answered.now is_model why.1.is_verilog)
-      not_built-due other (TooLong answered reported) why wrote = (3, omega arith, refl)
-      not_built-due other (NotBuilt answered) why wrote = (0, omega arith, refl)
+    syntax-due : (model bytes : List ℕ) → model_of command ≡ Some model → Tells files (first_of command) bytes → IsNoText bytes → (answer : Answer) → HasCause files command answer → HasWritten files out command answer → Yields 5 (3 ∷ 9 ∷ []) (status_of answer)
+    syntax-due model bytes is tells none =
+        let spoilt : IsGood command bytes → ⊥ = λ good. (let tree = good-tree command model bytes is good in none tree.0 tree.1) in
+        by-answer 5 command (no-output bytes tells spoilt) (λ file line why. own-first 5) (no-bad bytes tells spoilt 5)
+        (λ line why. let broken = told-rule command bytes line tells why in absurd (none broken.tree broken.stands))
+        (λ file line why. absurd (model-alone command model file is why.is_verilog)) (λ file fault why. absurd (model-alone command model file is why.is_verilog))
+        (λ file why. let other = told-other command bytes file tells why in absurd (none other.tree other.stands))
 
-    module _ (verilog bytes : List ℕ) (is_verilog : verilog_of command ≡ Some verilog) (tells : Tells files verilog bytes) where
-      -- what was fetched of the Verilog text is what the shelf tells
-      verilog-is : (file own : List ℕ) → verilog_of command ≡ Some file → IsFetched files file own → bytes ≡ own
-      verilog-is file own is fetched =
-          let same : verilog ≡ file = cc (is_verilog, is) in
-          told-is file bytes own fetched (subst (λ (name : List ℕ). Tells files name bytes) same tells)
+    not_built-due : (model bytes : List ℕ) → generated_of command ≡ Some model → Tells files (first_of command) bytes → IsNotBuilt bytes → (answer : Answer) → HasCause files command answer → HasWritten files out command answer → Yields 10 (3 ∷ 9 ∷ []) (status_of answer)
+    not_built-due model bytes is tells other =
+        let spoilt : IsGood command bytes → ⊥ = λ good. good-built command model bytes is good other in
+        let own = generated-model command model is in
+        by-answer 10 command (no-output bytes tells spoilt) (λ file line why. absurd (told-none command bytes file line tells why other.tree other.stands)) (no-bad bytes tells spoilt 10)
+        (λ line why. absurd (generated-alone command model why.file is why.is_model))
+        (λ file line why. absurd (model-alone command model file own why.is_verilog)) (λ file fault why. absurd (model-alone command model file own why.is_verilog))
+        (λ file why. own-first 10)
 
-      -- where the stimulus has a bad line the Verilog text is sound
-      bad-sound : (file : List ℕ) (line : ℕ) (cause : TableCause) (why : HasBadLine files command file line cause) → IsSoundText bytes why.bad.made
-      bad-sound file line cause why = subst (λ (b : List ℕ). IsSoundText b why.bad.made) (sym (verilog-is why.verilog_file why.verilog why.is_verilog why.verilog_fetched)) why.bad.spelled
+    broken_rule-due : (model bytes : List ℕ) → checked_of command ≡ Some model → Tells files (first_of command) bytes → IsWithoutDiagram bytes
+        → (answer : Answer) → HasCause files command answer → HasWritten files out command answer → Yields 7 (3 ∷ 9 ∷ []) (status_of answer)
+    broken_rule-due model bytes is tells refused =
+        let spoilt : IsGood command bytes → ⊥ = λ good. (let diagram = good-diagram command model bytes is good in refused.none diagram.0 diagram.1) in
+        let own = checked-model command model is in
+        by-answer 7 command (no-output bytes tells spoilt) (λ file line why. absurd (told-none command bytes file line tells why refused.tree refused.stands)) (no-bad bytes tells spoilt 7)
+        (λ line why. own-first 7)
+        (λ file line why. absurd (model-alone command model file own why.is_verilog)) (λ file condition why. absurd (model-alone command model file own why.is_verilog))
+        (λ file why. absurd (generated-alone command file model why.is_model is))
 
-      not_verilog-due : IsNoVerilog bytes → (answer : Answer) → HasCause files command answer → HasWritten files out command answer → Yields 8 (3 ∷ 9 ∷ []) (status_of answer)
-      not_verilog-due none Done why wrote = let made = written-sound command wrote.text verilog bytes wrote.output is_verilog tells in absurd (none made.0 made.1.spells made.1.few)
-      not_verilog-due none OutOfMemory why wrote = (1, omega arith, refl)
-      not_verilog-due none Usage why wrote = absurd why
-      not_verilog-due none (CannotRead answered) why wrote = (2, omega arith, refl)
-      not_verilog-due none CannotWrite why wrote = let made = written-sound command wrote.text verilog bytes wrote.output is_verilog tells in absurd (none made.0 made.1.spells made.1.few)
-      not_verilog-due none (NotMdl answered line) why wrote = absurd (model-alone command answered.now verilog why.1.is_model is_verilog)
-      not_verilog-due none (BadTable answered line cause) why wrote = let sound = bad-sound answered.now line cause why.1 in absurd (none why.1.bad.made sound.spells sound.few)
-      not_verilog-due none (NotVerilog answered line) why wrote = (0, omega arith, refl)
-      not_verilog-due none (Broken answered fault) why wrote = (0, omega arith, refl)
-      not_verilog-due none (TooLong answered reported) why wrote = (3, omega arith, refl)
-      not_verilog-due none (NotBuilt answered) why wrote = absurd (model-alone command answered.now verilog why.1.is_model is_verilog)
+    not_verilog-due : (verilog bytes : List ℕ) → verilog_of command ≡ Some verilog → Tells files (first_of command) bytes → IsNoVerilog bytes → (answer : Answer) → HasCause files command answer → HasWritten files out command answer → Yields 8 (3 ∷ 9 ∷ []) (status_of answer)
+    not_verilog-due verilog bytes is tells none =
+        let spoilt : IsGood command bytes → ⊥ = λ good. (let made = good-sound command verilog bytes is good in none made.0 made.1.spells made.1.few) in
+        by-answer 8 command (no-output bytes tells spoilt) (λ file line why. absurd (model-alone command file verilog why.is_model is)) (no-bad bytes tells spoilt 8)
+        (λ line why. absurd (model-alone command why.file verilog (checked-model command why.file why.is_model) is))
+        (λ file line why. own-first 8) (λ file fault why. own-first 8)
+        (λ file why. absurd (model-alone command file verilog (generated-model command file why.is_model) is))
 
-      broken-due : (condition : Fault) → HasFault bytes condition → (answer : Answer) → HasCause files command answer → HasWritten files out command answer → Yields 8 (3 ∷ 9 ∷ []) (status_of answer)
-      broken-due condition has Done why wrote = let made = written-sound command wrote.text verilog bytes wrote.output is_verilog tells in absurd (not-sound bytes made.0 condition made.1 has)
-      broken-due condition has OutOfMemory why wrote = (1, omega arith, refl)
-      broken-due condition has Usage why wrote = absurd why
-      broken-due condition has (CannotRead answered) why wrote = (2, omega arith, refl)
-      broken-due condition has CannotWrite why wrote = let made = written-sound command wrote.text verilog bytes wrote.output is_verilog tells in absurd (not-sound bytes made.0 condition made.1 has)
-      broken-due condition has (NotMdl answered line) why wrote = absurd (model-alone command answered.now verilog why.1.is_model is_verilog)
-      broken-due condition has (BadTable answered line cause) why wrote = absurd (not-sound bytes why.1.bad.made condition (bad-sound answered.now line cause why.1) has)
-      broken-due condition has (NotVerilog answered line) why wrote = (0, omega arith, refl)
-      broken-due condition has (Broken answered fault) why wrote = (0, omega arith, refl)
-      broken-due condition has (TooLong answered reported) why wrote = (3, omega arith, refl)
-      broken-due condition has (NotBuilt answered) why wrote = absurd (model-alone command answered.now verilog why.1.is_model is_verilog)
+    broken-due : (verilog bytes : List ℕ) (condition : Fault) → verilog_of command ≡ Some verilog → Tells files (first_of command) bytes → HasFault bytes condition → (answer : Answer) → HasCause files command answer → HasWritten files out command answer → Yields 8 (3 ∷ 9 ∷ []) (status_of answer)
+    broken-due verilog bytes condition is tells has =
+        let spoilt : IsGood command bytes → ⊥ = λ good. (let made = good-sound command verilog bytes is good in not-sound bytes made.0 condition made.1 has) in
+        by-answer 8 command (no-output bytes tells spoilt) (λ file line why. absurd (model-alone command file verilog why.is_model is)) (no-bad bytes tells spoilt 8)
+        (λ line why. absurd (model-alone command why.file verilog (checked-model command why.file why.is_model) is))
+        (λ file line why. own-first 8) (λ file fault why. own-first 8)
+        (λ file why. absurd (model-alone command file verilog (generated-model command file why.is_model) is))
 
-      module _ (stimulus numbers : List ℕ) (is_stimulus : stimulus_of command ≡ Some stimulus) (tells_numbers : Tells files stimulus numbers) (line : ℕ) (cause : TableCause) (bad : IsBadStimulus bytes numbers line cause) where
-        not-good : (made : Module) → IsSoundText bytes made → fault_for made numbers ≡ None → ⊥
-        not-good made sound good =
-            let same = one_module bytes made bad.made sound.spells bad.spelled.spells in
-            let e = ap (λ (m : Module). fault_for m numbers) (sym same) ∙ good in
-            let b = bad.bad in
-            absurd (cc (e, b))
+    bad_table-due : (bytes stimulus numbers : List ℕ) → stimulus_of command ≡ Some stimulus → Tells files (first_of command) bytes → Tells files stimulus numbers → IsBadFor command bytes numbers
+        → (answer : Answer) → HasCause files command answer → HasWritten files out command answer → Yields 6 (3 ∷ 9 ∷ []) (status_of answer)
+    bad_table-due bytes stimulus numbers is tells told bad =
+        let fit = bad-fit command bytes numbers bad in
+        by-answer 6 command (λ text output. written-bad command text bytes stimulus numbers output is tells told bad)
+        (λ file at why. absurd (not-none command bytes tells fit file at why)) (λ file at of why. own-first 6)
+        (λ at why. absurd (not-rule command bytes tells fit at why))
+        (λ file at why. absurd (not-no_verilog command bytes tells fit file at why)) (λ file fault why. absurd (not-fault command bytes tells fit file fault why))
+        (λ file why. absurd (not-other command bytes tells fit file why))
 
-        written-good : (owned : Command) (text : List ℕ) → IsOutput owned files.held text → verilog_of owned ≡ Some verilog → stimulus_of owned ≡ Some stimulus → ⊥
-        written-good (Generate own) text output is other = absurd (cc is)
-        written-good (Replay own rows) text output is other =
-            let same : verilog ≡ own = cc is in
-            let same' : stimulus ≡ rows = cc other in
-            let told = told-is own bytes output.verilog_bytes output.verilog_fetched (subst (λ (file : List ℕ). Tells files file bytes) same tells) in
-            let told' = told-is rows numbers output.stimulus_bytes output.stimulus_fetched (subst (λ (file : List ℕ). Tells files file numbers) same' tells_numbers) in
-            not-good output.replay.made (subst (λ (b : List ℕ). IsSoundText b output.replay.made) (sym told) output.replay.spelled)
-            (ap (fault_for output.replay.made) told' ∙ output.replay.rows_are.no_fault)
+    -- told under the file's own name
+    told-model : (model bytes : List ℕ) → model_of command ≡ Some model → Tells files model bytes → Tells files (first_of command) bytes
+    told-model model bytes is tells = subst (λ (file : List ℕ). Tells files file bytes) (first-model command model is) tells
 
-        bad_table-due : (answer : Answer) → HasCause files command answer → HasWritten files out command answer → Yields 6 (3 ∷ 9 ∷ []) (status_of answer)
-        bad_table-due Done why wrote = absurd (written-good command wrote.text wrote.output is_verilog is_stimulus)
-        bad_table-due OutOfMemory why wrote = (1, omega arith, refl)
-        bad_table-due Usage why wrote = absurd why
-        bad_table-due (CannotRead answered) why wrote = (2, omega arith, refl)
-        bad_table-due CannotWrite why wrote = absurd (written-good command wrote.text wrote.output is_verilog is_stimulus)
-        bad_table-due (NotMdl answered at) why wrote = absurd (model-alone command answered.now verilog why.1.is_model is_verilog)
-        bad_table-due (BadTable answered at of) why wrote = (0, omega arith, refl)
-        bad_table-due (NotVerilog answered at) why wrote =
-            let none = subst IsNoVerilog (sym (verilog-is answered.now why.1.bytes why.1.is_verilog why.1.fetched)) why.1.not_verilog.refused in
-            absurd (none bad.made bad.spelled.spells bad.spelled.few)
-        bad_table-due (Broken answered fault) why wrote =
-            let has = subst (λ (b : List ℕ). HasFault b why.1.broken.condition) (sym (verilog-is answered.now why.1.bytes why.1.is_verilog why.1.fetched)) why.1.broken.has in
-            absurd (not-sound bytes bad.made why.1.broken.condition bad.spelled has)
-        bad_table-due (TooLong answered reported) why wrote = (3, omega arith, refl)
-        bad_table-due (NotBuilt answered) why wrote = absurd (model-alone command answered.now verilog why.1.is_model is_verilog)
+    told-verilog : (verilog bytes : List ℕ) → verilog_of command ≡ Some verilog → Tells files verilog bytes → Tells files (first_of command) bytes
+    told-verilog verilog bytes is tells = subst (λ (file : List ℕ). Tells files file bytes) (first-verilog command verilog is) tells
 
     is-due : (answer : Answer) → HasCause files command answer → HasWritten files out command answer → IsDue files command (status_of answer)
     is-due answer why wrote = record {
       read_fault = λ steady file is. read_fault-due file is steady answer why;
       too_long = λ steady file length is. too_long-due file length is steady answer why;
-      syntax = λ model bytes is_model tells none. syntax-due model bytes is_model tells none answer why wrote;
-      not_built = λ model bytes is_model tells other. not_built-due model bytes is_model tells other answer why wrote;
-      not_verilog = λ verilog bytes is_verilog tells none. not_verilog-due verilog bytes is_verilog tells none answer why wrote;
-      broken = λ verilog bytes condition is_verilog tells has. broken-due verilog bytes is_verilog tells condition has answer why wrote;
-      bad_table = λ verilog verilog_bytes stimulus bytes line cause is_verilog is_stimulus tells tells_numbers bad. bad_table-due verilog verilog_bytes is_verilog tells stimulus bytes is_stimulus tells_numbers line cause bad answer why wrote;
+      syntax = λ model bytes is tells none. syntax-due model bytes is (told-model model bytes is tells) none answer why wrote;
+      not_built = λ model bytes is tells other. not_built-due model bytes is (told-model model bytes (generated-model command model is) tells) other answer why wrote;
+      broken_rule = λ model bytes is tells refused. broken_rule-due model bytes is (told-model model bytes (checked-model command model is) tells) refused answer why wrote;
+      not_verilog = λ verilog bytes is tells none. not_verilog-due verilog bytes is (told-verilog verilog bytes is tells) none answer why wrote;
+      broken = λ verilog bytes condition is tells has. broken-due verilog bytes condition is (told-verilog verilog bytes is tells) has answer why wrote;
+      bad_table = λ first stimulus bytes is tells told bad. bad_table-due first stimulus bytes is tells told bad answer why wrote;
     }
 
-  -- a model that can be done is no fault of the text
-  model-built : (command : Command) → CanBeDone files command → (file bytes : List ℕ) → model_of command ≡ Some file → IsFetched files file bytes → IsBuilt bytes
-  model-built (Replay verilog stimulus) can file bytes is fetched = absurd (cc is)
-  model-built (Generate model) can file bytes is fetched =
-      let same : model ≡ file = cc is in
-      subst IsBuilt (told-is file can.0 bytes fetched (subst (λ (name : List ℕ). Tells files name can.0) same can.1.0)) can.1.1
+  -- ---- where the command can be done
 
-  -- nor is a Verilog text
-  verilog-sound : (command : Command) → CanBeDone files command → (file bytes : List ℕ) → verilog_of command ≡ Some file → IsFetched files file bytes → (made : Module) × IsSoundText bytes made
-  verilog-sound (Generate model) can file bytes is fetched = absurd (cc is)
-  verilog-sound (Replay verilog stimulus) can file bytes is fetched =
-      let same : verilog ≡ file = cc is in
-      (can.can.made, subst (λ (b : List ℕ). IsSoundText b can.can.made) (told-is file can.verilog_bytes bytes fetched (subst (λ (name : List ℕ). Tells files name can.verilog_bytes) same can.verilog_told)) can.can.spelled)
+  can-bytes : (command : Command) → CanBeDone files command → (bytes : List ℕ) × (Tells files (first_of command) bytes × IsFit command bytes)
+  can-bytes (Generate model) can = (can.0, (can.1.0, can.1.1))
+  can-bytes (Replay verilog stimulus) can = (can.verilog_bytes, (can.verilog_told, (can.can.made, can.can.spelled)))
+  can-bytes (Simulate model stimulus) can = (can.model_bytes, (can.model_told, can.can.accepted))
 
-  -- nor a stimulus
+  -- the stimulus is good
   stimulus-good : (command : Command) → CanBeDone files command → (file : List ℕ) (line : ℕ) (cause : TableCause) → HasBadLine files command file line cause → ⊥
-  stimulus-good (Generate model) can file line cause why = let is = why.is_verilog in absurd (cc is)
+  stimulus-good (Generate model) can file line cause why = why.bad
   stimulus-good (Replay verilog stimulus) can file line cause why =
-      let is = why.is_verilog in
-      let other = why.is_stimulus in
-      let same : verilog ≡ why.verilog_file = cc is in
-      let same' : stimulus ≡ file = cc other in
-      let told = told-is why.verilog_file can.verilog_bytes why.verilog why.verilog_fetched (subst (λ (name : List ℕ). Tells files name can.verilog_bytes) same can.verilog_told) in
-      let told' = told-is file can.stimulus_bytes why.stimulus why.stimulus_fetched (subst (λ (name : List ℕ). Tells files name can.stimulus_bytes) same' can.stimulus_told) in
-      let one = one_module why.verilog can.can.made why.bad.made (subst (λ (b : List ℕ). Spells b can.can.made) told can.can.spelled.spells) why.bad.spelled.spells in
-      let good : fault_for why.bad.made why.stimulus ≡ None = ap (λ (m : Module). fault_for m why.stimulus) (sym one) ∙ ap (fault_for can.can.made) (sym told') ∙ can.can.good in
-      let bad = why.bad.bad in
-      absurd (cc (good, bad))
+      let same : stimulus ≡ file = cc why.is_stimulus in
+      let first = told-is verilog can.verilog_bytes why.first why.first_fetched can.verilog_told in
+      let second = fetched-told stimulus file can.stimulus_bytes why.stimulus same why.stimulus_fetched can.stimulus_told in
+      let sound = subst (λ (b : List ℕ). IsSoundText b can.can.made) first can.can.spelled in
+      let one = one_module why.first can.can.made why.bad.made sound.spells why.bad.spelled.spells in
+      let e = ap (λ (m : Module). fault_for m why.stimulus) (sym one) ∙ ap (fault_for can.can.made) (sym second) ∙ can.can.good in
+      let f = why.bad.bad in
+      absurd (cc (e, f))
+  stimulus-good (Simulate model stimulus) can file line cause why =
+      let same : stimulus ≡ file = cc why.is_stimulus in
+      let first = told-is model can.model_bytes why.first why.first_fetched can.model_told in
+      let second = fetched-told stimulus file can.stimulus_bytes why.stimulus same why.stimulus_fetched can.stimulus_told in
+      let e = ap (fault_in why.bad.diagram) (sym second) ∙ can.can.good why.bad.diagram (subst (λ (b : List ℕ). IsModelOf b why.bad.diagram) (sym first) why.bad.accepted) in
+      let f = why.bad.bad in
+      absurd (cc (e, f))
 
   is-complete : (command : Command) (answer : Answer) → HasCause files command answer → HasWritten files out command answer → IsComplete files out command (status_of answer)
   is-complete command Done why wrote can gives writes = (0, omega arith, refl)
@@ -274,21 +333,14 @@ module _ (files : Files) (out : Stream) (unique : (bytes : List ℕ) (one other 
   is-complete command (CannotRead file) why wrote can (inl steady) writes = let first = why.first steady.0 in let none = steady.1 in absurd (cc (first, none))
   is-complete command (CannotRead file) why wrote can (inr quiet) writes = absurd (quiet.0 why.rise)
   is-complete command CannotWrite why wrote can gives writes = absurd (writes wrote.rise)
-  is-complete command (NotMdl file line) why wrote can gives writes =
-      let built = model-built command can file.now why.1.bytes why.1.is_model why.1.fetched in
-      absurd (why.1.not_mdl.no_tree built.tree built.stands)
+  is-complete command (NotMdl file line) why wrote can gives writes = let told = can-bytes command can in absurd (not-none command told.0 told.1.0 told.1.1 file.now line why.1)
   is-complete command (BadTable file line cause) why wrote can gives writes = absurd (stimulus-good command can file.now line cause why.1)
-  is-complete command (NotVerilog file line) why wrote can gives writes =
-      let made = verilog-sound command can file.now why.1.bytes why.1.is_verilog why.1.fetched in
-      absurd (why.1.not_verilog.refused made.0 made.1.spells made.1.few)
-  is-complete command (Broken file fault) why wrote can gives writes =
-      let made = verilog-sound command can file.now why.1.bytes why.1.is_verilog why.1.fetched in
-      absurd (not-sound why.1.bytes made.0 why.1.broken.condition made.1 why.1.broken.has)
+  is-complete command (BreaksRule line) why wrote can gives writes = let told = can-bytes command can in absurd (not-rule command told.0 told.1.0 told.1.1 line why.1)
+  is-complete command (NotVerilog file line) why wrote can gives writes = let told = can-bytes command can in absurd (not-no_verilog command told.0 told.1.0 told.1.1 file.now line why.1)
+  is-complete command (Broken file fault) why wrote can gives writes = let told = can-bytes command can in absurd (not-fault command told.0 told.1.0 told.1.1 file.now fault why.1)
   is-complete command (TooLong file length) why wrote can (inl steady) writes = let first = why.first steady.0 in let none = steady.1 in absurd (cc (first, none))
   is-complete command (TooLong file length) why wrote can (inr quiet) writes = absurd (quiet.1 why.rise)
-  is-complete command (NotBuilt file) why wrote can gives writes =
-      let built = model-built command can file.now why.1.bytes why.1.is_model why.1.fetched in
-      absurd (not-both why.1.bytes built why.1.not_built)
+  is-complete command (NotBuilt file) why wrote can gives writes = let told = can-bytes command can in absurd (not-other command told.0 told.1.0 told.1.1 file.now why.1)
 
   -- what holds of the command's answer by its cause holds of the words' command
   by-command : (P : Command → ℕ → Type 0) → ((command : Command) (answer : Answer) → HasCause files command answer → HasWritten files out command answer → P command (status_of answer))

@@ -5,12 +5,16 @@ use Rattle.std.proofs.Math.Seq.{take-append-add}
 use Rattle.fx_io.specs.Sink.{TookProperPrefix, also_took}
 use Rattle.fx_io.specs.Cause.{Rose}
 use Rattle.std.specs.List.{flat_map}
-use Rattle.fx_top.specs.Call.{Said}
+use Rattle.fx_top.specs.Call.{Said, Stream}
 use Rattle.fx_top.specs.Messages.{names_end}
 
 pub took-both : (told : Option (List ℕ)) (first second : List ℕ) → also_took (also_took told first) second ≡ also_took told (first ++ second)
 took-both None first second = refl
 took-both (Some earlier) first second = ap Some (append_assoc earlier first second)
+
+-- what was said of one piece
+pub said-alone : {stream : Stream} (bytes text : List ℕ) → bytes ≡ text → Said stream (bytes ++ []) → Said stream text
+said-alone {stream} bytes text same said = subst (λ (b : List ℕ). Said stream b) (append-nil bytes ∙ same) said
 
 pub said-more : (told before now : Option (List ℕ)) (f0 f1 f2 : ℕ) (piece more : List ℕ) → before ≡ also_took told piece → f0 ≤ f1
     → Said (record { before = before; now = now; failed = Rose f1 f2 }) more

@@ -3,10 +3,12 @@ use Rattle.std.specs.Prelude.{◌≡◌, ℕ, List, Contains, All, Some}
 use Rattle.fx_io.specs.Shelf.{Fetched, IsOverlong}
 use Rattle.fx_io.specs.Sink.{also_took, TookProperPrefix}
 use Rattle.fx_top.specs.Call.{Files, Stream}
-use Rattle.fx_top.specs.Command.{Command, model_of, verilog_of, stimulus_of, files_of}
+use Rattle.fx_top.specs.Command.{Command, model_of, generated_of, checked_of, verilog_of, stimulus_of, first_of, files_of}
 use Rattle.fx_top.specs.Trouble.{Absent, Overlong, first_trouble, file_limit}
-use Rattle.fx_top.specs.Output.{IsNotMdl, IsNotBuilt, IsOutput}
-use Rattle.fx_top.specs.Replayed.{IsBadStimulus, IsBroken, IsNotVerilog}
+use Rattle.fx_model.specs.Model.{IsNotMdl}
+use Rattle.fx_model.specs.RuleLine.{TellsRule}
+use Rattle.fx_top.specs.Output.{IsNotBuilt, IsBadTable, IsOutput}
+use Rattle.fx_top.specs.Replayed.{IsBroken, IsNotVerilog}
 use Rattle.fx_tables.specs.declared.table.TableCause.{TableCause}
 use Rattle.vl_check.specs.declared.fault.VlFault.{VlFault}
 
@@ -41,22 +43,28 @@ pub record HasNoTree (files : Files) (command : Command) (file : List ℕ) (line
 
 -- the file is the model, and what was fetched of it stands for a tree of a form that isn't built
 pub record HasOtherForm (files : Files) (command : Command) (file : List ℕ) : Type 0 where
-  pub is_model : model_of command ≡ Some file
+  pub is_model : generated_of command ≡ Some file
   pub bytes : List ℕ
   pub fetched : IsFetched files file bytes
   pub not_built : IsNotBuilt bytes
 
--- the file is the stimulus, and what was fetched of it has its first bad line there, by the columns of the
--- module that the Verilog text spells, which breaks no condition
+-- what was fetched of the model stands for a tree that breaks a rule, and this line tells the first of them
+pub record HasBrokenRule (files : Files) (command : Command) (line : List ℕ) : Type 0 where
+  pub file : List ℕ
+  pub is_model : checked_of command ≡ Some file
+  pub bytes : List ℕ
+  pub fetched : IsFetched files file bytes
+  pub told : TellsRule bytes line
+
+-- the file is the stimulus, and what was fetched of it has its first bad line there, by the columns that the
+-- command has of what was fetched of its first file
 pub record HasBadLine (files : Files) (command : Command) (file : List ℕ) (line : ℕ) (cause : TableCause) : Type 0 where
   pub is_stimulus : stimulus_of command ≡ Some file
-  pub verilog_file : List ℕ
-  pub is_verilog : verilog_of command ≡ Some verilog_file
-  pub verilog : List ℕ
+  pub first : List ℕ
   pub stimulus : List ℕ
-  pub verilog_fetched : IsFetched files verilog_file verilog
+  pub first_fetched : IsFetched files (first_of command) first
   pub stimulus_fetched : IsFetched files file stimulus
-  pub bad : IsBadStimulus verilog stimulus line cause
+  pub bad : IsBadTable command first stimulus line cause
 
 -- the file is the Verilog text, and what was fetched of it isn't in the subset, and stops being the beginning
 -- of a text at this line

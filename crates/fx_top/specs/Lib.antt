@@ -10,5 +10,6 @@ pub mod OneDelay
 pub mod Outcome
 pub mod Output
 pub mod Replayed
+pub mod Simulated
 pub mod Trouble
 pub mod inner

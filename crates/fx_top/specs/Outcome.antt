@@ -1,10 +1,12 @@
 -- Which status a command owes, where the shelf tells what it holds (own).
 use Rattle.std.specs.Prelude.{◌≡◌, ℕ, ◌⊎◌, List, [], ◌∷◌, Contains, Some, None}
 use Rattle.fx_top.specs.Call.{Files, Stream}
-use Rattle.fx_top.specs.Command.{Command, Generate, Replay, command_of, model_of, verilog_of, stimulus_of, files_of}
+use Rattle.fx_top.specs.Command.{Command, Generate, Replay, Simulate, command_of, model_of, generated_of, checked_of, verilog_of, stimulus_of, first_of, files_of}
 use Rattle.fx_top.specs.Trouble.{Absent, Overlong, first_trouble}
-use Rattle.fx_top.specs.Output.{IsNoText, IsNotBuilt, IsBuilt}
+use Rattle.fx_model.specs.Model.{IsNoText, IsWithoutDiagram}
+use Rattle.fx_top.specs.Output.{IsNotBuilt, IsBuilt}
 use Rattle.fx_top.specs.Replayed.{CanBeReplayed, HasFault, IsBadStimulus, IsNoVerilog}
+use Rattle.fx_top.specs.Simulated.{CanBeSimulated, IsSpoilt}
 use Rattle.fx_tables.specs.declared.table.TableCause.{TableCause}
 use Rattle.vl_ast.specs.Conditions.{Fault}
 
@@ -20,6 +22,12 @@ Yields own earlier status = Contains (own ∷ 1 ∷ earlier) status
 abbrev pub Tells : Files → List ℕ → List ℕ → Type 0
 Tells files file bytes = files.held file ≡ Some (Some bytes)
 
+-- a Verilog text whose module breaks no condition, or a model that keeps the rules, and a bad line of the stimulus
+abbrev pub IsBadFor : Command → List ℕ → List ℕ → Type 0
+IsBadFor (Generate model) first stimulus = ⊥
+IsBadFor (Replay verilog text) first stimulus = (line : ℕ) × ((cause : TableCause) × IsBadStimulus first stimulus line cause)
+IsBadFor (Simulate model text) first stimulus = IsSpoilt first stimulus
+
 -- what the files ask of the status
 pub record IsDue (files : Files) (command : Command) (status : ℕ) : Type 0 where
   -- over a steady shelf: 3 where the first file in trouble isn't held
@@ -32,18 +40,21 @@ pub record IsDue (files : Files) (command : Command) (status : ℕ) : Type 0 whe
   pub syntax : (model bytes : List ℕ) → model_of command ≡ Some model → Tells files model bytes
       → IsNoText bytes → Yields 5 (3 ∷ 9 ∷ []) status
   -- where the model's bytes are told: 10 where they stand for a tree of another form
-  pub not_built : (model bytes : List ℕ) → model_of command ≡ Some model → Tells files model bytes
+  pub not_built : (model bytes : List ℕ) → generated_of command ≡ Some model → Tells files model bytes
       → IsNotBuilt bytes → Yields 10 (3 ∷ 9 ∷ []) status
+  -- where they are told: 7 where they stand for a tree and are the model of no diagram
+  pub broken_rule : (model bytes : List ℕ) → checked_of command ≡ Some model → Tells files model bytes
+      → IsWithoutDiagram bytes → Yields 7 (3 ∷ 9 ∷ []) status
   -- where the bytes of the Verilog text are told: 8 where they aren't in the subset
   pub not_verilog : (verilog bytes : List ℕ) → verilog_of command ≡ Some verilog → Tells files verilog bytes
       → IsNoVerilog bytes → Yields 8 (3 ∷ 9 ∷ []) status
   -- where they are told: 8 where their module breaks a condition
   pub broken : (verilog bytes : List ℕ) (condition : Fault) → verilog_of command ≡ Some verilog → Tells files verilog bytes
       → HasFault bytes condition → Yields 8 (3 ∷ 9 ∷ []) status
-  -- where they and the bytes of the stimulus are told: 6 where this has a bad line
-  pub bad_table : (verilog verilog_bytes stimulus bytes : List ℕ) (line : ℕ) (cause : TableCause) → verilog_of command ≡ Some verilog → stimulus_of command ≡ Some stimulus
-      → Tells files verilog verilog_bytes → Tells files stimulus bytes
-      → IsBadStimulus verilog_bytes bytes line cause → Yields 6 (3 ∷ 9 ∷ []) status
+  -- where the bytes of the first file and of the stimulus are told: 6 where this has a bad line
+  pub bad_table : (first stimulus bytes : List ℕ) → stimulus_of command ≡ Some stimulus
+      → Tells files (first_of command) first → Tells files stimulus bytes
+      → IsBadFor command first bytes → Yields 6 (3 ∷ 9 ∷ []) status
 
 -- the shelf tells the bytes of two files, whose module has its columns' numbers in the stimulus
 pub record CanReplay (files : Files) (verilog stimulus : List ℕ) : Type 0 where
@@ -53,10 +64,19 @@ pub record CanReplay (files : Files) (verilog stimulus : List ℕ) : Type 0 wher
   pub stimulus_told : Tells files stimulus stimulus_bytes
   pub can : CanBeReplayed verilog_bytes stimulus_bytes
 
+-- the shelf tells the bytes of two files: a model that keeps the rules, and its columns' numbers
+pub record CanSimulate (files : Files) (model stimulus : List ℕ) : Type 0 where
+  pub model_bytes : List ℕ
+  pub stimulus_bytes : List ℕ
+  pub model_told : Tells files model model_bytes
+  pub stimulus_told : Tells files stimulus stimulus_bytes
+  pub can : CanBeSimulated model_bytes stimulus_bytes
+
 -- the files' texts are told, and the command has an output of them
 abbrev pub CanBeDone : Files → Command → Type 0
 CanBeDone files (Generate model) = (bytes : List ℕ) × (Tells files model bytes × IsBuilt bytes)
 CanBeDone files (Replay verilog stimulus) = CanReplay files verilog stimulus
+CanBeDone files (Simulate model stimulus) = CanSimulate files model stimulus
 
 -- the shelf is steady and no file is in trouble, or neither of its counts rose
 abbrev pub GivesAll : Files → Command → Type 0

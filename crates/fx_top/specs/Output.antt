@@ -3,16 +3,17 @@ use Rattle.std.specs.Prelude.{◌≡◌, ℕ, List, []}
 use Rattle.fx_io.specs.Shelf.{Told, Fetched}
 use Rattle.mdl_text.specs.declared.tree.Tree.{Tree}
 use Rattle.mdl_text.specs.Stands.{Stands}
-use Rattle.mdl_text.specs.Prefix.{IsMdlFaultLine}
 use Rattle.vl_ast.specs.declared.modules.Module.{Module}
 use Rattle.vl_ast.specs.Grammar.{Spells}
 use Rattle.vl_ast.specs.Spelling.{spelling}
 use Rattle.fx_top.specs.declared.one_delay.OneDelay.{OneDelay}
 use Rattle.fx_top.specs.Carries.{Carries}
-use Rattle.fx_top.specs.Command.{Command, Generate, Replay}
+use Rattle.fx_top.specs.Command.{Command, Generate, Replay, Simulate}
 use Rattle.fx_top.specs.DelayTree.{IsOneDelay}
 use Rattle.fx_top.specs.OneDelay.{delay_interface, SolvesDelay}
-use Rattle.fx_top.specs.Replayed.{IsReplayOf}
+use Rattle.fx_tables.specs.declared.table.TableCause.{TableCause}
+use Rattle.fx_top.specs.Replayed.{IsReplayOf, IsBadStimulus}
+use Rattle.fx_top.specs.Simulated.{IsSimulationOf, IsBadSimulation}
 use Rattle.fx_top.specs.Trouble.{file_limit}
 
 -- the text spells this module and no other
@@ -41,15 +42,6 @@ pub record IsVerilogOf (model plan text : List ℕ) : Type 0 where
   pub alone : SpellsAlone text made
   pub carries : CarriesModel made tree plan
 
--- the bytes are no MDL text
-abbrev pub IsNoText : List ℕ → Type 0
-IsNoText bytes = (tree : Tree) → Stands bytes tree → ⊥
-
--- the bytes stand for no tree, and stop being the beginning of a text at this line
-pub record IsNotMdl (bytes : List ℕ) (line : ℕ) : Type 0 where
-  pub no_tree : IsNoText bytes
-  pub fault : IsMdlFaultLine bytes line
-
 -- the bytes stand for a tree of another form than those that are built
 pub record IsNotBuilt (bytes : List ℕ) : Type 0 where
   pub tree : Tree
@@ -71,7 +63,22 @@ pub record IsReplayOfFiles (verilog stimulus : Told) (text : List ℕ) : Type 0 
   pub stimulus_fetched : Fetched stimulus file_limit stimulus_bytes
   pub replay : IsReplayOf verilog_bytes stimulus_bytes text
 
+-- the text is the response of the model that was fetched to the stimulus that was fetched
+pub record IsSimulationOfFiles (model stimulus : Told) (text : List ℕ) : Type 0 where
+  pub model_bytes : List ℕ
+  pub stimulus_bytes : List ℕ
+  pub model_fetched : Fetched model file_limit model_bytes
+  pub stimulus_fetched : Fetched stimulus file_limit stimulus_bytes
+  pub simulation : IsSimulationOf model_bytes stimulus_bytes text
+
+-- the first bad line of the stimulus of a command, by the columns that it has of its first file's bytes
+abbrev pub IsBadTable : Command → List ℕ → List ℕ → ℕ → TableCause → Type 0
+IsBadTable (Generate model) first stimulus line cause = ⊥
+IsBadTable (Replay verilog text) first stimulus line cause = IsBadStimulus first stimulus line cause
+IsBadTable (Simulate model text) first stimulus line cause = IsBadSimulation first stimulus line cause
+
 -- the text that a command writes of what was fetched from the shelf
 abbrev pub IsOutput : Command → (List ℕ → Told) → List ℕ → Type 0
 IsOutput (Generate model) held text = (bytes : List ℕ) × (Fetched (held model) file_limit bytes × IsVerilogOf bytes [] text)
 IsOutput (Replay verilog stimulus) held text = IsReplayOfFiles (held verilog) (held stimulus) text
+IsOutput (Simulate model stimulus) held text = IsSimulationOfFiles (held model) (held stimulus) text

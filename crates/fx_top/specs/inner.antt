@@ -2,4 +2,5 @@ pub mod DelayModule
 pub mod Fetching
 pub mod Named
 pub mod Responding
+pub mod Simulating
 pub mod Template

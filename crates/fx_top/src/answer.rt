@@ -38,6 +38,10 @@ pub enum Answer<'a> {
         line: u64,
         cause: TableCause,
     },
+    /// The model breaks a rule, which this line tells.
+    BreaksRule {
+        line: Text,
+    },
     /// The Verilog text is not in the subset; it stops being the beginning of one at this line, from
     /// 1.
     NotVerilog {
@@ -73,6 +77,7 @@ impl Answer<'_> {
             Answer::CannotWrite => 4,
             Answer::NotMdl { .. } => 5,
             Answer::BadTable { .. } => 6,
+            Answer::BreaksRule { .. } => 7,
             Answer::NotVerilog { .. } | Answer::Broken { .. } => 8,
             Answer::TooLong { .. } => 9,
             Answer::NotBuilt { .. } => 10,
@@ -86,11 +91,15 @@ impl Answer<'_> {
         match self {
             Answer::Done => {}
             Answer::OutOfMemory => say(err, &[b"out of memory\n"]),
-            Answer::Usage => say(err, &[b"usage: generate MODEL -, replay VERILOG STIM\n"]),
+            Answer::Usage => say(
+                err,
+                &[b"usage: simulate MODEL STIM, generate MODEL -, replay VERILOG STIM\n"],
+            ),
             Answer::CannotRead { file } => say(err, &[file.as_bytes(), b": cannot be read\n"]),
             Answer::CannotWrite => say(err, &[b"cannot write\n"]),
             Answer::NotMdl { file, line } => say_line(err, file, *line, b": not MDL text\n"),
             Answer::BadTable { file, line, cause } => say_line(err, file, *line, cause_end(*cause)),
+            Answer::BreaksRule { line } => say(err, &[line.bytes()]),
             Answer::NotVerilog { file, line } => {
                 say_line(err, file, *line, b": not in the Verilog subset\n")
             }

@@ -10,6 +10,8 @@ pub enum Command<'a> {
     Generate { model: &'a str },
     /// To write the response of a Verilog text to a stimulus.
     Replay { verilog: &'a str, stimulus: &'a str },
+    /// To write the response of a model's diagram to a stimulus.
+    Simulate { model: &'a str, stimulus: &'a str },
 }
 
 impl<'a> Command<'a> {
@@ -25,6 +27,10 @@ impl<'a> Command<'a> {
             }
             [verb, verilog, stimulus] if verb.as_str() == "replay" => Some(Command::Replay {
                 verilog: verilog.as_str(),
+                stimulus: stimulus.as_str(),
+            }),
+            [verb, model, stimulus] if verb.as_str() == "simulate" => Some(Command::Simulate {
+                model: model.as_str(),
                 stimulus: stimulus.as_str(),
             }),
             _ => None,

@@ -1,9 +1,10 @@
 ghost use Rattle.std.specs.Prelude.{◌≡◌, ℕ, [], Err, IfOk};
 ghost use Rattle.fx_io.specs.Sink.{also_took, TookProperPrefix};
+ghost use Rattle.fx_model.specs.Model.{IsNotMdl};
 ghost use Rattle.fx_top.specs.Call.{files_in, stream_in};
 ghost use Rattle.fx_top.specs.Caused.{HasCause, HasWritten};
 ghost use Rattle.fx_top.specs.Command.{Generate};
-ghost use Rattle.fx_top.specs.Output.{IsVerilogOf, IsNotMdl, IsNotBuilt};
+ghost use Rattle.fx_top.specs.Output.{IsVerilogOf, IsNotBuilt};
 
 use crate::answer::Answer;
 use crate::delay_module::delay_module;

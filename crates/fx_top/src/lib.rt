@@ -10,7 +10,8 @@
 //! A further command adds a case to `Command`, `command_of`, `files_of`, `IsOutput` and `CanBeDone`; a
 //! further answer adds one to `Answer`, `status_of`, `line_of`, `HasCause` and `HasWritten`.
 //!
-//! `replay` writes a response that is `IsReplayOf` (`specs/Replayed.antt`) the two texts.
+//! `replay` writes a response that is `IsReplayOf` (`specs/Replayed.antt`) the two texts, and `simulate`
+//! one that is `IsSimulationOf` (`specs/Simulated.antt`).
 //!
 //! The headline is `IsVerilogOf` in `specs/Output.antt`: the text spells a module alone that carries
 //! the model. `specs/Carries.antt` says what that is, for any interface and any relation of stimulus and
@@ -26,6 +27,8 @@ mod generate;
 mod one_delay;
 mod replay;
 mod response;
+mod simulate;
+mod simulated;
 mod small_number;
 mod template;
 mod top;

@@ -1,4 +1,5 @@
 mod replays;
+mod simulations;
 
 use crate::run;
 use fx_io::{Failed, MemShelf, MemSink, Sink};
@@ -75,6 +76,10 @@ fn run_succeeds_with_ample_memory(rt: HostRuntime) -> Result<(), Fail> {
         assert!(rt; out.as_str().starts_with(HEADER), "{out}");
         assert!(rt; out.as_str().ends_with(BODY), "{out}");
         assert_eq!(rt; out.len(), HEADER.len() + BODY.len());
+        let files = [("m", UNIT_DELAY), ("s", "5\n-1\n127\n")];
+        let words = ["simulate", "m", "s"];
+        let (status, out, err) = answered_over(&rt, &words, &files, &[], &[], piece)?;
+        assert_eq!(rt; (status, out.as_str(), err.as_str()), (0, "3\n5\n-1\n", ""));
     }
     Ok(())
 }
@@ -87,25 +92,31 @@ fn each_status_has_its_line(rt: HostRuntime) -> Result<(), Fail> {
             &["generate", "m"],
             UNIT_DELAY,
             2,
-            "usage: generate MODEL -, replay VERILOG STIM\n",
+            "usage: simulate MODEL STIM, generate MODEL -, replay VERILOG STIM\n",
         ),
         (
             &[],
             UNIT_DELAY,
             2,
-            "usage: generate MODEL -, replay VERILOG STIM\n",
+            "usage: simulate MODEL STIM, generate MODEL -, replay VERILOG STIM\n",
         ),
         (
             &["invent", "m", "-"],
             UNIT_DELAY,
             2,
-            "usage: generate MODEL -, replay VERILOG STIM\n",
+            "usage: simulate MODEL STIM, generate MODEL -, replay VERILOG STIM\n",
+        ),
+        (
+            &["simulate", "m"],
+            UNIT_DELAY,
+            2,
+            "usage: simulate MODEL STIM, generate MODEL -, replay VERILOG STIM\n",
         ),
         (
             &["generate", "m", "p"],
             UNIT_DELAY,
             2,
-            "usage: generate MODEL -, replay VERILOG STIM\n",
+            "usage: simulate MODEL STIM, generate MODEL -, replay VERILOG STIM\n",
         ),
         (
             &["generate", "n", "-"],

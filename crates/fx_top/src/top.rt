@@ -8,13 +8,15 @@ use crate::answer::Answer;
 use crate::command::Command;
 use crate::generate::generate;
 use crate::replay::replay;
+use crate::simulate::simulate;
 use fx_io::{Shelf, Sink};
 use std::alloc::Global;
 
 /// Does what the words after the program's name ask for, and gives the exit status (own).
 ///
-/// `generate MODEL -` writes the Verilog text of a model. `replay VERILOG STIM` writes what the module
-/// of a Verilog text of the subset shows under a stimulus. The files come from `shelf`, the text goes
+/// `simulate MODEL STIM` writes the response of a model's diagram to a stimulus. `generate MODEL -`
+/// writes the Verilog text of a model. `replay VERILOG STIM` writes what the module of a Verilog text
+/// of the subset shows under a stimulus. The files come from `shelf`, the text goes
 /// to `out`, and each status but 0 puts one line to `err`, whose failure changes nothing.
 pub fn run<S: Shelf, K: Sink, E: Sink>(
     alloc: Global,
@@ -56,6 +58,9 @@ fn carry_out<'a, S: Shelf, K: Sink>(
         Some(Command::Generate { model }) => generate(alloc, model, shelf, out),
         Some(Command::Replay { verilog, stimulus }) => {
             replay(alloc, verilog, stimulus, shelf, out)
+        }
+        Some(Command::Simulate { model, stimulus }) => {
+            simulate(alloc, model, stimulus, shelf, out)
         }
     }
 }

@@ -218,7 +218,7 @@ fn devices_fail_a_replay(rt: HostRuntime) -> Result<(), Fail> {
             &[],
             2,
             "",
-            "usage: generate MODEL -, replay VERILOG STIM\n",
+            "usage: simulate MODEL STIM, generate MODEL -, replay VERILOG STIM\n",
         ),
         (REPLAY, &[1], &[], 3, "", "v: cannot be read\n"),
         (REPLAY, &[2], &[], 3, "", "s: cannot be read\n"),

@@ -43,11 +43,9 @@ returns-in-Err-BadTable-clause-cause g c =
       fetched-both (files_in g.S.Shelf.held g.S.Shelf.steady g.S.Shelf.faults g.S.Shelf.overlong c.args.shelf.now c.fetch_file-2.new.shelf) c.args.verilog.now c.args.stimulus.now c.in-Ok.source c.in-Ok-fetch_file.numbers c.in-Ok.ensures.found numbers,
       record {
         is_stimulus = refl;
-        verilog_file = c.args.verilog.now;
-        is_verilog = refl;
-        verilog = c.in-Ok.source;
+        first = c.in-Ok.source;
         stimulus = c.in-Ok-fetch_file.numbers;
-        verilog_fetched = c.in-Ok.ensures.found;
+        first_fetched = c.in-Ok.ensures.found;
         stimulus_fetched = numbers;
         bad = bad;
       },

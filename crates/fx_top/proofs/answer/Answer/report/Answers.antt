@@ -1,3 +1,4 @@
+use Rattle.fx_top.proofs.Sayings.{said-alone}
 use Rattle.fx_top.proofs.answer.Answer.report.Goals as goal
 
 pub returns-in-OutOfMemory : goal.returns-in-OutOfMemory
@@ -8,3 +9,6 @@ returns-in-Usage g c = rw c.in-Usage.is c.say-in-Usage.ensures.said
 
 pub returns-in-CannotWrite : goal.returns-in-CannotWrite
 returns-in-CannotWrite g c = rw c.in-CannotWrite.is c.say-in-CannotWrite.ensures.said
+
+pub returns-in-BreaksRule : goal.returns-in-BreaksRule
+returns-in-BreaksRule g c = rw c.in-BreaksRule.is (said-alone c.bytes.result.now c.in-BreaksRule.line c.bytes.ensures c.say-in-BreaksRule.ensures.said)

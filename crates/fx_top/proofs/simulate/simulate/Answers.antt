@@ -1,0 +1,64 @@
+use Rattle.std.proofs.Common.{ℕ, List, None, refl, subst, arith}
+use Rattle.fx_io.specs.Cause.{Rose}
+use Rattle.fx_io.specs.Shelf.{Fetched, Told}
+use Rattle.fx_top.specs.Call.{files_in}
+use Rattle.fx_top.specs.Command.{Simulate}
+use Rattle.fx_top.specs.declared.simulated.SimulationFault.{SimulationFault}
+use Rattle.fx_top.specs.Trouble.{file_limit}
+use Rattle.fx_top.specs.inner.Simulating.{IsFaultOf}
+use Rattle.fx_top.proofs.Replayed.{fetched-both, second-first}
+use Rattle.fx_top.proofs.Unfetched.{cause-unfetched, moved}
+use Rattle.fx_top.proofs.simulate.simulate.Goals as goal
+
+pub returns-in-Err-fetch_file-clause-cause : goal.returns-in-Err-fetch_file-clause-cause
+returns-in-Err-fetch_file-clause-cause g c =
+    let files = (files_in g.S.Shelf.held g.S.Shelf.steady g.S.Shelf.faults g.S.Shelf.overlong c.args.shelf.now c.fetch_file-2.new.shelf) in
+    let old = c.args.shelf.now in
+    let mid = c.fetch_file.new.shelf in
+    let new = c.fetch_file-2.new.shelf in
+    let failed : Rose (g.S.Shelf.faults mid) (g.S.Shelf.faults new) → Rose (g.S.Shelf.faults old) (g.S.Shelf.faults new) = λ r. (let l = c.in-Ok.ensures.later in omega (arith, r, l)) in
+    let overlong : Rose (g.S.Shelf.overlong mid) (g.S.Shelf.overlong new) → Rose (g.S.Shelf.overlong old) (g.S.Shelf.overlong new) = λ r. (let l = c.in-Ok.ensures.overlong_later in omega (arith, r, l)) in
+    cause-unfetched files (Simulate c.args.model.now c.args.stimulus.now) c.args.stimulus.now (1, omega arith, refl) None
+    (second-first files c.args.model.now c.args.stimulus.now c.in-Ok.source c.in-Ok.ensures.found) c.in-Err-fetch_file.answer
+    (moved files (files_in g.S.Shelf.held g.S.Shelf.steady g.S.Shelf.faults g.S.Shelf.overlong mid new) c.args.stimulus.now c.in-Err-fetch_file.answer c.in-Ok.ensures.kept c.in-Ok.ensures.stays_steady failed overlong c.in-Err-fetch_file.ensures.refused)
+
+pub returns-in-Err-NotMdl-clause-cause : goal.returns-in-Err-NotMdl-clause-cause
+returns-in-Err-NotMdl-clause-cause g c =
+    let numbers = subst (λ (held : List ℕ → Told). Fetched (held c.args.stimulus.now) file_limit c.in-Ok-fetch_file.numbers) c.in-Ok.ensures.kept c.in-Ok-fetch_file.ensures.found in
+    let not_mdl = subst (λ (fault : SimulationFault). IsFaultOf c.in-Ok.source c.in-Ok-fetch_file.numbers fault) c.in-Err-NotMdl.field-0-is (rw (c.bytes.ensures, c.bytes-2.ensures) at c.in-Err-NotMdl.ensures.refused) in (
+      fetched-both (files_in g.S.Shelf.held g.S.Shelf.steady g.S.Shelf.faults g.S.Shelf.overlong c.args.shelf.now c.fetch_file-2.new.shelf) c.args.model.now c.args.stimulus.now c.in-Ok.source c.in-Ok-fetch_file.numbers c.in-Ok.ensures.found numbers,
+      record { is_model = refl; bytes = c.in-Ok.source; fetched = c.in-Ok.ensures.found; not_mdl = not_mdl },
+    )
+
+pub returns-in-Err-BreaksRule-clause-cause : goal.returns-in-Err-BreaksRule-clause-cause
+returns-in-Err-BreaksRule-clause-cause g c =
+    let numbers = subst (λ (held : List ℕ → Told). Fetched (held c.args.stimulus.now) file_limit c.in-Ok-fetch_file.numbers) c.in-Ok.ensures.kept c.in-Ok-fetch_file.ensures.found in
+    let told = subst (λ (fault : SimulationFault). IsFaultOf c.in-Ok.source c.in-Ok-fetch_file.numbers fault) c.in-Err-BreaksRule.field-0-is (rw (c.bytes.ensures, c.bytes-2.ensures) at c.in-Err-BreaksRule.ensures.refused) in (
+      fetched-both (files_in g.S.Shelf.held g.S.Shelf.steady g.S.Shelf.faults g.S.Shelf.overlong c.args.shelf.now c.fetch_file-2.new.shelf) c.args.model.now c.args.stimulus.now c.in-Ok.source c.in-Ok-fetch_file.numbers c.in-Ok.ensures.found numbers,
+      record { file = c.args.model.now; is_model = refl; bytes = c.in-Ok.source; fetched = c.in-Ok.ensures.found; told = told },
+    )
+
+pub returns-in-Err-BadTable-clause-cause : goal.returns-in-Err-BadTable-clause-cause
+returns-in-Err-BadTable-clause-cause g c =
+    let numbers = subst (λ (held : List ℕ → Told). Fetched (held c.args.stimulus.now) file_limit c.in-Ok-fetch_file.numbers) c.in-Ok.ensures.kept c.in-Ok-fetch_file.ensures.found in
+    let bad = subst (λ (fault : SimulationFault). IsFaultOf c.in-Ok.source c.in-Ok-fetch_file.numbers fault) c.in-Err-BadTable.field-0-is (rw (c.bytes.ensures, c.bytes-2.ensures) at c.in-Err-BadTable.ensures.refused) in (
+      fetched-both (files_in g.S.Shelf.held g.S.Shelf.steady g.S.Shelf.faults g.S.Shelf.overlong c.args.shelf.now c.fetch_file-2.new.shelf) c.args.model.now c.args.stimulus.now c.in-Ok.source c.in-Ok-fetch_file.numbers c.in-Ok.ensures.found numbers,
+      record {
+        is_stimulus = refl;
+        first = c.in-Ok.source;
+        stimulus = c.in-Ok-fetch_file.numbers;
+        first_fetched = c.in-Ok.ensures.found;
+        stimulus_fetched = numbers;
+        bad = bad;
+      },
+    )
+
+pub returns-in-Ok-write_simulation-clause-cause : goal.returns-in-Ok-write_simulation-clause-cause
+returns-in-Ok-write_simulation-clause-cause g c =
+    let numbers = subst (λ (held : List ℕ → Told). Fetched (held c.args.stimulus.now) file_limit c.in-Ok-fetch_file.numbers) c.in-Ok.ensures.kept c.in-Ok-fetch_file.ensures.found in
+    fetched-both (files_in g.S.Shelf.held g.S.Shelf.steady g.S.Shelf.faults g.S.Shelf.overlong c.args.shelf.now c.fetch_file-2.new.shelf) c.args.model.now c.args.stimulus.now c.in-Ok.source c.in-Ok-fetch_file.numbers c.in-Ok.ensures.found numbers
+
+pub returns-clause-cause : goal.returns-clause-cause
+returns-clause-cause g c =
+    let numbers = subst (λ (held : List ℕ → Told). Fetched (held c.args.stimulus.now) file_limit c.in-Ok-fetch_file.numbers) c.in-Ok.ensures.kept c.in-Ok-fetch_file.ensures.found in
+    fetched-both (files_in g.S.Shelf.held g.S.Shelf.steady g.S.Shelf.faults g.S.Shelf.overlong c.args.shelf.now c.fetch_file-2.new.shelf) c.args.model.now c.args.stimulus.now c.in-Ok.source c.in-Ok-fetch_file.numbers c.in-Ok.ensures.found numbers

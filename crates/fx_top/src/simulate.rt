@@ -1,0 +1,56 @@
+ghost use Rattle.std.specs.Prelude.{◌≡◌};
+ghost use Rattle.fx_top.specs.Call.{files_in, stream_in};
+ghost use Rattle.fx_top.specs.Caused.{HasCause, HasWritten};
+ghost use Rattle.fx_top.specs.Command.{Simulate as SimulateOf};
+
+use crate::answer::Answer;
+use crate::fetch::fetch_file;
+use crate::simulated::{Simulation, SimulationFault, simulation_of, write_simulation};
+use fx_io::{Shelf, Sink};
+use std::alloc::Global;
+
+/// Writes the response of a model's diagram to a stimulus, a line per sample. All memory is taken
+/// before the first line.
+pub fn simulate<'a, S: Shelf, K: Sink>(
+    alloc: Global,
+    model: &'a str,
+    stimulus: &'a str,
+    shelf: &mut S,
+    out: &mut K,
+) -> Answer<'a>
+    ensures cause { HasCause (files_in S.held S.steady S.faults S.overlong shelf.old shelf.new)
+        (SimulateOf model.now stimulus.now) result }
+    ensures written { HasWritten (files_in S.held S.steady S.faults S.overlong shelf.old shelf.new)
+        (stream_in K.taken K.faults out.old out.new) (SimulateOf model.now stimulus.now) result }
+{
+    let source = match fetch_file(alloc, model, shelf) {
+        Ok(source) => source,
+        Err(answer) => return answer,
+    };
+    let numbers = match fetch_file(alloc, stimulus, shelf) {
+        Ok(numbers) => numbers,
+        Err(answer) => return answer,
+    };
+    let simulation = match simulation_of(alloc, source.bytes(), numbers.bytes()) {
+        Ok(simulation) => simulation,
+        Err(SimulationFault::NotMdl { line }) => return Answer::NotMdl { file: model, line },
+        Err(SimulationFault::BreaksRule { line }) => return Answer::BreaksRule { line },
+        Err(SimulationFault::BadTable { line, cause }) => {
+            return Answer::BadTable {
+                file: stimulus,
+                line,
+                cause,
+            };
+        }
+        Err(SimulationFault::OutOfMemory) => return Answer::OutOfMemory,
+    };
+    let Simulation {
+        samples,
+        responded,
+        mut text,
+    } = simulation;
+    match write_simulation(&responded, &mut text, samples, out) {
+        Ok(()) => Answer::Done,
+        Err(_) => Answer::CannotWrite,
+    }
+}
