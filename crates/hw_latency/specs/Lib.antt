@@ -1,0 +1,5 @@
+pub mod Shared
+pub mod Cone
+pub mod Weight
+pub mod Latency
+pub mod Laws
