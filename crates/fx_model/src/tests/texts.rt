@@ -230,6 +230,11 @@ pub const ENABLED_ROWS: &[(&str, &str, &str)] = &[
         "Name \"on\"\n          StatesWhenEnabling \"never\"",
         "rule 3 (parameter): \"E/on\": StatesWhenEnabling\n",
     ),
+    (
+        "SrcBlock \"c\"",
+        "SrcBlock \"E\"",
+        "rule 9 (loop): \"E/on\": cycle \"E/on\" \"E/o\"\n",
+    ),
 ];
 
 /// Lines of a plan for the model with a loop, and the registers that they set behind each block, or
