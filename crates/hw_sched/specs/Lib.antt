@@ -1,0 +1,5 @@
+pub mod Level
+pub mod Slots
+pub mod Ready
+pub mod Budget
+pub mod Storage
