@@ -51,21 +51,17 @@ fn simulated(rt: &HostRuntime, model: &str, stimulus: &str) -> Result<(u8, Strin
 
 #[test]
 fn responses_are_those_of_the_diagram(rt: HostRuntime) -> Result<(), Fail> {
+    let as_it_is: &[(&str, &str)] = &[];
+    let pairs: &[(&str, &str)] = &[(INPUT, INPUT_OF_PAIRS)];
+    let slower: &[(&str, &str)] = &[(DELAY, TRANSITION), (INPUT, INPUT_OF_ONE)];
+    let faster: &[(&str, &str)] = &[(DELAY, FASTER), (INPUT, INPUT_OF_TWO)];
     let rows: &[(&[(&str, &str)], &str, &str)] = &[
-        (&[], "5\n-1\n127\n", "3\n5\n-1\n"),
-        (&[], "", ""),
-        (&[(INPUT, INPUT_OF_PAIRS)], "5 6\n-1 0\n", "3 3\n5 6\n"),
+        (as_it_is, "5\n-1\n127\n", "3\n5\n-1\n"),
+        (as_it_is, "", ""),
+        (pairs, "5 6\n-1 0\n", "3 3\n5 6\n"),
         // `-` stands where an output has no hit
-        (
-            &[(DELAY, TRANSITION), (INPUT, INPUT_OF_ONE)],
-            "1\n2\n3\n4\n",
-            "1\n-\n3\n-\n",
-        ),
-        (
-            &[(DELAY, FASTER), (INPUT, INPUT_OF_TWO)],
-            "1\n-\n3\n-\n",
-            "3\n3\n1\n1\n",
-        ),
+        (slower, "1\n2\n3\n4\n", "1\n-\n3\n-\n"),
+        (faster, "1\n-\n3\n-\n", "3\n3\n1\n1\n"),
     ];
     for (swaps, stimulus, wanted) in rows {
         let model = model_of(&rt, swaps)?;
@@ -81,22 +77,20 @@ fn responses_are_those_of_the_diagram(rt: HostRuntime) -> Result<(), Fail> {
 
 #[test]
 fn refusals_are_told_by_their_lines(rt: HostRuntime) -> Result<(), Fail> {
-    let loops: &[(&str, &str)] = &[(DELAY, SUM), (PARAMETER, ""), (LAST_LINE, OWN_LINE)];
+    let as_it_is: &[(&str, &str)] = &[];
+    let unopened: &[(&str, &str)] = &[("Model {\n", "")];
     let slow: &[(&str, &str)] = &[(DELAY, FASTER), (INPUT, INPUT_OF_TWO)];
+    let loops: &[(&str, &str)] = &[(DELAY, SUM), (PARAMETER, ""), (LAST_LINE, OWN_LINE)];
+    let scope: &[(&str, &str)] = &[(DELAY, "BlockType Scope")];
     let rows: &[(&[(&str, &str)], &str, u8, &str)] = &[
-        (&[("Model {\n", "")], "", 5, "m: line 30: not MDL text\n"),
-        (&[], "128\n", 6, "s: line 1: out of range\n"),
-        (&[], "-\n", 6, "s: line 1: dash at a hit\n"),
-        (&[], "x\n", 6, "s: line 1: not a whole number\n"),
-        (&[], "\n", 6, "s: line 1: field count\n"),
+        (unopened, "", 5, "m: line 30: not MDL text\n"),
+        (as_it_is, "128\n", 6, "s: line 1: out of range\n"),
+        (as_it_is, "-\n", 6, "s: line 1: dash at a hit\n"),
+        (as_it_is, "x\n", 6, "s: line 1: not a whole number\n"),
+        (as_it_is, "\n", 6, "s: line 1: field count\n"),
         (slow, "1\n2\n", 6, "s: line 2: number off a hit\n"),
         (loops, "x\n", 7, "rule 9 (loop): \"D\": cycle \"D\"\n"),
-        (
-            &[(DELAY, "BlockType Scope")],
-            "",
-            7,
-            "rule 2 (library): \"D\": Scope\n",
-        ),
+        (scope, "", 7, "rule 2 (library): \"D\": Scope\n"),
     ];
     for (swaps, stimulus, wanted, line) in rows {
         let model = model_of(&rt, swaps)?;
