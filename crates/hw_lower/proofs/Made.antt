@@ -1,0 +1,228 @@
+-- A plan that grows by one step, and what its numbers are then.
+use Rattle.std.proofs.Common.{◌≡◌, inl, inr, ℕ, zero, suc, ◌+◌, ◌<◌, ◌≤◌, ℤ, List, [], ◌∷◌, ◌++◌, take, length, All, slice_get, Some, ap, sym, ◌∙◌, subst, arith, refl, length-append, append_assoc, append-nil, Result, Ok, Err, IfOk}
+use Rattle.std.proofs.lemmas.Bool.{cases_lt}
+use Rattle.std.proofs.lemmas.Option.{slice_get_within}
+use Rattle.fx_num.specs.Word.{IsWord, InWord, IsWrapped}
+use Rattle.hw_net.specs.declared.netlist.NetOp.{NetOp}
+use Rattle.hw_net.specs.declared.netlist.NetOp.TheVariants.{Input, Const, Resize, ShiftUp, ShiftDown, Add, Subtract, Negate, Multiply, And, Or, Xor, Not, Less, Equal, Choose, Slice}
+use Rattle.hw_net.specs.Operation.{Operands, arity, given_by}
+use Rattle.hw_lower.proofs.Cut.{wrapped-is}
+use Rattle.hw_lower.specs.declared.plan.Word.{Word}
+use Rattle.hw_lower.specs.declared.plan.Step.{Step}
+use Rattle.hw_lower.specs.declared.plan.Operand.{Operand}
+use Rattle.hw_lower.specs.inner.Planned.{Numbers, Obeys, IsAt, HasParts, CanRead, IsPlain, IsSound, Grows, Gives, IsMade, IsPut, reads_of, operands_of, three, no_inputs, step_of}
+
+-- Lists.
+
+pub last-of : {A : Type 0} (xs : List A) (x : A) → slice_get (xs ++ x ∷ []) (length xs) ≡ Some x
+last-of [] x = refl
+last-of (y ∷ xs) x = last-of xs x
+
+pub front-of : {A : Type 0} (xs ys : List A) (k : ℕ) → k < length xs → slice_get (xs ++ ys) k ≡ slice_get xs k
+front-of [] ys k h = absurd (omega arith)
+front-of (x ∷ xs) ys zero h = refl
+front-of (x ∷ xs) ys (suc k) h = front-of xs ys k (omega arith)
+
+pub same-some : {A : Type 0} (x y : A) → Some x ≡ Some y → x ≡ y
+same-some x y e = cc
+
+-- Plans that grow.
+
+pub still-at : (old added new : List Step) (k : ℕ) (step : Step) → new ≡ old ++ added → slice_get old k ≡ Some step → slice_get new k ≡ Some step
+still-at old added new k step is there = ap (λ (xs : List Step). slice_get xs k) is ∙ front-of old added k (slice_get_within old k step there) ∙ there
+
+pub stood-at : (old added new : List Step) (k : ℕ) (step : Step) → new ≡ old ++ added → k < length old → slice_get new k ≡ Some step → slice_get old k ≡ Some step
+stood-at old added new k step is inside there = sym (front-of old added k inside) ∙ ap (λ (xs : List Step). slice_get xs k) (sym is) ∙ there
+
+pub grown-size : (old new : List Step) → Grows old new → length old ≤ length new
+grown-size old new g = omega (arith, ap length g.is, length-append old g.added)
+
+pub at-later : (old new : List Step) (one : Operand) → Grows old new → IsAt old one → IsAt new one
+at-later old new one g at = record { step = at.step; is = still-at old g.added new one.place at.step g.is at.is; word = at.word; valid = at.valid }
+
+pub obeys-before : (old new : List Step) (inputs numbers : Numbers) → Grows old new → Obeys new inputs numbers → Obeys old inputs numbers
+obeys-before old new inputs numbers g obeys = record { each = λ k step there. obeys.each k step (still-at old g.added new k step g.is there) }
+
+pub gives-later : (old new : List Step) (P : Numbers → Type 0) → Grows old new → Gives old P → Gives new P
+gives-later old new P g gives = record { holds = λ inputs numbers obeys. gives.holds inputs numbers (obeys-before old new inputs numbers g obeys) }
+
+pub grows-self : (plan : List Step) → Grows plan plan
+grows-self plan = record {
+  added = [];
+  is = sym (append-nil plan);
+  sound = λ k step past there. absurd (omega (arith, past, slice_get_within plan k step there));
+  plain = λ k step past there. absurd (omega (arith, past, slice_get_within plan k step there));
+}
+
+pub parts-later : (old added new : List Step) (op : NetOp) (first second third : ℕ) → new ≡ old ++ added
+    → All (λ read. read < length old) (take (arity op) (first ∷ second ∷ third ∷ [])) → HasParts old first op → HasParts new first op
+parts-later old added new (Input number) first second third is inside has = tt
+parts-later old added new (Const value) first second third is inside has = tt
+parts-later old added new Resize first second third is inside has = tt
+parts-later old added new (ShiftUp places) first second third is inside has = tt
+parts-later old added new (ShiftDown places) first second third is inside has = tt
+parts-later old added new Add first second third is inside has = tt
+parts-later old added new Subtract first second third is inside has = tt
+parts-later old added new Negate first second third is inside has = tt
+parts-later old added new Multiply first second third is inside has = tt
+parts-later old added new And first second third is inside has = tt
+parts-later old added new Or first second third is inside has = tt
+parts-later old added new Xor first second third is inside has = tt
+parts-later old added new Not first second third is inside has = tt
+parts-later old added new Less first second third is inside has = tt
+parts-later old added new Equal first second third is inside has = tt
+parts-later old added new Choose first second third is inside has = tt
+parts-later old added new (Slice high low) first second third is inside has =
+    (has.0, λ step there. has.1 step (stood-at old added new first step is (inside 0 0 (omega arith)) there))
+
+pub sound-later : (old added new : List Step) (k : ℕ) (step : Step) → new ≡ old ++ added → k < length old → IsSound old k step → IsSound new k step
+sound-later old added new k step is inside sound = record {
+  word = sound.word;
+  before = sound.before;
+  parts = parts-later old added new step.op step.first step.second step.third is (λ i d within. omega (arith, sound.before i d within, inside)) sound.parts;
+}
+
+pub grows-trans : (a b c : List Step) → Grows a b → Grows b c → Grows a c
+grows-trans a b c p q = record {
+  added = p.added ++ q.added;
+  is = q.is ∙ ap (λ (xs : List Step). xs ++ q.added) p.is ∙ append_assoc a p.added q.added;
+  sound = λ k step past there.
+      elim (cases_lt k (length b)) [
+        | inl less ↦ sound-later b q.added c k step q.is less (p.sound k step past (stood-at b q.added c k step q.is less there))
+        | inr more ↦ q.sound k step more there
+      ];
+  plain = λ k step past there.
+      elim (cases_lt k (length b)) [
+        | inl less ↦ p.plain k step past (stood-at b q.added c k step q.is less there)
+        | inr more ↦ q.plain k step more there
+      ];
+}
+
+-- one step more
+
+pub one-longer : (old new : List Step) (step : Step) → new ≡ old ++ step ∷ [] → length new ≡ length old + 1
+one-longer old new step is = ap length is ∙ length-append old (step ∷ []) ∙ omega arith
+
+pub last-is : (old new : List Step) (step other : Step) (k : ℕ) → new ≡ old ++ step ∷ [] → length old ≤ k → slice_get new k ≡ Some other → (k ≡ length old) × (step ≡ other)
+last-is old new step other k is past there =
+    let within = slice_get_within new k other there in
+    let size = one-longer old new step is in
+    let last : k ≡ length old = omega arith in
+    let found : slice_get new k ≡ Some step = ap (λ (xs : List Step). slice_get xs k) is ∙ ap (slice_get (old ++ step ∷ [])) last ∙ last-of old step in
+    (last, same-some step other (sym found ∙ there))
+
+pub grows-one : (old new : List Step) (step : Step) → new ≡ old ++ step ∷ [] → IsSound new (length old) step → IsPlain step.op → Grows old new
+grows-one old new step is sound plain = record {
+  added = step ∷ [];
+  is = is;
+  sound = λ k other past there.
+      let last = last-is old new step other k is past there in
+      subst (λ (i : ℕ). IsSound new i other) (sym last.0) (subst (λ (s : Step). IsSound new (length old) s) last.1 sound);
+  plain = λ k other past there.
+      let last = last-is old new step other k is past there in
+      subst (λ (s : Step). IsPlain s.op) last.1 plain;
+}
+
+pub put-made : (old new : List Step) (step : Step) (made : Operand) (P : Numbers → Type 0) → IsPut old new step made → IsSound new (length old) step → IsPlain step.op
+    → ((inputs numbers : Numbers) → IsWrapped (given_by step.op inputs (operands_of numbers step)) step.word.width step.word.signed (numbers made.place) → P numbers)
+    → IsMade old new step.word P made
+put-made old new step made P put sound plain gives =
+    let there : slice_get new made.place ≡ Some step = ap (slice_get new) put.place ∙ ap (λ (xs : List Step). slice_get xs (length old)) put.is ∙ last-of old step in
+    record {
+      grows = grows-one old new step put.is sound plain;
+      at = record { step = step; is = there; word = sym put.word; valid = subst (λ (w : Word). IsWord w.width w.signed) (sym put.word) sound.word };
+      has_word = put.word;
+      gives = record { holds = λ inputs numbers obeys. gives inputs numbers (obeys.each made.place step there) };
+    }
+
+-- operations of steps alone do not look at the inputs
+pub plain-given : (op : NetOp) (inputs : Numbers) (of : Operands) → IsPlain op → given_by op inputs of ≡ given_by op no_inputs of
+plain-given (Input number) inputs of plain = absurd plain
+plain-given (Const value) inputs of plain = refl
+plain-given Resize inputs of plain = refl
+plain-given (ShiftUp places) inputs of plain = refl
+plain-given (ShiftDown places) inputs of plain = refl
+plain-given Add inputs of plain = refl
+plain-given Subtract inputs of plain = refl
+plain-given Negate inputs of plain = refl
+plain-given Multiply inputs of plain = absurd plain
+plain-given And inputs of plain = refl
+plain-given Or inputs of plain = refl
+plain-given Xor inputs of plain = refl
+plain-given Not inputs of plain = refl
+plain-given Less inputs of plain = refl
+plain-given Equal inputs of plain = refl
+plain-given Choose inputs of plain = refl
+plain-given (Slice high low) inputs of plain = refl
+
+pub parts-are : (plan : List Step) (op : NetOp) (one : Operand) → IsAt plan one → CanRead op one.word.width → HasParts plan one.place op
+parts-are plan (Input number) one at can = tt
+parts-are plan (Const value) one at can = tt
+parts-are plan Resize one at can = tt
+parts-are plan (ShiftUp places) one at can = tt
+parts-are plan (ShiftDown places) one at can = tt
+parts-are plan Add one at can = tt
+parts-are plan Subtract one at can = tt
+parts-are plan Negate one at can = tt
+parts-are plan Multiply one at can = tt
+parts-are plan And one at can = tt
+parts-are plan Or one at can = tt
+parts-are plan Xor one at can = tt
+parts-are plan Not one at can = tt
+parts-are plan Less one at can = tt
+parts-are plan Equal one at can = tt
+parts-are plan Choose one at can = tt
+parts-are plan (Slice high low) one at can = (
+  can.0,
+  λ step there.
+      let same : at.step ≡ step = same-some at.step step (sym at.is ∙ there) in
+      let wide : one.word.width ≡ step.word.width = ap (λ (w : Word). w.width) (sym at.word) ∙ ap (λ (s : Step). s.word.width) same in
+      omega (arith, can.1, wide),
+)
+
+-- what stands among the first of three places below a bound is below it
+pub below-taken : (n a b c bound : ℕ) → a < bound → b < bound → c < bound → All (λ read. read < bound) (take n (a ∷ b ∷ c ∷ []))
+below-taken zero a b c bound p q r i d within = absurd (omega arith)
+below-taken (suc n) a b c bound p q r zero d within = p
+below-taken (suc zero) a b c bound p q r (suc i) d within = absurd (omega arith)
+below-taken (suc (suc n)) a b c bound p q r (suc zero) d within = q
+below-taken (suc (suc zero)) a b c bound p q r (suc (suc i)) d within = absurd (omega arith)
+below-taken (suc (suc (suc n))) a b c bound p q r (suc (suc zero)) d within = r
+below-taken (suc (suc (suc zero))) a b c bound p q r (suc (suc (suc i))) d within = absurd (omega arith)
+below-taken (suc (suc (suc (suc n)))) a b c bound p q r (suc (suc (suc i))) d within = absurd (omega arith)
+
+pub operation-made : (old new : List Step) (op : NetOp) (first second third made : Operand) (word : Word) → IsPlain op → CanRead op first.word.width
+    → IsAt old first → IsAt old second → IsAt old third → IsWord word.width word.signed → IsPut old new (step_of op first.place second.place third.place word) made
+    → IsMade old new word (λ numbers. IsWrapped (given_by op no_inputs (three numbers first second third)) word.width word.signed (numbers made.place)) made
+operation-made old new op first second third made word plain can one other last valid put =
+    let step : Step = step_of op first.place second.place third.place word in
+    let p = slice_get_within old first.place one.step one.is in
+    let q = slice_get_within old second.place other.step other.is in
+    let r = slice_get_within old third.place last.step last.is in
+    let reads : All (λ read. read < length old) (reads_of step) = below-taken (arity op) first.place second.place third.place (length old) p q r in
+    let sound : IsSound new (length old) step = record {
+      word = valid;
+      before = reads;
+      parts = parts-later old (step ∷ []) new op first.place second.place third.place put.is reads (parts-are old op first one can);
+    } in
+    put-made old new step made _ put sound plain (λ inputs numbers is. rw (plain-given op inputs (three numbers first second third) plain) at is)
+
+-- the number of a word that is congruent to one of the word is that one
+pub constant-made : (old new : List Step) (value : ℤ) (word : Word) (made : Operand) → IsWord word.width word.signed → InWord word.width word.signed value → IsPut old new (step_of (Const value) 0 0 0 word) made
+    → IsMade old new word (λ numbers. numbers made.place ≡ value) made
+constant-made old new value word made valid has put =
+    let step : Step = step_of (Const value) 0 0 0 word in
+    let sound : IsSound new (length old) step = record { word = valid; before = λ i d within. absurd (omega arith); parts = tt } in
+    put-made old new step made _ put sound tt (λ inputs numbers is. wrapped-is value word.width word.signed (numbers made.place) valid has is)
+
+-- the same of a call that may want memory
+pub if-put-operation : {E : Type 0} (old new : List Step) (result : Result Operand E) (op : NetOp) (first second third : Operand) (word : Word) → IsPlain op → CanRead op first.word.width
+    → IsAt old first → IsAt old second → IsAt old third → IsWord word.width word.signed → IfOk result (λ made. IsPut old new (step_of op first.place second.place third.place word) made)
+    → IfOk result (λ made. IsMade old new word (λ numbers. IsWrapped (given_by op no_inputs (three numbers first second third)) word.width word.signed (numbers made.place)) made)
+if-put-operation old new (Ok made) op first second third word plain can one other last valid put = operation-made old new op first second third made word plain can one other last valid put
+if-put-operation old new (Err e) op first second third word plain can one other last valid put = tt
+
+pub if-put-constant : {E : Type 0} (old new : List Step) (result : Result Operand E) (value : ℤ) (word : Word) → IsWord word.width word.signed → InWord word.width word.signed value
+    → IfOk result (λ made. IsPut old new (step_of (Const value) 0 0 0 word) made) → IfOk result (λ made. IsMade old new word (λ numbers. numbers made.place ≡ value) made)
+if-put-constant old new (Ok made) value word valid has put = constant-made old new value word made valid has put
+if-put-constant old new (Err e) value word valid has put = tt

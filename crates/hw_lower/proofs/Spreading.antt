@@ -1,0 +1,221 @@
+-- Plans that may have the one Multiply.
+use Rattle.std.proofs.Common.{◌≡◌, ℕ, ◌+◌, ◌-◌, ◌≤◌, ◌*ℤ◌, List, [], ◌∷◌, ◌++◌, length, slice_get, Option, None, Some, inl, inr, append_assoc, ap, sym, ◌∙◌, subst, arith, refl, Result, Ok, Err, IfOk}
+use Rattle.std.proofs.lemmas.Bool.{cases_lt}
+use Rattle.std.proofs.lemmas.Option.{slice_get_within}
+use Rattle.fx_num.specs.Word.{IsWord, IsWrapped}
+use Rattle.hw_net.specs.declared.netlist.NetOp.{NetOp}
+use Rattle.hw_net.specs.declared.netlist.NetOp.TheVariants.{Input, Const, Resize, ShiftUp, ShiftDown, Add, Subtract, Negate, Multiply, And, Or, Xor, Not, Less, Equal, Choose, Slice}
+use Rattle.hw_lower.specs.declared.plan.Word.{Word}
+use Rattle.hw_lower.specs.declared.plan.Step.{Step}
+use Rattle.hw_lower.specs.declared.plan.Operand.{Operand}
+use Rattle.hw_lower.specs.inner.Planned.{Numbers, IsAt, IsPlain, IsSound, Grows, Gives, IsMade, IsPut, step_of, Obeys}
+use Rattle.hw_lower.specs.inner.Spread.{IsInner, IsMultiplyAt, Spreads, IsPlanned}
+use Rattle.hw_lower.proofs.Made.{same-some, last-of, last-is, still-at, stood-at, sound-later, obeys-before, below-taken}
+use Rattle.hw_lower.proofs.Chained.{InWords, in-words}
+
+none-some : {A : Type 0} (x : A) → None ≡ Some x → ⊥
+none-some x e = cc
+
+plain-inner : (op : NetOp) → IsPlain op → IsInner op
+plain-inner (Input number) plain = plain
+plain-inner (Const value) plain = tt
+plain-inner Resize plain = tt
+plain-inner (ShiftUp places) plain = tt
+plain-inner (ShiftDown places) plain = tt
+plain-inner Add plain = tt
+plain-inner Subtract plain = tt
+plain-inner Negate plain = tt
+plain-inner Multiply plain = tt
+plain-inner And plain = tt
+plain-inner Or plain = tt
+plain-inner Xor plain = tt
+plain-inner Not plain = tt
+plain-inner Less plain = tt
+plain-inner Equal plain = tt
+plain-inner Choose plain = tt
+plain-inner (Slice high low) plain = tt
+
+-- no plain step is a Multiply
+plain-none : (old new : List Step) (k : ℕ) → Grows old new → length old ≤ k → IsMultiplyAt new k → ⊥
+plain-none old new k g past at = subst IsPlain at.multiplies (g.plain k at.step past at.is)
+
+pub spreads-plain : (old new : List Step) → Grows old new → Spreads old new None
+spreads-plain old new g = record {
+  added = g.added;
+  is = g.is;
+  sound = g.sound;
+  inner = λ k step past there. plain-inner step.op (g.plain k step past there);
+  multiplies = λ place e. absurd (none-some place e);
+  only = λ place at. absurd (plain-none old new (length old + place) g (omega arith) at);
+}
+
+pub spreads-multiply : (old new : List Step) (step : Step) → new ≡ old ++ step ∷ [] → IsSound new (length old) step → step.op ≡ Multiply → Spreads old new (Some 0)
+spreads-multiply old new step is sound multiplies = record {
+  added = step ∷ [];
+  is = is;
+  sound = λ k other past there.
+      let last = last-is old new step other k is past there in
+      subst (λ (i : ℕ). IsSound new i other) (sym last.0) (subst (λ (s : Step). IsSound new (length old) s) last.1 sound);
+  inner = λ k other past there.
+      let last = last-is old new step other k is past there in
+      let op : other.op ≡ Multiply = ap (λ (s : Step). s.op) (sym last.1) ∙ multiplies in
+      subst IsInner (sym op) tt;
+  multiplies = λ place e.
+      let none : place ≡ 0 = sym (same-some 0 place e) in
+      let at : length old + place ≡ length old = omega arith in
+      record {
+        step = step;
+        is = ap (λ (xs : List Step). slice_get xs (length old + place)) is ∙ ap (slice_get (old ++ step ∷ [])) at ∙ last-of old step;
+        multiplies = multiplies;
+      };
+  only = λ place at.
+      let last = last-is old new step at.step (length old + place) is (omega arith) at.is in
+      let none : 0 ≡ place = omega (arith, last.0) in
+      ap Some none;
+}
+
+pub spreads-then : (a b c : List Step) (m : Option ℕ) → Spreads a b m → Grows b c → Spreads a c m
+spreads-then a b c m p q = record {
+  added = p.added ++ q.added;
+  is = q.is ∙ ap (λ (xs : List Step). xs ++ q.added) p.is ∙ append_assoc a p.added q.added;
+  sound = λ k step past there.
+      elim (cases_lt k (length b)) [
+        | inl less ↦ sound-later b q.added c k step q.is less (p.sound k step past (stood-at b q.added c k step q.is less there))
+        | inr more ↦ q.sound k step more there
+      ];
+  inner = λ k step past there.
+      elim (cases_lt k (length b)) [
+        | inl less ↦ p.inner k step past (stood-at b q.added c k step q.is less there)
+        | inr more ↦ plain-inner step.op (q.plain k step more there)
+      ];
+  multiplies = λ place e.
+      let at = p.multiplies place e in
+      record { step = at.step; is = still-at b q.added c (length a + place) at.step q.is at.is; multiplies = at.multiplies };
+  only = λ place at.
+      elim (cases_lt (length a + place) (length b)) [
+        | inl less ↦ p.only place (record { step = at.step; is = stood-at b q.added c (length a + place) at.step q.is less at.is; multiplies = at.multiplies })
+        | inr more ↦ absurd (plain-none b c (length a + place) q more at)
+      ];
+}
+
+-- one plain step before
+pub spreads-after : (a b c : List Step) → Grows a b → length b ≡ length a + 1 → Spreads b c (Some 0) → Spreads a c (Some 1)
+spreads-after a b c p size q = record {
+  added = p.added ++ q.added;
+  is = q.is ∙ ap (λ (xs : List Step). xs ++ q.added) p.is ∙ append_assoc a p.added q.added;
+  sound = λ k step past there.
+      elim (cases_lt k (length b)) [
+        | inl less ↦ sound-later b q.added c k step q.is less (p.sound k step past (stood-at b q.added c k step q.is less there))
+        | inr more ↦ q.sound k step more there
+      ];
+  inner = λ k step past there.
+      elim (cases_lt k (length b)) [
+        | inl less ↦ plain-inner step.op (p.plain k step past (stood-at b q.added c k step q.is less there))
+        | inr more ↦ q.inner k step more there
+      ];
+  multiplies = λ place e.
+      let one : place ≡ 1 = sym (same-some 1 place e) in
+      let at = q.multiplies 0 refl in
+      let same : length b + 0 ≡ length a + place = omega arith in
+      record { step = at.step; is = ap (slice_get c) (sym same) ∙ at.is; multiplies = at.multiplies };
+  only = λ place at.
+      elim (cases_lt (length a + place) (length b)) [
+        | inl less ↦ absurd (plain-none a b (length a + place) p (omega arith) (record { step = at.step; is = stood-at b q.added c (length a + place) at.step q.is less at.is; multiplies = at.multiplies }))
+        | inr more ↦
+            let same : length a + place ≡ length b + (place - 1) = omega arith in
+            let none : 0 ≡ place - 1 = same-some 0 (place - 1) (q.only (place - 1) (subst (IsMultiplyAt c) same at)) in
+            let one : 1 ≡ place = omega arith in
+            ap Some one
+      ];
+}
+
+-- the plan that was there obeyed, too
+pub obeys-spread : (old new : List Step) (m : Option ℕ) (inputs numbers : Numbers) → Spreads old new m → Obeys new inputs numbers → Obeys old inputs numbers
+obeys-spread old new m inputs numbers p obeys = record { each = λ k step there. obeys.each k step (still-at old p.added new k step p.is there) }
+
+pub at-spread : (old new : List Step) (m : Option ℕ) (one : Operand) → Spreads old new m → IsAt old one → IsAt new one
+at-spread old new m one p at = record { step = at.step; is = still-at old p.added new one.place at.step p.is at.is; word = at.word; valid = at.valid }
+
+-- a plan with no Multiply
+pub if-plain : {E : Type 0} (old new : List Step) (word : Word) (P Q : Operand → Numbers → Type 0) (result : Result Operand E)
+    → IfOk result (λ made. IsMade old new word (P made) made)
+    → ((made : Operand) (numbers : Numbers) → InWords old numbers → P made numbers → Q made numbers)
+    → IfOk result (λ made. IsPlanned old new None word (Q made) made)
+if-plain old new word P Q (Ok made) is f = record {
+  spreads = spreads-plain old new is.grows;
+  at = is.at;
+  has_word = is.has_word;
+  gives = record { holds = λ inputs numbers obeys. f made numbers (in-words old inputs numbers (obeys-before old new inputs numbers is.grows obeys)) (is.gives.holds inputs numbers obeys) };
+}
+if-plain old new word P Q (Err e) is f = tt
+
+-- the same of a plan with one
+pub if-planned : {E : Type 0} (old new : List Step) (m : Option ℕ) (word : Word) (P Q : Operand → Numbers → Type 0) (result : Result Operand E)
+    → IfOk result (λ made. IsPlanned old new m word (P made) made)
+    → ((made : Operand) (numbers : Numbers) → InWords old numbers → P made numbers → Q made numbers)
+    → IfOk result (λ made. IsPlanned old new m word (Q made) made)
+if-planned old new m word P Q (Ok made) is f = record {
+  spreads = is.spreads;
+  at = is.at;
+  has_word = is.has_word;
+  gives = record { holds = λ inputs numbers obeys. f made numbers (in-words old inputs numbers (obeys-spread old new m inputs numbers is.spreads obeys)) (is.gives.holds inputs numbers obeys) };
+}
+if-planned old new m word P Q (Err e) is f = tt
+
+-- the one Multiply is put, and its product is in a word
+pub record IsMultiplied (old new : List Step) (one other : Operand) (word : Word) (made : Operand) : Type 0 where
+  pub spreads : Spreads old new (Some 0)
+  pub at : IsAt new made
+  pub gives : Gives new (λ numbers. IsWrapped (numbers one.place *ℤ numbers other.place) word.width word.signed (numbers made.place))
+
+pub multiplied-put : (old new : List Step) (one other : Operand) (word : Word) (made : Operand) → IsAt old one → IsAt old other → IsWord word.width word.signed
+    → IsPut old new (step_of Multiply one.place other.place other.place word) made → IsMultiplied old new one other word made
+multiplied-put old new one other word made at also valid put =
+    let step : Step = step_of Multiply one.place other.place other.place word in
+    let there : slice_get new made.place ≡ Some step = ap (slice_get new) put.place ∙ ap (λ (xs : List Step). slice_get xs (length old)) put.is ∙ last-of old step in
+    let p = slice_get_within old one.place at.step at.is in
+    let q = slice_get_within old other.place also.step also.is in
+    let sound : IsSound new (length old) step = record {
+      word = valid;
+      before = below-taken 2 one.place other.place other.place (length old) p q q;
+      parts = tt;
+    } in
+    record {
+      spreads = spreads-multiply old new step put.is sound refl;
+      at = record { step = step; is = there; word = sym put.word; valid = subst (λ (w : Word). IsWord w.width w.signed) (sym put.word) valid };
+      gives = record { holds = λ inputs numbers obeys. obeys.each made.place step there };
+    }
+
+-- a step behind the Multiply
+pub if-after : {E : Type 0} (a b c : List Step) (one other exact : Operand) (first word : Word) (P Q : Operand → Numbers → Type 0) (result : Result Operand E)
+    → IsMultiplied a b one other first exact → IfOk result (λ made. IsMade b c word (P made) made)
+    → ((made : Operand) (numbers : Numbers) → InWords a numbers → IsWrapped (numbers one.place *ℤ numbers other.place) first.width first.signed (numbers exact.place) → P made numbers → Q made numbers)
+    → IfOk result (λ made. IsPlanned a c (Some 0) word (Q made) made)
+if-after a b c one other exact first word P Q (Ok made) p q f = record {
+  spreads = spreads-then a b c (Some 0) p.spreads q.grows;
+  at = q.at;
+  has_word = q.has_word;
+  gives = record {
+    holds = λ inputs numbers obeys.
+        let before = obeys-before b c inputs numbers q.grows obeys in
+        f made numbers (in-words a inputs numbers (obeys-spread a b (Some 0) inputs numbers p.spreads before)) (p.gives.holds inputs numbers before) (q.gives.holds inputs numbers obeys);
+  };
+}
+if-after a b c one other exact first word P Q (Err e) p q f = tt
+
+-- a plan with the one Multiply behind a plain step
+pub if-behind : {E : Type 0} (a b c : List Step) (first word : Word) (one : Operand) (P : Numbers → Type 0) (Q R : Operand → Numbers → Type 0) (result : Result Operand E)
+    → IsMade a b first P one → length b ≡ length a + 1 → IfOk result (λ made. IsPlanned b c (Some 0) word (Q made) made)
+    → ((made : Operand) (numbers : Numbers) → InWords a numbers → P numbers → Q made numbers → R made numbers)
+    → IfOk result (λ made. IsPlanned a c (Some 1) word (R made) made)
+if-behind a b c first word one P Q R (Ok made) p size q f = record {
+  spreads = spreads-after a b c p.grows size q.spreads;
+  at = q.at;
+  has_word = q.has_word;
+  gives = record {
+    holds = λ inputs numbers obeys.
+        let before = obeys-spread b c (Some 0) inputs numbers q.spreads obeys in
+        f made numbers (in-words a inputs numbers (obeys-before a b inputs numbers p.grows before)) (p.gives.holds inputs numbers before) (q.gives.holds inputs numbers obeys);
+  };
+}
+if-behind a b c first word one P Q R (Err e) p size q f = tt

@@ -1,0 +1,39 @@
+use Rattle.std.proofs.Common.{◌≡◌, subst, sym, arith}
+use Rattle.std.specs.Int.{w128}
+use Rattle.std.proofs.lemmas.Int.{to_z-of_z}
+use Rattle.fx_type.specs.FxType.{InRange}
+use Rattle.dg_model.specs.Operation.{operation_of, type_of, value_of}
+use Rattle.hw_lower.specs.inner.Planned.{word_of}
+use Rattle.hw_lower.specs.inner.Spread.{OfArguments, IsScaled, argument_of}
+use Rattle.hw_lower.proofs.Arguments.{range-at, scaled-at}
+use Rattle.hw_lower.proofs.Made.{at-later, constant-made, one-longer}
+use Rattle.hw_lower.proofs.Products.{type-word, range-word}
+use Rattle.hw_lower.proofs.Spreading.{if-behind}
+use Rattle.hw_lower.proofs.planning.planned_gain.Goals as goal
+
+pub scaled-requires-clause-one : goal.scaled-requires-clause-one
+scaled-requires-clause-one c =
+    let own = to_z-of_z w128 c.args.coefficient c.ranges.coefficient in
+    let put = rw (own, c.word_of.ensures) at c.in_ok-from.ensures in
+    let made = constant-made _ _ c.args.coefficient (word_of c.args.param) c.in_ok-from.from (type-word c.args.param c.requires.param) (range-word c.args.param c.args.coefficient c.requires.coefficient) put in
+    rw c.argument_of-first.ensures (at-later _ _ (argument_of c.args.call.now.types.now 0) made.grows (c.requires.arguments.each 0 (omega (arith, c.requires.single))))
+
+pub scaled-requires-clause-other : goal.scaled-requires-clause-other
+scaled-requires-clause-other c =
+    let own = to_z-of_z w128 c.args.coefficient c.ranges.coefficient in
+    let put = rw (own, c.word_of.ensures) at c.in_ok-from.ensures in
+    (constant-made _ _ c.args.coefficient (word_of c.args.param) c.in_ok-from.from (type-word c.args.param c.requires.param) (range-word c.args.param c.args.coefficient c.requires.coefficient) put).at
+
+pub returns : goal.returns
+returns c =
+    let own = to_z-of_z w128 c.args.coefficient c.ranges.coefficient in
+    let put = rw (own, c.word_of.ensures) at c.in_ok-from.ensures in
+    let made = constant-made _ _ c.args.coefficient (word_of c.args.param) c.in_ok-from.from (type-word c.args.param c.requires.param) (range-word c.args.param c.args.coefficient c.requires.coefficient) put in
+    if-behind _ _ _ _ _ _ _ _
+    (λ made numbers. OfArguments c.args.call.now.types.now numbers (λ values. IsScaled (operation_of c.args.call.now) (type_of c.args.call.now.types.now 0) c.args.param (value_of values 0) c.args.coefficient (numbers made.place))) _
+    made (one-longer _ _ _ put.is) (rw c.argument_of-first.ensures at c.scaled.ensures)
+    (λ made numbers has p q values are.
+    let one : numbers 0 ≡ value_of values 0 = are.each 0 (omega (arith, c.requires.single)) in
+    let range : InRange c.args.param (numbers c.in_ok-from.from.place) = subst (InRange c.args.param) (sym p) c.requires.coefficient in
+    scaled-at (operation_of c.args.call.now) (type_of c.args.call.now.types.now 0) c.args.param (numbers 0) (numbers c.in_ok-from.from.place) (value_of values 0) c.args.coefficient (numbers made.place) one p
+    (q (range-at c.args.call.now.types.now numbers values 0 are (omega (arith, c.requires.single))) range))

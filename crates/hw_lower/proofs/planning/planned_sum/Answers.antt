@@ -1,0 +1,33 @@
+use Rattle.std.proofs.Common.{◌≡◌, ◌∙◌, ℤ, to_z, of_z, refl, subst}
+use Rattle.std.specs.Prelude.{zip}
+use Rattle.std.specs.Int.{w16}
+use Rattle.std.proofs.lemmas.Int.{to_z-of_z}
+use Rattle.fx_type.specs.declared.kind.FxType.{FxType}
+use Rattle.fx_type.specs.FxType.{frac_of}
+use Rattle.fx_type.specs.FullType.{IsFullSum}
+use Rattle.fx_type.proofs.Ranges.{frac_bounds}
+use Rattle.dg_model.specs.Operation.{operation_of, IsConverted, signed_sum}
+use Rattle.hw_lower.specs.inner.Spread.{OfArguments}
+use Rattle.hw_lower.proofs.Chained.{if-then}
+use Rattle.hw_lower.proofs.planning.planned_sum.Goals as goal
+
+pub settled-requires-clause-low : goal.settled-requires-clause-low
+settled-requires-clause-low c =
+    let f : to_z w16 (of_z w16 c.frac.result) ≡ frac_of c.full_type-full.result = to_z-of_z w16 c.frac.result (record { sfits = c.frac.type_inv }) ∙ c.frac.ensures in
+    rw f (frac_bounds c.full_type-full.result c.full_type-full.ensures.valid).0
+
+pub settled-requires-clause-high : goal.settled-requires-clause-high
+settled-requires-clause-high c =
+    let f : to_z w16 (of_z w16 c.frac.result) ≡ frac_of c.full_type-full.result = to_z-of_z w16 c.frac.result (record { sfits = c.frac.type_inv }) ∙ c.frac.ensures in
+    rw f (frac_bounds c.full_type-full.result c.full_type-full.ensures.valid).1
+
+pub returns : goal.returns
+returns c =
+    let f : to_z w16 (of_z w16 c.frac.result) ≡ frac_of c.full_type-full.result = to_z-of_z w16 c.frac.result (record { sfits = c.frac.type_inv }) ∙ c.frac.ensures in
+    if-then _ _ _ _ _ _ _ (λ made numbers. OfArguments c.args.call.now.types.now numbers (λ values. (full : FxType) × IsFullSum (zip c.args.call.now.signs.now c.args.call.now.types.now) full × IsConverted (operation_of c.args.call.now) (signed_sum (frac_of full) (zip c.args.call.now.signs.now c.args.call.now.types.now) values) full (numbers made.place))) _ _
+    c.in_ok-exact.ensures (rw f at c.settled.ensures)
+    (λ made numbers has later p q values are. (
+      c.full_type-full.result,
+      c.full_type-full.ensures,
+      subst (λ (z : ℤ). IsConverted (operation_of c.args.call.now) z c.full_type-full.result (numbers made.place)) (p values are) (q c.full_type-full.result refl),
+    ))

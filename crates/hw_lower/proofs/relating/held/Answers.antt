@@ -1,0 +1,28 @@
+use Rattle.std.proofs.Common.{◌≡◌, ◌∙◌, to_z, of_z}
+use Rattle.std.specs.Int.{w16}
+use Rattle.std.proofs.lemmas.Int.{to_z-of_z}
+use Rattle.fx_type.specs.FxType.{InRange, frac_of, aligned}
+use Rattle.fx_type.proofs.Ranges.{frac_bounds}
+use Rattle.hw_lower.proofs.Chained.{if-map}
+use Rattle.hw_lower.proofs.Products.{type-word}
+use Rattle.hw_lower.proofs.Related.{held-is}
+use Rattle.hw_lower.proofs.relating.held.Goals as goal
+
+pub aligned-requires-clause-above : goal.aligned-requires-clause-above
+aligned-requires-clause-above c =
+    let f : to_z w16 (of_z w16 c.frac.result) ≡ frac_of c.args.holder = to_z-of_z w16 c.frac.result (record { sfits = c.frac.type_inv }) ∙ c.frac.ensures in
+    rw f c.requires.above
+
+pub aligned-requires-clause-high : goal.aligned-requires-clause-high
+aligned-requires-clause-high c =
+    let f : to_z w16 (of_z w16 c.frac.result) ≡ frac_of c.args.holder = to_z-of_z w16 c.frac.result (record { sfits = c.frac.type_inv }) ∙ c.frac.ensures in
+    rw f (frac_bounds c.args.holder c.requires.holder).1
+
+pub aligned-requires-clause-word : goal.aligned-requires-clause-word
+aligned-requires-clause-word c = rw c.word_of.ensures (type-word c.args.holder c.requires.holder)
+
+pub returns : goal.returns
+returns c =
+    let f : to_z w16 (of_z w16 c.frac.result) ≡ frac_of c.args.holder = to_z-of_z w16 c.frac.result (record { sfits = c.frac.type_inv }) ∙ c.frac.ensures in
+    if-map _ _ _ _ (λ made numbers. InRange c.args.side.kind (numbers c.args.side.from.place) → numbers made.place ≡ aligned (frac_of c.args.holder) c.args.side.kind (numbers c.args.side.from.place)) _ (rw (c.word_of.ensures, f) at c.aligned.ensures)
+    (λ made numbers has p range. held-is c.args.holder c.args.side.kind (numbers c.args.side.from.place) (numbers made.place) c.requires.holder c.requires.holds p range)

@@ -1,0 +1,37 @@
+use Rattle.std.proofs.Common.{◌^◌, pos, Bool, true, subst}
+use Rattle.fx_num.specs.Word.{InWord}
+use Rattle.fx_type.specs.Conversion.{Rounds}
+use Rattle.fx_type.specs.declared.rounding.Rounding.TheVariants.{Round}
+use Rattle.hw_lower.specs.inner.Planned.{IsChosen}
+use Rattle.hw_lower.proofs.Made.{at-later}
+use Rattle.hw_lower.proofs.Chained.{if-then, made-both}
+use Rattle.hw_lower.proofs.Rounded.{round-rounds}
+use Rattle.hw_lower.proofs.rounding.signed_from_zero.Goals as goal
+
+pub choose-requires-clause-test : goal.choose-requires-clause-test
+choose-requires-clause-test c = at-later _ _ c.in_ok-sign.sign c.in_ok-zero.ensures.grows c.in_ok-sign.ensures.at
+
+pub choose-requires-clause-other : goal.choose-requires-clause-other
+choose-requires-clause-other c = at-later _ _ c.in_ok-half.half c.in_ok-zero.ensures.grows (at-later _ _ c.in_ok-half.half c.in_ok-sign.ensures.grows c.in_ok-half.ensures.at)
+
+pub past_tie-requires-clause-from : goal.past_tie-requires-clause-from
+past_tie-requires-clause-from c =
+    at-later _ _ c.args.from c.in_ok-tie.ensures.grows (at-later _ _ c.args.from c.in_ok-zero.ensures.grows (at-later _ _ c.args.from c.in_ok-sign.ensures.grows (at-later _ _ c.args.from c.in_ok-half.ensures.grows c.requires.at)))
+
+pub past_tie-requires-clause-half : goal.past_tie-requires-clause-half
+past_tie-requires-clause-half c =
+    at-later _ _ c.in_ok-half.half c.in_ok-tie.ensures.grows (at-later _ _ c.in_ok-half.half c.in_ok-zero.ensures.grows (at-later _ _ c.in_ok-half.half c.in_ok-sign.ensures.grows c.in_ok-half.ensures.at))
+
+pub raised-requires-clause-from : goal.raised-requires-clause-from
+raised-requires-clause-from c =
+    at-later _ _ c.args.from c.in_ok-carry.ensures.grows (at-later _ _ c.args.from c.in_ok-tie.ensures.grows (at-later _ _ c.args.from c.in_ok-zero.ensures.grows (at-later _ _ c.args.from c.in_ok-sign.ensures.grows (at-later _ _ c.args.from c.in_ok-half.ensures.grows c.requires.at))))
+
+pub returns : goal.returns
+returns c =
+    if-then _ _ _ _ _ _ _ (λ made numbers. Rounds Round (numbers c.args.from.place) (2 ^ c.args.by) (numbers made.place)) _ _
+    (made-both c.in_ok-half.ensures (made-both c.in_ok-sign.ensures (made-both c.in_ok-zero.ensures (made-both c.in_ok-tie.ensures c.in_ok-carry.ensures)))) c.raised.ensures
+    (λ made numbers has later p q.
+    let own : InWord c.args.from.word.width true (numbers c.args.from.place) = subst (λ (s : Bool). InWord c.args.from.word.width s (numbers c.args.from.place)) c.requires.signed (has c.args.from c.requires.at) in
+    let tie : IsChosen (numbers c.in_ok-sign.sign.place) (pos 0) (numbers c.in_ok-half.half.place) (numbers c.in_ok-tie.tie.place) = rw p.1.1.0 at p.1.1.1.0 in
+    round-rounds (numbers c.args.from.place) c.args.by c.requires.some c.args.from.word.width (numbers c.in_ok-half.half.place) (numbers c.in_ok-sign.sign.place) (numbers c.in_ok-tie.tie.place) (numbers c.in_ok-carry.carry.place)
+    (numbers made.place) own p.0 p.1.0 tie p.1.1.1.1 q)

@@ -1,0 +1,18 @@
+use Rattle.std.proofs.Common.{◌^◌}
+use Rattle.fx_type.specs.Conversion.{Rounds}
+use Rattle.fx_type.specs.declared.rounding.Rounding.TheVariants.{Convergent}
+use Rattle.hw_lower.proofs.Made.{at-later}
+use Rattle.hw_lower.proofs.Chained.{if-then, made-both}
+use Rattle.hw_lower.proofs.Rounded.{convergent-rounds}
+use Rattle.hw_lower.proofs.rounding.to_even.Goals as goal
+
+pub raised-requires-clause-from : goal.raised-requires-clause-from
+raised-requires-clause-from c =
+    at-later _ _ c.args.from c.in_ok-carry.ensures.grows (at-later _ _ c.args.from c.in_ok-tie.ensures.grows (at-later _ _ c.args.from c.in_ok-odd.ensures.grows (at-later _ _ c.args.from c.in_ok-half.ensures.grows c.requires.at)))
+
+pub returns : goal.returns
+returns c =
+    if-then _ _ _ _ _ _ _ (λ made numbers. Rounds Convergent (numbers c.args.from.place) (2 ^ c.args.by) (numbers made.place)) _ _
+    (made-both c.in_ok-half.ensures (made-both c.in_ok-odd.ensures (made-both c.in_ok-tie.ensures c.in_ok-carry.ensures))) c.raised.ensures
+    (λ made numbers has later p q. convergent-rounds (numbers c.args.from.place) c.args.by c.requires.some (numbers c.in_ok-half.half.place) (numbers c.in_ok-odd.odd.place) (numbers c.in_ok-tie.tie.place) (numbers c.in_ok-carry.carry.place)
+    (numbers made.place) p.0 p.1.0 p.1.1.0 p.1.1.1 q)

@@ -1,0 +1,11 @@
+use Rattle.std.proofs.Common.{◌^◌}
+use Rattle.fx_type.specs.Conversion.{Rounds}
+use Rattle.fx_type.specs.declared.rounding.Rounding.TheVariants.{Nearest}
+use Rattle.hw_lower.proofs.Chained.{if-then}
+use Rattle.hw_lower.proofs.Rounded.{nearest-rounds}
+use Rattle.hw_lower.proofs.rounding.to_nearest.Goals as goal
+
+pub returns : goal.returns
+returns c =
+    if-then _ _ _ _ _ _ _ (λ made numbers. Rounds Nearest (numbers c.args.from.place) (2 ^ c.args.by) (numbers made.place)) _ _ c.in_ok-half.ensures c.raised.ensures
+    (λ made numbers has later p q. nearest-rounds (numbers c.args.from.place) c.args.by c.requires.some (numbers c.in_ok-half.half.place) (numbers made.place) p q)

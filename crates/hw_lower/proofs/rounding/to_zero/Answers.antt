@@ -1,0 +1,14 @@
+use Rattle.std.proofs.Common.{◌^◌, Bool, false, subst}
+use Rattle.fx_num.specs.Word.{InWord}
+use Rattle.fx_type.specs.Conversion.{Rounds}
+use Rattle.fx_type.specs.declared.rounding.Rounding.TheVariants.{Zero}
+use Rattle.hw_lower.proofs.Chained.{if-map}
+use Rattle.hw_lower.proofs.Rounded.{zero-down}
+use Rattle.hw_lower.proofs.rounding.to_zero.Goals as goal
+
+pub returns : goal.returns
+returns c =
+    if-map _ _ _ _ (λ made numbers. Rounds Zero (numbers c.args.from.place) (2 ^ c.args.by) (numbers made.place)) _ c.down.ensures
+    (λ made numbers has p.
+    let own : InWord c.args.from.word.width false (numbers c.args.from.place) = subst (λ (s : Bool). InWord c.args.from.word.width s (numbers c.args.from.place)) c.if-from.false (has c.args.from c.requires.at) in
+    zero-down (numbers c.args.from.place) c.args.by c.args.from.word.width (numbers made.place) own p)

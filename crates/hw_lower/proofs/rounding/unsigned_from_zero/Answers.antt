@@ -1,0 +1,14 @@
+use Rattle.std.proofs.Common.{◌^◌, Bool, false, subst}
+use Rattle.fx_num.specs.Word.{InWord}
+use Rattle.fx_type.specs.Conversion.{Rounds}
+use Rattle.fx_type.specs.declared.rounding.Rounding.TheVariants.{Round}
+use Rattle.hw_lower.proofs.Chained.{if-then}
+use Rattle.hw_lower.proofs.Rounded.{round-up}
+use Rattle.hw_lower.proofs.rounding.unsigned_from_zero.Goals as goal
+
+pub returns : goal.returns
+returns c =
+    if-then _ _ _ _ _ _ _ (λ made numbers. Rounds Round (numbers c.args.from.place) (2 ^ c.args.by) (numbers made.place)) _ _ c.in_ok-half.ensures c.raised.ensures
+    (λ made numbers has later p q.
+    let own : InWord c.args.from.word.width false (numbers c.args.from.place) = subst (λ (s : Bool). InWord c.args.from.word.width s (numbers c.args.from.place)) c.requires.unsigned (has c.args.from c.requires.at) in
+    round-up (numbers c.args.from.place) c.args.by c.requires.some (numbers c.in_ok-half.half.place) (numbers made.place) own.low p q)

@@ -1,0 +1,20 @@
+use Rattle.std.specs.Int.{w16}
+use Rattle.std.proofs.lemmas.Int.{to_z-of_z}
+use Rattle.fx_num.specs.Word.{IsWrapped}
+use Rattle.fx_type.specs.FxType.{aligned}
+use Rattle.fx_type.specs.FullType.{negated_if}
+use Rattle.hw_lower.proofs.Chained.{if-then}
+use Rattle.hw_lower.proofs.Summed.{wrapped-negative}
+use Rattle.hw_lower.proofs.sums.begun.Goals as goal
+
+pub returns-then-negative : goal.returns-then-negative
+returns-then-negative c =
+    let f = to_z-of_z w16 c.args.frac c.ranges.frac in
+    let value = rw f at c.in_ok-value.ensures in
+    if-then _ _ _ _ _ _ _ (λ made numbers. IsWrapped (negated_if c.args.negative (aligned c.args.frac c.args.side.kind (numbers c.args.side.from.place))) c.args.word.width c.args.word.signed (numbers made.place)) _ _ value c.unary.ensures
+    (λ made numbers has later p q. rw c.if-negative.true (wrapped-negative (aligned c.args.frac c.args.side.kind (numbers c.args.side.from.place)) (numbers c.in_ok-value.value.place) (numbers made.place) c.args.word.width c.args.word.signed p q))
+
+pub returns : goal.returns
+returns c =
+    let f = to_z-of_z w16 c.args.frac c.ranges.frac in
+    rw c.if-negative.false (rw f at c.in_ok-value.ensures)

@@ -1,0 +1,93 @@
+-- Plans of whole operations: their arguments, their one Multiply, and what they give.
+use Rattle.std.specs.Prelude.{◌≡◌, ℕ, ◌+◌, ◌<◌, ◌≤◌, ℤ, List, ◌++◌, length, slice_get, Option}
+use Rattle.std.specs.Prelude.{Some, ⊤, count_by, ◌%◌, ◌==◌, ◌*ℤ◌, Bool}
+use Rattle.fx_type.specs.declared.kind.FxType.{FxType}
+use Rattle.fx_type.specs.FullType.{IsFullProduct}
+use Rattle.dg_model.specs.Operation.{Operation, AreInRange, IsConverted, is_true, type_of, value_of}
+use Rattle.hw_net.specs.declared.netlist.NetOp.{NetOp}
+use Rattle.hw_net.specs.declared.netlist.NetOp.TheVariants.{Input, Const, Resize, ShiftUp}
+use Rattle.hw_net.specs.declared.netlist.NetOp.TheVariants.{ShiftDown, Add, Subtract, Negate}
+use Rattle.hw_net.specs.declared.netlist.NetOp.TheVariants.{Multiply, And, Or, Xor, Not, Less}
+use Rattle.hw_net.specs.declared.netlist.NetOp.TheVariants.{Equal, Choose, Slice}
+use Rattle.hw_lower.specs.declared.plan.Word.{Word}
+use Rattle.hw_lower.specs.declared.plan.Step.{Step}
+use Rattle.hw_lower.specs.declared.plan.Operand.{Operand}
+use Rattle.hw_lower.specs.inner.Planned.{Numbers, IsAt, IsSound, Gives, word_of, step_of}
+
+-- argument k of an operation, as a step of its plan
+abbrev pub argument_of : List FxType → ℕ → Operand
+argument_of types input = record { place = input; word = word_of (type_of types input) }
+
+-- the plan begins with the arguments
+pub record HasArguments (plan : List Step) (types : List FxType) : Type 0 where
+  pub each : (input : ℕ) → input < length types → IsAt plan (argument_of types input)
+
+-- the plan is the first arguments, as inputs
+pub record AreInputs (plan : List Step) (types : List FxType) (count : ℕ) : Type 0 where
+  pub size : length plan ≡ count
+  pub each : (input : ℕ) → input < count
+      → slice_get plan input ≡ Some (step_of (Input input) 0 0 0 (word_of (type_of types input)))
+
+-- the arguments have these numbers, in the ranges of their types
+pub record AreArguments (types : List FxType) (numbers : Numbers) (values : List ℤ) : Type 0 where
+  pub in_range : AreInRange types values
+  pub each : (input : ℕ) → input < length types → numbers input ≡ value_of values input
+
+-- Q holds of whatever the arguments are
+abbrev pub OfArguments : List FxType → Numbers → (List ℤ → Type 0) → Type 0
+OfArguments types numbers Q = (values : List ℤ) → AreArguments types numbers values → Q values
+
+-- an operation of steps, the Multiply too
+abbrev pub IsInner : NetOp → Type 0
+IsInner (Input number) = ⊥
+IsInner (Const value) = ⊤
+IsInner Resize = ⊤
+IsInner (ShiftUp places) = ⊤
+IsInner (ShiftDown places) = ⊤
+IsInner Add = ⊤
+IsInner Subtract = ⊤
+IsInner Negate = ⊤
+IsInner Multiply = ⊤
+IsInner And = ⊤
+IsInner Or = ⊤
+IsInner Xor = ⊤
+IsInner Not = ⊤
+IsInner Less = ⊤
+IsInner Equal = ⊤
+IsInner Choose = ⊤
+IsInner (Slice high low) = ⊤
+
+-- step k is a Multiply
+pub record IsMultiplyAt (plan : List Step) (k : ℕ) : Type 0 where
+  pub step : Step
+  pub is : slice_get plan k ≡ Some step
+  pub multiplies : step.op ≡ Multiply
+
+-- sound steps were put behind the others, no input, and at most the one Multiply, where it is told
+pub record Spreads (old new : List Step) (multiply : Option ℕ) : Type 0 where
+  pub added : List Step
+  pub is : new ≡ old ++ added
+  pub sound : (k : ℕ) (step : Step) → length old ≤ k → slice_get new k ≡ Some step
+      → IsSound new k step
+  pub inner : (k : ℕ) (step : Step) → length old ≤ k → slice_get new k ≡ Some step
+      → IsInner step.op
+  pub multiplies : (place : ℕ) → multiply ≡ Some place → IsMultiplyAt new (length old + place)
+  pub only : (place : ℕ) → IsMultiplyAt new (length old + place) → multiply ≡ Some place
+
+-- as `IsMade`, of a plan that may have the one Multiply
+pub record IsPlanned (old new : List Step) (multiply : Option ℕ) (word : Word)
+    (P : Numbers → Type 0) (made : Operand) : Type 0 where
+  pub spreads : Spreads old new multiply
+  pub at : IsAt new made
+  pub has_word : made.word ≡ word
+  pub gives : Gives new P
+
+-- the product of two numbers, converted from its full type
+pub record IsScaled (operation : Operation) (one other : FxType) (x y r : ℤ) : Type 0 where
+  pub full : FxType
+  pub is_full : IsFullProduct one other full
+  pub converted : IsConverted operation (x *ℤ y) full r
+
+-- whether an odd count of numbers is true
+abbrev pub is_odd : List ℤ → Bool
+is_odd values = (count_by is_true values % 2) == 1

@@ -1,0 +1,46 @@
+//! Numbers of several types in one unit.
+ghost use Rattle.std.specs.Prelude.{◌≡◌, ◌≤ℤ◌, ◌<◌, ◌≤◌, length, pos, negsuc, IfOk};
+ghost use Rattle.fx_num.specs.Word.{IsWord, IsWrapped};
+ghost use Rattle.fx_type.specs.FxType.{IsType, frac_of, aligned as aligned_of};
+ghost use Rattle.hw_lower.specs.inner.Planned.{IsAt, IsMade, word_of};
+ghost use Rattle.hw_lower.specs.inner.Spread.{argument_of};
+
+use crate::plan::{Operand, Plan, Word, word_of};
+use crate::settling::shifted;
+use fx_io::OutOfMemory;
+use fx_type::FxType;
+
+/// A step with its type.
+#[derive(Clone, Copy)]
+pub struct Side {
+    pub kind: FxType,
+    pub from: Operand,
+}
+
+/// An argument of the plan.
+pub fn argument_of(types: &[FxType], input: usize) -> Operand
+    requires inside { input < length types.now }
+    requires few { length types.now ≤ 32 }
+    ensures { result ≡ argument_of types.now input }
+{
+    Operand {
+        place: input as u32,
+        word: word_of(types[input]),
+    }
+}
+
+/// A number of a type with `frac` bits behind the point, of which there are no fewer, cut to a
+/// word.
+pub fn aligned(plan: &mut Plan, side: Side, frac: i16, word: Word) -> Result<Operand, OutOfMemory>
+    requires at { IsAt plan.old side.from }
+    requires kind { IsType side.kind }
+    requires above { frac_of side.kind ≤ℤ frac }
+    requires high { frac ≤ℤ pos 128 }
+    requires word { IsWord word.width word.signed }
+    ensures { IfOk result (λ made. IsMade plan.old plan.new word (λ numbers.
+        IsWrapped (aligned_of frac side.kind (numbers side.from.place)) word.width word.signed
+        (numbers made.place)) made) }
+{
+    let up = (frac - side.kind.frac()) as u8;
+    shifted(plan, side.from, up, word)
+}

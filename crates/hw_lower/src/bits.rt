@@ -1,0 +1,96 @@
+//! Bits and truths.
+ghost use Rattle.std.specs.Prelude.{◌≡◌, ◌≤◌, ◌<◌, ◌-◌, ◌↔◌, ℤ, pos, ◌-ℤ◌, IfOk};
+ghost use Rattle.fx_num.specs.Word.{IsWord};
+ghost use Rattle.fx_type.specs.Conversion.{IsTruthOf};
+ghost use Rattle.hw_net.specs.Operation.{low_bits, shifted_down};
+ghost use Rattle.hw_lower.specs.inner.Planned.{IsAt, IsMade, IsChosen, bit_word, bit_of};
+
+use crate::plan::{Operand, Plan, Word, choose, constant, slice, unary};
+use fx_io::OutOfMemory;
+use hw_net::NetOp;
+
+/// One bit, unsigned.
+pub fn bit_word() -> Word
+    ensures { result ≡ bit_word }
+{
+    Word {
+        signed: false,
+        width: 1,
+    }
+}
+
+/// The bit of a place in the word.
+fn bit_within(plan: &mut Plan, from: Operand, place: u8) -> Result<Operand, OutOfMemory>
+    requires at { IsAt plan.old from }
+    requires within { place < from.word.width }
+    ensures { IfOk result (λ made. IsMade plan.old plan.new bit_word
+        (λ numbers. numbers made.place ≡ pos (bit_of (numbers from.place) place)) made) }
+{
+    slice(plan, from, place, place, bit_word())
+}
+
+/// The bit of a place, from 0. Past the word it is the sign, which an unsigned number has not.
+pub fn bit(plan: &mut Plan, from: Operand, place: u8) -> Result<Operand, OutOfMemory>
+    requires { IsAt plan.old from }
+    ensures { IfOk result (λ made. IsMade plan.old plan.new bit_word
+        (λ numbers. numbers made.place ≡ pos (bit_of (numbers from.place) place)) made) }
+{
+    if place < from.word.width {
+        return bit_within(plan, from, place);
+    }
+    if from.word.signed {
+        return bit_within(plan, from, from.word.width - 1);
+    }
+    constant(plan, 0, bit_word())
+}
+
+/// The lowest bits, of which there are some: a number that is 0 exactly where they are.
+pub fn lowest(plan: &mut Plan, from: Operand, count: u8) -> Result<Operand, OutOfMemory>
+    requires at { IsAt plan.old from }
+    requires some { 1 ≤ count }
+    ensures { IfOk result (λ made. IsMade plan.old plan.new made.word (λ numbers.
+        (numbers made.place ≡ pos 0) ↔ (low_bits count (numbers from.place) ≡ 0)) made) }
+{
+    if count >= from.word.width {
+        return Ok(from);
+    }
+    let word = Word {
+        signed: false,
+        width: count,
+    };
+    slice(plan, from, count - 1, 0, word)
+}
+
+/// The bit where the test isn't 0, else 0.
+pub fn both(plan: &mut Plan, test: Operand, bit: Operand) -> Result<Operand, OutOfMemory>
+    requires test { IsAt plan.old test }
+    requires bit { IsAt plan.old bit }
+    requires word { bit.word ≡ bit_word }
+    ensures { IfOk result (λ made. IsMade plan.old plan.new bit_word (λ numbers.
+        IsChosen (numbers test.place) (numbers bit.place) (pos 0) (numbers made.place)) made) }
+{
+    choose(plan, test, bit, test, bit_word())
+}
+
+/// 1 where the number isn't 0, else 0.
+pub fn truth(plan: &mut Plan, from: Operand) -> Result<Operand, OutOfMemory>
+    requires { IsAt plan.old from }
+    ensures { IfOk result (λ made. IsMade plan.old plan.new bit_word
+        (λ numbers. IsTruthOf (numbers from.place) (numbers made.place)) made) }
+{
+    if from.word == bit_word() {
+        return Ok(from);
+    }
+    let one = constant(plan, 1, bit_word())?;
+    both(plan, from, one)
+}
+
+/// 0 where the bit is 1, and 1 where it is 0.
+pub fn inverse(plan: &mut Plan, bit: Operand) -> Result<Operand, OutOfMemory>
+    requires at { IsAt plan.old bit }
+    requires word { bit.word ≡ bit_word }
+    ensures { IfOk result (λ made. IsMade plan.old plan.new bit_word
+        (λ numbers. numbers made.place ≡ pos 1 -ℤ numbers bit.place) made) }
+{
+    unary(plan, NetOp::Not, bit, bit_word())
+}

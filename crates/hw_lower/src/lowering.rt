@@ -1,0 +1,120 @@
+//! The nets of a plan.
+ghost use Rattle.std.specs.Prelude.{◌≡◌, ◌≤◌, ◌<◌, length, All, IfOk, OnOk};
+ghost use Rattle.hw_net.specs.Operation.{arity};
+ghost use Rattle.dg_model.specs.Operation.{operation_of, CanPrepare};
+ghost use Rattle.hw_lower.specs.Lowered.{AreArgs, IsLowered, Lowers};
+ghost use Rattle.hw_lower.specs.inner.Planned.{reads_of};
+ghost use Rattle.hw_lower.specs.inner.Spread.{AreInputs};
+ghost use Rattle.hw_lower.specs.inner.Placed.{AreNumbers, AreNets, CanPut, net_by};
+
+use crate::plan::{Plan, Step, argument, word_of};
+use crate::planning::planned;
+use dg_model::OpCall;
+use fx_io::{OutOfMemory, Sequence, Sizes};
+use fx_type::FxType;
+use hw_net::{Net, NetKind, NetOp, Netlist};
+use std::alloc::Global;
+
+/// How many arguments an operation has.
+fn arity(op: NetOp) -> usize
+    ensures { result ≡ arity op }
+{
+    match op {
+        NetOp::Input(_) => 0,
+        NetOp::Const(_) => 0,
+        NetOp::Resize => 1,
+        NetOp::ShiftUp(_) => 1,
+        NetOp::ShiftDown(_) => 1,
+        NetOp::Add => 2,
+        NetOp::Subtract => 2,
+        NetOp::Negate => 1,
+        NetOp::Multiply => 2,
+        NetOp::And => 2,
+        NetOp::Or => 2,
+        NetOp::Xor => 2,
+        NetOp::Not => 1,
+        NetOp::Less => 2,
+        NetOp::Equal => 2,
+        NetOp::Choose => 3,
+        NetOp::Slice { .. } => 1,
+    }
+}
+
+/// The net of a step, where the numbers of the steps before are known.
+fn net_of(alloc: Global, step: Step, numbers: &[u32]) -> Result<Net, OutOfMemory>
+    requires { All (λ read. read < length numbers.now) (reads_of step) }
+    ensures { IfOk result (λ net. net ≡ net_by numbers.now step) }
+{
+    let places = [step.first, step.second, step.third];
+    let reads = &places[..arity(step.op)];
+    let mut args = Sizes::new(alloc);
+    for place in reads {
+        args.push(numbers[*place as usize])?;
+    }
+    Ok(Net {
+        signed: step.word.signed,
+        width: step.word.width,
+        kind: NetKind::Comb { op: step.op, args },
+    })
+}
+
+/// The inputs of an operation, as a plan begins.
+fn inputs_of(alloc: Global, types: &[FxType]) -> Result<Plan, OutOfMemory>
+    requires { length types.now ≤ 32 }
+    ensures { IfOk result (λ plan. AreInputs plan types.now (length types.now)) }
+{
+    let mut plan: Plan = Sequence::new(alloc);
+    for (input, kind) in types.iter().enumerate() {
+        let word = word_of(*kind);
+        let made = argument(&mut plan, input as u32, word)?;
+        let _ = made;
+    }
+    Ok(plan)
+}
+
+/// Puts the nets of the steps behind the arguments into the netlist, and tells the numbers of all.
+fn put_nets(
+    alloc: Global,
+    net: &mut Netlist,
+    steps: &[Step],
+    args: &[u32],
+) -> Result<Vec<u32>, OutOfMemory>
+    requires { CanPut net.old steps.now args.now }
+    ensures numbers { IfOk result (λ numbers.
+        AreNumbers args.now (length net.old.nets) (length steps.now) numbers.items) }
+    ensures nets { OnOk result (AreNets net.old net.new args.now steps.now (length steps.now)) }
+{
+    let mut numbers = Vec::new(alloc);
+    numbers.extend_from_slice(args)?;
+    for place in args.len()..steps.len() {
+        let step = steps[place];
+        let one = net_of(alloc, step, numbers.as_slice())?;
+        let number = net.add(one)?;
+        numbers.push(number)?;
+    }
+    Ok(numbers)
+}
+
+/// Puts a block element into the netlist: the nets of an operation on others, behind those that
+/// are there, and gives the number of the one that has its result. In the rows of every later
+/// netlist that keeps these nets, it shows what the operation gives of what its arguments show, at
+/// each clock at which these are in the ranges of their types (`IsLowered`). No net but operations
+/// is put in, and one Multiply at most, at a place that is told (`Lowers`). Where memory is wanting
+/// the netlist is of no more use. Source: own.
+pub fn lower(
+    alloc: Global,
+    net: &mut Netlist,
+    call: &OpCall,
+    args: &[u32],
+) -> Result<u32, OutOfMemory>
+    requires args { AreArgs net.old call.now.types.now args.now }
+    requires can { CanPrepare (operation_of call.now) }
+    ensures lowers { OnOk result (Lowers net.old net.new (operation_of call.now) args.now) }
+    ensures lowered { IfOk result (λ number.
+        IsLowered net.old net.new (operation_of call.now) args.now number) }
+{
+    let mut plan = inputs_of(alloc, call.types)?;
+    let result = planned(&mut plan, call)?;
+    let numbers = put_nets(alloc, net, plan.as_slice(), args)?;
+    Ok(numbers[result.place as usize])
+}

@@ -1,0 +1,232 @@
+//! The operations of a block element, one after another, before they are nets.
+ghost use Rattle.std.specs.Prelude.{◌≡◌, ◌++◌, ◌∷◌, [], length, IfOk};
+ghost use Rattle.fx_num.specs.Word.{IsWord, InWord, IsWrapped};
+ghost use Rattle.fx_type.specs.declared.kind.FxType.{FxType};
+ghost use Rattle.hw_net.specs.declared.netlist.NetOp.TheVariants.{Input, Const, Multiply};
+ghost use Rattle.hw_net.specs.Operation.{given_by, low_bits};
+ghost use Rattle.hw_lower.specs.inner.Planned.{IsAt, IsPlain, IsPut, IsMade, CanRead, word_of};
+ghost use Rattle.hw_lower.specs.inner.Planned.{IsChosen, step_of, no_inputs, three};
+ghost use Rattle.std.specs.Prelude.{ℕ, ℤ, pos, false, ◌+◌, ◌-◌, ◌/◌, ◌^◌, ◌<◌, ◌≤◌};
+
+use fx_io::{OutOfMemory, Sequence};
+use fx_type::FxType;
+use hw_net::NetOp;
+
+/// The word of a number (own).
+#[derive(Clone, Copy, Debug, PartialEq, Eq)]
+pub struct Word {
+    pub signed: bool,
+    pub width: u8,
+}
+
+/// One operation on steps before it (own). It looks at as many of the three as it has arguments.
+#[derive(Clone, Copy)]
+pub struct Step {
+    pub op: NetOp,
+    pub first: u32,
+    pub second: u32,
+    pub third: u32,
+    pub word: Word,
+}
+
+/// Steps by place, from 0. The first are the arguments, as inputs.
+pub type Plan = Sequence<Step>;
+
+/// A step that others read: its place, and the word of its number.
+#[derive(Clone, Copy)]
+pub struct Operand {
+    pub place: u32,
+    pub word: Word,
+}
+
+/// The word of a type.
+pub fn word_of(kind: FxType) -> Word
+    ensures { result ≡ word_of kind }
+{
+    Word {
+        signed: kind.is_signed(),
+        width: kind.width(),
+    }
+}
+
+/// Puts a step behind the others.
+fn put(plan: &mut Plan, step: Step) -> Result<Operand, OutOfMemory>
+    ensures { IfOk result (λ made. IsPut plan.old plan.new step made) }
+{
+    let Ok(place) = u32::try_from(plan.as_slice().len()) else {
+        return Err(OutOfMemory);
+    };
+    let word = step.word;
+    plan.push(step)?;
+    Ok(Operand { place, word })
+}
+
+/// An operation that reads none.
+fn put_alone(plan: &mut Plan, op: NetOp, word: Word) -> Result<Operand, OutOfMemory>
+    ensures { IfOk result (λ made. IsPut plan.old plan.new (step_of op 0 0 0 word) made) }
+{
+    put(
+        plan,
+        Step {
+            op,
+            first: 0,
+            second: 0,
+            third: 0,
+            word,
+        },
+    )
+}
+
+/// An argument of the plan.
+pub fn argument(plan: &mut Plan, number: u32, word: Word) -> Result<Operand, OutOfMemory>
+    ensures { IfOk result (λ made.
+        IsPut plan.old plan.new (step_of (Input number) 0 0 0 word) made) }
+{
+    put_alone(plan, NetOp::Input(number), word)
+}
+
+/// The factor of a Gain, as the first step of its plan.
+pub fn factor(plan: &mut Plan, value: i128, word: Word) -> Result<Operand, OutOfMemory>
+    ensures { IfOk result (λ made.
+        IsPut plan.old plan.new (step_of (Const value) 0 0 0 word) made) }
+{
+    put_alone(plan, NetOp::Const(value), word)
+}
+
+/// The product of two steps, cut to a word: the one Multiply of a Product or a Gain.
+pub fn multiply(
+    plan: &mut Plan,
+    one: Operand,
+    other: Operand,
+    word: Word,
+) -> Result<Operand, OutOfMemory>
+    ensures { IfOk result (λ made. IsPut plan.old plan.new
+        (step_of Multiply one.place other.place other.place word) made) }
+{
+    put(
+        plan,
+        Step {
+            op: NetOp::Multiply,
+            first: one.place,
+            second: other.place,
+            third: other.place,
+            word,
+        },
+    )
+}
+
+/// A number of a word.
+pub fn constant(plan: &mut Plan, value: i128, word: Word) -> Result<Operand, OutOfMemory>
+    requires word { IsWord word.width word.signed }
+    requires value { InWord word.width word.signed value }
+    ensures { IfOk result (λ made.
+        IsMade plan.old plan.new word (λ numbers. numbers made.place ≡ value) made) }
+{
+    put_alone(plan, NetOp::Const(value), word)
+}
+
+/// An operation on steps, cut to a word.
+pub fn operation(
+    plan: &mut Plan,
+    op: NetOp,
+    first: Operand,
+    second: Operand,
+    third: Operand,
+    word: Word,
+) -> Result<Operand, OutOfMemory>
+    requires plain { IsPlain op }
+    requires parts { CanRead op first.word.width }
+    requires first { IsAt plan.old first }
+    requires second { IsAt plan.old second }
+    requires third { IsAt plan.old third }
+    requires word { IsWord word.width word.signed }
+    ensures { IfOk result (λ made. IsMade plan.old plan.new word (λ numbers.
+        IsWrapped (given_by op no_inputs (three numbers first second third)) word.width word.signed
+        (numbers made.place)) made) }
+{
+    put(
+        plan,
+        Step {
+            op,
+            first: first.place,
+            second: second.place,
+            third: third.place,
+            word,
+        },
+    )
+}
+
+/// An operation on one step.
+pub fn unary(plan: &mut Plan, op: NetOp, one: Operand, word: Word) -> Result<Operand, OutOfMemory>
+    requires plain { IsPlain op }
+    requires parts { CanRead op one.word.width }
+    requires at { IsAt plan.old one }
+    requires word { IsWord word.width word.signed }
+    ensures { IfOk result (λ made. IsMade plan.old plan.new word (λ numbers.
+        IsWrapped (given_by op no_inputs (three numbers one one one)) word.width word.signed
+        (numbers made.place)) made) }
+{
+    operation(plan, op, one, one, one, word)
+}
+
+/// An operation on two steps.
+pub fn binary(
+    plan: &mut Plan,
+    op: NetOp,
+    one: Operand,
+    other: Operand,
+    word: Word,
+) -> Result<Operand, OutOfMemory>
+    requires plain { IsPlain op }
+    requires parts { CanRead op one.word.width }
+    requires one { IsAt plan.old one }
+    requires other { IsAt plan.old other }
+    requires word { IsWord word.width word.signed }
+    ensures { IfOk result (λ made. IsMade plan.old plan.new word (λ numbers.
+        IsWrapped (given_by op no_inputs (three numbers one other other)) word.width word.signed
+        (numbers made.place)) made) }
+{
+    operation(plan, op, one, other, other, word)
+}
+
+/// Bits of a step, as an unsigned number.
+pub fn slice(
+    plan: &mut Plan,
+    from: Operand,
+    high: u8,
+    low: u8,
+    word: Word,
+) -> Result<Operand, OutOfMemory>
+    requires at { IsAt plan.old from }
+    requires order { low ≤ high }
+    requires within { high < from.word.width }
+    requires unsigned { word.signed ≡ false }
+    requires wide { word.width ≡ high - low + 1 }
+    requires word { IsWord word.width word.signed }
+    ensures { IfOk result (λ made. IsMade plan.old plan.new word (λ numbers.
+        numbers made.place ≡ pos (low_bits (high + 1) (numbers from.place) / 2 ^ low)) made) }
+{
+    unary(plan, NetOp::Slice { high, low }, from, word)
+}
+
+/// The second step where the first isn't 0, else the third, all of them in the word.
+pub fn choose(
+    plan: &mut Plan,
+    test: Operand,
+    chosen: Operand,
+    other: Operand,
+    word: Word,
+) -> Result<Operand, OutOfMemory>
+    requires test { IsAt plan.old test }
+    requires chosen { IsAt plan.old chosen }
+    requires other { IsAt plan.old other }
+    requires word { chosen.word ≡ word }
+    requires fits { (numbers : ℕ → ℤ) → numbers test.place ≡ pos 0
+        → InWord other.word.width other.word.signed (numbers other.place)
+        → InWord word.width word.signed (numbers other.place) }
+    ensures { IfOk result (λ made. IsMade plan.old plan.new word (λ numbers. IsChosen
+        (numbers test.place) (numbers chosen.place) (numbers other.place) (numbers made.place))
+        made) }
+{
+    operation(plan, NetOp::Choose, test, chosen, other, word)
+}

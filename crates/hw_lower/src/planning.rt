@@ -1,0 +1,301 @@
+//! The plan of each operation.
+ghost use Rattle.std.specs.Prelude.{◌≡◌, ◌≤ℤ◌, ◌<◌, ◌≤◌, pos, negsuc, length, zip, All, MatchBool};
+ghost use Rattle.std.specs.Prelude.{IfOk, Some};
+ghost use Rattle.fx_type.specs.declared.kind.FxType.{FxType};
+ghost use Rattle.fx_type.specs.FxType.{IsType, InRange, frac_of};
+ghost use Rattle.fx_type.specs.FullType.{IsFullSum, IsFullProduct};
+ghost use Rattle.fx_type.specs.Conversion.{Converts};
+ghost use Rattle.dg_model.specs.Operation.{operation_of, without_frac as without_frac_of, type_of, value_of};
+ghost use Rattle.dg_model.specs.declared.op.Op.TheVariants.{Convert};
+ghost use Rattle.dg_model.specs.Operation.{signed_sum, meets, Gives, IsConverted, CanPrepare, OpGives};
+ghost use Rattle.hw_lower.specs.inner.Planned.{IsAt, IsMade, word_of};
+ghost use Rattle.hw_lower.specs.inner.Spread.{HasArguments, OfArguments, IsPlanned, IsScaled};
+ghost use Rattle.hw_lower.specs.Lowered.{multiply_of};
+
+use crate::aligning::{Side, argument_of};
+use crate::comparing::switched;
+use crate::gates::gate;
+use crate::plan::{Operand, Plan, Word, factor, multiply, word_of};
+use crate::relating::compared;
+use crate::settling::converted;
+use crate::sums::summed;
+use dg_model::{Criterion, Op, OpCall};
+use fx_io::OutOfMemory;
+use fx_type::{FxType, full_sum};
+
+/// A number with `frac` bits behind the point, converted to the result type of the call.
+fn settled(plan: &mut Plan, call: &OpCall, from: Operand, frac: i16) -> Result<Operand, OutOfMemory>
+    requires at { IsAt plan.old from }
+    requires low { negsuc 63 ≤ℤ frac }
+    requires high { frac ≤ℤ pos 128 }
+    requires result { IsType call.now.result }
+    ensures { IfOk result (λ made. IsMade plan.old plan.new (word_of call.now.result) (λ numbers.
+        (kind : FxType) → frac_of kind ≡ frac → IsConverted (operation_of call.now)
+        (numbers from.place) kind (numbers made.place)) made) }
+{
+    converted(plan, from, frac, call.result, call.rounding, call.saturate)
+}
+
+/// An argument converted to the result type of the call.
+fn argument_settled(plan: &mut Plan, call: &OpCall, input: usize) -> Result<Operand, OutOfMemory>
+    requires arguments { HasArguments plan.old call.now.types.now }
+    requires inside { input < length call.now.types.now }
+    requires few { length call.now.types.now ≤ 32 }
+    requires types { All IsType call.now.types.now }
+    requires result { IsType call.now.result }
+    ensures { IfOk result (λ made. IsMade plan.old plan.new (word_of call.now.result) (λ numbers.
+        IsConverted (operation_of call.now) (numbers input) (type_of call.now.types.now input)
+        (numbers made.place)) made) }
+{
+    let frac = call.types[input].frac();
+    let from = argument_of(call.types, input);
+    settled(plan, call, from, frac)
+}
+
+/// The type of a Sum before it is converted.
+fn full_type(signs: &[bool], types: &[FxType]) -> FxType
+    requires signs { length signs.now ≡ length types.now }
+    requires some { 1 ≤ length types.now }
+    requires few { length types.now ≤ 32 }
+    requires types { All IsType types.now }
+    requires full { (full : FxType) × IsFullSum (zip signs.now types.now) full }
+    ensures { IsFullSum (zip signs.now types.now) result }
+{
+    let mut terms = [(false, FxType::Logical); 32];
+    for (input, kind) in types.iter().enumerate() {
+        terms[input] = (signs[input], *kind);
+    }
+    full_of(&terms[..types.len()])
+}
+
+/// The type of a sum that has one.
+fn full_of(terms: &[(bool, FxType)]) -> FxType
+    requires valid { All (λ term. IsType term.1) terms.now }
+    requires some { 1 ≤ length terms.now }
+    requires few { length terms.now ≤ 32 }
+    requires full { (full : FxType) × IsFullSum terms.now full }
+    ensures { IsFullSum terms.now result }
+{
+    full_sum(terms).unwrap()
+}
+
+/// A Sum.
+fn planned_sum(plan: &mut Plan, call: &OpCall) -> Result<Operand, OutOfMemory>
+    requires arguments { HasArguments plan.old call.now.types.now }
+    requires signs { length call.now.signs.now ≡ length call.now.types.now }
+    requires some { 1 ≤ length call.now.types.now }
+    requires few { length call.now.types.now ≤ 32 }
+    requires types { All IsType call.now.types.now }
+    requires result { IsType call.now.result }
+    requires full { (full : FxType)
+        × IsFullSum (zip call.now.signs.now call.now.types.now) full }
+    ensures { IfOk result (λ made. IsMade plan.old plan.new (word_of call.now.result) (λ numbers.
+        OfArguments call.now.types.now numbers (λ values.
+        (full : FxType) × IsFullSum (zip call.now.signs.now call.now.types.now) full
+        × IsConverted (operation_of call.now)
+        (signed_sum (frac_of full) (zip call.now.signs.now call.now.types.now) values) full
+        (numbers made.place))) made) }
+{
+    let full = full_type(call.signs, call.types);
+    let exact = summed(plan, call.signs, call.types, full)?;
+    settled(plan, call, exact, full.frac())
+}
+
+/// The word of a product.
+fn product_word(one: FxType, other: FxType) -> Word
+    requires one { IsType one }
+    requires other { IsType other }
+    requires full { (full : FxType) × IsFullProduct one other full }
+    ensures { (full : FxType) → IsFullProduct one other full → result ≡ word_of full }
+{
+    Word {
+        signed: one.is_signed() | other.is_signed(),
+        width: one.width() + other.width(),
+    }
+}
+
+/// The product of two numbers, converted to the result type of the call.
+fn scaled(plan: &mut Plan, call: &OpCall, one: Side, other: Side) -> Result<Operand, OutOfMemory>
+    requires one { IsAt plan.old one.from }
+    requires other { IsAt plan.old other.from }
+    requires left { IsType one.kind }
+    requires right { IsType other.kind }
+    requires result { IsType call.now.result }
+    requires full { (full : FxType) × IsFullProduct one.kind other.kind full }
+    ensures { IfOk result (λ made.
+        IsPlanned plan.old plan.new (Some 0) (word_of call.now.result) (λ numbers.
+        InRange one.kind (numbers one.from.place) → InRange other.kind (numbers other.from.place)
+        → IsScaled (operation_of call.now) one.kind other.kind (numbers one.from.place)
+        (numbers other.from.place) (numbers made.place)) made) }
+{
+    let word = product_word(one.kind, other.kind);
+    let exact = multiply(plan, one.from, other.from, word)?;
+    settled(plan, call, exact, one.kind.frac() + other.kind.frac())
+}
+
+/// A Gain.
+fn planned_gain(
+    plan: &mut Plan,
+    call: &OpCall,
+    coefficient: i128,
+    param: FxType,
+) -> Result<Operand, OutOfMemory>
+    requires arguments { HasArguments plan.old call.now.types.now }
+    requires single { length call.now.types.now ≡ 1 }
+    requires types { All IsType call.now.types.now }
+    requires param { IsType param }
+    requires coefficient { InRange param coefficient }
+    requires result { IsType call.now.result }
+    requires full { (full : FxType) × IsFullProduct (type_of call.now.types.now 0) param full }
+    ensures { IfOk result (λ made.
+        IsPlanned plan.old plan.new (Some 1) (word_of call.now.result) (λ numbers.
+        OfArguments call.now.types.now numbers (λ values.
+        IsScaled (operation_of call.now) (type_of call.now.types.now 0) param
+        (value_of values 0) coefficient (numbers made.place))) made) }
+{
+    let from = factor(plan, coefficient, word_of(param))?;
+    let first = argument_of(call.types, 0);
+    let one = Side {
+        kind: call.types[0],
+        from: first,
+    };
+    scaled(plan, call, one, Side { kind: param, from })
+}
+
+/// A Product.
+fn planned_product(plan: &mut Plan, call: &OpCall) -> Result<Operand, OutOfMemory>
+    requires arguments { HasArguments plan.old call.now.types.now }
+    requires two { length call.now.types.now ≡ 2 }
+    requires types { All IsType call.now.types.now }
+    requires result { IsType call.now.result }
+    requires full { (full : FxType)
+        × IsFullProduct (type_of call.now.types.now 0) (type_of call.now.types.now 1) full }
+    ensures { IfOk result (λ made.
+        IsPlanned plan.old plan.new (Some 0) (word_of call.now.result) (λ numbers.
+        OfArguments call.now.types.now numbers (λ values.
+        IsScaled (operation_of call.now) (type_of call.now.types.now 0)
+        (type_of call.now.types.now 1) (value_of values 0) (value_of values 1)
+        (numbers made.place))) made) }
+{
+    let first = argument_of(call.types, 0);
+    let second = argument_of(call.types, 1);
+    let one = Side {
+        kind: call.types[0],
+        from: first,
+    };
+    let other = Side {
+        kind: call.types[1],
+        from: second,
+    };
+    scaled(plan, call, one, other)
+}
+
+/// A Switch.
+fn planned_switch(
+    plan: &mut Plan,
+    call: &OpCall,
+    criterion: Criterion,
+    threshold: i128,
+) -> Result<Operand, OutOfMemory>
+    requires arguments { HasArguments plan.old call.now.types.now }
+    requires three { length call.now.types.now ≡ 3 }
+    requires types { All IsType call.now.types.now }
+    requires threshold { InRange (type_of call.now.types.now 1) threshold }
+    requires result { IsType call.now.result }
+    ensures { IfOk result (λ made. IsMade plan.old plan.new (word_of call.now.result) (λ numbers.
+        OfArguments call.now.types.now numbers (λ values.
+        MatchBool (meets criterion threshold (value_of values 1))
+        (IsConverted (operation_of call.now) (value_of values 0) (type_of call.now.types.now 0)
+        (numbers made.place))
+        (IsConverted (operation_of call.now) (value_of values 2) (type_of call.now.types.now 2)
+        (numbers made.place)))) made) }
+{
+    let first = argument_settled(plan, call, 0)?;
+    let other = argument_settled(plan, call, 2)?;
+    let control = argument_of(call.types, 1);
+    switched(plan, criterion, threshold, control, first, other)
+}
+
+/// The type with the same stored integers and frac 0.
+fn without_frac(kind: FxType) -> FxType
+    ensures { result ≡ without_frac_of kind }
+{
+    match kind {
+        FxType::Num { signed, width, .. } => FxType::Num {
+            signed,
+            width,
+            frac: 0,
+        },
+        FxType::Logical => FxType::Logical,
+    }
+}
+
+/// The stored integer of an argument converted, with both fracs taken as 0.
+fn planned_store(plan: &mut Plan, call: &OpCall) -> Result<Operand, OutOfMemory>
+    requires arguments { HasArguments plan.old call.now.types.now }
+    requires single { length call.now.types.now ≡ 1 }
+    requires types { All IsType call.now.types.now }
+    requires result { IsType call.now.result }
+    ensures { IfOk result (λ made. IsMade plan.old plan.new (word_of call.now.result) (λ numbers.
+        Converts (numbers 0) (without_frac_of (type_of call.now.types.now 0))
+        (without_frac_of call.now.result) call.now.rounding call.now.saturate
+        (numbers made.place)) made) }
+{
+    let to = without_frac(call.result);
+    let from = argument_of(call.types, 0);
+    converted(plan, from, 0, to, call.rounding, call.saturate)
+}
+
+/// A conversion, of the real value or of the stored integer.
+fn planned_conversion(plan: &mut Plan, call: &OpCall, stored: bool) -> Result<Operand, OutOfMemory>
+    requires arguments { HasArguments plan.old call.now.types.now }
+    requires single { length call.now.types.now ≡ 1 }
+    requires types { All IsType call.now.types.now }
+    requires result { IsType call.now.result }
+    ensures { IfOk result (λ made. IsMade plan.old plan.new (word_of call.now.result) (λ numbers.
+        OfArguments call.now.types.now numbers (λ values.
+        Gives (Convert stored) (operation_of call.now) call.now.types.now values
+        (numbers made.place))) made) }
+{
+    if stored {
+        return planned_store(plan, call);
+    }
+    argument_settled(plan, call, 0)
+}
+
+/// The argument itself.
+fn planned_pass(plan: &mut Plan, call: &OpCall) -> Result<Operand, OutOfMemory>
+    requires arguments { HasArguments plan.old call.now.types.now }
+    requires single { length call.now.types.now ≡ 1 }
+    ensures { IfOk result (λ made.
+        IsMade plan.old plan.new (word_of (type_of call.now.types.now 0)) (λ numbers.
+        OfArguments call.now.types.now numbers (λ values.
+        numbers made.place ≡ value_of values 0)) made) }
+{
+    let _ = plan;
+    let made = argument_of(call.types, 0);
+    Ok(made)
+}
+
+/// The steps of an operation behind its arguments, and the one that has its result.
+pub fn planned(plan: &mut Plan, call: &OpCall) -> Result<Operand, OutOfMemory>
+    requires arguments { HasArguments plan.old call.now.types.now }
+    requires can { CanPrepare (operation_of call.now) }
+    ensures { IfOk result (λ made. IsPlanned plan.old plan.new (multiply_of call.now.op)
+        (word_of call.now.result) (λ numbers. OfArguments call.now.types.now numbers (λ values.
+        OpGives (operation_of call.now) values (numbers made.place))) made) }
+{
+    match call.op {
+        Op::Sum => planned_sum(plan, call),
+        Op::Gain { coefficient, param } => planned_gain(plan, call, coefficient, param),
+        Op::Product => planned_product(plan, call),
+        Op::Switch {
+            criterion,
+            threshold,
+        } => planned_switch(plan, call, criterion, threshold),
+        Op::Relational { operator } => compared(plan, operator, call.types),
+        Op::Logic { operator } => gate(plan, operator, call.types),
+        Op::Convert { stored } => planned_conversion(plan, call, stored),
+        Op::Pass => planned_pass(plan, call),
+    }
+}

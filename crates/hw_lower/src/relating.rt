@@ -1,0 +1,70 @@
+//! Relations of numbers of two types, compared in their union.
+ghost use Rattle.std.specs.Prelude.{◌≡◌, ◌≤ℤ◌, length, All, IfOk};
+ghost use Rattle.fx_type.specs.declared.kind.FxType.{FxType};
+ghost use Rattle.fx_type.specs.FxType.{IsType, InRange, frac_of, aligned as aligned_of};
+ghost use Rattle.fx_type.specs.FullType.{HoldsType, IsUnion};
+ghost use Rattle.dg_model.specs.Operation.{compares_values, stored_truth, type_of, value_of};
+ghost use Rattle.hw_lower.specs.inner.Planned.{IsAt, IsMade, bit_word, word_of};
+ghost use Rattle.hw_lower.specs.inner.Spread.{HasArguments, OfArguments};
+
+use crate::aligning::{Side, aligned, argument_of};
+use crate::comparing::related;
+use crate::plan::{Operand, Plan, word_of};
+use dg_model::Relation;
+use fx_io::OutOfMemory;
+use fx_type::{FxType, union};
+
+/// A number in the word and the units of a type that has it.
+fn held(plan: &mut Plan, side: Side, holder: FxType) -> Result<Operand, OutOfMemory>
+    requires at { IsAt plan.old side.from }
+    requires kind { IsType side.kind }
+    requires holder { IsType holder }
+    requires above { frac_of side.kind ≤ℤ frac_of holder }
+    requires holds { HoldsType holder side.kind }
+    ensures { IfOk result (λ made. IsMade plan.old plan.new (word_of holder) (λ numbers.
+        InRange side.kind (numbers side.from.place) → numbers made.place
+        ≡ aligned_of (frac_of holder) side.kind (numbers side.from.place)) made) }
+{
+    aligned(plan, side, holder.frac(), word_of(holder))
+}
+
+/// The union of two types that have one.
+fn union_of(one: FxType, other: FxType) -> FxType
+    requires one { IsType one }
+    requires other { IsType other }
+    requires union { (both : FxType) × IsUnion one other both }
+    ensures { IsUnion one other result }
+{
+    union(one, other).unwrap()
+}
+
+/// Whether the real values of two arguments are so related, compared in the union of their types.
+pub fn compared(
+    plan: &mut Plan,
+    operator: Relation,
+    types: &[FxType],
+) -> Result<Operand, OutOfMemory>
+    requires arguments { HasArguments plan.old types.now }
+    requires two { length types.now ≡ 2 }
+    requires types { All IsType types.now }
+    requires union { (both : FxType) × IsUnion (type_of types.now 0) (type_of types.now 1) both }
+    ensures { IfOk result (λ made. IsMade plan.old plan.new bit_word (λ numbers.
+        OfArguments types.now numbers (λ values. numbers made.place
+        ≡ stored_truth (compares_values operator (type_of types.now 0) (type_of types.now 1)
+        (value_of values 0) (value_of values 1)))) made) }
+{
+    let both = union_of(types[0], types[1]);
+    let first = argument_of(types, 0);
+    let second = argument_of(types, 1);
+    let one = Side {
+        kind: types[0],
+        from: first,
+    };
+    let other = Side {
+        kind: types[1],
+        from: second,
+    };
+    let left = held(plan, one, both)?;
+    let right = held(plan, other, both)?;
+    related(plan, operator, left, right)
+}

@@ -1,0 +1,199 @@
+//! A number divided by a power of two and rounded, in its own word: the quotient rounded down, and
+//! a carry of one bit.
+ghost use Rattle.std.specs.Prelude.{◌≡◌, ◌≤◌, ◌-◌, ◌^◌, true, false, pos, ◌+ℤ◌, IfOk};
+ghost use Rattle.fx_type.specs.Conversion.{Rounds};
+ghost use Rattle.fx_type.specs.declared.rounding.Rounding.TheVariants.{Ceiling, Zero, Round};
+ghost use Rattle.fx_type.specs.declared.rounding.Rounding.TheVariants.{Nearest, Convergent};
+ghost use Rattle.hw_net.specs.Operation.{shifted_down, low_bits};
+ghost use Rattle.hw_lower.specs.inner.Planned.{IsAt, IsMade, IsPastTie, bit_word, bit_of};
+
+use crate::bits::{bit, bit_word, both, lowest, truth};
+use crate::plan::{Operand, Plan, binary, choose, constant, unary};
+use fx_io::OutOfMemory;
+use fx_type::Rounding;
+use hw_net::NetOp;
+
+/// The number divided by 2 to the power `by`, rounded by the mode.
+pub fn rounded(
+    plan: &mut Plan,
+    from: Operand,
+    by: u8,
+    mode: Rounding,
+) -> Result<Operand, OutOfMemory>
+    requires at { IsAt plan.old from }
+    requires some { 1 ≤ by }
+    ensures { IfOk result (λ made. IsMade plan.old plan.new from.word (λ numbers.
+        Rounds mode (numbers from.place) (2 ^ by) (numbers made.place)) made) }
+{
+    match mode {
+        Rounding::Floor => down(plan, from, by),
+        Rounding::Ceiling => up(plan, from, by),
+        Rounding::Zero => to_zero(plan, from, by),
+        Rounding::Nearest => to_nearest(plan, from, by),
+        Rounding::Round => from_zero(plan, from, by),
+        Rounding::Convergent => to_even(plan, from, by),
+    }
+}
+
+/// Rounded down.
+fn down(plan: &mut Plan, from: Operand, by: u8) -> Result<Operand, OutOfMemory>
+    requires { IsAt plan.old from }
+    ensures { IfOk result (λ made. IsMade plan.old plan.new from.word (λ numbers.
+        numbers made.place ≡ shifted_down (numbers from.place) by) made) }
+{
+    unary(plan, NetOp::ShiftDown(by), from, from.word)
+}
+
+/// Rounded down, and the carry added.
+fn raised(plan: &mut Plan, from: Operand, by: u8, carry: Operand) -> Result<Operand, OutOfMemory>
+    requires from { IsAt plan.old from }
+    requires carry { IsAt plan.old carry }
+    requires bit { carry.word ≡ bit_word }
+    requires some { 1 ≤ by }
+    ensures { IfOk result (λ made. IsMade plan.old plan.new from.word (λ numbers.
+        numbers made.place ≡ shifted_down (numbers from.place) by +ℤ numbers carry.place) made) }
+{
+    let below = down(plan, from, by)?;
+    binary(plan, NetOp::Add, below, carry, from.word)
+}
+
+/// Rounded up: where a bit is lost.
+fn up(plan: &mut Plan, from: Operand, by: u8) -> Result<Operand, OutOfMemory>
+    requires at { IsAt plan.old from }
+    requires some { 1 ≤ by }
+    ensures { IfOk result (λ made. IsMade plan.old plan.new from.word (λ numbers.
+        Rounds Ceiling (numbers from.place) (2 ^ by) (numbers made.place)) made) }
+{
+    let low = lowest(plan, from, by)?;
+    let carry = truth(plan, low)?;
+    raised(plan, from, by, carry)
+}
+
+/// The sign of a number of a signed word, as a bit.
+fn sign(plan: &mut Plan, from: Operand) -> Result<Operand, OutOfMemory>
+    requires { IsAt plan.old from }
+    ensures { IfOk result (λ made. IsMade plan.old plan.new bit_word (λ numbers.
+        numbers made.place ≡ pos (bit_of (numbers from.place) (from.word.width - 1))) made) }
+{
+    bit(plan, from, from.word.width - 1)
+}
+
+/// Rounded to 0: up where the number is negative and bits are lost.
+fn to_zero(plan: &mut Plan, from: Operand, by: u8) -> Result<Operand, OutOfMemory>
+    requires at { IsAt plan.old from }
+    requires some { 1 ≤ by }
+    ensures { IfOk result (λ made. IsMade plan.old plan.new from.word (λ numbers.
+        Rounds Zero (numbers from.place) (2 ^ by) (numbers made.place)) made) }
+{
+    if from.word.signed {
+        return signed_to_zero(plan, from, by);
+    }
+    down(plan, from, by)
+}
+
+/// The same of a number of a signed word.
+fn signed_to_zero(plan: &mut Plan, from: Operand, by: u8) -> Result<Operand, OutOfMemory>
+    requires at { IsAt plan.old from }
+    requires some { 1 ≤ by }
+    requires signed { from.word.signed ≡ true }
+    ensures { IfOk result (λ made. IsMade plan.old plan.new from.word (λ numbers.
+        Rounds Zero (numbers from.place) (2 ^ by) (numbers made.place)) made) }
+{
+    let low = lowest(plan, from, by)?;
+    let sign = sign(plan, from)?;
+    let carry = both(plan, low, sign)?;
+    raised(plan, from, by, carry)
+}
+
+/// Rounded to the nearest, ties up: where the highest lost bit is set.
+fn to_nearest(plan: &mut Plan, from: Operand, by: u8) -> Result<Operand, OutOfMemory>
+    requires at { IsAt plan.old from }
+    requires some { 1 ≤ by }
+    ensures { IfOk result (λ made. IsMade plan.old plan.new from.word (λ numbers.
+        Rounds Nearest (numbers from.place) (2 ^ by) (numbers made.place)) made) }
+{
+    let half = bit(plan, from, by - 1)?;
+    raised(plan, from, by, half)
+}
+
+/// Rounded to the nearest, ties away from 0: up where the highest lost bit is set, but not from a
+/// tie of a negative number.
+fn from_zero(plan: &mut Plan, from: Operand, by: u8) -> Result<Operand, OutOfMemory>
+    requires at { IsAt plan.old from }
+    requires some { 1 ≤ by }
+    ensures { IfOk result (λ made. IsMade plan.old plan.new from.word (λ numbers.
+        Rounds Round (numbers from.place) (2 ^ by) (numbers made.place)) made) }
+{
+    if from.word.signed {
+        return signed_from_zero(plan, from, by);
+    }
+    unsigned_from_zero(plan, from, by)
+}
+
+/// The same of a number of a signed word.
+fn signed_from_zero(plan: &mut Plan, from: Operand, by: u8) -> Result<Operand, OutOfMemory>
+    requires at { IsAt plan.old from }
+    requires some { 1 ≤ by }
+    requires signed { from.word.signed ≡ true }
+    ensures { IfOk result (λ made. IsMade plan.old plan.new from.word (λ numbers.
+        Rounds Round (numbers from.place) (2 ^ by) (numbers made.place)) made) }
+{
+    let half = bit(plan, from, by - 1)?;
+    let sign = sign(plan, from)?;
+    let zero = constant(plan, 0, bit_word())?;
+    let tie = choose(plan, sign, zero, half, bit_word())?;
+    let carry = past_tie(plan, from, by, half, tie)?;
+    raised(plan, from, by, carry)
+}
+
+/// The same of a number that can't be negative.
+fn unsigned_from_zero(plan: &mut Plan, from: Operand, by: u8) -> Result<Operand, OutOfMemory>
+    requires at { IsAt plan.old from }
+    requires some { 1 ≤ by }
+    requires unsigned { from.word.signed ≡ false }
+    ensures { IfOk result (λ made. IsMade plan.old plan.new from.word (λ numbers.
+        Rounds Round (numbers from.place) (2 ^ by) (numbers made.place)) made) }
+{
+    let half = bit(plan, from, by - 1)?;
+    raised(plan, from, by, half)
+}
+
+/// Rounded to the nearest, ties to even: up where the highest lost bit is set, but not from a tie
+/// above an even number.
+fn to_even(plan: &mut Plan, from: Operand, by: u8) -> Result<Operand, OutOfMemory>
+    requires at { IsAt plan.old from }
+    requires some { 1 ≤ by }
+    ensures { IfOk result (λ made. IsMade plan.old plan.new from.word (λ numbers.
+        Rounds Convergent (numbers from.place) (2 ^ by) (numbers made.place)) made) }
+{
+    let half = bit(plan, from, by - 1)?;
+    let odd = bit(plan, from, by)?;
+    let tie = both(plan, half, odd)?;
+    let carry = past_tie(plan, from, by, half, tie)?;
+    raised(plan, from, by, carry)
+}
+
+/// The highest lost bit where a lower one is set, and else what a tie gives.
+fn past_tie(
+    plan: &mut Plan,
+    from: Operand,
+    by: u8,
+    half: Operand,
+    tie: Operand,
+) -> Result<Operand, OutOfMemory>
+    requires from { IsAt plan.old from }
+    requires half { IsAt plan.old half }
+    requires half_bit { half.word ≡ bit_word }
+    requires tie { IsAt plan.old tie }
+    requires tie_bit { tie.word ≡ bit_word }
+    requires some { 1 ≤ by }
+    ensures { IfOk result (λ made. IsMade plan.old plan.new bit_word (λ numbers.
+        IsPastTie (low_bits (by - 1) (numbers from.place)) (numbers half.place)
+        (numbers tie.place) (numbers made.place)) made) }
+{
+    if by == 1 {
+        return Ok(tie);
+    }
+    let rest = lowest(plan, from, by - 1)?;
+    choose(plan, rest, half, tie, bit_word())
+}
