@@ -1,18 +1,19 @@
--- Numbers of ports, multiplications and a combinational loop, worked out by hand.
-use Rattle.std.proofs.Common.{◌≡◌, ◌≤◌, ◌<◌, ◌-◌, ◌^◌, ◌+◌, ◌%◌, ℕ, zero, suc, Bool, true, false, if◌then◌else◌, List, [], ◌∷◌, slice_index_or, codes, bytes_eq, pos, negsuc, refl, ap, arith}
+-- Numbers of ports, multiplications and each broken condition, worked out by hand.
+use Rattle.std.proofs.Common.{◌≡◌, ◌≤◌, ◌<◌, ◌-◌, ◌^◌, ◌+◌, ◌%◌, ℕ, zero, suc, Bool, true, false, if◌then◌else◌, List, [], ◌∷◌, Option, None, Some, slice_index_or, codes, bytes_eq, pos, negsuc, refl, ap, arith}
 use Rattle.std.specs.List.{IsDistinct}
 use Rattle.vl_ast.specs.declared.expressions.BinOp.TheVariants.{Add, Multiply}
+use Rattle.vl_ast.specs.declared.expressions.Sized.{Sized}
 use Rattle.vl_ast.specs.declared.expressions.Expr.{Expr}
 use Rattle.vl_ast.specs.declared.expressions.Expr.TheOpen.{Expr-F}
 use Rattle.vl_ast.specs.declared.expressions.Expr.TheViews.{roll-Expr}
 use Rattle.vl_ast.specs.declared.expressions.Expr.TheFolds.{map-Expr, para-Expr, para-roll-Expr, fold-roll-Expr}
 use Rattle.vl_ast.specs.declared.modules.Port.{Port}
 use Rattle.vl_ast.specs.declared.modules.Module.{Module}
-use Rattle.vl_ast.specs.declared.modules.ModItem.TheVariants.{Wire, Assign}
-use Rattle.vl_ast.specs.Conditions.{CombLoop, IsFirstFault, IsLoop, AssignmentReads}
+use Rattle.vl_ast.specs.declared.modules.ModItem.TheVariants.{Wire, Reg, Assign, Always}
+use Rattle.vl_ast.specs.Conditions.{Undriven, Doubly, CombLoop, TooWide, NoReset, NoAttribute, IsAcyclic, IsFirstFault, IsLoop, AssignmentReads}
 use Rattle.vl_ast.specs.Context.{Net, Operand}
 use Rattle.vl_ast.specs.Driven.{port_number}
-use Rattle.vl_ast.specs.Multiplications.{Multiplication, multiplications_step, multiplications_in}
+use Rattle.vl_ast.specs.Multiplications.{Multiplication, multiplications_step, multiplications_in, multiplications}
 use Rattle.vl_ast.specs.Nets.{names_read, names_step, place_of}
 use Rattle.vl_ast.proofs.Values.{own_length-roll, is_signed-roll}
 
@@ -63,6 +64,27 @@ in_depth :
     ≡ product (name (codes "s")) (name (codes "s")) 4 true ∷ product (times (name (codes "s")) (name (codes "s"))) (name (codes "s")) 4 true ∷ []
 in_depth = simp (multiplications-roll, own_length-roll, is_signed-roll)
 
+-- those of a module: a product in the length of the name that it is assigned, then a condition in its own length,
+-- and the value behind it, whose length and sign are those of both its operands
+abbrev zeros : Sized
+zeros = record { width = 4; signed = true; bits = 0 }
+
+abbrev products : Module
+products = record {
+  name = codes "m";
+  attrs = [];
+  ports = [];
+  items = Wire true 4 (codes "s") ∷ Wire false 6 (codes "u") ∷ Wire true 9 (codes "y") ∷ Reg true 4 (codes "r")
+      ∷ Assign (codes "y") (times (name (codes "s")) (name (codes "s")))
+      ∷ Always (codes "r") zeros (Some (times (name (codes "u")) (name (codes "u")))) (times (name (codes "s")) (name (codes "u"))) ∷ [];
+}
+
+of_module :
+    multiplications products
+    ≡ product (name (codes "s")) (name (codes "s")) 9 true ∷ product (name (codes "u")) (name (codes "u")) 6 false
+    ∷ product (name (codes "s")) (name (codes "u")) 6 false ∷ []
+of_module = simp (multiplications-roll, own_length-roll, is_signed-roll)
+
 -- ---- a loop: w and v are assigned each other, and v is declared first
 
 abbrev ring : Module
@@ -109,3 +131,37 @@ is-loop = record {
 -- the first fault of the ring is the loop
 first-fault : IsFirstFault ring (CombLoop (codes "v" ∷ codes "w" ∷ []))
 first-fault = (simp names_read-name, simp names_read-name, is-loop)
+
+-- ---- the other conditions, each broken by ports alone
+
+abbrev of_ports : List Port → Module
+of_ports ports = record { name = codes "m"; attrs = []; ports = ports; items = [] }
+
+abbrev bit : Bool → List ℕ → Port
+bit input name = record { attrs = []; input = input; signed = false; width = 1; name = name }
+
+without-loop : (ports : List Port) (first : List ℕ) (others : List (List ℕ)) → ¬ IsLoop (of_ports ports) first others
+without-loop ports first others loop = omega (arith, (loop.reads 0 (omega arith)).assigned.1)
+
+-- an output that nothing drives
+undriven-output : IsFirstFault (of_ports (bit true (codes "u") ∷ bit false (codes "y") ∷ [])) (Undriven (codes "y"))
+undriven-output = refl
+
+-- a name that two ports have
+two-ports : IsFirstFault (of_ports (bit true (codes "u") ∷ bit true (codes "u") ∷ [])) (Doubly (codes "u"))
+two-ports = (refl, refl)
+
+-- an input of 129 bits, before `clk` and `reset` are missed
+wide-input : IsFirstFault (of_ports (record { attrs = []; input = true; signed = false; width = 129; name = codes "u" } ∷ [])) (TooWide (codes "u"))
+wide-input = (record { driven = refl; once = refl; acyclic = without-loop _ }, refl)
+
+-- `reset` is missed where `clk` is there, and `clk` where neither is
+missed-reset : IsFirstFault (of_ports (bit true (codes "clk") ∷ [])) (NoReset (codes "reset"))
+missed-reset = (record { driven = refl; once = refl; acyclic = without-loop _ }, refl, refl)
+
+missed-clk : IsFirstFault (of_ports []) (NoReset (codes "clk"))
+missed-clk = (record { driven = refl; once = refl; acyclic = without-loop _ }, refl, refl)
+
+-- the module lacks `fx_cycles`, before its input lacks `fx_period`
+missed-attribute : IsFirstFault (of_ports (bit true (codes "clk") ∷ bit true (codes "reset") ∷ bit true (codes "u") ∷ [])) (NoAttribute (codes "m"))
+missed-attribute = (record { driven = refl; once = refl; acyclic = without-loop _ }, refl, refl, refl)
