@@ -3,13 +3,13 @@ mod Built
 mod ByKind
 mod Carried
 mod Drivers
-mod Edges
+pub mod Edges
 mod Entries
 mod Filled
 mod Fitting
 mod Given
-mod Ground
-mod Grounded
+pub mod Ground
+pub mod Grounded
 mod Growing
 mod Grown
 mod Joined
@@ -18,15 +18,15 @@ mod Known
 mod Moves
 mod Numbered
 mod Listed
-mod Lists
+pub mod Lists
 mod Moved
 mod Ranks
 mod Rings
 mod Rooted
 mod Serving
 mod Shown
-mod Single
-mod Sources
+pub mod Single
+pub mod Sources
 mod Staying
 mod Stepped
 mod Swept
