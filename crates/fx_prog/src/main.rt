@@ -2,27 +2,41 @@
 //! answer is the exit status.
 #![tactic(auto)]
 
-use fx_io::{ErrSink, FileShelf, OutOfMemory, OutSink, put_all};
+use fx_io::{ErrSink, FileShelf, OutOfMemory, OutSink, Sink, put_all};
 use fx_top::run;
 use std::env;
-use std::io::ErrorKind;
+use std::io::{BufWriter, ErrorKind, Write};
 use std::process::ExitCode;
 
 fn main(rt: HostRuntime) -> ExitCode {
     let mut err = ErrSink::new(rt.stderr());
-    let status = match words(&rt) {
-        Ok(words) => {
-            let mut shelf = FileShelf::new(&rt);
-            let mut out = OutSink::new(rt.stdout());
-            run(rt.alloc(), words.as_slice(), &mut shelf, &mut out, &mut err)
-        }
-        Err(OutOfMemory) => {
-            // As for every message, a failure changes nothing.
-            let _ = put_all(&mut err, b"out of memory\n");
-            1
-        }
+    let status = match answer(&rt, &mut err) {
+        Ok(status) => status,
+        Err(OutOfMemory) => end(&mut err, b"out of memory\n", 1),
     };
     ExitCode::from(status)
+}
+
+/// The status of `run` over the program's words. The output goes through a buffer, so that lines
+/// share calls of the system; what stands in it at the end and can't be written is a write fault,
+/// as in `run`.
+fn answer<E: Sink>(rt: &HostRuntime, err: &mut E) -> Result<u8, OutOfMemory> {
+    let words = words(rt)?;
+    let mut shelf = FileShelf::new(rt);
+    let writer = BufWriter::new(rt.alloc(), rt.stdout()).map_err(|_| OutOfMemory)?;
+    let mut out = OutSink::new(writer);
+    let status = run(rt.alloc(), words.as_slice(), &mut shelf, &mut out, err);
+    let is_written = out.writer.flush().is_ok();
+    if status == 0 && !is_written {
+        return Ok(end(err, b"cannot write\n", 4));
+    }
+    Ok(status)
+}
+
+/// Says this line, and gives this status. As for every message, a failure changes nothing.
+fn end<E: Sink>(err: &mut E, line: &[u8], status: u8) -> u8 {
+    let _ = put_all(err, line);
+    status
 }
 
 /// The words after the program's name. Words that aren't all text are none, which have no listed
