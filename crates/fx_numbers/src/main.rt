@@ -10,18 +10,23 @@
 //! | `conversion V FROM END` | the number converted (`fx_round::convert`) |
 //! | `decimal TYPE \|TEXT` | sign, digits, exponent and stored integer, or why there are none |
 //! | `sum_type N SIGN TYPE ..`, `product_type A B`, `union_type A B` | the full type, or `TooWide` |
-//! | `sum N SIGN TYPE V .. END` | what `dg_blocks::output` gives, N up to 3 |
+//! | `sum N SIGN TYPE V .. END` | the result of the operation, N up to 3 |
 //! | `gain TYPE V TYPE C END`, `product TYPE V TYPE V END` | the same |
 //! | `switch TYPE V TYPE V TYPE V CRITERION T END` | the same |
 //! | `relational TYPE V RELATION TYPE V` | the same |
 //! | `logic GATE N TYPE V ..` | the same, N up to 3 |
 //! | `convert TYPE V END`, `stored TYPE V END`, `pass TYPE V` | the same |
+//!
+//! The result of an operation is three numbers: what it gives (`dg_blocks::output`), what its nets
+//! show of the same inputs (`hw_lower::lower`), and how many these nets are.
 #![tactic(auto)]
 
+mod nets;
 mod operations;
 mod types;
 mod words;
 
+use crate::nets::Answer;
 use crate::words::Words;
 use anyhow::Result;
 use std::alloc::Global;
@@ -52,8 +57,9 @@ fn answer<W: Write>(alloc: Global, line: &str, out: &mut W) -> Result<()> {
         b"product_type" => types::product_type(&mut words, out),
         b"union_type" => types::union_type(&mut words, out),
         operation => {
-            let v = operations::carried_out(operation, &mut words)?;
-            writeln!(out, "{v}")?;
+            let answer = operations::carried_out(alloc, operation, &mut words)?;
+            let Answer { value, shown, nets } = answer;
+            writeln!(out, "{value} {shown} {nets}")?;
             Ok(())
         }
     }

@@ -1,32 +1,33 @@
-//! What elementwise operations give.
+//! Elementwise operations, of one, two or three inputs.
 ghost use Rattle.std.specs.Prelude.{[], ◌∷◌};
 ghost use Rattle.fx_type.specs.FxType.{IsType, InRange};
 ghost use Rattle.dg_model.specs.Operation.{HasArity, HasSigns, HasParameters, HasResultType, HasFullType};
 
+use crate::nets::{Answer, answered};
 use crate::words::{End, Operand, Words};
 use anyhow::{Result, anyhow};
-use dg_blocks::output;
 use dg_model::{Gate, Op, OpCall};
 use fx_type::{FxType, Rounding, TooWide, full_product, full_sum, union};
+use std::alloc::Global;
 
 /// What the operation of this name gives of the inputs that its line has.
-pub fn carried_out(name: &[u8], words: &mut Words<'_>) -> Result<i128> {
+pub fn carried_out(alloc: Global, name: &[u8], words: &mut Words<'_>) -> Result<Answer> {
     match name {
-        b"sum" => sum(words),
-        b"gain" => gain(words),
-        b"product" => product(words),
-        b"switch" => switch(words),
-        b"relational" => relational(words),
-        b"logic" => logic(words),
-        b"convert" => convert(words, false),
-        b"stored" => convert(words, true),
-        b"pass" => pass(words),
+        b"sum" => sum(alloc, words),
+        b"gain" => gain(alloc, words),
+        b"product" => product(alloc, words),
+        b"switch" => switch(alloc, words),
+        b"relational" => relational(alloc, words),
+        b"logic" => logic(alloc, words),
+        b"convert" => convert(alloc, words, false),
+        b"stored" => convert(alloc, words, true),
+        b"pass" => pass(alloc, words),
         _ => Err(anyhow!("no operation")),
     }
 }
 
 /// An operation of one input.
-fn of_one(op: Op, signs: &[bool], a: Operand, end: End) -> i128
+fn of_one(alloc: Global, op: Op, signs: &[bool], a: Operand, end: End) -> Result<Answer>
     requires a_valid { IsType a.kind }
     requires a_in_range { InRange a.kind a.value }
     requires end_valid { IsType end.kind }
@@ -44,11 +45,11 @@ fn of_one(op: Op, signs: &[bool], a: Operand, end: End) -> i128
         rounding: end.rounding,
         saturate: end.saturate,
     };
-    output(&call, &[a.value])
+    answered(alloc, &call, &[a.value])
 }
 
 /// An operation of two inputs.
-fn of_two(op: Op, signs: &[bool], a: Operand, b: Operand, end: End) -> i128
+fn of_two(alloc: Global, op: Op, signs: &[bool], a: Operand, b: Operand, end: End) -> Result<Answer>
     requires a_valid { IsType a.kind }
     requires a_in_range { InRange a.kind a.value }
     requires b_valid { IsType b.kind }
@@ -68,11 +69,19 @@ fn of_two(op: Op, signs: &[bool], a: Operand, b: Operand, end: End) -> i128
         rounding: end.rounding,
         saturate: end.saturate,
     };
-    output(&call, &[a.value, b.value])
+    answered(alloc, &call, &[a.value, b.value])
 }
 
 /// An operation of three inputs.
-fn of_three(op: Op, signs: &[bool], a: Operand, b: Operand, c: Operand, end: End) -> i128
+fn of_three(
+    alloc: Global,
+    op: Op,
+    signs: &[bool],
+    a: Operand,
+    b: Operand,
+    c: Operand,
+    end: End,
+) -> Result<Answer>
     requires a_valid { IsType a.kind }
     requires a_in_range { InRange a.kind a.value }
     requires b_valid { IsType b.kind }
@@ -94,7 +103,7 @@ fn of_three(op: Op, signs: &[bool], a: Operand, b: Operand, c: Operand, end: End
         rounding: end.rounding,
         saturate: end.saturate,
     };
-    output(&call, &[a.value, b.value, c.value])
+    answered(alloc, &call, &[a.value, b.value, c.value])
 }
 
 /// How a truth is stored.
@@ -104,38 +113,38 @@ const TRUTH: End = End {
     saturate: false,
 };
 
-fn sum(words: &mut Words<'_>) -> Result<i128> {
+fn sum(alloc: Global, words: &mut Words<'_>) -> Result<Answer> {
     match words.count()? {
-        1 => sum_of_one(words),
-        2 => sum_of_two(words),
-        3 => sum_of_three(words),
+        1 => sum_of_one(alloc, words),
+        2 => sum_of_two(alloc, words),
+        3 => sum_of_three(alloc, words),
         _ => Err(anyhow!("one to three inputs")),
     }
 }
 
-fn sum_of_one(words: &mut Words<'_>) -> Result<i128> {
+fn sum_of_one(alloc: Global, words: &mut Words<'_>) -> Result<Answer> {
     let p = words.minus()?;
     let a = words.operand()?;
     let end = words.end()?;
     match full_sum(&[(p, a.kind)]) {
-        Ok(_full) => Ok(of_one(Op::Sum, &[p], a, end)),
+        Ok(_full) => of_one(alloc, Op::Sum, &[p], a, end),
         Err(TooWide) => Err(anyhow!("too wide")),
     }
 }
 
-fn sum_of_two(words: &mut Words<'_>) -> Result<i128> {
+fn sum_of_two(alloc: Global, words: &mut Words<'_>) -> Result<Answer> {
     let p = words.minus()?;
     let a = words.operand()?;
     let q = words.minus()?;
     let b = words.operand()?;
     let end = words.end()?;
     match full_sum(&[(p, a.kind), (q, b.kind)]) {
-        Ok(_full) => Ok(of_two(Op::Sum, &[p, q], a, b, end)),
+        Ok(_full) => of_two(alloc, Op::Sum, &[p, q], a, b, end),
         Err(TooWide) => Err(anyhow!("too wide")),
     }
 }
 
-fn sum_of_three(words: &mut Words<'_>) -> Result<i128> {
+fn sum_of_three(alloc: Global, words: &mut Words<'_>) -> Result<Answer> {
     let p = words.minus()?;
     let a = words.operand()?;
     let q = words.minus()?;
@@ -144,12 +153,12 @@ fn sum_of_three(words: &mut Words<'_>) -> Result<i128> {
     let c = words.operand()?;
     let end = words.end()?;
     match full_sum(&[(p, a.kind), (q, b.kind), (r, c.kind)]) {
-        Ok(_full) => Ok(of_three(Op::Sum, &[p, q, r], a, b, c, end)),
+        Ok(_full) => of_three(alloc, Op::Sum, &[p, q, r], a, b, c, end),
         Err(TooWide) => Err(anyhow!("too wide")),
     }
 }
 
-fn gain(words: &mut Words<'_>) -> Result<i128> {
+fn gain(alloc: Global, words: &mut Words<'_>) -> Result<Answer> {
     let a = words.operand()?;
     let factor = words.operand()?;
     let end = words.end()?;
@@ -159,23 +168,23 @@ fn gain(words: &mut Words<'_>) -> Result<i128> {
                 coefficient: factor.value,
                 param: factor.kind,
             };
-            Ok(of_one(op, &[], a, end))
+            of_one(alloc, op, &[], a, end)
         }
         Err(TooWide) => Err(anyhow!("too wide")),
     }
 }
 
-fn product(words: &mut Words<'_>) -> Result<i128> {
+fn product(alloc: Global, words: &mut Words<'_>) -> Result<Answer> {
     let a = words.operand()?;
     let b = words.operand()?;
     let end = words.end()?;
     match full_product(a.kind, b.kind) {
-        Ok(_full) => Ok(of_two(Op::Product, &[], a, b, end)),
+        Ok(_full) => of_two(alloc, Op::Product, &[], a, b, end),
         Err(TooWide) => Err(anyhow!("too wide")),
     }
 }
 
-fn switch(words: &mut Words<'_>) -> Result<i128> {
+fn switch(alloc: Global, words: &mut Words<'_>) -> Result<Answer> {
     let a = words.operand()?;
     let control = words.operand()?;
     let c = words.operand()?;
@@ -189,76 +198,77 @@ fn switch(words: &mut Words<'_>) -> Result<i128> {
         criterion,
         threshold,
     };
-    Ok(of_three(op, &[], a, control, c, end))
+    of_three(alloc, op, &[], a, control, c, end)
 }
 
-fn relational(words: &mut Words<'_>) -> Result<i128> {
+fn relational(alloc: Global, words: &mut Words<'_>) -> Result<Answer> {
     let a = words.operand()?;
     let operator = words.relation()?;
     let b = words.operand()?;
     match union(a.kind, b.kind) {
-        Ok(_union) => Ok(of_two(Op::Relational { operator }, &[], a, b, TRUTH)),
+        Ok(_union) => of_two(alloc, Op::Relational { operator }, &[], a, b, TRUTH),
         Err(TooWide) => Err(anyhow!("too wide")),
     }
 }
 
-fn logic(words: &mut Words<'_>) -> Result<i128> {
+fn logic(alloc: Global, words: &mut Words<'_>) -> Result<Answer> {
     let operator = words.gate()?;
     match words.count()? {
-        1 => inverted(words, operator),
-        2 => logic_of_two(words, operator),
-        3 => logic_of_three(words, operator),
+        1 => inverted(alloc, words, operator),
+        2 => logic_of_two(alloc, words, operator),
+        3 => logic_of_three(alloc, words, operator),
         _ => Err(anyhow!("one to three inputs")),
     }
 }
 
 /// A gate of one input, which is a Not.
-fn inverted(words: &mut Words<'_>, operator: Gate) -> Result<i128> {
+fn inverted(alloc: Global, words: &mut Words<'_>, operator: Gate) -> Result<Answer> {
     let a = words.operand()?;
     match operator {
-        Gate::Not => Ok(of_one(
+        Gate::Not => of_one(
+            alloc,
             Op::Logic {
                 operator: Gate::Not,
             },
             &[],
             a,
             TRUTH,
-        )),
+        ),
         _ => Err(anyhow!("two or more inputs")),
     }
 }
 
-fn logic_of_two(words: &mut Words<'_>, operator: Gate) -> Result<i128> {
+fn logic_of_two(alloc: Global, words: &mut Words<'_>, operator: Gate) -> Result<Answer> {
     let a = words.operand()?;
     let b = words.operand()?;
     match operator {
         Gate::Not => Err(anyhow!("one input")),
-        _ => Ok(of_two(Op::Logic { operator }, &[], a, b, TRUTH)),
+        _ => of_two(alloc, Op::Logic { operator }, &[], a, b, TRUTH),
     }
 }
 
-fn logic_of_three(words: &mut Words<'_>, operator: Gate) -> Result<i128> {
+fn logic_of_three(alloc: Global, words: &mut Words<'_>, operator: Gate) -> Result<Answer> {
     let a = words.operand()?;
     let b = words.operand()?;
     let c = words.operand()?;
     match operator {
         Gate::Not => Err(anyhow!("one input")),
-        _ => Ok(of_three(Op::Logic { operator }, &[], a, b, c, TRUTH)),
+        _ => of_three(alloc, Op::Logic { operator }, &[], a, b, c, TRUTH),
     }
 }
 
-fn convert(words: &mut Words<'_>, stored: bool) -> Result<i128> {
+fn convert(alloc: Global, words: &mut Words<'_>, stored: bool) -> Result<Answer> {
     let a = words.operand()?;
     let end = words.end()?;
-    Ok(of_one(Op::Convert { stored }, &[], a, end))
+    of_one(alloc, Op::Convert { stored }, &[], a, end)
 }
 
-fn pass(words: &mut Words<'_>) -> Result<i128> {
+fn pass(alloc: Global, words: &mut Words<'_>) -> Result<Answer> {
     let a = words.operand()?;
     let end = End {
         kind: a.kind,
         rounding: Rounding::Floor,
         saturate: false,
     };
-    Ok(of_one(Op::Pass, &[], a, end))
+    of_one(alloc, Op::Pass, &[], a, end)
 }

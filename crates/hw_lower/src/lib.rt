@@ -19,14 +19,17 @@
 //! | Zero | 5; unsigned 1 |
 //! | Round | 8, or 6 where one bit is lost; unsigned 3 |
 //! | Convergent | 7; 5 where one bit is lost |
+//! | where no bit of the word is left | 1 fewer with Ceiling and with Zero of a signed word |
+//! | where the word has fewer bits than are lost | 1 fewer with Convergent and with Round of a signed word |
 //! | and for another word | 1 |
 //! | and with `saturate` | 4 for each end that can be passed |
+//! | conversion to boolean | 2 in all, none of one bit without sign |
 //! | Sum of n | n - 1, 1 where the first is subtracted, and 1 for each that has another word or unit |
 //! | Product, Gain | 1, 2, and the conversion |
 //! | Switch | both conversions, and 4 (`>=`), 3 (`>`) or 1 |
 //! | Relational | 1, or 2 for `~=`, `<=`, `>=`, and 1 for each that has another word or unit |
 //! | Logic of n booleans | AND, OR n - 1, XOR 2 (n - 1), their opposites 1 more, NOT 1 |
-//! | an input of more bits there | up to 2 more |
+//! | an input of more bits there | 2 more with OR, NOR and NOT, else of the first input alone |
 //! | Pass, a conversion to the same type | none |
 #![tactic(auto)]
 

@@ -1,4 +1,4 @@
-use Rattle.std.proofs.Common.{◌≡◌, ◌<◌, ℕ, zero, suc, [], ◌∷◌, ℤ, get_or, to_z, of_z, arith, sym, refl, rules}
+use Rattle.std.proofs.Common.{◌≡◌, ◌<◌, ℕ, zero, suc, [], ◌∷◌, ℤ, get_or, to_z, of_z, arith, refl, rules}
 use Rattle.std.specs.Int.{w128}
 use Rattle.std.proofs.lemmas.Int.{to_z-of_z}
 use Rattle.fx_type.specs.declared.kind.FxType.{FxType}
@@ -18,8 +18,8 @@ three_in_range p q r x y z a b c (suc zero) below = b
 three_in_range p q r x y z a b c (suc (suc zero)) below = c
 three_in_range p q r x y z a b c (suc (suc (suc k))) below = absurd (omega arith)
 
-pub output-requires : goal.output-requires
-output-requires c =
+pub answered-requires : goal.answered-requires
+answered-requires c =
     let need = c.requires in
     let x : to_z w128 (of_z w128 c.args.a.value) ≡ c.args.a.value = to_z-of_z w128 c.args.a.value (search rules) in
     let y : to_z w128 (of_z w128 c.args.b.value) ≡ c.args.b.value = to_z-of_z w128 c.args.b.value (search rules) in
