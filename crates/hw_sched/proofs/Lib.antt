@@ -1,1 +1,12 @@
+mod Lists
+mod Bases
+mod Served
+mod Units
+mod Periods
+mod Edges
+mod Rates
+mod Paths
+mod Readiness
+mod InTime
 mod Worked
+mod Chaining

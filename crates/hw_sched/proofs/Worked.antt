@@ -15,14 +15,14 @@ use Rattle.dg_model.specs.Signals.{Attributes}
 use Rattle.hw_sched.specs.Slots.{Timing, shared_operations, need_of, have_of, slot_of, unit_of}
 use Rattle.hw_sched.specs.Ready.{ready_of, declared_latency, owed}
 
-abbrev block_of : Kind → ℕ → ℕ → Block
+abbrev pub block_of : Kind → ℕ → ℕ → Block
 block_of kind inputs outputs = record { path = []; kind = kind; inputs = inputs; outputs = outputs; result = Auto; rounding = Floor; saturate = false; period = Inherit; enable = None }
 
-abbrev edge_of : ℕ → ℕ → ℕ → Edge
+abbrev pub edge_of : ℕ → ℕ → ℕ → Edge
 edge_of from to to_port = record { from = from; from_port = 1; to = to; to_port = to_port }
 
 -- signals of one element, of these widths of words and these periods
-abbrev scalars : List ℕ → List ℕ → Attributes
+abbrev pub scalars : List ℕ → List ℕ → Attributes
 scalars words periods = record { width_at = λ block port. 1; type_at = λ block port. Num true (get_or words block 8) (pos 0); param_at = λ block. Num true 8 (pos 0); period_at = λ block. Some (get_or periods block 1) }
 
 abbrev plan_of : ℕ → Resolved

@@ -3,9 +3,16 @@
 //! `Level` says how many shared blocks stand one behind another, `Slots` which operations are of one
 //! kind, and in which slot of its period and at which multiplier each stands. `Ready` says when
 //! outputs are ready and how late root outputs are in clocks. The rules of budget and of size are
-//! those of `Budget` and `Storage`.
+//! those of `Budget` and `Storage`. `Chained` counts the registers of a module whose lines share
+//! them. What all of these say together of a diagram that keeps the rules (`Scheduled`) are `laws`:
+//! they are all that is wanted of a schedule when a module is built and proved.
 #![tactic(auto)]
 
+mod laws;
 mod slots;
 
+pub use laws::{
+    edges_are_in_time, edges_join_periods, lines_are_edges, operations_are_served,
+    periods_are_above, ready_fits, ready_rises, slots_differ, unfed_are_ready,
+};
 pub use slots::{BudgetFault, Slots};

@@ -1,0 +1,51 @@
+// What the definitions together say. Each law is a function that does nothing.
+ghost use Rattle.hw_sched.specs.Laws.{PeriodsAreAbove, MovingHavePeriods, LinesAreEdges, ControlsAreEdges, EdgesJoinPeriods, UnfedAreReady, OperationsAreServed, SlotsDiffer, ReadyFits, ReadyRises, OperandsAreReady, EdgesAreInTime};
+
+/// Every period is above 0, and a block whose values move on has one.
+pub fn periods_are_above()
+    ensures above { PeriodsAreAbove }
+    ensures moving { MovingHavePeriods }
+{}
+
+/// Each line is an edge, and so is the way from a control to each block that asks for it.
+pub fn lines_are_edges()
+    ensures lines { LinesAreEdges }
+    ensures controls { ControlsAreEdges }
+{}
+
+/// An edge from a block of a period ends at one of the same period, or at a rate transition.
+pub fn edges_join_periods()
+    ensures { EdgesJoinPeriods }
+{}
+
+/// An output behind no shared operation is ready at once.
+pub fn unfed_are_ready()
+    ensures { UnfedAreReady }
+{}
+
+/// A shared operation is served in the slots of its level, before its block is ready.
+pub fn operations_are_served()
+    ensures { OperationsAreServed }
+{}
+
+/// Two operations of one multiplier are of one kind, and have different slots.
+pub fn slots_differ()
+    ensures { SlotsDiffer }
+{}
+
+/// An output is ready in its period.
+pub fn ready_fits()
+    ensures { ReadyFits }
+{}
+
+/// An output is ready no earlier than what it is made of in the same sample, and what a shared
+/// operation reads is ready with its slot.
+pub fn ready_rises()
+    ensures outputs { ReadyRises }
+    ensures operands { OperandsAreReady }
+{}
+
+/// The end of each edge is late enough for the registers of its source, and of its own.
+pub fn edges_are_in_time()
+    ensures { EdgesAreInTime }
+{}
