@@ -1,0 +1,8 @@
+mod Fracs
+mod Listed
+mod Narrowed
+mod Outputs
+mod Possible
+mod Shifts
+mod Terms
+mod Weighted

@@ -1,0 +1,66 @@
+//! Operations with everything worked out that depends on types alone.
+ghost use Rattle.dg_model.specs.Operation.{operation_of, CanPrepare, CanCarryOut, OpGives};
+ghost use Rattle.dg_prepared.specs.Prepared.{IsPrepared};
+
+use crate::carrying::{sum, switch};
+use crate::narrow::Narrow;
+use crate::preparing::{chosen, converted, multiplied, scaled, summed};
+use dg_model::{Op, OpCall};
+
+/// How an operation is carried out (own).
+#[derive(Clone, Copy)]
+pub enum Prepared {
+    /// In 128 bits.
+    Wide,
+    /// One conversion in 64 bits.
+    Converted(Narrow),
+    /// A product in 64 bits, and its conversion.
+    Times(Narrow),
+    /// A product with a constant in 64 bits, and its conversion.
+    Scaled(i64, Narrow),
+    /// A sum in 64 bits with so many bits behind the point, and its conversion.
+    Summed(i16, Narrow),
+    /// The conversion in 64 bits of the input that a Switch takes.
+    Chosen(Narrow),
+}
+
+impl Prepared {
+    /// What the types of an operation allow.
+    pub fn new(call: &OpCall) -> Prepared
+        requires { CanPrepare (operation_of call.now) }
+        ensures { IsPrepared result (operation_of call.now) }
+    {
+        match call.op {
+            Op::Sum => summed(call),
+            Op::Gain { coefficient, param } => scaled(call, coefficient, param),
+            Op::Product => multiplied(call),
+            Op::Switch { .. } => chosen(call),
+            Op::Convert { stored: false } => converted(call),
+            Op::Convert { stored: true } | Op::Relational { .. } | Op::Logic { .. } | Op::Pass => {
+                Prepared::Wide
+            }
+        }
+    }
+
+    /// What the operation gives of these inputs.
+    pub fn output(&self, call: &OpCall, inputs: &[i128]) -> i128
+        requires prepared { IsPrepared self.now (operation_of call.now) }
+        requires can { CanCarryOut (operation_of call.now) inputs.now }
+        ensures { OpGives (operation_of call.now) inputs.now result }
+    {
+        match *self {
+            Prepared::Wide => dg_blocks::output(call, inputs),
+            Prepared::Converted(narrow) => i128::from(narrow.convert(inputs[0] as i64)),
+            Prepared::Times(narrow) => {
+                let product = (inputs[0] as i64) * (inputs[1] as i64);
+                i128::from(narrow.convert(product))
+            }
+            Prepared::Scaled(coefficient, narrow) => {
+                let scaled = (inputs[0] as i64) * coefficient;
+                i128::from(narrow.convert(scaled))
+            }
+            Prepared::Summed(frac, narrow) => sum(call, inputs, frac, narrow),
+            Prepared::Chosen(narrow) => switch(call, inputs, narrow),
+        }
+    }
+}
