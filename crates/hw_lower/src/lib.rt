@@ -15,12 +15,12 @@
 //! | conversion that loses no bit | none where the word stays and nothing is shifted, else 1 |
 //! | bits lost, Floor | 1 |
 //! | Nearest | 3 |
-//! | Ceiling | 5; 3 where one bit is lost |
+//! | Ceiling | 5; 3 where one bit is lost; 2 of one bit without sign |
 //! | Zero | 5; unsigned 1 |
 //! | Round | 8, or 6 where one bit is lost; unsigned 3 |
 //! | Convergent | 7; 5 where one bit is lost |
-//! | where no bit of the word is left | 1 fewer with Ceiling and with Zero of a signed word |
-//! | where the word has fewer bits than are lost | 1 fewer with Convergent and with Round of a signed word |
+//! | where no bit of the word is left | 1 fewer: Ceiling of more bits, Zero of a signed word |
+//! | where more bits are lost than it has | 1 fewer: Convergent, Round of a signed word |
 //! | and for another word | 1 |
 //! | and with `saturate` | 4 for each end that can be passed |
 //! | conversion to boolean | 2 in all, none of one bit without sign |
