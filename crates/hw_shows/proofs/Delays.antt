@@ -22,8 +22,8 @@ use Rattle.dg_model.specs.Wired.{NamesControl}
 use Rattle.dg_model.specs.Operation.{stored_truth}
 use Rattle.dg_model.specs.Equation.{StoresEntry, IsInputAt, KindEquation}
 use Rattle.dg_model.specs.Solves.{IsShown, shown_ports}
-use Rattle.hw_shows.proofs.GroundLists.{get_holds}
-use Rattle.hw_shows.proofs.GroundSources.{IsRead}
+use Rattle.dg_sim.proofs.Lists.{get_holds}
+use Rattle.dg_sim.proofs.Sources.{IsRead}
 use Rattle.hw_net.specs.Registers.{Span}
 use Rattle.hw_lines.specs.Line.{IsRegistered}
 use Rattle.hw_shows.specs.Shows.{IsSeenAt, IsSeen, Shows}

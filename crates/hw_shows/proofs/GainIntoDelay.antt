@@ -7,27 +7,30 @@ use Rattle.hw_shows.specs.Series.{IsSeries, IsEnabledSeries}
 use Rattle.hw_shows.proofs.Trying.{wave_of, tried_shows, tried_reg, tried_en}
 
 -- the entries of the Gain, of the control and of the Delay
-abbrev gains : ℕ → ℤ
+abbrev pub gains : ℕ → ℤ
 gains = wave_of (pos 5 ∷ pos 6 ∷ pos 7 ∷ [])
 
-abbrev controls : ℕ → ℤ
+abbrev pub controls : ℕ → ℤ
 controls = wave_of (pos 1 ∷ pos 0 ∷ pos 1 ∷ [])
 
-abbrev delays : ℕ → ℤ
+abbrev pub delays : ℕ → ℤ
 delays = wave_of (pos 9 ∷ pos 5 ∷ pos 5 ∷ [])
 
 -- the Gain's pipeline by its number; after the third clock the input is any
-abbrev stage : ℕ → Wave
+abbrev pub stage : ℕ → Wave
 stage zero = wave_of (pos 5 ∷ pos 6 ∷ pos 7 ∷ pos 1 ∷ pos 2 ∷ pos 3 ∷ [])
 stage (suc zero) = wave_of (pos 0 ∷ pos 5 ∷ pos 6 ∷ pos 7 ∷ pos 1 ∷ pos 2 ∷ [])
 stage (suc (suc k)) = wave_of (pos 0 ∷ pos 0 ∷ pos 5 ∷ pos 6 ∷ pos 7 ∷ pos 1 ∷ [])
 
--- the control, as late as the Gain's pipeline
-abbrev enable : Wave
+-- the control, and as late as the Gain's pipeline
+abbrev pub control : Wave
+control = wave_of (pos 1 ∷ pos 0 ∷ pos 1 ∷ pos 1 ∷ pos 0 ∷ pos 0 ∷ [])
+
+abbrev pub enable : Wave
 enable = wave_of (pos 0 ∷ pos 0 ∷ pos 1 ∷ pos 0 ∷ pos 1 ∷ pos 1 ∷ [])
 
 -- what the Delay's register takes, and the register
-abbrev state : ℕ → Wave
+abbrev pub state : ℕ → Wave
 state zero = stage 2
 state (suc k) = wave_of (pos 9 ∷ pos 9 ∷ pos 9 ∷ pos 5 ∷ pos 5 ∷ pos 7 ∷ [])
 
@@ -63,7 +66,7 @@ pub delay_shows : Shows 6 3 1 (Some 1) 2 0 delays (state 1)
 delay_shows = tried_shows 6 3 1 1 2 0 delays (state 1) refl
 
 -- a register that moved on at the disabled hit shows 6 at clock 4, which is neither the register nor the entry
-abbrev moved : ℕ → Wave
+abbrev pub moved : ℕ → Wave
 moved zero = stage 2
 moved (suc k) = wave_of (pos 9 ∷ pos 9 ∷ pos 9 ∷ pos 5 ∷ pos 6 ∷ pos 7 ∷ [])
 

@@ -7,7 +7,13 @@ use Rattle.hw_shows.specs.Shows.{Shows}
 use Rattle.hw_shows.specs.Series.{IsProductAt}
 use Rattle.hw_shows.proofs.Trying.{wave_of, tried_shows, tried_line, tried_product}
 
--- the entries by base sample
+-- the entries of the operands, of the product and of the transition by base sample
+abbrev pub lefts : ℕ → ℤ
+lefts = wave_of (pos 3 ∷ pos 3 ∷ pos 4 ∷ pos 4 ∷ pos 5 ∷ pos 5 ∷ pos 6 ∷ pos 6 ∷ [])
+
+abbrev pub rights : ℕ → ℤ
+rights = wave_of (pos 2 ∷ pos 2 ∷ pos 3 ∷ pos 3 ∷ pos 4 ∷ pos 4 ∷ pos 5 ∷ pos 5 ∷ [])
+
 abbrev pub products : ℕ → ℤ
 products = wave_of (pos 6 ∷ pos 6 ∷ pos 12 ∷ pos 12 ∷ pos 20 ∷ pos 20 ∷ pos 30 ∷ pos 30 ∷ [])
 
@@ -51,7 +57,7 @@ not_ready s =
     absurd (omega (arith, ints, shown))
 
 -- one wrong number: a line that doesn't hold
-abbrev wrong : Wave
+abbrev pub wrong : Wave
 wrong = wave_of (pos 0 ∷ pos 0 ∷ pos 0 ∷ pos 6 ∷ pos 6 ∷ pos 6 ∷ pos 6 ∷ pos 12 ∷ pos 12 ∷ pos 12 ∷ pos 12 ∷ pos 20 ∷ pos 20 ∷ pos 20 ∷ pos 20 ∷ pos 20 ∷ [])
 
 pub not_lined : ¬ IsLine 16 line product wrong

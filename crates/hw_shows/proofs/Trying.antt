@@ -1,14 +1,18 @@
 -- Waves written out as numbers are tried by computation.
-use Rattle.std.proofs.Common.{◌≡◌, ◌≢◌, ℕ, zero, suc, ◌+◌, ◌-◌, ◌*◌, ◌%◌, ◌<◌, ◌≤◌, ◌⊎◌, inl, inr, ◌==◌, ◌&&◌, Bool, true, false, true≢false, ℤ, pos, List, slice_index_or, Some, min, ap, sym, ◌∙◌, ◌*ℤ◌, arith, eq-or-lt_of_le, le_of_suc-le-suc, mul-le-mul_left}
-use Rattle.std.specs.Prelude.{nat_le, nat_lt}
+use Rattle.std.proofs.Common.{◌≡◌, ◌≢◌, ℕ, zero, suc, ◌+◌, ◌-◌, ◌*◌, ◌%◌, ◌<◌, ◌≤◌, ◌⊎◌, inl, inr, ◌==◌, ◌&&◌, Bool, true, false, true≢false, ℤ, pos, List, slice_index_or, Option, Some, min, ap, sym, ◌∙◌, ◌*ℤ◌, arith, eq-or-lt_of_le, le_of_suc-le-suc, mul-le-mul_left}
+use Rattle.std.specs.Prelude.{nat_le, nat_lt, int_le}
 use Rattle.std.specs.Ordering.{int_eq}
 use Rattle.std.proofs.lemmas.Bool.{and_parts, and_from, le-leb, lt-ltb, eq-eqb, eqb-true, leb-true, cases_Bool}
 use Rattle.std.proofs.lemmas.Bool.Decides.{Decides-int_eq}
+use Rattle.fx_type.specs.declared.kind.FxType.{FxType}
+use Rattle.fx_type.specs.FxType.{InRange, lowest_of, highest_of}
+use Rattle.fx_type.proofs.Found.{Decides-int_le}
+use Rattle.dg_model.specs.Hits.{last_hit}
 use Rattle.hw_net.specs.Registers.{Wave, Span, Takes, IsReg, IsEnReg}
 use Rattle.hw_net.specs.Closed.{frame_start}
 use Rattle.hw_lines.specs.Line.{Line, own_end, IsLine}
 use Rattle.hw_shows.specs.Shows.{Shows}
-use Rattle.hw_shows.specs.Series.{IsProductAt}
+use Rattle.hw_shows.specs.Series.{AreSame, IsProductAt}
 
 -- the wave with these numbers, and 0 after them
 abbrev pub wave_of : List ℤ → Wave
@@ -58,6 +62,19 @@ tried_shows clocks n cycles period latency ready entry wave e = record {
       (and_from (nat_le ((t + latency) * cycles + ready) c) (nat_lt c ((t + latency + period) * cycles)) (le-leb ((t + latency) * cycles + ready) c seen.from) (lt-ltb c ((t + latency + period) * cycles) seen.until)) in
       same_number (wave c) (entry t) (so (is_seen cycles period latency ready t c) (int_eq (wave c) (entry t)) is clock);
 }
+
+-- ---- what stays between hits
+pub tried_stays : (n : ℕ) (period : Option ℕ) (entry : ℕ → ℤ) → each_below n (λ t. int_eq (entry t) (entry (last_hit period t))) ≡ true → (t : ℕ) → t < n → entry t ≡ entry (last_hit period t)
+tried_stays n period entry e t below = same_number (entry t) (entry (last_hit period t)) (each_holds n (λ t. int_eq (entry t) (entry (last_hit period t))) e t below)
+
+pub tried_same : (clocks : ℕ) (wave other : Wave) → each_below clocks (λ c. int_eq (wave c) (other c)) ≡ true → AreSame clocks wave other
+tried_same clocks wave other e = record { at = λ c below. same_number (wave c) (other c) (each_holds clocks (λ c. int_eq (wave c) (other c)) e c below) }
+
+-- ---- what is in range
+pub tried_range : (type : FxType) (n : ℕ) (entry : ℕ → ℤ) → each_below n (λ t. int_le (lowest_of type) (entry t) && int_le (entry t) (highest_of type)) ≡ true → (t : ℕ) → t < n → InRange type (entry t)
+tried_range type n entry e t below =
+    let parts = and_parts (int_le (lowest_of type) (entry t)) (int_le (entry t) (highest_of type)) (each_holds n (λ t. int_le (lowest_of type) (entry t) && int_le (entry t) (highest_of type)) e t below) in
+    record { low = (Decides-int_le (lowest_of type) (entry t)).0 parts.0; high = (Decides-int_le (entry t) (highest_of type)).0 parts.1 }
 
 -- ---- registers
 abbrev pub takes_at : Span → ℕ → ℕ → Bool

@@ -1,4 +1,3 @@
-pub mod Ground
 pub mod Laws
 pub mod Series
 pub mod Shows

@@ -1,9 +1,10 @@
 //! Why what is built shows a table. The function does nothing.
 ghost use Rattle.hw_shows.specs.Laws.{BuiltIsShown, StagesAreShown, OperandsAreServed};
 
-/// Waves that are built as a schedule says, and driven by a stimulus, show each table that solves the
-/// diagram: every entry of every block at every clock at which it is to be seen, before its pipeline,
-/// in each register of it and behind it, and to a shared operation from the clock of its slot on (own).
+/// Waves that are built as a schedule of a checked diagram says, and driven by a stimulus, show each
+/// table that solves the diagram: every entry of every block at every clock at which it is to be
+/// seen, before its pipeline, in each register of it and behind it, and to a shared operation from
+/// the clock of its slot on (own).
 pub fn built_is_shown()
     ensures shown { BuiltIsShown }
     ensures stages { StagesAreShown }
@@ -11,6 +12,10 @@ pub fn built_is_shown()
 {
     dg_blocks::operation_gives_one();
     fx_round::storing_gives_one();
+    fx_type::full_sum_is_one();
+    fx_type::full_product_is_one();
+    fx_type::union_is_one();
+    dg_model::param_type_is_one();
     hw_net::register_is_closed();
     hw_net::enabled_register_is_closed();
 }

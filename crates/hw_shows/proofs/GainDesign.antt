@@ -1,0 +1,345 @@
+-- The times and waves of the Gain's diagram, with two pipeline registers behind the Gain, and the table that they show.
+use Rattle.std.proofs.Common.{◌≡◌, ℕ, zero, suc, ◌*◌, ◌<◌, ◌||◌, pos, ◌*ℤ◌, true, false, [], ◌∷◌, get_or, Some, None, slice_get, sym, subst, refl, arith}
+use Rattle.std.specs.Prelude.{int_lt}
+use Rattle.std.proofs.Math.Dec.{lit<}
+use Rattle.std.proofs.Math.Nat.{mod-one}
+use Rattle.std.proofs.lemmas.Option.{none-some, same_Some}
+use Rattle.fx_type.specs.declared.rounding.Rounding.TheVariants.{Floor}
+use Rattle.fx_type.specs.Conversion.{Converts}
+use Rattle.fx_type.specs.FxType.{InRange}
+use Rattle.dg_model.specs.declared.diagram.Block.{Block}
+use Rattle.dg_model.specs.declared.nested.Target.{Target}
+use Rattle.dg_model.specs.declared.nested.Target.TheVariants.{Port, Enable}
+use Rattle.dg_model.specs.declared.op.Op.TheVariants.{Pass, Gain as OpGain}
+use Rattle.dg_model.specs.Equation.{Equation}
+use Rattle.dg_model.specs.Hits.{Hits, last_hit}
+use Rattle.dg_model.specs.KindRow.{Inherited}
+use Rattle.dg_model.specs.Library.{row_of}
+use Rattle.dg_model.specs.Operation.{stored_truth}
+use Rattle.dg_model.specs.Signals.{Attributes, Stimulus, Table}
+use Rattle.dg_model.specs.Solves.{IsShown, IsStimulus, Solves}
+use Rattle.dg_model.specs.Wired.{root_input}
+use Rattle.hw_net.specs.Registers.{Wave}
+use Rattle.hw_shows.specs.Shows.{IsSeen}
+use Rattle.hw_shows.specs.Timing.{Timing}
+use Rattle.hw_shows.specs.Timed.{Feeds, IsInTime, IsTimed}
+use Rattle.hw_shows.specs.Series.{span_at, IsEnabledSeries}
+use Rattle.hw_shows.specs.Waves.{Waves, IsMadeAs, IsPiped, IsOfferedAt, AreBuilt, AreDriven}
+use Rattle.hw_shows.specs.Laws.{IsDesign}
+use Rattle.hw_shows.proofs.Trying.{wave_of, tried_shows, tried_range, tried_line, tried_same}
+use Rattle.hw_shows.proofs.Small.{int8, int16, int16_full, kept, stored, input_of, output, edge_of, each_by}
+use Rattle.hw_shows.proofs.ByPorts.{InTime, port_in_time, no_ports_in_time, one_port_in_time, outside, port_offered, AreOfferedTo, no_ports_offered, one_port_offered}
+use Rattle.hw_shows.proofs.GainChecked.{test, gain, delay, blocks, diagram, order, attributes, propagated, ordered}
+use Rattle.hw_shows.proofs.GainIntoDelay.{gains, controls, delays, stage, control, enable, state, moved, pipeline, states, not_states}
+
+abbrev timing : Timing
+timing = record {
+  cycles = 1;
+  latency = λ block. get_or (0 ∷ 0 ∷ 0 ∷ 0 ∷ 2 ∷ 2 ∷ []) block 0;
+  stages = λ block. get_or (0 ∷ 0 ∷ 0 ∷ 2 ∷ 0 ∷ 0 ∷ []) block 0;
+  ready = λ block. 0;
+  slot = λ block element. None;
+}
+
+-- ---- its times
+ready_is : (block period : ℕ) → attributes.period_at block ≡ Some period → 0 < period * 1
+ready_is zero period e = let same : 1 ≡ period = same_Some 1 period e in omega arith
+ready_is (suc zero) period e = let same : 1 ≡ period = same_Some 1 period e in omega arith
+ready_is (suc (suc zero)) period e = let same : 1 ≡ period = same_Some 1 period e in omega arith
+ready_is (suc (suc (suc zero))) period e = let same : 1 ≡ period = same_Some 1 period e in omega arith
+ready_is (suc (suc (suc (suc zero)))) period e = let same : 1 ≡ period = same_Some 1 period e in omega arith
+ready_is (suc (suc (suc (suc (suc zero))))) period e = let same : 1 ≡ period = same_Some 1 period e in omega arith
+ready_is (suc (suc (suc (suc (suc (suc block)))))) period e = absurd (none-some period e)
+
+abbrev Arrives : ℕ → Block → Target → Type 0
+Arrives block b target = InTime diagram attributes timing block b target
+
+from_input : (block : ℕ) (b : Block) → b.inputs ≡ 0 → b.enable ≡ None → (target : Target) → Arrives block b target
+from_input block b none free target = outside diagram attributes timing block b free (no_ports_in_time diagram attributes timing block b none) target
+
+into_test : Arrives 2 test (Port 1)
+into_test =
+    port_in_time diagram attributes timing 2 test 1 (edge_of 1 2 1) 1 refl refl
+    (record { own = 1; period = refl; same = λ h. refl; edge = record { divides = refl; behind = omega arith }; ready = λ h. omega arith; slot = λ element slot h. absurd (none-some slot h) })
+
+into_gain : Arrives 3 gain (Port 1)
+into_gain =
+    port_in_time diagram attributes timing 3 gain 1 (edge_of 0 3 1) 1 refl refl
+    (record { own = 1; period = refl; same = λ h. refl; edge = record { divides = refl; behind = omega arith }; ready = λ h. omega arith; slot = λ element slot h. absurd (none-some slot h) })
+
+into_delay : Arrives 4 delay (Port 1)
+into_delay =
+    port_in_time diagram attributes timing 4 delay 1 (edge_of 3 4 1) 1 refl refl
+    (record { own = 1; period = refl; same = λ h. refl; edge = record { divides = refl; behind = omega arith }; ready = λ h. omega arith; slot = λ element slot h. absurd (none-some slot h) })
+
+into_output : Arrives 5 output (Port 1)
+into_output =
+    port_in_time diagram attributes timing 5 output 1 (edge_of 4 5 1) 1 refl refl
+    (record { own = 1; period = refl; same = λ h. refl; edge = record { divides = refl; behind = omega arith }; ready = λ h. omega arith; slot = λ element slot h. absurd (none-some slot h) })
+
+-- the Delay from the Gain, two base samples late, and from its control
+at_delay : (target : Target) → Arrives 4 delay target
+at_delay (Port port) from source feeds is = one_port_in_time diagram attributes timing 4 delay refl into_delay port from source feeds is
+at_delay Enable from source feeds is =
+    let same : 2 ≡ from = same_Some 2 from feeds.0 in
+    let source_is : 1 ≡ source = same_Some 1 source (subst (λ (x : ℕ). attributes.period_at x ≡ Some source) (sym same) is) in
+    subst (λ (x : ℕ). IsInTime diagram attributes timing 4 delay Enable from x) source_is
+    (subst (λ (x : ℕ). IsInTime diagram attributes timing 4 delay Enable x 1) same
+    (record { own = 1; period = refl; same = λ h. refl; edge = record { divides = refl; behind = omega arith }; ready = λ h. omega arith; slot = λ element slot h. absurd (none-some slot h) }))
+
+arrive : (block : ℕ) (b : Block) → slice_get blocks block ≡ Some b → (target : Target) → Arrives block b target
+arrive = each_by (λ (k : ℕ) (x : Block). (target : Target) → Arrives k x target) blocks
+    (from_input 0 (input_of 1 1 (lit< tt)) refl refl)
+    (from_input 1 (input_of 2 1 (lit< tt)) refl refl)
+    (outside diagram attributes timing 2 test refl (one_port_in_time diagram attributes timing 2 test refl into_test))
+    (outside diagram attributes timing 3 gain refl (one_port_in_time diagram attributes timing 3 gain refl into_gain))
+    at_delay
+    (outside diagram attributes timing 5 output refl (one_port_in_time diagram attributes timing 5 output refl into_output))
+
+moves : (block : ℕ) (b : Block) → slice_get blocks block ≡ Some b → (row_of b.kind).timing.inherits ≡ Inherited.Moving → (period : ℕ) × (attributes.period_at block ≡ Some period)
+moves = each_by (λ (k : ℕ) (x : Block). (row_of x.kind).timing.inherits ≡ Inherited.Moving → (period : ℕ) × (attributes.period_at k ≡ Some period)) blocks
+    (λ is. (1, refl)) (λ is. (1, refl)) (λ is. (1, refl)) (λ is. (1, refl)) (λ is. (1, refl)) (λ is. (1, refl))
+
+base_is : (block : ℕ) (b : Block) → slice_get blocks block ≡ Some b → (row_of b.kind).timing.inherits ≡ Inherited.Base → (timing.latency block ≡ 0) × (timing.ready block ≡ 0)
+base_is = each_by (λ (k : ℕ) (x : Block). (row_of x.kind).timing.inherits ≡ Inherited.Base → (timing.latency k ≡ 0) × (timing.ready k ≡ 0)) blocks
+    (λ is. (refl, refl))
+    (λ is. (refl, refl))
+    (λ is. (refl, refl))
+    (λ is. (refl, refl))
+    (λ is. let other : Inherited.Moving ≡ Inherited.Base = is in cc)
+    (λ is. let other : Inherited.Moving ≡ Inherited.Base = is in cc)
+
+pub timed : IsTimed diagram attributes timing
+timed = record {
+  ready = ready_is;
+  edges = λ block b target from source e showing feeds is. arrive block b e target from source feeds is;
+  moving = moves;
+  base = base_is;
+  slots = λ block element slot e. absurd (none-some slot e);
+  still = λ block element e. refl;
+}
+
+-- ---- its waves, with any registers of the Delay
+abbrev entries : (ℕ → Wave) → ℕ → Wave
+entries registers zero = stage 0
+entries registers (suc zero) = control
+entries registers (suc (suc zero)) = control
+entries registers (suc (suc (suc zero))) = stage 0
+entries registers (suc (suc (suc (suc block)))) = registers 1
+
+-- behind the pipelines
+abbrev behind : (ℕ → Wave) → ℕ → Wave
+behind registers zero = stage 0
+behind registers (suc zero) = control
+behind registers (suc (suc zero)) = control
+behind registers (suc (suc (suc zero))) = stage 2
+behind registers (suc (suc (suc (suc block)))) = registers 1
+
+abbrev steps : (ℕ → Wave) → ℕ → ℕ → Wave
+steps registers zero k = stage 0
+steps registers (suc zero) k = control
+steps registers (suc (suc zero)) k = control
+steps registers (suc (suc (suc zero))) k = stage k
+steps registers (suc (suc (suc (suc block)))) k = registers 1
+
+abbrev offers : (ℕ → Wave) → ℕ → Wave
+offers registers zero = wave_of []
+offers registers (suc zero) = wave_of []
+offers registers (suc (suc zero)) = control
+offers registers (suc (suc (suc zero))) = stage 0
+offers registers (suc (suc (suc (suc zero)))) = stage 2
+offers registers (suc (suc (suc (suc (suc block))))) = registers 1
+
+abbrev inputs : ℕ → Wave
+inputs zero = wave_of []
+inputs (suc zero) = stage 0
+inputs (suc (suc number)) = control
+
+abbrev waves : (ℕ → Wave) → Waves
+waves registers = record {
+  input = λ number element. inputs number;
+  entry = λ block port element. entries registers block;
+  after = λ block port element. behind registers block;
+  stage = λ block port element k. steps registers block k;
+  offered = λ block port element. offers registers block;
+  enable = λ block. enable;
+  state = λ block element k. registers k;
+  first = λ block element. pos 9;
+  product = λ block element. wave_of [];
+}
+
+abbrev Offered : ℕ → Block → Type 0
+Offered block b = AreOfferedTo diagram attributes timing 6 (waves state) block b
+
+offered : (block : ℕ) (b : Block) → slice_get blocks block ≡ Some b → Offered block b
+offered = each_by Offered blocks
+    (no_ports_offered diagram attributes timing 6 (waves state) 0 (input_of 1 1 (lit< tt)) refl)
+    (no_ports_offered diagram attributes timing 6 (waves state) 1 (input_of 2 1 (lit< tt)) refl)
+    (one_port_offered diagram attributes timing 6 (waves state) 2 test refl (port_offered diagram attributes timing 6 (waves state) 2 test 1 (edge_of 1 2 1) refl
+    (λ element. tried_line 6 (record { cycles = 1; own = record { period = 1; latency = 0 }; reader = record { period = 1; latency = 0 } }) control control refl (omega arith))))
+    (one_port_offered diagram attributes timing 6 (waves state) 3 gain refl (port_offered diagram attributes timing 6 (waves state) 3 gain 1 (edge_of 0 3 1) refl
+    (λ element. tried_line 6 (record { cycles = 1; own = record { period = 1; latency = 0 }; reader = record { period = 1; latency = 0 } }) (stage 0) (stage 0) refl (omega arith))))
+    (one_port_offered diagram attributes timing 6 (waves state) 4 delay refl (port_offered diagram attributes timing 6 (waves state) 4 delay 1 (edge_of 3 4 1) refl
+    (λ element. tried_line 6 (record { cycles = 1; own = record { period = 1; latency = 2 }; reader = record { period = 1; latency = 2 } }) (stage 2) (stage 2) refl (omega arith))))
+    (one_port_offered diagram attributes timing 6 (waves state) 5 output refl (port_offered diagram attributes timing 6 (waves state) 5 output 1 (edge_of 4 5 1) refl
+    (λ element. tried_line 6 (record { cycles = 1; own = record { period = 1; latency = 2 }; reader = record { period = 1; latency = 2 } }) (state 1) (state 1) refl (omega arith))))
+
+-- the control reaches the Delay two base samples late
+enabled : (block : ℕ) (b : Block) → slice_get blocks block ≡ Some b → (from : ℕ) → Feeds diagram block b Enable from → IsOfferedAt diagram attributes timing 6 (waves state) block b Enable from (pos 0) (behind state from) enable
+enabled = each_by (λ (k : ℕ) (x : Block). (from : ℕ) → Feeds diagram k x Enable from → IsOfferedAt diagram attributes timing 6 (waves state) k x Enable from (pos 0) (behind state from) enable) blocks
+    (λ from feeds. absurd (none-some from feeds.0))
+    (λ from feeds. absurd (none-some from feeds.0))
+    (λ from feeds. absurd (none-some from feeds.0))
+    (λ from feeds. absurd (none-some from feeds.0))
+    (λ from feeds. subst (λ (x : ℕ). IsOfferedAt diagram attributes timing 6 (waves state) 4 delay Enable x (pos 0) (behind state x) enable) (same_Some 2 from feeds.0)
+    (tried_line 6 (record { cycles = 1; own = record { period = 1; latency = 0 }; reader = record { period = 1; latency = 2 } }) control enable refl (omega arith)))
+    (λ from feeds. absurd (none-some from feeds.0))
+
+-- each number is converted
+converted : (c : ℕ) → c < 6 → Converts (stage 0 c *ℤ pos 1) int16 int8 Floor true (stage 0 c)
+converted zero below = kept 5 (lit< tt)
+converted (suc zero) below = kept 6 (lit< tt)
+converted (suc (suc zero)) below = kept 7 (lit< tt)
+converted (suc (suc (suc zero))) below = kept 1 (lit< tt)
+converted (suc (suc (suc (suc zero)))) below = kept 2 (lit< tt)
+converted (suc (suc (suc (suc (suc zero))))) below = kept 3 (lit< tt)
+converted (suc (suc (suc (suc (suc (suc c)))))) below = absurd (omega arith)
+
+abbrev Made : ℕ → Block → Type 0
+Made block b = (port element : ℕ) → IsMadeAs diagram attributes timing 6 (waves state) b.kind block b port element
+
+made : (block : ℕ) (b : Block) → slice_get blocks block ≡ Some b → Made block b
+made = each_by Made blocks
+    (λ port element. record { at = λ c below. refl })
+    (λ port element. record { at = λ c below. refl })
+    (λ port element. tried_same 6 control (λ c. stored_truth (int_lt (pos 0) (control c) || false)) refl)
+    (λ port element. record { op = OpGain (pos 1) int8; is = (pos 1, stored 1 (lit< tt) (lit< tt), refl); gives = λ c below. (int16, int16_full, converted c below) })
+    (λ port element. (stored 9 (lit< tt) (lit< tt), (record { at = λ c below. refl }, λ period is. subst (λ (p : ℕ). IsEnabledSeries 6 (span_at timing p 4) 1 false (pos 9) enable (stage 2) state) (same_Some 1 period is) states)))
+    (λ port element. record { op = Pass; is = refl; gives = λ c below. refl })
+
+abbrev Piped : ℕ → Block → Type 0
+Piped block b = (port element : ℕ) → IsPiped diagram attributes timing 6 (waves state) (attributes.period_at block) block port element
+
+piped : (block : ℕ) (b : Block) → slice_get blocks block ≡ Some b → Piped block b
+piped = each_by Piped blocks
+    (λ port element. (record { at = λ c below. refl }, record { begins = record { at = λ c below. refl }; takes = λ k below. absurd (omega arith) }))
+    (λ port element. (record { at = λ c below. refl }, record { begins = record { at = λ c below. refl }; takes = λ k below. absurd (omega arith) }))
+    (λ port element. (record { at = λ c below. refl }, record { begins = record { at = λ c below. refl }; takes = λ k below. absurd (omega arith) }))
+    (λ port element. (record { at = λ c below. refl }, pipeline))
+    (λ port element. (record { at = λ c below. refl }, record { begins = record { at = λ c below. refl }; takes = λ k below. absurd (omega arith) }))
+    (λ port element. (record { at = λ c below. refl }, record { begins = record { at = λ c below. refl }; takes = λ k below. absurd (omega arith) }))
+
+pub built : AreBuilt diagram attributes timing 6 (waves state)
+built = record {
+  lines = λ block b port element edge e showing from to d inside. offered block b e port from to element edge d;
+  enables = λ block b control e feeds. enabled block b e control feeds;
+  blocks = λ block b port element shown. made block b shown.block_is port element;
+  pipelines = λ block b port element shown. piped block b shown.block_is port element;
+}
+
+-- a register that moves on at the disabled hit
+pub not_built : ¬ AreBuilt diagram attributes timing 6 (waves moved)
+not_built is = not_states ((is.blocks 4 delay 1 0 (record { block_is = refl; port_from = omega arith; port_to = omega arith; element_below = omega arith })).1.1 1 refl)
+
+-- ---- the table
+abbrev table : Table
+table zero port element t = gains t
+table (suc zero) port element t = controls t
+table (suc (suc zero)) port element t = controls t
+table (suc (suc (suc zero))) port element t = gains t
+table (suc (suc (suc (suc block)))) port element t = delays t
+
+abbrev stimulus : Stimulus
+stimulus zero element t = pos 0
+stimulus (suc zero) element t = gains t
+stimulus (suc (suc number)) element t = controls t
+
+abbrev IsRight : ℕ → ℕ → ℕ → ℕ → Type 0
+IsRight block port element t = Equation diagram attributes stimulus table block port element t (table block port element t)
+
+tests : (port element t : ℕ) → t < 3 → IsRight 2 port element t
+tests port element zero below = refl
+tests port element (suc zero) below = refl
+tests port element (suc (suc zero)) below = refl
+tests port element (suc (suc (suc t))) below = absurd (omega arith)
+
+scales : (port element t : ℕ) → t < 3 → IsRight 3 port element t
+scales port element zero below = (OpGain (pos 1) int8, (pos 1, stored 1 (lit< tt) (lit< tt), refl), (int16, int16_full, kept 5 (lit< tt)))
+scales port element (suc zero) below = (OpGain (pos 1) int8, (pos 1, stored 1 (lit< tt) (lit< tt), refl), (int16, int16_full, kept 6 (lit< tt)))
+scales port element (suc (suc zero)) below = (OpGain (pos 1) int8, (pos 1, stored 1 (lit< tt) (lit< tt), refl), (int16, int16_full, kept 7 (lit< tt)))
+scales port element (suc (suc (suc t))) below = absurd (omega arith)
+
+holds : (port element t : ℕ) → t < 3 → IsRight 4 port element t
+holds port element zero below = stored 9 (lit< tt) (lit< tt)
+holds port element (suc zero) below = refl
+holds port element (suc (suc zero)) below = refl
+holds port element (suc (suc (suc t))) below = absurd (omega arith)
+
+at_hits : (block : ℕ) (b : Block) (port element t : ℕ) → IsShown diagram attributes block b port element → t < 3 → Hits (attributes.period_at block) t → IsRight block port element t
+at_hits zero b port element t shown below hit = refl
+at_hits (suc zero) b port element t shown below hit = refl
+at_hits (suc (suc zero)) b port element t shown below hit = tests port element t below
+at_hits (suc (suc (suc zero))) b port element t shown below hit = scales port element t below
+at_hits (suc (suc (suc (suc zero)))) b port element t shown below hit = holds port element t below
+at_hits (suc (suc (suc (suc (suc zero))))) b port element t shown below hit = (Pass, refl, refl)
+at_hits (suc (suc (suc (suc (suc (suc block)))))) b port element t shown below hit = absurd (none-some b shown.block_is)
+
+-- each base sample is a hit
+between_hits : (block : ℕ) (b : Block) (port element t : ℕ) → IsShown diagram attributes block b port element → t < 3 → ¬ Hits (attributes.period_at block) t
+    → table block port element t ≡ table block port element (last_hit (attributes.period_at block) t)
+between_hits zero b port element t shown below miss = absurd (miss (mod-one t))
+between_hits (suc zero) b port element t shown below miss = absurd (miss (mod-one t))
+between_hits (suc (suc zero)) b port element t shown below miss = absurd (miss (mod-one t))
+between_hits (suc (suc (suc zero))) b port element t shown below miss = absurd (miss (mod-one t))
+between_hits (suc (suc (suc (suc zero)))) b port element t shown below miss = absurd (miss (mod-one t))
+between_hits (suc (suc (suc (suc (suc zero))))) b port element t shown below miss = absurd (miss (mod-one t))
+between_hits (suc (suc (suc (suc (suc (suc block)))))) b port element t shown below miss = absurd (none-some b shown.block_is)
+
+pub solves : Solves diagram attributes stimulus 3 table
+solves = record { at_hits = at_hits; between_hits = between_hits }
+
+-- ---- the inputs
+abbrev Driven : ℕ → Block → Type 0
+Driven block b = (number element t c : ℕ) → root_input (row_of b.kind).place.role ≡ Some number → t < 3 → c < 6 → IsSeen 1 (attributes.period_at block) 0 0 t c → inputs number c ≡ stimulus number element t
+
+driven_by : (block : ℕ) (b : Block) → slice_get blocks block ≡ Some b → Driven block b
+driven_by = each_by Driven blocks
+    (λ number element t c is early soon seen. subst (λ (k : ℕ). inputs k c ≡ stimulus k element t) (same_Some 1 number is) ((tried_shows 6 3 1 1 0 0 gains (stage 0) refl).at t c early soon seen))
+    (λ number element t c is early soon seen. subst (λ (k : ℕ). inputs k c ≡ stimulus k element t) (same_Some 2 number is) ((tried_shows 6 3 1 1 0 0 controls control refl).at t c early soon seen))
+    (λ number element t c is early soon seen. absurd (none-some number is))
+    (λ number element t c is early soon seen. absurd (none-some number is))
+    (λ number element t c is early soon seen. absurd (none-some number is))
+    (λ number element t c is early soon seen. absurd (none-some number is))
+
+pub driven : AreDriven diagram attributes stimulus 3 1 6 (waves state)
+driven = record { shows = λ block b number element t c e is inside early soon seen. driven_by block b e number element t c is early soon seen }
+
+-- and are in range
+abbrev Fits : ℕ → Block → Type 0
+Fits block b = (number element t : ℕ) → root_input (row_of b.kind).place.role ≡ Some number → t < 3 → InRange (attributes.type_at block 1) (stimulus number element t)
+
+fits : (block : ℕ) (b : Block) → slice_get blocks block ≡ Some b → Fits block b
+fits = each_by Fits blocks
+    (λ number element t is below. subst (λ (k : ℕ). InRange int8 (stimulus k element t)) (same_Some 1 number is) (tried_range int8 3 gains refl t below))
+    (λ number element t is below. subst (λ (k : ℕ). InRange int8 (stimulus k element t)) (same_Some 2 number is) (tried_range int8 3 controls refl t below))
+    (λ number element t is below. absurd (none-some number is))
+    (λ number element t is below. absurd (none-some number is))
+    (λ number element t is below. absurd (none-some number is))
+    (λ number element t is below. absurd (none-some number is))
+
+pub given : IsStimulus diagram attributes stimulus 3
+given = record { in_range = λ block b number element t e is inside below hit. fits block b e number element t is below }
+
+-- ---- all of it
+pub design : IsDesign diagram order stimulus timing 6 3 table (waves state)
+design = record {
+  ordered = ordered;
+  timed = subst (λ (a : Attributes). IsTimed diagram a timing) (sym propagated) timed;
+  solves = subst (λ (a : Attributes). Solves diagram a stimulus 3 table) (sym propagated) solves;
+  built = subst (λ (a : Attributes). AreBuilt diagram a timing 6 (waves state)) (sym propagated) built;
+  driven = subst (λ (a : Attributes). AreDriven diagram a stimulus 3 1 6 (waves state)) (sym propagated) driven;
+}
+
+-- and with the wrong number it is none
+pub no_design : ¬ IsDesign diagram order stimulus timing 6 3 table (waves moved)
+no_design is = not_built (subst (λ (a : Attributes). AreBuilt diagram a timing 6 (waves moved)) propagated is.built)
