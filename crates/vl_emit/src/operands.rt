@@ -41,9 +41,8 @@ fn net_text(alloc: Global, number: usize) -> Result<Text, OutOfMemory>
     ensures { IfOk result (λ text. text ≡ net_name number) }
 {
     let mut buffer = Buffer::new();
-    let mut bytes = Vec::from_slice(alloc, b"fx_n")?;
-    bytes.extend_from_slice(buffer.format(number).as_bytes())?;
-    Ok(Text::from_vec(bytes))
+    let digits = buffer.format(number).as_bytes();
+    Text::copy(alloc, b"fx_n")?.append(alloc, digits)
 }
 
 /// The name of the register that holds the value of a bridge of this number.
@@ -51,9 +50,8 @@ pub fn hold_text(alloc: Global, number: usize) -> Result<Text, OutOfMemory>
     ensures { IfOk result (λ text. text ≡ hold_name number) }
 {
     let mut buffer = Buffer::new();
-    let mut bytes = Vec::from_slice(alloc, b"fx_h")?;
-    bytes.extend_from_slice(buffer.format(number).as_bytes())?;
-    Ok(Text::from_vec(bytes))
+    let digits = buffer.format(number).as_bytes();
+    Text::copy(alloc, b"fx_h")?.append(alloc, digits)
 }
 
 /// An operand by its name.
