@@ -1,4 +1,4 @@
-"""A repository for a program above crates of this one, for what no command does yet."""
+"""A repository for a program above crates of this one, or for tests of one, for what no command does yet."""
 
 import os
 import shutil
@@ -37,21 +37,47 @@ def copy_crate(name, folder):
             shutil.copytree(source, target)
 
 
+def copy_crates(folder, crates):
+    for crate in crates:
+        copy_crate(crate, folder)
+    shutil.copy(os.path.join(TOP, "HANDLES"), folder)
+
+
+def write_crates(folder, crates):
+    lines = [f"{crate}: {' '.join(used)}\n" for crate, used in crates.items()]
+    write(os.path.join(folder, "crates.txt"), "".join(lines))
+
+
+def prove(crate, command):
+    """Proves a crate and builds what the command runs."""
+    print("proving and building, which takes minutes", file=sys.stderr)
+    made = subprocess.run(["rt", command], cwd=crate, capture_output=True, text=True)
+    if made.returncode != 0:
+        sys.exit(made.stdout + made.stderr)
+
+
 def build(folder, name, libraries, files):
     """Makes the repository, proves and builds the program in it, which has these files, and gives the
     path of what it runs."""
     crates = crate_lines(libraries)
-    for crate in crates:
-        copy_crate(crate, folder)
-    crates[name] = libraries
-    lines = [f"{crate}: {' '.join(used)}\n" for crate, used in crates.items()]
-    write(os.path.join(folder, "crates.txt"), "".join(lines))
-    shutil.copy(os.path.join(TOP, "HANDLES"), folder)
+    copy_crates(folder, crates)
+    write_crates(folder, {**crates, name: libraries})
     program = os.path.join(folder, "crates", name)
     for path, text in files.items():
         write(os.path.join(program, path), text)
-    print("proving and building the program, which takes minutes", file=sys.stderr)
-    made = subprocess.run(["rt", "run"], cwd=program, capture_output=True, text=True)
-    if made.returncode != 0:
-        sys.exit(made.stdout + made.stderr)
+    prove(program, "run")
     return os.path.join(program, "out", name)
+
+
+def build_tests(folder, name, added):
+    """Makes the repository of a crate of this one with these texts added to its files, proves and builds
+    its tests, and gives the path of what runs one that it is given by name."""
+    crates = crate_lines([name])
+    copy_crates(folder, crates)
+    write_crates(folder, crates)
+    crate = os.path.join(folder, "crates", name)
+    for path, text in added.items():
+        with open(os.path.join(crate, path), "a") as file:
+            file.write(text)
+    prove(crate, "test")
+    return os.path.join(crate, "out", f"{name}_tests")
