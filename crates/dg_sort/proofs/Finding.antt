@@ -5,7 +5,7 @@ use Rattle.std.proofs.lemmas.Bool.{cases_lt}
 use Rattle.std.proofs.lemmas.Option.{none-some, slice_get_within, slice_get-get_or}
 use Rattle.dg_sort.specs.declared.search.Mark.{Mark}
 use Rattle.dg_sort.specs.declared.search.Mark.TheVariants.{Unmet, Held, Placed}
-use Rattle.dg_sort.specs.inner.Rows.{AreKnown}
+use Rattle.dg_sort.specs.Rows.{AreKnown}
 use Rattle.dg_sort.specs.inner.Back.{LeadsBackIn, IsOnCycle}
 use Rattle.dg_sort.specs.inner.Search.{Walk}
 use Rattle.dg_sort.specs.inner.State.{IsBelow, IsPlaced, ArePlaced, IsState, IsInOrder, IsFirst, IsFound}

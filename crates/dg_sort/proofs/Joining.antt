@@ -7,7 +7,7 @@ use Rattle.std.proofs.lemmas.Option.{none-some, same_Some, slice_get_within, sli
 use Rattle.dg_sort.specs.declared.search.Mark.{Mark}
 use Rattle.dg_sort.specs.declared.search.Mark.TheVariants.{Held}
 use Rattle.dg_sort.specs.declared.search.Group.{Group}
-use Rattle.dg_sort.specs.inner.Rows.{Reads}
+use Rattle.dg_sort.specs.Rows.{Reads}
 use Rattle.dg_sort.specs.inner.Back.{LeadsBack, IsOnCycle}
 use Rattle.dg_sort.specs.inner.Search.{on_cycle, IsJoined}
 use Rattle.dg_sort.specs.inner.State.{IsLooked, IsHeldFrom, IsLeft, IsRead, NoneBetween, BeginsAfter, floor_of, AreGroups, AreLooked}

@@ -1,5 +1,6 @@
 pub mod Finding
 pub mod Joining
+pub mod Lines
 pub mod Meeting
 pub mod Noting
 pub mod Passing

@@ -1,8 +1,8 @@
 -- Rows of what each block reads, gathered from the edges of a diagram one by one.
 use Rattle.std.proofs.Common.{◌≡◌, ℕ, zero, suc, ◌+◌, ◌<◌, ◌≤◌, Bool, true, false, cond, List, [], ◌∷◌, ◌++◌, length, map, drop, replicate, get_or, inl, inr, ⊎_elim, refl, sym, ap, subst, ◌∙◌, arith}
-use Rattle.std.specs.Prelude.{slice_get, Some, None, Option, MatchOption, not, find, filter, ◌⊎◌, ◌==◌}
+use Rattle.std.specs.Prelude.{slice_get, Some, None, Option, not, find, filter, ◌⊎◌, ◌==◌}
 use Rattle.std.proofs.lemmas.Bool.{cases_eq, cases_lt, cases_Bool, false≢true, eq-eqb, and_from}
-use Rattle.std.proofs.lemmas.List.{append_assoc, append-nil, length-set, length-replicate, get_or-replicate, get_or_past, get_or-set_same, get_or-set_other, drop_more, drop_all}
+use Rattle.std.proofs.lemmas.List.{append_assoc, append-nil, length-set, length-replicate, get_or-replicate, get_or_past, get_or-set_same, get_or-set_other, drop_all}
 use Rattle.std.proofs.lemmas.List.Sums.{length-filter}
 use Rattle.std.proofs.lemmas.Option.{none-some, same_Some, slice_get_within, slice_get-get_or, get_or_from_slice_get, MatchOption-at_some}
 use Rattle.dg_model.specs.declared.diagram.Diagram.{Diagram}
@@ -19,9 +19,11 @@ use Rattle.dg_model.specs.Instant.{is_now, is_asked_now, is_instant, takes_now_a
 use Rattle.dg_model.specs.LatencyEdges.{LatencyEdge, signal_edge, asks_ever, enable_edge, enable_edges_from, latency_edges}
 use Rattle.dg_model.specs.Loop.{LeadsNow}
 use Rattle.dg_model.specs.Periods.{Period, periods_of, period_at}
-use Rattle.dg_model.specs.Wired.{IsWired, Joins, NamesControl}
+use Rattle.dg_model.specs.Wired.{IsWired}
 use Rattle.dg_model.specs.Wires.{enters, driver_of, at_source, period_into}
-use Rattle.dg_sort.specs.inner.Rows.{Reads, AreRows, noted, row_at, is_read_now, is_line_instant, control_now}
+use Rattle.dg_sort.specs.Rows.{Reads, AreRows, row_at}
+use Rattle.dg_sort.specs.inner.Rows.{noted, is_read_now, is_line_instant, control_now}
+use Rattle.dg_sort.proofs.Lines.{joins_at, from_there, to_there, lines_from, control_there, controls_from}
 use Rattle.dg_sort.proofs.Places.{get_left, get_right, push_cases, last_at}
 
 -- ---- a source put at the end of a row
@@ -151,24 +153,6 @@ noting_ends diagram rows rest none noting = record {
 
 -- ---- lines
 
--- in a wired diagram an edge joins blocks that are there
-pub joins_at : (diagram : Diagram) (k : ℕ) (edge : Edge) → IsWired diagram → slice_get diagram.edges k ≡ Some edge → Joins diagram.blocks edge
-joins_at diagram k edge wired at = subst (λ (e : Edge). Joins diagram.blocks e) (get_or_from_slice_get diagram.edges k edge edge at) (wired.edges k edge (slice_get_within diagram.edges k edge at))
-
-matched : {A : Type 0} (o : Option A) (P : A → Type 0) → MatchOption o ⊥ P → (x : A) × (o ≡ Some x) × P x
-matched None P m = absurd m
-matched (Some x) P m = (x, refl, m)
-
-pub from_there : (diagram : Diagram) (k : ℕ) (edge : Edge) → IsWired diagram → slice_get diagram.edges k ≡ Some edge → edge.from < length diagram.blocks
-from_there diagram k edge wired at =
-    let m = matched (slice_get diagram.blocks edge.from) (λ block. (1 ≤ edge.from_port) × (edge.from_port ≤ block.outputs)) (joins_at diagram k edge wired at).source in
-    slice_get_within diagram.blocks edge.from (m.0) (m.1)
-
-pub to_there : (diagram : Diagram) (k : ℕ) (edge : Edge) → IsWired diagram → slice_get diagram.edges k ≡ Some edge → edge.to < length diagram.blocks
-to_there diagram k edge wired at =
-    let m = matched (slice_get diagram.blocks edge.to) (λ block. (1 ≤ edge.to_port) × (edge.to_port ≤ block.inputs)) (joins_at diagram k edge wired at).target in
-    slice_get_within diagram.blocks edge.to (m.0) (m.1)
-
 now_differs : Reading.Now ≡ Reading.BeforeIfSlower → ⊥
 now_differs e = cc
 
@@ -253,12 +237,6 @@ line_is diagram k edge wired at = by_block (slice_get diagram.blocks edge.to) re
     by_block None there = refl
     by_block (Some block) there = by_reading block there (row_of block.kind).timing.reads refl
 
--- the edges from one on begin with it
-lines_from : (diagram : Diagram) (i : ℕ) (edge : Edge) (tail : List LatencyEdge) → slice_get diagram.edges i ≡ Some edge → map signal_edge (drop i diagram.edges) ++ tail ≡ signal_edge edge ∷ (map signal_edge (drop (i + 1) diagram.edges) ++ tail)
-lines_from diagram i edge tail at =
-    let is = get_or_from_slice_get diagram.edges i edge edge at in
-    ap (λ es. map signal_edge es ++ tail) (drop_more diagram.edges i edge (slice_get_within diagram.edges i edge at)) ∙ ap (λ (e : Edge). signal_edge e ∷ (map signal_edge (drop (i + 1) diagram.edges) ++ tail)) is
-
 pub line_more : (diagram : Diagram) (i : ℕ) (edge : Edge) (tail : List LatencyEdge) (rows : List (List ℕ)) → IsWired diagram → slice_get diagram.edges i ≡ Some edge → is_line_instant diagram.blocks (periods_of diagram) edge ≡ true
     → Noting diagram (map signal_edge (drop i diagram.edges) ++ tail) rows → Noting diagram (map signal_edge (drop (i + 1) diagram.edges) ++ tail) (noted rows edge.to edge.from)
 line_more diagram i edge tail rows wired at now noting =
@@ -275,13 +253,6 @@ pub lines_end : (diagram : Diagram) (i : ℕ) (tail : List LatencyEdge) (rows : 
 lines_end diagram i tail rows end noting = subst (λ es. Noting diagram es rows) (ap (λ es. map signal_edge es ++ tail) (drop_all i diagram.edges end)) noting
 
 -- ---- controls
-
-control_there : (diagram : Diagram) (place control : ℕ) (block : Block) → IsWired diagram → slice_get diagram.blocks place ≡ Some block → block.enable ≡ Some control → control < length diagram.blocks
-control_there diagram place control block wired there enable =
-    let names = subst (λ (b : Block). NamesControl diagram.blocks b.enable) (get_or_from_slice_get diagram.blocks place block block there) (wired.controls place block (slice_get_within diagram.blocks place block there)) in
-    let some = subst (λ o. NamesControl diagram.blocks o) enable names in
-    let m = matched (slice_get diagram.blocks control) _ some in
-    slice_get_within diagram.blocks control (m.0) (m.1)
 
 -- the edge of a control, as the block asks it
 record AfterControl (diagram : Diagram) (place : ℕ) (control : Option ℕ) (rest : List LatencyEdge) (rows : List (List ℕ)) : Type 0 where
@@ -313,14 +284,6 @@ after_control diagram place block rest rows wired there Asking.Before is (Some c
       noting_skips diagram (record { from = control; from_port = 1; to = place; target = Enable }) rest rows still noting;
   some = λ source e. absurd (none-some source e);
 }
-
-controls_from : (diagram : Diagram) (i : ℕ) (block : Block) → slice_get diagram.blocks i ≡ Some block →
-    enable_edges_from i (drop i diagram.blocks) ≡ enable_edge i (asks_ever (row_of block.kind).timing.asks) block.enable ++ enable_edges_from (i + 1) (drop (i + 1) diagram.blocks)
-controls_from diagram i block at =
-    let e : suc i ≡ i + 1 = omega arith in
-    ap (enable_edges_from i) (drop_more diagram.blocks i block (slice_get_within diagram.blocks i block at))
-    ∙ ap (λ (b : Block). enable_edge i (asks_ever (row_of b.kind).timing.asks) b.enable ++ enable_edges_from (suc i) (drop (i + 1) diagram.blocks)) (get_or_from_slice_get diagram.blocks i block block at)
-    ∙ ap (λ n. enable_edge i (asks_ever (row_of block.kind).timing.asks) block.enable ++ enable_edges_from n (drop (i + 1) diagram.blocks)) e
 
 noting_control : (diagram : Diagram) (i : ℕ) (block : Block) (rows : List (List ℕ)) → IsWired diagram → slice_get diagram.blocks i ≡ Some block → Noting diagram (enable_edges_from i (drop i diagram.blocks)) rows
     → AfterControl diagram i (control_now block) (enable_edges_from (i + 1) (drop (i + 1) diagram.blocks)) rows

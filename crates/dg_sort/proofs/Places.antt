@@ -1,4 +1,4 @@
--- Elements of lists by their places, after an append, `take` and `drop`.
+-- Elements of lists by their places, after an append, `take` and `drop`. Crates above may cite this file.
 use Rattle.std.proofs.Common.{◌≡◌, ℕ, zero, suc, ◌+◌, ◌-◌, ◌<◌, ◌≤◌, List, [], ◌∷◌, ◌++◌, length, take, drop, inl, inr, ⊎_elim, refl, ap, ◌∙◌, arith}
 use Rattle.std.specs.Prelude.{slice_get, Some, ◌⊎◌}
 use Rattle.std.proofs.lemmas.Option.{none-some}

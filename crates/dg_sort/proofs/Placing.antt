@@ -7,7 +7,7 @@ use Rattle.std.proofs.lemmas.Option.{none-some, same_Some, slice_get_within}
 use Rattle.dg_sort.specs.declared.search.Mark.{Mark}
 use Rattle.dg_sort.specs.declared.search.Mark.TheVariants.{Unmet, Held, Placed}
 use Rattle.dg_sort.specs.declared.search.Group.{Group}
-use Rattle.dg_sort.specs.inner.Rows.{Reads}
+use Rattle.dg_sort.specs.Rows.{Reads}
 use Rattle.dg_sort.specs.inner.Back.{IsOnCycle}
 use Rattle.dg_sort.specs.inner.Search.{placed_marks, least_of, lowered}
 use Rattle.dg_sort.specs.inner.State.{IsBelow, IsLooked, IsPlaced, IsPlacedAt, IsSettled, IsHeldFrom, IsLeft, IsRead, NoneBetween, BeginsAfter, floor_of, ArePlaced, AreGroups, AreLooked}

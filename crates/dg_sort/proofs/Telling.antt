@@ -11,7 +11,7 @@ use Rattle.dg_model.specs.declared.fault.Shown.TheVariants.{Cycle}
 use Rattle.dg_model.specs.Attributes.{attributes_of}
 use Rattle.dg_model.specs.Faults.{path_of, fault_of}
 use Rattle.dg_model.specs.Loop.{LeadsNow, IsInstantCycle, IsOrder, KeepsLoop, BreaksLoop}
-use Rattle.dg_sort.specs.inner.Rows.{Reads, AreRows}
+use Rattle.dg_sort.specs.Rows.{Reads, AreRows}
 use Rattle.dg_sort.specs.inner.Back.{LeadsBack, IsOnCycle}
 use Rattle.dg_sort.specs.inner.Cycle.{IsReadCycle}
 use Rattle.dg_sort.specs.inner.State.{IsInOrder, IsFirst, IsFound}

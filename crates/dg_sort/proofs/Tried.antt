@@ -20,7 +20,8 @@ use Rattle.dg_model.specs.Library.{row_of, IsReadable}
 use Rattle.dg_model.specs.Periods.{periods_of}
 use Rattle.dg_model.specs.Wires.{enters}
 use Rattle.dg_model.specs.Wired.{IsWired, Joins, StandsBefore, NamesControl, MayStand}
-use Rattle.dg_sort.specs.inner.Rows.{Reads, AreKnown, noted, row_at}
+use Rattle.dg_sort.specs.Rows.{Reads, AreKnown, row_at}
+use Rattle.dg_sort.specs.inner.Rows.{noted}
 use Rattle.dg_sort.proofs.Noting.{reads_cases}
 
 -- ---- readings

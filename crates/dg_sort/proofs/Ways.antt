@@ -1,6 +1,6 @@
 -- Ways back joined, and cycles.
 use Rattle.std.proofs.Common.{◌≡◌, ℕ, zero, suc, List, sym, subst, refl}
-use Rattle.dg_sort.specs.inner.Rows.{Reads}
+use Rattle.dg_sort.specs.Rows.{Reads}
 use Rattle.dg_sort.specs.inner.Back.{LeadsBackIn, LeadsBack, IsOnCycle}
 
 joined_in : (rows : List (List ℕ)) (steps : ℕ) (x y z : ℕ) → LeadsBackIn rows steps x y → LeadsBack rows y z → LeadsBack rows x z

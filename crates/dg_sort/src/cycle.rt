@@ -1,7 +1,7 @@
 ghost use Rattle.std.specs.Prelude.{◌≡◌, ◌+◌, ◌<◌, ◌≤◌, [], true, false, IfOk, OnOk, length};
 ghost use Rattle.dg_sort.specs.inner.Back.{IsOnCycle};
 ghost use Rattle.dg_sort.specs.inner.Cycle.{AreClosed, AreSteps, IsFoundAt, IsMet, IsReadCycle};
-ghost use Rattle.dg_sort.specs.inner.Rows.{AreKnown};
+ghost use Rattle.dg_sort.specs.Rows.{AreKnown};
 
 use fx_io::{OutOfMemory, Sizes};
 use std::alloc::Global;

@@ -4,9 +4,9 @@
 //! from which an instant edge leads to it (`IsOrder`). Where there is none the fault is that of the
 //! rule (`BreaksLoop`): a cycle of instant edges, begun with the least block that lies on any.
 //!
-//! `rows` lists for each block the blocks that it reads in its own sample. `search` goes over them
-//! in depth and gathers blocks that read each other in groups; `cycle` shows a cycle through one.
-//! Each takes time in the blocks and edges.
+//! `rows_of` lists for each block the blocks that it reads in its own sample (`AreRows`), for the
+//! crates above too. `search` goes over these in depth and gathers blocks that read each other in
+//! groups; `cycle` shows a cycle through one. Each takes time in the blocks and edges.
 #![tactic(auto)]
 
 mod cycle;
@@ -17,3 +17,4 @@ mod search;
 mod tests;
 
 pub use ordering::order;
+pub use rows::{reads_now, rows_of};

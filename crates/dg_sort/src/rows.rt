@@ -4,14 +4,15 @@ ghost use Rattle.dg_model.specs.Instant.{is_now, asks_now as asks_now_of};
 ghost use Rattle.dg_model.specs.Library.{row_of};
 ghost use Rattle.dg_model.specs.Periods.{periods_of};
 ghost use Rattle.dg_model.specs.Wired.{IsWired};
-ghost use Rattle.dg_sort.specs.inner.Rows.{AreRows, control_now, is_line_instant, noted};
+ghost use Rattle.dg_sort.specs.Rows.{AreRows};
+ghost use Rattle.dg_sort.specs.inner.Rows.{control_now, is_line_instant, noted};
 
 use dg_model::{Block, Diagram, Edge, Kind};
 use fx_io::{OutOfMemory, Sizes};
 use std::alloc::Global;
 
 /// Whether a block of this kind reads its inputs in its own sample, by whether its input is slower.
-fn reads_now(kind: &Kind, slower: bool) -> bool
+pub fn reads_now(kind: &Kind, slower: bool) -> bool
     ensures { result ≡ is_now (row_of kind.now).timing.reads slower }
 {
     match kind {

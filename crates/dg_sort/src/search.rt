@@ -1,5 +1,5 @@
 ghost use Rattle.std.specs.Prelude.{◌≡◌, ◌-◌, ◌<◌, ◌≤◌, ◌++◌, [], All, IfOk, OnOk, Some, length, slice_get};
-ghost use Rattle.dg_sort.specs.inner.Rows.{AreKnown};
+ghost use Rattle.dg_sort.specs.Rows.{AreKnown};
 ghost use Rattle.dg_sort.specs.inner.Search.{CanJoin, IsJoined, KeepsAllButGroups};
 ghost use Rattle.dg_sort.specs.inner.Search.{begun, least_of, lowered, met, placed, placed_marks, seen};
 ghost use Rattle.dg_sort.specs.inner.State.{IsFound, IsSearched, IsState, IsStep};

@@ -5,7 +5,7 @@ ghost use Rattle.fx_type.specs.declared.rounding.Rounding.TheVariants.{Floor};
 ghost use Rattle.dg_model.specs.declared.diagram.PeriodSpec.TheVariants.{Inherit};
 ghost use Rattle.dg_model.specs.Periods.{periods_of};
 ghost use Rattle.dg_model.specs.Wired.{IsWired};
-ghost use Rattle.dg_sort.specs.inner.Rows.{AreKnown};
+ghost use Rattle.dg_sort.specs.Rows.{AreKnown};
 
 use crate::cycle::cycle_from;
 use crate::ordering::order;

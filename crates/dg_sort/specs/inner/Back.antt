@@ -1,6 +1,6 @@
 -- Ways back from a block over what blocks read (own).
 use Rattle.std.specs.Prelude.{◌≡◌, ℕ, zero, suc, List}
-use Rattle.dg_sort.specs.inner.Rows.{Reads}
+use Rattle.dg_sort.specs.Rows.{Reads}
 
 -- so many readings lead from a block back to another
 abbrev pub LeadsBackIn : List (List ℕ) → ℕ → ℕ → ℕ → Type 0

@@ -3,7 +3,7 @@ use Rattle.std.specs.Prelude.{◌≡◌, ℕ, suc, ◌+◌, ◌<◌, ◌≤◌, 
 use Rattle.dg_sort.specs.declared.search.Mark.{Mark}
 use Rattle.dg_sort.specs.declared.search.Mark.TheVariants.{Unmet, Held, Placed}
 use Rattle.dg_sort.specs.declared.search.Group.{Group}
-use Rattle.dg_sort.specs.inner.Rows.{Reads}
+use Rattle.dg_sort.specs.Rows.{Reads}
 use Rattle.dg_sort.specs.inner.Back.{LeadsBack, IsOnCycle}
 use Rattle.dg_sort.specs.inner.Search.{Walk}
 

@@ -1,7 +1,8 @@
 use Rattle.std.proofs.Common.{◌≤◌, [], true, false, length, replicate, get_or, sym, ap, subst, ◌∙◌, arith}
 use Rattle.dg_model.specs.LatencyEdges.{enable_edges_from}
 use Rattle.dg_model.proofs.Propagation.{length_periods}
-use Rattle.dg_sort.proofs.Noting.{edge_read, block_read, instant_as, from_there, to_there, noting_begins, line_more, line_skips, lines_end, control_more, control_skips, controls_end}
+use Rattle.dg_sort.proofs.Lines.{from_there, to_there}
+use Rattle.dg_sort.proofs.Noting.{edge_read, block_read, instant_as, noting_begins, line_more, line_skips, lines_end, control_more, control_skips, controls_end}
 use Rattle.dg_sort.proofs.rows.rows_of.Goals.{then-is_instant+in_ok-note, else-is_instant, in-Some+in_ok-note-2, in_default}
 use Rattle.dg_sort.proofs.rows.rows_of.Goals as goal
 
