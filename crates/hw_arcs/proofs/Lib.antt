@@ -1,1 +1,12 @@
+mod Places
+mod Moving
+mod Taking
+mod Chains
+mod WayBack
+mod Rings
+mod Stepping
+mod Zero
+mod Closing
+mod Bounds
+mod Tried
 mod Leaving

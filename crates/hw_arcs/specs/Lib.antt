@@ -1,3 +1,4 @@
+pub mod inner
 pub mod Found
 pub mod Latencies
 pub mod Laws

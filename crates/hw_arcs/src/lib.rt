@@ -9,7 +9,16 @@
 mod arc;
 mod found;
 mod laws;
+mod relaxing;
+mod ring;
+mod solving;
+#[cfg(test)]
+mod tests;
+mod walking;
 
 pub use arc::{Arc, Arcs};
 pub use found::{Found, Gaining};
-pub use laws::gaining_cycles_leave_none;
+pub use laws::{
+    gaining_cycles_leave_none, least_latencies_are_bounded, unasked_latencies_are_zero,
+};
+pub use solving::latencies;

@@ -1,0 +1,186 @@
+ghost use Rattle.std.specs.Prelude.{◌≡◌, ◌*◌, ◌<◌, ◌≤◌, ◌^◌, [], IfNone, IfOk, IfSome};
+ghost use Rattle.std.specs.Prelude.{MatchOption, OnOk, length, replicate};
+ghost use Rattle.hw_arcs.specs.Latencies.{IsFeasible, latency_at};
+ghost use Rattle.hw_arcs.specs.Found.{AreKnown, IsFound, IsGaining, IsWhole, most_gain};
+ghost use Rattle.hw_arcs.specs.declared.found.Found.TheVariants.{Gains, Least};
+ghost use Rattle.hw_arcs.specs.inner.State.{AreRows, AreSettled, AreWithin, IsState, noted, seen};
+
+use crate::arc::Arc;
+use crate::found::{Found, Gaining};
+use crate::relaxing::{Relaxing, Step};
+use crate::ring::{total_of, turn_back};
+use crate::walking::walk_back;
+use fx_io::{Longs, OutOfMemory, Periods, Sizes};
+use std::alloc::Global;
+
+/// The most that an arc gains: 64 registers and one base sample more, of a period below 2^32.
+const MOST_GAIN: u64 = 279_172_874_240;
+
+/// So many empty rows.
+fn empty_rows(alloc: Global, count: usize) -> Result<Vec<Sizes>, OutOfMemory>
+    ensures { IfOk result (λ rows. rows.items ≡ replicate count []) }
+{
+    let mut rows: Vec<Sizes> = Vec::new(alloc);
+    for _block in 0..count {
+        rows.push(Sizes::new(alloc))?;
+    }
+    Ok(rows)
+}
+
+/// Puts a number at the end of a row.
+fn note(rows: &mut Vec<Sizes>, block: u32, number: u32) -> Result<(), OutOfMemory>
+    requires { block < length rows.old.items }
+    ensures { OnOk result (rows.new.items ≡ noted rows.old.items block number) }
+{
+    rows[block as usize].push(number)?;
+    Ok(())
+}
+
+/// By block, the numbers of the arcs that lead from it and count.
+fn rows_of(alloc: Global, arcs: &[Arc], count: usize) -> Result<Vec<Sizes>, OutOfMemory>
+    requires known { AreKnown arcs.now count }
+    requires few { length arcs.now ≤ 2 ^ 31 }
+    ensures { IfOk result (λ rows. AreRows arcs.now count rows.items) }
+{
+    let mut rows = empty_rows(alloc, count)?;
+    for (number, arc) in arcs.iter().enumerate() {
+        let arc = *arc;
+        if arc.counts {
+            note(&mut rows, arc.from, number as u32)?;
+        }
+    }
+    Ok(rows)
+}
+
+/// The cycle that is met on the way back from a block along the arcs that gave the latencies.
+fn cycle_behind(
+    alloc: Global,
+    arcs: &[Arc],
+    state: &Relaxing,
+    first: u32,
+) -> Result<Option<Gaining>, OutOfMemory>
+    requires known { AreKnown arcs.now (length state.now.lat.items) }
+    requires few { length state.now.lat.items ≤ 20000 }
+    requires state { IsState arcs.now (length state.now.lat.items) (seen state.now) }
+    requires there { first < length state.now.lat.items }
+    ensures gaining { IfOk result (λ found. IfSome found (IsGaining arcs.now)) }
+    ensures none { IfOk result (λ found. IfNone found
+        (latency_at state.now.lat.items first ≤ length state.now.lat.items * most_gain)) }
+{
+    let tight = state.tight.as_slice();
+    let mut path = Vec::new(alloc);
+    let Some(place) = walk_back(alloc, arcs, tight, first, &mut path)? else {
+        return Ok(None);
+    };
+    let (_, ring) = path.as_slice().split_at(place);
+    let blocks = turn_back(alloc, ring)?;
+    let total = total_of(arcs, tight, ring);
+    Ok(Some(Gaining { blocks, total }))
+}
+
+/// The same where the latency is greater than any way without a cycle could make it.
+fn cycle_above(
+    alloc: Global,
+    arcs: &[Arc],
+    state: &Relaxing,
+    first: u32,
+) -> Result<Gaining, OutOfMemory>
+    requires known { AreKnown arcs.now (length state.now.lat.items) }
+    requires few { length state.now.lat.items ≤ 20000 }
+    requires state { IsState arcs.now (length state.now.lat.items) (seen state.now) }
+    requires there { first < length state.now.lat.items }
+    requires above { length state.now.lat.items * most_gain < latency_at state.now.lat.items first }
+    ensures { IfOk result (IsGaining arcs.now) }
+{
+    let Some(gaining) = cycle_behind(alloc, arcs, state, first)? else {
+        unreachable!()
+    };
+    Ok(gaining)
+}
+
+/// Looks at blocks until each arc is kept, or a cycle is found that gains. After as many steps as
+/// there are blocks, and twice as many each time, a cycle is looked for.
+fn relax_all(
+    alloc: Global,
+    arcs: &[Arc],
+    rows: &[Sizes],
+    state: &mut Relaxing,
+) -> Result<Option<Gaining>, OutOfMemory>
+    requires known { AreKnown arcs.now (length state.old.lat.items) }
+    requires rows { AreRows arcs.now (length state.old.lat.items) rows.now }
+    requires few { length state.old.lat.items ≤ 20000 }
+    requires state { IsState arcs.now (length state.old.lat.items) (seen state.old) }
+    requires within { AreWithin 0 (seen state.old) }
+    requires settled { AreSettled arcs.now (seen state.old) [] }
+    ensures state { OnOk result (IsState arcs.now (length state.old.lat.items) (seen state.new)) }
+    ensures found { IfOk result (λ found.
+        MatchOption found (IsFeasible arcs.now state.new.lat.items) (IsGaining arcs.now)) }
+{
+    let limit = rows.len() as u64 * MOST_GAIN;
+    let mut due = rows.len();
+    let mut left = due;
+    'relax: loop {
+        match state.step(arcs, rows, limit)? {
+            Step::Done => return Ok(None),
+            Step::Above { block } => {
+                let gaining = cycle_above(alloc, arcs, state, block)?;
+                return Ok(Some(gaining));
+            }
+            Step::Settled { block } => {
+                if left > 0 {
+                    left -= 1;
+                } else {
+                    due = due.saturating_mul(2);
+                    left = due;
+                    if let Some(gaining) = cycle_behind(alloc, arcs, state, block)? {
+                        return Ok(Some(gaining));
+                    }
+                }
+            }
+        }
+    }
+}
+
+/// What the end of a relaxation tells.
+fn found_of(gaining: Option<Gaining>, state: Relaxing) -> Found
+    ensures { MatchOption gaining (result ≡ Least state.lat.items state.tight.items)
+        (λ cycle. result ≡ Gains cycle) }
+{
+    match gaining {
+        Some(cycle) => Found::Gains(cycle),
+        None => {
+            let Relaxing {
+                lat,
+                tight,
+                pending: _,
+                queue: _,
+            } = state;
+            Found::Least {
+                lat: Longs::from_vec(lat),
+                tight: Periods::from_vec(tight),
+            }
+        }
+    }
+}
+
+/// The least latencies that arcs leave, each above 0 with an arc that asks for it; or a cycle along
+/// which they gain, and which leaves none. Blocks are looked at in an order of theirs: its time is
+/// linear in the arcs where these lead forward in it, and the arcs times the longest way of
+/// latencies that rise at worst.
+pub fn latencies(
+    alloc: Global,
+    arcs: &[Arc],
+    order: &[u32],
+    count: usize,
+) -> Result<Found, OutOfMemory>
+    requires known { AreKnown arcs.now count }
+    requires few { length arcs.now ≤ 2 ^ 31 }
+    requires small { count ≤ 20000 }
+    requires whole { IsWhole order.now count }
+    ensures { IfOk result (IsFound arcs.now count) }
+{
+    let rows = rows_of(alloc, arcs, count)?;
+    let mut state = Relaxing::begin(alloc, order, count)?;
+    let gaining = relax_all(alloc, arcs, rows.as_slice(), &mut state)?;
+    Ok(found_of(gaining, state))
+}
