@@ -10,8 +10,10 @@ use Rattle.dg_model.specs.Checked.{CheckedDiagram}
 use Rattle.dg_model.specs.Signals.{Attributes, Table}
 use Rattle.dg_model.specs.Hits.{counted_hits}
 use Rattle.dg_model.specs.Wires.{value_into}
+use Rattle.dg_prepared.specs.declared.prepared.Prepared.{Prepared}
 use Rattle.dg_sim.specs.declared.program.Memory.{Memory}
 use Rattle.dg_sim.specs.declared.program.Program.{Program}
+use Rattle.dg_sim.specs.Ready.{AreReady}
 use Rattle.dg_sim.specs.Ring.{PastValues}
 use Rattle.dg_sim.specs.State.{kept_count, kept_hits}
 use Rattle.dg_sim.specs.Sim.{values_of, IsProgram, IsSimOf, Stands}
@@ -33,7 +35,7 @@ no_hits diagram attributes table block enable (RateTransition period initial) = 
 no_hits diagram attributes table block enable (EnOut reset initial) = refl
 no_hits diagram attributes table block enable _ = refl
 
-module _ (checked : CheckedDiagram) (program : Program) (row : List ℤ) (pasts : List PastValues) (is : IsProgram checked.diagram (attributes_of checked.diagram) program)
+module _ (checked : CheckedDiagram) (program : Program) (row : List ℤ) (pasts : List PastValues) (prepared : List Prepared) (is : IsProgram checked.diagram (attributes_of checked.diagram) program)
     (rooms : AreRooms program.memories pasts (length program.memories))
   where
     past_of : (m : ℕ) (memory : Memory) → slice_get program.memories m ≡ Some memory → (past : PastValues) × (slice_get pasts m ≡ Some past) × (past ≡ record { room = memory.room; values = [] })
@@ -41,8 +43,8 @@ module _ (checked : CheckedDiagram) (program : Program) (row : List ℤ) (pasts 
         let p = get_some pasts m (subst (λ (n : ℕ). m < n) (sym rooms.size) (slice_get_within program.memories m memory at)) in
         (p.0, p.1, rooms.each m memory p.0 at p.1)
 
-    pub begun_sim : length row ≡ length program.places → IsSimOf checked (record { program = program; samples = 0; row = row; pasts = pasts })
-    begun_sim size = record {
+    pub begun_sim : length row ≡ length program.places → AreReady program prepared (length program.cells) → IsSimOf checked (record { program = program; samples = 0; row = row; pasts = pasts; prepared = prepared })
+    begun_sim size ready = record {
       program = is;
       row = size;
       pasts = rooms.size;
@@ -50,9 +52,10 @@ module _ (checked : CheckedDiagram) (program : Program) (row : List ℤ) (pasts 
           let p = past_of m memory at in
           let own = is.memories m memory at in
           (p.0, p.1, ap (λ (q : PastValues). q.room) p.2 ∙ own.1.room ∙ ap (λ (b : Block). kept_count b.kind) (same_Some own.0 b (sym own.1.block_is ∙ block_is)));
+      ready = ready;
     }
 
-    pub begun_stands : (table : Table) → Stands checked.diagram (attributes_of checked.diagram) (record { program = program; samples = 0; row = row; pasts = pasts }) table 0
+    pub begun_stands : (table : Table) → Stands checked.diagram (attributes_of checked.diagram) (record { program = program; samples = 0; row = row; pasts = pasts; prepared = prepared }) table 0
     begun_stands table = record {
       samples = refl;
       row = λ k place s at e. absurd (omega (arith, e));

@@ -21,6 +21,7 @@ mod Listed
 pub mod Lists
 mod Moved
 mod Ranks
+mod Readied
 mod Rings
 mod Rooted
 mod Serving

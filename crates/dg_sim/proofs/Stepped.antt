@@ -7,6 +7,7 @@ use Rattle.dg_model.specs.Checked.{CheckedDiagram}
 use Rattle.dg_model.specs.Hits.{is_hit}
 use Rattle.dg_model.specs.Signals.{Stimulus, Table}
 use Rattle.dg_model.specs.Wires.{value_into}
+use Rattle.dg_prepared.specs.declared.prepared.Prepared.{Prepared}
 use Rattle.dg_sim.specs.declared.program.Memory.{Memory}
 use Rattle.dg_sim.specs.declared.program.Program.{Program}
 use Rattle.dg_sim.specs.Ring.{PastValues}
@@ -17,25 +18,26 @@ use Rattle.dg_sim.specs.Sim.{values_of, kept_at, Agrees, IsSimOf, IsAt, IsSteppe
 use Rattle.dg_sim.proofs.Ranks.{there_map}
 use Rattle.dg_sim.proofs.Moves.{after}
 
-module _ (checked : CheckedDiagram) (program : Program) (t : ℕ) (row later_row : List ℤ) (pasts later : List PastValues)
-    (is_sim : IsSimOf checked (record { program = program; samples = t; row = row; pasts = pasts }))
+module _ (checked : CheckedDiagram) (program : Program) (t : ℕ) (row later_row : List ℤ) (pasts later : List PastValues) (prepared : List Prepared)
+    (is_sim : IsSimOf checked (record { program = program; samples = t; row = row; pasts = pasts; prepared = prepared }))
     (row_size : length later_row ≡ length row) (pasts_size : length later ≡ length pasts)
     (each : (m : ℕ) (memory : Memory) (past : PastValues) → slice_get program.memories m ≡ Some memory → slice_get pasts m ≡ Some past → slice_get later m ≡ Some (after memory t later_row past))
   where
-    pub still_sim : (samples : ℕ) → IsSimOf checked (record { program = program; samples = samples; row = later_row; pasts = later })
+    pub still_sim : (samples : ℕ) → IsSimOf checked (record { program = program; samples = samples; row = later_row; pasts = later; prepared = prepared })
     still_sim samples = record {
       program = is_sim.program;
       row = row_size ∙ is_sim.row;
       pasts = pasts_size ∙ is_sim.pasts;
       rooms = λ m memory b at block_is. let r = is_sim.rooms m memory b at block_is in (after memory t later_row r.0, each m memory r.0 at r.1, r.2);
+      ready = is_sim.ready;
     }
 
     module _ (numbers out : List ℤ) (moves : KeptMoves)
-        (agrees : (stimulus : Stimulus) (n : ℕ) (table : Table) → IsAt checked (record { program = program; samples = t; row = row; pasts = pasts }) numbers stimulus n table
+        (agrees : (stimulus : Stimulus) (n : ℕ) (table : Table) → IsAt checked (record { program = program; samples = t; row = row; pasts = pasts; prepared = prepared }) numbers stimulus n table
         → Agrees checked.diagram (attributes_of checked.diagram) program.places (length program.places) (value_at later_row) table t)
         (out_is : out ≡ map (value_at later_row) program.outputs)
       where
-        now_keeps : (stimulus : Stimulus) (n : ℕ) (table : Table) → IsAt checked (record { program = program; samples = t; row = row; pasts = pasts }) numbers stimulus n table
+        now_keeps : (stimulus : Stimulus) (n : ℕ) (table : Table) → IsAt checked (record { program = program; samples = t; row = row; pasts = pasts; prepared = prepared }) numbers stimulus n table
             → Keep checked.diagram (attributes_of checked.diagram) program.memories (kept_at later) table (suc t)
         now_keeps stimulus n table at m memory b here block_is =
             let agree = agrees stimulus n table at in
@@ -53,7 +55,7 @@ module _ (checked : CheckedDiagram) (program : Program) (t : ℕ) (row later_row
             ∙ ap (λ (kept : List ℤ). moved (move_at checked.diagram (attributes_of checked.diagram) table memory.place.block b.enable b.kind t) (kept_count b.kind) (value_into checked.diagram (attributes_of checked.diagram) table memory.place.block 1 memory.place.element t) kept) old
             ∙ sym (moves checked.diagram (attributes_of checked.diagram) table memory.place.block b.enable b.kind memory.place.element t)
 
-        shows : (stimulus : Stimulus) (n : ℕ) (table : Table) → IsAt checked (record { program = program; samples = t; row = row; pasts = pasts }) numbers stimulus n table → Shows checked table t out
+        shows : (stimulus : Stimulus) (n : ℕ) (table : Table) → IsAt checked (record { program = program; samples = t; row = row; pasts = pasts; prepared = prepared }) numbers stimulus n table → Shows checked table t out
         shows stimulus n table at place e here =
             let s = is_sim.program.shows place e here in
             let agree : value_at later_row s.0 ≡ entry table (record { block = e.block; port = 1; element = e.element }) t =
@@ -63,7 +65,7 @@ module _ (checked : CheckedDiagram) (program : Program) (t : ℕ) (row later_row
             ∙ agree
 
         pub is_stepped : (samples : ℕ) → samples ≡ suc t
-            → IsStepped checked (record { program = program; samples = t; row = row; pasts = pasts }) (record { program = program; samples = samples; row = later_row; pasts = later }) numbers out
+            → IsStepped checked (record { program = program; samples = t; row = row; pasts = pasts; prepared = prepared }) (record { program = program; samples = samples; row = later_row; pasts = later; prepared = prepared }) numbers out
         is_stepped samples next stimulus n table at = (
           record {
             samples = next;

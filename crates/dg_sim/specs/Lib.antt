@@ -1,6 +1,7 @@
 pub mod Laws
 pub mod Listing
 pub mod Program
+pub mod Ready
 pub mod Ring
 pub mod Sim
 pub mod State

@@ -14,17 +14,20 @@ use Rattle.dg_sim.specs.declared.program.Place.{Place}
 use Rattle.dg_sim.specs.declared.program.Cell.{Cell}
 use Rattle.dg_sim.specs.declared.program.Memory.{Memory}
 use Rattle.dg_sim.specs.declared.program.Program.{Program}
+use Rattle.dg_prepared.specs.declared.prepared.Prepared.{Prepared}
 use Rattle.dg_sim.specs.Laws.{EntriesAreInRange}
+use Rattle.dg_sim.specs.Ready.{AreReady}
 use Rattle.dg_sim.specs.Ring.{PastValues}
 use Rattle.dg_sim.specs.State.{Move, moved, move_at, kept_count, kept_values}
 use Rattle.dg_sim.specs.Program.{entry, value_at, Gives, CanGive, IsWithin, is_on, move_of}
 
--- a simulator: its program, how many samples were made, the value of each cell in the last of them, and what each memory keeps
+-- a simulator: its program, how many samples were made, the value of each cell in the last of them, what each memory keeps, and what is prepared for each cell
 pub record Simulation : Type 0 where
   pub program : Program
   pub samples : ℕ
   pub row : List ℤ
   pub pasts : List PastValues
+  pub prepared : List Prepared
 
 -- what a memory keeps
 abbrev pub values_of : Option PastValues → List ℤ
@@ -106,6 +109,7 @@ pub record IsSimOf (checked : CheckedDiagram) (sim : Simulation) : Type 0 where
   pub row : length sim.row ≡ length sim.program.places
   pub pasts : length sim.pasts ≡ length sim.program.memories
   pub rooms : HasRooms checked.diagram sim.program.memories sim.pasts
+  pub ready : AreReady sim.program sim.prepared (length sim.program.cells)
 
 -- it stands at a sample below n of a table that solves, and the row has the numbers of the stimulus at that sample
 pub record IsAt (checked : CheckedDiagram) (sim : Simulation) (row : List ℤ) (stimulus : Stimulus) (n : ℕ) (table : Table) : Type 0 where

@@ -4,11 +4,14 @@ ghost use Rattle.std.specs.List.{list_any};
 ghost use Rattle.dg_model.specs.Hits.{is_hit};
 ghost use Rattle.dg_model.specs.Operation.{CanCarryOut, OpGives};
 ghost use Rattle.dg_sim.specs.Program.{value_at, part, operation_at, looked_at, kept_or, is_on, Gives, CanGive};
+ghost use Rattle.dg_prepared.specs.Prepared.{IsPrepared};
+ghost use Rattle.dg_sim.specs.Ready.{IsReadyFor};
 ghost use Rattle.dg_sim.specs.Sim.{kept_at};
 
 use crate::past::Past;
 use crate::program::{Program, Rule, Work};
-use dg_model::OpCall;
+use crate::readying::call_of;
+use dg_prepared::Prepared;
 
 /// Whether a block of this period hits at a base sample.
 pub fn hits(period: Option<u32>, t: u64) -> bool
@@ -17,7 +20,9 @@ pub fn hits(period: Option<u32>, t: u64) -> bool
     match period {
         None => t == 0,
         Some(every) => {
-            if every == 0 {
+            if every == 1 {
+                true
+            } else if every == 0 {
                 t == 0
             } else {
                 t % u64::from(every) == 0
@@ -57,29 +62,28 @@ fn gather(row: &[i128], args: &[u32], inputs: &mut [i128])
 }
 
 /// What an operation gives.
-fn work(program: &Program, work: Work, row: &[i128], inputs: &mut [i128]) -> i128
+fn work(
+    program: &Program,
+    work: Work,
+    prepared: &Prepared,
+    row: &[i128],
+    inputs: &mut [i128],
+) -> i128
     requires inputs { 32 ≤ length inputs.old }
     requires few { work.count ≤ 32 }
     requires args { work.first + work.count ≤ length program.now.args }
     requires types { work.first + work.count ≤ length program.now.types }
     requires signs { work.first_sign + work.signs ≤ length program.now.signs }
+    requires ready { IsPrepared prepared.now (operation_at program.now work) }
     requires can { CanCarryOut (operation_at program.now work)
         (looked_at program.now (value_at row.now) work.first work.count) }
     ensures { OpGives (operation_at program.now work)
         (looked_at program.now (value_at row.now) work.first work.count) result }
 {
     let (first, count) = (work.first as usize, work.count as usize);
-    let (first_sign, signs) = (work.first_sign as usize, work.signs as usize);
     gather(row, &program.args.as_slice()[first..first + count], inputs);
-    let call = OpCall {
-        op: work.op,
-        signs: &program.signs.as_slice()[first_sign..first_sign + signs],
-        types: &program.types.as_slice()[first..first + count],
-        result: work.result,
-        rounding: work.rounding,
-        saturate: work.saturate,
-    };
-    dg_blocks::output(&call, &inputs[..count])
+    let call = call_of(program, work);
+    prepared.output(&call, &inputs[..count])
 }
 
 /// Whether one of these cells is above 0.
@@ -105,6 +109,7 @@ fn recalled(pasts: &[Past], memory: u32, age: u32, initial: i128) -> i128
 pub fn give(
     program: &Program,
     rule: Rule,
+    prepared: &Prepared,
     t: u64,
     row: &[i128],
     pasts: &[Past],
@@ -112,6 +117,7 @@ pub fn give(
     inputs: &mut [i128],
 ) -> i128
     requires inputs { 32 ≤ length inputs.old }
+    requires ready { IsReadyFor program.now prepared.now rule }
     requires can { CanGive program.now (value_at row.now) rule }
     ensures { Gives program.now (value_at row.now) (kept_at pasts.now) numbers.now t rule result }
 {
@@ -119,7 +125,7 @@ pub fn give(
         Rule::Input { column } => read(numbers, column),
         Rule::Fixed { value } => value,
         Rule::Same { from } => read(row, from),
-        Rule::Works { work: one } => work(program, one, row, inputs),
+        Rule::Works { work: one } => work(program, one, prepared, row, inputs),
         Rule::Above { first, count } => {
             let (first, count) = (first as usize, count as usize);
             i128::from(some_above(row, &program.args.as_slice()[first..first + count]))

@@ -9,8 +9,8 @@
 //! blocks (`specs/Program.antt`), and `Sim::step` goes through it. `specs/Sim.antt` says when a
 //! program simulates a diagram and what it means that a simulator stands at a sample of a table.
 //! The steps that make the program are `reading` (where values come from), `roots`, `layout`,
-//! `rules` (with `handing`, `joining`, `working` and `enabling`), `memories` and `building`; those of
-//! a sample are `giving` and `sweeping`.
+//! `rules` (with `handing`, `joining`, `working` and `enabling`), `memories` and `building`;
+//! `readying` prepares the operations; the steps of a sample are `giving` and `sweeping`.
 #![tactic(auto)]
 
 mod building;
@@ -25,6 +25,7 @@ mod memories;
 mod past;
 mod program;
 mod reading;
+mod readying;
 mod ring;
 mod roots;
 mod rules;

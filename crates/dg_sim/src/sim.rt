@@ -10,20 +10,23 @@ use crate::building::program_of;
 use crate::laws::kept_moves;
 use crate::past::Past;
 use crate::program::{Memory, Program};
+use crate::readying::prepare;
 use crate::sweeping::{keep, show, sweep};
 use dg_model::Checked;
+use dg_prepared::Prepared;
 use fx_io::OutOfMemory;
 use std::alloc::Global;
 use std::marker::Model;
 
 /// A run of a checked diagram as it stands (own): the samples that were made, the value of each entry
-/// in the last of them, and what its blocks keep for later ones.
+/// in the last of them, what its blocks keep for later ones, and what is prepared for each entry.
 #[derive(Drop)]
 pub struct Sim {
     program: Program,
     samples: u64,
     row: Vec<i128>,
     pasts: Vec<Past>,
+    prepared: Vec<Prepared>,
 }
 
 impl Model for Sim {
@@ -36,6 +39,7 @@ impl Model for Sim {
       samples = sim.samples;
       row = sim.row.items;
       pasts = sim.pasts.items;
+      prepared = sim.prepared.items;
     } };
 }
 
@@ -62,6 +66,7 @@ impl Sim {
             program,
             t,
             self.pasts.as_slice(),
+            self.prepared.as_slice(),
             numbers,
             self.row.as_mut_slice(),
         );
@@ -97,6 +102,7 @@ impl Sim {
     {
         let program = program_of(alloc, checked)?;
         let pasts = pasts_of(alloc, program.memories.as_slice())?;
+        let prepared = prepare(alloc, checked, &program)?;
         let count = program.places.as_slice().len();
         let row: Vec<i128> = vec![in alloc; 0; count]?;
         Ok(Sim {
@@ -104,6 +110,7 @@ impl Sim {
             samples: 0,
             row,
             pasts,
+            prepared,
         })
     }
 }

@@ -4,6 +4,7 @@ ghost use Rattle.dg_model.specs.Attributes.{attributes_of};
 ghost use Rattle.dg_model.specs.Signals.{Stimulus, Table};
 ghost use Rattle.dg_model.specs.Hits.{is_hit};
 ghost use Rattle.dg_sim.specs.declared.program.Memory.{Memory};
+ghost use Rattle.dg_sim.specs.Ready.{AreReady};
 ghost use Rattle.dg_sim.specs.Ring.{PastValues};
 ghost use Rattle.dg_sim.specs.State.{moved};
 ghost use Rattle.dg_sim.specs.Program.{value_at, is_on, move_of};
@@ -14,6 +15,7 @@ use crate::laws::{entries_stay, entry_is_one, solved_is_in_range};
 use crate::past::Past;
 use crate::program::{Memory, Program};
 use dg_model::Checked;
+use dg_prepared::Prepared;
 
 /// The value of every cell at a sample: of those that hit by their rules, of the others what it was.
 pub fn sweep(
@@ -21,15 +23,17 @@ pub fn sweep(
     program: &Program,
     t: u64,
     pasts: &[Past],
+    prepared: &[Prepared],
     numbers: &[i128],
     row: &mut [i128],
 )
     requires program { IsProgram checked.now.diagram (attributes_of checked.now.diagram) program.now }
     requires row { length row.old ≡ length program.now.places }
+    requires ready { AreReady program.now prepared.now (length program.now.cells) }
     requires at { (stimulus : Stimulus) × (n : ℕ) × (table : Table)
-        × IsAt checked.now (record { program = program.now; samples = t; row = row.old; pasts = pasts.now }) numbers.now stimulus n table }
+        × IsAt checked.now (record { program = program.now; samples = t; row = row.old; pasts = pasts.now; prepared = prepared.now }) numbers.now stimulus n table }
     ensures { (stimulus : Stimulus) (n : ℕ) (table : Table)
-        → IsAt checked.now (record { program = program.now; samples = t; row = row.old; pasts = pasts.now }) numbers.now stimulus n table
+        → IsAt checked.now (record { program = program.now; samples = t; row = row.old; pasts = pasts.now; prepared = prepared.now }) numbers.now stimulus n table
         → Agrees checked.now.diagram (attributes_of checked.now.diagram) program.now.places (length program.now.places) (value_at row.new) table t }
 {
     entry_is_one();
@@ -39,7 +43,16 @@ pub fn sweep(
     let mut inputs = [0i128; 32];
     for (k, cell) in program.cells.as_slice().iter().enumerate() {
         if hits(cell.period, t) {
-            row[k] = give(program, cell.rule, t, row, pasts, numbers, &mut inputs);
+            row[k] = give(
+                program,
+                cell.rule,
+                &prepared[k],
+                t,
+                row,
+                pasts,
+                numbers,
+                &mut inputs,
+            );
         }
     }
 }

@@ -9,10 +9,10 @@ returns-clause-sim c =
     let memories : c.as_slice.result.now ≡ c.in_ok-program.program.memories = c.as_slice.ensures in
     let rooms = subst (λ (xs : List Memory). AreRooms xs c.in_ok-pasts.pasts.items (length xs)) memories c.in_ok-pasts.ensures in
     let places : c.as_slice-count.result.now ≡ c.in_ok-program.program.places = c.as_slice-count.ensures in
-    begun_sim c.args.checked.now c.in_ok-program.program c.in_ok-row.row.items c.in_ok-pasts.pasts.items c.in_ok-program.ensures rooms (sym c.in_ok-row.row.ok.0 ∙ c.in_ok-row.ensures.len ∙ ap length places)
+    begun_sim c.args.checked.now c.in_ok-program.program c.in_ok-row.row.items c.in_ok-pasts.pasts.items c.in_ok-prepared.prepared.items c.in_ok-program.ensures rooms (sym c.in_ok-row.row.ok.0 ∙ c.in_ok-row.ensures.len ∙ ap length places) c.in_ok-prepared.ensures
 
 pub returns-clause-stands : goal.returns-clause-stands
 returns-clause-stands c =
     let memories : c.as_slice.result.now ≡ c.in_ok-program.program.memories = c.as_slice.ensures in
     let rooms = subst (λ (xs : List Memory). AreRooms xs c.in_ok-pasts.pasts.items (length xs)) memories c.in_ok-pasts.ensures in
-    begun_stands c.args.checked.now c.in_ok-program.program c.in_ok-row.row.items c.in_ok-pasts.pasts.items c.in_ok-program.ensures rooms
+    begun_stands c.args.checked.now c.in_ok-program.program c.in_ok-row.row.items c.in_ok-pasts.pasts.items c.in_ok-prepared.prepared.items c.in_ok-program.ensures rooms
