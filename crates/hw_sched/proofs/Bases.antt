@@ -77,6 +77,10 @@ pub shares_some : (plan : Resolved) (period : Option ℕ) → shares plan period
 shares_some plan None e = absurd (false≢true e)
 shares_some plan (Some period) e = ltb-true 0 plan.multipliers (and_parts (nat_lt 0 plan.multipliers) (nat_lt 1 (period * plan.cycles)) e).0
 
+pub shared_period : (plan : Resolved) (period : Option ℕ) → shares plan period ≡ true → (n : ℕ) × (period ≡ Some n)
+shared_period plan None e = absurd (false≢true e)
+shared_period plan (Some period) e = (period, refl)
+
 module _ (diagram : Diagram) (attributes : Attributes) (plan : Resolved) (timing : Timing) where
   abbrev all : List Operation
   all = shared_operations diagram attributes plan

@@ -59,6 +59,12 @@ lines_are_edges diagram block port line e =
     ap (λ (n : ℕ). signal_edge (record line { to = n })) to ∙ ap (λ (n : ℕ). signal_edge (record line { to = block; to_port = n })) to_port in
     (stands.place, stands.at ∙ ap Some same)
 
+-- each line is an edge
+pub line_is_edge : (diagram : Diagram) (number : ℕ) (line : Edge) → slice_get diagram.edges number ≡ Some line → (k : ℕ) × IsEdge diagram k (signal_edge line)
+line_is_edge diagram number line at =
+    let stands = stands_left (map signal_edge diagram.edges) (enable_edges_from 0 diagram.blocks) number (signal_edge line) (stands_mapped signal_edge diagram.edges number line at) in
+    (stands.place, stands.at)
+
 -- ---- controls
 
 -- the edge that a block has from a control

@@ -8,5 +8,8 @@ mod Rates
 mod Paths
 mod Readiness
 mod InTime
+mod Roots
+mod Standing
+mod Reading
 mod Worked
 mod Chaining

@@ -1,7 +1,7 @@
 -- An operation is served in the slots of its level, before its block is ready.
 use Rattle.std.proofs.Common.{◌≡◌, ℕ, zero, suc, ◌<◌, ◌≤◌, Bool, true, cond, [], ◌∷◌, length, refl, sym, ap, ◌∙◌, arith}
 use Rattle.std.specs.Prelude.{Option, Some, None, ◌&&◌}
-use Rattle.std.proofs.lemmas.Bool.{cond-true, and_from, eq-eqb}
+use Rattle.std.proofs.lemmas.Bool.{cond-true, and_parts, and_from, eq-eqb}
 use Rattle.std.proofs.lemmas.Option.{none-some}
 use Rattle.std.proofs.lemmas.List.Sums.{sum_by-cons}
 use Rattle.dg_model.specs.declared.diagram.Diagram.{Diagram}
@@ -9,13 +9,13 @@ use Rattle.dg_model.specs.declared.resolved.Resolved.{Resolved}
 use Rattle.dg_model.specs.Loop.{IsInstantPath}
 use Rattle.dg_model.specs.Signals.{Attributes}
 use Rattle.hw_latency.specs.Cone.{AreFed, is_marked}
-use Rattle.hw_latency.specs.Shared.{is_shared}
+use Rattle.hw_latency.specs.Shared.{multiplies, shares, is_shared}
 use Rattle.hw_latency.specs.Weight.{samples}
 use Rattle.hw_sched.specs.Level.{AreDepths, EndsWith, is_same_period, depth_at}
 use Rattle.hw_sched.specs.Slots.{Timing, Operation, base_slot, level_of}
 use Rattle.hw_sched.specs.Ready.{ready_of}
-use Rattle.hw_sched.specs.Laws.{OperationsAreServed}
-use Rattle.hw_sched.proofs.Bases.{of_shared, slot_within}
+use Rattle.hw_sched.specs.Laws.{OperationsAreServed, OperationsHavePeriods}
+use Rattle.hw_sched.proofs.Bases.{of_shared, shared_period, slot_within}
 
 pub same_period : (period : Option ℕ) → is_same_period period period ≡ true
 same_period None = refl
@@ -59,3 +59,8 @@ served diagram attributes plan timing number o period fed depths at is =
       within = slot_within diagram attributes plan timing number o period at p;
       ready = sym (shared_ready diagram attributes plan timing fed depths o.block of.there of.shared o refl ∙ ap (λ (q : ℕ). base_slot diagram attributes plan timing q (suc (level_of timing o))) p);
     }
+
+pub have_periods : OperationsHavePeriods
+have_periods diagram attributes plan number o at =
+    let of = of_shared diagram attributes plan (record { lat = []; fed = []; depths = [] }) number o at in
+    shared_period plan (attributes.period_at o.block) (and_parts (multiplies diagram o.block) (shares plan (attributes.period_at o.block)) of.shared).1

@@ -13,6 +13,7 @@ use Rattle.dg_model.specs.LatencyEdges.{LatencyEdge, latency_edges, asks_ever}
 use Rattle.dg_model.specs.Library.{row_of}
 use Rattle.dg_model.specs.Rate.{joins_periods}
 use Rattle.dg_model.specs.Signals.{Attributes}
+use Rattle.dg_model.specs.Wired.{IsWired}
 use Rattle.dg_model.specs.Wires.{driver_of}
 use Rattle.hw_arcs.specs.Latencies.{latency_at}
 use Rattle.hw_latency.specs.Cone.{AreFed, is_marked}
@@ -88,6 +89,10 @@ abbrev pub OperationsAreServed : Type 0
 OperationsAreServed = (diagram : Diagram) (attributes : Attributes) (plan : Resolved) (timing : Timing) (number : ℕ) (o : Operation) (period : ℕ) → AreFed diagram attributes plan timing.fed → AreDepths diagram attributes plan timing.depths
     → IsOperation diagram attributes plan number o → attributes.period_at o.block ≡ Some period → IsServed diagram attributes plan timing number o period
 
+-- a shared operation is of a block of a period
+abbrev pub OperationsHavePeriods : Type 0
+OperationsHavePeriods = (diagram : Diagram) (attributes : Attributes) (plan : Resolved) (number : ℕ) (o : Operation) → IsOperation diagram attributes plan number o → (period : ℕ) × (attributes.period_at o.block ≡ Some period)
+
 -- two operations of one multiplier are of one kind, and have different slots
 pub record AreApart (diagram : Diagram) (attributes : Attributes) (plan : Resolved) (timing : Timing) (number other : ℕ) (o q : Operation) : Type 0 where
   pub kind : ◌≡◌ {A = OperationKind} (kind_of diagram attributes timing o) (kind_of diagram attributes timing q)
@@ -96,6 +101,15 @@ pub record AreApart (diagram : Diagram) (attributes : Attributes) (plan : Resolv
 abbrev pub SlotsDiffer : Type 0
 SlotsDiffer = (diagram : Diagram) (attributes : Attributes) (plan : Resolved) (timing : Timing) (number other : ℕ) (o q : Operation) → number ≢ other → IsOperation diagram attributes plan number o → IsOperation diagram attributes plan other q
     → unit_of diagram attributes plan timing number o ≡ unit_of diagram attributes plan timing other q → AreApart diagram attributes plan timing number other o q
+
+-- no edge ends at a root input
+abbrev pub NoneIntoRoots : Type 0
+NoneIntoRoots = (diagram : Diagram) (place : ℕ) (b : Block) (number : ℕ) (edge : LatencyEdge) → IsWired diagram → slice_get diagram.blocks place ≡ Some b → (row_of b.kind).timing.inherits ≡ Inherited.Base → IsEdge diagram number edge → edge.to ≢ place
+
+-- and it is ready at once
+abbrev pub RootsAreReady : Type 0
+RootsAreReady = (diagram : Diagram) (plan : Resolved) (timing : Timing) (place : ℕ) (b : Block) → IsWired diagram → AreFed diagram (attributes_of diagram) plan timing.fed → slice_get diagram.blocks place ≡ Some b
+    → (row_of b.kind).timing.inherits ≡ Inherited.Base → ready_of diagram (attributes_of diagram) plan timing place ≡ 0
 
 -- ---- a diagram and a plan that keep the rules
 

@@ -6,3 +6,4 @@ pub mod Scheduled
 pub mod Laws
 pub mod Storage
 pub mod Chained
+pub mod inner

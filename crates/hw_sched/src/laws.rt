@@ -1,5 +1,5 @@
 // What the definitions together say. Each law is a function that does nothing.
-ghost use Rattle.hw_sched.specs.Laws.{PeriodsAreAbove, MovingHavePeriods, LinesAreEdges, ControlsAreEdges, EdgesJoinPeriods, UnfedAreReady, OperationsAreServed, SlotsDiffer, ReadyFits, ReadyRises, OperandsAreReady, EdgesAreInTime};
+ghost use Rattle.hw_sched.specs.Laws.{PeriodsAreAbove, MovingHavePeriods, LinesAreEdges, ControlsAreEdges, EdgesJoinPeriods, UnfedAreReady, OperationsAreServed, OperationsHavePeriods, SlotsDiffer, NoneIntoRoots, RootsAreReady, ReadyFits, ReadyRises, OperandsAreReady, EdgesAreInTime};
 
 /// Every period is above 0, and a block whose values move on has one.
 pub fn periods_are_above()
@@ -23,9 +23,17 @@ pub fn unfed_are_ready()
     ensures { UnfedAreReady }
 {}
 
-/// A shared operation is served in the slots of its level, before its block is ready.
+/// A shared operation is served in the slots of its level, before its block is ready, and that has a
+/// period.
 pub fn operations_are_served()
-    ensures { OperationsAreServed }
+    ensures served { OperationsAreServed }
+    ensures periods { OperationsHavePeriods }
+{}
+
+/// No edge ends at a root input, which is ready at once.
+pub fn root_inputs_are_first()
+    ensures none { NoneIntoRoots }
+    ensures ready { RootsAreReady }
 {}
 
 /// Two operations of one multiplier are of one kind, and have different slots.

@@ -8,11 +8,16 @@
 //! they are all that is wanted of a schedule when a module is built and proved.
 #![tactic(auto)]
 
+mod deepening;
+mod kinds;
 mod laws;
+mod lines;
 mod slots;
 
+pub use deepening::depths;
 pub use laws::{
     edges_are_in_time, edges_join_periods, lines_are_edges, operations_are_served,
-    periods_are_above, ready_fits, ready_rises, slots_differ, unfed_are_ready,
+    periods_are_above, ready_fits, ready_rises, root_inputs_are_first, slots_differ,
+    unfed_are_ready,
 };
 pub use slots::{BudgetFault, Slots};

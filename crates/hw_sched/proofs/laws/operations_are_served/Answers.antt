@@ -1,5 +1,8 @@
-use Rattle.hw_sched.proofs.Served.{served}
+use Rattle.hw_sched.proofs.Served.{served, have_periods}
 use Rattle.hw_sched.proofs.laws.operations_are_served.Goals as goal
 
-pub returns : goal.returns
-returns c = served
+pub returns-clause-served : goal.returns-clause-served
+returns-clause-served c = served
+
+pub returns-clause-periods : goal.returns-clause-periods
+returns-clause-periods c = have_periods

@@ -1,0 +1,67 @@
+use Rattle.std.proofs.Common.{◌+◌, length, true, false, ap, ◌∙◌, arith}
+use Rattle.dg_model.specs.declared.diagram.Diagram.{Diagram}
+use Rattle.dg_model.specs.declared.diagram.Edge.{Edge}
+use Rattle.dg_model.specs.Attributes.{attributes_of}
+use Rattle.hw_sched.proofs.Reading.{rest_length, rest_read, tested, next_counts, next_skips, first_as, lines_stop, lines_end, from_there}
+use Rattle.hw_sched.proofs.lines.best_of_lines.Goals.{then-is_same_period, else-is_same_period}
+use Rattle.hw_sched.proofs.lines.best_of_lines.Goals as goal
+
+abbrev none : Edge
+none = record { from = 0; from_port = 0; to = 0; to_port = 0 }
+
+pub returns-then-edge-place : goal.returns-then-edge-place
+returns-then-edge-place c =
+    let es = c.as_slice-edges.ensures ∙ ap (λ (d : Diagram). d.edges) c.diagram.ensures in
+    let test = c.loop-edge-test.true in
+    let size = rest_length c.first_into-first.result c.as_slice-edges.result.now in
+    let at = rest_read c.args.checked.now.diagram.edges c.as_slice-edges.result.now c.first_into-first.result c.loop-edge.edge-index none es (omega (arith, test, size)) in
+    lines_stop c.args.checked.now.diagram c.args.place c.args.depths.now c.first_into-first.result (c.first_into-first.result + c.loop-edge.edge-index) c.loop-edge.best _ c.keeps_rules.ensures.checked.wired.ordered
+    (first_as c.args.checked.now.diagram.edges c.as_slice-edges.result.now c.args.place c.first_into-first.result es c.first_into-first.ensures) (omega arith) at
+    (λ e. let differs = c.if-edge-place.true in omega (arith, differs, e)) c.loop-edge.invariant
+
+pub period-requires : goal.period-requires
+period-requires c =
+    let es = c.as_slice-edges.ensures ∙ ap (λ (d : Diagram). d.edges) c.diagram.ensures in
+    let test = c.loop-edge-test.true in
+    let size = rest_length c.first_into-first.result c.as_slice-edges.result.now in
+    let at = rest_read c.args.checked.now.diagram.edges c.as_slice-edges.result.now c.first_into-first.result c.loop-edge.edge-index none es (omega (arith, test, size)) in
+    from_there c.args.checked.now.diagram c.args.place (c.first_into-first.result + c.loop-edge.edge-index) _ c.keeps_rules.ensures.checked.wired at
+
+pub bounds-depths-edge : goal.bounds-depths-edge
+bounds-depths-edge c =
+    let es = c.as_slice-edges.ensures ∙ ap (λ (d : Diagram). d.edges) c.diagram.ensures in
+    let test = c.loop-edge-test.true in
+    let size = rest_length c.first_into-first.result c.as_slice-edges.result.now in
+    let at = rest_read c.args.checked.now.diagram.edges c.as_slice-edges.result.now c.first_into-first.result c.loop-edge.edge-index none es (omega (arith, test, size)) in
+    let inside = from_there c.args.checked.now.diagram c.args.place (c.first_into-first.result + c.loop-edge.edge-index) _ c.keeps_rules.ensures.checked.wired at in
+    let many = c.requires.size in
+    omega (arith, inside, many)
+
+pub loop-edge-preserved : goal.loop-edge-preserved
+loop-edge-preserved c =
+    let es = c.as_slice-edges.ensures ∙ ap (λ (d : Diagram). d.edges) c.diagram.ensures in
+    let test = c.loop-edge-test.true in
+    let size = rest_length c.first_into-first.result c.as_slice-edges.result.now in
+    let at = rest_read c.args.checked.now.diagram.edges c.as_slice-edges.result.now c.first_into-first.result c.loop-edge.edge-index none es (omega (arith, test, size)) in
+    elim c.if-is_same_period.branch [
+      | then-is_same_period w ↦
+          rw (w.best-is, w.greater-best.ensures)
+          (next_counts c.args.checked.now.diagram c.args.place c.args.depths.now c.first_into-first.result c.loop-edge.edge-index c.loop-edge.best _ at
+          (let same = c.if-edge-place.false in omega (arith, same))
+          (tested c.period.result c.period-own.result _ ((attributes_of c.args.checked.now.diagram).period_at c.args.place) c.is_same_period.result true c.period.ensures c.period-own.ensures c.is_same_period.ensures w.if-is_same_period.true)
+          c.loop-edge.invariant)
+      | else-is_same_period w ↦
+          rw w.best-is
+          (next_skips c.args.checked.now.diagram c.args.place c.args.depths.now c.first_into-first.result c.loop-edge.edge-index c.loop-edge.best _ at
+          (tested c.period.result c.period-own.result _ ((attributes_of c.args.checked.now.diagram).period_at c.args.place) c.is_same_period.result false c.period.ensures c.period-own.ensures c.is_same_period.ensures w.if-is_same_period.false)
+          c.loop-edge.invariant)
+    ]
+
+pub returns : goal.returns
+returns c =
+    let es = c.as_slice-edges.ensures ∙ ap (λ (d : Diagram). d.edges) c.diagram.ensures in
+    let test = c.loop-edge-test.false in
+    let size = rest_length c.first_into-first.result c.as_slice-edges.result.now in
+    let within = c.first_into-first.ensures.within in
+    let many = ap length es in
+    lines_end c.args.checked.now.diagram c.args.place c.args.depths.now (c.first_into-first.result + c.loop-edge.edge-index) c.loop-edge.best (omega (arith, test, size, within, many)) c.loop-edge.invariant
