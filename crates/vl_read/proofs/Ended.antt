@@ -1,6 +1,6 @@
 -- Each beginning of a text can be ended, so that the whole is one of a module.
 use Rattle.std.proofs.Common.{◌≡◌, ℕ, ◌+◌, ◌≤◌, Bool, true, false, cond, List, [], ◌∷◌, ◌++◌, Some, None, refl, ◌∙◌, ap, subst, codes, arith, zero, suc, option_and_then}
-use Rattle.std.specs.Prelude.{⊤, ◌==◌, nat_lt}
+use Rattle.std.specs.Prelude.{◌==◌, nat_lt}
 use Rattle.std.proofs.lemmas.Bool.{cond_both, ltb-true}
 use Rattle.vl_ast.specs.declared.expressions.Sized.{Sized}
 use Rattle.vl_ast.specs.declared.modules.Attr.{Attr}
@@ -19,7 +19,7 @@ use Rattle.vl_read.specs.inner.Places.AttrSpot.{AttrName, AttrSign, AttrValue, M
 use Rattle.vl_read.specs.inner.Places.Place.{Start, Attributes, Title, Ports, Port as PortPlace, Net, AfterPort, AfterPorts, Items, AssignName, AssignSign, Head, ClockedName, ClockedSign, First, AfterFirst, Else, Branch, If, Again, NextSign, Expression, Semicolon, End, Done}
 use Rattle.vl_read.specs.declared.places.Draft.{Draft}
 use Rattle.vl_read.specs.inner.Lexemes.{class_of, extends, kind_of, dec_of, sized_of, Move, move, moved, lexemes_from}
-use Rattle.vl_read.specs.inner.Turns.{feed, ahead}
+use Rattle.vl_read.specs.inner.Turns.{IsBeyond, feed, ahead}
 use Rattle.vl_read.specs.inner.Plain.{parser_at, goes, parse, start, head_word, step, attr_step, declared, net_step, goal_step, spot_step, step_at}
 use Rattle.vl_read.proofs.LexemeKinds.{name_kind}
 use Rattle.vl_read.proofs.Scanned.{silent}
@@ -296,12 +296,6 @@ pub ended : (most : ℕ) (lexemes : List (List ℕ)) (parser : Parser) → feed 
 ended most lexemes parser e =
     let end : CanEnd parser = place_ends parser.draft parser.place (reached_live most lexemes parser e) in
     (end.more, end.whole, end.lexemes, end.same)
-
--- neither in a word nor in a mark
-abbrev pub IsBeyond : Mode → Type 0
-IsBeyond InWord = ⊥
-IsBeyond InMark = ⊥
-IsBeyond mode = ⊤
 
 -- what ends a comment
 abbrev comment_end : Mode → List ℕ

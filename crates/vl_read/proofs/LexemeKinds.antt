@@ -60,7 +60,7 @@ dec_read number digits is =
 pub digit_range : (d : ℕ) → digit_value d < 10 → (48 ≤ d) × (d < 58)
 digit_range d h = grind arith
 
-not_letter : (d : ℕ) → d < 58 → (is_ascii_alphabetic d || d == 95) ≡ false
+pub not_letter : (d : ℕ) → d < 58 → (is_ascii_alphabetic d || d == 95) ≡ false
 not_letter d h =
     or_from _ _ (or_from _ _ (and_left _ _ (lt-leb 65 d (omega arith))) (and_left _ _ (lt-leb 97 d (omega arith)))) (ne_eqb d 95 (λ e. omega arith))
 

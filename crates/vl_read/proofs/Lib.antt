@@ -41,3 +41,4 @@ mod SoundNets
 mod SoundItems
 mod Sound
 mod Reached
+mod Advanced

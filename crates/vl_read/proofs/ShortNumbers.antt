@@ -13,7 +13,7 @@ use Rattle.std.proofs.lemmas.Str.{digit_value_digit}
 use Rattle.std.proofs.lemmas.Str.Parse.{digit_from_value}
 use Rattle.vl_read.specs.inner.Lexemes.{is_digit, number_after}
 
-digit_range : (byte : ℕ) → is_ascii_digit byte ≡ true → IsInRange 48 57 byte
+pub digit_range : (byte : ℕ) → is_ascii_digit byte ≡ true → IsInRange 48 57 byte
 digit_range byte h = let parts = and_parts (nat_le 48 byte) (nat_le byte 57) h in (leb-true 48 byte parts.0, leb-true byte 57 parts.1)
 
 digit_below : (byte : ℕ) → is_ascii_digit byte ≡ true → digit_value byte < 10
@@ -29,7 +29,7 @@ decimal_digit byte h =
     let high = range.1 in
     grind (arith, nat_tests, low, high)
 
-other_digit : (byte : ℕ) → is_ascii_digit byte ≡ false → is_digit 10 byte ≡ false
+pub other_digit : (byte : ℕ) → is_ascii_digit byte ≡ false → is_digit 10 byte ≡ false
 other_digit byte h = of (is_digit 10 byte) refl
   where
     of : (t : Bool) → is_digit 10 byte ≡ t → t ≡ false

@@ -1,11 +1,15 @@
 -- What is left of a text gives the module of the whole.
-use Rattle.std.proofs.Common.{◌≡◌, ℕ, ◌+◌, ◌<◌, List, [], ◌∷◌, ◌++◌, length, drop, get_or, drop-cons, add-one, Option, Some, None, refl, sym, ◌∙◌, ap, option_and_then, option_map}
+use Rattle.std.proofs.Common.{◌≡◌, ℕ, ◌+◌, ◌<◌, Bool, true, false, cond, List, [], ◌∷◌, ◌++◌, length, drop, get_or, drop-cons, add-one, Option, Some, None, refl, sym, ◌∙◌, ap, option_and_then, option_map}
+use Rattle.std.specs.Prelude.{⊤, ◌==◌}
+use Rattle.vl_read.specs.declared.scan.ByteClass.{ByteClass}
+use Rattle.vl_read.specs.declared.scan.ByteClass.TheVariants.{OfWord, OfBlank, OfComment, OfMark, OfNone}
 use Rattle.vl_read.specs.declared.scan.Mode.{Mode}
-use Rattle.vl_read.specs.declared.turns.Turn.{Turn}
+use Rattle.vl_read.specs.declared.scan.Mode.TheVariants.{Between, Word, Mark, Slash, LineComment, BlockComment, Star}
 use Rattle.vl_read.specs.inner.Places.{Parser}
-use Rattle.vl_read.specs.inner.Lexemes.{Move, move, lexemes_from}
-use Rattle.vl_read.specs.inner.Turns.{turned, pending_after, ended_by, feed, ahead}
+use Rattle.vl_read.specs.inner.Lexemes.{Move, class_of, continues, begin, outside, moved, move, lexemes_from}
+use Rattle.vl_read.specs.inner.Turns.{IsBeyond, IsWithin, mode_by, mode_after, feed, ahead}
 use Rattle.vl_read.specs.inner.Plain.{parse, step}
+use Rattle.vl_read.proofs.Scanned.{silent, restart, is_word, is_mark}
 
 parse_feed : (ls more : List (List ℕ)) (p : Parser) → parse p (ls ++ more) ≡ option_and_then (λ q. parse q more) (feed p ls)
 parse_feed [] more p = refl
@@ -26,6 +30,14 @@ feed_append (l ∷ ls) more p = of (step p l) (feed_append ls more)
     of None later = refl
     of (Some q) later = later q
 
+-- one lexeme
+pub fed_one : (p : Parser) (lexeme : List ℕ) → feed p (lexeme ∷ []) ≡ step p lexeme
+fed_one p lexeme = of (step p lexeme)
+  where
+    of : (o : Option Parser) → option_and_then (λ next. feed next []) o ≡ o
+    of None = refl
+    of (Some q) = refl
+
 none_then : (o : Option Parser) → option_and_then (λ (q : Parser). option_and_then (parse q) None) o ≡ None
 none_then None = refl
 none_then (Some q) = refl
@@ -34,26 +46,97 @@ ahead_feed : (ls : List (List ℕ)) (p : Parser) (o : Option (List (List ℕ))) 
 ahead_feed ls p None = sym (none_then (feed p ls))
 ahead_feed ls p (Some more) = parse_feed ls more p
 
--- the next byte, where a lexeme that ends before it is read
-ahead_move : (p : Parser) (mode : Mode) (lexeme rest : List ℕ) (byte : ℕ) (t : Turn) → Some (turned lexeme byte t) ≡ move mode lexeme byte →
-    ahead p mode lexeme (byte ∷ rest) ≡ option_and_then (λ q. ahead q t.mode (pending_after t.pending lexeme byte) rest) (feed p (ended_by t.ends lexeme))
-ahead_move p mode lexeme rest byte t e =
-    ap (λ o. option_and_then (parse p) (option_and_then (λ (n : Move). option_map (λ more. n.lexemes ++ more) (lexemes_from n.mode n.lexeme rest)) o)) (sym e)
-    ∙ ahead_feed (ended_by t.ends lexeme) p (lexemes_from t.mode (pending_after t.pending lexeme byte) rest)
+-- the lexeme that a byte begins
+abbrev pub begun_with : Mode → ℕ → List ℕ
+begun_with Word byte = byte ∷ []
+begun_with Mark byte = byte ∷ []
+begun_with mode byte = []
 
-pub ahead_some : (p q : Parser) (mode : Mode) (lexeme rest : List ℕ) (byte : ℕ) (t : Turn) → Some (turned lexeme byte t) ≡ move mode lexeme byte → Some q ≡ feed p (ended_by t.ends lexeme) →
-    ahead p mode lexeme (byte ∷ rest) ≡ ahead q t.mode (pending_after t.pending lexeme byte) rest
-ahead_some p q mode lexeme rest byte t e f =
-    ahead_move p mode lexeme rest byte t e ∙ ap (option_and_then (λ q. ahead q t.mode (pending_after t.pending lexeme byte) rest)) (sym f)
+-- a move that ends no lexeme
+abbrev pub silently : Mode → List ℕ → Move
+silently mode lexeme = record { lexemes = []; mode = mode; lexeme = lexeme }
 
-pub ahead_unfed : (p : Parser) (mode : Mode) (lexeme rest : List ℕ) (byte : ℕ) (t : Turn) → Some (turned lexeme byte t) ≡ move mode lexeme byte → None ≡ feed p (ended_by t.ends lexeme) →
-    ahead p mode lexeme (byte ∷ rest) ≡ None
-ahead_unfed p mode lexeme rest byte t e f =
-    ahead_move p mode lexeme rest byte t e ∙ ap (option_and_then (λ q. ahead q t.mode (pending_after t.pending lexeme byte) rest)) (sym f)
+-- a byte that goes on with no lexeme
+pub turn_is : (mode : Mode) (byte : ℕ) → IsBeyond mode → option_map (λ to. silently to (begun_with to byte)) (mode_after mode byte) ≡ move mode [] byte
+turn_is Between byte h = of (class_of byte)
+  where
+    of : (class : ByteClass) → option_map (λ to. silently to (begun_with to byte)) (mode_by class) ≡ outside Between [] class byte
+    of OfWord = refl
+    of OfBlank = refl
+    of OfComment = refl
+    of OfMark = refl
+    of OfNone = refl
+turn_is Word byte h = absurd h
+turn_is Mark byte h = absurd h
+turn_is Slash byte h = of (byte == 47) (byte == 42)
+  where
+    of : (slash star : Bool) → option_map (λ to. silently to (begun_with to byte)) (cond slash (Some LineComment) (cond star (Some BlockComment) None))
+        ≡ cond slash (moved [] LineComment []) (cond star (moved [] BlockComment []) None)
+    of true star = refl
+    of false true = refl
+    of false false = refl
+turn_is LineComment byte h = of (byte == 10)
+  where
+    of : (newline : Bool) → option_map (λ to. silently to (begun_with to byte)) (cond newline (Some Between) (Some LineComment))
+        ≡ cond newline (moved [] Between []) (moved [] LineComment [])
+    of true = refl
+    of false = refl
+turn_is BlockComment byte h = of (byte == 42)
+  where
+    of : (star : Bool) → option_map (λ to. silently to (begun_with to byte)) (cond star (Some Star) (Some BlockComment))
+        ≡ cond star (moved [] Star []) (moved [] BlockComment [])
+    of true = refl
+    of false = refl
+turn_is Star byte h = of (byte == 47) (byte == 42)
+  where
+    of : (slash star : Bool) → option_map (λ to. silently to (begun_with to byte)) (cond slash (Some Between) (cond star (Some Star) (Some BlockComment)))
+        ≡ cond slash (moved [] Between []) (cond star (moved [] Star []) (moved [] BlockComment []))
+    of true star = refl
+    of false true = refl
+    of false false = refl
+
+-- a byte that goes on with the lexeme
+pub grows : (mode : Mode) (lexeme : List ℕ) (byte : ℕ) → IsWithin mode → continues mode (class_of byte) lexeme byte ≡ true →
+    Some (silently mode (lexeme ++ byte ∷ [])) ≡ move mode lexeme byte
+grows Word lexeme byte h e = ap (λ t. cond t (moved [] Word (lexeme ++ byte ∷ [])) (begin (lexeme ∷ []) (class_of byte) byte)) (sym e)
+grows Mark lexeme byte h e = ap (λ t. cond t (moved [] Mark (lexeme ++ byte ∷ [])) (begin (lexeme ∷ []) (class_of byte) byte)) (sym e)
+grows Between lexeme byte h e = absurd h
+grows Slash lexeme byte h e = absurd h
+grows LineComment lexeme byte h e = absurd h
+grows BlockComment lexeme byte h e = absurd h
+grows Star lexeme byte h e = absurd h
+
+pub ahead_next : (p : Parser) (mode to : Mode) (lexeme then rest : List ℕ) (byte : ℕ) → Some (silently to then) ≡ move mode lexeme byte →
+    ahead p mode lexeme (byte ∷ rest) ≡ ahead p to then rest
+ahead_next p mode to lexeme then rest byte e = ap (option_and_then (parse p)) (silent mode to lexeme then byte rest (sym e))
 
 pub ahead_stopped : (p : Parser) (mode : Mode) (lexeme rest : List ℕ) (byte : ℕ) → None ≡ move mode lexeme byte → ahead p mode lexeme (byte ∷ rest) ≡ None
 ahead_stopped p mode lexeme rest byte e =
     ap (λ o. option_and_then (parse p) (option_and_then (λ (n : Move). option_map (λ more. n.lexemes ++ more) (lexemes_from n.mode n.lexeme rest)) o)) (sym e)
+
+-- the lexeme ends where the bytes that are left begin
+abbrev pub Quits : Mode → List ℕ → List ℕ → Type 0
+Quits mode lexeme [] = ⊤
+Quits mode lexeme (byte ∷ rest) = continues mode (class_of byte) lexeme byte ≡ false
+
+-- then it is read
+pub ahead_ended : (p : Parser) (mode : Mode) (lexeme rest : List ℕ) → IsWithin mode → Quits mode lexeme rest →
+    ahead p mode lexeme rest ≡ option_and_then (λ q. ahead q Between [] rest) (step p lexeme)
+ahead_ended p Word lexeme [] h quits = refl
+ahead_ended p Mark lexeme [] h quits = refl
+ahead_ended p Word lexeme (byte ∷ rest) h quits =
+    ap (option_and_then (parse p)) (restart Word lexeme byte rest is_word quits)
+    ∙ ahead_feed (lexeme ∷ []) p (lexemes_from Between [] (byte ∷ rest))
+    ∙ ap (option_and_then (λ q. ahead q Between [] (byte ∷ rest))) (fed_one p lexeme)
+ahead_ended p Mark lexeme (byte ∷ rest) h quits =
+    ap (option_and_then (parse p)) (restart Mark lexeme byte rest is_mark quits)
+    ∙ ahead_feed (lexeme ∷ []) p (lexemes_from Between [] (byte ∷ rest))
+    ∙ ap (option_and_then (λ q. ahead q Between [] (byte ∷ rest))) (fed_one p lexeme)
+ahead_ended p Between lexeme rest h quits = absurd h
+ahead_ended p Slash lexeme rest h quits = absurd h
+ahead_ended p LineComment lexeme rest h quits = absurd h
+ahead_ended p BlockComment lexeme rest h quits = absurd h
+ahead_ended p Star lexeme rest h quits = absurd h
 
 -- what is left of bytes at a place in them
 pub drop_next : (bytes : List ℕ) (place : ℕ) → place < length bytes → drop place bytes ≡ get_or bytes place 0 ∷ drop (place + 1) bytes

@@ -12,23 +12,33 @@ use crate::numbers::{constant_of, count_of, kind_of};
 use crate::pieces::{binary, bit, cast, choose, concat, innermost, part, repeat, shift, unary};
 use crate::places::{Closing, Frame, Goal, Place, Reader, Spot};
 use crate::scan::is;
-use fx_io::OutOfMemory;
+use fx_io::{Boxed, OutOfMemory};
 use std::alloc::Global;
 use vl_ast::{BinOp, Expr, Exprs, ModItem, ShiftOp};
 
 impl Reader {
     /// An operator after the first operand of what is in parentheses.
     #[tactic(auto, unfolding(crate::specs::inner::Plain::left_step))]
-    fn left_step(&mut self, goal: Goal, value: Expr, lexeme: &[u8]) -> Result<bool, OutOfMemory>
+    fn left_step(
+        &mut self,
+        alloc: Global,
+        goal: Goal,
+        value: Expr,
+        lexeme: &[u8],
+    ) -> Result<bool, OutOfMemory>
         ensures { IfOk result (λ said. stepped said (seen self.new)
             ≡ left_step self.old.draft (goal_of self.old goal)
             (frames_of self.old) value lexeme.now) }
     {
         if is(lexeme, "?") {
-            return self.inside(goal, Frame::InChosen(value), Spot::Operand);
+            let test = Boxed::new(alloc, value)?;
+            return self.inside(goal, Frame::InChosen(test), Spot::Operand);
         }
         match BinOp::of_text(lexeme) {
-            Some(op) => self.inside(goal, Frame::InRight(op, value), Spot::Operand),
+            Some(op) => {
+                let left = Boxed::new(alloc, value)?;
+                self.inside(goal, Frame::InRight(op, left), Spot::Operand)
+            }
             None => match ShiftOp::of_text(lexeme) {
                 Some(op) => {
                     self.held.value = value;
@@ -64,8 +74,9 @@ impl Reader {
     #[tactic(auto, unfolding(crate::specs::inner::Plain::frame_step))]
     fn chosen_step(
         &mut self,
+        alloc: Global,
         goal: Goal,
-        test: Expr,
+        test: Boxed<Expr>,
         value: Expr,
         lexeme: &[u8],
     ) -> Result<bool, OutOfMemory>
@@ -73,7 +84,8 @@ impl Reader {
             ≡ frame_step self.old.draft (goal_of self.old goal) (frames_of self.old)
             (InChosen test) value lexeme.now) }
     {
-        self.held.frames.push(Frame::InOther(test, value))?;
+        let chosen = Boxed::new(alloc, value)?;
+        self.held.frames.push(Frame::InOther(test, chosen))?;
         Ok(self.expect_spot(b':', lexeme, goal, Spot::Operand))
     }
 
@@ -93,8 +105,8 @@ impl Reader {
     {
         match frame {
             Frame::InConcat(parts) => self.concat_step(goal, parts, value, lexeme),
-            Frame::InLeft => self.left_step(goal, value, lexeme),
-            Frame::InChosen(test) => self.chosen_step(goal, test, value, lexeme),
+            Frame::InLeft => self.left_step(alloc, goal, value, lexeme),
+            Frame::InChosen(test) => self.chosen_step(alloc, goal, test, value, lexeme),
             Frame::InRepeat(count) => {
                 self.held.value = repeat(alloc, count, value)?;
                 Ok(self.expect_spot(b'}', lexeme, goal, Spot::Ends(Closing::CloseBrace)))

@@ -1,9 +1,9 @@
-ghost use Rattle.std.specs.Prelude.{◌≡◌, [], IfOk};
+ghost use Rattle.std.specs.Prelude.{◌≡◌, [], true, false, bytes_eq, codes, IfOk};
 ghost use Rattle.vl_read.specs.declared.scan.Kind.TheVariants.{Fixed};
 ghost use Rattle.vl_read.specs.declared.places.NetSpot.TheVariants.{Signed, Ranged, Bound, Named};
 ghost use Rattle.vl_read.specs.inner.Lexemes.{kind_of};
 ghost use Rattle.vl_read.specs.inner.Places.{Net, AttrName, AttrValue, More};
-ghost use Rattle.vl_read.specs.inner.Plain.{attr_step, has_none, declared, net_step, expect};
+ghost use Rattle.vl_read.specs.inner.Plain.{attr_step, has_none, is_name, declared, net_step, expect};
 ghost use Rattle.vl_read.specs.inner.Seen.{seen, attr_spot_seen, net_seen};
 ghost use Rattle.vl_read.specs.inner.Turns.{stepped};
 
@@ -20,6 +20,15 @@ pub fn has_none(attrs: &Attrs) -> bool
     ensures { result ≡ has_none attrs.now }
 {
     attrs.as_slice().is_empty()
+}
+
+/// Whether a lexeme is the word `signed`, which is no name.
+#[tactic(auto, using(crate::proofs::OneKind::signed_is))]
+fn is_signed(lexeme: &[u8]) -> bool
+    ensures value { result ≡ bytes_eq lexeme.now (codes "signed") }
+    ensures reserved { result ≡ true → is_name (kind_of lexeme.now) ≡ false }
+{
+    is(lexeme, "signed")
 }
 
 impl Reader {
@@ -171,20 +180,6 @@ impl Reader {
         }
     }
 
-    /// `signed` or `[`.
-    #[tactic(auto, unfolding(crate::specs::inner::Plain::net_step))]
-    fn signed_or_range(&mut self, net: NetKind, lexeme: &[u8]) -> bool
-        ensures { stepped result (seen self.new)
-            ≡ net_step self.old.draft (net_seen self.old.held.attrs net) Signed Fixed lexeme.now }
-    {
-        if is(lexeme, "signed") {
-            let at = NetSpot::Ranged { signed: true };
-            self.goes(Place::Net { kind: net, at })
-        } else {
-            self.fixed(net, "[", lexeme, NetSpot::Bound { signed: false })
-        }
-    }
-
     /// After the kind of a net: `signed`, `[` or the name.
     #[tactic(auto, unfolding(crate::specs::inner::Plain::net_step))]
     fn kind_end(&mut self, alloc: Global, net: NetKind, lexeme: &[u8]) -> Result<bool, OutOfMemory>
@@ -192,10 +187,13 @@ impl Reader {
             ≡ net_step self.old.draft (net_seen self.old.held.attrs net) Signed
             (kind_of lexeme.now) lexeme.now) }
     {
-        if is_name(lexeme) {
+        if is_signed(lexeme) {
+            let at = NetSpot::Ranged { signed: true };
+            Ok(self.goes(Place::Net { kind: net, at }))
+        } else if is_name(lexeme) {
             self.declared(alloc, net, false, 1, lexeme)
         } else {
-            Ok(self.signed_or_range(net, lexeme))
+            Ok(self.fixed(net, "[", lexeme, NetSpot::Bound { signed: false }))
         }
     }
 

@@ -1,6 +1,6 @@
 ghost use Rattle.std.specs.Prelude.{◌≡◌, ◌≤◌, ◌<◌, [], ◌∷◌, length, IfSome};
 ghost use Rattle.vl_ast.specs.Tokens.{base_of};
-ghost use Rattle.vl_read.specs.inner.Lexemes.{number_after, dec_of, quote_place, sized_by, sized_after, sized_in, sized_of, kind_of};
+ghost use Rattle.vl_read.specs.inner.Lexemes.{number_after, dec_of, quote_place, sized_by, sized_after, sized_in, sized_of, begins_number, kind_by, kind_of};
 ghost use Rattle.vl_read.specs.inner.Plain.{is_name, count_of, constant_of};
 
 use crate::scan::Kind;
@@ -172,20 +172,40 @@ fn sized_of(bytes: &[u8]) -> Option<Sized>
     }
 }
 
-/// What a lexeme may be.
-#[tactic(auto, unfolding(crate::specs::inner::Lexemes::kind_of))]
-pub fn kind_of(lexeme: &[u8]) -> Kind
-    ensures { result ≡ kind_of lexeme.now }
+/// Whether a lexeme begins with a decimal digit.
+fn begins_number(lexeme: &[u8]) -> bool
+    ensures { result ≡ begins_number lexeme.now }
 {
-    if is_identifier(lexeme) {
-        return Kind::Name;
+    match lexeme {
+        [] => false,
+        [first, ..] => first.is_ascii_digit(),
     }
+}
+
+/// What a lexeme may be that is no identifier.
+fn number_kind(lexeme: &[u8]) -> Kind
+    ensures { result ≡ kind_by (dec_of lexeme.now) (sized_of lexeme.now) }
+{
     match dec_of(lexeme) {
         Some(number) => Kind::Count(number),
         None => match sized_of(lexeme) {
             Some(number) => Kind::Constant(number),
             None => Kind::Fixed,
         },
+    }
+}
+
+/// What a lexeme may be.
+#[tactic(auto, using(crate::proofs::OneKind::number_first, crate::proofs::OneKind::other_first))]
+pub fn kind_of(lexeme: &[u8]) -> Kind
+    ensures { result ≡ kind_of lexeme.now }
+{
+    if begins_number(lexeme) {
+        number_kind(lexeme)
+    } else if is_identifier(lexeme) {
+        Kind::Name
+    } else {
+        Kind::Fixed
     }
 }
 

@@ -71,10 +71,9 @@ pub fn unary(alloc: Global, op: UnOp, part: Expr) -> Result<Expr, OutOfMemory>
 }
 
 /// An operator between its operands.
-pub fn binary(alloc: Global, op: BinOp, left: Expr, right: Expr) -> Result<Expr, OutOfMemory>
+pub fn binary(alloc: Global, op: BinOp, left: Boxed<Expr>, right: Expr) -> Result<Expr, OutOfMemory>
     ensures { IfOk result (λ e. e ≡ roll-Expr (Expr-F.Binary op left right)) }
 {
-    let left = Boxed::new(alloc, left)?;
     Ok(Expr::Binary(op, left, Boxed::new(alloc, right)?))
 }
 
@@ -86,11 +85,14 @@ pub fn shift(alloc: Global, op: ShiftOp, part: Expr, amount: Sized) -> Result<Ex
 }
 
 /// A choice.
-pub fn choose(alloc: Global, test: Expr, chosen: Expr, other: Expr) -> Result<Expr, OutOfMemory>
+pub fn choose(
+    alloc: Global,
+    test: Boxed<Expr>,
+    chosen: Boxed<Expr>,
+    other: Expr,
+) -> Result<Expr, OutOfMemory>
     ensures { IfOk result (λ e. e ≡ roll-Expr (Expr-F.Choose test chosen other)) }
 {
-    let test = Boxed::new(alloc, test)?;
-    let chosen = Boxed::new(alloc, chosen)?;
     Ok(Expr::Choose(test, chosen, Boxed::new(alloc, other)?))
 }
 

@@ -1,4 +1,4 @@
-use fx_io::Text;
+use fx_io::{Boxed, Text};
 use vl_ast::{Attrs, BinOp, Expr, Exprs, ModItems, Ports, ShiftOp, Sized, UnOp};
 
 /// An expression that is begun, without the part that is being read.
@@ -15,11 +15,11 @@ pub enum Frame {
     /// `(` alone.
     InLeft,
     /// `(`, an operand and an operator.
-    InRight(BinOp, Expr),
+    InRight(BinOp, Boxed<Expr>),
     /// `(`, an operand and `?`.
-    InChosen(Expr),
+    InChosen(Boxed<Expr>),
     /// `(`, an operand, `?`, an operand and `:`.
-    InOther(Expr, Expr),
+    InOther(Boxed<Expr>, Boxed<Expr>),
 }
 
 /// A mark that opens what is read next.

@@ -1,46 +1,20 @@
-ghost use Rattle.std.specs.Prelude.{◌≡◌, ◌≤◌, ◌<◌, ◌-◌, ◌^◌, length, IfOk, IsTrue, option_and_then};
+ghost use Rattle.std.specs.Prelude.{◌≡◌, ◌≤◌, [], true, false, length, IfOk, option_and_then};
 ghost use Rattle.vl_ast.specs.Grammar.{Spells, most_items};
-ghost use Rattle.vl_read.specs.declared.scan.ByteClass.TheVariants.{OfWord};
-ghost use Rattle.vl_read.specs.inner.Lexemes.{class_of, last_lexemes};
+ghost use Rattle.vl_read.specs.inner.Lexemes.{last_lexemes};
 ghost use Rattle.vl_read.specs.inner.Plain.{parse};
 ghost use Rattle.vl_read.specs.Prefix.{IsRefused, IsVerilogFaultLine, IfSyntax};
 ghost use Rattle.vl_read.specs.inner.Seen.{seen};
-ghost use Rattle.vl_read.specs.inner.Turns.{start_after, ended_by, feed, stepped, line_at};
+ghost use Rattle.vl_read.specs.inner.Turns.{IsBeyond, IsWithin, line_at};
 
 use crate::fault::VlSyntax;
 use crate::places::Reader;
-use crate::scan::{ByteClass, Mode, class_of};
-use crate::turns::{Pending, next_turn};
-use fx_io::OutOfMemory;
+use crate::scan::Mode;
+use crate::turns::{lexeme_end, mode_after};
 use std::alloc::Global;
 use vl_ast::Module;
 
 /// How many items a module has at most that is read (own).
 const MOST_ITEMS: usize = 4_000_000;
-
-/// Reads the lexeme that ends before a byte, if one does. `false` where it may not stand there.
-fn fed(reader: &mut Reader, alloc: Global, ends: bool, lexeme: &[u8]) -> Result<bool, OutOfMemory>
-    ensures { IfOk result (λ said. stepped said (seen reader.new)
-        ≡ feed (seen reader.old) (ended_by ends lexeme.now)) }
-{
-    if ends {
-        reader.step(alloc, lexeme)
-    } else {
-        Ok(true)
-    }
-}
-
-/// Where the lexeme begins after a byte.
-fn start_after(pending: Pending, start: usize, at: usize) -> usize
-    requires { at < 2 ^ 64 - 1 }
-    ensures { result ≡ start_after pending start at }
-{
-    match pending {
-        Pending::Longer => start,
-        Pending::Begun => at,
-        Pending::Gone => at + 1,
-    }
-}
 
 /// The line at the end of the bytes, counted from 1.
 fn line_at(bytes: &[u8]) -> u64
@@ -55,34 +29,22 @@ fn line_at(bytes: &[u8]) -> u64
     line
 }
 
-/// Whether a byte goes on with a word.
-fn goes_on(mode: Mode, byte: u8) -> bool
-    ensures word { IsTrue result → mode ≡ Mode.Word }
-    ensures byte { IsTrue result → class_of byte ≡ OfWord }
+/// Whether a lexeme has begun.
+fn is_within(mode: Mode) -> bool
+    ensures within { result ≡ true → IsWithin mode }
+    ensures beyond { result ≡ false → IsBeyond mode }
 {
-    matches!(mode, Mode::Word) && matches!(class_of(byte), ByteClass::OfWord)
+    matches!(mode, Mode::Word | Mode::Mark)
 }
 
 /// The module at the end of the bytes. `None` where a text may not end so.
-fn last(
-    mut reader: Reader,
-    alloc: Global,
-    mode: Mode,
-    lexeme: &[u8],
-) -> Result<Option<Module>, OutOfMemory>
-    ensures { IfOk result (λ m. m
-        ≡ option_and_then (parse (seen reader)) (last_lexemes mode lexeme.now)) }
+fn last(reader: Reader, mode: Mode) -> Option<Module>
+    requires { IsBeyond mode }
+    ensures { result ≡ option_and_then (parse (seen reader)) (last_lexemes mode []) }
 {
     match mode {
-        Mode::Between | Mode::LineComment => Ok(reader.finish()),
-        Mode::Word | Mode::Mark => {
-            if reader.step(alloc, lexeme)? {
-                Ok(reader.finish())
-            } else {
-                Ok(None)
-            }
-        }
-        Mode::Slash | Mode::BlockComment | Mode::Star => Ok(None),
+        Mode::Between | Mode::LineComment => reader.finish(),
+        Mode::Word | Mode::Mark | Mode::Slash | Mode::BlockComment | Mode::Star => None,
     }
 }
 
@@ -101,26 +63,28 @@ pub fn read(alloc: Global, bytes: &[u8]) -> Result<Module, VlSyntax>
 {
     let mut reader = Reader::new(alloc, MOST_ITEMS);
     let mut mode = Mode::Between;
-    let mut start = 0;
-    for (i, byte) in bytes.iter().enumerate() {
-        if goes_on(mode, *byte) {
-            continue;
-        }
-        let lexeme = &bytes[start..i];
-        let Some(turn) = next_turn(mode, lexeme, *byte) else {
+    let mut at = 0;
+    while at < bytes.len() {
+        let Some(next) = mode_after(mode, bytes[at]) else {
             return Err(VlSyntax::Syntax {
-                line: line_at(&bytes[..i]),
+                line: line_at(&bytes[..at]),
             });
         };
-        if !fed(&mut reader, alloc, turn.ends, lexeme)? {
+        if !is_within(next) {
+            mode = next;
+            at += 1;
+            continue;
+        }
+        let end = lexeme_end(next, bytes, at);
+        if !reader.step(alloc, &bytes[at..end])? {
             return Err(VlSyntax::Syntax {
-                line: line_at(&bytes[..i]),
+                line: line_at(&bytes[..end]),
             });
         }
-        start = start_after(turn.pending, start, i);
-        mode = turn.mode;
+        mode = Mode::Between;
+        at = end;
     }
-    match last(reader, alloc, mode, &bytes[start..])? {
+    match last(reader, mode) {
         None => Err(VlSyntax::Syntax {
             line: line_at(bytes),
         }),

@@ -1,6 +1,7 @@
 ghost use Rattle.std.specs.Prelude.{◌≡◌, bytes_eq};
-ghost use Rattle.vl_read.specs.inner.Lexemes.{class_of, class_by, extends};
+ghost use Rattle.vl_read.specs.inner.Lexemes.{class_of, extends};
 
+use crate::scan::ByteClass::{OfBlank, OfComment, OfMark, OfNone, OfWord};
 use vl_ast::Sized;
 
 /// What a byte is outside of comments.
@@ -56,40 +57,37 @@ pub fn is(lexeme: &[u8], word: &str) -> bool
     lexeme == word.as_bytes()
 }
 
-/// Of each byte, what it is outside of comments: `w` of a word, `b` a blank, `/` what begins a comment,
-/// `m` of a mark.
-const CLASSES: &[u8; 256] = b"\
-    ---------bb-bb------------------\
-    bm--w-mwmmmmmm-/wwwwwwwwwwmmmmmm\
-    mwwwwwwwwwwwwwwwwwwwwwwwwwwm-mmw\
-    -wwwwwwwwwwwwwwwwwwwwwwwwwwmmmm-\
-    --------------------------------\
-    --------------------------------\
-    --------------------------------\
-    --------------------------------";
-
-/// The class that a letter of the table names.
-fn class_by(mark: u8) -> ByteClass
-    ensures { result ≡ class_by mark }
-{
-    if mark == b'w' {
-        ByteClass::OfWord
-    } else if mark == b'b' {
-        ByteClass::OfBlank
-    } else if mark == b'/' {
-        ByteClass::OfComment
-    } else if mark == b'm' {
-        ByteClass::OfMark
-    } else {
-        ByteClass::OfNone
-    }
-}
+/// Of each byte, what it is outside of comments.
+const CLASSES: [ByteClass; 256] = [
+    OfNone, OfNone, OfNone, OfNone, OfNone, OfNone, OfNone, OfNone, OfNone, OfBlank, OfBlank,
+    OfNone, OfBlank, OfBlank, OfNone, OfNone, OfNone, OfNone, OfNone, OfNone, OfNone, OfNone,
+    OfNone, OfNone, OfNone, OfNone, OfNone, OfNone, OfNone, OfNone, OfNone, OfNone, OfBlank,
+    OfMark, OfNone, OfNone, OfWord, OfNone, OfMark, OfWord, OfMark, OfMark, OfMark, OfMark, OfMark,
+    OfMark, OfNone, OfComment, OfWord, OfWord, OfWord, OfWord, OfWord, OfWord, OfWord, OfWord,
+    OfWord, OfWord, OfMark, OfMark, OfMark, OfMark, OfMark, OfMark, OfMark, OfWord, OfWord, OfWord,
+    OfWord, OfWord, OfWord, OfWord, OfWord, OfWord, OfWord, OfWord, OfWord, OfWord, OfWord, OfWord,
+    OfWord, OfWord, OfWord, OfWord, OfWord, OfWord, OfWord, OfWord, OfWord, OfWord, OfWord, OfMark,
+    OfNone, OfMark, OfMark, OfWord, OfNone, OfWord, OfWord, OfWord, OfWord, OfWord, OfWord, OfWord,
+    OfWord, OfWord, OfWord, OfWord, OfWord, OfWord, OfWord, OfWord, OfWord, OfWord, OfWord, OfWord,
+    OfWord, OfWord, OfWord, OfWord, OfWord, OfWord, OfWord, OfMark, OfMark, OfMark, OfMark, OfNone,
+    OfNone, OfNone, OfNone, OfNone, OfNone, OfNone, OfNone, OfNone, OfNone, OfNone, OfNone, OfNone,
+    OfNone, OfNone, OfNone, OfNone, OfNone, OfNone, OfNone, OfNone, OfNone, OfNone, OfNone, OfNone,
+    OfNone, OfNone, OfNone, OfNone, OfNone, OfNone, OfNone, OfNone, OfNone, OfNone, OfNone, OfNone,
+    OfNone, OfNone, OfNone, OfNone, OfNone, OfNone, OfNone, OfNone, OfNone, OfNone, OfNone, OfNone,
+    OfNone, OfNone, OfNone, OfNone, OfNone, OfNone, OfNone, OfNone, OfNone, OfNone, OfNone, OfNone,
+    OfNone, OfNone, OfNone, OfNone, OfNone, OfNone, OfNone, OfNone, OfNone, OfNone, OfNone, OfNone,
+    OfNone, OfNone, OfNone, OfNone, OfNone, OfNone, OfNone, OfNone, OfNone, OfNone, OfNone, OfNone,
+    OfNone, OfNone, OfNone, OfNone, OfNone, OfNone, OfNone, OfNone, OfNone, OfNone, OfNone, OfNone,
+    OfNone, OfNone, OfNone, OfNone, OfNone, OfNone, OfNone, OfNone, OfNone, OfNone, OfNone, OfNone,
+    OfNone, OfNone, OfNone, OfNone, OfNone, OfNone, OfNone, OfNone, OfNone, OfNone, OfNone, OfNone,
+    OfNone, OfNone, OfNone, OfNone, OfNone, OfNone, OfNone, OfNone,
+];
 
 /// What a byte is outside of comments.
 pub fn class_of(byte: u8) -> ByteClass
     ensures { result ≡ class_of byte }
 {
-    class_by(CLASSES[usize::from(byte)])
+    CLASSES[usize::from(byte)]
 }
 
 /// Whether a mark and the byte after it are one mark, or the beginning of one (the longest is taken).

@@ -1,103 +1,72 @@
-ghost use Rattle.std.specs.Prelude.{◌≡◌, Some, true, false, option_map};
-ghost use Rattle.vl_read.specs.declared.turns.Pending.TheVariants.{Gone};
-ghost use Rattle.vl_read.specs.inner.Lexemes.{move, outside, class_of};
-ghost use Rattle.vl_read.specs.inner.Turns.{turned, begun};
+ghost use Rattle.std.specs.Prelude.{◌≡◌, ◌<◌, ◌≤◌, false, length};
+ghost use Rattle.vl_read.specs.inner.Lexemes.{class_of, continues};
+ghost use Rattle.vl_read.specs.inner.Turns.{mode_by, mode_after, goes_on_at, GoOn};
 
 use crate::scan::{ByteClass, Mode, class_of, extends};
 
-/// What becomes of the lexeme before a byte.
-#[derive(Clone, Copy)]
-pub enum Pending {
-    /// The byte goes on with it.
-    Longer,
-    /// A new one begins with the byte.
-    Begun,
-    /// There is none after the byte.
-    Gone,
-}
-
-/// What a byte makes of the reading.
-#[derive(Clone, Copy)]
-pub struct Turn {
-    pub mode: Mode,
-    /// Whether a lexeme ends before the byte.
-    pub ends: bool,
-    pub pending: Pending,
-}
-
-/// A byte in a comment, or one that begins a comment.
-fn silent(mode: Mode) -> Option<Turn>
-    ensures { result ≡ Some (record { mode = mode; ends = false; pending = Gone }) }
+/// After a byte outside of comments.
+fn outside(class: ByteClass) -> Option<Mode>
+    ensures { result ≡ mode_by class }
 {
-    Some(Turn {
-        mode,
-        ends: false,
-        pending: Pending::Gone,
-    })
-}
-
-/// A byte outside of comments that goes on with no lexeme.
-fn begin(ends: bool, class: ByteClass) -> Option<Turn>
-    ensures { result ≡ begun ends class }
-{
-    let (mode, pending) = match class {
-        ByteClass::OfWord => (Mode::Word, Pending::Begun),
-        ByteClass::OfMark => (Mode::Mark, Pending::Begun),
-        ByteClass::OfBlank => (Mode::Between, Pending::Gone),
-        ByteClass::OfComment => (Mode::Slash, Pending::Gone),
-        ByteClass::OfNone => return None,
-    };
-    Some(Turn {
-        mode,
-        ends,
-        pending,
-    })
-}
-
-/// A byte outside of comments.
-fn outside(mode: Mode, lexeme: &[u8], byte: u8) -> Option<Turn>
-    ensures { option_map (turned lexeme.now byte) result
-        ≡ outside mode lexeme.now (class_of byte) byte }
-{
-    let class = class_of(byte);
-    let longer = match (mode, class) {
-        (Mode::Word, ByteClass::OfWord) => true,
-        (Mode::Mark, ByteClass::OfMark) => extends(lexeme, byte),
-        _ => false,
-    };
-    if longer {
-        return Some(Turn {
-            mode,
-            ends: false,
-            pending: Pending::Longer,
-        });
+    match class {
+        ByteClass::OfWord => Some(Mode::Word),
+        ByteClass::OfBlank => Some(Mode::Between),
+        ByteClass::OfComment => Some(Mode::Slash),
+        ByteClass::OfMark => Some(Mode::Mark),
+        ByteClass::OfNone => None,
     }
-    begin(matches!(mode, Mode::Word | Mode::Mark), class)
 }
 
-/// What the next byte makes of the reading. `None` where it may not stand there.
-pub fn next_turn(mode: Mode, lexeme: &[u8], byte: u8) -> Option<Turn>
-    ensures { option_map (turned lexeme.now byte) result ≡ move mode lexeme.now byte }
+/// Where the reading is after a byte that goes on with no lexeme. `None` where it may not stand there.
+pub fn mode_after(mode: Mode, byte: u8) -> Option<Mode>
+    ensures { result ≡ mode_after mode byte }
 {
     match mode {
-        Mode::Between | Mode::Word | Mode::Mark => outside(mode, lexeme, byte),
+        Mode::Between | Mode::Word | Mode::Mark => outside(class_of(byte)),
         Mode::Slash => match byte {
-            b'/' => silent(Mode::LineComment),
-            b'*' => silent(Mode::BlockComment),
+            b'/' => Some(Mode::LineComment),
+            b'*' => Some(Mode::BlockComment),
             _ => None,
         },
         Mode::LineComment => match byte {
-            b'\n' => silent(Mode::Between),
-            _ => silent(Mode::LineComment),
+            b'\n' => Some(Mode::Between),
+            _ => Some(Mode::LineComment),
         },
         Mode::BlockComment => match byte {
-            b'*' => silent(Mode::Star),
-            _ => silent(Mode::BlockComment),
+            b'*' => Some(Mode::Star),
+            _ => Some(Mode::BlockComment),
         },
         Mode::Star => match byte {
-            b'/' => silent(Mode::Between),
-            b'*' => silent(Mode::Star),
-            _ => silent(Mode::BlockComment),
+            b'/' => Some(Mode::Between),
+            b'*' => Some(Mode::Star),
+            _ => Some(Mode::BlockComment),
         },
     }
+}
+
+/// Whether a byte goes on with a lexeme.
+fn goes_on(mode: Mode, lexeme: &[u8], byte: u8) -> bool
+    ensures { result ≡ continues mode (class_of byte) lexeme.now byte }
+{
+    match (mode, class_of(byte)) {
+        (Mode::Word, ByteClass::OfWord) => true,
+        (Mode::Mark, ByteClass::OfMark) => extends(lexeme, byte),
+        _ => false,
+    }
+}
+
+/// Where the lexeme ends that begins at a place.
+pub fn lexeme_end(mode: Mode, bytes: &[u8], start: usize) -> usize
+    requires { start < length bytes.now }
+    ensures more { start < result }
+    ensures within { result ≤ length bytes.now }
+    ensures each { GoOn mode bytes.now start result }
+    ensures stops { result < length bytes.now → goes_on_at mode bytes.now start result ≡ false }
+{
+    for end in start + 1..bytes.len() {
+        if !goes_on(mode, &bytes[start..end], bytes[end]) {
+            return end;
+        }
+    }
+    bytes.len()
 }

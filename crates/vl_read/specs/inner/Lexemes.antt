@@ -3,8 +3,7 @@
 use Prim.Native.Char.{code}
 use Rattle.std.specs.Prelude.{ℕ, not, ◌+◌, ◌*◌, ◌^◌, ◌==◌, nat_le, nat_lt, Bool, true, false, ◌&&◌, ◌||◌, if◌then◌else◌, List, [], ◌∷◌, ◌++◌, length, bytes_eq, codes, Option, Some, None, option_map, option_and_then}
 use Rattle.std.specs.List.{prefix_len}
-use Rattle.std.specs.Char.{is_ascii_alphanumeric}
-use Rattle.std.specs.Char.{digit_value}
+use Rattle.std.specs.Char.{is_ascii_alphanumeric, is_ascii_digit, digit_value}
 use Rattle.vl_ast.specs.declared.expressions.Sized.{Sized}
 use Rattle.vl_ast.specs.Tokens.{is_identifier, base_of, is_blank}
 use Rattle.vl_read.specs.declared.scan.ByteClass.{ByteClass}
@@ -32,23 +31,6 @@ class_of byte =
     else (if is_blank byte then OfBlank
     else (if byte == code "/" then OfComment
     else (if is_mark_byte byte then OfMark
-    else OfNone)))
-
--- the letter of a class in a table of bytes
-abbrev pub class_mark : ByteClass → ℕ
-class_mark OfWord = code "w"
-class_mark OfBlank = code "b"
-class_mark OfComment = code "/"
-class_mark OfMark = code "m"
-class_mark OfNone = code "-"
-
--- the class that a letter names
-abbrev pub class_by : ℕ → ByteClass
-class_by mark =
-    if mark == code "w" then OfWord
-    else (if mark == code "b" then OfBlank
-    else (if mark == code "/" then OfComment
-    else (if mark == code "m" then OfMark
     else OfNone)))
 
 -- whether a mark and the byte after it are one mark, or the beginning of one
@@ -188,6 +170,11 @@ abbrev pub kind_by : Option ℕ → Option Sized → Kind
 kind_by (Some number) sized = Count number
 kind_by None (Some number) = Constant number
 kind_by None None = Fixed
+
+-- it begins with a decimal digit
+abbrev pub begins_number : List ℕ → Bool
+begins_number [] = false
+begins_number (byte ∷ bytes) = is_ascii_digit byte
 
 -- what a lexeme may be
 unfoldable pub kind_of : List ℕ → Kind

@@ -1,46 +1,56 @@
--- What a byte makes of the lexeme before it (own).
-use Rattle.std.specs.Prelude.{ℕ, ◌+◌, ◌==◌, Bool, true, false, List, [], ◌∷◌, ◌++◌, count_by, Option, Some, None, option_and_then}
+-- Where the reading is after a byte, and the lexeme that a byte goes on with (own).
+use Prim.Native.Char.{code}
+use Rattle.std.specs.Prelude.{◌≡◌, ℕ, ◌+◌, ◌-◌, ◌<◌, ◌==◌, Bool, true, false, if◌then◌else◌, ⊤, List, [], ◌∷◌, get_or, take, drop, count_by, Option, Some, None, option_and_then}
 use Rattle.vl_ast.specs.declared.modules.Module.{Module}
 use Rattle.vl_read.specs.declared.scan.ByteClass.{ByteClass}
 use Rattle.vl_read.specs.declared.scan.ByteClass.TheVariants.{OfWord, OfBlank, OfComment, OfMark, OfNone}
-use Rattle.vl_read.specs.declared.scan.Mode.TheVariants.{Between, Word, Mark, Slash}
-use Rattle.vl_read.specs.declared.turns.Pending.{Pending}
-use Rattle.vl_read.specs.declared.turns.Pending.TheVariants.{Longer, Begun, Gone}
-use Rattle.vl_read.specs.declared.turns.Turn.{Turn}
 use Rattle.vl_read.specs.declared.scan.Mode.{Mode}
+use Rattle.vl_read.specs.declared.scan.Mode.TheVariants.{Between, Word, Mark, Slash, LineComment, BlockComment, Star}
 use Rattle.vl_read.specs.inner.Places.{Parser}
-use Rattle.vl_read.specs.inner.Lexemes.{Move, lexemes_from}
+use Rattle.vl_read.specs.inner.Lexemes.{class_of, continues, lexemes_from}
 use Rattle.vl_read.specs.inner.Plain.{step, parse}
 
--- the lexeme after a byte
-abbrev pub pending_after : Pending → List ℕ → ℕ → List ℕ
-pending_after Longer lexeme byte = lexeme ++ byte ∷ []
-pending_after Begun lexeme byte = byte ∷ []
-pending_after Gone lexeme byte = []
+-- after a byte outside of comments that goes on with no lexeme
+abbrev pub mode_by : ByteClass → Option Mode
+mode_by OfWord = Some Word
+mode_by OfBlank = Some Between
+mode_by OfComment = Some Slash
+mode_by OfMark = Some Mark
+mode_by OfNone = None
 
--- where the lexeme begins after the byte at a place
-abbrev pub start_after : Pending → ℕ → ℕ → ℕ
-start_after Longer start place = start
-start_after Begun start place = place
-start_after Gone start place = place + 1
+-- after a byte that goes on with no lexeme
+abbrev pub mode_after : Mode → ℕ → Option Mode
+mode_after Between byte = mode_by (class_of byte)
+mode_after Word byte = mode_by (class_of byte)
+mode_after Mark byte = mode_by (class_of byte)
+mode_after Slash byte = if byte == code "/" then Some LineComment else (if byte == code "*" then Some BlockComment else None)
+mode_after LineComment byte = if byte == code "\n" then Some Between else Some LineComment
+mode_after BlockComment byte = if byte == code "*" then Some Star else Some BlockComment
+mode_after Star byte = if byte == code "/" then Some Between else (if byte == code "*" then Some Star else Some BlockComment)
 
--- the lexeme, where it ends before the byte
-abbrev pub ended_by : Bool → List ℕ → List (List ℕ)
-ended_by true lexeme = lexeme ∷ []
-ended_by false lexeme = []
+-- neither in a word nor in a mark
+abbrev pub IsBeyond : Mode → Type 0
+IsBeyond Word = ⊥
+IsBeyond Mark = ⊥
+IsBeyond mode = ⊤
 
--- the move that a turn of the reader is
-abbrev pub turned : List ℕ → ℕ → Turn → Move
-turned lexeme byte turn =
-    record { lexemes = ended_by turn.ends lexeme; mode = turn.mode; lexeme = pending_after turn.pending lexeme byte }
+-- in a word or a mark
+abbrev pub IsWithin : Mode → Type 0
+IsWithin Word = ⊤
+IsWithin Mark = ⊤
+IsWithin mode = ⊥
 
--- a byte outside of comments that goes on with no lexeme
-abbrev pub begun : Bool → ByteClass → Option Turn
-begun ends OfWord = Some (record { mode = Word; ends = ends; pending = Begun })
-begun ends OfBlank = Some (record { mode = Between; ends = ends; pending = Gone })
-begun ends OfComment = Some (record { mode = Slash; ends = ends; pending = Gone })
-begun ends OfMark = Some (record { mode = Mark; ends = ends; pending = Begun })
-begun ends OfNone = None
+-- the bytes from one place to another
+abbrev pub between : ℕ → ℕ → List ℕ → List ℕ
+between start end bytes = take (end - start) (drop start bytes)
+
+-- whether the byte at a place goes on with the lexeme that begins at another
+abbrev pub goes_on_at : Mode → List ℕ → ℕ → ℕ → Bool
+goes_on_at mode bytes start place = continues mode (class_of (get_or bytes place 0)) (between start place bytes) (get_or bytes place 0)
+
+-- each byte after a place and before another goes on with the lexeme that begins at the first
+abbrev pub GoOn : Mode → List ℕ → ℕ → ℕ → Type 0
+GoOn mode bytes start end = (place : ℕ) → start < place → place < end → goes_on_at mode bytes start place ≡ true
 
 -- the parser after some lexemes
 abbrev pub feed : Parser → List (List ℕ) → Option Parser

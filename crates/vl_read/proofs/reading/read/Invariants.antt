@@ -1,10 +1,15 @@
-use Rattle.std.proofs.Common.{take, drop, ◌≤◌}
+use Rattle.std.proofs.Common.{[], take, drop, ◌≤◌, ◌-◌, length}
 use Rattle.vl_read.specs.inner.Seen.{seen}
-use Rattle.vl_read.specs.inner.Turns.{line_at}
+use Rattle.vl_read.specs.inner.Turns.{IsBeyond, line_at}
 use Rattle.vl_read.proofs.Reached.{Reached}
-use Rattle.vl_read.proofs.Kept.{between}
 use Rattle.vl_read.proofs.reading.read.Given as goal
 
-abbrev pub invariant-loop-i : goal.invariant-loop-i
-invariant-loop-i l =
-    (l.start ≤ l.i) × Reached l.bytes (drop l.i l.bytes) (seen l.reader) l.mode (between l.start l.i l.bytes) (line_at (take l.i l.bytes))
+abbrev pub invariant-loop-at : goal.invariant-loop-at
+invariant-loop-at l = record {
+  within : l.at ≤ length l.bytes;
+  beyond : IsBeyond l.mode;
+  reached : Reached l.bytes (drop l.at l.bytes) (seen l.reader) l.mode [] (line_at (take l.at l.bytes));
+}
+
+abbrev pub decreases-loop-at : goal.decreases-loop-at
+decreases-loop-at l = length l.bytes - l.at

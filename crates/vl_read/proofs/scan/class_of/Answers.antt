@@ -5,4 +5,4 @@ use Rattle.vl_read.proofs.scan.class_of.Goals as goal
 
 pub returns : goal.returns
 unfolding class_of
-returns c = c.class_by.ensures ∙ classed _ c.from.result refl (omega arith) ∙ ap class_of c.from.ensures
+returns c = classed _ c.from.result refl (omega arith) ∙ ap class_of c.from.ensures
