@@ -1,2 +1,10 @@
 mod Worked
 mod One
+mod Timing
+mod Cones
+mod Feeding
+mod Marking
+mod Listing
+mod Answering
+mod Weighing
+mod Bounded

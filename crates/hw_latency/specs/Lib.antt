@@ -1,3 +1,4 @@
+pub mod inner
 pub mod Shared
 pub mod Cone
 pub mod Weight

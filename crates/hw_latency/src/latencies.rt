@@ -1,4 +1,13 @@
+ghost use Rattle.std.specs.Prelude.{◌≡◌, IfErr, IfOk};
+ghost use Rattle.hw_latency.specs.Shared.{IsPlanOf};
+ghost use Rattle.hw_latency.specs.Latency.{AreLatencies, IsLatencyFault};
+
+use crate::arcs::arcs_of;
+use crate::fed::fed_of;
+use dg_model::{Checked, Resolved};
 use fx_io::{Flags, Longs, OutOfMemory, Periods, Sizes};
+use hw_arcs::Found;
+use std::alloc::Global;
 
 /// How late the outputs of a diagram's blocks are by a plan, in base samples (own; HDL Coder, delay
 /// balancing).
@@ -29,5 +38,40 @@ impl From<OutOfMemory> for LatencyFault {
 
     fn from(_refused: OutOfMemory) -> LatencyFault {
         LatencyFault::OutOfMemory
+    }
+}
+
+/// The most edges that are numbered.
+const MOST_EDGES: usize = 2_147_483_648;
+
+/// The least latencies that the edges of a checked diagram leave by a plan, or a cycle of edges
+/// that leaves none. Its time is linear in the edges without feedback; more than 2^31 edges are
+/// want of memory.
+pub fn latencies_of(
+    alloc: Global,
+    checked: &Checked,
+    plan: &Resolved,
+) -> Result<Latencies, LatencyFault>
+    requires plan { IsPlanOf checked.now.diagram plan.now }
+    ensures least { IfOk result (AreLatencies checked.now.diagram plan.now) }
+    ensures broken { IfErr result (IsLatencyFault checked.now.diagram plan.now) }
+{
+    checked.keeps_rules();
+    let count = checked.diagram().blocks.as_slice().len();
+    let fed = fed_of(alloc, checked, plan)?;
+    let arcs = arcs_of(alloc, checked, plan, fed.as_slice())?;
+    if arcs.len() > MOST_EDGES {
+        return Err(LatencyFault::OutOfMemory);
+    }
+    match hw_arcs::latencies(alloc, arcs.as_slice(), checked.order(), count)? {
+        Found::Least { lat, tight } => Ok(Latencies {
+            lat,
+            tight,
+            fed: Flags::from_vec(fed),
+        }),
+        Found::Gains(gaining) => Err(LatencyFault::Cycle {
+            blocks: gaining.blocks,
+            total: gaining.total as i64,
+        }),
     }
 }

@@ -5,10 +5,23 @@
 //! least, `Latency` which latencies are the least that meet this at each edge, and when there are
 //! none. What an edge asks hangs on whether shared operations (`Shared`) stand in the instant cone of
 //! its source (`Cone`).
+//!
+//! `latencies_of` marks these sources along the order of a checked diagram, lists what each edge asks,
+//! and has the least latencies found from that (`hw_arcs`). Its time is that of the edges, but where
+//! feedback makes latencies rise more than once.
 #![tactic(auto)]
 
+mod arcs;
+mod block;
+mod fed;
 mod latencies;
 mod laws;
+mod periods;
+mod shared;
+mod weight;
 
-pub use latencies::{Latencies, LatencyFault};
-pub use laws::{fed_is_one, latencies_are_one, latency_cycles_leave_none};
+pub use latencies::{Latencies, LatencyFault, latencies_of};
+pub use laws::{
+    fed_is_one, latencies_are_one, latencies_are_small, latency_cycles_leave_none,
+    unasked_blocks_are_zero,
+};

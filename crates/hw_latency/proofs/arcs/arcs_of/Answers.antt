@@ -1,0 +1,29 @@
+use Rattle.std.proofs.Common.{◌<◌, ◌≤◌, List, length, ap, subst, ◌∙◌}
+use Rattle.dg_model.specs.declared.diagram.Block.{Block}
+use Rattle.dg_model.specs.declared.diagram.Diagram.{Diagram}
+use Rattle.dg_model.specs.declared.diagram.Edge.{Edge}
+use Rattle.hw_latency.proofs.Listing.{control_put, line_put, lines_listed, listing_ends}
+use Rattle.hw_latency.proofs.arcs.arcs_of.Goals as goal
+
+pub loop-edge-preserved : goal.loop-edge-preserved
+loop-edge-preserved c =
+    line_put c.args.checked.now.diagram c.args.plan.now c.args.fed.now c.loop-edge.arcs.items c.put_arc.new.arcs.items c.loop-edge.edge-index c.as_slice-edges.result.now (record { from = 0; from_port = 0; to = 0; to_port = 0 })
+    c.keeps_rules.ensures.checked.wired (c.as_slice-edges.ensures ∙ ap (λ (d : Diagram). d.edges) c.diagram.ensures) c.loop-edge-test.true c.in_ok-put_arc.ensures c.loop-edge.invariant
+
+pub loop-place-init : goal.loop-place-init
+loop-place-init c =
+    lines_listed c.args.checked.now.diagram c.args.plan.now c.args.fed.now c.loop-edge.arcs.items c.loop-edge.edge-index
+    (subst (λ (es : List Edge). length es ≤ c.loop-edge.edge-index) (c.as_slice-edges.ensures ∙ ap (λ (d : Diagram). d.edges) c.diagram.ensures) c.loop-edge-test.false) c.loop-edge.invariant
+
+pub loop-place-preserved : goal.loop-place-preserved
+loop-place-preserved c =
+    control_put c.args.checked.now.diagram c.args.plan.now c.args.fed.now c.loop-place.arcs.items c.put_control.new.arcs.items c.loop-place.place c.keeps_rules.ensures.checked.wired
+    (subst (λ (bs : List Block). c.loop-place.place < length bs) (c.as_slice-blocks.ensures ∙ ap (λ (d : Diagram). d.blocks) c.diagram-2.ensures) c.loop-place-test.true) c.in_ok-put_control.ensures c.loop-place.invariant
+
+pub returns-clause-is : goal.returns-clause-is
+returns-clause-is c =
+    listing_ends c.args.checked.now.diagram c.args.plan.now c.args.fed.now c.loop-place.arcs.items c.loop-place.place
+    (subst (λ (bs : List Block). length bs ≤ c.loop-place.place) (c.as_slice-blocks.ensures ∙ ap (λ (d : Diagram). d.blocks) c.diagram-2.ensures) c.loop-place-test.false) c.loop-place.invariant
+
+pub returns-clause-known : goal.returns-clause-known
+returns-clause-known c = c.loop-place.invariant.known
