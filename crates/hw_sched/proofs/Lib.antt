@@ -11,5 +11,7 @@ mod InTime
 mod Roots
 mod Standing
 mod Reading
+mod Items
 mod Worked
 mod Chaining
+mod Models

@@ -28,6 +28,9 @@ period_is None (Some other) e = absurd (false≢true e)
 period_is (Some period) None e = absurd (false≢true e)
 period_is (Some period) (Some other) e = ap (λ (n : ℕ). Some n) (eqb-true period other e)
 
+same_number : (period other : Option ℕ) (n m : ℕ) → period ≡ Some n → other ≡ Some m → n ≡ m → period ≡ other
+same_number period other n m is too same = is ∙ ap (λ (k : ℕ). Some k) same ∙ sym too
+
 same_or_not : (period other : Option ℕ) → (period ≡ other) ⊎ (period ≡ other → ⊥)
 same_or_not None None = inl refl
 same_or_not None (Some other) = inr (λ e. none-some other e)
@@ -95,7 +98,7 @@ module _ (diagram : Diagram) (plan : Resolved) (checked : IsChecked diagram) whe
           let first = last.2 in
           let second = next.2 in
           let equal : last.0 ≡ next.0 = omega (arith, own, first, second) in
-          absurd (differ (last.1 ∙ ap (λ (n : ℕ). Some n) equal ∙ sym next.1))
+          absurd (differ (same_number (period source) (period place) last.0 next.0 last.1 next.1 equal))
 
   abbrev own_count : ℕ → ℕ
   own_count place = cond (is_shared diagram (attributes_of diagram) plan place) 1 0

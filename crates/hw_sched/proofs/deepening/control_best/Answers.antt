@@ -1,7 +1,7 @@
 use Rattle.std.proofs.Common.{true, false, sym, ap, ◌∙◌}
 use Rattle.dg_model.specs.declared.diagram.Diagram.{Diagram}
 use Rattle.dg_model.specs.Attributes.{attributes_of}
-use Rattle.hw_sched.proofs.Reading.{block_read, tested, control_one, control_apart}
+use Rattle.hw_sched.proofs.Items.{block_read, tested, control_one, control_apart}
 use Rattle.hw_sched.proofs.deepening.control_best.Goals as goal
 
 pub returns-then-is_same_period : goal.returns-then-is_same_period

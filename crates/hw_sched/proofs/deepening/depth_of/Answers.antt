@@ -1,4 +1,4 @@
-use Rattle.hw_sched.proofs.Reading.{unshared_next}
+use Rattle.hw_sched.proofs.Items.{unshared_next}
 use Rattle.hw_sched.proofs.deepening.depth_of.Goals as goal
 
 pub returns-else-is_shared : goal.returns-else-is_shared

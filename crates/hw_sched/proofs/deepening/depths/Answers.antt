@@ -1,7 +1,8 @@
 use Rattle.std.proofs.Common.{ℕ, ◌<◌, ◌≤◌, List, length, get_or, subst}
 use Rattle.hw_sched.specs.inner.Greatest.{IsNextDepth}
 use Rattle.hw_sched.proofs.Lists.{held}
-use Rattle.hw_sched.proofs.Reading.{item_read, depths_more, depths_end}
+use Rattle.hw_sched.proofs.Items.{item_read}
+use Rattle.hw_sched.proofs.Reading.{depths_more, depths_end}
 use Rattle.hw_sched.proofs.deepening.depths.Goals as goal
 
 pub loop-place-preserved : goal.loop-place-preserved

@@ -2,7 +2,8 @@ use Rattle.std.proofs.Common.{◌+◌, length, true, false, ap, ◌∙◌, arith
 use Rattle.dg_model.specs.declared.diagram.Diagram.{Diagram}
 use Rattle.dg_model.specs.declared.diagram.Edge.{Edge}
 use Rattle.dg_model.specs.Attributes.{attributes_of}
-use Rattle.hw_sched.proofs.Reading.{rest_length, rest_read, tested, next_counts, next_skips, first_as, lines_stop, lines_end, from_there}
+use Rattle.hw_sched.proofs.Items.{rest_length, rest_read, tested, next_counts, next_skips, first_as}
+use Rattle.hw_sched.proofs.Reading.{lines_stop, lines_end, from_there}
 use Rattle.hw_sched.proofs.lines.best_of_lines.Goals.{then-is_same_period, else-is_same_period}
 use Rattle.hw_sched.proofs.lines.best_of_lines.Goals as goal
 
