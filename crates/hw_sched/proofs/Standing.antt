@@ -1,8 +1,8 @@
 -- The depth of a block from those of the blocks that it reads in its own sample.
-use Rattle.std.proofs.Common.{◌≡◌, ℕ, zero, suc, ◌+◌, ◌-◌, ◌≤◌, Bool, true, false, cond, List, [], ◌∷◌, ◌++◌, take, refl, sym, ap, ◌∙◌, inl, inr, arith}
+use Rattle.std.proofs.Common.{◌≡◌, ℕ, zero, suc, ◌+◌, ◌-◌, ◌≤◌, Bool, true, false, cond, List, [], ◌∷◌, ◌++◌, length, take, refl, sym, ap, ◌∙◌, inl, inr, arith}
 use Rattle.std.specs.Prelude.{slice_get, Option, Some, None, count_by, ◌&&◌, ◌⊎◌}
-use Rattle.std.proofs.lemmas.Bool.{false≢true, cases_Bool, cases_eq, and_parts, eqb-true}
-use Rattle.std.proofs.lemmas.List.{take_all}
+use Rattle.std.proofs.lemmas.Bool.{false≢true, cases_Bool, cases_eq, cases_lt, and_parts, eqb-true}
+use Rattle.std.proofs.lemmas.List.{take_all, get_or_past}
 use Rattle.std.proofs.lemmas.List.Sums.{sum_by_push, sum_by_more}
 use Rattle.std.proofs.lemmas.Option.{none-some, same_Some, slice_get_within, slice_get-get_or, get_or_from_slice_get}
 use Rattle.dg_model.specs.declared.diagram.Diagram.{Diagram}
@@ -13,7 +13,7 @@ use Rattle.dg_model.specs.LatencyEdges.{LatencyEdge, latency_edges}
 use Rattle.dg_model.specs.Loop.{LeadsNow, IsInstantPath}
 use Rattle.dg_model.specs.Signals.{Attributes}
 use Rattle.hw_latency.specs.Shared.{multiplies, shares, is_shared}
-use Rattle.hw_sched.specs.Laws.{IsEdge}
+use Rattle.hw_sched.specs.Laws.{IsEdge, DepthsAreOne}
 use Rattle.hw_sched.specs.Level.{is_same_period, EndsWith, IsDepth}
 use Rattle.hw_sched.proofs.Bases.{shared_period}
 use Rattle.hw_sched.proofs.Lists.{none_counted}
@@ -173,3 +173,21 @@ module _ (diagram : Diagram) (plan : Resolved) (checked : IsChecked diagram) whe
         most = at_most;
       }
     ]
+
+-- ---- depths are one
+
+pub depths_are_one : DepthsAreOne
+depths_are_one diagram attributes plan depths other place are too = elim (cases_lt place (length diagram.blocks)) [
+  | inl there ↦
+      let first = are.are place there in
+      let second = too.are place there in
+      let low = second.most first.path first.ends in
+      let high = first.most second.path second.ends in
+      let reached = first.reached in
+      let met = second.reached in
+      omega (arith, low, high, reached, met)
+  | inr past ↦
+      let size = are.size in
+      let many = too.size in
+      get_or_past depths place 0 (omega (arith, size, past)) ∙ sym (get_or_past other place 0 (omega (arith, many, past)))
+]

@@ -12,7 +12,7 @@ use Rattle.dg_model.specs.declared.resolved.Resolved.{Resolved}
 use Rattle.dg_model.specs.Signals.{Attributes}
 use Rattle.hw_latency.specs.Weight.{samples}
 use Rattle.hw_sched.specs.Slots.{Timing, Operation, OperationKind, shared_operations, kind_of, is_same_kind, level_of, count_at, base_slot, turn_of, slot_of, units_of_kind, new_kind, kinds_of, before_kind}
-use Rattle.hw_sched.specs.Laws.{IsOperation, SlotsDiffer}
+use Rattle.hw_sched.specs.Laws.{IsOperation, SlotsDiffer, UnitsAreThere}
 use Rattle.hw_sched.proofs.Lists.{greatest_at, count_rises}
 use Rattle.hw_sched.proofs.Bases.{same_kind, own_kind, of_shared, counts_itself, turn_below, slot_within, base_rises}
 
@@ -174,3 +174,26 @@ slots_differ diagram attributes plan timing number other o q differ at too unit 
       kind = one.same;
       slots = λ slots. same_turn diagram attributes plan timing number other o q at too one.same one.place slots differ;
     }
+
+-- the multipliers of a kind stand among those of all
+kind_within : (units : OperationKind → ℕ) (kinds : List OperationKind) (kind : OperationKind) (a : ℕ) → HasKind kinds kind → a < units kind → sum (map units (before_kind kind kinds)) + a < sum (map units kinds)
+kind_within units [] kind a has below = absurd (omega (arith, has))
+kind_within units (k ∷ kinds) kind a has below = go (λ later. kind_within units kinds kind a later below) (is_same_kind kind k) refl (counted kind k kinds)
+  where
+    go : (HasKind kinds kind → sum (map units (before_kind kind kinds)) + a < sum (map units kinds)) → (x : Bool) → is_same_kind kind k ≡ x → count_by (is_same_kind kind) (k ∷ kinds) ≡ cond x 1 0 + count_by (is_same_kind kind) kinds
+        → sum (map units (cond x [] (k ∷ before_kind kind kinds))) + a < sum (map units (k ∷ kinds))
+    go rest true p c =
+        let s = sum-cons (units k) (map units kinds) in
+        let u : units kind ≡ units k = ap units (same_kind kind k p) in
+        omega (arith, s, u, below)
+    go rest false p c =
+        let s = sum-cons (units k) (map units (before_kind kind kinds)) in
+        let t = sum-cons (units k) (map units kinds) in
+        let more = rest (omega (arith, has, c)) in
+        omega (arith, s, t, more)
+
+pub units_are_there : UnitsAreThere
+units_are_there diagram attributes plan timing number o at =
+    let operations = shared_operations diagram attributes plan in
+    kind_within (units_of_kind diagram attributes plan timing) (kinds_of diagram attributes timing [] operations) (kind_of diagram attributes timing o) (turn_of diagram attributes plan timing number o % plan.multipliers)
+    (own_listed diagram attributes plan timing operations [] number o at) (place_below diagram attributes plan timing number o at)

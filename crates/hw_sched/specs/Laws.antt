@@ -1,5 +1,5 @@
 -- What the definitions together say of the slots and multipliers of a diagram (own).
-use Rattle.std.specs.Prelude.{◌≡◌, ◌≢◌, ℕ, suc, ◌+◌, ◌*◌, ◌%◌, ◌≤◌, ◌<◌, nat_lt, Bool, true, false, Some, slice_get}
+use Rattle.std.specs.Prelude.{◌≡◌, ◌≢◌, ℕ, suc, ◌+◌, ◌*◌, ◌%◌, ◌≤◌, ◌<◌, nat_lt, Bool, true, false, List, Some, slice_get}
 use Rattle.dg_model.specs.declared.diagram.Diagram.{Diagram}
 use Rattle.dg_model.specs.declared.diagram.Block.{Block}
 use Rattle.dg_model.specs.declared.diagram.Edge.{Edge}
@@ -18,9 +18,9 @@ use Rattle.dg_model.specs.Wires.{driver_of}
 use Rattle.hw_arcs.specs.Latencies.{latency_at}
 use Rattle.hw_latency.specs.Cone.{AreFed, is_marked}
 use Rattle.hw_latency.specs.Weight.{stages_at, is_registered, behind}
-use Rattle.hw_sched.specs.Level.{AreDepths}
+use Rattle.hw_sched.specs.Level.{AreDepths, depth_at}
 use Rattle.hw_sched.specs.Slots.{Timing, Operation, OperationKind, shared_operations, base_slot, level_of, slot_of, unit_of, kind_of}
-use Rattle.hw_sched.specs.Ready.{ready_of}
+use Rattle.hw_sched.specs.Ready.{ready_of, units_in_all}
 use Rattle.hw_sched.specs.Scheduled.{IsTimingOf, IsScheduled}
 
 -- ---- periods
@@ -39,6 +39,12 @@ is_moving Inherited.Unchanging = false
 -- such a block has a period
 abbrev pub MovingHavePeriods : Type 0
 MovingHavePeriods = (diagram : Diagram) (place : ℕ) (b : Block) → IsChecked diagram → slice_get diagram.blocks place ≡ Some b → is_moving (row_of b.kind).timing.inherits ≡ true → (period : ℕ) × ((attributes_of diagram).period_at place ≡ Some period)
+
+-- ---- depths
+
+-- two lists of depths agree on every block
+abbrev pub DepthsAreOne : Type 0
+DepthsAreOne = (diagram : Diagram) (attributes : Attributes) (plan : Resolved) (depths other : List ℕ) (place : ℕ) → AreDepths diagram attributes plan depths → AreDepths diagram attributes plan other → depth_at depths place ≡ depth_at other place
 
 -- ---- edges
 
@@ -101,6 +107,11 @@ pub record AreApart (diagram : Diagram) (attributes : Attributes) (plan : Resolv
 abbrev pub SlotsDiffer : Type 0
 SlotsDiffer = (diagram : Diagram) (attributes : Attributes) (plan : Resolved) (timing : Timing) (number other : ℕ) (o q : Operation) → number ≢ other → IsOperation diagram attributes plan number o → IsOperation diagram attributes plan other q
     → unit_of diagram attributes plan timing number o ≡ unit_of diagram attributes plan timing other q → AreApart diagram attributes plan timing number other o q
+
+-- an operation's multiplier is one of those that the kinds have
+abbrev pub UnitsAreThere : Type 0
+UnitsAreThere = (diagram : Diagram) (attributes : Attributes) (plan : Resolved) (timing : Timing) (number : ℕ) (o : Operation) → IsOperation diagram attributes plan number o
+    → unit_of diagram attributes plan timing number o < units_in_all diagram attributes plan timing
 
 -- no edge ends at a root input
 abbrev pub NoneIntoRoots : Type 0

@@ -1,5 +1,5 @@
 // What the definitions together say. Each law is a function that does nothing.
-ghost use Rattle.hw_sched.specs.Laws.{PeriodsAreAbove, MovingHavePeriods, LinesAreEdges, ControlsAreEdges, EdgesJoinPeriods, UnfedAreReady, OperationsAreServed, OperationsHavePeriods, SlotsDiffer, NoneIntoRoots, RootsAreReady, ReadyFits, ReadyRises, OperandsAreReady, EdgesAreInTime};
+ghost use Rattle.hw_sched.specs.Laws.{PeriodsAreAbove, MovingHavePeriods, LinesAreEdges, ControlsAreEdges, EdgesJoinPeriods, UnfedAreReady, OperationsAreServed, OperationsHavePeriods, SlotsDiffer, UnitsAreThere, DepthsAreOne, NoneIntoRoots, RootsAreReady, ReadyFits, ReadyRises, OperandsAreReady, EdgesAreInTime};
 
 /// Every period is above 0, and a block whose values move on has one.
 pub fn periods_are_above()
@@ -36,9 +36,16 @@ pub fn root_inputs_are_first()
     ensures ready { RootsAreReady }
 {}
 
-/// Two operations of one multiplier are of one kind, and have different slots.
+/// Two operations of one multiplier are of one kind and have different slots, and the multiplier is
+/// one of those that the kinds have.
 pub fn slots_differ()
-    ensures { SlotsDiffer }
+    ensures slots { SlotsDiffer }
+    ensures units { UnitsAreThere }
+{}
+
+/// The depths of a diagram's blocks by a plan are one list.
+pub fn depths_are_one()
+    ensures { DepthsAreOne }
 {}
 
 /// An output is ready in its period.

@@ -1,5 +1,8 @@
-use Rattle.hw_sched.proofs.Units.{slots_differ}
+use Rattle.hw_sched.proofs.Units.{slots_differ, units_are_there}
 use Rattle.hw_sched.proofs.laws.slots_differ.Goals as goal
 
-pub returns : goal.returns
-returns c = slots_differ
+pub returns-clause-slots : goal.returns-clause-slots
+returns-clause-slots c = slots_differ
+
+pub returns-clause-units : goal.returns-clause-units
+returns-clause-units c = units_are_there
