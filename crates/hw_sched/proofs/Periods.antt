@@ -1,13 +1,13 @@
 -- Periods are above 0, and blocks whose values move on have one.
-use Rattle.std.proofs.Common.{◌≡◌, ℕ, zero, suc, ◌/◌, ◌<◌, ◌≤◌, min, Bool, true, false, List, [], ◌∷◌, length, map, refl, sym, ap, subst, ◌∙◌, inl, inr, arith}
+use Rattle.std.proofs.Common.{◌≡◌, ℕ, zero, ◌*◌, suc, ◌/◌, ◌<◌, ◌≤◌, min, Bool, true, false, List, [], ◌∷◌, length, map, refl, sym, ap, subst, ◌∙◌, inl, inr, arith}
 use Rattle.std.specs.Prelude.{slice_get, Option, Some, None, if◌then◌else◌, ◌^◌, negsuc, ⊤}
 use Rattle.std.specs.List.{filter_map, cons_option}
 use Rattle.std.specs.Int.{int_gap}
-use Rattle.std.proofs.Math.Nat.{one-le-pow, one-le-mul}
+use Rattle.std.proofs.Math.Nat.{one-le-pow, one-le-mul, mul-div_cancel}
 use Rattle.std.proofs.lemmas.Bool.{false≢true, cases_lt}
 use Rattle.std.proofs.lemmas.List.{get_or_past, length-map}
 use Rattle.std.proofs.lemmas.Nat.{le-div}
-use Rattle.std.proofs.lemmas.Option.{none-some, same_Some, slice_get_within, get_or_from_slice_get}
+use Rattle.std.proofs.lemmas.Option.{MatchOption-at_some, none-some, same_Some, slice_get_within, get_or_from_slice_get}
 use Rattle.fx_type.specs.declared.decimal.Decimal.{Decimal}
 use Rattle.dg_waves.specs.Rounds.{round}
 use Rattle.dg_waves.proofs.Waved.{round_at, length_after, length_round}
@@ -19,9 +19,12 @@ use Rattle.dg_model.specs.declared.kind.Kind.{Kind}
 use Rattle.dg_model.specs.declared.kind.Kind.TheVariants.{Inport, Outport, Ground, Delay, Mux, Demux, RateTransition, EnableTest, EnOut, Terminator}
 use Rattle.dg_model.specs.KindRow.{Inherited, IsPeriod}
 use Rattle.dg_model.specs.Library.{row_of, IsReadable}
-use Rattle.dg_model.specs.Periods.{Period, Periods, units_of, declared_period, least, multiple_of, known_or, known_at, finite, least_of, least_finite, are_unchanging, sources_of, taken_period, period_of_next, next_periods, first_inherited, first_period, first_periods, periods_after, or_one, period_at}
+use Rattle.dg_model.specs.Periods.{Period, Periods, units_of, declared_period, least, multiple_of, known_or, known_at, finite, least_of, least_finite, are_unchanging, sources_of, taken_period, period_of_next, next_periods, first_inherited, first_period, first_periods, periods_after, or_one, period_at, base_units, periods_of}
+use Rattle.dg_model.specs.Checked.{IsChecked}
+use Rattle.dg_model.specs.Faults.{AllKeep}
+use Rattle.dg_model.specs.Rate.{KeepsDeclared}
 use Rattle.dg_model.specs.Wired.{IsWired}
-use Rattle.hw_sched.specs.Laws.{PeriodsAreAbove, is_moving, MovingHavePeriods}
+use Rattle.hw_sched.specs.Laws.{PeriodsAreAbove, PeriodsAreShort, is_moving, MovingHavePeriods}
 use Rattle.hw_sched.proofs.Lists.{held}
 
 -- a number that is there is above 0
@@ -114,39 +117,64 @@ multiple_above diagram wired place block decimal at e = go (least (units_in diag
         let some : 0 < units_of decimal / base = omega (arith, times) in
         rw is some
 
+-- and at most 4096
+multiple_short : (diagram : Diagram) → IsWired diagram → (place : ℕ) (block : Block) (decimal : Decimal) → KeepsDeclared diagram place block → slice_get diagram.blocks place ≡ Some block → declared_period block.period ≡ Some decimal → multiple_of diagram decimal ≤ 4096
+multiple_short diagram wired place block decimal keeps at e =
+    go (least (units_in diagram.blocks)) refl (all_above diagram.blocks (readable_at diagram wired)) (units_low diagram.blocks place block decimal at e) (MatchOption-at_some ⊤ (λ (d : Decimal). (times : ℕ) × (times ≤ 4096) × (units_of d ≡ times * base_units diagram)) decimal e keeps)
+  where
+    go : (o : Option ℕ) → least (units_in diagram.blocks) ≡ o → IsAbove o → IsLow (units_of decimal) o → (times : ℕ) × (times ≤ 4096) × (units_of decimal ≡ times * base_units diagram) → multiple_of diagram decimal ≤ 4096
+    go None is above low times = absurd low
+    go (Some base) is above low times =
+        let unit : base_units diagram ≡ base = rw is refl in
+        let some : 0 < base_units diagram = omega (arith, unit, above) in
+        let count : units_of decimal / base_units diagram ≡ times.0 = ap (λ (n : ℕ). n / base_units diagram) times.2 ∙ mul-div_cancel times.0 some in
+        let few = times.1 in
+        omega (arith, count, few)
+
 -- ---- a round
 
-positive_of : (a b : Option ℕ) → IsAbove a → IsAbove b → IsAbove (least_of a b)
+-- a number that is there is 1 to 4096
+abbrev IsShort : Option ℕ → Type 0
+IsShort None = ⊤
+IsShort (Some n) = (0 < n) × (n ≤ 4096)
+
+positive_of : (a b : Option ℕ) → IsShort a → IsShort b → IsShort (least_of a b)
 positive_of None b h k = k
 positive_of (Some x) None h k = h
-positive_of (Some x) (Some y) h k = let both : 0 < min x y = omega (arith, h, k) in both
+positive_of (Some x) (Some y) h k =
+    let low = h.0 in
+    let high = h.1 in
+    let other = k.0 in
+    let both : 0 < min x y = omega (arith, low, other) in
+    let few : min x y ≤ 4096 = omega (arith, high) in
+    (both, few)
 
-abbrev IsAboveAt : Option Period → Type 0
-IsAboveAt period = IsAbove (finite period)
+abbrev IsShortAt : Option Period → Type 0
+IsShortAt period = IsShort (finite period)
 
-least_known : (values : Periods) → ((place : ℕ) → IsAboveAt (known_at values place)) → (places : List ℕ) → IsAbove (least_finite (map (known_at values) places))
+least_known : (values : Periods) → ((place : ℕ) → IsShortAt (known_at values place)) → (places : List ℕ) → IsShort (least_finite (map (known_at values) places))
 least_known values all [] = tt
 least_known values all (place ∷ places) = positive_of (finite (known_at values place)) (least_finite (map (known_at values) places)) (all place) (least_known values all places)
 
-taken_above : (inherits : Inherited) (sources : Periods) (o : Option ℕ) → least_finite sources ≡ o → IsAbove o → IsAboveAt (taken_period inherits sources)
+taken_above : (inherits : Inherited) (sources : Periods) (o : Option ℕ) → least_finite sources ≡ o → IsShort o → IsShortAt (taken_period inherits sources)
 taken_above inherits sources (Some period) e above = rw e above
 taken_above Inherited.OfSources sources None e above = rw e (still (are_unchanging sources))
   where
-    still : (b : Bool) → IsAboveAt (if b then Some None else None)
+    still : (b : Bool) → IsShortAt (if b then Some None else None)
     still true = tt
     still false = tt
 taken_above Inherited.Moving sources None e above = rw e tt
 taken_above Inherited.Base sources None e above = rw e tt
 taken_above Inherited.Unchanging sources None e above = rw e tt
 
-next_above : (diagram : Diagram) (values : Periods) → ((place : ℕ) → IsAboveAt (known_at values place)) → (place : ℕ) → IsAboveAt (next_periods diagram values place)
+next_above : (diagram : Diagram) (values : Periods) → ((place : ℕ) → IsShortAt (known_at values place)) → (place : ℕ) → IsShortAt (next_periods diagram values place)
 next_above diagram values all place = known (known_at values place) (period_of_next diagram (slice_get diagram.blocks place) values place) (all place) (taken (slice_get diagram.blocks place))
   where
-    known : (x y : Option Period) → IsAboveAt x → IsAboveAt y → IsAboveAt (known_or x y)
+    known : (x y : Option Period) → IsShortAt x → IsShortAt y → IsShortAt (known_or x y)
     known None y h k = k
     known (Some x) y h k = h
 
-    taken : (o : Option Block) → IsAboveAt (period_of_next diagram o values place)
+    taken : (o : Option Block) → IsShortAt (period_of_next diagram o values place)
     taken None = tt
     taken (Some block) =
         taken_above (row_of block.kind).timing.inherits (map (known_at values) (sources_of diagram place block)) (least_finite (map (known_at values) (sources_of diagram place block))) refl
@@ -163,35 +191,41 @@ first_keeps P f [] place none all = none
 first_keeps P f (block ∷ blocks) zero none all = all block refl
 first_keeps P f (block ∷ blocks) (suc place) none all = first_keeps P f blocks place none all
 
-inherited_above : (inherits : Inherited) → IsAboveAt (first_inherited inherits)
+inherited_above : (inherits : Inherited) → IsShortAt (first_inherited inherits)
 inherited_above Inherited.OfSources = tt
 inherited_above Inherited.Moving = tt
-inherited_above Inherited.Base = let one : 0 < 1 = omega arith in one
+inherited_above Inherited.Base = let some : 0 < 1 = omega arith in let few : 1 ≤ 4096 = omega arith in (some, few)
 inherited_above Inherited.Unchanging = tt
 
-first_above : (diagram : Diagram) → IsWired diagram → (place : ℕ) → IsAboveAt (known_at (first_periods diagram) place)
-first_above diagram wired place = first_keeps IsAboveAt (λ (block : Block). first_period diagram block.kind block.period) diagram.blocks place tt (λ block at. by block at block.period refl)
+first_above : (diagram : Diagram) → IsWired diagram → AllKeep diagram (KeepsDeclared diagram) → (place : ℕ) → IsShortAt (known_at (first_periods diagram) place)
+first_above diagram wired keeps place = first_keeps IsShortAt (λ (block : Block). first_period diagram block.kind block.period) diagram.blocks place tt (λ block at. by block at block.period refl)
   where
-    by : (block : Block) → slice_get diagram.blocks place ≡ Some block → (period : PeriodSpec) → block.period ≡ period → IsAboveAt (first_period diagram block.kind period)
+    by : (block : Block) → slice_get diagram.blocks place ≡ Some block → (period : PeriodSpec) → block.period ≡ period → IsShortAt (first_period diagram block.kind period)
     by block at Inherit e = inherited_above (row_of block.kind).timing.inherits
     by block at NeverChanges e = tt
-    by block at (Every decimal) e = multiple_above diagram wired place block decimal at (ap declared_period e)
+    by block at (Every decimal) e = (multiple_above diagram wired place block decimal at (ap declared_period e), multiple_short diagram wired place block decimal (keeps place block at) at (ap declared_period e))
 
-rounds_above : (diagram : Diagram) → IsWired diagram → (n place : ℕ) → IsAboveAt (known_at (periods_after diagram n) place)
-rounds_above diagram wired zero place = first_above diagram wired place
-rounds_above diagram wired (suc n) place =
-    round_keeps IsAboveAt diagram (periods_after diagram n) place tt (next_above diagram (periods_after diagram n) (rounds_above diagram wired n) place)
+rounds_above : (diagram : Diagram) → IsWired diagram → AllKeep diagram (KeepsDeclared diagram) → (n place : ℕ) → IsShortAt (known_at (periods_after diagram n) place)
+rounds_above diagram wired keeps zero place = first_above diagram wired keeps place
+rounds_above diagram wired keeps (suc n) place =
+    round_keeps IsShortAt diagram (periods_after diagram n) place tt (next_above diagram (periods_after diagram n) (rounds_above diagram wired keeps n) place)
 
-settled_above : (values : Periods) (place period : ℕ) → IsAboveAt (known_at values place) → period_at (map or_one values) place ≡ Some period → 0 < period
+settled_above : (values : Periods) (place period : ℕ) → IsShortAt (known_at values place) → period_at (map or_one values) place ≡ Some period → (0 < period) × (period ≤ 4096)
 settled_above [] place period above e = absurd (none-some period e)
-settled_above (None ∷ values) zero period above e = let one = same_Some {A = ℕ} 1 period e in omega (arith, one)
+settled_above (None ∷ values) zero period above e = let one = same_Some {A = ℕ} 1 period e in (omega (arith, one), omega (arith, one))
 settled_above (Some None ∷ values) zero period above e = absurd (none-some period e)
-settled_above (Some (Some own) ∷ values) zero period above e = let same = same_Some own period e in omega (arith, same, above)
+settled_above (Some (Some own) ∷ values) zero period above e = let same = same_Some own period e in let low = above.0 in let high = above.1 in (omega (arith, same, low), omega (arith, same, high))
 settled_above (value ∷ values) (suc place) period above e = settled_above values place period above e
 
+within : (diagram : Diagram) (place period : ℕ) → IsChecked diagram → period_at (periods_of diagram) place ≡ Some period → (0 < period) × (period ≤ 4096)
+within diagram place period checked e =
+    settled_above (periods_after diagram (length diagram.blocks)) place period (rounds_above diagram checked.wired checked.rates.declared (length diagram.blocks) place) e
+
 pub periods_are_above : PeriodsAreAbove
-periods_are_above diagram place period checked e =
-    settled_above (periods_after diagram (length diagram.blocks)) place period (rounds_above diagram checked.wired (length diagram.blocks) place) e
+periods_are_above diagram place period checked e = (within diagram place period checked e).0
+
+pub periods_are_short : PeriodsAreShort
+periods_are_short diagram place period checked e = (within diagram place period checked e).1
 
 -- ---- blocks that move on
 

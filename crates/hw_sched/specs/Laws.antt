@@ -29,6 +29,10 @@ use Rattle.hw_sched.specs.Scheduled.{IsTimingOf, IsScheduled}
 abbrev pub PeriodsAreAbove : Type 0
 PeriodsAreAbove = (diagram : Diagram) (place period : ℕ) → IsChecked diagram → (attributes_of diagram).period_at place ≡ Some period → 0 < period
 
+-- and at most 4096
+abbrev pub PeriodsAreShort : Type 0
+PeriodsAreShort = (diagram : Diagram) (place period : ℕ) → IsChecked diagram → (attributes_of diagram).period_at place ≡ Some period → period ≤ 4096
+
 -- a block's values move on though its sources don't change
 abbrev pub is_moving : Inherited → Bool
 is_moving Inherited.OfSources = false

@@ -1,9 +1,10 @@
 // What the definitions together say. Each law is a function that does nothing.
-ghost use Rattle.hw_sched.specs.Laws.{PeriodsAreAbove, MovingHavePeriods, LinesAreEdges, ControlsAreEdges, EdgesJoinPeriods, UnfedAreReady, OperationsAreServed, OperationsHavePeriods, SlotsDiffer, UnitsAreThere, DepthsAreOne, NoneIntoRoots, RootsAreReady, ReadyFits, ReadyRises, OperandsAreReady, EdgesAreInTime};
+ghost use Rattle.hw_sched.specs.Laws.{PeriodsAreAbove, PeriodsAreShort, MovingHavePeriods, LinesAreEdges, ControlsAreEdges, EdgesJoinPeriods, UnfedAreReady, OperationsAreServed, OperationsHavePeriods, SlotsDiffer, UnitsAreThere, DepthsAreOne, NoneIntoRoots, RootsAreReady, ReadyFits, ReadyRises, OperandsAreReady, EdgesAreInTime};
 
-/// Every period is above 0, and a block whose values move on has one.
+/// Every period is above 0 and at most 4096, and a block whose values move on has one.
 pub fn periods_are_above()
     ensures above { PeriodsAreAbove }
+    ensures short { PeriodsAreShort }
     ensures moving { MovingHavePeriods }
 {}
 
