@@ -199,9 +199,11 @@ impl Narrow {
 
     /// The conversion of `v`, a number in the units that this was prepared for.
     pub fn convert(self, v: i64) -> i64
-        requires narrow { (frac : ℤ) × (to : FxType) × (mode : Rounding) × (saturate : Bool) × IsNarrow self frac to mode saturate }
+        requires narrow { (frac : ℤ) × (to : FxType) × (mode : Rounding) × (saturate : Bool)
+            × IsNarrow self frac to mode saturate }
         requires small { IsSmall (v *ℤ self.scale) }
-        ensures { (from to : FxType) (mode : Rounding) (saturate : Bool) → IsNarrow self (frac_of from) to mode saturate → Converts v from to mode saturate result }
+        ensures { (from to : FxType) (mode : Rounding) (saturate : Bool)
+            → IsNarrow self (frac_of from) to mode saturate → Converts v from to mode saturate result }
     {
         let scaled = v * self.scale;
         self.settled(shifted(scaled, self.down, self.bias_for(scaled), self.even))
@@ -231,7 +233,8 @@ impl Narrow {
     /// The same, of a number that is out of range: the end that is nearest, or the congruent number.
     fn outside(self, r: i64, end: i64) -> i64
         requires ends { (to : FxType) × (saturate : Bool) × HasEnds self to saturate }
-        ensures { (to : FxType) (saturate : Bool) → HasEnds self to saturate → Settles to true r end → Settles to saturate r result }
+        ensures { (to : FxType) (saturate : Bool) → HasEnds self to saturate
+            → Settles to true r end → Settles to saturate r result }
     {
         if self.saturate {
             end
