@@ -1,5 +1,6 @@
 //! Operations with everything worked out that depends on types alone.
-ghost use Rattle.dg_model.specs.Operation.{operation_of, CanPrepare, CanCarryOut, OpGives};
+ghost use Rattle.std.specs.Prelude.{IfSome};
+ghost use Rattle.dg_model.specs.Operation.{Operation, operation_of, CanPrepare, CanCarryOut, OpGives};
 ghost use Rattle.dg_prepared.specs.Prepared.{IsPrepared};
 
 use crate::carrying::{sum, switch};
@@ -42,25 +43,44 @@ impl Prepared {
         }
     }
 
+    /// What an operation for which this was prepared gives of these inputs, where nothing of its call
+    /// is needed for it.
+    #[inline(always)]
+    pub fn alone(&self, inputs: &[i128]) -> Option<i128>
+        requires { (operation : Operation) × IsPrepared self.now operation
+            × CanCarryOut operation inputs.now }
+        ensures { (operation : Operation) → IsPrepared self.now operation
+            → CanCarryOut operation inputs.now
+            → IfSome result (λ value. OpGives operation inputs.now value) }
+    {
+        match *self {
+            Prepared::Converted(narrow) => { Some(i128::from(narrow.convert(inputs[0] as i64))) }
+            Prepared::Times(narrow) => {
+                let product = (inputs[0] as i64) * (inputs[1] as i64);
+                Some(i128::from(narrow.convert(product)))
+            }
+            Prepared::Scaled(coefficient, narrow) => {
+                let scaled = (inputs[0] as i64) * coefficient;
+                Some(i128::from(narrow.convert(scaled)))
+            }
+            Prepared::Wide | Prepared::Summed(..) | Prepared::Chosen(_) => None,
+        }
+    }
+
     /// What the operation gives of these inputs.
     pub fn output(&self, call: &OpCall, inputs: &[i128]) -> i128
         requires prepared { IsPrepared self.now (operation_of call.now) }
         requires can { CanCarryOut (operation_of call.now) inputs.now }
         ensures { OpGives (operation_of call.now) inputs.now result }
     {
+        if let Some(value) = self.alone(inputs) {
+            return value;
+        }
         match *self {
-            Prepared::Wide => dg_blocks::output(call, inputs),
-            Prepared::Converted(narrow) => i128::from(narrow.convert(inputs[0] as i64)),
-            Prepared::Times(narrow) => {
-                let product = (inputs[0] as i64) * (inputs[1] as i64);
-                i128::from(narrow.convert(product))
-            }
-            Prepared::Scaled(coefficient, narrow) => {
-                let scaled = (inputs[0] as i64) * coefficient;
-                i128::from(narrow.convert(scaled))
-            }
             Prepared::Summed(frac, narrow) => sum(call, inputs, frac, narrow),
             Prepared::Chosen(narrow) => switch(call, inputs, narrow),
+            Prepared::Wide | Prepared::Converted(_) | Prepared::Times(_) | Prepared::Scaled(..) =>
+                dg_blocks::output(call, inputs),
         }
     }
 }

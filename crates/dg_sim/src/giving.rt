@@ -61,6 +61,20 @@ fn gather(row: &[i128], args: &[u32], inputs: &mut [i128])
     }
 }
 
+/// What an operation gives of these inputs. Its call is put together only where something asks for it.
+fn carried(program: &Program, work: Work, prepared: &Prepared, inputs: &[i128]) -> i128
+    requires types { work.first + work.count ≤ length program.now.types }
+    requires signs { work.first_sign + work.signs ≤ length program.now.signs }
+    requires ready { IsPrepared prepared.now (operation_at program.now work) }
+    requires can { CanCarryOut (operation_at program.now work) inputs.now }
+    ensures { OpGives (operation_at program.now work) inputs.now result }
+{
+    if let Some(value) = prepared.alone(inputs) {
+        return value;
+    }
+    prepared.output(&call_of(program, work), inputs)
+}
+
 /// What an operation gives.
 fn work(
     program: &Program,
@@ -82,8 +96,7 @@ fn work(
 {
     let (first, count) = (work.first as usize, work.count as usize);
     gather(row, &program.args.as_slice()[first..first + count], inputs);
-    let call = call_of(program, work);
-    prepared.output(&call, &inputs[..count])
+    carried(program, work, prepared, &inputs[..count])
 }
 
 /// Whether one of these cells is above 0.

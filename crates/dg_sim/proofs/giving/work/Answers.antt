@@ -1,8 +1,8 @@
-use Rattle.std.proofs.Common.{◌≡◌, ◌+◌, ◌-◌, ◌≤◌, ℕ, ℤ, List, map, take, drop, length, slice_range, subst, arith, length-drop}
+use Rattle.std.proofs.Common.{◌≡◌, ◌+◌, ◌-◌, ◌≤◌, ℕ, ℤ, List, map, take, drop, length, slice_range, arith, length-drop}
 use Rattle.std.specs.Int.{w128}
 use Rattle.std.proofs.lemmas.Int.{to_z-of_z}
 use Rattle.std.proofs.lemmas.List.{length-take-le}
-use Rattle.dg_model.specs.Operation.{Operation, OpGives}
+use Rattle.dg_model.specs.Operation.{OpGives}
 use Rattle.dg_sim.specs.Program.{part, value_at, operation_at}
 use Rattle.dg_sim.proofs.giving.work.Goals as goal
 
@@ -14,20 +14,16 @@ looked args first count look inputs within h =
     let size : length (take count (drop first args)) ≡ count = length-take-le count (drop first args) (omega (arith, length-drop first args)) in
     rw (e, size) at h
 
-pub output-requires-clause-prepared : goal.output-requires-clause-prepared
-output-requires-clause-prepared c = rw c.call_of-call.ensures c.requires.ready
-
-pub output-requires-clause-can : goal.output-requires-clause-can
-output-requires-clause-can c =
+pub carried-requires-clause-can : goal.carried-requires-clause-can
+carried-requires-clause-can c =
     let work = c.args.work in
     let values = looked c.as_slice.result.now work.first work.count (value_at c.args.row.now) c.gather.new.inputs (rw c.as_slice.ensures c.requires.args) c.gather.ensures in
-    rw (values, c.as_slice.ensures, c.call_of-call.ensures) c.requires.can
+    rw (values, c.as_slice.ensures) c.requires.can
 
 pub returns : goal.returns
 returns c =
     let work = c.args.work in
-    let e = to_z-of_z w128 c.output.result (record { sfits = c.output.type_inv }) in
+    let e = to_z-of_z w128 c.carried.result (record { sfits = c.carried.type_inv }) in
     let values = looked c.as_slice.result.now work.first work.count (value_at c.args.row.now) c.gather.new.inputs (rw c.as_slice.ensures c.requires.args) c.gather.ensures in
-    let given : OpGives (operation_at c.args.program.now work) (take work.count c.gather.new.inputs) c.output.result =
-    subst (λ (operation : Operation). OpGives operation (take work.count c.gather.new.inputs) c.output.result) c.call_of-call.ensures c.output.ensures in
+    let given : OpGives (operation_at c.args.program.now work) (take work.count c.gather.new.inputs) c.carried.result = c.carried.ensures in
     rw e (rw (values, c.as_slice.ensures) at given)
