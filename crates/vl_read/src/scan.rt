@@ -58,7 +58,7 @@ pub fn is(lexeme: &[u8], word: &str) -> bool
 }
 
 /// Of each byte, what it is outside of comments.
-const CLASSES: [ByteClass; 256] = [
+const CLASSES: &[ByteClass; 256] = &[
     OfNone, OfNone, OfNone, OfNone, OfNone, OfNone, OfNone, OfNone, OfNone, OfBlank, OfBlank,
     OfNone, OfBlank, OfBlank, OfNone, OfNone, OfNone, OfNone, OfNone, OfNone, OfNone, OfNone,
     OfNone, OfNone, OfNone, OfNone, OfNone, OfNone, OfNone, OfNone, OfNone, OfNone, OfBlank,
