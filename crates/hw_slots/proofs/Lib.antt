@@ -1,0 +1,3 @@
+mod Tallies
+mod Steps
+mod Totals

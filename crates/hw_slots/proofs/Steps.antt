@@ -1,0 +1,191 @@
+-- One operation more, in counts and in greatest numbers.
+use Rattle.std.proofs.Common.{◌≡◌, ℕ, zero, suc, ◌+◌, ◌<◌, ◌≤◌, Bool, true, false, cond, List, [], ◌∷◌, ◌++◌, length, map, take, refl, sym, ap, subst, ◌∙◌, inl, inr, length-append, arith}
+use Rattle.std.specs.Prelude.{slice_get, Option, Some, count_by, max, ◌&&◌, ◌==◌}
+use Rattle.std.proofs.lemmas.Bool.{eqb-true, ne_eqb, false≢true, and_parts, cases_lt}
+use Rattle.std.proofs.lemmas.List.{take_all}
+use Rattle.std.proofs.lemmas.List.Sums.{sum_by-cons}
+use Rattle.std.proofs.lemmas.Option.{none-some, same_Some}
+use Rattle.dg_model.specs.Widths.{greatest}
+use Rattle.hw_slots.specs.declared.operation.Operation.{Operation}
+use Rattle.hw_slots.specs.declared.tally.Rung.{Rung}
+use Rattle.hw_slots.specs.Slots.{shared_out, needed, level_after, turn_of, beside}
+use Rattle.hw_slots.specs.inner.Tally.{tally_at}
+use Rattle.hw_slots.specs.inner.Made.{AreCounts, AreTurns, AreWidths, AreLevels, AreMost}
+
+-- ---- lists
+
+counted : {A : Type 0} (p : A → Bool) (x : A) (xs : List A) → count_by p (x ∷ xs) ≡ cond (p x) 1 0 + count_by p xs
+counted p x xs = sum_by-cons (λ x. cond (p x) 1 0) x xs
+
+count_next : {A : Type 0} (p : A → Bool) (xs : List A) (i : ℕ) (x : A) → slice_get xs i ≡ Some x → count_by p (take (suc i) xs) ≡ count_by p (take i xs) + cond (p x) 1 0
+count_next p [] i x at = absurd (none-some x at)
+count_next {A} p (y ∷ xs) zero x at = let e : cond {A = ℕ} (p y) 1 0 ≡ cond (p x) 1 0 = ap (λ (a : A). cond {A = ℕ} (p a) 1 0) (same_Some y x at) in omega (arith, counted p y [], e)
+count_next p (y ∷ xs) (suc i) x at =
+    let more = count_next p xs i x at in
+    omega (arith, counted p y (take (suc i) xs), counted p y (take i xs), more)
+
+greatest_next : {A : Type 0} (f : A → ℕ) (xs : List A) (i : ℕ) (x : A) → slice_get xs i ≡ Some x → greatest (map f (take (suc i) xs)) ≡ max (greatest (map f (take i xs))) (f x)
+greatest_next f [] i x at = absurd (none-some x at)
+greatest_next f (y ∷ xs) zero x at = let e : f y ≡ f x = ap f (same_Some y x at) in omega (arith, e)
+greatest_next f (y ∷ xs) (suc i) x at = let more = greatest_next f xs i x at in omega (arith, more)
+
+pub greatest_at : {A : Type 0} (f : A → ℕ) (xs : List A) (k : ℕ) (x : A) → slice_get xs k ≡ Some x → f x ≤ greatest (map f xs)
+greatest_at f [] k x at = absurd (none-some x at)
+greatest_at f (y ∷ xs) zero x at = let e : f y ≡ f x = ap f (same_Some y x at) in omega (arith, e)
+greatest_at f (y ∷ xs) (suc k) x at = let more = greatest_at f xs k x at in omega (arith, more)
+
+next : (i : ℕ) → suc i ≡ i + 1
+next i = omega arith
+
+-- ---- what a tally says after one operation more
+
+-- a number that was raised by one where the test holds
+abbrev Puts : List (Rung × ℕ) → List (Rung × ℕ) → ℕ → ℕ → ℕ → Type 0
+Puts old new owner level number = (other later : ℕ) → tally_at new other later ≡ cond ((owner == other) && (level == later)) number (tally_at old other later)
+
+abbrev Raises : List (Rung × ℕ) → List (Rung × ℕ) → ℕ → ℕ → ℕ → Type 0
+Raises old new owner level number = Puts old new owner level (max (tally_at old owner level) number)
+
+put_one : (old : List (Rung × ℕ)) (owner level other later number : ℕ) (test : Bool) → ((owner == other) && (level == later)) ≡ test → number ≡ tally_at old owner level + 1 → cond test number (tally_at old other later) ≡ tally_at old other later + cond test 1 0
+put_one old owner level other later number true e is =
+    let parts = and_parts (owner == other) (level == later) e in
+    let a : owner ≡ other = eqb-true owner other parts.0 in
+    let b : level ≡ later = eqb-true level later parts.1 in
+    let same : tally_at old owner level ≡ tally_at old other later = ap (λ (n : ℕ). tally_at old n level) a ∙ ap (tally_at old other) b in
+    omega (arith, is, same)
+put_one old owner level other later number false e is = omega arith
+
+raise_one : (old : List (Rung × ℕ)) (owner level other later number : ℕ) (test : Bool) → ((owner == other) && (level == later)) ≡ test → cond test (max (tally_at old owner level) number) (tally_at old other later) ≡ max (tally_at old other later) (cond test number 0)
+raise_one old owner level other later number true e =
+    let parts = and_parts (owner == other) (level == later) e in
+    let a : owner ≡ other = eqb-true owner other parts.0 in
+    let b : level ≡ later = eqb-true level later parts.1 in
+    ap (λ (n : ℕ). max n number) (ap (λ (n : ℕ). tally_at old n level) a ∙ ap (tally_at old other) b)
+raise_one old owner level other later number false e = omega arith
+
+-- ---- counts and turns
+
+pub counts_none : (operations : List Operation) (tally : List (Rung × ℕ)) → tally ≡ [] → AreCounts (take 0 operations) tally
+counts_none operations tally none = subst (λ (entries : List (Rung × ℕ)). AreCounts (take 0 operations) entries) (sym none) (record { are = λ kind level. refl })
+
+pub counts_more : (operations : List Operation) (i : ℕ) (o : Operation) (count : ℕ) (old new : List (Rung × ℕ)) → slice_get operations i ≡ Some o → count ≡ tally_at old o.kind o.level + 1 → Puts old new o.kind o.level count → AreCounts (take i operations) old → AreCounts (take (i + 1) operations) new
+counts_more operations i o count old new at is puts before = subst (λ (n : ℕ). AreCounts (take n operations) new) (next i) (record {
+  are = λ kind level.
+      let step = count_next (λ (q : Operation). (q.kind == kind) && (q.level == level)) operations i o at in
+      puts kind level ∙ put_one old o.kind o.level kind level count ((o.kind == kind) && (o.level == level)) refl is
+      ∙ ap (λ (n : ℕ). n + cond ((o.kind == kind) && (o.level == level)) 1 0) (before.are kind level) ∙ sym step;
+})
+
+pub counts_end : (operations : List Operation) (i : ℕ) (tally : List (Rung × ℕ)) → length operations ≤ i → AreCounts (take i operations) tally → AreCounts operations tally
+counts_end operations i tally end counts = subst (λ (os : List Operation). AreCounts os tally) (take_all i operations end) counts
+
+pub turns_none : (operations : List Operation) (turns : List ℕ) → turns ≡ [] → AreTurns operations 0 turns
+turns_none operations turns none = subst (AreTurns operations 0) (sym none) (record { size = refl; are = λ number o below at. absurd (omega (arith, below)) })
+
+pushed_before : (xs : List ℕ) (x k y : ℕ) → slice_get xs k ≡ Some y → slice_get (xs ++ x ∷ []) k ≡ Some y
+pushed_before [] x k y at = absurd (none-some y at)
+pushed_before (z ∷ xs) x zero y at = at
+pushed_before (z ∷ xs) x (suc k) y at = pushed_before xs x k y at
+
+pushed_last : (xs : List ℕ) (x : ℕ) → slice_get (xs ++ x ∷ []) (length xs) ≡ Some x
+pushed_last [] x = refl
+pushed_last (z ∷ xs) x = pushed_last xs x
+
+pushed_same : (xs : List ℕ) (x k : ℕ) → k < length xs → slice_get (xs ++ x ∷ []) k ≡ slice_get xs k
+pushed_same [] x k below = absurd (omega (arith, below))
+pushed_same (z ∷ xs) x zero below = refl
+pushed_same (z ∷ xs) x (suc k) below = pushed_same xs x k (omega (arith, below))
+
+-- a list that says something of each of the first operations, and of one more
+pub grown : (Says : ℕ → Operation → Option ℕ → Type 0) (operations : List Operation) (i : ℕ) (o : Operation) (x : ℕ) (xs : List ℕ) → slice_get operations i ≡ Some o → length xs ≡ i
+    → ((number : ℕ) (q : Operation) → number < i → slice_get operations number ≡ Some q → Says number q (slice_get xs number)) → Says i o (Some x)
+    → (number : ℕ) (q : Operation) → number < i + 1 → slice_get operations number ≡ Some q → Says number q (slice_get (xs ++ x ∷ []) number)
+grown Says operations i o x xs at size before last number q below is =
+    elim (cases_lt number i) [
+      | inl less ↦ subst (Says number q) (sym (pushed_same xs x number (omega (arith, less, size)))) (before number q less is)
+      | inr past ↦
+          let e : i ≡ number = omega (arith, past, below) in
+          let one : o ≡ q = same_Some o q (sym at ∙ ap (slice_get operations) e ∙ is) in
+          let end : slice_get (xs ++ x ∷ []) i ≡ Some x = ap (slice_get (xs ++ x ∷ [])) (sym size) ∙ pushed_last xs x in
+          let there : Says i o (slice_get (xs ++ x ∷ []) i) = subst (Says i o) (sym end) last in
+          let moved : Says i q (slice_get (xs ++ x ∷ []) i) = subst (λ (p : Operation). Says i p (slice_get (xs ++ x ∷ []) i)) one there in
+          subst (λ (n : ℕ). Says n q (slice_get (xs ++ x ∷ []) n)) e moved
+    ]
+
+pub grown_size : (xs : List ℕ) (x i : ℕ) → length xs ≡ i → length (xs ++ x ∷ []) ≡ i + 1
+grown_size xs x i size = omega (arith, size, length-append xs (x ∷ []))
+
+pub turns_more : (operations : List Operation) (i : ℕ) (o : Operation) (turn : ℕ) (counts : List (Rung × ℕ)) (turns : List ℕ) → slice_get operations i ≡ Some o → turn ≡ tally_at counts o.kind o.level → AreCounts (take i operations) counts → AreTurns operations i turns → AreTurns operations (i + 1) (turns ++ turn ∷ [])
+turns_more operations i o turn counts turns at is counted before = record {
+  size = grown_size turns turn i before.size;
+  are = λ number q below there. grown (λ n p r. r ≡ Some (turn_of operations n p)) operations i o turn turns at before.size (λ n p less is. before.are n p less is) (ap Some (is ∙ counted.are o.kind o.level)) number q below there;
+}
+
+pub turns_end : (operations : List Operation) (i : ℕ) (turns : List ℕ) → i ≡ length operations → AreTurns operations i turns → AreTurns operations (length operations) turns
+turns_end operations i turns end made = subst (λ (n : ℕ). AreTurns operations n turns) end made
+
+-- ---- greatest numbers
+
+-- a tally has the greatest number of those that the first operations give, at each level of each owner
+pub record AreGreatest (operations : List Operation) (f : ℕ → ℕ → Operation → ℕ) (tally : List (Rung × ℕ)) : Type 0 where
+  pub are : (owner level : ℕ) → tally_at tally owner level ≡ greatest (map (f owner level) operations)
+
+pub greatest_none : (operations : List Operation) (f : ℕ → ℕ → Operation → ℕ) (tally : List (Rung × ℕ)) → tally ≡ [] → AreGreatest (take 0 operations) f tally
+greatest_none operations f tally none = subst (AreGreatest (take 0 operations) f) (sym none) (record { are = λ owner level. refl })
+
+pub greatest_more : (operations : List Operation) (f : ℕ → ℕ → Operation → ℕ) (i : ℕ) (o : Operation) (owner level number : ℕ) (old new : List (Rung × ℕ)) → slice_get operations i ≡ Some o
+    → ((other later : ℕ) → f other later o ≡ cond ((owner == other) && (level == later)) number 0) → Raises old new owner level number → AreGreatest (take i operations) f old → AreGreatest (take (i + 1) operations) f new
+greatest_more operations f i o owner level number old new at gives raises before = subst (λ (n : ℕ). AreGreatest (take n operations) f new) (next i) (record {
+  are = λ other later.
+      raises other later ∙ raise_one old owner level other later number ((owner == other) && (level == later)) refl
+      ∙ ap (λ (n : ℕ). max n (cond ((owner == other) && (level == later)) number 0)) (before.are other later)
+      ∙ ap (max (greatest (map (f other later) (take i operations)))) (sym (gives other later))
+      ∙ sym (greatest_next (f other later) operations i o at);
+})
+
+pub greatest_end : (operations : List Operation) (f : ℕ → ℕ → Operation → ℕ) (i : ℕ) (tally : List (Rung × ℕ)) → length operations ≤ i → AreGreatest (take i operations) f tally → AreGreatest operations f tally
+greatest_end operations f i tally end made = subst (λ (os : List Operation). AreGreatest os f tally) (take_all i operations end) made
+
+pub slots_given : (operations : List Operation) (multipliers : ℕ) (counts : List (Rung × ℕ)) (o : Operation) (count slots : ℕ) → AreCounts operations counts → count ≡ tally_at counts o.kind o.level → slots ≡ shared_out count multipliers
+    → (other later : ℕ) → needed operations multipliers other later o ≡ cond ((o.period == other) && (o.level == later)) slots 0
+slots_given operations multipliers counts o count slots counted is shared other later =
+    ap (λ (n : ℕ). cond ((o.period == other) && (o.level == later)) n 0) (ap (λ (n : ℕ). shared_out n multipliers) (sym (counted.are o.kind o.level)) ∙ ap (λ (n : ℕ). shared_out n multipliers) (sym is) ∙ sym shared)
+
+-- what is told of owners alone stands at level 0
+abbrev pub at_first : (ℕ → Operation → ℕ) → ℕ → ℕ → Operation → ℕ
+at_first f owner zero o = f owner o
+at_first f owner (suc level) o = 0
+
+first_given : (owner other number value : ℕ) → value ≡ cond (owner == other) number 0 → value ≡ cond ((owner == other) && (0 == 0)) number 0
+first_given owner other number value e = e ∙ go (owner == other)
+  where
+    go : (test : Bool) → cond test number 0 ≡ cond (test && (0 == 0)) number 0
+    go true = refl
+    go false = refl
+
+later_given : (owner other number level : ℕ) → 0 ≡ cond ((owner == other) && (0 == suc level)) number 0
+later_given owner other number level = go (owner == other) (0 == suc level) (ne_eqb 0 (suc level) (λ e. omega (arith, e)))
+  where
+    go : (test later : Bool) → later ≡ false → 0 ≡ cond (test && later) number 0
+    go true true e = absurd (false≢true (sym e))
+    go true false e = refl
+    go false later e = refl
+
+pub firsts_given : (f : ℕ → Operation → ℕ) (o : Operation) (owner number : ℕ) → ((other : ℕ) → f other o ≡ cond (owner == other) number 0) → (other later : ℕ) → at_first f other later o ≡ cond ((owner == other) && (0 == later)) number 0
+firsts_given f o owner number gives other zero = first_given owner other number (f other o) (gives other)
+firsts_given f o owner number gives other (suc later) = later_given owner other number later
+
+pub levels_given : (o : Operation) (after : ℕ) → after ≡ o.level + 1 → (other : ℕ) → level_after other o ≡ cond (o.period == other) after 0
+levels_given o after is other = ap (λ (n : ℕ). cond (o.period == other) n 0) (sym is)
+
+pub most_given : (operations : List Operation) (counts : List (Rung × ℕ)) (o : Operation) (count : ℕ) → AreCounts operations counts → count ≡ tally_at counts o.kind o.level → (other : ℕ) → beside operations other o ≡ cond (o.kind == other) count 0
+most_given operations counts o count counted is other = ap (λ (n : ℕ). cond (o.kind == other) n 0) (sym (counted.are o.kind o.level) ∙ sym is)
+
+pub are_widths : (operations : List Operation) (multipliers : ℕ) (tally : List (Rung × ℕ)) → AreGreatest operations (needed operations multipliers) tally → AreWidths operations multipliers tally
+are_widths operations multipliers tally made = record { are = made.are }
+
+pub are_levels : (operations : List Operation) (tally : List (Rung × ℕ)) → AreGreatest operations (at_first level_after) tally → AreLevels operations tally
+are_levels operations tally made = record { are = λ period. made.are period 0 }
+
+pub are_most : (operations : List Operation) (tally : List (Rung × ℕ)) → AreGreatest operations (at_first (beside operations)) tally → AreMost operations tally
+are_most operations tally made = record { are = λ kind. made.are kind 0 }

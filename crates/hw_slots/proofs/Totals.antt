@@ -1,0 +1,202 @@
+-- Sums of widths and of multipliers, level by level and kind by kind.
+use Rattle.std.proofs.Common.{◌≡◌, ℕ, zero, suc, ◌+◌, ◌/◌, ◌%◌, ◌<◌, ◌≤◌, cond, min, List, [], ◌∷◌, ◌++◌, length, map, refl, sym, ap, subst, ◌∙◌, inl, inr, arith}
+use Rattle.std.specs.Prelude.{slice_get, Some, ◌&&◌, ◌==◌}
+use Rattle.std.specs.List.{sum}
+use Rattle.std.proofs.lemmas.Bool.{cond-true, cond-false, cases_lt, eq-eqb, ne_eqb, and_from, and_left, and_right}
+use Rattle.std.proofs.lemmas.List.Sums.{sum_by-cons}
+use Rattle.std.proofs.lemmas.Option.{same_Some, slice_get_within}
+use Rattle.dg_waves.specs.Rounds.{numbers_from}
+use Rattle.hw_slots.specs.declared.operation.Operation.{Operation}
+use Rattle.hw_slots.specs.declared.operation.Span.{Span}
+use Rattle.hw_slots.specs.declared.tally.Rung.{Rung}
+use Rattle.hw_slots.specs.Slots.{level_width, level_after, levels_of, base_slot, need_of, turn_of, slot_of, units_of_kind, first_unit, unit_of}
+use Rattle.hw_slots.specs.Answer.{AreStarts, AreUnits, HasSlots, IsShort}
+use Rattle.hw_slots.specs.inner.Tally.{tally_at}
+use Rattle.hw_slots.specs.inner.Made.{AreWidths, AreLevels, AreMost, AreTurns, AreBases, AreBasesBy, AreFirst, AreFirstBy, AreLaid, IsElsewhere, base_by, first_by}
+use Rattle.hw_slots.proofs.Steps.{greatest_at, grown, grown_size}
+
+-- ---- sums over numbers
+
+sum-cons : (x : ℕ) (xs : List ℕ) → sum (x ∷ xs) ≡ x + sum xs
+sum-cons x xs = sum_by-cons (λ (n : ℕ). n) x xs
+
+sum_next : (f : ℕ → ℕ) (from n : ℕ) → sum (map f (numbers_from from (suc n))) ≡ sum (map f (numbers_from from n)) + f (from + n)
+sum_next f from zero = let e : f from ≡ f (from + 0) = ap f (omega arith) in omega (arith, sum-cons (f from) [], e)
+sum_next f from (suc n) =
+    let e : f (suc from + n) ≡ f (from + suc n) = ap f (omega arith) in
+    let more = sum_next f (suc from) n in
+    omega (arith, e, more, sum-cons (f from) (map f (numbers_from (suc from) (suc n))), sum-cons (f from) (map f (numbers_from (suc from) n)))
+
+sum_below_next : (f : ℕ → ℕ) (n : ℕ) → sum (map f (numbers_from 0 (n + 1))) ≡ sum (map f (numbers_from 0 n)) + f n
+sum_below_next f n =
+    let e : f (0 + n) ≡ f n = ap f (omega arith) in
+    let one : suc n ≡ n + 1 = omega arith in
+    let same = ap (λ (k : ℕ). sum (map f (numbers_from 0 k))) one in
+    omega (arith, e, same, sum_next f 0 n)
+
+sums_same : (f g : ℕ → ℕ) (from n : ℕ) → ((k : ℕ) → f k ≡ g k) → sum (map f (numbers_from from n)) ≡ sum (map g (numbers_from from n))
+sums_same f g from zero same = refl
+sums_same f g from (suc n) same =
+    let more = sums_same f g (suc from) n same in
+    let one = same from in
+    omega (arith, more, one, sum-cons (f from) (map f (numbers_from (suc from) n)), sum-cons (g from) (map g (numbers_from (suc from) n)))
+
+-- ---- the levels of a period
+
+apart : (owner other level later number before : ℕ) → (level ≡ later → ⊥) → cond ((owner == other) && (level == later)) number before ≡ before
+apart owner other level later number before differ = cond-false ((owner == other) && (level == later)) number before (and_right (owner == other) (level == later) (ne_eqb level later differ))
+
+elsewhere : (owner other level later number before : ℕ) → (owner ≡ other → ⊥) → cond ((owner == other) && (level == later)) number before ≡ before
+elsewhere owner other level later number before differ = cond-false ((owner == other) && (level == later)) number before (and_left (owner == other) (level == later) (ne_eqb owner other differ))
+
+there : (owner level number before : ℕ) → cond ((owner == owner) && (level == level)) number before ≡ number
+there owner level number before = cond-true ((owner == owner) && (level == level)) number before (and_from (owner == owner) (level == level) (eq-eqb owner owner refl) (eq-eqb level level refl))
+
+abbrev Puts : List (Rung × ℕ) → List (Rung × ℕ) → ℕ → ℕ → ℕ → Type 0
+Puts old new owner level number = (other later : ℕ) → tally_at new other later ≡ cond ((owner == other) && (level == later)) number (tally_at old other later)
+
+pub bases_none : (widths tally : List (Rung × ℕ)) (start period : ℕ) → AreBasesBy widths start period 0 tally
+bases_none widths tally start period = record { are = λ level below. absurd (omega (arith, below)) }
+
+pub base_none : (widths : List (Rung × ℕ)) (start period : ℕ) → start ≡ base_by widths start period 0
+base_none widths start period = omega arith
+
+pub base_more : (widths : List (Rung × ℕ)) (start period level slot width after : ℕ) → slot ≡ base_by widths start period level → width ≡ tally_at widths period level → after ≡ slot + width → after ≡ base_by widths start period (level + 1)
+base_more widths start period level slot width after is wide sum = omega (arith, is, wide, sum, sum_below_next (tally_at widths period) level)
+
+pub bases_more : (widths old new : List (Rung × ℕ)) (start period level slot : ℕ) → slot ≡ base_by widths start period level → Puts old new period level slot → AreBasesBy widths start period level old → AreBasesBy widths start period (level + 1) new
+bases_more widths old new start period level slot is puts before = record {
+  are = λ other below.
+      elim (cases_lt other level) [
+        | inl less ↦ puts period other ∙ apart period period level other slot (tally_at old period other) (λ e. omega (arith, e, less)) ∙ before.are other less
+        | inr past ↦
+            let e : level ≡ other = omega (arith, past, below) in
+            subst (λ (n : ℕ). tally_at new period n ≡ base_by widths start period n) e (puts period level ∙ there period level slot (tally_at old period level) ∙ is)
+      ];
+}
+
+pub elsewhere_none : (period : ℕ) (tally : List (Rung × ℕ)) → IsElsewhere period tally tally
+elsewhere_none period tally = record { same = λ other level below. refl }
+
+pub elsewhere_more : (period level slot : ℕ) (first old new : List (Rung × ℕ)) → Puts old new period level slot → IsElsewhere period first old → IsElsewhere period first new
+elsewhere_more period level slot first old new puts before = record {
+  same = λ other later below.
+      puts other later ∙ elsewhere period other level later slot (tally_at old other later) (λ e. omega (arith, e, below)) ∙ before.same other later below;
+}
+
+-- ---- all periods
+
+based : (operations : List Operation) (multipliers : ℕ) (widths : List (Rung × ℕ)) (start period level : ℕ) → AreWidths operations multipliers widths → base_by widths start period level ≡ base_slot operations multipliers start period level
+based operations multipliers widths start period level wide =
+    let same = sums_same (tally_at widths period) (level_width operations multipliers period) 0 level (wide.are period) in
+    omega (arith, same)
+
+pub needs : (operations : List Operation) (multipliers : ℕ) (widths levels : List (Rung × ℕ)) (start period count need : ℕ) → AreWidths operations multipliers widths → AreLevels operations levels → count ≡ tally_at levels period 0 → need ≡ base_by widths start period count → need ≡ need_of operations multipliers start period
+needs operations multipliers widths levels start period count need wide many is sum =
+    sum ∙ based operations multipliers widths start period count wide ∙ ap (base_slot operations multipliers start period) (is ∙ many.are period)
+
+pub laid_none : (operations : List Operation) (multipliers : ℕ) (periods : List Span) (tally : List (Rung × ℕ)) → AreLaid operations multipliers periods 0 tally
+laid_none operations multipliers periods tally = record { bases = λ period span below at. absurd (omega (arith, below)); keeps = λ period span below at. absurd (omega (arith, below)) }
+
+pub laid_more : (operations : List Operation) (multipliers : ℕ) (periods : List Span) (widths levels old new : List (Rung × ℕ)) (place : ℕ) (span : Span) (count need : ℕ) → slice_get periods place ≡ Some span
+    → AreWidths operations multipliers widths → AreLevels operations levels → count ≡ tally_at levels place 0 → need ≡ base_by widths span.start place count → AreBasesBy widths span.start place count new → IsElsewhere place old new → need ≤ span.have
+    → AreLaid operations multipliers periods place old → AreLaid operations multipliers periods (place + 1) new
+laid_more operations multipliers periods widths levels old new place span count need at wide many is sum made other keeps before = record {
+  bases = λ period one below there. elim (cases_lt period place) [
+    | inl less ↦ record { are = λ level low. other.same period level less ∙ (before.bases period one less there).are level low }
+    | inr past ↦
+        let e : place ≡ period = omega (arith, past, below) in
+        let same : span ≡ one = same_Some span one (sym at ∙ ap (slice_get periods) e ∙ there) in
+        subst (λ (p : ℕ). AreBases operations multipliers one.start p (levels_of operations p) new) e
+        (subst (λ (s : Span). AreBases operations multipliers s.start place (levels_of operations place) new) same
+        (record { are = λ level low. let c : count ≡ levels_of operations place = is ∙ many.are place in made.are level (omega (arith, low, c)) ∙ based operations multipliers widths span.start place level wide }))
+  ];
+  keeps = λ period one below there. elim (cases_lt period place) [
+    | inl less ↦ before.keeps period one less there
+    | inr past ↦
+        let e : place ≡ period = omega (arith, past, below) in
+        let same : span ≡ one = same_Some span one (sym at ∙ ap (slice_get periods) e ∙ there) in
+        subst (λ (p : ℕ). need_of operations multipliers one.start p ≤ one.have) e
+        (subst (λ (s : Span). need_of operations multipliers s.start place ≤ s.have) same
+        (let all = needs operations multipliers widths levels span.start place count need wide many is sum in omega (arith, keeps, all)))
+  ];
+}
+
+pub is_short : (operations : List Operation) (multipliers : ℕ) (periods : List Span) (widths levels old : List (Rung × ℕ)) (place : ℕ) (span : Span) (count need : ℕ) → slice_get periods place ≡ Some span
+    → AreWidths operations multipliers widths → AreLevels operations levels → count ≡ tally_at levels place 0 → need ≡ base_by widths span.start place count → span.have < need → AreLaid operations multipliers periods place old → IsShort operations multipliers periods place need span.have
+is_short operations multipliers periods widths levels old place span count need at wide many is sum short before = record {
+  span = span;
+  at = at;
+  needs = needs operations multipliers widths levels span.start place count need wide many is sum;
+  has = refl;
+  short = short;
+  first = λ other below one there. before.keeps other one below there;
+}
+
+pub laid_end : (operations : List Operation) (multipliers : ℕ) (periods : List Span) (tally : List (Rung × ℕ)) → AreLaid operations multipliers periods (length periods) tally → (period : ℕ) → HasSlots operations multipliers periods period
+laid_end operations multipliers periods tally made period span at = made.keeps period span (slice_get_within periods period span at) at
+
+-- ---- the multipliers of kinds
+
+pub firsts_none : (most : List (Rung × ℕ)) (multipliers : ℕ) (tally : List (Rung × ℕ)) → AreFirstBy most multipliers 0 tally
+firsts_none most multipliers tally = record { are = λ kind below. absurd (omega (arith, below)) }
+
+pub first_more : (most : List (Rung × ℕ)) (multipliers kind first units after : ℕ) → first ≡ first_by most multipliers kind → units ≡ min multipliers (tally_at most kind 0) → after ≡ first + units → after ≡ first_by most multipliers (kind + 1)
+first_more most multipliers kind first units after is one sum = omega (arith, is, one, sum, sum_below_next (λ (other : ℕ). min multipliers (tally_at most other 0)) kind)
+
+pub firsts_more : (most old new : List (Rung × ℕ)) (multipliers kind first : ℕ) → first ≡ first_by most multipliers kind → Puts old new kind 0 first → AreFirstBy most multipliers kind old → AreFirstBy most multipliers (kind + 1) new
+firsts_more most old new multipliers kind first is puts before = record {
+  are = λ other below.
+      elim (cases_lt other kind) [
+        | inl less ↦ puts other 0 ∙ elsewhere kind other 0 0 first (tally_at old other 0) (λ e. omega (arith, e, less)) ∙ before.are other less
+        | inr past ↦
+            let e : kind ≡ other = omega (arith, past, below) in
+            subst (λ (n : ℕ). tally_at new n 0 ≡ first_by most multipliers n) e (puts kind 0 ∙ there kind 0 first (tally_at old kind 0) ∙ is)
+      ];
+}
+
+pub firsts_end : (operations : List Operation) (multipliers kinds : ℕ) (most tally : List (Rung × ℕ)) → AreMost operations most → AreFirstBy most multipliers kinds tally → AreFirst operations multipliers kinds tally
+firsts_end operations multipliers kinds most tally many made = record {
+  are = λ kind below.
+      made.are kind below ∙ sums_same (λ (other : ℕ). min multipliers (tally_at most other 0)) (units_of_kind operations multipliers) 0 kind (λ k. ap (min multipliers) (many.are k));
+}
+
+-- ---- the operations
+
+pub starts_none : (operations : List Operation) (multipliers : ℕ) (periods : List Span) (starts : List ℕ) → starts ≡ [] → AreStarts operations multipliers periods 0 starts
+starts_none operations multipliers periods starts none = subst (AreStarts operations multipliers periods 0) (sym none) (record { size = refl; are = λ number o span below at is. absurd (omega (arith, below)) })
+
+level_below : (operations : List Operation) (i : ℕ) (o : Operation) → slice_get operations i ≡ Some o → o.level < levels_of operations o.period
+level_below operations i o at =
+    let most = greatest_at (level_after o.period) operations i o at in
+    let e : level_after o.period o ≡ o.level + 1 = cond-true (o.period == o.period) (o.level + 1) 0 (eq-eqb o.period o.period refl) in
+    omega (arith, most, e)
+
+pub starts_more : (operations : List Operation) (multipliers : ℕ) (periods : List Span) (bases : List (Rung × ℕ)) (turns starts : List ℕ) (i : ℕ) (o : Operation) (turn base start : ℕ) → slice_get operations i ≡ Some o → slice_get turns i ≡ Some turn → base ≡ tally_at bases o.period o.level → start ≡ base + turn / multipliers
+    → AreTurns operations (length operations) turns → AreLaid operations multipliers periods (length periods) bases → AreStarts operations multipliers periods i starts → AreStarts operations multipliers periods (i + 1) (starts ++ start ∷ [])
+starts_more operations multipliers periods bases turns starts i o turn base start at placed is sum turned laid before = record {
+  size = grown_size starts start i before.size;
+  are = λ number q span below there has. grown (λ n p r. (s : Span) → slice_get periods p.period ≡ Some s → r ≡ Some (slot_of operations multipliers s.start n p)) operations i o start starts at before.size (λ n p less here s known. before.are n p s less here known)
+      (λ s known.
+      let t : turn ≡ turn_of operations i o = same_Some turn (turn_of operations i o) (sym placed ∙ turned.are i o (slice_get_within operations i o at) at) in
+      let b : base ≡ base_slot operations multipliers s.start o.period o.level = is ∙ (laid.bases o.period s (slice_get_within periods o.period s known) known).are o.level (level_below operations i o at) in
+      let d : turn / multipliers ≡ turn_of operations i o / multipliers = ap (λ (n : ℕ). n / multipliers) t in
+      ap Some (sum ∙ ap (λ (n : ℕ). n + turn / multipliers) b ∙ ap (λ (n : ℕ). base_slot operations multipliers s.start o.period o.level + n) d))
+      number q below there span has;
+}
+
+pub units_none : (operations : List Operation) (multipliers kinds : ℕ) (units : List ℕ) → units ≡ [] → AreUnits operations multipliers kinds 0 units
+units_none operations multipliers kinds units none = subst (AreUnits operations multipliers kinds 0) (sym none) (record { size = refl; are = λ number o below at is. absurd (omega (arith, below)) })
+
+pub units_more : (operations : List Operation) (multipliers kinds : ℕ) (firsts : List (Rung × ℕ)) (turns units : List ℕ) (i : ℕ) (o : Operation) (turn first unit : ℕ) → slice_get operations i ≡ Some o → slice_get turns i ≡ Some turn → first ≡ tally_at firsts o.kind 0 → unit ≡ first + turn % multipliers
+    → AreTurns operations (length operations) turns → AreFirst operations multipliers kinds firsts → AreUnits operations multipliers kinds i units → AreUnits operations multipliers kinds (i + 1) (units ++ unit ∷ [])
+units_more operations multipliers kinds firsts turns units i o turn first unit at placed is sum turned begun before = record {
+  size = grown_size units unit i before.size;
+  are = λ number q below there has. grown (λ n p r. p.kind < kinds → r ≡ Some (unit_of operations multipliers n p)) operations i o unit units at before.size (λ n p less here low. before.are n p less here low)
+      (λ low.
+      let t : turn ≡ turn_of operations i o = same_Some turn (turn_of operations i o) (sym placed ∙ turned.are i o (slice_get_within operations i o at) at) in
+      let b : first ≡ first_unit operations multipliers o.kind = is ∙ begun.are o.kind low in
+      let d : turn % multipliers ≡ turn_of operations i o % multipliers = ap (λ (n : ℕ). n % multipliers) t in
+      ap Some (sum ∙ ap (λ (n : ℕ). n + turn % multipliers) b ∙ ap (λ (n : ℕ). first_unit operations multipliers o.kind + n) d))
+      number q below there has;
+}

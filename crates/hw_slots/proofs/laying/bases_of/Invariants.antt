@@ -1,0 +1,5 @@
+use Rattle.hw_slots.specs.inner.Made.{AreLaid}
+use Rattle.hw_slots.proofs.laying.bases_of.Given as goal
+
+abbrev pub invariant-loop-place : goal.invariant-loop-place
+invariant-loop-place l = AreLaid l.operations l.multipliers l.periods l.place l.bases

@@ -1,0 +1,9 @@
+use Rattle.hw_slots.proofs.Totals.{laid_end}
+use Rattle.hw_slots.proofs.slots.slots_of.Goals as goal
+
+pub returns-clause-slots : goal.returns-clause-slots
+returns-clause-slots c = record {
+  keeps = laid_end c.args.operations.now c.args.multipliers c.args.periods.now c.in_ok-bases.bases c.in_ok-bases.ensures.laid;
+  starts = c.in_ok-starts.ensures;
+  units = c.in_ok-units.ensures;
+}

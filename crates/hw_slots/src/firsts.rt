@@ -1,0 +1,32 @@
+ghost use Rattle.std.specs.Prelude.{◌≡◌, IfOk, min};
+ghost use Rattle.hw_slots.specs.inner.Made.{AreFirstBy};
+
+use crate::tally::{Tally, total};
+use fx_io::OutOfMemory;
+use std::alloc::Global;
+
+/// The lesser of two numbers.
+fn lesser(number: u64, other: u64) -> u64
+    ensures { result ≡ min number other }
+{
+    if number < other { number } else { other }
+}
+
+/// The number of the first multiplier of each kind below `kinds`, by how many a kind can use.
+pub fn firsts_of(
+    alloc: Global,
+    most: &Tally,
+    multipliers: u64,
+    kinds: u64,
+) -> Result<Tally, OutOfMemory>
+    ensures { IfOk result (λ firsts. AreFirstBy most.now multipliers kinds firsts) }
+{
+    let mut firsts = Tally::new(alloc);
+    let mut first = 0u64;
+    for kind in 0..kinds {
+        firsts.put(kind, 0, first)?;
+        let units = lesser(multipliers, most.get(kind, 0));
+        first = total(first, units)?;
+    }
+    Ok(firsts)
+}
