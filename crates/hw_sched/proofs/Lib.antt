@@ -15,3 +15,4 @@ mod Items
 mod Worked
 mod Chaining
 mod Models
+mod Numbered

@@ -90,7 +90,7 @@ module _ (diagram : Diagram) (attributes : Attributes) (plan : Resolved) (timing
           let one = cond-true {A = ℕ} (is_same_kind (kind_at o) (kind_at o)) 1 0 (own_kind (kind_at o)) in
           omega (arith, push, one)
 
-  own_listed : (operations : List Operation) (kinds : List OperationKind) (number : ℕ) (o : Operation) → slice_get operations number ≡ Some o → HasKind (kinds_of diagram attributes timing kinds operations) (kind_at o)
+  pub own_listed : (operations : List Operation) (kinds : List OperationKind) (number : ℕ) (o : Operation) → slice_get operations number ≡ Some o → HasKind (kinds_of diagram attributes timing kinds operations) (kind_at o)
   own_listed [] kinds number o at = absurd (none-some o at)
   own_listed (x ∷ operations) kinds zero o at =
       subst (λ (q : Operation). HasKind (kinds_of diagram attributes timing kinds (x ∷ operations)) (kind_at q)) (same_Some x o at)

@@ -1,4 +1,5 @@
 // What the definitions together say. Each law is a function that does nothing.
+ghost use Rattle.hw_sched.specs.Numbered.{OperationsAreNumbered};
 ghost use Rattle.hw_sched.specs.Laws.{PeriodsAreAbove, PeriodsAreShort, MovingHavePeriods, LinesAreEdges, ControlsAreEdges, EdgesJoinPeriods, UnfedAreReady, OperationsAreServed, OperationsHavePeriods, SlotsDiffer, UnitsAreThere, DepthsAreOne, NoneIntoRoots, RootsAreReady, ReadyFits, ReadyRises, OperandsAreReady, EdgesAreInTime};
 
 /// Every period is above 0 and at most 4096, and a block whose values move on has one.
@@ -64,4 +65,10 @@ pub fn ready_rises()
 /// The end of each edge is late enough for the registers of its source, and of its own.
 pub fn edges_are_in_time()
     ensures { EdgesAreInTime }
+{}
+
+/// Slots and multipliers are those of `hw_slots`, where each kind goes by its number and each period
+/// by itself.
+pub fn operations_are_numbered()
+    ensures { OperationsAreNumbered }
 {}

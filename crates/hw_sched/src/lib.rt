@@ -16,8 +16,8 @@ mod slots;
 
 pub use deepening::depths;
 pub use laws::{
-    depths_are_one, edges_are_in_time, edges_join_periods, lines_are_edges, operations_are_served,
-    periods_are_above, ready_fits, ready_rises, root_inputs_are_first, slots_differ,
-    unfed_are_ready,
+    depths_are_one, edges_are_in_time, edges_join_periods, lines_are_edges,
+    operations_are_numbered, operations_are_served, periods_are_above, ready_fits, ready_rises,
+    root_inputs_are_first, slots_differ, unfed_are_ready,
 };
 pub use slots::{BudgetFault, Slots};
