@@ -1,8 +1,8 @@
 -- An order that grows by one net.
-use Rattle.std.proofs.Common.{◌≡◌, ◌≢◌, ℕ, zero, suc, ◌+◌, ◌<◌, ◌≤◌, ◌⊎◌, inl, inr, List, [], ◌∷◌, ◌++◌, length, Option, None, Some, IsSome, true, false, slice_get, slice_index, slice_index_or, get_or, set, All, ap, sym, ◌∙◌, subst, arith, refl, length-append, length-set}
+use Rattle.std.proofs.Common.{◌≡◌, ◌≢◌, ℕ, zero, suc, ◌+◌, ◌<◌, ◌≤◌, ◌⊎◌, inl, inr, List, [], ◌∷◌, ◌++◌, length, Option, None, Some, IsSome, is_some, true, false, slice_get, slice_index, slice_index_or, get_or, set, All, ap, sym, ◌∙◌, subst, arith, refl, length-append, length-set}
 use Rattle.std.proofs.lemmas.Bool.{cases_lt, cases_eq}
 use Rattle.std.proofs.lemmas.List.Elements.{All-cons, All-tail}
-use Rattle.std.proofs.lemmas.List.{get_or-set_same, get_or-set_other, get_or_append_left}
+use Rattle.std.proofs.lemmas.List.{get_or-set_same, get_or-set_other, get_or_append_left, get_or_default}
 use Rattle.std.proofs.Math.Seq.{get_or-append_seam}
 use Rattle.std.proofs.lemmas.Option.{slice_get_read, slice_get_within, get_or_from_slice_get}
 use Rattle.hw_net.specs.declared.netlist.Net.{Net}
@@ -226,6 +226,12 @@ module _ (nets : List Net) (order : List ℕ) (ranks : List (Option ℕ)) (growi
           rw (ap rank_or one.1, ap rank_or own.is) one.2;
     };
   }
+
+  pub all-some : All IsSome ranks
+  all-some k d within =
+      let is = all-placed k (omega (arith, growing.size)) in
+      let e : slice_index_or ranks k d ≡ Some is.rank = get_or_default ranks k d None within ∙ is.is in
+      ap is_some e
 
 -- where all nets have places, none reaches itself in a clock
 pub all-ranked : (nets : List Net) (order : List ℕ) (ranks : List (Option ℕ)) → IsGrowing nets order ranks → All IsSome ranks → (rank : ℕ → ℕ) × IsRanked nets rank

@@ -1,9 +1,10 @@
--- A word that has the products of the ends of two words has those of all their numbers.
-use Rattle.std.proofs.Common.{◌≡◌, ℕ, zero, suc, ◌+◌, ◌*◌, ◌≤◌, Bool, ℤ, pos, negsuc, ◌*ℤ◌, ◌≤ℤ◌, neg_ℤ, ap, sym, ◌∙◌, arith, mul-le-mul_right, List, Some, slice_get, subst}
+-- A word has the products of the numbers of two words exactly where it has those of their ends.
+use Rattle.std.proofs.Common.{◌≡◌, ℕ, suc, ◌+◌, ◌*◌, ◌≤◌, Bool, ℤ, pos, negsuc, ◌*ℤ◌, ◌≤ℤ◌, sym, ◌∙◌, arith, mul-le-mul_right, ◌-◌, ◌^◌, pow_mono, true, false, FitsSigned, List, Some, slice_get, subst}
+use Rattle.std.specs.Int.{w128}
 use Rattle.std.proofs.lemmas.Int.{ints}
 use Rattle.std.proofs.Math.IntN.{*ℤ_comm, *ℤ-negsuc}
 use borrow.Author.Differences.{up, down, le_out}
-use Rattle.fx_num.specs.Word.{InWord, word_lowest, word_highest}
+use Rattle.fx_num.specs.Word.{IsWord, InWord, word_lowest, word_highest}
 use Rattle.hw_net.specs.declared.netlist.Net.{Net}
 use Rattle.hw_net.specs.Netlist.{HoldsProducts}
 
@@ -52,3 +53,36 @@ products-hold nets left right width signed one other there also p q r s = record
       product-in-word width signed (word_lowest one.width one.signed) (word_highest one.width one.signed) (word_lowest other.width other.signed) (word_highest other.width other.signed)
       p q r s x y first.low first.high second.low second.high;
 }
+
+-- a number of a word has 128 bits
+pub word-fits : (width : ℕ) (signed : Bool) (v : ℤ) → IsWord width signed → InWord width signed v → FitsSigned w128 v
+word-fits width true v word is =
+    let few : width - 1 ≤ 127 = omega (arith, word.1) in
+    let most : 2 ^ (width - 1) ≤ 2 ^ 127 = pow_mono few in
+    omega (arith, ints, most, is.low, is.high)
+word-fits width false v word is =
+    let most : 2 ^ width ≤ 2 ^ 127 = pow_mono word.1 in
+    omega (arith, ints, most, is.low, is.high)
+
+lowest-in-word : (width : ℕ) (signed : Bool) → InWord width signed (word_lowest width signed)
+lowest-in-word width true = record { low = omega (arith, ints); high = omega (arith, ints) }
+lowest-in-word width false = record { low = omega (arith, ints); high = omega (arith, ints) }
+
+highest-in-word : (width : ℕ) (signed : Bool) → InWord width signed (word_highest width signed)
+highest-in-word width true = record { low = omega (arith, ints); high = omega (arith, ints) }
+highest-in-word width false = record { low = omega (arith, ints); high = omega (arith, ints) }
+
+-- a word that has all products of two words has those of the ends
+module _ (nets : List Net) (left right width : ℕ) (signed : Bool) (one other : Net) (there : slice_get nets left ≡ Some one) (also : slice_get nets right ≡ Some other) (is : HoldsProducts nets left right width signed) where
+  with-ends : (x : ℤ) → InWord one.width one.signed x
+      → InWord width signed (x *ℤ word_lowest other.width other.signed) × InWord width signed (x *ℤ word_highest other.width other.signed)
+  with-ends x in_one = (
+    is.holds one other there also x (word_lowest other.width other.signed) in_one (lowest-in-word other.width other.signed),
+    is.holds one other there also x (word_highest other.width other.signed) in_one (highest-in-word other.width other.signed),
+  )
+
+  pub lowest-products : InWord width signed (word_lowest one.width one.signed *ℤ word_lowest other.width other.signed) × InWord width signed (word_lowest one.width one.signed *ℤ word_highest other.width other.signed)
+  lowest-products = with-ends (word_lowest one.width one.signed) (lowest-in-word one.width one.signed)
+
+  pub highest-products : InWord width signed (word_highest one.width one.signed *ℤ word_lowest other.width other.signed) × InWord width signed (word_highest one.width one.signed *ℤ word_highest other.width other.signed)
+  highest-products = with-ends (word_highest one.width one.signed) (highest-in-word one.width one.signed)

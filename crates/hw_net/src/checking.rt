@@ -1,6 +1,6 @@
 //! Whether a netlist can be run.
-ghost use Rattle.std.specs.Prelude.{◌≡◌, ◌+◌, ◌-◌, ◌*◌, ◌<◌, ◌≤◌, ◌*ℤ◌, [], ℕ, length, All, IfOk};
-ghost use Rattle.std.specs.Prelude.{true, slice_get, Some, pos, IsTrue};
+ghost use Rattle.std.specs.Prelude.{◌≡◌, ◌+◌, ◌-◌, ◌*◌, ◌<◌, ◌≤◌, ◌*ℤ◌, ◌↔◌, [], ℕ};
+ghost use Rattle.std.specs.Prelude.{length, All, IfOk, slice_get, Some, pos, IsTrue};
 ghost use Rattle.fx_num.specs.Word.{IsWord, InWord, word_lowest, word_highest};
 ghost use Rattle.hw_net.specs.declared.netlist.NetPort.{NetPort};
 ghost use Rattle.hw_net.specs.declared.netlist.NetKind.TheVariants.{Comb};
@@ -19,21 +19,21 @@ use std::alloc::Global;
 
 /// Whether all nets have words.
 fn are_words(nets: &[Net]) -> bool
-    ensures { result ≡ true → All (λ net. IsWord net.width net.signed) nets.now }
+    ensures { IsTrue result ↔ All (λ net. IsWord net.width net.signed) nets.now }
 {
     nets.iter().all(|net| is_word(net.width, net.signed))
 }
 
 /// Whether all of these numbers are below the count.
 fn are_below(count: usize, numbers: &[u32]) -> bool
-    ensures { result ≡ true → All (λ number. number < count) numbers.now }
+    ensures { IsTrue result ↔ All (λ number. number < count) numbers.now }
 {
     numbers.iter().all(|number| (*number as usize) < count)
 }
 
 /// Whether all nets that a net reads are there.
 fn reads_are_there(count: usize, kind: &NetKind) -> bool
-    ensures { result ≡ true → All (λ read. read < count) (reads kind.now) }
+    ensures { IsTrue result ↔ All (λ read. read < count) (reads kind.now) }
 {
     match kind {
         NetKind::Comb { op: _, args } => are_below(count, args.as_slice()),
@@ -47,8 +47,8 @@ fn reads_are_there(count: usize, kind: &NetKind) -> bool
 
 /// Whether all nets that are read are there.
 fn are_there(nets: &[Net]) -> bool
-    ensures { result ≡ true
-        → All (λ net. All (λ read. read < length nets.now) (reads net.kind)) nets.now }
+    ensures { IsTrue result
+        ↔ All (λ net. All (λ read. read < length nets.now) (reads net.kind)) nets.now }
 {
     nets.iter()
         .all(|net| reads_are_there(nets.len(), &net.kind))
@@ -82,7 +82,7 @@ fn arity(op: NetOp) -> usize
 /// Whether these bits are there in the words of nets.
 fn has_bits(nets: &[Net], args: &[u32], high: u8, low: u8) -> bool
     requires { All (λ read. read < length nets.now) args.now }
-    ensures { result ≡ true → HasBits nets.now args.now high low }
+    ensures { IsTrue result ↔ HasBits nets.now args.now high low }
 {
     low <= high && args.iter().all(|read| high < nets[*read as usize].width)
 }
@@ -90,7 +90,7 @@ fn has_bits(nets: &[Net], args: &[u32], high: u8, low: u8) -> bool
 /// Whether what an operation names is there.
 fn has_parts(nets: &[Net], inputs: usize, args: &[u32], op: NetOp) -> bool
     requires { All (λ read. read < length nets.now) args.now }
-    ensures { result ≡ true → HasParts nets.now inputs args.now op }
+    ensures { IsTrue result ↔ HasParts nets.now inputs args.now op }
 {
     match op {
         NetOp::Input(number) => (number as usize) < inputs,
@@ -116,7 +116,8 @@ fn has_parts(nets: &[Net], inputs: usize, args: &[u32], op: NetOp) -> bool
 /// Whether an operation has its arguments and its parts.
 fn is_operation(nets: &[Net], inputs: usize, op: NetOp, args: &[u32]) -> bool
     requires { All (λ read. read < length nets.now) args.now }
-    ensures { result ≡ true → (length args.now ≡ arity op) × HasParts nets.now inputs args.now op }
+    ensures { IsTrue result
+        ↔ ((length args.now ≡ arity op) × HasParts nets.now inputs args.now op) }
 {
     args.len() == arity(op) && has_parts(nets, inputs, args, op)
 }
@@ -124,7 +125,7 @@ fn is_operation(nets: &[Net], inputs: usize, op: NetOp, args: &[u32]) -> bool
 /// Whether the net of a number has a word.
 fn has_word(nets: &[Net], number: u32, width: u8, signed: bool) -> bool
     requires { number < length nets.now }
-    ensures { result ≡ true → HasWord nets.now number width signed }
+    ensures { IsTrue result ↔ HasWord nets.now number width signed }
 {
     let net = &nets[number as usize];
     net.width == width && net.signed == signed
@@ -133,7 +134,7 @@ fn has_word(nets: &[Net], number: u32, width: u8, signed: bool) -> bool
 /// Whether the word has the product of two numbers.
 fn holds_product(left: i128, right: i128, width: u8, signed: bool) -> bool
     requires { IsWord width signed }
-    ensures { result ≡ true → InWord width signed (left *ℤ right) }
+    ensures { IsTrue result ↔ InWord width signed (left *ℤ right) }
 {
     match left.checked_mul(right) {
         Some(product) => fits(product, width, signed),
@@ -145,10 +146,9 @@ fn holds_product(left: i128, right: i128, width: u8, signed: bool) -> bool
 fn holds_ends(left: i128, other: &Net, width: u8, signed: bool) -> bool
     requires word { IsWord width signed }
     requires other { IsWord other.now.width other.now.signed }
-    ensures low { result ≡ true → InWord width signed
-        (left *ℤ word_lowest other.now.width other.now.signed) }
-    ensures high { result ≡ true → InWord width signed
-        (left *ℤ word_highest other.now.width other.now.signed) }
+    ensures { IsTrue result
+        ↔ (InWord width signed (left *ℤ word_lowest other.now.width other.now.signed)
+        × InWord width signed (left *ℤ word_highest other.now.width other.now.signed)) }
 {
     holds_product(left, lowest(other.width, other.signed), width, signed)
         && holds_product(left, highest(other.width, other.signed), width, signed)
@@ -161,7 +161,7 @@ fn holds_products(nets: &[Net], left: u32, right: u32, width: u8, signed: bool) 
     requires words { All (λ net. IsWord net.width net.signed) nets.now }
     requires left { left < length nets.now }
     requires right { right < length nets.now }
-    ensures { result ≡ true → HoldsProducts nets.now left right width signed }
+    ensures { IsTrue result ↔ HoldsProducts nets.now left right width signed }
 {
     let one = &nets[left as usize];
     let other = &nets[right as usize];
@@ -173,9 +173,9 @@ fn holds_products(nets: &[Net], left: u32, right: u32, width: u8, signed: bool) 
 fn is_held(nets: &[Net], frame: Frame, first: i128, from: u32, one: &Net) -> bool
     requires word { IsWord one.now.width one.now.signed }
     requires from { from < length nets.now }
-    ensures { result ≡ true → (0 < frame.period)
+    ensures { IsTrue result ↔ ((0 < frame.period)
         × HasWord nets.now from one.now.width one.now.signed
-        × InWord one.now.width one.now.signed first }
+        × InWord one.now.width one.now.signed first) }
 {
     0 < frame.period
         && has_word(nets, from, one.width, one.signed)
@@ -185,8 +185,8 @@ fn is_held(nets: &[Net], frame: Frame, first: i128, from: u32, one: &Net) -> boo
 /// Whether a bridge has a frame with clocks, lives, and has the word of what it passes.
 fn is_bridge(nets: &[Net], frame: Frame, live: u32, from: u32, one: &Net) -> bool
     requires { from < length nets.now }
-    ensures { result ≡ true → (0 < frame.period) × (0 < live)
-        × HasWord nets.now from one.now.width one.now.signed }
+    ensures { IsTrue result ↔ ((0 < frame.period) × (0 < live)
+        × HasWord nets.now from one.now.width one.now.signed) }
 {
     0 < frame.period && 0 < live && has_word(nets, from, one.width, one.signed)
 }
@@ -195,9 +195,9 @@ fn is_bridge(nets: &[Net], frame: Frame, live: u32, from: u32, one: &Net) -> boo
 fn is_counter(frame: Frame, cycles: u32, one: &Net) -> bool
     requires word { IsWord one.now.width one.now.signed }
     requires cycles { 0 < cycles }
-    ensures { result ≡ true → (0 < frame.period)
+    ensures { IsTrue result ↔ ((0 < frame.period)
         × InWord one.now.width one.now.signed
-        (pos (frame.latency * cycles + frame.period * cycles - 1)) }
+        (pos (frame.latency * cycles + frame.period * cycles - 1))) }
 {
     0 < frame.period && fits(first_count(frame, cycles), one.width, one.signed)
 }
@@ -208,8 +208,8 @@ fn is_kind(nets: &[Net], cycles: u32, inputs: usize, one: &Net) -> bool
     requires words { All (λ net. IsWord net.width net.signed) nets.now }
     requires word { IsWord one.now.width one.now.signed }
     requires there { All (λ read. read < length nets.now) (reads one.now.kind) }
-    ensures { result ≡ true
-        → IsKind nets.now cycles inputs one.now.width one.now.signed one.now.kind }
+    ensures { IsTrue result
+        ↔ IsKind nets.now cycles inputs one.now.width one.now.signed one.now.kind }
 {
     match &one.kind {
         NetKind::Comb { op, args } => is_operation(nets, inputs, *op, args.as_slice()),
@@ -237,18 +237,22 @@ fn are_kinds(nets: &[Net], cycles: u32, inputs: usize) -> bool
     requires cycles { 0 < cycles }
     requires words { All (λ net. IsWord net.width net.signed) nets.now }
     requires there { All (λ net. All (λ read. read < length nets.now) (reads net.kind)) nets.now }
-    ensures { result ≡ true
-        → All (λ net. IsKind nets.now cycles inputs net.width net.signed net.kind) nets.now }
+    ensures { IsTrue result
+        ↔ All (λ net. IsKind nets.now cycles inputs net.width net.signed net.kind) nets.now }
 {
     nets.iter().all(|one| is_kind(nets, cycles, inputs, one))
 }
 
-/// Whether a net shows this input.
-fn shows_input(net: &Net, input: u32) -> bool
-    ensures { result ≡ true → net.now.kind ≡ Comb (Input input) [] }
+/// Whether a net shows the input of a place.
+fn shows_input(net: &Net, place: usize) -> bool
+    ensures { IsTrue result ↔ (net.now.kind ≡ Comb (Input place) []) }
 {
     match &net.kind {
-        NetKind::Comb { op, args } => *op == NetOp::Input(input) && args.as_slice().is_empty(),
+        NetKind::Comb {
+            op: NetOp::Input(input),
+            args,
+        } => *input as usize == place && args.as_slice().is_empty(),
+        NetKind::Comb { .. } => false,
         NetKind::Reg { .. } => false,
         NetKind::EnReg { .. } => false,
         NetKind::Bridge { .. } => false,
@@ -259,21 +263,18 @@ fn shows_input(net: &Net, input: u32) -> bool
 
 /// Whether the net of a number shows the input of a place.
 fn is_input(nets: &[Net], number: u32, place: usize) -> bool
-    ensures { result ≡ true → IsInput nets.now number place }
+    ensures { IsTrue result ↔ IsInput nets.now number place }
 {
-    let Ok(input) = u32::try_from(place) else {
-        return false;
-    };
     match nets.get(number as usize) {
-        Some(net) => shows_input(net, input),
+        Some(net) => shows_input(net, place),
         None => false,
     }
 }
 
 /// Whether the net of each input port shows that input.
 fn are_inputs(nets: &[Net], inputs: &[NetPort]) -> bool
-    ensures { result ≡ true → (k : ℕ) (port : NetPort) → slice_get inputs.now k ≡ Some port
-        → IsInput nets.now port.net k }
+    ensures { IsTrue result ↔ ((k : ℕ) (port : NetPort) → slice_get inputs.now k ≡ Some port
+        → IsInput nets.now port.net k) }
 {
     for k in 0..inputs.len() {
         if !is_input(nets, inputs[k].net, k) {
@@ -285,7 +286,7 @@ fn are_inputs(nets: &[Net], inputs: &[NetPort]) -> bool
 
 /// Whether the net of each output port is there.
 fn are_outputs(nets: &[Net], outputs: &[NetPort]) -> bool
-    ensures { result ≡ true → All (λ port. port.net < length nets.now) outputs.now }
+    ensures { IsTrue result ↔ All (λ port. port.net < length nets.now) outputs.now }
 {
     outputs.iter().all(|port| (port.net as usize) < nets.len())
 }
@@ -293,7 +294,7 @@ fn are_outputs(nets: &[Net], outputs: &[NetPort]) -> bool
 /// Whether a netlist can be run: all that its nets name is there, words hold what can come, and no
 /// net reaches itself in a clock. It takes time in the nets and what they read.
 pub fn is_netlist(alloc: Global, net: &Netlist) -> Result<bool, OutOfMemory>
-    ensures { IfOk result (λ is. is ≡ true → IsNetlist net.now) }
+    ensures { IfOk result (λ is. IsTrue is ↔ IsNetlist net.now) }
 {
     let nets = net.nets();
     if net.cycles() == 0 || !are_words(nets) || !are_there(nets) {

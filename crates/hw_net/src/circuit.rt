@@ -1,7 +1,7 @@
 //! A netlist that grows: its data, with an index of its Counters.
-ghost use Rattle.std.specs.Prelude.{◌≡◌, ℕ, List, true, ◌+◌, ◌*◌, ◌-◌, ◌<◌, ◌++◌, ◌∷◌, [], length};
+ghost use Rattle.std.specs.Prelude.{◌≡◌, ◌↔◌, ℕ, List, ◌+◌, ◌*◌, ◌-◌, ◌<◌, ◌++◌, ◌∷◌, [], length};
 ghost use Rattle.std.specs.Prelude.{slice_get, slice_set, slice_index, IfOk, OnOk, OnErr, Option};
-ghost use Rattle.std.specs.Prelude.{None, Some, false, pos};
+ghost use Rattle.std.specs.Prelude.{None, Some, IsTrue, false, pos};
 ghost use Rattle.hw_net.specs.Circuit.{Circuit};
 ghost use Rattle.hw_net.specs.declared.netlist.NetKind.TheVariants.{Comb};
 ghost use Rattle.hw_net.specs.declared.netlist.NetOp.TheVariants.{Resize};
@@ -139,7 +139,7 @@ impl Netlist {
 
     /// Whether the net of a number is a Resize.
     pub fn is_resize(&self, number: u32) -> bool
-        ensures { result ≡ true → IsResize self.now.nets number }
+        ensures { IsTrue result ↔ IsResize self.now.nets number }
     {
         match self.nets().get(number as usize) {
             Some(net) => resizes(&net.kind),
@@ -205,7 +205,7 @@ fn counted(kind: &NetKind) -> Option<Frame>
 
 /// Whether a net is a Resize.
 fn resizes(kind: &NetKind) -> bool
-    ensures { result ≡ true → (args : List ℕ) × (kind.now ≡ Comb Resize args) }
+    ensures { IsTrue result ↔ ((args : List ℕ) × (kind.now ≡ Comb Resize args)) }
 {
     match kind {
         NetKind::Comb { op, args: _ } => *op == NetOp::Resize,

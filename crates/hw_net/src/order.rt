@@ -1,7 +1,7 @@
 //! An order in which each net stands after those that it reads in the same clock.
 ghost use Rattle.std.specs.Prelude.{◌≡◌, ◌+◌, ◌<◌, ◌∷◌, [], ◌++◌, length, slice_set};
 ghost use Rattle.std.specs.Prelude.{slice_index_or, OnOk, IfOk, All, true, false, Option, Some};
-ghost use Rattle.std.specs.Prelude.{None, IsSome, ℕ};
+ghost use Rattle.std.specs.Prelude.{None, IsSome, ℕ, ◌↔◌, IsTrue};
 ghost use Rattle.hw_net.specs.Netlist.{IsNetlist, IsRanked, reads, reads_now};
 ghost use Rattle.hw_net.specs.State.{IsOrder};
 ghost use Rattle.hw_net.specs.inner.Ordering.{IsPlaced, IsGrowing, Keeps, Serves, Grows, IsReader};
@@ -253,7 +253,7 @@ pub fn order_of(alloc: Global, net: &Netlist) -> Result<Vec<u32>, OutOfMemory>
 
 /// Whether all places are there.
 fn are_some(ranks: &[Option<u32>]) -> bool
-    ensures { result ≡ true → All IsSome ranks.now }
+    ensures { IsTrue result ↔ All IsSome ranks.now }
 {
     ranks.iter().all(|rank| rank.is_some())
 }
@@ -270,7 +270,7 @@ fn are_ordered(
     requires readers { length readers.old ≡ length nets.now }
     requires ranks { length ranks.old ≡ length nets.now }
     requires fresh { (k : ℕ) → place_of ranks.old k ≡ None }
-    ensures { IfOk result (λ is. is ≡ true → (rank : ℕ → ℕ) × IsRanked nets.now rank) }
+    ensures { IfOk result (λ is. IsTrue is ↔ ((rank : ℕ → ℕ) × IsRanked nets.now rank)) }
 {
     let _order = ordered(alloc, nets, readers, ranks)?;
     Ok(are_some(ranks))
@@ -279,7 +279,7 @@ fn are_ordered(
 /// Whether no net reaches itself in one clock.
 pub fn is_ranked(alloc: Global, nets: &[Net]) -> Result<bool, OutOfMemory>
     requires { All (λ one. All (λ read. read < length nets.now) (reads one.kind)) nets.now }
-    ensures { IfOk result (λ is. is ≡ true → (rank : ℕ → ℕ) × IsRanked nets.now rank) }
+    ensures { IfOk result (λ is. IsTrue is ↔ ((rank : ℕ → ℕ) × IsRanked nets.now rank)) }
 {
     let mut readers = empty_lists(alloc, nets.len())?;
     let mut ranks: Vec<Option<u32>> = vec![in alloc; None; nets.len()]?;
