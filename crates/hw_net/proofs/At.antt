@@ -1,5 +1,5 @@
 -- A run of a netlist shows the rows of the clocks that were made.
-use Rattle.std.proofs.Common.{◌≡◌, ℕ, zero, suc, ◌+◌, ◌-◌, ◌<◌, ◌≤◌, inl, inr, nat_lt, Bool, true, false, if◌then◌else◌, length, ℤ, pos, ap, sym, ◌∙◌, subst, arith, refl}
+use Rattle.std.proofs.Common.{◌≡◌, ℕ, zero, suc, ◌+◌, ◌-◌, ◌<◌, inl, inr, nat_lt, Bool, true, false, if◌then◌else◌, pos, ap, sym, ◌∙◌, subst, arith, refl}
 use Rattle.std.proofs.lemmas.Bool.{cases_lt, ltb-true, ltb-false}
 use Rattle.hw_net.specs.Circuit.{Circuit}
 use Rattle.hw_net.specs.NetRows.{Inputs, Rows}

@@ -1,9 +1,9 @@
 -- There are rows of every netlist that can be run.
-use Rattle.std.proofs.Common.{◌≡◌, ◌≢◌, ℕ, zero, suc, ◌+◌, ◌-◌, ◌*◌, ◌/◌, ◌%◌, ◌^◌, ◌<◌, ◌≤◌, ◌⊎◌, inl, inr, Bool, true, false, if◌then◌else◌, List, length, Option, None, Some, slice_get, slice_index_or, All, ℤ, pos, negsuc, ◌<ℤ◌, ◌≤ℤ◌, ◌+ℤ◌, ◌-ℤ◌, ◌*ℤ◌, neg_ℤ, ap, sym, ◌∙◌, subst, arith, refl, pow_pos, mod-lt}
+use Rattle.std.proofs.Common.{◌≡◌, ◌≢◌, ℕ, zero, suc, ◌+◌, ◌-◌, ◌*◌, ◌/◌, ◌^◌, ◌<◌, ◌≤◌, ◌⊎◌, inl, inr, Bool, true, false, if◌then◌else◌, Option, None, Some, slice_get, slice_index_or, ℤ, pos, negsuc, ◌<ℤ◌, ◌≤ℤ◌, ◌+ℤ◌, ◌-ℤ◌, ◌*ℤ◌, ap, subst, arith, refl, pow_pos, mod-lt}
 use Rattle.std.proofs.lemmas.Int.{ints}
 use Rattle.std.proofs.lemmas.Nat.{div-add-mod'}
 use Rattle.std.proofs.lemmas.Bool.{cases_lt}
-use Rattle.fx_num.specs.Word.{IsWord, InWord, IsCongruent, IsWrapped}
+use Rattle.fx_num.specs.Word.{IsWord, IsCongruent, IsWrapped}
 use Rattle.fx_num.proofs.Arithmetic.{double, add-scaled}
 use Rattle.hw_net.specs.declared.netlist.Net.{Net}
 use Rattle.hw_net.specs.declared.netlist.NetKind.{NetKind}
@@ -11,7 +11,7 @@ use Rattle.hw_net.specs.declared.netlist.NetKind.TheVariants.{Comb, Reg, EnReg, 
 use Rattle.hw_net.specs.Circuit.{Circuit}
 use Rattle.hw_net.specs.Operation.{low_bits, given_by}
 use Rattle.hw_net.specs.Registers.{Span, Takes, IsLive}
-use Rattle.hw_net.specs.NetRows.{Inputs, Rows, HasRows, RowsAreThere, span_of, operands_at}
+use Rattle.hw_net.specs.NetRows.{Inputs, RowsAreThere, span_of, operands_at}
 use Rattle.hw_net.specs.Netlist.{IsNetlist, reads_now}
 use Rattle.hw_net.specs.Step.{Row, NetStarts, NetSteps, NetGoes, Goes, RegSteps, EnRegSteps, BridgeSteps, CounterSteps}
 use Rattle.hw_net.proofs.Modular.{remainder-congruent, scaled-neg}

@@ -1,6 +1,6 @@
 -- What is said of a netlist is carried along as it grows. Crates above may cite these lemmas.
-use Rattle.std.proofs.Common.{◌≡◌, ℕ, zero, suc, append-nil, append_assoc, ◌+◌, ◌-◌, ◌*◌, ◌<◌, ◌≤◌, ◌⊎◌, inl, inr, List, [], ◌∷◌, ◌++◌, length, All, Contains, Option, None, Some, IsSome, slice_get, slice_index_or, Result, Ok, Err, IfOk, Bool, true, false, if◌then◌else◌, ap, sym, ◌∙◌, subst, arith, refl, length-append}
-use Rattle.std.proofs.lemmas.Bool.{cases_lt, cases_eq}
+use Rattle.std.proofs.Common.{◌≡◌, ℕ, zero, suc, append-nil, append_assoc, ◌+◌, ◌<◌, ◌≤◌, ◌⊎◌, inl, inr, List, [], ◌∷◌, ◌++◌, length, All, Contains, Option, None, Some, IsSome, slice_get, slice_index_or, Result, Ok, Err, IfOk, Bool, true, false, if◌then◌else◌, ap, sym, ◌∙◌, subst, arith, refl, length-append}
+use Rattle.std.proofs.lemmas.Bool.{cases_lt}
 use Rattle.std.proofs.lemmas.Option.{slice_get_within}
 use Rattle.hw_net.specs.declared.netlist.Frame.{Frame}
 use Rattle.hw_net.specs.declared.netlist.Net.{Net}
@@ -9,11 +9,10 @@ use Rattle.hw_net.specs.declared.netlist.NetOp.TheVariants.{Input, Const, Resize
 use Rattle.hw_net.specs.declared.netlist.NetKind.{NetKind}
 use Rattle.hw_net.specs.declared.netlist.NetKind.TheVariants.{Comb, Reg, EnReg, Bridge, Unit, Counter}
 use Rattle.hw_net.specs.Circuit.{Circuit}
-use Rattle.hw_net.specs.ByFrame.{is_same_frame}
 use Rattle.hw_net.specs.Frames.{frame_of, is_frame, counted_frame, counter_from, counter_of, register_count, IsCounterAt, IsCounter, CountersDiffer}
-use Rattle.hw_net.specs.Netlist.{IsKind, HasWord, HasBits, HasParts, HoldsProducts, reads, reads_now}
+use Rattle.hw_net.specs.Netlist.{IsKind, HasWord, HasBits, HasParts, reads, reads_now}
 use Rattle.hw_net.specs.NetRows.{Inputs, Rows, NetShows}
-use Rattle.hw_net.specs.Growing.{Extends, Keeps, IsReopened, InRows, Appends, IsAppended, MayRead, MayReadNow, IsCounted, with_net}
+use Rattle.hw_net.specs.Growing.{Extends, Keeps, IsReopened, InRows, Appends, IsAppended, IsCounted, with_net}
 use Rattle.hw_net.proofs.Places.{at-place}
 use Rattle.hw_net.proofs.Index.{same-is, same-self}
 

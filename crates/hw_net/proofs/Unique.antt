@@ -1,9 +1,9 @@
 -- Two functions that are rows of one netlist under the same inputs are one.
-use Rattle.std.proofs.Common.{◌≡◌, ◌≢◌, ℕ, zero, suc, ◌+◌, ◌-◌, ◌*◌, ◌^◌, ◌%◌, ◌<◌, ◌⊎◌, inl, inr, Bool, true, false, length, Option, None, Some, slice_get, slice_index_or, List, All, ℤ, pos, negsuc, ◌+ℤ◌, ◌*ℤ◌, neg_ℤ, ap, sym, ◌∙◌, subst, arith, refl, pow_pos}
+use Rattle.std.proofs.Common.{◌≡◌, ℕ, zero, suc, ◌+◌, ◌-◌, ◌*◌, ◌%◌, ◌<◌, inl, inr, Bool, true, false, length, Option, None, Some, slice_get, slice_index_or, List, All, ℤ, sym, ◌∙◌, subst, arith, refl}
 use Rattle.std.proofs.lemmas.Int.{ints}
 use Rattle.std.proofs.lemmas.Nat.{mul-lt}
-use Rattle.std.proofs.lemmas.Bool.{cases_lt, cases_eq}
-use Rattle.fx_num.specs.Word.{IsWord, InWord, IsWrapped}
+use Rattle.std.proofs.lemmas.Bool.{cases_lt}
+use Rattle.fx_num.specs.Word.{IsWord, IsWrapped}
 use Rattle.hw_net.proofs.Modular.{one-wrapped}
 use Rattle.hw_net.proofs.Words.{takes-or-not, zero-or-not}
 use Rattle.hw_net.specs.declared.netlist.Net.{Net}
@@ -11,7 +11,7 @@ use Rattle.hw_net.specs.declared.netlist.NetKind.{NetKind}
 use Rattle.hw_net.specs.declared.netlist.NetKind.TheVariants.{Comb, Reg, EnReg, Bridge, Unit, Counter}
 use Rattle.hw_net.specs.Circuit.{Circuit}
 use Rattle.hw_net.specs.Operation.{Operands, given_by}
-use Rattle.hw_net.specs.Registers.{Wave, Span, Takes, IsReg, IsEnReg, IsBridge, IsCounter}
+use Rattle.hw_net.specs.Registers.{Wave, Span, IsReg, IsEnReg, IsBridge, IsCounter}
 use Rattle.hw_net.specs.NetRows.{Inputs, Rows, NetRows, NetShows, RowsAreOne, span_of, operands_at}
 use Rattle.hw_net.specs.Netlist.{IsNetlist, IsKind, reads, reads_now}
 use Rattle.hw_net.proofs.Places.{at-place, slice_get_inside}

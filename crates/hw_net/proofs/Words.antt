@@ -1,18 +1,17 @@
 -- Numbers stay in their nets' words.
-use Rattle.std.proofs.Common.{◌≡◌, ◌≢◌, ℕ, zero, suc, ◌+◌, ◌-◌, ◌*◌, ◌^◌, ◌%◌, ◌<◌, ◌≤◌, ◌⊎◌, inl, inr, Bool, true, false, List, length, Option, None, Some, slice_get, slice_index_or, All, ℤ, pos, negsuc, ◌<ℤ◌, ◌≤ℤ◌, ◌+ℤ◌, ◌*ℤ◌, neg_ℤ, ap, sym, ◌∙◌, subst, arith, refl, pow_pos}
+use Rattle.std.proofs.Common.{◌≡◌, ◌≢◌, ℕ, zero, suc, ◌+◌, ◌-◌, ◌*◌, ◌%◌, ◌<◌, ◌⊎◌, inl, inr, Bool, true, false, List, length, Some, slice_get, slice_index_or, All, ℤ, pos, negsuc, ◌<ℤ◌, ◌≤ℤ◌, arith, refl}
 use Rattle.std.proofs.lemmas.Int.{ints}
 use Rattle.std.proofs.lemmas.Bool.{cases_lt, cases_eq}
-use Rattle.fx_num.specs.Word.{IsWord, InWord, IsWrapped, word_lowest, word_highest}
+use Rattle.fx_num.specs.Word.{InWord, word_lowest}
 use Rattle.hw_net.specs.declared.netlist.Net.{Net}
 use Rattle.hw_net.specs.declared.netlist.NetKind.{NetKind}
 use Rattle.hw_net.specs.declared.netlist.NetKind.TheVariants.{Comb, Reg, EnReg, Bridge, Unit, Counter}
 use Rattle.hw_net.specs.Circuit.{Circuit}
 use Rattle.hw_net.specs.Registers.{Span, Takes, IsLive}
 use Rattle.hw_net.specs.NetRows.{span_of}
-use Rattle.hw_net.specs.Netlist.{IsNetlist, IsKind, HasWord, reads, reads_now}
-use Rattle.hw_net.specs.Step.{Row, NetStarts, NetSteps, NetGoes, Goes, RegSteps, EnRegSteps, BridgeSteps, CounterSteps}
-use Rattle.hw_net.proofs.Places.{at-place, slice_get_inside}
-use Rattle.hw_net.proofs.Ordering.{now-there}
+use Rattle.hw_net.specs.Netlist.{IsNetlist, IsKind, HasWord, reads_now}
+use Rattle.hw_net.specs.Step.{Row, NetStarts, NetSteps, NetGoes, Goes}
+use Rattle.hw_net.proofs.Places.{at-place}
 
 pub takes-or-not : (span : Span) (slot c : ℕ) → Takes span slot c ⊎ (¬ Takes span slot c)
 takes-or-not span slot c =

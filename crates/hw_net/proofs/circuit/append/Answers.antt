@@ -1,7 +1,5 @@
-use Rattle.std.proofs.Common.{rules, ◌≡◌, ◌∙◌, sym, subst, ◌++◌, ◌∷◌, [], Some, IsSome, None, List, length}
-use Rattle.hw_net.specs.declared.netlist.Net.{Net}
+use Rattle.std.proofs.Common.{rules, ◌≡◌, ◌∙◌, sym, subst, ◌++◌, ◌∷◌, [], Some, IsSome, None, length}
 use Rattle.hw_net.specs.ByFrame.{number_at_frame}
-use Rattle.hw_net.specs.inner.Index.{IsIndex}
 use Rattle.hw_net.specs.Frames.{counted_frame, counter_of}
 use Rattle.hw_net.proofs.Index.{index-other, index-known, index-new}
 use Rattle.hw_net.proofs.circuit.append.Goals as goal

@@ -1,6 +1,5 @@
-use Rattle.std.proofs.Common.{rules, ◌≡◌, ◌∙◌, sym, ap, None, ◌∷◌, [], slice_get, slice_set, Some, List, ℕ, refl}
+use Rattle.std.proofs.Common.{rules, ◌≡◌, ◌∙◌, ap, None, ◌∷◌, [], slice_get, slice_set, Some, List, ℕ, refl}
 use Rattle.hw_net.specs.declared.netlist.Net.{Net}
-use Rattle.hw_net.specs.declared.netlist.NetKind.{NetKind}
 use Rattle.hw_net.specs.declared.netlist.NetKind.TheVariants.{Comb}
 use Rattle.hw_net.specs.declared.netlist.NetOp.TheVariants.{Resize}
 use Rattle.hw_net.specs.Frames.{counted_frame}
