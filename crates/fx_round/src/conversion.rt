@@ -1,13 +1,13 @@
 //! Conversion of a stored integer from one type to another.
-ghost use Rattle.std.specs.Prelude.{ℤ, pos, ◌*ℤ◌, ◌^◌, ◌≤◌};
+ghost use Rattle.std.specs.Prelude.{true, false, ℤ, pos, ◌*ℤ◌, ◌^◌, ◌≤◌};
 ghost use Rattle.fx_num.specs.Word.{IsWord};
 ghost use Rattle.fx_type.specs.declared.kind.FxType.TheVariants.{Num};
 ghost use Rattle.fx_type.specs.FxType.{IsType, InRange};
 ghost use Rattle.fx_type.specs.Conversion.{Settles, StoresQuotient, Converts};
 ghost use Rattle.fx_round.specs.inner.Narrow.{IsWithin};
 
-use crate::settle::{settled, settled_up};
-use crate::{narrow, split};
+use crate::settle::settled_up;
+use crate::{narrow, settle, split};
 use fx_type::{FxType, Rounding};
 
 /// The stored integer `v` of the type `from`, in the type `to`: its value rounded by the mode to a
@@ -26,15 +26,22 @@ pub fn convert(v: i128, from: FxType, to: FxType, mode: Rounding, saturate: bool
             signed,
             width,
             frac,
-        } => {
-            let bits = from.width();
-            let up = frac - from.frac();
-            if up >= 0 {
-                raised(v, bits, up as u32, width, signed, saturate)
-            } else {
-                lowered(v, bits, -up as u32, width, signed, mode, saturate)
+        } => match from {
+            FxType::Num {
+                width: bits,
+                frac: point,
+                ..
+            } => {
+                let up = frac - point;
+                if up >= 0 {
+                    raised(v, bits, up as u32, width, signed, saturate)
+                } else {
+                    lowered(v, bits, -up as u32, width, signed, mode, saturate)
+                }
             }
-        }
+            FxType::Logical if frac >= 0 => settled_up(v, frac as u32, width, signed, saturate),
+            FxType::Logical => lowered_far(v, -frac as u32, width, signed, mode, saturate),
+        },
     }
 }
 
@@ -78,12 +85,36 @@ fn lowered(
     }
 }
 
-/// The same in 128 bits. It stands apart, so that the short way needs few registers.
-#[inline(never)]
+/// The same in 128 bits.
 fn lowered_far(v: i128, by: u32, width: u8, signed: bool, mode: Rounding, saturate: bool) -> i128
     requires some { 1 ≤ by }
     requires word { IsWord width signed }
     ensures { (frac : ℤ) → StoresQuotient v (2 ^ by) (Num signed width frac) mode saturate result }
 {
-    settled(split::rounded_down(v, by, mode), width, signed, saturate)
+    if saturate {
+        saturated_far(v, by, width, signed, mode)
+    } else {
+        wrapped_far(v, by, width, signed, mode)
+    }
+}
+
+/// The same, saturated. It stands apart, and takes no more than fits in registers, so that the short
+/// way needs few; so does the next.
+#[inline(never)]
+fn saturated_far(v: i128, by: u32, width: u8, signed: bool, mode: Rounding) -> i128
+    requires some { 1 ≤ by }
+    requires word { IsWord width signed }
+    ensures { (frac : ℤ) → StoresQuotient v (2 ^ by) (Num signed width frac) mode true result }
+{
+    settle::nearest(split::rounded_down(v, by, mode), width, signed)
+}
+
+/// The same, wrapped.
+#[inline(never)]
+fn wrapped_far(v: i128, by: u32, width: u8, signed: bool, mode: Rounding) -> i128
+    requires some { 1 ≤ by }
+    requires word { IsWord width signed }
+    ensures { (frac : ℤ) → StoresQuotient v (2 ^ by) (Num signed width frac) mode false result }
+{
+    settle::wrapped(split::rounded_down(v, by, mode), width, signed)
 }

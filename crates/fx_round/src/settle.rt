@@ -1,5 +1,6 @@
 //! Whole numbers put into a type.
-ghost use Rattle.std.specs.Prelude.{◌≡◌, ◌^◌, true, ℤ, pos, ◌*ℤ◌};
+ghost use Rattle.std.specs.Prelude.{◌≡◌, ◌^◌, ◌≤◌, true, ℤ, pos, ◌+ℤ◌, ◌*ℤ◌};
+ghost use Rattle.std.specs.Int.Signed.{shr_z};
 ghost use Rattle.fx_num.specs.Word.{IsWord, IsWrapped, word_lowest, word_highest};
 ghost use Rattle.fx_type.specs.declared.kind.FxType.TheVariants.{Num};
 ghost use Rattle.fx_type.specs.FxType.{IsType};
@@ -18,7 +19,7 @@ fn lowest(highest: i128, width: u8, signed: bool) -> i128
 }
 
 /// The number of a word that is nearest to `r`.
-fn nearest(r: i128, width: u8, signed: bool) -> i128
+pub fn nearest(r: i128, width: u8, signed: bool) -> i128
     requires { IsWord width signed }
     ensures { (frac : ℤ) → Settles (Num signed width frac) true r result }
 {
@@ -26,23 +27,46 @@ fn nearest(r: i128, width: u8, signed: bool) -> i128
     r.clamp(lowest(highest, width, signed), highest)
 }
 
-/// The number of a word that is congruent to `r`. The bits alone are shifted, once.
-fn wrapped(r: i128, width: u8, signed: bool) -> i128
+/// The lower 64 bits.
+fn low_half(r: i128) -> u64
+    ensures { r ≡ shr_z r (2 ^ 64) *ℤ pos (2 ^ 64) +ℤ pos result }
+{
+    (r.cast_unsigned() & u128::from(u64::MAX)) as u64
+}
+
+/// The number of at most 64 bits that is congruent to `r`.
+fn wrapped_low(r: i64, width: u8, signed: bool) -> i128
+    requires some { 1 ≤ width }
+    requires few { width ≤ 64 }
+    ensures { IsWrapped r width signed result }
+{
+    let spare = 64 - width;
+    if signed {
+        i128::from((r << spare) >> spare)
+    } else {
+        i128::from((r.cast_unsigned() << spare) >> spare)
+    }
+}
+
+/// The number of a word of more than 64 bits that is congruent to `r`: its lower 64 bits stay.
+fn wrapped_high(r: i128, width: u8, signed: bool) -> i128
+    requires word { IsWord width signed }
+    requires many { 65 ≤ width }
+    ensures { IsWrapped r width signed result }
+{
+    let high = wrapped_low((r >> 64) as i64, width - 64, signed);
+    (high << 64) + i128::from(low_half(r))
+}
+
+/// The number of a word that is congruent to `r`. Only 64 bits are shifted.
+pub fn wrapped(r: i128, width: u8, signed: bool) -> i128
     requires { IsWord width signed }
     ensures { IsWrapped r width signed result }
 {
-    fx_num::from_bits(fx_num::to_bits(r, width, signed), width, signed)
-}
-
-/// What a number type of this word stores for the whole number `r`.
-pub fn settled(r: i128, width: u8, signed: bool, saturate: bool) -> i128
-    requires { IsWord width signed }
-    ensures { (frac : ℤ) → Settles (Num signed width frac) saturate r result }
-{
-    if saturate {
-        nearest(r, width, signed)
+    if width <= 64 {
+        wrapped_low(low_half(r).cast_signed(), width, signed)
     } else {
-        wrapped(r, width, signed)
+        wrapped_high(r, width, signed)
     }
 }
 

@@ -48,12 +48,41 @@ pub fn rounded_down(v: i128, by: u32, mode: Rounding) -> i128
     requires { 1 ≤ by }
     ensures { Rounds mode v (2 ^ by) result }
 {
+    if by <= 63 {
+        rounded_near(v, by, mode)
+    } else {
+        rounded_far(v, by, mode)
+    }
+}
+
+/// The same where what is left has at most 63 bits.
+fn rounded_near(v: i128, by: u32, mode: Rounding) -> i128
+    requires some { 1 ≤ by }
+    requires near { by ≤ 63 }
+    ensures { Rounds mode v (2 ^ by) result }
+{
+    match mode {
+        Rounding::Floor => v >> by,
+        Rounding::Nearest => nearest(v, by),
+        Rounding::Ceiling => by_rest(v, by, low_mask(by), Rounding::Ceiling),
+        Rounding::Zero => by_rest(v, by, low_mask(by), Rounding::Zero),
+        Rounding::Round => by_rest(v, by, low_mask(by), Rounding::Round),
+        Rounding::Convergent => by_rest(v, by, low_mask(by), Rounding::Convergent),
+    }
+}
+
+/// The same where more may be left. It stands apart, so that the near way needs few registers.
+#[inline(never)]
+fn rounded_far(v: i128, by: u32, mode: Rounding) -> i128
+    requires { 1 ≤ by }
+    ensures { Rounds mode v (2 ^ by) result }
+{
     if by < 128 {
         match mode {
             Rounding::Floor => v >> by,
             Rounding::Nearest => nearest(v, by),
             Rounding::Ceiling | Rounding::Zero | Rounding::Round | Rounding::Convergent => {
-                by_rest(v, by, mode)
+                by_rest(v, by, mask(by), mode)
             }
         }
     } else {
@@ -81,14 +110,24 @@ fn mask(by: u32) -> u128
     u128::MAX >> (128 - by)
 }
 
+/// The same in 64 bits.
+fn low_mask(by: u32) -> u128
+    requires { by ≤ 63 }
+    ensures { result + 1 ≡ 2 ^ by }
+{
+    u128::from((1u64 << by) - 1)
+}
+
 /// `v` over 2 to the power `by`, rounded by the mode: the whole number below it or the next, by what
-/// is left above the lower one.
-fn by_rest(v: i128, by: u32, mode: Rounding) -> i128
+/// is left above the lower one, which the mask tells. Each call of it has a mode of its own, which
+/// isn't looked at when the program runs.
+#[inline(always)]
+fn by_rest(v: i128, by: u32, mask: u128, mode: Rounding) -> i128
     requires some { 1 ≤ by }
     requires near { by ≤ 127 }
+    requires mask { mask + 1 ≡ 2 ^ by }
     ensures { Rounds mode v (2 ^ by) result }
 {
-    let mask = mask(by);
     let half = (mask >> 1) + 1;
     let rest = v.cast_unsigned() & mask;
     let floor = v >> by;

@@ -11,14 +11,14 @@ use Rattle.fx_round.proofs.Shifts.{near_split, near_room}
 use Rattle.fx_round.proofs.split.by_rest.Goals as goal
 use Rattle.fx_round.proofs.split.by_rest.Goals.{After-cast_unsigned, After-from}
 
-half_is : (c : After-cast_unsigned) → c.mask-mask.result / 2 + 1 ≡ 2 ^ (c.args.by - 1)
-half_is c = omega (arith, double c.args.by c.requires.some, c.mask-mask.ensures)
+half_is : (c : After-cast_unsigned) → c.args.mask / 2 + 1 ≡ 2 ^ (c.args.by - 1)
+half_is c = omega (arith, double c.args.by c.requires.some, c.requires.mask)
 
 half_small : (c : After-cast_unsigned) → 2 ^ (c.args.by - 1) ≤ 2 ^ 126
 half_small c = let k : c.args.by - 1 ≤ 126 = omega (arith, c.requires.near) in pow_mono k
 
-mask_is : (c : After-cast_unsigned) → c.mask-mask.result ≡ 2 ^ c.args.by - 1
-mask_is c = omega (arith, c.mask-mask.ensures)
+mask_is : (c : After-cast_unsigned) → c.args.mask ≡ 2 ^ c.args.by - 1
+mask_is c = omega (arith, c.requires.mask)
 
 pub is_upper-next-requires-clause-room : goal.is_upper-next-requires-clause-room
 is_upper-next-requires-clause-room c = rw (half_is c) (half_small c)

@@ -1,0 +1,14 @@
+use Rattle.std.proofs.Common.{true}
+use Rattle.std.specs.Int.{w128}
+use Rattle.std.proofs.lemmas.Int.{to_z-of_z}
+use Rattle.fx_type.specs.declared.kind.FxType.TheVariants.{Num}
+use Rattle.fx_type.specs.Conversion.{Settles}
+use Rattle.fx_round.proofs.conversion.saturated_far.Goals as goal
+
+pub returns : goal.returns
+returns c frac =
+    let q = c.rounded_down.result in
+    let rounded = to_z-of_z w128 q (record { sfits = c.rounded_down.type_inv }) in
+    let rounds = rw (to_z-of_z w128 c.args.v c.ranges.v) at c.rounded_down.ensures in
+    let settles : Settles (Num c.args.signed c.args.width frac) true q c.nearest.result = rw rounded at (c.nearest.ensures frac) in
+    rw (to_z-of_z w128 c.nearest.result (record { sfits = c.nearest.type_inv })) (record { rounded = q; rounds = rounds; settles = settles })
