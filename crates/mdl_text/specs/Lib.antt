@@ -3,3 +3,4 @@ pub mod Lines
 pub mod Plain
 pub mod Prefix
 pub mod Stands
+pub mod Stored

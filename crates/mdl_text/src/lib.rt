@@ -15,6 +15,7 @@ mod brackets;
 mod fault;
 mod reader;
 mod reading;
+mod said;
 mod scan;
 mod strings;
 mod tree;

@@ -1,8 +1,9 @@
-ghost use Rattle.std.specs.Prelude.{◌≡◌, ◌≤◌, length, IfOk, OnOk, IsTrue};
+ghost use Rattle.std.specs.Prelude.{◌≡◌, ◌≤◌, [], ◌∷◌, length, IfOk, OnOk, IsTrue};
 ghost use Rattle.mdl_text.specs.declared.reader.Pending.TheVariants.{Nothing};
 ghost use Rattle.mdl_text.specs.Plain.{IsBounded, goes_on, reader_strings, added, opened, closed, listed, valued, after_name, named, fresh_text, if_closed, unblanked, strings_from, start, step, finish};
 
 use crate::brackets::{ListEnd, list_end};
+use crate::said::{Piece, Said};
 use crate::scan::{are_blanks, name_length, trimmed, unblanked};
 use crate::strings::joined;
 use crate::tree::{Item, Items, Value};
@@ -22,35 +23,37 @@ pub struct Draft {
 
 /// A parameter that the next line may go on with.
 #[derive(Debug, Drop)]
-pub enum Pending {
+pub enum Pending<'a> {
     Nothing,
     /// A quoted value, which further text may follow.
     Strings {
-        name: Text,
-        said: Text,
+        name: Piece<'a>,
+        said: Said<'a>,
     },
     /// A list that is still open, its bytes so far, and how many brackets are open beside the
     /// first.
     Open {
-        name: Text,
-        said: Text,
+        name: Piece<'a>,
+        said: Said<'a>,
         nesting: u64,
     },
 }
 
 /// What the lines so far say.
 #[derive(Debug, Drop)]
-pub struct Reader {
+pub struct Reader<'a> {
     pub draft: Draft,
-    pub pending: Pending,
+    pub pending: Pending<'a>,
 }
 
 impl Draft {
     /// Puts an item at the end.
-    fn add(&mut self, name: Text, value: Value) -> Result<(), OutOfMemory>
-        ensures { OnOk result (self.new ≡ added self.old name value) }
+    #[inline(always)]
+    fn add(&mut self, alloc: Global, name: &[u8], value: Value) -> Result<(), OutOfMemory>
+        ensures { OnOk result (self.new ≡ added self.old name.now value) }
     {
         let depth = self.depth;
+        let name = Text::copy(alloc, name)?;
         self.items.push(Item { depth, name, value })
     }
 
@@ -63,9 +66,9 @@ impl Draft {
     }
 }
 
-impl Reader {
+impl<'a> Reader<'a> {
     /// Before the first line.
-    pub fn new(alloc: Global) -> Reader
+    pub fn new(alloc: Global) -> Reader<'a>
         ensures { result ≡ start }
     {
         let draft = Draft {
@@ -89,7 +92,7 @@ impl Reader {
         if !are_blanks(after) || self.draft.depth >= DEEPEST {
             return Ok(false);
         }
-        self.draft.add(Text::copy(alloc, name)?, Value::Section)?;
+        self.draft.add(alloc, name, Value::Section)?;
         self.draft.depth += 1;
         Ok(true)
     }
@@ -113,15 +116,15 @@ impl Reader {
     fn list(
         &mut self,
         alloc: Global,
-        name: Text,
-        said: Text,
+        name: &'a [u8],
+        said: Said<'a>,
         nesting: u64,
-        line: &[u8],
+        line: &'a [u8],
     ) -> Result<bool, OutOfMemory>
         requires free { self.old.pending ≡ Nothing }
         requires within { nesting ≤ length said }
         ensures value { IfOk result (λ good.
-            listed self.old.draft name said nesting line.now ≡ goes_on good self.new) }
+            listed self.old.draft name.now said.entry nesting line.now ≡ goes_on good self.new) }
         ensures bounded { IfOk result (λ good. IsTrue good → IsBounded self.new.pending) }
     {
         match list_end(nesting, line) {
@@ -129,14 +132,51 @@ impl Reader {
                 if !are_blanks(&line[taken..]) {
                     return Ok(false);
                 }
-                let list = said.append(alloc, &line[..taken])?;
-                self.draft.add(name, Value::List(list))?;
+                let list = said.with(alloc, &line[..taken])?.into_text(alloc)?;
+                self.draft.add(alloc, name, Value::List(list))?;
                 Ok(true)
             }
             ListEnd::Open { nesting } => {
-                let said = said.append(alloc, line)?.append(alloc, b"\n")?;
+                let said = said.with(alloc, line)?.with(alloc, b"\n")?;
                 self.pending = Pending::Open {
-                    name,
+                    name: Piece::new(name),
+                    said,
+                    nesting,
+                };
+                Ok(true)
+            }
+            ListEnd::Broken => Ok(false),
+        }
+    }
+
+    /// A list begins with the value, of which the bytes after its first bracket are given too.
+    #[tactic(auto, unfolding(crate::specs::Plain::listed))]
+    fn first_list(
+        &mut self,
+        alloc: Global,
+        name: &'a [u8],
+        value: &'a [u8],
+        after: &'a [u8],
+    ) -> Result<bool, OutOfMemory>
+        requires free { self.old.pending ≡ Nothing }
+        requires bracket { value.now ≡ 91 ∷ after.now }
+        ensures value { IfOk result (λ good.
+            listed self.old.draft name.now (91 ∷ []) 0 after.now ≡ goes_on good self.new) }
+        ensures bounded { IfOk result (λ good. IsTrue good → IsBounded self.new.pending) }
+    {
+        match list_end(0, after) {
+            ListEnd::Closed { taken } => {
+                if !are_blanks(&after[taken..]) {
+                    return Ok(false);
+                }
+                let list = Text::copy(alloc, &value[..taken + 1])?;
+                self.draft.add(alloc, name, Value::List(list))?;
+                Ok(true)
+            }
+            ListEnd::Open { nesting } => {
+                let said = Said::lent(value).with(alloc, b"\n")?;
+                self.pending = Pending::Open {
+                    name: Piece::new(name),
                     said,
                     nesting,
                 };
@@ -150,19 +190,20 @@ impl Reader {
     fn quoted(
         &mut self,
         alloc: Global,
-        name: Text,
-        said: Text,
-        bytes: &[u8],
+        name: &'a [u8],
+        said: Said<'a>,
+        bytes: &'a [u8],
     ) -> Result<bool, OutOfMemory>
         requires { self.old.pending ≡ Nothing }
         ensures value { IfOk result (λ good.
-            reader_strings self.old.draft name (strings_from said bytes.now)
+            reader_strings self.old.draft name.now (strings_from said.entry bytes.now)
             ≡ goes_on good self.new) }
         ensures bounded { IfOk result (λ good. IsTrue good → IsBounded self.new.pending) }
     {
         match joined(alloc, said, bytes)? {
             None => Ok(false),
             Some(said) => {
+                let name = Piece::new(name);
                 self.pending = Pending::Strings { name, said };
                 Ok(true)
             }
@@ -171,27 +212,31 @@ impl Reader {
 
     /// A parameter with a value, which begins with no blank.
     #[tactic(auto, unfolding(crate::specs::Plain::valued))]
-    fn value(&mut self, alloc: Global, name: &[u8], value: &[u8]) -> Result<bool, OutOfMemory>
+    fn value(&mut self, alloc: Global, name: &'a [u8], value: &'a [u8]) -> Result<bool, OutOfMemory>
         requires { self.old.pending ≡ Nothing }
         ensures value { IfOk result (λ good.
             valued self.old.draft name.now value.now ≡ goes_on good self.new) }
         ensures bounded { IfOk result (λ good. IsTrue good → IsBounded self.new.pending) }
     {
-        let name = Text::copy(alloc, name)?;
         match value {
             [] => Ok(false),
-            [b'"', ..] => self.quoted(alloc, name, Text::copy(alloc, b"")?, value),
-            [b'[', after @ ..] => self.list(alloc, name, Text::copy(alloc, b"[")?, 0, after),
+            [b'"', ..] => self.quoted(alloc, name, Said::lent(b""), value),
+            [b'[', after @ ..] => self.first_list(alloc, name, value, after),
             _ => {
                 let value = Text::copy(alloc, trimmed(value))?;
-                self.draft.add(name, Value::Bare(value))?;
+                self.draft.add(alloc, name, Value::Bare(value))?;
                 Ok(true)
             }
         }
     }
 
     /// What follows a name.
-    fn after_name(&mut self, alloc: Global, name: &[u8], rest: &[u8]) -> Result<bool, OutOfMemory>
+    fn after_name(
+        &mut self,
+        alloc: Global,
+        name: &'a [u8],
+        rest: &'a [u8],
+    ) -> Result<bool, OutOfMemory>
         requires { self.old.pending ≡ Nothing }
         ensures value { IfOk result (λ good.
             after_name self.old.draft name.now rest.now (unblanked rest.now)
@@ -201,9 +246,8 @@ impl Reader {
         let value = unblanked(rest);
         match value {
             [] => {
-                let name = Text::copy(alloc, name)?;
                 let empty = Text::copy(alloc, b"")?;
-                self.draft.add(name, Value::Bare(empty))?;
+                self.draft.add(alloc, name, Value::Bare(empty))?;
                 Ok(true)
             }
             [b'{', after @ ..] => self.open(alloc, name, after),
@@ -214,7 +258,7 @@ impl Reader {
 
     /// A line that begins with a name.
     #[tactic(auto, unfolding(crate::specs::Plain::named))]
-    fn named(&mut self, alloc: Global, text: &[u8]) -> Result<bool, OutOfMemory>
+    fn named(&mut self, alloc: Global, text: &'a [u8]) -> Result<bool, OutOfMemory>
         requires { self.old.pending ≡ Nothing }
         ensures value { IfOk result (λ good.
             named self.old.draft text.now ≡ goes_on good self.new) }
@@ -228,7 +272,7 @@ impl Reader {
     }
 
     /// A line that goes on with nothing, from its first byte that is no blank.
-    fn fresh(&mut self, alloc: Global, text: &[u8]) -> Result<bool, OutOfMemory>
+    fn fresh(&mut self, alloc: Global, text: &'a [u8]) -> Result<bool, OutOfMemory>
         requires { self.old.pending ≡ Nothing }
         ensures value { IfOk result (λ good.
             fresh_text self.old.draft text.now ≡ goes_on good self.new) }
@@ -244,41 +288,41 @@ impl Reader {
     /// Reads the next line. Where no text goes on so, it says `false`, and the reader is of no more
     /// use.
     #[tactic(auto, unfolding(crate::specs::Plain::step, crate::specs::Plain::fresh))]
-    pub fn step(&mut self, alloc: Global, line: &[u8]) -> Result<bool, OutOfMemory>
+    pub fn step(&mut self, alloc: Global, line: &'a [u8]) -> Result<bool, OutOfMemory>
         requires { IsBounded self.old.pending }
         ensures value { IfOk result (λ good. step self.old line.now ≡ goes_on good self.new) }
         ensures bounded { IfOk result (λ good. IsTrue good → IsBounded self.new.pending) }
     {
+        let text = unblanked(line);
         match mem::replace(&mut self.pending, Pending::Nothing) {
-            Pending::Nothing => self.fresh(alloc, unblanked(line)),
+            Pending::Nothing => self.fresh(alloc, text),
             Pending::Open {
                 name,
                 said,
                 nesting,
-            } => self.list(alloc, name, said, nesting, line),
-            Pending::Strings { name, said } => {
-                let text = unblanked(line);
-                match text {
-                    [b'"', ..] => self.quoted(alloc, name, said, text),
-                    _ => {
-                        self.draft.add(name, Value::Quoted(said))?;
-                        self.fresh(alloc, text)
-                    }
+            } => self.list(alloc, name.bytes(), said, nesting, line),
+            Pending::Strings { name, said } => match text {
+                [b'"', ..] => self.quoted(alloc, name.bytes(), said, text),
+                _ => {
+                    let said = said.into_text(alloc)?;
+                    self.draft.add(alloc, name.bytes(), Value::Quoted(said))?;
+                    self.fresh(alloc, text)
                 }
-            }
+            },
         }
     }
 
     /// The items at the end of the text. `None` where a section or a list is open.
     #[tactic(auto, unfolding(crate::specs::Plain::finish))]
-    pub fn finish(self) -> Result<Option<Items>, OutOfMemory>
-        ensures { IfOk result (λ items. items ≡ finish self) }
+    pub fn finish(self, alloc: Global) -> Result<Option<Items>, OutOfMemory>
+        ensures { IfOk result (λ items. items ≡ finish self.entry) }
     {
         let Reader { mut draft, pending } = self;
         match pending {
             Pending::Nothing => Ok(draft.if_closed()),
             Pending::Strings { name, said } => {
-                draft.add(name, Value::Quoted(said))?;
+                let said = said.into_text(alloc)?;
+                draft.add(alloc, name.bytes(), Value::Quoted(said))?;
                 Ok(draft.if_closed())
             }
             Pending::Open { .. } => Ok(None),

@@ -51,12 +51,16 @@ fn split_line(text: &[u8]) -> Option<(&[u8], &[u8])>
 
 /// Reads the last line, and gives the items of the whole text. `None` where the text may not end
 /// so.
-fn last_line(mut reader: Reader, alloc: Global, line: &[u8]) -> Result<Option<Items>, OutOfMemory>
+fn last_line<'a>(
+    mut reader: Reader<'a>,
+    alloc: Global,
+    line: &'a [u8],
+) -> Result<Option<Items>, OutOfMemory>
     requires { IsBounded reader.pending }
-    ensures { IfOk result (λ items. items ≡ run reader (line.now ∷ [])) }
+    ensures { IfOk result (λ items. items ≡ run reader.entry (line.now ∷ [])) }
 {
     if reader.step(alloc, line)? {
-        reader.finish()
+        reader.finish(alloc)
     } else {
         Ok(None)
     }

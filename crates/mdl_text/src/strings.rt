@@ -2,8 +2,9 @@ ghost use Rattle.std.specs.Prelude.{◌≡◌, ◌≤◌, ◌++◌, ℕ, List, l
 ghost use Rattle.mdl_text.specs.declared.strings.Place.TheVariants.{Inside};
 ghost use Rattle.mdl_text.specs.Plain.{string_step, strings, strings_from};
 
+use crate::said::Said;
 use crate::scan::{are_blanks, is_blank};
-use fx_io::{OutOfMemory, Text};
+use fx_io::OutOfMemory;
 use fx_text::{plain_length, push_escaped};
 use std::alloc::Global;
 
@@ -106,14 +107,18 @@ fn strings(mut said: Vec<u8>, bytes: &[u8]) -> Result<Option<Vec<u8>>, OutOfMemo
 }
 
 /// The text with what quoted strings say at its end. `None` where the bytes are none.
-pub fn joined(alloc: Global, said: Text, bytes: &[u8]) -> Result<Option<Text>, OutOfMemory>
-    ensures { IfOk result (λ text. text ≡ strings_from said bytes.now) }
+pub fn joined<'a>(
+    alloc: Global,
+    said: Said<'a>,
+    bytes: &'a [u8],
+) -> Result<Option<Said<'a>>, OutOfMemory>
+    ensures { IfOk result (λ text. text ≡ strings_from said.entry bytes.now) }
 {
     if let Some(text) = plain_string(bytes) {
-        return Ok(Some(said.append(alloc, text)?));
+        return Ok(Some(said.with(alloc, text)?));
     }
     match strings(said.into_vec(alloc)?, bytes)? {
         None => Ok(None),
-        Some(said) => Ok(Some(Text::from_vec(said))),
+        Some(said) => Ok(Some(Said::gathered(said))),
     }
 }
