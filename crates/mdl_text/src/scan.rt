@@ -42,11 +42,23 @@ pub fn are_blanks(bytes: &[u8]) -> bool
     true
 }
 
+/// The bytes behind the pairs of spaces at their front, by which most lines are indented.
+#[tactic(auto, unfolding(crate::specs::Bytes::is_blank))]
+fn unindented(bytes: &[u8]) -> &[u8]
+    ensures { unblanked result.now ≡ unblanked bytes.now }
+{
+    let mut rest = bytes;
+    while let [b' ', b' ', after @ ..] = rest {
+        rest = after;
+    }
+    rest
+}
+
 /// The bytes from the first that is no blank.
 pub fn unblanked(bytes: &[u8]) -> &[u8]
     ensures { result.now ≡ unblanked bytes.now }
 {
-    let mut rest = bytes;
+    let mut rest = unindented(bytes);
     while let [byte, after @ ..] = rest {
         if !is_blank(*byte) {
             return rest;
