@@ -29,7 +29,24 @@ fn input_number(kind: &Kind) -> Option<u32>
 {
     match kind {
         Kind::Inport { number, .. } => Some(*number),
-        _ => None,
+        Kind::Outport { .. }
+        | Kind::Constant { .. }
+        | Kind::Ground
+        | Kind::Sum { .. }
+        | Kind::Gain { .. }
+        | Kind::Product
+        | Kind::Switch { .. }
+        | Kind::Relational { .. }
+        | Kind::Logic { .. }
+        | Kind::Convert { .. }
+        | Kind::Delay { .. }
+        | Kind::Mux { .. }
+        | Kind::Demux { .. }
+        | Kind::RateTransition { .. }
+        | Kind::Pass { .. }
+        | Kind::EnableTest
+        | Kind::EnOut { .. }
+        | Kind::Terminator => None,
     }
 }
 
@@ -39,7 +56,24 @@ pub fn output_number(kind: &Kind) -> Option<u32>
 {
     match kind {
         Kind::Outport { number } => Some(*number),
-        _ => None,
+        Kind::Inport { .. }
+        | Kind::Constant { .. }
+        | Kind::Ground
+        | Kind::Sum { .. }
+        | Kind::Gain { .. }
+        | Kind::Product
+        | Kind::Switch { .. }
+        | Kind::Relational { .. }
+        | Kind::Logic { .. }
+        | Kind::Convert { .. }
+        | Kind::Delay { .. }
+        | Kind::Mux { .. }
+        | Kind::Demux { .. }
+        | Kind::RateTransition { .. }
+        | Kind::Pass { .. }
+        | Kind::EnableTest
+        | Kind::EnOut { .. }
+        | Kind::Terminator => None,
     }
 }
 

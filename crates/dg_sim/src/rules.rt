@@ -152,11 +152,21 @@ pub fn rule_of(
             )
         }
         Kind::EnableTest => above(checked, starts, program, k, place, block),
-        _ => kept_rule(checked, starts, program, k, place, block),
+        Kind::Delay { .. }
+        | Kind::EnOut { .. }
+        | Kind::Sum { .. }
+        | Kind::Gain { .. }
+        | Kind::Product
+        | Kind::Switch { .. }
+        | Kind::Relational { .. }
+        | Kind::Logic { .. }
+        | Kind::Convert { .. }
+        | Kind::Terminator => kept_rule(checked, starts, program, k, place, block),
     }
 }
 
-/// The rule of a block that keeps values from hit to hit, or else of one that works element by element.
+/// The rule of a block that keeps values from hit to hit, or else of one that works element by
+/// element.
 fn kept_rule(
     checked: &Checked,
     starts: &Starts,
@@ -202,11 +212,43 @@ fn kept_rule(
                 initial.as_slice(),
             )
         }
-        _ => {
-            let Some(op) = op_of(checked, starts, place, &block.kind) else {
-                return Err(OutOfMemory);
-            };
-            works(checked, starts, program, k, place, block, op)
-        }
+        Kind::Inport { .. }
+        | Kind::Outport { .. }
+        | Kind::Constant { .. }
+        | Kind::Ground
+        | Kind::Sum { .. }
+        | Kind::Gain { .. }
+        | Kind::Product
+        | Kind::Switch { .. }
+        | Kind::Relational { .. }
+        | Kind::Logic { .. }
+        | Kind::Convert { .. }
+        | Kind::Mux { .. }
+        | Kind::Demux { .. }
+        | Kind::RateTransition { .. }
+        | Kind::Pass { .. }
+        | Kind::EnableTest
+        | Kind::Terminator => worked(checked, starts, program, k, place, block),
     }
+}
+
+/// The rule of a block that works element by element.
+fn worked(
+    checked: &Checked,
+    starts: &Starts,
+    program: &mut Program,
+    k: u32,
+    place: Place,
+    block: &Block,
+) -> Result<Rule, OutOfMemory>
+    requires block { slice_get checked.now.diagram.blocks place.block ≡ Some block.now }
+    requires entries { AreEntries checked.now.diagram (attributes_of checked.now.diagram)
+        program.old.places }
+    ensures { IfOk result (λ rule. IsMade checked.now.diagram (attributes_of checked.now.diagram)
+        program.old program.new k place rule) }
+{
+    let Some(op) = op_of(checked, starts, place, &block.kind) else {
+        return Err(OutOfMemory);
+    };
+    works(checked, starts, program, k, place, block, op)
 }

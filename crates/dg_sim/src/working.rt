@@ -132,7 +132,18 @@ pub fn op_of(checked: &Checked, starts: &Starts, place: Place, kind: &Kind) -> O
             })
         }
         Kind::Convert { stored: integer } => Some(Op::Convert { stored: *integer }),
-        _ => None,
+        Kind::Inport { .. }
+        | Kind::Outport { .. }
+        | Kind::Constant { .. }
+        | Kind::Ground
+        | Kind::Delay { .. }
+        | Kind::Mux { .. }
+        | Kind::Demux { .. }
+        | Kind::RateTransition { .. }
+        | Kind::Pass { .. }
+        | Kind::EnableTest
+        | Kind::EnOut { .. }
+        | Kind::Terminator => None,
     }
 }
 
@@ -142,7 +153,24 @@ fn negative_of(kind: &Kind) -> &[bool]
 {
     match kind {
         Kind::Sum { negative } => negative.as_slice(),
-        _ => &[],
+        Kind::Inport { .. }
+        | Kind::Outport { .. }
+        | Kind::Constant { .. }
+        | Kind::Ground
+        | Kind::Gain { .. }
+        | Kind::Product
+        | Kind::Switch { .. }
+        | Kind::Relational { .. }
+        | Kind::Logic { .. }
+        | Kind::Convert { .. }
+        | Kind::Delay { .. }
+        | Kind::Mux { .. }
+        | Kind::Demux { .. }
+        | Kind::RateTransition { .. }
+        | Kind::Pass { .. }
+        | Kind::EnableTest
+        | Kind::EnOut { .. }
+        | Kind::Terminator => &[],
     }
 }
 

@@ -4,6 +4,3 @@ use Rattle.dg_sim.proofs.rules.kept_rule.Goals as goal
 pub delayed-requires-clause-some : goal.delayed-requires-clause-some
 delayed-requires-clause-some c =
     delay_some c.args.checked.now.diagram c.keeps_rules.ensures.checked.wired c.args.place.block c.args.block.now c.requires.block c.in-Delay.length _ c.in-Delay.reset c.in-Delay.is
-
-pub works-requires : goal.works-requires
-works-requires c = record { block = c.requires.block; entries = c.requires.entries; op = c.in-Some.ensures }
