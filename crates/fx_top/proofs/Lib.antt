@@ -9,6 +9,7 @@ pub mod Loop
 pub mod Names
 mod Outcomes
 pub mod Replayed
+mod ReplayedDelay
 pub mod Responses
 pub mod Running
 pub mod Sayings

@@ -14,10 +14,10 @@ abbrev empty : Files
 empty = record { held = λ file. Some None; steady = ⊤; failed = ⊤; met_overlong = ⊥ }
 
 -- a stream that took these bytes in the call
-abbrev took : List ℕ → Stream
+abbrev pub took : List ℕ → Stream
 took bytes = record { before = Some []; now = Some bytes; failed = ⊥ }
 
-said : (bytes : List ℕ) → Said (took bytes) bytes
+pub said : (bytes : List ℕ) → Said (took bytes) bytes
 said bytes = record { prefix = (length bytes, ap Some (sym (take_all (length bytes) bytes (omega arith)))); whole = λ calm. refl }
 
 -- no words: status 2, with the line of usage, and no other

@@ -25,55 +25,55 @@ use Rattle.fx_top.specs.OneDelay.{byte_element, byte_output, delay_interface, So
 use Rattle.fx_top.specs.inner.DelayModule.{register, delay_module}
 use Rattle.fx_top.proofs.Carried.{assigned-byte, declarations-are, declared_as, bit_net, byte_net}
 
-abbrev delay : OneDelay
+abbrev pub delay : OneDelay
 delay = record { input = codes "u"; output = codes "y"; initial = pos 3 }
 
-abbrev m : Module
+abbrev pub m : Module
 m = delay_module delay
 
 -- five rows: any inputs, `reset`, and then the three samples at clocks 0, 1 and 2
-abbrev window : Window
+abbrev pub window : Window
 window = record { rows = 5; last_reset = 1 }
 
-abbrev stimulus : PortNumbers
+abbrev pub stimulus : PortNumbers
 stimulus place zero = pos 5
 stimulus place (suc zero) = negsuc 0
 stimulus place (suc (suc t)) = pos 127
 
-abbrev entries : PortNumbers
+abbrev pub entries : PortNumbers
 entries place zero = pos 3
 entries place (suc zero) = pos 5
 entries place (suc (suc t)) = negsuc 0
 
-abbrev reset_at : ℕ → ℕ
+abbrev pub reset_at : ℕ → ℕ
 reset_at zero = 0
 reset_at (suc zero) = 1
 reset_at (suc (suc k)) = 0
 
-abbrev input_at : ℕ → ℕ
+abbrev pub input_at : ℕ → ℕ
 input_at zero = 0
 input_at (suc zero) = 0
 input_at (suc (suc zero)) = 5
 input_at (suc (suc (suc zero))) = 255
 input_at (suc (suc (suc (suc k)))) = 127
 
--- the register holds 9 before the first edge
-abbrev register_at : ℕ → ℕ
-register_at zero = 9
-register_at (suc zero) = 0
-register_at (suc (suc zero)) = 3
-register_at (suc (suc (suc zero))) = 5
-register_at (suc (suc (suc (suc k)))) = 255
+-- what the register holds before the first edge shows at no clock
+abbrev pub register_at : ℕ → ℕ → ℕ
+register_at begun zero = begun
+register_at begun (suc zero) = 0
+register_at begun (suc (suc zero)) = 3
+register_at begun (suc (suc (suc zero))) = 5
+register_at begun (suc (suc (suc (suc k)))) = 255
 
-abbrev start : Row
-start name = 9
+abbrev pub start : ℕ → Row
+start begun name = begun
 
-abbrev inputs : Rows
+abbrev pub inputs : Rows
 inputs k name =
     if bytes_eq name (codes "reset") then reset_at k else (if bytes_eq name (codes "u") then input_at k else 0)
 
-abbrev rows : Rows
-rows k name = if bytes_eq name (codes "y") || bytes_eq name register then register_at k else inputs k name
+abbrev pub rows : ℕ → Rows
+rows begun k name = if bytes_eq name (codes "y") || bytes_eq name register then register_at begun k else inputs k name
 
 -- ---- the premises are met
 
@@ -88,7 +88,7 @@ released zero after = absurd (omega arith)
 released (suc zero) after = absurd (omega arith)
 released (suc (suc k)) after = refl
 
-shown-by : (place : ℕ) (port : Port) → slice_get (stimulus_ports m) place ≡ Some port → (period : ℕ) → period_of port ≡ Some period
+pub shown-by : (place : ℕ) (port : Port) → slice_get (stimulus_ports m) place ≡ Some port → (period : ℕ) → period_of port ≡ Some period
     → (cycles : ℕ) → cycles_of m ≡ Some cycles → (t : ℕ) → t < 3
     → (clock : ℕ) → t * cycles ≤ clock → clock < (t + period) * cycles → inputs (2 + clock) port.name ≡ bits_of port.width (stimulus place t)
 shown-by zero port is period has cycles each t below clock from until =
@@ -102,7 +102,7 @@ shown-by zero port is period has cycles each t below clock from until =
     (ap input_at (ap (λ (c : ℕ). 2 + c) here) ∙ input-shown t below)
 shown-by (suc place) port is period has cycles each t below clock from until = absurd (cc is)
 
-driven : Driven m stimulus 3 window inputs
+pub driven : Driven m stimulus 3 window inputs
 driven = record {
   within = omega arith;
   reset = refl;
@@ -130,37 +130,37 @@ input-fits (suc (suc zero)) = omega arith
 input-fits (suc (suc (suc zero))) = omega arith
 input-fits (suc (suc (suc (suc k)))) = omega arith
 
-register-fits : (k : ℕ) → register_at k < 256
-register-fits zero = omega arith
-register-fits (suc zero) = omega arith
-register-fits (suc (suc zero)) = omega arith
-register-fits (suc (suc (suc zero))) = omega arith
-register-fits (suc (suc (suc (suc k)))) = omega arith
+register-fits : (begun k : ℕ) → begun < 256 → register_at begun k < 256
+register-fits begun zero small = small
+register-fits begun (suc zero) small = omega arith
+register-fits begun (suc (suc zero)) small = omega arith
+register-fits begun (suc (suc (suc zero))) small = omega arith
+register-fits begun (suc (suc (suc (suc k)))) small = omega arith
 
 abbrev declared_all : List Declared
 declared_all = declared_as (codes "clk") InputPort bit_net ∷ declared_as (codes "reset") InputPort bit_net ∷ declared_as (codes "u") InputPort byte_net
     ∷ declared_as (codes "y") OutputPort byte_net ∷ declared_as register Register byte_net ∷ []
 
-fits : (k : ℕ) (declared : Declared) → Contains declared_all declared → rows k declared.name < 2 ^ declared.net.width
-fits k declared (zero, below, is) = subst (λ (x : Declared). rows k x.name < 2 ^ x.net.width) is (omega arith)
-fits k declared (suc zero, below, is) = subst (λ (x : Declared). rows k x.name < 2 ^ x.net.width) is (reset-fits k)
-fits k declared (suc (suc zero), below, is) = subst (λ (x : Declared). rows k x.name < 2 ^ x.net.width) is (input-fits k)
-fits k declared (suc (suc (suc zero)), below, is) = subst (λ (x : Declared). rows k x.name < 2 ^ x.net.width) is (register-fits k)
-fits k declared (suc (suc (suc (suc zero))), below, is) = subst (λ (x : Declared). rows k x.name < 2 ^ x.net.width) is (register-fits k)
-fits k declared (suc (suc (suc (suc (suc i)))), below, is) = absurd (omega arith)
+fits : (begun k : ℕ) → begun < 256 → (declared : Declared) → Contains declared_all declared → rows begun k declared.name < 2 ^ declared.net.width
+fits begun k small declared (zero, below, is) = subst (λ (x : Declared). rows begun k x.name < 2 ^ x.net.width) is (omega arith)
+fits begun k small declared (suc zero, below, is) = subst (λ (x : Declared). rows begun k x.name < 2 ^ x.net.width) is (reset-fits k)
+fits begun k small declared (suc (suc zero), below, is) = subst (λ (x : Declared). rows begun k x.name < 2 ^ x.net.width) is (input-fits k)
+fits begun k small declared (suc (suc (suc zero)), below, is) = subst (λ (x : Declared). rows begun k x.name < 2 ^ x.net.width) is (register-fits begun k small)
+fits begun k small declared (suc (suc (suc (suc zero))), below, is) = subst (λ (x : Declared). rows begun k x.name < 2 ^ x.net.width) is (register-fits begun k small)
+fits begun k small declared (suc (suc (suc (suc (suc i)))), below, is) = absurd (omega arith)
 
-starts : (signed : Bool) (width : ℕ) (name : List ℕ) → Contains m.items (Reg signed width name) → rows 0 name ≡ 9
-starts signed width name (zero, below, is) = let same : register ≡ name = cc is in subst (λ (n : List ℕ). rows 0 n ≡ 9) same refl
-starts signed width name (suc zero, below, is) = absurd (cc is)
-starts signed width name (suc (suc zero), below, is) = absurd (cc is)
-starts signed width name (suc (suc (suc i)), below, is) = absurd (omega arith)
+starts : (begun : ℕ) (signed : Bool) (width : ℕ) (name : List ℕ) → Contains m.items (Reg signed width name) → rows begun 0 name ≡ begun
+starts begun signed width name (zero, below, is) = let same : register ≡ name = cc is in subst (λ (n : List ℕ). rows begun 0 n ≡ begun) same refl
+starts begun signed width name (suc zero, below, is) = absurd (cc is)
+starts begun signed width name (suc (suc zero), below, is) = absurd (cc is)
+starts begun signed width name (suc (suc (suc i)), below, is) = absurd (omega arith)
 
-given : (k : ℕ) (port : Port) → Contains m.ports port → port.input ≡ true → rows k port.name ≡ inputs k port.name
-given k port (zero, below, is) input = subst (λ (p : Port). rows k p.name ≡ inputs k p.name) is refl
-given k port (suc zero, below, is) input = subst (λ (p : Port). rows k p.name ≡ inputs k p.name) is refl
-given k port (suc (suc zero), below, is) input = subst (λ (p : Port). rows k p.name ≡ inputs k p.name) is refl
-given k port (suc (suc (suc zero)), below, is) input = absurd (cc (is, input))
-given k port (suc (suc (suc (suc i))), below, is) input = absurd (omega arith)
+given : (begun k : ℕ) (port : Port) → Contains m.ports port → port.input ≡ true → rows begun k port.name ≡ inputs k port.name
+given begun k port (zero, below, is) input = subst (λ (p : Port). rows begun k p.name ≡ inputs k p.name) is refl
+given begun k port (suc zero, below, is) input = subst (λ (p : Port). rows begun k p.name ≡ inputs k p.name) is refl
+given begun k port (suc (suc zero), below, is) input = subst (λ (p : Port). rows begun k p.name ≡ inputs k p.name) is refl
+given begun k port (suc (suc (suc zero)), below, is) input = absurd (cc (is, input))
+given begun k port (suc (suc (suc (suc i))), below, is) input = absurd (omega arith)
 
 abbrev first : Sized
 first = record { width = 8; signed = true; bits = 3 }
@@ -174,54 +174,54 @@ net-y = refl
 net-delay : nets_of m register ≡ byte_net
 net-delay = refl
 
-taken-u : (k : ℕ) → assigned (nets_of m) (rows k) 8 (Name (codes "u")) ≡ input_at k
-taken-u k = assigned-byte (nets_of m) (rows k) (codes "u") net-u (input-fits k)
+taken-u : (begun k : ℕ) → assigned (nets_of m) (rows begun k) 8 (Name (codes "u")) ≡ input_at k
+taken-u begun k = assigned-byte (nets_of m) (rows begun k) (codes "u") net-u (input-fits k)
 
-assigns : (k : ℕ) (name : List ℕ) (value : Expr) → Contains m.items (Assign name value) → rows k name ≡ assigned (nets_of m) (rows k) (nets_of m name).width value
-assigns k name value (zero, below, is) = absurd (cc is)
-assigns k name value (suc zero, below, is) = absurd (cc is)
-assigns k name value (suc (suc zero), below, is) =
+assigns : (begun k : ℕ) → begun < 256 → (name : List ℕ) (value : Expr) → Contains m.items (Assign name value) → rows begun k name ≡ assigned (nets_of m) (rows begun k) (nets_of m name).width value
+assigns begun k small name value (zero, below, is) = absurd (cc is)
+assigns begun k small name value (suc zero, below, is) = absurd (cc is)
+assigns begun k small name value (suc (suc zero), below, is) =
     let name_is : codes "y" ≡ name = cc is in
     let value_is : Name register ≡ value = cc is in
-    subst (λ (n : List ℕ). rows k n ≡ assigned (nets_of m) (rows k) (nets_of m n).width value) name_is
-    (subst (λ (v : Expr). register_at k ≡ assigned (nets_of m) (rows k) (nets_of m (codes "y")).width v) value_is
-    (sym (ap (λ (net : Net). assigned (nets_of m) (rows k) net.width (Name register)) net-y ∙ assigned-byte (nets_of m) (rows k) register net-delay (register-fits k))))
-assigns k name value (suc (suc (suc i)), below, is) = absurd (omega arith)
+    subst (λ (n : List ℕ). rows begun k n ≡ assigned (nets_of m) (rows begun k) (nets_of m n).width value) name_is
+    (subst (λ (v : Expr). register_at begun k ≡ assigned (nets_of m) (rows begun k) (nets_of m (codes "y")).width v) value_is
+    (sym (ap (λ (net : Net). assigned (nets_of m) (rows begun k) net.width (Name register)) net-y ∙ assigned-byte (nets_of m) (rows begun k) register net-delay (register-fits begun k small))))
+assigns begun k small name value (suc (suc (suc i)), below, is) = absurd (omega arith)
 
 -- what the register takes at the edge that ends row k
-stepped : (k : ℕ) → k + 1 < 5 → register_at (k + 1) ≡ next_bits m (rows k) register first None (Name (codes "u"))
-stepped zero below = sym (ap (λ (net : Net). assigned (nets_of m) (rows 0) net.width (Name (codes "u"))) net-delay ∙ taken-u 0)
-stepped (suc zero) below = sym (ap (λ (net : Net). assigned_number net.width first) net-delay)
-stepped (suc (suc zero)) below = sym (ap (λ (net : Net). assigned (nets_of m) (rows 2) net.width (Name (codes "u"))) net-delay ∙ taken-u 2)
-stepped (suc (suc (suc zero))) below = sym (ap (λ (net : Net). assigned (nets_of m) (rows 3) net.width (Name (codes "u"))) net-delay ∙ taken-u 3)
-stepped (suc (suc (suc (suc k)))) below = absurd (omega arith)
+stepped : (begun k : ℕ) → k + 1 < 5 → register_at begun (k + 1) ≡ next_bits m (rows begun k) register first None (Name (codes "u"))
+stepped begun zero below = sym (ap (λ (net : Net). assigned (nets_of m) (rows begun 0) net.width (Name (codes "u"))) net-delay ∙ taken-u begun 0)
+stepped begun (suc zero) below = sym (ap (λ (net : Net). assigned_number net.width first) net-delay)
+stepped begun (suc (suc zero)) below = sym (ap (λ (net : Net). assigned (nets_of m) (rows begun 2) net.width (Name (codes "u"))) net-delay ∙ taken-u begun 2)
+stepped begun (suc (suc (suc zero))) below = sym (ap (λ (net : Net). assigned (nets_of m) (rows begun 3) net.width (Name (codes "u"))) net-delay ∙ taken-u begun 3)
+stepped begun (suc (suc (suc (suc k)))) below = absurd (omega arith)
 
-abbrev HasStepped : ℕ → ModItem → Type 0
-HasStepped k (Wire signed width name) = ⊤
-HasStepped k (Reg signed width name) = ⊤
-HasStepped k (Assign name value) = ⊤
-HasStepped k (Always name of_reset condition value) = rows (k + 1) name ≡ next_bits m (rows k) name of_reset condition value
+abbrev HasStepped : ℕ → ℕ → ModItem → Type 0
+HasStepped begun k (Wire signed width name) = ⊤
+HasStepped begun k (Reg signed width name) = ⊤
+HasStepped begun k (Assign name value) = ⊤
+HasStepped begun k (Always name of_reset condition value) = rows begun (k + 1) name ≡ next_bits m (rows begun k) name of_reset condition value
 
-steps : (k : ℕ) → k + 1 < 5 → (name : List ℕ) (of_reset : Sized) (condition : Option Expr) (value : Expr) → Contains m.items (Always name of_reset condition value)
-    → rows (k + 1) name ≡ next_bits m (rows k) name of_reset condition value
-steps k more name of_reset condition value (zero, below, is) = absurd (cc is)
-steps k more name of_reset condition value (suc zero, below, is) =
-    subst (λ (item : ModItem). HasStepped k item) is (stepped k more)
-steps k more name of_reset condition value (suc (suc zero), below, is) = absurd (cc is)
-steps k more name of_reset condition value (suc (suc (suc i)), below, is) = absurd (omega arith)
+steps : (begun k : ℕ) → k + 1 < 5 → (name : List ℕ) (of_reset : Sized) (condition : Option Expr) (value : Expr) → Contains m.items (Always name of_reset condition value)
+    → rows begun (k + 1) name ≡ next_bits m (rows begun k) name of_reset condition value
+steps begun k more name of_reset condition value (zero, below, is) = absurd (cc is)
+steps begun k more name of_reset condition value (suc zero, below, is) =
+    subst (λ (item : ModItem). HasStepped begun k item) is (stepped begun k more)
+steps begun k more name of_reset condition value (suc (suc zero), below, is) = absurd (cc is)
+steps begun k more name of_reset condition value (suc (suc (suc i)), below, is) = absurd (omega arith)
 
-runs : Runs m 5 start inputs rows
-runs = record {
-  fits = λ k below declared has. fits k declared (subst (λ (all : List Declared). Contains all declared) (declarations-are delay) has);
-  starts = λ some signed width name has. starts signed width name has;
-  driven = λ k below port has input. given k port has input;
-  assigns = λ k below name value has. assigns k name value has;
-  steps = steps;
+pub runs : (begun : ℕ) → begun < 256 → Runs m 5 (start begun) inputs (rows begun)
+runs begun small = record {
+  fits = λ k below declared has. fits begun k small declared (subst (λ (all : List Declared). Contains all declared) (declarations-are delay) has);
+  starts = λ some signed width name has. starts begun signed width name has;
+  driven = λ k below port has input. given begun k port has input;
+  assigns = λ k below name value has. assigns begun k small name value has;
+  steps = steps begun;
 }
 
 -- ---- and so is the conclusion: 3, 5, -1 at clocks 0, 1 and 2
 
-output-shown : (t : ℕ) → t < 3 → register_at (2 + t) ≡ bits_of 8 (entries 0 t)
+pub output-shown : (t : ℕ) → t < 3 → register_at 9 (2 + t) ≡ bits_of 8 (entries 0 t)
 output-shown zero below = refl
 output-shown (suc zero) below = refl
 output-shown (suc (suc zero)) below = refl
@@ -230,15 +230,15 @@ output-shown (suc (suc (suc t))) below = absurd (omega arith)
 abbrev only : OutputElement
 only = byte_output (codes "y") 0
 
-outputs-show : OutputsShow (delay_interface delay) 3 window rows entries
+outputs-show : OutputsShow (delay_interface delay) 3 window (rows 9) entries
 outputs-show zero output is t below hit clock from until there =
     let same : only ≡ output = cc is in
     let period_is : port_period output.element.root.period ≡ 1 = ap (λ (o : OutputElement). port_period o.element.root.period) (sym same) in
     let latency_is : output.latency ≡ 0 = ap (λ (o : OutputElement). o.latency) (sym same) in
     let lat_is : output.lat ≡ 0 = ap (λ (o : OutputElement). o.lat) (sym same) in
     let here : clock ≡ t = omega (arith, period_is, latency_is, lat_is) in
-    subst (λ (o : OutputElement). rows (2 + clock) o.element.name ≡ bits_of (width_of o.element.root.type) (entries 0 t)) same
-    (ap register_at (ap (λ (c : ℕ). 2 + c) here) ∙ output-shown t below)
+    subst (λ (o : OutputElement). rows 9 (2 + clock) o.element.name ≡ bits_of (width_of o.element.root.type) (entries 0 t)) same
+    (ap (register_at 9) (ap (λ (c : ℕ). 2 + c) here) ∙ output-shown t below)
 outputs-show (suc place) output is t below hit clock from until there = absurd (cc is)
 
 -- rows whose output is not delayed show no such entries
