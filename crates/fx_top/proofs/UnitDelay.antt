@@ -18,9 +18,9 @@ use Rattle.dg_model.specs.RootElements.{RootElement, AreColumns}
 use lib.Signed.{le_z_yes}
 use Rattle.vl_ast.specs.Runs.{Row, Rows, Runs, next_bits}
 use Rattle.vl_ast.specs.Value.{bits_of, assigned, assigned_number}
-use Rattle.vl_ast.specs.Windows.{PortNumbers, Window}
+use Rattle.vl_ast.specs.Windows.{PortNumbers, Sample, Window}
 use Rattle.fx_top.specs.declared.one_delay.OneDelay.{OneDelay}
-use Rattle.fx_top.specs.Carries.{input_roots, OutputsShow, OutputElement, input_port, port_period}
+use Rattle.fx_top.specs.Carries.{CarriesBits, input_roots, OutputsShow, OutputElement, input_port, port_period}
 use Rattle.fx_top.specs.OneDelay.{byte_element, byte_output, delay_interface, SolvesDelay}
 use Rattle.fx_top.specs.inner.DelayModule.{register, delay_module}
 use Rattle.fx_top.proofs.Carried.{assigned-byte, declarations-are, declared_as, bit_net, byte_net}
@@ -257,3 +257,9 @@ is-stimulus zero e t is below hit = subst (λ (root : RootElement). InRange root
   some-is : Some (byte_element (codes "u") 0).root ≡ Some e → (byte_element (codes "u") 0).root ≡ e
   some-is same = cc same
 is-stimulus (suc place) e t is below hit = absurd (cc is)
+
+-- the module doesn't carry the bits of a model that shows its input undelayed
+not-carried : CarriesBits m (delay_interface delay) (λ samples given shown. (t : Sample) → shown 0 t ≡ given 0 t) → ⊥
+not-carried carries =
+    let shows = carries.shows 3 window stimulus stimulus (start 9) inputs (rows 9) is-stimulus (λ t. refl) driven (runs 9 (omega arith)) in
+    let three : 3 ≡ 5 = shows 0 only refl 0 (omega arith) refl 0 (omega arith) (omega arith) (omega arith) in omega (arith, three)
