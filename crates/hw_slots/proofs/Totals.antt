@@ -1,16 +1,18 @@
 -- Sums of widths and of multipliers, level by level and kind by kind.
-use Rattle.std.proofs.Common.{◌≡◌, ℕ, zero, suc, ◌+◌, ◌/◌, ◌%◌, ◌<◌, ◌≤◌, cond, min, List, [], ◌∷◌, ◌++◌, length, map, refl, sym, ap, subst, ◌∙◌, inl, inr, arith}
+use Rattle.std.proofs.Common.{◌≡◌, ℕ, zero, suc, ◌+◌, ◌-◌, ◌/◌, ◌%◌, ◌<◌, ◌≤◌, Bool, true, false, cond, min, List, [], ◌∷◌, ◌++◌, length, map, refl, sym, ap, subst, ◌∙◌, inl, inr, arith}
 use Rattle.std.specs.Prelude.{slice_get, Some, ◌&&◌, ◌==◌}
 use Rattle.std.specs.List.{sum}
-use Rattle.std.proofs.lemmas.Bool.{cond-true, cond-false, cases_lt, eq-eqb, ne_eqb, and_from, and_left, and_right}
+use Rattle.std.proofs.lemmas.Bool.{cond-true, cond-false, cases_lt, eqb-true, eq-eqb, ne_eqb, and_parts, and_from, and_left, and_right}
 use Rattle.std.proofs.lemmas.List.Sums.{sum_by-cons}
 use Rattle.std.proofs.lemmas.Option.{same_Some, slice_get_within}
 use Rattle.dg_waves.specs.Rounds.{numbers_from}
+use Rattle.dg_model.specs.Widths.{greatest}
+use Rattle.hw_slots.specs.declared.bases.Bases.{Bases}
 use Rattle.hw_slots.specs.declared.operation.Operation.{Operation}
 use Rattle.hw_slots.specs.declared.operation.Span.{Span}
 use Rattle.hw_slots.specs.declared.tally.Rung.{Rung}
-use Rattle.hw_slots.specs.Slots.{level_width, level_after, levels_of, base_slot, need_of, turn_of, slot_of, units_of_kind, first_unit, unit_of}
-use Rattle.hw_slots.specs.Answer.{AreStarts, AreUnits, HasSlots, IsShort}
+use Rattle.hw_slots.specs.Slots.{count_at, shared_out, needed, level_width, level_after, levels_of, base_slot, need_of, turn_of, slot_of, units_of_kind, first_unit, unit_of}
+use Rattle.hw_slots.specs.Answer.{AreStarts, AreUnits, AreBaseSlots, HasSlots, IsShort}
 use Rattle.hw_slots.specs.inner.Tally.{tally_at}
 use Rattle.hw_slots.specs.inner.Made.{AreWidths, AreLevels, AreMost, AreTurns, AreBases, AreBasesBy, AreFirst, AreFirstBy, AreLaid, IsElsewhere, base_by, first_by}
 use Rattle.hw_slots.proofs.Steps.{greatest_at, grown, grown_size}
@@ -99,7 +101,7 @@ pub laid_none : (operations : List Operation) (multipliers : ℕ) (periods : Lis
 laid_none operations multipliers periods tally = record { bases = λ period span below at. absurd (omega (arith, below)); keeps = λ period span below at. absurd (omega (arith, below)) }
 
 pub laid_more : (operations : List Operation) (multipliers : ℕ) (periods : List Span) (widths levels old new : List (Rung × ℕ)) (place : ℕ) (span : Span) (count need : ℕ) → slice_get periods place ≡ Some span
-    → AreWidths operations multipliers widths → AreLevels operations levels → count ≡ tally_at levels place 0 → need ≡ base_by widths span.start place count → AreBasesBy widths span.start place count new → IsElsewhere place old new → need ≤ span.have
+    → AreWidths operations multipliers widths → AreLevels operations levels → count ≡ tally_at levels place 0 → need ≡ base_by widths span.start place count → AreBasesBy widths span.start place (count + 1) new → IsElsewhere place old new → need ≤ span.have
     → AreLaid operations multipliers periods place old → AreLaid operations multipliers periods (place + 1) new
 laid_more operations multipliers periods widths levels old new place span count need at wide many is sum made other keeps before = record {
   bases = λ period one below there. elim (cases_lt period place) [
@@ -107,8 +109,8 @@ laid_more operations multipliers periods widths levels old new place span count 
     | inr past ↦
         let e : place ≡ period = omega (arith, past, below) in
         let same : span ≡ one = same_Some span one (sym at ∙ ap (slice_get periods) e ∙ there) in
-        subst (λ (p : ℕ). AreBases operations multipliers one.start p (levels_of operations p) new) e
-        (subst (λ (s : Span). AreBases operations multipliers s.start place (levels_of operations place) new) same
+        subst (λ (p : ℕ). AreBases operations multipliers one.start p (suc (levels_of operations p)) new) e
+        (subst (λ (s : Span). AreBases operations multipliers s.start place (suc (levels_of operations place)) new) same
         (record { are = λ level low. let c : count ≡ levels_of operations place = is ∙ many.are place in made.are level (omega (arith, low, c)) ∙ based operations multipliers widths span.start place level wide }))
   ];
   keeps = λ period one below there. elim (cases_lt period place) [
@@ -131,6 +133,57 @@ is_short operations multipliers periods widths levels old place span count need 
   has = refl;
   short = short;
   first = λ other below one there. before.keeps other one below there;
+}
+
+-- ---- past the last level
+
+needed_none : (operations : List Operation) (multipliers period level : ℕ) (o : Operation) (test : Bool) → ((o.period == period) && (o.level == level)) ≡ test → level_after period o ≤ level → needed operations multipliers period level o ≡ 0
+needed_none operations multipliers period level o true e past =
+    let parts = and_parts (o.period == period) (o.level == level) e in
+    let same : o.level ≡ level = eqb-true o.level level parts.1 in
+    let after : level_after period o ≡ o.level + 1 = cond-true (o.period == period) (o.level + 1) 0 parts.0 in
+    absurd (omega (arith, past, same, after))
+needed_none operations multipliers period level o false e past = cond-false ((o.period == period) && (o.level == level)) (shared_out (count_at operations o.kind o.level) multipliers) 0 e
+
+greatest_zero : {A : Type 0} (f : A → ℕ) (xs : List A) → ((k : ℕ) (x : A) → slice_get xs k ≡ Some x → f x ≡ 0) → greatest (map f xs) ≡ 0
+greatest_zero f [] none = refl
+greatest_zero f (x ∷ xs) none =
+    let here = none 0 x refl in
+    let more = greatest_zero f xs (λ k y at. none (suc k) y at) in
+    omega (arith, here, more)
+
+width_none : (operations : List Operation) (multipliers period level : ℕ) → levels_of operations period ≤ level → level_width operations multipliers period level ≡ 0
+width_none operations multipliers period level past = greatest_zero (needed operations multipliers period level) operations (λ k o at.
+    let most = greatest_at (level_after period) operations k o at in
+    needed_none operations multipliers period level o ((o.period == period) && (o.level == level)) refl (omega (arith, most, past)))
+
+sum_stays : (f : ℕ → ℕ) (most more : ℕ) → ((k : ℕ) → most ≤ k → f k ≡ 0) → sum (map f (numbers_from 0 (most + more))) ≡ sum (map f (numbers_from 0 most))
+sum_stays f most zero none = let e : most + 0 ≡ most = omega arith in ap (λ (n : ℕ). sum (map f (numbers_from 0 n))) e
+sum_stays f most (suc more) none =
+    let e : most + suc more ≡ (most + more) + 1 = omega arith in
+    let same = ap (λ (n : ℕ). sum (map f (numbers_from 0 n))) e in
+    let before = sum_stays f most more none in
+    let here = none (most + more) (omega arith) in
+    omega (arith, same, before, here, sum_below_next f (most + more))
+
+base_stays : (operations : List Operation) (multipliers start period level : ℕ) → base_slot operations multipliers start period (min level (levels_of operations period)) ≡ base_slot operations multipliers start period level
+base_stays operations multipliers start period level = elim (cases_lt level (levels_of operations period)) [
+  | inl less ↦ let e : min level (levels_of operations period) ≡ level = omega (arith, less) in ap (base_slot operations multipliers start period) e
+  | inr past ↦
+      let e : min level (levels_of operations period) ≡ levels_of operations period = omega (arith, past) in
+      let whole : levels_of operations period + (level - levels_of operations period) ≡ level = omega (arith, past) in
+      let stays = sum_stays (level_width operations multipliers period) (levels_of operations period) (level - levels_of operations period) (λ k late. width_none operations multipliers period k late) in
+      ap (base_slot operations multipliers start period) e
+      ∙ sym (ap (λ (n : ℕ). start + n) stays)
+      ∙ ap (base_slot operations multipliers start period) whole
+]
+
+pub bases_end : (operations : List Operation) (multipliers : ℕ) (periods : List Span) (bases : Bases) → AreLaid operations multipliers periods (length periods) bases.firsts → AreLevels operations bases.levels → AreBaseSlots operations multipliers periods bases
+bases_end operations multipliers periods bases laid many = record {
+  are = λ period level span at.
+      let few : tally_at bases.levels period 0 ≡ levels_of operations period = many.are period in
+      let made = (laid.bases period span (slice_get_within periods period span at) at).are (min level (levels_of operations period)) (omega arith) in
+      ap (λ (n : ℕ). tally_at bases.firsts period (min level n)) few ∙ made ∙ base_stays operations multipliers span.start period level;
 }
 
 pub laid_end : (operations : List Operation) (multipliers : ℕ) (periods : List Span) (tally : List (Rung × ℕ)) → AreLaid operations multipliers periods (length periods) tally → (period : ℕ) → HasSlots operations multipliers periods period
@@ -179,7 +232,7 @@ starts_more operations multipliers periods bases turns starts i o turn base star
   are = λ number q span below there has. grown (λ n p r. (s : Span) → slice_get periods p.period ≡ Some s → r ≡ Some (slot_of operations multipliers s.start n p)) operations i o start starts at before.size (λ n p less here s known. before.are n p s less here known)
       (λ s known.
       let t : turn ≡ turn_of operations i o = same_Some turn (turn_of operations i o) (sym placed ∙ turned.are i o (slice_get_within operations i o at) at) in
-      let b : base ≡ base_slot operations multipliers s.start o.period o.level = is ∙ (laid.bases o.period s (slice_get_within periods o.period s known) known).are o.level (level_below operations i o at) in
+      let b : base ≡ base_slot operations multipliers s.start o.period o.level = is ∙ (laid.bases o.period s (slice_get_within periods o.period s known) known).are o.level (let low = level_below operations i o at in omega (arith, low)) in
       let d : turn / multipliers ≡ turn_of operations i o / multipliers = ap (λ (n : ℕ). n / multipliers) t in
       ap Some (sum ∙ ap (λ (n : ℕ). n + turn / multipliers) b ∙ ap (λ (n : ℕ). base_slot operations multipliers s.start o.period o.level + n) d))
       number q below there span has;

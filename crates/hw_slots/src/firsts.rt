@@ -1,16 +1,9 @@
-ghost use Rattle.std.specs.Prelude.{◌≡◌, IfOk, min};
+ghost use Rattle.std.specs.Prelude.{IfOk};
 ghost use Rattle.hw_slots.specs.inner.Made.{AreFirstBy};
 
-use crate::tally::{Tally, total};
+use crate::tally::{Tally, lesser, total};
 use fx_io::OutOfMemory;
 use std::alloc::Global;
-
-/// The lesser of two numbers.
-fn lesser(number: u64, other: u64) -> u64
-    ensures { result ≡ min number other }
-{
-    if number < other { number } else { other }
-}
 
 /// The number of the first multiplier of each kind below `kinds`, by how many a kind can use.
 pub fn firsts_of(

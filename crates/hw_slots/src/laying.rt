@@ -1,4 +1,4 @@
-ghost use Rattle.std.specs.Prelude.{◌≡◌, IfOk, IfErr, OnOk, length};
+ghost use Rattle.std.specs.Prelude.{◌≡◌, ◌+◌, IfOk, IfErr, OnOk, length};
 ghost use Rattle.hw_slots.specs.Answer.{IsSlotFault};
 ghost use Rattle.hw_slots.specs.inner.Made.{AreLaid, AreLevels, AreWidths, AreBasesBy, IsElsewhere, base_by};
 
@@ -9,7 +9,7 @@ use fx_io::OutOfMemory;
 use std::alloc::Global;
 
 /// Puts the first slot of each level of a period, and returns the first behind all of them.
-fn lay_out(
+fn lay_levels(
     bases: &mut Tally,
     widths: &Tally,
     period: u64,
@@ -28,7 +28,24 @@ fn lay_out(
     Ok(slot)
 }
 
-/// The first slot of each level of each period, or the first period that has too few slots.
+/// The same with the first slot behind all levels.
+fn lay_out(
+    bases: &mut Tally,
+    widths: &Tally,
+    period: u64,
+    levels: u64,
+    start: u64,
+) -> Result<u64, OutOfMemory>
+    ensures need { IfOk result (λ need. need ≡ base_by widths.now start period levels) }
+    ensures bases { OnOk result (AreBasesBy widths.now start period (levels + 1) bases.new) }
+    ensures elsewhere { OnOk result (IsElsewhere period bases.old bases.new) }
+{
+    let slot = lay_levels(bases, widths, period, levels, start)?;
+    bases.put(period, levels, slot)?;
+    Ok(slot)
+}
+
+/// The first slot of each level of each period and of what is behind them, or the first period that has too few slots.
 pub fn bases_of(
     alloc: Global,
     operations: &[Operation],

@@ -1,6 +1,7 @@
 ghost use Rattle.std.specs.Prelude.{◌<◌, IfErr, IfOk};
 ghost use Rattle.hw_slots.specs.Answer.{AreSlots, IsSlotFault};
 
+use crate::bases::Bases;
 use crate::firsts::firsts_of;
 use crate::laying::bases_of;
 use crate::operation::{Operation, Span};
@@ -11,12 +12,14 @@ use fx_io::{Longs, OutOfMemory};
 use std::alloc::Global;
 
 /// When and where operations are served (own; HDL Coder, resource sharing).
-#[derive(Debug, Drop)]
+#[derive(Drop)]
 pub struct Slots {
     /// The slot of each operation in its period.
     pub starts: Longs,
     /// The multiplier of each operation.
     pub units: Longs,
+    /// The first slots of levels.
+    pub bases: Bases,
 }
 
 /// Why there are no slots (own).
@@ -39,7 +42,7 @@ impl From<OutOfMemory> for SlotFault {
     }
 }
 
-/// The slot and the multiplier of each operation, where each of `kinds` kinds has at most so many
+/// The slot and the multiplier of each operation and the first slots of levels, where each of `kinds` kinds has at most so many
 /// multipliers, or the first period that has too few slots. Its time is that of the operations,
 /// kinds and levels, each with a few look-ups in trees.
 pub fn slots_of(
@@ -62,5 +65,10 @@ pub fn slots_of(
     let turns = made.turns.as_slice();
     let starts = starts_of(alloc, operations, periods, multipliers, turns, &bases)?;
     let units = units_of(alloc, operations, multipliers, kinds, turns, &firsts)?;
-    Ok(Slots { starts, units })
+    let bases = Bases::new(bases, levels);
+    Ok(Slots {
+        starts,
+        units,
+        bases,
+    })
 }

@@ -1,5 +1,5 @@
 //! Numbers by level.
-ghost use Rattle.std.specs.Prelude.{◌≡◌, ◌+◌, ◌&&◌, ◌==◌, ℕ, [], IfOk, OnOk, max, if◌then◌else◌};
+ghost use Rattle.std.specs.Prelude.{◌≡◌, ◌+◌, ◌&&◌, ◌==◌, ℕ, [], IfOk, OnOk, max, min, if◌then◌else◌};
 ghost use Rattle.hw_slots.specs.inner.Tally.{tally_at};
 
 use fx_io::OutOfMemory;
@@ -76,6 +76,13 @@ fn greater(number: u64, other: u64) -> u64
     ensures { result ≡ max number other }
 {
     if number < other { other } else { number }
+}
+
+/// The lesser of two numbers.
+pub fn lesser(number: u64, other: u64) -> u64
+    ensures { result ≡ min number other }
+{
+    if number < other { number } else { other }
 }
 
 /// The sum of two numbers; one of 2^64 or more is want of memory.

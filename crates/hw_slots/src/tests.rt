@@ -169,3 +169,49 @@ fn the_first_short_period_is_told(rt: HostRuntime) -> Result<(), Fail> {
     }
     Ok(())
 }
+
+/// Operations, periods, multipliers and kinds, a period, and the first slots of its levels from the
+/// first one on.
+type Begun = (
+    &'static [Row],
+    &'static [(u64, u64)],
+    u64,
+    u64,
+    u64,
+    &'static [u64],
+);
+
+const BEGUN: &[Begun] = &[
+    // two slots and one, and then what is behind them
+    (MIXED, &[(0, 3), (8, 9)], 2, 3, 0, &[0, 2, 3, 3]),
+    (MIXED, &[(0, 3), (8, 9)], 2, 3, 1, &[8, 9, 9]),
+    // 1, 2, 0 and 1 slots
+    (LEVELS, &[(10, 14)], 1, 2, 0, &[10, 11, 13, 13, 14, 14, 14]),
+    // a period without operations
+    (&[], &[(0, 0), (5, 5)], 1, 0, 1, &[5, 5]),
+];
+
+#[test]
+fn levels_begin_behind_one_another(rt: HostRuntime) -> Result<(), Fail> {
+    for &(rows, spans, multipliers, kinds, period, firsts) in BEGUN {
+        assert!(rt; 0 < multipliers);
+        let operations = operations_of(rt.alloc(), rows)?;
+        let periods = periods_of(rt.alloc(), spans)?;
+        let served = slots_of(
+            rt.alloc(),
+            operations.as_slice(),
+            periods.as_slice(),
+            multipliers,
+            kinds,
+        );
+        match served {
+            Ok(slots) => {
+                for level in 0..firsts.len() {
+                    assert_eq!(rt; slots.bases.at(period, level as u64), firsts[level]);
+                }
+            }
+            Err(_) => assert!(rt; false),
+        }
+    }
+    Ok(())
+}

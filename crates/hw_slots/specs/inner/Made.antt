@@ -1,5 +1,5 @@
 -- What is worked out on the way to slots (own).
-use Rattle.std.specs.Prelude.{◌≡◌, ℕ, ◌+◌, ◌≤◌, ◌<◌, min, List, length, map, Some, slice_get}
+use Rattle.std.specs.Prelude.{◌≡◌, ℕ, suc, ◌+◌, ◌≤◌, ◌<◌, min, List, length, map, Some, slice_get}
 use Rattle.std.specs.List.{sum}
 use Rattle.dg_waves.specs.Rounds.{numbers_from}
 use Rattle.hw_slots.specs.declared.operation.Operation.{Operation}
@@ -45,9 +45,9 @@ pub record AreBases (operations : List Operation) (multipliers start period coun
 pub record IsElsewhere (period : ℕ) (old tally : List (Rung × ℕ)) : Type 0 where
   pub same : (other level : ℕ) → other < period → tally_at tally other level ≡ tally_at old other level
 
--- the first periods have their slots, and a tally the first slots of their levels
+-- the first periods have their slots, and a tally the first slots of their levels and of what is behind them
 pub record AreLaid (operations : List Operation) (multipliers : ℕ) (periods : List Span) (count : ℕ) (tally : List (Rung × ℕ)) : Type 0 where
-  pub bases : (period : ℕ) (span : Span) → period < count → slice_get periods period ≡ Some span → AreBases operations multipliers span.start period (levels_of operations period) tally
+  pub bases : (period : ℕ) (span : Span) → period < count → slice_get periods period ≡ Some span → AreBases operations multipliers span.start period (suc (levels_of operations period)) tally
   pub keeps : (period : ℕ) (span : Span) → period < count → slice_get periods period ≡ Some span → need_of operations multipliers span.start period ≤ span.have
 
 -- the first multiplier of a kind by a tally of the most operations at once
