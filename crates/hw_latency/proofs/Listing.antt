@@ -14,8 +14,9 @@ use Rattle.dg_model.specs.Library.{row_of}
 use Rattle.dg_model.specs.Wired.{IsWired}
 use Rattle.hw_arcs.specs.declared.arc.Arc.{Arc}
 use Rattle.hw_arcs.specs.Found.{AreKnown, most_gain}
+use Rattle.hw_latency.specs.Control.{control_ever}
 use Rattle.hw_latency.specs.Weight.{arc_between, arc_of, latency_arcs}
-use Rattle.hw_latency.specs.inner.Asked.{IsArcPut, IsControlPut, IsPutBy, control_ever}
+use Rattle.hw_latency.specs.inner.Asked.{IsArcPut, IsControlPut, IsPutBy}
 use Rattle.dg_sort.proofs.Lines.{from_there, to_there, control_there, lines_from, controls_from}
 use Rattle.dg_sort.proofs.Places.{push_cases}
 

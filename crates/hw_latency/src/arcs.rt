@@ -4,7 +4,8 @@ ghost use Rattle.dg_model.specs.LatencyEdges.{asks_ever as asks_ever_of};
 ghost use Rattle.dg_model.specs.Library.{row_of};
 ghost use Rattle.hw_latency.specs.Shared.{IsPlanOf};
 ghost use Rattle.hw_latency.specs.Weight.{latency_arcs};
-ghost use Rattle.hw_latency.specs.inner.Asked.{IsArcPut, IsControlPut, control_ever};
+ghost use Rattle.hw_latency.specs.Control.{control_ever};
+ghost use Rattle.hw_latency.specs.inner.Asked.{IsArcPut, IsControlPut};
 
 use crate::block::block_at;
 use crate::weight::arc_between;
@@ -40,7 +41,7 @@ fn asks_ever(kind: &Kind) -> bool
 }
 
 /// The control that a block asks at some time.
-fn control_of(block: &Block) -> Option<u32>
+pub fn control_of(block: &Block) -> Option<u32>
     ensures { result ≡ control_ever block.now }
 {
     if asks_ever(&block.kind) {

@@ -8,7 +8,8 @@
 //!
 //! `latencies_of` marks these sources along the order of a checked diagram, lists what each edge asks,
 //! and has the least latencies found from that (`hw_arcs`). Its time is that of the edges, but where
-//! feedback makes latencies rise more than once.
+//! feedback makes latencies rise more than once. What is asked of one edge, and by which control
+//! (`Control`), is for the crates above too.
 #![tactic(auto)]
 
 mod arcs;
@@ -20,8 +21,11 @@ mod periods;
 mod shared;
 mod weight;
 
+pub use arcs::control_of;
+pub use block::block_at;
 pub use latencies::{Latencies, LatencyFault, latencies_of};
 pub use laws::{
     fed_is_one, latencies_are_one, latencies_are_small, latency_cycles_leave_none,
     unasked_blocks_are_zero,
 };
+pub use weight::{arc_between, is_registered, samples};

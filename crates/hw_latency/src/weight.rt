@@ -14,7 +14,7 @@ use dg_sort::reads_now;
 use hw_arcs::Arc;
 
 /// The base samples of a period, 0 where a value never changes.
-fn samples(period: Option<u32>) -> u32
+pub fn samples(period: Option<u32>) -> u32
     ensures { result ≡ samples_of period }
 {
     match period {
@@ -34,7 +34,7 @@ fn is_free(enable: Option<u32>) -> bool
 }
 
 /// Whether an edge into a block is registered, by its period and that of the source.
-fn is_registered(block: &Block, own: u32, driver: u32) -> bool
+pub fn is_registered(block: &Block, own: u32, driver: u32) -> bool
     ensures { result ≡ is_registered_of block.now own driver }
 {
     let is_now = reads_now(&block.kind, own < driver);

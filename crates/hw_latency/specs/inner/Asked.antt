@@ -1,18 +1,13 @@
--- Which control a block asks, and arcs that are put at the end of a list (own).
-use Rattle.std.specs.Prelude.{◌≡◌, ℕ, ◌≤◌, ◌++◌, Bool, List, [], ◌∷◌, Option, None, Some, if◌then◌else◌, slice_get}
+-- Arcs that are put at the end of a list (own).
+use Rattle.std.specs.Prelude.{◌≡◌, ℕ, ◌≤◌, ◌++◌, Bool, List, [], ◌∷◌, Option, None, Some, slice_get}
 use Rattle.dg_model.specs.declared.diagram.Block.{Block}
 use Rattle.dg_model.specs.declared.diagram.Diagram.{Diagram}
 use Rattle.dg_model.specs.declared.resolved.Resolved.{Resolved}
 use Rattle.dg_model.specs.Attributes.{attributes_of}
-use Rattle.dg_model.specs.LatencyEdges.{asks_ever}
-use Rattle.dg_model.specs.Library.{row_of}
 use Rattle.hw_arcs.specs.declared.arc.Arc.{Arc}
 use Rattle.hw_arcs.specs.Found.{most_gain}
+use Rattle.hw_latency.specs.Control.{control_ever}
 use Rattle.hw_latency.specs.Weight.{arc_between}
-
--- the control that a block asks at some time
-abbrev pub control_ever : Block → Option ℕ
-control_ever block = if asks_ever (row_of block.kind).timing.asks then block.enable else None
 
 -- the arc of an edge is put at the end
 pub record IsArcPut (diagram : Diagram) (plan : Resolved) (fed : List Bool) (before after : List Arc) (from to : ℕ) : Type 0 where
