@@ -22,3 +22,4 @@ mod widths;
 pub use bases::Bases;
 pub use operation::{Operation, Span};
 pub use slots::{SlotFault, Slots, slots_of};
+pub use tally::total;
