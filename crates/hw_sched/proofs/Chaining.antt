@@ -11,7 +11,7 @@ use Rattle.hw_sched.specs.Storage.{lines_in_all}
 use Rattle.hw_sched.specs.Chained.{chained}
 use Rattle.hw_sched.proofs.Worked.{block_of, edge_of, scalars}
 
-abbrev fans : Decimal → Diagram
+abbrev pub fans : Decimal → Diagram
 fans one = record {
   blocks = block_of (Inport 1 0) 0 1 ∷ block_of (Gain (one ∷ []) Auto) 1 1
       ∷ block_of (Sum (false ∷ false ∷ [])) 2 1 ∷ block_of (Sum (false ∷ false ∷ [])) 2 1 ∷ block_of (Sum (false ∷ false ∷ [])) 2 1 ∷ block_of (Sum (false ∷ false ∷ [])) 2 1
@@ -20,13 +20,13 @@ fans one = record {
       ∷ edge_of 2 6 1 ∷ edge_of 3 7 1 ∷ edge_of 4 8 1 ∷ edge_of 5 9 1 ∷ [];
 }
 
-abbrev of_fans : Attributes
+abbrev pub of_fans : Attributes
 of_fans = scalars [] []
 
-abbrev fans_plan : Resolved
+abbrev pub fans_plan : Resolved
 fans_plan = record { cycles = 1; multipliers = 0; stages = 0 ∷ 8 ∷ [] }
 
-abbrev fans_timed : Timing
+abbrev pub fans_timed : Timing
 fans_timed = record { lat = 0 ∷ 0 ∷ 8 ∷ 8 ∷ 8 ∷ 8 ∷ 8 ∷ 8 ∷ 8 ∷ 8 ∷ []; fed = []; depths = [] }
 
 -- line by line u has 1 and four times 9 registers, the gain four, and each sum one

@@ -16,3 +16,8 @@ mod Worked
 mod Chaining
 mod Models
 mod Numbered
+mod Widths
+mod Driving
+mod Counting
+mod Sized
+mod Limits

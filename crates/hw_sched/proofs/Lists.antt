@@ -26,7 +26,7 @@ greatest_within f most (y ∷ xs) all =
 
 -- ---- sums over numbers
 
-sum-cons : (x : ℕ) (xs : List ℕ) → sum (x ∷ xs) ≡ x + sum xs
+pub sum-cons : (x : ℕ) (xs : List ℕ) → sum (x ∷ xs) ≡ x + sum xs
 sum-cons x xs = sum_by-cons (λ (n : ℕ). n) x xs
 
 sum_next : (f : ℕ → ℕ) (from n : ℕ) → sum (map f (numbers_from from (suc n))) ≡ sum (map f (numbers_from from n)) + f (from + n)

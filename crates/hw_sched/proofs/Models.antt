@@ -14,19 +14,19 @@ use Rattle.hw_sched.proofs.Worked.{block_of, edge_of, scalars}
 
 -- ---- a gain with a register, a product of it, and a delay of that, all of period 2 in two clocks a base sample
 
-abbrev late_source : Decimal → Diagram
+abbrev pub late_source : Decimal → Diagram
 late_source number = record {
   blocks = block_of (Inport 1 0) 0 1 ∷ block_of (Inport 2 0) 0 1 ∷ block_of (Gain (number ∷ []) Auto) 1 1 ∷ block_of Product 2 1 ∷ block_of (Delay 1 (number ∷ []) false) 1 1 ∷ block_of (Outport 1) 1 0 ∷ [];
   edges = edge_of 0 2 1 ∷ edge_of 2 3 1 ∷ edge_of 1 3 2 ∷ edge_of 3 4 1 ∷ edge_of 4 5 1 ∷ [];
 }
 
-abbrev of_late : Attributes
+abbrev pub of_late : Attributes
 of_late = scalars [] (2 ∷ 2 ∷ 2 ∷ 2 ∷ 2 ∷ 2 ∷ [])
 
-abbrev late_plan : Resolved
+abbrev pub late_plan : Resolved
 late_plan = record { cycles = 2; multipliers = 1; stages = 0 ∷ 0 ∷ 1 ∷ 0 ∷ 0 ∷ 0 ∷ [] }
 
-abbrev late_timed : Timing
+abbrev pub late_timed : Timing
 late_timed = record { lat = 0 ∷ 0 ∷ 0 ∷ 2 ∷ 2 ∷ 2 ∷ []; fed = false ∷ false ∷ true ∷ true ∷ false ∷ false ∷ []; depths = 0 ∷ 0 ∷ 1 ∷ 2 ∷ 0 ∷ 0 ∷ [] }
 
 late_slots : (number : Decimal) → slot_of (late_source number) of_late late_plan late_timed 0 (record { block = 2; element = 0 }) ≡ 0

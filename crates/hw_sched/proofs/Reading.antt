@@ -195,7 +195,7 @@ not_faster None own e = refl
 not_faster (Some driver) None e = refl
 not_faster (Some driver) (Some own) e = absurd (none-some own (sym e))
 
-control_parts : (asks : Bool) (enable : Option ℕ) (control : ℕ) → cond asks enable None ≡ Some control → (asks ≡ true) × (enable ≡ Some control)
+pub control_parts : (asks : Bool) (enable : Option ℕ) (control : ℕ) → cond asks enable None ≡ Some control → (asks ≡ true) × (enable ≡ Some control)
 control_parts true enable control e = (refl, e)
 control_parts false enable control e = absurd (none-some control e)
 

@@ -6,5 +6,6 @@ pub mod Scheduled
 pub mod Laws
 pub mod Numbered
 pub mod Storage
+pub mod Sizing
 pub mod Chained
 pub mod inner

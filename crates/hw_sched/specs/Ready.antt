@@ -1,9 +1,10 @@
 -- When outputs are ready, the latencies that are declared of them, and how many multiplications a module has (own).
-use Rattle.std.specs.Prelude.{ℕ, ◌+◌, ◌*◌, not, ◌&&◌, if◌then◌else◌, [], length, map, filter}
+use Rattle.std.specs.Prelude.{◌≡◌, ℕ, ◌+◌, ◌*◌, ◌<◌, not, ◌&&◌, if◌then◌else◌, List, [], length, map, filter, Some, slice_get}
 use Rattle.std.specs.List.{sum}
 use Rattle.dg_waves.specs.Rounds.{numbers_from}
 use Rattle.dg_model.specs.declared.diagram.Diagram.{Diagram}
 use Rattle.dg_model.specs.declared.resolved.Resolved.{Resolved}
+use Rattle.dg_model.specs.Attributes.{attributes_of}
 use Rattle.dg_model.specs.Signals.{Attributes}
 use Rattle.hw_arcs.specs.Latencies.{latency_at}
 use Rattle.hw_latency.specs.Cone.{is_marked}
@@ -16,6 +17,11 @@ use Rattle.hw_sched.specs.Slots.{Timing, base_slot, kinds_of, shared_operations,
 abbrev pub ready_of : Diagram → Attributes → Resolved → Timing → ℕ → ℕ
 ready_of diagram attributes plan timing place =
     if is_marked timing.fed place then base_slot diagram attributes plan timing (samples (attributes.period_at place)) (depth_at timing.depths place) else 0
+
+-- a list has the clock of its period at which each block's output is ready
+pub record AreReady (diagram : Diagram) (plan : Resolved) (timing : Timing) (ready : List ℕ) : Type 0 where
+  pub size : length ready ≡ length diagram.blocks
+  pub are : (place : ℕ) → place < length diagram.blocks → slice_get ready place ≡ Some (ready_of diagram (attributes_of diagram) plan timing place)
 
 -- the declared latency of a block in clocks, as it stands at a root output
 abbrev pub declared_latency : Diagram → Attributes → Resolved → Timing → ℕ → ℕ

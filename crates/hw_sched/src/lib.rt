@@ -3,15 +3,20 @@
 //! `Level` says how many shared blocks stand one behind another, `Slots` which operations are of one
 //! kind, and in which slot of its period and at which multiplier each stands. `Ready` says when
 //! outputs are ready and how late root outputs are in clocks. The rules of budget and of size are
-//! those of `Budget` and `Storage`. `Chained` counts the registers of a module whose lines share
-//! them. What all of these say together of a diagram that keeps the rules (`Scheduled`) are `laws`:
+//! those of `Budget` and `Storage`, and `Sizing` says what `size` and `check_size` answer. `Chained`
+//! counts the registers of a module whose lines share them. What all of these say together of a diagram that keeps the rules (`Scheduled`) are `laws`:
 //! they are all that is wanted of a schedule when a module is built and proved.
 #![tactic(auto)]
 
+mod block_registers;
 mod deepening;
+mod drivers;
+mod edge_lines;
 mod kinds;
 mod laws;
 mod lines;
+mod output_latency;
+mod sizing;
 mod slots;
 
 pub use deepening::depths;
@@ -20,4 +25,5 @@ pub use laws::{
     operations_are_numbered, operations_are_served, periods_are_above, ready_fits, ready_rises,
     root_inputs_are_first, slots_differ, unfed_are_ready,
 };
+pub use sizing::{SizeFault, Sizing, check_size, size};
 pub use slots::{BudgetFault, Slots};

@@ -25,7 +25,7 @@ pub fn greater(depth: u64, other: u64) -> u64
 }
 
 /// The place of the first line into a block, or into the next block that has one.
-fn first_into(edges: &[Edge], block: u32) -> usize
+pub fn first_into(edges: &[Edge], block: u32) -> usize
     requires { AllPairs StandsBefore edges.now }
     ensures { IsFirstInto edges.now block result }
 {

@@ -1,0 +1,8 @@
+use Rattle.std.proofs.Common.{◌≡◌}
+use Rattle.dg_model.specs.Attributes.{attributes_of}
+use Rattle.hw_sched.specs.inner.Counted.{results_at}
+use Rattle.hw_sched.proofs.Lists.{sum_below}
+use Rattle.hw_sched.proofs.block_registers.results_in_all.Given as goal
+
+abbrev pub invariant-loop-place : goal.invariant-loop-place
+invariant-loop-place l = l.all ≡ sum_below (results_at l.checked.diagram (attributes_of l.checked.diagram) l.plan) l.place

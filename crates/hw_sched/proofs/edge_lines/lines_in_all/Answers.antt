@@ -1,0 +1,25 @@
+use Rattle.std.proofs.Common.{[], ◌<◌, List, length, ap, subst, ◌∙◌}
+use Rattle.dg_model.specs.declared.diagram.Block.{Block}
+use Rattle.dg_model.specs.declared.diagram.Diagram.{Diagram}
+use Rattle.dg_model.specs.declared.diagram.Edge.{Edge}
+use Rattle.dg_model.specs.Attributes.{attributes_of}
+use Rattle.hw_sched.specs.Sizing.{timing_of}
+use Rattle.hw_sched.proofs.Counting.{beside_control}
+use Rattle.hw_sched.proofs.Items.{item_read}
+use Rattle.hw_sched.proofs.Widths.{line_there, some_block}
+use Rattle.hw_sched.proofs.edge_lines.lines_in_all.Goals as goal
+
+abbrev none : Edge
+none = record { from = 0; from_port = 0; to = 0; to_port = 0 }
+
+pub line_registers-requires-clause-there : goal.line_registers-requires-clause-there
+line_registers-requires-clause-there c =
+    let es = c.as_slice-edges.ensures ∙ ap (λ (d : Diagram). d.edges) c.diagram.ensures in
+    line_there c.args.checked.now.diagram c.keeps_rules.ensures.checked c.loop-edge.edge-index _ (item_read c.args.checked.now.diagram.edges c.as_slice-edges.result.now c.loop-edge.edge-index none es c.loop-edge-test.true)
+
+pub loop-place-preserved : goal.loop-place-preserved
+loop-place-preserved c =
+    let bs = c.as_slice-blocks.ensures ∙ ap (λ (d : Diagram). d.blocks) c.diagram-2.ensures in
+    let block = some_block c.args.checked.now.diagram.blocks c.loop-place.place (subst (λ (blocks : List Block). c.loop-place.place < length blocks) bs c.loop-place-test.true) in
+    beside_control c.args.checked.now.diagram (attributes_of c.args.checked.now.diagram) c.args.plan.now (timing_of c.args.latencies.now []) c.loop-place.all c.in_ok-controls_line.field-0 c.in_ok-all.all c.loop-place.place block.0 block.1
+    c.in_ok-controls_line.ensures c.in_ok-all.ensures c.loop-place.invariant

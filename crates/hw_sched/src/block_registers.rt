@@ -1,0 +1,112 @@
+//! The registers of blocks beside lines.
+ghost use Rattle.std.specs.Prelude.{◌≡◌, ◌<◌, IfOk, length, slice_get};
+ghost use Rattle.dg_model.specs.Attributes.{attributes_of};
+ghost use Rattle.hw_latency.specs.Shared.{IsPlanOf};
+ghost use Rattle.hw_sched.specs.Slots.{shared_operations};
+ghost use Rattle.hw_sched.specs.Storage.{keeps_own as keeps_own_of, registers_at as registers_at_of};
+ghost use Rattle.hw_sched.specs.Storage.{registers_in_all as registers_in_all_of};
+ghost use Rattle.hw_sched.specs.inner.Counted.{results_at as results_at_of, values_kept as values_kept_of};
+
+use crate::drivers::{own_width, period_into};
+use crate::edge_lines::times;
+use crate::kinds::is_shared;
+use dg_model::{Checked, Kind, Resolved};
+use fx_io::OutOfMemory;
+use hw_latency::block_at;
+use hw_slots::total;
+
+/// Whether a Delay with this control and a driver of this period keeps its own values.
+fn keeps_own(enable: Option<u32>, driver: Option<u32>) -> bool
+    ensures { result ≡ keeps_own_of enable driver }
+{
+    enable.is_some() || driver.is_none()
+}
+
+/// How many values of each element a block of this kind keeps beside lines and its pipeline.
+fn values_kept(kind: &Kind, keeps_own: bool) -> u32
+    ensures { result ≡ values_kept_of kind.now keeps_own }
+{
+    match kind {
+        Kind::Delay { length, .. } => { if keeps_own { *length } else { 0 } }
+        Kind::EnOut { .. } => 1,
+        Kind::Inport { .. }
+        | Kind::Outport { .. }
+        | Kind::Constant { .. }
+        | Kind::Ground
+        | Kind::Sum { .. }
+        | Kind::Gain { .. }
+        | Kind::Product
+        | Kind::Switch { .. }
+        | Kind::Relational { .. }
+        | Kind::Logic { .. }
+        | Kind::Convert { .. }
+        | Kind::Mux { .. }
+        | Kind::Demux { .. }
+        | Kind::RateTransition { .. }
+        | Kind::Pass { .. }
+        | Kind::EnableTest
+        | Kind::Terminator => 0,
+    }
+}
+
+/// The registers of a block beside lines.
+fn registers_at(checked: &Checked, plan: &Resolved, place: u32) -> Result<u64, OutOfMemory>
+    requires plan { IsPlanOf checked.now.diagram plan.now }
+    requires there { place < length checked.now.diagram.blocks }
+    ensures { IfOk result (λ count.
+        count ≡ registers_at_of checked.now.diagram (attributes_of checked.now.diagram) plan.now
+        place (slice_get checked.now.diagram.blocks place)) }
+{
+    let block = block_at(checked, place);
+    let keeps = keeps_own(block.enable, period_into(checked, place));
+    let kept = values_kept(&block.kind, keeps);
+    let stages = plan.stages.as_slice()[place as usize];
+    let each = u64::from(stages) + u64::from(kept);
+    times(u64::from(own_width(checked, place)), each)
+}
+
+/// The registers of all blocks beside lines.
+pub fn registers_in_all(checked: &Checked, plan: &Resolved) -> Result<u64, OutOfMemory>
+    requires plan { IsPlanOf checked.now.diagram plan.now }
+    ensures { IfOk result (λ count.
+        count ≡ registers_in_all_of checked.now.diagram (attributes_of checked.now.diagram)
+        plan.now) }
+{
+    checked.keeps_rules();
+    let blocks = checked.diagram().blocks.as_slice();
+    let mut all = 0u64;
+    for place in 0..blocks.len() {
+        all = total(all, registers_at(checked, plan, place as u32)?)?;
+    }
+    Ok(all)
+}
+
+/// The results of the shared operations of a block.
+fn results_at(checked: &Checked, plan: &Resolved, place: u32) -> u32
+    requires plan { IsPlanOf checked.now.diagram plan.now }
+    requires there { place < length checked.now.diagram.blocks }
+    ensures { result
+        ≡ results_at_of checked.now.diagram (attributes_of checked.now.diagram) plan.now place }
+{
+    if is_shared(checked, plan, place) {
+        own_width(checked, place)
+    } else {
+        0
+    }
+}
+
+/// The results of all shared operations, one each.
+pub fn results_in_all(checked: &Checked, plan: &Resolved) -> Result<u64, OutOfMemory>
+    requires plan { IsPlanOf checked.now.diagram plan.now }
+    ensures { IfOk result (λ count.
+        count ≡ length (shared_operations checked.now.diagram (attributes_of checked.now.diagram)
+        plan.now)) }
+{
+    checked.keeps_rules();
+    let blocks = checked.diagram().blocks.as_slice();
+    let mut all = 0u64;
+    for place in 0..blocks.len() {
+        all = total(all, u64::from(results_at(checked, plan, place as u32)))?;
+    }
+    Ok(all)
+}

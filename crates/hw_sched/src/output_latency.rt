@@ -1,0 +1,98 @@
+//! How late root outputs are in clocks.
+ghost use Rattle.std.specs.Prelude.{◌≡◌, ◌<◌, IfOk, Some, length, map};
+ghost use Rattle.dg_waves.specs.Rounds.{numbers_from};
+ghost use Rattle.dg_model.specs.Attributes.{attributes_of};
+ghost use Rattle.dg_model.specs.Widths.{greatest};
+ghost use Rattle.hw_latency.specs.Latency.{AreLatencies};
+ghost use Rattle.hw_sched.specs.inner.Counted.{is_output as is_output_of, is_root_output as is_root_output_of, output_latency as output_latency_of};
+
+use crate::drivers::width_into;
+use crate::edge_lines::times;
+use crate::lines::greater;
+use dg_model::{Block, Checked, Kind, Resolved};
+use fx_io::OutOfMemory;
+use hw_latency::{Latencies, block_at};
+use hw_slots::total;
+
+/// Whether a block is a root output.
+fn is_root_output(block: &Block) -> bool
+    ensures { result ≡ is_root_output_of (Some block.now) }
+{
+    match block.kind {
+        Kind::Outport { .. } => true,
+        Kind::Inport { .. }
+        | Kind::Constant { .. }
+        | Kind::Ground
+        | Kind::Sum { .. }
+        | Kind::Gain { .. }
+        | Kind::Product
+        | Kind::Switch { .. }
+        | Kind::Relational { .. }
+        | Kind::Logic { .. }
+        | Kind::Convert { .. }
+        | Kind::Delay { .. }
+        | Kind::Mux { .. }
+        | Kind::Demux { .. }
+        | Kind::RateTransition { .. }
+        | Kind::Pass { .. }
+        | Kind::EnableTest
+        | Kind::EnOut { .. }
+        | Kind::Terminator => false,
+    }
+}
+
+/// Whether a block is a root output of some elements.
+fn is_output(checked: &Checked, place: u32) -> bool
+    requires there { place < length checked.now.diagram.blocks }
+    ensures { result
+        ≡ is_output_of checked.now.diagram (attributes_of checked.now.diagram) place }
+{
+    is_root_output(block_at(checked, place)) && width_into(checked, place) > 0
+}
+
+/// How late a block is in clocks as a root output, 0 where it is none.
+fn output_latency(
+    checked: &Checked,
+    plan: &Resolved,
+    latencies: &Latencies,
+    ready: &[u64],
+    place: u32,
+) -> Result<u64, OutOfMemory>
+    requires latencies { AreLatencies checked.now.diagram plan.now latencies.now }
+    requires ready { length ready.now ≡ length checked.now.diagram.blocks }
+    requires there { place < length checked.now.diagram.blocks }
+    ensures { IfOk result (λ clocks.
+        clocks ≡ output_latency_of checked.now.diagram (attributes_of checked.now.diagram) plan.now
+        latencies.now.lat ready.now place) }
+{
+    if !is_output(checked, place) {
+        return Ok(0);
+    }
+    let lat = latencies.lat.as_slice()[place as usize];
+    let clocks = times(lat, u64::from(plan.cycles))?;
+    total(clocks, ready[place as usize])
+}
+
+/// The greatest latency of root outputs in clocks, 0 where there are none.
+pub fn latest_output(
+    checked: &Checked,
+    plan: &Resolved,
+    latencies: &Latencies,
+    ready: &[u64],
+) -> Result<u64, OutOfMemory>
+    requires latencies { AreLatencies checked.now.diagram plan.now latencies.now }
+    requires ready { length ready.now ≡ length checked.now.diagram.blocks }
+    ensures { IfOk result (λ clocks.
+        clocks ≡ greatest (map (output_latency_of checked.now.diagram
+        (attributes_of checked.now.diagram) plan.now latencies.now.lat ready.now)
+        (numbers_from 0 (length checked.now.diagram.blocks)))) }
+{
+    checked.keeps_rules();
+    let blocks = checked.diagram().blocks.as_slice();
+    let mut latest = 0u64;
+    for place in 0..blocks.len() {
+        let clocks = output_latency(checked, plan, latencies, ready, place as u32)?;
+        latest = greater(latest, clocks);
+    }
+    Ok(latest)
+}

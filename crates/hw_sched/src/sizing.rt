@@ -1,0 +1,112 @@
+ghost use Rattle.std.specs.Prelude.{◌≡◌, IfErr, IfOk, length};
+ghost use Rattle.hw_latency.specs.Latency.{AreLatencies};
+ghost use Rattle.hw_latency.specs.Shared.{IsPlanOf};
+ghost use Rattle.hw_sched.specs.Sizing.{ForTimes, IsKeptSize, IsSizeFault, IsSizeOf};
+ghost use Rattle.hw_sched.specs.inner.Counted.{are_within};
+
+use crate::block_registers::{registers_in_all, results_in_all};
+use crate::edge_lines::lines_in_all;
+use crate::output_latency::latest_output;
+use dg_model::{Checked, Resolved, root_elements_are_listed};
+use fx_io::OutOfMemory;
+use hw_latency::Latencies;
+use hw_slots::total;
+
+/// How large a module is (own).
+#[derive(Clone, Copy, Debug, PartialEq, Eq)]
+pub struct Sizing {
+    /// Its registers at the most, one for each element.
+    pub storage: u64,
+    /// The greatest latency that is declared of its root outputs, in clocks; 0 without outputs.
+    pub latency: u64,
+}
+
+/// Why there is no module of such a size (own).
+#[derive(Debug, Drop)]
+pub enum SizeFault {
+    /// It has too many registers, or is too late.
+    Size { storage: u64, latency: u64 },
+    /// Memory is wanting, or a number is 2^64 or more.
+    OutOfMemory,
+}
+
+impl From<OutOfMemory> for SizeFault {
+    ghost use Rattle.std.specs.Prelude.{◌≡◌};
+    ghost use Rattle.hw_sched.specs.declared.sizing.SizeFault.TheVariants.{OutOfMemory};
+
+    ghost from_gives = { λ _ fault. fault ≡ OutOfMemory };
+
+    fn from(_refused: OutOfMemory) -> SizeFault {
+        SizeFault::OutOfMemory
+    }
+}
+
+/// The most registers of a module.
+const MOST_STORAGE: u64 = 400_000;
+
+/// The greatest latency of a module, in clocks.
+const MOST_LATENCY: u64 = 16_777_216;
+
+/// How large the module of a checked diagram is by a plan, from its latencies and the clock of its
+/// period at which the output of each block is ready. It takes no memory; its time is linear in the
+/// edges and blocks, but for a search of the line into each block. A number of 2^64 or more is want
+/// of memory.
+pub fn size(
+    checked: &Checked,
+    plan: &Resolved,
+    latencies: &Latencies,
+    ready: &[u64],
+) -> Result<Sizing, OutOfMemory>
+    requires plan { IsPlanOf checked.now.diagram plan.now }
+    requires latencies { AreLatencies checked.now.diagram plan.now latencies.now }
+    requires ready { length ready.now ≡ length checked.now.diagram.blocks }
+    ensures { IfOk result (λ sizing.
+        ForTimes checked.now.diagram plan.now latencies.now ready.now
+        (IsSizeOf checked.now.diagram plan.now sizing)) }
+{
+    checked.keeps_rules();
+    root_elements_are_listed();
+    let lines = lines_in_all(checked, plan, latencies)?;
+    let registers = registers_in_all(checked, plan)?;
+    let results = results_in_all(checked, plan)?;
+    let blocks = total(registers, results)?;
+    let storage = total(lines, blocks)?;
+    let latency = latest_output(checked, plan, latencies, ready)?;
+    Ok(Sizing { storage, latency })
+}
+
+/// Whether a module of this size has few enough registers and isn't too late.
+fn is_within(sizing: Sizing) -> bool
+    ensures { result ≡ are_within sizing }
+{
+    sizing.storage <= MOST_STORAGE && sizing.latency <= MOST_LATENCY
+}
+
+/// The same, or the fault of the rule of size: a module has at most 400,000 registers and declares no
+/// latency above 16,777,216 clocks.
+pub fn check_size(
+    checked: &Checked,
+    plan: &Resolved,
+    latencies: &Latencies,
+    ready: &[u64],
+) -> Result<Sizing, SizeFault>
+    requires plan { IsPlanOf checked.now.diagram plan.now }
+    requires latencies { AreLatencies checked.now.diagram plan.now latencies.now }
+    requires ready { length ready.now ≡ length checked.now.diagram.blocks }
+    ensures kept { IfOk result (λ sizing.
+        ForTimes checked.now.diagram plan.now latencies.now ready.now
+        (IsKeptSize checked.now.diagram plan.now sizing)) }
+    ensures broken { IfErr result (λ fault.
+        ForTimes checked.now.diagram plan.now latencies.now ready.now
+        (IsSizeFault checked.now.diagram plan.now fault)) }
+{
+    let sizing = size(checked, plan, latencies, ready)?;
+    if is_within(sizing) {
+        Ok(sizing)
+    } else {
+        Err(SizeFault::Size {
+            storage: sizing.storage,
+            latency: sizing.latency,
+        })
+    }
+}
