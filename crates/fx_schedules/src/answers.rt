@@ -1,16 +1,17 @@
 //! What is told of a model and a plan.
 ghost use Rattle.std.specs.Prelude.{◌≡◌, IfOk, length};
 ghost use Rattle.dg_model.specs.PlanRange.{IsPlanInRange};
+ghost use Rattle.hw_latency.specs.Latency.{AreLatencies};
 ghost use Rattle.hw_latency.specs.Shared.{IsPlanOf};
 
 use anyhow::{Result, anyhow};
 use dg_model::{Block, CheckFault, Checked, Plan, Resolved, RuleFault, Shown};
 use dg_rules::resolve;
-use fx_io::{Longs, Text};
+use fx_io::Text;
 use fx_model::{ModelFault, accept, rule_text};
 use fx_tables::{TableFault, read_plan};
 use hw_latency::{Latencies, LatencyFault, latencies_of};
-use hw_sched::depths;
+use hw_sched::{BudgetFault, Slots, slots_of};
 use std::alloc::Global;
 use std::io::Write;
 
@@ -61,11 +62,7 @@ fn scheduled<W: Write>(alloc: Global, checked: &Checked, plan: &Resolved, out: &
     requires { IsPlanOf checked.now.diagram plan.now }
 {
     match latencies_of(alloc, checked, plan) {
-        Ok(latencies) => {
-            let by_block = depths(alloc, checked, plan)?;
-            let blocks = checked.diagram().blocks.as_slice();
-            list(blocks, &latencies, &by_block, out)
-        }
+        Ok(latencies) => served(alloc, checked, &latencies, plan, out),
         Err(LatencyFault::Cycle { blocks, total }) => {
             let fault = RuleFault {
                 rule: 11,
@@ -78,29 +75,65 @@ fn scheduled<W: Write>(alloc: Global, checked: &Checked, plan: &Resolved, out: &
     }
 }
 
+fn served<W: Write>(
+    alloc: Global,
+    checked: &Checked,
+    latencies: &Latencies,
+    plan: &Resolved,
+    out: &mut W,
+) -> Result<()>
+    requires plan { IsPlanOf checked.now.diagram plan.now }
+    requires latencies { AreLatencies checked.now.diagram plan.now latencies.now }
+{
+    let blocks = checked.diagram().blocks.as_slice();
+    match slots_of(alloc, checked, latencies, plan) {
+        Ok(slots) => list(blocks, latencies, &slots, out),
+        Err(BudgetFault::Budget { period, need, have }) => {
+            let fault = RuleFault {
+                rule: 12,
+                place: Text::copy(alloc, b"")?,
+                shown: Shown::Budget { period, need, have },
+            };
+            tell(alloc, &fault, blocks, out)
+        }
+        Err(BudgetFault::OutOfMemory) => Err(anyhow!("out of memory")),
+    }
+}
+
 fn list<W: Write>(
     blocks: &[Block],
     latencies: &Latencies,
-    depths: &Longs,
+    slots: &Slots,
     out: &mut W,
 ) -> Result<()>
     requires lat { length latencies.now.lat ≡ length blocks.now }
     requires fed { length latencies.now.fed ≡ length blocks.now }
-    requires depths { length depths.now ≡ length blocks.now }
+    requires depths { length slots.now.depths ≡ length blocks.now }
+    requires ready { length slots.now.ready ≡ length blocks.now }
+    requires units { length slots.now.units ≡ length slots.now.starts }
 {
     for place in 0..blocks.len() {
         out.write_all(blocks[place].path.bytes())?;
         let lat = latencies.lat.as_slice()[place];
-        let depth = depths.as_slice()[place];
-        let fed = latencies.fed.as_slice()[place];
-        write_numbers(lat, depth, fed, out)?;
+        let depth = slots.depths.as_slice()[place];
+        if latencies.fed.as_slice()[place] {
+            let ready = slots.ready.as_slice()[place];
+            writeln!(out, " latency {lat} depth {depth} fed ready {ready}")?;
+        } else {
+            writeln!(out, " latency {lat} depth {depth}")?;
+        }
     }
-    Ok(())
+    operations(slots.starts.as_slice(), slots.units.as_slice(), out)
 }
 
-fn write_numbers<W: Write>(lat: u64, depth: u64, fed: bool, out: &mut W) -> Result<()> {
-    let mark = if fed { " fed" } else { "" };
-    writeln!(out, " latency {lat} depth {depth}{mark}")?;
+fn operations<W: Write>(starts: &[u64], units: &[u64], out: &mut W) -> Result<()>
+    requires { length units.now ≡ length starts.now }
+{
+    for number in 0..starts.len() {
+        let start = starts[number];
+        let unit = units[number];
+        writeln!(out, "operation {number} slot {start} multiplier {unit}")?;
+    }
     Ok(())
 }
 

@@ -7,9 +7,9 @@
 //! | where | what is printed |
 //! |---|---|
 //! | the model is no MDL text | the line that says so, from 1 |
-//! | a rule is broken, up to that of latency | the line that tells it (`fx_model::rule_text`) |
+//! | a rule is broken, up to that of budget | the line that tells it (`fx_model::rule_text`) |
 //! | a line of the plan is bad | which one |
-//! | else | of each block, in file order, its path, its latency in base samples, how many shared blocks of its period stand one behind another up to it, and whether it is fed by one |
+//! | else | of each block, in file order, its path, its latency in base samples, how many shared blocks of its period stand one behind another up to it, and whether it is fed by one and when it is then ready; and of each shared operation its slot and its multiplier |
 //!
 //! What is printed was worked out by hand.
 #![tactic(auto)]

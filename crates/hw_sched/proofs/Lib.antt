@@ -21,3 +21,10 @@ mod Driving
 mod Counting
 mod Sized
 mod Limits
+mod Entering
+mod Tied
+mod Numbering
+mod Celling
+mod Spanning
+mod Outputs
+mod Serving

@@ -23,7 +23,7 @@ use Rattle.hw_sched.proofs.Units.{HasKind, own_listed}
 
 -- ---- lists
 
-counted : {A : Type 0} (p : A → Bool) (x : A) (xs : List A) → count_by p (x ∷ xs) ≡ cond (p x) 1 0 + count_by p xs
+pub counted : {A : Type 0} (p : A → Bool) (x : A) (xs : List A) → count_by p (x ∷ xs) ≡ cond (p x) 1 0 + count_by p xs
 counted p x xs = sum_by-cons (λ x. cond (p x) 1 0) x xs
 
 counts_same : {A B : Type 0} (f : A → B) (p : A → Bool) (q : B → Bool) (xs : List A) → ((k : ℕ) (x : A) → slice_get xs k ≡ Some x → q (f x) ≡ p x) → count_by q (map f xs) ≡ count_by p xs
@@ -86,6 +86,15 @@ kind_number (k ∷ kinds) kind other has too = go (λ a b. kind_number kinds kin
     go rest true false p q c d = ne_eqb 0 (suc (length (before_kind other kinds))) (λ e. absurd (omega (arith, e))) ∙ apart true false (is_same_kind kind other) p q refl refl refl
     go rest false true p q c d = ne_eqb (suc (length (before_kind kind kinds))) 0 (λ e. absurd (omega (arith, e))) ∙ apart_too false true (is_same_kind kind other) p q refl refl refl
     go rest false false p q c d = next_same (length (before_kind kind kinds)) (length (before_kind other kinds)) (is_same_kind kind other) (rest (omega (arith, has, c)) (omega (arith, too, d)))
+
+-- a kind that is new stands behind all others
+pub none_before : (kinds : List OperationKind) (kind last : OperationKind) → count_by (is_same_kind kind) kinds ≡ 0 → is_same_kind kind last ≡ true → length (before_kind kind (kinds ++ last ∷ [])) ≡ length kinds
+none_before [] kind last none same = ap (λ (b : Bool). length (cond b [] (last ∷ []))) same
+none_before (k ∷ kinds) kind last none same = go (λ none. none_before kinds kind last none same) (is_same_kind kind k) (counted (is_same_kind kind) k kinds)
+  where
+    go : (count_by (is_same_kind kind) kinds ≡ 0 → length (before_kind kind (kinds ++ last ∷ [])) ≡ length kinds) → (b : Bool) → count_by (is_same_kind kind) (k ∷ kinds) ≡ cond b 1 0 + count_by (is_same_kind kind) kinds → length (cond b [] (k ∷ before_kind kind (kinds ++ last ∷ []))) ≡ suc (length kinds)
+    go rest true e = absurd (omega (arith, none, e))
+    go rest false e = let more = rest (omega (arith, none, e)) in omega (arith, more)
 
 module _ (diagram : Diagram) (attributes : Attributes) (plan : Resolved) (timing : Timing) where
   abbrev all : List Operation
@@ -265,14 +274,6 @@ module _ (diagram : Diagram) (attributes : Attributes) (plan : Resolved) (timing
 
   abbrev AreListed : List OperationKind → Type 0
   AreListed kinds = (k : ℕ) (kind : OperationKind) → slice_get kinds k ≡ Some kind → IsListed kinds k kind
-
-  none_before : (kinds : List OperationKind) (kind last : OperationKind) → count_by (is_same_kind kind) kinds ≡ 0 → is_same_kind kind last ≡ true → length (before_kind kind (kinds ++ last ∷ [])) ≡ length kinds
-  none_before [] kind last none same = ap (λ (b : Bool). length (cond b [] (last ∷ []))) same
-  none_before (k ∷ kinds) kind last none same = go (λ none. none_before kinds kind last none same) (is_same_kind kind k) (counted (is_same_kind kind) k kinds)
-    where
-      go : (count_by (is_same_kind kind) kinds ≡ 0 → length (before_kind kind (kinds ++ last ∷ [])) ≡ length kinds) → (b : Bool) → count_by (is_same_kind kind) (k ∷ kinds) ≡ cond b 1 0 + count_by (is_same_kind kind) kinds → length (cond b [] (k ∷ before_kind kind (kinds ++ last ∷ []))) ≡ suc (length kinds)
-      go rest true e = absurd (omega (arith, none, e))
-      go rest false e = let more = rest (omega (arith, none, e)) in omega (arith, more)
 
   kept_before : (kinds : List OperationKind) (kind last : OperationKind) (k : ℕ) → k < length kinds → length (before_kind kind kinds) ≡ k → length (before_kind kind (kinds ++ last ∷ [])) ≡ k
   kept_before [] kind last k below e = absurd (omega (arith, below))

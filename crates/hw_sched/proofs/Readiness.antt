@@ -205,7 +205,7 @@ ready_rises diagram plan timing number edge source scheduled is_edge now from_is
 
 -- ---- the operands of a shared operation
 
-multiplier_at : (diagram : Diagram) (place : ℕ) → multiplies diagram place ≡ true → (b : Block) × (slice_get diagram.blocks place ≡ Some b) × ((row_of b.kind).hardware.multiplies ≡ true)
+pub multiplier_at : (diagram : Diagram) (place : ℕ) → multiplies diagram place ≡ true → (b : Block) × (slice_get diagram.blocks place ≡ Some b) × ((row_of b.kind).hardware.multiplies ≡ true)
 multiplier_at diagram place is = go (slice_get diagram.blocks place) refl is
   where
     go : (o : Option Block) → slice_get diagram.blocks place ≡ o → multiplies_if o ≡ true → (b : Block) × (slice_get diagram.blocks place ≡ Some b) × ((row_of b.kind).hardware.multiplies ≡ true)

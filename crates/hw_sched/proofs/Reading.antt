@@ -34,7 +34,7 @@ use Rattle.hw_sched.proofs.Served.{same_period}
 
 -- ---- the first line into a block
 
-first_rises : (edges : List Edge) → AllPairs StandsBefore edges → (i j : ℕ) (d : Edge) → i ≤ j → j < length edges → (get_or edges i d).to ≤ (get_or edges j d).to
+pub first_rises : (edges : List Edge) → AllPairs StandsBefore edges → (i j : ℕ) (d : Edge) → i ≤ j → j < length edges → (get_or edges i d).to ≤ (get_or edges j d).to
 first_rises edges ordered i j d low within = elim (cases_lt i j) [
   | inl less ↦ before (ordered i j d less within)
   | inr past ↦ let same : i ≡ j = omega (arith, low, past) in let e : (get_or edges i d).to ≡ (get_or edges j d).to = ap (λ (n : ℕ). (get_or edges n d).to) same in omega (arith, e)

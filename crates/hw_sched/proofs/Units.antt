@@ -69,7 +69,7 @@ module _ (diagram : Diagram) (attributes : Attributes) (plan : Resolved) (timing
 
   -- ---- the kind of each operation is listed
 
-  kept_new : (kinds : List OperationKind) (o : Operation) (kind : OperationKind) → HasKind kinds kind → HasKind (new_kind diagram attributes timing kinds o) kind
+  pub kept_new : (kinds : List OperationKind) (o : Operation) (kind : OperationKind) → HasKind kinds kind → HasKind (new_kind diagram attributes timing kinds o) kind
   kept_new kinds o kind has = go (nat_lt 0 (count_by (is_same_kind (kind_at o)) kinds))
     where
       go : (b : Bool) → HasKind (cond b kinds (kinds ++ kind_at o ∷ [])) kind
@@ -80,7 +80,7 @@ module _ (diagram : Diagram) (attributes : Attributes) (plan : Resolved) (timing
   kept_kinds [] kinds kind has = has
   kept_kinds (o ∷ operations) kinds kind has = kept_kinds operations (new_kind diagram attributes timing kinds o) kind (kept_new kinds o kind has)
 
-  own_new : (kinds : List OperationKind) (o : Operation) → HasKind (new_kind diagram attributes timing kinds o) (kind_at o)
+  pub own_new : (kinds : List OperationKind) (o : Operation) → HasKind (new_kind diagram attributes timing kinds o) (kind_at o)
   own_new kinds o = go (nat_lt 0 (count_by (is_same_kind (kind_at o)) kinds)) refl
     where
       go : (b : Bool) → nat_lt 0 (count_by (is_same_kind (kind_at o)) kinds) ≡ b → HasKind (cond b kinds (kinds ++ kind_at o ∷ [])) (kind_at o)

@@ -4,6 +4,7 @@ pub mod Ready
 pub mod Budget
 pub mod Scheduled
 pub mod Laws
+pub mod Answer
 pub mod Numbered
 pub mod Storage
 pub mod Sizing

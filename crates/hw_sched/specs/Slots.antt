@@ -155,9 +155,13 @@ most_at_once diagram attributes plan timing kind =
 abbrev pub units_of_kind : Diagram → Attributes → Resolved → Timing → OperationKind → ℕ
 units_of_kind diagram attributes plan timing kind = min plan.multipliers (most_at_once diagram attributes plan timing kind)
 
+-- a list of kinds with one more, where that isn't among them
+abbrev pub with_kind : List OperationKind → OperationKind → List OperationKind
+with_kind kinds kind = if nat_lt 0 (count_by (is_same_kind kind) kinds) then kinds else kinds ++ kind ∷ []
+
 -- the kinds of operations in order of their first ones
 abbrev pub new_kind : Diagram → Attributes → Timing → List OperationKind → Operation → List OperationKind
-new_kind diagram attributes timing kinds o = if nat_lt 0 (count_by (is_same_kind (kind_of diagram attributes timing o)) kinds) then kinds else kinds ++ kind_of diagram attributes timing o ∷ []
+new_kind diagram attributes timing kinds o = with_kind kinds (kind_of diagram attributes timing o)
 
 abbrev pub kinds_of : Diagram → Attributes → Timing → List OperationKind → List Operation → List OperationKind
 kinds_of diagram attributes timing kinds [] = kinds

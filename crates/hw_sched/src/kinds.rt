@@ -1,9 +1,11 @@
 // What the rows of kinds say, as the code asks it.
-ghost use Rattle.std.specs.Prelude.{◌≡◌, ◌≤◌, ◌<◌, false, length};
+ghost use Rattle.std.specs.Prelude.{◌≡◌, ◌≤◌, ◌<◌, false, true, length};
 ghost use Rattle.dg_model.specs.Attributes.{attributes_of};
 ghost use Rattle.dg_model.specs.Instant.{is_now, asks_now as asks_now_of};
 ghost use Rattle.dg_model.specs.Library.{row_of};
-ghost use Rattle.hw_latency.specs.Shared.{IsPlanOf, is_shared as is_shared_of, shares as shares_of};
+ghost use Rattle.dg_model.specs.Rate.{joins_periods as joins_periods_of};
+ghost use Rattle.hw_latency.specs.Shared.{IsPlanOf, is_shared as is_shared_of, multiplies as multiplies_of, shares as shares_of};
+ghost use Rattle.hw_latency.specs.Weight.{samples as samples_of};
 ghost use Rattle.hw_sched.specs.inner.Greatest.{control_now as control_now_of};
 
 use dg_model::{Block, Checked, Kind, Resolved};
@@ -121,4 +123,50 @@ pub fn is_shared(checked: &Checked, plan: &Resolved, place: u32) -> bool
     let multiplies = multiplies(&block.kind);
     let shares = shares(plan, checked.period(place));
     multiplies && shares
+}
+
+/// The base samples of a period, 0 where a value never changes.
+pub fn samples(period: Option<u32>) -> u64
+    ensures { result ≡ samples_of period }
+{
+    match period {
+        None => 0,
+        Some(period) => u64::from(period),
+    }
+}
+
+/// Whether a block of this kind joins two periods.
+pub fn joins_periods(kind: &Kind) -> bool
+    ensures { result ≡ joins_periods_of (row_of kind.now).timing.reads }
+{
+    match kind {
+        Kind::RateTransition { .. } => true,
+        Kind::Inport { .. }
+        | Kind::Outport { .. }
+        | Kind::Constant { .. }
+        | Kind::Ground
+        | Kind::Sum { .. }
+        | Kind::Gain { .. }
+        | Kind::Product
+        | Kind::Switch { .. }
+        | Kind::Relational { .. }
+        | Kind::Logic { .. }
+        | Kind::Convert { .. }
+        | Kind::Delay { .. }
+        | Kind::Mux { .. }
+        | Kind::Demux { .. }
+        | Kind::Pass { .. }
+        | Kind::EnableTest
+        | Kind::EnOut { .. }
+        | Kind::Terminator => false,
+    }
+}
+
+/// How many elements a block that multiplies has.
+pub fn width_of(checked: &Checked, place: u32) -> u32
+    requires multiplies { multiplies_of checked.now.diagram place ≡ true }
+    ensures { result ≡ (attributes_of checked.now.diagram).width_at place 1 }
+{
+    checked.keeps_rules();
+    checked.width(place, 1)
 }

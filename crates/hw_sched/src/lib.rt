@@ -1,23 +1,31 @@
-//! Which multipliers serve the shared operations of a diagram by a plan, and when.
+//! Which multipliers serve the shared operations of a diagram by a plan, and when; and how large the
+//! module is that they make.
 //!
 //! `Level` says how many shared blocks stand one behind another, `Slots` which operations are of one
 //! kind, and in which slot of its period and at which multiplier each stands. `Ready` says when
 //! outputs are ready and how late root outputs are in clocks. The rules of budget and of size are
-//! those of `Budget` and `Storage`, and `Sizing` says what `size` and `check_size` answer. `Chained`
-//! counts the registers of a module whose lines share them. What all of these say together of a diagram that keeps the rules (`Scheduled`) are `laws`:
-//! they are all that is wanted of a schedule when a module is built and proved.
+//! those of `Budget` and `Storage`; `Answer` says what `slots_of` answers, and `Sizing` what `size` and
+//! `check_size` do. `Chained` counts the registers of a module whose lines share them. What all of
+//! these say together of a diagram that keeps the rules (`Scheduled`) are `laws`: they are all that is
+//! wanted of a schedule when a module is built and proved.
 #![tactic(auto)]
 
 mod block_registers;
+mod cells;
 mod deepening;
 mod drivers;
 mod edge_lines;
+mod keys;
 mod kinds;
 mod laws;
 mod lines;
+mod numbers;
+mod operands;
 mod output_latency;
+mod readying;
 mod sizing;
 mod slots;
+mod spans;
 
 pub use deepening::depths;
 pub use laws::{
@@ -26,4 +34,4 @@ pub use laws::{
     root_inputs_are_first, slots_differ, unfed_are_ready,
 };
 pub use sizing::{SizeFault, Sizing, check_size, size};
-pub use slots::{BudgetFault, Slots};
+pub use slots::{BudgetFault, Slots, slots_of};

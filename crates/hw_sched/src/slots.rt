@@ -1,13 +1,34 @@
-use fx_io::{OutOfMemory, Sizes};
+ghost use Rattle.std.specs.Prelude.{◌≡◌, ◌<◌, ◌≤◌, IfErr, IfOk, length};
+ghost use Rattle.hw_latency.specs.Latency.{AreLatencies};
+ghost use Rattle.hw_latency.specs.Shared.{IsPlanOf};
+ghost use Rattle.hw_slots.specs.Answer.{AreSlots as AreMade};
+ghost use Rattle.hw_sched.specs.Answer.{AreSlots, IsBudgetFault, timing_of};
+ghost use Rattle.hw_sched.specs.Scheduled.{IsTimingOf};
+ghost use Rattle.hw_sched.specs.inner.Served.{IsServed, IsShortFault};
 
-/// When and where shared operations are served, in order of their blocks and elements (own; HDL
-/// Coder, resource sharing).
+use crate::cells::cells_of;
+use crate::deepening::depths;
+use crate::readying::ready_of;
+use crate::spans::spans_of;
+use dg_model::{Checked, Resolved};
+use fx_io::{Longs, OutOfMemory};
+use hw_latency::Latencies;
+use hw_slots::{Operation, SlotFault, Span};
+use std::alloc::Global;
+
+/// When and where shared operations are served, in order of their blocks and elements, and when
+/// outputs are ready (own; HDL Coder, resource sharing).
 #[derive(Debug, Drop)]
 pub struct Slots {
-    /// The slot of each operation in its period, in clocks.
-    pub starts: Sizes,
-    /// The multiplier of each operation.
-    pub units: Sizes,
+    /// The slot of each shared operation in its period, in clocks.
+    pub starts: Longs,
+    /// The multiplier of each shared operation.
+    pub units: Longs,
+    /// The clock of its period at which each block's output is ready.
+    pub ready: Longs,
+    /// By block, how many shared blocks of its period stand one behind another at the most on
+    /// instant paths that end with it.
+    pub depths: Longs,
 }
 
 /// Why there are no slots (own).
@@ -28,4 +49,99 @@ impl From<OutOfMemory> for BudgetFault {
     fn from(_refused: OutOfMemory) -> BudgetFault {
         BudgetFault::OutOfMemory
     }
+}
+
+/// The slots of operations, where spans are few.
+fn serve(
+    alloc: Global,
+    operations: &[Operation],
+    spans: &[Span],
+    multipliers: u64,
+    kinds: u64,
+) -> Result<hw_slots::Slots, BudgetFault>
+    requires some { 0 < multipliers }
+    requires few { length spans.now ≤ 4097 }
+    ensures slots { IfOk result (AreMade operations.now multipliers spans.now kinds) }
+    ensures short { IfErr result (IsShortFault operations.now multipliers spans.now) }
+{
+    match hw_slots::slots_of(alloc, operations, spans, multipliers, kinds) {
+        Ok(made) => Ok(made),
+        Err(SlotFault::Budget { period, need, have }) => Err(BudgetFault::Budget {
+            period: period as u32,
+            need,
+            have,
+        }),
+        Err(SlotFault::OutOfMemory) => Err(BudgetFault::OutOfMemory),
+    }
+}
+
+/// At most how many multipliers serve a kind; without any there is no shared operation, and any
+/// number will do.
+fn multipliers_of(plan: &Resolved) -> u64
+    ensures some { 0 < result }
+    ensures is { 0 < plan.now.multipliers → result ≡ plan.now.multipliers }
+{
+    if plan.multipliers == 0 {
+        1
+    } else {
+        u64::from(plan.multipliers)
+    }
+}
+
+/// The slots of the shared operations of a diagram by depths.
+fn served(
+    alloc: Global,
+    checked: &Checked,
+    latencies: &Latencies,
+    depths: &[u64],
+    plan: &Resolved,
+) -> Result<hw_slots::Slots, BudgetFault>
+    requires plan { IsPlanOf checked.now.diagram plan.now }
+    requires timed { IsTimingOf checked.now.diagram plan.now (timing_of latencies.now depths.now) }
+    ensures slots { IfOk result
+        (IsServed checked.now.diagram plan.now (timing_of latencies.now depths.now)) }
+    ensures short { IfErr result (IsBudgetFault checked.now.diagram plan.now latencies.now) }
+{
+    let cells = cells_of(alloc, checked, plan, latencies, depths)?;
+    let spans = spans_of(alloc, checked, plan)?;
+    let multipliers = multipliers_of(plan);
+    let kinds = cells.numbers.count();
+    serve(
+        alloc,
+        cells.operations.as_slice(),
+        spans.as_slice(),
+        multipliers,
+        kinds,
+    )
+}
+
+/// The slots and multipliers of the shared operations of a checked diagram by a plan, and when its
+/// outputs are ready, or the least period that has too few slots. Its time is that of the blocks,
+/// edges, operations and of the longest period, each with a few look-ups in trees.
+pub fn slots_of(
+    alloc: Global,
+    checked: &Checked,
+    latencies: &Latencies,
+    plan: &Resolved,
+) -> Result<Slots, BudgetFault>
+    requires plan { IsPlanOf checked.now.diagram plan.now }
+    requires latencies { AreLatencies checked.now.diagram plan.now latencies.now }
+    ensures slots { IfOk result (AreSlots checked.now.diagram plan.now latencies.now) }
+    ensures short { IfErr result (IsBudgetFault checked.now.diagram plan.now latencies.now) }
+{
+    let depths = depths(alloc, checked, plan)?;
+    let by_block = depths.as_slice();
+    let made = served(alloc, checked, latencies, by_block, plan)?;
+    let ready = ready_of(alloc, checked, latencies, by_block, &made.bases)?;
+    let hw_slots::Slots {
+        starts,
+        units,
+        bases: _,
+    } = made;
+    Ok(Slots {
+        starts,
+        units,
+        ready,
+        depths,
+    })
 }

@@ -45,7 +45,8 @@ fn lay_out(
     Ok(slot)
 }
 
-/// The first slot of each level of each period and of what is behind them, or the first period that has too few slots.
+/// The first slot of each level of each period and of what is behind them, or the first period that
+/// has too few slots.
 pub fn bases_of(
     alloc: Global,
     operations: &[Operation],

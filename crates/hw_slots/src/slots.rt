@@ -42,9 +42,9 @@ impl From<OutOfMemory> for SlotFault {
     }
 }
 
-/// The slot and the multiplier of each operation and the first slots of levels, where each of `kinds` kinds has at most so many
-/// multipliers, or the first period that has too few slots. Its time is that of the operations,
-/// kinds and levels, each with a few look-ups in trees.
+/// The slot and the multiplier of each operation and the first slots of levels, where each of
+/// `kinds` kinds has at most so many multipliers, or the first period that has too few slots. Its
+/// time is that of the operations, kinds and levels, each with a few look-ups in trees.
 pub fn slots_of(
     alloc: Global,
     operations: &[Operation],

@@ -1,5 +1,4 @@
 use Rattle.std.proofs.Common.{subst, sym}
-use Rattle.hw_slots.specs.declared.bases.Bases.{Bases}
 use Rattle.hw_slots.specs.Answer.{AreBaseSlots}
 use Rattle.hw_slots.proofs.Totals.{laid_end, bases_end}
 use Rattle.hw_slots.proofs.slots.slots_of.Goals as goal

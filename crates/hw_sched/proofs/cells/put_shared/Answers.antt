@@ -1,0 +1,28 @@
+use Rattle.std.proofs.Common.{◌+◌, ◌++◌, List, sym, subst, arith}
+use Rattle.hw_sched.specs.Slots.{Operation, operation}
+use Rattle.hw_sched.specs.Answer.{timing_of}
+use Rattle.hw_sched.specs.inner.Cells.{AreCellsBut}
+use Rattle.hw_sched.proofs.Celling.{elements_from, elements_first, elements_next, elements_last}
+use Rattle.hw_sched.proofs.cells.put_shared.Goals as goal
+
+pub loop-element-init : goal.loop-element-init
+loop-element-init c = λ rest before.
+    let timing = timing_of c.args.latencies.now c.args.depths.now in
+    subst (λ (operations : List Operation). AreCellsBut c.args.checked.now.diagram c.args.plan.now timing (operations ++ rest) c.args.cells.now) (sym (elements_first c.args.checked.now.diagram c.args.plan.now timing c.args.place)) before
+
+pub loop-element-preserved : goal.loop-element-preserved
+loop-element-preserved c = λ rest before.
+    let timing = timing_of c.args.latencies.now c.args.depths.now in
+    let width = c.width_of-width.ensures in
+    let below = c.loop-element-test.true in
+    c.in_ok-put.ensures c.args.checked.now.diagram c.args.plan.now timing (operation c.args.place c.loop-element.element) (elements_from c.args.checked.now.diagram c.args.plan.now timing c.args.place (c.loop-element.element + 1) ++ rest) c.sort_of-sort.ensures
+    (subst (λ (operations : List Operation). AreCellsBut c.args.checked.now.diagram c.args.plan.now timing (operations ++ rest) c.loop-element.cells)
+    (elements_next c.args.checked.now.diagram c.args.plan.now timing c.args.place c.loop-element.element (omega (arith, width, below))) (c.loop-element.invariant rest before))
+
+pub returns : goal.returns
+returns c = λ rest before.
+    let timing = timing_of c.args.latencies.now c.args.depths.now in
+    let width = c.width_of-width.ensures in
+    let past = c.loop-element-test.false in
+    subst (λ (operations : List Operation). AreCellsBut c.args.checked.now.diagram c.args.plan.now timing (operations ++ rest) c.loop-element.cells)
+    (elements_last c.args.checked.now.diagram c.args.plan.now timing c.args.place c.loop-element.element (omega (arith, width, past))) (c.loop-element.invariant rest before)

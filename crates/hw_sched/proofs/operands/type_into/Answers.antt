@@ -1,0 +1,64 @@
+use Rattle.std.proofs.Common.{◌+◌, ap, sym, ◌∙◌, length, List, arith}
+use Rattle.std.specs.Prelude.{Option}
+use Rattle.fx_type.specs.declared.kind.FxType.TheVariants.{Logical}
+use Rattle.dg_model.specs.declared.diagram.Diagram.{Diagram}
+use Rattle.dg_model.specs.declared.diagram.Edge.{Edge}
+use Rattle.dg_model.specs.Attributes.{attributes_of}
+use Rattle.dg_model.specs.Wires.{at_source}
+use Rattle.hw_sched.proofs.Items.{rest_length, rest_read, first_as}
+use Rattle.hw_sched.proofs.Reading.{from_there}
+use Rattle.hw_sched.proofs.Entering.{enters_none, enters_more, enters_at, enters_end, enters_stop}
+use Rattle.hw_sched.proofs.operands.type_into.Goals as goal
+
+abbrev none : Edge
+none = record { from = 0; from_port = 0; to = 0; to_port = 0 }
+
+pub loop-edge-init : goal.loop-edge-init
+loop-edge-init c =
+    let es = c.as_slice-edges.ensures ∙ ap (λ (d : Diagram). d.edges) c.diagram.ensures in
+    enters_none c.args.checked.now.diagram.edges c.first_into-first.result c.args.place c.args.port (first_as c.args.checked.now.diagram.edges c.as_slice-edges.result.now c.args.place c.first_into-first.result es c.first_into-first.ensures)
+
+pub returns-then-edge-place : goal.returns-then-edge-place
+returns-then-edge-place c =
+    let es = c.as_slice-edges.ensures ∙ ap (λ (d : Diagram). d.edges) c.diagram.ensures in
+    let test = c.loop-edge-test.true in
+    let size = rest_length c.first_into-first.result c.as_slice-edges.result.now in
+    let at = rest_read c.args.checked.now.diagram.edges c.as_slice-edges.result.now c.first_into-first.result c.loop-edge.edge-index none es (omega (arith, test, size)) in
+    let found = enters_stop c.args.checked.now.diagram.edges c.first_into-first.result (c.first_into-first.result + c.loop-edge.edge-index) c.args.place c.args.port _ c.keeps_rules.ensures.checked.wired.ordered
+    (first_as c.args.checked.now.diagram.edges c.as_slice-edges.result.now c.args.place c.first_into-first.result es c.first_into-first.ensures) (omega arith) at (λ e. let differs = c.if-edge-place.true in omega (arith, e, differs)) c.loop-edge.invariant in
+    sym (ap (λ (line : Option Edge). at_source line Logical (attributes_of c.args.checked.now.diagram).type_at) found)
+
+pub result-requires : goal.result-requires
+result-requires c =
+    let es = c.as_slice-edges.ensures ∙ ap (λ (d : Diagram). d.edges) c.diagram.ensures in
+    let test = c.loop-edge-test.true in
+    let size = rest_length c.first_into-first.result c.as_slice-edges.result.now in
+    let at = rest_read c.args.checked.now.diagram.edges c.as_slice-edges.result.now c.first_into-first.result c.loop-edge.edge-index none es (omega (arith, test, size)) in
+    from_there c.args.checked.now.diagram c.args.place (c.first_into-first.result + c.loop-edge.edge-index) _ c.keeps_rules.ensures.checked.wired at
+
+pub returns-then-edge-port : goal.returns-then-edge-port
+returns-then-edge-port c =
+    let es = c.as_slice-edges.ensures ∙ ap (λ (d : Diagram). d.edges) c.diagram.ensures in
+    let test = c.loop-edge-test.true in
+    let size = rest_length c.first_into-first.result c.as_slice-edges.result.now in
+    let at = rest_read c.args.checked.now.diagram.edges c.as_slice-edges.result.now c.first_into-first.result c.loop-edge.edge-index none es (omega (arith, test, size)) in
+    let found = enters_at c.args.checked.now.diagram.edges (c.first_into-first.result + c.loop-edge.edge-index) c.args.place c.args.port _ at (let same = c.if-edge-place.false in omega (arith, same)) c.if-edge-port.true c.loop-edge.invariant in
+    c.result.ensures 0 ∙ sym (ap (λ (line : Option Edge). at_source line Logical (attributes_of c.args.checked.now.diagram).type_at) found)
+
+pub loop-edge-preserved : goal.loop-edge-preserved
+loop-edge-preserved c =
+    let es = c.as_slice-edges.ensures ∙ ap (λ (d : Diagram). d.edges) c.diagram.ensures in
+    let test = c.loop-edge-test.true in
+    let size = rest_length c.first_into-first.result c.as_slice-edges.result.now in
+    let at = rest_read c.args.checked.now.diagram.edges c.as_slice-edges.result.now c.first_into-first.result c.loop-edge.edge-index none es (omega (arith, test, size)) in
+    enters_more c.args.checked.now.diagram.edges c.first_into-first.result c.loop-edge.edge-index c.args.place c.args.port _ at (λ e. let differs = c.if-edge-port.false in omega (arith, e, differs)) c.loop-edge.invariant
+
+pub returns : goal.returns
+returns c =
+    let es = c.as_slice-edges.ensures ∙ ap (λ (d : Diagram). d.edges) c.diagram.ensures in
+    let test = c.loop-edge-test.false in
+    let size = rest_length c.first_into-first.result c.as_slice-edges.result.now in
+    let within = c.first_into-first.ensures.within in
+    let many = ap (λ (xs : List Edge). length xs) es in
+    let found = enters_end c.args.checked.now.diagram.edges (c.first_into-first.result + c.loop-edge.edge-index) c.args.place c.args.port (omega (arith, test, size, within, many)) c.loop-edge.invariant in
+    sym (ap (λ (line : Option Edge). at_source line Logical (attributes_of c.args.checked.now.diagram).type_at) found)

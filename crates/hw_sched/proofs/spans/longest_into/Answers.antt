@@ -1,0 +1,21 @@
+use Rattle.std.proofs.Common.{◌≤◌, List, length, ap, subst, ◌∙◌}
+use Rattle.dg_model.specs.declared.diagram.Diagram.{Diagram}
+use Rattle.dg_model.specs.declared.diagram.Edge.{Edge}
+use Rattle.hw_sched.proofs.Items.{item_read}
+use Rattle.hw_sched.proofs.Spanning.{longest_more, longest_end}
+use Rattle.hw_sched.proofs.spans.longest_into.Goals as goal
+
+abbrev none : Edge
+none = record { from = 0; from_port = 0; to = 0; to_port = 0 }
+
+pub loop-edge-preserved : goal.loop-edge-preserved
+loop-edge-preserved c =
+    let es = c.as_slice-edge-items.ensures ∙ ap (λ (d : Diagram). d.edges) c.diagram.ensures in
+    longest_more c.args.checked.now.diagram c.loop-edge.edge-index _ c.loop-edge.longest.items c.raise.new.longest.items
+    (item_read c.args.checked.now.diagram.edges c.as_slice-edge-items.result.now c.loop-edge.edge-index none es c.loop-edge-test.true)
+    c.raise.ensures.size c.raise.ensures.raised c.loop-edge.invariant
+
+pub returns : goal.returns
+returns c =
+    longest_end c.args.checked.now.diagram c.loop-edge.edge-index c.loop-edge.longest.items c.keeps_rules.ensures.checked
+    (subst (λ (es : List Edge). length es ≤ c.loop-edge.edge-index) (c.as_slice-edge-items.ensures ∙ ap (λ (d : Diagram). d.edges) c.diagram.ensures) c.loop-edge-test.false) c.loop-edge.invariant

@@ -1,0 +1,165 @@
+//! Shared operations as `hw_slots` takes them.
+ghost use Rattle.std.specs.Prelude.{◌≡◌, ◌<◌, ◌++◌, ◌∷◌, true, IfOk, List, OnOk, length};
+ghost use Rattle.dg_model.specs.declared.diagram.Diagram.{Diagram};
+ghost use Rattle.dg_model.specs.declared.resolved.Resolved.{Resolved};
+ghost use Rattle.dg_model.specs.Attributes.{attributes_of};
+ghost use Rattle.hw_latency.specs.Shared.{IsPlanOf, is_shared as is_shared_of};
+ghost use Rattle.hw_sched.specs.Slots.{Timing, Operation as Shared, operations_of, shared_operations};
+ghost use Rattle.hw_sched.specs.Answer.{timing_of};
+ghost use Rattle.hw_sched.specs.inner.Cells.{AreCells, AreCellsBut, IsSort, shared_at};
+
+use crate::keys::KindKey;
+use crate::kinds::{is_shared, samples, width_of};
+use crate::numbers::KindNumbers;
+use crate::operands::{right_of, type_into};
+use dg_model::{Checked, Resolved};
+use fx_io::OutOfMemory;
+use hw_latency::Latencies;
+use hw_slots::Operation;
+use std::alloc::Global;
+
+/// What the operations of a block have in common.
+#[derive(Clone, Copy)]
+pub struct Sort {
+    /// Their kind.
+    pub key: KindKey,
+    /// Their period, 0 where their values never change.
+    pub period: u64,
+    /// How many shared blocks of the period stand before theirs at the most.
+    pub level: u64,
+}
+
+/// Shared operations by the numbers of their kinds.
+#[derive(Drop)]
+pub struct Cells {
+    /// Each operation with the number of its kind.
+    pub operations: Vec<Operation>,
+    /// The kinds that they have.
+    pub numbers: KindNumbers,
+}
+
+/// What the operations of a block have in common.
+fn sort_of(checked: &Checked, latencies: &Latencies, depths: &[u64], place: u32) -> Sort
+    requires lat { length latencies.now.lat ≡ length checked.now.diagram.blocks }
+    requires depths { length depths.now ≡ length checked.now.diagram.blocks }
+    requires there { place < length checked.now.diagram.blocks }
+    ensures { IsSort checked.now.diagram (timing_of latencies.now depths.now) place result }
+{
+    let period = samples(checked.period(place));
+    let lat = latencies.lat.as_slice()[place as usize];
+    let left = type_into(checked, place, 1);
+    let right = right_of(checked, place);
+    Sort {
+        key: KindKey::of(period, lat, left, right),
+        period,
+        level: depths[place as usize].saturating_sub(1),
+    }
+}
+
+impl Cells {
+    /// No operation. It takes no memory.
+    fn new(alloc: Global) -> Cells
+        ensures { (diagram : Diagram) (plan : Resolved) (timing : Timing)
+            → AreCellsBut diagram plan timing
+            (shared_operations diagram (attributes_of diagram) plan) result }
+    {
+        let operations = Vec::new(alloc);
+        let numbers = KindNumbers::new(alloc);
+        Cells {
+            operations,
+            numbers,
+        }
+    }
+
+    /// Numbers one operation more.
+    fn put(&mut self, sort: Sort) -> Result<(), OutOfMemory>
+        ensures { OnOk result ((diagram : Diagram) (plan : Resolved) (timing : Timing)
+            (o : Shared) (rest : List Shared) → IsSort diagram timing o.block sort
+            → AreCellsBut diagram plan timing (o ∷ rest) self.old
+            → AreCellsBut diagram plan timing rest self.new) }
+    {
+        let kind = self.numbers.number(sort.key)?;
+        self.operations.push(Operation {
+            kind,
+            period: sort.period,
+            level: sort.level,
+        })?;
+        Ok(())
+    }
+}
+
+/// Numbers the operations of a shared block.
+fn put_shared(
+    checked: &Checked,
+    plan: &Resolved,
+    latencies: &Latencies,
+    depths: &[u64],
+    cells: &mut Cells,
+    place: u32,
+) -> Result<(), OutOfMemory>
+    requires lat { length latencies.now.lat ≡ length checked.now.diagram.blocks }
+    requires depths { length depths.now ≡ length checked.now.diagram.blocks }
+    requires there { place < length checked.now.diagram.blocks }
+    requires shared { is_shared_of checked.now.diagram (attributes_of checked.now.diagram)
+        plan.now place ≡ true }
+    ensures { OnOk result ((rest : List Shared)
+        → AreCellsBut checked.now.diagram plan.now (timing_of latencies.now depths.now)
+        (operations_of (attributes_of checked.now.diagram) place ++ rest) cells.old
+        → AreCellsBut checked.now.diagram plan.now (timing_of latencies.now depths.now)
+        rest cells.new) }
+{
+    let sort = sort_of(checked, latencies, depths, place);
+    let width = width_of(checked, place);
+    for element in 0..width {
+        cells.put(sort)?;
+    }
+    Ok(())
+}
+
+/// Numbers the operations of a block, if they are shared.
+fn put_block(
+    checked: &Checked,
+    plan: &Resolved,
+    latencies: &Latencies,
+    depths: &[u64],
+    cells: &mut Cells,
+    place: u32,
+) -> Result<(), OutOfMemory>
+    requires plan { IsPlanOf checked.now.diagram plan.now }
+    requires lat { length latencies.now.lat ≡ length checked.now.diagram.blocks }
+    requires depths { length depths.now ≡ length checked.now.diagram.blocks }
+    requires there { place < length checked.now.diagram.blocks }
+    ensures { OnOk result ((rest : List Shared)
+        → AreCellsBut checked.now.diagram plan.now (timing_of latencies.now depths.now)
+        (shared_at checked.now.diagram plan.now place ++ rest) cells.old
+        → AreCellsBut checked.now.diagram plan.now (timing_of latencies.now depths.now)
+        rest cells.new) }
+{
+    if !is_shared(checked, plan, place) {
+        return Ok(());
+    }
+    put_shared(checked, plan, latencies, depths, cells, place)?;
+    Ok(())
+}
+
+/// The shared operations by the numbers of their kinds, in order of their blocks and elements.
+pub fn cells_of(
+    alloc: Global,
+    checked: &Checked,
+    plan: &Resolved,
+    latencies: &Latencies,
+    depths: &[u64],
+) -> Result<Cells, OutOfMemory>
+    requires plan { IsPlanOf checked.now.diagram plan.now }
+    requires lat { length latencies.now.lat ≡ length checked.now.diagram.blocks }
+    requires depths { length depths.now ≡ length checked.now.diagram.blocks }
+    ensures { IfOk result
+        (AreCells checked.now.diagram plan.now (timing_of latencies.now depths.now)) }
+{
+    checked.keeps_rules();
+    let mut cells = Cells::new(alloc);
+    for place in 0..depths.len() {
+        put_block(checked, plan, latencies, depths, &mut cells, place as u32)?;
+    }
+    Ok(cells)
+}

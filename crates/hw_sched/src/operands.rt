@@ -1,0 +1,70 @@
+ghost use Rattle.std.specs.Prelude.{◌≡◌, ◌<◌, length, slice_get};
+ghost use Rattle.dg_model.specs.Attributes.{attributes_of};
+ghost use Rattle.dg_model.specs.Wires.{type_into as type_into_of};
+ghost use Rattle.dg_model.specs.Library.{row_of};
+ghost use Rattle.hw_sched.specs.Slots.{right_of as right_of_block, right_type};
+
+use crate::lines::first_into;
+use dg_model::{Checked, Kind};
+use fx_type::FxType;
+
+/// The type of what a block reads at an input port; Logical where no line ends there.
+pub fn type_into(checked: &Checked, place: u32, port: u32) -> FxType
+    requires there { place < length checked.now.diagram.blocks }
+    ensures { result
+        ≡ type_into_of checked.now.diagram (attributes_of checked.now.diagram) place port }
+{
+    checked.keeps_rules();
+    let edges = checked.diagram().edges.as_slice();
+    let first = first_into(edges, place);
+    for edge in &edges[first..] {
+        let edge = *edge;
+        if edge.to != place {
+            return FxType::Logical;
+        }
+        if edge.to_port == port {
+            return checked.result(edge.from);
+        }
+    }
+    FxType::Logical
+}
+
+/// The type of the second operand of a block of this kind: of a coefficient or of input 2; Logical
+/// where it doesn't multiply.
+fn right_by(checked: &Checked, place: u32, kind: &Kind) -> FxType
+    requires there { place < length checked.now.diagram.blocks }
+    ensures { result ≡ right_type checked.now.diagram (attributes_of checked.now.diagram) place
+        (row_of kind.now).types.full }
+{
+    match kind {
+        Kind::Gain { .. } => checked.param(place),
+        Kind::Product => type_into(checked, place, 2),
+        Kind::Inport { .. }
+        | Kind::Outport { .. }
+        | Kind::Constant { .. }
+        | Kind::Ground
+        | Kind::Sum { .. }
+        | Kind::Switch { .. }
+        | Kind::Relational { .. }
+        | Kind::Logic { .. }
+        | Kind::Convert { .. }
+        | Kind::Delay { .. }
+        | Kind::Mux { .. }
+        | Kind::Demux { .. }
+        | Kind::RateTransition { .. }
+        | Kind::Pass { .. }
+        | Kind::EnableTest
+        | Kind::EnOut { .. }
+        | Kind::Terminator => FxType::Logical,
+    }
+}
+
+/// The type of the second operand of a block.
+pub fn right_of(checked: &Checked, place: u32) -> FxType
+    requires there { place < length checked.now.diagram.blocks }
+    ensures { result ≡ right_of_block checked.now.diagram (attributes_of checked.now.diagram) place
+        (slice_get checked.now.diagram.blocks place) }
+{
+    let block = &checked.diagram().blocks.as_slice()[place as usize];
+    right_by(checked, place, &block.kind)
+}
