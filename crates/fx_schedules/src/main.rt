@@ -7,14 +7,20 @@
 //! | where | what is printed |
 //! |---|---|
 //! | the model is no MDL text | the line that says so, from 1 |
-//! | a rule is broken, up to that of budget | the line that tells it (`fx_model::rule_text`) |
+//! | a rule is broken, up to that of latency | the line that tells it (`fx_model::rule_text`) |
 //! | a line of the plan is bad | which one |
-//! | else | of each block, in file order, its path, its latency in base samples, how many shared blocks of its period stand one behind another up to it, and whether it is fed by one and when it is then ready; and of each shared operation its slot and its multiplier |
+//! | else | of each block, in file order, its path, its latency in base samples, how many shared blocks of its period stand one behind another up to it, and whether it is fed by one |
+//! | a period has too few slots | then the line that tells it |
+//! | else | then of each shared operation its block's path and its element, its slot in its period and its multiplier, and of each root output its path, the clock of its period at which it is ready and the latency that is declared of it, in clocks |
+//! | there is too much storage, or too late an output | then the line that tells it |
+//! | else | then the storage and the greatest declared latency |
 //!
-//! What is printed was worked out by hand.
+//! What is printed was worked out by hand and by an independent reference.
 #![tactic(auto)]
 
 mod answers;
+mod faults;
+mod schedules;
 
 use anyhow::Result;
 use std::alloc::Global;

@@ -1,0 +1,169 @@
+//! What is told of a schedule: who serves shared operations, and how late and how large all is.
+ghost use Rattle.std.specs.Prelude.{◌≡◌, length};
+ghost use Rattle.hw_latency.specs.Latency.{AreLatencies};
+ghost use Rattle.hw_latency.specs.Shared.{IsPlanOf};
+
+use crate::faults::put_model_fault;
+use anyhow::{Result, anyhow};
+use dg_model::{Block, Checked, Kind, Resolved, Shown};
+use hw_latency::Latencies;
+use hw_sched::{BudgetFault, SizeFault, Slots, check_size, is_shared, own_width, slots_of};
+use std::alloc::Global;
+use std::io::Write;
+
+/// Tells the slots, root outputs and size of a plan, or that there are too few slots.
+pub fn put_schedule<W: Write>(
+    alloc: Global,
+    checked: &Checked,
+    plan: &Resolved,
+    latencies: &Latencies,
+    out: &mut W,
+) -> Result<()>
+    requires plan { IsPlanOf checked.now.diagram plan.now }
+    requires latencies { AreLatencies checked.now.diagram plan.now latencies.now }
+{
+    match slots_of(alloc, checked, latencies, plan) {
+        Ok(slots) => {
+            put_operations(checked, plan, &slots, out)?;
+            put_outputs(checked, plan, latencies, &slots, out)?;
+            put_size(alloc, checked, plan, latencies, &slots, out)
+        }
+        Err(BudgetFault::Budget { period, need, have }) => {
+            let shown = Shown::Budget { period, need, have };
+            put_model_fault(alloc, 12, shown, checked, out)
+        }
+        Err(BudgetFault::OutOfMemory) => Err(anyhow!("out of memory")),
+    }
+}
+
+/// Tells of each shared operation its slot and its multiplier.
+fn put_operations<W: Write>(
+    checked: &Checked,
+    plan: &Resolved,
+    slots: &Slots,
+    out: &mut W,
+) -> Result<()>
+    requires plan { IsPlanOf checked.now.diagram plan.now }
+{
+    checked.keeps_rules();
+    let blocks = checked.diagram().blocks.as_slice();
+    let mut number = 0usize;
+    for place in 0..blocks.len() {
+        if is_shared(checked, plan, place as u32) {
+            let width = own_width(checked, place as u32);
+            number = put_elements(&blocks[place], width, slots, number, out)?;
+        }
+    }
+    Ok(())
+}
+
+/// Tells these of the elements of a block, whose first operation has this number; gives the number
+/// behind them.
+fn put_elements<W: Write>(
+    block: &Block,
+    width: u32,
+    slots: &Slots,
+    first: usize,
+    out: &mut W,
+) -> Result<usize> {
+    let mut number = first;
+    for element in 0..width {
+        let Some(slot) = slots.starts.as_slice().get(number) else {
+            return Err(anyhow!("an operation has no slot"));
+        };
+        let Some(unit) = slots.units.as_slice().get(number) else {
+            return Err(anyhow!("an operation has no multiplier"));
+        };
+        out.write_all(block.path.bytes())?;
+        writeln!(out, " element {element} slot {slot} multiplier {unit}")?;
+        number += 1;
+    }
+    Ok(number)
+}
+
+/// Tells of each root output when it is ready in its period, and the latency that is declared of it.
+fn put_outputs<W: Write>(
+    checked: &Checked,
+    plan: &Resolved,
+    latencies: &Latencies,
+    slots: &Slots,
+    out: &mut W,
+) -> Result<()>
+    requires lat { length latencies.now.lat ≡ length checked.now.diagram.blocks }
+    requires ready { length slots.now.ready ≡ length checked.now.diagram.blocks }
+{
+    let blocks = checked.diagram().blocks.as_slice();
+    for place in 0..blocks.len() {
+        if is_output(&blocks[place].kind) {
+            let lat = latencies.lat.as_slice()[place];
+            let ready = slots.ready.as_slice()[place];
+            let declared = declared(lat, plan.cycles, ready)?;
+            out.write_all(blocks[place].path.bytes())?;
+            writeln!(out, " ready {ready} declared {declared}")?;
+        }
+    }
+    Ok(())
+}
+
+/// Whether a block is a root output.
+fn is_output(kind: &Kind) -> bool {
+    match kind {
+        Kind::Outport { .. } => true,
+        Kind::Inport { .. }
+        | Kind::Constant { .. }
+        | Kind::Ground
+        | Kind::Sum { .. }
+        | Kind::Gain { .. }
+        | Kind::Product
+        | Kind::Switch { .. }
+        | Kind::Relational { .. }
+        | Kind::Logic { .. }
+        | Kind::Convert { .. }
+        | Kind::Delay { .. }
+        | Kind::Mux { .. }
+        | Kind::Demux { .. }
+        | Kind::RateTransition { .. }
+        | Kind::Pass { .. }
+        | Kind::EnableTest
+        | Kind::EnOut { .. }
+        | Kind::Terminator => false,
+    }
+}
+
+/// A latency in clocks.
+fn declared(lat: u64, cycles: u32, ready: u64) -> Result<u64> {
+    let Some(clocks) = lat.checked_mul(u64::from(cycles)) else {
+        return Err(anyhow!("a latency of 2^64 or more"));
+    };
+    let Some(clocks) = clocks.checked_add(ready) else {
+        return Err(anyhow!("a latency of 2^64 or more"));
+    };
+    Ok(clocks)
+}
+
+/// Tells the storage and the greatest latency, or that they are too large.
+fn put_size<W: Write>(
+    alloc: Global,
+    checked: &Checked,
+    plan: &Resolved,
+    latencies: &Latencies,
+    slots: &Slots,
+    out: &mut W,
+) -> Result<()>
+    requires plan { IsPlanOf checked.now.diagram plan.now }
+    requires latencies { AreLatencies checked.now.diagram plan.now latencies.now }
+    requires ready { length slots.now.ready ≡ length checked.now.diagram.blocks }
+{
+    match check_size(checked, plan, latencies, slots.ready.as_slice()) {
+        Ok(sizing) => {
+            let storage = sizing.storage;
+            let latency = sizing.latency;
+            writeln!(out, "storage {storage} latency {latency}")?;
+            Ok(())
+        }
+        Err(SizeFault::Size { storage, latency }) => {
+            put_model_fault(alloc, 13, Shown::Size { storage, latency }, checked, out)
+        }
+        Err(SizeFault::OutOfMemory) => Err(anyhow!("out of memory")),
+    }
+}
