@@ -23,7 +23,12 @@ pub fn answer<W: Write>(alloc: Global, model: &[u8], plan: &[u8], out: &mut W) -
             writeln!(out, "line {line}")?;
             Ok(())
         }
-        Err(ModelFault::Broken { fault, blocks }) => put_fault(alloc, &fault, blocks.as_slice(), out),
+        Err(ModelFault::Broken { fault, blocks }) => put_fault(
+            alloc,
+            &fault,
+            blocks.as_slice(),
+            out,
+        ),
         Err(ModelFault::OutOfMemory) => Err(anyhow!("out of memory")),
     }
 }

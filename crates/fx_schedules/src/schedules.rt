@@ -6,8 +6,8 @@ ghost use Rattle.hw_latency.specs.Shared.{IsPlanOf};
 use crate::faults::put_model_fault;
 use anyhow::{Result, anyhow};
 use dg_model::{Block, Checked, Kind, Resolved, Shown};
-use hw_latency::Latencies;
-use hw_sched::{BudgetFault, SizeFault, Slots, check_size, is_shared, own_width, slots_of};
+use hw_latency::{Latencies, is_shared};
+use hw_sched::{BudgetFault, SizeFault, Slots, check_size, own_width, slots_of};
 use std::alloc::Global;
 use std::io::Write;
 

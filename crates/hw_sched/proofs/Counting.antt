@@ -1,19 +1,19 @@
 -- What is counted line by line and block by block is what the definitions say.
 use Rattle.std.proofs.Common.{◌≡◌, ℕ, zero, suc, ◌+◌, ◌*◌, ◌<◌, ◌≤◌, max, Bool, true, false, cond, List, [], ◌∷◌, ◌++◌, length, map, filter, drop, refl, sym, ap, subst, ◌∙◌, inl, inr, arith}
-use Rattle.std.specs.Prelude.{slice_get, slice_index, is_some, nat_lt, Option, Some, None, ◌&&◌}
+use Rattle.std.specs.Prelude.{slice_get, slice_index, is_some, nat_lt, Option, Some, None}
 use Rattle.std.specs.List.{sum, flat_map}
 use Rattle.std.proofs.lemmas.Bool.{cases_Bool, cases_eq, cond-true, cond-false, and_parts, and_from, false≢true, ltb-true, lt-ltb}
 use Rattle.std.proofs.lemmas.List.{length-append, length-map, map-append, drop_all}
 use Rattle.std.proofs.lemmas.List.Sums.{sum_by-append}
-use Rattle.std.proofs.lemmas.Option.{none-some, same_Some, slice_get_within, get_or_from_slice_get}
+use Rattle.std.proofs.lemmas.Option.{none-some, slice_get_within, get_or_from_slice_get}
 use Rattle.dg_waves.specs.Rounds.{numbers_from}
 use Rattle.dg_model.specs.declared.diagram.Diagram.{Diagram}
 use Rattle.dg_model.specs.declared.diagram.Block.{Block}
 use Rattle.dg_model.specs.declared.diagram.Edge.{Edge}
 use Rattle.dg_model.specs.declared.resolved.Resolved.{Resolved}
 use Rattle.dg_model.specs.Attributes.{attributes_of}
-use Rattle.dg_model.specs.Laws.{OutputsAreListed, IsElementOfPort}
-use Rattle.dg_model.specs.LatencyEdges.{LatencyEdge, signal_edge, asks_ever, enable_edge, enable_edges_from, latency_edges}
+use Rattle.dg_model.specs.Laws.{OutputsAreListed}
+use Rattle.dg_model.specs.LatencyEdges.{LatencyEdge, signal_edge, asks_ever, enable_edge, enable_edges_from}
 use Rattle.dg_model.specs.Library.{row_of}
 use Rattle.dg_model.specs.RootElements.{RootElement, number_in, root_outputs}
 use Rattle.dg_model.specs.Signals.{Attributes}
@@ -25,8 +25,8 @@ use Rattle.hw_arcs.specs.Latencies.{latency_at}
 use Rattle.hw_latency.specs.Shared.{is_shared}
 use Rattle.hw_latency.specs.declared.latencies.Latencies.{Latencies}
 use Rattle.hw_sched.specs.Ready.{AreReady, declared_latency, ready_of}
-use Rattle.hw_sched.specs.Sizing.{timing_of}
-use Rattle.hw_sched.specs.Slots.{Timing, Operation, operation, operations_of, shared_operations}
+use Rattle.hw_sched.specs.Answer.{timing_of}
+use Rattle.hw_sched.specs.Slots.{Timing, operation, operations_of, shared_operations}
 use Rattle.hw_sched.specs.Storage.{lines_in_all, registers_in_all, storage, greatest_latency}
 use Rattle.hw_sched.specs.inner.Counted.{line_at, lines_of, controls_line, results_at, is_root_output, is_output, output_latency}
 use Rattle.hw_sched.proofs.Lists.{greatest_at, greatest_within, sum-cons, sum_below, sum_below_next}

@@ -17,7 +17,6 @@ mod Chaining
 mod Models
 mod Numbered
 mod Widths
-mod Driving
 mod Counting
 mod Sized
 mod Limits

@@ -1,6 +1,6 @@
 -- Whether a size keeps the rule, as the code finds it.
-use Rattle.std.proofs.Common.{◌≡◌, ℕ, ◌<◌, Bool, true, false, sym, ap, ◌∙◌, inl, inr, arith}
-use Rattle.std.specs.Prelude.{[], nat_le, ◌⊎◌}
+use Rattle.std.proofs.Common.{◌≡◌, ℕ, Bool, true, false, sym, ap, ◌∙◌, inl, inr, arith}
+use Rattle.std.specs.Prelude.{[], nat_le}
 use Rattle.std.proofs.lemmas.Bool.{and_parts, and_cases, leb-true, leb-false}
 use Rattle.dg_model.specs.declared.diagram.Diagram.{Diagram}
 use Rattle.dg_model.specs.declared.fault.Shown.TheVariants.{Size}

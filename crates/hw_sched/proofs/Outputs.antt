@@ -1,18 +1,11 @@
 -- When outputs are ready, block by block, and how wide blocks that multiply are.
-use Rattle.std.proofs.Common.{◌≡◌, ℕ, zero, suc, ◌+◌, ◌<◌, min, true, false, Option, Some, List, [], ◌∷◌, ◌++◌, length, map, refl, sym, ap, subst, ◌∙◌, inl, inr, length-append, arith}
-use Rattle.std.specs.Prelude.{slice_get, slice_index_or}
-use Rattle.std.proofs.lemmas.Bool.{false≢true, cases_lt, cond-true, cond-false}
+use Rattle.std.proofs.Common.{◌≡◌, ℕ, zero, suc, ◌+◌, ◌<◌, true, false, Some, List, [], ◌∷◌, ◌++◌, length, refl, sym, ap, subst, ◌∙◌, inl, inr, length-append, arith}
+use Rattle.std.specs.Prelude.{slice_get}
+use Rattle.std.proofs.lemmas.Bool.{cases_lt, cond-true, cond-false}
 use Rattle.dg_model.specs.declared.diagram.Diagram.{Diagram}
-use Rattle.dg_model.specs.declared.diagram.Block.{Block}
-use Rattle.dg_model.specs.declared.kind.Kind.{Kind}
-use Rattle.dg_model.specs.declared.kind.Kind.TheVariants.{Gain, Product}
 use Rattle.dg_model.specs.declared.resolved.Resolved.{Resolved}
 use Rattle.dg_model.specs.Attributes.{attributes_of}
-use Rattle.dg_model.specs.Checked.{IsChecked}
-use Rattle.dg_model.specs.Library.{row_of}
-use Rattle.dg_model.specs.Widths.{width_at, input_widths, most_width, list_length, taken, next_of, widths_of}
 use Rattle.hw_latency.specs.Cone.{is_marked}
-use Rattle.hw_latency.specs.Shared.{multiplies}
 use Rattle.hw_latency.specs.Weight.{samples}
 use Rattle.hw_slots.specs.declared.bases.Bases.{Bases}
 use Rattle.hw_slots.specs.Answer.{base_at}
@@ -20,7 +13,6 @@ use Rattle.hw_sched.specs.Level.{depth_at}
 use Rattle.hw_sched.specs.Slots.{Timing, base_slot}
 use Rattle.hw_sched.specs.Ready.{AreReady, ready_of}
 use Rattle.hw_sched.specs.inner.Served.{AreBases}
-use Rattle.hw_sched.proofs.Readiness.{multiplier_at}
 
 module _ (diagram : Diagram) (plan : Resolved) (timing : Timing) where
   abbrev ready : ℕ → ℕ
@@ -65,20 +57,3 @@ module _ (diagram : Diagram) (plan : Resolved) (timing : Timing) where
 
   pub ready_end : (place : ℕ) (list : List ℕ) → place ≡ length diagram.blocks → AreReadyTo place list → AreReady diagram plan timing list
   ready_end place list all to = record { size = to.size ∙ all; are = λ other below. to.are other (omega (arith, below, all)) }
-
--- ---- widths
-
--- what multiplies has one
-one_width : (kind : Kind) (own : ℕ) (inputs widths : List ℕ) → (row_of kind).hardware.multiplies ≡ true → map (min most_width) (taken (row_of kind).signal.shape (list_length kind) own inputs) ≡ widths → 0 < length widths
-one_width (Gain value param) own inputs widths is e = let one = ap (λ (list : List ℕ). length list) e in omega (arith, one)
-one_width Product own inputs widths is e = let one = ap (λ (list : List ℕ). length list) e in omega (arith, one)
-one_width _ own inputs widths is e = absurd (false≢true is)
-
-pub width_there : (diagram : Diagram) (place : ℕ) → IsChecked diagram → multiplies diagram place ≡ true → 0 < length (slice_index_or (widths_of diagram) place [])
-width_there diagram place checked is =
-    let end = multiplier_at diagram place is in
-    let widths = slice_index_or (widths_of diagram) place [] in
-    let own = width_at (widths_of diagram) place 1 in
-    let inputs = input_widths diagram (widths_of diagram) place in
-    let settled = subst (λ (o : Option Block). next_of o own inputs ≡ widths) end.1 (checked.dimensions.blocks place end.0 end.1).settled in
-    one_width end.0.kind own inputs widths end.2 settled

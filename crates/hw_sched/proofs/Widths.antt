@@ -14,7 +14,6 @@ use Rattle.dg_model.specs.Library.{row_of, HasPorts}
 use Rattle.dg_model.specs.Wires.{driver_of, enters}
 use Rattle.dg_model.specs.Widths.{width_at, input_widths, are_open, share, list_length, taken, most_width, next_of, widths_of}
 use Rattle.dg_sort.proofs.Lines.{joins_at, matched, from_there, to_there, control_there}
-use Rattle.hw_sched.specs.declared.edge_lines.Line.{Line}
 use Rattle.hw_sched.specs.inner.Counted.{IsThere}
 use Rattle.hw_sched.proofs.Edges.{found_there}
 use Rattle.hw_sched.proofs.Periods.{readable_at}
@@ -70,11 +69,11 @@ module _ (diagram : Diagram) (checked : IsChecked diagram) where
       (low, omega (arith, many, low, high))
 
   -- the driver of a port
-  pub driver_there : (place : ℕ) (line : Edge) → Some line ≡ driver_of diagram place 1 → line.from < length diagram.blocks
-  driver_there place line is = let found = (found_there (enters place 1) diagram.edges line (sym is)).0 in from_there diagram found.place line checked.wired found.at
+  pub driver_there : (place port : ℕ) (line : Edge) → Some line ≡ driver_of diagram place port → line.from < length diagram.blocks
+  driver_there place port line is = let found = (found_there (enters place port) diagram.edges line (sym is)).0 in from_there diagram found.place line checked.wired found.at
 
-  pub driver_width : (place : ℕ) (line : Edge) → Some line ≡ driver_of diagram place 1 → (1 ≤ line.from_port) × (line.from_port - 1 < length (own line.from))
-  driver_width place line is = let found = (found_there (enters place 1) diagram.edges line (sym is)).0 in source_there found.place line found.at
+  pub driver_width : (place port : ℕ) (line : Edge) → Some line ≡ driver_of diagram place port → (1 ≤ line.from_port) × (line.from_port - 1 < length (own line.from))
+  driver_width place port line is = let found = (found_there (enters place port) diagram.edges line (sym is)).0 in source_there found.place line found.at
 
   -- a line as the code has it
   pub line_there : (k : ℕ) (line : Edge) → slice_get diagram.edges k ≡ Some line → IsThere diagram (record { from = line.from; from_port = line.from_port; to = line.to })

@@ -9,13 +9,10 @@ use Rattle.hw_latency.specs.declared.latencies.Latencies.{Latencies}
 use Rattle.hw_sched.specs.declared.sizing.Sizing.{Sizing}
 use Rattle.hw_sched.specs.declared.sizing.SizeFault.{SizeFault}
 use Rattle.hw_sched.specs.declared.sizing.SizeFault.TheVariants.{Size, OutOfMemory}
+use Rattle.hw_sched.specs.Answer.{timing_of}
 use Rattle.hw_sched.specs.Ready.{AreReady}
 use Rattle.hw_sched.specs.Slots.{Timing}
 use Rattle.hw_sched.specs.Storage.{storage, greatest_latency, KeepsSize, BreaksSize}
-
--- what is known of the blocks by these latencies and depths
-abbrev pub timing_of : Latencies → List ℕ → Timing
-timing_of latencies depths = record { lat = latencies.lat; fed = latencies.fed; depths = depths }
 
 -- what holds for all depths by which these are the clocks at which outputs are ready
 abbrev pub ForTimes : Diagram → Resolved → Latencies → List ℕ → (Timing → Type 0) → Type 0

@@ -9,10 +9,9 @@ ghost use Rattle.hw_sched.specs.inner.Counted.{results_at as results_at_of, valu
 
 use crate::drivers::{own_width, period_into};
 use crate::edge_lines::times;
-use crate::kinds::is_shared;
 use dg_model::{Checked, Kind, Resolved};
 use fx_io::OutOfMemory;
-use hw_latency::block_at;
+use hw_latency::{block_at, is_shared};
 use hw_slots::total;
 
 /// Whether a Delay with this control and a driver of this period keeps its own values.

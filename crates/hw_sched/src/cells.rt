@@ -8,13 +8,14 @@ ghost use Rattle.hw_sched.specs.Slots.{Timing, Operation as Shared, operations_o
 ghost use Rattle.hw_sched.specs.Answer.{timing_of};
 ghost use Rattle.hw_sched.specs.inner.Cells.{AreCells, AreCellsBut, IsSort, shared_at};
 
+use crate::drivers::{own_width, type_into};
 use crate::keys::KindKey;
-use crate::kinds::{is_shared, samples, width_of};
+use crate::kinds::samples;
 use crate::numbers::KindNumbers;
-use crate::operands::{right_of, type_into};
+use crate::operands::right_of;
 use dg_model::{Checked, Resolved};
 use fx_io::OutOfMemory;
-use hw_latency::Latencies;
+use hw_latency::{Latencies, is_shared};
 use hw_slots::Operation;
 use std::alloc::Global;
 
@@ -109,7 +110,7 @@ fn put_shared(
         rest cells.new) }
 {
     let sort = sort_of(checked, latencies, depths, place);
-    let width = width_of(checked, place);
+    let width = own_width(checked, place);
     for element in 0..width {
         cells.put(sort)?;
     }

@@ -4,10 +4,11 @@ ghost use Rattle.hw_latency.specs.Shared.{IsPlanOf};
 ghost use Rattle.hw_sched.specs.Level.{AreDepths, depth_at};
 ghost use Rattle.hw_sched.specs.inner.Greatest.{IsGreatest, IsReadLine, IsReadControl, IsNextDepth};
 
-use crate::kinds::{control_now, is_shared, reads_now};
+use crate::kinds::{control_now, reads_now};
 use crate::lines::{best_of_lines, greater, is_same_period};
 use dg_model::{Checked, Resolved};
 use fx_io::{Longs, OutOfMemory};
+use hw_latency::is_shared;
 use std::alloc::Global;
 
 /// The greatest depth of the blocks of a block's period whose lines it reads in its own sample.

@@ -1,33 +1,40 @@
-//! What drives the first input port of a block.
+//! What drives the input ports of a block.
 ghost use Rattle.std.specs.Prelude.{◌≡◌, ◌<◌, length};
 ghost use Rattle.dg_model.specs.Attributes.{attributes_of};
-ghost use Rattle.dg_model.specs.Wires.{driver_of, enters, period_into as period_into_of, width_into as width_into_of};
+ghost use Rattle.dg_model.specs.Wires.{driver_of, period_into as period_into_of, type_into as type_into_of, width_into as width_into_of};
 
 use crate::lines::first_into;
 use dg_model::{Checked, Edge};
+use fx_type::FxType;
 
-/// Whether a line ends at the first input port of a block.
-fn is_first(line: Edge, place: u32) -> bool
-    ensures { result ≡ enters place 1 line }
-{
-    line.to == place && line.to_port == 1
-}
-
-/// The line into the first input port of a block, found by a search in their order.
-fn driver(checked: &Checked, place: u32) -> Option<Edge>
-    ensures { result ≡ driver_of checked.now.diagram place 1 }
+/// The line into an input port of a block, found by a search in the order of the lines.
+fn driver(checked: &Checked, place: u32, port: u32) -> Option<Edge>
+    ensures { result ≡ driver_of checked.now.diagram place port }
 {
     checked.keeps_rules();
     let edges = checked.diagram().edges.as_slice();
     let first = first_into(edges, place);
-    let Some(line) = edges.get(first) else {
-        return None;
-    };
-    let line = *line;
-    if is_first(line, place) {
-        Some(line)
-    } else {
-        None
+    for edge in &edges[first..] {
+        let edge = *edge;
+        if edge.to != place {
+            return None;
+        }
+        if edge.to_port == port {
+            return Some(edge);
+        }
+    }
+    None
+}
+
+/// The type of what a block reads at an input port; Logical where no line ends there.
+pub fn type_into(checked: &Checked, place: u32, port: u32) -> FxType
+    ensures { result
+        ≡ type_into_of checked.now.diagram (attributes_of checked.now.diagram) place port }
+{
+    checked.keeps_rules();
+    match driver(checked, place, port) {
+        Some(line) => checked.result(line.from),
+        None => FxType::Logical,
     }
 }
 
@@ -37,7 +44,7 @@ pub fn width_into(checked: &Checked, place: u32) -> u32
         ≡ width_into_of checked.now.diagram (attributes_of checked.now.diagram) place 1 }
 {
     checked.keeps_rules();
-    match driver(checked, place) {
+    match driver(checked, place, 1) {
         Some(line) => checked.width(line.from, line.from_port),
         None => 0,
     }
@@ -49,7 +56,7 @@ pub fn period_into(checked: &Checked, place: u32) -> Option<u32>
         ≡ period_into_of checked.now.diagram (attributes_of checked.now.diagram) place 1 }
 {
     checked.keeps_rules();
-    match driver(checked, place) {
+    match driver(checked, place, 1) {
         Some(line) => checked.period(line.from),
         None => None,
     }

@@ -1,33 +1,11 @@
 ghost use Rattle.std.specs.Prelude.{◌≡◌, ◌<◌, length, slice_get};
 ghost use Rattle.dg_model.specs.Attributes.{attributes_of};
-ghost use Rattle.dg_model.specs.Wires.{type_into as type_into_of};
 ghost use Rattle.dg_model.specs.Library.{row_of};
 ghost use Rattle.hw_sched.specs.Slots.{right_of as right_of_block, right_type};
 
-use crate::lines::first_into;
+use crate::drivers::type_into;
 use dg_model::{Checked, Kind};
 use fx_type::FxType;
-
-/// The type of what a block reads at an input port; Logical where no line ends there.
-pub fn type_into(checked: &Checked, place: u32, port: u32) -> FxType
-    requires there { place < length checked.now.diagram.blocks }
-    ensures { result
-        ≡ type_into_of checked.now.diagram (attributes_of checked.now.diagram) place port }
-{
-    checked.keeps_rules();
-    let edges = checked.diagram().edges.as_slice();
-    let first = first_into(edges, place);
-    for edge in &edges[first..] {
-        let edge = *edge;
-        if edge.to != place {
-            return FxType::Logical;
-        }
-        if edge.to_port == port {
-            return checked.result(edge.from);
-        }
-    }
-    FxType::Logical
-}
 
 /// The type of the second operand of a block of this kind: of a coefficient or of input 2; Logical
 /// where it doesn't multiply.

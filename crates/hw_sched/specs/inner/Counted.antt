@@ -1,5 +1,5 @@
 -- What is counted of a module line by line and block by block (own).
-use Rattle.std.specs.Prelude.{◌≡◌, ℕ, ◌+◌, ◌-◌, ◌*◌, ◌≤◌, ◌<◌, ◌&&◌, nat_lt, nat_le, is_some, Bool, false, if◌then◌else◌, List, [], length, map, Option, None, Some, slice_get, slice_index, slice_index_or}
+use Rattle.std.specs.Prelude.{ℕ, ◌+◌, ◌-◌, ◌*◌, ◌≤◌, ◌<◌, ◌&&◌, nat_lt, nat_le, is_some, Bool, false, if◌then◌else◌, List, [], length, map, Option, None, Some, slice_get, slice_index, slice_index_or}
 use Rattle.std.specs.List.{sum}
 use Rattle.dg_model.specs.declared.diagram.Diagram.{Diagram}
 use Rattle.dg_model.specs.declared.diagram.Block.{Block}
@@ -18,7 +18,7 @@ use Rattle.hw_latency.specs.Shared.{is_shared}
 use Rattle.hw_sched.specs.declared.edge_lines.Line.{Line}
 use Rattle.hw_sched.specs.declared.sizing.Sizing.{Sizing}
 use Rattle.hw_sched.specs.Slots.{Timing}
-use Rattle.hw_sched.specs.Storage.{keeps_own, kept_by_role, line_of}
+use Rattle.hw_sched.specs.Storage.{kept_by_role, line_of}
 
 -- ---- lines
 

@@ -1,33 +1,51 @@
-use Rattle.std.proofs.Common.{◌≤◌, List, length, refl, sym, ap, subst, ◌∙◌}
-use Rattle.std.specs.Prelude.{slice_get}
-use Rattle.std.proofs.lemmas.Option.{slice_get_read}
+use Rattle.std.proofs.Common.{◌+◌, ap, sym, ◌∙◌, length, List, arith}
 use Rattle.dg_model.specs.declared.diagram.Diagram.{Diagram}
 use Rattle.dg_model.specs.declared.diagram.Edge.{Edge}
-use Rattle.hw_sched.proofs.Driving.{driver_found, driver_none, driver_past}
-use Rattle.hw_sched.proofs.Items.{first_as}
+use Rattle.hw_sched.proofs.Items.{rest_length, rest_read, first_as}
+use Rattle.hw_sched.proofs.Entering.{enters_none, enters_more, enters_at, enters_end, enters_stop}
 use Rattle.hw_sched.proofs.drivers.driver.Goals as goal
 
-pub returns-in_default : goal.returns-in_default
-returns-in_default c =
-    let es = c.as_slice-edges.ensures ∙ ap (λ (d : Diagram). d.edges) c.diagram.ensures in
-    let first = first_as c.args.checked.now.diagram.edges c.as_slice-edges.result.now c.args.place c.first_into-first.result es c.first_into-first.ensures in
-    driver_past c.args.checked.now.diagram c.keeps_rules.ensures.checked.wired c.args.place c.first_into-first.result first
-    (subst (λ (edges : List Edge). length edges ≤ c.first_into-first.result) es c.in_default.ensures.lookup.3)
+abbrev none : Edge
+none = record { from = 0; from_port = 0; to = 0; to_port = 0 }
 
-pub returns-then-is_first : goal.returns-then-is_first
-returns-then-is_first c =
+pub loop-edge-init : goal.loop-edge-init
+loop-edge-init c =
     let es = c.as_slice-edges.ensures ∙ ap (λ (d : Diagram). d.edges) c.diagram.ensures in
-    let first = first_as c.args.checked.now.diagram.edges c.as_slice-edges.result.now c.args.place c.first_into-first.result es c.first_into-first.ensures in
-    let found = c.in-Some.ensures.lookup in
-    let at = slice_get_read c.as_slice-edges.result.now _ c.first_into-first.result c.in-Some.line.now refl found.3.0 found.1 in
-    driver_found c.args.checked.now.diagram c.keeps_rules.ensures.checked.wired c.args.place c.first_into-first.result first c.in-Some.line.now c.is_first.result
-    (ap (λ (edges : List Edge). slice_get edges c.first_into-first.result) (sym es) ∙ at) c.is_first.ensures c.if-is_first.true
+    enters_none c.args.checked.now.diagram.edges c.first_into-first.result c.args.place c.args.port (first_as c.args.checked.now.diagram.edges c.as_slice-edges.result.now c.args.place c.first_into-first.result es c.first_into-first.ensures)
 
-pub returns-else-is_first : goal.returns-else-is_first
-returns-else-is_first c =
+pub returns-then-edge-place : goal.returns-then-edge-place
+returns-then-edge-place c =
     let es = c.as_slice-edges.ensures ∙ ap (λ (d : Diagram). d.edges) c.diagram.ensures in
-    let first = first_as c.args.checked.now.diagram.edges c.as_slice-edges.result.now c.args.place c.first_into-first.result es c.first_into-first.ensures in
-    let found = c.in-Some.ensures.lookup in
-    let at = slice_get_read c.as_slice-edges.result.now _ c.first_into-first.result c.in-Some.line.now refl found.3.0 found.1 in
-    driver_none c.args.checked.now.diagram c.keeps_rules.ensures.checked.wired c.args.place c.first_into-first.result first c.in-Some.line.now c.is_first.result
-    (ap (λ (edges : List Edge). slice_get edges c.first_into-first.result) (sym es) ∙ at) c.is_first.ensures c.if-is_first.false
+    let test = c.loop-edge-test.true in
+    let size = rest_length c.first_into-first.result c.as_slice-edges.result.now in
+    let at = rest_read c.args.checked.now.diagram.edges c.as_slice-edges.result.now c.first_into-first.result c.loop-edge.edge-index none es (omega (arith, test, size)) in
+    let found = enters_stop c.args.checked.now.diagram.edges c.first_into-first.result (c.first_into-first.result + c.loop-edge.edge-index) c.args.place c.args.port _ c.keeps_rules.ensures.checked.wired.ordered
+    (first_as c.args.checked.now.diagram.edges c.as_slice-edges.result.now c.args.place c.first_into-first.result es c.first_into-first.ensures) (omega arith) at (λ e. let differs = c.if-edge-place.true in omega (arith, e, differs)) c.loop-edge.invariant in
+    sym found
+
+pub returns-then-edge-port : goal.returns-then-edge-port
+returns-then-edge-port c =
+    let es = c.as_slice-edges.ensures ∙ ap (λ (d : Diagram). d.edges) c.diagram.ensures in
+    let test = c.loop-edge-test.true in
+    let size = rest_length c.first_into-first.result c.as_slice-edges.result.now in
+    let at = rest_read c.args.checked.now.diagram.edges c.as_slice-edges.result.now c.first_into-first.result c.loop-edge.edge-index none es (omega (arith, test, size)) in
+    let found = enters_at c.args.checked.now.diagram.edges (c.first_into-first.result + c.loop-edge.edge-index) c.args.place c.args.port _ at (let same = c.if-edge-place.false in omega (arith, same)) c.if-edge-port.true c.loop-edge.invariant in
+    sym found
+
+pub loop-edge-preserved : goal.loop-edge-preserved
+loop-edge-preserved c =
+    let es = c.as_slice-edges.ensures ∙ ap (λ (d : Diagram). d.edges) c.diagram.ensures in
+    let test = c.loop-edge-test.true in
+    let size = rest_length c.first_into-first.result c.as_slice-edges.result.now in
+    let at = rest_read c.args.checked.now.diagram.edges c.as_slice-edges.result.now c.first_into-first.result c.loop-edge.edge-index none es (omega (arith, test, size)) in
+    enters_more c.args.checked.now.diagram.edges c.first_into-first.result c.loop-edge.edge-index c.args.place c.args.port _ at (λ e. let differs = c.if-edge-port.false in omega (arith, e, differs)) c.loop-edge.invariant
+
+pub returns : goal.returns
+returns c =
+    let es = c.as_slice-edges.ensures ∙ ap (λ (d : Diagram). d.edges) c.diagram.ensures in
+    let test = c.loop-edge-test.false in
+    let size = rest_length c.first_into-first.result c.as_slice-edges.result.now in
+    let within = c.first_into-first.ensures.within in
+    let many = ap (λ (xs : List Edge). length xs) es in
+    let found = enters_end c.args.checked.now.diagram.edges (c.first_into-first.result + c.loop-edge.edge-index) c.args.place c.args.port (omega (arith, test, size, within, many)) c.loop-edge.invariant in
+    sym found

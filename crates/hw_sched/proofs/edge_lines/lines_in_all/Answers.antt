@@ -3,7 +3,7 @@ use Rattle.dg_model.specs.declared.diagram.Block.{Block}
 use Rattle.dg_model.specs.declared.diagram.Diagram.{Diagram}
 use Rattle.dg_model.specs.declared.diagram.Edge.{Edge}
 use Rattle.dg_model.specs.Attributes.{attributes_of}
-use Rattle.hw_sched.specs.Sizing.{timing_of}
+use Rattle.hw_sched.specs.Answer.{timing_of}
 use Rattle.hw_sched.proofs.Counting.{beside_control}
 use Rattle.hw_sched.proofs.Items.{item_read}
 use Rattle.hw_sched.proofs.Widths.{line_there, some_block}

@@ -1,4 +1,4 @@
-use Rattle.hw_sched.specs.Sizing.{timing_of}
+use Rattle.hw_sched.specs.Answer.{timing_of}
 use Rattle.hw_sched.proofs.Limits.{kept_as, broken_as}
 use Rattle.hw_sched.proofs.sizing.check_size.Goals as goal
 
