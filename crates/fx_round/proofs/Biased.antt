@@ -1,16 +1,14 @@
 -- Each mode is the whole number below, with a bias added before.
-use Rattle.std.proofs.Common.{◌≡◌, ℕ, suc, ◌+◌, ◌-◌, ◌*◌, ◌/◌, ◌%◌, ◌^◌, ◌≤◌, Bool, true, false, ℤ, pos, negsuc, neg_ℤ, ◌+ℤ◌, ◌*ℤ◌, bit_and, to_z, of_z, FitsSigned, cond, int_lt, ap, sym, ◌∙◌, refl, subst, arith, pow_mono, pow_pos}
+use Rattle.std.proofs.Common.{◌≡◌, ℕ, suc, ◌+◌, ◌-◌, ◌*◌, ◌/◌, ◌%◌, ◌^◌, ◌<◌, ◌≤◌, Bool, true, false, ℤ, pos, negsuc, neg_ℤ, ◌+ℤ◌, ◌-ℤ◌, ◌*ℤ◌, ◌≤ℤ◌, bit_and, to_z, of_z, FitsSigned, cond, int_lt, ap, sym, ◌∙◌, refl, subst, mod-lt, arith, pow_mono, pow_pos}
 use Rattle.std.specs.Int.{w64}
 use Rattle.std.specs.Int.Signed.{shr_z}
-use Rattle.std.proofs.lemmas.Int.{ints, by_lt_z, to_z_pos}
-use Rattle.std.proofs.lemmas.Nat.{and_mask, one_shl, pow-add}
-use Rattle.fx_num.proofs.Arithmetic.{next-scaled, scaled-mono, scaled-neg, unit_apart}
-use Rattle.fx_num.proofs.Shifted.{shr-divided}
-use Rattle.fx_type.specs.declared.kind.FxType.{FxType}
-use Rattle.fx_type.specs.declared.kind.FxType.TheVariants.{Num, Logical}
-use Rattle.fx_type.specs.FxType.{width_of, InRange}
+use Rattle.std.proofs.lemmas.Int.{ints, by_lt_z}
+use Rattle.std.proofs.lemmas.Nat.{and_mask, pow-add}
+use Rattle.fx_num.specs.Word.{InWord, IsCongruent, IsWrapped}
+use Rattle.fx_num.proofs.Arithmetic.{next-scaled, mul-scaled, scaled-mono, scaled-neg, unit_apart, IsCongruent-trans, IsCongruent-part}
+use Rattle.fx_num.proofs.Shifted.{shr-divided, shl_exact, bits_congruent, remainder_congruent}
 use Rattle.fx_type.specs.Conversion.{twice, IsEven, BySign, RoundsDown, RoundsUp, RoundsTiesUp, RoundsTiesDown, RoundsTiesEven}
-use Rattle.fx_round.specs.inner.Narrow.{IsWithin, IsTie}
+use Rattle.fx_round.specs.inner.Narrow.{IsTie}
 
 -- the last bit
 pub odd_bit-is : (v : ℤ) → FitsSigned w64 v → IsTie v (to_z w64 (bit_and (of_z w64 v) 1))
@@ -80,44 +78,86 @@ module _ (n at_least_zero below_zero : ℤ) (d : ℕ) (r : ℤ) (floor : RoundsD
       go true k p = record { not_negative = λ h. absurd (omega (arith, ints, h, k)); negative = λ _. up n below_zero d r p f }
       go false k p = record { not_negative = λ _. plain n at_least_zero d r p e; negative = λ h. absurd (omega (arith, ints, h, k)) }
 
-  pub away_from_zero : twice at_least_zero ≡ pos d → twice below_zero +ℤ pos 2 ≡ pos d → BySign n (RoundsTiesUp n d r) (RoundsTiesDown n d r)
-  away_from_zero e f = go (int_lt n (pos 0)) refl floor
-    where
-      go : (negative : Bool) → int_lt n (pos 0) ≡ negative → RoundsDown (n +ℤ cond negative below_zero at_least_zero) d r → BySign n (RoundsTiesUp n d r) (RoundsTiesDown n d r)
-      go true k p = record { not_negative = λ h. absurd (omega (arith, ints, h, k)); negative = λ _. ties_down n below_zero d r p f }
-      go false k p = record { not_negative = λ _. ties_up n at_least_zero d r p e; negative = λ h. absurd (omega (arith, ints, h, k)) }
+-- half a unit added before, and one taken off before that from what is below 0
+pub away_from_zero : (n sign half : ℤ) (d : ℕ) (r : ℤ) → sign ≡ cond (int_lt n (pos 0)) (negsuc 0) (pos 0) → twice half ≡ pos d → RoundsDown ((n +ℤ sign) +ℤ half) d r → BySign n (RoundsTiesUp n d r) (RoundsTiesDown n d r)
+away_from_zero n sign half d r is e floor = go (int_lt n (pos 0)) refl is
+  where
+    go : (negative : Bool) → int_lt n (pos 0) ≡ negative → sign ≡ cond negative (negsuc 0) (pos 0) → BySign n (RoundsTiesUp n d r) (RoundsTiesDown n d r)
+    go true below s = record {
+      not_negative = λ h. absurd (omega (arith, ints, h, below));
+      negative = λ _. record { at_least = omega (arith, ints, e, s, floor.next_above); below = omega (arith, ints, e, s, floor.at_most) };
+    }
+    go false below s = record {
+      not_negative = λ _. record { above = omega (arith, ints, e, s, floor.next_above); at_most = omega (arith, ints, e, s, floor.at_most) };
+      negative = λ h. absurd (omega (arith, ints, h, below));
+    }
 
--- one, shifted up in 64 bits
-pub one_shifted : (by : ℕ) → by ≤ 62 → to_z w64 (1 * 2 ^ by % 18446744073709551616) ≡ pos (2 ^ by)
-one_shifted by h =
-    let small : 2 ^ by ≤ 2 ^ 62 = pow_mono h in
-    let e : 1 * 2 ^ by % 18446744073709551616 ≡ 2 ^ by = one_shl by 64 (omega arith) in
-    ap (to_z w64) e ∙ to_z_pos w64 (2 ^ by) (omega (arith, small))
+-- minus one, shifted up in 64 bits
+pub minus_fits : (by : ℕ) → by ≤ 63 → FitsSigned w64 (neg_ℤ (pos (2 ^ by)))
+minus_fits by h = let p : 2 ^ by ≤ 2 ^ 63 = pow_mono h in omega (arith, ints, p)
 
--- a number of few bits, shifted up
-pub raised_fits : (by : ℕ) (v : ℤ) → by ≤ 62 → IsWithin (62 - by) v → FitsSigned w64 (v *ℤ pos (2 ^ by))
-raised_fits by v h within =
-    let k = 62 - by in
-    let all : k + by ≡ 62 = omega arith in
-    let e : 2 ^ k * 2 ^ by ≡ 2 ^ 62 = sym (pow-add 2 k by) ∙ ap (λ (i : ℕ). 2 ^ i) all in
-    let n : neg_ℤ (pos (2 ^ k)) *ℤ pos (2 ^ by) ≡ neg_ℤ (pos (2 ^ k) *ℤ pos (2 ^ by)) = scaled-neg (pos (2 ^ k)) (2 ^ by) in
-    omega (arith, ints, e, n, scaled-mono (neg_ℤ (pos (2 ^ k))) v (2 ^ by) within.low, scaled-mono v (pos (2 ^ k)) (2 ^ by) within.high)
+pub minus_shifted : (by : ℕ) → by ≤ 63 → to_z w64 ((of_z w64 (negsuc 0) * 2 ^ by) % 18446744073709551616) ≡ neg_ℤ (pos (2 ^ by))
+minus_shifted by h =
+    let e : negsuc 0 *ℤ pos (2 ^ by) ≡ neg_ℤ (pos (2 ^ by)) = omega (arith, ints) in
+    let one : FitsSigned w64 (negsuc 0) = omega (arith, ints) in
+    shl_exact w64 (negsuc 0) by one (subst (FitsSigned w64) (sym e) (minus_fits by h)) ∙ e
 
--- what has few bits has no more
-pub within_more : (bits most : ℕ) (v : ℤ) → bits ≤ most → IsWithin bits v → IsWithin most v
-within_more bits most v h within =
-    let p : 2 ^ bits ≤ 2 ^ most = pow_mono h in
-    record { low = omega (arith, ints, p, within.low); high = omega (arith, ints, p, within.high) }
+-- a number of a word of at most 63 bits is one of 64, and not far below 0
+pub word_fits : (width : ℕ) (signed : Bool) (v : ℤ) → width ≤ 63 → InWord width signed v → FitsSigned w64 v
+word_fits width true v h number =
+    let few : width - 1 ≤ 62 = omega (arith, h) in
+    let p : 2 ^ (width - 1) ≤ 2 ^ 62 = pow_mono few in
+    omega (arith, ints, p, pow_pos (width - 1), number.low, number.high)
+word_fits width false v h number =
+    let p : 2 ^ width ≤ 2 ^ 63 = pow_mono h in
+    omega (arith, ints, p, pow_pos width, number.low, number.high)
 
--- a number of a type has no more bits than the type
-pub within_type : (t : FxType) (v : ℤ) → InRange t v → IsWithin (width_of t) v
-within_type (Num true w f) v range =
-    let p : 2 ^ (w - 1) ≤ 2 ^ w = pow_mono (omega arith) in
-    record { low = omega (arith, ints, p, range.low); high = omega (arith, ints, p, pow_pos (w - 1), range.high) }
-within_type (Num false w f) v range =
-    record { low = omega (arith, ints, pow_pos w, range.low); high = omega (arith, ints, pow_pos w, range.high) }
-within_type Logical v range = record { low = omega (arith, ints, range.low); high = omega (arith, ints, range.high) }
+pub word_low : (width : ℕ) (signed : Bool) (v : ℤ) → width ≤ 63 → InWord width signed v → neg_ℤ (pos (2 ^ 62)) ≤ℤ v
+word_low width true v h number =
+    let few : width - 1 ≤ 62 = omega (arith, h) in
+    let p : 2 ^ (width - 1) ≤ 2 ^ 62 = pow_mono few in
+    omega (arith, ints, p, number.low)
+word_low width false v h number = omega (arith, ints, number.low)
 
--- a number of at most 62 bits is one of 64
-pub within_fits : (v : ℤ) → IsWithin 62 v → FitsSigned w64 v
-within_fits v within = omega (arith, ints, within.low, within.high)
+-- what is left of the halves without half of them is the whole number below, with a half added before
+pub halves_floor : (v halves lower : ℤ) (unit d : ℕ) → d ≡ 2 * unit → RoundsDown v unit halves → RoundsDown halves 2 lower → (half : ℤ) → twice half ≡ pos d → RoundsDown (v +ℤ half) d (halves -ℤ lower)
+halves_floor v halves lower unit d double below next half e =
+    let q = halves -ℤ lower in
+    let whole : q *ℤ pos d ≡ (q *ℤ pos 2) *ℤ pos unit = ap (λ (k : ℕ). q *ℤ pos k) double ∙ sym (mul-scaled q 2 unit) in
+    let up : (halves +ℤ pos 1) *ℤ pos unit ≡ halves *ℤ pos unit +ℤ pos unit = next-scaled halves unit in
+    let low = scaled-mono (q *ℤ pos 2) (halves +ℤ pos 1) unit (omega (arith, ints, next.next_above)) in
+    let high = scaled-mono halves (q *ℤ pos 2) unit (omega (arith, ints, next.at_most)) in
+    record {
+      at_most = omega (arith, ints, e, double, whole, up, low, below.at_most);
+      next_above = omega (arith, ints, e, double, whole, high, below.next_above);
+    }
+
+-- half of a number of 64 bits can be taken off
+pub half_fits : (v lower : ℤ) → FitsSigned w64 v → RoundsDown v 2 lower → FitsSigned w64 (v -ℤ lower)
+half_fits v lower fits below = omega (arith, ints, fits, below.at_most, below.next_above)
+
+-- the whole number above is that below the opposite, with its sign changed
+pub opposite_up : (v q : ℤ) (d : ℕ) → RoundsDown (pos 0 -ℤ v) d q → RoundsUp v d (pos 0 -ℤ q)
+opposite_up v q d floor =
+    let n : (pos 0 -ℤ q) *ℤ pos d ≡ neg_ℤ (q *ℤ pos d) = ap (λ (z : ℤ). z *ℤ pos d) (omega (arith, ints)) ∙ scaled-neg q d in
+    record { at_least = omega (arith, ints, n, floor.at_most); previous_below = omega (arith, ints, n, floor.next_above) }
+
+-- the whole number of parts of a number above the least of 64 bits is above it too
+pub parts_above : (v : ℤ) (by : ℕ) → negsuc 9223372036854775806 ≤ℤ v → negsuc 9223372036854775806 ≤ℤ shr_z v (2 ^ by)
+parts_above v by h =
+    let d = shift_floors v by in
+    by_lt_z (shr_z v (2 ^ by)) (negsuc 9223372036854775806)
+    (λ l. absurd (omega (arith, ints, unit_apart (shr_z v (2 ^ by)) (negsuc 9223372036854775806) (2 ^ by) l, d.next_above, h, pow_pos by)))
+    (λ g. omega (arith, ints, g))
+
+-- the lower bits of a number of 64, as a number without sign
+pub masked_wrapped : (v : ℤ) (width mask : ℕ) → width ≤ 64 → mask + 1 ≡ 2 ^ width → FitsSigned w64 v → IsWrapped v width false (pos (bit_and (of_z w64 v) mask))
+masked_wrapped v width mask h e fits =
+    let u = of_z w64 v in
+    let is : bit_and u mask ≡ u % 2 ^ width = ap (bit_and u) (omega (arith, e)) ∙ and_mask u width in
+    let all : 64 - width + width ≡ 64 = omega (arith, h) in
+    let turn : 18446744073709551616 ≡ 2 ^ (64 - width) * 2 ^ width = ap (λ (n : ℕ). 2 ^ n) (sym all) ∙ pow-add 2 (64 - width) width in
+    let below : u % 2 ^ width < 2 ^ width = mod-lt u (pow_pos width) in
+    let c : IsCongruent (pos (u % 2 ^ width)) v (2 ^ width) =
+    IsCongruent-trans (2 ^ width) (remainder_congruent u (2 ^ width)) (IsCongruent-part (2 ^ (64 - width)) (2 ^ width) (subst (IsCongruent (pos u) v) turn (bits_congruent w64 v fits))) in
+    subst (λ (k : ℕ). IsWrapped v width false (pos k)) (sym is) (record { in_word = record { low = omega (arith, ints); high = omega (arith, ints, below) }; congruent = c })

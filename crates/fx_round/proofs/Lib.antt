@@ -9,3 +9,4 @@ mod Reading
 mod Rounding
 mod Shifts
 mod Sizes
+mod Widening

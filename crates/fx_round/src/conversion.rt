@@ -1,10 +1,9 @@
 //! Conversion of a stored integer from one type to another.
-ghost use Rattle.std.specs.Prelude.{true, false, ℤ, pos, ◌*ℤ◌, ◌^◌, ◌≤◌};
-ghost use Rattle.fx_num.specs.Word.{IsWord};
+ghost use Rattle.std.specs.Prelude.{Bool, true, false, ℤ, pos, ◌*ℤ◌, ◌^◌, ◌≤◌};
+ghost use Rattle.fx_num.specs.Word.{IsWord, InWord};
 ghost use Rattle.fx_type.specs.declared.kind.FxType.TheVariants.{Num};
 ghost use Rattle.fx_type.specs.FxType.{IsType, InRange};
 ghost use Rattle.fx_type.specs.Conversion.{Settles, StoresQuotient, Converts};
-ghost use Rattle.fx_round.specs.inner.Narrow.{IsWithin};
 
 use crate::settle::settled_up;
 use crate::{narrow, settle, split};
@@ -21,63 +20,78 @@ pub fn convert(v: i128, from: FxType, to: FxType, mode: Rounding, saturate: bool
     ensures { Converts v from to mode saturate result }
 {
     match to {
-        FxType::Logical => i128::from(v != 0),
         FxType::Num {
             signed,
             width,
             frac,
         } => match from {
             FxType::Num {
+                signed: from_signed,
                 width: bits,
                 frac: point,
-                ..
             } => {
                 let up = frac - point;
                 if up >= 0 {
-                    raised(v, bits, up as u32, width, signed, saturate)
+                    raised(v, bits, from_signed, up as u16, width, signed, saturate)
                 } else {
-                    lowered(v, bits, -up as u32, width, signed, mode, saturate)
+                    lowered(v, bits, -up as u16, width, signed, mode, saturate)
                 }
             }
-            FxType::Logical if frac >= 0 => settled_up(v, frac as u32, width, signed, saturate),
-            FxType::Logical => lowered_far(v, -frac as u32, width, signed, mode, saturate),
+            FxType::Logical if frac >= 0 => settled_up(v, frac as u16, width, signed, saturate),
+            FxType::Logical => lowered_far(v, -frac as u16, width, signed, mode, saturate),
         },
+        FxType::Logical => i128::from(v != 0),
     }
 }
 
-/// What a number type of this word stores for `v`, which has at most so many bits, times 2 to the
-/// power `by`.
-fn raised(v: i128, bits: u8, by: u32, width: u8, signed: bool, saturate: bool) -> i128
-    requires few { IsWithin bits v }
+/// What a number type of this word stores for `v`, a number of a word of so many bits and this sign,
+/// times 2 to the power `by`. A word of the same sign that has as many bits as the product keeps it
+/// as it is.
+fn raised(
+    v: i128,
+    bits: u8,
+    from_signed: bool,
+    by: u16,
+    width: u8,
+    signed: bool,
+    saturate: bool,
+) -> i128
+    requires some { 1 ≤ bits }
+    requires number { InWord bits from_signed v }
     requires shift { by ≤ 192 }
     requires word { IsWord width signed }
     ensures { (frac : ℤ) → Settles (Num signed width frac) saturate (v *ℤ pos (2 ^ by)) result }
 {
-    if width <= 62 && u32::from(bits) + by <= 62 {
+    let most = u16::from(bits) + by;
+    if u16::from(width) | most <= 63 {
         let shifted = narrow::raised(v as i64, by);
-        i128::from(narrow::settled(shifted, width, signed, saturate))
+        if from_signed == signed && most <= u16::from(width) {
+            i128::from(shifted)
+        } else {
+            i128::from(narrow::settled(shifted, width, signed, saturate))
+        }
     } else {
         settled_up(v, by, width, signed, saturate)
     }
 }
 
-/// What a number type of this word stores for `v`, which has at most so many bits, over 2 to the
+/// What a number type of this word stores for `v`, a number of a word of so many bits, over 2 to the
 /// power `by`.
 fn lowered(
     v: i128,
     bits: u8,
-    by: u32,
+    by: u16,
     width: u8,
     signed: bool,
     mode: Rounding,
     saturate: bool,
 ) -> i128
-    requires few { IsWithin bits v }
+    requires number { (from_signed : Bool) × InWord bits from_signed v }
     requires some { 1 ≤ by }
     requires word { IsWord width signed }
     ensures { (frac : ℤ) → StoresQuotient v (2 ^ by) (Num signed width frac) mode saturate result }
 {
-    if width <= 62 && bits <= 62 && by <= 60 {
+    if u16::from(width | bits) | by <= 63 {
         let rounded = narrow::rounded_down(v as i64, by, mode);
         i128::from(narrow::settled(rounded, width, signed, saturate))
     } else {
@@ -86,7 +100,7 @@ fn lowered(
 }
 
 /// The same in 128 bits.
-fn lowered_far(v: i128, by: u32, width: u8, signed: bool, mode: Rounding, saturate: bool) -> i128
+fn lowered_far(v: i128, by: u16, width: u8, signed: bool, mode: Rounding, saturate: bool) -> i128
     requires some { 1 ≤ by }
     requires word { IsWord width signed }
     ensures { (frac : ℤ) → StoresQuotient v (2 ^ by) (Num signed width frac) mode saturate result }
@@ -101,20 +115,20 @@ fn lowered_far(v: i128, by: u32, width: u8, signed: bool, mode: Rounding, satura
 /// The same, saturated. It stands apart, and takes no more than fits in registers, so that the short
 /// way needs few; so does the next.
 #[inline(never)]
-fn saturated_far(v: i128, by: u32, width: u8, signed: bool, mode: Rounding) -> i128
+fn saturated_far(v: i128, by: u16, width: u8, signed: bool, mode: Rounding) -> i128
     requires some { 1 ≤ by }
     requires word { IsWord width signed }
     ensures { (frac : ℤ) → StoresQuotient v (2 ^ by) (Num signed width frac) mode true result }
 {
-    settle::nearest(split::rounded_down(v, by, mode), width, signed)
+    settle::nearest(split::rounded_down(v, u32::from(by), mode), width, signed)
 }
 
 /// The same, wrapped.
 #[inline(never)]
-fn wrapped_far(v: i128, by: u32, width: u8, signed: bool, mode: Rounding) -> i128
+fn wrapped_far(v: i128, by: u16, width: u8, signed: bool, mode: Rounding) -> i128
     requires some { 1 ≤ by }
     requires word { IsWord width signed }
     ensures { (frac : ℤ) → StoresQuotient v (2 ^ by) (Num signed width frac) mode false result }
 {
-    settle::wrapped(split::rounded_down(v, by, mode), width, signed)
+    settle::wrapped(split::rounded_down(v, u32::from(by), mode), width, signed)
 }

@@ -1,9 +1,10 @@
 //! Rounding and conversion between types, decimals, and the stored integer of a decimal.
 //!
 //! `convert` and `to_stored` meet `Converts` and `Stores` of `fx_type`, whose rows are inequalities
-//! over whole numbers. A number and a type of at most 62 bits are converted in 64 bits (`narrow.rt`):
-//! what a mode adds before one shift down makes the whole number below the one that it takes. Other
-//! numbers are converted in 128 bits, without loss:
+//! over whole numbers. A number and a type of at most 63 bits are converted in 64 bits (`narrow.rt`):
+//! what a mode adds before a shift down makes the whole number below the one that it takes, and a
+//! number shifted up stays as it is in a word of its sign that has the bits. Other numbers are
+//! converted in 128 bits, without loss:
 //!
 //! - shifted down, a number is the lower of two whole numbers and a rest, which tell what a mode takes;
 //! - shifted down by 128 bits or more, it is 0 or -1 and a `Part` that its sign tells;

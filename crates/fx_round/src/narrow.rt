@@ -1,30 +1,27 @@
-//! Rounding and settling in 64 bits, for numbers and types of at most 62 bits.
-ghost use Rattle.std.specs.Prelude.{◌≡◌, ◌↔◌, IsTrue, IfSome, ℤ, pos, ◌+ℤ◌, ◌*ℤ◌, ◌≤ℤ◌, ◌-◌, ◌^◌, ◌≤◌, cond, int_lt};
-ghost use Rattle.fx_num.specs.Word.{IsWord, IsWrapped, word_lowest, word_highest};
+//! Rounding and settling in 64 bits, for numbers and types of at most 63 bits.
+ghost use Rattle.std.specs.Prelude.{true, ◌≡◌, ◌↔◌, IsTrue, IfSome, ℤ, pos, neg_ℤ, ◌+ℤ◌, ◌*ℤ◌, ◌≤ℤ◌, ◌-◌, ◌^◌, ◌≤◌, cond, int_lt};
+ghost use Rattle.fx_num.specs.Word.{IsWord, InWord, IsWrapped, word_lowest, word_highest};
 ghost use Rattle.fx_type.specs.declared.kind.FxType.TheVariants.{Num};
-ghost use Rattle.fx_type.specs.Conversion.{twice, RoundsDown, Rounds, Settles};
-ghost use Rattle.fx_round.specs.inner.Narrow.{IsWithin, IsTie};
+ghost use Rattle.fx_type.specs.Conversion.{twice, RoundsDown, RoundsUp, Rounds, Settles};
+ghost use Rattle.fx_round.specs.inner.Narrow.{IsTie};
 
 use fx_type::Rounding;
 
 /// `v` times 2 to the power `by`.
-pub fn raised(v: i64, by: u32) -> i64
-    requires few { by ≤ 62 }
-    requires small { IsWithin (62 - by) v }
+pub fn raised(v: i64, by: u16) -> i64
+    requires few { by ≤ 63 }
+    requires room { InWord 64 true (v *ℤ pos (2 ^ by)) }
     ensures { result ≡ v *ℤ pos (2 ^ by) }
 {
     v << by
 }
 
-/// Half of 2 to the power `by`.
-fn half_of(by: u32) -> i64
-    requires some { 1 ≤ by }
-    requires few { by ≤ 60 }
-    ensures twice { twice result ≡ pos (2 ^ by) }
-    ensures low { pos 1 ≤ℤ result }
-    ensures high { result ≤ℤ pos (2 ^ 59) }
+/// 2 to the power `by`, with a minus sign.
+fn minus_power(by: u16) -> i64
+    requires few { by ≤ 63 }
+    ensures { result ≡ neg_ℤ (pos (2 ^ by)) }
 {
-    1 << (by - 1)
+    -1 << by
 }
 
 /// One of two numbers, by the sign of `v`.
@@ -41,46 +38,59 @@ fn odd_bit(v: i64) -> i64
     v & 1
 }
 
-/// The whole number below `v` over 2 to the power `by`, with the bias added before.
-fn floor_of(v: i64, bias: i64, by: u32) -> i64
-    requires small { IsWithin 62 v }
-    requires low { pos 0 ≤ℤ bias }
-    requires high { bias ≤ℤ pos (2 ^ 60) }
-    requires few { by ≤ 60 }
-    ensures { RoundsDown (v +ℤ bias) (2 ^ by) result }
+/// The whole number below `v` over 2 to the power `by`.
+fn floor_of(v: i64, by: u16) -> i64
+    requires few { by ≤ 63 }
+    ensures { RoundsDown v (2 ^ by) result }
 {
-    (v + bias) >> by
+    v >> by
+}
+
+/// The same with half of 2 to the power `by` added before: what is left of the halves without half
+/// of them.
+fn floor_past_half(v: i64, by: u16) -> i64
+    requires some { 1 ≤ by }
+    requires few { by ≤ 63 }
+    ensures { (half : ℤ) → twice half ≡ pos (2 ^ by) → RoundsDown (v +ℤ half) (2 ^ by) result }
+{
+    let halves = v >> (by - 1);
+    halves - (halves >> 1)
+}
+
+/// The whole number above `v` over 2 to the power `by`.
+fn ceiling_of(v: i64, by: u16) -> i64
+    requires low { neg_ℤ (pos (2 ^ 62)) ≤ℤ v }
+    requires few { by ≤ 63 }
+    ensures { RoundsUp v (2 ^ by) result }
+{
+    -(-v >> by)
 }
 
 /// `v` over 2 to the power `by`, rounded by the mode.
-pub fn rounded_down(v: i64, by: u32, mode: Rounding) -> i64
-    requires small { IsWithin 62 v }
+pub fn rounded_down(v: i64, by: u16, mode: Rounding) -> i64
+    requires low { neg_ℤ (pos (2 ^ 62)) ≤ℤ v }
     requires some { 1 ≤ by }
-    requires few { by ≤ 60 }
+    requires few { by ≤ 63 }
     ensures { Rounds mode v (2 ^ by) result }
 {
-    let half = half_of(by);
     match mode {
-        Rounding::Floor => floor_of(v, 0, by),
-        Rounding::Ceiling => floor_of(v, half + (half - 1), by),
-        Rounding::Zero => floor_of(v, by_sign(v, 0, half + (half - 1)), by),
-        Rounding::Nearest => floor_of(v, half, by),
-        Rounding::Round => floor_of(v, by_sign(v, half, half - 1), by),
-        Rounding::Convergent => {
-            let lower = floor_of(v, 0, by);
-            floor_of(v, half - 1 + odd_bit(lower), by)
-        }
+        Rounding::Floor => floor_of(v, by),
+        Rounding::Ceiling => ceiling_of(v, by),
+        Rounding::Zero => floor_of(v + by_sign(v, 0, -1 - minus_power(by)), by),
+        Rounding::Nearest => floor_past_half(v, by),
+        Rounding::Round => floor_past_half(v + by_sign(v, 0, -1), by),
+        Rounding::Convergent => floor_past_half(v - 1 + odd_bit(floor_of(v, by)), by),
     }
 }
 
 /// The greatest number of a word.
 fn highest(width: u8, signed: bool) -> i64
     requires word { IsWord width signed }
-    requires few { width ≤ 62 }
+    requires few { width ≤ 63 }
     ensures { result ≡ word_highest width signed }
 {
     let bits = if signed { width - 1 } else { width };
-    (1 << bits) - 1
+    -1 - minus_power(u16::from(bits))
 }
 
 /// The least number of the word whose greatest one this is.
@@ -96,21 +106,21 @@ fn lowest(highest: i64, width: u8, signed: bool) -> i64
 /// The number of a word that is congruent to `r`.
 fn wrapped(r: i64, width: u8, signed: bool) -> i64
     requires word { IsWord width signed }
-    requires few { width ≤ 62 }
+    requires few { width ≤ 63 }
     ensures { IsWrapped r width signed result }
 {
     let spare = 64 - width;
     if signed {
         (r << spare) >> spare
     } else {
-        ((r.cast_unsigned() << spare) >> spare) as i64
+        (r.cast_unsigned() & (u64::MAX >> spare)) as i64
     }
 }
 
 /// What a number type stores for the whole number `r`.
 pub fn settled(r: i64, width: u8, signed: bool, saturate: bool) -> i64
     requires word { IsWord width signed }
-    requires few { width ≤ 62 }
+    requires few { width ≤ 63 }
     ensures { (frac : ℤ) → Settles (Num signed width frac) saturate r result }
 {
     if saturate {

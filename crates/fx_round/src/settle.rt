@@ -84,12 +84,12 @@ pub fn saturated(r: i128, to: FxType) -> i128
 /// What a number type of this word stores for `v` times 2 to the power `by`. It stands apart, so that
 /// the short way of a conversion needs few registers.
 #[inline(never)]
-pub fn settled_up(v: i128, by: u32, width: u8, signed: bool, saturate: bool) -> i128
+pub fn settled_up(v: i128, by: u16, width: u8, signed: bool, saturate: bool) -> i128
     requires { IsWord width signed }
     ensures { (frac : ℤ) → Settles (Num signed width frac) saturate (v *ℤ pos (2 ^ by)) result }
 {
     if saturate {
-        saturated_up(v, by, width, signed)
+        saturated_up(v, u32::from(by), width, signed)
     } else if by < 128 {
         wrapped(v << by, width, signed)
     } else {

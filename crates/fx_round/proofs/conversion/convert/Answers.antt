@@ -1,25 +1,24 @@
 use Rattle.std.proofs.Common.{◌≡◌, ◌^◌, pos, ◌-ℤ◌, ◌*ℤ◌, ◌≤ℤ◌, nat_abs, to_z, of_z, arith}
 use Rattle.std.specs.Int.{w16, w128}
 use Rattle.std.proofs.lemmas.Int.{ints, to_z-of_z}
+use Rattle.fx_num.specs.Word.{InWord}
 use Rattle.fx_type.specs.declared.kind.FxType.TheVariants.{Num, Logical}
 use Rattle.fx_type.specs.FxType.{IsType, InRange}
 use Rattle.fx_type.specs.Conversion.{Settles, StoresQuotient}
 use Rattle.fx_type.proofs.Ranges.{gap_is, gap_none}
-use Rattle.fx_round.specs.inner.Narrow.{IsWithin}
-use Rattle.fx_round.proofs.Biased.{within_type}
 use Rattle.fx_round.proofs.Converting.{converts_up, converts_down}
 use Rattle.fx_round.proofs.conversion.convert.Goals as goal
 
 pub overflow_cast-up-else-up-ge0 : goal.overflow_cast-up-else-up-ge0
 overflow_cast-up-else-up-ge0 c =
     let to_type : IsType (Num c.in-Num.signed c.in-Num.width c.in-Num.frac) = rw c.in-Num.is at c.requires.to in
-    let from_type : IsType (Num c.in-Num-from.signed c.in-Num-from.bits c.in-Num-from.point) = rw c.in-Num-from.is at c.requires.from in
+    let from_type : IsType (Num c.in-Num-from.from_signed c.in-Num-from.bits c.in-Num-from.point) = rw c.in-Num-from.is at c.requires.from in
     (omega (arith, ints, to_type.1, to_type.2, from_type.1, from_type.2), omega (arith, ints, to_type.1, to_type.2, from_type.1, from_type.2))
 
 pub lowered-requires-clause-some : goal.lowered-requires-clause-some
 lowered-requires-clause-some c =
     let to_type : IsType (Num c.in-Num.signed c.in-Num.width c.in-Num.frac) = rw c.in-Num.is at c.requires.to in
-    let from_type : IsType (Num c.in-Num-from.signed c.in-Num-from.bits c.in-Num-from.point) = rw c.in-Num-from.is at c.requires.from in
+    let from_type : IsType (Num c.in-Num-from.from_signed c.in-Num-from.bits c.in-Num-from.point) = rw c.in-Num-from.is at c.requires.from in
     omega (arith, ints, to_type.1, to_type.2, from_type.1, from_type.2, c.if-up-ge0.false)
 
 pub returns-then-up-ge0 : goal.returns-then-up-ge0
@@ -27,14 +26,14 @@ returns-then-up-ge0 c =
     let from = c.in-Num-from in
     let to = c.in-Num in
     let to_type : IsType (Num to.signed to.width to.frac) = rw to.is at c.requires.to in
-    let from_type : IsType (Num from.signed from.bits from.point) = rw from.is at c.requires.from in
+    let from_type : IsType (Num from.from_signed from.bits from.point) = rw from.is at c.requires.from in
     let x = to_z w16 (of_z w16 (to_z w16 (of_z w16 to.frac) -ℤ to_z w16 (of_z w16 from.point))) in
     let difference : x ≡ to.frac -ℤ from.point = omega (arith, ints, to_type.1, to_type.2, from_type.1, from_type.2) in
     let order : from.point ≤ℤ to.frac = omega (arith, ints, difference, c.if-up-ge0.true) in
     let v = to_z-of_z w128 c.args.v c.ranges.v in
     let e = to_z-of_z w128 c.raised.result (record { sfits = c.raised.type_inv }) in
     let settled : Settles (Num to.signed to.width to.frac) c.args.saturate (c.args.v *ℤ pos (2 ^ nat_abs x)) c.raised.result = rw v at (c.raised.ensures to.frac) in
-    rw (to.is, from.is, e) (converts_up c.args.v (Num from.signed from.bits from.point) to.signed to.width to.frac c.args.mode c.args.saturate c.raised.result (nat_abs x)
+    rw (to.is, from.is, e) (converts_up c.args.v (Num from.from_signed from.bits from.point) to.signed to.width to.frac c.args.mode c.args.saturate c.raised.result (nat_abs x)
     (gap_is from.point to.frac x order difference) (gap_none to.frac from.point order) settled)
 
 pub returns-else-up-ge0 : goal.returns-else-up-ge0
@@ -42,14 +41,14 @@ returns-else-up-ge0 c =
     let from = c.in-Num-from in
     let to = c.in-Num in
     let to_type : IsType (Num to.signed to.width to.frac) = rw to.is at c.requires.to in
-    let from_type : IsType (Num from.signed from.bits from.point) = rw from.is at c.requires.from in
+    let from_type : IsType (Num from.from_signed from.bits from.point) = rw from.is at c.requires.from in
     let x = to_z w16 (of_z w16 (pos 0 -ℤ to_z w16 (of_z w16 (to_z w16 (of_z w16 to.frac) -ℤ to_z w16 (of_z w16 from.point))))) in
     let difference : x ≡ from.point -ℤ to.frac = omega (arith, ints, to_type.1, to_type.2, from_type.1, from_type.2) in
     let order : to.frac ≤ℤ from.point = omega (arith, ints, to_type.1, to_type.2, from_type.1, from_type.2, c.if-up-ge0.false) in
     let v = to_z-of_z w128 c.args.v c.ranges.v in
     let e = to_z-of_z w128 c.lowered.result (record { sfits = c.lowered.type_inv }) in
     let stored : StoresQuotient c.args.v (2 ^ nat_abs x) (Num to.signed to.width to.frac) c.args.mode c.args.saturate c.lowered.result = rw v at (c.lowered.ensures to.frac) in
-    rw (to.is, from.is, e) (converts_down c.args.v (Num from.signed from.bits from.point) to.signed to.width to.frac c.args.mode c.args.saturate c.lowered.result (nat_abs x)
+    rw (to.is, from.is, e) (converts_down c.args.v (Num from.from_signed from.bits from.point) to.signed to.width to.frac c.args.mode c.args.saturate c.lowered.result (nat_abs x)
     (gap_is to.frac from.point x order difference) (gap_none from.point to.frac order) stored)
 
 pub returns-in-Logical-from : goal.returns-in-Logical-from
@@ -78,16 +77,16 @@ returns-in-Logical-2 c =
     rw (to.is, c.in-Logical-2.is, e) (converts_down c.args.v Logical to.signed to.width to.frac c.args.mode c.args.saturate c.lowered_far.result (nat_abs x)
     (gap_is to.frac (pos 0) x order difference) (gap_none (pos 0) to.frac order) stored)
 
-pub raised-requires-clause-few : goal.raised-requires-clause-few
-raised-requires-clause-few c =
+pub raised-requires-clause-number : goal.raised-requires-clause-number
+raised-requires-clause-number c =
     let from = c.in-Num-from in
-    let range : InRange (Num from.signed from.bits from.point) c.args.v = rw from.is at c.requires.in_range in
-    let within : IsWithin from.bits c.args.v = within_type (Num from.signed from.bits from.point) c.args.v range in
-    rw (to_z-of_z w128 c.args.v c.ranges.v) within
+    let range : InRange (Num from.from_signed from.bits from.point) c.args.v = rw from.is at c.requires.in_range in
+    let number : InWord from.bits from.from_signed c.args.v = record { low = range.low; high = range.high } in
+    rw (to_z-of_z w128 c.args.v c.ranges.v) number
 
-pub lowered-requires-clause-few : goal.lowered-requires-clause-few
-lowered-requires-clause-few c =
+pub lowered-requires-clause-number : goal.lowered-requires-clause-number
+lowered-requires-clause-number c =
     let from = c.in-Num-from in
-    let range : InRange (Num from.signed from.bits from.point) c.args.v = rw from.is at c.requires.in_range in
-    let within : IsWithin from.bits c.args.v = within_type (Num from.signed from.bits from.point) c.args.v range in
-    rw (to_z-of_z w128 c.args.v c.ranges.v) within
+    let range : InRange (Num from.from_signed from.bits from.point) c.args.v = rw from.is at c.requires.in_range in
+    let number : InWord from.bits from.from_signed c.args.v = record { low = range.low; high = range.high } in
+    rw (to_z-of_z w128 c.args.v c.ranges.v) (from.from_signed, number)

@@ -1,38 +1,59 @@
-use Rattle.std.proofs.Common.{◌≡◌, ◌≤◌, ◌^◌, ◌+◌, ◌-◌, pos, ◌*ℤ◌, to_z, of_z, ap, ◌∙◌, arith}
+use Rattle.std.proofs.Common.{◌≡◌, ◌≤◌, ◌^◌, ◌+◌, pos, ◌*ℤ◌, to_z, of_z, ap, ◌∙◌, arith, true}
 use Rattle.std.specs.Int.{w64, w128}
-use Rattle.std.proofs.lemmas.Int.{to_z-of_z}
+use Rattle.std.proofs.lemmas.Int.{ints, to_z-of_z}
+use Rattle.std.proofs.lemmas.Nat.{le_or_l, le_or_r}
+use Rattle.fx_num.specs.Word.{InWord}
 use Rattle.fx_type.specs.declared.kind.FxType.TheVariants.{Num}
 use Rattle.fx_type.specs.Conversion.{Settles}
-use Rattle.fx_round.specs.inner.Narrow.{IsWithin}
-use Rattle.fx_round.proofs.Biased.{within_more, within_fits}
+use Rattle.fx_round.proofs.Biased.{word_fits}
+use Rattle.fx_round.proofs.Widening.{raised_stays, raised_stays_in, settles_itself}
 use Rattle.fx_round.proofs.conversion.raised.Goals as goal
-use Rattle.fx_round.proofs.conversion.raised.Goals.{Then-from-by-le62}
+use Rattle.fx_round.proofs.conversion.raised.Goals.{Then-from-most-le63, After-raised-shifted}
 
-room : (c : Then-from-by-le62) → c.args.bits + c.args.by ≤ 62
-room c = omega (arith, c.if-from-by-le62.true, c.from.ensures, c.requires.shift, c.ranges.bits)
+room : (c : Then-from-most-le63) → c.args.bits + c.args.by ≤ 63
+room c = omega (arith, c.if-from-most-le63.true, c.from.ensures, le_or_r c.from-2.result (c.from.result + c.args.by))
 
-within : (c : Then-from-by-le62) → IsWithin 62 c.args.v
-within c = within_more c.args.bits 62 c.args.v (omega (arith, room c)) c.requires.few
+short : (c : Then-from-most-le63) → c.args.width ≤ 63
+short c = omega (arith, c.if-from-most-le63.true, c.from-2.ensures, le_or_l c.from-2.result (c.from.result + c.args.by))
 
-few : (c : Then-from-by-le62) → to_z w64 (of_z w64 (to_z w128 (of_z w128 c.args.v))) ≡ c.args.v
-few c = ap (λ x. to_z w64 (of_z w64 x)) (to_z-of_z w128 c.args.v c.ranges.v) ∙ to_z-of_z w64 c.args.v (within_fits c.args.v (within c))
+few : (c : Then-from-most-le63) → to_z w64 (of_z w64 (to_z w128 (of_z w128 c.args.v))) ≡ c.args.v
+few c = ap (λ x. to_z w64 (of_z w64 x)) (to_z-of_z w128 c.args.v c.ranges.v) ∙ to_z-of_z w64 c.args.v (word_fits c.args.bits c.args.from_signed c.args.v (omega (arith, room c)) c.requires.number)
+
+shifted : (c : After-raised-shifted) → to_z w64 (of_z w64 c.raised-shifted.result) ≡ c.args.v *ℤ pos (2 ^ c.args.by)
+shifted c = to_z-of_z w64 c.raised-shifted.result (record { sfits = c.raised-shifted.type_inv }) ∙ c.raised-shifted.ensures ∙ ap (λ x. x *ℤ pos (2 ^ c.args.by)) (few c.before)
 
 pub overflow_cast-v : goal.overflow_cast-v
-overflow_cast-v c = rw (to_z-of_z w128 c.args.v c.ranges.v) (within_fits c.args.v (within c))
+overflow_cast-v c = rw (to_z-of_z w128 c.args.v c.ranges.v) (word_fits c.args.bits c.args.from_signed c.args.v (omega (arith, room c)) c.requires.number)
 
-pub raised-shifted-requires-clause-small : goal.raised-shifted-requires-clause-small
-raised-shifted-requires-clause-small c = rw (few c) (within_more c.args.bits (62 - c.args.by) c.args.v (omega (arith, room c)) c.requires.few)
+pub raised-shifted-requires-clause-few : goal.raised-shifted-requires-clause-few
+raised-shifted-requires-clause-few c = omega (arith, room c)
 
-pub returns-then-from-by-le62 : goal.returns-then-from-by-le62
-returns-then-from-by-le62 c frac =
-    let n = few (goal.at.returns-then-from-by-le62 c).Then-from-by-le62 in
-    let shifted : to_z w64 (of_z w64 c.raised-shifted.result) ≡ c.args.v *ℤ pos (2 ^ c.args.by) = to_z-of_z w64 c.raised-shifted.result (record { sfits = c.raised-shifted.type_inv }) ∙ c.raised-shifted.ensures ∙ ap (λ x. x *ℤ pos (2 ^ c.args.by)) n in
-    let e = c.from-then-from-by-le62 in
+pub raised-shifted-requires-clause-room : goal.raised-shifted-requires-clause-room
+raised-shifted-requires-clause-room c =
+    let fits = word_fits 63 c.args.from_signed (c.args.v *ℤ pos (2 ^ c.args.by)) (omega arith) (raised_stays c.args.from_signed c.args.v c.args.bits c.args.by 63 c.requires.some (room c) c.requires.number) in
+    let number : InWord 64 true (c.args.v *ℤ pos (2 ^ c.args.by)) = record { low = omega (arith, ints, fits); high = omega (arith, ints, fits) } in
+    rw (few c) number
+
+pub settled-requires-clause-few : goal.settled-requires-clause-few
+settled-requires-clause-few c = omega (arith, short (goal.at.settled-requires-clause-few c).Then-from-most-le63)
+
+pub returns-then-most-from : goal.returns-then-most-from
+returns-then-most-from c frac =
+    let product = c.args.v *ℤ pos (2 ^ c.args.by) in
+    let e = c.from-then-most-from in
+    let r : to_z w128 (of_z w128 e.result) ≡ product = to_z-of_z w128 e.result (record { sfits = e.type_inv }) ∙ e.ensures ∙ shifted (goal.at.returns-then-most-from c).After-raised-shifted in
+    let width : c.args.bits + c.args.by ≤ c.args.width = omega (arith, c.from.ensures, c.from-then-from_signed-signed.ensures, c.if-most-from.true) in
+    let stays = raised_stays_in c.args.from_signed c.args.signed c.args.v c.args.bits c.args.by c.args.width c.if-from_signed-signed.true c.requires.some width c.requires.number in
+    rw r (settles_itself c.args.signed c.args.width frac c.args.saturate product stays)
+
+pub returns-else-from_signed-signed : goal.returns-else-from_signed-signed
+returns-else-from_signed-signed c frac =
+    let e = c.from-else-from_signed-signed in
     let r : to_z w128 (of_z w128 e.result) ≡ c.settled.result = to_z-of_z w128 e.result (record { sfits = e.type_inv }) ∙ e.ensures ∙ to_z-of_z w64 c.settled.result (record { sfits = c.settled.type_inv }) in
-    let settled : Settles (Num c.args.signed c.args.width frac) c.args.saturate (c.args.v *ℤ pos (2 ^ c.args.by)) c.settled.result = rw shifted at (c.settled.ensures frac) in
+    let settled : Settles (Num c.args.signed c.args.width frac) c.args.saturate (c.args.v *ℤ pos (2 ^ c.args.by)) c.settled.result = rw (shifted (goal.at.returns-else-from_signed-signed c).After-raised-shifted) at (c.settled.ensures frac) in
     rw r settled
 
-pub returns-else-width-le62 : goal.returns-else-width-le62
-returns-else-width-le62 c frac =
+pub returns-else-from-most-le63 : goal.returns-else-from-most-le63
+returns-else-from-most-le63 c frac =
     let r = to_z-of_z w128 c.settled_up.result (record { sfits = c.settled_up.type_inv }) in
     rw r (rw (to_z-of_z w128 c.args.v c.ranges.v) at (c.settled_up.ensures frac))

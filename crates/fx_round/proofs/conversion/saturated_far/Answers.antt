@@ -9,6 +9,6 @@ pub returns : goal.returns
 returns c frac =
     let q = c.rounded_down.result in
     let rounded = to_z-of_z w128 q (record { sfits = c.rounded_down.type_inv }) in
-    let rounds = rw (to_z-of_z w128 c.args.v c.ranges.v) at c.rounded_down.ensures in
+    let rounds = rw (to_z-of_z w128 c.args.v c.ranges.v, c.from.ensures) at c.rounded_down.ensures in
     let settles : Settles (Num c.args.signed c.args.width frac) true q c.nearest.result = rw rounded at (c.nearest.ensures frac) in
     rw (to_z-of_z w128 c.nearest.result (record { sfits = c.nearest.type_inv })) (record { rounded = q; rounds = rounds; settles = settles })

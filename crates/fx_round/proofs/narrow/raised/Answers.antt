@@ -1,7 +1,10 @@
+use Rattle.std.proofs.Common.{◌^◌, pos, ◌*ℤ◌, FitsSigned, arith}
 use Rattle.std.specs.Int.{w64}
+use Rattle.std.proofs.lemmas.Int.{ints}
 use Rattle.fx_num.proofs.Shifted.{shl_exact}
-use Rattle.fx_round.proofs.Biased.{raised_fits}
 use Rattle.fx_round.proofs.narrow.raised.Goals as goal
 
 pub returns : goal.returns
-returns c = shl_exact w64 c.args.v c.args.by c.ranges.v (raised_fits c.args.by c.args.v c.requires.few c.requires.small)
+returns c =
+    let fits : FitsSigned w64 (c.args.v *ℤ pos (2 ^ c.args.by)) = omega (arith, ints, c.requires.room.low, c.requires.room.high) in
+    shl_exact w64 c.args.v c.args.by c.ranges.v fits

@@ -19,5 +19,5 @@ returns-else-by-lt128 c frac =
 pub returns-then-saturate : goal.returns-then-saturate
 returns-then-saturate c frac =
     let r = to_z-of_z w128 c.saturated_up.result (record { sfits = c.saturated_up.type_inv }) in
-    let settles = rw (to_z-of_z w128 c.args.v c.ranges.v) at (c.saturated_up.ensures frac) in
+    let settles = rw (to_z-of_z w128 c.args.v c.ranges.v, c.from.ensures) at (c.saturated_up.ensures frac) in
     rw (c.if-saturate.true, r) settles
