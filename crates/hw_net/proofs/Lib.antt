@@ -1,6 +1,7 @@
 pub mod At
 pub mod Clocks
 pub mod Exists
+pub mod Extending
 pub mod Growing
 pub mod Index
 pub mod Modular
