@@ -5,7 +5,9 @@ pub mod Marking
 pub mod Shaping
 pub mod Limits
 pub mod Looped
+pub mod Stages
 pub mod Walked
+pub mod Turns
 pub mod Searched
 pub mod Scoped
 pub mod Noting

@@ -1,5 +1,5 @@
 use Rattle.std.proofs.Common.{◌≡◌, ◌<◌, ◌≤◌, ◌+◌, ◌-◌, length, take, slice_index, ap, subst, ◌∙◌}
-use Rattle.vl_check.proofs.Walked.{last-is, top-is, step-close, step-open, step-pass, step-cycle}
+use Rattle.vl_check.proofs.Turns.{last-is, top-is, step-close, step-open, step-pass, step-cycle}
 use Rattle.vl_check.proofs.sorting.turn.Goals as goal
 
 pub returns-then-at-count_of : goal.returns-then-at-count_of
