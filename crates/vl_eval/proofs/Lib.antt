@@ -5,7 +5,9 @@ pub mod Halves
 pub mod Swept
 pub mod Words
 pub mod Operands
+pub mod Grown
 pub mod Builds
+pub mod SideBySide
 pub mod Results
 pub mod Rooms
 pub mod PortLists
@@ -19,6 +21,8 @@ pub mod Taking
 pub mod Given
 pub mod Named
 pub mod Numbers
+pub mod FixedPlaces
 pub mod Edges
+pub mod Outputs
 pub mod Sorting
 pub mod Rearranged

@@ -12,7 +12,9 @@ use Rattle.vl_eval.proofs.Results.{if-ok}
 use Rattle.vl_eval.proofs.Operands.{sound-unary, names-unary, sound-as-signed, names-as-signed, sound-as-unsigned, names-as-unsigned, sound-binary, names-binary, sound-shift, length-shift, names-shift, sound-choose, length-choose, names-choose, sound-repeat, names-repeat, sound-concat, names-concat}
 use Rattle.vl_eval.proofs.Rooms.{unary-room, left-context-room, right-context-room}
 use Rattle.std.proofs.lemmas.List.{take_all}
-use Rattle.vl_eval.proofs.Builds.{Copied, Joined, beside-grows, built-copies, built-no-parts, built-parts, copied-more, copied-one, copies-few, grows-more, grows-none, joined-more, lengths-more, one-copy, part-in, part-placed, part-size, part-sound, parts-few, parts-more, value-at, placed-left, placed-right, placed-later, built-unary, built-binary, built-as-signed, built-as-signed-plain, built-as-unsigned, built-shift, built-choice}
+use Rattle.vl_eval.proofs.SideBySide.{Copied, Joined, beside-grows, built-copies, built-no-parts, built-parts, copied-more, copied-one, copies-few, joined-more, lengths-more, one-copy, part-in, part-placed, part-size, part-sound, parts-few, parts-more, value-at}
+use Rattle.vl_eval.proofs.Grown.{grows-more, grows-none, placed-left, placed-right, placed-later}
+use Rattle.vl_eval.proofs.Builds.{built-unary, built-binary, built-as-signed, built-as-signed-plain, built-as-unsigned, built-shift, built-choice}
 use Rattle.vl_eval.proofs.building.+build.Given as given
 use Rattle.vl_eval.proofs.building.+build.Goals as goal
 
@@ -26,8 +28,6 @@ pub build_unary-build-requires : goal.build_unary-build-requires
 build_unary-build-requires t c =
     let site = c.args.site.now in
     let nets = nets_in site.scope.now in
-    let scope = site.scope.now in
-    let slots = site.slots.now in
     let room = unary-room nets c.args.op c.args.part.now c.args.width c.args.signed c.requires.sound c.requires.longer c.requires.most in
     let context = c.unary_context-context.ensures in (
       omega arith,
@@ -46,9 +46,6 @@ build_unary-build-requires t c =
 pub build_unary-returns : goal.build_unary-returns
 build_unary-returns t c =
     let site = c.args.site.now in
-    let nets = nets_in site.scope.now in
-    let scope = site.scope.now in
-    let slots = site.slots.now in
     if-ok c.push.result (λ slot p. built-unary c.meaning_by_layer.ensures.value site.base site.scope.now site.slots.now c.args.op c.args.part.now c.args.ops.now.items c.build.new.ops.items c.push.new.ops.items c.in_ok-slot.slot slot c.args.width c.mask_of.result c.args.signed c.unary_context-context.result
     c.requires.sound c.requires.longer c.requires.most c.mask_of.ensures c.unary_context-context.ensures c.in_ok-slot.ensures
     (subst (λ o. Pushed site.base c.build.new.ops.items c.push.new.ops.items slot o) c.unary_op.ensures p)) c.push.ensures
@@ -60,35 +57,17 @@ pub build_as_signed-build-requires : goal.build_as_signed-build-requires
 build_as_signed-build-requires t c =
     let site = c.args.site.now in
     let nets = nets_in site.scope.now in
-    let scope = site.scope.now in
-    let slots = site.slots.now in (
-      omega arith,
-      (
-        sound-as-signed nets c.args.part.now c.requires.sound,
-        (
-          omega (arith, c.shape_of-context.ensures.length),
-          (
-            c.shape_of-context.ensures.few,
-            placed site c.args.ops.now.items _ _ (names-as-signed nets c.args.part.now) c.requires.placed,
-          ),
-        ),
-      ),
-    )
+    let names = placed site c.args.ops.now.items _ _ (names-as-signed nets c.args.part.now) c.requires.placed in
+    (omega arith, (sound-as-signed nets c.args.part.now c.requires.sound, (omega (arith, c.shape_of-context.ensures.length), (c.shape_of-context.ensures.few, names))))
 
 pub build_as_signed-returns-then-not-signed : goal.build_as_signed-returns-then-not-signed
 build_as_signed-returns-then-not-signed t c =
     let site = c.args.site.now in
-    let nets = nets_in site.scope.now in
-    let scope = site.scope.now in
-    let slots = site.slots.now in
     built-as-signed-plain c.meaning_by_layer.ensures.value site.base site.scope.now site.slots.now c.args.part.now c.args.ops.now.items c.build.new.ops.items c.in_ok-slot.slot c.args.width c.args.signed c.shape_of-context.result c.shape_of-context.ensures.length c.shape_of-context.ensures.sign c.if-not-signed.true c.in_ok-slot.ensures
 
 pub build_as_signed-returns : goal.build_as_signed-returns
 build_as_signed-returns t c =
     let site = c.args.site.now in
-    let nets = nets_in site.scope.now in
-    let scope = site.scope.now in
-    let slots = site.slots.now in
     if-ok c.extend.result (λ slot x. built-as-signed c.meaning_by_layer.ensures.value site.base site.scope.now site.slots.now c.args.part.now c.args.ops.now.items c.build.new.ops.items c.extend.new.ops.items c.in_ok-slot.slot slot c.args.width c.args.signed c.shape_of-context.result
     c.requires.sound c.requires.longer c.requires.most c.shape_of-context.ensures.length c.shape_of-context.ensures.sign c.if-not-signed.false c.in_ok-slot.ensures x) c.extend.ensures
 
@@ -99,27 +78,12 @@ pub build_as_unsigned-build-requires : goal.build_as_unsigned-build-requires
 build_as_unsigned-build-requires t c =
     let site = c.args.site.now in
     let nets = nets_in site.scope.now in
-    let scope = site.scope.now in
-    let slots = site.slots.now in (
-      omega arith,
-      (
-        sound-as-unsigned nets c.args.part.now c.requires.sound,
-        (
-          omega (arith, c.shape_of-context.ensures.length),
-          (
-            c.shape_of-context.ensures.few,
-            placed site c.args.ops.now.items _ _ (names-as-unsigned nets c.args.part.now) c.requires.placed,
-          ),
-        ),
-      ),
-    )
+    let names = placed site c.args.ops.now.items _ _ (names-as-unsigned nets c.args.part.now) c.requires.placed in
+    (omega arith, (sound-as-unsigned nets c.args.part.now c.requires.sound, (omega (arith, c.shape_of-context.ensures.length), (c.shape_of-context.ensures.few, names))))
 
 pub build_as_unsigned-returns : goal.build_as_unsigned-returns
 build_as_unsigned-returns t c =
     let site = c.args.site.now in
-    let nets = nets_in site.scope.now in
-    let scope = site.scope.now in
-    let slots = site.slots.now in
     if-ok c.build.result (λ slot b. built-as-unsigned c.meaning_by_layer.ensures.value site.base site.scope.now site.slots.now c.args.part.now c.args.ops.now.items c.build.new.ops.items slot c.args.width c.args.signed c.shape_of-context.result c.shape_of-context.ensures.length c.shape_of-context.ensures.sign b) c.build.ensures
 
 pub build_binary-left_context-on_left-requires-clause-left : goal.build_binary-left_context-on_left-requires-clause-left
@@ -138,8 +102,6 @@ pub build_binary-build-requires : goal.build_binary-build-requires
 build_binary-build-requires t c =
     let site = c.args.site.now in
     let nets = nets_in site.scope.now in
-    let scope = site.scope.now in
-    let slots = site.slots.now in
     let room = left-context-room nets c.args.op c.args.left.now c.args.right.now c.args.width c.args.signed c.requires.sound c.requires.longer c.requires.most in
     let context = c.left_context-on_left.ensures in
     let all = placed site c.args.ops.now.items _ _ (names-binary nets c.args.op c.args.left.now c.args.right.now) c.requires.placed in (
@@ -160,8 +122,6 @@ pub build_binary-build-requires-2 : goal.build_binary-build-requires-2
 build_binary-build-requires-2 t c =
     let site = c.args.site.now in
     let nets = nets_in site.scope.now in
-    let scope = site.scope.now in
-    let slots = site.slots.now in
     let room = right-context-room nets c.args.op c.args.left.now c.args.right.now c.args.width c.args.signed c.requires.sound c.requires.longer c.requires.most in
     let context = c.left_context-on_right.ensures in
     let all = placed site c.args.ops.now.items _ _ (names-binary nets c.args.op c.args.left.now c.args.right.now) c.requires.placed in
@@ -183,17 +143,12 @@ pub build_binary-half_in-requires : goal.build_binary-half_in-requires
 build_binary-half_in-requires t c =
     let site = c.args.site.now in
     let nets = nets_in site.scope.now in
-    let scope = site.scope.now in
-    let slots = site.slots.now in
     let room = left-context-room nets c.args.op c.args.left.now c.args.right.now c.args.width c.args.signed c.requires.sound c.requires.longer c.requires.most in
     subst (λ (s : Shape). s.length ≤ 128) (sym c.left_context-on_left.ensures) room.1
 
 pub build_binary-returns : goal.build_binary-returns
 build_binary-returns t c =
     let site = c.args.site.now in
-    let nets = nets_in site.scope.now in
-    let scope = site.scope.now in
-    let slots = site.slots.now in
     if-ok c.push.result (λ slot p. built-binary c.meaning_by_layer.ensures.value site.base site.scope.now site.slots.now c.args.op c.args.left.now c.args.right.now c.args.ops.now.items c.build.new.ops.items c.build-2.new.ops.items c.push.new.ops.items c.in_ok-first.first c.in_ok-second.second slot c.args.width c.mask_of.result c.half_in.result c.args.signed
     c.left_context-on_left.result c.left_context-on_right.result c.requires.sound c.requires.longer c.requires.most c.mask_of.ensures c.left_context-on_left.ensures c.left_context-on_right.ensures c.half_in.ensures c.in_ok-first.ensures c.in_ok-second.ensures
     (subst (λ o. Pushed site.base c.build-2.new.ops.items c.push.new.ops.items slot o) c.binary_op.ensures p)) c.push.ensures
@@ -205,8 +160,6 @@ pub build_choice-build-requires : goal.build_choice-build-requires
 build_choice-build-requires t c =
     let site = c.args.site.now in
     let nets = nets_in site.scope.now in
-    let scope = site.scope.now in
-    let slots = site.slots.now in
     let all = placed site c.args.ops.now.items _ _ (names-choose nets c.args.test.now c.args.chosen.now c.args.other.now) c.requires.placed in (
       omega arith,
       (
@@ -225,8 +178,6 @@ pub build_choice-build-requires-2 : goal.build_choice-build-requires-2
 build_choice-build-requires-2 t c =
     let site = c.args.site.now in
     let nets = nets_in site.scope.now in
-    let scope = site.scope.now in
-    let slots = site.slots.now in
     let all = placed site c.args.ops.now.items _ _ (names-choose nets c.args.test.now c.args.chosen.now c.args.other.now) c.requires.placed in
     let rest = placed-right c.meaning_by_layer.ensures.value site.base site.scope.now site.slots.now c.args.ops.now.items (names_read c.args.test.now) (names_read c.args.chosen.now ++ names_read c.args.other.now) all in
     let mine = placed-left c.meaning_by_layer.ensures.value site.base site.scope.now site.slots.now c.args.ops.now.items (names_read c.args.chosen.now) (names_read c.args.other.now) rest in
@@ -248,8 +199,6 @@ pub build_choice-build-requires-3 : goal.build_choice-build-requires-3
 build_choice-build-requires-3 t c =
     let site = c.args.site.now in
     let nets = nets_in site.scope.now in
-    let scope = site.scope.now in
-    let slots = site.slots.now in
     let all = placed site c.args.ops.now.items _ _ (names-choose nets c.args.test.now c.args.chosen.now c.args.other.now) c.requires.placed in
     let rest = placed-right c.meaning_by_layer.ensures.value site.base site.scope.now site.slots.now c.args.ops.now.items (names_read c.args.test.now) (names_read c.args.chosen.now ++ names_read c.args.other.now) all in
     let mine = placed-right c.meaning_by_layer.ensures.value site.base site.scope.now site.slots.now c.args.ops.now.items (names_read c.args.chosen.now) (names_read c.args.other.now) rest in
@@ -271,9 +220,6 @@ build_choice-build-requires-3 t c =
 pub build_choice-returns : goal.build_choice-returns
 build_choice-returns t c =
     let site = c.args.site.now in
-    let nets = nets_in site.scope.now in
-    let scope = site.scope.now in
-    let slots = site.slots.now in
     if-ok c.push.result (λ slot p. built-choice c.meaning_by_layer.ensures.value site.base site.scope.now site.slots.now c.args.test.now c.args.chosen.now c.args.other.now c.args.ops.now.items c.build.new.ops.items c.build-2.new.ops.items c.build-3.new.ops.items c.push.new.ops.items c.in_ok-tested.tested c.in_ok-first.first c.in_ok-second.second slot c.args.width c.args.signed c.shape_of-context.result
     c.shape_of-context.ensures.length c.shape_of-context.ensures.sign c.in_ok-tested.ensures c.in_ok-first.ensures c.in_ok-second.ensures p) c.push.ensures
 
@@ -281,28 +227,14 @@ pub build_shift-build-requires : goal.build_shift-build-requires
 build_shift-build-requires t c =
     let site = c.args.site.now in
     let nets = nets_in site.scope.now in
-    let scope = site.scope.now in
-    let slots = site.slots.now in
-    let l = length-shift nets c.args.op c.args.part.now c.args.amount.now in (
-      omega arith,
-      (
-        (sound-shift nets c.args.op c.args.part.now c.args.amount.now c.requires.sound).0,
-        (
-          omega (arith, l, c.requires.longer),
-          (
-            c.requires.most,
-            placed site c.args.ops.now.items _ _ (names-shift nets c.args.op c.args.part.now c.args.amount.now) c.requires.placed,
-          ),
-        ),
-      ),
-    )
+    let l = length-shift nets c.args.op c.args.part.now c.args.amount.now in
+    let ok = sound-shift nets c.args.op c.args.part.now c.args.amount.now c.requires.sound in
+    let names = placed site c.args.ops.now.items _ _ (names-shift nets c.args.op c.args.part.now c.args.amount.now) c.requires.placed in
+    (omega arith, (ok.0, (omega (arith, l, c.requires.longer), (c.requires.most, names))))
 
 pub build_shift-returns : goal.build_shift-returns
 build_shift-returns t c =
     let site = c.args.site.now in
-    let nets = nets_in site.scope.now in
-    let scope = site.scope.now in
-    let slots = site.slots.now in
     if-ok c.push.result (λ slot p. built-shift c.meaning_by_layer.ensures.value site.base site.scope.now site.slots.now c.args.op c.args.part.now c.args.amount.now c.args.ops.now.items c.build.new.ops.items c.push.new.ops.items c.in_ok-slot.slot slot c.args.width c.args.signed
     c.requires.sound c.requires.longer c.requires.most c.in_ok-slot.ensures (subst (λ o. Pushed site.base c.build.new.ops.items c.push.new.ops.items slot o) c.shift_op.ensures p)) c.push.ensures
 
@@ -313,19 +245,9 @@ pub build_copies-build-requires : goal.build_copies-build-requires
 build_copies-build-requires t c =
     let site = c.args.site.now in
     let nets = nets_in site.scope.now in
-    let ok = sound-repeat nets c.args.count c.args.part.now c.requires.sound in (
-      omega arith,
-      (
-        ok.1,
-        (
-          omega (arith, c.shape_of-context.ensures.length),
-          (
-            c.shape_of-context.ensures.few,
-            placed site c.args.ops.now.items _ _ (names-repeat nets c.args.count c.args.part.now) c.requires.placed,
-          ),
-        ),
-      ),
-    )
+    let ok = sound-repeat nets c.args.count c.args.part.now c.requires.sound in
+    let names = placed site c.args.ops.now.items _ _ (names-repeat nets c.args.count c.args.part.now) c.requires.placed in
+    (omega arith, (ok.1, (omega (arith, c.shape_of-context.ensures.length), (c.shape_of-context.ensures.few, names))))
 
 pub build_copies-loop-copy-init : goal.build_copies-loop-copy-init
 build_copies-loop-copy-init t c =

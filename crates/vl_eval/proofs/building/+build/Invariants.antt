@@ -2,7 +2,7 @@ use Rattle.std.proofs.Common.{◌+◌, ◌*◌, max, take}
 use Rattle.vl_ast.specs.declared.expressions.Expr.TheViews.{size-Expr}
 use Rattle.vl_ast.proofs.Agree.{ByLayer}
 use Rattle.vl_eval.specs.inner.Shown.{Grows}
-use Rattle.vl_eval.proofs.Builds.{Copied, Joined}
+use Rattle.vl_eval.proofs.SideBySide.{Copied, Joined}
 use Rattle.vl_eval.proofs.building.+build.Given as goal
 
 abbrev pub invariant-build_parts-loop-part : goal.invariant-build_parts-loop-part

@@ -5,7 +5,8 @@ use Rattle.vl_eval.specs.inner.Edges.{IsPut, IsTaken}
 use Rattle.vl_eval.specs.inner.Ops.{AreSettled, IsSettled}
 use Rattle.vl_eval.specs.inner.Steps.{AreSteps}
 use Rattle.vl_eval.proofs.Swept.{constants-settled}
-use Rattle.vl_eval.proofs.Edges.{captures-apart, captures-within, edge-fits-named, edge-named, edge-still-named, ops-stay, places-apart, places-within}
+use Rattle.vl_eval.proofs.FixedPlaces.{captures-apart, captures-within, places-apart, places-within}
+use Rattle.vl_eval.proofs.Edges.{edge-fits-named, edge-named, edge-still-named, ops-stay}
 use Rattle.vl_eval.proofs.machine.Machine.edge.Goals as goal
 
 pub capture-requires-clause-within : goal.capture-requires-clause-within

@@ -1,7 +1,7 @@
 use Rattle.std.proofs.Common.{arith, ◌∙◌}
 use Rattle.std.specs.Int.{w128}
 use Rattle.std.proofs.lemmas.Int.{to_z-of_z}
-use Rattle.vl_eval.proofs.Edges.{output-few, output-fits, output-shows, output-signed, slot-below}
+use Rattle.vl_eval.proofs.Outputs.{output-few, output-fits, output-shows, output-signed, slot-below}
 use Rattle.vl_eval.proofs.machine.Machine.port.Goals as goal
 
 pub index-bits-requires : goal.index-bits-requires
