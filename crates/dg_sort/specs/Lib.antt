@@ -1,2 +1,3 @@
 pub mod inner
+pub mod Control
 pub mod Rows

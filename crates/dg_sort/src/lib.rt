@@ -5,8 +5,9 @@
 //! rule (`BreaksLoop`): a cycle of instant edges, begun with the least block that lies on any.
 //!
 //! `rows_of` lists for each block the blocks that it reads in its own sample (`AreRows`), for the
-//! crates above too. `search` goes over these in depth and gathers blocks that read each other in
-//! groups; `cycle` shows a cycle through one. Each takes time in the blocks and edges.
+//! crates above too, as are `reads_now` and `control_now` for one block (`Control`). `search` goes
+//! over the rows in depth and gathers blocks that read each other in groups; `cycle` shows a cycle
+//! through one. Each takes time in the blocks and edges.
 #![tactic(auto)]
 
 mod cycle;
@@ -17,4 +18,4 @@ mod search;
 mod tests;
 
 pub use ordering::order;
-pub use rows::{reads_now, rows_of};
+pub use rows::{control_now, reads_now, rows_of};

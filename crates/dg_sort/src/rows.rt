@@ -4,8 +4,9 @@ ghost use Rattle.dg_model.specs.Instant.{is_now, asks_now as asks_now_of};
 ghost use Rattle.dg_model.specs.Library.{row_of};
 ghost use Rattle.dg_model.specs.Periods.{periods_of};
 ghost use Rattle.dg_model.specs.Wired.{IsWired};
+ghost use Rattle.dg_sort.specs.Control.{control_now as control_now_of};
 ghost use Rattle.dg_sort.specs.Rows.{AreRows};
-ghost use Rattle.dg_sort.specs.inner.Rows.{control_now, is_line_instant, noted};
+ghost use Rattle.dg_sort.specs.inner.Rows.{is_line_instant, noted};
 
 use dg_model::{Block, Diagram, Edge, Kind};
 use fx_io::{OutOfMemory, Sizes};
@@ -109,8 +110,8 @@ pub fn note(rows: &mut Vec<Sizes>, block: u32, source: u32) -> Result<(), OutOfM
 }
 
 /// The control that a block asks in its own sample, where it asks one.
-fn control_of(block: &Block) -> Option<u32>
-    ensures { result ≡ control_now block.now }
+pub fn control_now(block: &Block) -> Option<u32>
+    ensures { result ≡ control_now_of block.now }
 {
     if asks_now(&block.kind) {
         block.enable
@@ -139,7 +140,7 @@ pub fn rows_of(
         }
     }
     for (place, block) in blocks.iter().enumerate() {
-        if let Some(control) = control_of(block) {
+        if let Some(control) = control_now(block) {
             note(&mut rows, place as u32, control)?;
         }
     }

@@ -1,9 +1,9 @@
 -- Rows of what blocks read, while they are made (own).
-use Rattle.std.specs.Prelude.{ℕ, ◌++◌, Bool, false, List, [], ◌∷◌, slice_get, slice_set, Option, Some, None, if◌then◌else◌}
+use Rattle.std.specs.Prelude.{ℕ, ◌++◌, Bool, false, List, [], ◌∷◌, slice_get, slice_set, Option, Some, None}
 use Rattle.dg_model.specs.declared.diagram.Block.{Block}
 use Rattle.dg_model.specs.declared.diagram.Edge.{Edge}
 use Rattle.dg_model.specs.Hits.{is_slow_to_fast}
-use Rattle.dg_model.specs.Instant.{is_now, asks_now}
+use Rattle.dg_model.specs.Instant.{is_now}
 use Rattle.dg_model.specs.Library.{row_of}
 use Rattle.dg_model.specs.Periods.{Period, period_at}
 use Rattle.dg_sort.specs.Rows.{row_at}
@@ -20,7 +20,3 @@ is_read_now (Some block) slower = is_now (row_of block.kind).timing.reads slower
 -- the same of an edge
 abbrev pub is_line_instant : List Block → List Period → Edge → Bool
 is_line_instant blocks periods edge = is_read_now (slice_get blocks edge.to) (is_slow_to_fast (period_at periods edge.from) (period_at periods edge.to))
-
--- the control that a block asks in its own sample
-abbrev pub control_now : Block → Option ℕ
-control_now block = if asks_now block.kind then block.enable else None

@@ -55,13 +55,13 @@ loop-place-init c =
 pub loop-place-preserved : goal.loop-place-preserved
 loop-place-preserved c =
     let at = block_read c.args.diagram.now c.as_slice-blocks.result.now c.loop-place.place c.index-blocks-place.result c.as_slice-blocks.ensures c.loop-place-test.true c.index-blocks-place.is in
-    elim c.match-control_of.branch [
+    elim c.match-control_now.branch [
       | in-Some+in_ok-note-2 w ↦
           rw (w.rows-is, w.in_ok-note-2.ensures)
-          (control_more c.args.diagram.now c.loop-place.place w.in-Some.control c.index-blocks-place.result c.control_of.result c.loop-place.rows.items c.requires.wired at c.control_of.ensures w.in-Some.is c.loop-place.invariant)
+          (control_more c.args.diagram.now c.loop-place.place w.in-Some.control c.index-blocks-place.result c.control_now.result c.loop-place.rows.items c.requires.wired at c.control_now.ensures w.in-Some.is c.loop-place.invariant)
       | in_default w ↦
           rw w.rows-is
-          (control_skips c.args.diagram.now c.loop-place.place c.index-blocks-place.result c.control_of.result c.loop-place.rows.items c.requires.wired at c.control_of.ensures w.in_default.is c.loop-place.invariant)
+          (control_skips c.args.diagram.now c.loop-place.place c.index-blocks-place.result c.control_now.result c.loop-place.rows.items c.requires.wired at c.control_now.ensures w.in_default.is c.loop-place.invariant)
     ]
 
 pub returns : goal.returns
