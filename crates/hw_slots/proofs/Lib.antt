@@ -1,3 +1,4 @@
+pub mod Sums
 mod Tallies
 mod Steps
 mod Totals

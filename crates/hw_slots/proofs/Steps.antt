@@ -3,7 +3,6 @@ use Rattle.std.proofs.Common.{◌≡◌, ℕ, zero, suc, ◌+◌, ◌<◌, ◌�
 use Rattle.std.specs.Prelude.{slice_get, Option, Some, count_by, max, ◌&&◌, ◌==◌}
 use Rattle.std.proofs.lemmas.Bool.{eqb-true, ne_eqb, false≢true, and_parts, cases_lt}
 use Rattle.std.proofs.lemmas.List.{take_all}
-use Rattle.std.proofs.lemmas.List.Sums.{sum_by-cons}
 use Rattle.std.proofs.lemmas.Option.{none-some, same_Some}
 use Rattle.dg_model.specs.Widths.{greatest}
 use Rattle.hw_slots.specs.declared.operation.Operation.{Operation}
@@ -11,11 +10,9 @@ use Rattle.hw_slots.specs.declared.tally.Rung.{Rung}
 use Rattle.hw_slots.specs.Slots.{shared_out, needed, level_after, turn_of, beside}
 use Rattle.hw_slots.specs.inner.Tally.{tally_at}
 use Rattle.hw_slots.specs.inner.Made.{AreCounts, AreTurns, AreWidths, AreLevels, AreMost}
+use Rattle.hw_slots.proofs.Sums.{counted}
 
 -- ---- lists
-
-counted : {A : Type 0} (p : A → Bool) (x : A) (xs : List A) → count_by p (x ∷ xs) ≡ cond (p x) 1 0 + count_by p xs
-counted p x xs = sum_by-cons (λ x. cond (p x) 1 0) x xs
 
 count_next : {A : Type 0} (p : A → Bool) (xs : List A) (i : ℕ) (x : A) → slice_get xs i ≡ Some x → count_by p (take (suc i) xs) ≡ count_by p (take i xs) + cond (p x) 1 0
 count_next p [] i x at = absurd (none-some x at)
@@ -28,11 +25,6 @@ greatest_next : {A : Type 0} (f : A → ℕ) (xs : List A) (i : ℕ) (x : A) →
 greatest_next f [] i x at = absurd (none-some x at)
 greatest_next f (y ∷ xs) zero x at = let e : f y ≡ f x = ap f (same_Some y x at) in omega (arith, e)
 greatest_next f (y ∷ xs) (suc i) x at = let more = greatest_next f xs i x at in omega (arith, more)
-
-pub greatest_at : {A : Type 0} (f : A → ℕ) (xs : List A) (k : ℕ) (x : A) → slice_get xs k ≡ Some x → f x ≤ greatest (map f xs)
-greatest_at f [] k x at = absurd (none-some x at)
-greatest_at f (y ∷ xs) zero x at = let e : f y ≡ f x = ap f (same_Some y x at) in omega (arith, e)
-greatest_at f (y ∷ xs) (suc k) x at = let more = greatest_at f xs k x at in omega (arith, more)
 
 next : (i : ℕ) → suc i ≡ i + 1
 next i = omega arith

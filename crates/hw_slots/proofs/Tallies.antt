@@ -1,29 +1,20 @@
 -- A tally tells levels of owners apart as they are.
-use Rattle.std.proofs.Common.{◌≡◌, ℕ, List, Option, Some, Bool, true, false, cond, ◌==◌, nat_lt, refl, sym, ap, ◌∙◌, arith}
+use Rattle.std.proofs.Common.{◌≡◌, ℕ, List, Option, Some, Bool, true, false, cond, ◌==◌, refl, sym, ap, ◌∙◌}
 use Rattle.std.specs.Prelude.{◌&&◌}
 use Rattle.std.specs.BTreeMap.{is_at}
 use Rattle.std.specs.Map.{lookup}
 use Rattle.std.specs.Option.{unwrap_or}
-use Rattle.std.specs.declared.cmp.Ordering.TheVariants.{Less, Equal, Greater}
 use Rattle.std.specs.Ordering.{nat_cmp, is_eq}
 use Rattle.std.specs.Cmp.{tied_then}
-use Rattle.std.proofs.lemmas.Bool.{eqb-true, false≢true, ltb-true}
+use Rattle.std.proofs.lemmas.Bool.{false≢true}
 use Rattle.hw_slots.specs.declared.tally.Rung.{Rung}
 use Rattle.hw_slots.specs.inner.Tally.{is_same_rung, compare_rungs, rung, tally_at}
-
-tied : (x y : ℕ) (less same : Bool) → nat_lt x y ≡ less → (x == y) ≡ same → is_eq (cond less Less (cond same Equal Greater)) ≡ same
-tied x y true true p q =
-    let below = ltb-true x y p in
-    let one = eqb-true x y q in
-    absurd (omega (arith, below, one))
-tied x y true false p q = refl
-tied x y false true p q = refl
-tied x y false false p q = refl
+use Rattle.hw_slots.proofs.Sums.{tied_number}
 
 pub same-rung : (one other : Rung) → is_eq (compare_rungs one other) ≡ is_same_rung one other
 same-rung one other =
-    let p = tied one.owner other.owner (nat_lt one.owner other.owner) (one.owner == other.owner) refl refl in
-    let q = tied one.level other.level (nat_lt one.level other.level) (one.level == other.level) refl refl in
+    let p = tied_number one.owner other.owner in
+    let q = tied_number one.level other.level in
     sym (tied_then (nat_cmp one.owner other.owner) (nat_cmp one.level other.level)) ∙ rw (p, q) refl
 
 -- what a tally has after a number was put

@@ -3,7 +3,6 @@ use Rattle.std.proofs.Common.{◌≡◌, ℕ, zero, suc, ◌+◌, ◌-◌, ◌/�
 use Rattle.std.specs.Prelude.{slice_get, Some, ◌&&◌, ◌==◌}
 use Rattle.std.specs.List.{sum}
 use Rattle.std.proofs.lemmas.Bool.{cond-true, cond-false, cases_lt, eqb-true, eq-eqb, ne_eqb, and_parts, and_from, and_left, and_right}
-use Rattle.std.proofs.lemmas.List.Sums.{sum_by-cons}
 use Rattle.std.proofs.lemmas.Option.{same_Some, slice_get_within}
 use Rattle.dg_waves.specs.Rounds.{numbers_from}
 use Rattle.dg_model.specs.Widths.{greatest}
@@ -15,33 +14,11 @@ use Rattle.hw_slots.specs.Slots.{count_at, shared_out, needed, level_width, leve
 use Rattle.hw_slots.specs.Answer.{AreStarts, AreUnits, AreBaseSlots, HasSlots, IsShort}
 use Rattle.hw_slots.specs.inner.Tally.{tally_at}
 use Rattle.hw_slots.specs.inner.Made.{AreWidths, AreLevels, AreMost, AreTurns, AreBases, AreBasesBy, AreFirst, AreFirstBy, AreLaid, IsElsewhere, base_by, first_by}
-use Rattle.hw_slots.proofs.Steps.{greatest_at, grown, grown_size}
+use Rattle.hw_slots.proofs.Sums.{greatest_at, sums_same, sum_below, sum_below_next}
+use Rattle.hw_slots.proofs.Steps.{grown, grown_size}
 
--- ---- sums over numbers
-
-sum-cons : (x : ℕ) (xs : List ℕ) → sum (x ∷ xs) ≡ x + sum xs
-sum-cons x xs = sum_by-cons (λ (n : ℕ). n) x xs
-
-sum_next : (f : ℕ → ℕ) (from n : ℕ) → sum (map f (numbers_from from (suc n))) ≡ sum (map f (numbers_from from n)) + f (from + n)
-sum_next f from zero = let e : f from ≡ f (from + 0) = ap f (omega arith) in omega (arith, sum-cons (f from) [], e)
-sum_next f from (suc n) =
-    let e : f (suc from + n) ≡ f (from + suc n) = ap f (omega arith) in
-    let more = sum_next f (suc from) n in
-    omega (arith, e, more, sum-cons (f from) (map f (numbers_from (suc from) (suc n))), sum-cons (f from) (map f (numbers_from (suc from) n)))
-
-sum_below_next : (f : ℕ → ℕ) (n : ℕ) → sum (map f (numbers_from 0 (n + 1))) ≡ sum (map f (numbers_from 0 n)) + f n
-sum_below_next f n =
-    let e : f (0 + n) ≡ f n = ap f (omega arith) in
-    let one : suc n ≡ n + 1 = omega arith in
-    let same = ap (λ (k : ℕ). sum (map f (numbers_from 0 k))) one in
-    omega (arith, e, same, sum_next f 0 n)
-
-sums_same : (f g : ℕ → ℕ) (from n : ℕ) → ((k : ℕ) → f k ≡ g k) → sum (map f (numbers_from from n)) ≡ sum (map g (numbers_from from n))
-sums_same f g from zero same = refl
-sums_same f g from (suc n) same =
-    let more = sums_same f g (suc from) n same in
-    let one = same from in
-    omega (arith, more, one, sum-cons (f from) (map f (numbers_from (suc from) n)), sum-cons (g from) (map g (numbers_from (suc from) n)))
+sum_next : (f : ℕ → ℕ) (n : ℕ) → sum_below f (n + 1) ≡ sum_below f n + f n
+sum_next f n = let one : suc n ≡ n + 1 = omega arith in subst (λ (k : ℕ). sum_below f k ≡ sum_below f n + f n) one (sum_below_next f n)
 
 -- ---- the levels of a period
 
@@ -64,7 +41,7 @@ pub base_none : (widths : List (Rung × ℕ)) (start period : ℕ) → start ≡
 base_none widths start period = omega arith
 
 pub base_more : (widths : List (Rung × ℕ)) (start period level slot width after : ℕ) → slot ≡ base_by widths start period level → width ≡ tally_at widths period level → after ≡ slot + width → after ≡ base_by widths start period (level + 1)
-base_more widths start period level slot width after is wide sum = omega (arith, is, wide, sum, sum_below_next (tally_at widths period) level)
+base_more widths start period level slot width after is wide sum = omega (arith, is, wide, sum, sum_next (tally_at widths period) level)
 
 pub bases_more : (widths old new : List (Rung × ℕ)) (start period level slot : ℕ) → slot ≡ base_by widths start period level → Puts old new period level slot → AreBasesBy widths start period level old → AreBasesBy widths start period (level + 1) new
 bases_more widths old new start period level slot is puts before = record {
@@ -90,7 +67,7 @@ elsewhere_more period level slot first old new puts before = record {
 
 based : (operations : List Operation) (multipliers : ℕ) (widths : List (Rung × ℕ)) (start period level : ℕ) → AreWidths operations multipliers widths → base_by widths start period level ≡ base_slot operations multipliers start period level
 based operations multipliers widths start period level wide =
-    let same = sums_same (tally_at widths period) (level_width operations multipliers period) 0 level (wide.are period) in
+    let same = sums_same (tally_at widths period) (level_width operations multipliers period) (numbers_from 0 level) (wide.are period) in
     omega (arith, same)
 
 pub needs : (operations : List Operation) (multipliers : ℕ) (widths levels : List (Rung × ℕ)) (start period count need : ℕ) → AreWidths operations multipliers widths → AreLevels operations levels → count ≡ tally_at levels period 0 → need ≡ base_by widths start period count → need ≡ need_of operations multipliers start period
@@ -164,7 +141,7 @@ sum_stays f most (suc more) none =
     let same = ap (λ (n : ℕ). sum (map f (numbers_from 0 n))) e in
     let before = sum_stays f most more none in
     let here = none (most + more) (omega arith) in
-    omega (arith, same, before, here, sum_below_next f (most + more))
+    omega (arith, same, before, here, sum_next f (most + more))
 
 base_stays : (operations : List Operation) (multipliers start period level : ℕ) → base_slot operations multipliers start period (min level (levels_of operations period)) ≡ base_slot operations multipliers start period level
 base_stays operations multipliers start period level = elim (cases_lt level (levels_of operations period)) [
@@ -195,7 +172,7 @@ pub firsts_none : (most : List (Rung × ℕ)) (multipliers : ℕ) (tally : List 
 firsts_none most multipliers tally = record { are = λ kind below. absurd (omega (arith, below)) }
 
 pub first_more : (most : List (Rung × ℕ)) (multipliers kind first units after : ℕ) → first ≡ first_by most multipliers kind → units ≡ min multipliers (tally_at most kind 0) → after ≡ first + units → after ≡ first_by most multipliers (kind + 1)
-first_more most multipliers kind first units after is one sum = omega (arith, is, one, sum, sum_below_next (λ (other : ℕ). min multipliers (tally_at most other 0)) kind)
+first_more most multipliers kind first units after is one sum = omega (arith, is, one, sum, sum_next (λ (other : ℕ). min multipliers (tally_at most other 0)) kind)
 
 pub firsts_more : (most old new : List (Rung × ℕ)) (multipliers kind first : ℕ) → first ≡ first_by most multipliers kind → Puts old new kind 0 first → AreFirstBy most multipliers kind old → AreFirstBy most multipliers (kind + 1) new
 firsts_more most old new multipliers kind first is puts before = record {
@@ -211,7 +188,7 @@ firsts_more most old new multipliers kind first is puts before = record {
 pub firsts_end : (operations : List Operation) (multipliers kinds : ℕ) (most tally : List (Rung × ℕ)) → AreMost operations most → AreFirstBy most multipliers kinds tally → AreFirst operations multipliers kinds tally
 firsts_end operations multipliers kinds most tally many made = record {
   are = λ kind below.
-      made.are kind below ∙ sums_same (λ (other : ℕ). min multipliers (tally_at most other 0)) (units_of_kind operations multipliers) 0 kind (λ k. ap (min multipliers) (many.are k));
+      made.are kind below ∙ sums_same (λ (other : ℕ). min multipliers (tally_at most other 0)) (units_of_kind operations multipliers) (numbers_from 0 kind) (λ k. ap (min multipliers) (many.are k));
 }
 
 -- ---- the operations

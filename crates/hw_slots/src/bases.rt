@@ -1,7 +1,7 @@
 ghost use Rattle.std.specs.Prelude.{◌≡◌};
 ghost use Rattle.hw_slots.specs.Answer.{base_at};
 
-use crate::tally::{Tally, lesser};
+use crate::tally::Tally;
 
 /// The first slots of the levels of periods (own).
 #[derive(Drop)]
@@ -26,6 +26,6 @@ impl Bases {
         ensures { result ≡ base_at self.now period level }
     {
         let levels = self.levels.get(period, 0);
-        self.firsts.get(period, lesser(level, levels))
+        self.firsts.get(period, level.min(levels))
     }
 }

@@ -1,7 +1,7 @@
 ghost use Rattle.std.specs.Prelude.{IfOk};
 ghost use Rattle.hw_slots.specs.inner.Made.{AreFirstBy};
 
-use crate::tally::{Tally, lesser, total};
+use crate::tally::{Tally, total};
 use fx_io::OutOfMemory;
 use std::alloc::Global;
 
@@ -18,7 +18,7 @@ pub fn firsts_of(
     let mut first = 0u64;
     for kind in 0..kinds {
         firsts.put(kind, 0, first)?;
-        let units = lesser(multipliers, most.get(kind, 0));
+        let units = multipliers.min(most.get(kind, 0));
         first = total(first, units)?;
     }
     Ok(firsts)

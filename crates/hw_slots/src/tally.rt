@@ -1,5 +1,5 @@
 //! Numbers by level.
-ghost use Rattle.std.specs.Prelude.{◌≡◌, ◌+◌, ◌&&◌, ◌==◌, ℕ, [], IfOk, OnOk, max, min, if◌then◌else◌};
+ghost use Rattle.std.specs.Prelude.{◌≡◌, ◌+◌, ◌&&◌, ◌==◌, ℕ, [], IfOk, OnOk, max, if◌then◌else◌};
 ghost use Rattle.hw_slots.specs.inner.Tally.{tally_at};
 
 use fx_io::OutOfMemory;
@@ -65,24 +65,10 @@ impl Tally {
             ≡ (if (owner == other) && (level == later) then max (tally_at self.old owner level) number
             else tally_at self.old other later)) }
     {
-        let greater = greater(self.get(owner, level), number);
+        let greater = self.get(owner, level).max(number);
         self.put(owner, level, greater)?;
         Ok(())
     }
-}
-
-/// The greater of two numbers.
-fn greater(number: u64, other: u64) -> u64
-    ensures { result ≡ max number other }
-{
-    if number < other { other } else { number }
-}
-
-/// The lesser of two numbers.
-pub fn lesser(number: u64, other: u64) -> u64
-    ensures { result ≡ min number other }
-{
-    if number < other { number } else { other }
 }
 
 /// The sum of two numbers; one of 2^64 or more is want of memory.
