@@ -15,7 +15,8 @@
 //! | there is too much storage, or too late an output | then the line that tells it |
 //! | else | then the storage and the greatest declared latency |
 //!
-//! What is printed was worked out by hand and by an independent reference.
+//! What the gate compares it with was given by an independent reference, and some dozen plans of it
+//! were worked out by hand too.
 #![tactic(auto)]
 
 mod answers;
