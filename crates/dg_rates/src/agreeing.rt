@@ -13,7 +13,7 @@ use fx_io::{OutOfMemory, Text};
 use std::alloc::Global;
 
 /// Whether a block of this kind joins two periods.
-fn joins_periods(kind: &Kind) -> bool
+pub fn joins_periods(kind: &Kind) -> bool
     ensures { result ≡ joins_periods_of (row_of kind.now).timing.reads }
 {
     match kind {
