@@ -14,9 +14,10 @@ use Rattle.dg_model.specs.declared.resolved.Resolved.{Resolved}
 use Rattle.dg_model.specs.Signals.{Attributes}
 use Rattle.hw_latency.specs.Shared.{multiplies, shares, is_shared}
 use Rattle.hw_latency.specs.Weight.{samples}
+use Rattle.hw_slots.proofs.Sums.{greatest_at, sum_below_next}
 use Rattle.hw_sched.specs.Slots.{Timing, Operation, OperationKind, operation, operations_of, shared_operations, kind_of, is_same_mark, is_same_type, is_same_kind, level_of, count_at, shared_out, level_width, base_slot, levels_of, need_of, turn_of, slot_of}
 use Rattle.hw_sched.specs.Laws.{IsOperation}
-use Rattle.hw_sched.proofs.Lists.{greatest_at, greatest_within, sum_below_next, sum_below_rises, sum_below_most, count_below, none_counted, Stands, stands_filtered, stands_joined, stands_below, passes, row_within}
+use Rattle.hw_sched.proofs.Lists.{greatest_within, sum_below_rises, sum_below_most, count_below, none_counted, Stands, stands_filtered, stands_joined, stands_below, passes, row_within}
 
 -- ---- kinds that are the same
 

@@ -24,12 +24,13 @@ use Rattle.dg_sort.proofs.Lines.{lines_from, controls_from}
 use Rattle.hw_arcs.specs.Latencies.{latency_at}
 use Rattle.hw_latency.specs.Shared.{is_shared}
 use Rattle.hw_latency.specs.declared.latencies.Latencies.{Latencies}
+use Rattle.hw_slots.proofs.Sums.{greatest_at, sum-cons, sums_same, sum_below, sum_below_next}
 use Rattle.hw_sched.specs.Ready.{AreReady, declared_latency, ready_of}
 use Rattle.hw_sched.specs.Answer.{timing_of}
 use Rattle.hw_sched.specs.Slots.{Timing, operation, operations_of, shared_operations}
 use Rattle.hw_sched.specs.Storage.{lines_in_all, registers_in_all, storage, greatest_latency}
 use Rattle.hw_sched.specs.inner.Counted.{line_at, lines_of, controls_line, results_at, is_root_output, is_output, output_latency}
-use Rattle.hw_sched.proofs.Lists.{greatest_at, greatest_within, sum-cons, sum_below, sum_below_next}
+use Rattle.hw_sched.proofs.Lists.{greatest_within}
 
 -- ---- lines
 
@@ -122,10 +123,6 @@ filtered_length {A} {B} f p (x ∷ xs) = go (p x) (filtered_length f p xs) ∙ s
 numbers_length : (from n : ℕ) → length (numbers_from from n) ≡ n
 numbers_length from zero = refl
 numbers_length from (suc n) = ap suc (numbers_length (suc from) n)
-
-sums_same : (f g : ℕ → ℕ) (xs : List ℕ) → ((x : ℕ) → f x ≡ g x) → sum (map f xs) ≡ sum (map g xs)
-sums_same f g [] same = refl
-sums_same f g (x ∷ xs) same = let here = same x in let more = sums_same f g xs same in omega (arith, here, more, sum-cons (f x) (map f xs), sum-cons (g x) (map g xs))
 
 pub results_are : (diagram : Diagram) (attributes : Attributes) (plan : Resolved) → sum_below (results_at diagram attributes plan) (length diagram.blocks) ≡ length (shared_operations diagram attributes plan)
 results_are diagram attributes plan =

@@ -8,9 +8,10 @@ use Rattle.dg_model.specs.declared.diagram.Block.{Block}
 use Rattle.dg_model.specs.declared.diagram.Edge.{Edge}
 use Rattle.dg_model.specs.declared.resolved.Resolved.{Resolved}
 use Rattle.dg_model.specs.Attributes.{attributes_of}
+use Rattle.dg_sort.specs.Control.{control_now}
 use Rattle.hw_latency.specs.Shared.{is_shared}
 use Rattle.hw_sched.specs.Level.{depth_at, is_same_period}
-use Rattle.hw_sched.specs.inner.Greatest.{IsGreatest, IsFirstInto, IsLineFrom, IsReadLine, control_now, IsReadControl, own_depth, IsNextDepth}
+use Rattle.hw_sched.specs.inner.Greatest.{IsGreatest, IsFirstInto, IsLineFrom, IsReadLine, IsReadControl, own_depth, IsNextDepth}
 use Rattle.hw_sched.proofs.Standing.{period_is}
 use Rattle.hw_sched.proofs.Paths.{place_taken, take_length}
 use Rattle.hw_sched.proofs.Served.{same_period}
@@ -86,8 +87,3 @@ unshared_next diagram plan depths place lines control best shared first second b
   greatest = greatest_either (IsReadLine diagram place) (IsReadControl diagram place) depths lines control first second;
   is = best_is ∙ ap (λ (s : Bool). own_depth s (max lines control)) (sym unshared ∙ shared_is);
 }
-
-pub block_read : (diagram : Diagram) (blocks : List Block) (i : ℕ) (block : Block) → blocks ≡ diagram.blocks → i < length diagram.blocks → block ≡ get_or blocks i block → slice_get diagram.blocks i ≡ Some block
-block_read diagram blocks i block same inside is =
-    let many = ap (λ (bs : List Block). length bs) same in
-    item_read diagram.blocks blocks i block same (omega (arith, many, inside)) ∙ ap (λ (b : Block). Some b) (sym is)

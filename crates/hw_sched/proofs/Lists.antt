@@ -1,21 +1,17 @@
--- Greatest numbers, sums, counts and elements of lists.
+-- Greatest numbers, sums, counts and elements of lists, beside those of `hw_slots`.
 use Rattle.std.proofs.Common.{◌≡◌, ℕ, zero, suc, ◌+◌, ◌-◌, ◌/◌, ◌<◌, ◌≤◌, Bool, true, false, cond, List, [], ◌∷◌, ◌++◌, map, take, filter, refl, sym, ap, subst, ◌∙◌, inl, inr, arith}
 use Rattle.std.specs.Prelude.{slice_get, Some, count_by, ◌⊎◌, All}
-use Rattle.std.specs.List.{sum, flat_map}
+use Rattle.std.specs.List.{flat_map}
 use Rattle.std.proofs.Math.Nat.{suc-mul}
 use Rattle.std.proofs.lemmas.Bool.{cond-true, cond-false, false≢true, cases_lt}
-use Rattle.std.proofs.lemmas.List.Sums.{sum_by-cons, sum_by-take-le}
+use Rattle.std.proofs.lemmas.List.Sums.{sum_by-take-le}
 use Rattle.std.proofs.lemmas.Nat.{div-add-mod', le-div}
 use Rattle.std.proofs.lemmas.Option.{none-some, same_Some, slice_get_within, get_or_from_slice_get}
 use Rattle.dg_waves.specs.Rounds.{numbers_from}
 use Rattle.dg_model.specs.Widths.{greatest}
+use Rattle.hw_slots.proofs.Sums.{counted, sum_below, sum_below_next}
 
 -- ---- greatest numbers
-
-pub greatest_at : {A : Type 0} (f : A → ℕ) (xs : List A) (k : ℕ) (x : A) → slice_get xs k ≡ Some x → f x ≤ greatest (map f xs)
-greatest_at f [] k x at = absurd (none-some x at)
-greatest_at f (y ∷ xs) zero x at = let e : f y ≡ f x = ap f (same_Some y x at) in omega (arith, e)
-greatest_at f (y ∷ xs) (suc k) x at = let more = greatest_at f xs k x at in omega (arith, more)
 
 pub greatest_within : {A : Type 0} (f : A → ℕ) (most : ℕ) (xs : List A) → ((k : ℕ) (x : A) → slice_get xs k ≡ Some x → f x ≤ most) → greatest (map f xs) ≤ most
 greatest_within f most [] all = omega arith
@@ -25,23 +21,6 @@ greatest_within f most (y ∷ xs) all =
     omega (arith, here, more)
 
 -- ---- sums over numbers
-
-pub sum-cons : (x : ℕ) (xs : List ℕ) → sum (x ∷ xs) ≡ x + sum xs
-sum-cons x xs = sum_by-cons (λ (n : ℕ). n) x xs
-
-sum_next : (f : ℕ → ℕ) (from n : ℕ) → sum (map f (numbers_from from (suc n))) ≡ sum (map f (numbers_from from n)) + f (from + n)
-sum_next f from zero = let e : f from ≡ f (from + 0) = ap f (omega arith) in omega (arith, sum-cons (f from) [], e)
-sum_next f from (suc n) =
-    let e : f (suc from + n) ≡ f (from + suc n) = ap f (omega arith) in
-    let more = sum_next f (suc from) n in
-    omega (arith, e, more, sum-cons (f from) (map f (numbers_from (suc from) (suc n))), sum-cons (f from) (map f (numbers_from (suc from) n)))
-
--- the sum over the numbers below one
-abbrev pub sum_below : (ℕ → ℕ) → ℕ → ℕ
-sum_below f n = sum (map f (numbers_from 0 n))
-
-pub sum_below_next : (f : ℕ → ℕ) (n : ℕ) → sum_below f (suc n) ≡ sum_below f n + f n
-sum_below_next f n = let e : f (0 + n) ≡ f n = ap f (omega arith) in omega (arith, e, sum_next f 0 n)
 
 pub sum_below_rises : (f : ℕ → ℕ) (n m : ℕ) → n ≤ m → sum_below f n ≤ sum_below f m
 sum_below_rises f zero zero low = omega arith
@@ -62,9 +41,6 @@ sum_below_most f most (suc n) none =
     ]
 
 -- ---- counts
-
-counted : {A : Type 0} (p : A → Bool) (x : A) (xs : List A) → count_by p (x ∷ xs) ≡ cond (p x) 1 0 + count_by p xs
-counted p x xs = sum_by-cons (λ x. cond (p x) 1 0) x xs
 
 -- one that passes raises the count
 pub count_rises : {A : Type 0} (p : A → Bool) (xs : List A) (n m : ℕ) (x : A) → slice_get xs n ≡ Some x → p x ≡ true → n < m → count_by p (take n xs) < count_by p (take m xs)

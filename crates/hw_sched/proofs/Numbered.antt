@@ -14,17 +14,15 @@ use Rattle.dg_model.specs.Widths.{greatest}
 use Rattle.hw_latency.specs.Weight.{samples}
 use Rattle.hw_slots.specs.declared.operation.Operation.{Operation as Cell}
 use Rattle.hw_slots.specs.Slots.{count_at as count_in, needed, level_width as width_in, level_after, levels_of as levels_in, base_slot as base_in, need_of as need_in, turn_of as turn_in, slot_of as slot_in, beside, most_at_once as most_in, units_of_kind as units_in, unit_of as unit_in}
+use Rattle.hw_slots.proofs.Sums.{counted, greatest_at, sums_same}
 use Rattle.hw_sched.specs.Slots.{Timing, Operation, OperationKind, shared_operations, kind_of, is_same_kind, level_of, count_at, shared_out, level_width, start_of, base_slot, levels_of, need_of, turn_of, slot_of, most_at_once, units_of_kind, new_kind, kinds_of, before_kind, unit_of}
 use Rattle.hw_sched.specs.Laws.{IsOperation}
 use Rattle.hw_sched.specs.Numbered.{OperationsAreNumbered, all_kinds, number_of, cell_of, cells_of}
-use Rattle.hw_sched.proofs.Lists.{greatest_at, greatest_within, stands_mapped, stands_filtered, passes}
+use Rattle.hw_sched.proofs.Lists.{greatest_within, stands_mapped, stands_filtered, passes}
 use Rattle.hw_sched.proofs.Bases.{same_kind, own_kind, of_shared}
 use Rattle.hw_sched.proofs.Units.{HasKind, own_listed}
 
 -- ---- lists
-
-pub counted : {A : Type 0} (p : A → Bool) (x : A) (xs : List A) → count_by p (x ∷ xs) ≡ cond (p x) 1 0 + count_by p xs
-counted p x xs = sum_by-cons (λ x. cond (p x) 1 0) x xs
 
 counts_same : {A B : Type 0} (f : A → B) (p : A → Bool) (q : B → Bool) (xs : List A) → ((k : ℕ) (x : A) → slice_get xs k ≡ Some x → q (f x) ≡ p x) → count_by q (map f xs) ≡ count_by p xs
 counts_same f p q [] same = refl
@@ -199,15 +197,8 @@ module _ (diagram : Diagram) (attributes : Attributes) (plan : Resolved) (timing
   pub levels_as : (period : ℕ) → levels_in cells period ≡ levels_of diagram attributes plan timing period
   levels_as period = greatest_mapped (level_after period) (λ x. if samples (attributes.period_at x.block) == period then suc (level_of timing x) else 0) all (after_as period)
 
-  sums_same : (f g : ℕ → ℕ) (from n : ℕ) → ((k : ℕ) → f k ≡ g k) → sum (map f (numbers_from from n)) ≡ sum (map g (numbers_from from n))
-  sums_same f g from zero same = refl
-  sums_same f g from (suc n) same =
-      let more = sums_same f g (suc from) n same in
-      let one = same from in
-      omega (arith, more, one, sum_by-cons (λ (k : ℕ). k) (f from) (map f (numbers_from (suc from) n)), sum_by-cons (λ (k : ℕ). k) (g from) (map g (numbers_from (suc from) n)))
-
   pub bases_as : (period level : ℕ) → base_in cells plan.multipliers (start_of diagram attributes plan period) period level ≡ base_slot diagram attributes plan timing period level
-  bases_as period level = let e = sums_same (width_in cells plan.multipliers period) (level_width diagram attributes plan timing period) 0 level (widths_as period) in omega (arith, e)
+  bases_as period level = let e = sums_same (width_in cells plan.multipliers period) (level_width diagram attributes plan timing period) (numbers_from 0 level) (widths_as period) in omega (arith, e)
 
   pub needs_as : (period : ℕ) → need_in cells plan.multipliers (start_of diagram attributes plan period) period ≡ need_of diagram attributes plan timing period
   needs_as period = bases_as period (levels_in cells period) ∙ ap (base_slot diagram attributes plan timing period) (levels_as period)

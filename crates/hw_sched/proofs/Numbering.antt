@@ -7,13 +7,14 @@ use Rattle.std.proofs.lemmas.Option.{none-some, same_Some}
 use Rattle.dg_model.specs.declared.diagram.Diagram.{Diagram}
 use Rattle.dg_model.specs.declared.resolved.Resolved.{Resolved}
 use Rattle.dg_model.specs.Signals.{Attributes}
+use Rattle.hw_slots.proofs.Sums.{counted}
 use Rattle.hw_sched.specs.declared.keys.KindKey.{KindKey}
 use Rattle.hw_sched.specs.declared.numbers.KindNumbers.{KindNumbers}
 use Rattle.hw_sched.specs.Slots.{Timing, Operation, OperationKind, kind_of, is_same_kind, with_kind, new_kind, kinds_of, before_kind}
 use Rattle.hw_sched.specs.inner.Keys.{number_at}
 use Rattle.hw_sched.specs.inner.Cells.{AreKinds, number_in}
 use Rattle.hw_sched.proofs.Bases.{same_kind, own_kind}
-use Rattle.hw_sched.proofs.Numbered.{counted, none_before}
+use Rattle.hw_sched.proofs.Numbered.{none_before}
 use Rattle.hw_sched.proofs.Units.{HasKind, kept_new}
 
 abbrev is_in : List OperationKind → OperationKind → Bool

@@ -24,12 +24,12 @@ use Rattle.dg_model.specs.Widths.{greatest}
 use Rattle.hw_latency.specs.Cone.{is_marked}
 use Rattle.hw_latency.specs.Shared.{multiplies, multiplies_if, shares, is_shared}
 use Rattle.hw_latency.specs.Weight.{samples}
+use Rattle.hw_slots.proofs.Sums.{greatest_at}
 use Rattle.hw_sched.specs.Level.{depth_at}
 use Rattle.hw_sched.specs.Slots.{Timing, Operation, base_slot, shorter_into, level_of}
 use Rattle.hw_sched.specs.Ready.{ready_of}
 use Rattle.hw_sched.specs.Scheduled.{IsScheduled}
 use Rattle.hw_sched.specs.Laws.{IsEdge, JoinsPeriods, ReadyFits, ReadyRises, OperandsAreReady}
-use Rattle.hw_sched.proofs.Lists.{greatest_at}
 use Rattle.hw_sched.proofs.Bases.{of_shared, base_rises, base_within}
 use Rattle.hw_sched.proofs.Edges.{IsLine, control_edge, edge_cases}
 use Rattle.hw_sched.proofs.Paths.{leads_now, fed_later, depth_later}

@@ -20,10 +20,11 @@ use Rattle.dg_model.specs.Library.{row_of}
 use Rattle.dg_model.specs.Loop.{LeadsNow, IsOrder}
 use Rattle.dg_model.specs.Wired.{IsWired, Joins, StandsBefore, NamesControl}
 use Rattle.dg_model.specs.Wires.{period_into}
+use Rattle.dg_sort.specs.Control.{control_now}
 use Rattle.hw_latency.specs.Shared.{is_shared}
 use Rattle.hw_sched.specs.Laws.{IsEdge}
 use Rattle.hw_sched.specs.Level.{depth_at, is_same_period, IsDepth, AreDepths}
-use Rattle.hw_sched.specs.inner.Greatest.{IsGreatest, IsFirstInto, IsLineFrom, control_now, IsReadBy, own_depth, IsNextDepth, AreDepthsTo}
+use Rattle.hw_sched.specs.inner.Greatest.{IsGreatest, IsFirstInto, IsLineFrom, IsReadBy, own_depth, IsNextDepth, AreDepthsTo}
 use Rattle.hw_sched.proofs.Lists.{held}
 use Rattle.hw_sched.proofs.Standing.{IsBest, depth_is, period_is}
 use Rattle.hw_sched.proofs.Edges.{control_edge, edge_cases, controls_are_edges, line_is_edge}

@@ -1,27 +1,14 @@
 -- The order of kinds tells them apart as they are.
-use Rattle.std.proofs.Common.{◌≡◌, ℕ, Bool, true, false, cond, ◌==◌, nat_lt, refl, sym, ap, ◌∙◌, arith}
+use Rattle.std.proofs.Common.{◌≡◌, Bool, true, false, ◌==◌, refl, sym, ap, ◌∙◌}
 use Rattle.std.specs.Prelude.{◌&&◌}
-use Rattle.std.specs.declared.cmp.Ordering.TheVariants.{Less, Equal, Greater}
 use Rattle.std.specs.Option.{option_cmp}
 use Rattle.std.specs.Ordering.{nat_cmp, bool_cmp, int_cmp, int_eq, ordering_then, is_eq}
 use Rattle.std.specs.Cmp.{tied_then}
-use Rattle.std.proofs.lemmas.Bool.{eqb-true, ltb-true}
 use Rattle.fx_type.specs.declared.kind.FxType.{FxType}
 use Rattle.fx_type.specs.declared.kind.FxType.TheVariants.{Num, Logical}
+use Rattle.hw_slots.proofs.Sums.{tied_number}
 use Rattle.hw_sched.specs.Slots.{OperationKind, is_same_mark, is_same_type, is_same_kind}
 use Rattle.hw_sched.specs.inner.Keys.{word_of, key_of, compare_words, compare_keys}
-
-tied : (x y : ℕ) (less same : Bool) → nat_lt x y ≡ less → (x == y) ≡ same → is_eq (cond less Less (cond same Equal Greater)) ≡ same
-tied x y true true p q =
-    let below = ltb-true x y p in
-    let one = eqb-true x y q in
-    absurd (omega (arith, below, one))
-tied x y true false p q = refl
-tied x y false true p q = refl
-tied x y false false p q = refl
-
-tied_number : (x y : ℕ) → is_eq (nat_cmp x y) ≡ (x == y)
-tied_number x y = tied x y (nat_lt x y) (x == y) refl refl
 
 tied_mark : (x y : Bool) → is_eq (bool_cmp x y) ≡ is_same_mark x y
 tied_mark true true = refl

@@ -10,12 +10,11 @@ ghost use Rattle.hw_sched.specs.inner.Cells.{AreCells, AreCellsBut, IsSort, shar
 
 use crate::drivers::{own_width, type_into};
 use crate::keys::KindKey;
-use crate::kinds::samples;
 use crate::numbers::KindNumbers;
 use crate::operands::right_of;
 use dg_model::{Checked, Resolved};
 use fx_io::OutOfMemory;
-use hw_latency::{Latencies, is_shared};
+use hw_latency::{Latencies, is_shared, samples};
 use hw_slots::Operation;
 use std::alloc::Global;
 
@@ -46,7 +45,7 @@ fn sort_of(checked: &Checked, latencies: &Latencies, depths: &[u64], place: u32)
     requires there { place < length checked.now.diagram.blocks }
     ensures { IsSort checked.now.diagram (timing_of latencies.now depths.now) place result }
 {
-    let period = samples(checked.period(place));
+    let period = u64::from(samples(checked.period(place)));
     let lat = latencies.lat.as_slice()[place as usize];
     let left = type_into(checked, place, 1);
     let right = right_of(checked, place);
@@ -111,7 +110,7 @@ fn put_shared(
 {
     let sort = sort_of(checked, latencies, depths, place);
     let width = own_width(checked, place);
-    for element in 0..width {
+    for _element in 0..width {
         cells.put(sort)?;
     }
     Ok(())

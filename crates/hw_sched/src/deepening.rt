@@ -4,11 +4,11 @@ ghost use Rattle.hw_latency.specs.Shared.{IsPlanOf};
 ghost use Rattle.hw_sched.specs.Level.{AreDepths, depth_at};
 ghost use Rattle.hw_sched.specs.inner.Greatest.{IsGreatest, IsReadLine, IsReadControl, IsNextDepth};
 
-use crate::kinds::{control_now, reads_now};
-use crate::lines::{best_of_lines, greater, is_same_period};
+use crate::lines::{best_of_lines, is_same_period};
 use dg_model::{Checked, Resolved};
+use dg_sort::{control_now, reads_now};
 use fx_io::{Longs, OutOfMemory};
-use hw_latency::is_shared;
+use hw_latency::{block_at, is_shared};
 use std::alloc::Global;
 
 /// The greatest depth of the blocks of a block's period whose lines it reads in its own sample.
@@ -17,8 +17,7 @@ fn lines_best(checked: &Checked, depths: &[u64], place: u32) -> u64
     requires size { length depths.now ≡ length checked.now.diagram.blocks }
     ensures { IsGreatest (IsReadLine checked.now.diagram place) depths.now result }
 {
-    let block = &checked.diagram().blocks.as_slice()[place as usize];
-    if reads_now(&block.kind) {
+    if reads_now(&block_at(checked, place).kind, false) {
         best_of_lines(checked, depths, place)
     } else {
         0
@@ -32,8 +31,7 @@ fn control_best(checked: &Checked, depths: &[u64], place: u32) -> u64
     ensures { IsGreatest (IsReadControl checked.now.diagram place) depths.now result }
 {
     checked.keeps_rules();
-    let block = &checked.diagram().blocks.as_slice()[place as usize];
-    match control_now(block) {
+    match control_now(block_at(checked, place)) {
         None => 0,
         Some(control) => {
             if is_same_period(checked.period(control), checked.period(place)) {
@@ -55,7 +53,7 @@ fn depth_of(checked: &Checked, plan: &Resolved, depths: &[u64], place: u32) -> u
 {
     let lines = lines_best(checked, depths, place);
     let control = control_best(checked, depths, place);
-    let best = greater(lines, control);
+    let best = lines.max(control);
     if is_shared(checked, plan, place) {
         best + 1
     } else {

@@ -16,7 +16,6 @@ mod deepening;
 mod drivers;
 mod edge_lines;
 mod keys;
-mod kinds;
 mod laws;
 mod lines;
 mod numbers;

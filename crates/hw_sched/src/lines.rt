@@ -1,4 +1,4 @@
-ghost use Rattle.std.specs.Prelude.{◌≡◌, ◌<◌, AllPairs, length, max, nat_lt};
+ghost use Rattle.std.specs.Prelude.{◌≡◌, ◌<◌, AllPairs, length, nat_lt};
 ghost use Rattle.dg_model.specs.Wired.{StandsBefore};
 ghost use Rattle.hw_sched.specs.Level.{is_same_period as is_same_period_of};
 ghost use Rattle.hw_sched.specs.inner.Greatest.{IsFirstInto, IsGreatest, IsLineFrom};
@@ -15,13 +15,6 @@ pub fn is_same_period(period: Option<u32>, other: Option<u32>) -> bool
         (None, Some(_)) => false,
         (None, None) => true,
     }
-}
-
-/// The greater of two depths.
-pub fn greater(depth: u64, other: u64) -> u64
-    ensures { result ≡ max depth other }
-{
-    if depth < other { other } else { depth }
 }
 
 /// The place of the first line into a block, or into the next block that has one.
@@ -48,14 +41,14 @@ pub fn best_of_lines(checked: &Checked, depths: &[u64], place: u32) -> u64
     let own = checked.period(place);
     let edges = checked.diagram().edges.as_slice();
     let first = first_into(edges, place);
-    let mut best = 0;
+    let mut best = 0u64;
     for edge in &edges[first..] {
         let edge = *edge;
         if edge.to != place {
             return best;
         }
         if is_same_period(checked.period(edge.from), own) {
-            best = greater(best, depths[edge.from as usize]);
+            best = best.max(depths[edge.from as usize]);
         }
     }
     best

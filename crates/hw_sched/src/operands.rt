@@ -6,6 +6,7 @@ ghost use Rattle.hw_sched.specs.Slots.{right_of as right_of_block, right_type};
 use crate::drivers::type_into;
 use dg_model::{Checked, Kind};
 use fx_type::FxType;
+use hw_latency::block_at;
 
 /// The type of the second operand of a block of this kind: of a coefficient or of input 2; Logical
 /// where it doesn't multiply.
@@ -43,6 +44,5 @@ pub fn right_of(checked: &Checked, place: u32) -> FxType
     ensures { result ≡ right_of_block checked.now.diagram (attributes_of checked.now.diagram) place
         (slice_get checked.now.diagram.blocks place) }
 {
-    let block = &checked.diagram().blocks.as_slice()[place as usize];
-    right_by(checked, place, &block.kind)
+    right_by(checked, place, &block_at(checked, place).kind)
 }

@@ -8,7 +8,6 @@ ghost use Rattle.hw_sched.specs.inner.Counted.{is_output as is_output_of, is_roo
 
 use crate::drivers::width_into;
 use crate::edge_lines::times;
-use crate::lines::greater;
 use dg_model::{Block, Checked, Kind, Resolved};
 use fx_io::OutOfMemory;
 use hw_latency::{Latencies, block_at};
@@ -92,7 +91,7 @@ pub fn latest_output(
     let mut latest = 0u64;
     for place in 0..blocks.len() {
         let clocks = output_latency(checked, plan, latencies, ready, place as u32)?;
-        latest = greater(latest, clocks);
+        latest = latest.max(clocks);
     }
     Ok(latest)
 }

@@ -5,10 +5,9 @@ ghost use Rattle.hw_sched.specs.Ready.{AreReady, ready_of as ready_of_block};
 ghost use Rattle.hw_sched.specs.Answer.{timing_of};
 ghost use Rattle.hw_sched.specs.inner.Served.{AreBases};
 
-use crate::kinds::samples;
 use dg_model::Checked;
 use fx_io::{Longs, OutOfMemory};
-use hw_latency::Latencies;
+use hw_latency::{Latencies, samples};
 use hw_slots::Bases;
 use std::alloc::Global;
 
@@ -29,7 +28,10 @@ fn ready_at(
         (timing_of latencies.now depths.now) place }
 {
     if latencies.fed.as_slice()[place as usize] {
-        bases.at(samples(checked.period(place)), depths[place as usize])
+        bases.at(
+            u64::from(samples(checked.period(place))),
+            depths[place as usize],
+        )
     } else {
         0
     }

@@ -6,10 +6,10 @@ ghost use Rattle.hw_latency.specs.Weight.{samples as samples_of};
 ghost use Rattle.hw_sched.specs.Slots.{shorter_into};
 ghost use Rattle.hw_sched.specs.inner.Spans.{AreCounted, AreLongest, AreSpans};
 
-use crate::kinds::{joins_periods, samples};
-use crate::lines::greater;
 use dg_model::{Checked, Edge, Resolved};
+use dg_rates::joins_periods;
 use fx_io::OutOfMemory;
+use hw_latency::{block_at, samples};
 use hw_slots::Span;
 use std::alloc::Global;
 
@@ -18,9 +18,9 @@ fn count_of(checked: &Checked) -> usize
     ensures { AreCounted checked.now.diagram result }
 {
     checked.keeps_rules();
-    let mut longest = 0;
+    let mut longest = 0u64;
     for place in 0..checked.diagram().blocks.as_slice().len() {
-        longest = greater(longest, samples(checked.period(place as u32)));
+        longest = longest.max(u64::from(samples(checked.period(place as u32))));
     }
     longest as usize + 1
 }
@@ -35,9 +35,8 @@ fn shorter_of(checked: &Checked, edge: Edge) -> u64
 {
     let own = samples(checked.period(edge.to));
     let source = samples(checked.period(edge.from));
-    let block = &checked.diagram().blocks.as_slice()[edge.to as usize];
-    if joins_periods(&block.kind) && source < own {
-        source
+    if joins_periods(&block_at(checked, edge.to).kind) && source < own {
+        u64::from(source)
     } else {
         0
     }
@@ -56,7 +55,7 @@ fn raise(checked: &Checked, longest: &mut Vec<u64>, edge: Edge)
 {
     let shorter = shorter_of(checked, edge);
     let place = samples(checked.period(edge.to)) as usize;
-    longest[place] = greater(longest[place], shorter);
+    longest[place] = longest[place].max(shorter);
 }
 
 /// By period, the longest of the shorter ones from which transitions lead into it, 0 without one.

@@ -1,12 +1,13 @@
 -- The greatest depth among the blocks that a block reads in its own sample at its own period (own).
-use Rattle.std.specs.Prelude.{◌≡◌, ℕ, suc, ◌≤◌, ◌<◌, ◌⊎◌, Bool, true, false, List, length, Option, None, Some, slice_get, if◌then◌else◌}
+use Rattle.std.specs.Prelude.{◌≡◌, ℕ, suc, ◌≤◌, ◌<◌, ◌⊎◌, Bool, true, false, List, length, Some, slice_get, if◌then◌else◌}
 use Rattle.dg_model.specs.declared.diagram.Diagram.{Diagram}
 use Rattle.dg_model.specs.declared.diagram.Block.{Block}
 use Rattle.dg_model.specs.declared.diagram.Edge.{Edge}
 use Rattle.dg_model.specs.declared.resolved.Resolved.{Resolved}
 use Rattle.dg_model.specs.Attributes.{attributes_of}
-use Rattle.dg_model.specs.Instant.{is_now, asks_now}
+use Rattle.dg_model.specs.Instant.{is_now}
 use Rattle.dg_model.specs.Library.{row_of}
+use Rattle.dg_sort.specs.Control.{control_now}
 use Rattle.hw_latency.specs.Shared.{is_shared}
 use Rattle.hw_sched.specs.Level.{depth_at, IsDepth}
 
@@ -38,11 +39,7 @@ pub record IsReadLine (diagram : Diagram) (place source : ℕ) : Type 0 where
   pub there : slice_get diagram.blocks place ≡ Some block
   pub now : is_now (row_of block.kind).timing.reads false ≡ true
 
--- the control that a block asks in its own sample
-abbrev pub control_now : Block → Option ℕ
-control_now block = if asks_now block.kind then block.enable else None
-
--- it has the block's period
+-- the control that a block asks in its own sample has its period
 pub record IsReadControl (diagram : Diagram) (place source : ℕ) : Type 0 where
   pub block : Block
   pub there : slice_get diagram.blocks place ≡ Some block

@@ -2,7 +2,7 @@ use Rattle.std.proofs.Common.{◌≡◌}
 use Rattle.std.specs.Prelude.{slice_get}
 use Rattle.dg_model.specs.Attributes.{attributes_of}
 use Rattle.hw_sched.specs.Storage.{registers_at}
-use Rattle.hw_sched.proofs.Lists.{sum_below}
+use Rattle.hw_slots.proofs.Sums.{sum_below}
 use Rattle.hw_sched.proofs.block_registers.registers_in_all.Given as goal
 
 abbrev pub invariant-loop-place : goal.invariant-loop-place

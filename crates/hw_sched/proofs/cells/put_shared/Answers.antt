@@ -15,9 +15,9 @@ loop-element-preserved c = λ rest before.
     let timing = timing_of c.args.latencies.now c.args.depths.now in
     let width = c.own_width-width.ensures in
     let below = c.loop-element-test.true in
-    c.in_ok-put.ensures c.args.checked.now.diagram c.args.plan.now timing (operation c.args.place c.loop-element.element) (elements_from c.args.checked.now.diagram c.args.plan.now timing c.args.place (c.loop-element.element + 1) ++ rest) c.sort_of-sort.ensures
+    c.in_ok-put.ensures c.args.checked.now.diagram c.args.plan.now timing (operation c.args.place c.loop-element._element) (elements_from c.args.checked.now.diagram c.args.plan.now timing c.args.place (c.loop-element._element + 1) ++ rest) c.sort_of-sort.ensures
     (subst (λ (operations : List Operation). AreCellsBut c.args.checked.now.diagram c.args.plan.now timing (operations ++ rest) c.loop-element.cells)
-    (elements_next c.args.checked.now.diagram c.args.plan.now timing c.args.place c.loop-element.element (omega (arith, width, below))) (c.loop-element.invariant rest before))
+    (elements_next c.args.checked.now.diagram c.args.plan.now timing c.args.place c.loop-element._element (omega (arith, width, below))) (c.loop-element.invariant rest before))
 
 pub returns : goal.returns
 returns c = λ rest before.
@@ -25,4 +25,4 @@ returns c = λ rest before.
     let width = c.own_width-width.ensures in
     let past = c.loop-element-test.false in
     subst (λ (operations : List Operation). AreCellsBut c.args.checked.now.diagram c.args.plan.now timing (operations ++ rest) c.loop-element.cells)
-    (elements_last c.args.checked.now.diagram c.args.plan.now timing c.args.place c.loop-element.element (omega (arith, width, past))) (c.loop-element.invariant rest before)
+    (elements_last c.args.checked.now.diagram c.args.plan.now timing c.args.place c.loop-element._element (omega (arith, width, past))) (c.loop-element.invariant rest before)

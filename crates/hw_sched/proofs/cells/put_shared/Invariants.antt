@@ -8,4 +8,4 @@ use Rattle.hw_sched.proofs.cells.put_shared.Given as goal
 
 abbrev pub invariant-loop-element : goal.invariant-loop-element
 invariant-loop-element l = (rest : List Operation) → AreCellsBut l.checked.diagram l.plan (timing_of l.latencies l.depths) (operations_of (attributes_of l.checked.diagram) l.place ++ rest) l.fn.cells
-    → AreCellsBut l.checked.diagram l.plan (timing_of l.latencies l.depths) (elements_from l.checked.diagram l.plan (timing_of l.latencies l.depths) l.place l.element ++ rest) l.cells
+    → AreCellsBut l.checked.diagram l.plan (timing_of l.latencies l.depths) (elements_from l.checked.diagram l.plan (timing_of l.latencies l.depths) l.place l._element ++ rest) l.cells

@@ -1,19 +1,14 @@
-use Rattle.std.proofs.Common.{true, false, sym, ap, ◌∙◌}
-use Rattle.dg_model.specs.declared.diagram.Diagram.{Diagram}
+use Rattle.std.proofs.Common.{true, false, sym, ◌∙◌}
 use Rattle.dg_model.specs.Attributes.{attributes_of}
-use Rattle.hw_sched.proofs.Items.{block_read, tested, control_one, control_apart}
+use Rattle.hw_sched.proofs.Items.{tested, control_one, control_apart}
 use Rattle.hw_sched.proofs.deepening.control_best.Goals as goal
 
 pub returns-then-is_same_period : goal.returns-then-is_same_period
 returns-then-is_same_period c =
-    let bs = c.as_slice.ensures ∙ ap (λ (d : Diagram). d.blocks) c.diagram.ensures in
-    let at = block_read c.args.checked.now.diagram c.as_slice.result.now c.args.place c.index-as_slice-place.result bs c.requires.there c.index-as_slice-place.is in
-    control_one c.args.checked.now.diagram c.args.place c.in-Some.control c.index-as_slice-place.result c.args.depths.now at (sym c.control_now.ensures ∙ c.in-Some.is)
+    control_one c.args.checked.now.diagram c.args.place c.in-Some.control c.block_at.result.now c.args.depths.now c.block_at.ensures (sym c.control_now.ensures ∙ c.in-Some.is)
     (tested c.period.result c.period-in-Some.result ((attributes_of c.args.checked.now.diagram).period_at c.in-Some.control) ((attributes_of c.args.checked.now.diagram).period_at c.args.place) c.is_same_period.result true c.period.ensures c.period-in-Some.ensures c.is_same_period.ensures c.if-is_same_period.true)
 
 pub returns-else-is_same_period : goal.returns-else-is_same_period
 returns-else-is_same_period c =
-    let bs = c.as_slice.ensures ∙ ap (λ (d : Diagram). d.blocks) c.diagram.ensures in
-    let at = block_read c.args.checked.now.diagram c.as_slice.result.now c.args.place c.index-as_slice-place.result bs c.requires.there c.index-as_slice-place.is in
-    control_apart c.args.checked.now.diagram c.args.place c.in-Some.control c.index-as_slice-place.result c.args.depths.now at (sym c.control_now.ensures ∙ c.in-Some.is)
+    control_apart c.args.checked.now.diagram c.args.place c.in-Some.control c.block_at.result.now c.args.depths.now c.block_at.ensures (sym c.control_now.ensures ∙ c.in-Some.is)
     (tested c.period.result c.period-in-Some.result ((attributes_of c.args.checked.now.diagram).period_at c.in-Some.control) ((attributes_of c.args.checked.now.diagram).period_at c.args.place) c.is_same_period.result false c.period.ensures c.period-in-Some.ensures c.is_same_period.ensures c.if-is_same_period.false)

@@ -46,7 +46,7 @@ loop-edge-preserved c =
     let at = rest_read c.args.checked.now.diagram.edges c.as_slice-edges.result.now c.first_into-first.result c.loop-edge.edge-index none es (omega (arith, test, size)) in
     elim c.if-is_same_period.branch [
       | then-is_same_period w ↦
-          rw (w.best-is, w.greater-best.ensures)
+          rw (w.best-is, w.max-best.ensures)
           (next_counts c.args.checked.now.diagram c.args.place c.args.depths.now c.first_into-first.result c.loop-edge.edge-index c.loop-edge.best _ at
           (let same = c.if-edge-place.false in omega (arith, same))
           (tested c.period.result c.period-own.result _ ((attributes_of c.args.checked.now.diagram).period_at c.args.place) c.is_same_period.result true c.period.ensures c.period-own.ensures c.is_same_period.ensures w.if-is_same_period.true)

@@ -7,8 +7,8 @@ use Rattle.hw_sched.proofs.spans.count_of.Goals as goal
 
 pub loop-place-preserved : goal.loop-place-preserved
 loop-place-preserved c =
-    within_more c.args.checked.now.diagram c.loop-place.place c.loop-place.longest c.greater-longest.result c.samples.result c.keeps_rules.ensures.checked
-    (c.samples.ensures ∙ ap samples c.period.ensures) c.greater-longest.ensures c.loop-place.invariant
+    within_more c.args.checked.now.diagram c.loop-place.place c.loop-place.longest c.max-longest.result c.from.result c.keeps_rules.ensures.checked
+    (c.from.ensures ∙ c.samples.ensures ∙ ap samples c.period.ensures) c.max-longest.ensures c.loop-place.invariant
 
 pub returns : goal.returns
 returns c =
