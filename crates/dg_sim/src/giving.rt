@@ -1,5 +1,5 @@
 //! What the rule of a cell gives.
-ghost use Rattle.std.specs.Prelude.{◌≡◌, ◌≤◌, ◌+◌, ℕ, ℤ, pos, int_lt, length, map, take, slice_get, Some};
+ghost use Rattle.std.specs.Prelude.{◌≡◌, ◌≤◌, ◌+◌, ℕ, ℤ, pos, int_lt, length, map, take, slice_get, Some, if◌then◌else◌};
 ghost use Rattle.std.specs.List.{list_any};
 ghost use Rattle.dg_model.specs.Hits.{is_hit};
 ghost use Rattle.dg_model.specs.Operation.{CanCarryOut, OpGives};
@@ -118,6 +118,18 @@ fn recalled(pasts: &[Past], memory: u32, age: u32, initial: i128) -> i128
     }
 }
 
+/// The value of a cell where a control is on, else another value.
+fn read_where_on(row: &[i128], from: u32, control: u32, otherwise: i128) -> i128
+    ensures { result ≡ (if is_on (value_at row.now) (Some control) then value_at row.now from
+        else otherwise) }
+{
+    if on(row, Some(control)) {
+        read(row, from)
+    } else {
+        otherwise
+    }
+}
+
 /// What the rule of a cell gives in a sample.
 pub fn give(
     program: &Program,
@@ -158,23 +170,11 @@ pub fn give(
             from,
             control,
             initial,
-        } => {
-            if on(row, Some(control)) {
-                read(row, from)
-            } else {
-                recalled(pasts, memory, 0, initial)
-            }
-        }
+        } => read_where_on(row, from, control, recalled(pasts, memory, 0, initial)),
         Rule::Reset {
             from,
             control,
             initial,
-        } => {
-            if on(row, Some(control)) {
-                read(row, from)
-            } else {
-                initial
-            }
-        }
+        } => read_where_on(row, from, control, initial),
     }
 }
