@@ -1,4 +1,5 @@
 pub mod Bytes
+pub mod Content
 pub mod Lines
 pub mod Plain
 pub mod Prefix

@@ -13,6 +13,7 @@
 
 mod brackets;
 mod fault;
+mod kind;
 mod reader;
 mod reading;
 mod said;

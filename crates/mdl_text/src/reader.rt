@@ -1,12 +1,14 @@
 ghost use Rattle.std.specs.Prelude.{◌≡◌, ◌≤◌, [], ◌∷◌, length, IfOk, OnOk, IsTrue};
 ghost use Rattle.mdl_text.specs.declared.reader.Pending.TheVariants.{Nothing};
+ghost use Rattle.mdl_text.specs.Content.{value_of};
 ghost use Rattle.mdl_text.specs.Plain.{IsBounded, goes_on, reader_strings, added, opened, closed, listed, valued, after_name, named, fresh_text, if_closed, unblanked, strings_from, start, step, finish};
 
 use crate::brackets::{ListEnd, list_end};
+use crate::kind::Kind;
 use crate::said::{Piece, Said};
 use crate::scan::{are_blanks, name_length, trimmed, unblanked};
 use crate::strings::joined;
-use crate::tree::{Item, Items, Value};
+use crate::tree::{Item, Items};
 use fx_io::{OutOfMemory, Text};
 use std::alloc::Global;
 use std::mem;
@@ -47,13 +49,21 @@ pub struct Reader<'a> {
 }
 
 impl Draft {
-    /// Puts an item at the end.
-    #[inline(always)]
-    fn add(&mut self, alloc: Global, name: &[u8], value: Value) -> Result<(), OutOfMemory>
-        ensures { OnOk result (self.new ≡ added self.old name.now value) }
+    /// Puts an item at the end. It is made here alone, since a text is costly to move.
+    #[inline(never)]
+    fn add(
+        &mut self,
+        alloc: Global,
+        name: &[u8],
+        kind: Kind,
+        content: Said<'_>,
+    ) -> Result<(), OutOfMemory>
+        ensures { OnOk result
+            (self.new ≡ added self.old name.now (value_of kind content.entry)) }
     {
-        let depth = self.depth;
         let name = Text::copy(alloc, name)?;
+        let value = kind.value_of(content.into_text(alloc)?);
+        let depth = self.depth;
         self.items.push(Item { depth, name, value })
     }
 
@@ -92,7 +102,7 @@ impl<'a> Reader<'a> {
         if !are_blanks(after) || self.draft.depth >= DEEPEST {
             return Ok(false);
         }
-        self.draft.add(alloc, name, Value::Section)?;
+        self.draft.add(alloc, name, Kind::Section, Said::lent(b""))?;
         self.draft.depth += 1;
         Ok(true)
     }
@@ -132,8 +142,8 @@ impl<'a> Reader<'a> {
                 if !are_blanks(&line[taken..]) {
                     return Ok(false);
                 }
-                let list = said.with(alloc, &line[..taken])?.into_text(alloc)?;
-                self.draft.add(alloc, name, Value::List(list))?;
+                let list = said.with(alloc, &line[..taken])?;
+                self.draft.add(alloc, name, Kind::List, list)?;
                 Ok(true)
             }
             ListEnd::Open { nesting } => {
@@ -169,8 +179,8 @@ impl<'a> Reader<'a> {
                 if !are_blanks(&after[taken..]) {
                     return Ok(false);
                 }
-                let list = Text::copy(alloc, &value[..taken + 1])?;
-                self.draft.add(alloc, name, Value::List(list))?;
+                let list = Said::lent(&value[..taken + 1]);
+                self.draft.add(alloc, name, Kind::List, list)?;
                 Ok(true)
             }
             ListEnd::Open { nesting } => {
@@ -223,8 +233,8 @@ impl<'a> Reader<'a> {
             [b'"', ..] => self.quoted(alloc, name, Said::lent(b""), value),
             [b'[', after @ ..] => self.first_list(alloc, name, value, after),
             _ => {
-                let value = Text::copy(alloc, trimmed(value))?;
-                self.draft.add(alloc, name, Value::Bare(value))?;
+                let value = Said::lent(trimmed(value));
+                self.draft.add(alloc, name, Kind::Bare, value)?;
                 Ok(true)
             }
         }
@@ -246,8 +256,8 @@ impl<'a> Reader<'a> {
         let value = unblanked(rest);
         match value {
             [] => {
-                let empty = Text::copy(alloc, b"")?;
-                self.draft.add(alloc, name, Value::Bare(empty))?;
+                let empty = Said::lent(b"");
+                self.draft.add(alloc, name, Kind::Bare, empty)?;
                 Ok(true)
             }
             [b'{', after @ ..] => self.open(alloc, name, after),
@@ -304,8 +314,7 @@ impl<'a> Reader<'a> {
             Pending::Strings { name, said } => match text {
                 [b'"', ..] => self.quoted(alloc, name.bytes(), said, text),
                 _ => {
-                    let said = said.into_text(alloc)?;
-                    self.draft.add(alloc, name.bytes(), Value::Quoted(said))?;
+                    self.draft.add(alloc, name.bytes(), Kind::Quoted, said)?;
                     self.fresh(alloc, text)
                 }
             },
@@ -321,8 +330,7 @@ impl<'a> Reader<'a> {
         match pending {
             Pending::Nothing => Ok(draft.if_closed()),
             Pending::Strings { name, said } => {
-                let said = said.into_text(alloc)?;
-                draft.add(alloc, name.bytes(), Value::Quoted(said))?;
+                draft.add(alloc, name.bytes(), Kind::Quoted, said)?;
                 Ok(draft.if_closed())
             }
             Pending::Open { .. } => Ok(None),
