@@ -6,8 +6,8 @@ ghost use Rattle.mdl_text.specs.Plain.{IsBounded, goes_on, reader_strings, added
 use crate::brackets::{ListEnd, list_end};
 use crate::kind::Kind;
 use crate::said::{Piece, Said};
-use crate::scan::{are_blanks, name_length, trimmed, unblanked};
-use crate::strings::joined;
+use crate::scan::{are_blanks, line_text, name_length, trimmed, unblanked};
+use crate::strings::{joined, plain_string};
 use crate::tree::{Item, Items};
 use fx_io::{OutOfMemory, Text};
 use std::alloc::Global;
@@ -220,6 +220,30 @@ impl<'a> Reader<'a> {
         }
     }
 
+    /// A quoted value that begins on this line. Most are one string without backslashes.
+    fn first_quoted(
+        &mut self,
+        alloc: Global,
+        name: &'a [u8],
+        value: &'a [u8],
+    ) -> Result<bool, OutOfMemory>
+        requires { self.old.pending ≡ Nothing }
+        ensures value { IfOk result (λ good.
+            reader_strings self.old.draft name.now (strings_from [] value.now)
+            ≡ goes_on good self.new) }
+        ensures bounded { IfOk result (λ good. IsTrue good → IsBounded self.new.pending) }
+    {
+        match plain_string(value) {
+            None => self.quoted(alloc, name, Said::lent(b""), value),
+            Some(text) => {
+                let name = Piece::new(name);
+                let said = Said::lent(text);
+                self.pending = Pending::Strings { name, said };
+                Ok(true)
+            }
+        }
+    }
+
     /// A parameter with a value, which begins with no blank.
     #[tactic(auto, unfolding(crate::specs::Plain::valued))]
     fn value(&mut self, alloc: Global, name: &'a [u8], value: &'a [u8]) -> Result<bool, OutOfMemory>
@@ -230,7 +254,7 @@ impl<'a> Reader<'a> {
     {
         match value {
             [] => Ok(false),
-            [b'"', ..] => self.quoted(alloc, name, Said::lent(b""), value),
+            [b'"', ..] => self.first_quoted(alloc, name, value),
             [b'[', after @ ..] => self.first_list(alloc, name, value, after),
             _ => {
                 let value = Said::lent(trimmed(value));
@@ -303,7 +327,28 @@ impl<'a> Reader<'a> {
         ensures value { IfOk result (λ good. step self.old line.now ≡ goes_on good self.new) }
         ensures bounded { IfOk result (λ good. IsTrue good → IsBounded self.new.pending) }
     {
-        let text = unblanked(line);
+        let text = line_text(line);
+        if let Pending::Nothing = self.pending {
+            return self.fresh(alloc, text);
+        }
+        self.further(alloc, line, text)
+    }
+
+    /// Reads a line that may go on with a parameter, of which the text behind its blanks is given
+    /// too. It stands apart from `step`, whose lines mostly go on with nothing.
+    #[inline(never)]
+    #[tactic(auto, unfolding(crate::specs::Plain::step, crate::specs::Plain::fresh))]
+    fn further(
+        &mut self,
+        alloc: Global,
+        line: &'a [u8],
+        text: &'a [u8],
+    ) -> Result<bool, OutOfMemory>
+        requires bounded { IsBounded self.old.pending }
+        requires text { text.now ≡ unblanked line.now }
+        ensures value { IfOk result (λ good. step self.old line.now ≡ goes_on good self.new) }
+        ensures bounded { IfOk result (λ good. IsTrue good → IsBounded self.new.pending) }
+    {
         match mem::replace(&mut self.pending, Pending::Nothing) {
             Pending::Nothing => self.fresh(alloc, text),
             Pending::Open {

@@ -42,12 +42,15 @@ pub fn are_blanks(bytes: &[u8]) -> bool
     true
 }
 
-/// The bytes behind the pairs of spaces at their front, by which most lines are indented.
+/// The bytes behind spaces at their front, of which it goes over eight at a time, and then two.
 #[tactic(auto, unfolding(crate::specs::Bytes::is_blank))]
 fn unindented(bytes: &[u8]) -> &[u8]
     ensures { unblanked result.now ≡ unblanked bytes.now }
 {
     let mut rest = bytes;
+    while let [b' ', b' ', b' ', b' ', b' ', b' ', b' ', b' ', after @ ..] = rest {
+        rest = after;
+    }
     while let [b' ', b' ', after @ ..] = rest {
         rest = after;
     }
@@ -58,7 +61,7 @@ fn unindented(bytes: &[u8]) -> &[u8]
 pub fn unblanked(bytes: &[u8]) -> &[u8]
     ensures { result.now ≡ unblanked bytes.now }
 {
-    let mut rest = unindented(bytes);
+    let mut rest = bytes;
     while let [byte, after @ ..] = rest {
         if !is_blank(*byte) {
             return rest;
@@ -66,6 +69,13 @@ pub fn unblanked(bytes: &[u8]) -> &[u8]
         rest = after;
     }
     rest
+}
+
+/// The bytes of a line from the first that is no blank. Most lines are indented by spaces.
+pub fn line_text(line: &[u8]) -> &[u8]
+    ensures { result.now ≡ unblanked line.now }
+{
+    unblanked(unindented(line))
 }
 
 /// The bytes without the blanks at their end.

@@ -52,7 +52,7 @@ fn string_step(place: Place, said: &mut Vec<u8>, byte: u8) -> Result<Option<Plac
 /// The text of a string without backslashes that has blanks alone after it. `None` where the bytes
 /// have another form.
 #[tactic(auto, using(crate::proofs::PlainRuns::one_string))]
-fn plain_string(bytes: &[u8]) -> Option<&[u8]>
+pub fn plain_string(bytes: &[u8]) -> Option<&[u8]>
     ensures { IfSome result (λ text.
         (said : List ℕ) → strings_from said bytes.now ≡ Some (said ++ text.now)) }
 {
