@@ -26,14 +26,16 @@ use Rattle.vl_emit.specs.Names.{net_at, name_of, hold_name, port_at, input_wire}
 use Rattle.vl_emit.specs.Reads.{item_reads}
 use Rattle.vl_emit.specs.inner.Emitted.{declarers, drivers, output_item, naming_of, module_of, items_of}
 use Rattle.vl_emit.proofs.Cleaned.{name-clean}
-use Rattle.vl_emit.proofs.Doubly.{differ-test, emitted-once}
+use Rattle.vl_emit.proofs.NoDouble.{differ-test}
+use Rattle.vl_emit.proofs.Doubly.{emitted-once}
 use Rattle.vl_emit.proofs.Found.{no-element, first-or-later, here, later, of-one, of-mapped}
 use Rattle.vl_emit.proofs.Interfaces.{Origin as PortOrigin, OfClock, OfReset, OfInput, OfOutput, port-where, input-name, output-name, ports-differ, emitted, only, name-begins, input-there}
 use Rattle.vl_emit.proofs.Lists.{none-of, at-contains, back-pairs}
 use Rattle.vl_emit.proofs.NoLoop.{no-loop}
 use Rattle.vl_emit.proofs.Origins.{Origin, Declaring, Driving, Showing, origin, declarer-of, driver-clean, has}
 use Rattle.vl_emit.proofs.Sounds.{netlist-sound}
-use Rattle.vl_emit.proofs.Undriven.{find-none, emitted-undriven, emitted-narrow}
+use Rattle.vl_emit.proofs.DeclaredFirst.{find-none}
+use Rattle.vl_emit.proofs.Undriven.{emitted-undriven, emitted-narrow}
 
 module _ (netlist : Circuit) (runs : IsNetlist netlist) (emits : IsEmittable netlist) (few : length netlist.nets < 2 ^ 64) where
   abbrev count : ℕ

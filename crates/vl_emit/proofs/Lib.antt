@@ -12,10 +12,15 @@ pub mod Ordered
 pub mod Ports
 pub mod Registers
 pub mod Twos
+pub mod DeclaredFirst
 pub mod Undriven
 pub mod Numbers
 pub mod Counting
+pub mod InRun
+pub mod Counters
+pub mod Stepped
 pub mod Shown
+pub mod NoDouble
 pub mod Doubly
 pub mod Lists
 pub mod Interfaces

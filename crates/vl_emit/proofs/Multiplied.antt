@@ -35,7 +35,7 @@ use Rattle.vl_emit.proofs.Layers.{length-Binary}
 use Rattle.vl_emit.proofs.Lists.{empty-list, flat_map-twice, flat_map-same}
 use Rattle.vl_emit.proofs.OfOperations.{width-at-least}
 use Rattle.vl_emit.proofs.Origins.{has, driver-clean}
-use Rattle.vl_emit.proofs.Shown.{wire-shows}
+use Rattle.vl_emit.proofs.InRun.{wire-shows}
 use Rattle.vl_emit.proofs.Sounds.{netlist-sound}
 use Rattle.vl_emit.proofs.Interfaces.{emitted}
 

@@ -21,7 +21,8 @@ use Rattle.vl_emit.proofs.Interfaces.{emitted}
 use Rattle.vl_emit.proofs.NetItems.{has-outputs}
 use Rattle.vl_emit.proofs.Origins.{has}
 use Rattle.vl_emit.proofs.Ports.{named-net}
-use Rattle.vl_emit.proofs.Shown.{wire-shows, rows-are}
+use Rattle.vl_emit.proofs.InRun.{Running, wire-shows}
+use Rattle.vl_emit.proofs.Shown.{rows-are}
 use Rattle.vl_emit.proofs.Sounds.{netlist-sound}
 
 module _ (netlist : Circuit) (runs : IsNetlist netlist) (emits : IsEmittable netlist) (few : length netlist.nets < 2 ^ 64) where
@@ -33,7 +34,8 @@ module _ (netlist : Circuit) (runs : IsNetlist netlist) (emits : IsEmittable net
     are = λ total last start inputs rows run.
         let sound = netlist-sound netlist runs emits.counters in
         let em = emitted netlist runs emits few in
-        rows-are netlist runs.ranked.0 sound m (has netlist runs emits few) total last start inputs rows run telling stepping runs
+        let running : Running netlist runs.ranked.0 m total last start inputs rows = record { sound = sound; has = has netlist runs emits few; reset = run } in
+        rows-are running telling stepping runs
         (λ k h clock port args is below.
         wire-shows m total start inputs rows run.runs (last + 1 + clock) (omega (arith, below)) (input_wire netlist port)
         (named-net netlist.cycles (length netlist.nets) (naming_of netlist) (net_at netlist.nets) runs.ranked.0 netlist.outputs m sound em true (input_wire netlist port) (em.ports.inputs k port args h is))
