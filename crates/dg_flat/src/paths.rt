@@ -39,7 +39,7 @@ pub fn path_in(
         path.extend_from_slice(b"/")?;
     }
     put_escaped(&mut path, name.bytes())?;
-    Ok(Text::from_vec(path))
+    Text::from_vec(alloc, path)
 }
 
 /// The path of each subsystem; that of any other block is left empty.
@@ -52,7 +52,7 @@ pub fn system_paths(alloc: Global, blocks: &[NestedBlock]) -> Result<Texts, OutO
         let path = if is_subsystem(&block.part) {
             path_in(alloc, paths.as_slice(), block.parent, &block.name)?
         } else {
-            Text::from_vec(Vec::new(alloc))
+            Text::new()
         };
         paths.push(path)?;
     }

@@ -16,7 +16,7 @@ use std::alloc::Global;
 use std::test::Fail;
 
 /// A block of this kind with its ports, and nothing declared.
-fn block(alloc: Global, kind: Kind, inputs: u32, outputs: u32) -> Block
+fn block(kind: Kind, inputs: u32, outputs: u32) -> Block
     ensures { result ≡ record {
       path = [];
       kind = kind;
@@ -30,7 +30,7 @@ fn block(alloc: Global, kind: Kind, inputs: u32, outputs: u32) -> Block
     } }
 {
     Block {
-        path: Text::from_vec(Vec::new(alloc)),
+        path: Text::new(),
         kind,
         inputs,
         outputs,
@@ -65,7 +65,6 @@ fn model(alloc: Global, wired: bool) -> Result<Nested, OutOfMemory>
 {
     let u = Part::In(
         block(
-            alloc,
             Kind::Inport {
                 number: 1,
                 width: 0,
@@ -75,8 +74,8 @@ fn model(alloc: Global, wired: bool) -> Result<Nested, OutOfMemory>
         ),
         1,
     );
-    let i = Part::In(block(alloc, Kind::Pass { width: 0 }, 1, 1), 1);
-    let x = Part::Plain(block(alloc, Kind::Terminator, 1, 0));
+    let i = Part::In(block(Kind::Pass { width: 0 }, 1, 1), 1);
+    let x = Part::Plain(block(Kind::Terminator, 1, 0));
     let mut blocks = NestedBlocks::new(alloc);
     blocks.push(nested(alloc, b"u", None, u)?)?;
     blocks.push(nested(alloc, b"s", None, Part::SubSystem)?)?;

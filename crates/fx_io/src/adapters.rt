@@ -46,7 +46,7 @@ impl<'a, R: Files> Shelf for FileShelf<'a, R> {
 
     fn fetch(&mut self, alloc: Global, name: &str, limit: u64) -> Result<Text, FetchFault> {
         match read_file(self.files, alloc, name, limit) {
-            Ok(bytes) if bytes.len() as u64 <= limit => Ok(Text::from_vec(bytes)),
+            Ok(bytes) if bytes.len() as u64 <= limit => Ok(Text::from_vec(alloc, bytes)?),
             Ok(_) => {
                 self.overlong = self.overlong.saturating_add(1);
                 Err(FetchFault::TooLong { length: limit + 1 })

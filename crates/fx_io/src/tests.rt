@@ -24,7 +24,7 @@ fn lists_and_boxes_hold_what_was_put_in(rt: HostRuntime) -> Result<(), Fail> {
         "twenty-three bytes of it",
     ] {
         let text = Text::copy(rt.alloc(), written.as_bytes())?;
-        let again = Text::from_vec(text.into_vec(rt.alloc())?);
+        let again = Text::from_vec(rt.alloc(), text.into_vec(rt.alloc())?)?;
         assert_eq!(rt; again.bytes(), written.as_bytes());
         let doubled = again
             .append(rt.alloc(), b"")?

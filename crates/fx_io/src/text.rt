@@ -1,17 +1,18 @@
-ghost use Rattle.std.specs.Prelude.{◌≡◌, ◌+◌, ◌≤◌, ◌++◌, length, take, IfOk};
+ghost use Rattle.std.specs.Prelude.{◌≡◌, ◌+◌, ◌≤◌, [], ◌++◌, length, take, IfOk};
 
 use crate::fault::OutOfMemory;
 use std::alloc::Global;
 use std::marker::Model;
 
-/// So many bytes stand in the text itself, which then takes no memory of its own.
+/// So many bytes stand in the text itself, which then takes no memory of its own. The text is of 24
+/// bytes: how it stands, its length and these, or a pointer to more.
 const SHORT: usize = 22;
 
 /// Where the bytes stand.
 #[derive(Debug, Drop)]
 enum Held {
-    Short { bytes: [u8; 22], length: u8 },
-    Long(Vec<u8>),
+    Short { length: u8, bytes: [u8; 22] },
+    Long(Box<Vec<u8>>),
 }
 
 /// A list of bytes (own), of which up to 22 take no memory of their own. Contracts see the list.
@@ -39,11 +40,15 @@ impl Text {
         if bytes.len() <= SHORT {
             Ok(Text::short(bytes))
         } else {
-            let bytes = Vec::from_slice(alloc, bytes)?;
-            Ok(Text {
-                held: Held::Long(bytes),
-            })
+            Text::long(alloc, Vec::from_slice(alloc, bytes)?)
         }
+    }
+
+    /// No bytes.
+    pub fn new() -> Text
+        ensures { result ≡ [] }
+    {
+        Text::short(b"")
     }
 
     fn short(bytes: &[u8]) -> Text
@@ -53,16 +58,22 @@ impl Text {
         Text::extended([0; SHORT], 0, bytes)
     }
 
-    /// The bytes of a `Vec`, without memory. More than 22 are taken over as they are.
-    pub fn from_vec(bytes: Vec<u8>) -> Text
-        ensures { result ≡ bytes.items }
+    fn long(alloc: Global, bytes: Vec<u8>) -> Result<Text, OutOfMemory>
+        ensures { IfOk result (λ text. text ≡ bytes.items) }
+    {
+        Ok(Text {
+            held: Held::Long(Box::new(alloc, bytes)?),
+        })
+    }
+
+    /// The bytes of a `Vec`. More than 22 are taken over as they are.
+    pub fn from_vec(alloc: Global, bytes: Vec<u8>) -> Result<Text, OutOfMemory>
+        ensures { IfOk result (λ text. text ≡ bytes.items) }
     {
         if bytes.len() <= SHORT {
-            Text::short(&bytes)
+            Ok(Text::short(&bytes))
         } else {
-            Text {
-                held: Held::Long(bytes),
-            }
+            Text::long(alloc, bytes)
         }
     }
 
@@ -72,10 +83,10 @@ impl Text {
     {
         let Text { held } = self;
         match held {
-            Held::Short { bytes, length } => {
+            Held::Short { length, bytes } => {
                 Ok(Vec::from_slice(alloc, &bytes[..usize::from(length)])?)
             }
-            Held::Long(bytes) => Ok(bytes),
+            Held::Long(bytes) => Ok(Box::into_inner(bytes)),
         }
     }
 
@@ -84,23 +95,26 @@ impl Text {
         ensures { IfOk result (λ text. text ≡ self ++ bytes.now) }
     {
         let Text { held } = self;
-        let mut all = match held {
+        match held {
             Held::Short {
-                bytes: short,
                 length,
+                bytes: short,
             } => {
                 let used = usize::from(length);
                 if bytes.len() <= SHORT - used {
                     return Ok(Text::extended(short, used, bytes));
                 }
-                Vec::from_slice(alloc, &short[..used])?
+                let mut all = Vec::from_slice(alloc, &short[..used])?;
+                all.extend_from_slice(bytes)?;
+                Text::long(alloc, all)
             }
-            Held::Long(long) => long,
-        };
-        all.extend_from_slice(bytes)?;
-        Ok(Text {
-            held: Held::Long(all),
-        })
+            Held::Long(mut all) => {
+                all.extend_from_slice(bytes)?;
+                Ok(Text {
+                    held: Held::Long(all),
+                })
+            }
+        }
     }
 
     /// The first bytes of an array with these at their end.
@@ -112,8 +126,8 @@ impl Text {
         short[used..length].copy_from_slice(bytes);
         Text {
             held: Held::Short {
-                bytes: short,
                 length: length as u8,
+                bytes: short,
             },
         }
     }
@@ -123,7 +137,7 @@ impl Text {
         ensures { result.now ≡ self.now }
     {
         match &self.held {
-            Held::Short { bytes, length } => &bytes[..usize::from(*length)],
+            Held::Short { length, bytes } => &bytes[..usize::from(*length)],
             Held::Long(bytes) => bytes.as_slice(),
         }
     }

@@ -22,7 +22,7 @@ pub fn rule_text(alloc: Global, fault: &RuleFault, blocks: &[Block]) -> Result<T
     push_place(&mut line, fault.place.bytes())?;
     push_shown(&mut line, &fault.shown, blocks)?;
     push(&mut line, b"\n")?;
-    Ok(Text::from_vec(line))
+    Text::from_vec(alloc, line)
 }
 
 /// What a rule is about.

@@ -25,7 +25,7 @@ pub fn read_string(alloc: Global, text: &[u8]) -> Result<Option<QuotedText>, Out
     while place < text.len() {
         if text[place] == b'"' {
             return Ok(Some(QuotedText {
-                content: Text::from_vec(content),
+                content: Text::from_vec(alloc, content)?,
                 length: place + 1,
             }));
         }

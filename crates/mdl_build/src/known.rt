@@ -48,10 +48,10 @@ fn broken(rule: u8, place: Text, shown: Shown) -> RuleFault
 }
 
 /// The rule of structure, broken by the model.
-fn broken_model(alloc: Global) -> CheckFault
+fn broken_model() -> CheckFault
     ensures { result ≡ Broken (fault_of 1 [] Nothing) }
 {
-    CheckFault::Broken(broken(1, Text::from_vec(Vec::new(alloc)), Shown::Nothing))
+    CheckFault::Broken(broken(1, Text::new(), Shown::Nothing))
 }
 
 /// What is known of the items of a tree. None where it has no root, is too deep, or has more blocks
@@ -134,10 +134,10 @@ pub fn structure_of<'a>(alloc: Global, items: &'a [Item]) -> Result<Structured<'
     ensures err { IfErr result (IsRefusal (λ fault. structure_fault items.now ≡ Some fault)) }
 {
     let Some(known) = known_of(alloc, items)? else {
-        return Err(broken_model(alloc));
+        return Err(broken_model());
     };
     let Some(lines) = lines(alloc, &known.layout, &known.roles, &known.blocks)? else {
-        return Err(broken_model(alloc));
+        return Err(broken_model());
     };
     match known.misshapen(alloc)? {
         None => Ok(Structured { known, lines }),

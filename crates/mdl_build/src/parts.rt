@@ -22,11 +22,11 @@ pub enum Standing {
 }
 
 /// A block of a kind and with so many ports, of which the parameters say the rest.
-fn block_with(alloc: Global, said: Said, kind: Kind, inputs: u32, outputs: u32) -> Block
+fn block_with(said: Said, kind: Kind, inputs: u32, outputs: u32) -> Block
     ensures { result ≡ block_with said kind inputs outputs }
 {
     Block {
-        path: Text::from_vec(Vec::new(alloc)),
+        path: Text::new(),
         kind,
         inputs,
         outputs,
@@ -50,29 +50,29 @@ fn open_sizes(alloc: Global, count: u32, sizes: Sizes) -> Result<Sizes, OutOfMem
 }
 
 /// The part of an Inport.
-fn in_part(alloc: Global, standing: Standing, said: Said) -> Part
+fn in_part(standing: Standing, said: Said) -> Part
     ensures { result ≡ in_part standing said }
 {
     let number = said.number;
     let width = said.width;
     let block = match standing {
-        Standing::Root => block_with(alloc, said, Kind::Inport { number, width }, 0, 1),
-        Standing::Plain => block_with(alloc, said, Kind::Pass { width }, 1, 1),
-        Standing::Enabled => block_with(alloc, said, Kind::Pass { width }, 1, 1),
+        Standing::Root => block_with(said, Kind::Inport { number, width }, 0, 1),
+        Standing::Plain => block_with(said, Kind::Pass { width }, 1, 1),
+        Standing::Enabled => block_with(said, Kind::Pass { width }, 1, 1),
     };
     Part::In(block, number)
 }
 
 /// The part of an Outport.
-fn out_part(alloc: Global, standing: Standing, said: Said, initial: Decimals) -> Part
+fn out_part(standing: Standing, said: Said, initial: Decimals) -> Part
     ensures { result ≡ out_part standing said initial }
 {
     let number = said.number;
     let reset = said.flag;
     let block = match standing {
-        Standing::Root => block_with(alloc, said, Kind::Outport { number }, 1, 0),
-        Standing::Plain => block_with(alloc, said, Kind::Pass { width: 0 }, 1, 1),
-        Standing::Enabled => block_with(alloc, said, Kind::EnOut { reset, initial }, 1, 1),
+        Standing::Root => block_with(said, Kind::Outport { number }, 1, 0),
+        Standing::Plain => block_with(said, Kind::Pass { width: 0 }, 1, 1),
+        Standing::Enabled => block_with(said, Kind::EnOut { reset, initial }, 1, 1),
     };
     Part::Out(block, number)
 }
@@ -143,8 +143,8 @@ pub fn part_of(
     } = settings;
     let number = said.number;
     let (kind, inputs, outputs) = match block_type {
-        BlockType::Inport => return Ok(in_part(alloc, standing, said)),
-        BlockType::Outport => return Ok(out_part(alloc, standing, said, list)),
+        BlockType::Inport => return Ok(in_part(standing, said)),
+        BlockType::Outport => return Ok(out_part(standing, said, list)),
         BlockType::SubSystem => return Ok(Part::SubSystem),
         BlockType::EnablePort => return Ok(Part::Enable { reset: said.flag }),
         BlockType::Constant => (Kind::Constant { value: list }, 0, 1),
@@ -166,5 +166,5 @@ pub fn part_of(
         }
         BlockType::RateTransition => (rate_transition(said.rate, list), 1, 1),
     };
-    Ok(Part::Plain(block_with(alloc, said, kind, inputs, outputs)))
+    Ok(Part::Plain(block_with(said, kind, inputs, outputs)))
 }

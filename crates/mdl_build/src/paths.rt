@@ -91,5 +91,5 @@ pub fn path_of(
         path = name_before(alloc, layout, outer, &path)?;
         inner = outer;
     }
-    Ok(Text::from_vec(path))
+    Text::from_vec(alloc, path)
 }

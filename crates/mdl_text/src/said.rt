@@ -92,7 +92,7 @@ impl<'a> Said<'a> {
         let Said { stored } = self;
         match stored {
             Stored::Lent(piece) => Text::copy(alloc, piece.bytes()),
-            Stored::Gathered(bytes) => Ok(Text::from_vec(bytes)),
+            Stored::Gathered(bytes) => Text::from_vec(alloc, bytes),
         }
     }
 

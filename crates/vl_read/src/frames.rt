@@ -132,13 +132,13 @@ impl Reader {
 
     /// After an expression that is in no other.
     #[tactic(auto, unfolding(crate::specs::inner::Plain::goal_step))]
-    fn goal_step(&mut self, alloc: Global, goal: Goal, lexeme: &[u8]) -> Result<bool, OutOfMemory>
+    fn goal_step(&mut self, goal: Goal, lexeme: &[u8]) -> Result<bool, OutOfMemory>
         ensures { IfOk result (λ said. stepped said (seen self.new)
             ≡ goal_step self.old.draft (goal_of self.old goal) self.old.held.value lexeme.now) }
     {
         match goal {
             Goal::Assigned => {
-                let name = self.take_name(alloc);
+                let name = self.take_name();
                 let value = self.take_value();
                 self.with_item(";", lexeme, ModItem::Assign { name, value })
             }
@@ -179,7 +179,7 @@ impl Reader {
             return Ok(self.index_step(goal, value));
         }
         match innermost(&mut self.held.frames) {
-            None => self.goal_step(alloc, goal, lexeme),
+            None => self.goal_step(goal, lexeme),
             Some(frame) => {
                 let value = self.take_value();
                 self.frame_step(alloc, goal, frame, value, lexeme)
@@ -189,13 +189,13 @@ impl Reader {
 
     /// After a name, `[` and a number.
     #[tactic(auto, unfolding(crate::specs::inner::Plain::spot_step))]
-    fn high_step(&mut self, alloc: Global, goal: Goal, place: u32, lexeme: &[u8]) -> bool
+    fn high_step(&mut self, goal: Goal, place: u32, lexeme: &[u8]) -> bool
         ensures { stepped result (seen self.new)
             ≡ spot_step self.old.draft (goal_of self.old goal) (frames_of self.old)
             (High self.old.held.operand place) Fixed lexeme.now }
     {
         if is(lexeme, "]") {
-            self.held.value = bit(self.take_operand(alloc), place);
+            self.held.value = bit(self.take_operand(), place);
             self.spot(goal, Spot::Value)
         } else {
             self.expect_spot(b':', lexeme, goal, Spot::Low(place))
@@ -227,7 +227,7 @@ impl Reader {
 
     /// The lower bound of a part.
     #[tactic(auto, unfolding(crate::specs::inner::Plain::spot_step))]
-    fn low_step(&mut self, alloc: Global, goal: Goal, high: u32, lexeme: &[u8]) -> bool
+    fn low_step(&mut self, goal: Goal, high: u32, lexeme: &[u8]) -> bool
         ensures { stepped result (seen self.new)
             ≡ spot_step self.old.draft (goal_of self.old goal) (frames_of self.old)
             (Low self.old.held.operand high) (kind_of lexeme.now) lexeme.now }
@@ -235,7 +235,7 @@ impl Reader {
         match count_of(lexeme) {
             None => false,
             Some(low) => {
-                self.held.value = part(self.take_operand(alloc), high, low);
+                self.held.value = part(self.take_operand(), high, low);
                 self.spot(goal, Spot::Ends(Closing::CloseBracket))
             }
         }
@@ -266,8 +266,8 @@ impl Reader {
                 None => Ok(false),
                 Some(place) => Ok(self.spot(goal, Spot::High(place))),
             },
-            Spot::High(place) => Ok(self.high_step(alloc, goal, place, lexeme)),
-            Spot::Low(high) => Ok(self.low_step(alloc, goal, high, lexeme)),
+            Spot::High(place) => Ok(self.high_step(goal, place, lexeme)),
+            Spot::Low(high) => Ok(self.low_step(goal, high, lexeme)),
         }
     }
 }

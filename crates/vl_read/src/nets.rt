@@ -73,7 +73,6 @@ impl Reader {
     #[tactic(auto, unfolding(crate::specs::inner::Plain::attr_step))]
     fn attribute_value(
         &mut self,
-        alloc: Global,
         of_port: bool,
         lexeme: &[u8],
     ) -> Result<bool, OutOfMemory>
@@ -84,7 +83,7 @@ impl Reader {
         match count_of(lexeme) {
             None => Ok(false),
             Some(number) => {
-                let name = mem::replace(&mut self.held.name, Text::from_vec(Vec::new(alloc)));
+                let name = mem::replace(&mut self.held.name, Text::new());
                 let value = u64::from(number);
                 self.held.attrs.push(Attr { name, value })?;
                 let at = AttrSpot::More;
@@ -112,7 +111,7 @@ impl Reader {
                 let at = AttrSpot::AttrValue;
                 Ok(self.expect("=", lexeme, Place::Attributes { of_port, at }))
             }
-            AttrSpot::AttrValue => self.attribute_value(alloc, of_port, lexeme),
+            AttrSpot::AttrValue => self.attribute_value(of_port, lexeme),
             AttrSpot::More => Ok(self.after_attribute(alloc, of_port, lexeme)),
         }
     }

@@ -25,7 +25,7 @@ impl Reader {
     {
         Reader {
             draft: Draft {
-                name: Text::from_vec(Vec::new(alloc)),
+                name: Text::new(),
                 attrs: Attrs::new(alloc),
                 ports: Ports::new(alloc),
                 items: ModItems::new(alloc),
@@ -34,11 +34,11 @@ impl Reader {
             place: Place::Start,
             held: Held {
                 attrs: Attrs::new(alloc),
-                name: Text::from_vec(Vec::new(alloc)),
+                name: Text::new(),
                 first: NOTHING,
                 condition: None,
                 frames: Vec::new(alloc),
-                operand: Text::from_vec(Vec::new(alloc)),
+                operand: Text::new(),
                 value: Expr::Literal(NOTHING),
             },
         }
@@ -92,19 +92,19 @@ impl Reader {
     }
 
     /// Hands out the name that is held.
-    pub fn take_name(&mut self, alloc: Global) -> Text
+    pub fn take_name(&mut self) -> Text
         ensures name { result ≡ self.old.held.name }
         ensures rest { self.new ≡ record self.old { held = record self.old.held { name = [] } } }
     {
-        mem::replace(&mut self.held.name, Text::from_vec(Vec::new(alloc)))
+        mem::replace(&mut self.held.name, Text::new())
     }
 
     /// Hands out the name before `[`.
-    pub fn take_operand(&mut self, alloc: Global) -> Text
+    pub fn take_operand(&mut self) -> Text
         ensures name { result ≡ self.old.held.operand }
         ensures rest { self.new ≡ record self.old { held = record self.old.held { operand = [] } } }
     {
-        mem::replace(&mut self.held.operand, Text::from_vec(Vec::new(alloc)))
+        mem::replace(&mut self.held.operand, Text::new())
     }
 
     /// Hands out the operand that was read last.

@@ -210,13 +210,13 @@ impl Reader {
 
     /// An item with a clock ends.
     #[tactic(auto, unfolding(crate::specs::inner::Plain::step_at))]
-    fn clocked_end(&mut self, alloc: Global, lexeme: &[u8]) -> Result<bool, OutOfMemory>
+    fn clocked_end(&mut self, lexeme: &[u8]) -> Result<bool, OutOfMemory>
         ensures { IfOk result (λ said. stepped said (seen self.new)
             ≡ step_at self.old.draft
             (End (Always self.old.held.name self.old.held.first self.old.held.condition
             self.old.held.value)) Fixed lexeme.now) }
     {
-        let name = self.take_name(alloc);
+        let name = self.take_name();
         let value = self.take_value();
         let condition = self.held.condition.take();
         let item = ModItem::Always {
@@ -232,7 +232,6 @@ impl Reader {
     #[tactic(auto, unfolding(crate::specs::inner::Plain::step_at))]
     fn wire_end(
         &mut self,
-        alloc: Global,
         signed: bool,
         width: u32,
         lexeme: &[u8],
@@ -241,7 +240,7 @@ impl Reader {
             ≡ step_at self.old.draft
             (Semicolon (Wire signed width self.old.held.name)) Fixed lexeme.now) }
     {
-        let name = self.take_name(alloc);
+        let name = self.take_name();
         let item = ModItem::Wire {
             signed,
             width,
@@ -254,7 +253,6 @@ impl Reader {
     #[tactic(auto, unfolding(crate::specs::inner::Plain::step_at))]
     fn register_end(
         &mut self,
-        alloc: Global,
         signed: bool,
         width: u32,
         lexeme: &[u8],
@@ -263,7 +261,7 @@ impl Reader {
             ≡ step_at self.old.draft
             (Semicolon (Reg signed width self.old.held.name)) Fixed lexeme.now) }
     {
-        let name = self.take_name(alloc);
+        let name = self.take_name();
         let item = ModItem::Reg {
             signed,
             width,
@@ -302,9 +300,9 @@ impl Reader {
             Place::Again => Ok(is_name(lexeme) && self.again_step(lexeme)),
             Place::NextSign => Ok(self.expression("<=", lexeme, Goal::Next)),
             Place::Expression { goal, spot } => self.spot_step(alloc, goal, spot, lexeme),
-            Place::AfterWire { signed, width } => self.wire_end(alloc, signed, width, lexeme),
-            Place::AfterReg { signed, width } => self.register_end(alloc, signed, width, lexeme),
-            Place::End => self.clocked_end(alloc, lexeme),
+            Place::AfterWire { signed, width } => self.wire_end(signed, width, lexeme),
+            Place::AfterReg { signed, width } => self.register_end(signed, width, lexeme),
+            Place::End => self.clocked_end(lexeme),
             Place::Done => Ok(false),
         }
     }

@@ -28,5 +28,5 @@ pub fn write(alloc: Global, module: &Module) -> Result<Text, OutOfMemory>
     put(&mut out, b"\n);\n")?;
     put_items(&mut out, module.items.as_slice())?;
     put(&mut out, b"endmodule\n")?;
-    Ok(Text::from_vec(out))
+    Text::from_vec(alloc, out)
 }
