@@ -1,6 +1,6 @@
 -- A decimal is in range at a frac exactly where its fraction is a number of so many bits; where it is so, it is so at each lesser frac.
-use Rattle.std.proofs.Common.{◌≡◌, ℕ, zero, suc, ◌+◌, ◌-◌, ◌*◌, ◌^◌, ◌<◌, ◌≤◌, Bool, true, false, ℤ, pos, negsuc, neg_ℤ, ◌+ℤ◌, ◌-ℤ◌, ◌*ℤ◌, ◌≤ℤ◌, ◌<ℤ◌, ap, sym, ◌∙◌, refl, subst, arith, pow_pos, pow_mono, mul-le-mul_left, mul-le-mul_right, inl, inr, true≢false}
-use Rattle.std.specs.Prelude.{nat_le, nat_lt, ◌&&◌}
+use Rattle.std.proofs.Common.{◌≡◌, ℕ, ◌+◌, ◌-◌, ◌*◌, ◌^◌, ◌<◌, ◌≤◌, Bool, true, false, ℤ, pos, negsuc, neg_ℤ, ◌≤ℤ◌, ap, sym, ◌∙◌, refl, subst, arith, pow_pos, pow_mono, mul-le-mul_left, inl, inr, true≢false}
+use Rattle.std.specs.Prelude.{nat_le, nat_lt}
 use Rattle.std.specs.Int.{int_gap}
 use Rattle.std.specs.Cmp.Derive.{both_true}
 use Rattle.std.proofs.lemmas.Nat.{pow-add}
@@ -12,11 +12,11 @@ use Rattle.fx_type.specs.declared.kind.FxType.{FxType}
 use Rattle.fx_type.specs.declared.kind.FxType.TheVariants.{Num}
 use Rattle.fx_type.specs.declared.decimal.Decimal.{Decimal}
 use Rattle.fx_type.specs.FxType.{InRange, lowest_of, highest_of}
-use Rattle.fx_type.specs.Conversion.{twice, signed_digits, RoundsTiesUp}
+use Rattle.fx_type.specs.Conversion.{signed_digits, RoundsTiesUp}
 use Rattle.fx_type.specs.StoredOf.{rounded_of, is_in_range}
 use Rattle.fx_type.proofs.Ranges.{lowest_sign, highest_sign, InRange-zero}
 use Rattle.fx_type.proofs.Stored.{Decides-in_range, rounded_rounds, unit_positive}
-use Rattle.dg_model.specs.GainParam.{is_negative, frac_down}
+use Rattle.dg_model.specs.GainParam.{frac_down}
 use Rattle.dg_types.specs.inner.TypedFit.{is_within, bits_of, at_step, HasSign}
 use Rattle.dg_types.proofs.TypedRanges.{same_test}
 

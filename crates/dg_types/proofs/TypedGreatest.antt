@@ -1,5 +1,5 @@
 -- The names of the greatest fit and of the internal rule's type stand for what the rule says.
-use Rattle.std.proofs.Common.{◌≡◌, ℕ, ◌-◌, ◌<◌, Bool, List, length, take, get_or, Some, None, Option, ℤ, pos, cond, true, false, refl, subst, ap, sym, ◌∙◌, arith}
+use Rattle.std.proofs.Common.{◌≡◌, ℕ, ◌-◌, ◌<◌, Bool, List, length, take, get_or, Some, None, ℤ, pos, cond, true, false, refl, subst, ap, sym, ◌∙◌, arith}
 use Rattle.std.specs.Prelude.{◌==◌, ◌&&◌}
 use Rattle.fx_type.specs.FxType.{width_of}
 use Rattle.std.specs.List.{find, range_with_len, list_all}

@@ -1,5 +1,5 @@
 -- The tests of a block tell whether it keeps a part of the rule of types.
-use Rattle.std.proofs.Common.{◌≡◌, ℕ, ◌≤◌, Bool, true, List, length, All, Option, sym, subst, ap, ◌∙◌}
+use Rattle.std.proofs.Common.{◌≡◌, ℕ, ◌≤◌, Bool, true, All, Option, sym, subst}
 use Rattle.std.specs.Prelude.{◌↔◌, IsSome}
 use Rattle.fx_type.specs.declared.kind.FxType.{FxType}
 use Rattle.dg_model.specs.declared.diagram.Diagram.{Diagram}
@@ -8,7 +8,7 @@ use Rattle.dg_model.specs.Library.{row_of}
 use Rattle.dg_model.specs.Periods.{known_at}
 use Rattle.dg_model.specs.Types.{names_full_type}
 use Rattle.dg_model.specs.TypeRounds.{Types, input_types, full_type, types_of}
-use Rattle.dg_model.specs.TypeRule.{IsNotWide, HasTypes, HasAgreeing, AgreesWith, AgreeInside}
+use Rattle.dg_model.specs.TypeRule.{AgreesWith, AgreeInside}
 use Rattle.dg_types.specs.declared.typed.Part.{Part}
 use Rattle.dg_types.specs.declared.typed.Part.TheVariants.{Narrow, Known, Agree}
 use Rattle.dg_types.specs.inner.TypedScan.{keeps_part}

@@ -1,7 +1,7 @@
 -- A fraction is a number of so many bits exactly where it is so without a common factor.
-use Rattle.std.proofs.Common.{◌≡◌, ℕ, ◌+◌, ◌-◌, ◌*◌, ◌/◌, ◌%◌, ◌^◌, ◌<◌, ◌≤◌, Bool, true, false, cond, ap, sym, ◌∙◌, refl, arith, pow_pos, mul-le-mul_left, mul-le-mul_right, div-add-mod', mod-lt, inl, inr}
+use Rattle.std.proofs.Common.{◌≡◌, ℕ, ◌+◌, ◌-◌, ◌*◌, ◌/◌, ◌%◌, ◌^◌, ◌<◌, ◌≤◌, Bool, true, false, ap, sym, ◌∙◌, refl, arith, pow_pos, mul-le-mul_left, mul-le-mul_right, div-add-mod', mod-lt, inl, inr}
 use Rattle.std.specs.Prelude.{nat_le, nat_lt}
-use Rattle.std.proofs.lemmas.Bool.{cases_lt, cases_Bool, leb-true, le-leb, lt-ltb, ltb-true, false≢true}
+use Rattle.std.proofs.lemmas.Bool.{cases_lt, cases_Bool, leb-true, le-leb, lt-ltb, ltb-true}
 use Rattle.std.proofs.lemmas.Nat.{pow-add}
 use Rattle.fx_num.proofs.Arithmetic.{double}
 use Rattle.dg_types.specs.inner.TypedFit.{is_within, is_below}

@@ -1,5 +1,5 @@
 -- The first of a range that passes a test; lists of decimals at one number of steps.
-use Rattle.std.proofs.Common.{◌≡◌, ℕ, zero, suc, ◌+◌, ◌-◌, ◌<◌, ◌≤◌, Bool, true, false, List, [], ◌∷◌, length, take, get_or, Option, Some, None, ap, sym, ◌∙◌, refl, subst, arith, inl, inr, All, cond}
+use Rattle.std.proofs.Common.{◌≡◌, ℕ, zero, suc, ◌+◌, ◌-◌, ◌<◌, ◌≤◌, Bool, true, false, List, [], ◌∷◌, length, take, get_or, Option, Some, None, ap, sym, ◌∙◌, refl, arith, inl, inr, All, cond}
 use Rattle.std.specs.Prelude.{◌&&◌}
 use Rattle.std.specs.List.{find, range_with_len, list_all}
 use Rattle.std.specs.Option.{option_map}
@@ -7,7 +7,7 @@ use Rattle.std.specs.Cmp.Derive.{both_true}
 use Rattle.std.proofs.lemmas.Bool.{cases_lt, cases_Bool, and_parts, and_left, and_right, true≢false}
 use Rattle.std.proofs.lemmas.List.Folds.{list_all_more, list_all_at}
 use Rattle.fx_type.specs.declared.decimal.Decimal.{Decimal}
-use Rattle.fx_type.proofs.Found.{Some-injective, Some≢None, IsFirst, NonePasses, found, not_found}
+use Rattle.fx_type.proofs.Found.{IsFirst, NonePasses, found, not_found}
 use Rattle.dg_model.specs.GainParam.{frac_down}
 use Rattle.fx_num.specs.Word.{IsWord}
 use Rattle.dg_types.specs.inner.TypedFit.{at_step, HasSign, IsLowered, greatest_among}

@@ -1,5 +1,5 @@
 -- Another small model is well formed: an Inport u into a Sum s, a Mux m and an Outport y, and a Delay d into the Sum.
-use Rattle.std.proofs.Common.{◌≡◌, ℕ, zero, suc, ◌<◌, ◌≤◌, List, [], ◌∷◌, ◌++◌, length, codes, Bool, None, Some, true, false, refl, sym, ap, inl, inr, ◌∙◌, arith, lit<, lit≤}
+use Rattle.std.proofs.Common.{◌≡◌, ℕ, zero, suc, ◌<◌, ◌≤◌, List, [], ◌∷◌, ◌++◌, length, codes, Bool, Some, false, refl, inl, inr, arith, lit<, lit≤}
 use Rattle.std.specs.Prelude.{◌≢◌, slice_get, count_by}
 use Rattle.std.proofs.lemmas.Option.{none-some}
 use Rattle.fx_type.specs.declared.kind.FxType.{FxType}

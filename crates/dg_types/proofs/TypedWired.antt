@@ -1,6 +1,6 @@
 -- A wired diagram has what the rounds of types ask of it, and the code's step is the diagram's.
-use Rattle.std.proofs.Common.{◌≡◌, ℕ, zero, suc, ◌+◌, ◌<◌, ◌≤◌, ◌++◌, Bool, true, false, List, [], ◌∷◌, length, map, All, Some, Option, get_or, pos, negsuc, inl, inr, refl, sym, ap, subst, ◌∙◌, arith}
-use Rattle.std.specs.Prelude.{slice_get, ◌≢◌, ◌==◌, nat_le, ◌↔◌}
+use Rattle.std.proofs.Common.{◌≡◌, ℕ, zero, suc, ◌+◌, ◌<◌, ◌++◌, Bool, true, false, List, [], ◌∷◌, length, map, All, Some, get_or, pos, negsuc, inl, inr, refl, sym, ap, subst, ◌∙◌, arith}
+use Rattle.std.specs.Prelude.{slice_get, ◌≢◌}
 use Rattle.std.specs.Cmp.Derive.{both_true}
 use Rattle.std.proofs.lemmas.Bool.{le-leb, eq-eqb, cases_Bool, true≢false}
 use Rattle.std.proofs.lemmas.List.{length-map}
@@ -31,7 +31,7 @@ use Rattle.dg_model.specs.Wires.{edges_into, driver_of}
 use Rattle.dg_types.specs.declared.linked.Form.{Form}
 use Rattle.dg_types.specs.declared.linked.Source.{Source}
 use Rattle.dg_types.specs.inner.Shown.{Mirrors, source_of}
-use Rattle.dg_types.specs.inner.TypedInputs.{source_types, IsKnownValid, AreReady, FullTypesAreValid, is_valid_type, is_valid_spec, is_full_ready, is_ready, next_typed}
+use Rattle.dg_types.specs.inner.TypedInputs.{source_types, IsKnownValid, AreReady, FullTypesAreValid, is_valid_type, is_valid_spec, is_full_ready, next_typed}
 use Rattle.dg_model.proofs.Propagation.{length_types}
 use Rattle.dg_types.specs.inner.TypedLaws.{first_types}
 use Rattle.dg_types.specs.inner.TypedScan.{IsTyped}

@@ -1,5 +1,5 @@
 -- A fault of a tree's diagram is one of the model.
-use Rattle.std.proofs.Common.{◌≡◌, ℕ, ◌⊎◌, ⊎_elim, inl, inr, List, [], map, ap, refl, subst}
+use Rattle.std.proofs.Common.{◌≡◌, ℕ, ◌⊎◌, ⊎_elim, inl, inr, List, [], map, subst}
 use Rattle.mdl_text.specs.declared.tree.Tree.{Tree}
 use Rattle.mdl_text.specs.Stands.{Stands}
 use Rattle.dg_model.specs.declared.diagram.Block.{Block}

@@ -1,20 +1,18 @@
 -- One use after another.
-use Rattle.std.proofs.Common.{◌≡◌, ℕ, zero, suc, ◌+◌, ◌-◌, ◌*◌, ◌/◌, ◌<◌, ◌≤◌, ◌||◌, inl, inr, max, List, [], ◌∷◌, ◌++◌, map, take, drop, length, All, Contains, Option, None, Some, is_some, IsSome, slice_get, slice_index_or, get_or, Bool, true, false, if◌then◌else◌, ap, sym, ◌∙◌, subst, arith, refl, length-append, mul-le-mul_right}
+use Rattle.std.proofs.Common.{◌≡◌, ℕ, zero, suc, ◌+◌, ◌-◌, ◌*◌, ◌/◌, ◌<◌, ◌≤◌, ◌||◌, inl, inr, List, [], ◌∷◌, ◌++◌, map, take, drop, length, All, Contains, Option, None, Some, is_some, slice_get, slice_index_or, Bool, true, false, if◌then◌else◌, ap, sym, ◌∙◌, subst, arith, refl, length-append, mul-le-mul_right}
 use Rattle.std.proofs.Math.Seq.{take-suc, drop-cons}
-use Rattle.std.proofs.lemmas.List.{drop_all}
 use Rattle.std.proofs.lemmas.Option.{slice_get_within, slice_get-get_or, get_or_from_slice_get}
 use Rattle.hw_net.specs.declared.netlist.Frame.{Frame}
 use Rattle.hw_net.specs.Circuit.{Circuit}
 use Rattle.hw_net.specs.ByFrame.{is_same_frame, number_at_frame}
 use Rattle.hw_net.specs.Frames.{register_count}
-use Rattle.hw_net.specs.Growing.{Extends}
 use Rattle.hw_net.proofs.Index.{same-is}
 use Rattle.hw_net.proofs.Growing.{split-last}
 use Rattle.hw_lines.specs.declared.source.Source.{Source}
 use Rattle.hw_lines.specs.declared.source.Use.{Use}
-use Rattle.hw_lines.specs.Chain.{IsSource, IsUse, IsAnswer, AreAnswers, IsChained, IsCountedIn, reader_of, is_among, different_after, different, most_frames}
+use Rattle.hw_lines.specs.Chain.{IsSource, IsAnswer, AreAnswers, IsChained, IsCountedIn, reader_of, is_among, different_after, different, most_frames}
 use Rattle.hw_lines.specs.inner.Parts.{CanHold, Grows, AreTaps}
-use Rattle.hw_lines.specs.inner.Ends.{IsEnd, Ends, IsEndFor, IsDone, AreEnds, frames_of}
+use Rattle.hw_lines.specs.inner.Ends.{IsEndFor, IsDone, frames_of}
 use Rattle.hw_lines.proofs.Steps.{tap-can-hold, taps-stay, answer-stays, grows-wider}
 
 among-more : (frame : Frame) (frames : List Frame) (one : Frame) → is_among frame (frames ++ one ∷ []) ≡ (is_among frame frames || is_same_frame one frame)

@@ -1,22 +1,22 @@
 -- The end of a line is an answer for its use.
-use Rattle.std.proofs.Common.{◌≡◌, ℕ, zero, suc, Result, Ok, Err, IfOk, OnOk, ◌+◌, ◌-◌, ◌*◌, ◌/◌, ◌%◌, ◌<◌, ◌≤◌, inl, inr, max, List, [], ◌∷◌, length, Contains, Some, slice_get, Bool, true, false, ℤ, ap, sym, ◌∙◌, subst, arith, refl}
+use Rattle.std.proofs.Common.{◌≡◌, ℕ, zero, suc, Result, Ok, Err, IfOk, OnOk, ◌+◌, ◌-◌, ◌*◌, ◌/◌, ◌%◌, ◌<◌, ◌≤◌, inl, inr, List, Some, slice_get, Bool, true, false, ap, sym, ◌∙◌, subst, arith, refl}
 use Rattle.std.proofs.Math.Nat.{mul-mod_left}
 use Rattle.std.proofs.lemmas.Nat.{div-add-mod'}
 use Rattle.std.specs.Prelude.{⊤}
 use Rattle.hw_net.specs.declared.netlist.Frame.{Frame}
 use Rattle.hw_net.specs.Circuit.{Circuit}
 use Rattle.hw_net.specs.NetRows.{Rows, span_of}
-use Rattle.hw_net.specs.Registers.{Span, IsReg, IsBridge}
-use Rattle.hw_net.specs.Growing.{Extends, InRows}
+use Rattle.hw_net.specs.Registers.{IsReg, IsBridge}
+use Rattle.hw_net.specs.Growing.{Extends}
 use Rattle.hw_net.specs.Frames.{register_count}
 use Rattle.hw_net.proofs.Growing.{extends-self, in-rows-first, in-rows-last, in-rows-map, in-rows-both}
 use Rattle.hw_lines.specs.declared.source.Source.{Source}
 use Rattle.hw_lines.specs.declared.source.Use.{Use}
-use Rattle.hw_lines.specs.Line.{Line, ShowsLater, IsLine, IsRegistered}
+use Rattle.hw_lines.specs.Line.{ShowsLater}
 use Rattle.hw_lines.specs.Chain.{IsUse, IsAnswer, IsCountedIn, reader_of, line_to}
 use Rattle.hw_lines.specs.Taps.{IsTap, IsShifted, TapMeets, TapHolds, PhaseRegisterMeets, BridgeMeets}
-use Rattle.hw_lines.specs.inner.Parts.{Grows, IsHeld, IsBridged, IsTapAt, AreTaps}
-use Rattle.hw_lines.specs.inner.Ends.{IsEnd, Ends}
+use Rattle.hw_lines.specs.inner.Parts.{Grows, IsHeld, IsBridged, IsTapAt}
+use Rattle.hw_lines.specs.inner.Ends.{Ends}
 use Rattle.hw_lines.proofs.Steps.{word-of-word, reg-earlier, tap-named, grows-trans}
 
 self-mod : (n : ℕ) → 0 < n → n % n ≡ 0

@@ -1,5 +1,5 @@
 -- A register or a bridge that is put behind a net, after the Counter of its frame.
-use Rattle.std.proofs.Common.{◌≡◌, ℕ, zero, suc, get_or, Result, Ok, Err, IfOk, OnOk, ℤ, ◌+◌, ◌*◌, ◌<◌, ◌≤◌, ◌⊎◌, inl, inr, List, [], ◌∷◌, ◌++◌, length, All, Contains, Option, None, Some, IsSome, slice_get, slice_index_or, Bool, true, false, ap, sym, ◌∙◌, subst, arith, refl, length-append}
+use Rattle.std.proofs.Common.{◌≡◌, ℕ, zero, suc, get_or, Result, Ok, Err, IfOk, OnOk, ℤ, ◌+◌, ◌*◌, ◌<◌, ◌≤◌, inl, inr, List, [], ◌∷◌, ◌++◌, length, All, Contains, Option, None, Some, IsSome, slice_get, slice_index_or, true, false, ap, sym, ◌∙◌, subst, arith, refl}
 use Rattle.std.proofs.lemmas.Bool.{cases_lt}
 use Rattle.std.proofs.lemmas.Option.{slice_get_within, slice_get_read}
 use Rattle.std.specs.Prelude.{⊤}
@@ -8,13 +8,13 @@ use Rattle.fx_num.specs.Word.{IsWord, InWord}
 use Rattle.hw_net.specs.declared.netlist.Frame.{Frame}
 use Rattle.hw_net.specs.declared.netlist.Net.{Net}
 use Rattle.hw_net.specs.declared.netlist.NetKind.{NetKind}
-use Rattle.hw_net.specs.declared.netlist.NetKind.TheVariants.{Comb, Reg, EnReg, Bridge, Unit, Counter}
+use Rattle.hw_net.specs.declared.netlist.NetKind.TheVariants.{Reg, Bridge, Counter}
 use Rattle.hw_net.specs.Circuit.{Circuit}
 use Rattle.hw_net.specs.Frames.{frame_of, counted_frame, counter_of, is_register, register_count}
 use Rattle.hw_net.specs.Netlist.{IsKind, HasWord, reads, reads_now}
 use Rattle.hw_net.specs.NetRows.{Inputs, Rows, NetShows, span_of}
-use Rattle.hw_net.specs.Growing.{Extends, MayRead, MayReadNow, InRows, Appends, IsAppended, IsCounted, AddsCounter, with_net}
-use Rattle.hw_net.proofs.Growing.{last-of, split-last, longer, one-longer, extends-one, still-there, stood-there, in-rows-one, in-rows-last, differ-other, appends-one, appends-trans, appends-counter, counter-stays, count-append}
+use Rattle.hw_net.specs.Growing.{Extends, MayRead, MayReadNow, InRows, Appends, IsCounted, AddsCounter, with_net}
+use Rattle.hw_net.proofs.Growing.{last-of, split-last, longer, extends-one, still-there, stood-there, in-rows-one, in-rows-last, differ-other, appends-one, appends-trans, appends-counter, counter-stays, count-append}
 use Rattle.hw_lines.specs.Chain.{IsPart}
 use Rattle.hw_lines.specs.inner.Parts.{Grows, SameWord, IsHeld, IsBridged}
 

@@ -1,24 +1,21 @@
 -- A chain that grows by one register, and what is kept of it as the netlist grows.
-use Rattle.std.proofs.Common.{◌≡◌, ℕ, zero, suc, ◌+◌, ◌-◌, ◌*◌, ◌<◌, ◌≤◌, ◌⊎◌, inl, inr, List, [], ◌∷◌, ◌++◌, length, All, Contains, None, Some, slice_get, slice_index_or, ℤ, ap, sym, ◌∙◌, subst, arith, refl, length-append}
+use Rattle.std.proofs.Common.{◌≡◌, ℕ, zero, suc, ◌+◌, ◌-◌, ◌*◌, ◌<◌, inl, inr, List, [], ◌∷◌, ◌++◌, length, Contains, None, Some, ℤ, sym, ◌∙◌, subst, arith, refl}
 use Rattle.std.proofs.lemmas.Bool.{cases_lt}
 use Rattle.std.proofs.lemmas.Option.{slice_get_within}
 use Rattle.std.proofs.lemmas.Nat.{mul-lt}
-use Rattle.std.specs.Prelude.{⊤}
-use Rattle.fx_num.specs.Word.{IsWord, InWord}
 use Rattle.hw_net.specs.declared.netlist.Frame.{Frame}
-use Rattle.hw_net.specs.declared.netlist.Net.{Net}
 use Rattle.hw_net.specs.declared.netlist.NetKind.{NetKind}
 use Rattle.hw_net.specs.declared.netlist.NetKind.TheVariants.{Comb, Reg, EnReg, Bridge, Unit, Counter}
 use Rattle.hw_net.specs.Circuit.{Circuit}
 use Rattle.hw_net.specs.Netlist.{HasWord}
-use Rattle.hw_net.specs.NetRows.{Rows, span_of}
-use Rattle.hw_net.specs.Registers.{Span, IsReg}
-use Rattle.hw_net.specs.Growing.{Extends, InRows, Appends}
+use Rattle.hw_net.specs.NetRows.{span_of}
+use Rattle.hw_net.specs.Registers.{IsReg}
+use Rattle.hw_net.specs.Growing.{Extends}
 use Rattle.hw_net.proofs.Growing.{IsNamed, longer, still-there, stood-there, word-stays, split-last, in-rows-first, in-rows-last, in-rows-both, in-rows-all, appends-self, appends-trans}
 use Rattle.hw_lines.specs.declared.source.Source.{Source}
 use Rattle.hw_lines.specs.Chain.{IsSource, IsPart, IsNewReg, IsAnswer}
 use Rattle.hw_lines.specs.Taps.{IsTap, TapSteps}
-use Rattle.hw_lines.specs.inner.Parts.{IsThere, CanHold, Grows, SameWord, IsHeld, IsTapAt, AreTaps}
+use Rattle.hw_lines.specs.inner.Parts.{CanHold, Grows, SameWord, IsHeld, IsTapAt, AreTaps}
 
 pub source-there : (a : Circuit) (source : Source) → IsSource a source → CanHold a source.from source.first
 source-there a source is = record { there = record { net = is.net; is = is.is; word = is.word }; has_first = is.first }

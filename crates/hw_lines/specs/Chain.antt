@@ -1,5 +1,5 @@
 -- What a chain of registers owes for a source and its uses (own).
-use Rattle.std.specs.Prelude.{◌≡◌, ℕ, ◌+◌, ◌-◌, ◌*◌, ◌/◌, ◌%◌, ◌^◌, ◌<◌, ◌≤◌, ◌⊎◌, ◌||◌, max, ℤ}
+use Rattle.std.specs.Prelude.{◌≡◌, ℕ, ◌+◌, ◌/◌, ◌%◌, ◌^◌, ◌<◌, ◌≤◌, ◌⊎◌, ◌||◌, max, ℤ}
 use Rattle.std.specs.Prelude.{List, [], ◌∷◌, ◌++◌, map, length, Contains, slice_get, Some, Bool}
 use Rattle.std.specs.Prelude.{true, false, if◌then◌else◌, ⊤}
 use Rattle.fx_num.specs.Word.{IsWord, InWord}
@@ -12,7 +12,6 @@ use Rattle.hw_net.specs.Circuit.{Circuit}
 use Rattle.hw_net.specs.ByFrame.{is_same_frame}
 use Rattle.hw_net.specs.Frames.{register_count}
 use Rattle.hw_net.specs.Netlist.{HasWord}
-use Rattle.hw_net.specs.NetRows.{Rows}
 use Rattle.hw_net.specs.Growing.{InRows, Appends}
 use Rattle.hw_lines.specs.declared.source.Source.{Source}
 use Rattle.hw_lines.specs.declared.source.Use.{Use}

@@ -1,5 +1,5 @@
 -- Netlists with nets behind their own: what stood stands, and no frame gets a second Counter.
-use Rattle.std.proofs.Common.{◌≡◌, ℕ, zero, suc, append-nil, append_assoc, ◌+◌, ◌<◌, ◌≤◌, ◌⊎◌, inl, inr, List, [], ◌∷◌, ◌++◌, length, Option, None, Some, IsSome, slice_get, Result, Ok, Err, IfOk, Bool, true, false, if◌then◌else◌, ap, sym, ◌∙◌, subst, arith, refl, length-append}
+use Rattle.std.proofs.Common.{◌≡◌, ℕ, zero, suc, append-nil, append_assoc, ◌+◌, ◌<◌, ◌≤◌, ◌⊎◌, inl, inr, List, [], ◌∷◌, ◌++◌, length, Option, None, Some, IsSome, slice_get, Result, Ok, Err, IfOk, Bool, true, false, if◌then◌else◌, ap, sym, ◌∙◌, arith, refl, length-append}
 use Rattle.std.proofs.lemmas.Bool.{cases_lt}
 use Rattle.std.proofs.lemmas.Option.{slice_get_within}
 use Rattle.hw_net.specs.declared.netlist.Frame.{Frame}
@@ -8,7 +8,7 @@ use Rattle.hw_net.specs.Circuit.{Circuit}
 use Rattle.hw_net.specs.Frames.{is_frame, counted_frame, counter_from, counter_of, register_count, IsCounterAt, IsCounter, CountersDiffer}
 use Rattle.hw_net.specs.Netlist.{HasWord}
 use Rattle.hw_net.specs.Growing.{Extends, with_net}
-use Rattle.hw_net.proofs.Index.{same-is, same-self}
+use Rattle.hw_net.proofs.Index.{same-self}
 
 -- Lists.
 
@@ -127,28 +127,6 @@ counter-absent (one ∷ nets) start (suc k) net frame none there counts = by (λ
     by : (counter_from nets (start + 1) frame ≡ None → ⊥) → (is : Bool) → (if is then Some start else counter_from nets (start + 1) frame) ≡ None → ⊥
     by rest true e = none-some start (sym e)
     by rest false e = rest e
-
-frame-is : (frame : Frame) (found : Option Frame) → is_frame frame found ≡ true → found ≡ Some frame
-frame-is frame None e = absurd (let f : false ≡ true = e in cc)
-frame-is frame (Some own) e = ap Some (same-is own frame e)
-
-counter-is : (nets : List Net) (start k : ℕ) (frame : Frame) → counter_from nets start frame ≡ Some k → (i : ℕ) × ((k ≡ start + i) × IsCounterAt nets i frame)
-counter-is [] start k frame e = absurd (none-some k e)
-counter-is (one ∷ nets) start k frame e = by (λ f. counter-is nets (start + 1) k frame f) (is_frame frame (counted_frame one.kind)) refl e
-  where
-    by : (counter_from nets (start + 1) frame ≡ Some k → (i : ℕ) × ((k ≡ start + 1 + i) × IsCounterAt nets i frame)) → (is : Bool) → is_frame frame (counted_frame one.kind) ≡ is → (if is then Some start else counter_from nets (start + 1) frame) ≡ Some k → (i : ℕ) × ((k ≡ start + i) × IsCounterAt (one ∷ nets) i frame)
-    by more true is f = (0, (omega (arith, same-some start k f), record { net = one; is = refl; counts = frame-is frame (counted_frame one.kind) is }))
-    by more false is f =
-        let rest = more f in
-        let at : IsCounterAt nets rest.0 frame = rest.1.1 in
-        (suc rest.0, (omega (arith, rest.1.0), record { net = at.net; is = at.is; counts = at.counts }))
-
--- the number that a look-up gives is that of a Counter of the frame
-pub counter-of-is : (nets : List Net) (k : ℕ) (frame : Frame) → counter_of nets frame ≡ Some k → IsCounterAt nets k frame
-counter-of-is nets k frame e =
-    let found = counter-is nets 0 k frame e in
-    let same : found.0 ≡ k = omega (arith, found.1.0) in
-    subst (λ (i : ℕ). IsCounterAt nets i frame) same found.1.1
 
 module _ (nets : List Net) (net : Net) (differ : CountersDiffer nets) where
   -- a Counter among the nets or the one put behind them

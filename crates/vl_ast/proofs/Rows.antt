@@ -1,5 +1,5 @@
 -- Numbers of ports, multiplications and each broken condition, worked out by hand.
-use Rattle.std.proofs.Common.{◌≡◌, ◌≤◌, ◌<◌, ◌-◌, ◌^◌, ◌+◌, ◌%◌, ℕ, zero, suc, Bool, true, false, if◌then◌else◌, List, [], ◌∷◌, Option, None, Some, slice_index_or, codes, bytes_eq, pos, negsuc, refl, ap, arith}
+use Rattle.std.proofs.Common.{◌≡◌, ◌≤◌, ◌<◌, ◌-◌, ◌^◌, ◌+◌, ◌%◌, ℕ, zero, suc, Bool, true, false, if◌then◌else◌, List, [], ◌∷◌, Some, slice_index_or, codes, bytes_eq, pos, negsuc, refl, ap, arith}
 use Rattle.std.specs.List.{IsDistinct}
 use Rattle.vl_ast.specs.declared.expressions.BinOp.TheVariants.{Add, Multiply}
 use Rattle.vl_ast.specs.declared.expressions.Sized.{Sized}
@@ -10,7 +10,7 @@ use Rattle.vl_ast.specs.declared.expressions.Expr.TheFolds.{map-Expr, para-Expr,
 use Rattle.vl_ast.specs.declared.modules.Port.{Port}
 use Rattle.vl_ast.specs.declared.modules.Module.{Module}
 use Rattle.vl_ast.specs.declared.modules.ModItem.TheVariants.{Wire, Reg, Assign, Always}
-use Rattle.vl_ast.specs.Conditions.{Undriven, Doubly, CombLoop, TooWide, NoReset, NoAttribute, IsAcyclic, IsFirstFault, IsLoop, AssignmentReads}
+use Rattle.vl_ast.specs.Conditions.{Undriven, Doubly, CombLoop, TooWide, NoReset, NoAttribute, IsFirstFault, IsLoop, AssignmentReads}
 use Rattle.vl_ast.specs.Context.{Net, Operand}
 use Rattle.vl_ast.specs.Driven.{port_number}
 use Rattle.vl_ast.specs.Multiplications.{Multiplication, multiplications_step, multiplications_in, multiplications}

@@ -1,6 +1,5 @@
 -- An expression looks at no more operands than its operation has.
-use Rattle.std.proofs.Common.{◌≡◌, ℕ, ◌<◌, List, ap, arith, refl}
-use Rattle.vl_ast.specs.declared.expressions.Expr.{Expr}
+use Rattle.std.proofs.Common.{◌≡◌, ℕ, ◌<◌, ap, arith, refl}
 use Rattle.hw_net.specs.declared.netlist.NetOp.{NetOp}
 use Rattle.hw_net.specs.declared.netlist.NetOp.TheVariants.{Input, Const, Resize, ShiftUp, ShiftDown, Add, Subtract, Negate, Multiply, And, Or, Xor, Not, Less, Equal, Choose, Slice}
 use Rattle.hw_net.specs.Operation.{arity}

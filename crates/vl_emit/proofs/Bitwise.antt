@@ -1,5 +1,5 @@
 -- Operators bit by bit.
-use Rattle.std.proofs.Common.{◌≡◌, ℕ, ◌-◌, ◌%◌, ◌^◌, ◌<◌, ◌≤◌, max, List, ℤ, pos, negsuc, ◌-ℤ◌, bit_and, bit_or, bit_xor, ap, sym, ◌∙◌, refl, arith}
+use Rattle.std.proofs.Common.{◌≡◌, ℕ, ◌-◌, ◌%◌, ◌^◌, ◌≤◌, max, List, ℤ, pos, negsuc, ◌-ℤ◌, bit_and, bit_or, bit_xor, ap, sym, ◌∙◌, refl, arith}
 use Rattle.std.proofs.lemmas.Int.{ints}
 use Rattle.std.proofs.lemmas.Nat.{and_mod, or_mod, xor_mod}
 use Rattle.vl_ast.specs.declared.expressions.UnOp.TheVariants.{Invert}

@@ -1,5 +1,5 @@
 -- The clock, the reset and the attributes of the module of a netlist.
-use Rattle.std.proofs.Common.{◌≡◌, ◌≢◌, ◌⊎◌, inl, inr, ℕ, ◌^◌, ◌<◌, ◌≤◌, ◌==◌, nat_le, Bool, true, false, not, ◌&&◌, ◌||◌, if◌then◌else◌, List, [], ◌∷◌, ◌++◌, map, flat_map, find, option_map, length, get_or, Contains, codes, Option, Some, None, refl, ap, sym, ◌∙◌, subst, arith}
+use Rattle.std.proofs.Common.{◌≡◌, ◌≢◌, inl, inr, ℕ, ◌^◌, ◌<◌, ◌≤◌, nat_le, true, false, not, ◌&&◌, ◌||◌, if◌then◌else◌, List, [], ◌∷◌, ◌++◌, map, flat_map, find, option_map, length, get_or, Contains, codes, Some, None, refl, ap, sym, ◌∙◌, subst, arith}
 use Rattle.std.specs.Prelude.{is_none}
 use Rattle.std.specs.List.{list_any, AllPairs}
 use Rattle.std.proofs.lemmas.Bool.{le-leb, and_right}
@@ -9,27 +9,25 @@ use Rattle.vl_ast.specs.declared.modules.ModItem.TheVariants as item
 use Rattle.vl_ast.specs.declared.modules.Port.{Port}
 use Rattle.vl_ast.specs.declared.modules.Module.{Module}
 use Rattle.vl_ast.specs.Attributes.{cycles_of, period_of, latency_of}
-use Rattle.vl_ast.specs.Conditions.{BreaksNone, is_bit_input, is_read_of, is_clk_at_fault, is_reset_at_fault, no_reset, lacks_attribute, no_attribute}
+use Rattle.vl_ast.specs.Conditions.{BreaksNone, is_read_of, is_reset_at_fault, no_reset, lacks_attribute, no_attribute}
 use Rattle.vl_ast.specs.Driven.{is_clock_or_reset}
 use Rattle.vl_ast.specs.Nets.{Mention, Declares, Drives, Reads, Clocks, port_declared, item_mentions, mentions, names_read, condition_names, nets_of, place_of}
 use Rattle.vl_ast.specs.Context.{Net as DeclaredNet}
-use Rattle.hw_net.specs.declared.netlist.Net.{Net}
 use Rattle.hw_net.specs.declared.netlist.NetPort.{NetPort}
 use Rattle.hw_net.specs.declared.netlist.NetOp.TheVariants.{Input}
-use Rattle.hw_net.specs.declared.netlist.NetKind.{NetKind}
-use Rattle.hw_net.specs.declared.netlist.NetKind.TheVariants.{Comb, Reg, EnReg, Bridge, Unit, Counter}
+use Rattle.hw_net.specs.declared.netlist.NetKind.TheVariants.{Comb, Reg}
 use Rattle.hw_net.specs.Circuit.{Circuit}
 use Rattle.hw_net.specs.Netlist.{IsNetlist}
 use Rattle.vl_emit.specs.Emittable.{IsPeriod, IsEmittable}
-use Rattle.vl_emit.specs.Header.{bit_input, input_port, output_port, ports_of, HasHeader}
+use Rattle.vl_emit.specs.Header.{input_port, output_port, HasHeader}
 use Rattle.vl_emit.specs.Names.{net_at, name_of, hold_name, port_at, input_wire}
 use Rattle.vl_emit.specs.Reads.{item_reads}
-use Rattle.vl_emit.specs.inner.Emitted.{declarers, drivers, output_item, naming_of, module_of, items_of}
+use Rattle.vl_emit.specs.inner.Emitted.{naming_of, module_of}
 use Rattle.vl_emit.proofs.Cleaned.{name-clean}
 use Rattle.vl_emit.proofs.NoDouble.{differ-test}
 use Rattle.vl_emit.proofs.Doubly.{emitted-once}
-use Rattle.vl_emit.proofs.Found.{no-element, first-or-later, here, later, of-one, of-mapped}
-use Rattle.vl_emit.proofs.Interfaces.{Origin as PortOrigin, OfClock, OfReset, OfInput, OfOutput, port-where, input-name, output-name, ports-differ, emitted, only, name-begins, input-there}
+use Rattle.vl_emit.proofs.Found.{no-element, first-or-later, of-one, of-mapped}
+use Rattle.vl_emit.proofs.Interfaces.{Origin as PortOrigin, OfClock, OfReset, OfInput, OfOutput, port-where, input-name, ports-differ, emitted, only, name-begins, input-there}
 use Rattle.vl_emit.proofs.Lists.{none-of, at-contains, back-pairs}
 use Rattle.vl_emit.proofs.NoLoop.{no-loop}
 use Rattle.vl_emit.proofs.Origins.{Origin, Declaring, Driving, Showing, origin, declarer-of, driver-clean, has}

@@ -4,24 +4,20 @@ use Rattle.std.specs.Fmt.{decimal}
 use Rattle.std.specs.List.{AllPairs}
 use Rattle.std.proofs.lemmas.Bool.{eqb-true, eqb-false}
 use Rattle.std.proofs.lemmas.List.Elements.{All-contains, Contains-append_left, Contains-append_right, Contains-append_cases}
-use Rattle.fx_num.specs.Word.{IsWord}
 use Rattle.vl_ast.specs.declared.modules.Port.{Port}
-use Rattle.vl_ast.specs.declared.modules.Module.{Module}
 use Rattle.vl_ast.specs.Conditions.{is_width}
-use Rattle.hw_net.specs.declared.netlist.Net.{Net}
 use Rattle.hw_net.specs.declared.netlist.NetPort.{NetPort}
 use Rattle.hw_net.specs.declared.netlist.NetLabel.{NetLabel}
 use Rattle.hw_net.specs.declared.netlist.NetOp.TheVariants.{Input}
-use Rattle.hw_net.specs.declared.netlist.NetKind.{NetKind}
 use Rattle.hw_net.specs.declared.netlist.NetKind.TheVariants.{Comb}
 use Rattle.hw_net.specs.Circuit.{Circuit}
 use Rattle.hw_net.specs.Netlist.{IsNetlist}
-use Rattle.vl_emit.specs.Emittable.{IsPortName, ArePorts, IsLabelName, AreLabels, IsEmittable}
+use Rattle.vl_emit.specs.Emittable.{IsPortName, IsLabelName, AreLabels, IsEmittable}
 use Rattle.vl_emit.specs.Header.{bit_input, input_port, output_port, ports_of}
-use Rattle.vl_emit.specs.Names.{net_name, hold_name, net_at, port_at, name_by, name_of, input_wire}
+use Rattle.vl_emit.specs.Names.{net_name, hold_name, net_at, port_at, name_by}
 use Rattle.vl_emit.specs.inner.Emitted.{naming_of, module_of}
 use Rattle.vl_emit.specs.inner.Ready.{IsReady}
-use Rattle.vl_emit.specs.inner.Sound.{AreNames, IsPort, HasPorts, HasOnly, IsEmitted, wire_of_output}
+use Rattle.vl_emit.specs.inner.Sound.{AreNames, HasPorts, HasOnly, IsEmitted}
 use Rattle.vl_emit.proofs.Drivers.{net-width}
 use Rattle.vl_emit.proofs.Found.{no-element, first-or-later, here, later, mapped, of-mapped, names-differ, holds-differ, net-is-no-hold}
 use Rattle.vl_emit.proofs.Lists.{at-contains, default-free, head-pairs, tail-pairs, same-element, pairs-cons, map-pairs}

@@ -1,10 +1,10 @@
 -- For each net the place of its label.
-use Rattle.std.proofs.Common.{◌≡◌, ◌≢◌, ℕ, zero, suc, ◌+◌, ◌<◌, ◌==◌, Bool, true, false, if◌then◌else◌, List, [], ◌∷◌, ◌++◌, length, get_or, set, drop, Option, None, Some, refl, ap, sym, ◌∙◌, subst, arith, add-one}
+use Rattle.std.proofs.Common.{◌≡◌, ℕ, zero, suc, ◌+◌, ◌<◌, ◌==◌, Bool, true, false, if◌then◌else◌, List, [], ◌∷◌, ◌++◌, length, get_or, set, drop, Option, None, Some, refl, ap, sym, ◌∙◌, arith, add-one}
 use Rattle.std.proofs.lemmas.List.{length-set, get_or-set_same, get_or-set_other}
 use Rattle.std.proofs.Math.Seq.{drop-cons}
 use Rattle.std.proofs.lemmas.Bool.{eqb-true, eqb-false}
 use Rattle.hw_net.specs.declared.netlist.NetLabel.{NetLabel}
-use Rattle.vl_emit.specs.Names.{net_name, name_by}
+use Rattle.vl_emit.specs.Names.{name_by}
 use Rattle.vl_emit.specs.inner.Ready.{label_at, label_text, IsIndexFrom}
 
 pub none-pushed : (places : List (Option ℕ)) → ((k : ℕ) → get_or places k None ≡ None) → (k : ℕ) → get_or (places ++ None ∷ []) k None ≡ None

@@ -1,5 +1,5 @@
 -- The multiplications and the registers of the module of a netlist.
-use Rattle.std.proofs.Common.{max, ◌≡◌, ◌⊎◌, inl, inr, ℕ, zero, suc, ◌^◌, ◌<◌, ◌≤◌, Bool, true, false, List, [], ◌∷◌, ◌++◌, map, flat_map, length, get_or, Contains, refl, ap, sym, ◌∙◌, subst, arith, append-nil}
+use Rattle.std.proofs.Common.{max, ◌≡◌, ℕ, zero, suc, ◌^◌, ◌<◌, ◌≤◌, Bool, true, false, List, [], ◌∷◌, ◌++◌, map, flat_map, length, get_or, Contains, refl, ap, sym, ◌∙◌, subst, arith, append-nil}
 use Rattle.std.specs.Prelude.{⊤}
 use Rattle.std.specs.List.{AllZip}
 use Rattle.std.proofs.lemmas.Grind.{flat_map-append}
@@ -14,15 +14,14 @@ use Rattle.vl_ast.specs.Multiplications.{Multiplication, multiplications, item_m
 use Rattle.vl_ast.specs.Nets.{nets_of}
 use Rattle.hw_net.specs.declared.netlist.Net.{Net}
 use Rattle.hw_net.specs.declared.netlist.NetPort.{NetPort}
-use Rattle.hw_net.specs.declared.netlist.NetOp.{NetOp}
 use Rattle.hw_net.specs.declared.netlist.NetOp.TheVariants.{Input, Const, Resize, ShiftUp, ShiftDown, Add, Subtract, Negate, Multiply, And, Or, Xor, Not, Less, Equal, Choose, Slice}
 use Rattle.hw_net.specs.declared.netlist.NetKind.{NetKind}
 use Rattle.hw_net.specs.declared.netlist.NetKind.TheVariants.{Comb, Reg, EnReg, Bridge, Unit, Counter}
 use Rattle.hw_net.specs.Circuit.{Circuit}
 use Rattle.hw_net.specs.Netlist.{IsNetlist}
 use Rattle.vl_emit.specs.Emittable.{IsEmittable}
-use Rattle.vl_emit.specs.Names.{Wire, net_at, net_wire, places, shown}
-use Rattle.vl_emit.specs.Products.{Product, HasFactor, IsProduct, ProductsAre, unit_product, op_product, comb_product, products_of}
+use Rattle.vl_emit.specs.Names.{net_at, net_wire, places, shown}
+use Rattle.vl_emit.specs.Products.{HasFactor, IsProduct, ProductsAre, unit_product, comb_product, products_of}
 use Rattle.vl_emit.specs.Registers.{declared_register, register_name, RegistersAre}
 use Rattle.vl_emit.specs.inner.Emitted.{Naming, wire_of, drivers, declarers, unit_drivers, other_drivers, output_item, naming_of, module_of}
 use Rattle.vl_emit.specs.inner.Sound.{IsSound, IsSoundKind}
@@ -30,7 +29,7 @@ use Rattle.vl_emit.specs.inner.Spelled.{at_width}
 use Rattle.vl_emit.proofs.AtWidth.{operand-written}
 use Rattle.vl_emit.proofs.Cleaned.{Readable, at-clean, name-clean, word-most, binary-products}
 use Rattle.vl_emit.proofs.Drivers.{multiplies, assign-clean}
-use Rattle.vl_emit.proofs.Found.{no-element, first-or-later, here, later, of-one, of-mapped, below-place, one-more}
+use Rattle.vl_emit.proofs.Found.{no-element, of-one, of-mapped, one-more}
 use Rattle.vl_emit.proofs.Layers.{length-Binary}
 use Rattle.vl_emit.proofs.Lists.{empty-list, flat_map-twice, flat_map-same}
 use Rattle.vl_emit.proofs.OfOperations.{width-at-least}

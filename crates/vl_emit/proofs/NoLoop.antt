@@ -27,7 +27,7 @@ use Rattle.vl_emit.proofs.NetItems.{units-drive, others-drive, has-nets, hold_dr
 use Rattle.vl_emit.proofs.Cleaned.{Readable, name-clean}
 use Rattle.vl_emit.proofs.Drivers.{multiplies, drivers-clean, bridge-clean}
 use Rattle.vl_emit.proofs.Ports.{named-net}
-use Rattle.vl_emit.proofs.Undriven.{declarers-are, emitted-undriven, emitted-narrow}
+use Rattle.vl_emit.proofs.Undriven.{declarers-are}
 
 -- net j is read by net k in the same clock
 abbrev NamedNow : Naming → NetKind → ℕ → Type 0

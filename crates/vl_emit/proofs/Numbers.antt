@@ -1,5 +1,5 @@
 -- The number that bits of a word show, and the bits of the number.
-use Rattle.std.proofs.Common.{◌≡◌, ◌⊎◌, inl, inr, ℕ, ◌+◌, ◌-◌, ◌%◌, ◌^◌, ◌<◌, ◌≤◌, nat_le, Bool, true, false, ◌&&◌, if◌then◌else◌, List, Contains, find, bytes_eq, Option, None, Some, ℤ, pos, negsuc, ◌-ℤ◌, ap, sym, ◌∙◌, subst, refl, arith, pow_pos}
+use Rattle.std.proofs.Common.{◌≡◌, ℕ, ◌-◌, ◌%◌, ◌^◌, ◌<◌, ◌≤◌, nat_le, Bool, true, false, List, Contains, find, bytes_eq, Option, None, Some, ℤ, pos, negsuc, ◌-ℤ◌, ap, sym, ◌∙◌, subst, refl, arith, pow_pos}
 use Rattle.std.proofs.lemmas.Int.{ints}
 use Rattle.std.proofs.lemmas.Bool.{cond_both, leb-true, leb-false}
 use Rattle.std.proofs.lemmas.Slice.Eq.{bytes_eq-Decides}
@@ -8,7 +8,7 @@ use Rattle.fx_num.specs.Word.{IsWord, InWord, IsCongruent, IsWrapped}
 use Rattle.fx_num.proofs.Arithmetic.{double, IsCongruent-sym, IsCongruent-trans}
 use Rattle.vl_ast.specs.declared.modules.Module.{Module}
 use Rattle.vl_ast.specs.Context.{Net as DeclaredNet}
-use Rattle.vl_ast.specs.Value.{Bits, number_of}
+use Rattle.vl_ast.specs.Value.{number_of}
 use Rattle.vl_ast.specs.Nets.{Declared, declarations, nets_of, net_or_none}
 use Rattle.vl_ast.specs.Value.{bits_of}
 use Rattle.vl_emit.proofs.AtWidth.{size-half}

@@ -1,6 +1,6 @@
 -- Conditions that look at what stands before a place: a list that is made place by place is without a
 -- fault where each part is, after the parts before it.
-use Rattle.std.proofs.Common.{◌≡◌, ℕ, zero, suc, ◌<◌, Bool, true, false, if◌then◌else◌, List, [], ◌∷◌, ◌++◌, flat_map, Contains, Some, None, refl, ap, sym, ◌∙◌, subst, arith, append_assoc, append-nil}
+use Rattle.std.proofs.Common.{◌≡◌, ℕ, zero, suc, ◌<◌, Bool, true, false, if◌then◌else◌, List, [], ◌∷◌, ◌++◌, flat_map, Contains, Some, None, refl, sym, ◌∙◌, subst, arith, append_assoc, append-nil}
 use Rattle.vl_ast.specs.Nets.{Mention}
 use Rattle.vl_ast.specs.Conditions.{first_fault, mentioned}
 use Rattle.vl_emit.specs.Names.{places}

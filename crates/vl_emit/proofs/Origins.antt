@@ -1,14 +1,12 @@
 -- Where an item of the module of a netlist comes from, and what it reads.
-use Rattle.std.proofs.Common.{◌≡◌, ◌≢◌, ◌⊎◌, inl, inr, ℕ, ◌^◌, ◌<◌, true, false, List, [], ◌∷◌, ◌++◌, map, flat_map, length, get_or, Contains, Option, None, Some, ℤ, refl, ap, sym, ◌∙◌, subst, arith}
+use Rattle.std.proofs.Common.{◌≡◌, ◌⊎◌, inl, inr, ℕ, ◌^◌, ◌<◌, true, false, List, [], ◌∷◌, ◌++◌, map, flat_map, length, get_or, Contains, Option, ℤ, refl, ap, sym, ◌∙◌, subst, arith}
 use Rattle.std.specs.Prelude.{unwrap_or, ⊤}
-use Rattle.std.proofs.lemmas.List.Elements.{Contains-append_left, Contains-append_right, Contains-append_cases}
-use Rattle.std.proofs.lemmas.Option.{slice_get-get_or}
+use Rattle.std.proofs.lemmas.List.Elements.{Contains-append_right, Contains-append_cases}
 use Rattle.vl_ast.specs.declared.expressions.Sized.{Sized}
 use Rattle.vl_ast.specs.declared.expressions.Expr.{Expr}
 use Rattle.vl_ast.specs.declared.expressions.Expr.TheVariants as expression
 use Rattle.vl_ast.specs.declared.modules.ModItem.{ModItem}
 use Rattle.vl_ast.specs.declared.modules.ModItem.TheVariants as item
-use Rattle.vl_ast.specs.declared.modules.Port.{Port}
 use Rattle.vl_ast.specs.Context.{Net as DeclaredNet}
 use Rattle.vl_ast.specs.Conditions.{item_name}
 use Rattle.vl_ast.specs.Nets.{nets_of}
@@ -24,18 +22,17 @@ use Rattle.hw_net.specs.Frames.{counter_of}
 use Rattle.hw_net.specs.Netlist.{IsNetlist, reads}
 use Rattle.hw_net.specs.Operation.{arity}
 use Rattle.vl_emit.specs.Emittable.{IsEmittable}
-use Rattle.vl_emit.specs.Header.{ports_of}
 use Rattle.vl_emit.specs.Names.{net_at, name_of, hold_name, input_wire, places}
 use Rattle.vl_emit.specs.Reads.{item_reads, IsNamed, IsCounterName, MayRead, ReadsOnly}
-use Rattle.vl_emit.specs.inner.Clean.{IsClean, IsCleanItem}
-use Rattle.vl_emit.specs.inner.Emitted.{Naming, wire_of, drivers, declarers, unit_drivers, other_drivers, output_item, naming_of, module_of, items_of}
+use Rattle.vl_emit.specs.inner.Clean.{IsCleanItem}
+use Rattle.vl_emit.specs.inner.Emitted.{Naming, drivers, declarers, unit_drivers, other_drivers, output_item, naming_of, module_of, items_of}
 use Rattle.vl_emit.specs.inner.Ready.{IsReady, IsTimed}
 use Rattle.vl_emit.specs.inner.Sound.{IsSound, HasNets, IsEmitted, NamedBy}
-use Rattle.vl_emit.proofs.Cleaned.{Readable, name-clean}
+use Rattle.vl_emit.proofs.Cleaned.{name-clean}
 use Rattle.vl_emit.proofs.Drivers.{multiplies, drivers-clean}
 use Rattle.vl_emit.proofs.Found.{no-element, first-or-later, here, later, of-one, of-mapped, below-place}
-use Rattle.vl_emit.proofs.Interfaces.{emitted, output-name, name-begins}
-use Rattle.vl_emit.proofs.Lists.{at-contains, same-element, apart-pairs}
+use Rattle.vl_emit.proofs.Interfaces.{emitted}
+use Rattle.vl_emit.proofs.Lists.{at-contains, same-element}
 use Rattle.vl_emit.proofs.NetItems.{units-drive, others-drive, hold_driver, hold_declarer, has-nets}
 use Rattle.vl_emit.proofs.Ports.{named-net}
 use Rattle.vl_emit.proofs.Sounds.{netlist-sound, netlist-ready}

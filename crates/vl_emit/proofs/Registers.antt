@@ -1,8 +1,7 @@
 -- What a register takes at an edge, and what the tests on a counter tell.
-use Rattle.std.proofs.Common.{◌≡◌, ℕ, zero, suc, ◌+◌, ◌-◌, ◌*◌, ◌%◌, ◌^◌, ◌<◌, ◌≤◌, ◌==◌, nat_le, nat_lt, max, Bool, true, false, not, ◌&&◌, if◌then◌else◌, List, ℤ, pos, int_lt, Option, codes, ap, sym, ◌∙◌, subst, refl, arith}
-use Rattle.std.proofs.lemmas.Bool.{cond_both, ltb-true, ltb-false, and_right, ne_eqb}
-use Rattle.std.proofs.lemmas.Nat.{mod_below}
-use Rattle.std.proofs.Math.Nat.{mod-eq_of_lt, mul-le-mul_right, add-mul}
+use Rattle.std.proofs.Common.{◌≡◌, ℕ, zero, suc, ◌-◌, ◌*◌, ◌%◌, ◌^◌, ◌<◌, ◌==◌, nat_lt, max, Bool, true, false, not, ◌&&◌, if◌then◌else◌, List, ℤ, pos, int_lt, Option, codes, ap, sym, ◌∙◌, subst, refl, arith}
+use Rattle.std.proofs.lemmas.Bool.{and_right}
+use Rattle.std.proofs.Math.Nat.{mod-eq_of_lt}
 use Rattle.fx_num.specs.Word.{IsCongruent}
 use Rattle.fx_num.proofs.Arithmetic.{IsCongruent-trans}
 use Rattle.vl_ast.specs.declared.expressions.BinOp.TheVariants as binary
@@ -15,13 +14,11 @@ use Rattle.vl_ast.specs.Value.{extended, is_negative, number_of, truth, assigned
 use Rattle.vl_ast.specs.Nets.{nets_of}
 use Rattle.vl_ast.specs.Value.{bits_of}
 use Rattle.vl_ast.specs.Runs.{next_bits, takes_value}
-use Rattle.hw_net.specs.declared.netlist.Frame.{Frame}
 use Rattle.vl_emit.specs.Names.{Wire}
-use Rattle.vl_emit.specs.inner.Spelled.{zeros}
 use Rattle.vl_emit.specs.inner.Written.{IsWritten, Shows}
-use Rattle.vl_emit.specs.inner.Emitted.{plain_number, counts, slot_test, live_test}
+use Rattle.vl_emit.specs.inner.Emitted.{plain_number, counts}
 use Rattle.vl_emit.proofs.Layers.{length-Name, value-Name, length-Binary, length-Literal, sign-Literal, value-Binary, value-Literal, by_itself}
-use Rattle.vl_emit.proofs.AtWidth.{extended-same, as-name, zeros-written, alone-written, assigned-written}
+use Rattle.vl_emit.proofs.AtWidth.{extended-same, as-name, alone-written, assigned-written}
 use Rattle.vl_emit.proofs.Operations.{truth-bit, equal-written, together-written}
 use Rattle.vl_emit.proofs.Twos.{bits-congruent, bits-unique, bits-mod}
 

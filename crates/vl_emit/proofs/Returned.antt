@@ -1,6 +1,5 @@
 -- What holds of the module of a netlist holds of a result that is it.
-use Rattle.std.proofs.Common.{◌≡◌, ℕ, ◌^◌, ◌<◌, IfOk, Ok, Err, Result, length, sym, subst}
-use Rattle.std.specs.Prelude.{⊤}
+use Rattle.std.proofs.Common.{◌≡◌, IfOk, Ok, Err, Result, sym, subst}
 use Rattle.vl_ast.specs.declared.modules.Module.{Module}
 
 pub if-made : {E : Type 0} (made : Module) (few : Type 0) (P : Module → Type 0) (r : Result Module E) → IfOk r (λ m. m ≡ made) → IfOk r (λ m. few) → (few → P made) → IfOk r P

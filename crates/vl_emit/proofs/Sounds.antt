@@ -1,5 +1,5 @@
 -- A netlist that can be run and has its Counters is sound, net by net.
-use Rattle.std.proofs.Common.{◌≡◌, ◌⊎◌, inl, inr, ℕ, zero, suc, ◌+◌, ◌-◌, ◌*◌, ◌^◌, ◌<◌, ◌≤◌, ◌==◌, Bool, true, false, ◌&&◌, if◌then◌else◌, List, [], ◌∷◌, length, get_or, slice_get, Contains, Option, None, Some, ℤ, pos, refl, ap, sym, ◌∙◌, subst, arith}
+use Rattle.std.proofs.Common.{◌≡◌, ℕ, suc, ◌+◌, ◌-◌, ◌*◌, ◌<◌, ◌==◌, Bool, true, false, if◌then◌else◌, List, [], ◌∷◌, length, get_or, slice_get, Contains, Option, Some, pos, refl, ap, sym, ◌∙◌, subst, arith}
 use Rattle.std.specs.Prelude.{All, IsSome, unwrap_or}
 use Rattle.std.proofs.lemmas.Bool.{and_parts, eqb-true}
 use Rattle.std.proofs.lemmas.Option.{slice_get-get_or, get_or_from_slice_get, slice_get_within}
@@ -21,7 +21,7 @@ use Rattle.hw_net.specs.Operation.{arity}
 use Rattle.vl_emit.specs.Names.{net_at, port_at, no_net}
 use Rattle.vl_emit.specs.inner.Emitted.{Naming, naming_of}
 use Rattle.vl_emit.specs.inner.Ready.{IsTimed, IsReady, AreReady}
-use Rattle.vl_emit.specs.inner.Sound.{IsCounted, IsBefore, HasWordOf, Takes, IsSoundKind, IsSound}
+use Rattle.vl_emit.specs.inner.Sound.{IsCounted, HasWordOf, IsSoundKind, IsSound}
 use Rattle.vl_emit.specs.inner.Spoken.{IsWithin}
 use Rattle.vl_emit.proofs.AtWidth.{size-below}
 use Rattle.vl_emit.proofs.Lists.{at-contains, some-of}

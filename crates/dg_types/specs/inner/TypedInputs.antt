@@ -1,6 +1,5 @@
 -- What the inputs of a block carry, and what a block must have for its type to be worked out (own).
 use Rattle.std.specs.Prelude.{◌≡◌, ℕ, ◌<◌, ◌==◌, ◌&&◌, nat_le, Bool, true, List, [], ◌∷◌, ◌++◌, length, map, All, Option, Some, None, ⊤, pos, negsuc, int_le, slice_get, slice_index_or}
-use Rattle.std.specs.Option.{option_map}
 use Rattle.fx_type.specs.declared.kind.FxType.{FxType}
 use Rattle.fx_type.specs.declared.kind.FxType.TheVariants.{Num, Logical}
 use Rattle.fx_type.specs.declared.spec.TypeSpec.{TypeSpec}

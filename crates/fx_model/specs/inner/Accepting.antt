@@ -1,5 +1,5 @@
 -- A fault of a diagram, as one of its model.
-use Rattle.std.specs.Prelude.{◌≡◌, List}
+use Rattle.std.specs.Prelude.{List}
 use Rattle.dg_model.specs.declared.diagram.Block.{Block}
 use Rattle.dg_model.specs.declared.fault.CheckFault.{CheckFault}
 use Rattle.dg_model.specs.declared.fault.CheckFault.TheVariants as check

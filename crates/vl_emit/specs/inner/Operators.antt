@@ -2,7 +2,7 @@
 -- at which it is used. Where one operand of a comparison is signed and the other isn't, both are
 -- written one bit longer than the unsigned one and are compared as signed.
 use Rattle.std.specs.Prelude.{Bool, ℕ, ◌+◌, ◌-◌, ◌==◌, nat_le, nat_lt, max, false, if◌then◌else◌}
-use Rattle.std.specs.Prelude.{List, [], ◌∷◌, ◌||◌}
+use Rattle.std.specs.Prelude.{[], ◌∷◌, ◌||◌}
 use Rattle.vl_ast.specs.declared.expressions.UnOp.TheVariants as unary
 use Rattle.vl_ast.specs.declared.expressions.BinOp.{BinOp}
 use Rattle.vl_ast.specs.declared.expressions.BinOp.TheVariants as binary

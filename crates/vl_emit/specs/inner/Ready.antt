@@ -1,9 +1,8 @@
 -- What the code asks of a netlist and of the places of its labels.
-use Rattle.std.specs.Prelude.{◌≡◌, ◌+◌, ◌*◌, ◌<◌, ℕ, List, length, get_or, slice_index_or, [], ◌∷◌}
-use Rattle.std.specs.Prelude.{map, Option, None, Some, IsSome, ⊤, Contains}
+use Rattle.std.specs.Prelude.{◌≡◌, ◌<◌, ℕ, List, length, get_or, slice_index_or, [], ◌∷◌}
+use Rattle.std.specs.Prelude.{map, Option, None, Some, IsSome, Contains}
 use Rattle.fx_num.specs.Word.{IsWord}
 use Rattle.hw_net.specs.declared.netlist.Frame.{Frame}
-use Rattle.hw_net.specs.declared.netlist.NetPort.{NetPort}
 use Rattle.hw_net.specs.declared.netlist.NetLabel.{NetLabel}
 use Rattle.hw_net.specs.declared.netlist.NetOp.{NetOp}
 use Rattle.hw_net.specs.declared.netlist.NetOp.TheVariants.{Input}

@@ -1,6 +1,6 @@
 -- How a piece of a net is written as an expression, at the width at which it is used. A select is
 -- of a net of at least two bits.
-use Rattle.std.specs.Prelude.{ℕ, ◌+◌, ◌-◌, ◌==◌, nat_le, Bool, false, if◌then◌else◌, List, [], ◌∷◌}
+use Rattle.std.specs.Prelude.{ℕ, ◌+◌, ◌-◌, ◌==◌, nat_le, false, if◌then◌else◌, [], ◌∷◌}
 use Rattle.vl_emit.specs.Names.{Wire}
 use Rattle.vl_ast.specs.declared.expressions.Expr.{Expr}
 use Rattle.vl_ast.specs.declared.expressions.Expr.TheVariants.{Name, Bit, Part, Literal, Concat}

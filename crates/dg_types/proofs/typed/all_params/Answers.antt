@@ -1,4 +1,4 @@
-use Rattle.std.proofs.Common.{◌≡◌, ℕ, List, map, ◌++◌, ◌∷◌, [], ap, sym, ◌∙◌}
+use Rattle.std.proofs.Common.{ℕ, List, map, ◌++◌, ◌∷◌, [], ap, sym, ◌∙◌}
 use Rattle.dg_waves.specs.Rounds.{numbers_from}
 use Rattle.fx_type.specs.declared.kind.FxType.{FxType}
 use Rattle.dg_model.specs.Attributes.{or_logical, param_type_at}

@@ -1,4 +1,4 @@
-use Rattle.std.proofs.Common.{◌≡◌, ◌/◌, ◌^◌, ◌<◌, ◌≤◌, arith, sym, pow_mono}
+use Rattle.std.proofs.Common.{◌^◌, ◌<◌, ◌≤◌, arith, sym, pow_mono}
 use Rattle.std.proofs.Math.Nat.{div-eq_of_lt}
 use Rattle.dg_types.proofs.typed_fit.shifted_down.Goals as goal
 

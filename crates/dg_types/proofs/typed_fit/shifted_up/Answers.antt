@@ -1,4 +1,4 @@
-use Rattle.std.proofs.Common.{◌*◌, ◌^◌, ◌<◌, ◌≤◌, arith, mul-le-mul_right, pow_mono}
+use Rattle.std.proofs.Common.{◌*◌, ◌^◌, ◌≤◌, arith, mul-le-mul_right, pow_mono}
 use Rattle.dg_types.proofs.typed_fit.shifted_up.Goals as goal
 
 pub returns-else-by-lt128 : goal.returns-else-by-lt128

@@ -1,4 +1,4 @@
-use Rattle.std.proofs.Common.{◌≡◌, ℕ, ◌+◌, ◌-◌, ◌≤◌, ◌<◌, length, take, get_or, Some, None, Option, ℤ, pos, ◌-ℤ◌, to_z, of_z, ap, sym, ◌∙◌, subst, arith}
+use Rattle.std.proofs.Common.{◌≡◌, ◌-◌, ◌<◌, take, get_or, Some, None, ℤ, pos, ◌-ℤ◌, to_z, of_z, ap, sym, ◌∙◌, arith}
 use Rattle.std.specs.Int.{w16}
 use Rattle.std.specs.List.{find, range_with_len}
 use Rattle.std.proofs.lemmas.Int.{ints}
@@ -6,7 +6,7 @@ use Rattle.std.proofs.lemmas.List.{take_all}
 use Rattle.std.proofs.lemmas.List.Elements.{All-take}
 use Rattle.fx_type.specs.declared.decimal.Decimal.{Decimal}
 use Rattle.dg_model.specs.GainParam.{frac_down}
-use Rattle.dg_types.specs.inner.TypedFit.{at_step, HasSign, IsLowered}
+use Rattle.dg_types.specs.inner.TypedFit.{at_step, HasSign}
 use Rattle.dg_types.proofs.TypedSearch.{lowered_more}
 use Rattle.dg_types.proofs.TypedGreatest.{greatest_none, greatest_some}
 use Rattle.dg_types.proofs.typed_param.greatest_fit.Goals as goal

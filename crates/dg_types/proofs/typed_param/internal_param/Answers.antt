@@ -1,8 +1,7 @@
-use Rattle.std.proofs.Common.{◌≡◌, ◌∙◌, ap, sym, subst, ℤ, Some, Option, Bool, FitsSigned, to_z, of_z, rules}
+use Rattle.std.proofs.Common.{◌≡◌, ◌∙◌, ap, sym, ℤ, Some, FitsSigned, to_z, of_z, rules}
 use Rattle.std.specs.Int.{w16}
 use Rattle.std.proofs.lemmas.Int.{to_z-of_z}
 use Rattle.fx_type.specs.declared.kind.FxType.TheVariants.{Num}
-use Rattle.dg_types.specs.inner.TypedFit.{internal_param}
 use Rattle.dg_types.proofs.TypedGreatest.{internal_zero, internal_none, internal_some, width_is}
 use Rattle.dg_types.proofs.typed_param.internal_param.Goals as goal
 

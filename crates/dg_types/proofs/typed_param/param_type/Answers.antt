@@ -1,4 +1,4 @@
-use Rattle.std.proofs.Common.{◌≡◌, ◌∙◌}
+use Rattle.std.proofs.Common.{◌∙◌}
 use Rattle.dg_types.proofs.TypedGreatest.{by_fixed, by_internal, by_same, by_auto}
 use Rattle.dg_types.proofs.typed_param.param_type.Goals as goal
 

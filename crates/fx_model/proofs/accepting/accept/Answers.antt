@@ -1,6 +1,4 @@
-use Rattle.std.proofs.Common.{◌≡◌, ℕ, List, [], Err, sym, ◌∙◌}
-use Rattle.dg_model.specs.declared.diagram.Block.{Block}
-use Rattle.dg_model.specs.declared.fault.RuleFault.{RuleFault}
+use Rattle.std.proofs.Common.{◌≡◌, [], sym, ◌∙◌}
 use Rattle.fx_model.specs.declared.accepting.ModelFault.TheVariants.{Broken}
 use Rattle.fx_model.specs.inner.Accepting.{fault_of}
 use Rattle.fx_model.proofs.Refused.{refused-tree}

@@ -1,11 +1,8 @@
-use Rattle.std.proofs.Common.{◌≡◌, ◌+◌, ◌<◌, ℕ, Some, IfOk, OnOk, length}
+use Rattle.std.proofs.Common.{◌≡◌, ◌+◌, IfOk, OnOk}
 use Rattle.std.specs.Prelude.{⊤}
-use Rattle.std.specs.Int.{w128}
-use Rattle.std.proofs.lemmas.Int.{to_z-of_z}
-use Rattle.hw_net.specs.declared.netlist.Net.{Net}
-use Rattle.hw_net.specs.Frames.{counter_of, register_count}
-use Rattle.hw_lines.specs.inner.Parts.{Grows, IsHeld, IsBridged}
-use Rattle.hw_lines.proofs.Parts.{read-net, register-part, bridge-part}
+use Rattle.hw_net.specs.Frames.{register_count}
+use Rattle.hw_lines.specs.inner.Parts.{Grows, IsBridged}
+use Rattle.hw_lines.proofs.Parts.{read-net, bridge-part}
 use Rattle.hw_lines.proofs.registers.bridge_at.Goals as goal
 
 parts : (c : goal.After-add) → IfOk c.add.result (λ number. IsBridged c.args.net.now c.add.new.self c.args.from c.args.frame c.args.live number)

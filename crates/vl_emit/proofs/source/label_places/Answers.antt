@@ -1,7 +1,7 @@
-use Rattle.std.proofs.Common.{◌≡◌, ℕ, ◌+◌, ◌-◌, ◌<◌, List, length, get_or, drop, set, Some, arith, ap, sym, subst}
+use Rattle.std.proofs.Common.{◌≡◌, ℕ, ◌+◌, ◌-◌, ◌<◌, length, get_or, drop, set, Some, arith, subst}
 use Rattle.hw_net.specs.declared.netlist.NetLabel.{NetLabel}
 use Rattle.vl_emit.specs.inner.Ready.{label_at, IsIndexFrom}
-use Rattle.vl_emit.proofs.Labels.{index-start, index-step}
+use Rattle.vl_emit.proofs.Labels.{index-step}
 use Rattle.vl_emit.proofs.Lists.{at-contains, default-free}
 use Rattle.vl_emit.proofs.source.label_places.Goals as goal
 

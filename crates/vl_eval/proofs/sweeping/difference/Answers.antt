@@ -1,4 +1,4 @@
-use Rattle.std.proofs.Common.{◌≡◌, ◌+◌, ◌-◌, ◌%◌, ◌^◌, bit_and, ◌∙◌}
+use Rattle.std.proofs.Common.{◌+◌, ◌-◌, ◌%◌, ◌^◌, bit_and, ◌∙◌}
 use Rattle.vl_eval.proofs.Halves.{half-difference}
 use Rattle.vl_eval.proofs.sweeping.difference.Goals as goal
 

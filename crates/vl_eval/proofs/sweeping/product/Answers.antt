@@ -1,4 +1,4 @@
-use Rattle.std.proofs.Common.{◌≡◌, ◌*◌, ◌%◌, ◌^◌, bit_and, ◌∙◌}
+use Rattle.std.proofs.Common.{◌*◌, ◌%◌, ◌^◌, bit_and, ◌∙◌}
 use Rattle.vl_eval.proofs.Halves.{half-product}
 use Rattle.vl_eval.proofs.sweeping.product.Goals as goal
 
