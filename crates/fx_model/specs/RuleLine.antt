@@ -1,4 +1,5 @@
 -- The line that tells a broken rule, without the name of a file (own).
+use Prim.Native.Char.{code}
 use Rattle.std.specs.Prelude.{◌≡◌, ℕ, ◌==◌, ◌||◌, if◌then◌else◌, List, [], ◌∷◌, ◌++◌, codes, slice_index_or}
 use Rattle.std.specs.Fmt.{decimal, signed_decimal}
 use Rattle.std.specs.List.{flat_map}
@@ -20,9 +21,9 @@ rule_word rule =
 -- quote or a backslash
 abbrev pub quoted_byte : ℕ → List ℕ
 quoted_byte byte =
-    if byte == 10 then codes "\\n"
-    else (if byte == 9 then codes "\\t"
-    else (if byte == 34 || byte == 92 then 92 ∷ byte ∷ []
+    if byte == code "\n" then codes "\\n"
+    else (if byte == code "\t" then codes "\\t"
+    else (if byte == code "\"" || byte == code "\\" then code "\\" ∷ byte ∷ []
     else byte ∷ []))
 
 -- a path between quotes

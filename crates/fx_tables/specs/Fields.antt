@@ -1,11 +1,12 @@
 -- The fields of a line. Its lines are std's `lines`: each ends with a newline, which the last may
 -- lack, and a carriage return right before the newline is not of the line (own).
+use Prim.Native.Char.{code}
 use Rattle.std.specs.Prelude.{ℕ, Bool, true, false, List, [], ◌∷◌, ◌==◌, ◌||◌, if◌then◌else◌, filter}
 use Rattle.std.specs.List.{slice_split}
 
 -- a space or a tab
 abbrev pub is_blank : ℕ → Bool
-is_blank b = b == 32 || b == 9
+is_blank b = b == code " " || b == code "\t"
 
 -- the line from its first byte that is no blank
 abbrev pub after_blanks : List ℕ → List ℕ

@@ -1,4 +1,5 @@
 -- The forms that a line of a plan may have, and what each says (own).
+use Prim.Native.Char.{code}
 use Rattle.std.specs.Prelude.{◌≡◌, ◌≢◌, ◌⊎◌, ◌≤◌, ℕ, true, List, [], ◌∷◌, ◌++◌, codes, IsTrue}
 use Rattle.std.specs.List.{list_all}
 use Rattle.std.specs.Str.Parse.{digits_value}
@@ -36,7 +37,7 @@ pub record IsPipelineLine (line path : List ℕ) (count : ℕ) : Type 0 where
   pub blanks : AreBlanks before
   pub blanks_between : AreBlanks between
   pub some_between : between ≢ []
-  pub form : line ≡ before ++ (codes "pipeline" ++ (between ++ 34 ∷ text))
+  pub form : line ≡ before ++ (codes "pipeline" ++ (between ++ code "\"" ∷ text))
   pub is_path : IsString text path (next ∷ rest)
   pub blank_behind : is_blank next ≡ true
   pub one_field : fields_of (next ∷ rest) ≡ digits ∷ []

@@ -1,5 +1,6 @@
 -- What a stimulus stands for, and its first fault. Samples, lines and columns count from 0; the
 -- line that a fault names counts from 1 (own).
+use Prim.Native.Char.{code}
 use Rattle.std.specs.Prelude.{◌≡◌, ℕ, ℤ, pos, Bool, true, false, ◌<◌, slice_get, List, [], ◌∷◌, Option, None, Some, ◌+◌, ◌*◌, ◌%◌, ◌==◌, ◌&&◌, not, nat_lt, max, int_le, length, map, slice_index, if◌then◌else◌}
 use Rattle.std.specs.List.{flat_map}
 use Rattle.std.specs.Option.{option_or}
@@ -19,7 +20,7 @@ hits_at period sample = sample % period == 0
 
 -- the field that stands where no number does
 abbrev pub is_dash : List ℕ → Bool
-is_dash field = length field == 1 && slice_index field 0 == 45
+is_dash field = length field == 1 && slice_index field 0 == code "-"
 
 -- the number is in the column's range
 abbrev pub is_in_range : Column → ℤ → Bool

@@ -1,4 +1,5 @@
 ghost use Rattle.std.specs.Prelude.{◌≡◌, ℕ, ◌+◌, ◌∷◌, ◌<◌, ◌≤◌, [], true, false, length, drop, slice_index, ◌==◌};
+ghost use Rattle.fx_io.specs.FaultLine.{newline};
 ghost use Rattle.std.specs.Str.Lines.{lines, strip_carriage_return};
 ghost use Rattle.fx_tables.specs.Fields.{is_blank, after_blanks, fields_of};
 
@@ -69,8 +70,8 @@ pub(crate) fn skip_blanks(line: &[u8]) -> &[u8]
 /// Where the first newline stands, or the length.
 fn newline_place(text: &[u8]) -> usize
     ensures within { result ≤ length text.now }
-    ensures before { (k : ℕ) → k < result → (slice_index text.now k == 10) ≡ false }
-    ensures found { result < length text.now → slice_index text.now result ≡ 10 }
+    ensures before { (k : ℕ) → k < result → (slice_index text.now k == newline) ≡ false }
+    ensures found { result < length text.now → slice_index text.now result ≡ newline }
 {
     match memchr(b'\n', text) {
         Some(place) => place,

@@ -1,4 +1,4 @@
-ghost use Rattle.std.specs.Prelude.{◌≡◌, ◌+◌, ◌≤◌, ◌<◌, ◌∷◌, ◌++◌, length, drop, if◌then◌else◌};
+ghost use Rattle.std.specs.Prelude.{◌≡◌, ◌+◌, ◌≤◌, ◌<◌, ◌++◌, codes, length, drop, if◌then◌else◌};
 ghost use Rattle.std.specs.Fmt.{decimal, signed_decimal};
 
 use itoa::{Buffer, write_digits};
@@ -25,7 +25,7 @@ fn put_minus(bytes: &mut [u8], start: usize, wanted: bool) -> usize
     ensures before { result ≤ start }
     ensures near { start ≤ result + 1 }
     ensures text { drop result bytes.new
-        ≡ (if wanted then 45 ∷ drop start bytes.old else drop start bytes.old) }
+        ≡ (if wanted then codes "-" ++ drop start bytes.old else drop start bytes.old) }
 {
     bytes[start - 1] = b'-';
     start - usize::from(wanted)

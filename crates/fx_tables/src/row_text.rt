@@ -1,4 +1,4 @@
-ghost use Rattle.std.specs.Prelude.{◌≡◌, ◌+◌, ◌*◌, ◌^◌, ◌≤◌, ◌<◌, ◌∷◌, ◌++◌, length, map, drop, vec_len, IfOk, All};
+ghost use Rattle.std.specs.Prelude.{◌≡◌, ◌+◌, ◌*◌, ◌^◌, ◌≤◌, ◌<◌, ◌++◌, codes, length, map, drop, vec_len, IfOk, All};
 ghost use Rattle.fx_tables.specs.Response.{text_of_field, response_line};
 
 use crate::field::hits;
@@ -83,7 +83,7 @@ fn put_field(bytes: &mut [u8], end: usize, hit: bool, value: i128) -> usize
     ensures before { result < end }
     ensures near { end ≤ result + 41 }
     ensures text { drop result bytes.new
-        ≡ 32 ∷ (text_of_field hit value ++ drop end bytes.old) }
+        ≡ codes " " ++ (text_of_field hit value ++ drop end bytes.old) }
 {
     let start = put_text(bytes, end, hit, value);
     bytes[start - 1] = b' ';

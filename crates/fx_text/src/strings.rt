@@ -1,6 +1,6 @@
 ghost use Rattle.std.specs.Prelude.{ℕ, List, ◌≡◌, ◌≢◌, ◌<◌, ◌≤◌, length, drop, ◌++◌, None, Some, OnOk, IfOk, MatchOption, slice_index};
 ghost use Rattle.std.specs.List.{prefix_len};
-ghost use Rattle.fx_text.specs.Strings.{string_behind, prepend, escaped, is_plain, IsString};
+ghost use Rattle.fx_text.specs.Strings.{quote_mark, string_behind, prepend, escaped, is_plain, IsString};
 
 use fx_io::{OutOfMemory, Text};
 use std::alloc::Global;
@@ -38,7 +38,7 @@ pub fn read_string(alloc: Global, text: &[u8]) -> Result<Option<QuotedText>, Out
 /// tells how many bytes these are.
 fn push_char(content: &mut Vec<u8>, text: &[u8]) -> Result<usize, OutOfMemory>
     requires some { 0 < length text.now }
-    requires inside { slice_index text.now 0 ≢ 34 }
+    requires inside { slice_index text.now 0 ≢ quote_mark }
     ensures some { IfOk result (λ used. 0 < used) }
     ensures within { IfOk result (λ used. used ≤ length text.now) }
     ensures put { IfOk result (λ used.

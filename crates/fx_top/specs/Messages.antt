@@ -1,4 +1,5 @@
 -- The one line that each status but 0 puts on the stream of messages (own).
+use Prim.Native.Char.{code}
 use Rattle.std.specs.Prelude.{ℕ, List, ◌∷◌, ◌++◌, codes}
 use Rattle.std.specs.Fmt.{decimal}
 use Rattle.std.specs.List.{flat_map}
@@ -51,7 +52,7 @@ name_line file condition name = file ++ condition ++ name ++ codes "\n"
 
 -- the names of a loop, each behind a space, and the end of the line
 abbrev pub names_end : List (List ℕ) → List ℕ
-names_end names = flat_map (λ name. 32 ∷ name) names ++ codes "\n"
+names_end names = flat_map (λ name. code " " ∷ name) names ++ codes "\n"
 
 -- the line of status 8 where a condition is broken
 abbrev pub broken_line : List ℕ → VlFault → List ℕ

@@ -1,4 +1,5 @@
 -- Bytes of a text, its lines, and the strings and brackets in them (own).
+use Prim.Native.Char.{code}
 use Rattle.std.specs.Prelude.{◌≡◌, ◌≢◌, ℕ, zero, suc, Bool, ◌==◌, ◌||◌, List, [], ◌∷◌, ◌++◌, IsTrue, if◌then◌else◌}
 use Rattle.std.specs.Char.{is_ascii_digit, is_ascii_alphabetic}
 use Rattle.std.specs.List.{list_all, flat_map, AllByRecursion}
@@ -7,11 +8,11 @@ use Rattle.fx_text.specs.Strings.{Char, is_char, char_value, quoted}
 
 -- a space, a tab or a carriage return
 unfoldable pub is_blank : ℕ → Bool
-is_blank byte = byte == 32 || byte == 9 || byte == 13
+is_blank byte = byte == code " " || byte == code "\t" || byte == code "\r"
 
 -- a letter, a digit, `_`, `.` or `$`
 unfoldable pub is_name_byte : ℕ → Bool
-is_name_byte byte = is_ascii_alphabetic byte || is_ascii_digit byte || byte == 95 || byte == 46 || byte == 36
+is_name_byte byte = is_ascii_alphabetic byte || is_ascii_digit byte || byte == code "_" || byte == code "." || byte == code "$"
 
 -- blanks alone, or nothing
 abbrev pub AreBlanks : List ℕ → Type 0
@@ -30,7 +31,7 @@ on_first byte (line ∷ lines) = (byte ∷ line) ∷ lines
 -- the pieces between newlines, so one more than there are newlines
 abbrev pub lines_of : List ℕ → List (List ℕ)
 lines_of [] = [] ∷ []
-lines_of (byte ∷ bytes) = if byte == 10 then [] ∷ lines_of bytes else on_first byte (lines_of bytes)
+lines_of (byte ∷ bytes) = if byte == code "\n" then [] ∷ lines_of bytes else on_first byte (lines_of bytes)
 
 -- a quoted string and the blanks after it
 pub record Quote : Type 0 where
@@ -67,8 +68,8 @@ pub data Piece : Type 0 where
 
 -- the bytes of a piece
 abbrev pub piece_bytes : Piece → List ℕ
-piece_bytes Opening = 91 ∷ []
-piece_bytes Closing = 93 ∷ []
+piece_bytes Opening = code "[" ∷ []
+piece_bytes Closing = code "]" ∷ []
 piece_bytes (String chars) = quoted chars
 piece_bytes (Other byte) = byte ∷ []
 
@@ -79,10 +80,10 @@ Closes nesting (Opening ∷ pieces) = Closes (suc nesting) pieces
 Closes zero (Closing ∷ pieces) = pieces ≡ []
 Closes (suc nesting) (Closing ∷ pieces) = Closes nesting pieces
 Closes nesting (String chars ∷ pieces) = IsTrue (list_all is_char chars) × IsOneLine (quoted chars) × Closes nesting pieces
-Closes nesting (Other byte ∷ pieces) = (byte ≢ 34) × (byte ≢ 91) × (byte ≢ 93) × Closes nesting pieces
+Closes nesting (Other byte ∷ pieces) = (byte ≢ code "\"") × (byte ≢ code "[") × (byte ≢ code "]") × Closes nesting pieces
 
 -- a list: its first bracket, and the pieces up to the bracket that closes it
 pub record IsList (value : List ℕ) : Type 0 where
   pub pieces : List Piece
   pub closes : Closes 0 pieces
-  pub form : value ≡ 91 ∷ flat_map piece_bytes pieces
+  pub form : value ≡ code "[" ∷ flat_map piece_bytes pieces

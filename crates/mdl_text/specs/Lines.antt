@@ -1,4 +1,5 @@
 -- The forms that a line, or the lines of one parameter, may have (own).
+use Prim.Native.Char.{code}
 use Rattle.std.specs.Prelude.{◌≡◌, ◌≢◌, ℕ, List, [], ◌∷◌, ◌++◌, false}
 use Rattle.std.specs.List.{flat_map, AllByRecursion}
 use Rattle.mdl_text.specs.Bytes.{is_blank, AreBlanks, IsName, AreStrings, IsList, lines_of}
@@ -8,7 +9,7 @@ pub record IsComment (line : List ℕ) : Type 0 where
   pub before : List ℕ
   pub text : List ℕ
   pub blanks : AreBlanks before
-  pub form : line ≡ before ++ 35 ∷ text
+  pub form : line ≡ before ++ code "#" ∷ text
 
 -- blanks, a name, blanks, `{`, blanks
 pub record StartsSection (line name : List ℕ) : Type 0 where
@@ -19,7 +20,7 @@ pub record StartsSection (line name : List ℕ) : Type 0 where
   pub is_name : IsName name
   pub blanks_between : AreBlanks between
   pub blanks_after : AreBlanks after
-  pub form : line ≡ before ++ (name ++ (between ++ 123 ∷ after))
+  pub form : line ≡ before ++ (name ++ (between ++ code "{" ∷ after))
 
 -- blanks, `}`, blanks
 pub record EndsSection (line : List ℕ) : Type 0 where
@@ -27,7 +28,7 @@ pub record EndsSection (line : List ℕ) : Type 0 where
   pub after : List ℕ
   pub blanks : AreBlanks before
   pub blanks_after : AreBlanks after
-  pub form : line ≡ before ++ 125 ∷ after
+  pub form : line ≡ before ++ code "}" ∷ after
 
 -- blanks, a name, blanks: a parameter whose value is empty
 pub record IsEmptyParameter (line name : List ℕ) : Type 0 where
@@ -55,9 +56,9 @@ pub record IsBare (value : List ℕ) : Type 0 where
   pub front : List ℕ
   pub last : ℕ
   pub begins : value ≡ first ∷ rest
-  pub no_quote : first ≢ 34
-  pub no_bracket : first ≢ 91
-  pub no_brace : first ≢ 123
+  pub no_quote : first ≢ code "\""
+  pub no_bracket : first ≢ code "["
+  pub no_brace : first ≢ code "{"
   pub no_blank_first : is_blank first ≡ false
   pub ends : value ≡ front ++ last ∷ []
   pub no_blank_last : is_blank last ≡ false

@@ -1,5 +1,6 @@
 -- The plain reading of a text, a line after another. What it gives is what the text stands for (own).
-use Rattle.std.specs.Prelude.{ℕ, ◌+◌, ◌-◌, ◌≤◌, ◌==◌, ◌&&◌, Bool, List, [], ◌∷◌, ◌++◌, Option, None, Some, option_and_then, length, take, drop, nat_lt, if◌then◌else◌}
+use Prim.Native.Char.{code}
+use Rattle.std.specs.Prelude.{ℕ, ◌+◌, ◌-◌, ◌≤◌, ◌==◌, ◌&&◌, Bool, List, [], ◌∷◌, ◌++◌, codes, Option, None, Some, option_and_then, length, take, drop, nat_lt, if◌then◌else◌}
 use Rattle.std.specs.List.{list_all, prefix_len}
 use Rattle.mdl_text.specs.declared.tree.Item.{Item}
 use Rattle.mdl_text.specs.declared.tree.Value.{Value}
@@ -28,8 +29,8 @@ trimmed (byte ∷ bytes) = if list_all is_blank (byte ∷ bytes) then [] else by
 
 -- a byte of quoted strings, read in a place, after what was said so far
 unfoldable pub string_step : Place → List ℕ → ℕ → Option (Place × List ℕ)
-string_step Outside said byte = if byte == 34 then Some (Inside, said) else (if is_blank byte then Some (Outside, said) else None)
-string_step Inside said byte = if byte == 34 then Some (Outside, said) else (if byte == 92 then Some (Escaped, said) else Some (Inside, said ++ byte ∷ []))
+string_step Outside said byte = if byte == code "\"" then Some (Inside, said) else (if is_blank byte then Some (Outside, said) else None)
+string_step Inside said byte = if byte == code "\"" then Some (Outside, said) else (if byte == code "\\" then Some (Escaped, said) else Some (Inside, said ++ byte ∷ []))
 string_step Escaped said byte = Some (Inside, said ++ escaped byte)
 
 -- what is said at the end of a line, which ends no string
@@ -54,11 +55,11 @@ spot_at place nesting = record { place = place; nesting = nesting }
 -- a byte of a list; none follows the bracket that closes it
 abbrev pub spot_step_in : Place → ℕ → ℕ → Option Spot
 spot_step_in Outside nesting byte =
-    if byte == 34 then Some (spot_at Inside nesting)
-    else (if byte == 91 then Some (spot_at Outside (nesting + 1))
-    else (if byte == 93 then (if nesting == 0 then None else Some (spot_at Outside (nesting - 1)))
+    if byte == code "\"" then Some (spot_at Inside nesting)
+    else (if byte == code "[" then Some (spot_at Outside (nesting + 1))
+    else (if byte == code "]" then (if nesting == 0 then None else Some (spot_at Outside (nesting - 1)))
     else Some (spot_at Outside nesting)))
-spot_step_in Inside nesting byte = if byte == 34 then Some (spot_at Outside nesting) else (if byte == 92 then Some (spot_at Escaped nesting) else Some (spot_at Inside nesting))
+spot_step_in Inside nesting byte = if byte == code "\"" then Some (spot_at Outside nesting) else (if byte == code "\\" then Some (spot_at Escaped nesting) else Some (spot_at Inside nesting))
 spot_step_in Escaped nesting byte = Some (spot_at Inside nesting)
 
 -- `spot_step_in` of a spot
@@ -149,7 +150,7 @@ closed draft after =
 abbrev pub listed_by : Draft → List ℕ → List ℕ → List ℕ → ListEnd → Option Reader
 listed_by draft name said line (Closed taken) =
     if list_all is_blank (drop taken line) then Some (free (added draft name (Brackets (said ++ take taken line)))) else None
-listed_by draft name said line (Open nesting) = Some (record { draft = draft; pending = OpenList name (said ++ line ++ 10 ∷ []) nesting })
+listed_by draft name said line (Open nesting) = Some (record { draft = draft; pending = OpenList name (said ++ line ++ code "\n" ∷ []) nesting })
 listed_by draft name said line Broken = None
 
 -- a list goes on over the line
@@ -160,15 +161,15 @@ listed draft name said nesting line = listed_by draft name said line (list_from 
 unfoldable pub valued : Draft → List ℕ → List ℕ → Option Reader
 valued draft name [] = None
 valued draft name (byte ∷ bytes) =
-    if byte == 34 then reader_strings draft name (strings_from [] (byte ∷ bytes))
-    else (if byte == 91 then listed draft name (91 ∷ []) 0 bytes
+    if byte == code "\"" then reader_strings draft name (strings_from [] (byte ∷ bytes))
+    else (if byte == code "[" then listed draft name (codes "[") 0 bytes
     else Some (free (added draft name (Bare (trimmed (byte ∷ bytes))))))
 
 -- what follows a name, and the same from its first byte that is no blank
 abbrev pub after_name : Draft → List ℕ → List ℕ → List ℕ → Option Reader
 after_name draft name rest [] = Some (free (added draft name (Bare [])))
 after_name draft name rest (byte ∷ bytes) =
-    if byte == 123 then opened draft name bytes
+    if byte == code "{" then opened draft name bytes
     else (if length rest == length (byte ∷ bytes) then None
     else valued draft name (byte ∷ bytes))
 
@@ -182,8 +183,8 @@ named draft text =
 abbrev pub fresh_text : Draft → List ℕ → Option Reader
 fresh_text draft [] = Some (free draft)
 fresh_text draft (byte ∷ bytes) =
-    if byte == 35 then Some (free draft)
-    else (if byte == 125 then closed draft bytes
+    if byte == code "#" then Some (free draft)
+    else (if byte == code "}" then closed draft bytes
     else named draft (byte ∷ bytes))
 
 -- a line that goes on with nothing
@@ -193,7 +194,7 @@ fresh draft line = fresh_text draft (unblanked line)
 -- the first byte is a quote
 abbrev pub begins_with_quote : List ℕ → Bool
 begins_with_quote [] = Bool.false
-begins_with_quote (byte ∷ bytes) = byte == 34
+begins_with_quote (byte ∷ bytes) = byte == code "\""
 
 -- the next line, by what is pending
 abbrev pub step_in : Draft → Pending → List ℕ → Option Reader

@@ -1,4 +1,4 @@
-ghost use Rattle.std.specs.Prelude.{◌≡◌, ◌≤◌, [], ◌∷◌, length, IfOk, OnOk, IsTrue};
+ghost use Rattle.std.specs.Prelude.{◌≡◌, ◌≤◌, [], ◌++◌, codes, length, IfOk, OnOk, IsTrue};
 ghost use Rattle.mdl_text.specs.declared.reader.Pending.TheVariants.{Nothing};
 ghost use Rattle.mdl_text.specs.Content.{value_of};
 ghost use Rattle.mdl_text.specs.Plain.{IsBounded, goes_on, reader_strings, added, opened, closed, listed, valued, after_name, named, fresh_text, if_closed, unblanked, strings_from, start, step, finish};
@@ -169,9 +169,9 @@ impl<'a> Reader<'a> {
         after: &'a [u8],
     ) -> Result<bool, OutOfMemory>
         requires free { self.old.pending ≡ Nothing }
-        requires bracket { value.now ≡ 91 ∷ after.now }
+        requires bracket { value.now ≡ codes "[" ++ after.now }
         ensures value { IfOk result (λ good.
-            listed self.old.draft name.now (91 ∷ []) 0 after.now ≡ goes_on good self.new) }
+            listed self.old.draft name.now (codes "[") 0 after.now ≡ goes_on good self.new) }
         ensures bounded { IfOk result (λ good. IsTrue good → IsBounded self.new.pending) }
     {
         match list_end(0, after) {

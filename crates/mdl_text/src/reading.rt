@@ -1,5 +1,5 @@
 ghost use Rattle.std.specs.Prelude.{◌≡◌, ℕ, List, [], ◌∷◌, ◌++◌, IfOk, MatchOption};
-ghost use Rattle.fx_io.specs.FaultLine.{IsOneLine};
+ghost use Rattle.fx_io.specs.FaultLine.{newline, IsOneLine};
 ghost use Rattle.mdl_text.specs.Stands.{Stands};
 ghost use Rattle.mdl_text.specs.Prefix.{IsMdlFaultLine, IfSyntax};
 ghost use Rattle.mdl_text.specs.Plain.{run, IsBounded};
@@ -41,7 +41,7 @@ pub fn read(alloc: Global, bytes: &[u8]) -> Result<Tree, MdlFault>
 /// The first line without its newline, and what follows it. `None` where there is no newline.
 fn split_line(text: &[u8]) -> Option<(&[u8], &[u8])>
     ensures { MatchOption result (IsOneLine text.now)
-        (λ split. IsOneLine split.0.now × (text.now ≡ split.0.now ++ 10 ∷ split.1.now)) }
+        (λ split. IsOneLine split.0.now × (text.now ≡ split.0.now ++ newline ∷ split.1.now)) }
 {
     match memchr(b'\n', text) {
         None => None,

@@ -1,4 +1,5 @@
 -- How a value is cut: at separators, at blanks and in brackets (own).
+use Prim.Native.Char.{code}
 use Rattle.std.specs.Prelude.{ℕ, Bool, false, not, ◌==◌, List, [], ◌∷◌, ◌++◌, length, Option, None, Some, nat_lt, if◌then◌else◌}
 use Rattle.std.specs.List.{list_any}
 use Rattle.mdl_text.specs.Bytes.{is_blank, on_first}
@@ -38,11 +39,11 @@ unblanked (byte ∷ bytes) = if is_solid byte then byte ∷ bytes else unblanked
 
 -- elements are separated by semicolons throughout, or by commas and blanks
 abbrev pub separator_of : List ℕ → ℕ
-separator_of text = if list_any (λ byte. byte == 59) text then 59 else 44
+separator_of text = if list_any (λ byte. byte == code ";") text then code ";" else code ","
 
 -- between semicolons stands one word, between commas one or more
 abbrev pub may_stand : ℕ → ℕ → Bool
-may_stand separator words = if separator == 59 then words == 1 else nat_lt 0 words
+may_stand separator words = if separator == code ";" then words == 1 else nat_lt 0 words
 
 -- these words and those after them
 abbrev pub with_words : List (List ℕ) → Option (List (List ℕ)) → Option (List (List ℕ))
@@ -69,12 +70,12 @@ two_of (first ∷ second ∷ third ∷ more) = None
 -- an opening bracket stands first
 abbrev pub opens : List ℕ → Bool
 opens [] = false
-opens (byte ∷ bytes) = byte == 91
+opens (byte ∷ bytes) = byte == code "["
 
 -- what stands behind an opening bracket before the only closing one, and what follows that
 abbrev pub bracketed : List ℕ → Option (List ℕ × List ℕ)
 bracketed [] = None
-bracketed (byte ∷ bytes) = if byte == 91 then two_of (pieces_at 93 bytes) else None
+bracketed (byte ∷ bytes) = if byte == code "[" then two_of (pieces_at (code "]") bytes) else None
 
 -- the elements of what stands in brackets, where nothing follows
 abbrev pub only_inside : Option (List ℕ × List ℕ) → Option (List (List ℕ))

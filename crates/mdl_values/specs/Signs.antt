@@ -1,4 +1,5 @@
 -- The signs of a sum (Simulink reference, Sum, `Inputs`).
+use Prim.Native.Char.{code}
 use Rattle.std.specs.Prelude.{◌≡◌, ℕ, Bool, true, false, ◌==◌, ◌||◌, List, [], ◌∷◌, ◌++◌, length, replicate, Option, Some, None, ◌⊎◌, if◌then◌else◌}
 use Rattle.mdl_text.specs.Bytes.{is_blank}
 use Rattle.dg_model.specs.KindRow.{IsBetween}
@@ -11,14 +12,14 @@ with_signs signs (Some more) = Some (signs ++ more)
 
 -- `|` and blanks are passed over
 abbrev pub is_spacer : ℕ → Bool
-is_spacer byte = byte == 124 || is_blank byte
+is_spacer byte = byte == code "|" || is_blank byte
 
 -- of each `+` and `-`, whether it subtracts
 abbrev pub signs_of : List ℕ → Option (List Bool)
 signs_of [] = Some []
 signs_of (byte ∷ bytes) =
-    if byte == 43 then with_signs (false ∷ []) (signs_of bytes)
-    else (if byte == 45 then with_signs (true ∷ []) (signs_of bytes)
+    if byte == code "+" then with_signs (false ∷ []) (signs_of bytes)
+    else (if byte == code "-" then with_signs (true ∷ []) (signs_of bytes)
     else (if is_spacer byte then signs_of bytes else None))
 
 -- so many that add

@@ -1,4 +1,5 @@
 -- Data types as text (Fixed-Point Designer, `fixdt`; the widths are own).
+use Prim.Native.Char.{code}
 use Rattle.std.specs.Prelude.{◌≡◌, ℕ, Bool, true, false, ◌==◌, ◌||◌, List, [], ◌∷◌, Option, Some, None, ◌⊎◌, ℤ, pos, neg_ℤ, codes, bytes_eq, if◌then◌else◌}
 use Rattle.fx_type.specs.declared.kind.FxType.{FxType}
 use Rattle.fx_type.specs.declared.kind.FxType.TheVariants.{Num, Logical}
@@ -27,7 +28,7 @@ signedness_of text =
 -- a minus sign stands first, and what stands behind it
 abbrev pub is_negative : List ℕ → Bool
 is_negative [] = false
-is_negative (byte ∷ bytes) = byte == 45
+is_negative (byte ∷ bytes) = byte == code "-"
 
 abbrev pub behind_first : List ℕ → List ℕ
 behind_first [] = []
@@ -52,8 +53,8 @@ three_of (first ∷ more) = with_first first (two_of more)
 -- what stands in the parentheses of `fixdt( .. )`
 pub record IsCall (text inside : List ℕ) : Type 0 where
   pub behind : List ℕ
-  pub opens : two_of (pieces_at 40 text) ≡ Some (codes "fixdt", behind)
-  pub closes : two_of (pieces_at 41 behind) ≡ Some (inside, [])
+  pub opens : two_of (pieces_at (code "(") text) ≡ Some (codes "fixdt", behind)
+  pub closes : two_of (pieces_at (code ")") behind) ≡ Some (inside, [])
 
 -- whether it is signed, as one word with blanks around
 pub record IsSignPart (part : List ℕ) (signed : Bool) : Type 0 where
@@ -91,7 +92,7 @@ pub record IsFixdtText (text : List ℕ) (type : FxType) : Type 0 where
   pub first : List ℕ
   pub second : List ℕ
   pub third : List ℕ
-  pub parts : three_of (pieces_at 44 inside) ≡ Some (first, (second, third))
+  pub parts : three_of (pieces_at (code ",") inside) ≡ Some (first, (second, third))
   pub word : IsWordOf first second third type
 
 -- a type by its name, or a `fixdt`

@@ -1,4 +1,5 @@
 -- The plain reading of a decimal, cut by cut, which private contracts cite.
+use Prim.Native.Char.{code}
 use Rattle.std.specs.Prelude.{ℕ, ◌+◌, ◌-◌, ◌*◌, ◌==◌, Bool, false, ◌&&◌, ◌||◌, if◌then◌else◌, List, [], ◌∷◌, Option, Some, None, ℤ, pos}
 use Rattle.std.specs.Char.{is_ascii_digit}
 use Rattle.std.specs.Str.Parse.{digits_value_after}
@@ -19,29 +20,29 @@ after_digits (c ∷ cs) = if is_ascii_digit c then after_digits cs else c ∷ cs
 -- whether the text begins with a minus sign
 abbrev pub is_minus : List ℕ → Bool
 is_minus [] = false
-is_minus (c ∷ cs) = c == 45
+is_minus (c ∷ cs) = c == code "-"
 
 -- what follows the sign, where there is one
 abbrev pub after_sign : List ℕ → List ℕ
 after_sign [] = []
-after_sign (c ∷ cs) = if (c == 43) || (c == 45) then cs else c ∷ cs
+after_sign (c ∷ cs) = if (c == code "+") || (c == code "-") then cs else c ∷ cs
 
 -- the digits behind a point; where there is no point, none
 abbrev pub fraction_digits : List ℕ → List ℕ
 fraction_digits [] = []
-fraction_digits (c ∷ cs) = if c == 46 then front_digits cs else []
+fraction_digits (c ∷ cs) = if c == code "." then front_digits cs else []
 
 -- what follows a point and its digits; where there is no point, the text
 abbrev pub after_fraction : List ℕ → List ℕ
 after_fraction [] = []
-after_fraction (c ∷ cs) = if c == 46 then after_digits cs else c ∷ cs
+after_fraction (c ∷ cs) = if c == code "." then after_digits cs else c ∷ cs
 
 -- the number that one or two digits are
 abbrev pub one_or_two : List ℕ → Option ℕ
 one_or_two [] = None
-one_or_two (a ∷ []) = if is_ascii_digit a then Some (a - 48) else None
+one_or_two (a ∷ []) = if is_ascii_digit a then Some (a - code "0") else None
 one_or_two (a ∷ b ∷ []) =
-    if is_ascii_digit a && is_ascii_digit b then Some ((a - 48) * 10 + (b - 48)) else None
+    if is_ascii_digit a && is_ascii_digit b then Some ((a - code "0") * 10 + (b - code "0")) else None
 one_or_two (a ∷ b ∷ c ∷ cs) = None
 
 -- the number with its sign, where there is one
@@ -53,7 +54,7 @@ signed_some negative (Some n) = Some (signed negative n)
 abbrev pub exponent_of : List ℕ → Option ℤ
 exponent_of [] = Some (pos 0)
 exponent_of (c ∷ cs) =
-    if (c == 101) || (c == 69) then signed_some (is_minus cs) (one_or_two (after_sign cs)) else None
+    if (c == code "e") || (c == code "E") then signed_some (is_minus cs) (one_or_two (after_sign cs)) else None
 
 -- the digits before the point
 abbrev pub whole_digits : List ℕ → List ℕ

@@ -1,4 +1,5 @@
 -- The plain reading of a plan, line by line, which private contracts cite.
+use Prim.Native.Char.{code}
 use Rattle.std.specs.Prelude.{◌≡◌, ℕ, Bool, true, List, [], ◌∷◌, ◌++◌, Option, None, Some, ◌+◌, ◌==◌, ◌&&◌, nat_le, drop, if◌then◌else◌, codes, slice_index, slice_index_or}
 use Rattle.std.specs.List.{filter_map}
 use Rattle.std.specs.Option.{option_to_list}
@@ -51,7 +52,7 @@ counted_entry (Some (path, rest)) =
 -- a quoted path and a count
 abbrev pub pipeline_entry : List ℕ → Option PlanEntry
 pipeline_entry text =
-    if slice_index text 0 == 34 then counted_entry (string_behind (drop 1 text)) else None
+    if slice_index text 0 == code "\"" then counted_entry (string_behind (drop 1 text)) else None
 
 -- what a line says whose fields are these, where `text` stands behind its first field
 abbrev pub words_entry : List (List ℕ) → List ℕ → Option PlanEntry
@@ -65,7 +66,7 @@ words_entry (word ∷ words) text =
 -- a comment begins with `#`; "pipeline" has eight bytes
 abbrev pub entry_of : List ℕ → Option PlanEntry
 entry_of line =
-    if slice_index line 0 == 35 then Some Passed
+    if slice_index line 0 == code "#" then Some Passed
     else words_entry (fields_of line) (drop 8 (after_blanks line))
 
 -- a line of no form, or one that says again what an earlier one says

@@ -67,7 +67,7 @@ stepped true parser = Some parser
 stepped false parser = None
 
 abbrev pub is_newline : ℕ → Bool
-is_newline byte = byte == 10
+is_newline byte = byte == code "\n"
 
 -- the line at the end of the bytes, counted from 1
 abbrev pub line_at : List ℕ → ℕ
