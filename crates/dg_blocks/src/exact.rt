@@ -65,8 +65,10 @@ pub fn signed_sum(signs: &[bool], types: &[FxType], inputs: &[i128], frac: i16) 
     requires signs { length signs.now ≡ length types.now }
     requires inputs { length inputs.now ≡ length types.now }
     requires types { All IsType types.now }
-    requires in_range { (input : ℕ) → input < length types.now → InRange (type_of types.now input) (value_of inputs.now input) }
-    requires full { (full : FxType) × IsFullSum (zip signs.now types.now) full × (frac_of full ≡ frac) }
+    requires in_range { (input : ℕ) → input < length types.now
+        → InRange (type_of types.now input) (value_of inputs.now input) }
+    requires full { (full : FxType) × IsFullSum (zip signs.now types.now) full
+        × (frac_of full ≡ frac) }
     ensures { result ≡ signed_sum_of frac (zip signs.now types.now) inputs.now }
 {
     let mut total = 0;
@@ -94,7 +96,8 @@ pub fn settled(call: &OpCall, exact: i128, frac: i16) -> i128
     requires low { negsuc 63 ≤ℤ frac }
     requires high { frac ≤ℤ pos 128 }
     requires result { IsType call.now.result }
-    ensures { (from : FxType) → frac_of from ≡ frac → IsConverted (operation_of call.now) exact from result }
+    ensures { (from : FxType) → frac_of from ≡ frac
+        → IsConverted (operation_of call.now) exact from result }
 {
     let from = FxType::Num {
         signed: true,

@@ -64,7 +64,8 @@ fn times(call: &OpCall, a: FxType, b: FxType, x: i128, y: i128) -> i128
     requires y_in_range { InRange b y }
     requires full { (full : FxType) × IsFullProduct a b full }
     requires result { IsType call.now.result }
-    ensures { (full : FxType) × IsFullProduct a b full × IsConverted (operation_of call.now) (x *ℤ y) full result }
+    ensures { (full : FxType) × IsFullProduct a b full
+        × IsConverted (operation_of call.now) (x *ℤ y) full result }
 {
     settled(call, product(a, b, x, y), a.frac() + b.frac())
 }
@@ -84,7 +85,8 @@ fn stored_converted(call: &OpCall, v: i128, from: FxType) -> i128
     requires from { IsType from }
     requires in_range { InRange from v }
     requires result { IsType call.now.result }
-    ensures { Converts v (without_frac_of from) (without_frac_of call.now.result) call.now.rounding call.now.saturate result }
+    ensures { Converts v (without_frac_of from)
+        (without_frac_of call.now.result) call.now.rounding call.now.saturate result }
 {
     let to = without_frac(call.result);
     fx_round::convert(v, without_frac(from), to, call.rounding, call.saturate)

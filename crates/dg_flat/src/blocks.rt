@@ -19,7 +19,8 @@ use std::alloc::Global;
 /// Where each block stands in the flat list: subsystems are left out.
 pub fn flat_places(alloc: Global, blocks: &[NestedBlock]) -> Result<Vec<u32>, OutOfMemory>
     requires { length blocks.now ≤ 20000 }
-    ensures { IfOk result (λ places. IsTable (length blocks.now) (flat_place blocks.now) places.items) }
+    ensures { IfOk result (λ places. IsTable (length blocks.now)
+        (flat_place blocks.now) places.items) }
 {
     let mut places = Vec::with_capacity(alloc, blocks.len())?;
     let mut next: u32 = 0;
@@ -131,7 +132,8 @@ fn flat_block(
     requires places { IsTable (length blocks.now) (flat_place blocks.now) places.now }
     requires paths { ArePaths blocks.now (length blocks.now) paths.now }
     requires within { slot_of block.now.parent ≤ length blocks.now }
-    ensures { (place : ℕ) → slice_get blocks.now place ≡ Some block.now → IfOk result (λ flat. flat ≡
+    ensures { (place : ℕ) → slice_get blocks.now place ≡ Some block.now
+        → IfOk result (λ flat. flat ≡
         flat_block_of blocks.now place (control_of blocks.now block.now.parent) block.now.part) }
 {
     let path = path_in(alloc, paths, block.parent, &block.name)?;

@@ -31,7 +31,8 @@ fn input_counts(
 ) -> Result<Vec<u32>, OutOfMemory>
     requires few { length blocks.now ≤ 20000 }
     requires systems { AreSystems blocks.now systems.now }
-    ensures { IfOk result (λ counts. IsTable (length blocks.now) (inputs_at blocks.now) counts.items) }
+    ensures { IfOk result (λ counts. IsTable (length blocks.now)
+        (inputs_at blocks.now) counts.items) }
 {
     let mut counts = Vec::with_capacity(alloc, blocks.len())?;
     for place in 0..blocks.len() {

@@ -49,7 +49,8 @@ fn nested(
     parent: Option<u32>,
     part: Part,
 ) -> Result<NestedBlock, OutOfMemory>
-    ensures { IfOk result (λ block. block ≡ record { name = name.now; parent = parent; part = part }) }
+    ensures { IfOk result (λ block. block
+        ≡ record { name = name.now; parent = parent; part = part }) }
 {
     Ok(NestedBlock {
         name: Text::copy(alloc, name)?,

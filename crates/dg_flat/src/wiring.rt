@@ -24,7 +24,8 @@ fn is_driven(tally: &Tally, place: usize) -> bool
     ensures all { IsTrue result → (port : ℕ) → HasCell tally.now.rows.lengths.items place port →
         slice_index tally.now.drivers.items (cell_at tally.now.rows.lengths.items place port) ≡ 1 }
     ensures some { IsFalse result → (port : ℕ) × HasCell tally.now.rows.lengths.items place port
-        × (slice_index tally.now.drivers.items (cell_at tally.now.rows.lengths.items place port) ≢ 1) }
+        × (slice_index tally.now.drivers.items (cell_at tally.now.rows.lengths.items place port)
+        ≢ 1) }
 {
     for before in 0..tally.rows.lengths[place] {
         if let Some(cell) = tally.rows.cell(place, before + 1) {
@@ -42,9 +43,11 @@ fn is_numbered(ports: &Numbering, system: Option<u32>, place: u32, number: u32) 
     requires there { slot_of system < length ports.now.rows.lengths.items }
     requires cells { length ports.now.ports.items ≡ ports.now.rows.cells }
     ensures yes { IsTrue result → (blocks : List NestedBlock) (side : Side) →
-        IsNumbering blocks side ports.now → IsNumberedAt blocks side (slot_of system) number (Some place) }
+        IsNumbering blocks side ports.now
+        → IsNumberedAt blocks side (slot_of system) number (Some place) }
     ensures no { IsFalse result → (blocks : List NestedBlock) (side : Side) →
-        IsNumbering blocks side ports.now → ¬ IsNumberedAt blocks side (slot_of system) number (Some place) }
+        IsNumbering blocks side ports.now
+        → ¬ IsNumberedAt blocks side (slot_of system) number (Some place) }
 {
     match ports.first(system, number) {
         Some(first) => first == place,

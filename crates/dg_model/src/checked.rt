@@ -24,7 +24,8 @@ impl Model for Checked {
 
     ghost view = { λ checked. record { diagram = checked.diagram; order = checked.values.order } };
 
-    ghost invariant = { λ checked. IsChecked checked.diagram × IsPropagated checked.diagram checked.values };
+    ghost invariant = { λ checked. IsChecked checked.diagram
+        × IsPropagated checked.diagram checked.values };
 }
 
 impl Checked {

@@ -31,7 +31,8 @@ impl Model for PortWidths {
 /// Puts one more part behind the others.
 fn put_part(starts: &mut Sizes, all: &mut Sizes, part: &[u32]) -> Result<(), OutOfMemory>
     requires { AreStarts starts.old (length all.old) }
-    ensures grown { OnOk result (parts_of starts.new all.new ≡ parts_of starts.old all.old ++ part.now ∷ []) }
+    ensures grown { OnOk result (parts_of starts.new all.new
+        ≡ parts_of starts.old all.old ++ part.now ∷ []) }
     ensures starts { OnOk result (AreStarts starts.new (length all.new)) }
 {
     let Ok(start) = u32::try_from(all.as_slice().len()) else {

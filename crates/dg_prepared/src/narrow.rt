@@ -34,8 +34,10 @@ pub fn short(v: i128) -> i64
 
 /// How far `high` is above `low`, where that is 0 to 60.
 pub fn gap(low: i16, high: i16) -> Option<u32>
-    requires bounds { (negsuc 63 ≤ℤ low) × (low ≤ℤ pos 128) × (negsuc 63 ≤ℤ high) × (high ≤ℤ pos 128) }
-    ensures { IfSome result (λ gap. (gap ≤ 60) × (gap ≡ int_gap low high) × (int_gap high low ≡ 0)) }
+    requires bounds { (negsuc 63 ≤ℤ low) × (low ≤ℤ pos 128) × (negsuc 63 ≤ℤ high)
+        × (high ≤ℤ pos 128) }
+    ensures { IfSome result (λ gap. (gap ≤ 60) × (gap ≡ int_gap low high)
+        × (int_gap high low ≡ 0)) }
 {
     let gap = high - low;
     if gap < 0 {
@@ -203,7 +205,8 @@ impl Narrow {
             × IsNarrow self frac to mode saturate }
         requires small { IsSmall (v *ℤ self.scale) }
         ensures { (from to : FxType) (mode : Rounding) (saturate : Bool)
-            → IsNarrow self (frac_of from) to mode saturate → Converts v from to mode saturate result }
+            → IsNarrow self (frac_of from) to mode saturate
+            → Converts v from to mode saturate result }
     {
         let scaled = v * self.scale;
         self.settled(shifted(scaled, self.down, self.bias_for(scaled), self.even))
@@ -219,7 +222,8 @@ impl Narrow {
     /// What the result type stores for a whole number.
     fn settled(self, r: i64) -> i64
         requires { (to : FxType) × (saturate : Bool) × HasEnds self to saturate }
-        ensures { (to : FxType) (saturate : Bool) → HasEnds self to saturate → Settles to saturate r result }
+        ensures { (to : FxType) (saturate : Bool) → HasEnds self to saturate
+            → Settles to saturate r result }
     {
         if r < self.low {
             self.outside(r, self.low)

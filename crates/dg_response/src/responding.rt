@@ -64,7 +64,8 @@ pub fn respond(
     requires columns { rows.now.columns ≡ length (input_columns checked.now.diagram) }
     requires fits { FitsColumns (input_columns checked.now.diagram) rows.now }
     requires outputs { outputs ≡ length (output_columns checked.now.diagram) }
-    ensures response { IfOk result (λ responded. IsResponse checked.now.diagram rows.now (table_of responded)) }
+    ensures response { IfOk result (λ responded.
+        IsResponse checked.now.diagram rows.now (table_of responded)) }
     ensures samples { IfOk result (λ responded. lines_of responded ≡ rows.now.lines) }
     ensures room { IfOk result HasRoom }
     ensures wide { IfOk result (λ responded. (t : ℕ) → t < rows.now.lines

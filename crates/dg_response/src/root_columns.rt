@@ -56,7 +56,8 @@ fn columns_of(alloc: Global, checked: &Checked, blocks: &[u32]) -> Result<Column
 /// Want of memory.
 pub fn columns(alloc: Global, checked: &Checked) -> Result<RootColumns, OutOfMemory>
     ensures inputs { IfOk result (λ columns. columns.inputs ≡ input_columns checked.now.diagram) }
-    ensures outputs { IfOk result (λ columns. columns.outputs ≡ output_columns checked.now.diagram) }
+    ensures outputs { IfOk result (λ columns. columns.outputs
+        ≡ output_columns checked.now.diagram) }
 {
     checked.keeps_rules();
     dg_model::root_elements_are_listed();

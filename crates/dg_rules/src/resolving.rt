@@ -46,7 +46,8 @@ fn may_stand_behind(kind: &Kind) -> bool
 /// Whether registers may stand behind the block at a place.
 fn may_be_pipelined(checked: &Checked, place: usize) -> bool
     requires { place < length checked.now.diagram.blocks }
-    ensures { (block : Block) → slice_get checked.now.diagram.blocks place ≡ Some block → (result ≡ true) ↔ MayBePipelined (attributes_of checked.now.diagram) place block }
+    ensures { (block : Block) → slice_get checked.now.diagram.blocks place ≡ Some block
+        → (result ≡ true) ↔ MayBePipelined (attributes_of checked.now.diagram) place block }
 {
     checked.keeps_rules();
     let block = &checked.diagram().blocks.as_slice()[place];
@@ -137,9 +138,11 @@ fn fault_at(alloc: Global, pipeline: &Pipeline) -> Result<RuleFault, OutOfMemory
 /// may stand: rule 10, at the first such path. Or want of memory.
 pub fn resolve(alloc: Global, checked: &Checked, plan: &Plan) -> Result<Resolved, CheckFault>
     requires { IsPlanInRange plan.now }
-    ensures kept { OnOk result (KeepsPlan checked.now.diagram (attributes_of checked.now.diagram) plan.now) }
+    ensures kept { OnOk result (KeepsPlan checked.now.diagram
+        (attributes_of checked.now.diagram) plan.now) }
     ensures resolved { IfOk result (λ resolved. IsResolved checked.now.diagram plan.now resolved) }
-    ensures refused { IfErr result (IsRefusal (BreaksPlan checked.now.diagram (attributes_of checked.now.diagram) plan.now)) }
+    ensures refused { IfErr result (IsRefusal
+        (BreaksPlan checked.now.diagram (attributes_of checked.now.diagram) plan.now)) }
 {
     let pipelines = plan.pipelines.as_slice();
     let lines = Lines::of(alloc, pipelines)?;

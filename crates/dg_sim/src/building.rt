@@ -31,11 +31,13 @@ fn put_cell(
     requires filled { IsFilled checked.now.diagram (attributes_of checked.now.diagram)
         program.old k }
     requires there { k < length program.old.places }
-    requires cursors { AreCursors checked.now.diagram (attributes_of checked.now.diagram) cursors.old }
+    requires cursors { AreCursors checked.now.diagram
+        (attributes_of checked.now.diagram) cursors.old }
     ensures filled { OnOk result (IsFilled checked.now.diagram
         (attributes_of checked.now.diagram) program.new (k + 1)) }
     ensures places { OnOk result (program.new.places ≡ program.old.places) }
-    ensures cursors { AreCursors checked.now.diagram (attributes_of checked.now.diagram) cursors.new }
+    ensures cursors { AreCursors checked.now.diagram
+        (attributes_of checked.now.diagram) cursors.new }
 {
     checked.keeps_rules();
     let place = program.places.as_slice()[k as usize];

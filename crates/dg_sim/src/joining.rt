@@ -147,10 +147,13 @@ pub fn joined(
 ) -> Result<Rule, OutOfMemory>
     requires block { slice_get checked.now.diagram.blocks place.block ≡ Some block.now }
     requires kind { (sizes : List ℕ) × (block.now.kind ≡ Kind.Mux sizes) }
-    requires cursors { AreCursors checked.now.diagram (attributes_of checked.now.diagram) cursors.old }
-    ensures made { IfOk result (λ rule. IsMade checked.now.diagram (attributes_of checked.now.diagram)
+    requires cursors { AreCursors checked.now.diagram
+        (attributes_of checked.now.diagram) cursors.old }
+    ensures made { IfOk result (λ rule. IsMade checked.now.diagram
+        (attributes_of checked.now.diagram)
         program.now program.now k place rule) }
-    ensures cursors { AreCursors checked.now.diagram (attributes_of checked.now.diagram) cursors.new }
+    ensures cursors { AreCursors checked.now.diagram
+        (attributes_of checked.now.diagram) cursors.new }
 {
     let from = cursors.into;
     let found = part_into(
@@ -183,10 +186,13 @@ pub fn parted(
 ) -> Result<Rule, OutOfMemory>
     requires block { (b : Block) × (slice_get checked.now.diagram.blocks place.block ≡ Some b)
         × (sizes : List ℕ) × (b.kind ≡ Kind.Demux sizes) }
-    requires cursors { AreCursors checked.now.diagram (attributes_of checked.now.diagram) cursors.old }
-    ensures made { IfOk result (λ rule. IsMade checked.now.diagram (attributes_of checked.now.diagram)
+    requires cursors { AreCursors checked.now.diagram
+        (attributes_of checked.now.diagram) cursors.old }
+    ensures made { IfOk result (λ rule. IsMade checked.now.diagram
+        (attributes_of checked.now.diagram)
         program.now program.now k place rule) }
-    ensures cursors { AreCursors checked.now.diagram (attributes_of checked.now.diagram) cursors.new }
+    ensures cursors { AreCursors checked.now.diagram
+        (attributes_of checked.now.diagram) cursors.new }
 {
     let from = cursors.out;
     let Some(before) = width_before(checked, from, place.block, place.port) else {

@@ -17,7 +17,8 @@ fn put_entries(
     port: u32,
     width: u32,
 ) -> Result<(), OutOfMemory>
-    requires entries { AreEntries checked.now.diagram (attributes_of checked.now.diagram) places.old }
+    requires entries { AreEntries checked.now.diagram
+        (attributes_of checked.now.diagram) places.old }
     requires shown { IsShownPort checked.now.diagram (attributes_of checked.now.diagram)
         block port width }
     ensures { OnOk result (AreEntries checked.now.diagram (attributes_of checked.now.diagram)

@@ -47,7 +47,8 @@ impl Ring {
         ensures head { result.head < length values.new }
         ensures filled { result.filled ≤ length values.new }
         ensures same { length values.new ≡ length values.old }
-        ensures kept { ring_values values.new result.head result.filled ≡ take (length values.old) (v ∷ ring_values values.old self.head self.filled) }
+        ensures kept { ring_values values.new result.head result.filled
+            ≡ take (length values.old) (v ∷ ring_values values.old self.head self.filled) }
     {
         let n = values.len();
         let head = if self.head == 0 { n - 1 } else { self.head - 1 };

@@ -212,7 +212,8 @@ fn put_input_port(
     number: u32,
 ) -> Result<(), OutOfMemory>
     ensures { OnOk result (roots.new ≡ roots.old ++ roots_of (elements_of_port
-        (attributes_of checked.now.diagram) (λ block. (attributes_of checked.now.diagram).width_at block 1)
+        (attributes_of checked.now.diagram)
+        (λ block. (attributes_of checked.now.diagram).width_at block 1)
         number (position (has_number root_input number) checked.now.diagram.blocks))) }
 {
     checked.keeps_rules();

@@ -123,10 +123,13 @@ pub fn rule_of(
     requires entries { AreEntries checked.now.diagram (attributes_of checked.now.diagram)
         program.old.places }
     requires entry { IsEntry checked.now.diagram (attributes_of checked.now.diagram) place }
-    requires cursors { AreCursors checked.now.diagram (attributes_of checked.now.diagram) cursors.old }
-    ensures made { IfOk result (λ rule. IsMade checked.now.diagram (attributes_of checked.now.diagram)
+    requires cursors { AreCursors checked.now.diagram
+        (attributes_of checked.now.diagram) cursors.old }
+    ensures made { IfOk result (λ rule. IsMade checked.now.diagram
+        (attributes_of checked.now.diagram)
         program.old program.new k place rule) }
-    ensures cursors { AreCursors checked.now.diagram (attributes_of checked.now.diagram) cursors.new }
+    ensures cursors { AreCursors checked.now.diagram
+        (attributes_of checked.now.diagram) cursors.new }
 {
     checked.keeps_rules();
     let block = &checked.diagram().blocks.as_slice()[place.block as usize];

@@ -27,14 +27,28 @@ pub fn sweep(
     numbers: &[i128],
     row: &mut [i128],
 )
-    requires program { IsProgram checked.now.diagram (attributes_of checked.now.diagram) program.now }
+    requires program { IsProgram checked.now.diagram
+        (attributes_of checked.now.diagram) program.now }
     requires row { length row.old ≡ length program.now.places }
     requires ready { AreReady program.now prepared.now (length program.now.cells) }
     requires at { (stimulus : Stimulus) × (n : ℕ) × (table : Table)
-        × IsAt checked.now (record { program = program.now; samples = t; row = row.old; pasts = pasts.now; prepared = prepared.now }) numbers.now stimulus n table }
+        × IsAt checked.now (record {
+          program = program.now;
+          samples = t;
+          row = row.old;
+          pasts = pasts.now;
+          prepared = prepared.now;
+        }) numbers.now stimulus n table }
     ensures { (stimulus : Stimulus) (n : ℕ) (table : Table)
-        → IsAt checked.now (record { program = program.now; samples = t; row = row.old; pasts = pasts.now; prepared = prepared.now }) numbers.now stimulus n table
-        → Agrees checked.now.diagram (attributes_of checked.now.diagram) program.now.places (length program.now.places) (value_at row.new) table t }
+        → IsAt checked.now (record {
+          program = program.now;
+          samples = t;
+          row = row.old;
+          pasts = pasts.now;
+          prepared = prepared.now;
+        }) numbers.now stimulus n table
+        → Agrees checked.now.diagram (attributes_of checked.now.diagram) program.now.places
+        (length program.now.places) (value_at row.new) table t }
 {
     entry_is_one();
     solved_is_in_range();
@@ -79,7 +93,8 @@ pub fn keep(program: &Program, t: u64, row: &[i128], pasts: &mut [Past])
     ensures each { (m : ℕ) (memory : Memory) (past : PastValues)
         → slice_get program.now.memories m ≡ Some memory → slice_get pasts.old m ≡ Some past
         → slice_get pasts.new m ≡ Some (past_moved (move_of (is_hit memory.period t)
-        (is_on (value_at row.now) memory.control) memory.reset) (value_at row.now memory.from) past) }
+        (is_on (value_at row.now) memory.control) memory.reset)
+        (value_at row.now memory.from) past) }
 {
     for (m, memory) in program.memories.as_slice().iter().enumerate() {
         keep_one(memory, t, row, &mut pasts[m]);

@@ -53,7 +53,8 @@ fn put_input(
         × (number < k) × Reads checked.now.diagram (attributes_of checked.now.diagram) places.now
         place.block port place.element number
         × (types.new ≡ types.old
-        ++ type_into checked.now.diagram (attributes_of checked.now.diagram) place.block port ∷ [])) }
+        ++ type_into checked.now.diagram (attributes_of checked.now.diagram) place.block port
+        ∷ [])) }
 {
     let Some(kind) = type_of_input(checked, starts, place.block, port) else {
         return Err(OutOfMemory);

@@ -39,11 +39,18 @@ pub trait Round {
     fn is_same(&self, left: Self::Value, right: Self::Value) -> bool
         ensures { (result ≡ true) ↔ (left ≡ right) };
 
-    ghost readers_there: { (round : Self) (block : ℕ) → block < count round → All (λ reader. reader < count round) (readers_of round block) };
+    ghost readers_there: { (round : Self) (block : ℕ) → block < count round
+        → All (λ reader. reader < count round) (readers_of round block) };
 
-    ghost fit: { (round : Self) (values : List Self.Value) (block : ℕ) → length values ≡ count round → block < count round → All (IsValue round) values → IsValue round (next round values block) };
+    ghost fit: { (round : Self) (values : List Self.Value) (block : ℕ) → length values ≡ count round
+        → block < count round → All (IsValue round) values
+        → IsValue round (next round values block) };
 
-    ghost local: { (round : Self) (old new : List Self.Value) (block : ℕ) → length old ≡ count round → length new ≡ count round → block < count round → ((source : ℕ) → is_in block (readers_of round source) ≡ true → slice_get old source ≡ slice_get new source) → next round old block ≡ next round new block };
+    ghost local: { (round : Self) (old new : List Self.Value) (block : ℕ) → length old ≡ count round
+        → length new ≡ count round → block < count round
+        → ((source : ℕ) → is_in block (readers_of round source) ≡ true
+        → slice_get old source ≡ slice_get new source)
+        → next round old block ≡ next round new block };
 }
 
 /// What a block takes in the next round, where that is another value.
@@ -51,7 +58,9 @@ fn other_value<R: Round>(round: &R, values: &[R::Value], block: u32) -> Option<R
     requires size { length values.now ≡ R.count round.now }
     requires there { block < R.count round.now }
     requires fit { All (R.IsValue round.now) values.now }
-    ensures { MatchOption result (slice_get values.now block ≡ Some (R.next round.now values.now block)) (λ value. value ≡ R.next round.now values.now block) }
+    ensures { MatchOption result (slice_get values.now block
+        ≡ Some (R.next round.now values.now block))
+        (λ value. value ≡ R.next round.now values.now block) }
 {
     let value = round.next(values, block);
     if round.is_same(value, values[block as usize]) {
@@ -69,9 +78,11 @@ fn changes<R: Round>(
     waiting: &[u32],
     marks: &mut [bool],
 ) -> Result<Vec<Change<R::Value>>, AllocError>
-    requires between { IsBetween (R.count round.now) (R.IsValue round.now) (R.next round.now) values.now waiting.now marks.old }
+    requires between { IsBetween (R.count round.now) (R.IsValue round.now)
+        (R.next round.now) values.now waiting.now marks.old }
     ensures sought { IfOk result (λ found. Sought (R.next round.now) values.now found.items []) }
-    ensures there { IfOk result (λ found. All (λ change. change.block < R.count round.now) found.items) }
+    ensures there { IfOk result (λ found. All
+        (λ change. change.block < R.count round.now) found.items) }
     ensures none { OnOk result (MarkedWait marks.new []) }
 {
     let mut found: Vec<Change<R::Value>> = Vec::new(alloc);
@@ -138,9 +149,11 @@ fn wave<R: Round>(
     waiting: &mut Vec<u32>,
     marks: &mut [bool],
 ) -> Result<(), AllocError>
-    requires between { IsBetween (R.count round.now) (R.IsValue round.now) (R.next round.now) values.old waiting.old.items marks.old }
+    requires between { IsBetween (R.count round.now) (R.IsValue round.now)
+        (R.next round.now) values.old waiting.old.items marks.old }
     ensures round { OnOk result (values.new ≡ round_of (R.next round.now) values.old) }
-    ensures between { OnOk result (IsBetween (R.count round.now) (R.IsValue round.now) (R.next round.now) values.new waiting.new.items marks.new) }
+    ensures between { OnOk result (IsBetween (R.count round.now) (R.IsValue round.now)
+        (R.next round.now) values.new waiting.new.items marks.new) }
 {
     let found = changes(alloc, round, values, waiting.as_slice(), marks)?;
     waiting.clear();
@@ -152,7 +165,8 @@ fn wave<R: Round>(
 fn all_blocks(alloc: Global, count: usize) -> Result<Vec<u32>, AllocError>
     requires few { count < 2 ^ 32 }
     ensures there { IfOk result (λ blocks. All (λ block. block < count) blocks.items) }
-    ensures all { IfOk result (λ blocks. (block : ℕ) → block < count → is_in block blocks.items ≡ true) }
+    ensures all { IfOk result (λ blocks. (block : ℕ) → block < count
+        → is_in block blocks.items ≡ true) }
 {
     let mut blocks: Vec<u32> = Vec::new(alloc);
     for block in 0..count {
@@ -172,7 +186,8 @@ pub fn after_rounds<R: Round>(
     requires few { R.count round.now < 2 ^ 32 }
     requires fit { All (R.IsValue round.now) start.items }
     ensures fit { IfOk result (λ after. All (R.IsValue round.now) after.items) }
-    ensures values { IfOk result (λ after. after.items ≡ after_rounds_of (R.next round.now) rounds start.items) }
+    ensures values { IfOk result (λ after. after.items
+        ≡ after_rounds_of (R.next round.now) rounds start.items) }
 {
     let mut values = start;
     let mut waiting = all_blocks(alloc, values.len())?;

@@ -123,7 +123,8 @@ impl<W: Write + Drop> Sink for StreamSink<W> {
             IsOk result × (untold ≡ untold) × (self.new.faults ≡ self.old.faults) }
         ensures later { self.old.faults ≤ self.new.faults }
 
-        ensures writes { WriteAppends (W.contents self.old.writer) (W.contents self.new.writer) result bytes.now }
+        ensures writes { WriteAppends (W.contents self.old.writer)
+            (W.contents self.new.writer) result bytes.now }
     {
         if bytes.is_empty() {
             return Ok(0);

@@ -32,7 +32,8 @@ pub enum ModelFault {
 pub fn accept(alloc: Global, bytes: &[u8]) -> Result<Checked, ModelFault>
     ensures accepted { IfOk result (λ checked. IsModelOf bytes.now checked.diagram) }
     ensures syntax { (line : ℕ) → result ≡ Err (ModelFault.NotMdl line) → IsNotMdl bytes.now line }
-    ensures broken { (fault : FaultOf) (blocks : List BlockOf) → result ≡ Err (ModelFault.Broken fault blocks)
+    ensures broken { (fault : FaultOf) (blocks : List BlockOf)
+        → result ≡ Err (ModelFault.Broken fault blocks)
         → IsBrokenModel bytes.now fault (map (λ block. block.path) blocks) }
 {
     let tree = match mdl_text::read(alloc, bytes) {
@@ -63,7 +64,8 @@ fn model_fault(fault: CheckFault, blocks: Blocks) -> ModelFault
 /// The flat diagram of a tree.
 fn diagram_of(alloc: Global, tree: &Tree) -> Result<Diagram, CheckFault>
     ensures flat { IfOk result (IsDiagramOf tree.now) }
-    ensures broken { IfErr result (IsRefusal (λ fault. BreaksText tree.now fault [] ⊎ BreaksLines tree.now fault [])) }
+    ensures broken { IfErr result (IsRefusal (λ fault. BreaksText tree.now fault []
+        ⊎ BreaksLines tree.now fault [])) }
 {
     let nested = build(alloc, tree)?;
     flatten(alloc, &nested)

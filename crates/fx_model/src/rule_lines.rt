@@ -11,7 +11,8 @@ use std::alloc::Global;
 
 /// The line of a broken rule; the blocks are those whose numbers it may show.
 pub fn rule_text(alloc: Global, fault: &RuleFault, blocks: &[Block]) -> Result<Text, OutOfMemory>
-    ensures { IfOk result (λ text. text ≡ rule_line (map (λ block. block.path) blocks.now) fault.now) }
+    ensures { IfOk result (λ text. text ≡ rule_line (map
+        (λ block. block.path) blocks.now) fault.now) }
 {
     let mut line = Vec::new(alloc);
     push(&mut line, b"rule ")?;
@@ -126,7 +127,8 @@ fn push_period(line: &mut Vec<u8>, period: u32) -> Result<(), OutOfMemory>
 
 /// Adds the paths of blocks, each behind a space.
 fn push_cycle(line: &mut Vec<u8>, numbers: &[u32], blocks: &[Block]) -> Result<(), OutOfMemory>
-    ensures { OnOk result (line.new.items ≡ line.old.items ++ cycle_text (map (λ block. block.path) blocks.now) numbers.now) }
+    ensures { OnOk result (line.new.items
+        ≡ line.old.items ++ cycle_text (map (λ block. block.path) blocks.now) numbers.now) }
 {
     for number in numbers {
         push(line, b" ")?;
@@ -147,7 +149,8 @@ fn path_of(blocks: &[Block], number: u32) -> &[u8]
 
 /// Adds what is told beside the place.
 fn push_shown(line: &mut Vec<u8>, shown: &Shown, blocks: &[Block]) -> Result<(), OutOfMemory>
-    ensures { OnOk result (line.new.items ≡ line.old.items ++ shown_text (map (λ block. block.path) blocks.now) shown.now) }
+    ensures { OnOk result (line.new.items
+        ≡ line.old.items ++ shown_text (map (λ block. block.path) blocks.now) shown.now) }
 {
     match shown {
         Shown::Nothing => Ok(()),
@@ -193,7 +196,8 @@ fn push_pair(
     second: &[u8],
     other: u64,
 ) -> Result<(), OutOfMemory>
-    ensures { OnOk result (line.new.items ≡ line.old.items ++ (first.now ++ decimal one ++ second.now ++ decimal other)) }
+    ensures { OnOk result (line.new.items
+        ≡ line.old.items ++ (first.now ++ decimal one ++ second.now ++ decimal other)) }
 {
     push(line, first)?;
     push_number(line, one)?;

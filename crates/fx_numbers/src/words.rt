@@ -105,7 +105,8 @@ impl<'a> Words<'a> {
 
     /// An operand in the range of its type.
     pub fn operand(&mut self) -> Result<Operand>
-        ensures { IfOk result (λ operand. IsType operand.kind × InRange operand.kind operand.value) }
+        ensures { IfOk result (λ operand. IsType operand.kind
+            × InRange operand.kind operand.value) }
     {
         let kind = self.valid_type()?;
         let value = self.number()?;

@@ -95,7 +95,8 @@ fn exponent_of(text: &[u8]) -> Option<i16>
 fn read_on(start: u64, digits: &[u8]) -> u64
     requires start { start ≤ 10 ^ 18 }
     requires digits { AllPass is_ascii_digit digits.now }
-    ensures value { (n : ℕ) → start ≡ min n (10 ^ 18) → result ≡ min (digits_value_after 10 n digits.now) (10 ^ 18) }
+    ensures value { (n : ℕ) → start ≡ min n (10 ^ 18)
+        → result ≡ min (digits_value_after 10 n digits.now) (10 ^ 18) }
     ensures bound { result ≤ 10 ^ 18 }
 {
     let mut number = start;
@@ -124,7 +125,8 @@ fn decimal_of(
     written: i16,
 ) -> Result<Decimal, DecimalFault>
     ensures { MatchResult result
-        (λ d. IsShort digits behind written × (d.negative ≡ negative) × (d.digits ≡ digits) × (d.exponent ≡ written -ℤ pos behind))
+        (λ d. IsShort digits behind written × (d.negative ≡ negative) × (d.digits ≡ digits)
+        × (d.exponent ≡ written -ℤ pos behind))
         (λ fault. (fault ≡ DecimalFault.TooLong) × (¬ IsShort digits behind written)) }
 {
     if digits >= NINETEEN_DIGITS {

@@ -141,7 +141,8 @@ fn is_upper(mode: Rounding, rest: u128, half: u128, negative: bool, odd: bool) -
     requires some { 1 ≤ half }
     requires room { half ≤ 2 ^ 126 }
     requires below { rest < 2 * half }
-    ensures { (part : Part) → IsPart (2 * half) rest part → result ≡ takes_upper_of mode part negative odd }
+    ensures { (part : Part) → IsPart (2 * half) rest part
+        → result ≡ takes_upper_of mode part negative odd }
 {
     match mode {
         Rounding::Floor => false,

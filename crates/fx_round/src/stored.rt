@@ -61,7 +61,8 @@ fn doubled(number: Mixed, unit: u128, by: u32) -> Option<Split>
 
 /// The part, with something more that is less than its last digit is worth.
 fn past(part: Part) -> Part
-    ensures { (half low unit rest : ℕ) → 0 < half → 0 < rest → rest < unit → IsPart (2 * half) low part → IsPart (unit * (2 * half)) (low * unit + rest) result }
+    ensures { (half low unit rest : ℕ) → 0 < half → 0 < rest → rest < unit
+        → IsPart (2 * half) low part → IsPart (unit * (2 * half)) (low * unit + rest) result }
 {
     match part {
         Part::Whole => Part::BelowHalf,
@@ -97,7 +98,8 @@ fn scaled(mixed: Mixed, unit: u128, frac: i16) -> Option<Split>
     requires rest { mixed.rest < unit }
     requires unit { unit ≤ 2 ^ 126 }
     requires least { negsuc 63 ≤ℤ frac }
-    ensures { IsSize (mixed_count mixed unit * 2 ^ int_gap (pos 0) frac) (unit * 2 ^ int_gap frac (pos 0)) result }
+    ensures { IsSize (mixed_count mixed unit * 2 ^ int_gap (pos 0) frac)
+        (unit * 2 ^ int_gap frac (pos 0)) result }
 {
     if frac >= 0 {
         doubled(mixed, unit, frac as u32)
@@ -109,7 +111,9 @@ fn scaled(mixed: Mixed, unit: u128, frac: i16) -> Option<Split>
 /// The decimal without its sign, times 2 to the power `frac`.
 fn magnitude(decimal: Decimal, frac: i16) -> Option<Split>
     requires least { negsuc 63 ≤ℤ frac }
-    ensures { IsSize (decimal.digits * 10 ^ int_gap (pos 0) decimal.exponent * 2 ^ int_gap (pos 0) frac) (10 ^ int_gap decimal.exponent (pos 0) * 2 ^ int_gap frac (pos 0)) result }
+    ensures { IsSize
+        (decimal.digits * 10 ^ int_gap (pos 0) decimal.exponent * 2 ^ int_gap (pos 0) frac)
+        (10 ^ int_gap decimal.exponent (pos 0) * 2 ^ int_gap frac (pos 0)) result }
 {
     let digits = u128::from(decimal.digits);
     let power = 10u128.pow(u32::from(decimal.exponent.unsigned_abs()));
@@ -132,7 +136,8 @@ fn magnitude(decimal: Decimal, frac: i16) -> Option<Split>
 fn mirrored(split: Split) -> Split
     requires { pos 0 ≤ℤ split.floor }
     ensures room { result.floor ≤ℤ pos 0 }
-    ensures split { (n : ℤ) (d : ℕ) → IsSplit n d split.floor split.part → IsSplit (neg_ℤ n) d result.floor result.part }
+    ensures split { (n : ℤ) (d : ℕ) → IsSplit n d split.floor split.part
+        → IsSplit (neg_ℤ n) d result.floor result.part }
 {
     match split.part {
         Part::Whole => Split {
@@ -158,7 +163,8 @@ fn mirrored(split: Split) -> Split
 fn settle_size(size: Option<Split>, negative: bool, to: FxType) -> i128
     requires valid { IsType to }
     requires size { IfSome size (λ split. pos 0 ≤ℤ split.floor) }
-    ensures { (n d : ℕ) → 0 < d → IsSize n d size → StoresQuotient (signed_digits negative n) d to Nearest true result }
+    ensures { (n d : ℕ) → 0 < d → IsSize n d size
+        → StoresQuotient (signed_digits negative n) d to Nearest true result }
 {
     match size {
         Some(split) => {

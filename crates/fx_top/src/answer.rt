@@ -124,7 +124,8 @@ impl Answer<'_> {
 
 /// Puts the line of a fault at a line of a file.
 fn say_line<E: Sink>(err: &mut E, file: &str, line: u64, what: &[u8])
-    ensures { Said (stream_in E.taken E.faults err.old err.new) (file.now ++ codes ": line " ++ decimal line ++ what.now) }
+    ensures { Said (stream_in E.taken E.faults err.old err.new) (file.now ++ codes ": line "
+        ++ decimal line ++ what.now) }
 {
     let mut digits = Buffer::new();
     let line = digits.format(line).as_bytes();
@@ -163,14 +164,16 @@ fn say_fault<E: Sink>(err: &mut E, file: &str, fault: &VlFault)
 
 /// Puts the line of a condition that shows one name.
 fn say_name<E: Sink>(err: &mut E, file: &str, condition: &[u8], name: &Text)
-    ensures { Said (stream_in E.taken E.faults err.old err.new) (name_line file.now condition.now name.now) }
+    ensures { Said (stream_in E.taken E.faults err.old err.new)
+        (name_line file.now condition.now name.now) }
 {
     say(err, &[file.as_bytes(), condition, name.bytes(), b"\n"])
 }
 
 /// Puts the line of a loop, up to a failure.
 fn say_loop<E: Sink>(err: &mut E, file: &str, names: &[Text])
-    ensures { Said (stream_in E.taken E.faults err.old err.new) (file.now ++ codes ": combinational loop:" ++ names_end names.now) }
+    ensures { Said (stream_in E.taken E.faults err.old err.new) (file.now
+        ++ codes ": combinational loop:" ++ names_end names.now) }
 {
     if let Ok(()) = put_two(err, file.as_bytes(), b": combinational loop:") {
         say_names(err, names);
@@ -192,8 +195,10 @@ fn say_names<E: Sink>(err: &mut E, names: &[Text])
 
 /// Puts two pieces, one after the other.
 fn put_two<E: Sink>(err: &mut E, first: &[u8], second: &[u8]) -> Result<(), PutFault>
-    ensures whole { OnOk result (E.taken err.new ≡ also_took (E.taken err.old) (first.now ++ second.now)) }
-    ensures cut { OnErr result (TookProperPrefix (E.taken err.old) (E.taken err.new) (first.now ++ second.now)) }
+    ensures whole { OnOk result (E.taken err.new
+        ≡ also_took (E.taken err.old) (first.now ++ second.now)) }
+    ensures cut { OnErr result (TookProperPrefix (E.taken err.old) (E.taken err.new) (first.now
+        ++ second.now)) }
     ensures cause { OnErr result (Rose (E.faults err.old) (E.faults err.new)) }
     ensures later { E.faults err.old ≤ E.faults err.new }
 {

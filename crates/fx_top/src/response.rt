@@ -52,9 +52,12 @@ pub struct Response {
 /// The machine of a Verilog text.
 fn machine_of(alloc: Global, verilog: &[u8]) -> Result<Machine, ReplayFault>
     ensures made { IfOk result (IsMachineOf verilog.now) }
-    ensures not_verilog { (line : ℕ) → result ≡ Err (ReplayFault.NotVerilog line) → IsNotVerilog verilog.now line }
-    ensures broken { (fault : FaultOf) → result ≡ Err (ReplayFault.Broken fault) → IsBroken verilog.now fault }
-    ensures good { (line : ℕ) (cause : CauseOf) → result ≡ Err (ReplayFault.BadTable line cause) → ⊥ }
+    ensures not_verilog { (line : ℕ) → result ≡ Err (ReplayFault.NotVerilog line)
+        → IsNotVerilog verilog.now line }
+    ensures broken { (fault : FaultOf) → result ≡ Err (ReplayFault.Broken fault)
+        → IsBroken verilog.now fault }
+    ensures good { (line : ℕ) (cause : CauseOf) → result ≡ Err (ReplayFault.BadTable line cause)
+        → ⊥ }
 {
     let made = match vl_read::read(alloc, verilog) {
         Ok(made) => made,
@@ -91,9 +94,12 @@ fn is_condition(fault: &VlFault) -> bool
 /// The response of a Verilog text to a stimulus.
 pub fn response_of(alloc: Global, verilog: &[u8], stimulus: &[u8]) -> Result<Response, ReplayFault>
     ensures made { IfOk result (IsResponseTo verilog.now stimulus.now) }
-    ensures not_verilog { (line : ℕ) → result ≡ Err (ReplayFault.NotVerilog line) → IsNotVerilog verilog.now line }
-    ensures broken { (fault : FaultOf) → result ≡ Err (ReplayFault.Broken fault) → IsBroken verilog.now fault }
-    ensures bad { (line : ℕ) (cause : CauseOf) → result ≡ Err (ReplayFault.BadTable line cause) → IsBadStimulus verilog.now stimulus.now line cause }
+    ensures not_verilog { (line : ℕ) → result ≡ Err (ReplayFault.NotVerilog line)
+        → IsNotVerilog verilog.now line }
+    ensures broken { (fault : FaultOf) → result ≡ Err (ReplayFault.Broken fault)
+        → IsBroken verilog.now fault }
+    ensures bad { (line : ℕ) (cause : CauseOf) → result ≡ Err (ReplayFault.BadTable line cause)
+        → IsBadStimulus verilog.now stimulus.now line cause }
 {
     let machine = match machine_of(alloc, verilog) {
         Ok(machine) => machine,
@@ -128,9 +134,13 @@ pub fn write_lines<K: Sink>(
 ) -> Result<(), PutFault>
     requires room { HasRoom replay.now }
     requires samples { samples ≡ (stimulus_of replay.now).lines }
-    requires wide { (t : ℕ) → t < samples → length (table_of replay.now t) ≡ length (periods_of text.old) }
-    ensures whole { OnOk result (K.taken out.new ≡ also_took (K.taken out.old) (response (periods_of text.old) (table_of replay.now) samples)) }
-    ensures cut { OnErr result (TookProperPrefix (K.taken out.old) (K.taken out.new) (response (periods_of text.old) (table_of replay.now) samples)) }
+    requires wide { (t : ℕ) → t < samples
+        → length (table_of replay.now t) ≡ length (periods_of text.old) }
+    ensures whole { OnOk result (K.taken out.new
+        ≡ also_took (K.taken out.old) (response (periods_of text.old)
+        (table_of replay.now) samples)) }
+    ensures cut { OnErr result (TookProperPrefix (K.taken out.old) (K.taken out.new)
+        (response (periods_of text.old) (table_of replay.now) samples)) }
     ensures cause { OnErr result (Rose (K.faults out.old) (K.faults out.new)) }
 {
     for sample in 0..samples {

@@ -65,9 +65,11 @@ fn checked_of(alloc: Global, model: &[u8]) -> Result<Checked, SimulationFault>
 #[tactic(auto, unfolding(crate::specs::inner::Simulating::HasColumns))]
 fn columns_of(alloc: Global, checked: &Checked) -> Result<RootColumns, OutOfMemory>
     ensures columns { IfOk result (HasColumns checked.now.diagram) }
-    ensures input_periods { IfOk result (λ columns. All (λ column. 0 < column.period) columns.inputs) }
+    ensures input_periods { IfOk result (λ columns. All
+        (λ column. 0 < column.period) columns.inputs) }
     ensures few_inputs { IfOk result (λ columns. length columns.inputs < 2 ^ 32) }
-    ensures output_periods { IfOk result (λ columns. All (λ column. 0 < column.period) columns.outputs) }
+    ensures output_periods { IfOk result
+        (λ columns. All (λ column. 0 < column.period) columns.outputs) }
     ensures few_outputs { IfOk result (λ columns. length columns.outputs < 2 ^ 32) }
 {
     let columns = columns(alloc, checked)?;
@@ -80,7 +82,8 @@ fn columns_of(alloc: Global, checked: &Checked) -> Result<RootColumns, OutOfMemo
 fn rows_of(alloc: Global, stimulus: &[u8], columns: &RootColumns) -> Result<Rows, SimulationFault>
     requires periods { All (λ column. 0 < column.period) columns.now.inputs }
     requires few { length columns.now.inputs < 2 ^ 32 }
-    ensures rows { IfOk result (IsRows columns.now.inputs (length columns.now.outputs) stimulus.now) }
+    ensures rows { IfOk result (IsRows columns.now.inputs
+        (length columns.now.outputs) stimulus.now) }
     ensures fits { IfOk result (FitsColumns columns.now.inputs) }
     ensures refused { IfErr result (IsRowsFault columns.now stimulus.now) }
 {
@@ -218,9 +221,13 @@ pub fn write_simulation<K: Sink>(
 ) -> Result<(), PutFault>
     requires room { HasRoom responded.now }
     requires samples { samples ≡ lines_of responded.now }
-    requires wide { (t : ℕ) → t < samples → length (table_of responded.now t) ≡ length (periods_of text.old) }
-    ensures whole { OnOk result (K.taken out.new ≡ also_took (K.taken out.old) (response (periods_of text.old) (table_of responded.now) samples)) }
-    ensures cut { OnErr result (TookProperPrefix (K.taken out.old) (K.taken out.new) (response (periods_of text.old) (table_of responded.now) samples)) }
+    requires wide { (t : ℕ) → t < samples
+        → length (table_of responded.now t) ≡ length (periods_of text.old) }
+    ensures whole { OnOk result (K.taken out.new
+        ≡ also_took (K.taken out.old) (response (periods_of text.old)
+        (table_of responded.now) samples)) }
+    ensures cut { OnErr result (TookProperPrefix (K.taken out.old) (K.taken out.new)
+        (response (periods_of text.old) (table_of responded.now) samples)) }
     ensures cause { OnErr result (Rose (K.faults out.old) (K.faults out.new)) }
 {
     for sample in 0..samples {

@@ -62,7 +62,8 @@ impl Tally {
     /// Puts a number there, if it is greater than what is there.
     pub fn raise(&mut self, owner: u64, level: u64, number: u64) -> Result<(), OutOfMemory>
         ensures { OnOk result ((other later : ℕ) → tally_at self.new other later
-            ≡ (if (owner == other) && (level == later) then max (tally_at self.old owner level) number
+            ≡ (if (owner == other) && (level == later)
+            then max (tally_at self.old owner level) number
             else tally_at self.old other later)) }
     {
         let greater = self.get(owner, level).max(number);

@@ -59,7 +59,8 @@ fn broken_model() -> CheckFault
 fn known_of<'a>(alloc: Global, items: &'a [Item]) -> Result<Option<Known<'a>>, OutOfMemory>
     ensures sizes { IfOk result (λ found. MatchOption found (keeps_sizes items.now ≡ false)
         (λ known. keeps_sizes items.now ≡ true)) }
-    ensures items { IfOk result (λ found. IfSome found (λ known. known.layout.items.now ≡ items.now)) }
+    ensures items { IfOk result (λ found. IfSome found
+        (λ known. known.layout.items.now ≡ items.now)) }
     ensures known { IfOk result (λ found. IfSome found IsKnown) }
 {
     let layout = Layout::new(alloc, items)?;

@@ -101,7 +101,8 @@ pub fn value_under<'a>(layout: &Layout<'a>, place: usize, name: &str) -> Option<
 /// The value of a parameter where the block's section has none.
 fn fallback<'a>(layout: &Layout<'a>, section: Option<usize>, parameter: &Parameter) -> &'a [u8]
     requires { ForSome section (λ place. place < length layout.now.items.now) }
-    ensures { result.now ≡ unwrap_or (value_in layout.now.items.now section (row_of parameter.now).name)
+    ensures { result.now ≡ unwrap_or (value_in layout.now.items.now section
+        (row_of parameter.now).name)
         (row_of parameter.now).default }
 {
     match section {

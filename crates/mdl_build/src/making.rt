@@ -111,7 +111,8 @@ impl<'a> Maker<'a> {
     fn standing(&self, place: usize, parent: Option<usize>) -> Standing
         requires maker { IsMaker self.now }
         requires within { place < length (items_of self.now) }
-        ensures { result ≡ standing_in (items_of self.now) parent (holder_of (items_of self.now) place) }
+        ensures { result ≡ standing_in (items_of self.now) parent
+            (holder_of (items_of self.now) place) }
     {
         if parent.is_none() {
             return Standing::Root;
@@ -130,7 +131,8 @@ impl<'a> Maker<'a> {
     fn number(&self, parent: Option<usize>) -> Option<u32>
         requires maker { IsMaker self.now }
         requires within { ForSome parent (λ place. place < length (items_of self.now)) }
-        requires counts { ForSome parent (λ place. is_block (role_of (items_of self.now) place) ≡ true) }
+        requires counts { ForSome parent
+            (λ place. is_block (role_of (items_of self.now) place) ≡ true) }
         ensures { result ≡ option_map (number_at (items_of self.now)) parent }
     {
         match parent {

@@ -124,7 +124,8 @@ impl<'a> Blocks<'a> {
 
     /// The number of the first block of this name in a System.
     pub fn number(&self, system: usize, name: &'a [u8]) -> Option<u32>
-        ensures { (items : List Item) → AreBlocks items self.now → result ≡ number_of items system name.now }
+        ensures { (items : List Item) → AreBlocks items self.now
+            → result ≡ number_of items system name.now }
     {
         match self.numbers.get(&Key { system, name }) {
             None => None,

@@ -51,7 +51,8 @@ fn note(
     places: &mut Vec<Option<usize>>,
     reads: &mut Vec<Sequence<usize>>,
 ) -> Result<(), OutOfMemory>
-    ensures places { OnOk result (places.new.items ≡ places_after scope.now places.old.items at item.now) }
+    ensures places { OnOk result (places.new.items
+        ≡ places_after scope.now places.old.items at item.now) }
     ensures reads { OnOk result (reads.new.items ≡ reads_after scope.now reads.old.items item.now) }
 {
     if let ModItem::Assign { name, value } = item {
@@ -73,7 +74,8 @@ pub fn assignments_of(
     scope: &Scope<'_>,
     items: &[ModItem],
 ) -> Result<Assigned, OutOfMemory>
-    ensures { IfOk result (λ assigned. IsNoted scope.now items.now assigned.places.items assigned.reads.items) }
+    ensures { IfOk result (λ assigned. IsNoted scope.now items.now assigned.places.items
+        assigned.reads.items) }
 {
     let mut places = vec![in alloc; None; scope.count()]?;
     let mut reads = empty_lists(alloc, scope.count())?;

@@ -6,7 +6,8 @@ ghost use Rattle.vl_ast.specs.Driven.{is_clock_or_reset};
 use vl_ast::{Attr, Module, Port};
 
 fn find<'a>(attrs: &'a [Attr], name: &[u8]) -> Option<&'a Attr>
-    ensures { option_map (λ attr. attr.now) result ≡ find (λ attr. bytes_eq attr.name name.now) attrs.now }
+    ensures { option_map (λ attr. attr.now) result
+        ≡ find (λ attr. bytes_eq attr.name name.now) attrs.now }
 {
     attrs.iter().find(|attr| attr.name.bytes() == name)
 }

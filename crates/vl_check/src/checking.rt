@@ -41,9 +41,14 @@ struct Known<'a> {
 }
 
 fn known_of<'a>(alloc: Global, text: &[Mention<'a>]) -> Result<Known<'a>, OutOfMemory>
-    ensures scope { IfOk result (λ known. (m : Module) → shown text.now ≡ mentions m → IsScopeOf m known.scope) }
-    ensures numbers { IfOk result (λ known. AreNumbers (map mentioned (shown text.now)) known.numbers.items (length known.scope.declared.items)) }
-    ensures first { IfOk result (λ known. AreFirst (map mentioned (shown text.now)) known.numbers.items known.scope.declared.items (shown text.now)) }
+    ensures scope { IfOk result (λ known. (m : Module) → shown text.now ≡ mentions m
+        → IsScopeOf m known.scope) }
+    ensures numbers { IfOk result (λ known.
+        AreNumbers (map mentioned (shown text.now)) known.numbers.items
+        (length known.scope.declared.items)) }
+    ensures first { IfOk result (λ known.
+        AreFirst (map mentioned (shown text.now)) known.numbers.items known.scope.declared.items
+        (shown text.now)) }
 {
     let Numbers { names, numbers } = numbers_of(alloc, text)?;
     let declared = first_declarations(alloc, text, numbers.as_slice(), names.len())?;
@@ -55,7 +60,8 @@ fn known_of<'a>(alloc: Global, text: &[Mention<'a>]) -> Result<Known<'a>, OutOfM
 pub fn check<'a>(alloc: Global, source: &'a Module) -> Result<Checked<'a>, VlFault>
     ensures sound { IfOk result (λ checked. BreaksNone source.now) }
     ensures scope { IfOk result (λ checked. IsScopeOf source.now checked.scope) }
-    ensures order { IfOk result (λ checked. IsOrdering source.now checked.scope checked.order.items checked.places.items) }
+    ensures order { IfOk result (λ checked.
+        IsOrdering source.now checked.scope checked.order.items checked.places.items) }
     ensures fault { IfErr result (IsCause source.now) }
 {
     let text = mentions_of(alloc, source)?;

@@ -70,7 +70,8 @@ fn is_read(text: &[Mention<'_>], name: &[u8]) -> bool
 }
 
 fn is_clk_at_fault(text: &[Mention<'_>], ports: &[Port]) -> bool
-    ensures { result ≡ (not (list_any (is_bit_input (codes "clk")) ports.now) || list_any (λ x. is_read_of (codes "clk") (mention_of x)) text.now) }
+    ensures { result ≡ (not (list_any (is_bit_input (codes "clk")) ports.now) || list_any
+        (λ x. is_read_of (codes "clk") (mention_of x)) text.now) }
 {
     if has_bit_input(ports, b"clk") {
         is_read(text, b"clk")
@@ -87,7 +88,8 @@ fn is_before(text: &[Mention<'_>], name: &[u8], other: &[u8]) -> bool
 
 /// Of `clk` and `reset` the one that stands first in the text.
 fn first_of_both(text: &[Mention<'_>]) -> &'static [u8]
-    ensures { result.now ≡ first_of_both (nat_le (place_in text.now (codes "clk")) (place_in text.now (codes "reset"))) }
+    ensures { result.now ≡ first_of_both
+        (nat_le (place_in text.now (codes "clk")) (place_in text.now (codes "reset"))) }
 {
     if is_before(text, b"clk", b"reset") {
         b"clk"

@@ -64,7 +64,8 @@ fn may_drive(clocked: bool, declared: Option<Declared<'_>>) -> bool
 
 fn mark(marks: &mut Vec<bool>, number: usize, holds: bool)
     requires { number < length marks.old.items }
-    ensures { marks.new.items ≡ (if holds then slice_set marks.old.items number true else marks.old.items) }
+    ensures { marks.new.items ≡ (if holds then slice_set marks.old.items number true
+        else marks.old.items) }
 {
     if holds {
         marks[number] = true;
@@ -80,7 +81,9 @@ fn driven_names(
 ) -> Result<Vec<bool>, OutOfMemory>
     requires { AreNumbers (map mentioned (shown text.now)) numbers.now count }
     ensures long { IfOk result (λ driven. length driven.items ≡ count) }
-    ensures marks { IfOk result (λ driven. Marks is_driver_of (map mentioned (shown text.now)) numbers.now driven.items (shown text.now)) }
+    ensures marks { IfOk result (λ driven.
+        Marks is_driver_of (map mentioned (shown text.now)) numbers.now driven.items
+        (shown text.now)) }
 {
     let mut driven = vec![in alloc; false; count]?;
     for (i, mention) in text.iter().enumerate() {
@@ -114,7 +117,8 @@ pub fn undriven<'a>(
     count: usize,
 ) -> Result<Option<&'a [u8]>, OutOfMemory>
     requires { AreNumbers (map mentioned (shown text.now)) numbers.now count }
-    ensures { IfOk result (λ name. option_map (λ found. found.now) name ≡ first_fault (is_undriven (shown text.now)) [] (shown text.now)) }
+    ensures { IfOk result (λ name. option_map (λ found. found.now) name
+        ≡ first_fault (is_undriven (shown text.now)) [] (shown text.now)) }
 {
     let driven = driven_names(alloc, text, numbers, count)?;
     let mut declared = vec![in alloc; false; count]?;
@@ -148,7 +152,8 @@ pub fn first_declarations<'a>(
 ) -> Result<Vec<Option<Declared<'a>>>, OutOfMemory>
     requires { AreNumbers (map mentioned (shown text.now)) numbers.now count }
     ensures long { IfOk result (λ declared. length declared.items ≡ count) }
-    ensures first { IfOk result (λ declared. AreFirst (map mentioned (shown text.now)) numbers.now declared.items (shown text.now)) }
+    ensures first { IfOk result (λ declared.
+        AreFirst (map mentioned (shown text.now)) numbers.now declared.items (shown text.now)) }
 {
     let mut first = vec![in alloc; None; count]?;
     for (i, mention) in text.iter().enumerate() {
@@ -165,7 +170,8 @@ fn is_double(
     driven: bool,
     declaration: Option<Declared<'_>>,
 ) -> bool
-    ensures { result ≡ double_where declared driven (option_map declared_of declaration.entry) (mention_of mention.now) }
+    ensures { result ≡ double_where declared driven (option_map declared_of declaration.entry)
+        (mention_of mention.now) }
 {
     match mention {
         Mention::Declares(_declared) => declared,
@@ -183,8 +189,10 @@ pub fn doubly<'a>(
     first: &[Option<Declared<'a>>],
 ) -> Result<Option<&'a [u8]>, OutOfMemory>
     requires numbers { AreNumbers (map mentioned (shown text.now)) numbers.now (length first.now) }
-    requires first { AreFirst (map mentioned (shown text.now)) numbers.now first.now (shown text.now) }
-    ensures { IfOk result (λ name. (m : Module) → shown text.now ≡ mentions m → option_map (λ found. found.now) name ≡ doubly m) }
+    requires first { AreFirst (map mentioned (shown text.now)) numbers.now first.now
+        (shown text.now) }
+    ensures { IfOk result (λ name. (m : Module) → shown text.now ≡ mentions m
+        → option_map (λ found. found.now) name ≡ doubly m) }
 {
     let mut declared = vec![in alloc; false; first.len()]?;
     let mut driven = vec![in alloc; false; first.len()]?;

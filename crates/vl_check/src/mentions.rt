@@ -77,7 +77,8 @@ fn push_name<'a>(names: &mut Vec<&'a [u8]>, name: &'a [u8]) -> Result<(), OutOfM
 }
 
 fn push<'a>(mentions: &mut Vec<Mention<'a>>, mention: Mention<'a>) -> Result<(), OutOfMemory>
-    ensures { OnOk result (shown mentions.new.items ≡ shown mentions.old.items ++ mention_of mention.entry ∷ []) }
+    ensures { OnOk result (shown mentions.new.items
+        ≡ shown mentions.old.items ++ mention_of mention.entry ∷ []) }
 {
     mentions.push(mention)?;
     Ok(())
@@ -88,7 +89,8 @@ fn push_reads<'a>(
     mentions: &mut Vec<Mention<'a>>,
     e: &'a Expr,
 ) -> Result<(), OutOfMemory>
-    ensures { OnOk result (shown mentions.new.items ≡ shown mentions.old.items ++ map Reads (names_read e.now)) }
+    ensures { OnOk result (shown mentions.new.items
+        ≡ shown mentions.old.items ++ map Reads (names_read e.now)) }
 {
     let mut names = Vec::new(alloc);
     push_names(&mut names, e)?;
@@ -103,7 +105,8 @@ fn push_condition<'a>(
     mentions: &mut Vec<Mention<'a>>,
     condition: &'a Option<Expr>,
 ) -> Result<(), OutOfMemory>
-    ensures { OnOk result (shown mentions.new.items ≡ shown mentions.old.items ++ map Reads (condition_names condition.now)) }
+    ensures { OnOk result (shown mentions.new.items
+        ≡ shown mentions.old.items ++ map Reads (condition_names condition.now)) }
 {
     match condition {
         None => Ok(()),
@@ -131,7 +134,8 @@ fn push_item<'a>(
     mentions: &mut Vec<Mention<'a>>,
     item: &'a ModItem,
 ) -> Result<(), OutOfMemory>
-    ensures { OnOk result (shown mentions.new.items ≡ shown mentions.old.items ++ item_mentions item.now) }
+    ensures { OnOk result (shown mentions.new.items
+        ≡ shown mentions.old.items ++ item_mentions item.now) }
 {
     match item {
         ModItem::Wire {

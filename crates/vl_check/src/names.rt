@@ -30,7 +30,8 @@ pub fn mentioned<'a>(mention: &Mention<'a>) -> &'a [u8]
 
 /// Numbers the names of a text.
 pub fn numbers_of<'a>(alloc: Global, mentions: &[Mention<'a>]) -> Result<Numbers<'a>, OutOfMemory>
-    ensures { IfOk result (λ known. Numbered (map mentioned (shown mentions.now)) (texts known.names.keys) known.numbers.items) }
+    ensures { IfOk result (λ known. Numbered (map mentioned (shown mentions.now))
+        (texts known.names.keys) known.numbers.items) }
 {
     let mut names = IndexSet::new(alloc);
     let mut numbers = Vec::new(alloc);

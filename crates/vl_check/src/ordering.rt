@@ -108,7 +108,8 @@ fn turned_names(
     cycle: &[usize],
     at: usize,
 ) -> Result<Texts, OutOfMemory>
-    requires within { (i : ℕ) → i < length cycle.now → slice_index cycle.now i < length (names_in scope.now) }
+    requires within { (i : ℕ) → i < length cycle.now
+        → slice_index cycle.now i < length (names_in scope.now) }
     requires at { at < length cycle.now }
     ensures { IfOk result (IsTurned (names_in scope.now) cycle.now at) }
 {

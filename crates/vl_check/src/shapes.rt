@@ -121,7 +121,8 @@ fn cast_shape(part: Option<Shape>, signed: bool) -> Option<Shape>
 }
 
 fn repeat_shape(count: u32, part: Option<Shape>) -> Option<Shape>
-    ensures { result ≡ (if nat_lt 0 count then option_and_then (λ s. narrow (count * s.length) false) part else None) }
+    ensures { result ≡ (if nat_lt 0 count then option_and_then
+        (λ s. narrow (count * s.length) false) part else None) }
 {
     let Some(part) = part else {
         return None;
@@ -173,7 +174,8 @@ pub fn net(scope: &Scope<'_>, name: &[u8]) -> Shape
 }
 
 fn name_shape(scope: &Scope<'_>, name: &[u8]) -> Option<Shape>
-    ensures { result ≡ narrow (nets_in scope.now name.now).width (nets_in scope.now name.now).signed }
+    ensures { result ≡ narrow (nets_in scope.now name.now).width
+        (nets_in scope.now name.now).signed }
 {
     let net = net(scope, name);
     narrow(u64::from(net.length), net.signed)

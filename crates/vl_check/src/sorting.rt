@@ -67,7 +67,8 @@ fn turn(
     requires known { AreKnown reads.now }
     requires state { State reads.now stage.now stack.now.items order.now.items }
     requires some { 0 < length stack.now.items }
-    ensures { IfOk result (λ found. IsTurned reads.now stage.old stage.new stack.new.items order.new.items found) }
+    ensures { IfOk result (λ found. IsTurned reads.now stage.old stage.new stack.new.items
+        order.new.items found) }
 {
     let top = stack.as_slice().len() - 1;
     let v = stack[top];
@@ -104,7 +105,8 @@ fn search(
     requires state { State reads.now stage.now [] order.now.items }
     requires root { root < length reads.now }
     requires white { slice_index stage.now root ≡ 0 }
-    ensures { IfOk result (λ cycle. IsSearched reads.now stage.old stage.new order.new.items root (option_map (λ c. c.items) cycle)) }
+    ensures { IfOk result (λ cycle. IsSearched reads.now stage.old stage.new order.new.items root
+        (option_map (λ c. c.items) cycle)) }
 {
     let mut stack = Vec::new(alloc);
     stack.push(root)?;

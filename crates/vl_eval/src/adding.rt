@@ -45,7 +45,8 @@ pub fn beside(
     right: usize,
     right_length: u32,
 ) -> Result<usize, OutOfMemory>
-    ensures { IfOk result (λ slot. IsBeside base ops.old.items ops.new.items slot left left_length right right_length) }
+    ensures { IfOk result (λ slot. IsBeside base ops.old.items ops.new.items slot left left_length
+        right right_length) }
 {
     if left_length == 0 {
         return Ok(right);

@@ -45,7 +45,8 @@ fn number_of(entry: u64) -> usize
 
 /// By the number of each operation, its place among the entries.
 fn places_of(alloc: Global, entries: &[u64], base: usize) -> Result<Vec<usize>, OutOfMemory>
-    requires numbers { (i : ℕ) → i < length entries.now → number_of (slice_index entries.now i) < length entries.now }
+    requires numbers { (i : ℕ) → i < length entries.now
+        → number_of (slice_index entries.now i) < length entries.now }
     requires end { base + length entries.now < 2 ^ 64 }
     ensures { IfOk result (λ places. ArePlaces base entries.now (length entries.now) places.items) }
 {
@@ -206,8 +207,10 @@ fn in_order(
     base: usize,
     places: &[usize],
 ) -> Result<Vec<Op>, OutOfMemory>
-    requires { (i : ℕ) → i < length entries.now → number_of (slice_index entries.now i) < length ops.now }
-    ensures { IfOk result (λ arranged. arranged.items ≡ map (op_at base places.now ops.now) entries.now) }
+    requires { (i : ℕ) → i < length entries.now
+        → number_of (slice_index entries.now i) < length ops.now }
+    ensures { IfOk result (λ arranged. arranged.items
+        ≡ map (op_at base places.now ops.now) entries.now) }
 {
     let mut arranged = Vec::new(alloc);
     for entry in entries {
@@ -237,7 +240,8 @@ fn moved_captures(
     base: usize,
     places: &[usize],
 ) -> Result<Vec<Capture>, OutOfMemory>
-    ensures { IfOk result (λ arranged. arranged.items ≡ map (moved_capture (moved base places.now)) captures.now) }
+    ensures { IfOk result (λ arranged. arranged.items
+        ≡ map (moved_capture (moved base places.now)) captures.now) }
 {
     let mut arranged = Vec::new(alloc);
     for capture in captures {

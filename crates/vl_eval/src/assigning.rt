@@ -25,8 +25,10 @@ pub fn build_assigned(
 ) -> Result<usize, OutOfMemory>
     requires sound { is_sound (nets_in site.now.scope.now) e.now ≡ true }
     requires most { width ≤ 128 }
-    requires placed { ArePlaced site.now.base site.now.scope.now site.now.slots.now ops.old.items (names_read e.now) }
-    ensures { IfOk result (λ slot. Assigns site.now.base site.now.scope.now site.now.slots.now ops.old.items ops.new.items slot width e.now) }
+    requires placed { ArePlaced site.now.base site.now.scope.now site.now.slots.now ops.old.items
+        (names_read e.now) }
+    ensures { IfOk result (λ slot. Assigns site.now.base site.now.scope.now site.now.slots.now
+        ops.old.items ops.new.items slot width e.now) }
 {
     meaning_by_layer();
     let shape = shape_of(site, e);
@@ -53,8 +55,10 @@ fn build_condition(
     condition: &Option<Expr>,
 ) -> Result<usize, OutOfMemory>
     requires sound { is_sound_condition (nets_in site.now.scope.now) condition.now ≡ true }
-    requires placed { ArePlaced site.now.base site.now.scope.now site.now.slots.now ops.old.items (condition_names condition.now) }
-    ensures { IfOk result (λ slot. Tests site.now.base site.now.scope.now site.now.slots.now ops.old.items ops.new.items slot condition.now) }
+    requires placed { ArePlaced site.now.base site.now.scope.now site.now.slots.now ops.old.items
+        (condition_names condition.now) }
+    ensures { IfOk result (λ slot. Tests site.now.base site.now.scope.now site.now.slots.now
+        ops.old.items ops.new.items slot condition.now) }
 {
     match condition {
         None => push(ops, site.base, Op::Constant(1)),
@@ -87,8 +91,10 @@ pub fn build_next(
     requires number { is_number first.now ≡ true }
     requires condition { is_sound_condition (nets_in site.now.scope.now) condition.now ≡ true }
     requires value { is_sound (nets_in site.now.scope.now) value.now ≡ true }
-    requires placed { ArePlaced site.now.base site.now.scope.now site.now.slots.now ops.old.items (next_names name.now condition.now value.now) }
-    ensures { IfOk result (λ slot. Captures site.now.base site.now.scope.now site.now.slots.now ops.old.items ops.new.items slot name.now first.now condition.now value.now) }
+    requires placed { ArePlaced site.now.base site.now.scope.now site.now.slots.now ops.old.items
+        (next_names name.now condition.now value.now) }
+    ensures { IfOk result (λ slot. Captures site.now.base site.now.scope.now site.now.slots.now
+        ops.old.items ops.new.items slot name.now first.now condition.now value.now) }
 {
     meaning_by_layer();
     let width = net(site.scope, name).length;

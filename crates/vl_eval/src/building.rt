@@ -25,8 +25,10 @@ fn build_name(
     requires sound { is_sound (nets_in site.now.scope.now) (Name name.now) ≡ true }
     requires longer { own_length (nets_in site.now.scope.now) (Name name.now) ≤ width }
     requires most { width ≤ 128 }
-    requires placed { ArePlaced site.now.base site.now.scope.now site.now.slots.now ops.old.items (names_read (Name name.now)) }
-    ensures { IfOk result (λ slot. Built site.now.base site.now.scope.now site.now.slots.now ops.old.items ops.new.items slot width signed (Name name.now)) }
+    requires placed { ArePlaced site.now.base site.now.scope.now site.now.slots.now ops.old.items
+        (names_read (Name name.now)) }
+    ensures { IfOk result (λ slot. Built site.now.base site.now.scope.now site.now.slots.now
+        ops.old.items ops.new.items slot width signed (Name name.now)) }
 {
     meaning_by_layer();
     let part = slot(site, name);
@@ -47,8 +49,10 @@ fn build_bit(
     requires sound { is_sound (nets_in site.now.scope.now) (Bit name.now low) ≡ true }
     requires longer { own_length (nets_in site.now.scope.now) (Bit name.now low) ≤ width }
     requires most { width ≤ 128 }
-    requires placed { ArePlaced site.now.base site.now.scope.now site.now.slots.now ops.old.items (names_read (Bit name.now low)) }
-    ensures { IfOk result (λ slot. Built site.now.base site.now.scope.now site.now.slots.now ops.old.items ops.new.items slot width signed (Bit name.now low)) }
+    requires placed { ArePlaced site.now.base site.now.scope.now site.now.slots.now ops.old.items
+        (names_read (Bit name.now low)) }
+    ensures { IfOk result (λ slot. Built site.now.base site.now.scope.now site.now.slots.now
+        ops.old.items ops.new.items slot width signed (Bit name.now low)) }
 {
     meaning_by_layer();
     let part = slot(site, name);
@@ -67,8 +71,10 @@ fn build_part(
     requires sound { is_sound (nets_in site.now.scope.now) (Part name.now high low) ≡ true }
     requires longer { own_length (nets_in site.now.scope.now) (Part name.now high low) ≤ width }
     requires most { width ≤ 128 }
-    requires placed { ArePlaced site.now.base site.now.scope.now site.now.slots.now ops.old.items (names_read (Part name.now high low)) }
-    ensures { IfOk result (λ slot. Built site.now.base site.now.scope.now site.now.slots.now ops.old.items ops.new.items slot width signed (Part name.now high low)) }
+    requires placed { ArePlaced site.now.base site.now.scope.now site.now.slots.now ops.old.items
+        (names_read (Part name.now high low)) }
+    ensures { IfOk result (λ slot. Built site.now.base site.now.scope.now site.now.slots.now
+        ops.old.items ops.new.items slot width signed (Part name.now high low)) }
 {
     meaning_by_layer();
     let part = slot(site, name);
@@ -86,8 +92,10 @@ fn build_literal(
     requires sound { is_sound (nets_in site.now.scope.now) (Literal number.now) ≡ true }
     requires longer { own_length (nets_in site.now.scope.now) (Literal number.now) ≤ width }
     requires most { width ≤ 128 }
-    requires placed { ArePlaced site.now.base site.now.scope.now site.now.slots.now ops.old.items (names_read (Literal number.now)) }
-    ensures { IfOk result (λ slot. Built site.now.base site.now.scope.now site.now.slots.now ops.old.items ops.new.items slot width signed (Literal number.now)) }
+    requires placed { ArePlaced site.now.base site.now.scope.now site.now.slots.now ops.old.items
+        (names_read (Literal number.now)) }
+    ensures { IfOk result (λ slot. Built site.now.base site.now.scope.now site.now.slots.now
+        ops.old.items ops.new.items slot width signed (Literal number.now)) }
 {
     meaning_by_layer();
     push(ops, site.base, Op::Constant(literal(number, width, signed)))
@@ -105,8 +113,10 @@ fn build_unary(
     requires sound { is_sound (nets_in site.now.scope.now) (Unary op part.now) ≡ true }
     requires longer { own_length (nets_in site.now.scope.now) (Unary op part.now) ≤ width }
     requires most { width ≤ 128 }
-    requires placed { ArePlaced site.now.base site.now.scope.now site.now.slots.now ops.old.items (names_read (Unary op part.now)) }
-    ensures { IfOk result (λ slot. Built site.now.base site.now.scope.now site.now.slots.now ops.old.items ops.new.items slot width signed (Unary op part.now)) }
+    requires placed { ArePlaced site.now.base site.now.scope.now site.now.slots.now ops.old.items
+        (names_read (Unary op part.now)) }
+    ensures { IfOk result (λ slot. Built site.now.base site.now.scope.now site.now.slots.now
+        ops.old.items ops.new.items slot width signed (Unary op part.now)) }
 {
     meaning_by_layer();
     let context = unary_context(site, op, part, width, signed);
@@ -125,10 +135,13 @@ fn build_binary(
     signed: bool,
 ) -> Result<usize, OutOfMemory>
     requires sound { is_sound (nets_in site.now.scope.now) (Binary op left.now right.now) ≡ true }
-    requires longer { own_length (nets_in site.now.scope.now) (Binary op left.now right.now) ≤ width }
+    requires longer { own_length (nets_in site.now.scope.now) (Binary op left.now right.now)
+        ≤ width }
     requires most { width ≤ 128 }
-    requires placed { ArePlaced site.now.base site.now.scope.now site.now.slots.now ops.old.items (names_read (Binary op left.now right.now)) }
-    ensures { IfOk result (λ slot. Built site.now.base site.now.scope.now site.now.slots.now ops.old.items ops.new.items slot width signed (Binary op left.now right.now)) }
+    requires placed { ArePlaced site.now.base site.now.scope.now site.now.slots.now ops.old.items
+        (names_read (Binary op left.now right.now)) }
+    ensures { IfOk result (λ slot. Built site.now.base site.now.scope.now site.now.slots.now
+        ops.old.items ops.new.items slot width signed (Binary op left.now right.now)) }
 {
     meaning_by_layer();
     let on_left = left_context(site, op, left, right, width, signed);
@@ -153,10 +166,13 @@ fn build_shift(
     signed: bool,
 ) -> Result<usize, OutOfMemory>
     requires sound { is_sound (nets_in site.now.scope.now) (Shift op part.now amount.now) ≡ true }
-    requires longer { own_length (nets_in site.now.scope.now) (Shift op part.now amount.now) ≤ width }
+    requires longer { own_length (nets_in site.now.scope.now) (Shift op part.now amount.now)
+        ≤ width }
     requires most { width ≤ 128 }
-    requires placed { ArePlaced site.now.base site.now.scope.now site.now.slots.now ops.old.items (names_read (Shift op part.now amount.now)) }
-    ensures { IfOk result (λ slot. Built site.now.base site.now.scope.now site.now.slots.now ops.old.items ops.new.items slot width signed (Shift op part.now amount.now)) }
+    requires placed { ArePlaced site.now.base site.now.scope.now site.now.slots.now ops.old.items
+        (names_read (Shift op part.now amount.now)) }
+    ensures { IfOk result (λ slot. Built site.now.base site.now.scope.now site.now.slots.now
+        ops.old.items ops.new.items slot width signed (Shift op part.now amount.now)) }
 {
     meaning_by_layer();
     let slot = build(ops, site, part, width, signed)?;
@@ -177,11 +193,15 @@ fn build_choice(
     width: u32,
     signed: bool,
 ) -> Result<usize, OutOfMemory>
-    requires sound { is_sound (nets_in site.now.scope.now) (Choose test.now chosen.now other.now) ≡ true }
-    requires longer { own_length (nets_in site.now.scope.now) (Choose test.now chosen.now other.now) ≤ width }
+    requires sound { is_sound (nets_in site.now.scope.now) (Choose test.now chosen.now other.now)
+        ≡ true }
+    requires longer { own_length (nets_in site.now.scope.now) (Choose test.now chosen.now other.now)
+        ≤ width }
     requires most { width ≤ 128 }
-    requires placed { ArePlaced site.now.base site.now.scope.now site.now.slots.now ops.old.items (names_read (Choose test.now chosen.now other.now)) }
-    ensures { IfOk result (λ slot. Built site.now.base site.now.scope.now site.now.slots.now ops.old.items ops.new.items slot width signed (Choose test.now chosen.now other.now)) }
+    requires placed { ArePlaced site.now.base site.now.scope.now site.now.slots.now ops.old.items
+        (names_read (Choose test.now chosen.now other.now)) }
+    ensures { IfOk result (λ slot. Built site.now.base site.now.scope.now site.now.slots.now
+        ops.old.items ops.new.items slot width signed (Choose test.now chosen.now other.now)) }
 {
     meaning_by_layer();
     let context = shape_of(site, test);
@@ -210,8 +230,10 @@ fn build_as_signed(
     requires sound { is_sound (nets_in site.now.scope.now) (AsSigned part.now) ≡ true }
     requires longer { own_length (nets_in site.now.scope.now) (AsSigned part.now) ≤ width }
     requires most { width ≤ 128 }
-    requires placed { ArePlaced site.now.base site.now.scope.now site.now.slots.now ops.old.items (names_read (AsSigned part.now)) }
-    ensures { IfOk result (λ slot. Built site.now.base site.now.scope.now site.now.slots.now ops.old.items ops.new.items slot width signed (AsSigned part.now)) }
+    requires placed { ArePlaced site.now.base site.now.scope.now site.now.slots.now ops.old.items
+        (names_read (AsSigned part.now)) }
+    ensures { IfOk result (λ slot. Built site.now.base site.now.scope.now site.now.slots.now
+        ops.old.items ops.new.items slot width signed (AsSigned part.now)) }
 {
     meaning_by_layer();
     let context = shape_of(site, part);
@@ -233,8 +255,10 @@ fn build_as_unsigned(
     requires sound { is_sound (nets_in site.now.scope.now) (AsUnsigned part.now) ≡ true }
     requires longer { own_length (nets_in site.now.scope.now) (AsUnsigned part.now) ≤ width }
     requires most { width ≤ 128 }
-    requires placed { ArePlaced site.now.base site.now.scope.now site.now.slots.now ops.old.items (names_read (AsUnsigned part.now)) }
-    ensures { IfOk result (λ slot. Built site.now.base site.now.scope.now site.now.slots.now ops.old.items ops.new.items slot width signed (AsUnsigned part.now)) }
+    requires placed { ArePlaced site.now.base site.now.scope.now site.now.slots.now ops.old.items
+        (names_read (AsUnsigned part.now)) }
+    ensures { IfOk result (λ slot. Built site.now.base site.now.scope.now site.now.slots.now
+        ops.old.items ops.new.items slot width signed (AsUnsigned part.now)) }
 {
     meaning_by_layer();
     let context = shape_of(site, part);
@@ -252,8 +276,10 @@ fn build_parts(
     requires sound { is_sound (nets_in site.now.scope.now) (Concat parts.now) ≡ true }
     requires longer { own_length (nets_in site.now.scope.now) (Concat parts.now) ≤ width }
     requires most { width ≤ 128 }
-    requires placed { ArePlaced site.now.base site.now.scope.now site.now.slots.now ops.old.items (names_read (Concat parts.now)) }
-    ensures { IfOk result (λ slot. Built site.now.base site.now.scope.now site.now.slots.now ops.old.items ops.new.items slot width signed (Concat parts.now)) }
+    requires placed { ArePlaced site.now.base site.now.scope.now site.now.slots.now ops.old.items
+        (names_read (Concat parts.now)) }
+    ensures { IfOk result (λ slot. Built site.now.base site.now.scope.now site.now.slots.now
+        ops.old.items ops.new.items slot width signed (Concat parts.now)) }
 {
     meaning_by_layer();
     let mut joined = 0;
@@ -282,8 +308,10 @@ fn build_copies(
     requires sound { is_sound (nets_in site.now.scope.now) (Repeat count part.now) ≡ true }
     requires longer { own_length (nets_in site.now.scope.now) (Repeat count part.now) ≤ width }
     requires most { width ≤ 128 }
-    requires placed { ArePlaced site.now.base site.now.scope.now site.now.slots.now ops.old.items (names_read (Repeat count part.now)) }
-    ensures { IfOk result (λ slot. Built site.now.base site.now.scope.now site.now.slots.now ops.old.items ops.new.items slot width signed (Repeat count part.now)) }
+    requires placed { ArePlaced site.now.base site.now.scope.now site.now.slots.now ops.old.items
+        (names_read (Repeat count part.now)) }
+    ensures { IfOk result (λ slot. Built site.now.base site.now.scope.now site.now.slots.now
+        ops.old.items ops.new.items slot width signed (Repeat count part.now)) }
 {
     meaning_by_layer();
     let context = shape_of(site, part);
@@ -310,8 +338,10 @@ pub fn build(
     requires sound { is_sound (nets_in site.now.scope.now) e.now ≡ true }
     requires longer { own_length (nets_in site.now.scope.now) e.now ≤ width }
     requires most { width ≤ 128 }
-    requires placed { ArePlaced site.now.base site.now.scope.now site.now.slots.now ops.old.items (names_read e.now) }
-    ensures { IfOk result (λ slot. Built site.now.base site.now.scope.now site.now.slots.now ops.old.items ops.new.items slot width signed e.now) }
+    requires placed { ArePlaced site.now.base site.now.scope.now site.now.slots.now ops.old.items
+        (names_read e.now) }
+    ensures { IfOk result (λ slot. Built site.now.base site.now.scope.now site.now.slots.now
+        ops.old.items ops.new.items slot width signed e.now) }
 {
     match e {
         Expr::Name(name) => build_name(ops, site, name.bytes(), width, signed),

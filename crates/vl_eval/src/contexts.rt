@@ -33,7 +33,8 @@ pub fn left_context(
 ) -> Shape
     requires left { is_sound (nets_in site.now.scope.now) left.now ≡ true }
     requires right { is_sound (nets_in site.now.scope.now) right.now ≡ true }
-    ensures { result ≡ left_context (nets_in site.now.scope.now) op left.now right.now width signed }
+    ensures { result ≡ left_context (nets_in site.now.scope.now) op left.now right.now width
+        signed }
 {
     match op {
         BinOp::Add | BinOp::Subtract | BinOp::Multiply | BinOp::And | BinOp::Or | BinOp::Xor =>

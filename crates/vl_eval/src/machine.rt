@@ -40,8 +40,10 @@ fn zeros(alloc: Global, count: usize) -> Result<Vec<u128>, OutOfMemory>
 
 /// Captures what the registers take: each value at a `from` goes to its `to`.
 fn capture(captures: &[Capture], values: &mut [u128])
-    requires within { (c : Capture) → Contains captures.now c → (c.from < length values.old) × (c.to < length values.old) }
-    requires apart { (c d : Capture) → Contains captures.now c → Contains captures.now d → c.to ≢ d.from }
+    requires within { (c : Capture) → Contains captures.now c → (c.from < length values.old)
+        × (c.to < length values.old) }
+    requires apart { (c d : Capture) → Contains captures.now c → Contains captures.now d
+        → c.to ≢ d.from }
     ensures { IsTaken captures.now values.old values.new }
 {
     for capture in captures {
@@ -53,8 +55,10 @@ fn capture(captures: &[Capture], values: &mut [u128])
 /// Puts the bits of the input ports to their places.
 fn put(places: &[usize], bits: &[u128], values: &mut [u128])
     requires count { length bits.now ≡ length places.now }
-    requires within { (k : ℕ) → k < length places.now → slice_index places.now k < length values.old }
-    requires apart { (i j : ℕ) → i < j → j < length places.now → slice_index places.now i ≢ slice_index places.now j }
+    requires within { (k : ℕ) → k < length places.now
+        → slice_index places.now k < length values.old }
+    requires apart { (i j : ℕ) → i < j → j < length places.now
+        → slice_index places.now i ≢ slice_index places.now j }
     ensures { IsPut places.now bits.now values.old values.new }
 {
     for k in 0..places.len() {
@@ -87,7 +91,8 @@ impl Machine {
     pub fn new(alloc: Global, source: Module) -> Result<Machine, VlFault>
         ensures sound { IfOk result (λ machine. BreaksNone source) }
         ensures source { IfOk result (λ machine. source_of machine ≡ source) }
-        ensures row { IfOk result (λ machine. IsFirstRow source (λ name. 0) (λ name. 0) (row_of machine)) }
+        ensures row { IfOk result (λ machine. IsFirstRow source (λ name. 0)
+            (λ name. 0) (row_of machine)) }
         ensures ready { IfOk result IsReady }
         ensures fault { IfErr result (IsCause source) }
     {
@@ -116,7 +121,8 @@ impl Machine {
     pub fn edge(&mut self, inputs: &[u128])
         requires ready { IsReady self.old }
         requires fit { AreFit (driven_ports (source_of self.old)) inputs.now }
-        ensures row { IsEdge (source_of self.old) (row_of self.old) (given (driven_ports (source_of self.old)) inputs.now) (row_of self.new) }
+        ensures row { IsEdge (source_of self.old) (row_of self.old)
+            (given (driven_ports (source_of self.old)) inputs.now) (row_of self.new) }
         ensures source { source_of self.new ≡ source_of self.old }
         ensures ready { IsReady self.new }
     {
@@ -137,7 +143,8 @@ impl Machine {
     pub fn port(&self, place: usize) -> i128
         requires ready { IsReady self.now }
         requires within { place < length (output_ports (source_of self.now)) }
-        ensures { (port : Port) → slice_get (output_ports (source_of self.now)) place ≡ Some port → result ≡ port_number port (row_of self.now port.name) }
+        ensures { (port : Port) → slice_get (output_ports (source_of self.now)) place ≡ Some port
+            → result ≡ port_number port (row_of self.now port.name) }
     {
         meaning_by_layer();
         let Output {

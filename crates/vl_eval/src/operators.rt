@@ -31,7 +31,11 @@ pub fn literal(number: &Sized, width: u32, signed: bool) -> u128
     requires number { is_number number.now ≡ true }
     requires longer { number.now.width ≤ width }
     requires most { width ≤ 128 }
-    ensures { result ≡ extended (record { width = number.now.width; signed = signed; bits = number.now.bits }) width }
+    ensures { result ≡ extended (record {
+      width = number.now.width;
+      signed = signed;
+      bits = number.now.bits;
+    }) width }
 {
     let Sized {
         width: from,

@@ -137,7 +137,8 @@ fn captures(
     requires scope { IsScopeOf source.now site.now.scope.now }
     requires base { site.now.base ≡ length (names_in site.now.scope.now) }
     requires wired { AreWired source.now site.now.scope.now site.now.slots.now ops.old.items }
-    ensures { IfOk result (λ captures. AreCaptured source.now site.now.scope.now site.now.slots.now source.now.items ops.old.items ops.new.items captures.items) }
+    ensures { IfOk result (λ captures. AreCaptured source.now site.now.scope.now site.now.slots.now
+        source.now.items ops.old.items ops.new.items captures.items) }
 {
     meaning_by_layer();
     let mut captures = Vec::new(alloc);
@@ -159,7 +160,8 @@ fn captures(
 
 /// The places of the input ports but `clk`, in order.
 fn inputs(alloc: Global, site: &Site<'_, '_>, source: &Module) -> Result<Vec<usize>, OutOfMemory>
-    ensures { IfOk result (λ places. places.items ≡ map (slot_of_port site.now.scope.now site.now.slots.now) (driven_ports source.now)) }
+    ensures { IfOk result (λ places. places.items
+        ≡ map (slot_of_port site.now.scope.now site.now.slots.now) (driven_ports source.now)) }
 {
     let mut places = Vec::new(alloc);
     for port in source.ports.as_slice() {
@@ -172,7 +174,8 @@ fn inputs(alloc: Global, site: &Site<'_, '_>, source: &Module) -> Result<Vec<usi
 
 /// Where the output ports have their values, in order.
 fn outputs(alloc: Global, site: &Site<'_, '_>, source: &Module) -> Result<Vec<Output>, OutOfMemory>
-    ensures { IfOk result (λ outputs. outputs.items ≡ map (output_of site.now.scope.now site.now.slots.now) (output_ports source.now)) }
+    ensures { IfOk result (λ outputs. outputs.items
+        ≡ map (output_of site.now.scope.now site.now.slots.now) (output_ports source.now)) }
 {
     let mut outputs = Vec::new(alloc);
     for port in source.ports.as_slice() {

@@ -71,11 +71,7 @@ impl Reader {
 
     /// The number of an attribute.
     #[tactic(auto, unfolding(crate::specs::inner::Plain::attr_step))]
-    fn attribute_value(
-        &mut self,
-        of_port: bool,
-        lexeme: &[u8],
-    ) -> Result<bool, OutOfMemory>
+    fn attribute_value(&mut self, of_port: bool, lexeme: &[u8]) -> Result<bool, OutOfMemory>
         ensures { IfOk result (λ said. stepped said (seen self.new)
             ≡ attr_step self.old.draft of_port self.old.held.attrs (AttrValue self.old.held.name)
             (kind_of lexeme.now) lexeme.now) }

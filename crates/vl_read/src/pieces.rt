@@ -53,7 +53,8 @@ pub fn repeat(alloc: Global, count: u32, part: Expr) -> Result<Expr, OutOfMemory
 /// `$signed` or `$unsigned`.
 pub fn cast(alloc: Global, signed: bool, part: Expr) -> Result<Expr, OutOfMemory>
     ensures { IfOk result (λ e.
-        e ≡ (if signed then roll-Expr (Expr-F.AsSigned part) else roll-Expr (Expr-F.AsUnsigned part))) }
+        e ≡ (if signed then roll-Expr (Expr-F.AsSigned part)
+        else roll-Expr (Expr-F.AsUnsigned part))) }
 {
     let part = Boxed::new(alloc, part)?;
     if signed {

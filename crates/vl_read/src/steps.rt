@@ -230,12 +230,7 @@ impl Reader {
 
     /// A wire's declaration ends.
     #[tactic(auto, unfolding(crate::specs::inner::Plain::step_at))]
-    fn wire_end(
-        &mut self,
-        signed: bool,
-        width: u32,
-        lexeme: &[u8],
-    ) -> Result<bool, OutOfMemory>
+    fn wire_end(&mut self, signed: bool, width: u32, lexeme: &[u8]) -> Result<bool, OutOfMemory>
         ensures { IfOk result (λ said. stepped said (seen self.new)
             ≡ step_at self.old.draft
             (Semicolon (Wire signed width self.old.held.name)) Fixed lexeme.now) }
@@ -251,12 +246,7 @@ impl Reader {
 
     /// A register's declaration ends.
     #[tactic(auto, unfolding(crate::specs::inner::Plain::step_at))]
-    fn register_end(
-        &mut self,
-        signed: bool,
-        width: u32,
-        lexeme: &[u8],
-    ) -> Result<bool, OutOfMemory>
+    fn register_end(&mut self, signed: bool, width: u32, lexeme: &[u8]) -> Result<bool, OutOfMemory>
         ensures { IfOk result (λ said. stepped said (seen self.new)
             ≡ step_at self.old.draft
             (Semicolon (Reg signed width self.old.held.name)) Fixed lexeme.now) }

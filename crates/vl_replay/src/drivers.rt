@@ -104,7 +104,8 @@ pub fn put_reset(drivers: &[Driver], bits: &mut [u128])
 pub fn put_bits(drivers: &[Driver], stimulus: &Rows, sample: u64, bits: &mut [u128])
     requires long { length bits.old ≡ length drivers.now }
     requires within { AreWithin stimulus.now.columns drivers.now }
-    ensures { AreBits (driver_bits (numbers_of stimulus.now) stimulus.now.lines sample) drivers.now (length drivers.now) bits.new }
+    ensures { AreBits (driver_bits (numbers_of stimulus.now) stimulus.now.lines sample) drivers.now
+        (length drivers.now) bits.new }
 {
     for k in 0..drivers.len() {
         bits[k] = driven_bits(drivers[k], stimulus, sample);

@@ -77,8 +77,11 @@ fn step(
 )
     requires played { IsPlayed score.now (sample * score.now.cycles + phase) machine.old cells.old }
     requires phase { phase < score.now.cycles }
-    requires bits { AreBits (driver_bits (numbers_of score.now.stimulus) score.now.stimulus.lines sample) score.now.drivers.items (length score.now.drivers.items) bits.now }
-    ensures played { IsPlayed score.now (sample * score.now.cycles + phase + 1) machine.new cells.new }
+    requires bits { AreBits (driver_bits
+        (numbers_of score.now.stimulus) score.now.stimulus.lines sample) score.now.drivers.items
+        (length score.now.drivers.items) bits.now }
+    ensures played { IsPlayed score.now (sample * score.now.cycles + phase
+        + 1) machine.new cells.new }
     ensures source { source_of machine.new ≡ source_of machine.old }
 {
     machine.edge(bits);
@@ -102,7 +105,8 @@ fn play_sample(
 )
     requires played { IsPlayed score.now (sample * score.now.cycles) machine.old cells.old }
     requires wide { length bits.old ≡ length score.now.drivers.items }
-    ensures played { IsPlayed score.now (sample * score.now.cycles + score.now.cycles) machine.new cells.new }
+    ensures played { IsPlayed score.now (sample * score.now.cycles
+        + score.now.cycles) machine.new cells.new }
     ensures wide { length bits.new ≡ length score.now.drivers.items }
     ensures source { source_of machine.new ≡ source_of machine.old }
 {

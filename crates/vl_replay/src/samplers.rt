@@ -36,7 +36,8 @@ pub fn hit_at(period: u32, sample: u64) -> u64
 /// When the output ports of a module are sampled, in order, at so many clocks per sample.
 pub fn samplers_of(alloc: Global, source: &Module, cycles: u64) -> Result<Vec<Sampler>, OutOfMemory>
     requires { 0 < cycles }
-    ensures { IfOk result (λ samplers. samplers.items ≡ map (sampler_of cycles) (output_ports source.now)) }
+    ensures { IfOk result (λ samplers. samplers.items
+        ≡ map (sampler_of cycles) (output_ports source.now)) }
 {
     let mut samplers = Vec::new(alloc);
     for port in source.ports.as_slice() {
@@ -95,7 +96,8 @@ fn put_number(
     requires within { place < outputs }
     requires outputs { outputs ≡ length (output_ports (source_of machine.now)) }
     requires room { sample * outputs + outputs ≤ length cells.old }
-    ensures { cells.new ≡ slice_set cells.old (sample * outputs + place) (if hit_at period sample == sample
+    ensures { cells.new ≡ slice_set cells.old (sample * outputs + place)
+        (if hit_at period sample == sample
         then number_at (source_of machine.now) (row_of machine.now) place
         else slice_index_or cells.old (hit_at period sample * outputs + place) (pos 0)) }
 {
@@ -115,11 +117,15 @@ fn put_if_due(
 )
     requires ready { IsReady machine.now }
     requires outputs { length samplers.now ≡ length (output_ports (source_of machine.now)) }
-    requires periods { (place : ℕ) (sampler : Sampler) → slice_get samplers.now place ≡ Some sampler → 0 < sampler.period }
+    requires periods { (place : ℕ) (sampler : Sampler) → slice_get samplers.now place ≡ Some sampler
+        → 0 < sampler.period }
     requires room { length cells.old ≡ samples * length samplers.now }
     requires within { place < length samplers.now }
-    ensures { (before : List ℤ) → ArePut (number_at (source_of machine.now) (row_of machine.now)) samplers.now samples sample phase place before cells.old
-        → ArePut (number_at (source_of machine.now) (row_of machine.now)) samplers.now samples sample phase (place + 1) before cells.new }
+    ensures { (before : List ℤ) → ArePut
+        (number_at (source_of machine.now) (row_of machine.now)) samplers.now samples sample phase
+        place before cells.old
+        → ArePut (number_at (source_of machine.now) (row_of machine.now)) samplers.now samples
+        sample phase (place + 1) before cells.new }
 {
     let Sampler {
         period,
@@ -154,9 +160,11 @@ pub fn put_numbers(
 )
     requires ready { IsReady machine.now }
     requires outputs { length samplers.now ≡ length (output_ports (source_of machine.now)) }
-    requires periods { (place : ℕ) (sampler : Sampler) → slice_get samplers.now place ≡ Some sampler → 0 < sampler.period }
+    requires periods { (place : ℕ) (sampler : Sampler) → slice_get samplers.now place ≡ Some sampler
+        → 0 < sampler.period }
     requires room { length cells.old ≡ samples * length samplers.now }
-    ensures { ArePut (number_at (source_of machine.now) (row_of machine.now)) samplers.now samples sample phase (length samplers.now) cells.old cells.new }
+    ensures { ArePut (number_at (source_of machine.now) (row_of machine.now)) samplers.now samples
+        sample phase (length samplers.now) cells.old cells.new }
 {
     for place in 0..samplers.len() {
         put_if_due(machine, samplers, samples, sample, phase, place, cells);

@@ -32,7 +32,8 @@ fn is_driven(port: &Port) -> bool
 
 /// Whether there are bits at the place, and fit the port.
 fn fits_at(port: &Port, inputs: &[u128], place: usize) -> bool
-    ensures { result ≡ true → (place < length inputs.now) × (slice_index inputs.now place < 2 ^ port.now.width) }
+    ensures { result ≡ true → (place < length inputs.now)
+        × (slice_index inputs.now place < 2 ^ port.now.width) }
 {
     if place < inputs.len() {
         is_number(&number(port.width, inputs[place]))
