@@ -10,7 +10,7 @@ use Rattle.std.proofs.lemmas.Bool.{cond-false, false≢true, and_parts, and_righ
 use Rattle.std.proofs.lemmas.Str.{digit_value_digit}
 use Rattle.fx_tables.specs.Fields.{is_blank, fields_of}
 use Rattle.fx_tables.proofs.FieldsLemmas.{fields_of-field}
-use Rattle.fx_tables.specs.Digits.{IsRunOfDigits, IsFirstNumber}
+use Rattle.fx_tables.specs.inner.Digits.{IsRunOfDigits, IsFirstNumber}
 use Rattle.fx_tables.specs.Whole.{digits_of_whole, is_whole, whole_value}
 use Rattle.fx_text.specs.Digits.{is_number}
 use Rattle.fx_tables.specs.Stimulus.{is_dash}

@@ -15,7 +15,7 @@ use Rattle.std.proofs.lemmas.List.Folds.{list_any-append}
 use Rattle.std.proofs.lemmas.Map.Text.{is_eq-slice_cmp}
 use Rattle.dg_model.specs.declared.plan.Pipeline.{Pipeline}
 use Rattle.fx_tables.specs.Plan.{cycles_of, multipliers_of, pipeline_of, is_repeated}
-use Rattle.fx_tables.specs.Draft.{Describes}
+use Rattle.fx_tables.specs.inner.Draft.{Describes}
 use Rattle.fx_tables.specs.declared.entry.PlanEntry.{PlanEntry}
 use Rattle.fx_tables.specs.declared.entry.PlanEntry.TheVariants.{Passed, Cycles, Multipliers, Pipelined}
 use Rattle.fx_tables.specs.declared.draft.Draft.{Draft}

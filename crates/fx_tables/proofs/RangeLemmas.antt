@@ -9,7 +9,7 @@ use Rattle.std.proofs.lemmas.Bool.{true≢false}
 use Rattle.std.proofs.lemmas.Slice.Eq.{bytes_eq-Decides}
 use Rattle.dg_model.specs.declared.plan.Pipeline.{Pipeline}
 use Rattle.dg_model.specs.PlanRange.{AreDifferent, IsRegisterCount}
-use Rattle.fx_tables.specs.Draft.{IsDraftInRange, IsEntryInRange}
+use Rattle.fx_tables.specs.inner.Draft.{IsDraftInRange, IsEntryInRange}
 use Rattle.fx_tables.specs.declared.entry.PlanEntry.{PlanEntry}
 use Rattle.fx_tables.specs.declared.entry.PlanEntry.TheVariants.{Cycles, Multipliers}
 use Rattle.fx_tables.specs.declared.draft.Draft.{Draft}

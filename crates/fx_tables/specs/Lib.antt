@@ -1,11 +1,8 @@
 pub mod Fields
 pub mod Whole
-pub mod Number
-pub mod Digits
 pub mod Stimulus
 pub mod Response
 pub mod RowText
 pub mod Plan
 pub mod inner
 pub mod PlanLines
-pub mod Draft

@@ -1,6 +1,6 @@
 ghost use Rattle.std.specs.Prelude.{◌≡◌, ◌^◌, ◌<◌, pos, neg_ℤ, IfSome, if◌then◌else◌};
 ghost use Rattle.fx_tables.specs.Fields.{fields_of};
-ghost use Rattle.fx_tables.specs.Digits.{IsFirstNumber, IsFirstCell};
+ghost use Rattle.fx_tables.specs.inner.Digits.{IsFirstNumber, IsFirstCell};
 
 use crate::cut::{is_blank, skip_blanks};
 use crate::digits::read_digits;

@@ -1,7 +1,7 @@
 ghost use Rattle.std.specs.Prelude.{◌≡◌, ◌+◌, ◌*◌, ◌-◌, ◌<◌, IsTrue, IfSome, true, length, drop, slice_index, if◌then◌else◌};
 ghost use Rattle.std.specs.Char.{is_ascii_digit};
 ghost use Rattle.fx_tables.specs.Fields.{is_blank, fields_of};
-ghost use Rattle.fx_tables.specs.Digits.{IsRunOfDigits};
+ghost use Rattle.fx_tables.specs.inner.Digits.{IsRunOfDigits};
 
 use crate::cut::is_blank;
 use fx_text::SHORT_DIGITS;

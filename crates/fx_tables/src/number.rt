@@ -1,6 +1,6 @@
 ghost use Rattle.std.specs.Prelude.{◌≡◌, ◌-◌, ◌^◌, ◌<◌, ◌≤◌, pos, neg_ℤ, IsTrue, true, false, length, MatchOption, min};
 ghost use Rattle.std.specs.Str.Parse.{starts_with_minus};
-ghost use Rattle.fx_tables.specs.Number.{IsMagnitude, IsNumber, IsReading};
+ghost use Rattle.fx_tables.specs.inner.Number.{IsMagnitude, IsNumber, IsReading};
 
 use fx_text::{SHORT_DIGITS, read_capped, read_short};
 

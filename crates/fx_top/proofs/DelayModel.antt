@@ -22,7 +22,7 @@ use Rattle.dg_model.specs.declared.nested.Target.TheVariants.{Port}
 use Rattle.dg_model.specs.Wired.{StandsBefore}
 use Rattle.mdl_text.specs.declared.tree.Tree.{Tree}
 use Rattle.mdl_text.specs.Bytes.{is_blank, is_name_byte, lines_of as text_lines}
-use Rattle.mdl_text.specs.Plain.{string_step, opened, closed, listed, valued, named, fresh, step, finish, run, start}
+use Rattle.mdl_text.specs.inner.Plain.{string_step, opened, closed, listed, valued, named, fresh, step, finish, run, start}
 use Rattle.mdl_text.specs.Stands.{Stands}
 use Rattle.mdl_text.proofs.Sound.{reading_stands}
 use Rattle.mdl_build.specs.declared.library.BlockType.TheVariants as block_type

@@ -19,7 +19,7 @@ use Rattle.mdl_text.specs.Bytes.Piece.{Opening, Closing, String, Other}
 use Rattle.mdl_text.specs.Lines.{IsComment, StartsSection, EndsSection, IsEmptyParameter, GivesParameter, IsBareParameter, IsFurtherText, Further, IsQuotedParameter, IsListParameter}
 use Rattle.mdl_text.specs.Stands.{Says, Part, HasForm, Builds, Stands}
 use Rattle.mdl_text.specs.Stands.Says.{Nothing, Entry, End}
-use Rattle.mdl_text.specs.Plain.{unblanked, trimmed, strings, strings_from, list_end, spot_at, added, free, reader_strings, opened, closed, listed_by, listed, valued, after_name, named, fresh_text, fresh, begins_with_quote, step, finish, run, start}
+use Rattle.mdl_text.specs.inner.Plain.{unblanked, trimmed, strings, strings_from, list_end, spot_at, added, free, reader_strings, opened, closed, listed_by, listed, valued, after_name, named, fresh_text, fresh, begins_with_quote, step, finish, run, start}
 use Rattle.mdl_text.proofs.Classes.{no_byte, name_no_blank, blank_no_name, quote_no_blank, bracket_no_blank, hash_no_blank, opening_no_blank, closing_no_blank, quote_no_name, hash_no_name, opening_no_name, closing_no_name, bracket_no_brace, quote_no_brace}
 use Rattle.mdl_text.proofs.Scans.{FirstIs, unblanked_after, unblanked_at, unblanked_none, name_length_of, trimmed_value}
 use Rattle.mdl_text.proofs.Quotes.{outside_quotes}

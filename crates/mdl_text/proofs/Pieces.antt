@@ -14,7 +14,7 @@ use Rattle.mdl_text.specs.Bytes.{Piece, piece_bytes, Closes}
 use Rattle.fx_text.specs.Strings.{Char, is_char, char_bytes, quoted}
 use Rattle.fx_text.specs.Strings.Char.{Plain, Escape}
 use Rattle.mdl_text.specs.Bytes.Piece.{Opening, Closing, String, Other}
-use Rattle.mdl_text.specs.Plain.{spot_at, spot_step, list_end, or_else_closed}
+use Rattle.mdl_text.specs.inner.Plain.{spot_at, spot_step, list_end, or_else_closed}
 use Rattle.mdl_text.proofs.Classes.{two_tests}
 
 -- what follows one byte

@@ -4,7 +4,7 @@ use Rattle.std.specs.List.{list_all, prefix_len}
 use Rattle.mdl_text.specs.declared.strings.Place.TheVariants.{Outside, Inside}
 use Rattle.mdl_text.specs.Bytes.{is_blank}
 use Rattle.fx_text.specs.Strings.{is_plain}
-use Rattle.mdl_text.specs.Plain.{strings, strings_from}
+use Rattle.mdl_text.specs.inner.Plain.{strings, strings_from}
 use Rattle.mdl_text.proofs.Quotes.{open_step, plain_step, close_step, outside_blanks, after_step}
 
 -- a run is read as what it is

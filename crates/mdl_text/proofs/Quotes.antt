@@ -8,7 +8,7 @@ use Rattle.mdl_text.specs.declared.strings.Place.TheVariants.{Outside, Inside, E
 use Rattle.mdl_text.specs.Bytes.{is_blank, AreBlanks, Quote, IsQuote, quote_bytes, quote_value}
 use Rattle.fx_text.specs.Strings.{Char, is_char, char_bytes, escaped, char_value, quoted}
 use Rattle.fx_text.specs.Strings.Char.{Plain, Escape}
-use Rattle.mdl_text.specs.Plain.{string_step, strings}
+use Rattle.mdl_text.specs.inner.Plain.{string_step, strings}
 use Rattle.mdl_text.proofs.Classes.{no_byte, quote_no_blank, two_tests}
 
 -- what follows one byte

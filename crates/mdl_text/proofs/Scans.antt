@@ -6,7 +6,7 @@ use Rattle.std.proofs.lemmas.Bool.{and_parts}
 use Rattle.std.proofs.lemmas.List.Folds.{list_all-append}
 use Rattle.std.proofs.lemmas.List.{take_more}
 use Rattle.mdl_text.specs.Bytes.{is_blank, is_name_byte, AreBlanks}
-use Rattle.mdl_text.specs.Plain.{trimmed, unblanked}
+use Rattle.mdl_text.specs.inner.Plain.{trimmed, unblanked}
 
 and_true : (b : Bool) → (b && true) ≡ b
 and_true true = refl

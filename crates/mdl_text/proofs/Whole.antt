@@ -19,7 +19,7 @@ use Rattle.mdl_text.specs.Bytes.{is_blank, lines_of, Piece, piece_bytes, Closes}
 use Rattle.mdl_text.specs.Bytes.Piece.{Closing}
 use Rattle.mdl_text.specs.Stands.{Stands}
 use Rattle.mdl_text.specs.Prefix.{IsMdl, IsMdlFaultLine}
-use Rattle.mdl_text.specs.Plain.{added, free, fresh, step, finish, run, start}
+use Rattle.mdl_text.specs.inner.Plain.{added, free, fresh, step, finish, run, start}
 use Rattle.mdl_text.proofs.LineLaws.{lines_one, lines_next}
 use Rattle.mdl_text.proofs.Sound.{reading_stands}
 use Rattle.mdl_text.proofs.Complete.{standing_read, fresh_end, run_free, run_list, run_strings_end, NoQuote}

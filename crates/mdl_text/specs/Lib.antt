@@ -1,7 +1,5 @@
 pub mod Bytes
-pub mod Content
 pub mod Lines
-pub mod Plain
 pub mod Prefix
 pub mod Stands
-pub mod Stored
+pub mod inner

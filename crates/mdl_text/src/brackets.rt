@@ -1,5 +1,5 @@
 ghost use Rattle.std.specs.Prelude.{◌≡◌, ◌+◌, ◌^◌, ◌<◌, ◌≤◌, length, IfSome};
-ghost use Rattle.mdl_text.specs.Plain.{spot_at, spot_step, list_from, IsWithin};
+ghost use Rattle.mdl_text.specs.inner.Plain.{spot_at, spot_step, list_from, IsWithin};
 
 use crate::strings::Place;
 
@@ -28,7 +28,7 @@ fn spot_at(place: Place, nesting: u64) -> Spot
 }
 
 /// Reads one byte of a list. `None` at the bracket that closes it.
-#[tactic(auto, unfolding(crate::specs::Plain::spot_step))]
+#[tactic(auto, unfolding(crate::specs::inner::Plain::spot_step))]
 fn spot_step(spot: Spot, byte: u8) -> Option<Spot>
     requires { spot.nesting + 1 < 2 ^ 64 }
     ensures value { result ≡ spot_step spot byte }

@@ -1,5 +1,5 @@
 ghost use Rattle.std.specs.Prelude.{◌≡◌};
-ghost use Rattle.mdl_text.specs.Content.{value_of};
+ghost use Rattle.mdl_text.specs.inner.Content.{value_of};
 
 use crate::tree::Value;
 use fx_io::Text;

@@ -7,7 +7,7 @@
 //!
 //! The definitions: `specs/Lines.antt` has the form of each line, `specs/Bytes.antt` and
 //! `fx_text/specs/Strings.antt` what it is made of, `specs/Stands.antt` says which tree a text stands
-//! for, and `specs/Prefix.antt` which line a fault has. `specs/Plain.antt` is the plain reading of a
+//! for, and `specs/Prefix.antt` which line a fault has. `specs/inner/Plain.antt` is the plain reading of a
 //! line at a time, which the code is proved to give.
 #![tactic(auto)]
 

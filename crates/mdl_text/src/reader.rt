@@ -1,7 +1,7 @@
 ghost use Rattle.std.specs.Prelude.{◌≡◌, ◌≤◌, [], ◌++◌, codes, length, IfOk, OnOk, IsTrue};
 ghost use Rattle.mdl_text.specs.declared.reader.Pending.TheVariants.{Nothing};
-ghost use Rattle.mdl_text.specs.Content.{value_of};
-ghost use Rattle.mdl_text.specs.Plain.{IsBounded, goes_on, reader_strings, added, opened, closed, listed, valued, after_name, named, fresh_text, if_closed, unblanked, strings_from, start, step, finish};
+ghost use Rattle.mdl_text.specs.inner.Content.{value_of};
+ghost use Rattle.mdl_text.specs.inner.Plain.{IsBounded, goes_on, reader_strings, added, opened, closed, listed, valued, after_name, named, fresh_text, if_closed, unblanked, strings_from, start, step, finish};
 
 use crate::brackets::{ListEnd, list_end};
 use crate::kind::Kind;
@@ -92,7 +92,7 @@ impl<'a> Reader<'a> {
     }
 
     /// A section begins, of which the bytes after its brace are given.
-    #[tactic(auto, unfolding(crate::specs::Plain::opened))]
+    #[tactic(auto, unfolding(crate::specs::inner::Plain::opened))]
     fn open(&mut self, alloc: Global, name: &[u8], after: &[u8]) -> Result<bool, OutOfMemory>
         requires { self.old.pending ≡ Nothing }
         ensures value { IfOk result (λ good.
@@ -108,7 +108,7 @@ impl<'a> Reader<'a> {
     }
 
     /// A section ends, of which the bytes after its brace are given.
-    #[tactic(auto, unfolding(crate::specs::Plain::closed))]
+    #[tactic(auto, unfolding(crate::specs::inner::Plain::closed))]
     fn close(&mut self, after: &[u8]) -> bool
         requires { self.old.pending ≡ Nothing }
         ensures value { closed self.old.draft after.now ≡ goes_on result self.new }
@@ -122,7 +122,7 @@ impl<'a> Reader<'a> {
     }
 
     /// A list goes on over the line.
-    #[tactic(auto, unfolding(crate::specs::Plain::listed))]
+    #[tactic(auto, unfolding(crate::specs::inner::Plain::listed))]
     fn list(
         &mut self,
         alloc: Global,
@@ -160,7 +160,7 @@ impl<'a> Reader<'a> {
     }
 
     /// A list begins with the value, of which the bytes after its first bracket are given too.
-    #[tactic(auto, unfolding(crate::specs::Plain::listed))]
+    #[tactic(auto, unfolding(crate::specs::inner::Plain::listed))]
     fn first_list(
         &mut self,
         alloc: Global,
@@ -245,7 +245,7 @@ impl<'a> Reader<'a> {
     }
 
     /// A parameter with a value, which begins with no blank.
-    #[tactic(auto, unfolding(crate::specs::Plain::valued))]
+    #[tactic(auto, unfolding(crate::specs::inner::Plain::valued))]
     fn value(&mut self, alloc: Global, name: &'a [u8], value: &'a [u8]) -> Result<bool, OutOfMemory>
         requires { self.old.pending ≡ Nothing }
         ensures value { IfOk result (λ good.
@@ -291,7 +291,7 @@ impl<'a> Reader<'a> {
     }
 
     /// A line that begins with a name.
-    #[tactic(auto, unfolding(crate::specs::Plain::named))]
+    #[tactic(auto, unfolding(crate::specs::inner::Plain::named))]
     fn named(&mut self, alloc: Global, text: &'a [u8]) -> Result<bool, OutOfMemory>
         requires { self.old.pending ≡ Nothing }
         ensures value { IfOk result (λ good.
@@ -321,7 +321,7 @@ impl<'a> Reader<'a> {
 
     /// Reads the next line. Where no text goes on so, it says `false`, and the reader is of no more
     /// use.
-    #[tactic(auto, unfolding(crate::specs::Plain::step, crate::specs::Plain::fresh))]
+    #[tactic(auto, unfolding(crate::specs::inner::Plain::step, crate::specs::inner::Plain::fresh))]
     pub fn step(&mut self, alloc: Global, line: &'a [u8]) -> Result<bool, OutOfMemory>
         requires { IsBounded self.old.pending }
         ensures value { IfOk result (λ good. step self.old line.now ≡ goes_on good self.new) }
@@ -337,7 +337,7 @@ impl<'a> Reader<'a> {
     /// Reads a line that may go on with a parameter, of which the text behind its blanks is given
     /// too. It stands apart from `step`, whose lines mostly go on with nothing.
     #[inline(never)]
-    #[tactic(auto, unfolding(crate::specs::Plain::step, crate::specs::Plain::fresh))]
+    #[tactic(auto, unfolding(crate::specs::inner::Plain::step, crate::specs::inner::Plain::fresh))]
     fn further(
         &mut self,
         alloc: Global,
@@ -367,7 +367,7 @@ impl<'a> Reader<'a> {
     }
 
     /// The items at the end of the text. `None` where a section or a list is open.
-    #[tactic(auto, unfolding(crate::specs::Plain::finish))]
+    #[tactic(auto, unfolding(crate::specs::inner::Plain::finish))]
     pub fn finish(self, alloc: Global) -> Result<Option<Items>, OutOfMemory>
         ensures { IfOk result (λ items. items ≡ finish self.entry) }
     {

@@ -2,7 +2,7 @@ ghost use Rattle.std.specs.Prelude.{◌≡◌, ℕ, List, [], ◌∷◌, ◌++�
 ghost use Rattle.fx_io.specs.FaultLine.{newline, IsOneLine};
 ghost use Rattle.mdl_text.specs.Stands.{Stands};
 ghost use Rattle.mdl_text.specs.Prefix.{IsMdlFaultLine, IfSyntax};
-ghost use Rattle.mdl_text.specs.Plain.{run, IsBounded};
+ghost use Rattle.mdl_text.specs.inner.Plain.{run, IsBounded};
 
 use crate::fault::MdlFault;
 use crate::reader::Reader;

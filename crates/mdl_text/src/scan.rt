@@ -1,7 +1,7 @@
 ghost use Rattle.std.specs.Prelude.{◌≡◌, length, ◌≤◌, IsTrue};
 ghost use Rattle.std.specs.List.{list_all, prefix_len};
 ghost use Rattle.mdl_text.specs.Bytes.{is_blank, is_name_byte};
-ghost use Rattle.mdl_text.specs.Plain.{unblanked, trimmed};
+ghost use Rattle.mdl_text.specs.inner.Plain.{unblanked, trimmed};
 
 /// Whether a byte is a space, a tab or a carriage return.
 #[tactic(auto, unfolding(crate::specs::Bytes::is_blank))]

@@ -1,6 +1,6 @@
 ghost use Rattle.std.specs.Prelude.{◌≡◌, ◌≤◌, ◌++◌, ℕ, List, length, IfOk, IfSome, MatchOption, Some};
 ghost use Rattle.mdl_text.specs.declared.strings.Place.TheVariants.{Inside};
-ghost use Rattle.mdl_text.specs.Plain.{string_step, strings, strings_from};
+ghost use Rattle.mdl_text.specs.inner.Plain.{string_step, strings, strings_from};
 
 use crate::said::Said;
 use crate::scan::{are_blanks, is_blank};
@@ -21,7 +21,7 @@ pub enum Place {
 
 /// Reads one byte of quoted strings, and puts what it says at the end. `None` where no string goes
 /// on so.
-#[tactic(auto, unfolding(crate::specs::Plain::string_step))]
+#[tactic(auto, unfolding(crate::specs::inner::Plain::string_step))]
 fn string_step(place: Place, said: &mut Vec<u8>, byte: u8) -> Result<Option<Place>, OutOfMemory>
     ensures { IfOk result (λ next. MatchOption next
         (string_step place said.old.items byte ≡ None)

@@ -5,7 +5,7 @@ use Rattle.std.specs.Str.Parse.{digits_value}
 use Rattle.std.proofs.lemmas.List.{take_rest}
 use Rattle.std.proofs.lemmas.Bool.Decides.{nat_tests}
 use Rattle.fx_tables.specs.Fields.{is_blank, fields_of}
-use Rattle.fx_tables.specs.Digits.{IsRunOfDigits}
+use Rattle.fx_tables.specs.inner.Digits.{IsRunOfDigits}
 use Rattle.std.proofs.lemmas.Grind.{common_steps}
 use Rattle.std.proofs.lemmas.Int.Digits.{digits_value_more}
 use Rattle.std.proofs.lemmas.List.Folds.{list_all_more}

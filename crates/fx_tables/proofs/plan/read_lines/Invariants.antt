@@ -2,7 +2,7 @@ use Rattle.std.proofs.Common.{◌≡◌, ◌+◌, ◌≤◌, ◌++◌, List, len
 use Rattle.std.specs.List.{filter_map}
 use Rattle.std.specs.Str.Lines.{lines}
 use Rattle.fx_tables.specs.inner.PlanReading.{entry_of, entries_of, entries_fault, plan_fault}
-use Rattle.fx_tables.specs.Draft.{Describes, IsDraftInRange}
+use Rattle.fx_tables.specs.inner.Draft.{Describes, IsDraftInRange}
 use Rattle.fx_tables.specs.declared.entry.PlanEntry.{PlanEntry}
 use Rattle.fx_tables.proofs.plan.read_lines.Given as goal
 

@@ -1,5 +1,5 @@
 use Rattle.std.proofs.Common.{◌≡◌, ◌≤◌, ◌+◌, drop}
-use Rattle.mdl_text.specs.Plain.{list_end, list_from}
+use Rattle.mdl_text.specs.inner.Plain.{list_end, list_from}
 use Rattle.mdl_text.proofs.brackets.list_end.Given as goal
 
 abbrev pub invariant-loop-i : goal.invariant-loop-i

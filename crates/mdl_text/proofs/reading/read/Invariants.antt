@@ -1,5 +1,5 @@
 use Rattle.std.proofs.Common.{length}
-use Rattle.mdl_text.specs.Plain.{IsBounded}
+use Rattle.mdl_text.specs.inner.Plain.{IsBounded}
 use Rattle.mdl_text.proofs.Whole.{Reached}
 use Rattle.mdl_text.proofs.reading.read.Given as goal
 

@@ -1,5 +1,5 @@
 use Rattle.std.proofs.Common.{◌≡◌, take, sym, ◌∙◌, ap, arith}
-use Rattle.mdl_text.specs.Plain.{trimmed}
+use Rattle.mdl_text.specs.inner.Plain.{trimmed}
 use Rattle.mdl_text.proofs.Scans.{cut_blank, cut_kept}
 use Rattle.mdl_text.proofs.scan.trimmed.Goals as goal
 use Rattle.mdl_text.proofs.scan.trimmed.Goals.{then-loop-end-test+else-is_blank, else-loop-end-test}

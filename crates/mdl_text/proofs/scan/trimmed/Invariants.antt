@@ -1,5 +1,5 @@
 use Rattle.std.proofs.Common.{◌≡◌, length, ◌≤◌, take}
-use Rattle.mdl_text.specs.Plain.{trimmed}
+use Rattle.mdl_text.specs.inner.Plain.{trimmed}
 use Rattle.mdl_text.proofs.scan.trimmed.Given as goal
 
 abbrev pub invariant-loop-end : goal.invariant-loop-end

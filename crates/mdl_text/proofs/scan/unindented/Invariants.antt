@@ -1,5 +1,5 @@
 use Rattle.std.proofs.Common.{◌≡◌, length}
-use Rattle.mdl_text.specs.Plain.{unblanked}
+use Rattle.mdl_text.specs.inner.Plain.{unblanked}
 use Rattle.mdl_text.proofs.scan.unindented.Given as goal
 
 abbrev pub invariant-loop-rest : goal.invariant-loop-rest

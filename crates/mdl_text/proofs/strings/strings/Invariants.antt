@@ -1,5 +1,5 @@
 use Rattle.std.proofs.Common.{◌≡◌, length}
-use Rattle.mdl_text.specs.Plain.{strings, strings_from}
+use Rattle.mdl_text.specs.inner.Plain.{strings, strings_from}
 use Rattle.mdl_text.proofs.strings.strings.Given as goal
 
 abbrev pub invariant-loop-rest : goal.invariant-loop-rest

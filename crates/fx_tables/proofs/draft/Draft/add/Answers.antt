@@ -1,7 +1,7 @@
 use Rattle.std.proofs.Common.{◌≡◌, refl, Ok, Err, Result, Bool, List}
 use Rattle.std.specs.Prelude.{IfOk, IsTrue}
 use Rattle.std.proofs.lemmas.Bool.{OnTrue_at}
-use Rattle.fx_tables.specs.Draft.{Describes, IsDraftInRange, IsEntryInRange}
+use Rattle.fx_tables.specs.inner.Draft.{Describes, IsDraftInRange, IsEntryInRange}
 use Rattle.fx_tables.specs.declared.entry.PlanEntry.{PlanEntry}
 use Rattle.fx_tables.specs.declared.draft.Draft.{Draft}
 use Rattle.fx_tables.proofs.DraftLemmas.{add_passed, add_cycles, add_multipliers, Added, Added-as}
