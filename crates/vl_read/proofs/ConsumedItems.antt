@@ -1,6 +1,5 @@
 -- What was read of a module, where its reading stands.
-use Rattle.std.proofs.Common.{◌≡◌, ◌≢◌, ℕ, ◌-◌, ◌<◌, ◌≤◌, Bool, true, false, zero, suc, List, [], ◌∷◌, ◌++◌, map, length, codes}
-use Rattle.std.specs.Prelude.{◌==◌, ◌||◌, if◌then◌else◌}
+use Rattle.std.proofs.Common.{◌≡◌, ◌≢◌, ℕ, ◌-◌, ◌<◌, ◌≤◌, Bool, true, false, List, [], ◌∷◌, ◌++◌, map, take, length, codes}
 use Rattle.std.specs.List.{AllZip, flat_map}
 use Rattle.vl_ast.specs.declared.expressions.Sized.{Sized}
 use Rattle.vl_ast.specs.declared.modules.Attr.{Attr}
@@ -17,7 +16,8 @@ use Rattle.vl_read.specs.declared.places.NetSpot.TheVariants.{Word, Signed, Rang
 use Rattle.vl_read.specs.inner.Places.AttrSpot.{AttrName, AttrSign, AttrValue, More}
 use Rattle.vl_read.specs.inner.Places.Place.{Start, Attributes, Title, Ports, Port as PortPlace, Net, AfterPort, AfterPorts, Items, AssignName, AssignSign, Head, ClockedName, ClockedSign, First, AfterFirst, Else, Branch, If, Again, NextSign, Expression, Semicolon, End, Done}
 use Rattle.vl_read.specs.declared.places.Draft.{Draft}
-use Rattle.vl_read.specs.inner.Plain.{head_word}
+use Rattle.vl_read.specs.declared.places.HeadSpot.{HeadSpot}
+use Rattle.vl_read.specs.declared.places.HeadSpot.TheVariants.{Event, OpenEvent, Posedge, Clock, CloseEvent, Begin, Test, OpenTest, Reset, CloseTest}
 use Rattle.vl_read.proofs.ModuleTokens.{direction, named_tokens, always_tokens}
 use Rattle.vl_read.proofs.Consumed.{before_next, Begun}
 
@@ -48,17 +48,36 @@ IsNetText net (Close signed width) text =
 IsNetText net (Named signed width) text =
     (0 < width) × (text ≡ net_words net ++ (signed_tokens signed ++ Sign (codes "[") ∷ Number (width - 1) ∷ Sign (codes ":") ∷ Key (codes "0") ∷ Sign (codes "]") ∷ []))
 
--- which words of the head of an item with a clock are letters, and which are marks
-abbrev pub is_key : ℕ → Bool
-is_key at = at == 2 || at == 3 || at == 5 || at == 6 || at == 8
+-- a word of the head of an item with a clock, of letters or a mark
+abbrev pub head_token : HeadSpot → Token
+head_token Event = Sign (codes "@")
+head_token OpenEvent = Sign (codes "(")
+head_token Posedge = Key (codes "posedge")
+head_token Clock = Key (codes "clk")
+head_token CloseEvent = Sign (codes ")")
+head_token Begin = Key (codes "begin")
+head_token Test = Key (codes "if")
+head_token OpenTest = Sign (codes "(")
+head_token Reset = Key (codes "reset")
+head_token CloseTest = Sign (codes ")")
 
-abbrev pub head_token : ℕ → Token
-head_token at = if is_key at then Key (head_word at) else Sign (head_word at)
+-- the words of an item with a clock before its name
+abbrev pub head_tokens : List Token
+head_tokens =
+    Key (codes "always") ∷ Sign (codes "@") ∷ Sign (codes "(") ∷ Key (codes "posedge") ∷ Key (codes "clk") ∷ Sign (codes ")") ∷ Key (codes "begin") ∷ Key (codes "if") ∷ Sign (codes "(") ∷ Key (codes "reset") ∷ Sign (codes ")") ∷ []
 
--- the item's first words, before the one of this number
-abbrev pub head_tokens : ℕ → List Token
-head_tokens zero = Key (codes "always") ∷ []
-head_tokens (suc at) = head_tokens at ++ head_token at ∷ []
+-- how many of them stand before one of the head
+abbrev pub words_before : HeadSpot → ℕ
+words_before Event = 1
+words_before OpenEvent = 2
+words_before Posedge = 3
+words_before Clock = 4
+words_before CloseEvent = 5
+words_before Begin = 6
+words_before Test = 7
+words_before OpenTest = 8
+words_before Reset = 9
+words_before CloseTest = 10
 
 -- all of them up to `else`
 abbrev pub clocked_tokens : List ℕ → Sized → List Token
@@ -87,8 +106,8 @@ pub record ExpressionAt (goal : Goal) (frames : List Frame) (spot : Spot) (text 
 abbrev pub IsBegunItem : Place → List Token → Type 0
 IsBegunItem AssignName text = text ≡ Key (codes "assign") ∷ []
 IsBegunItem (AssignSign name) text = text ≡ Key (codes "assign") ∷ Identifier name ∷ []
-IsBegunItem (Head at) text = (at ≤ 9) × (text ≡ head_tokens at)
-IsBegunItem ClockedName text = text ≡ head_tokens 10
+IsBegunItem (Head at) text = text ≡ take (words_before at) head_tokens
+IsBegunItem ClockedName text = text ≡ head_tokens
 IsBegunItem (ClockedSign name) text = text ≡ named_tokens name []
 IsBegunItem (First name) text = text ≡ named_tokens name (Sign (codes "<=") ∷ [])
 IsBegunItem (AfterFirst name first) text = text ≡ named_tokens name (Sign (codes "<=") ∷ Based first ∷ [])

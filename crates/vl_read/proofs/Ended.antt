@@ -1,7 +1,5 @@
 -- Each beginning of a text can be ended, so that the whole is one of a module.
-use Rattle.std.proofs.Common.{◌≡◌, ℕ, ◌+◌, ◌≤◌, Bool, true, false, cond, List, [], ◌∷◌, ◌++◌, Some, None, refl, ◌∙◌, ap, subst, codes, arith, zero, suc, option_and_then}
-use Rattle.std.specs.Prelude.{◌==◌, nat_lt}
-use Rattle.std.proofs.lemmas.Bool.{cond_both, ltb-true}
+use Rattle.std.proofs.Common.{◌≡◌, ℕ, ◌+◌, Bool, true, false, cond, List, [], ◌∷◌, ◌++◌, Some, None, refl, ◌∙◌, ap, subst, codes, option_and_then}
 use Rattle.vl_ast.specs.declared.expressions.Sized.{Sized}
 use Rattle.vl_ast.specs.declared.modules.Attr.{Attr}
 use Rattle.vl_ast.specs.declared.modules.Port.{Port}
@@ -18,9 +16,11 @@ use Rattle.vl_read.specs.declared.places.NetSpot.TheVariants.{Word, Signed, Rang
 use Rattle.vl_read.specs.inner.Places.AttrSpot.{AttrName, AttrSign, AttrValue, More}
 use Rattle.vl_read.specs.inner.Places.Place.{Start, Attributes, Title, Ports, Port as PortPlace, Net, AfterPort, AfterPorts, Items, AssignName, AssignSign, Head, ClockedName, ClockedSign, First, AfterFirst, Else, Branch, If, Again, NextSign, Expression, Semicolon, End, Done}
 use Rattle.vl_read.specs.declared.places.Draft.{Draft}
+use Rattle.vl_read.specs.declared.places.HeadSpot.{HeadSpot}
+use Rattle.vl_read.specs.declared.places.HeadSpot.TheVariants.{Event, OpenEvent, Posedge, Clock, CloseEvent, Begin, Test, OpenTest, Reset, CloseTest}
 use Rattle.vl_read.specs.inner.Lexemes.{class_of, extends, kind_of, dec_of, sized_of, Move, move, moved, lexemes_from}
 use Rattle.vl_read.specs.inner.Turns.{IsBeyond, feed, ahead}
-use Rattle.vl_read.specs.inner.Plain.{parser_at, goes, parse, start, head_word, step, attr_step, declared, net_step, goal_step, spot_step, step_at}
+use Rattle.vl_read.specs.inner.Plain.{parser_at, goes, parse, start, head_word, after_head, step, attr_step, declared, net_step, goal_step, spot_step, step_at}
 use Rattle.vl_read.proofs.LexemeKinds.{name_kind}
 use Rattle.vl_read.proofs.Scanned.{silent}
 use Rattle.vl_read.proofs.Lexed.{identifier_text}
@@ -126,31 +126,63 @@ clocked_name_ends draft = by_lexeme _ _ (codes "a") (a_key _ refl) refl (clocked
 
 -- the words after `always`
 
-head_word_is : (at : ℕ) → IsLexeme (head_word at)
+head_word_is : (at : HeadSpot) → IsLexeme (head_word at)
 unfolding class_of extends
-head_word_is at =
-    either (at == 0) _ _ (a_mark (codes "@") refl)
-    (either (at == 1) _ _ (a_mark (codes "(") refl)
-    (either (at == 2) _ _ (a_key (codes "posedge") refl)
-    (either (at == 3) _ _ (a_key (codes "clk") refl)
-    (either (at == 4) _ _ (a_mark (codes ")") refl)
-    (either (at == 5) _ _ (a_key (codes "begin") refl)
-    (either (at == 6) _ _ (a_key (codes "if") refl)
-    (either (at == 7) _ _ (a_mark (codes "(") refl)
-    (either (at == 8) _ _ (a_key (codes "reset") refl) (a_mark (codes ")") refl)))))))))
-  where
-    either : (test : Bool) (one other : List ℕ) → IsLexeme one → IsLexeme other → IsLexeme (cond test one other)
-    either true one other h k = h
-    either false one other h k = k
+head_word_is Event = a_mark (codes "@") refl
+head_word_is OpenEvent = a_mark (codes "(") refl
+head_word_is Posedge = a_key (codes "posedge") refl
+head_word_is Clock = a_key (codes "clk") refl
+head_word_is CloseEvent = a_mark (codes ")") refl
+head_word_is Begin = a_key (codes "begin") refl
+head_word_is Test = a_key (codes "if") refl
+head_word_is OpenTest = a_mark (codes "(") refl
+head_word_is Reset = a_key (codes "reset") refl
+head_word_is CloseTest = a_mark (codes ")") refl
 
--- of which so many are left at most
-head_ends : (draft : Draft) (left at : ℕ) → 9 ≤ at + left → CanEnd (parser_at draft (Head at))
-head_ends draft zero at h =
-    by_lexeme _ _ (head_word at) (head_word_is at) (head_step draft at)
-    (cond_both (nat_lt at 9) (Head (at + 1)) ClockedName (λ place. CanEnd (parser_at draft place)) (λ more. absurd (omega (arith, ltb-true at 9 more, h))) (λ last. clocked_name_ends draft))
-head_ends draft (suc left) at h =
-    by_lexeme _ _ (head_word at) (head_word_is at) (head_step draft at)
-    (cond_both (nat_lt at 9) (Head (at + 1)) ClockedName (λ place. CanEnd (parser_at draft place)) (λ more. head_ends draft left (at + 1) (omega (arith, h))) (λ last. clocked_name_ends draft))
+head_goes : (draft : Draft) (at : HeadSpot) → CanEnd (parser_at draft (after_head at)) → CanEnd (parser_at draft (Head at))
+head_goes draft at rest = by_lexeme _ _ (head_word at) (head_word_is at) (head_step draft at) rest
+
+close_test_ends : (draft : Draft) → CanEnd (parser_at draft (Head CloseTest))
+close_test_ends draft = head_goes draft CloseTest (clocked_name_ends draft)
+
+reset_ends : (draft : Draft) → CanEnd (parser_at draft (Head Reset))
+reset_ends draft = head_goes draft Reset (close_test_ends draft)
+
+open_test_ends : (draft : Draft) → CanEnd (parser_at draft (Head OpenTest))
+open_test_ends draft = head_goes draft OpenTest (reset_ends draft)
+
+test_ends : (draft : Draft) → CanEnd (parser_at draft (Head Test))
+test_ends draft = head_goes draft Test (open_test_ends draft)
+
+begin_ends : (draft : Draft) → CanEnd (parser_at draft (Head Begin))
+begin_ends draft = head_goes draft Begin (test_ends draft)
+
+close_event_ends : (draft : Draft) → CanEnd (parser_at draft (Head CloseEvent))
+close_event_ends draft = head_goes draft CloseEvent (begin_ends draft)
+
+clock_ends : (draft : Draft) → CanEnd (parser_at draft (Head Clock))
+clock_ends draft = head_goes draft Clock (close_event_ends draft)
+
+posedge_ends : (draft : Draft) → CanEnd (parser_at draft (Head Posedge))
+posedge_ends draft = head_goes draft Posedge (clock_ends draft)
+
+open_event_ends : (draft : Draft) → CanEnd (parser_at draft (Head OpenEvent))
+open_event_ends draft = head_goes draft OpenEvent (posedge_ends draft)
+
+event_ends : (draft : Draft) → CanEnd (parser_at draft (Head Event))
+event_ends draft = head_goes draft Event (open_event_ends draft)
+
+head_ends : (draft : Draft) (at : HeadSpot) → CanEnd (parser_at draft (Head at))
+head_ends draft Event = event_ends draft
+head_ends draft OpenEvent = open_event_ends draft
+head_ends draft Posedge = posedge_ends draft
+head_ends draft Clock = clock_ends draft
+head_ends draft CloseEvent = close_event_ends draft
+head_ends draft Begin = begin_ends draft
+head_ends draft Test = test_ends draft
+head_ends draft OpenTest = open_test_ends draft
+head_ends draft Reset = reset_ends draft
+head_ends draft CloseTest = close_test_ends draft
 
 -- ports and declarations
 
@@ -275,7 +307,7 @@ place_ends draft AfterPorts h = after_ports_end draft
 place_ends draft Items h = items_end draft
 place_ends draft AssignName h = assign_name_ends draft
 place_ends draft (AssignSign name) h = assign_sign_ends draft name
-place_ends draft (Head at) h = head_ends draft 9 at (omega arith)
+place_ends draft (Head at) h = head_ends draft at
 place_ends draft ClockedName h = clocked_name_ends draft
 place_ends draft (ClockedSign name) h = clocked_sign_ends draft name h
 place_ends draft (First name) h = first_ends draft name h

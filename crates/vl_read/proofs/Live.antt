@@ -1,7 +1,7 @@
 -- What holds in each state that the reading comes to, and lets it be ended: the names of items with a clock are
 -- identifiers, and the marks that are next are brackets.
 use Rattle.std.proofs.Common.{bytes_eq, codes, ◌≡◌, ℕ, ◌+◌, Bool, true, false, cond, List, [], ◌∷◌, ◌++◌, Option, Some, None, refl, subst}
-use Rattle.std.specs.Prelude.{⊤, nat_lt}
+use Rattle.std.specs.Prelude.{⊤}
 use Rattle.vl_ast.specs.declared.expressions.UnOp.{UnOp}
 use Rattle.vl_ast.specs.declared.expressions.BinOp.{BinOp}
 use Rattle.vl_ast.specs.declared.expressions.ShiftOp.{ShiftOp}
@@ -27,9 +27,11 @@ use Rattle.vl_read.specs.declared.places.NetSpot.TheVariants.{Word, Signed, Rang
 use Rattle.vl_read.specs.inner.Places.AttrSpot.{AttrName, AttrSign, AttrValue, More}
 use Rattle.vl_read.specs.inner.Places.Place.{Start, Attributes, Title, Ports, Port as PortPlace, Net, AfterPort, AfterPorts, Items, AssignName, AssignSign, Head, ClockedName, ClockedSign, First, AfterFirst, Else, Branch, If, Again, NextSign, Expression, Semicolon, End, Done}
 use Rattle.vl_read.specs.declared.places.Draft.{Draft}
+use Rattle.vl_read.specs.declared.places.HeadSpot.{HeadSpot}
+use Rattle.vl_read.specs.declared.places.HeadSpot.TheVariants.{Event, OpenEvent, Posedge, Clock, CloseEvent, Begin, Test, OpenTest, Reset, CloseTest}
 use Rattle.vl_read.specs.inner.Lexemes.{kind_of}
 use Rattle.vl_read.specs.inner.Turns.{feed}
-use Rattle.vl_read.specs.inner.Plain.{goes, expect, spot_at, expect_spot, on_name, on_number, on_based, attr_step, declared, net_step, compound_step, operand_step, unary_or_left, opened_step, braced_step, innermost, left_by, left_step, frame_step, goal_step, value_step, name_of, indexed, spot_step, item_step, step_at, step, start}
+use Rattle.vl_read.specs.inner.Plain.{goes, after_head, expect, spot_at, expect_spot, on_name, on_number, on_based, attr_step, declared, net_step, compound_step, operand_step, unary_or_left, opened_step, braced_step, innermost, left_by, left_step, frame_step, goal_step, value_step, name_of, indexed, spot_step, item_step, step_at, step, start}
 use Rattle.vl_ast.specs.Operators.{unary_of, infix_of, shift_of}
 use Rattle.vl_read.proofs.KindSound.{then_some, name_sound}
 
@@ -215,11 +217,19 @@ item_lives : (draft : Draft) (lexeme : List ℕ) → Lives (item_step draft lexe
 unfolding item_step
 item_lives draft lexeme =
     if_lives (bytes_eq lexeme (codes "wire")) _ _ (there draft (Net OfWire Signed) tt)
-    (if_lives (bytes_eq lexeme (codes "reg")) _ _ (there draft (Net OfReg Signed) tt) (if_lives (bytes_eq lexeme (codes "assign")) _ _ (there draft AssignName tt) (expect_lives (codes "always") lexeme draft (Head 0) tt)))
+    (if_lives (bytes_eq lexeme (codes "reg")) _ _ (there draft (Net OfReg Signed) tt) (if_lives (bytes_eq lexeme (codes "assign")) _ _ (there draft AssignName tt) (expect_lives (codes "always") lexeme draft (Head Event) tt)))
 
-head_live : (more : Bool) (at : ℕ) → IsLive (cond more (Head at) ClockedName)
-head_live true at = tt
-head_live false at = tt
+head_live : (at : HeadSpot) → IsLive (after_head at)
+head_live Event = tt
+head_live OpenEvent = tt
+head_live Posedge = tt
+head_live Clock = tt
+head_live CloseEvent = tt
+head_live Begin = tt
+head_live Test = tt
+head_live OpenTest = tt
+head_live Reset = tt
+head_live CloseTest = tt
 
 place_lives : (draft : Draft) (place : Place) (kind : Kind) (lexeme : List ℕ) → (kind ≡ Name → IsName lexeme) → IsLive place → Lives (step_at draft place kind lexeme)
 unfolding step_at
@@ -236,7 +246,7 @@ place_lives draft AfterPorts kind lexeme n h = expect_lives _ lexeme draft Items
 place_lives draft Items kind lexeme n h = if_lives _ _ _ (there draft Done tt) (if_lives _ _ None (item_lives draft lexeme) stopped)
 place_lives draft AssignName kind lexeme n h = name_lives kind _ None (λ e. there draft (AssignSign lexeme) tt) stopped
 place_lives draft (AssignSign name) kind lexeme n h = expect_lives _ lexeme draft (Expression (Assigned name) [] Operand) (tt, tt)
-place_lives draft (Head at) kind lexeme n h = expect_lives _ lexeme draft _ (head_live (nat_lt at 9) (at + 1))
+place_lives draft (Head at) kind lexeme n h = expect_lives _ lexeme draft _ (head_live at)
 place_lives draft ClockedName kind lexeme n h = name_lives kind _ None (λ e. there draft (ClockedSign lexeme) (n e)) stopped
 place_lives draft (ClockedSign name) kind lexeme n h = expect_lives _ lexeme draft (First name) h
 place_lives draft (First name) kind lexeme n h = based_lives kind _ (λ first. there draft (AfterFirst name first) h)

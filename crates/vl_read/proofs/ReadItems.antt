@@ -1,6 +1,5 @@
 -- Items are read from what is written for their tokens.
 use Rattle.std.proofs.Common.{◌≡◌, ℕ, ◌+◌, ◌<◌, ◌≤◌, Bool, false, cond, List, [], ◌∷◌, ◌++◌, length, Option, Some, None, refl, sym, ◌∙◌, ap, subst, codes, arith, append_assoc, append-nil, length-append, bytes_eq}
-use Rattle.std.specs.Prelude.{nat_lt}
 use Rattle.std.specs.List.{AllZip, flat_map}
 use Rattle.std.proofs.lemmas.Bool.{lt-ltb}
 use Rattle.vl_ast.specs.declared.expressions.Sized.{Sized}
@@ -18,8 +17,10 @@ use Rattle.vl_read.specs.inner.Places.NetKind.{OfWire, OfReg}
 use Rattle.vl_read.specs.declared.places.NetSpot.TheVariants.{Signed}
 use Rattle.vl_read.specs.inner.Places.Place.{Net, Items, AssignName, AssignSign, Head, ClockedName, ClockedSign, First, AfterFirst, Else, Branch, If, Again, NextSign, Semicolon, End}
 use Rattle.vl_read.specs.declared.places.Draft.{Draft}
+use Rattle.vl_read.specs.declared.places.HeadSpot.{HeadSpot}
+use Rattle.vl_read.specs.declared.places.HeadSpot.TheVariants.{Event, OpenEvent, Posedge, Clock, CloseEvent, Begin, Test, OpenTest, Reset, CloseTest}
 use Rattle.vl_read.specs.inner.Lexemes.{kind_of, dec_of, sized_of}
-use Rattle.vl_read.specs.inner.Plain.{head_word, parser_at, goes, step, parse, name_of, goal_step, declared, item_step, attr_step, net_step, compound_step, operand_step, unary_or_left, opened_step, braced_step, left_step, frame_step, spot_step, step_at}
+use Rattle.vl_read.specs.inner.Plain.{head_word, after_head, parser_at, goes, step, parse, name_of, goal_step, declared, item_step, attr_step, net_step, compound_step, operand_step, unary_or_left, opened_step, braced_step, left_step, frame_step, spot_step, step_at}
 use Rattle.vl_read.proofs.Expressions.{at, no_index}
 use Rattle.vl_read.proofs.Forms.{expression_read}
 use Rattle.vl_read.proofs.Written.{Writes, Reads, writes_as, same_bytes, next, sign, key, name, based}
@@ -41,7 +42,7 @@ item_assign : (draft : Draft) → length draft.items < draft.most → step (pars
 unfolding step attr_step declared net_step compound_step operand_step unary_or_left opened_step braced_step left_step frame_step goal_step spot_step item_step step_at
 item_assign draft room = ap (λ t. cond t (item_step draft (codes "assign")) None) (lt-ltb (length draft.items) draft.most room)
 
-item_always : (draft : Draft) → length draft.items < draft.most → step (parser_at draft Items) (codes "always") ≡ Some (parser_at draft (Head 0))
+item_always : (draft : Draft) → length draft.items < draft.most → step (parser_at draft Items) (codes "always") ≡ Some (parser_at draft (Head Event))
 unfolding step attr_step declared net_step compound_step operand_step unary_or_left opened_step braced_step left_step frame_step goal_step spot_step item_step step_at
 item_always draft room = ap (λ t. cond t (item_step draft (codes "always")) None) (lt-ltb (length draft.items) draft.most room)
 
@@ -99,25 +100,25 @@ assign_read n e written is draft tokens lexemes room w =
     (λ l4 w4. sign _ _ l4 (codes ";") tokens (goal_read draft (Assigned n) e (codes ";") refl) w4))))
 
 -- the words after `always`
-pub head_step : (draft : Draft) (at : ℕ) → step (parser_at draft (Head at)) (head_word at) ≡ Some (parser_at draft (cond (nat_lt at 9) (Head (at + 1)) ClockedName))
+pub head_step : (draft : Draft) (at : HeadSpot) → step (parser_at draft (Head at)) (head_word at) ≡ Some (parser_at draft (after_head at))
 unfolding step step_at
-head_step draft at = ap (λ t. cond t (goes draft (cond (nat_lt at 9) (Head (at + 1)) ClockedName)) None) (same_bytes (head_word at))
+head_step draft at = ap (λ t. cond t (goes draft (after_head at)) None) (same_bytes (head_word at))
 
 abbrev after_always : List Token → List Token
 after_always tokens = Sign (codes "@") ∷ Sign (codes "(") ∷ Key (codes "posedge") ∷ Key (codes "clk") ∷ Sign (codes ")") ∷ Key (codes "begin") ∷ Key (codes "if") ∷ Sign (codes "(") ∷ Key (codes "reset") ∷ Sign (codes ")") ∷ tokens
 
-head_read : (draft : Draft) (tokens : List Token) (lexemes : List (List ℕ)) → Writes (after_always tokens) lexemes → Reads (parser_at draft (Head 0)) lexemes (parser_at draft ClockedName) tokens
+head_read : (draft : Draft) (tokens : List Token) (lexemes : List (List ℕ)) → Writes (after_always tokens) lexemes → Reads (parser_at draft (Head Event)) lexemes (parser_at draft ClockedName) tokens
 head_read draft tokens l0 w0 =
-    next _ (parser_at draft (Head 1)) _ l0 _ tokens (sign _ _ l0 (codes "@") _ (head_step draft 0) w0)
-    (λ l1 w1. next _ (parser_at draft (Head 2)) _ l1 _ tokens (sign _ _ l1 (codes "(") _ (head_step draft 1) w1)
-    (λ l2 w2. next _ (parser_at draft (Head 3)) _ l2 _ tokens (key _ _ l2 (codes "posedge") _ (head_step draft 2) w2)
-    (λ l3 w3. next _ (parser_at draft (Head 4)) _ l3 _ tokens (key _ _ l3 (codes "clk") _ (head_step draft 3) w3)
-    (λ l4 w4. next _ (parser_at draft (Head 5)) _ l4 _ tokens (sign _ _ l4 (codes ")") _ (head_step draft 4) w4)
-    (λ l5 w5. next _ (parser_at draft (Head 6)) _ l5 _ tokens (key _ _ l5 (codes "begin") _ (head_step draft 5) w5)
-    (λ l6 w6. next _ (parser_at draft (Head 7)) _ l6 _ tokens (key _ _ l6 (codes "if") _ (head_step draft 6) w6)
-    (λ l7 w7. next _ (parser_at draft (Head 8)) _ l7 _ tokens (sign _ _ l7 (codes "(") _ (head_step draft 7) w7)
-    (λ l8 w8. next _ (parser_at draft (Head 9)) _ l8 _ tokens (key _ _ l8 (codes "reset") _ (head_step draft 8) w8)
-    (λ l9 w9. sign _ _ l9 (codes ")") tokens (head_step draft 9) w9)))))))))
+    next _ (parser_at draft (Head OpenEvent)) _ l0 _ tokens (sign _ _ l0 (codes "@") _ (head_step draft Event) w0)
+    (λ l1 w1. next _ (parser_at draft (Head Posedge)) _ l1 _ tokens (sign _ _ l1 (codes "(") _ (head_step draft OpenEvent) w1)
+    (λ l2 w2. next _ (parser_at draft (Head Clock)) _ l2 _ tokens (key _ _ l2 (codes "posedge") _ (head_step draft Posedge) w2)
+    (λ l3 w3. next _ (parser_at draft (Head CloseEvent)) _ l3 _ tokens (key _ _ l3 (codes "clk") _ (head_step draft Clock) w3)
+    (λ l4 w4. next _ (parser_at draft (Head Begin)) _ l4 _ tokens (sign _ _ l4 (codes ")") _ (head_step draft CloseEvent) w4)
+    (λ l5 w5. next _ (parser_at draft (Head Test)) _ l5 _ tokens (key _ _ l5 (codes "begin") _ (head_step draft Begin) w5)
+    (λ l6 w6. next _ (parser_at draft (Head OpenTest)) _ l6 _ tokens (key _ _ l6 (codes "if") _ (head_step draft Test) w6)
+    (λ l7 w7. next _ (parser_at draft (Head Reset)) _ l7 _ tokens (sign _ _ l7 (codes "(") _ (head_step draft OpenTest) w7)
+    (λ l8 w8. next _ (parser_at draft (Head CloseTest)) _ l8 _ tokens (key _ _ l8 (codes "reset") _ (head_step draft Reset) w8)
+    (λ l9 w9. sign _ _ l9 (codes ")") tokens (head_step draft CloseTest) w9)))))))))
 
 clocked_name : (draft : Draft) (n : List ℕ) → kind_of n ≡ Name → step (parser_at draft ClockedName) n ≡ Some (parser_at draft (ClockedSign n))
 unfolding step attr_step declared net_step compound_step operand_step unary_or_left opened_step braced_step left_step frame_step goal_step spot_step item_step step_at
@@ -182,7 +183,7 @@ always_read n first condition e written is draft tokens lexemes room w =
     let tail : List Token = always_tail condition n e tokens in
     let middle : List Token → List Token = λ t. Identifier n ∷ Sign (codes "<=") ∷ Based first ∷ Sign (codes ";") ∷ Key (codes "else") ∷ t in
     let text : written ++ tokens ≡ Key (codes "always") ∷ after_always (middle tail) = ap (λ t. t ++ tokens) is.2 ∙ always_is n first condition e tokens in
-    next _ (parser_at draft (Head 0)) _ lexemes _ tokens (key _ _ lexemes (codes "always") _ (item_always draft room) (writes_as _ _ lexemes text w))
+    next _ (parser_at draft (Head Event)) _ lexemes _ tokens (key _ _ lexemes (codes "always") _ (item_always draft room) (writes_as _ _ lexemes text w))
     (λ l1 w1. next _ (parser_at draft ClockedName) _ l1 _ tokens (head_read draft (middle tail) l1 w1)
     (λ l2 w2. next _ (parser_at draft (ClockedSign n)) _ l2 _ tokens (name _ _ l2 n _ (clocked_name draft n) w2)
     (λ l3 w3. next _ (parser_at draft (First n)) _ l3 _ tokens (sign _ _ l3 (codes "<=") _ (clocked_sign draft n) w3)

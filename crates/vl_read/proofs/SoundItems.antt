@@ -1,8 +1,6 @@
 -- What each lexeme adds to an item.
-use Rattle.std.proofs.Common.{◌≡◌, ℕ, ◌+◌, ◌<◌, true, cond, suc, List, [], ◌∷◌, ◌++◌, length, Some, None, ⊎_elim, refl, sym, ◌∙◌, ap, subst, codes, arith, add-one, append_assoc, append-nil, length-append, bytes_eq}
-use Rattle.std.specs.Prelude.{nat_lt}
+use Rattle.std.proofs.Common.{◌≡◌, ℕ, ◌+◌, ◌<◌, true, cond, List, [], ◌∷◌, ◌++◌, take, length, Some, None, ⊎_elim, refl, sym, ◌∙◌, ap, subst, codes, arith, append_assoc, append-nil, length-append, bytes_eq}
 use Rattle.std.specs.List.{flat_map}
-use Rattle.std.proofs.lemmas.Bool.{cond_both, ltb-true, ltb-false}
 use Rattle.std.proofs.lemmas.Grind.{flat_map-append}
 use Rattle.vl_ast.specs.declared.modules.ModItem.{ModItem}
 use Rattle.vl_ast.specs.declared.modules.ModItem.TheVariants.{Assign, Always}
@@ -18,9 +16,11 @@ use Rattle.vl_read.specs.inner.Places.NetKind.{OfWire, OfReg}
 use Rattle.vl_read.specs.declared.places.NetSpot.TheVariants.{Signed}
 use Rattle.vl_read.specs.inner.Places.Place.{Net, Items, AssignName, Head, ClockedName, Again, NextSign, Expression, End}
 use Rattle.vl_read.specs.declared.places.Draft.{Draft}
-use Rattle.vl_read.specs.inner.Plain.{goes, head_word, goal_step, item_step, step_at}
+use Rattle.vl_read.specs.declared.places.HeadSpot.{HeadSpot}
+use Rattle.vl_read.specs.declared.places.HeadSpot.TheVariants.{Event, OpenEvent, Posedge, Clock, CloseEvent, Begin, Test, OpenTest, Reset, CloseTest}
+use Rattle.vl_read.specs.inner.Plain.{goes, head_word, after_head, goal_step, item_step, step_at}
 use Rattle.vl_read.proofs.KindSound.{IsOfKind}
-use Rattle.vl_read.proofs.ConsumedItems.{is_key, head_token, head_tokens, clocked_tokens, goal_tokens, IsGoal, ExpressionAt, IsBegunItem, opened_tokens, InBody, InItem, ItemAt, Has}
+use Rattle.vl_read.proofs.ConsumedItems.{head_token, head_tokens, words_before, clocked_tokens, goal_tokens, IsGoal, ExpressionAt, IsBegunItem, opened_tokens, InBody, InItem, ItemAt, Has}
 use Rattle.vl_read.proofs.SoundFrames.{expected, either_word, grow, Goes}
 use Rattle.vl_read.proofs.SoundSpots.{Ended, spot_sound}
 use Rattle.vl_read.proofs.SoundNets.{Onward, onward_to, onward_sign, onward_key, grown_body, grow_body, grow_item, zip_push}
@@ -67,24 +67,40 @@ item_sound most draft lexeme text q body room =
     (λ h e. onward_to most text lexeme q draft (Net OfReg Signed) (Key (codes "reg")) h (record { own = Key (codes "reg") ∷ []; around = first_word most draft text (Key (codes "reg")) body room; is = refl }) e)
     (either_word lexeme (codes "assign") _ _ q
     (λ h e. onward_to most text lexeme q draft AssignName (Key (codes "assign")) h (record { own = Key (codes "assign") ∷ []; around = first_word most draft text (Key (codes "assign")) body room; is = refl }) e)
-    (onward_key most text lexeme q draft (Head 0) (codes "always")
-    (record { own = Key (codes "always") ∷ []; around = first_word most draft text (Key (codes "always")) body room; is = (omega arith, refl) }))))
+    (onward_key most text lexeme q draft (Head Event) (codes "always")
+    (record { own = Key (codes "always") ∷ []; around = first_word most draft text (Key (codes "always")) body room; is = refl }))))
 
 -- the words of an item with a clock
 
-head_written : (at : ℕ) (lexeme : List ℕ) → lexeme ≡ head_word at → IsWritten (head_token at) lexeme
-head_written at lexeme e = cond_both (is_key at) (Key (head_word at)) (Sign (head_word at)) (λ token. IsWritten token lexeme) (λ _. e) (λ _. e)
+head_written : (at : HeadSpot) (lexeme : List ℕ) → lexeme ≡ head_word at → IsWritten (head_token at) lexeme
+head_written Event lexeme e = e
+head_written OpenEvent lexeme e = e
+head_written Posedge lexeme e = e
+head_written Clock lexeme e = e
+head_written CloseEvent lexeme e = e
+head_written Begin lexeme e = e
+head_written Test lexeme e = e
+head_written OpenTest lexeme e = e
+head_written Reset lexeme e = e
+head_written CloseTest lexeme e = e
 
-pub head_sound : (most : ℕ) (draft : Draft) (at : ℕ) (lexeme : List ℕ) (text : List Token) (q : Parser) → ItemAt most draft (Head at) text →
-    cond (bytes_eq lexeme (head_word at)) (goes draft (cond (nat_lt at 9) (Head (at + 1)) ClockedName)) None ≡ Some q → Onward most text lexeme q
+head_more : (most : ℕ) (draft : Draft) (at : HeadSpot) (own text : List Token) → InItem most draft own text → own ≡ take (words_before at) head_tokens → Has most draft (after_head at) (text ++ head_token at ∷ [])
+head_more most draft Event own text around is = more_item most draft own text (Sign (codes "@")) (Head OpenEvent) around (ap (λ t. t ++ Sign (codes "@") ∷ []) is)
+head_more most draft OpenEvent own text around is = more_item most draft own text (Sign (codes "(")) (Head Posedge) around (ap (λ t. t ++ Sign (codes "(") ∷ []) is)
+head_more most draft Posedge own text around is = more_item most draft own text (Key (codes "posedge")) (Head Clock) around (ap (λ t. t ++ Key (codes "posedge") ∷ []) is)
+head_more most draft Clock own text around is = more_item most draft own text (Key (codes "clk")) (Head CloseEvent) around (ap (λ t. t ++ Key (codes "clk") ∷ []) is)
+head_more most draft CloseEvent own text around is = more_item most draft own text (Sign (codes ")")) (Head Begin) around (ap (λ t. t ++ Sign (codes ")") ∷ []) is)
+head_more most draft Begin own text around is = more_item most draft own text (Key (codes "begin")) (Head Test) around (ap (λ t. t ++ Key (codes "begin") ∷ []) is)
+head_more most draft Test own text around is = more_item most draft own text (Key (codes "if")) (Head OpenTest) around (ap (λ t. t ++ Key (codes "if") ∷ []) is)
+head_more most draft OpenTest own text around is = more_item most draft own text (Sign (codes "(")) (Head Reset) around (ap (λ t. t ++ Sign (codes "(") ∷ []) is)
+head_more most draft Reset own text around is = more_item most draft own text (Key (codes "reset")) (Head CloseTest) around (ap (λ t. t ++ Key (codes "reset") ∷ []) is)
+head_more most draft CloseTest own text around is = more_item most draft own text (Sign (codes ")")) ClockedName around (ap (λ t. t ++ Sign (codes ")") ∷ []) is)
+
+pub head_sound : (most : ℕ) (draft : Draft) (at : HeadSpot) (lexeme : List ℕ) (text : List Token) (q : Parser) → ItemAt most draft (Head at) text →
+    cond (bytes_eq lexeme (head_word at)) (goes draft (after_head at)) None ≡ Some q → Onward most text lexeme q
 head_sound most draft at lexeme text q item e =
-    let token : Token = head_token at in
     let r = expected lexeme (head_word at) _ q e in
-    let grown : item.own ++ token ∷ [] ≡ head_tokens (suc at) = ap (λ t. t ++ token ∷ []) item.is.1 in
-    onward_to most text lexeme q draft (cond (nat_lt at 9) (Head (at + 1)) ClockedName) token (head_written at lexeme r.0)
-    (cond_both (nat_lt at 9) (Head (at + 1)) ClockedName (λ place. Has most draft place (text ++ token ∷ []))
-    (λ t. more_item most draft item.own text token (Head (at + 1)) item.around (omega (arith, ltb-true at 9 t), grown ∙ ap head_tokens (sym (add-one at))))
-    (λ t. let last : suc at ≡ 10 = omega (arith, ltb-false at 9 t, item.is.0) in more_item most draft item.own text token ClockedName item.around (grown ∙ ap head_tokens last))) r.1
+    onward_to most text lexeme q draft (after_head at) (head_token at) (head_written at lexeme r.0) (head_more most draft at item.own text item.around item.is) r.1
 
 -- the same name again
 pub again_sound : (most : ℕ) (draft : Draft) (clocked : Clocked) (lexeme : List ℕ) (own text : List Token) (q : Parser) → InItem most draft own text → IsCondition clocked.condition →

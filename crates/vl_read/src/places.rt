@@ -138,6 +138,31 @@ pub enum NetSpot {
     Named { signed: bool, width: u32 },
 }
 
+/// Where in the head of an item with a clock the reading is: between `always` and its name.
+#[derive(Clone, Copy)]
+pub enum HeadSpot {
+    /// `@` is next.
+    Event,
+    /// `(` is next, and then the event.
+    OpenEvent,
+    /// `posedge` is next.
+    Posedge,
+    /// `clk` is next.
+    Clock,
+    /// `)` is next, and then `begin`.
+    CloseEvent,
+    /// `begin` is next.
+    Begin,
+    /// `if` is next.
+    Test,
+    /// `(` is next, and then `reset`.
+    OpenTest,
+    /// `reset` is next.
+    Reset,
+    /// `)` is next, and then the name.
+    CloseTest,
+}
+
 /// Where in a list of attributes the reading is.
 #[derive(Clone, Copy)]
 pub enum AttrSpot {
@@ -176,8 +201,8 @@ pub enum Place {
     AssignName,
     /// `=` is next.
     AssignSign,
-    /// In the head of an item with a clock, of which so many words were read.
-    Head(u8),
+    /// In the head of an item with a clock.
+    Head(HeadSpot),
     /// The name of an item with a clock is next.
     ClockedName,
     /// `<=` is next.

@@ -3,13 +3,13 @@ ghost use Rattle.vl_ast.specs.declared.modules.ModItem.TheVariants.{Wire, Reg, A
 ghost use Rattle.vl_read.specs.declared.scan.Kind.TheVariants.{Fixed};
 ghost use Rattle.vl_read.specs.inner.Lexemes.{kind_of};
 ghost use Rattle.vl_read.specs.inner.Places.{Items, Start, Port, AfterPort, Title, Head, Branch, First, Expression, Operand, End, Semicolon};
-ghost use Rattle.vl_read.specs.inner.Plain.{expect, step, step_at, item_step, again_step, head_word, on_name, goes};
+ghost use Rattle.vl_read.specs.inner.Plain.{expect, step, step_at, item_step, again_step, on_name, goes};
 ghost use Rattle.vl_read.specs.inner.Seen.{seen, place_seen, goal_of};
 ghost use Rattle.vl_read.specs.inner.Turns.{stepped};
 
 use crate::nets::has_none;
 use crate::numbers::{constant_of, is_name};
-use crate::places::{AttrSpot, Goal, NetKind, NetSpot, Place, Reader, Spot};
+use crate::places::{AttrSpot, Goal, HeadSpot, NetKind, NetSpot, Place, Reader, Spot};
 use crate::scan::is;
 use fx_io::{OutOfMemory, Text};
 use std::alloc::Global;
@@ -31,7 +31,7 @@ impl Reader {
         } else if is(lexeme, "assign") {
             self.goes(Place::AssignName)
         } else {
-            self.expect("always", lexeme, Place::Head(0))
+            self.expect("always", lexeme, Place::Head(HeadSpot::Event))
         }
     }
 
@@ -149,15 +149,21 @@ impl Reader {
 
     /// A word of the head of an item with a clock.
     #[tactic(auto, unfolding(crate::specs::inner::Plain::step_at))]
-    fn head_step(&mut self, at: u8, lexeme: &[u8]) -> bool
+    fn head_step(&mut self, at: HeadSpot, lexeme: &[u8]) -> bool
         ensures { stepped result (seen self.new)
             ≡ step_at self.old.draft (Head at) Fixed lexeme.now }
     {
-        let word = head_word(at);
-        if at < 9 {
-            self.expect(word, lexeme, Place::Head(at + 1))
-        } else {
-            self.expect(word, lexeme, Place::ClockedName)
+        match at {
+            HeadSpot::Event => self.expect("@", lexeme, Place::Head(HeadSpot::OpenEvent)),
+            HeadSpot::OpenEvent => self.expect("(", lexeme, Place::Head(HeadSpot::Posedge)),
+            HeadSpot::Posedge => self.expect("posedge", lexeme, Place::Head(HeadSpot::Clock)),
+            HeadSpot::Clock => self.expect("clk", lexeme, Place::Head(HeadSpot::CloseEvent)),
+            HeadSpot::CloseEvent => self.expect(")", lexeme, Place::Head(HeadSpot::Begin)),
+            HeadSpot::Begin => self.expect("begin", lexeme, Place::Head(HeadSpot::Test)),
+            HeadSpot::Test => self.expect("if", lexeme, Place::Head(HeadSpot::OpenTest)),
+            HeadSpot::OpenTest => self.expect("(", lexeme, Place::Head(HeadSpot::Reset)),
+            HeadSpot::Reset => self.expect("reset", lexeme, Place::Head(HeadSpot::CloseTest)),
+            HeadSpot::CloseTest => self.expect(")", lexeme, Place::ClockedName),
         }
     }
 
@@ -304,23 +310,5 @@ impl Reader {
             ≡ step (seen self.old) lexeme.now) }
     {
         self.step_at(alloc, self.place, lexeme)
-    }
-}
-
-/// A word of the head of an item with a clock, counted from 0.
-fn head_word(at: u8) -> &'static str
-    ensures { result.now ≡ head_word at }
-{
-    match at {
-        0 => "@",
-        1 => "(",
-        2 => "posedge",
-        3 => "clk",
-        4 => ")",
-        5 => "begin",
-        6 => "if",
-        7 => "(",
-        8 => "reset",
-        _ => ")",
     }
 }

@@ -13,6 +13,7 @@ use Rattle.vl_read.specs.declared.places.Closing.{Closing}
 use Rattle.vl_read.specs.declared.places.Opening.TheVariants.{OpenParenthesis, OpenBrace}
 use Rattle.vl_read.specs.declared.places.Closing.TheVariants.{CloseParenthesis, CloseBrace, CloseBracket}
 use Rattle.vl_read.specs.declared.places.NetSpot.{NetSpot}
+use Rattle.vl_read.specs.declared.places.HeadSpot.{HeadSpot}
 use Rattle.vl_read.specs.declared.places.Draft.{Draft}
 
 -- the byte of an opening mark
@@ -105,8 +106,8 @@ pub data Place : Type 0 where
   AssignName : Place
   -- `=` is next
   AssignSign : List ℕ → Place
-  -- in the head of an item with a clock, of which so many words were read
-  Head : ℕ → Place
+  -- in the head of an item with a clock
+  Head : HeadSpot → Place
   -- the name of an item with a clock is next
   ClockedName : Place
   -- `<=` is next

@@ -1,7 +1,7 @@
 -- The plain reading: what each lexeme makes of what was read before it. It goes one lexeme after another, with the
 -- expressions that are begun on a list, the innermost last (IEEE 1364-2005, annex A, as a plain reading).
 use Prim.Native.Char.{code}
-use Rattle.std.specs.Prelude.{ℕ, ◌+◌, ◌==◌, nat_lt, Bool, true, false, ◌&&◌, if◌then◌else◌, List, [], ◌∷◌, ◌++◌, length, bytes_eq, codes, Option, Some, None, option_and_then}
+use Rattle.std.specs.Prelude.{ℕ, ◌+◌, nat_lt, Bool, true, false, ◌&&◌, if◌then◌else◌, List, [], ◌∷◌, ◌++◌, length, bytes_eq, codes, Option, Some, None, option_and_then}
 use Rattle.vl_ast.specs.declared.expressions.UnOp.{UnOp}
 use Rattle.vl_ast.specs.declared.expressions.BinOp.{BinOp}
 use Rattle.vl_ast.specs.declared.expressions.ShiftOp.{ShiftOp}
@@ -25,6 +25,8 @@ use Rattle.vl_read.specs.inner.Places.Goal.{Assigned, Condition, Next}
 use Rattle.vl_read.specs.inner.Places.NetKind.{OfPort, OfWire, OfReg}
 use Rattle.vl_read.specs.declared.places.NetSpot.{NetSpot}
 use Rattle.vl_read.specs.declared.places.NetSpot.TheVariants.{Word, Signed, Ranged, Bound, Colon, Zero, Close, Named}
+use Rattle.vl_read.specs.declared.places.HeadSpot.{HeadSpot}
+use Rattle.vl_read.specs.declared.places.HeadSpot.TheVariants.{Event, OpenEvent, Posedge, Clock, CloseEvent, Begin, Test, OpenTest, Reset, CloseTest}
 use Rattle.vl_read.specs.inner.Places.AttrSpot.{AttrName, AttrSign, AttrValue, More}
 use Rattle.vl_read.specs.inner.Places.Place.{Start, Attributes, Title, Ports, Port as PortPlace, Net, AfterPort, AfterPorts, Items, AssignName, AssignSign, Head, ClockedName, ClockedSign, First, AfterFirst, Else, Branch, If, Again, NextSign, Expression, Semicolon, End, Done}
 use Rattle.vl_read.specs.declared.places.Draft.{Draft}
@@ -250,21 +252,33 @@ item_step draft lexeme =
     if bytes_eq lexeme (codes "wire") then goes draft (Net OfWire Signed)
     else (if bytes_eq lexeme (codes "reg") then goes draft (Net OfReg Signed)
     else (if bytes_eq lexeme (codes "assign") then goes draft AssignName
-    else expect (codes "always") lexeme draft (Head 0)))
+    else expect (codes "always") lexeme draft (Head Event)))
 
--- the words of an item with a clock after `always`, counted from 0
-abbrev pub head_word : ℕ → List ℕ
-head_word at =
-    if at == 0 then codes "@"
-    else (if at == 1 then codes "("
-    else (if at == 2 then codes "posedge"
-    else (if at == 3 then codes "clk"
-    else (if at == 4 then codes ")"
-    else (if at == 5 then codes "begin"
-    else (if at == 6 then codes "if"
-    else (if at == 7 then codes "("
-    else (if at == 8 then codes "reset"
-    else codes ")"))))))))
+-- a word of the head of an item with a clock
+abbrev pub head_word : HeadSpot → List ℕ
+head_word Event = codes "@"
+head_word OpenEvent = codes "("
+head_word Posedge = codes "posedge"
+head_word Clock = codes "clk"
+head_word CloseEvent = codes ")"
+head_word Begin = codes "begin"
+head_word Test = codes "if"
+head_word OpenTest = codes "("
+head_word Reset = codes "reset"
+head_word CloseTest = codes ")"
+
+-- what is next after it
+abbrev pub after_head : HeadSpot → Place
+after_head Event = Head OpenEvent
+after_head OpenEvent = Head Posedge
+after_head Posedge = Head Clock
+after_head Clock = Head CloseEvent
+after_head CloseEvent = Head Begin
+after_head Begin = Head Test
+after_head Test = Head OpenTest
+after_head OpenTest = Head Reset
+after_head Reset = Head CloseTest
+after_head CloseTest = ClockedName
 
 -- the same name again
 abbrev pub again_step : Draft → Clocked → List ℕ → Option Parser
@@ -291,7 +305,7 @@ step_at draft Items kind lexeme =
     else (if nat_lt (length draft.items) draft.most then item_step draft lexeme else None)
 step_at draft AssignName kind lexeme = on_name kind (goes draft (AssignSign lexeme)) None
 step_at draft (AssignSign name) kind lexeme = expect (codes "=") lexeme draft (Expression (Assigned name) [] Operand)
-step_at draft (Head at) kind lexeme = expect (head_word at) lexeme draft (if nat_lt at 9 then Head (at + 1) else ClockedName)
+step_at draft (Head at) kind lexeme = expect (head_word at) lexeme draft (after_head at)
 step_at draft ClockedName kind lexeme = on_name kind (goes draft (ClockedSign lexeme)) None
 step_at draft (ClockedSign name) kind lexeme = expect (codes "<=") lexeme draft (First name)
 step_at draft (First name) kind lexeme = on_based kind (λ first. goes draft (AfterFirst name first))
