@@ -14,3 +14,6 @@ pub mod Steps
 pub mod Tokens
 pub mod Value
 pub mod Windows
+pub mod Header
+pub mod Items
+pub mod PortNames

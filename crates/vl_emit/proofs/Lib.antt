@@ -32,3 +32,4 @@ pub mod Clocked
 pub mod Multiplied
 pub mod Returned
 pub mod Shows
+pub mod Itemized

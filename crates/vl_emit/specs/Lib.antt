@@ -1,5 +1,6 @@
 pub mod Emittable
 pub mod Header
+pub mod Items
 pub mod Labelled
 pub mod Names
 pub mod Products

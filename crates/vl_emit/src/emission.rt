@@ -5,11 +5,12 @@ ghost use Rattle.hw_net.specs.Netlist.{IsNetlist};
 ghost use Rattle.vl_ast.specs.Conditions.{BreaksNone};
 ghost use Rattle.vl_emit.specs.Emittable.{IsEmittable};
 ghost use Rattle.vl_emit.specs.Header.{HasHeader};
+ghost use Rattle.vl_emit.specs.Items.{ItemsAre, NamesDiffer};
 ghost use Rattle.vl_emit.specs.Labelled.{LabelsAreNames};
 ghost use Rattle.vl_emit.specs.Products.{ProductsAre};
 ghost use Rattle.vl_emit.specs.Reads.{ReadsOnly};
 ghost use Rattle.vl_emit.specs.Registers.{RegistersAre};
-ghost use Rattle.vl_emit.specs.Shown.{NetsAreShown, OutputsAreShown};
+ghost use Rattle.vl_emit.specs.Shown.{NetsAreShown, NetsFit, OutputsAreShown};
 ghost use Rattle.vl_emit.specs.inner.Emitted.{module_of};
 ghost use Rattle.vl_emit.specs.inner.Ready.{HaveNets};
 
@@ -34,6 +35,9 @@ pub fn emit(alloc: Global, netlist: &Netlist) -> Result<Module, OutOfMemory>
     ensures reads { IfOk result (ReadsOnly netlist.now) }
     ensures registers { IfOk result (RegistersAre netlist.now) }
     ensures labels { IfOk result (λ _. LabelsAreNames netlist.now) }
+    ensures items { IfOk result (ItemsAre netlist.now) }
+    ensures names { IfOk result (λ _. NamesDiffer netlist.now) }
+    ensures fit { IfOk result (NetsFit netlist.now) }
 {
     steps_give_rows();
     counter_is_telling();

@@ -1,14 +1,16 @@
 use Rattle.std.proofs.Common.{◌<◌, ◌^◌, length}
 use Rattle.vl_ast.specs.Conditions.{BreaksNone}
 use Rattle.vl_emit.specs.Header.{HasHeader}
+use Rattle.vl_emit.specs.Items.{ItemsAre, NamesDiffer}
 use Rattle.vl_emit.specs.Labelled.{LabelsAreNames}
 use Rattle.vl_emit.specs.Products.{ProductsAre}
 use Rattle.vl_emit.specs.Reads.{ReadsOnly}
 use Rattle.vl_emit.specs.Registers.{RegistersAre}
-use Rattle.vl_emit.specs.Shown.{NetsAreShown, OutputsAreShown}
+use Rattle.vl_emit.specs.Shown.{NetsAreShown, NetsFit, OutputsAreShown}
 use Rattle.vl_emit.specs.inner.Emitted.{module_of}
 use Rattle.vl_emit.proofs.Clocked.{breaks-none, header}
 use Rattle.vl_emit.proofs.Interfaces.{labelled}
+use Rattle.vl_emit.proofs.Itemized.{items-are, names-differ, nets-fit}
 use Rattle.vl_emit.proofs.Multiplied.{products-are, registers-are}
 use Rattle.vl_emit.proofs.Origins.{reads-only}
 use Rattle.vl_emit.proofs.Returned.{if-made}
@@ -37,4 +39,7 @@ returns c =
       registers = if-made (module_of c.args.netlist.now) (length c.args.netlist.now.nets < 2 ^ 64) (RegistersAre c.args.netlist.now) c.module_of.result is small (λ h. registers-are c.args.netlist.now runs emits h);
       labels = if-made (module_of c.args.netlist.now) (length c.args.netlist.now.nets < 2 ^ 64) (λ m. LabelsAreNames c.args.netlist.now) c.module_of.result is small
           (λ h. record { are = λ label k. labelled (length c.args.netlist.now.nets) h c.args.netlist.now.labels emits.labels label k });
+      items = if-made (module_of c.args.netlist.now) (length c.args.netlist.now.nets < 2 ^ 64) (ItemsAre c.args.netlist.now) c.module_of.result is small (λ h. items-are c.args.netlist.now runs emits h);
+      names = if-made (module_of c.args.netlist.now) (length c.args.netlist.now.nets < 2 ^ 64) (λ m. NamesDiffer c.args.netlist.now) c.module_of.result is small (λ h. names-differ c.args.netlist.now runs emits h);
+      fit = if-made (module_of c.args.netlist.now) (length c.args.netlist.now.nets < 2 ^ 64) (NetsFit c.args.netlist.now) c.module_of.result is small (λ h. nets-fit c.args.netlist.now runs emits h);
     }
