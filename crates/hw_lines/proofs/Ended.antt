@@ -1,5 +1,5 @@
 -- The end of a line is an answer for its use.
-use Rattle.std.proofs.Common.{◌≡◌, ℕ, zero, suc, Result, Ok, Err, IfOk, OnOk, ◌+◌, ◌-◌, ◌*◌, ◌/◌, ◌%◌, ◌<◌, ◌≤◌, inl, inr, List, Some, slice_get, Bool, true, false, ap, sym, ◌∙◌, subst, arith, refl}
+use Rattle.std.proofs.Common.{◌≡◌, ℕ, zero, suc, Result, Ok, Err, IfOk, OnOk, ◌+◌, ◌-◌, ◌*◌, ◌/◌, ◌%◌, ◌<◌, ◌≤◌, ◌⊎◌, length, inl, inr, List, Some, slice_get, Bool, true, false, ap, sym, ◌∙◌, subst, arith, refl}
 use Rattle.std.proofs.Math.Nat.{mul-mod_left}
 use Rattle.std.proofs.lemmas.Nat.{div-add-mod'}
 use Rattle.std.specs.Prelude.{⊤}
@@ -9,7 +9,7 @@ use Rattle.hw_net.specs.NetRows.{Rows, span_of}
 use Rattle.hw_net.specs.Registers.{IsReg, IsBridge}
 use Rattle.hw_net.specs.Growing.{Extends}
 use Rattle.hw_net.specs.Frames.{register_count}
-use Rattle.hw_net.proofs.Growing.{extends-self, in-rows-first, in-rows-last, in-rows-map, in-rows-both}
+use Rattle.hw_net.proofs.Growing.{longer, extends-self, in-rows-first, in-rows-last, in-rows-map, in-rows-both}
 use Rattle.hw_lines.specs.declared.source.Source.{Source}
 use Rattle.hw_lines.specs.declared.source.Use.{Use}
 use Rattle.hw_lines.specs.Line.{ShowsLater}
@@ -66,6 +66,13 @@ module _ (source : Source) (one : Use) (some : 0 < source.frame.period) (use_is 
     abbrev Shown : ℕ → ℕ → Rows → Type 0
     Shown number n rows = ShowsLater source.registered n (line_to before.cycles source (reader_of source one)) source.first (rows source.from) (rows number)
 
+    -- a tap is the source or was put in
+    tap-stands : (tap ≡ source.from) ⊎ (length before.nets ≤ tap)
+    tap-stands = elim at.stands [
+      | inl itself ↦ inl itself.1
+      | inr new ↦ inr new.new
+    ]
+
     pub plain-tap : TapMeets → source.registered ≡ false → one.period ≡ source.frame.period → one.shift ≡ k * source.frame.period → IsAnswer before now source (reader_of source one) tap
     plain-tap meets is same e = record {
       shows = in-rows-map before now TapShows (Shown tap) at.shows (λ n rows shown.
@@ -73,6 +80,7 @@ module _ (source : Source) (one : Use) (some : 0 < source.frame.period) (use_is 
           (meets n (line_to before.cycles source (reader_of source one)) k source.first (rows source.from) (rows tap) (rw (whole-is) at (shifted before.cycles k 0 clocks-before (whole e))) (plain-period is ∙ same) shown));
       word = at.word;
       holds = λ yes. absurd (true-false yes is);
+      stands = tap-stands;
     }
       where
         whole-is : k * source.frame.period + 0 ≡ k * source.frame.period
@@ -91,6 +99,7 @@ module _ (source : Source) (one : Use) (some : 0 < source.frame.period) (use_is 
             | inl itself ↦ absurd (omega (arith, itself.0, behind))
             | inr new ↦ new
           ];
+          stands = tap-stands;
         }
       where
         some-frames : (k p : ℕ) → 1 ≤ k * p → 0 < k
@@ -111,6 +120,7 @@ module _ (source : Source) (one : Use) (some : 0 < source.frame.period) (use_is 
             (subst (λ (x : ℕ). IsBridge n (span_of x (reader_of source one)) ((source.frame.period - r) * x) (rows tap) (rows number)) p.cycles bridge)));
         word = word-of-word before now new source.from tap number at.word bridged.word;
         holds = λ yes. absurd (true-false yes is);
+        stands = inr (omega (arith, bridged.new, longer before now p));
       }
 
       pub phase-end : PhaseRegisterMeets → source.registered ≡ true → 1 ≤ r → r ≤ source.frame.period → (slot : ℕ) → slot ≡ r * now.cycles - 1 → IsHeld now new tap source.frame slot source.first number → IsAnswer before new source (reader_of source one) number
@@ -127,6 +137,7 @@ module _ (source : Source) (one : Use) (some : 0 < source.frame.period) (use_is 
             (subst (λ (s : ℕ). IsReg n (span_of now.cycles source.frame) s source.first (rows tap) (rows number)) at_slot reg))));
         word = word-of-word before now new source.from tap number at.word held.word;
         holds = λ yes. reg-earlier before now new number p held.new;
+        stands = inr (omega (arith, held.new.new, longer before now p));
       }
 
 -- what was put in for the end

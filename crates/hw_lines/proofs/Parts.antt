@@ -184,6 +184,7 @@ module _ (a b : Circuit) (frame : Frame) (some : 0 < frame.period) (counted : Is
         record {
           shows = part-shows a b frame some counted c from number source kind there word at has grown (λ n rows. IsBridge n (span_of a.cycles frame) (live * a.cycles) (rows from) (rows number)) (λ n inputs rows is. is);
           word = part-word a b frame some counted c from number source kind there word at has grown;
+          new = part-new a b frame some counted c from number source kind there word at has grown;
         },
         part-grows a b frame some counted c from number source kind there word at has grown refl refl (λ P p. one-all P from p) (λ P p. one-all P from p) (λ is. (some, lives, is)) ⊤ tt,
         part-count a b frame some counted c from number source kind there word at has grown refl,

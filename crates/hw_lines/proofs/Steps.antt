@@ -66,6 +66,7 @@ answer-stays a b c source reader number p is = record {
   shows = in-rows-first a b c _ p is.shows;
   word = word-later a b c source.from number p is.word;
   holds = λ registered. reg-stays a b c number p (is.holds registered);
+  stands = is.stands;
 }
 
 span-some : (a : Circuit) (source : Source) → 0 < a.cycles → IsSource a source → 0 < (span_of a.cycles source.frame).length

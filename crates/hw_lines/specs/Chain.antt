@@ -72,6 +72,8 @@ pub record IsAnswer (before after : Circuit) (source : Source) (reader : Frame)
   pub word : (net : Net) → slice_get before.nets source.from ≡ Some net
       → HasWord after.nets number net.width net.signed
   pub holds : source.registered ≡ true → IsNewReg before after number
+  -- it is the source itself, or was put behind the nets of the first netlist
+  pub stands : (number ≡ source.from) ⊎ (length before.nets ≤ number)
 
 -- one answer for each use, in order
 pub record AreAnswers (before after : Circuit) (source : Source) (uses : List Use)

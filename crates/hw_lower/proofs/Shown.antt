@@ -1,5 +1,5 @@
 -- What the nets of a plan show.
-use Rattle.std.proofs.Common.{◌≡◌, ℕ, zero, suc, ◌+◌, ◌-◌, ◌^◌, ◌<◌, inl, inr, false, List, [], ◌∷◌, take, map, length, slice_get, slice_index_or, Option, None, Some, ℤ, pos, ap, sym, ◌∙◌, subst, arith, refl, length-append}
+use Rattle.std.proofs.Common.{◌≡◌, ℕ, zero, suc, ◌+◌, ◌-◌, ◌^◌, ◌<◌, ◌≤◌, ◌⊎◌, inl, inr, Contains, false, List, [], ◌∷◌, take, map, length, slice_get, slice_index_or, Option, None, Some, ℤ, pos, ap, sym, ◌∙◌, subst, arith, refl, length-append}
 use Rattle.std.proofs.lemmas.Bool.{cases_lt}
 use Rattle.std.proofs.lemmas.Option.{slice_get_within, slice_get-get_or}
 use Rattle.fx_num.specs.Word.{IsWrapped}
@@ -149,6 +149,15 @@ obeys-rows before after later types args start steps multiply down keeps n given
       ];
 }
 
+-- the number of a step is that of an argument, or past those that were there
+number-stands : (args : List ℕ) (base place : ℕ) → Contains args (number_of args base place) ⊎ (base ≤ number_of args base place)
+number-stands [] base place = inr (omega arith)
+number-stands (arg ∷ args) base zero = inl (0, omega arith, refl)
+number-stands (arg ∷ args) base (suc place) = elim (number-stands args base place) [
+  | inl among ↦ inl (suc among.0, let inside = among.1 in omega (arith, inside), among.2)
+  | inr past ↦ inr past
+]
+
 -- the nets show what the operation gives
 pub lowered : (before after : Circuit) (args : List ℕ) (start steps : List Step) (operation : Operation) (made : Operand) → IsPutDown before after operation.types args start steps (multiply_of operation.op)
     → IsAt steps made → made.word ≡ word_of operation.result → Gives steps (λ numbers. OfArguments operation.types numbers (λ values. OpGives operation values (numbers made.place)))
@@ -164,6 +173,7 @@ lowered before after args start steps operation made down at word gives = record
       let can = can-put before operation.types args start steps (multiply_of operation.op) down.are_args down.inputs down.spreads in
       let has = word-at before after steps args (length steps) can down.nets made.place at.step (slice_get_within steps made.place at.step at.is) at.is in
       subst (λ (w : Word). HasWord after.nets (number_of args (length before.nets) made.place) w.width w.signed) (at.word ∙ word) has;
+  stands = number-stands args (length before.nets) made.place;
 }
 
 step-comb : (before after : Circuit) (args : List ℕ) (steps : List Step) → AreNets before after args steps (length steps) → (k : ℕ) (step : Step) → slice_get steps (length args + k) ≡ Some step → IsComb after (length before.nets + k) step.op

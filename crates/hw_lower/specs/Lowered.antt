@@ -1,5 +1,5 @@
 -- What a block element as nets owes (own).
-use Rattle.std.specs.Prelude.{◌≡◌, ℕ, ◌+◌, ◌<◌, ◌≤◌, ℤ, List, map, length, slice_get, Option}
+use Rattle.std.specs.Prelude.{◌≡◌, ℕ, ◌+◌, ◌<◌, ◌≤◌, ◌⊎◌, ℤ, List, map, length, Contains, slice_get, Option}
 use Rattle.std.specs.Prelude.{Some, None}
 use Rattle.fx_type.specs.declared.kind.FxType.{FxType}
 use Rattle.fx_type.specs.FxType.{is_signed, width_of}
@@ -35,6 +35,8 @@ pub record IsLowered (before after : Circuit) (operation : Operation) (args : Li
       → AreInRange operation.types (values_at rows args clock)
       → OpGives operation (values_at rows args clock) (rows number clock))
   pub word : HasWord after.nets number (width_of operation.result) (is_signed operation.result)
+  -- it is an argument, or was put behind the nets
+  pub stands : Contains args number ⊎ (length before.nets ≤ number)
 
 -- the net of this number is an operation on others
 pub record IsComb (after : Circuit) (number : ℕ) (op : NetOp) : Type 0 where

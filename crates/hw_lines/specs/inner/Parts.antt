@@ -49,6 +49,7 @@ pub record IsBridged (before after : Circuit) (from : ℕ) (frame : Frame)
   pub shows : InRows before after (λ n rows.
       IsBridge n (span_of before.cycles frame) (live * before.cycles) (rows from) (rows number))
   pub word : SameWord before after from number
+  pub new : length before.nets ≤ number
 
 -- tap k of a source: the source itself, or a register of the chain
 pub record IsTapAt (before after : Circuit) (source : Source) (k number : ℕ) : Type 0 where
