@@ -27,3 +27,4 @@ mod Celling
 mod Spanning
 mod Outputs
 mod Serving
+mod Used

@@ -117,6 +117,11 @@ abbrev pub UnitsAreThere : Type 0
 UnitsAreThere = (diagram : Diagram) (attributes : Attributes) (plan : Resolved) (timing : Timing) (number : ℕ) (o : Operation) → IsOperation diagram attributes plan number o
     → unit_of diagram attributes plan timing number o < units_in_all diagram attributes plan timing
 
+-- and each of these serves an operation
+abbrev pub UnitsAreUsed : Type 0
+UnitsAreUsed = (diagram : Diagram) (attributes : Attributes) (plan : Resolved) (timing : Timing) (unit : ℕ) → unit < units_in_all diagram attributes plan timing
+    → (number : ℕ) × (o : Operation) × IsOperation diagram attributes plan number o × (unit_of diagram attributes plan timing number o ≡ unit)
+
 -- no edge ends at a root input
 abbrev pub NoneIntoRoots : Type 0
 NoneIntoRoots = (diagram : Diagram) (place : ℕ) (b : Block) (number : ℕ) (edge : LatencyEdge) → IsWired diagram → slice_get diagram.blocks place ≡ Some b → (row_of b.kind).timing.inherits ≡ Inherited.Base → IsEdge diagram number edge → edge.to ≢ place

@@ -1,6 +1,6 @@
 // What the definitions together say. Each law is a function that does nothing.
 ghost use Rattle.hw_sched.specs.Numbered.{OperationsAreNumbered};
-ghost use Rattle.hw_sched.specs.Laws.{PeriodsAreAbove, PeriodsAreShort, MovingHavePeriods, LinesAreEdges, ControlsAreEdges, EdgesJoinPeriods, UnfedAreReady, OperationsAreServed, OperationsHavePeriods, SlotsDiffer, UnitsAreThere, DepthsAreOne, NoneIntoRoots, RootsAreReady, ReadyFits, ReadyRises, OperandsAreReady, EdgesAreInTime};
+ghost use Rattle.hw_sched.specs.Laws.{PeriodsAreAbove, PeriodsAreShort, MovingHavePeriods, LinesAreEdges, ControlsAreEdges, EdgesJoinPeriods, UnfedAreReady, OperationsAreServed, OperationsHavePeriods, SlotsDiffer, UnitsAreThere, UnitsAreUsed, DepthsAreOne, NoneIntoRoots, RootsAreReady, ReadyFits, ReadyRises, OperandsAreReady, EdgesAreInTime};
 
 /// Every period is above 0 and at most 4096, and a block whose values move on has one.
 pub fn periods_are_above()
@@ -71,4 +71,9 @@ pub fn edges_are_in_time()
 /// by itself.
 pub fn operations_are_numbered()
     ensures { OperationsAreNumbered }
+{}
+
+/// Each multiplier that the kinds have serves an operation.
+pub fn units_are_used()
+    ensures { UnitsAreUsed }
 {}
