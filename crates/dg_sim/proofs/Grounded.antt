@@ -10,7 +10,7 @@ use Rattle.fx_round.specs.Laws.{StoringGivesOne}
 use Rattle.dg_model.specs.declared.diagram.Diagram.{Diagram}
 use Rattle.dg_model.specs.GainParam.{ParamTypeIsOne}
 use Rattle.dg_model.specs.Attributes.{attributes_of}
-use Rattle.dg_sim.specs.Laws.{IsOrdered, TablesAreOne, SomeTableSolves, SolvedIsInRange, EntryIsOne, OperationsPrepare, TypesAreValid}
+use Rattle.dg_sim.specs.Laws.{IsOrdered, TablesAreOne, SomeTableSolves, SolvedIsInRange, EntryIsOne, OperationsPrepare, TypesAreValid, SignalsFit}
 use Rattle.dg_sim.proofs.Ground.{IsRanked, IsRunnable}
 use Rattle.dg_blocks.specs.Laws.{OperationGivesAtMostOne, OperationGivesOne}
 use Rattle.dg_sim.proofs.Unique.{tables_one}
@@ -82,4 +82,11 @@ module _ (storing : StoringGivesOne) (at_most : OperationGivesAtMostOne) (exactl
       type_valid sums products unions params diagram ordered.checked.wired block,
       (ranked storing sums products unions params diagram order ordered).params block b block_is,
       type_into_valid diagram (attributes_of diagram) ordered.checked.wired (ranked storing sums products unions params diagram order ordered).types block,
+    )
+
+    pub checked_fit : SignalsFit
+    checked_fit diagram order block b ordered block_is = (
+      (ranked storing sums products unions params diagram order ordered).widths block b block_is,
+      (runnable storing sums products unions params diagram order ordered).lists block b block_is,
+      (runnable storing sums products unions params diagram order ordered).kept block b block_is,
     )

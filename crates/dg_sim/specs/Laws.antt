@@ -13,6 +13,7 @@ use Rattle.dg_model.specs.declared.op.Op.{Op}
 use Rattle.dg_model.specs.Operation.{CanPrepare}
 use Rattle.dg_model.specs.Wires.{type_into, types_into}
 use Rattle.dg_model.specs.Solves.{IsStimulus, IsShown, Solves, AgreeBelow}
+use Rattle.dg_sim.specs.Fit.{HasWidths, HasLists, KeepsType}
 
 -- the diagram keeps the rules, and this is an order of its blocks along the instant edges
 pub record IsOrdered (diagram : Diagram) (order : List ℕ) : Type 0 where
@@ -59,3 +60,8 @@ OperationsPrepare = (diagram : Diagram) (order : List ℕ) (block : ℕ) (b : Bl
 abbrev pub TypesAreValid : Type 0
 TypesAreValid = (diagram : Diagram) (order : List ℕ) (block : ℕ) (b : Block) → IsOrdered diagram order → slice_get diagram.blocks block ≡ Some b
     → IsType ((attributes_of diagram).type_at block 1) × IsType ((attributes_of diagram).param_at block) × ((port : ℕ) → IsType (type_into diagram (attributes_of diagram) block port))
+
+-- widths, lists and types of a block and of its inputs fit
+abbrev pub SignalsFit : Type 0
+SignalsFit = (diagram : Diagram) (order : List ℕ) (block : ℕ) (b : Block) → IsOrdered diagram order → slice_get diagram.blocks block ≡ Some b
+    → HasWidths diagram (attributes_of diagram) block b.kind b.inputs b.outputs × HasLists b.kind ((attributes_of diagram).width_at block 1) × KeepsType diagram (attributes_of diagram) block b.kind b.inputs b.outputs

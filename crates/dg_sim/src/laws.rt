@@ -1,5 +1,5 @@
 //! Laws of the equations. The functions do nothing.
-ghost use Rattle.dg_sim.specs.Laws.{TablesAreOne, SomeTableSolves, SolvedIsInRange, EntriesStay, EntryIsOne, OperationsPrepare, TypesAreValid};
+ghost use Rattle.dg_sim.specs.Laws.{TablesAreOne, SomeTableSolves, SolvedIsInRange, EntriesStay, EntryIsOne, OperationsPrepare, TypesAreValid, SignalsFit};
 ghost use Rattle.dg_sim.specs.Steps.{KeptMoves, KeptIsRead, StepsStand};
 
 /// For a diagram that keeps the rules at most one table solves (own).
@@ -68,6 +68,7 @@ pub fn kept_moves()
 pub fn operations_prepare()
     ensures operations { OperationsPrepare }
     ensures types { TypesAreValid }
+    ensures fit { SignalsFit }
 {
     dg_blocks::operation_gives_one();
     fx_round::storing_gives_one();
