@@ -1,0 +1,14 @@
+pub mod Choices
+pub mod Counters
+pub mod Ends
+pub mod Grown
+pub mod Joins
+pub mod Kept
+pub mod Multiplied
+pub mod Named
+pub mod Numbers
+pub mod Products
+pub mod Put
+pub mod Ready
+pub mod Shared
+pub mod Tried

@@ -1,0 +1,30 @@
+use Rattle.std.proofs.Common.{◌≡◌, slice_index_or, arith}
+use Rattle.std.proofs.lemmas.Option.{slice_get-get_or}
+use Rattle.hw_share.specs.declared.operation.Operation.{Operation}
+use Rattle.hw_share.proofs.Grown.{there-later}
+use Rattle.hw_share.proofs.Kept.{results-begun, results-more, no-operation}
+use Rattle.hw_share.proofs.keeping.results_of.Goals as goal
+
+pub register_at-requires : goal.register_at-requires
+register_at-requires c =
+    let inv = c.loop-one.invariant in
+    let one : Operation = slice_index_or c.args.operations.now c.loop-one.one-index no-operation in
+    let at = slice_get-get_or c.args.operations.now c.loop-one.one-index no-operation c.loop-one-test.true in
+    let cycles : c.loop-one.net.cycles ≡ c.args.net.now.cycles = inv.grown.appends.extends.cycles in
+    record {
+      cycles = omega (arith, cycles, c.requires.cycles);
+      period = c.requires.can.some c.loop-one.one-index one at;
+      from = there-later c.args.net.now c.loop-one.net (slice_index_or c.args.numbers.now one.unit 0) inv.grown.appends.extends (c.requires.can.there c.loop-one.one-index one at);
+    }
+
+pub loop-one-init : goal.loop-one-init
+loop-one-init c = rw c.new-results.ensures (results-begun c.args.net.now c.args.operations.now c.args.numbers.now)
+
+pub loop-one-preserved : goal.loop-one-preserved
+loop-one-preserved c =
+    let one : Operation = slice_index_or c.args.operations.now c.loop-one.one-index no-operation in
+    let at = slice_get-get_or c.args.operations.now c.loop-one.one-index no-operation c.loop-one-test.true in
+    let held = c.in_ok-result.ensures.held in
+    rw c.in_ok-push.ensures.appended
+    (results-more c.args.net.now c.loop-one.net c.register_at.new.net c.args.operations.now c.args.numbers.now c.loop-one.results c.loop-one.one-index c.in_ok-result.result one c.requires.can c.loop-one.invariant at
+    held c.in_ok-result.ensures.grown)

@@ -1,0 +1,4 @@
+pub mod Operations
+pub mod Serving
+pub mod Shared
+pub mod inner

@@ -1,0 +1,6 @@
+-- What only private contracts cite.
+pub mod Parts
+pub mod Choices
+pub mod Joined
+pub mod Steps
+pub mod Tried

@@ -1,0 +1,83 @@
+//! The chains of multipliers: operation after operation chooses its operands in its slot.
+ghost use Rattle.std.specs.Prelude.{◌≡◌, ◌<◌, IfOk, length};
+ghost use Rattle.hw_share.specs.Operations.{CanShare, unit_count};
+ghost use Rattle.hw_share.specs.inner.Joined.{AreEnds, CanJoin, HasJoined, IsJoined};
+
+use crate::choosing::choose;
+use crate::operation::Operation;
+use crate::testing::test_at;
+use fx_io::OutOfMemory;
+use hw_net::Netlist;
+use std::alloc::Global;
+
+/// The nets that a multiplier multiplies.
+#[derive(Clone, Copy, Debug)]
+pub struct Ends {
+    pub left: u32,
+    pub right: u32,
+}
+
+/// The ends of a multiplier's chains with one operation more.
+fn joined(alloc: Global, net: &mut Netlist, ends: Ends, one: Operation) -> Result<Ends, OutOfMemory>
+    requires { CanJoin net.old ends one }
+    ensures { IfOk result (HasJoined net.old net.new ends one) }
+{
+    let test = test_at(alloc, net, one.frame, one.slot)?;
+    let left = choose(alloc, net, test, one.left, ends.left)?;
+    let right = choose(alloc, net, test, one.right, ends.right)?;
+    Ok(Ends { left, right })
+}
+
+/// The same, where the first operation of a multiplier has its operands as ends.
+fn join(
+    alloc: Global,
+    net: &mut Netlist,
+    known: Option<Ends>,
+    one: Operation,
+) -> Result<Ends, OutOfMemory>
+    requires { (old : Ends) → known ≡ Some old → CanJoin net.old old one }
+    ensures { IfOk result (IsJoined net.old net.new known one) }
+{
+    match known {
+        Some(ends) => joined(alloc, net, ends, one),
+        None => Ok(Ends {
+            left: one.left,
+            right: one.right,
+        }),
+    }
+}
+
+/// How many multipliers operations have.
+pub fn count_of(operations: &[Operation]) -> Result<u64, OutOfMemory>
+    ensures { IfOk result (λ count. count ≡ unit_count operations.now) }
+{
+    let mut count = 0;
+    for one in operations {
+        let Some(behind) = one.unit.checked_add(1) else {
+            return Err(OutOfMemory);
+        };
+        count = behind.max(count);
+    }
+    Ok(count)
+}
+
+/// The ends of the chains of each multiplier, when all operations have joined them.
+pub fn ends_of(
+    alloc: Global,
+    net: &mut Netlist,
+    operations: &[Operation],
+) -> Result<Vec<Option<Ends>>, OutOfMemory>
+    requires cycles { 0 < net.old.cycles }
+    requires can { CanShare net.old operations.now }
+    ensures { IfOk result (λ ends.
+        AreEnds net.old net.new operations.now ends.items (length operations.now)) }
+{
+    let count = count_of(operations)?;
+    let mut ends = vec![in alloc; None; count as usize]?;
+    for one in operations {
+        let unit = one.unit as usize;
+        let own = join(alloc, net, ends[unit], *one)?;
+        ends[unit] = Some(own);
+    }
+    Ok(ends)
+}
