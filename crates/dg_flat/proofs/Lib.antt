@@ -29,3 +29,5 @@ pub mod Law
 pub mod FlatBlock
 mod Crossed
 pub mod Trial
+pub mod One
+pub mod FirstOne

@@ -11,6 +11,7 @@ mod edges;
 mod enables;
 mod flattening;
 mod kinds;
+mod laws;
 mod numbering;
 mod paths;
 mod ports;
@@ -20,6 +21,7 @@ mod tally;
 mod wiring;
 
 pub use flattening::flatten;
+pub use laws::{broken_is_one, flat_is_not_broken, flat_is_one};
 
 #[cfg(test)]
 mod tests;
