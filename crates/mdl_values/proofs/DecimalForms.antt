@@ -183,7 +183,7 @@ one_numeral text a b =
     }
 
 -- the words are no numbers
-word_is_none : (c : ℕ) (cs : List ℕ) → is_body c ≡ false → (c == 45) ≡ false → (c == 43) ≡ false → (text : List ℕ) → text ≡ c ∷ cs → ¬ IsNumeral text
+pub word_is_none : (c : ℕ) (cs : List ℕ) → is_body c ≡ false → (c == 45) ≡ false → (c == 43) ≡ false → (text : List ℕ) → text ≡ c ∷ cs → ¬ IsNumeral text
 word_is_none c cs no_body no_minus no_plus text e numeral = by_sign numeral.negative numeral.is_sign
   where
     begins : Begins is_body (numeral.whole ++ (numeral.point ++ numeral.written))

@@ -9,7 +9,7 @@ use Rattle.fx_round.specs.DecimalText.{IsLong, IsDecimalText, IsDecimal}
 use Rattle.mdl_values.specs.Reads.{Finds}
 use Rattle.mdl_values.proofs.DecimalForms.{one_numeral, true_is_none, false_is_none}
 
-words_differ : (text : List ℕ) → text ≡ codes "true" → text ≡ codes "false" → ⊥
+pub words_differ : (text : List ℕ) → text ≡ codes "true" → text ≡ codes "false" → ⊥
 words_differ text e f =
     let h : ◌≡◌ {A = ℕ} 116 102 = ap (λ (t : List ℕ). get_or t 0 0) (sym e ∙ f) in
     absurd (omega arith)

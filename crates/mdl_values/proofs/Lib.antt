@@ -3,6 +3,9 @@ mod DecimalForms
 mod DecimalLemmas
 mod ElementLemmas
 mod ListLemmas
+mod OneNumber
+mod OneType
+mod OneValue
 mod PeriodLemmas
 mod PieceLemmas
 mod ReadLemmas

@@ -6,7 +6,7 @@ use Rattle.mdl_values.specs.Reads.{Finds}
 use Rattle.mdl_values.specs.Lists.{IsListOf}
 use Rattle.mdl_values.proofs.ZipLemmas.{zip_at, zip_length}
 
-some_same : (xs ys : List (List ℕ)) → Some xs ≡ Some ys → xs ≡ ys
+pub some_same : (xs ys : List (List ℕ)) → Some xs ≡ Some ys → xs ≡ ys
 some_same xs ys e = cc
 
 -- without elements there is no list

@@ -6,7 +6,7 @@ use Rattle.mdl_values.specs.Reads.{Finds}
 use Rattle.mdl_values.specs.Pieces.{pieces_at, words_of, two_of}
 use Rattle.mdl_values.specs.Types.{named_type, three_of, with_first, IsFracText, IsFracPart, IsCall, IsWordOf, IsFixdtText, IsTypeText}
 
-only_same : (a b : List ℕ) → a ∷ [] ≡ b ∷ [] → a ≡ b
+pub only_same : (a b : List ℕ) → a ∷ [] ≡ b ∷ [] → a ≡ b
 only_same a b e = cc
 
 -- what the only word says, its part says
@@ -28,19 +28,19 @@ pub empty_of : (text : List ℕ) (empty : Bool) → empty ≡ (length text == 0)
 empty_of [] empty e is = refl
 empty_of (byte ∷ bytes) empty e is = let none = eqb-true (length (byte ∷ bytes)) 0 (sym e ∙ is) in absurd (omega (arith, none))
 
-pair_one : (a b c d : List ℕ) → ◌≡◌ {A = Option (List ℕ × List ℕ)} (Some (a, b)) (Some (c, d)) → (a ≡ c) × (b ≡ d)
+pub pair_one : (a b c d : List ℕ) → ◌≡◌ {A = Option (List ℕ × List ℕ)} (Some (a, b)) (Some (c, d)) → (a ≡ c) × (b ≡ d)
 pair_one a b c d e =
     let same : ◌≡◌ {A = List ℕ × List ℕ} (a, b) (c, d) = cc in
     (ap (λ (p : List ℕ × List ℕ). p.0) same, ap (λ (p : List ℕ × List ℕ). p.1) same)
 
 -- a text is a call of one inside
-call_one : (text a b : List ℕ) → IsCall text a → IsCall text b → a ≡ b
+pub call_one : (text a b : List ℕ) → IsCall text a → IsCall text b → a ≡ b
 call_one text a b first second =
     let behind = pair_one (codes "fixdt") first.behind (codes "fixdt") second.behind (sym first.opens ∙ second.opens) in
     let inside = pair_one a [] b [] (sym first.closes ∙ ap (λ (t : List ℕ). two_of (pieces_at 41 t)) behind.1 ∙ second.closes) in
     inside.0
 
-triple_one : (a b c x y z : List ℕ) → ◌≡◌ {A = Option (List ℕ × (List ℕ × List ℕ))} (Some (a, (b, c))) (Some (x, (y, z))) → (a ≡ x) × (b ≡ y) × (c ≡ z)
+pub triple_one : (a b c x y z : List ℕ) → ◌≡◌ {A = Option (List ℕ × (List ℕ × List ℕ))} (Some (a, (b, c))) (Some (x, (y, z))) → (a ≡ x) × (b ≡ y) × (c ≡ z)
 triple_one a b c x y z e =
     let same : ◌≡◌ {A = List ℕ × (List ℕ × List ℕ)} (a, (b, c)) (x, (y, z)) = cc in
     (ap (λ (p : List ℕ × (List ℕ × List ℕ)). p.0) same, ap (λ (p : List ℕ × (List ℕ × List ℕ)). p.1.0) same, ap (λ (p : List ℕ × (List ℕ × List ℕ)). p.1.1) same)

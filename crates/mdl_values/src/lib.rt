@@ -6,6 +6,7 @@
 #![tactic(auto)]
 
 mod brackets;
+mod laws;
 mod lists;
 mod numbers;
 mod periods;
@@ -16,6 +17,7 @@ mod tests;
 mod types;
 mod words;
 
+pub use laws::values_are_one;
 pub use lists::{read_list, read_sizes};
 pub use numbers::read_number;
 pub use periods::{read_constant_time, read_period, read_sample_time, read_width};
