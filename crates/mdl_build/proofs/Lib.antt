@@ -27,3 +27,6 @@ pub mod SoundPorts
 pub mod SoundSearch
 pub mod SoundTree
 mod Zeros
+pub mod OneSetting
+pub mod OneNested
+pub mod OneFault

@@ -1,4 +1,5 @@
 pub mod Blocks
+pub mod Laws
 pub mod Library
 pub mod Lines
 pub mod Lookup

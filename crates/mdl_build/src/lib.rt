@@ -10,6 +10,7 @@
 mod blocks;
 mod building;
 mod known;
+mod laws;
 mod layout;
 mod library;
 mod lines;
@@ -26,6 +27,7 @@ mod settings;
 mod structure;
 
 pub use building::build;
+pub use laws::{fault_is_one, nested_is_not_broken, nested_is_one};
 
 #[cfg(test)]
 mod tests;

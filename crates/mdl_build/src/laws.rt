@@ -1,0 +1,19 @@
+//! What the definitions together say. Each law is a function that does nothing.
+ghost use Rattle.mdl_build.specs.Laws.{FaultIsOne, NestedIsNotBroken, NestedIsOne};
+
+/// A tree has at most one list of blocks and lines.
+pub fn nested_is_one()
+    ensures { NestedIsOne }
+{
+    mdl_values::values_are_one();
+}
+
+/// The first of the rules of structure, library and parameter that is broken is told as one fault.
+pub fn fault_is_one()
+    ensures { FaultIsOne }
+{}
+
+/// A tree that has blocks and lines breaks none of these rules.
+pub fn nested_is_not_broken()
+    ensures { NestedIsNotBroken }
+{}
