@@ -1,2 +1,3 @@
 mod LineStates
 mod PlanLines
+mod OneRule

@@ -7,9 +7,11 @@
 #![tactic(auto)]
 
 mod checking;
+mod laws;
 mod lines;
 mod resolving;
 mod standing;
 
 pub use checking::{Refused, check};
+pub use laws::{checked_is_not_broken, fault_is_one};
 pub use resolving::resolve;

@@ -1,0 +1,34 @@
+-- What the definitions of the rules 6 to 9 say together (own).
+use Rattle.std.specs.Prelude.{◌≡◌, ◌≢◌, List, [], ◌∷◌}
+use Rattle.dg_model.specs.declared.diagram.Diagram.{Diagram}
+use Rattle.dg_model.specs.declared.fault.RuleFault.{RuleFault}
+use Rattle.dg_model.specs.declared.fault.Shown.{Shown}
+use Rattle.dg_model.specs.declared.fault.Shown.TheVariants.{Nothing, Word, Periods, Cycle, Latency, Budget, Size}
+use Rattle.dg_model.specs.Checked.{IsChecked, BreaksRule}
+
+-- what is shown, but of a cycle its first block alone: through the least block on any cycle may lead several, and any of them may be told
+abbrev pub shown_first : Shown → Shown
+shown_first Nothing = Nothing
+shown_first (Word word) = Word word
+shown_first (Periods own other) = Periods own other
+shown_first (Cycle []) = Cycle []
+shown_first (Cycle (first ∷ more)) = Cycle (first ∷ [])
+shown_first (Latency blocks total) = Latency blocks total
+shown_first (Budget period need have) = Budget period need have
+shown_first (Size storage latency) = Size storage latency
+
+-- the fault with that
+abbrev pub told_first : RuleFault → RuleFault
+told_first fault = record { rule = fault.rule; place = fault.place; shown = shown_first fault.shown }
+
+-- a fault of the rules 6 to 8 is the only one of its diagram
+abbrev pub FaultIsOne : Type 0
+FaultIsOne = (diagram : Diagram) (one other : RuleFault) → BreaksRule diagram one → BreaksRule diagram other → one.rule ≢ 9 → one ≡ other
+
+-- and one of rule 9 but for its cycle
+abbrev pub ToldIsOne : Type 0
+ToldIsOne = (diagram : Diagram) (one other : RuleFault) → BreaksRule diagram one → BreaksRule diagram other → told_first one ≡ told_first other
+
+-- rules that are kept aren't broken
+abbrev pub CheckedIsNotBroken : Type 0
+CheckedIsNotBroken = (diagram : Diagram) (fault : RuleFault) → IsChecked diagram → BreaksRule diagram fault → ⊥

@@ -1,0 +1,14 @@
+//! What the definitions together say. Each law is a function that does nothing.
+ghost use Rattle.dg_rules.specs.Laws.{CheckedIsNotBroken, FaultIsOne, ToldIsOne};
+
+/// The first of the rules 6 to 9 that is broken is told as one fault, but for which cycle through its
+/// first block is told.
+pub fn fault_is_one()
+    ensures one { FaultIsOne }
+    ensures told { ToldIsOne }
+{}
+
+/// A diagram that keeps these rules breaks none of them.
+pub fn checked_is_not_broken()
+    ensures { CheckedIsNotBroken }
+{}
