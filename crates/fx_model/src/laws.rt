@@ -1,0 +1,30 @@
+//! What the definitions together say. Each law is a function that does nothing.
+ghost use Rattle.fx_model.specs.Laws.{BrokenIsOne, DiagramIsOne, LineIsOne, VerdictIsOne};
+
+/// A text is the model of at most one diagram.
+pub fn diagram_is_one()
+    ensures { DiagramIsOne }
+{
+    mdl_text::unique();
+    mdl_build::nested_is_one();
+    dg_flat::flat_is_one();
+}
+
+/// A text has at most one verdict, but for which cycle a fault of rule 9 tells: it is no MDL text, from
+/// this line on, or breaks this rule first, at this place and with this shown, or has this diagram.
+pub fn verdict_is_one()
+    ensures one { VerdictIsOne }
+    ensures broken { BrokenIsOne }
+    ensures line { LineIsOne }
+{
+    mdl_text::unique();
+    mdl_text::one_fault_line();
+    mdl_build::nested_is_one();
+    mdl_build::fault_is_one();
+    mdl_build::nested_is_not_broken();
+    dg_flat::flat_is_one();
+    dg_flat::broken_is_one();
+    dg_flat::flat_is_not_broken();
+    dg_rules::fault_is_one();
+    dg_rules::checked_is_not_broken();
+}
