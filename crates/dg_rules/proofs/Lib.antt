@@ -1,3 +1,4 @@
 mod LineStates
 mod PlanLines
 mod OneRule
+mod TwoCycles

@@ -4,7 +4,9 @@ use Rattle.dg_model.specs.declared.diagram.Diagram.{Diagram}
 use Rattle.dg_model.specs.declared.fault.RuleFault.{RuleFault}
 use Rattle.dg_model.specs.declared.fault.Shown.{Shown}
 use Rattle.dg_model.specs.declared.fault.Shown.TheVariants.{Nothing, Word, Periods, Cycle, Latency, Budget, Size}
+use Rattle.dg_model.specs.Attributes.{attributes_of}
 use Rattle.dg_model.specs.Checked.{IsChecked, BreaksRule}
+use Rattle.dg_model.specs.Loop.{BreaksLoop}
 
 -- what is shown, but of a cycle its first block alone: through the least block on any cycle may lead several, and any of them may be told
 abbrev pub shown_first : Shown → Shown
@@ -32,3 +34,12 @@ ToldIsOne = (diagram : Diagram) (one other : RuleFault) → BreaksRule diagram o
 -- rules that are kept aren't broken
 abbrev pub CheckedIsNotBroken : Type 0
 CheckedIsNotBroken = (diagram : Diagram) (fault : RuleFault) → IsChecked diagram → BreaksRule diagram fault → ⊥
+
+-- of one diagram rule 9 can be told with two cycles
+pub record CyclesDiffer : Type 0 where
+  pub diagram : Diagram
+  pub one : RuleFault
+  pub other : RuleFault
+  pub breaks : BreaksLoop diagram (attributes_of diagram) one
+  pub breaks_too : BreaksLoop diagram (attributes_of diagram) other
+  pub differ : one ≢ other

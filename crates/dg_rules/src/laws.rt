@@ -1,5 +1,5 @@
 //! What the definitions together say. Each law is a function that does nothing.
-ghost use Rattle.dg_rules.specs.Laws.{CheckedIsNotBroken, FaultIsOne, ToldIsOne};
+ghost use Rattle.dg_rules.specs.Laws.{CheckedIsNotBroken, CyclesDiffer, FaultIsOne, ToldIsOne};
 
 /// The first of the rules 6 to 9 that is broken is told as one fault, but for which cycle through its
 /// first block is told.
@@ -11,4 +11,9 @@ pub fn fault_is_one()
 /// A diagram that keeps these rules breaks none of them.
 pub fn checked_is_not_broken()
     ensures { CheckedIsNotBroken }
+{}
+
+/// Of a loop several cycles may be told.
+pub fn cycles_differ()
+    ensures { CyclesDiffer }
 {}
