@@ -2,3 +2,4 @@ mod LineStates
 mod PlanLines
 mod OneRule
 mod TwoCycles
+mod OneCycle

@@ -7,6 +7,8 @@ use Rattle.dg_model.specs.declared.fault.Shown.TheVariants.{Nothing, Word, Perio
 use Rattle.dg_model.specs.Attributes.{attributes_of}
 use Rattle.dg_model.specs.Checked.{IsChecked, BreaksRule}
 use Rattle.dg_model.specs.Loop.{BreaksLoop}
+use Rattle.dg_model.specs.Signals.{Attributes}
+use Rattle.dg_rules.specs.ShownCycle.{BreaksLoopAlone}
 
 -- what is shown, but of a cycle its first block alone: through the least block on any cycle may lead several, and any of them may be told
 abbrev pub shown_first : Shown → Shown
@@ -43,3 +45,7 @@ pub record CyclesDiffer : Type 0 where
   pub breaks : BreaksLoop diagram (attributes_of diagram) one
   pub breaks_too : BreaksLoop diagram (attributes_of diagram) other
   pub differ : one ≢ other
+
+-- it is told with one where the cycle is to be a shortest one whose edges stand first
+abbrev pub ShownCycleIsOne : Type 0
+ShownCycleIsOne = (diagram : Diagram) (attributes : Attributes) (one other : RuleFault) → BreaksLoopAlone diagram attributes one → BreaksLoopAlone diagram attributes other → one ≡ other

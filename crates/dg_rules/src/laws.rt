@@ -1,5 +1,5 @@
 //! What the definitions together say. Each law is a function that does nothing.
-ghost use Rattle.dg_rules.specs.Laws.{CheckedIsNotBroken, CyclesDiffer, FaultIsOne, ToldIsOne};
+ghost use Rattle.dg_rules.specs.Laws.{CheckedIsNotBroken, CyclesDiffer, FaultIsOne, ShownCycleIsOne, ToldIsOne};
 
 /// The first of the rules 6 to 9 that is broken is told as one fault, but for which cycle through its
 /// first block is told.
@@ -16,4 +16,9 @@ pub fn checked_is_not_broken()
 /// Of a loop several cycles may be told.
 pub fn cycles_differ()
     ensures { CyclesDiffer }
+{}
+
+/// A shortest cycle through the least block, whose edges stand first, is one.
+pub fn shown_cycle_is_one()
+    ensures { ShownCycleIsOne }
 {}
