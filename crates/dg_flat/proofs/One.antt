@@ -1,8 +1,7 @@
 -- A wired flat diagram is one: its edges have different ends, so they stand in one order.
-use Rattle.std.proofs.Common.{◌≡◌, ℕ, zero, suc, ◌+◌, ◌<◌, ◌≤◌, inl, inr, Bool, true, false, cond, List, [], ◌∷◌, length, get_or, All, Option, Some, None, refl, sym, ◌∙◌, ap, subst, arith, true≢false, eqb-true, eq-eqb}
+use Rattle.std.proofs.Common.{◌≡◌, ℕ, zero, suc, ◌+◌, ◌<◌, ◌≤◌, inl, inr, Bool, true, false, cond, List, [], ◌∷◌, get_or, All, Option, Some, None, refl, sym, ◌∙◌, ap, arith, true≢false, eqb-true, eq-eqb}
 use Rattle.std.specs.Prelude.{◌==◌, ◌&&◌, ◌⊎◌, count_by, slice_get, AllPairs, MatchOption}
 use Rattle.std.specs.List.{filter_map}
-use Rattle.std.specs.List.Sorted.{IsPermutation}
 use Rattle.std.proofs.lemmas.Bool.{cases_order, and_parts}
 use Rattle.std.proofs.lemmas.Bool.Decides.{nat_tests}
 use Rattle.std.proofs.lemmas.List.Sorted.{sum_by-IsPermutation}
@@ -13,7 +12,7 @@ use Rattle.dg_model.specs.declared.diagram.Edge.{Edge}
 use Rattle.dg_model.specs.declared.nested.Nested.{Nested}
 use Rattle.dg_model.specs.Wired.{IsWired, Joins, StandsBefore}
 use Rattle.dg_model.specs.Wires.{enters}
-use Rattle.dg_flat.specs.Flat.{IsFlatOf, flat_blocks, edge_of}
+use Rattle.dg_flat.specs.Flat.{IsFlatOf, edge_of}
 
 -- ---- counts
 

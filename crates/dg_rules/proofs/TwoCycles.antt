@@ -1,6 +1,6 @@
 -- Two cycles through the least block on any, worked by hand: a sum of two gains, each of which reads the sum. The rule of loops may tell either.
-use Rattle.std.proofs.Common.{◌≡◌, ◌≢◌, ℕ, zero, suc, ◌<◌, List, [], ◌∷◌, codes, None, true, false, refl, ap, sym, ◌∙◌, arith, pos}
-use Rattle.std.specs.Prelude.{◌%◌, slice_index, get_or, AllPairs}
+use Rattle.std.proofs.Common.{◌≡◌, ◌≢◌, ℕ, zero, suc, ◌<◌, List, [], ◌∷◌, codes, None, true, false, refl, ap, arith, pos}
+use Rattle.std.specs.Prelude.{◌%◌, slice_index, AllPairs}
 use Rattle.fx_type.specs.declared.kind.FxType.TheVariants.{Num}
 use Rattle.fx_type.specs.declared.rounding.Rounding.TheVariants.{Floor}
 use Rattle.fx_type.specs.declared.spec.TypeSpec.TheVariants.{Fixed, Internal}

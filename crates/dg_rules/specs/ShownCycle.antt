@@ -28,4 +28,4 @@ pub record BreaksLoopAlone (diagram : Diagram) (attributes : Attributes) (fault 
   pub breaks : BreaksLoop diagram attributes fault
   pub shortest : (other : List ℕ) → IsInstantCycle diagram attributes (breaks.first ∷ other) → length breaks.more ≤ length other
   pub first : (other : List ℕ) → IsInstantCycle diagram attributes (breaks.first ∷ other) → length other ≡ length breaks.more
-    → StandNoLater (first_edge diagram attributes) breaks.first (reverse breaks.more) (reverse other)
+      → StandNoLater (first_edge diagram attributes) breaks.first (reverse breaks.more) (reverse other)

@@ -1,21 +1,15 @@
 -- A parameter's text says one thing, since no default can be read in another way.
-use Rattle.std.proofs.Common.{◌≡◌, ◌≢◌, ℕ, ◌⊎◌, inl, inr, Bool, true, false, List, [], ◌∷◌, length, Option, None, Some, refl, sym, ◌∙◌, ap, ap₂, subst}
-use Rattle.std.specs.Prelude.{codes, MatchBool, ⊤}
+use Rattle.std.proofs.Common.{◌≡◌, ◌≢◌, ℕ, inl, inr, Bool, true, false, List, [], ◌∷◌, length, Option, None, Some, refl, sym, ◌∙◌, ap, ap₂, subst}
+use Rattle.std.specs.Prelude.{codes, ⊤}
 use Rattle.fx_type.specs.declared.decimal.Decimal.{Decimal}
 use Rattle.fx_type.specs.declared.kind.FxType.{FxType}
 use Rattle.fx_type.specs.declared.spec.TypeSpec.{TypeSpec}
 use Rattle.fx_type.specs.declared.spec.TypeSpec.TheVariants.{Fixed, Internal, SameFirst, Auto}
-use Rattle.dg_model.specs.declared.diagram.PeriodSpec.{PeriodSpec}
-use Rattle.dg_model.specs.declared.kind.Criterion.{Criterion}
-use Rattle.dg_model.specs.declared.kind.Gate.{Gate}
-use Rattle.dg_model.specs.declared.kind.Relation.{Relation}
-use Rattle.fx_type.specs.declared.rounding.Rounding.{Rounding}
 use Rattle.mdl_text.specs.Bytes.{is_blank}
 use Rattle.mdl_text.specs.declared.tree.Item.{Item}
 use Rattle.mdl_values.specs.Laws.{ValuesAreOne}
 use Rattle.mdl_values.specs.Lists.{IsListText}
-use Rattle.mdl_values.specs.Numbers.{IsNumberText}
-use Rattle.mdl_values.specs.Pieces.{pieces_at, two_of, list_elements}
+use Rattle.mdl_values.specs.Pieces.{pieces_at, two_of}
 use Rattle.mdl_values.specs.Types.{IsTypeText, named_type}
 use Rattle.mdl_build.specs.declared.library.BlockType.{BlockType}
 use Rattle.mdl_build.specs.declared.library.BlockType.TheVariants.{Inport, Outport, Constant, Ground, Terminator, Sum, Gain, Product, UnitDelay, Delay, Switch, RelationalOperator, Logic, DataTypeConversion, Mux, Demux, RateTransition, SubSystem, EnablePort}

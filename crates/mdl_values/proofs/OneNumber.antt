@@ -1,6 +1,6 @@
 -- A text is at most one number, one decimal and one list of them.
-use Rattle.std.proofs.Common.{◌≡◌, ℕ, ◌<◌, ◌^◌, inl, inr, Bool, true, false, cond, List, [], ◌∷◌, length, get_or, Option, None, Some, refl, sym, ◌∙◌, ap, ap₂, subst, arith, true≢false, ℤ, eqb-true}
-use Rattle.std.specs.Prelude.{◌==◌, ◌&&◌, ◌-ℤ◌, ◌≤ℤ◌, pos, negsuc, codes}
+use Rattle.std.proofs.Common.{◌≡◌, ℕ, ◌<◌, ◌^◌, inl, inr, Bool, true, false, cond, List, [], ◌∷◌, Option, None, Some, refl, sym, ◌∙◌, ap, ap₂, subst, arith, true≢false, ℤ, eqb-true}
+use Rattle.std.specs.Prelude.{◌==◌, ◌-ℤ◌, ◌≤ℤ◌, pos, negsuc}
 use Rattle.std.specs.List.{AllZip, list_all}
 use Rattle.std.specs.Char.{is_ascii_digit}
 use Rattle.std.proofs.Math.Bridge.{le_prop}

@@ -1,11 +1,11 @@
 -- A text is at most one type.
-use Rattle.std.proofs.Common.{◌≡◌, ℕ, inl, inr, Bool, true, false, cond, List, [], ◌∷◌, Option, None, Some, refl, sym, ◌∙◌, ap, ap₂, subst, ℤ}
+use Rattle.std.proofs.Common.{◌≡◌, ℕ, inl, inr, Bool, true, false, cond, List, Option, None, Some, refl, sym, ◌∙◌, ap, subst, ℤ}
 use Rattle.std.specs.Prelude.{bytes_eq, codes, pos, neg_ℤ, if◌then◌else◌}
 use Rattle.std.proofs.lemmas.Slice.Eq.{bytes_eq-Decides}
 use Rattle.fx_type.specs.declared.kind.FxType.{FxType}
-use Rattle.fx_type.specs.declared.kind.FxType.TheVariants.{Num, Logical}
+use Rattle.fx_type.specs.declared.kind.FxType.TheVariants.{Num}
 use Rattle.mdl_values.specs.Numbers.{IsNumberText}
-use Rattle.mdl_values.specs.Pieces.{pieces_at, words_of, two_of}
+use Rattle.mdl_values.specs.Pieces.{pieces_at, two_of}
 use Rattle.mdl_values.specs.Types.{named_type, signedness_of, three_of, is_negative, behind_first, IsFracText, IsSignPart, IsWidthPart, IsFracPart, IsWordOf, IsFixdtText, IsTypeText}
 use Rattle.mdl_values.proofs.OneNumber.{one_number}
 use Rattle.mdl_values.proofs.TypeLemmas.{only_same, call_one, triple_one}

@@ -1,21 +1,18 @@
 -- A text has at most one value of each kind.
-use Rattle.std.proofs.Common.{◌≡◌, ℕ, ◌+◌, inl, inr, Bool, true, false, cond, List, [], ◌∷◌, ◌++◌, length, get_or, Option, None, Some, refl, sym, ◌∙◌, ap, ap₂, subst, arith, true≢false, ℤ}
-use Rattle.std.specs.Prelude.{◌==◌, ◌||◌, codes, pos, replicate, MatchBool, bytes_eq, ◌⊎◌}
+use Rattle.std.proofs.Common.{◌≡◌, ℕ, inl, inr, Bool, true, false, List, [], ◌∷◌, get_or, Option, None, Some, refl, sym, ◌∙◌, ap, subst, arith, true≢false}
+use Rattle.std.specs.Prelude.{◌==◌, codes, pos, replicate, MatchBool, bytes_eq, ◌⊎◌}
 use Rattle.std.specs.Char.{is_ascii_digit}
-use Rattle.std.proofs.Math.Dec.{lit<}
 use Rattle.std.proofs.lemmas.Bool.Decides.{nat_tests}
-use lib.Signed.{le_z_yes}
 use Rattle.fx_type.specs.declared.decimal.Decimal.{Decimal}
 use Rattle.fx_round.specs.DecimalText.{IsDecimal, IsNumeral}
 use Rattle.dg_model.specs.declared.diagram.PeriodSpec.{PeriodSpec}
 use Rattle.dg_model.specs.declared.diagram.PeriodSpec.TheVariants.{Inherit, Constant, Every}
 use Rattle.mdl_text.specs.Bytes.{is_blank}
 use Rattle.mdl_values.specs.Laws.{ValuesAreOne}
-use Rattle.mdl_values.specs.Lists.{IsListText, IsSizesText}
 use Rattle.mdl_values.specs.Numbers.{IsNumberText}
 use Rattle.mdl_values.specs.Periods.{IsAboveZero, IsWithOffset, IsPeriodText, IsSampleTime, IsConstantTime, IsBracketedNumber, IsWidthNumber, IsWidthText}
 use Rattle.mdl_values.specs.Pieces.{opens, bracket_elements, list_elements}
-use Rattle.mdl_values.specs.Signs.{IsCount, AreSigns, IsSignsText, signs_of, with_signs, is_spacer}
+use Rattle.mdl_values.specs.Signs.{IsSignsText, signs_of, is_spacer}
 use Rattle.mdl_values.proofs.DecimalForms.{one_numeral, word_is_none}
 use Rattle.mdl_values.proofs.ListLemmas.{some_same}
 use Rattle.mdl_values.proofs.OneNumber.{one_number, first_digit, no_brackets, same_decimal, one_list}
