@@ -1,5 +1,5 @@
 -- A text has at most one verdict.
-use Rattle.std.proofs.Common.{◌≡◌, ◌≢◌, ℕ, ◌⊎◌, inl, inr, List, [], refl, sym, ◌∙◌, ap, ap₂, subst}
+use Rattle.std.proofs.Common.{◌≡◌, ◌≢◌, ℕ, inl, inr, List, sym, ◌∙◌, ap, ap₂, subst}
 use Rattle.std.specs.Prelude.{map}
 use Rattle.mdl_text.specs.declared.tree.Tree.{Tree}
 use Rattle.mdl_text.specs.Prefix.{IsMdlFaultLine}
@@ -16,9 +16,9 @@ use Rattle.dg_model.specs.declared.nested.Nested.{Nested}
 use Rattle.dg_model.specs.Checked.{IsChecked, BreaksRule}
 use Rattle.dg_rules.specs.Laws.{FaultIsOne, ToldIsOne, CheckedIsNotBroken, told_first}
 use Rattle.fx_model.specs.Laws.{DiagramIsOne, VerdictIsOne, BrokenIsOne, LineIsOne}
-use Rattle.fx_model.specs.Model.{IsNotMdl, IsDiagramOf, IsModelOf, BreaksText, BreaksLines, BreaksDiagram, BreaksModel, IsBrokenModel}
-use Rattle.fx_model.specs.RuleLine.{TellsRule, rule_line}
-use Rattle.fx_model.specs.Verdict.{Verdict, IsVerdict, told}
+use Rattle.fx_model.specs.Model.{IsDiagramOf, IsModelOf, BreaksModel, IsBrokenModel}
+use Rattle.fx_model.specs.RuleLine.{rule_line}
+use Rattle.fx_model.specs.Verdict.{Verdict}
 
 abbrev pub TreeIsOne : Type 0
 TreeIsOne = (bytes : List ℕ) (one other : Tree) → Stands bytes one → Stands bytes other → one ≡ other
