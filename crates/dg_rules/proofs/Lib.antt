@@ -3,3 +3,4 @@ mod PlanLines
 mod OneRule
 mod TwoCycles
 mod OneCycle
+mod SomeRule

@@ -8,6 +8,7 @@ use Rattle.dg_model.specs.Attributes.{attributes_of}
 use Rattle.dg_model.specs.Checked.{IsChecked, BreaksRule}
 use Rattle.dg_model.specs.Loop.{BreaksLoop}
 use Rattle.dg_model.specs.Signals.{Attributes}
+use Rattle.dg_model.specs.Wired.{IsWired}
 use Rattle.dg_rules.specs.ShownCycle.{BreaksLoopAlone}
 
 -- what is shown, but of a cycle its first block alone: through the least block on any cycle may lead several, and any of them may be told
@@ -49,3 +50,7 @@ pub record CyclesDiffer : Type 0 where
 -- it is told with one where the cycle is to be a shortest one whose edges stand first
 abbrev pub ShownCycleIsOne : Type 0
 ShownCycleIsOne = (diagram : Diagram) (attributes : Attributes) (one other : RuleFault) → BreaksLoopAlone diagram attributes one → BreaksLoopAlone diagram attributes other → one ≡ other
+
+-- a wired diagram that breaks none of the rules isn't one that doesn't keep them
+abbrev pub RuleIsThere : Type 0
+RuleIsThere = (diagram : Diagram) → IsWired diagram → ¬ IsChecked diagram → ((fault : RuleFault) → ¬ BreaksRule diagram fault) → ⊥

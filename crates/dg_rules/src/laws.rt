@@ -1,5 +1,5 @@
 //! What the definitions together say. Each law is a function that does nothing.
-ghost use Rattle.dg_rules.specs.Laws.{CheckedIsNotBroken, CyclesDiffer, FaultIsOne, ShownCycleIsOne, ToldIsOne};
+ghost use Rattle.dg_rules.specs.Laws.{CheckedIsNotBroken, CyclesDiffer, FaultIsOne, RuleIsThere, ShownCycleIsOne, ToldIsOne};
 
 /// The first of the rules 6 to 9 that is broken is told as one fault, but for which cycle through its
 /// first block is told.
@@ -21,4 +21,9 @@ pub fn cycles_differ()
 /// A shortest cycle through the least block, whose edges stand first, is one.
 pub fn shown_cycle_is_one()
     ensures { ShownCycleIsOne }
+{}
+
+/// A wired diagram can't both not keep the rules 6 to 9 and break none of them.
+pub fn rule_is_there()
+    ensures { RuleIsThere }
 {}

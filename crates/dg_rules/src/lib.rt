@@ -13,5 +13,7 @@ mod resolving;
 mod standing;
 
 pub use checking::{Refused, check};
-pub use laws::{checked_is_not_broken, cycles_differ, fault_is_one, shown_cycle_is_one};
+pub use laws::{
+    checked_is_not_broken, cycles_differ, fault_is_one, rule_is_there, shown_cycle_is_one,
+};
 pub use resolving::resolve;
