@@ -31,3 +31,4 @@ mod Crossed
 pub mod Trial
 pub mod One
 pub mod FirstOne
+mod SomeFlat

@@ -1,5 +1,5 @@
 //! What the definitions together say. Each law is a function that does nothing.
-ghost use Rattle.dg_flat.specs.Laws.{BrokenIsOne, FlatIsNotBroken, FlatIsOne};
+ghost use Rattle.dg_flat.specs.Laws.{BrokenIsOne, FlatIsNotBroken, FlatIsOne, FlatIsThere};
 
 /// Nested blocks and lines have one flat diagram that is wired, at most.
 pub fn flat_is_one()
@@ -14,4 +14,9 @@ pub fn broken_is_one()
 /// Where both rules are kept, none is broken.
 pub fn flat_is_not_broken()
     ensures { FlatIsNotBroken }
+{}
+
+/// Sound blocks and lines can't both have no flat diagram that is wired and break neither rule.
+pub fn flat_is_there()
+    ensures { FlatIsThere }
 {}

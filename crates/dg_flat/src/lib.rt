@@ -21,7 +21,7 @@ mod tally;
 mod wiring;
 
 pub use flattening::flatten;
-pub use laws::{broken_is_one, flat_is_not_broken, flat_is_one};
+pub use laws::{broken_is_one, flat_is_not_broken, flat_is_one, flat_is_there};
 
 #[cfg(test)]
 mod tests;
