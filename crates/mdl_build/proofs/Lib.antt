@@ -30,3 +30,4 @@ mod Zeros
 pub mod OneSetting
 pub mod OneNested
 pub mod OneFault
+pub mod SomeNested

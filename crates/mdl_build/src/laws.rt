@@ -1,5 +1,5 @@
 //! What the definitions together say. Each law is a function that does nothing.
-ghost use Rattle.mdl_build.specs.Laws.{FaultIsOne, NestedIsNotBroken, NestedIsOne};
+ghost use Rattle.mdl_build.specs.Laws.{FaultIsOne, NestedIsNotBroken, NestedIsOne, NestedIsThere};
 
 /// A tree has at most one list of blocks and lines.
 pub fn nested_is_one()
@@ -16,4 +16,9 @@ pub fn fault_is_one()
 /// A tree that has blocks and lines breaks none of these rules.
 pub fn nested_is_not_broken()
     ensures { NestedIsNotBroken }
+{}
+
+/// A tree can't both have no blocks and lines and break none of these rules.
+pub fn nested_is_there()
+    ensures { NestedIsThere }
 {}

@@ -27,7 +27,7 @@ mod settings;
 mod structure;
 
 pub use building::build;
-pub use laws::{fault_is_one, nested_is_not_broken, nested_is_one};
+pub use laws::{fault_is_one, nested_is_not_broken, nested_is_one, nested_is_there};
 
 #[cfg(test)]
 mod tests;

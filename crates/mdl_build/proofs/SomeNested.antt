@@ -1,0 +1,122 @@
+-- A tree has blocks and lines, or breaks a rule.
+use Rattle.std.proofs.Common.{◌≡◌, ℕ, zero, suc, ◌+◌, ◌<◌, inl, inr, true, List, [], ◌∷◌, Option, None, Some, refl, sym, ◌∙◌, ap, subst, arith, true≢false}
+use Rattle.std.specs.Prelude.{slice_get, option_map, codes, is_some}
+use Rattle.std.specs.List.{AllZip}
+use Rattle.std.proofs.lemmas.Bool.{cases_lt}
+use Rattle.std.proofs.lemmas.Option.{none-some}
+use Rattle.dg_model.specs.declared.fault.RuleFault.{RuleFault}
+use Rattle.dg_model.specs.declared.fault.Shown.TheVariants.{Word}
+use Rattle.dg_model.specs.declared.nested.Nested.{Nested}
+use Rattle.dg_model.specs.declared.nested.NestedBlock.{NestedBlock}
+use Rattle.dg_model.specs.Faults.{fault_of}
+use Rattle.mdl_text.specs.declared.tree.Item.{Item}
+use Rattle.mdl_build.specs.declared.library.BlockType.{BlockType}
+use Rattle.mdl_build.specs.declared.settings.Settings.{Settings}
+use Rattle.mdl_build.specs.Blocks.{path_of, parent_of, number_at, standing_of, AreRead, IsReadable}
+use Rattle.mdl_build.specs.Laws.{NestedIsThere}
+use Rattle.mdl_build.specs.Library.{ParameterRow, parameters_of}
+use Rattle.mdl_build.specs.Lines.{lines_of}
+use Rattle.mdl_build.specs.Nested.{IsBlockAt, IsNestedOf}
+use Rattle.mdl_build.specs.Parts.{part_of}
+use Rattle.mdl_build.specs.Roles.{blocks_of}
+use Rattle.mdl_build.specs.Rules.{structure_fault, library_fault, type_at, AllRead, IsFirstWrong, IsWrongFirst}
+use Rattle.mdl_build.specs.Sections.{value_of}
+use Rattle.mdl_build.specs.Settings.{unset, with_setting}
+use Rattle.mdl_build.proofs.Sound.{sound}
+use Rattle.mdl_build.proofs.KnownLemmas.{structure_kept, name_kept, type_kept}
+
+some_one : {A : Type 0} (a b : A) → ◌≡◌ {A = Option A} (Some a) (Some b) → a ≡ b
+some_one a b e = cc
+
+some_of : {A : Type 0} (found : Option A) → is_some found ≡ true → (x : A) × (found ≡ Some x)
+some_of None e = absurd (true≢false (sym e))
+some_of (Some x) e = (x, refl)
+
+type_of : (found : Option BlockType) → (found ≡ None → ⊥) → (x : BlockType) × (found ≡ Some x)
+type_of None not = absurd (not refl)
+type_of (Some x) not = (x, refl)
+
+-- ---- the rows of a block
+
+-- all rows are read, or there is a first that isn't; the rows before these are read
+module _ (items : List Item) (block_type : BlockType) (place : ℕ) where
+  rest_wrong : (row : ParameterRow) (rows : List ParameterRow) → IsReadable items block_type place row → ((name : List ℕ) → IsFirstWrong items block_type place (row ∷ rows) name → ⊥) → (name : List ℕ) → IsFirstWrong items block_type place rows name → ⊥
+  rest_wrong row rows read none name is = none name (record {
+    number = suc is.number;
+    parameter = is.parameter;
+    there = is.there;
+    wrong = is.wrong;
+    before = before;
+    name_is = is.name_is;
+  }) where
+    before : (k : ℕ) (other : ParameterRow) → k < suc is.number → slice_get (row ∷ rows) k ≡ Some other → IsReadable items block_type place other
+    before zero other less there = subst (λ (r : ParameterRow). IsReadable items block_type place r) (some_one row other there) read
+    before (suc k) other less there = is.before k other (omega (arith, less)) there
+
+  rows_read : (rows : List ParameterRow) (before : Settings) → ((name : List ℕ) → IsFirstWrong items block_type place rows name → ⊥) → ((after : Settings) → AreRead items block_type place rows before after → ⊥) → ⊥
+  rows_read [] before none never = never before refl
+  rows_read (row ∷ rows) before none never =
+      none row.name (record {
+        number = 0;
+        parameter = row;
+        there = refl;
+        wrong = λ read. rows_read rows (with_setting before read.0) (rest_wrong row rows read none) (λ after more. never after (read.0, read.1, more));
+        before = λ k other less there. absurd (omega (arith, less));
+        name_is = refl;
+      })
+
+readable : (items : List Item) (block_type : BlockType) (place : ℕ) (rows : List ParameterRow) (before after : Settings) → AreRead items block_type place rows before after → (k : ℕ) (row : ParameterRow) → slice_get rows k ≡ Some row → IsReadable items block_type place row
+readable items block_type place [] before after read k row there = absurd (none-some row there)
+readable items block_type place (first ∷ rows) before after read zero row there = subst (λ (r : ParameterRow). IsReadable items block_type place r) (some_one first row there) (read.0, read.1)
+readable items block_type place (first ∷ rows) before after read (suc k) row there = readable items block_type place rows (with_setting before read.0) after read.2 k row there
+
+-- ---- the blocks
+
+abbrev ReadBefore : List Item → ℕ → Type 0
+ReadBefore items number = (k other : ℕ) (block_type : BlockType) → k < number → slice_get (blocks_of items) k ≡ Some other → type_at items other ≡ Some block_type → AllRead items block_type other
+
+module _ (items : List Item) (structured : structure_fault items ≡ None) (known : library_fault items ≡ None) (none : (fault : RuleFault) → IsWrongFirst items fault → ⊥) where
+  -- the blocks from a number on
+  from_number : (number : ℕ) (places : List ℕ) → ((k : ℕ) → slice_get places k ≡ slice_get (blocks_of items) (number + k)) → ReadBefore items number → ((blocks : List NestedBlock) → AllZip (IsBlockAt items) places blocks → ⊥) → ⊥
+  from_number number [] at before never = never [] tt
+  from_number number (place ∷ places) at before never =
+      let there : slice_get (blocks_of items) number ≡ Some place = sym (at 0 ∙ ap (slice_get (blocks_of items)) (omega arith)) in
+      let type = type_of (type_at items place) (λ untyped. type_kept items known number place there untyped) in
+      let name = some_of (value_of items place (codes "Name")) (name_kept items place (structure_kept items structured number place there)) in
+      rows_read items type.0 place (parameters_of type.0) unset
+      (λ wrong is. none (fault_of 3 (path_of items place) (Word wrong)) (record {
+        number = number;
+        place = place;
+        there = there;
+        before = before;
+        block_type = type.0;
+        type_is = type.1;
+        name = wrong;
+        wrong = is;
+        fault_is = refl;
+      }))
+      (λ settings has. from_number (suc number) places (λ k. at (suc k) ∙ ap (slice_get (blocks_of items)) (omega arith))
+      (λ k other block_type less at_k type_k. elim (cases_lt k number) [
+        | inl earlier ↦ before k other block_type earlier at_k type_k
+        | inr last ↦
+            let same : number ≡ k = omega (arith, less, last) in
+            let its : place ≡ other = some_one place other (sym there ∙ ap (slice_get (blocks_of items)) same ∙ at_k) in
+            let own : type.0 ≡ block_type = some_one type.0 block_type (sym type.1 ∙ ap (type_at items) its ∙ type_k) in
+            subst (λ (p : ℕ). AllRead items block_type p) its (subst (λ (t : BlockType). AllRead items t place) own (readable items type.0 place (parameters_of type.0) unset settings has))
+      ])
+      (λ blocks zip. never (record { name = name.0; parent = option_map (number_at items) (parent_of items place); part = part_of (standing_of items place) type.0 settings } ∷ blocks)
+      (record { name = name.1; parent = refl; block_type = type.0; type_is = type.1; settings = settings; has = has; part = refl }, zip)))
+
+pub some_nested : NestedIsThere
+some_nested tree not none = by (structure_fault tree.items) refl (library_fault tree.items) refl
+  where
+    by : (one : Option RuleFault) → structure_fault tree.items ≡ one → (two : Option RuleFault) → library_fault tree.items ≡ two → ⊥
+    by (Some fault) structured two known = none fault (inl structured)
+    by None structured (Some fault) known = none fault (inr (inl (record { structured = structured; broken = known })))
+    by None structured None known =
+        from_number tree.items structured known (λ fault broken. none fault (inr (inr (record { structured = structured; known = known; broken = broken })))) 0 (blocks_of tree.items)
+        (λ k. ap (slice_get (blocks_of tree.items)) (omega arith)) (λ k other block_type less at_k type_k. absurd (omega (arith, less)))
+        (λ blocks zip.
+        let nested : Nested = record { blocks = blocks; lines = lines_of tree.items } in
+        let is : IsNestedOf tree nested = record { structured = structured; known = known; blocks = zip; lines = refl } in
+        not nested is (sound tree nested is))
