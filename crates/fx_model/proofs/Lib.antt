@@ -1,2 +1,3 @@
 pub mod Refused
 mod OneVerdict
+mod SomeVerdict

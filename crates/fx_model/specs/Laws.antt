@@ -2,6 +2,8 @@
 use Rattle.std.specs.Prelude.{◌≡◌, ◌≢◌, ℕ, List}
 use Rattle.dg_model.specs.declared.diagram.Diagram.{Diagram}
 use Rattle.dg_model.specs.declared.fault.RuleFault.{RuleFault}
+use Rattle.mdl_text.specs.declared.tree.Tree.{Tree}
+use Rattle.mdl_text.specs.Stands.{Stands}
 use Rattle.fx_model.specs.Model.{IsModelOf, IsBrokenModel}
 use Rattle.fx_model.specs.RuleLine.{TellsRule}
 use Rattle.fx_model.specs.Verdict.{Verdict, IsVerdict, told}
@@ -21,3 +23,7 @@ BrokenIsOne = (bytes : List ℕ) (one other : RuleFault) (paths others : List (L
 -- so the line that tells it is one
 abbrev pub LineIsOne : Type 0
 LineIsOne = (bytes one other : List ℕ) → (tells : TellsRule bytes one) → TellsRule bytes other → tells.fault.rule ≢ 9 → one ≡ other
+
+-- a text that stands for a tree isn't the model of no diagram if it breaks no rule
+abbrev pub ModelIsThere : Type 0
+ModelIsThere = (bytes : List ℕ) (tree : Tree) → Stands bytes tree → ((diagram : Diagram) → ¬ IsModelOf bytes diagram) → ((fault : RuleFault) (paths : List (List ℕ)) → ¬ IsBrokenModel bytes fault paths) → ⊥

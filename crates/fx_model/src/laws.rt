@@ -1,5 +1,5 @@
 //! What the definitions together say. Each law is a function that does nothing.
-ghost use Rattle.fx_model.specs.Laws.{BrokenIsOne, DiagramIsOne, LineIsOne, VerdictIsOne};
+ghost use Rattle.fx_model.specs.Laws.{BrokenIsOne, DiagramIsOne, LineIsOne, ModelIsThere, VerdictIsOne};
 
 /// A text is the model of at most one diagram.
 pub fn diagram_is_one()
@@ -27,4 +27,13 @@ pub fn verdict_is_one()
     dg_flat::flat_is_not_broken();
     dg_rules::fault_is_one();
     dg_rules::checked_is_not_broken();
+}
+
+/// A text that stands for a tree can't both be the model of no diagram and break none of the rules.
+pub fn model_is_there()
+    ensures { ModelIsThere }
+{
+    mdl_build::nested_is_there();
+    dg_flat::flat_is_there();
+    dg_rules::rule_is_there();
 }
