@@ -3,6 +3,8 @@ pub mod Alone
 pub mod Chains
 pub mod Facts
 mod Faults
+pub mod Gated
+pub mod GatedSound
 mod Header
 pub mod Laid
 pub mod LaidExpr
@@ -11,10 +13,21 @@ pub mod LaidItems
 pub mod LaidModule
 pub mod LaidNets
 pub mod Layers
+pub mod NetsAgree
+pub mod Opened
+pub mod OpenedClocked
+pub mod OpenedSound
+pub mod Parts
 pub mod Places
 mod Rows
 pub mod Settled
+pub mod SoundAgree
+mod StalledRows
 pub mod Stepped
+pub mod Thin
+pub mod Thinned
+pub mod Ungated
+pub mod Unstalled
 pub mod Stimulated
 pub mod Values
 pub mod Written

@@ -2,6 +2,7 @@ pub mod Attributes
 pub mod Conditions
 pub mod Context
 pub mod Driven
+pub mod Gated
 pub mod Grammar
 pub mod Multiplications
 pub mod Nets
@@ -10,6 +11,7 @@ pub mod Reserved
 pub mod Room
 pub mod Runs
 pub mod Spelling
+pub mod Stalls
 pub mod Steps
 pub mod Tokens
 pub mod Value

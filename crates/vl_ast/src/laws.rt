@@ -1,19 +1,23 @@
 // What the definitions together say. Each law is a function that does nothing.
-ghost use Rattle.std.specs.Prelude.{◌≡◌, ◌<◌, ◌^◌, Bool, List, ℕ, ℤ, Contains};
+ghost use Rattle.std.specs.Prelude.{◌≡◌, ◌<◌, ◌^◌, Bool, true, false, List, None, ℕ, ℤ, Contains, codes};
 ghost use Rattle.vl_ast.specs.declared.expressions.Sized.{Sized};
 ghost use Rattle.vl_ast.specs.declared.expressions.Expr.{Expr};
 ghost use Rattle.vl_ast.specs.declared.expressions.Expr.TheOpen.{Expr-F};
 ghost use Rattle.vl_ast.specs.declared.expressions.Expr.TheViews.{roll-Expr};
 ghost use Rattle.vl_ast.specs.declared.expressions.Expr.TheFolds.{map-Expr};
 ghost use Rattle.vl_ast.specs.declared.modules.Module.{Module};
-ghost use Rattle.vl_ast.specs.Conditions.{BreaksNone};
+ghost use Rattle.vl_ast.specs.Conditions.{BreaksNone, IsAcyclic, no_attribute, no_reset};
 ghost use Rattle.vl_ast.specs.Context.{Net, Operand, in_context, own_length, length_step, is_signed, sign_step};
+ghost use Rattle.vl_ast.specs.Driven.{Driven, output_ports, stimulus_ports};
+ghost use Rattle.vl_ast.specs.Gated.{HasAllOf, IsFresh, IsOpened, gated};
 ghost use Rattle.vl_ast.specs.Grammar.{IsModuleText, Spells};
 ghost use Rattle.vl_ast.specs.Nets.{names_read};
-ghost use Rattle.vl_ast.specs.Windows.{PortNumbers, Window};
+ghost use Rattle.vl_ast.specs.Windows.{PortNumbers, Shows, Window};
 ghost use Rattle.vl_ast.specs.Room.{AreSame, CanBeDriven, HasRoom, HasRows, RunsDriven, StartFits};
 ghost use Rattle.vl_ast.specs.Runs.{Runs};
 ghost use Rattle.vl_ast.specs.Spelling.{spelling};
+ghost use Rattle.vl_ast.specs.Stalls.{AreCounted, AreThinned, AreUngated, BreaksNoneIn, DrivenAtClocks, IsEnabled, IsResetLast, KeepsBits, ShowsAtClocks};
+ghost use Rattle.vl_ast.specs.Stalls.{is_stallable, no_attribute_in, number_inputs, number_outputs, thin_window};
 ghost use Rattle.vl_ast.specs.Steps.{AreSteps};
 ghost use Rattle.vl_ast.specs.Tokens.{Token, Number, Based, IsWritable, AreWritable};
 ghost use Rattle.vl_ast.specs.Value.{Bits, bits_step, operand_of, value_in};
@@ -92,3 +96,89 @@ pub fn steps_run()
     ensures { (m : Module) (count : ℕ) (start : List ℕ → ℕ) (inputs rows : ℕ → List ℕ → ℕ) →
         AreSteps m count start inputs rows → Runs m count start inputs rows }
 {}
+
+/// Of a module whose registers keep their bits in rows with `reset` 0 and `clk_enable` 0, the counted
+/// rows of a run are the rows behind the first, which has `reset`, of a run in which `clk_enable` is 1
+/// in every row.
+pub fn counted_rows_run()
+    ensures { (m : Module) (window : Window) (start : List ℕ → ℕ) (inputs rows : ℕ → List ℕ → ℕ) →
+        IsAcyclic m → no_reset m ≡ None → is_stallable m ≡ true → KeepsBits m → IsResetLast window inputs
+        → Runs m window.rows start inputs rows → AreThinned m window inputs rows }
+{
+    meaning_by_layer();
+}
+
+/// The counted rows of a run that a stimulus drives are driven by it as rows of a run without stalls,
+/// and what a name shows there it shows at each clock. Without stalls each row is a clock.
+pub fn counted_rows_show()
+    ensures driven { (m : Module) (window : Window) (inputs rows : ℕ → List ℕ → ℕ) (thinned : AreThinned m window inputs rows)
+        (stimulus : PortNumbers) (samples : ℕ) → DrivenAtClocks m stimulus samples window inputs
+        → DrivenAtClocks m stimulus samples (thin_window m window inputs) thinned.thin_inputs }
+    ensures shows { (m : Module) (window : Window) (inputs rows : ℕ → List ℕ → ℕ) (thinned : AreThinned m window inputs rows)
+        (name : List ℕ) (width : ℕ) (number : ℤ) (from until : ℕ)
+        → ShowsAtClocks m (thin_window m window inputs) thinned.thin_inputs thinned.thin_rows name width number from until
+        → ShowsAtClocks m window inputs rows name width number from until }
+    ensures unstalled { (m : Module) (window : Window) (inputs rows : ℕ → List ℕ → ℕ) → IsEnabled window inputs
+        → (name : List ℕ) (width : ℕ) (number : ℤ) (from until : ℕ)
+        → Shows window rows name width number from until
+        → ShowsAtClocks m window inputs rows name width number from until }
+{}
+
+/// A module without `clk_enable` means what it meant before there were stalls.
+pub fn plain_modules_stay()
+    ensures inputs { (m : Module) → is_stallable m ≡ false → number_inputs m ≡ stimulus_ports m }
+    ensures outputs { (m : Module) → is_stallable m ≡ false → number_outputs m ≡ output_ports m }
+    ensures attributes { (m : Module) → is_stallable m ≡ false → no_attribute_in m ≡ no_attribute m }
+    ensures clocks { (m : Module) (stimulus : PortNumbers) (samples : ℕ) (window : Window) (inputs : ℕ → List ℕ → ℕ) →
+        is_stallable m ≡ false → Driven m stimulus samples window inputs → DrivenAtClocks m stimulus samples window inputs }
+    ensures driven { (m : Module) (stimulus : PortNumbers) (samples : ℕ) (window : Window) (inputs : ℕ → List ℕ → ℕ) →
+        is_stallable m ≡ false → DrivenAtClocks m stimulus samples window inputs → Driven m stimulus samples window inputs }
+{}
+
+/// Of a stallable module whose registers are gated by `clk_enable`: they keep their bits where it is 0, a
+/// run in which it is 1 in every row is a run of the module that isn't gated, and no condition is broken
+/// that the module doesn't break.
+pub fn gated_modules()
+    ensures keeps { (m : Module) → IsAcyclic m → is_stallable m ≡ true → KeepsBits (gated m) }
+    ensures runs { (m : Module) (count : ℕ) (start : List ℕ → ℕ) (inputs rows : ℕ → List ℕ → ℕ) →
+        IsAcyclic m → is_stallable m ≡ true → Runs (gated m) count start inputs rows
+        → ((k : ℕ) → k < count → inputs k (codes "clk_enable") ≡ 1)
+        → Runs m count start inputs rows }
+    ensures conditions { (m : Module) → is_stallable m ≡ true → BreaksNoneIn m → BreaksNoneIn (gated m) }
+{
+    meaning_by_layer();
+}
+
+/// A run of a module is a run of each module of which it has all ports and items, where both keep the
+/// first three conditions.
+pub fn parts_run()
+    ensures { (m whole : Module) (count : ℕ) (start : List ℕ → ℕ) (inputs rows : ℕ → List ℕ → ℕ) →
+        IsAcyclic m → IsAcyclic whole → HasAllOf m whole
+        → Runs whole count start inputs rows → Runs m count start inputs rows }
+{
+    meaning_by_layer();
+}
+
+/// The counted rows of a run of a gated module are rows of a run of the module itself without stalls.
+pub fn gated_rows_run()
+    ensures { (m : Module) (window : Window) (start : List ℕ → ℕ) (inputs rows : ℕ → List ℕ → ℕ) →
+        IsAcyclic m → no_reset m ≡ None → is_stallable m ≡ true → IsResetLast window inputs
+        → Runs (gated m) window.rows start inputs rows → AreUngated m window inputs rows }
+{
+    meaning_by_layer();
+}
+
+/// A module that declares neither `clk_enable` nor `ce_out` breaks no condition with both added. The counted rows of a run of its gated form are rows of a run of the
+/// module itself.
+pub fn opened_modules()
+    ensures acyclic { (m opened : Module) → IsAcyclic m → IsFresh m → IsOpened m opened → IsAcyclic opened }
+    ensures clocked { (m opened : Module) → IsAcyclic m → IsFresh m → IsOpened m opened → no_reset m ≡ None
+        → no_reset opened ≡ None }
+    ensures conditions { (m opened : Module) → BreaksNone m → IsFresh m → IsOpened m opened → BreaksNoneIn opened }
+    ensures stallable { (m opened : Module) → IsOpened m opened → is_stallable opened ≡ true }
+    ensures rows { (m opened : Module) (window : Window) (start : List ℕ → ℕ) (inputs rows : ℕ → List ℕ → ℕ) →
+        IsAcyclic m → IsFresh m → IsOpened m opened → no_reset m ≡ None → IsResetLast window inputs
+        → Runs (gated opened) window.rows start inputs rows → AreCounted m opened window inputs rows }
+{
+    meaning_by_layer();
+}

@@ -5,8 +5,8 @@
 //! written text of a module), `Tokens` and `Grammar` (which bytes spell a module), `Context` (length and sign of an expression), `Value`
 //! (its value), `Nets` (what is declared and where names stand), `Runs` (the rows of a module), `Steps`
 //! (a row, and an edge to the next), `Room` (what fits), `Conditions` (the six conditions), `Attributes`,
-//! `Windows` (what a name shows over clocks) and `Driven` (how a module is reset and driven) and
-//! `Multiplications`.
+//! `Windows` (what a name shows over clocks), `Driven` (how a module is reset and driven), `Stalls` (rows
+//! that count), `Gated` (registers that stand still) and `Multiplications`.
 #![tactic(auto)]
 
 mod expressions;
@@ -18,7 +18,8 @@ mod operators;
 pub use expressions::{BinOp, Expr, Exprs, ShiftOp, Sized, UnOp};
 pub use identifiers::is_identifier;
 pub use laws::{
-    agreement, can_be_driven, meaning_by_layer, numbers_are_writable, one_run, spelling_spells,
-    steps_run, tokens_spell,
+    agreement, can_be_driven, counted_rows_run, counted_rows_show, gated_modules, gated_rows_run,
+    meaning_by_layer, numbers_are_writable, one_run, opened_modules, parts_run, plain_modules_stay,
+    spelling_spells, steps_run, tokens_spell,
 };
 pub use modules::{Attr, Attrs, ModItem, ModItems, Module, Port, Ports};
