@@ -1,4 +1,4 @@
-//! The ground that every other crate stands on, in three parts.
+//! The ground that every other crate stands on, in four parts.
 //!
 //! - Plain data: `Sequence`, `Boxed` and `Text`, which contracts see as a list, a value and bytes.
 //! - `Shelf` and `Sink`: where files come from and where bytes go. Each counts its faults, and a
@@ -6,11 +6,13 @@
 //!   `specs/Cause.antt`). `put_all` puts bytes to the last or leaves a proper prefix.
 //! - Their forms: in memory for tests (`MemShelf`, `MemSink`, `specs/Memory.antt`), and over the
 //!   system's files and streams (`FileShelf`, `OutSink`, `ErrSink`), which tell no content.
+//! - `Gate`: what workers pass before a piece of work. `OpenGate` lets all by.
 #![tactic(auto)]
 
 mod adapters;
 mod boxed;
 mod fault;
+mod gate;
 mod held_file;
 mod mem_shelf;
 mod mem_sink;
@@ -22,6 +24,7 @@ mod text;
 pub use adapters::{ErrSink, FileShelf, OutSink, StreamSink};
 pub use boxed::Boxed;
 pub use fault::{Failed, OutOfMemory};
+pub use gate::{Gate, OpenGate};
 pub use held_file::HeldFile;
 pub use mem_shelf::MemShelf;
 pub use mem_sink::{MemSink, PutSetup};
