@@ -18,4 +18,3 @@ pub mod Value
 pub mod Windows
 pub mod Header
 pub mod Items
-pub mod PortNames
