@@ -11,8 +11,6 @@ mod conditions;
 mod exact;
 mod laws;
 mod operation;
-#[cfg(test)]
-mod tests;
 
 pub use laws::operation_gives_one;
 pub use operation::output;

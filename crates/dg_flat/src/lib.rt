@@ -22,6 +22,3 @@ mod wiring;
 
 pub use flattening::flatten;
 pub use laws::{broken_is_one, flat_is_not_broken, flat_is_one, flat_is_there};
-
-#[cfg(test)]
-mod tests;

@@ -10,7 +10,5 @@ mod narrow;
 mod prepared;
 mod preparing;
 mod sums;
-#[cfg(test)]
-mod tests;
 
 pub use prepared::Prepared;

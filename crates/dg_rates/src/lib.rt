@@ -15,6 +15,3 @@ mod units;
 
 pub use agreeing::joins_periods;
 pub use rating::rates;
-
-#[cfg(test)]
-mod tests;

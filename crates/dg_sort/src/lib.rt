@@ -14,8 +14,6 @@ mod cycle;
 mod ordering;
 mod rows;
 mod search;
-#[cfg(test)]
-mod tests;
 
 pub use ordering::order;
 pub use rows::{control_now, reads_now, rows_of};

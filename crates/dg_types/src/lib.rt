@@ -26,8 +26,3 @@ mod typed_step;
 
 pub use dimensions::widths;
 pub use typed::{BlockTypes, types};
-
-#[cfg(test)]
-mod tests;
-#[cfg(test)]
-mod typed_tests;

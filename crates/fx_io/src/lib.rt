@@ -32,6 +32,3 @@ pub use sequence::{Cells, Flags, Longs, Periods, PortSizes, Sequence, Sizes, Tex
 pub use shelf::{FetchFault, Shelf};
 pub use sink::{PutFault, Sink, put_all};
 pub use text::Text;
-
-#[cfg(test)]
-mod tests;

@@ -13,6 +13,3 @@ mod rule_lines;
 pub use accepting::{ModelFault, accept};
 pub use laws::{diagram_is_one, model_is_there, verdict_is_one};
 pub use rule_lines::rule_text;
-
-#[cfg(test)]
-mod tests;

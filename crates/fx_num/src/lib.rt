@@ -6,8 +6,6 @@
 //! them takes memory. The definitions that the contracts cite stand in `specs/Word.antt`.
 #![tactic(auto)]
 
-#[cfg(test)]
-mod tests;
 mod word;
 
 pub use word::{fits, from_bits, highest, is_word, lowest, shift_up, to_bits, wrap};

@@ -25,8 +25,6 @@ mod narrow;
 mod settle;
 mod split;
 mod stored;
-#[cfg(test)]
-mod tests;
 
 pub use conversion::convert;
 pub use decimal::{DecimalFault, read_decimal};

@@ -21,8 +21,6 @@ mod plan;
 mod row_text;
 mod rows;
 mod table;
-#[cfg(test)]
-mod tests;
 
 pub use plan::read_plan;
 pub use row_text::RowText;

@@ -9,6 +9,3 @@ mod strings;
 
 pub use digits::{SHORT_DIGITS, read_capped, read_short};
 pub use strings::{QuotedText, plain_length, push_escaped, read_string, strings_are_forms};
-
-#[cfg(test)]
-mod tests;

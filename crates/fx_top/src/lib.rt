@@ -35,6 +35,3 @@ mod top;
 
 pub use one_delay::OneDelay;
 pub use top::run;
-
-#[cfg(test)]
-mod tests;

@@ -15,8 +15,6 @@ mod kind;
 mod laws;
 mod rounding;
 mod spec;
-#[cfg(test)]
-mod tests;
 
 pub use decimal::Decimal;
 pub use full::{TooWide, full_product, full_sum, union};

@@ -12,8 +12,6 @@ mod laws;
 mod relaxing;
 mod ring;
 mod solving;
-#[cfg(test)]
-mod tests;
 mod walking;
 
 pub use arc::{Arc, Arcs};

@@ -15,6 +15,3 @@ mod source_taps;
 pub use laws::{bridge_meets, phase_register_meets, tap_holds, tap_meets, tap_steps};
 pub use lines::{chain, line};
 pub use source::{Source, Use};
-
-#[cfg(test)]
-mod tests;

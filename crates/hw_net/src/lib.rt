@@ -27,6 +27,3 @@ pub use laws::{
 };
 pub use netlist::{Frame, Net, NetKind, NetLabel, NetLabels, NetOp, NetPort, NetPorts, Nets};
 pub use state::NetState;
-
-#[cfg(test)]
-mod tests;

@@ -77,7 +77,7 @@ last_or : {A : Type 0} (xs : List A) (y : A) (k : ℕ) (x : A) → slice_get (xs
 last_or [] y zero x at = inr (refl, same_Some y x at)
 last_or [] y (suc k) x at = absurd (none-some x at)
 last_or (z ∷ xs) y zero x at = inl at
-last_or (z ∷ xs) y (suc k) x at = elim (last_or xs y k x at) [ | inl here ↦ inl here | inr last ↦ inr (ap suc last.0, last.1) ]
+last_or (z ∷ xs) y (suc k) x at = elim (last_or xs y k x at) [ inl here ↦ inl here | inr last ↦ inr (ap suc last.0, last.1) ]
 
 there_within : {A : Type 0} (xs : List A) (k : ℕ) (x : A) → slice_get xs k ≡ Some x → k < length xs
 there_within [] k x at = absurd (none-some x at)
@@ -160,11 +160,10 @@ units_are_used diagram attributes plan timing unit below =
     let at_level : level_of timing found.x ≡ level_of timing level.x = eqb-true (level_of timing found.x) (level_of timing level.x) parts.1 in
     let turn : turn_of diagram attributes plan timing found.number found.x ≡ owner.place =
     ap (λ (k : OperationKind). count_at diagram attributes timing (take found.number all) k (level_of timing found.x)) same ∙ ap (count_at diagram attributes timing (take found.number all) kind) at_level ∙ found.before in
-    let small : owner.place % plan.multipliers ≡ owner.place = mod-eq_of_lt (omega (arith, place)) in
-    (
+    let small : owner.place % plan.multipliers ≡ owner.place = mod-eq_of_lt (omega (arith, place)) in (
       found.number,
       found.x,
       found.at,
       ap (λ (k : OperationKind). sum (map units (before_kind k kinds)) + turn_of diagram attributes plan timing found.number found.x % plan.multipliers) same
-      ∙ ap (λ (n : ℕ). sum (map units (before_kind kind kinds)) + n % plan.multipliers) turn ∙ ap (λ (n : ℕ). sum (map units (before_kind kind kinds)) + n) small ∙ owner.is,
+          ∙ ap (λ (n : ℕ). sum (map units (before_kind kind kinds)) + n % plan.multipliers) turn ∙ ap (λ (n : ℕ). sum (map units (before_kind kind kinds)) + n) small ∙ owner.is,
     )

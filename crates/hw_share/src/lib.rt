@@ -18,6 +18,3 @@ mod testing;
 
 pub use operation::Operation;
 pub use sharing::units;
-
-#[cfg(test)]
-mod tests;

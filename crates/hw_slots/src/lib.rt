@@ -14,8 +14,6 @@ mod operation;
 mod placing;
 mod slots;
 mod tally;
-#[cfg(test)]
-mod tests;
 mod turns;
 mod widths;
 

@@ -28,6 +28,3 @@ mod structure;
 
 pub use building::build;
 pub use laws::{fault_is_one, nested_is_not_broken, nested_is_one, nested_is_there};
-
-#[cfg(test)]
-mod tests;

@@ -24,6 +24,3 @@ mod tree;
 pub use fault::MdlFault;
 pub use reading::{one_fault_line, read, unique};
 pub use tree::{Item, Items, Tree, Value};
-
-#[cfg(test)]
-mod tests;

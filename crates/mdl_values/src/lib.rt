@@ -12,8 +12,6 @@ mod numbers;
 mod periods;
 mod pieces;
 mod signs;
-#[cfg(test)]
-mod tests;
 mod types;
 mod words;
 

@@ -24,8 +24,6 @@ mod ordering;
 mod scope;
 mod shapes;
 mod sorting;
-#[cfg(test)]
-mod tests;
 mod widths;
 
 pub use attributes::{cycles_of, is_clock_or_reset, latency_of, period_of};

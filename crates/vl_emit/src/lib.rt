@@ -14,7 +14,5 @@ mod items;
 mod operands;
 mod operators;
 mod source;
-#[cfg(test)]
-mod tests;
 
 pub use emission::emit;

@@ -31,7 +31,5 @@ mod plan;
 mod site;
 mod steps;
 mod sweeping;
-#[cfg(test)]
-mod tests;
 
 pub use machine::Machine;

@@ -28,6 +28,3 @@ mod turns;
 pub use fault::VlSyntax;
 pub use laws::{one_fault_line, reads_back, spelling_spells_alone, unique};
 pub use reading::read;
-
-#[cfg(test)]
-mod tests;

@@ -9,8 +9,6 @@ mod expressions;
 mod items;
 mod pieces;
 mod ports;
-#[cfg(test)]
-mod tests;
 mod writing;
 
 pub use writing::write;

@@ -1,4 +1,0 @@
-mod expressions;
-mod large;
-mod modules;
-mod running;
