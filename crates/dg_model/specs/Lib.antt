@@ -14,6 +14,7 @@ pub mod Loop
 pub mod Operation
 pub mod Periods
 pub mod PlanNames
+pub mod PlanOf
 pub mod PlanRange
 pub mod Rate
 pub mod RootElements

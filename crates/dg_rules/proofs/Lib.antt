@@ -1,5 +1,6 @@
 mod LineStates
 mod PlanLines
+mod PlanOf
 mod OneRule
 mod TwoCycles
 mod OneCycle

@@ -5,6 +5,7 @@ ghost use Rattle.dg_model.specs.Faults.{IsRefusal, fault_of};
 ghost use Rattle.dg_model.specs.declared.fault.Shown.TheVariants.{Nothing};
 ghost use Rattle.dg_model.specs.Library.{row_of};
 ghost use Rattle.dg_model.specs.PlanNames.{MayBePipelined, KeepsPlan, BreaksPlan, IsResolved};
+ghost use Rattle.dg_model.specs.PlanOf.{IsPlanOf};
 ghost use Rattle.dg_model.specs.PlanRange.{IsPlanInRange, AreDifferent};
 ghost use Rattle.dg_rules.specs.inner.Lines.{AreLines};
 ghost use Rattle.dg_rules.specs.inner.Standings.{looked_at, count_in, AllFound, IsWalked};
@@ -141,6 +142,7 @@ pub fn resolve(alloc: Global, checked: &Checked, plan: &Plan) -> Result<Resolved
     ensures kept { OnOk result (KeepsPlan checked.now.diagram
         (attributes_of checked.now.diagram) plan.now) }
     ensures resolved { IfOk result (λ resolved. IsResolved checked.now.diagram plan.now resolved) }
+    ensures planned { IfOk result (λ resolved. IsPlanOf checked.now.diagram resolved) }
     ensures refused { IfErr result (IsRefusal
         (BreaksPlan checked.now.diagram (attributes_of checked.now.diagram) plan.now)) }
 {

@@ -1,7 +1,7 @@
 //! What is told of a model and a plan.
 ghost use Rattle.std.specs.Prelude.{◌≡◌, IfOk, length};
 ghost use Rattle.dg_model.specs.PlanRange.{IsPlanInRange};
-ghost use Rattle.hw_latency.specs.Shared.{IsPlanOf};
+ghost use Rattle.dg_model.specs.PlanOf.{IsPlanOf};
 
 use crate::faults::{put_fault, put_model_fault};
 use crate::schedules::put_schedule;
@@ -47,21 +47,13 @@ fn planned<W: Write>(alloc: Global, checked: &Checked, plan: &[u8], out: &mut W)
 fn found<W: Write>(alloc: Global, checked: &Checked, plan: &Plan, out: &mut W) -> Result<()>
     requires { IsPlanInRange plan.now }
 {
-    match resolved_of(alloc, checked, plan) {
+    match resolve(alloc, checked, plan) {
         Ok(resolved) => scheduled(alloc, checked, &resolved, out),
         Err(CheckFault::Broken(fault)) => {
             put_fault(alloc, &fault, checked.diagram().blocks.as_slice(), out)
         }
         Err(CheckFault::OutOfMemory) => Err(anyhow!("out of memory")),
     }
-}
-
-/// The plan by the diagram's numbers, which is in range there too.
-fn resolved_of(alloc: Global, checked: &Checked, plan: &Plan) -> Result<Resolved, CheckFault>
-    requires { IsPlanInRange plan.now }
-    ensures { IfOk result (λ resolved. IsPlanOf checked.now.diagram resolved) }
-{
-    resolve(alloc, checked, plan)
 }
 
 fn scheduled<W: Write>(alloc: Global, checked: &Checked, plan: &Resolved, out: &mut W) -> Result<()>

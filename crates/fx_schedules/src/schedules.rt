@@ -1,7 +1,7 @@
 //! What is told of a schedule: who serves shared operations, and how late and how large all is.
 ghost use Rattle.std.specs.Prelude.{◌≡◌, length};
 ghost use Rattle.hw_latency.specs.Latency.{AreLatencies};
-ghost use Rattle.hw_latency.specs.Shared.{IsPlanOf};
+ghost use Rattle.dg_model.specs.PlanOf.{IsPlanOf};
 
 use crate::faults::put_model_fault;
 use anyhow::{Result, anyhow};

@@ -17,8 +17,8 @@ use Rattle.hw_arcs.specs.Laws.{AskAtMost, LatenciesAreBounded, UnaskedAreZero}
 use Rattle.hw_latency.specs.Cone.{is_marked}
 use Rattle.hw_latency.specs.Latency.{IsLeastLatency}
 use Rattle.hw_latency.specs.Laws.{ArePeriodsWithin, IsUnasked}
-use Rattle.hw_latency.specs.Shared.{IsPlanOf}
-use Rattle.hw_latency.specs.Weight.{arc_from, arc_into, arc_of, gain_into, is_registered, latency_arcs, samples, stages_at}
+use Rattle.dg_model.specs.PlanOf.{IsPlanOf, stages_at}
+use Rattle.hw_latency.specs.Weight.{arc_from, arc_into, arc_of, gain_into, is_registered, latency_arcs, samples}
 
 few_stages : (diagram : Diagram) (plan : Resolved) (place : ℕ) → IsPlanOf diagram plan → stages_at plan place ≤ 64
 few_stages diagram plan place is = ⊎_elim

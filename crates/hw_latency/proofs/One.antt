@@ -9,7 +9,8 @@ use Rattle.dg_model.specs.Attributes.{attributes_of}
 use Rattle.dg_model.specs.LatencyEdges.{LatencyEdge, latency_edges}
 use Rattle.dg_model.specs.Signals.{Attributes}
 use Rattle.hw_latency.specs.Cone.{AreFed, is_marked}
-use Rattle.hw_latency.specs.Weight.{stages_at, samples, arc_into, arc_from, arc_of, latency_arcs}
+use Rattle.hw_latency.specs.Weight.{samples, arc_into, arc_from, arc_of, latency_arcs}
+use Rattle.dg_model.specs.PlanOf.{stages_at}
 
 marked_by : (diagram : Diagram) (attributes : Attributes) (plan : Resolved) (fed other : List Bool) (place : ℕ) → AreFed diagram attributes plan fed → AreFed diagram attributes plan other → is_marked fed place ≡ true → is_marked other place ≡ true
 marked_by diagram attributes plan fed other place are too marked = ⊎_elim

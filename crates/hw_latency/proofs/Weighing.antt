@@ -10,7 +10,8 @@ use Rattle.dg_model.specs.Library.{row_of}
 use Rattle.hw_arcs.specs.declared.arc.Arc.{Arc}
 use Rattle.hw_latency.specs.Cone.{is_marked}
 use Rattle.hw_latency.specs.Shared.{is_shared, multiplies_if, shares}
-use Rattle.hw_latency.specs.Weight.{arc_between, arc_from, arc_into, gain_into, idle_arc, is_registered, samples, slack_into, stages_at}
+use Rattle.hw_latency.specs.Weight.{arc_between, arc_from, arc_into, gain_into, idle_arc, is_registered, samples, slack_into}
+use Rattle.dg_model.specs.PlanOf.{stages_at}
 
 pub block_read : (blocks slice : List Block) (place : ℕ) (block : Block) → slice ≡ blocks → place < length slice → block ≡ get_or slice place block → slice_get blocks place ≡ Some block
 block_read blocks slice place block same inside is = ap (λ (bs : List Block). slice_get bs place) (sym same) ∙ slice_get-get_or slice place block inside ∙ ap Some (sym is)

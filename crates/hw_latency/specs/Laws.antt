@@ -8,7 +8,7 @@ use Rattle.dg_model.specs.Signals.{Attributes}
 use Rattle.hw_arcs.specs.Latencies.{latency_at}
 use Rattle.hw_latency.specs.Cone.{AreFed, is_marked}
 use Rattle.hw_latency.specs.Latency.{Feasible, IsLeastLatency, IsLatencyCycle}
-use Rattle.hw_latency.specs.Shared.{IsPlanOf}
+use Rattle.dg_model.specs.PlanOf.{IsPlanOf}
 use Rattle.hw_latency.specs.Weight.{samples}
 
 -- two lists of marks that are right agree on every block

@@ -1,18 +1,10 @@
 -- Which multiplications share multipliers by a plan (own; HDL Coder, resource sharing).
-use Rattle.std.specs.Prelude.{◌≡◌, ℕ, ◌*◌, ◌≤◌, ◌&&◌, nat_lt, Bool, false, length, All, Option, Some, None, slice_get}
+use Rattle.std.specs.Prelude.{ℕ, ◌*◌, ◌&&◌, nat_lt, Bool, false, Option, Some, None, slice_get}
 use Rattle.dg_model.specs.declared.diagram.Diagram.{Diagram}
 use Rattle.dg_model.specs.declared.diagram.Block.{Block}
 use Rattle.dg_model.specs.declared.resolved.Resolved.{Resolved}
 use Rattle.dg_model.specs.Library.{row_of}
 use Rattle.dg_model.specs.Signals.{Attributes}
-
--- what a plan says of a diagram is in range: 1 to 1024 clocks, at most 64 multipliers, and a count of at most 64 registers for each block
-pub record IsPlanOf (diagram : Diagram) (plan : Resolved) : Type 0 where
-  pub some_clocks : 1 ≤ plan.cycles
-  pub few_clocks : plan.cycles ≤ 1024
-  pub few_multipliers : plan.multipliers ≤ 64
-  pub size : length plan.stages ≡ length diagram.blocks
-  pub stages : All (λ stages. stages ≤ 64) plan.stages
 
 -- each element of the block is a multiplication
 abbrev pub multiplies_if : Option Block → Bool

@@ -6,16 +6,13 @@ use Rattle.dg_model.specs.declared.diagram.Block.{Block}
 use Rattle.dg_model.specs.declared.resolved.Resolved.{Resolved}
 use Rattle.dg_model.specs.KindRow.{Reading}
 use Rattle.dg_model.specs.Instant.{is_now}
+use Rattle.dg_model.specs.PlanOf.{stages_at}
 use Rattle.dg_model.specs.LatencyEdges.{LatencyEdge, latency_edges}
 use Rattle.dg_model.specs.Library.{row_of}
 use Rattle.dg_model.specs.Attributes.{attributes_of}
 use Rattle.dg_model.specs.Signals.{Attributes}
 use Rattle.hw_arcs.specs.declared.arc.Arc.{Arc}
 use Rattle.hw_latency.specs.Cone.{is_marked}
-
--- how many registers a plan sets behind a block
-abbrev pub stages_at : Resolved → ℕ → ℕ
-stages_at plan place = slice_index plan.stages place
 
 -- a block stands in no enabled subsystem
 abbrev pub is_free : Option ℕ → Bool

@@ -2,7 +2,7 @@ ghost use Rattle.std.specs.Prelude.{◌≡◌, ◌<◌, IfOk, OnOk, length};
 ghost use Rattle.hw_arcs.specs.Found.{AreKnown};
 ghost use Rattle.dg_model.specs.LatencyEdges.{asks_ever as asks_ever_of};
 ghost use Rattle.dg_model.specs.Library.{row_of};
-ghost use Rattle.hw_latency.specs.Shared.{IsPlanOf};
+ghost use Rattle.dg_model.specs.PlanOf.{IsPlanOf};
 ghost use Rattle.hw_latency.specs.Weight.{latency_arcs};
 ghost use Rattle.hw_latency.specs.Control.{control_ever};
 ghost use Rattle.hw_latency.specs.inner.Asked.{IsArcPut, IsControlPut};

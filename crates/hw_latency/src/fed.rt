@@ -1,6 +1,6 @@
 ghost use Rattle.std.specs.Prelude.{◌≡◌, ◌+◌, ◌<◌, false, true, ℕ, IfOk, List, length};
 ghost use Rattle.dg_model.specs.Attributes.{attributes_of};
-ghost use Rattle.hw_latency.specs.Shared.{IsPlanOf};
+ghost use Rattle.dg_model.specs.PlanOf.{IsPlanOf};
 ghost use Rattle.hw_latency.specs.Cone.{AreFed};
 ghost use Rattle.dg_sort.specs.Rows.{AreRows};
 ghost use Rattle.hw_latency.specs.inner.Marks.{AreBelow, AreFedUpTo, AreUnmarked};

@@ -1,7 +1,8 @@
 ghost use Rattle.std.specs.Prelude.{◌≡◌, ◌<◌, ◌≤◌, length};
 ghost use Rattle.dg_model.specs.Attributes.{attributes_of};
 ghost use Rattle.dg_model.specs.Library.{row_of};
-ghost use Rattle.hw_latency.specs.Shared.{IsPlanOf, is_shared as is_shared_of, shares as shares_of};
+ghost use Rattle.hw_latency.specs.Shared.{is_shared as is_shared_of, shares as shares_of};
+ghost use Rattle.dg_model.specs.PlanOf.{IsPlanOf};
 
 use crate::block::block_at;
 use dg_model::{Checked, Kind, Resolved};

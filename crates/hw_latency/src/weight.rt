@@ -2,7 +2,7 @@ ghost use Rattle.std.specs.Prelude.{◌≡◌, ◌<◌, ◌≤◌, length};
 ghost use Rattle.dg_model.specs.Attributes.{attributes_of};
 ghost use Rattle.dg_model.specs.Library.{row_of};
 ghost use Rattle.hw_arcs.specs.Found.{most_gain};
-ghost use Rattle.hw_latency.specs.Shared.{IsPlanOf};
+ghost use Rattle.dg_model.specs.PlanOf.{IsPlanOf};
 ghost use Rattle.hw_latency.specs.Weight.{arc_between as arc_between_of, behind};
 ghost use Rattle.hw_latency.specs.Weight.{gain_into as gain_into_of, is_free as is_free_of};
 ghost use Rattle.hw_latency.specs.Weight.{is_registered as is_registered_of};

@@ -8,7 +8,8 @@ use Rattle.dg_model.specs.Library.{row_of}
 use Rattle.hw_arcs.specs.declared.arc.Arc.{Arc}
 use Rattle.hw_arcs.specs.Latencies.{KeepsArc}
 use Rattle.hw_latency.specs.Cone.{is_marked}
-use Rattle.hw_latency.specs.Weight.{stages_at, samples, is_registered, behind, reserve, arc_of, arc_from, arc_into}
+use Rattle.hw_latency.specs.Weight.{samples, is_registered, behind, reserve, arc_of, arc_from, arc_into}
+use Rattle.dg_model.specs.PlanOf.{stages_at}
 use Rattle.hw_sched.specs.Laws.{EdgesAreInTime}
 use Rattle.hw_sched.proofs.Lists.{stands_mapped}
 use Rattle.hw_sched.proofs.Periods.{periods_are_above}

@@ -16,7 +16,8 @@ use Rattle.dg_model.specs.Solves.{shown_ports}
 use Rattle.dg_model.specs.Widths.{greatest}
 use Rattle.dg_model.specs.Wires.{repeated, entry_of}
 use Rattle.hw_arcs.specs.Latencies.{latency_at}
-use Rattle.hw_latency.specs.Weight.{stages_at, samples, is_registered}
+use Rattle.hw_latency.specs.Weight.{samples, is_registered}
+use Rattle.dg_model.specs.PlanOf.{stages_at}
 use Rattle.hw_sched.specs.Slots.{Timing, shared_operations}
 use Rattle.hw_sched.specs.Storage.{shift_of, registers_in_all}
 

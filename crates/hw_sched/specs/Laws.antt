@@ -17,7 +17,8 @@ use Rattle.dg_model.specs.Wired.{IsWired}
 use Rattle.dg_model.specs.Wires.{driver_of}
 use Rattle.hw_arcs.specs.Latencies.{latency_at}
 use Rattle.hw_latency.specs.Cone.{AreFed, is_marked}
-use Rattle.hw_latency.specs.Weight.{stages_at, is_registered, behind}
+use Rattle.hw_latency.specs.Weight.{is_registered, behind}
+use Rattle.dg_model.specs.PlanOf.{stages_at}
 use Rattle.hw_sched.specs.Level.{AreDepths, depth_at}
 use Rattle.hw_sched.specs.Slots.{Timing, Operation, OperationKind, shared_operations, base_slot, level_of, slot_of, unit_of, kind_of}
 use Rattle.hw_sched.specs.Ready.{ready_of, units_in_all}

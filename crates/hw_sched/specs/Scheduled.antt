@@ -6,7 +6,7 @@ use Rattle.dg_model.specs.Attributes.{attributes_of}
 use Rattle.dg_model.specs.Checked.{IsChecked}
 use Rattle.hw_arcs.specs.Latencies.{IsLeast}
 use Rattle.hw_latency.specs.Cone.{AreFed}
-use Rattle.hw_latency.specs.Shared.{IsPlanOf}
+use Rattle.dg_model.specs.PlanOf.{IsPlanOf}
 use Rattle.hw_latency.specs.Weight.{latency_arcs}
 use Rattle.hw_sched.specs.Level.{AreDepths}
 use Rattle.hw_sched.specs.Slots.{Timing}

@@ -17,7 +17,8 @@ use Rattle.dg_model.specs.Signals.{Attributes}
 use Rattle.dg_model.specs.Widths.{greatest}
 use Rattle.dg_model.specs.Wires.{period_into}
 use Rattle.hw_arcs.specs.Latencies.{latency_at}
-use Rattle.hw_latency.specs.Weight.{stages_at, samples, is_registered, arc_between}
+use Rattle.hw_latency.specs.Weight.{samples, is_registered, arc_between}
+use Rattle.dg_model.specs.PlanOf.{stages_at}
 use Rattle.hw_sched.specs.Slots.{Timing, shared_operations}
 use Rattle.hw_sched.specs.Ready.{declared_latency}
 

@@ -1,7 +1,7 @@
 //! The registers of blocks beside lines.
 ghost use Rattle.std.specs.Prelude.{◌≡◌, ◌<◌, IfOk, length, slice_get};
 ghost use Rattle.dg_model.specs.Attributes.{attributes_of};
-ghost use Rattle.hw_latency.specs.Shared.{IsPlanOf};
+ghost use Rattle.dg_model.specs.PlanOf.{IsPlanOf};
 ghost use Rattle.hw_sched.specs.Slots.{shared_operations};
 ghost use Rattle.hw_sched.specs.Storage.{keeps_own as keeps_own_of, registers_at as registers_at_of};
 ghost use Rattle.hw_sched.specs.Storage.{registers_in_all as registers_in_all_of};

@@ -3,7 +3,8 @@ ghost use Rattle.std.specs.Prelude.{◌≡◌, ◌<◌, ◌++◌, ◌∷◌, tru
 ghost use Rattle.dg_model.specs.declared.diagram.Diagram.{Diagram};
 ghost use Rattle.dg_model.specs.declared.resolved.Resolved.{Resolved};
 ghost use Rattle.dg_model.specs.Attributes.{attributes_of};
-ghost use Rattle.hw_latency.specs.Shared.{IsPlanOf, is_shared as is_shared_of};
+ghost use Rattle.hw_latency.specs.Shared.{is_shared as is_shared_of};
+ghost use Rattle.dg_model.specs.PlanOf.{IsPlanOf};
 ghost use Rattle.hw_sched.specs.Slots.{Timing, Operation as Shared, operations_of, shared_operations};
 ghost use Rattle.hw_sched.specs.Answer.{timing_of};
 ghost use Rattle.hw_sched.specs.inner.Cells.{AreCells, AreCellsBut, IsSort, shared_at};

@@ -1,6 +1,6 @@
 ghost use Rattle.std.specs.Prelude.{ℕ, ◌≡◌, ◌<◌, ◌^◌, IfOk, length};
 ghost use Rattle.dg_model.specs.Attributes.{attributes_of};
-ghost use Rattle.hw_latency.specs.Shared.{IsPlanOf};
+ghost use Rattle.dg_model.specs.PlanOf.{IsPlanOf};
 ghost use Rattle.hw_sched.specs.Level.{AreDepths, depth_at};
 ghost use Rattle.hw_sched.specs.inner.Greatest.{IsGreatest, IsReadLine, IsReadControl, IsNextDepth};
 

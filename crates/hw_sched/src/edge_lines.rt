@@ -2,7 +2,7 @@
 ghost use Rattle.std.specs.Prelude.{◌≡◌, ◌<◌, ◌*◌, [], Some, IfOk, length, slice_get};
 ghost use Rattle.dg_model.specs.Attributes.{attributes_of};
 ghost use Rattle.hw_latency.specs.Latency.{AreLatencies};
-ghost use Rattle.hw_latency.specs.Shared.{IsPlanOf};
+ghost use Rattle.dg_model.specs.PlanOf.{IsPlanOf};
 ghost use Rattle.hw_sched.specs.Answer.{timing_of};
 ghost use Rattle.hw_sched.specs.Storage.{lines_in_all as lines_in_all_of, shift_of, width_of_edge};
 ghost use Rattle.hw_sched.specs.inner.Counted.{IsThere, controls_line as controls_line_of, edge_of, line_at};

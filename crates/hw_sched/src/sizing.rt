@@ -1,6 +1,6 @@
 ghost use Rattle.std.specs.Prelude.{◌≡◌, IfErr, IfOk, length};
 ghost use Rattle.hw_latency.specs.Latency.{AreLatencies};
-ghost use Rattle.hw_latency.specs.Shared.{IsPlanOf};
+ghost use Rattle.dg_model.specs.PlanOf.{IsPlanOf};
 ghost use Rattle.hw_sched.specs.Sizing.{ForTimes, IsKeptSize, IsSizeFault, IsSizeOf};
 ghost use Rattle.hw_sched.specs.inner.Counted.{are_within};
 

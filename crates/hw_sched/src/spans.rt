@@ -1,7 +1,7 @@
 //! The slots that periods have.
 ghost use Rattle.std.specs.Prelude.{◌≡◌, ◌<◌, ℕ, IfOk, length, max, slice_get, slice_index};
 ghost use Rattle.dg_model.specs.Attributes.{attributes_of};
-ghost use Rattle.hw_latency.specs.Shared.{IsPlanOf};
+ghost use Rattle.dg_model.specs.PlanOf.{IsPlanOf};
 ghost use Rattle.hw_latency.specs.Weight.{samples as samples_of};
 ghost use Rattle.hw_sched.specs.Slots.{shorter_into};
 ghost use Rattle.hw_sched.specs.inner.Spans.{AreCounted, AreLongest, AreSpans};

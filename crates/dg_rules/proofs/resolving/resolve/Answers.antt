@@ -7,6 +7,7 @@ use Rattle.dg_rules.specs.declared.standing.Standing.{Standing}
 use Rattle.dg_rules.specs.declared.standing.Standing.TheVariants.{Unseen, Found}
 use Rattle.dg_rules.specs.inner.Standings.{AllFound}
 use Rattle.dg_rules.proofs.LineStates.{plan_kept, plan_broken}
+use Rattle.dg_rules.proofs.PlanOf.{plan_of}
 use Rattle.dg_rules.proofs.resolving.resolve.Goals as goal
 
 pub returns-in-Some-clause-refused : goal.returns-in-Some-clause-refused
@@ -29,3 +30,11 @@ returns-clause-kept c =
     let items : c.as_slice.result.now ≡ c.in_ok-walk.walk.standings.items = c.as_slice.ensures.value in
     plan_kept c.args.checked.now.diagram (attributes_of c.args.checked.now.diagram) c.args.plan.now c.in_ok-walk.walk.standings.items c.in_ok-walk.ensures.standings
     (subst (λ (xs : List Standing). AllFound xs (length xs)) items (c.in_default.ensures.none refl))
+
+pub returns-clause-planned : goal.returns-clause-planned
+returns-clause-planned c =
+    let items : c.as_slice.result.now ≡ c.in_ok-walk.walk.standings.items = c.as_slice.ensures.value in
+    let kept =
+    plan_kept c.args.checked.now.diagram (attributes_of c.args.checked.now.diagram) c.args.plan.now c.in_ok-walk.walk.standings.items c.in_ok-walk.ensures.standings
+    (subst (λ (xs : List Standing). AllFound xs (length xs)) items (c.in_default.ensures.none refl)) in
+    plan_of c.args.checked.now.diagram c.args.plan.now _ c.requires kept (record { cycles = refl; multipliers = refl; stages = c.in_ok-walk.ensures.stages })
