@@ -2,7 +2,7 @@ mod Lists
 mod Bases
 mod Served
 mod Units
-mod Periods
+pub mod Periods
 mod Edges
 mod Rates
 mod Paths
@@ -16,7 +16,7 @@ mod Worked
 mod Chaining
 mod Models
 mod Numbered
-mod Widths
+pub mod Widths
 mod Counting
 mod Sized
 mod Limits

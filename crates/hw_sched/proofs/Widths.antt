@@ -49,7 +49,7 @@ module _ (diagram : Diagram) (checked : IsChecked diagram) where
   abbrev own : ℕ → List ℕ
   own place = slice_index_or (widths_of diagram) place []
 
-  widths_at : (place : ℕ) (b : Block) → slice_get diagram.blocks place ≡ Some b → (b.outputs ≤ length (own place)) × (0 < length (own place))
+  pub widths_at : (place : ℕ) (b : Block) → slice_get diagram.blocks place ≡ Some b → (b.outputs ≤ length (own place)) × (0 < length (own place))
   widths_at place b at =
       let readable = readable_at diagram checked.wired place b at in
       let settled = subst (λ (o : Option Block). next_of o (width_at (widths_of diagram) place 1) (input_widths diagram (widths_of diagram) place) ≡ own place) at (checked.dimensions.blocks place b at).settled in

@@ -27,7 +27,7 @@ mod slots;
 mod spans;
 
 pub use deepening::depths;
-pub use drivers::own_width;
+pub use drivers::{own_width, width_into};
 pub use laws::{
     depths_are_one, edges_are_in_time, edges_join_periods, lines_are_edges,
     operations_are_numbered, operations_are_served, periods_are_above, ready_fits, ready_rises,
