@@ -1,0 +1,21 @@
+//! All plans of a range, compared by parallel workers.
+//!
+//! `explore` finds of each pair of clocks and multipliers how many multiplications the module has and
+//! how late it is, or the first rule that the plan breaks (`specs/Candidates`), and which plan is the
+//! least (`specs/Findings`). What a worker does is in no clause: the answer is that of one thread.
+#![tactic(auto)]
+
+mod explore;
+mod finding;
+mod findings;
+mod judging;
+mod range;
+mod rank;
+
+pub use explore::explore;
+pub use finding::{Finding, Judged};
+pub use findings::{FindingRows, Findings};
+pub use range::Range;
+
+#[cfg(test)]
+mod tests;
