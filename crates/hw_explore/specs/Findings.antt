@@ -9,12 +9,14 @@ use Rattle.hw_explore.specs.declared.range.Range.{Range}
 use Rattle.hw_explore.specs.Candidates.{IsFinding}
 use Rattle.hw_explore.specs.Range.{pairs_of}
 
+-- a number is less, or the same and then
+abbrev pub IsLessOr : ℕ → ℕ → Type 0 → Type 0
+IsLessOr number other Then = (number < other) ⊎ ((number ≡ other) × Then)
+
 -- fewer multiplications are better, then fewer clocks, then less latency, then fewer multipliers
 abbrev pub IsBetter : Rank → Rank → Type 0
 IsBetter one other =
-    (one.multiplications < other.multiplications) ⊎ ((one.multiplications ≡ other.multiplications) × (
-    (one.cycles < other.cycles) ⊎ ((one.cycles ≡ other.cycles) × (
-    (one.latency < other.latency) ⊎ ((one.latency ≡ other.latency) × (one.multipliers < other.multipliers))))))
+    IsLessOr one.multiplications other.multiplications (IsLessOr one.cycles other.cycles (IsLessOr one.latency other.latency (one.multipliers < other.multipliers)))
 
 -- a finding is of a good plan, of this rank
 pub record IsRanked (finding : Finding) (rank : Rank) : Type 0 where

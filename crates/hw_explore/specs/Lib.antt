@@ -1,3 +1,4 @@
 pub mod Candidates
 pub mod Findings
 pub mod Range
+pub mod inner

@@ -1,5 +1,5 @@
 -- The plans of a range, numbered (own).
-use Rattle.std.specs.Prelude.{◌≡◌, ℕ, ◌+◌, ◌-◌, ◌*◌, ◌/◌, ◌%◌, ◌≤◌, ◌<◌}
+use Rattle.std.specs.Prelude.{ℕ, ◌+◌, ◌-◌, ◌*◌, ◌/◌, ◌%◌, ◌≤◌}
 use Rattle.hw_explore.specs.declared.range.Range.{Range}
 
 -- how many numbers of multipliers there are, and how many pairs of clocks and multipliers

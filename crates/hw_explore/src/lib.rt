@@ -5,17 +5,14 @@
 //! least (`specs/Findings`). What a worker does is in no clause: the answer is that of one thread.
 #![tactic(auto)]
 
-mod explore;
+mod exploring;
 mod finding;
 mod findings;
 mod judging;
 mod range;
 mod rank;
 
-pub use explore::explore;
+pub use exploring::explore;
 pub use finding::{Finding, Judged};
 pub use findings::{FindingRows, Findings};
 pub use range::Range;
-
-#[cfg(test)]
-mod tests;

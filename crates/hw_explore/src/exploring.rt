@@ -1,6 +1,9 @@
-ghost use Rattle.std.specs.Prelude.{◌≡◌, ◌<◌, IfOk, IfSome, List, length, slice_get};
+ghost use Rattle.std.specs.Prelude.{◌≡◌, ◌<◌, ◌≤◌, ◌+◌, IfOk, IfSome, None, length};
+ghost use Rattle.std.specs.List.{AllZip, range_with_len};
 ghost use Rattle.hw_explore.specs.Candidates.{IsFinding};
 ghost use Rattle.hw_explore.specs.Findings.{AreFindings, IsLeast, IsRanked};
+ghost use Rattle.hw_explore.specs.declared.rank.Rank.{Rank};
+ghost use Rattle.hw_explore.specs.inner.Best.{IsBest};
 ghost use Rattle.hw_explore.specs.Range.{IsRange, pairs_of};
 
 use crate::finding::{Finding, Judged};
@@ -14,8 +17,18 @@ use rayon::prelude::*;
 use std::alloc::Global;
 use std::thread::Threads;
 
+/// The best plan so far.
+#[derive(Clone, Copy)]
+struct Best {
+    place: u32,
+    rank: Rank,
+}
+
 /// The rank of a good plan.
-fn rank_of(finding: &Finding) -> Option<Rank> {
+fn rank_of(finding: &Finding) -> Option<Rank>
+    ensures ranked { IfSome result (IsRanked finding.now) }
+    ensures bad { result ≡ None → (rank : Rank) → ¬ IsRanked finding.now rank }
+{
     match &finding.verdict {
         Judged::Good { owed, latency } => Some(Rank {
             multiplications: *owed,
@@ -27,24 +40,40 @@ fn rank_of(finding: &Finding) -> Option<Rank> {
     }
 }
 
+/// The best plan with this one, which stands there, beside the best before it.
+fn best_with(rows: &[Finding], place: u32, best: Option<Best>) -> Option<Best>
+    requires there { place < length rows.now }
+    requires best { IsBest rows.now place best }
+    ensures { IsBest rows.now (place + 1) result }
+{
+    let Some(rank) = rank_of(&rows[place as usize]) else {
+        return best;
+    };
+    match best {
+        None => Some(Best { place, rank }),
+        Some(other) => {
+            if rank.is_better(&other.rank) {
+                Some(Best { place, rank })
+            } else {
+                Some(other)
+            }
+        }
+    }
+}
+
 /// The number of the least good plan.
 fn least_of(rows: &[Finding]) -> Option<u32>
     requires { length rows.now ≤ 4096 }
     ensures { IsLeast rows.now result }
 {
-    let mut least: Option<(u32, Rank)> = None;
+    let mut best: Option<Best> = None;
     for place in 0..rows.len() {
-        if let Some(rank) = rank_of(&rows[place]) {
-            let better = match &least {
-                Some((_, best)) => rank.is_better(best),
-                None => true,
-            };
-            if better {
-                least = Some((place as u32, rank));
-            }
-        }
+        best = best_with(rows, place as u32, best);
     }
-    least.map(|(place, _)| place)
+    match best {
+        None => None,
+        Some(Best { place, .. }) => Some(place),
+    }
 }
 
 /// What is found of each plan, by workers.
@@ -54,22 +83,25 @@ fn all_found<R: Threads + Sync, G: Gate + Sync>(
     checked: &Checked,
     range: Range,
     gate: &G,
-) -> Result<Vec<Result<Finding, OutOfMemory>>, OutOfMemory>
+) -> Result<FindingRows, OutOfMemory>
     requires { IsRange range }
+    ensures { IfOk result (λ rows. AllZip (IsFinding checked.now.diagram range)
+        (range_with_len 0 (pairs_of range)) rows) }
 {
-    let found = (0..range.pairs())
+    let pairs = range.pairs();
+    let rows: Result<Vec<Finding>, OutOfMemory> = (0..pairs)
         .into_par_iter()
         .map(
             |place: u32| -> Result<Finding, OutOfMemory>
-                requires { place < pairs_of range }
-                ensures { IfOk result (IsFinding checked.now.diagram range place) }
+                requires { IsRange range × (place < pairs_of range) }
+                ensures { IfOk result (IsFinding checked.entry.now.diagram range place) }
             {
                 gate.pass(u64::from(place));
                 found(alloc, checked, range, place)
             },
         )
         .collect(rt, alloc)?;
-    Ok(found)
+    Ok(FindingRows::from_vec(rows?))
 }
 
 /// What is found of all plans of a range that set no registers, by parallel workers, and the least of
@@ -86,10 +118,7 @@ pub fn explore<R: Threads + Sync, G: Gate + Sync>(
     requires { IsRange range }
     ensures { IfOk result (AreFindings checked.now.diagram range) }
 {
-    let mut rows = FindingRows::new(alloc);
-    for row in all_found(rt, alloc, checked, range, gate)? {
-        rows.push(row?)?;
-    }
+    let rows = all_found(rt, alloc, checked, range, gate)?;
     let least = least_of(rows.as_slice());
     Ok(Findings { rows, least })
 }
