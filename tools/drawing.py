@@ -1,0 +1,268 @@
+"""Blocks and lines of a system as SVG: what a block shows, where its ports are, and how lines go."""
+
+import re
+from html import escape
+
+from layout import lay_out
+from mdl import systems_of
+
+SIGN = {"==": "=", "~=": "≠", "<": "<", "<=": "≤", ">=": "≥", ">": ">"}
+SMALL = {"Inport": (30, 14), "Outport": (30, 14), "Ground": (20, 20), "Terminator": (20, 20), "Sum": (30, 40), "Mux": (6, 60), "Demux": (6, 60), "EnablePort": (24, 20)}
+SUPERSCRIPT = str.maketrans("0123456789-", "⁰¹²³⁴⁵⁶⁷⁸⁹⁻")
+STYLE = """<style>
+text { font-family: Helvetica, Arial, sans-serif; font-size: 11px; fill: #222; text-anchor: middle }
+.name { font-size: 10px } .said { font-size: 8.5px; fill: #666 } .port { font-size: 8px; fill: #444 }
+.title { font-size: 12px; font-weight: bold; text-anchor: start }
+.block { fill: #fff; stroke: #222; stroke-width: 1.2 } .bar { fill: #222 }
+.line { fill: none; stroke: #222; stroke-width: 1 } .dot { fill: #222 }
+</style>"""
+
+
+def numbers(text):
+    return [int(it) for it in re.findall(r"-?\d+", text)]
+
+
+def short(text, most=9):
+    text = " ".join(text.split())
+    if re.fullmatch(r"-?\d+\.\d{5,}", text):
+        text = f"{float(text):.4g}"
+    return text if len(text) <= most else text[: most - 1] + "…"
+
+
+class Box:
+    """A block, its place, and its ports."""
+
+    def __init__(self, block, defaults):
+        self.block, self.defaults = block, defaults
+        self.kind, self.name = block.get("BlockType"), block.get("Name")
+        place = numbers(block.get("Position"))
+        self.place = place if len(place) == 4 else None
+        self.is_left = block.get("Orientation") == "left" or block.get("BlockMirror") == "on"
+        self.inputs, self.outputs = self.counts()
+
+    def get(self, name, otherwise=""):
+        found = self.defaults.of(self.block, name)
+        return found[0] if found else otherwise
+
+    def signs(self):
+        said = re.sub(r"[|\s]", "", self.get("Inputs", "++"))
+        return list(said) if re.fullmatch(r"[+-]+", said) else ["+"] * int(said or 2) if said.isdigit() else ["+", "+"]
+
+    def several(self, name, otherwise):
+        said = self.get(name, str(otherwise))
+        return int(said) if said.isdigit() else max(len(numbers(said)), 1)
+
+    def inner(self, kind):
+        """The names of a subsystem's ports, in the order of their numbers."""
+        found = [it for system in systems_of(self.block) for it in system.all("Block") if it.get("BlockType") == kind]
+        return [it.get("Name") for it in sorted(found, key=lambda it: (numbers(it.get("Port", "1")) or [1])[0])]
+
+    def counts(self):
+        if self.kind == "SubSystem":
+            return len(self.inner("Inport")), len(self.inner("Outport"))
+        inputs = {"Inport": 0, "Constant": 0, "Ground": 0, "EnablePort": 0, "Product": 2, "Switch": 3, "RelationalOperator": 2}.get(self.kind, 1)
+        if self.kind == "Sum":
+            inputs = len(self.signs())
+        elif self.kind == "Mux":
+            inputs = self.several("Inputs", 4)
+        elif self.kind == "Logic":
+            inputs = 1 if self.get("Operator", "AND") == "NOT" else self.several("Inputs", 2)
+        outputs = {"Outport": 0, "Terminator": 0, "EnablePort": 0, "Demux": self.several("Outputs", 4)}.get(self.kind, 1)
+        return inputs, outputs
+
+    def size(self):
+        ports = max(self.inputs, self.outputs)
+        wide, high = SMALL.get(self.kind, (50 if self.kind != "SubSystem" else 90, 30))
+        return wide, max(high, 18 * ports if ports > 1 else 0)
+
+    def port(self, number, is_output):
+        """Where a port is; a port that is not a number stands on top."""
+        left, top, right, bottom = self.place
+        if not str(number).isdigit():
+            return (left + right) / 2, top
+        count = max(self.outputs if is_output else self.inputs, int(number), 1)
+        y = top + (bottom - top) * (2 * int(number) - 1) / (2 * count)
+        return (right if is_output != self.is_left else left), y
+
+    def told(self):
+        """What the block does, in its shape."""
+        get = self.get
+        if self.kind in ("UnitDelay", "Delay"):
+            length = "1" if self.kind == "UnitDelay" else get("DelayLength", "2")
+            return "z" + ("-" + length).translate(SUPERSCRIPT)
+        if self.kind == "Switch":
+            criterion = get("Criteria", "u2 >= Threshold").replace("Threshold", short(get("Threshold", "0"), 6))
+            return criterion.replace("u2", "").replace(">=", "≥").replace("~=", "≠").strip()
+        plain = {
+            "Gain": short(get("Gain", "1")), "Constant": short(get("Value", "1")), "Product": "×", "Logic": get("Operator", "AND"),
+            "RelationalOperator": SIGN.get(get("Operator", "<="), "?"), "DataTypeConversion": "convert",
+            "RateTransition": "rate", "EnablePort": "", "Inport": get("Port", "1"), "Outport": get("Port", "1"),
+        }  # fmt: skip
+        return plain.get(self.kind, "" if self.kind in SMALL or self.kind == "SubSystem" else short(self.kind, 12))
+
+    def said(self):
+        """What the block declares, below its name."""
+        get, parts = self.get, []
+        kind = get("OutDataTypeStr", "Inherit")
+        if not kind.startswith("Inherit") and self.kind not in ("RelationalOperator", "Logic"):
+            parts.append(kind.replace(" ", ""))
+        if get("RndMeth", "Floor") != "Floor":
+            parts.append(get("RndMeth").lower())
+        if get("SaturateOnIntegerOverflow") == "on" and (parts or self.kind == "Sum" and not kind.endswith("internal rule")):
+            parts.append("saturates")
+        initial = get("InitialCondition") or get("X0") or get("InitialOutput")
+        if self.kind in ("UnitDelay", "Delay", "RateTransition", "Outport") and not re.fullmatch(r"[0.]*|\[\]", initial):
+            parts.append("starts at " + short(initial))
+        if self.kind == "EnablePort":
+            parts.append("states " + get("StatesWhenEnabling", "held"))
+        if self.kind == "Outport" and get("OutputWhenDisabled") == "reset":
+            parts.append("reset")
+        time = get("OutPortSampleTime") if self.kind == "RateTransition" else get("SampleTime")
+        if time not in ("", "-1", "inf"):
+            parts.append("every " + time)
+        wide = get("PortDimensions", "-1")
+        if self.kind == "Inport" and wide not in ("-1", "1"):
+            parts.append(f"{wide} elements")
+        return [", ".join(parts[:2]), ", ".join(parts[2:])] if len(", ".join(parts)) > 24 else [", ".join(parts)]
+
+
+def text(x, y, said, kind, more=""):
+    return f'<text x="{x:g}" y="{y:g}" class="{kind}"{more}>{escape(said)}</text>'
+
+
+def shape(box):
+    left, top, right, bottom = box.place
+    wide, high = right - left, bottom - top
+    if box.kind in ("Inport", "Outport"):
+        return f'<rect x="{left}" y="{top}" width="{wide}" height="{high}" rx="{high / 2:g}" class="block"/>'
+    if box.kind == "Gain":
+        tip, back = (left, right) if box.is_left else (right, left)
+        return f'<path d="M{back} {top}L{tip} {(top + bottom) / 2:g}L{back} {bottom}Z" class="block"/>'
+    if box.kind in ("Mux", "Demux"):
+        return f'<rect x="{left}" y="{top}" width="{wide}" height="{high}" class="bar"/>'
+    if box.kind == "Ground":
+        return f'<path d="M{left} {top + high // 2}h{wide}M{left + 4} {top + 4}v{high - 8}M{left} {top + 7}v{high - 14}" class="line"/>'
+    if box.kind == "Terminator":
+        return f'<path d="M{left} {top + high // 2}h{wide - 6}M{right - 6} {top + 3}v{high - 6}" class="line"/>'
+    pulse = f'<path d="M{left + 4} {bottom - 5}h4v{10 - high}h{wide - 16}v{high - 10}h4" class="line"/>' if box.kind == "EnablePort" else ""
+    return f'<rect x="{left}" y="{top}" width="{wide}" height="{high}" class="block"/>' + pulse
+
+
+def port_words(box):
+    """What stands at the ports: signs, names, or numbers where a side has several."""
+    if box.kind == "SubSystem":
+        words = box.inner("Inport"), box.inner("Outport")
+    elif box.kind == "Sum":
+        words = [it.replace("-", "−") for it in box.signs()], [""]
+    elif box.kind in ("Mux", "Demux", "Inport", "Outport"):
+        return
+    else:
+        words = tuple([str(it + 1) for it in range(count)] if count > 1 else [""] for count in (box.inputs, box.outputs))
+    for is_output, side in enumerate(words):
+        for number, word in enumerate(side, 1):
+            x, y = box.port(number, bool(is_output))
+            inside = -1 if bool(is_output) != box.is_left else 1
+            anchor = ' style="text-anchor: %s"' % ("end" if inside < 0 else "start")
+            if word:
+                yield text(x + 3 * inside, y + 3, short(word, 8), "port", anchor)
+
+
+def below(box):
+    """The name of a block, and what it declares."""
+    middle, y = (box.place[0] + box.place[2]) / 2, box.place[3] + 11
+    for line in box.name.split("\n"):
+        yield text(middle, y, line, "name")
+        y += 10
+    for said in box.said():
+        if said:
+            yield text(middle, y, said, "said")
+            y += 9
+
+
+def draw_box(box):
+    left, top, right, bottom = box.place
+    middle, parts = (left + right) / 2, ["<g>"]
+    whole = box.kind + "".join(f"\n{name}: {value}" for name, value in box.block.parameters.items() if name not in ("BlockType", "Position", "SID", "ZOrder"))
+    parts.append(f"<title>{escape(whole)}</title>")
+    parts.append(shape(box))
+    told = box.told()
+    if told:
+        if box.kind == "Switch":
+            # beside the number of the port that it is said of
+            parts.append(text(right - 3, (top + bottom) / 2 + 3, told, "port", ' style="text-anchor: end"'))
+            return parts + [*port_words(box), *below(box), "</g>"]
+        x = middle + (0 if box.kind != "Gain" else (right - left) * (0.12 if box.is_left else -0.12))
+        parts.append(text(x, (top + bottom) / 2 + 4, told, "told", ' style="font-size: 9px"' if len(told) > 7 else ""))
+    return parts + [*port_words(box), *below(box), "</g>"]
+
+
+def offsets(section):
+    """The way that a line or branch goes before its end, as steps."""
+    found = numbers(section.get("Points"))
+    return list(zip(found[::2], found[1::2]))
+
+
+def way_to(here, end, is_top):
+    """From where a line stands to a port, in horizontal and vertical steps."""
+    (x, y), (to_x, to_y) = here, end
+    if is_top:
+        return [(to_x, y), end]
+    if abs(y - to_y) < 0.6 or abs(x - to_x) < 0.6:
+        return [end]
+    if to_x > x:
+        return [((x + to_x) / 2, y), ((x + to_x) / 2, to_y), end]
+    return [(x, to_y), end]
+
+
+def draw_way(section, here, boxes):
+    """A line or a branch from where it begins, with those that leave its end."""
+    points = [here]
+    for right, down in offsets(section):
+        points.append((points[-1][0] + right, points[-1][1] + down))
+    stands = points[-1]
+    target = boxes.get(section.get("DstBlock"))
+    parts = []
+    if target is not None:
+        port = section.get("DstPort", "1")
+        points += way_to(stands, target.port(port, False), not port.isdigit())
+        end = points[-1]
+        back = 6 if target.is_left else -6
+        head = f"{end[0] - 3:g} {end[1] - 6:g}L{end[0]:g} {end[1]:g}L{end[0] + 3:g} {end[1] - 6:g}" if not port.isdigit() else f"{end[0] + back:g} {end[1] - 3:g}L{end[0]:g} {end[1]:g}L{end[0] + back:g} {end[1] + 3:g}"
+        parts.append(f'<path d="M{head}Z" class="dot"/>')
+    if len(points) > 1:
+        parts.append('<path d="M' + "L".join(f"{x:g} {y:g}" for x, y in points) + '" class="line"/>')
+    branches = section.all("Branch")
+    if len(branches) > 1:
+        parts.append(f'<circle cx="{stands[0]:g}" cy="{stands[1]:g}" r="2" class="dot"/>')
+    return parts + [part for branch in branches for part in draw_way(branch, stands, boxes)]
+
+
+def draw_panel(title, boxes, lines):
+    """A system, and the room that it takes."""
+    if not all(box.place for box in boxes):
+        lines = lay_out(boxes, lines)
+    by_name = {box.name: box for box in boxes}
+    parts = []
+    for line in lines:
+        source = by_name.get(line.get("SrcBlock"))
+        if source is not None:
+            parts += draw_way(line, source.port(line.get("SrcPort", "1"), True), by_name)
+    for box in boxes:
+        parts += draw_box(box)
+    xs = [float(x) for part in parts for x in re.findall(r"[ML](-?[\d.]+) ", part)] + [x for box in boxes for x in box.place[::2]]
+    ys = [float(y) for part in parts for y in re.findall(r"[ML]-?[\d.]+ (-?[\d.]+)", part)] + [y for box in boxes for y in box.place[1::2]]
+    return parts, (min(xs) - 45, min(ys) - 25, max(xs) + 45, max(ys) + 45)
+
+
+def picture(panels):
+    parts, top, wide = [], 0, 0
+    for title, boxes, lines in panels:
+        drawn, (left, first, right, last) = draw_panel(title, boxes, lines)
+        if title:
+            parts.append(text(10, top + 14, title, "title"))
+            top += 12
+        parts += [f'<g transform="translate({-left:g} {top - first:g})">'] + drawn + ["</g>"]
+        top += last - first
+        wide = max(wide, right - left)
+    head = f'<svg xmlns="http://www.w3.org/2000/svg" width="{wide:g}" height="{top:g}" viewBox="0 0 {wide:g} {top:g}">'
+    return "\n".join([head, STYLE, '<rect width="100%" height="100%" fill="#fff"/>'] + parts + ["</svg>", ""])

@@ -1,0 +1,147 @@
+"""Places for the blocks of a system that has none: columns from left to right by the longest way from a
+source, loops closed from right to left, and lines with the corners that these places ask for."""
+
+from mdl import Section
+
+ACROSS, DOWN = 60, 36
+
+
+def ends_of(line):
+    """The ends of a line or branch: pairs of a block's name and a port."""
+    found = [(line.get("DstBlock"), line.get("DstPort", "1"))] if "DstBlock" in line.parameters else []
+    return found + [end for branch in line.all("Branch") for end in ends_of(branch)]
+
+
+def edges_of(boxes, lines):
+    """What lines join: two boxes and their ports."""
+    by_name = {box.name: box for box in boxes}
+    found = []
+    for line in lines:
+        source = by_name.get(line.get("SrcBlock"))
+        for name, port in ends_of(line):
+            if source is not None and name in by_name:
+                found.append((source, line.get("SrcPort", "1"), by_name[name], port))
+    return found
+
+
+def columns_of(boxes, edges):
+    """The column of each box: behind those that it reads, but for the edges that close a loop."""
+    after = {box: [to for source, _, to, _ in edges if source is box] for box in boxes}
+    columns, begun, order = dict.fromkeys(boxes, 0), set(), []
+    # those that read nothing come first, and then what no source leads to
+    reads = {to for _, _, to, _ in edges}
+    for first in sorted(boxes, key=lambda box: box in reads):
+        left = [(first, iter(after[first]))] if first not in begun else []
+        begun.add(first)
+        while left:
+            box, further = left[-1]
+            to = next((it for it in further if it not in begun), None)
+            if to is None:
+                left.pop()
+                order.insert(0, box)
+            else:
+                begun.add(to)
+                left.append((to, iter(after[to])))
+    at = {box: number for number, box in enumerate(order)}
+    for box in order:
+        for to in after[box]:
+            if at[to] > at[box]:
+                columns[to] = max(columns[to], columns[box] + 1)
+    last = max(columns.values(), default=0)
+    return {box: last if box.kind == "Outport" else column for box, column in columns.items()}
+
+
+class Bend:
+    """Where a line passes a column that it has no block in."""
+
+    place = None
+
+    def size(self):
+        return 0, 8
+
+    def port(self, _number, _is_output):
+        return self.place[0], (self.place[1] + self.place[3]) / 2
+
+
+def chains_of(edges, columns):
+    """For each edge the bends on its way, and all that stands in columns: where an edge comes from, and to."""
+    chains, steps = [], []
+    for source, number, to, port in edges:
+        bends = [Bend() for _ in range(columns[source] + 1, columns[to])]
+        columns.update({bend: columns[source] + 1 + at for at, bend in enumerate(bends)})
+        chains.append(bends)
+        if columns[to] > columns[source]:
+            way = [(source, number)] + [(bend, "1") for bend in bends] + [(to, port)]
+            steps += [(*one, *other) for one, other in zip(way, way[1:])]
+    return chains, steps
+
+
+def place(columns, steps):
+    """Places one column after another, each box where its drivers are, as far as there is room."""
+    x = 40
+    for column in range(max(columns.values(), default=0) + 1):
+        here = [box for box in columns if columns[box] == column]
+        tops, wide = {}, 0
+        for box in here:
+            across, high = box.size()
+            box.place = [x, 0, x + across, high]
+            wide = max(wide, across)
+            wanted = [source.port(number, True)[1] - box.port(port, False)[1] for source, number, to, port in steps if to is box and port.isdigit()]
+            tops[box] = sum(wanted) / len(wanted) if wanted else 40
+        y = 0
+        for box in sorted(here, key=tops.get):
+            top = round(max(y, tops[box]))
+            box.place = [x, top, box.place[2], top + box.place[3]]
+            y = box.place[3] + (12 if isinstance(box, Bend) else DOWN)
+        x += wide + ACROSS
+
+
+def made(points, to=None, port="1"):
+    """A branch with steps, to a box where one is given."""
+    branch = Section("Branch", 0)
+    branch.parameters["Points"] = "; ".join(f"{round(right)}, {round(down)}" for right, down in points)
+    if to is not None:
+        branch.parameters.update(DstBlock=to.name, DstPort=port)
+    return branch
+
+
+def way_through(here, bends, to, port):
+    """The steps from a place through the bends to the height of a port, each turn before its column."""
+    (x, y), steps = here, []
+    for place in [bend.port("1", False) for bend in bends] + [to.port(port, False)]:
+        down = place[1] - y - (0 if port.isdigit() or place != to.port(port, False) else 14)
+        steps += [(0, down), (place[0] - x, 0)]
+        x, y = place[0], y + down
+        if place != to.port(port, False):
+            steps.append((12, 0))
+            x += 12
+    return steps[:-1]
+
+
+def lay_out(boxes, lines):
+    """Gives each box a place, and gives lines that go there."""
+    for box in boxes:
+        box.place, box.is_left = None, False
+    edges = edges_of(boxes, lines)
+    columns = columns_of(boxes, edges)
+    chains, steps = chains_of(edges, columns)
+    place(columns, steps)
+    lowest, found, lanes = max(box.place[3] for box in columns) + 36, [], {}
+    for source, number in {(source, number): None for source, number, _, _ in edges}:
+        x, y = source.port(number, True)
+        lanes[round(x)] = lane = lanes.get(round(x), -1) + 1
+        out = 12 + 7 * (lane % 6)
+        line = made([(out, 0)])
+        line.parameters.update(SrcBlock=source.name, SrcPort=number)
+        for (begins, at, to, port), bends in zip(edges, chains):
+            if begins is not source or at != number:
+                continue
+            to_x, to_y = to.port(port, False)
+            if columns[to] > columns[source]:
+                way = way_through((x + out, y), bends, to, port)
+            else:
+                way = [(0, lowest - y), (to_x - 12 - x - out, 0), (0, to_y - lowest)]
+                lowest += 10
+            line.sections.append(made(way, to, port))
+        found.append(line)
+    return found

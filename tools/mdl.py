@@ -1,0 +1,211 @@
+"""A small reader of MDL text for the tools, and what the profile passes over in a file.
+
+It checks next to nothing and is no part of what is proved: that the program reads the same is not said
+here.
+"""
+
+import re
+
+NAME = r"[A-Za-z0-9_.$]+"
+BLANKS = " \t\r"
+STRING = re.compile(r'"((?:[^"\\]|\\.)*)"')
+ESCAPES = {r"\n": "\n", r"\t": "\t", r"\"": '"', r"\\": "\\"}
+
+
+class Section:
+    """A section with its first parameter of each name, and the line of each."""
+
+    def __init__(self, name, line):
+        self.name, self.line, self.parameters, self.lines, self.sections = name, line, {}, {}, []
+
+    def get(self, name, default=""):
+        return self.parameters.get(name, default)
+
+    def all(self, name):
+        return [section for section in self.sections if section.name == name]
+
+
+def strings(text):
+    """The strings of a line, joined."""
+    return "".join(re.sub(r"\\.", lambda it: ESCAPES.get(it[0], it[0]), string) for string in STRING.findall(text))
+
+
+def read(text):
+    """The sections of a text, in a section of their own; a line that has no form is passed over."""
+    root = Section("", 0)
+    open_sections, last = [root], None
+    lines = enumerate(text.split("\n"), 1)
+    for number, line in lines:
+        line = line.strip(BLANKS)
+        here = open_sections[-1]
+        if line.startswith('"') and last is not None:
+            here.parameters[last] += strings(line)
+            continue
+        last = None
+        begins = re.fullmatch(rf"({NAME})[{BLANKS}]*{{", line)
+        parameter = re.fullmatch(rf"({NAME})(?:[{BLANKS}]+(.*))?", line, re.S)
+        if begins:
+            here.sections.append(Section(begins[1], number))
+            open_sections.append(here.sections[-1])
+        elif line == "}" and len(open_sections) > 1:
+            open_sections.pop()
+        elif parameter:
+            name, value = parameter[1], parameter[2] or ""
+            is_list = value.startswith("[")
+            if value.startswith('"'):
+                value, last = strings(value), name if name not in here.parameters else None
+            while is_list and STRING.sub("", value).count("[") > STRING.sub("", value).count("]"):
+                _, further = next(lines, (0, None))
+                if further is None:
+                    break
+                value += "\n" + further.strip(BLANKS)
+            here.lines.setdefault(name, number)
+            here.parameters.setdefault(name, value)
+    return root
+
+
+def read_file(path):
+    """The text of a file, in which every byte is a character, and its sections."""
+    with open(path, encoding="latin-1") as file:
+        text = file.read()
+    return text, read(text)
+
+
+def step_of(block):
+    """A block's name as a step of a path."""
+    return block.get("Name").replace("/", "//")
+
+
+def shown(text):
+    """A text in quotes, with no byte that a terminal takes for more than a sign."""
+    text = text.replace("\\", "\\\\").replace('"', '\\"').replace("\n", "\\n").replace("\t", "\\t")
+    return '"' + re.sub(r"[\x00-\x1f\x7f-\x9f]", "?", text) + '"'
+
+
+def systems_of(block):
+    return block.all("System") if block.get("BlockType") == "SubSystem" else []
+
+
+def systems(root):
+    """Each system that counts, with the steps above it: those of the models, and of their subsystems."""
+    left = [(system, []) for model in root.all("Model") for system in model.all("System")]
+    while left:
+        system, above = left.pop(0)
+        yield system, above
+        for block in system.all("Block"):
+            left += [(inner, above + [step_of(block)]) for inner in systems_of(block)]
+
+
+class Defaults:
+    """The parameters of a block, its own and those that the file gives its type."""
+
+    def __init__(self, root):
+        lists = [it for model in root.all("Model")[:1] for it in model.all("BlockParameterDefaults")[:1]]
+        self.by_type = {}
+        for section in (block for it in lists for block in it.all("Block")):
+            self.by_type.setdefault(section.get("BlockType"), section)
+
+    def of(self, block, name):
+        """The value and the line of a parameter, or None."""
+        for section in (block, self.by_type.get(block.get("BlockType"))):
+            if section is not None and name in section.parameters:
+                return section.parameters[name], section.lines[name]
+        return None
+
+
+# What stands in a text and is not read as the usual tool means it, by a form of its first place.
+OF_TEXT = (
+    (r"\A(\xef\xbb\xbf|\xff\xfe|\xfe\xff)", "a byte-order mark stands before the text"),
+    (r"\APK", "this is an archive, and no text"),
+    (r"^__MWOPC_PACKAGE_BEGIN__", "this is a package, and no classic .mdl"),
+    (r"^[ \t]*SavedCharacterEncoding\s+\"(?!UTF-8|US-ASCII|ISO-8859|windows-125)", "a character may have two bytes, the second that of a backslash"),
+)
+# Parameters that the profile passes over, by the values that change nothing: types of blocks (none:
+# any), the parameter, those values, and what the response then is.
+PASSED_OVER = (
+    ((), "Commented", ("off",), "the block counts as if it weren't commented out"),
+    (("SubSystem",), "Variant", ("off",), "all choices stand as blocks, and none is chosen"),
+    (("SubSystem",), "PropExecContextOutsideSubsystem", ("off",), "blocks behind the subsystem run at each of their hits"),
+    (("SubSystem",), "DataTypeOverride", ("UseLocalSettings", "Off"), "the types are those of the blocks"),
+    (("Inport", "Constant"), "SignalType", ("auto", "real"), "the signal is read as real"),
+    (("Inport", "Constant"), "SamplingMode", ("auto", "Sample based"), "the signal is read sample by sample"),
+    (("UnitDelay", "Delay"), "InputProcessing", ("Elements as channels (sample based)",), "each element is delayed by samples"),
+    (("Inport",), "LatchByDelayingOutsideSignal", ("off",), "the input is not delayed"),
+    (("Inport",), "LatchInputForFeedbackSignals", ("off",), "the input is not latched"),
+    (("Inport",), "LatchByCopyingInsideSignal", ("off",), "the input is not latched"),
+    (("Inport",), "LatchInput", ("off",), "the input is not latched"),
+    (("Inport",), "OutputFunctionCall", ("off",), "the signal is read as a number"),
+    (("Inport", "Outport"), "UseBusObject", ("off",), "the signal is read as no bus"),
+    (("Inport", "Outport"), "BusOutputAsStruct", ("off",), "the signal is read as no bus"),
+    (("Inport", "Outport"), "VarSizeSig", ("Inherit", "No"), "the signal has one size"),
+    (("Outport",), "SourceOfInitialOutputValue", ("Dialog",), "the initial output is InitialOutput"),
+    (("Constant",), "VectorParams1D", ("on",), "the value is read as a vector"),
+    (("Switch",), "AllowDiffInputSizes", ("off",), "the inputs must have one size"),
+    (("RateTransition",), "Integrity", ("on",), "the data is read as kept whole"),
+    (("Sum", "Product"), "CollapseMode", ("All dimensions",), "elements are taken one by one"),
+)
+# Types as they were written before OutDataTypeStr, which stand for nothing here.
+OLD_TYPES = ("OutDataTypeMode", "OutDataType", "OutScaling", "ParameterDataTypeMode", "ParameterDataType", "ParameterScaling", "DataType")
+MASKS = ("MaskType", "MaskVariables", "MaskInitialization", "MaskPromptString")
+LINKS = ("SourceBlock", "LinkStatus", "AncestorBlock", "LibrarySourceProduct")
+# Parameters of the model, with the values that change nothing.
+OF_MODEL = (
+    ("DataTypeOverride", ("UseLocalSettings", "Off"), "the types are those of the blocks"),
+    ("BooleanDataType", ("on",), "what a comparison or a gate gives is boolean"),
+    ("LoadInitialState", ("off",), "the initial values are those of the blocks"),
+    ("LoadExternalInput", ("off",), "the inputs are those of the stimulus"),
+)
+CALLS = ("PreLoadFcn", "PostLoadFcn", "InitFcn", "StartFcn")
+
+
+def of_block(block, defaults):
+    """What the profile passes over in a block: lines, what is said there, and what holds."""
+    kind = block.get("BlockType")
+    for kinds, name, harmless, holds in PASSED_OVER:
+        found = defaults.of(block, name)
+        if (not kinds or kind in kinds) and found and found[0] not in harmless:
+            yield found[1], f"{name} {shown(found[0])}", holds
+    old = [name for name in OLD_TYPES if defaults.of(block, name) and defaults.of(block, name)[0] != "auto"]
+    if old and not defaults.of(block, "OutDataTypeStr"):
+        value, line = defaults.of(block, old[0])
+        yield line, f"{old[0]} {shown(value)}", "the block has its type's default"
+    masks = [name for name in MASKS if block.get(name)]
+    if masks:
+        yield block.lines[masks[0]], "a mask", "its code is not run, and its variables have no value"
+    elif any(it.get("$ClassName") == "Simulink.Mask" for it in block.all("Object")):
+        yield block.line, "a mask", "its code is not run, and its variables have no value"
+    links = [name for name in LINKS if block.get(name)]
+    if links and kind == "SubSystem":
+        yield block.lines[links[0]], "a link to a library", "the blocks that stand in the file count"
+    calls = [name for name in CALLS if block.get(name)]
+    if calls:
+        yield block.lines[calls[0]], f"{calls[0]}", "its code is not run"
+
+
+def of_model(model):
+    """The same of the model's own parameters, and of those of its configuration."""
+    inside = [model] + [it for array in model.all("Array") for it in array.sections]
+    for section in inside + [deeper for it in inside[1:] for array in it.all("Array") for deeper in array.sections]:
+        for name, harmless, holds in OF_MODEL:
+            if section.get(name) and section.get(name) not in harmless:
+                yield section.lines[name], f"{name} {shown(section.get(name))}", holds
+    for name in CALLS:
+        if model.get(name):
+            yield model.lines[name], name, "its code is not run"
+
+
+def passed_over(text, root):
+    """What a file says and the profile passes over, as lines and what is told of them."""
+    found = []
+    for form, told in OF_TEXT:
+        place = re.search(form, text, re.M)
+        if place:
+            found.append((text.count("\n", 0, place.start(0)) + 1, told))
+    for model in root.all("Model"):
+        found += [(line, f"model: {said} is passed over: {holds}") for line, said, holds in of_model(model)]
+    defaults = Defaults(root)
+    for system, above in systems(root):
+        for block in system.all("Block"):
+            path = shown("/".join(above + [step_of(block)]))
+            found += [(line, f"{path}: {said} is passed over: {holds}") for line, said, holds in of_block(block, defaults)]
+    return sorted(found)
