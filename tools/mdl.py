@@ -65,9 +65,13 @@ def read(text):
 
 
 def read_file(path):
-    """The text of a file, in which every byte is a character, and its sections."""
-    with open(path, encoding="latin-1") as file:
-        text = file.read()
+    """The text of a file, and its sections; where it is not UTF-8, every byte is a character."""
+    with open(path, "rb") as file:
+        found = file.read()
+    try:
+        text = found.decode()
+    except UnicodeDecodeError:
+        text = found.decode("latin-1")
     return text, read(text)
 
 
@@ -115,7 +119,7 @@ class Defaults:
 
 # What stands in a text and is not read as the usual tool means it, by a form of its first place.
 OF_TEXT = (
-    (r"\A(\xef\xbb\xbf|\xff\xfe|\xfe\xff)", "a byte-order mark stands before the text"),
+    (r"\A(\ufeff|\xff\xfe|\xfe\xff)", "a byte-order mark stands before the text"),
     (r"\APK", "this is an archive, and no text"),
     (r"^__MWOPC_PACKAGE_BEGIN__", "this is a package, and no classic .mdl"),
     (r"^[ \t]*SavedCharacterEncoding\s+\"(?!UTF-8|US-ASCII|ISO-8859|windows-125)", "a character may have two bytes, the second that of a backslash"),

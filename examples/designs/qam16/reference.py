@@ -17,7 +17,7 @@ def stimulus():
 
 
 def level(sign, size):
-    """-3, -1, 1 or 3, in units of a quarter."""
+    """-3, -1, 1 or 3, in units of a quarter (2048 of 2 ^ -13)."""
     return (3 if size else 1) * (-1 if sign else 1)
 
 
@@ -25,18 +25,18 @@ def limited(number):
     return min(max(number, -(1 << 15)), (1 << 15) - 1)
 
 
-def filtered(u, down):
-    """The convolution sum, in units that are 2 ^ down times coarser, rounded to the nearest."""
+def filtered(u):
+    """The convolution sum, rounded to the nearest."""
     sums = [sum(tap * u[t - k] for k, tap in enumerate(TAPS) if t >= k) for t in range(len(u))]
-    return [limited((it + (1 << down - 1)) >> down) for it in sums]
+    return [limited((it + (1 << 13)) >> 14) for it in sums]
 
 
 def rail(levels):
     """What is sent on one rail, and what is received at each fourth sample; a symbol is sent one later."""
-    symbols = [16 * it for it in levels]
+    symbols = [2048 * it for it in levels]
     sent = [([0] + symbols)[t // 4] if t % 4 == 0 else 0 for t in range(4 * len(symbols))]
-    wave = filtered(sent, 7)
-    return wave, filtered(wave, 14)
+    wave = filtered(sent)
+    return wave, filtered(wave)
 
 
 def response(rows):
