@@ -1,0 +1,104 @@
+"""The comparisons with other tools, and what the gate ends with."""
+
+import os
+import shutil
+import subprocess
+import sys
+import tempfile
+import unittest
+
+from .common import TOOLS, TOP, write
+
+
+class Crossing(unittest.TestCase):
+    """The comparisons with other tools fail where nothing is compared, and where something differs."""
+
+    VALUES = "crates/vl_ast/proofs/Values.antt"
+    SHOWN = "unit_delay 0 y 3\\nunit_delay 1 y 5\\nunit_delay 2 y -1\\n"
+
+    def setUp(self):
+        room = tempfile.TemporaryDirectory()
+        self.addCleanup(room.cleanup)
+        self.top, self.path = room.name, os.path.join(room.name, "bin")
+        for name in ("cross_check", "cross_values", "written.py"):
+            write(os.path.join(self.top, "tools", name), "")
+            shutil.copy(os.path.join(TOOLS, name), os.path.join(self.top, "tools", name))
+        for name in ("examples/unit_delay.v", "examples/unit_delay.stim", "examples/unit_delay.response", self.VALUES):
+            write(os.path.join(self.top, name), "")
+            shutil.copy(os.path.join(TOP, name), os.path.join(self.top, name))
+
+    def install(self, printed):
+        """An Icarus Verilog that prints this whatever it is given."""
+        for name, text in (("iverilog", ""), ("vvp", f"printf '{printed}'")):
+            path = os.path.join(self.path, name)
+            write(path, f"#!/bin/sh\n{text}\n")
+            os.chmod(path, 0o755)
+
+    def ends(self, name):
+        words = [sys.executable, os.path.join(self.top, "tools", name)]
+        return subprocess.run(words, env={"PATH": self.path}, capture_output=True, text=True).returncode
+
+    def test_without_tools_is_skipped(self):
+        self.assertEqual((self.ends("cross_check"), self.ends("cross_values")), (77, 77))
+
+    def test_texts(self):
+        self.install(self.SHOWN)
+        self.assertEqual(self.ends("cross_check"), 0)
+        self.install(self.SHOWN.replace("-1", "x"))
+        self.assertEqual(self.ends("cross_check"), 1)
+        self.install("")
+        self.assertEqual(self.ends("cross_check"), 1)
+        for ending in ("stim", "response"):
+            write(os.path.join(self.top, f"examples/unit_delay.{ending}"), "")
+        self.assertEqual(self.ends("cross_check"), 1)
+        os.remove(os.path.join(self.top, "examples/unit_delay.v"))
+        self.assertEqual(self.ends("cross_check"), 1)
+
+    def test_values(self):
+        self.install("value 2\\n")
+        self.assertEqual(self.ends("cross_values"), 1)
+        with open(os.path.join(self.top, self.VALUES)) as file:
+            text = file.read()
+        for cut in ("", text.replace("\nsums :", "\nsums:"), text.partition("-- shifts")[0]):
+            write(os.path.join(self.top, self.VALUES), cut)
+            self.assertEqual(self.ends("cross_values"), 1)
+
+
+def text_of(code):
+    """A check that ends with a status, which it may say something before."""
+    status, _, command = str(code).partition("; ")
+    return f"{command}\nexit {status}"
+
+
+class Gate(unittest.TestCase):
+    CHECKS = (
+        "examples/run", "tools/glossary", "tools/try", "tools/cross_check", "tools/cross_values", "tools/cross_nets"
+    )
+
+    def gate(self, status, last, statuses):
+        """What the gate ends with, where `rt ci` ends with a status and a last line, and the checks with theirs."""
+        with tempfile.TemporaryDirectory() as room:
+            rt = f"#!/bin/sh\necho a line\necho '{last}'\nexit {status}\n"
+            for name, text in [("bin/rt", rt)] + [(f"top/{name}", f"#!/bin/sh\n{text_of(code)}\n") for name, code in statuses.items()]:
+                write(os.path.join(room, name), text)
+                os.chmod(os.path.join(room, name), 0o755)
+            for name in (".ci/run", "tilecatnip"):
+                os.makedirs(os.path.join(room, "top/.ci"), exist_ok=True)
+                shutil.copy(os.path.join(TOP, name), os.path.join(room, "top", name))
+            env = {**os.environ, "PATH": os.path.join(room, "bin") + ":" + os.environ["PATH"]}
+            done = subprocess.run([os.path.join(room, "top/.ci/run")], cwd="/", env=env, capture_output=True, text=True, timeout=60)
+            return done.returncode, done.stdout.splitlines()[-1], [line for line in done.stdout.splitlines() if "skipped" in line]
+
+    def test_its_last_line_and_status_tell_of_all_checks(self):
+        good = dict.fromkeys(self.CHECKS, 0)
+        self.assertEqual(self.gate(0, "12 passed, 0 failed", good), (0, "12 passed, 0 failed", []))
+        lacking = {**good, "tools/cross_check": 77, "tools/cross_nets": 77}
+        told = [f"{name}: skipped, for want of a tool" for name in ("tools/cross_check", "tools/cross_nets")]
+        self.assertEqual(self.gate(0, "12 passed, 0 failed", lacking), (0, "12 passed, 0 failed", told))
+        in_part = {**good, "tools/cross_check": "0; echo skipped: a tool"}
+        told = ["skipped: a tool", "tools/cross_check: skipped: a tool"]
+        self.assertEqual(self.gate(0, "12 passed, 0 failed", in_part), (0, "12 passed, 0 failed", told))
+        self.assertEqual(self.gate(1, "11 passed, 1 failed", good), (1, "11 passed, 1 failed", []))
+        self.assertEqual(self.gate(0, "no closing line", good)[0], 1)
+        for name in self.CHECKS:
+            self.assertEqual(self.gate(0, "12 passed, 0 failed", {**good, name: 1}), (1, "12 passed, 1 failed", []))

@@ -1,0 +1,244 @@
+"""The launcher, in a made repository with a toolchain that only pretends to prove."""
+
+import os
+import re
+import shutil
+import signal
+import subprocess
+import tempfile
+import time
+import unittest
+
+from .common import TOP, read, write
+
+
+# `version` prints a file's line; `try` answers by its words and ends as another file says; `ci` counts,
+# does what a third says, and makes the program.
+TOOLCHAIN = """#!/bin/sh
+case $1 in
+    version) cat "$PRETENDED/line" ;;
+    try)
+        shift 4
+        echo "tried $1"
+        cat "$PRETENDED/ended" >&2
+        . "$PRETENDED/meanwhile"
+        ;;
+    ci)
+        echo proof >>"$PRETENDED/proofs"
+        ls crates/*/* >"$PRETENDED/copied"
+        pwd >"$PRETENDED/room"
+        . "$PRETENDED/meanwhile"
+        echo 'rt: low is kept: an earlier run'
+        echo 'rt: fx_prog proved'
+        mkdir -p crates/fx_prog/out
+        printf '#!/bin/sh\\necho "$@"\\n' >crates/fx_prog/out/fx_prog
+        chmod +x crates/fx_prog/out/fx_prog
+        ;;
+esac
+"""
+
+
+ENDED = "checked: ended status={0}\nrun=ended status={0} runners=1 proved=no\n"
+
+
+class Launcher(unittest.TestCase):
+    def setUp(self):
+        room = tempfile.TemporaryDirectory()
+        self.addCleanup(room.cleanup)
+        self.top = os.path.join(room.name, "repository")
+        self.pretended = os.path.join(room.name, "pretended")
+        self.launcher = os.path.join(self.top, "tilecatnip")
+        self.source = os.path.join(self.top, "crates/low/src/lib.rt")
+        self.model = os.path.join(room.name, "a b.mdl")
+        write(self.model, "a model")
+        for name in ("HANDLES", "crates/fx_prog/src/main.rt", "crates/low/src/lib.rt", "crates/low/specs/Low.antt", "crates/low/proofs/Lib.antt", "crates/low/must-fail/low.edit", "crates/other/src/lib.rt"):
+            write(os.path.join(self.top, name), name)
+        write(os.path.join(self.top, "crates.txt"), "# a list\nlow:\nother: low\nfx_prog: low std\n")
+        for name in ("tilecatnip", "tools/prove"):
+            os.makedirs(os.path.dirname(os.path.join(self.top, name)), exist_ok=True)
+            shutil.copy(os.path.join(TOP, name), os.path.join(self.top, name))
+        for name, text in (("rt", TOOLCHAIN), ("line", "kit 1\n"), ("proofs", ""), ("meanwhile", ""), ("ended", ENDED.format(0))):
+            self.pretend(name, text)
+        os.chmod(os.path.join(self.pretended, "rt"), 0o755)
+        self.path = self.pretended + ":" + os.environ["PATH"]
+
+    def pretend(self, name, text):
+        write(os.path.join(self.pretended, name), text)
+
+    def environment(self):
+        return {**os.environ, "PATH": self.path, "PRETENDED": self.pretended}
+
+    def run_with(self, *words, by=None, folder=None):
+        return subprocess.run([by or self.launcher, *words], cwd=folder, env=self.environment(), capture_output=True, text=True, timeout=60)
+
+    def proofs(self):
+        return len(read(os.path.join(self.pretended, "proofs")).splitlines())
+
+    def prove(self, proofs):
+        done = self.run_with("prove")
+        self.assertEqual((done.returncode, done.stdout, self.proofs()), (0, "", proofs), done.stderr)
+        return done.stderr
+
+    def is_proved(self, **how):
+        """The proved program answers, with nothing said beside it."""
+        done = self.run_with("generate", "a b", "-", **how)
+        self.assertEqual((done.returncode, done.stdout, done.stderr), (0, "generate a b -\n", ""))
+
+    def is_unproved(self, proofs):
+        """The sources answer unproved, which is said in a line, and no proof is begun."""
+        done = self.run_with("generate", self.model, "-")
+        self.assertEqual((done.returncode, done.stdout, self.proofs()), (0, "tried generate\n", proofs), done.stderr)
+        self.assertIn("./tilecatnip prove", done.stderr)
+        self.assertEqual(len(done.stderr.splitlines()), 1)
+
+    def fails(self, words, said):
+        """There is no answer: status 70, nothing on standard output, and the message at the end."""
+        done = self.run_with(*words)
+        self.assertEqual((done.returncode, done.stdout), (70, ""), done.stderr)
+        self.assertIn(said, done.stderr.splitlines()[-1])
+        return done.stderr
+
+    def test_help_and_version_begin_nothing(self):
+        for words, status, stream in (([], 2, "stderr"), (["help"], 0, "stdout"), (["-h"], 0, "stdout"), (["--help"], 0, "stdout")):
+            done = self.run_with(*words)
+            self.assertEqual((done.returncode, self.proofs()), (status, 0))
+            self.assertIn("./tilecatnip generate", getattr(done, stream))
+        done = self.run_with("--version")
+        version = re.search(r"^version=(.*)$", read(self.launcher), re.M)[1]
+        self.assertEqual(done.stdout, f"tilecatnip {version}\n")
+        self.assertIn(f"## {version}", read(os.path.join(TOP, "CHANGELOG.md")))
+
+    def test_words_that_are_no_command_begin_nothing(self):
+        usage = re.search(r"^usage='(.*)'$", read(self.launcher), re.M)[1]
+        self.assertIn(usage, read(os.path.join(TOP, "crates/fx_top/src/answer.rt")))
+        for words in (["prov"], ["simulate", "a"], ["generate", "a", "b", "c"], ["--verion"], ["--proved", "simulat", "a", "b"]):
+            done = self.run_with(*words)
+            self.assertEqual((done.returncode, done.stdout, done.stderr, self.proofs()), (2, "", usage + "\n", 0))
+        done = self.run_with("prove", "now")
+        self.assertEqual((done.returncode, self.proofs()), (2, 0))
+
+    def test_proves_where_an_input_changed(self):
+        self.is_unproved(0)
+        self.prove(1)
+        self.is_proved()
+        self.assertIn("stands", self.prove(1))
+        changes = (
+            lambda: write(self.source, "edited"),
+            lambda: os.remove(os.path.join(self.top, "crates/low/specs/Low.antt")),
+            lambda: write(os.path.join(self.top, "crates/low/proofs/Low.antt"), "added"),
+            lambda: write(os.path.join(self.top, "crates.txt"), "low:\nfx_prog: low\n"),
+            lambda: self.pretend("line", "kit 2\n"),
+        )
+        for k, change in enumerate(changes):
+            change()
+            self.is_unproved(k + 1)
+            self.prove(k + 2)
+            self.is_proved()
+
+    def test_proves_a_copy_of_what_the_program_stands_on(self):
+        self.assertIn("2 of 2 crates, 0 min", self.prove(1))
+        copied = read(os.path.join(self.pretended, "copied"))
+        self.assertIn("crates/low/specs", copied)
+        self.assertNotIn("must-fail", copied)
+        self.assertNotIn("other", copied)
+        self.assertFalse(os.path.exists(read(os.path.join(self.pretended, "room")).strip()))
+
+    def test_notices_an_edit_during_the_proof(self):
+        self.pretend("meanwhile", f"echo edited >'{self.source}'")
+        self.prove(1)
+        self.pretend("meanwhile", "")
+        self.is_unproved(1)
+
+    def test_says_why_a_crate_is_not_proved(self):
+        self.pretend("meanwhile", "printf '== low\\na reason\\nrt: low NOT PROVED\\n== fx_prog\\nrt: fx_prog proved\\n'; exit 1")
+        said = self.fails(["prove"], "not proved")
+        self.assertIn("== low\na reason\nrt: low NOT PROVED\n", said)
+        self.assertEqual(self.proofs(), 1)
+        shutil.rmtree(os.path.join(self.top, "crates/fx_prog/out"))
+        write(os.path.join(self.top, "crates/fx_prog/out"), "a file where a folder is wanted")
+        self.assertEqual(len(self.fails(["prove"], "can't be built").splitlines()), 1)
+
+    def begun(self):
+        """A proof that doesn't end by itself, once its toolchain runs, and the process of that."""
+        self.pretend("meanwhile", "echo $$ >\"$PRETENDED/process\"; exec sleep 60")
+        proof = subprocess.Popen([self.launcher, "prove"], env=self.environment(), stdout=subprocess.DEVNULL, stderr=subprocess.PIPE, text=True)
+        process = os.path.join(self.pretended, "process")
+        while not os.path.exists(process) or not read(process).endswith("\n"):
+            time.sleep(0.05)
+        return proof, int(read(process))
+
+    def test_a_signal_ends_a_proof_with_its_children(self):
+        for number in (signal.SIGINT, signal.SIGTERM, signal.SIGHUP):
+            proof, process = self.begun()
+            proof.send_signal(number)
+            said = proof.communicate(timeout=30)[1]
+            self.assertEqual(proof.returncode, 70, said)
+            self.assertIn("run again to go on", said.splitlines()[-1])
+            self.assertRaises(ProcessLookupError, os.kill, process, 0)
+            self.assertFalse(os.path.exists(read(os.path.join(self.pretended, "room")).strip()))
+            os.remove(os.path.join(self.pretended, "process"))
+        self.pretend("meanwhile", "")
+        self.prove(4)
+        self.is_proved()
+
+    def test_one_proof_at_a_time(self):
+        proof, _ = self.begun()
+        self.fails(["prove"], "another prove")
+        proof.kill()
+        proof.communicate(timeout=30)
+        left = read(os.path.join(self.pretended, "room")).strip()
+        self.pretend("meanwhile", "")
+        for _ in range(100):
+            # what it began ends with it, and then another can begin
+            if self.run_with("prove").returncode == 0:
+                break
+            time.sleep(0.1)
+        self.is_proved()
+        self.assertFalse(os.path.exists(left))
+
+    def test_only_the_proved_program_where_that_is_asked(self):
+        words = ["--proved", "generate", "a b", "-"]
+        self.fails(words, "./tilecatnip prove")
+        self.fails(["--program"], "./tilecatnip prove")
+        self.prove(1)
+        self.assertEqual(self.run_with(*words).stdout, "generate a b -\n")
+        self.assertEqual(self.run_with("--program").stdout, os.path.join(os.path.realpath(self.top), "crates/fx_prog/out/fx_prog") + "\n")
+
+    def test_unproved_answers_end_as_the_program_does(self):
+        folder, name = os.path.split(self.model)
+        self.pretend("ended", f"{self.model}: line 2: not MDL text\n" + ENDED.format(5))
+        done = self.run_with("generate", name, "-", folder=folder)
+        self.assertEqual((done.returncode, done.stdout), (5, "tried generate\n"))
+        self.assertEqual(done.stderr.splitlines()[1:], ["a b.mdl: line 2: not MDL text"])
+        done = self.run_with("simulate", name, "gone", folder=folder)
+        self.assertEqual((done.returncode, done.stderr.splitlines()[1:]), (3, ["gone: cannot be read"]))
+        self.pretend("ended", "a fault\nrun=none proved=no\n")
+        self.assertIn("a fault", self.fails(["generate", self.model, "-"], "no answer unproved"))
+
+    def test_goes_through_links(self):
+        folder = tempfile.TemporaryDirectory()
+        self.addCleanup(folder.cleanup)
+        absolute, relative = (os.path.join(folder.name, name) for name in ("absolute", "relative"))
+        os.symlink(self.launcher, absolute)
+        os.symlink("absolute", relative)
+        self.prove(1)
+        self.is_proved(by=absolute, folder=folder.name)
+        self.is_proved(by=relative, folder="/")
+        self.is_proved(by="./relative", folder=folder.name)
+
+    def test_needs_the_toolchain_only_to_prove_and_to_try(self):
+        with_rt, without = self.path, os.path.join(self.pretended, "others")
+        os.mkdir(without)
+        for name in ("cat", "cksum", "dirname", "find", "head", "readlink", "sh", "sort"):
+            os.symlink(shutil.which(name), os.path.join(without, name))
+        self.path = without
+        for words in (["prove"], ["generate", self.model, "-"]):
+            self.assertEqual(len(self.fails(words, "isn't in the path").splitlines()), 1)
+        self.path = with_rt
+        self.prove(1)
+        self.path = without
+        self.is_proved()
+
+    def test_README_says_how_long_a_proof_takes(self):
+        taken = re.search(r"^prove_time='(.*)'$", read(self.launcher), re.M)[1]
+        self.assertTrue(taken in read(os.path.join(TOP, "README.md")), taken)

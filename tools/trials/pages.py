@@ -1,0 +1,118 @@
+"""What README.md and the pages of docs/ say, against what stands and what the program prints."""
+
+import glob
+import os
+import re
+import shlex
+import shutil
+import subprocess
+import tempfile
+import unittest
+
+from .common import TOP, read, write
+
+
+def blocks_of(page):
+    """The fenced blocks of a page: the language and the text of each."""
+    return re.findall(r"^```(\w*)\n(.*?)^```$", read(os.path.join(TOP, page)), re.M | re.S)
+
+
+def commands_of(text):
+    """Each command of a block that shows a session, with what it shows."""
+    found = re.findall(r"^\$ (.*)\n((?:(?!\$ ).*\n)*)", text, re.M)
+    return [(command, shown) for command, shown in found]
+
+
+def program():
+    """The proved program, or the one that the environment names, or none."""
+    given = os.environ.get("TILECATNIP")
+    done = subprocess.run([os.path.join(TOP, "tilecatnip"), "--program"], capture_output=True, text=True)
+    return given or done.stdout.strip()
+
+
+class Page(unittest.TestCase):
+    """What README.md shows is what stands in examples/, and what Icarus Verilog prints of it."""
+
+    def setUp(self):
+        self.blocks = blocks_of("README.md")
+
+    def example(self, name):
+        with open(os.path.join(TOP, "examples", name)) as file:
+            return file.read()
+
+    def test_shows_the_example(self):
+        texts = [text for _, text in self.blocks]
+        self.assertIn("$ ./tilecatnip generate examples/unit_delay.mdl -\n" + self.example("unit_delay.v"), texts)
+
+    def test_is_short(self):
+        self.assertLessEqual(len(read(os.path.join(TOP, "README.md")).split()), 2500)
+
+    def test_names_files_that_stand(self):
+        for page in ["README.md", "CHANGELOG.md"] + glob.glob(os.path.join(TOP, "docs/*.md")) + glob.glob(os.path.join(TOP, "examples/**/README.md"), recursive=True):
+            path = os.path.join(TOP, page)
+            for link in re.findall(r"\]\(([^)#:\s]+)\)", re.sub(r"^```.*?^```$", "", read(path), flags=re.M | re.S)):
+                self.assertTrue(os.path.exists(os.path.join(os.path.dirname(path), link)), f"{page}: {link}")
+
+    @unittest.skipUnless(shutil.which("iverilog"), "Icarus Verilog is not installed")
+    def test_testbench_prints_what_is_shown(self):
+        bench = next(text for language, text in self.blocks if language == "verilog")
+        _, command, shown = next(text for _, text in self.blocks if "iverilog" in text).split("\n", 2)
+        with tempfile.TemporaryDirectory() as room:
+            write(os.path.join(room, "bench.v"), bench)
+            write(os.path.join(room, "fx_model.v"), self.example("unit_delay.v"))
+            done = subprocess.run(["sh", "-c", command.lstrip("$ ")], cwd=room, capture_output=True, text=True)
+        self.assertEqual((done.returncode, done.stdout), (0, shown), done.stderr)
+
+
+@unittest.skipUnless(program(), "there is no proved program")
+class Shown(unittest.TestCase):
+    """What README.md and docs/RULES.md show of a command is what it prints."""
+
+    def print_of(self, command, folder=TOP):
+        command = re.sub(r"^\./tilecatnip (?=simulate|generate|replay)", shlex.quote(program()) + " ", command)
+        return subprocess.run(["sh", "-c", command], cwd=folder, stdout=subprocess.PIPE, stderr=subprocess.STDOUT, text=True, timeout=60)
+
+    def test_README(self):
+        tried = 0
+        for command, shown in (it for _, text in blocks_of("README.md") for it in commands_of(text)):
+            if re.match(r"(\./tilecatnip (simulate|generate|replay)|tools/lint)[^>|&]*$", command):
+                self.assertEqual(self.print_of(command).stdout, shown, command)
+                tried += 1
+        self.assertGreater(tried, 3)
+
+    def test_rules(self):
+        """Each refusal that is shown, and that the model with the second lines for the first is accepted."""
+        blocks = [it for it in blocks_of("docs/RULES.md") if it[0] == "mdl" or it[1].startswith("$ ")]
+        self.assertEqual(len(blocks) % 3, 0)
+        for (_, session), (_, broken), (_, mended) in zip(blocks[::3], blocks[1::3], blocks[2::3]):
+            [(command, shown)] = commands_of(session)
+            self.assertEqual(self.print_of(command).stdout, shown, command)
+            _, _, model, stimulus = command.split()
+            text = read(os.path.join(TOP, model))
+            self.assertEqual(text.count(broken), 1, model)
+            with tempfile.TemporaryDirectory() as room:
+                write(os.path.join(room, "mended.mdl"), text.replace(broken, mended))
+                done = self.print_of(f"./tilecatnip simulate mended.mdl {shlex.quote(os.path.join(TOP, stimulus))}", room)
+            self.assertEqual(done.returncode, 0, f"{model}, mended: {done.stdout}")
+        self.assertEqual({f"examples/rules/{os.path.basename(it)}" for it in glob.glob(os.path.join(TOP, "examples/rules/*.mdl"))},
+                         {commands_of(session)[0][0].split()[2] for _, session in blocks[::3]})
+
+
+class Proved(unittest.TestCase):
+    """docs/PROVED.md has a section for each crate, and names only functions and clauses that stand in its source."""
+
+    def test_names_stand(self):
+        with open(os.path.join(TOP, "docs/PROVED.md")) as file:
+            sections = {part.partition(":")[0]: part for part in re.split(r"^## ", file.read(), flags=re.M)[1:]}
+        with open(os.path.join(TOP, "crates.txt")) as file:
+            crates = [line.partition(":")[0].split()[0] for line in file if re.match(r"\w", line)]
+        self.assertEqual([crate for crate in crates if crate not in sections], [])
+        for crate in crates:
+            source = ""
+            for path in glob.glob(os.path.join(TOP, "crates", crate, "src/**/*.rt"), recursive=True):
+                with open(path) as file:
+                    source += file.read()
+            rows = "".join(re.findall(r"^\| function \|.*\n\|---.*\n((?:\|.*\n)+)", sections[crate], re.M))
+            for functions, clauses in re.findall(r"^\| (.*?) \| (.*?) \| ", rows, re.M):
+                names = [name.rpartition("::")[2] for cell in (functions, clauses) for name in re.findall(r"`([^`]+)`", cell)]
+                self.assertEqual([name for name in names if not re.search(rf"\b{name}\b", source)], [], crate)
