@@ -25,7 +25,7 @@ def numbers(text):
 def short(text, most=9):
     text = " ".join(text.split())
     if re.fullmatch(r"-?\d+\.\d{5,}", text):
-        text = f"{float(text):.4g}"
+        text = f"{float(text):.5g}"
     return text if len(text) <= most else text[: most - 1] + "…"
 
 
@@ -91,7 +91,7 @@ class Box:
             length = "1" if self.kind == "UnitDelay" else get("DelayLength", "2")
             return "z" + ("-" + length).translate(SUPERSCRIPT)
         if self.kind == "Switch":
-            criterion = get("Criteria", "u2 >= Threshold").replace("Threshold", short(get("Threshold", "0"), 6))
+            criterion = get("Criteria", "u2 >= Threshold").replace("Threshold", short(get("Threshold", "0")))
             return criterion.replace("u2", "").replace(">=", "≥").replace("~=", "≠").strip()
         plain = {
             "Gain": short(get("Gain", "1")), "Constant": short(get("Value", "1")), "Product": "×", "Logic": get("Operator", "AND"),
@@ -143,7 +143,8 @@ def shape(box):
     if box.kind == "Ground":
         return f'<path d="M{left} {top + high // 2}h{wide}M{left + 4} {top + 4}v{high - 8}M{left} {top + 7}v{high - 14}" class="line"/>'
     if box.kind == "Terminator":
-        return f'<path d="M{left} {top + high // 2}h{wide - 6}M{right - 6} {top + 3}v{high - 6}" class="line"/>'
+        begin, step = (right, -1) if box.is_left else (left, 1)
+        return f'<path d="M{begin} {top + high // 2}h{step * (wide - 6)}M{begin + step * (wide - 6)} {top + 3}v{high - 6}" class="line"/>'
     pulse = f'<path d="M{left + 4} {bottom - 5}h4v{10 - high}h{wide - 16}v{high - 10}h4" class="line"/>' if box.kind == "EnablePort" else ""
     return f'<rect x="{left}" y="{top}" width="{wide}" height="{high}" class="block"/>' + pulse
 

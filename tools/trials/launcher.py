@@ -158,10 +158,10 @@ class Launcher(unittest.TestCase):
         write(os.path.join(self.top, "crates/fx_prog/out"), "a file where a folder is wanted")
         self.assertEqual(len(self.fails(["prove"], "can't be built").splitlines()), 1)
 
-    def begun(self):
-        """A proof that doesn't end by itself, once its toolchain runs, and the process of that."""
+    def begun(self, *words):
+        """A proof, or another command, that doesn't end by itself, once its toolchain runs, and the process of that."""
         self.pretend("meanwhile", "echo $$ >\"$PRETENDED/process\"; exec sleep 60")
-        proof = subprocess.Popen([self.launcher, "prove"], env=self.environment(), stdout=subprocess.DEVNULL, stderr=subprocess.PIPE, text=True)
+        proof = subprocess.Popen([self.launcher, *(words or ["prove"])], env=self.environment(), stdout=subprocess.DEVNULL, stderr=subprocess.PIPE, text=True)
         process = os.path.join(self.pretended, "process")
         while not os.path.exists(process) or not read(process).endswith("\n"):
             time.sleep(0.05)
@@ -180,6 +180,17 @@ class Launcher(unittest.TestCase):
         self.pretend("meanwhile", "")
         self.prove(4)
         self.is_proved()
+
+    def test_a_signal_ends_an_unproved_answer(self):
+        answer, process = self.begun("generate", self.model, "-")
+        answer.send_signal(signal.SIGTERM)
+        answer.communicate(timeout=30)
+        self.assertEqual(answer.returncode, 70)
+        for _ in range(100):
+            if not os.path.exists(f"/proc/{process}"):
+                break
+            time.sleep(0.05)
+        self.assertRaises(ProcessLookupError, os.kill, process, 0)
 
     def test_one_proof_at_a_time(self):
         proof, _ = self.begun()
