@@ -126,8 +126,13 @@ class Box:
         return [", ".join(parts[:2]), ", ".join(parts[2:])] if len(", ".join(parts)) > 24 else [", ".join(parts)]
 
 
+def plain(text):
+    """A text as SVG takes it."""
+    return escape(re.sub(r"[^\t\n -\ud7ff\ue000-\ufffd\U00010000-\U0010ffff]|[\x7f-\x9f]", "?", text))
+
+
 def text(x, y, said, kind, more=""):
-    return f'<text x="{x:g}" y="{y:g}" class="{kind}"{more}>{escape(said)}</text>'
+    return f'<text x="{x:g}" y="{y:g}" class="{kind}"{more}>{plain(said)}</text>'
 
 
 def shape(box):
@@ -184,7 +189,7 @@ def draw_box(box):
     left, top, right, bottom = box.place
     middle, parts = (left + right) / 2, ["<g>"]
     whole = box.kind + "".join(f"\n{name}: {value}" for name, value in box.block.parameters.items() if name not in ("BlockType", "Position", "SID", "ZOrder"))
-    parts.append(f"<title>{escape(whole)}</title>")
+    parts.append(f"<title>{plain(whole)}</title>")
     parts.append(shape(box))
     told = box.told()
     if told:
