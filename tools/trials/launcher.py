@@ -20,7 +20,8 @@ case $1 in
     try)
         shift 4
         echo "tried $1"
-        cat "$PRETENDED/ended" >&2
+        for word; do [ ! -f "$word" ] || cat "$word"; done
+        sed "s|MODEL|$2|" "$PRETENDED/ended" >&2
         . "$PRETENDED/meanwhile"
         ;;
     ci)
@@ -87,7 +88,7 @@ class Launcher(unittest.TestCase):
     def is_unproved(self, proofs):
         """The sources answer unproved, which is said in a line, and no proof is begun."""
         done = self.run_with("generate", self.model, "-")
-        self.assertEqual((done.returncode, done.stdout, self.proofs()), (0, "tried generate\n", proofs), done.stderr)
+        self.assertEqual((done.returncode, done.stdout, self.proofs()), (0, "tried generate\na model", proofs), done.stderr)
         self.assertIn("./tilecatnip prove", done.stderr)
         self.assertEqual(len(done.stderr.splitlines()), 1)
 
@@ -217,14 +218,20 @@ class Launcher(unittest.TestCase):
 
     def test_unproved_answers_end_as_the_program_does(self):
         folder, name = os.path.split(self.model)
-        self.pretend("ended", f"{self.model}: line 2: not MDL text\n" + ENDED.format(5))
+        self.pretend("ended", "MODEL: line 2: not MDL text\n" + ENDED.format(5))
         done = self.run_with("generate", name, "-", folder=folder)
-        self.assertEqual((done.returncode, done.stdout), (5, "tried generate\n"))
+        self.assertEqual((done.returncode, done.stdout), (5, "tried generate\na model"))
         self.assertEqual(done.stderr.splitlines()[1:], ["a b.mdl: line 2: not MDL text"])
         done = self.run_with("simulate", name, "gone", folder=folder)
         self.assertEqual((done.returncode, done.stderr.splitlines()[1:]), (3, ["gone: cannot be read"]))
         self.pretend("ended", "a fault\nrun=none proved=no\n")
         self.assertIn("a fault", self.fails(["generate", self.model, "-"], "no answer unproved"))
+
+    def test_unproved_answers_read_files_that_can_be_read_once(self):
+        for command in ('cat "$1" | "$0" simulate /dev/stdin "$1"', '"$0" simulate "$1" /dev/stdin <"$1"'):
+            words = ["sh", "-c", command, self.launcher, self.model]
+            done = subprocess.run(words, env=self.environment(), capture_output=True, text=True, timeout=60)
+            self.assertEqual((done.returncode, done.stdout), (0, "tried simulate\na modela model"))
 
     def test_goes_through_links(self):
         folder = tempfile.TemporaryDirectory()
