@@ -1,0 +1,44 @@
+use super::{FRAME, add, add_comb, checked_module, port};
+use fx_io::OutOfMemory;
+use hw_net::{NetKind, NetOp, Netlist};
+use std::alloc::Global;
+use std::test::Fail;
+
+/// A netlist of so many nets behind an input and a Counter: sums, each but the last in a register.
+fn chain(alloc: Global, count: u32) -> Result<Netlist, OutOfMemory> {
+    let mut netlist = Netlist::new(alloc, 1);
+    let word = (16, true);
+    let input = add_comb(alloc, &mut netlist, word, NetOp::Input(0), &[])?;
+    netlist.add_input(port(alloc, "u", input, 0)?)?;
+    let _ = add(&mut netlist, (5, false), NetKind::Counter { frame: FRAME })?;
+    let mut last = input;
+    for place in 0..count {
+        last = if place % 2 == 0 {
+            add_comb(alloc, &mut netlist, word, NetOp::Add, &[last, input])?
+        } else {
+            let kind = NetKind::Reg {
+                frame: FRAME,
+                slot: 0,
+                first: 0,
+                from: last,
+            };
+            add(&mut netlist, word, kind)?
+        };
+    }
+    netlist.add_output(port(alloc, "y", last, 0)?)?;
+    Ok(netlist)
+}
+
+/// How many items the module of such a netlist has.
+fn items_of(alloc: Global, count: u32) -> Result<usize, OutOfMemory> {
+    let netlist = chain(alloc, count)?;
+    let made = checked_module(alloc, &netlist)?;
+    Ok(made.map_or(0, |made| made.items.as_slice().len()))
+}
+
+/// A declaration and a driver of each net, and the output.
+#[test]
+fn each_net_has_two_items(rt: HostRuntime) -> Result<(), Fail> {
+    assert_eq!(rt; items_of(rt.alloc(), 400)?, 805);
+    Ok(())
+}

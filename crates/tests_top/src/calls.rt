@@ -1,0 +1,59 @@
+//! Calls of the top.
+
+use crate::cases::{Case, ROOM};
+use crate::stuck::Stuck;
+use anyhow::{Result, anyhow};
+use fx_io::{MemShelf, MemSink};
+use fx_top::run;
+use std::alloc::Global;
+
+/// What a call answers.
+#[derive(Drop)]
+pub struct Answer {
+    pub status: u8,
+    pub out: Vec<u8>,
+    pub err: Vec<u8>,
+}
+
+/// What the call of these words answers.
+pub fn answered(alloc: Global, case: &Case, words: &str) -> Result<Answer> {
+    let mut shelf = MemShelf::new(alloc, case.fetches.as_slice())?;
+    for file in case.files.iter() {
+        shelf.add(file.name.as_str(), file.bytes.as_slice())?;
+    }
+    let mut texts = Vec::new(alloc);
+    for word in words.split_whitespace() {
+        texts.push(String::from_str(alloc, word)?)?;
+    }
+    if case.stuck {
+        return stuck(alloc, texts.as_slice(), shelf);
+    }
+    let mut out = sink(alloc, case.puts.as_slice(), case.piece)?;
+    let mut err = sink(alloc, &[], ROOM)?;
+    let status = run(alloc, texts.as_slice(), &mut shelf, &mut out, &mut err);
+    Ok(Answer {
+        status,
+        out: out.taken().to_vec(alloc)?,
+        err: err.taken().to_vec(alloc)?,
+    })
+}
+
+/// The same where standard output takes nothing and standard error fails.
+fn stuck(alloc: Global, words: &[String], mut shelf: MemShelf) -> Result<Answer> {
+    let mut out = Stuck { faults: 0 };
+    let mut err = sink(alloc, &[1], ROOM)?;
+    let status = run(alloc, words, &mut shelf, &mut out, &mut err);
+    Ok(Answer {
+        status,
+        out: Vec::new(alloc),
+        err: err.taken().to_vec(alloc)?,
+    })
+}
+
+/// A sink in memory.
+fn sink(alloc: Global, failing: &[u64], piece: usize) -> Result<MemSink> {
+    match MemSink::new(alloc, failing, piece, ROOM) {
+        Ok(sink) => Ok(sink),
+        Err(_) => Err(anyhow!("no sink")),
+    }
+}

@@ -1,0 +1,94 @@
+//! What a call finds.
+
+use crate::calls::{Answer, answered};
+use anyhow::{Result, anyhow};
+use std::alloc::Global;
+use std::io::Write;
+use tests_rows::{Row, Texts};
+
+/// A file by its name.
+#[derive(Drop)]
+pub struct Held {
+    pub name: String,
+    pub bytes: Vec<u8>,
+}
+
+/// The files, and what fails at the next call.
+#[derive(Drop)]
+pub struct Case {
+    pub files: Vec<Held>,
+    pub fetches: Vec<u64>,
+    pub puts: Vec<u64>,
+    pub piece: usize,
+    pub stuck: bool,
+}
+
+/// How much a sink takes.
+pub const ROOM: usize = 100_000;
+
+impl Case {
+    pub fn new(alloc: Global) -> Case {
+        Case {
+            files: Vec::new(alloc),
+            fetches: Vec::new(alloc),
+            puts: Vec::new(alloc),
+            piece: ROOM,
+            stuck: false,
+        }
+    }
+
+    /// Takes a line that is no text's.
+    pub fn take<W: Write>(
+        &mut self,
+        alloc: Global,
+        texts: &Texts,
+        line: &str,
+        out: &mut W,
+    ) -> Result<()> {
+        if let Some(words) = line.strip_prefix("run ") {
+            writeln!(out, "{line}")?;
+            let answer = answered(alloc, self, words)?;
+            put_answer(&answer, out)?;
+            self.fetches.clear();
+            self.puts.clear();
+            self.piece = ROOM;
+            self.stuck = false;
+            return Ok(());
+        }
+        self.set(alloc, texts.row(alloc, line)?)
+    }
+
+    /// Does what a row says.
+    fn set(&mut self, alloc: Global, mut row: Row<'_>) -> Result<()> {
+        match row.command.as_bytes() {
+            b"file" => {
+                let name = String::from_str(alloc, row.next()?)?;
+                let bytes = row.text;
+                self.files.push(Held { name, bytes })?;
+            }
+            b"zeros" => {
+                let name = String::from_str(alloc, row.next()?)?;
+                let count = row.number()? as usize;
+                let bytes = std::vec![in alloc; 0u8; count]?;
+                self.files.push(Held { name, bytes })?;
+            }
+            b"fetch" => self.fetches.push(u64::from(row.number()?))?,
+            b"put" => self.puts.push(u64::from(row.number()?))?,
+            b"piece" => self.piece = row.number()? as usize,
+            b"stuck" => self.stuck = true,
+            _ => return Err(anyhow!("no command")),
+        }
+        Ok(())
+    }
+}
+
+fn put_answer<W: Write>(answer: &Answer, out: &mut W) -> Result<()> {
+    let status = answer.status;
+    writeln!(out, "status {status}")?;
+    out.write_all(answer.err.as_slice())?;
+    if !answer.out.is_empty() {
+        out.write_all(answer.out.as_slice())?;
+        out.write_all(b"|\n")?;
+    }
+    Ok(())
+}

@@ -1,0 +1,191 @@
+use fx_io::Text;
+use std::alloc::Global;
+use std::fmt::Write;
+use anyhow::Result;
+use vl_ast::{Attrs, Expr, ModItem, Module, Sized};
+
+fn put_text(out: &mut String, text: &Text) -> Result<()> {
+    out.push_str(str::from_utf8(text.bytes())?)?;
+    Ok(())
+}
+
+fn sign(signed: bool) -> char {
+    if signed { 's' } else { 'u' }
+}
+
+/// A number with its base, as `16s7`.
+fn put_sized(out: &mut String, number: &Sized) -> Result<()> {
+    let Sized {
+        width,
+        signed,
+        bits,
+    } = *number;
+    let sign = sign(signed);
+    write!(out, "{width}{sign}{bits}")?;
+    Ok(())
+}
+
+/// An expression, as `(Add a b.3)`: the name of its form before its parts.
+#[cycle(shown)]
+fn put_expr(out: &mut String, e: &Expr) -> Result<()> {
+    match e {
+        Expr::Name(name) => put_text(out, name),
+        Expr::Bit(name, place) => {
+            put_text(out, name)?;
+            write!(out, ".{place}")?;
+            Ok(())
+        }
+        Expr::Part(name, high, low) => {
+            put_text(out, name)?;
+            write!(out, ".{high}.{low}")?;
+            Ok(())
+        }
+        Expr::Literal(number) => put_sized(out, number),
+        _ => {
+            out.push('(')?;
+            put_compound(out, e)?;
+            out.push(')')?;
+            Ok(())
+        }
+    }
+}
+
+/// What stands between the parentheses.
+#[cycle(shown)]
+fn put_compound(out: &mut String, e: &Expr) -> Result<()> {
+    match e {
+        Expr::Concat(parts) => {
+            out.push_str("Concat")?;
+            put_parts(out, parts.as_slice())
+        }
+        Expr::Repeat(count, part) => {
+            write!(out, "Repeat {count}")?;
+            put_part(out, part.get())
+        }
+        Expr::AsSigned(part) => put_cast(out, "Signed", part.get()),
+        Expr::AsUnsigned(part) => put_cast(out, "Unsigned", part.get()),
+        Expr::Unary(op, part) => {
+            write!(out, "{op:?}")?;
+            put_part(out, part.get())
+        }
+        Expr::Binary(op, left, right) => {
+            write!(out, "{op:?}")?;
+            put_part(out, left.get())?;
+            put_part(out, right.get())
+        }
+        Expr::Shift(op, part, amount) => {
+            write!(out, "{op:?}")?;
+            put_part(out, part.get())?;
+            out.push(' ')?;
+            put_sized(out, amount)
+        }
+        Expr::Choose(test, chosen, other) => {
+            out.push_str("Choose")?;
+            put_part(out, test.get())?;
+            put_part(out, chosen.get())?;
+            put_part(out, other.get())
+        }
+        Expr::Name(_) | Expr::Bit(_, _) | Expr::Part(_, _, _) | Expr::Literal(_) => Ok(()),
+    }
+}
+
+#[cycle(shown)]
+fn put_cast(out: &mut String, word: &str, e: &Expr) -> Result<()> {
+    out.push_str(word)?;
+    put_part(out, e)
+}
+
+#[cycle(shown)]
+fn put_part(out: &mut String, e: &Expr) -> Result<()> {
+    out.push(' ')?;
+    put_expr(out, e)
+}
+
+#[cycle(shown)]
+fn put_parts(out: &mut String, parts: &[Expr]) -> Result<()> {
+    for part in parts {
+        put_part(out, part)?;
+    }
+    Ok(())
+}
+
+fn put_attrs(out: &mut String, attrs: &Attrs) -> Result<()> {
+    for attr in attrs.as_slice() {
+        out.push(' ')?;
+        put_text(out, &attr.name)?;
+        let value = attr.value;
+        write!(out, "={value}")?;
+    }
+    Ok(())
+}
+
+fn put_net(
+    out: &mut String,
+    word: &str,
+    signed: bool,
+    width: u32,
+    name: &Text,
+) -> Result<()> {
+    let sign = sign(signed);
+    write!(out, "{word} {width}{sign} ")?;
+    put_text(out, name)
+}
+
+fn put_item(out: &mut String, item: &ModItem) -> Result<()> {
+    match item {
+        ModItem::Wire {
+            signed,
+            width,
+            name,
+        } => put_net(out, "wire", *signed, *width, name),
+        ModItem::Reg {
+            signed,
+            width,
+            name,
+        } => put_net(out, "reg", *signed, *width, name),
+        ModItem::Assign { name, value } => {
+            out.push_str("assign ")?;
+            put_text(out, name)?;
+            put_part(out, value)
+        }
+        ModItem::Always {
+            name,
+            first,
+            condition,
+            value,
+        } => {
+            out.push_str("always ")?;
+            put_text(out, name)?;
+            out.push(' ')?;
+            put_sized(out, first)?;
+            match condition {
+                None => out.push_str(" else")?,
+                Some(condition) => {
+                    out.push_str(" if")?;
+                    put_part(out, condition)?;
+                }
+            }
+            put_part(out, value)
+        }
+    }
+}
+
+/// A module: its name and attributes on a line, then each port and each item on a line.
+pub fn shown(alloc: Global, module: &Module) -> Result<String> {
+    let mut out = String::new(alloc);
+    out.push_str("module ")?;
+    put_text(&mut out, &module.name)?;
+    put_attrs(&mut out, &module.attrs)?;
+    out.push('\n')?;
+    for port in module.ports.as_slice() {
+        let word = if port.input { "in" } else { "out" };
+        put_net(&mut out, word, port.signed, port.width, &port.name)?;
+        put_attrs(&mut out, &port.attrs)?;
+        out.push('\n')?;
+    }
+    for item in module.items.as_slice() {
+        put_item(&mut out, item)?;
+        out.push('\n')?;
+    }
+    Ok(out)
+}
