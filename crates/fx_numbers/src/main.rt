@@ -7,6 +7,9 @@
 //!
 //! | line | what is printed |
 //! |---|---|
+//! | `wrap V WORD`, `fits V WORD`, `to_bits V WORD`, `from_bits BITS WORD` | of a number and a word (`fx_num`), a type without its point |
+//! | `shift_up V BY` | the number shifted, or `None` |
+//! | `range TYPE` | the least and the greatest number of a type |
 //! | `conversion V FROM END` | the number converted (`fx_round::convert`) |
 //! | `decimal TYPE \|TEXT` | sign, digits, exponent and stored integer, or why there are none |
 //! | `sum_type N SIGN TYPE ..`, `product_type A B`, `union_type A B` | the full type, or `TooWide` |
@@ -17,10 +20,12 @@
 //! | `logic GATE N TYPE V ..` | the same, N up to 3 |
 //! | `convert TYPE V END`, `stored TYPE V END`, `pass TYPE V` | the same |
 //!
-//! The result of an operation is three numbers: what it gives (`dg_blocks::output`), what its nets
-//! show of the same inputs (`hw_lower::lower`), and how many these nets are.
+//! The result of an operation is four numbers: what it gives (`dg_blocks::output`), what it gives
+//! prepared (`dg_prepared`), what its nets show of the same inputs (`hw_lower::lower`), and how many
+//! these nets are. Behind the word `output` only the first two of an operation are printed.
 #![tactic(auto)]
 
+mod bits;
 mod nets;
 mod operations;
 mod types;
@@ -51,15 +56,35 @@ fn answer<W: Write>(alloc: Global, line: &str, out: &mut W) -> Result<()> {
     let words = front.split_whitespace().collect(alloc)?;
     let mut words = Words { words, at: 0 };
     match words.next()?.as_bytes() {
+        b"wrap" => bits::wrapped(&mut words, out),
+        b"fits" => bits::fitted(&mut words, out),
+        b"to_bits" => bits::in_bits(&mut words, out),
+        b"from_bits" => bits::of_bits(&mut words, out),
+        b"shift_up" => bits::shifted(&mut words, out),
+        b"range" => types::range(&mut words, out),
         b"conversion" => types::conversion(&mut words, out),
         b"decimal" => types::decimal(&mut words, text, out),
         b"sum_type" => types::sum_type(alloc, &mut words, out),
         b"product_type" => types::product_type(&mut words, out),
         b"union_type" => types::union_type(&mut words, out),
+        b"output" => {
+            let operation = words.next()?;
+            let answer = operations::carried_out(alloc, operation.as_bytes(), &mut words)?;
+            let Answer {
+                value, prepared, ..
+            } = answer;
+            writeln!(out, "{value} {prepared}")?;
+            Ok(())
+        }
         operation => {
             let answer = operations::carried_out(alloc, operation, &mut words)?;
-            let Answer { value, shown, nets } = answer;
-            writeln!(out, "{value} {shown} {nets}")?;
+            let Answer {
+                value,
+                prepared,
+                shown,
+                nets,
+            } = answer;
+            writeln!(out, "{value} {prepared} {shown} {nets}")?;
             Ok(())
         }
     }

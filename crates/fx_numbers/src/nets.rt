@@ -9,16 +9,18 @@ ghost use Rattle.hw_lower.specs.Lowered.{AreArgs};
 use anyhow::{Result, anyhow};
 use dg_blocks::output;
 use dg_model::OpCall;
+use dg_prepared::Prepared;
 use fx_io::{Sizes, Text};
 use fx_type::FxType;
 use hw_lower::lower;
 use hw_net::{Net, NetKind, NetOp, NetPort, NetState, Netlist, is_netlist};
 use std::alloc::Global;
 
-/// What an operation gives, what its nets show, and how many these are.
+/// What an operation gives, what it gives prepared, what its nets show, and how many these are.
 #[derive(Clone, Copy)]
 pub struct Answer {
     pub value: i128,
+    pub prepared: i128,
     pub shown: i128,
     pub nets: usize,
 }
@@ -28,6 +30,7 @@ pub fn answered(alloc: Global, call: &OpCall, inputs: &[i128]) -> Result<Answer>
     requires { CanCarryOut (operation_of call.now) inputs.now }
 {
     let value = output(call, inputs);
+    let prepared = Prepared::new(call).output(call, inputs);
     let mut net = Netlist::new(alloc, 1);
     let args = put_inputs(alloc, &mut net, call.types)?;
     let before = net.nets().len();
@@ -37,7 +40,12 @@ pub fn answered(alloc: Global, call: &OpCall, inputs: &[i128]) -> Result<Answer>
     let number = lower(alloc, &mut net, call, args.as_slice())?;
     let shown = shown(alloc, &net, number, inputs)?;
     let nets = net.nets().len().saturating_sub(before);
-    Ok(Answer { value, shown, nets })
+    Ok(Answer {
+        value,
+        prepared,
+        shown,
+        nets,
+    })
 }
 
 /// Puts an input of each type into the netlist, and gives the numbers of their nets.

@@ -6,6 +6,14 @@ use fx_type::{FxType, TooWide, full_product, full_sum, union};
 use std::alloc::Global;
 use std::io::Write;
 
+pub fn range<W: Write>(words: &mut Words<'_>, out: &mut W) -> Result<()> {
+    let kind = words.valid_type()?;
+    let lowest = kind.lowest();
+    let highest = kind.highest();
+    writeln!(out, "{lowest} {highest}")?;
+    Ok(())
+}
+
 pub fn conversion<W: Write>(words: &mut Words<'_>, out: &mut W) -> Result<()> {
     let v = words.number()?;
     let from = words.valid_type()?;

@@ -1,11 +1,11 @@
-//! Chains stepped clock by clock, against what a line owes worked out plainly.
+//! How many registers chains take, and a chain stepped clock by clock.
 ghost use Rattle.std.specs.Prelude.{◌≡◌, ◌+◌, ◌<◌, ◌≤◌, All, true, length};
 ghost use Rattle.hw_net.specs.State.{IsStateOf};
 ghost use Rattle.hw_lines.specs.Chain.{IsSource, IsUse};
 
-use crate::{Source, Use, chain, line};
 use fx_io::{OutOfMemory, Sizes, Text};
 use fx_num::{fits, is_word};
+use hw_lines::{Source, Use, chain, line};
 use hw_net::{Frame, Net, NetKind, NetOp, NetPort, NetState, Netlist, is_netlist};
 use std::alloc::Global;
 use std::process::Abort;
@@ -70,38 +70,6 @@ fn with_input(alloc: Global, cycles: u32) -> Result<Netlist, OutOfMemory> {
 /// What the input shows at a clock.
 fn input_at(clock: u128) -> i128 {
     (clock % 30011 * 7 % 30011) as i128
-}
-
-/// What a use is to show at a clock, where its line owes it.
-fn owed(source: Source, cycles: u32, one: Use, clock: u128) -> Option<i128>
-    requires cycles { 0 < cycles }
-    requires period { 0 < source.frame.period }
-{
-    let latency = u128::from(source.frame.latency);
-    let own = u128::from(source.frame.period);
-    let longer = u128::from(source.frame.period.max(one.period));
-    let shift = u128::from(one.shift);
-    let clocks = u128::from(cycles);
-    let sample = clock / clocks;
-    if sample < latency + shift {
-        return if source.registered {
-            Some(source.first)
-        } else {
-            None
-        };
-    }
-    let hit = (sample - latency - shift) / longer * longer;
-    let end = hit
-        .saturating_add(latency + own)
-        .saturating_mul(clocks)
-        .saturating_sub(1);
-    let seen = hit.saturating_add(latency + shift).saturating_mul(clocks);
-    let at = if source.registered {
-        seen.saturating_sub(1)
-    } else {
-        clock
-    };
-    Some(input_at(at.min(end)))
 }
 
 /// Puts the numbers of nets behind those of the clocks before.
@@ -180,103 +148,6 @@ fn chained(
     } = source;
     let answers = chain(alloc, &mut net, from, frame, first, registered, uses)?;
     Ok((net, answers))
-}
-
-/// The clocks of a base sample, the source's period and latency, how many of its periods the
-/// greatest shift has, and how many clocks are looked at.
-const FRAMES: &[(u32, u32, u64, u64, u64)] = &[
-    (1, 1, 0, 1024, 1060),
-    (1, 1, 5, 4, 30),
-    (3, 1, 0, 4, 60),
-    (3, 1, 5, 4, 60),
-    (1024, 1, 5, 3, 10000),
-    (1, 2, 0, 4, 60),
-    (1, 2, 5, 64, 200),
-    (3, 2, 0, 4, 90),
-    (3, 2, 5, 4, 90),
-    (1024, 2, 0, 2, 7000),
-    (1, 4096, 5, 2, 13000),
-    (3, 4096, 0, 1, 26000),
-];
-
-/// Shifts of a source of this period, all of its chain, and periods of the readers.
-fn uses_of(
-    alloc: Global,
-    period: u32,
-    periods: u64,
-    registered: bool,
-) -> Result<Vec<Use>, OutOfMemory>
-    requires period { 0 < period }
-    requires periods { periods ≤ 1024 }
-{
-    let own = u64::from(period);
-    let far = periods * own;
-    let shifts = [0, 1, own - 1, own, own + 1, 2 * own + 1, far, 1];
-    let mut uses = Vec::new(alloc);
-    for shift in shifts {
-        if registered && shift == 0 {
-            continue;
-        }
-        uses.push(Use { shift, period })?;
-        let other = if registered {
-            if period % 2 == 0 { period / 2 } else { 1 }
-        } else {
-            period.min(2048) * 2
-        };
-        uses.push(Use {
-            shift,
-            period: other,
-        })?;
-    }
-    Ok(uses)
-}
-
-/// Compares what the answers of a chain show with what is owed, at each of the first clocks.
-fn compare(
-    rt: &impl Abort,
-    alloc: Global,
-    cycles: u32,
-    source: Source,
-    periods: u64,
-    clocks: u64,
-) -> Result<(), OutOfMemory>
-    requires cycles { 0 < cycles }
-    requires period { 0 < source.frame.period }
-    requires periods { periods ≤ 1024 }
-    requires clocks { clocks < 1000000 }
-{
-    let uses = uses_of(alloc, source.frame.period, periods, source.registered)?;
-    let (net, answers) = chained(rt, alloc, cycles, source, uses.as_slice())?;
-    let count = answers.as_slice().len();
-    assert_eq!(rt; count, uses.len());
-    assert!(rt; 0 < count);
-    let row = shown(rt, alloc, &net, answers.as_slice(), clocks)?;
-    for (place, value) in row.iter().enumerate() {
-        let clock = place / count;
-        let one = uses[place % count];
-        if let Some(wanted) = owed(source, cycles, one, clock as u128) {
-            assert_eq!(rt; *value, wanted, "clock {clock}");
-        }
-    }
-    Ok(())
-}
-
-#[test]
-fn each_use_sees_what_its_line_owes(rt: HostRuntime) -> Result<(), Fail> {
-    for &(cycles, period, latency, periods, clocks) in FRAMES {
-        assert!(rt; 0 < cycles && 0 < period);
-        assert!(rt; periods <= 1024 && clocks < 1000000);
-        for registered in [false, true] {
-            let source = Source {
-                from: 0,
-                frame: Frame { period, latency },
-                first: -5,
-                registered,
-            };
-            compare(&rt, rt.alloc(), cycles, source, periods, clocks)?;
-        }
-    }
-    Ok(())
 }
 
 /// Uses of a source of period 2 and latency 3, and how many registers and Counters they cost.

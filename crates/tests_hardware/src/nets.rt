@@ -1,7 +1,7 @@
 //! Netlists made by hand, with rows worked out by hand.
 ghost use Rattle.std.specs.Prelude.{◌≡◌, ◌<◌, length};
 
-use crate::{Net, NetKind, NetOp, NetPort, NetState, Netlist, is_netlist};
+use hw_net::{Net, NetKind, NetOp, NetPort, NetState, Netlist, is_netlist};
 use fx_io::{OutOfMemory, Sizes, Text};
 use std::alloc::Global;
 use std::process::Abort;

@@ -2,14 +2,13 @@
 //! the rows of the netlist itself.
 ghost use Rattle.std.specs.Prelude.{◌≡◌, ◌<◌, ◌≤◌, All, IfOk, true, length};
 ghost use Rattle.hw_net.specs.State.{IsStateOf};
-ghost use Rattle.hw_share.specs.Operations.{IsOperation, SameWord, AreApart, CanShare, IsUsed};
-ghost use Rattle.hw_share.specs.inner.Tried.{AreUsed, IsApartAt};
+ghost use Rattle.hw_share.specs.Operations.{IsOperation, SameWord, AreApart, CanShare, IsUsed, unit_count};
+ghost use Rattle.tests_hardware.specs.Tried.{AreUsed, IsApartAt};
 
-use crate::joining::count_of;
-use crate::{Operation, units};
 use fx_io::{OutOfMemory, Sizes, Text};
 use fx_num::is_word;
 use hw_net::{Frame, Net, NetKind, NetOp, NetPort, NetState, Netlist, is_netlist};
+use hw_share::{Operation, units};
 use std::alloc::Global;
 use std::process::Abort;
 use std::test::Fail;
@@ -113,6 +112,20 @@ fn are_used(operations: &[Operation], count: u64) -> bool
         }
     }
     true
+}
+
+/// How many multipliers operations have.
+fn count_of(operations: &[Operation]) -> Result<u64, OutOfMemory>
+    ensures { IfOk result (λ count. count ≡ unit_count operations.now) }
+{
+    let mut count = 0;
+    for one in operations {
+        let Some(behind) = one.unit.checked_add(1) else {
+            return Err(OutOfMemory);
+        };
+        count = behind.max(count);
+    }
+    Ok(count)
 }
 
 /// Whether operations can share multipliers.

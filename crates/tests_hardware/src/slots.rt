@@ -1,7 +1,6 @@
 //! Operations with the slots and multipliers that were worked out by hand.
 
-use crate::operation::{Operation, Span};
-use crate::slots::{SlotFault, slots_of};
+use hw_slots::{Operation, SlotFault, Span, slots_of};
 use fx_io::OutOfMemory;
 use std::alloc::Global;
 use std::test::Fail;

@@ -58,19 +58,25 @@ impl Case {
         self.set(alloc, texts.row(alloc, line)?)
     }
 
+    /// Puts a file in, in the place of one of the same name.
+    fn put(&mut self, alloc: Global, name: &str, bytes: Vec<u8>) -> Result<()> {
+        self.files.retain(|held| held.name.as_bytes() != name.as_bytes());
+        let name = String::from_str(alloc, name)?;
+        self.files.push(Held { name, bytes })?;
+        Ok(())
+    }
+
     /// Does what a row says.
     fn set(&mut self, alloc: Global, mut row: Row<'_>) -> Result<()> {
         match row.command.as_bytes() {
             b"file" => {
-                let name = String::from_str(alloc, row.next()?)?;
-                let bytes = row.text;
-                self.files.push(Held { name, bytes })?;
+                let name = row.next()?;
+                self.put(alloc, name, row.text)?;
             }
             b"zeros" => {
-                let name = String::from_str(alloc, row.next()?)?;
+                let name = row.next()?;
                 let count = row.number()? as usize;
-                let bytes = std::vec![in alloc; 0u8; count]?;
-                self.files.push(Held { name, bytes })?;
+                self.put(alloc, name, std::vec![in alloc; 0u8; count]?)?;
             }
             b"fetch" => self.fetches.push(u64::from(row.number()?))?,
             b"put" => self.puts.push(u64::from(row.number()?))?,

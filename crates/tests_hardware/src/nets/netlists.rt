@@ -1,6 +1,6 @@
 //! Netlists that grow, and what they know of themselves.
 use super::{BYTE, INPUTS, comb, net_of, shown, with_inputs};
-use crate::{Frame, FrameIndex, NetKind, NetLabel, NetOp, NetPort, Netlist, is_netlist};
+use hw_net::{Frame, FrameIndex, NetKind, NetLabel, NetOp, NetPort, Netlist, is_netlist};
 use fx_io::{OutOfMemory, Text};
 use std::alloc::Global;
 use std::process::Abort;

@@ -1,6 +1,6 @@
 //! Every operation at words of both ends.
 use super::{Word, comb, shown, with_inputs};
-use crate::NetOp;
+use hw_net::NetOp;
 use fx_io::OutOfMemory;
 use std::alloc::Global;
 use std::process::Abort;

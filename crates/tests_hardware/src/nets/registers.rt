@@ -1,6 +1,6 @@
 //! Registers of every kind, clock by clock.
 use super::{BYTE, INPUTS, net_of, shown, with_inputs};
-use crate::{Frame, NetKind, Netlist};
+use hw_net::{Frame, NetKind, Netlist};
 use fx_io::OutOfMemory;
 use std::alloc::Global;
 use std::process::Abort;

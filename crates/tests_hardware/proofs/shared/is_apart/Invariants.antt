@@ -1,0 +1,5 @@
+use Rattle.tests_hardware.specs.Tried.{IsApartAt}
+use Rattle.tests_hardware.proofs.shared.is_apart.Given as goal
+
+abbrev pub invariant-loop-k : goal.invariant-loop-k
+invariant-loop-k l = IsApartAt l.net l.operations l.j l.k

@@ -1,0 +1,2 @@
+-- What tests ask of operations.
+pub mod Tried
