@@ -1,2 +1,2 @@
--- What tests ask of operations.
+pub mod Emitted
 pub mod Tried

@@ -23,6 +23,12 @@ pub struct Case {
     pub stuck: bool,
 }
 
+/// How such a module begins.
+const CHAIN: &str = "(* fx_cycles = 1 *) module m (input wire clk, input wire reset,
+(* fx_period = 1 *) input wire [7:0] s,
+(* fx_period = 1, fx_latency = 0 *) output wire [7:0] w0);
+";
+
 /// How much a sink takes.
 pub const ROOM: usize = 100_000;
 
@@ -78,6 +84,11 @@ impl Case {
                 let count = row.number()? as usize;
                 self.put(alloc, name, std::vec![in alloc; 0u8; count]?)?;
             }
+            b"chain" => {
+                let name = row.next()?;
+                let text = chain(alloc, row.number()?)?;
+                self.put(alloc, name, text.into_bytes())?;
+            }
             b"fetch" => self.fetches.push(u64::from(row.number()?))?,
             b"put" => self.puts.push(u64::from(row.number()?))?,
             b"piece" => self.piece = row.number()? as usize,
@@ -86,6 +97,20 @@ impl Case {
         }
         Ok(())
     }
+}
+
+/// A module of so many wires, each of which has the value of the next, assigned before it. The last
+/// has that of the input.
+fn chain(alloc: Global, count: u32) -> Result<String> {
+    let mut text = String::from_str(alloc, CHAIN)?;
+    for number in 0..count {
+        let next = number + 1;
+        let wire = format!(in alloc; "wire [7:0] w{next}; assign w{number} = w{next};\n")?;
+        text.push_str(&wire)?;
+    }
+    let end = format!(in alloc; "assign w{count} = s;\nendmodule\n")?;
+    text.push_str(&end)?;
+    Ok(text)
 }
 
 fn put_answer<W: Write>(answer: &Answer, out: &mut W) -> Result<()> {

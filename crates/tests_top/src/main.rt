@@ -7,6 +7,7 @@
 //! |---|---|
 //! | `file TEXT NAME` | a text, with the parts of the line exchanged, is the file of that name from here on |
 //! | `zeros = NAME COUNT` | so many bytes 0 are |
+//! | `chain = NAME COUNT` | a module is that shows its input through so many wires |
 //! | `fetch = N`, `put = N` | the fetch, or the put to standard output, of this number fails at the next call |
 //! | `piece = N` | at the next call standard output takes at most so many bytes a put |
 //! | `stuck =` | at the next call standard output takes none, and standard error fails |

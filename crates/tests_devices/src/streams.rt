@@ -1,0 +1,73 @@
+use fx_io::{FetchFault, FileShelf, PutFault, Shelf, Sink, StreamSink, put_all};
+use std::io::{self, ErrorKind, Write};
+use std::test::Fail;
+
+#[test]
+fn the_adapters_reach_files_and_streams(rt: HostRuntime) -> Result<(), Fail> {
+    std::fs::write(&rt, "held", "four")?;
+    let mut shelf = FileShelf::new(&rt);
+    let held = shelf.fetch(rt.alloc(), "held", 4)?;
+    assert_eq!(rt; held.bytes(), b"four".as_slice());
+    let rows = [
+        ("held", FetchFault::TooLong { length: 4 }),
+        ("absent", FetchFault::Failed),
+        (".", FetchFault::Failed),
+    ];
+    for (name, wanted) in rows {
+        let fault = shelf.fetch(rt.alloc(), name, 3).err();
+        assert_eq!(rt; fault, Some(wanted), "{name}");
+    }
+    let mut sink = StreamSink::new(std::fs::create(&rt, "written")?);
+    assert_eq!(rt; sink.put(b""), Ok(0));
+    assert_eq!(rt; put_all(&mut sink, b"two lines\nof text\n"), Ok(()));
+    assert_eq!(rt;
+        std::fs::read_to_string(&rt, "written")?.as_str(),
+        "two lines\nof text\n"
+    );
+    let mut unwritable = StreamSink::new(std::fs::open(&rt, "written")?);
+    assert_eq!(rt; put_all(&mut unwritable, b"x"), Err(PutFault::Failed));
+    Ok(())
+}
+
+/// A writer that takes at most `piece` bytes a write, and fails once it has `room` bytes.
+#[derive(Drop)]
+struct Narrow {
+    taken: Vec<u8>,
+    piece: usize,
+    room: usize,
+}
+
+impl Write for Narrow {
+    fn write(&mut self, bytes: &[u8]) -> io::Result<usize> {
+        if self.taken.len() >= self.room {
+            return Err(ErrorKind::BrokenPipe.into());
+        }
+        let count = self.piece.min(bytes.len());
+        self.taken.extend_from_slice(&bytes[..count])?;
+        Ok(count)
+    }
+
+    fn flush(&mut self) -> io::Result<()> {
+        Ok(())
+    }
+}
+
+#[test]
+fn streams_may_take_a_part_or_nothing(rt: HostRuntime) -> Result<(), Fail> {
+    let rows = [
+        (1, 9, Ok(()), "abc"),
+        (2, 9, Ok(()), "abc"),
+        (0, 9, Err(PutFault::TookNothing), ""),
+        (1, 2, Err(PutFault::Failed), "ab"),
+    ];
+    for (piece, room, wanted, taken) in rows {
+        let mut sink = StreamSink::new(Narrow {
+            taken: Vec::new(rt.alloc()),
+            piece,
+            room,
+        });
+        assert_eq!(rt; put_all(&mut sink, b"abc"), wanted);
+        assert_eq!(rt; sink.writer.taken.as_slice(), taken.as_bytes());
+    }
+    Ok(())
+}
