@@ -71,7 +71,9 @@ fn answer<W: Write>(alloc: Global, line: &str, out: &mut W) -> Result<()> {
             let operation = words.next()?;
             let answer = operations::carried_out(alloc, operation.as_bytes(), &mut words)?;
             let Answer {
-                value, prepared, ..
+                value,
+                prepared,
+                ..
             } = answer;
             writeln!(out, "{value} {prepared}")?;
             Ok(())

@@ -1,8 +1,8 @@
 //! Netlists made by hand, with rows worked out by hand.
 ghost use Rattle.std.specs.Prelude.{◌≡◌, ◌<◌, length};
 
-use hw_net::{Net, NetKind, NetOp, NetPort, NetState, Netlist, is_netlist};
 use fx_io::{OutOfMemory, Sizes, Text};
+use hw_net::{Net, NetKind, NetOp, NetPort, NetState, Netlist, is_netlist};
 use std::alloc::Global;
 use std::process::Abort;
 

@@ -1,7 +1,7 @@
 //! Operations with the slots and multipliers that were worked out by hand.
 
-use hw_slots::{Operation, SlotFault, Span, slots_of};
 use fx_io::OutOfMemory;
+use hw_slots::{Operation, SlotFault, Span, slots_of};
 use std::alloc::Global;
 use std::test::Fail;
 

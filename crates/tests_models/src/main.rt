@@ -52,7 +52,12 @@ fn main(rt: HostRuntime) -> Result<()> {
 }
 
 /// Answers a row, and gives the last plan.
-fn answer<W: Write>(alloc: Global, mut row: Row<'_>, plan: Vec<u8>, out: &mut W) -> Result<Vec<u8>> {
+fn answer<W: Write>(
+    alloc: Global,
+    mut row: Row<'_>,
+    plan: Vec<u8>,
+    out: &mut W,
+) -> Result<Vec<u8>> {
     match row.command.as_bytes() {
         b"tree" => trees::tree(alloc, row.text.as_slice(), out)?,
         b"syntax" => trees::syntax(alloc, row.text.as_slice(), out)?,
@@ -74,4 +79,3 @@ fn answer<W: Write>(alloc: Global, mut row: Row<'_>, plan: Vec<u8>, out: &mut W)
     }
     Ok(plan)
 }
-

@@ -61,7 +61,9 @@ fn put_plain<W: Write>(block: &Block, out: &mut W) -> Result<()> {
     let period = block.period;
     write!(out, " {period:?}")?;
     if let Kind::Delay {
-        length, initial, ..
+        length,
+        initial,
+        ..
     } = &block.kind
     {
         let count = initial.as_slice().len();

@@ -67,9 +67,7 @@ pub fn plan<W: Write>(alloc: Global, text: &[u8], out: &mut W) -> Result<()> {
 
 fn put_table_fault<W: Write>(fault: TableFault, out: &mut W) -> Result<()> {
     match fault {
-        TableFault::Bad { line, cause } => {
-            put_cause(line, cause, out)
-        }
+        TableFault::Bad { line, cause } => { put_cause(line, cause, out) }
         TableFault::OutOfMemory => Err(anyhow!("out of memory")),
     }
 }

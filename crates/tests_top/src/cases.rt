@@ -66,7 +66,8 @@ impl Case {
 
     /// Puts a file in, in the place of one of the same name.
     fn put(&mut self, alloc: Global, name: &str, bytes: Vec<u8>) -> Result<()> {
-        self.files.retain(|held| held.name.as_bytes() != name.as_bytes());
+        self.files
+            .retain(|held| held.name.as_bytes() != name.as_bytes());
         let name = String::from_str(alloc, name)?;
         self.files.push(Held { name, bytes })?;
         Ok(())

@@ -1,7 +1,7 @@
+use anyhow::Result;
 use fx_io::Text;
 use std::alloc::Global;
 use std::fmt::Write;
-use anyhow::Result;
 use vl_ast::{Attrs, Expr, ModItem, Module, Sized};
 
 fn put_text(out: &mut String, text: &Text) -> Result<()> {
@@ -119,13 +119,7 @@ fn put_attrs(out: &mut String, attrs: &Attrs) -> Result<()> {
     Ok(())
 }
 
-fn put_net(
-    out: &mut String,
-    word: &str,
-    signed: bool,
-    width: u32,
-    name: &Text,
-) -> Result<()> {
+fn put_net(out: &mut String, word: &str, signed: bool, width: u32, name: &Text) -> Result<()> {
     let sign = sign(signed);
     write!(out, "{word} {width}{sign} ")?;
     put_text(out, name)

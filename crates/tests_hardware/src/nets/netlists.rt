@@ -1,7 +1,7 @@
 //! Netlists that grow, and what they know of themselves.
 use super::{BYTE, INPUTS, comb, net_of, shown, with_inputs};
-use hw_net::{Frame, FrameIndex, NetKind, NetLabel, NetOp, NetPort, Netlist, is_netlist};
 use fx_io::{OutOfMemory, Text};
+use hw_net::{Frame, FrameIndex, NetKind, NetLabel, NetOp, NetPort, Netlist, is_netlist};
 use std::alloc::Global;
 use std::process::Abort;
 use std::test::Fail;

@@ -1,7 +1,7 @@
 //! Every operation at words of both ends.
 use super::{Word, comb, shown, with_inputs};
-use hw_net::NetOp;
 use fx_io::OutOfMemory;
+use hw_net::NetOp;
 use std::alloc::Global;
 use std::process::Abort;
 use std::test::Fail;

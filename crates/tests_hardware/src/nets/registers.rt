@@ -1,7 +1,7 @@
 //! Registers of every kind, clock by clock.
 use super::{BYTE, INPUTS, net_of, shown, with_inputs};
-use hw_net::{Frame, NetKind, Netlist};
 use fx_io::OutOfMemory;
+use hw_net::{Frame, NetKind, Netlist};
 use std::alloc::Global;
 use std::process::Abort;
 use std::test::Fail;
