@@ -94,6 +94,9 @@ impl Texts {
             };
         }
         let mut text = String::from_str(alloc, self.named(name)?)?;
+        if parts.len() % 2 == 1 {
+            return Err(anyhow!("a part lacks its other"));
+        }
         for pair in 0..parts.len() / 2 {
             text = exchanged(alloc, text.as_str(), parts[2 * pair], parts[2 * pair + 1])?;
         }
