@@ -5,7 +5,7 @@ use Rattle.hw_net.specs.declared.netlist.Net.{Net}
 use Rattle.hw_net.specs.Circuit.{Circuit}
 use Rattle.hw_net.proofs.Places.{at-place}
 use Rattle.vl_emit.specs.Emittable.{IsEmittable}
-use Rattle.tests_hardware.specs.Emitted.{IsCounted}
+use Rattle.tests_hardware.specs.inner.Emitted.{IsCounted}
 
 pub bare : (netlist : Circuit) → netlist.cycles ≤ 1024 → All (λ net. IsCounted netlist net.kind) netlist.nets
     → length netlist.inputs ≡ 0 → length netlist.outputs ≡ 0 → length netlist.labels ≡ 0 → IsEmittable netlist

@@ -5,7 +5,7 @@ use Rattle.hw_net.specs.Circuit.{Circuit}
 use Rattle.hw_net.proofs.Places.{at-place}
 use Rattle.hw_share.specs.declared.operation.Operation.{Operation}
 use Rattle.hw_share.specs.Operations.{IsOperation, CanShare, unit_count}
-use Rattle.tests_hardware.specs.Tried.{AreUsed, IsApartAt}
+use Rattle.tests_hardware.specs.inner.Tried.{AreUsed, IsApartAt}
 
 pub shared-of : (net : Circuit) (operations : List Operation) (count : ℕ) → All (IsOperation net) operations → ((i : ℕ) → i < length operations → IsApartAt net operations i (length operations))
     → AreUsed operations count → count ≡ unit_count operations → CanShare net operations

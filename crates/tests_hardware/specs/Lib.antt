@@ -1,2 +1,1 @@
-pub mod Emitted
-pub mod Tried
+pub mod inner

@@ -2,7 +2,7 @@
 //! and the text beside it.
 ghost use Rattle.std.specs.Prelude.{◌≡◌, true, All};
 ghost use Rattle.vl_emit.specs.Emittable.{IsEmittable};
-ghost use Rattle.tests_hardware.specs.Emitted.{IsCounted};
+ghost use Rattle.tests_hardware.specs.inner.Emitted.{IsCounted};
 
 use fx_io::{OutOfMemory, Sizes, Text};
 use hw_net::{Frame, Net, NetKind, NetOp, Netlist, is_netlist};

@@ -3,7 +3,7 @@
 ghost use Rattle.std.specs.Prelude.{◌≡◌, ◌<◌, ◌≤◌, All, IfOk, true, length};
 ghost use Rattle.hw_net.specs.State.{IsStateOf};
 ghost use Rattle.hw_share.specs.Operations.{IsOperation, SameWord, AreApart, CanShare, IsUsed, unit_count};
-ghost use Rattle.tests_hardware.specs.Tried.{AreUsed, IsApartAt};
+ghost use Rattle.tests_hardware.specs.inner.Tried.{AreUsed, IsApartAt};
 
 use fx_io::{OutOfMemory, Sizes, Text};
 use fx_num::is_word;
