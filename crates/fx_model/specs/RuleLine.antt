@@ -1,6 +1,6 @@
 -- The line that tells a broken rule, without the name of a file (own).
 use Prim.Native.Char.{code}
-use Rattle.std.specs.Prelude.{◌≡◌, ℕ, ◌==◌, ◌||◌, if◌then◌else◌, List, [], ◌∷◌, ◌++◌, codes, slice_index_or}
+use Rattle.std.specs.Prelude.{◌≡◌, ℕ, ◌/◌, ◌%◌, ◌==◌, ◌||◌, nat_lt, if◌then◌else◌, List, [], ◌∷◌, ◌++◌, codes, slice_index_or}
 use Rattle.std.specs.Fmt.{decimal, signed_decimal}
 use Rattle.std.specs.List.{flat_map}
 use Rattle.dg_model.specs.declared.fault.RuleFault.{RuleFault}
@@ -17,14 +17,23 @@ rule_word rule =
     else (if rule == 10 then codes "plan" else (if rule == 11 then codes "latency" else (if rule == 12 then codes "budget"
     else codes "size")))))))))))
 
--- a byte of a path between quotes, as MDL writes it: `\n` for a newline, `\t` for a tab, and a backslash before a
--- quote or a backslash
+-- a digit of a number in base sixteen
+abbrev pub hex_digit : ℕ → ℕ
+hex_digit digit = slice_index_or (codes "0123456789abcdef") digit 0
+
+-- a control byte is written by its number, so that none reaches a terminal
+abbrev pub control_byte : ℕ → List ℕ
+control_byte byte = code "\\" ∷ code "x" ∷ hex_digit (byte / 16) ∷ hex_digit (byte % 16) ∷ []
+
+-- a byte of a name, as MDL writes it between quotes: `\n` for a newline, `\t` for a tab, and a backslash before a quote
+-- or a backslash; a further control byte by its number
 abbrev pub quoted_byte : ℕ → List ℕ
 quoted_byte byte =
     if byte == code "\n" then codes "\\n"
     else (if byte == code "\t" then codes "\\t"
     else (if byte == code "\"" || byte == code "\\" then code "\\" ∷ byte ∷ []
-    else byte ∷ []))
+    else (if nat_lt byte 32 || byte == 127 then control_byte byte
+    else byte ∷ [])))
 
 -- a path between quotes
 abbrev pub quoted_path : List ℕ → List ℕ
@@ -46,7 +55,7 @@ cycle_text paths blocks = flat_map (λ block. codes " " ++ quoted_path (slice_in
 -- what is told of a broken rule beside its place
 abbrev pub shown_text : List (List ℕ) → Shown → List ℕ
 shown_text paths Nothing = []
-shown_text paths (Word word) = codes ": " ++ word
+shown_text paths (Word word) = codes ": " ++ flat_map quoted_byte word
 shown_text paths (Periods own other) = codes ": periods " ++ period_text own ++ codes " " ++ period_text other
 shown_text paths (Cycle blocks) = codes ": cycle" ++ cycle_text paths blocks
 shown_text paths (Latency blocks total) = codes ": total " ++ signed_decimal total ++ codes " cycle" ++ cycle_text paths blocks

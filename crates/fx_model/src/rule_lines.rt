@@ -2,7 +2,7 @@
 ghost use Rattle.std.specs.Prelude.{◌≡◌, ◌++◌, [], IfOk, OnOk, map, slice_index_or};
 ghost use Rattle.std.specs.Fmt.{decimal, signed_decimal};
 ghost use Rattle.std.specs.List.{flat_map};
-ghost use Rattle.fx_model.specs.RuleLine.{cycle_text, period_text, place_text, quoted_byte, quoted_path, rule_line, rule_word, shown_text};
+ghost use Rattle.fx_model.specs.RuleLine.{control_byte, cycle_text, period_text, place_text, quoted_byte, quoted_path, rule_line, rule_word, shown_text};
 
 use dg_model::{Block, RuleFault, Shown};
 use fx_io::{OutOfMemory, Text};
@@ -71,8 +71,8 @@ fn push_signed(line: &mut Vec<u8>, number: i64) -> Result<(), OutOfMemory>
     push(line, digits.format(number).as_bytes())
 }
 
-/// Adds a path between quotes.
-fn push_quoted(line: &mut Vec<u8>, path: &[u8]) -> Result<(), OutOfMemory>
+/// Adds a path between quotes, with what would break a line escaped (own).
+pub fn push_quoted(line: &mut Vec<u8>, path: &[u8]) -> Result<(), OutOfMemory>
     ensures { OnOk result (line.new.items ≡ line.old.items ++ quoted_path path.now) }
 {
     push(line, b"\"")?;
@@ -80,7 +80,7 @@ fn push_quoted(line: &mut Vec<u8>, path: &[u8]) -> Result<(), OutOfMemory>
     push(line, b"\"")
 }
 
-/// Adds the bytes of a path as they stand between quotes.
+/// Adds bytes of a name as they stand between quotes.
 fn push_escaped(line: &mut Vec<u8>, path: &[u8]) -> Result<(), OutOfMemory>
     ensures { OnOk result (line.new.items ≡ line.old.items ++ flat_map quoted_byte path.now) }
 {
@@ -90,7 +90,19 @@ fn push_escaped(line: &mut Vec<u8>, path: &[u8]) -> Result<(), OutOfMemory>
     Ok(())
 }
 
-/// Adds a byte of a path as it stands between quotes.
+/// The digits of numbers in base sixteen.
+const HEX_DIGITS: &[u8; 16] = b"0123456789abcdef";
+
+/// Adds a control byte by its number.
+fn push_control(line: &mut Vec<u8>, byte: u8) -> Result<(), OutOfMemory>
+    ensures { OnOk result (line.new.items ≡ line.old.items ++ control_byte byte) }
+{
+    let high = HEX_DIGITS[usize::from(byte / 16)];
+    let low = HEX_DIGITS[usize::from(byte % 16)];
+    push(line, &[b'\\', b'x', high, low])
+}
+
+/// Adds a byte of a name as it stands between quotes.
 fn push_byte(line: &mut Vec<u8>, byte: u8) -> Result<(), OutOfMemory>
     ensures { OnOk result (line.new.items ≡ line.old.items ++ quoted_byte byte) }
 {
@@ -99,6 +111,7 @@ fn push_byte(line: &mut Vec<u8>, byte: u8) -> Result<(), OutOfMemory>
         b'\t' => push(line, b"\\t"),
         b'"' => push(line, b"\\\""),
         b'\\' => push(line, b"\\\\"),
+        0..=31 | 127 => push_control(line, byte),
         _ => push(line, &[byte]),
     }
 }
@@ -156,7 +169,7 @@ fn push_shown(line: &mut Vec<u8>, shown: &Shown, blocks: &[Block]) -> Result<(),
         Shown::Nothing => Ok(()),
         Shown::Word(word) => {
             push(line, b": ")?;
-            push(line, word.bytes())
+            push_escaped(line, word.bytes())
         }
         Shown::Periods { own, other } => {
             push(line, b": periods ")?;
