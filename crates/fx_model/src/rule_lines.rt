@@ -27,7 +27,7 @@ pub fn rule_text(alloc: Global, fault: &RuleFault, blocks: &[Block]) -> Result<T
 }
 
 /// What a rule is about.
-fn word_of(rule: u8) -> &'static [u8]
+pub fn word_of(rule: u8) -> &'static [u8]
     ensures { result.now ≡ rule_word rule }
 {
     match rule {
@@ -161,7 +161,7 @@ fn path_of(blocks: &[Block], number: u32) -> &[u8]
 }
 
 /// Adds what is told beside the place.
-fn push_shown(line: &mut Vec<u8>, shown: &Shown, blocks: &[Block]) -> Result<(), OutOfMemory>
+pub fn push_shown(line: &mut Vec<u8>, shown: &Shown, blocks: &[Block]) -> Result<(), OutOfMemory>
     ensures { OnOk result (line.new.items
         ≡ line.old.items ++ shown_text (map (λ block. block.path) blocks.now) shown.now) }
 {

@@ -1,0 +1,2 @@
+pub mod FindingsText
+pub mod RangeWord

@@ -1,0 +1,90 @@
+ghost use Rattle.std.specs.Prelude.{◌≡◌, ◌≤◌, IfSome, length};
+ghost use Rattle.fx_explored.specs.RangeWord.{ends_of as ends_of_word, first_of as first_of_mark, is_within as is_within_of, plain_number as plain_number_of, range_of};
+ghost use Rattle.hw_explore.specs.Range.{IsRange};
+
+use fx_text::read_short;
+use hw_explore::Range;
+
+/// From a number to another.
+#[derive(Clone, Copy)]
+struct Ends {
+    low: u64,
+    high: u64,
+}
+
+/// Where a byte stands first, or the length.
+fn first_of(mark: u8, word: &[u8]) -> usize
+    ensures is { result ≡ first_of_mark mark word.now }
+    ensures within { result ≤ length word.now }
+{
+    for place in 0..word.len() {
+        if word[place] == mark {
+            return place;
+        }
+    }
+    word.len()
+}
+
+/// The number of one to four digits, without a zero in front of others.
+fn plain_number(word: &[u8]) -> Option<u64>
+    ensures { result ≡ plain_number_of word.now }
+{
+    if word.is_empty() || word.len() > 4 {
+        return None;
+    }
+    if word.len() > 1 && word[0] == b'0' {
+        return None;
+    }
+    read_short(word)
+}
+
+/// The ends of `A..B`.
+fn ends_of(word: &[u8]) -> Option<Ends>
+    ensures { result ≡ ends_of_word word.now }
+{
+    let place = first_of(b'.', word);
+    if !word[place..].starts_with(b"..") {
+        return None;
+    }
+    let low = plain_number(&word[..place]);
+    let high = plain_number(&word[place + 2..]);
+    match (low, high) {
+        (Some(low), Some(high)) => Some(Ends { low, high }),
+        _ => None,
+    }
+}
+
+/// Whether the ends are those of a range.
+fn is_within(cycles: Ends, multipliers: Ends) -> bool
+    ensures { result ≡ is_within_of cycles multipliers }
+{
+    1 <= cycles.low
+        && cycles.low <= cycles.high
+        && cycles.high <= 1024
+        && multipliers.low <= multipliers.high
+        && multipliers.high <= 64
+        && (cycles.high - cycles.low + 1) * (multipliers.high - multipliers.low + 1) <= 4096
+}
+
+/// The range that a word names, where it has the shape `A..B,C..D`: 1 to 1024 clocks, 0 to 64
+/// multipliers, without zeros in front, and at most 4096 pairs.
+pub fn read_range(word: &[u8]) -> Option<Range>
+    ensures is { result ≡ range_of word.now }
+    ensures range { IfSome result IsRange }
+{
+    let place = first_of(b',', word);
+    let rest = if place < word.len() {
+        &word[place + 1..]
+    } else {
+        &word[place..]
+    };
+    match (ends_of(&word[..place]), ends_of(rest)) {
+        (Some(cycles), Some(multipliers)) if is_within(cycles, multipliers) => Some(Range {
+            low_cycles: cycles.low as u32,
+            high_cycles: cycles.high as u32,
+            low_multipliers: multipliers.low as u32,
+            high_multipliers: multipliers.high as u32,
+        }),
+        _ => None,
+    }
+}
