@@ -25,7 +25,7 @@ fn answer<E: Sink>(rt: &HostRuntime, err: &mut E) -> Result<u8, OutOfMemory> {
     let mut shelf = FileShelf::new(rt);
     let writer = BufWriter::new(rt.alloc(), rt.stdout()).map_err(|_| OutOfMemory)?;
     let mut out = OutSink::new(writer);
-    let status = run(rt.alloc(), words.as_slice(), &mut shelf, &mut out, err);
+    let status = run(rt, rt.alloc(), words.as_slice(), &mut shelf, &mut out, err);
     let is_written = out.writer.flush().is_ok();
     if status == 0 && !is_written {
         return Ok(end(err, b"cannot write\n", 4));

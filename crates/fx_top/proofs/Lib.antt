@@ -11,6 +11,7 @@ pub mod Lines
 pub mod Loop
 pub mod Names
 mod Outcomes
+pub mod Refusals
 pub mod Replayed
 mod ReplayedDelay
 pub mod Responses

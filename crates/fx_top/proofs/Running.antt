@@ -16,7 +16,7 @@ use Rattle.fx_top.specs.Answer.{status_of}
 use Rattle.fx_top.specs.Call.{Files, Stream}
 use Rattle.fx_top.specs.Cause.{IsFetched, AreFetched, HasNoTree, HasOtherForm, HasBrokenRule, HasBadLine, HasNoVerilog, BreaksCondition}
 use Rattle.fx_top.specs.Caused.{HasCause, HasWritten, IsCarriedOut}
-use Rattle.fx_top.specs.Command.{Command, Generate, Replay, Simulate, command_of, model_of, generated_of, checked_of, verilog_of, stimulus_of, first_of, files_of}
+use Rattle.fx_top.specs.Command.{Command, Generate, Replay, Simulate, Explore, command_of, model_of, generated_of, checked_of, verilog_of, stimulus_of, first_of, files_of}
 use Rattle.fx_top.specs.DelayTree.{IsOneDelay}
 use Rattle.fx_model.specs.Model.{IsNoText, IsModelOf, IsBrokenModel, IsWithoutDiagram}
 use Rattle.fx_top.specs.Outcome.{Yields, Tells, IfCommand, IsBadFor, IsDue, CanBeDone, IsComplete}
@@ -67,6 +67,8 @@ module _ (files : Files) (out : Stream) (unique : (bytes : List ℕ) (one other 
       (output.replay.made, subst (λ (b : List ℕ). IsSoundText b output.replay.made) (sym (told-is verilog bytes output.verilog_bytes output.verilog_fetched tells)) output.replay.spelled)
   written-good (Simulate model stimulus) text bytes output tells =
       (output.simulation.diagram, subst (λ (b : List ℕ). IsModelOf b output.simulation.diagram) (sym (told-is model bytes output.model_bytes output.model_fetched tells)) output.simulation.accepted)
+  written-good (Explore model range) text bytes output tells =
+      (output.1.1.diagram, subst (λ (b : List ℕ). IsModelOf b output.1.1.diagram) (sym (told-is model bytes output.0 output.1.0 tells)) output.1.1.accepted)
 
   bad-good : (command : Command) (bytes file : List ℕ) (line : ℕ) (cause : TableCause) → Tells files (first_of command) bytes → HasBadLine files command file line cause → IsGood command bytes
   bad-good command bytes file line cause tells why =
@@ -83,6 +85,7 @@ module _ (files : Files) (out : Stream) (unique : (bytes : List ℕ) (one other 
   good-built (Generate own) model bytes is good other = not-both bytes good other
   good-built (Replay own stimulus) model bytes is good other = absurd (cc is)
   good-built (Simulate own stimulus) model bytes is good other = absurd (cc is)
+  good-built (Explore own range) model bytes is good other = absurd (cc is)
 
   -- ---- bytes of the first file at which a command tells no fault
 
@@ -90,6 +93,7 @@ module _ (files : Files) (out : Stream) (unique : (bytes : List ℕ) (one other 
   fit-built (Generate own) model bytes is fit other = not-both bytes fit other
   fit-built (Replay own stimulus) model bytes is fit other = absurd (cc is)
   fit-built (Simulate own stimulus) model bytes is fit other = absurd (cc is)
+  fit-built (Explore own range) model bytes is fit other = absurd (cc is)
 
   -- no bytes spell a sound module and one that isn't
   not-sound : (bytes : List ℕ) (made : Module) (condition : Fault) → IsSoundText bytes made → HasFault bytes condition → ⊥
@@ -166,6 +170,7 @@ module _ (files : Files) (out : Stream) (unique : (bytes : List ℕ) (one other 
       let e = ap (fault_in output.simulation.diagram) second ∙ output.simulation.rows_are.no_fault in
       let f = fault.1.1 in
       absurd (cc (e, f))
+  written-bad (Explore model range) text bytes stimulus numbers output is tells told bad = bad
 
   -- ---- a clause on the status, answer by answer
 
@@ -305,6 +310,7 @@ module _ (files : Files) (out : Stream) (unique : (bytes : List ℕ) (one other 
   can-bytes (Generate model) can = (can.0, (can.1.0, can.1.1))
   can-bytes (Replay verilog stimulus) can = (can.verilog_bytes, (can.verilog_told, (can.can.made, can.can.spelled)))
   can-bytes (Simulate model stimulus) can = (can.model_bytes, (can.model_told, can.can.accepted))
+  can-bytes (Explore model range) can = (can.0, (can.1.0, can.1.1))
 
   -- the stimulus is good
   stimulus-good : (command : Command) → CanBeDone files command → (file : List ℕ) (line : ℕ) (cause : TableCause) → HasBadLine files command file line cause → ⊥
@@ -325,6 +331,7 @@ module _ (files : Files) (out : Stream) (unique : (bytes : List ℕ) (one other 
       let e = ap (fault_in why.bad.diagram) (sym second) ∙ can.can.good why.bad.diagram (subst (λ (b : List ℕ). IsModelOf b why.bad.diagram) (sym first) why.bad.accepted) in
       let f = why.bad.bad in
       absurd (cc (e, f))
+  stimulus-good (Explore model range) can file line cause why = why.bad
 
   is-complete : (command : Command) (answer : Answer) → HasCause files command answer → HasWritten files out command answer → IsComplete files out command (status_of answer)
   is-complete command Done why wrote can gives writes = (0, omega arith, refl)

@@ -1,18 +1,13 @@
 -- What a response and the writer of its lines are, and a model's fault as it is told.
 use Rattle.std.specs.Prelude.{Result, Ok, Err, IfOk, IfErr}
-use Rattle.std.proofs.Common.{◌≡◌, ◌<◌, ⊎_elim, ℕ, List, length, map, Some, refl, sym, ap, subst, ◌∙◌}
+use Rattle.std.proofs.Common.{◌≡◌, ◌<◌, ℕ, List, length, map, Some, sym, ap, subst, ◌∙◌}
 use Rattle.std.proofs.lemmas.List.{length-map}
-use Rattle.dg_model.specs.declared.diagram.Block.{Block}
 use Rattle.dg_model.specs.declared.diagram.Diagram.{Diagram}
-use Rattle.dg_model.specs.declared.fault.RuleFault.{RuleFault}
 use Rattle.dg_response.specs.declared.responding.Responded.{Responded}
 use Rattle.dg_response.specs.declared.root_columns.RootColumns.{RootColumns}
 use Rattle.dg_response.specs.Responded.{table_of}
 use Rattle.dg_response.specs.Response.{output_columns}
-use Rattle.fx_model.specs.declared.accepting.ModelFault.{ModelFault}
-use Rattle.fx_model.specs.declared.accepting.ModelFault.TheVariants as model
-use Rattle.fx_model.specs.Model.{IsBrokenModel, IsModelOf, IsNotMdl}
-use Rattle.fx_model.specs.RuleLine.{rule_line}
+use Rattle.fx_model.specs.Model.{IsModelOf}
 use Rattle.fx_tables.specs.declared.row_text.RowText.{RowText}
 use Rattle.fx_tables.specs.declared.table.Column.{Column}
 use Rattle.fx_tables.specs.declared.table.Rows.{Rows}
@@ -25,7 +20,7 @@ use Rattle.fx_top.specs.declared.simulated.Simulation.{Simulation}
 use Rattle.fx_top.specs.declared.simulated.SimulationFault.{SimulationFault}
 use Rattle.fx_top.specs.declared.simulated.SimulationFault.TheVariants.{NotMdl, BreaksRule, BadTable, OutOfMemory}
 use Rattle.fx_top.specs.Simulated.{IsBadSimulation, output_periods}
-use Rattle.fx_top.specs.inner.Simulating.{HasColumns, IsFaultOf, IsModelFault, IsReadyFor, IsRespondedTo, IsRowsFault, IsSimulationTo, IsTold, Refuses, Simulates}
+use Rattle.fx_top.specs.inner.Simulating.{HasColumns, IsFaultOf, IsReadyFor, IsRespondedTo, IsRowsFault, IsSimulationTo, Refuses, Simulates}
 
 simulates : (source stimulus : List ℕ) (diagram : Diagram) (rows : Rows) (columns : RootColumns) (samples : ℕ) (responded : Responded) (text : RowText)
     → IsModelOf source diagram → HasColumns diagram columns → IsRows columns.inputs (length columns.outputs) stimulus rows → samples ≡ rows.lines
@@ -83,25 +78,6 @@ bad-by source stimulus diagram columns line cause accepted has fault = record {
 }
 
 -- ---- faults
-
--- a model's fault as it is told
-pub told-fault : (bytes : List ℕ) (fault : ModelFault) (told : SimulationFault) → IsTold fault told → ((line : ℕ) → fault ≡ model.NotMdl line → IsNotMdl bytes line)
-    → ((broken : RuleFault) (blocks : List Block) → fault ≡ model.Broken broken blocks → IsBrokenModel bytes broken (map (λ block. block.path) blocks))
-    → IsModelFault bytes told
-told-fault bytes (model.NotMdl own) told is none broken = subst (IsModelFault bytes) (sym is) (none own refl)
-told-fault bytes (model.Broken fault blocks) told is none broken =
-    ⊎_elim (λ (memory : told ≡ OutOfMemory). subst (IsModelFault bytes) (sym memory) tt)
-    (λ (rule : told ≡ BreaksRule (rule_line (map (λ block. block.path) blocks) fault)). subst (IsModelFault bytes) (sym rule)
-    (record { fault = fault; paths = map (λ block. block.path) blocks; broken = broken fault blocks refl; line_is = refl }))
-    is
-told-fault bytes model.OutOfMemory told is none broken = subst (IsModelFault bytes) (sym is) tt
-
--- a fault of the model
-pub of-model : (source stimulus : List ℕ) (fault : SimulationFault) → IsModelFault source fault → IsFaultOf source stimulus fault
-of-model source stimulus (NotMdl line) why = why
-of-model source stimulus (BreaksRule line) why = why
-of-model source stimulus (BadTable line cause) why = absurd why
-of-model source stimulus OutOfMemory why = tt
 
 -- a fault of the stimulus, by the columns of the model's diagram
 of-rows : (source stimulus : List ℕ) (diagram : Diagram) (columns : RootColumns) → IsModelOf source diagram → HasColumns diagram columns

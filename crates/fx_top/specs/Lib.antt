@@ -5,6 +5,7 @@ pub mod Cause
 pub mod Caused
 pub mod Command
 pub mod DelayTree
+pub mod Explored
 pub mod Messages
 pub mod OneDelay
 pub mod Outcome

@@ -1,9 +1,9 @@
 -- Which status a command owes, where the shelf tells what it holds (own).
 use Rattle.std.specs.Prelude.{◌≡◌, ℕ, ◌⊎◌, List, [], ◌∷◌, Contains, Some, None}
 use Rattle.fx_top.specs.Call.{Files, Stream}
-use Rattle.fx_top.specs.Command.{Command, Generate, Replay, Simulate, command_of, model_of, generated_of, checked_of, verilog_of, stimulus_of, first_of, files_of}
+use Rattle.fx_top.specs.Command.{Command, Generate, Replay, Simulate, Explore, command_of, model_of, generated_of, checked_of, verilog_of, stimulus_of, first_of, files_of}
 use Rattle.fx_top.specs.Trouble.{Absent, Overlong, first_trouble}
-use Rattle.fx_model.specs.Model.{IsNoText, IsWithoutDiagram}
+use Rattle.fx_model.specs.Model.{IsAccepted, IsNoText, IsWithoutDiagram}
 use Rattle.fx_top.specs.Output.{IsNotBuilt, IsBuilt}
 use Rattle.fx_top.specs.Replayed.{CanBeReplayed, HasFault, IsBadStimulus, IsNoVerilog}
 use Rattle.fx_top.specs.Simulated.{CanBeSimulated, IsSpoilt}
@@ -27,6 +27,7 @@ abbrev pub IsBadFor : Command → List ℕ → List ℕ → Type 0
 IsBadFor (Generate model) first stimulus = ⊥
 IsBadFor (Replay verilog text) first stimulus = (line : ℕ) × ((cause : TableCause) × IsBadStimulus first stimulus line cause)
 IsBadFor (Simulate model text) first stimulus = IsSpoilt first stimulus
+IsBadFor (Explore model range) first stimulus = ⊥
 
 -- what the files ask of the status
 pub record IsDue (files : Files) (command : Command) (status : ℕ) : Type 0 where
@@ -77,6 +78,7 @@ abbrev pub CanBeDone : Files → Command → Type 0
 CanBeDone files (Generate model) = (bytes : List ℕ) × (Tells files model bytes × IsBuilt bytes)
 CanBeDone files (Replay verilog stimulus) = CanReplay files verilog stimulus
 CanBeDone files (Simulate model stimulus) = CanSimulate files model stimulus
+CanBeDone files (Explore model range) = (bytes : List ℕ) × (Tells files model bytes × IsAccepted bytes)
 
 -- the shelf is steady and no file is in trouble, or neither of its counts rose
 abbrev pub GivesAll : Files → Command → Type 0

@@ -8,8 +8,9 @@ use Rattle.vl_ast.specs.Grammar.{Spells}
 use Rattle.vl_ast.specs.Spelling.{spelling}
 use Rattle.fx_top.specs.declared.one_delay.OneDelay.{OneDelay}
 use Rattle.fx_top.specs.Carries.{Carries}
-use Rattle.fx_top.specs.Command.{Command, Generate, Replay, Simulate}
+use Rattle.fx_top.specs.Command.{Command, Generate, Replay, Simulate, Explore}
 use Rattle.fx_top.specs.DelayTree.{IsOneDelay}
+use Rattle.fx_top.specs.Explored.{IsExplorationOf}
 use Rattle.fx_top.specs.OneDelay.{delay_interface, SolvesDelay}
 use Rattle.fx_tables.specs.declared.table.TableCause.{TableCause}
 use Rattle.fx_top.specs.Replayed.{IsReplayOf, IsBadStimulus}
@@ -76,9 +77,11 @@ abbrev pub IsBadTable : Command → List ℕ → List ℕ → ℕ → TableCause
 IsBadTable (Generate model) first stimulus line cause = ⊥
 IsBadTable (Replay verilog text) first stimulus line cause = IsBadStimulus first stimulus line cause
 IsBadTable (Simulate model text) first stimulus line cause = IsBadSimulation first stimulus line cause
+IsBadTable (Explore model range) first stimulus line cause = ⊥
 
 -- the text that a command writes of what was fetched from the shelf
 abbrev pub IsOutput : Command → (List ℕ → Told) → List ℕ → Type 0
 IsOutput (Generate model) held text = (bytes : List ℕ) × (Fetched (held model) file_limit bytes × IsVerilogOf bytes [] text)
 IsOutput (Replay verilog stimulus) held text = IsReplayOfFiles (held verilog) (held stimulus) text
 IsOutput (Simulate model stimulus) held text = IsSimulationOfFiles (held model) (held stimulus) text
+IsOutput (Explore model range) held text = (bytes : List ℕ) × (Fetched (held model) file_limit bytes × IsExplorationOf bytes range text)

@@ -93,7 +93,9 @@ impl Answer<'_> {
             Answer::OutOfMemory => say(err, &[b"out of memory\n"]),
             Answer::Usage => say(
                 err,
-                &[b"usage: simulate MODEL STIM, generate MODEL -, replay VERILOG STIM\n"],
+                &[
+                    b"usage: simulate MODEL STIM, generate MODEL -, replay VERILOG STIM, explore MODEL RANGE\n",
+                ],
             ),
             Answer::CannotRead { file } => say(err, &[file.as_bytes(), b": cannot be read\n"]),
             Answer::CannotWrite => say(err, &[b"cannot write\n"]),

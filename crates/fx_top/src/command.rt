@@ -1,7 +1,10 @@
-ghost use Rattle.std.specs.Prelude.{◌≡◌, map, string_bytes};
+ghost use Rattle.std.specs.Prelude.{◌≡◌, IfSome, map, string_bytes};
 ghost use Rattle.std.specs.Option.{option_map};
 ghost use Rattle.fx_top.specs.Command.{command_of};
-ghost use Rattle.fx_top.specs.inner.Named.{named};
+ghost use Rattle.fx_top.specs.inner.Named.{HasRange, named};
+
+use fx_explored::read_range;
+use hw_explore::Range;
 
 /// What the words of a call ask for.
 #[derive(Clone, Copy)]
@@ -12,12 +15,15 @@ pub enum Command<'a> {
     Replay { verilog: &'a str, stimulus: &'a str },
     /// To write the response of a model's diagram to a stimulus.
     Simulate { model: &'a str, stimulus: &'a str },
+    /// To write what each plan of a range is worth on a model.
+    Explore { model: &'a str, range: Range },
 }
 
 impl<'a> Command<'a> {
     /// The command that the words name, where they have a listed shape.
     pub fn of_words(words: &'a [String]) -> Option<Command<'a>>
-        ensures { option_map named result ≡ command_of (map string_bytes words.now) }
+        ensures is { option_map named result ≡ command_of (map string_bytes words.now) }
+        ensures range { IfSome result HasRange }
     {
         match words {
             [verb, model, plan] if verb.as_str() == "generate" && plan.as_str() == "-" => {
@@ -33,6 +39,15 @@ impl<'a> Command<'a> {
                 model: model.as_str(),
                 stimulus: stimulus.as_str(),
             }),
+            [verb, model, range] if verb.as_str() == "explore" => {
+                match read_range(range.as_str().as_bytes()) {
+                    Some(range) => Some(Command::Explore {
+                        model: model.as_str(),
+                        range,
+                    }),
+                    None => None,
+                }
+            }
             _ => None,
         }
     }

@@ -1,17 +1,17 @@
-ghost use Rattle.std.specs.Prelude.{◌≡◌, ◌<◌, ◌^◌, ℕ, All, IfErr, IfOk, OnErr, OnOk, length, true};
+ghost use Rattle.std.specs.Prelude.{◌≡◌, ◌<◌, ◌^◌, ℕ, List, All, IfErr, IfOk, OnErr, OnOk, length, true};
 ghost use Rattle.fx_io.specs.Cause.{Rose};
 ghost use Rattle.fx_io.specs.Sink.{TookProperPrefix, also_took};
-ghost use Rattle.fx_model.specs.Model.{IsModelOf};
 ghost use Rattle.fx_tables.specs.Response.{response};
 ghost use Rattle.fx_tables.specs.RowText.{periods_of};
 ghost use Rattle.fx_tables.specs.Stimulus.{FitsColumns, IsRows};
 ghost use Rattle.dg_response.specs.Responded.{HasRoom, lines_of, table_of};
-ghost use Rattle.fx_top.specs.inner.Simulating.{HasColumns, IsFaultOf, IsModelFault, IsReadyFor, IsRespondedTo, IsRowsFault, IsSimulationTo, IsTold, Refuses, Simulates};
+ghost use Rattle.fx_top.specs.inner.Refusing.{IsRefusedModel};
+ghost use Rattle.fx_top.specs.inner.Simulating.{HasColumns, IsFaultOf, IsReadyFor, IsRespondedTo, IsRowsFault, IsSimulationTo, Refuses, Simulates};
 
+use crate::refusal::{ModelRefusal, checked_of};
 use dg_model::Checked;
 use dg_response::{Responded, RootColumns, columns, respond};
 use fx_io::{OutOfMemory, PutFault, Sink, Text, put_all};
-use fx_model::{ModelFault, accept, rule_text};
 use fx_tables::{Column, RowText, Rows, TableCause, TableFault, read_rows};
 use std::alloc::Global;
 
@@ -48,17 +48,6 @@ pub struct Simulation {
     pub samples: u64,
     pub responded: Responded,
     pub text: RowText,
-}
-
-/// The checked diagram of a model.
-fn checked_of(alloc: Global, model: &[u8]) -> Result<Checked, SimulationFault>
-    ensures made { IfOk result (λ checked. IsModelOf model.now checked.diagram) }
-    ensures refused { IfErr result (IsModelFault model.now) }
-{
-    match accept(alloc, model) {
-        Ok(checked) => Ok(checked),
-        Err(fault) => Err(model_fault(alloc, fault)),
-    }
 }
 
 /// The columns of a diagram, where they can be numbered by 32 bits.
@@ -169,7 +158,7 @@ pub fn simulation_of(
 {
     let checked = match checked_of(alloc, model) {
         Ok(checked) => checked,
-        Err(fault) => return Err(fault),
+        Err(refusal) => return Err(refused(refusal)),
     };
     simulation_in(alloc, &checked, stimulus)
 }
@@ -196,19 +185,15 @@ fn have_periods(columns: &[Column]) -> bool
     columns.iter().all(|column| column.period > 0)
 }
 
-/// The fault of a model, with the line of a broken rule.
-fn model_fault(alloc: Global, fault: ModelFault) -> SimulationFault
-    ensures { IsTold fault result }
+/// The fault of a simulation whose model is refused so.
+fn refused(refusal: ModelRefusal) -> SimulationFault
+    ensures { (source stimulus : List ℕ) → IsRefusedModel source refusal →
+        IsFaultOf source stimulus result }
 {
-    match fault {
-        ModelFault::NotMdl { line } => SimulationFault::NotMdl { line },
-        ModelFault::Broken { fault, blocks } => {
-            match rule_text(alloc, &fault, blocks.as_slice()) {
-                Ok(line) => SimulationFault::BreaksRule { line },
-                Err(OutOfMemory) => SimulationFault::OutOfMemory,
-            }
-        }
-        ModelFault::OutOfMemory => SimulationFault::OutOfMemory,
+    match refusal {
+        ModelRefusal::NotMdl { line } => SimulationFault::NotMdl { line },
+        ModelRefusal::BreaksRule { line } => SimulationFault::BreaksRule { line },
+        ModelRefusal::OutOfMemory => SimulationFault::OutOfMemory,
     }
 }
 

@@ -6,19 +6,23 @@ ghost use Rattle.fx_top.specs.Outcome.{IfCommand, IsDue, IsComplete};
 
 use crate::answer::Answer;
 use crate::command::Command;
+use crate::explore::explore;
 use crate::generate::generate;
 use crate::replay::replay;
 use crate::simulate::simulate;
 use fx_io::{Shelf, Sink};
 use std::alloc::Global;
+use std::thread::Threads;
 
 /// Does what the words after the program's name ask for, and gives the exit status (own).
 ///
 /// `simulate MODEL STIM` writes the response of a model's diagram to a stimulus. `generate MODEL -`
 /// writes the Verilog text of a model. `replay VERILOG STIM` writes what the module of a Verilog text
-/// of the subset shows under a stimulus. The files come from `shelf`, the text goes
+/// of the subset shows under a stimulus. `explore MODEL RANGE` writes what each plan of a range is
+/// worth on a model, found by workers of `rt`. The files come from `shelf`, the text goes
 /// to `out`, and each status but 0 puts one line to `err`, whose failure changes nothing.
-pub fn run<S: Shelf, K: Sink, E: Sink>(
+pub fn run<R: Threads + Sync, S: Shelf, K: Sink, E: Sink>(
+    rt: &R,
     alloc: Global,
     words: &[String],
     shelf: &mut S,
@@ -37,12 +41,13 @@ pub fn run<S: Shelf, K: Sink, E: Sink>(
 {
     mdl_text::unique();
     vl_read::unique();
-    let answer = carry_out(alloc, words, shelf, out);
+    let answer = carry_out(rt, alloc, words, shelf, out);
     answer.report(err);
     answer.status()
 }
 
-fn carry_out<'a, S: Shelf, K: Sink>(
+fn carry_out<'a, R: Threads + Sync, S: Shelf, K: Sink>(
+    rt: &R,
     alloc: Global,
     words: &'a [String],
     shelf: &mut S,
@@ -62,5 +67,6 @@ fn carry_out<'a, S: Shelf, K: Sink>(
         Some(Command::Simulate { model, stimulus }) => {
             simulate(alloc, model, stimulus, shelf, out)
         }
+        Some(Command::Explore { model, range }) => explore(rt, alloc, model, range, shelf, out),
     }
 }

@@ -1,14 +1,12 @@
 -- A response of a model that is ready to be written, and a model's fault with its line.
-use Rattle.std.specs.Prelude.{◌≡◌, ⊤, ℕ, ◌⊎◌, ◌<◌, List, length, map, Some}
+use Rattle.std.specs.Prelude.{◌≡◌, ⊤, ℕ, ◌<◌, List, length, map, Some}
 use Rattle.dg_model.specs.declared.diagram.Diagram.{Diagram}
 use Rattle.dg_response.specs.declared.responding.Responded.{Responded}
 use Rattle.dg_response.specs.declared.root_columns.RootColumns.{RootColumns}
 use Rattle.dg_response.specs.Responded.{HasRoom, lines_of, table_of}
 use Rattle.dg_response.specs.Response.{input_columns, output_columns, IsResponse}
 use Rattle.fx_model.specs.Model.{IsModelOf, IsNotMdl}
-use Rattle.fx_model.specs.RuleLine.{TellsRule, rule_line}
-use Rattle.fx_model.specs.declared.accepting.ModelFault.{ModelFault}
-use Rattle.fx_model.specs.declared.accepting.ModelFault.TheVariants as model
+use Rattle.fx_model.specs.RuleLine.{TellsRule}
 use Rattle.fx_tables.specs.declared.table.Column.{Column}
 use Rattle.fx_tables.specs.declared.table.Rows.{Rows}
 use Rattle.fx_tables.specs.declared.table.TableFault.TheVariants.{Bad}
@@ -52,13 +50,6 @@ pub record IsReadyFor (diagram : Diagram) (columns : RootColumns) (rows : Rows) 
   pub periods : periods_of ready.text ≡ map (λ (column : Column). column.period) columns.outputs
   pub responded : IsRespondedTo diagram rows ready.responded
 
--- what a fault says of a model's bytes
-abbrev pub IsModelFault : List ℕ → SimulationFault → Type 0
-IsModelFault source (NotMdl line) = IsNotMdl source line
-IsModelFault source (BreaksRule line) = TellsRule source line
-IsModelFault source (BadTable line cause) = ⊥
-IsModelFault source OutOfMemory = ⊤
-
 -- what a fault says of a stimulus of these columns
 abbrev pub IsRowsFault : RootColumns → List ℕ → SimulationFault → Type 0
 IsRowsFault columns stimulus (NotMdl line) = ⊥
@@ -80,9 +71,3 @@ Simulates diagram stimulus ready = (source : List ℕ) → IsModelOf source diag
 -- it is a fault of every model of this diagram
 unfoldable pub Refuses : Diagram → List ℕ → SimulationFault → Type 0
 Refuses diagram stimulus fault = (source : List ℕ) → IsModelOf source diagram → IsFaultOf source stimulus fault
-
--- the fault of a model is told: a broken rule by its line, but for want of memory
-abbrev pub IsTold : ModelFault → SimulationFault → Type 0
-IsTold (model.NotMdl line) told = told ≡ NotMdl line
-IsTold (model.Broken fault blocks) told = (told ≡ OutOfMemory) ⊎ (told ≡ BreaksRule (rule_line (map (λ block. block.path) blocks) fault))
-IsTold model.OutOfMemory told = told ≡ OutOfMemory
