@@ -1,5 +1,5 @@
 //! Words of bits.
-ghost use Rattle.std.specs.Prelude.{IfOk};
+ghost use Rattle.std.specs.Prelude.{◌≤◌, IfOk};
 ghost use Rattle.fx_num.specs.Word.{IsWord};
 
 use crate::words::Words;
@@ -57,6 +57,14 @@ pub fn in_bits<W: Write>(words: &mut Words<'_>, out: &mut W) -> Result<()> {
     Ok(())
 }
 
+/// The number of a word of a byte or more that has these bits.
+fn of_byte(bits: u8, width: u8, signed: bool) -> i128
+    requires word { IsWord width signed }
+    requires wide { 8 ≤ width }
+{
+    from_bits(u128::from(bits), width, signed)
+}
+
 pub fn of_bits<W: Write>(words: &mut Words<'_>, out: &mut W) -> Result<()> {
     let Ok(bits) = words.next()?.parse::<u8>() else {
         return Err(anyhow!("no number"));
@@ -65,7 +73,7 @@ pub fn of_bits<W: Write>(words: &mut Words<'_>, out: &mut W) -> Result<()> {
     if width < 8 {
         return Err(anyhow!("the bits may leave their word"));
     }
-    let r = from_bits(u128::from(bits), width, signed);
+    let r = of_byte(bits, width, signed);
     writeln!(out, "{r}")?;
     Ok(())
 }
