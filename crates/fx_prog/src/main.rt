@@ -7,10 +7,11 @@ use fx_top::run;
 use std::env;
 use std::io::{BufWriter, ErrorKind, Write};
 use std::process::ExitCode;
+use std::thread::Threads;
 
 fn main(rt: HostRuntime) -> ExitCode {
     let mut err = ErrSink::new(rt.stderr());
-    let status = match answer(&rt, &mut err) {
+    let status = match answer(&rt, &rt, &mut err) {
         Ok(status) => status,
         Err(OutOfMemory) => end(&mut err, b"out of memory\n", 1),
     };
@@ -19,13 +20,24 @@ fn main(rt: HostRuntime) -> ExitCode {
 
 /// The status of `run` over the program's words. The output goes through a buffer, so that lines
 /// share calls of the system; what stands in it at the end and can't be written is a write fault,
-/// as in `run`.
-fn answer<E: Sink>(rt: &HostRuntime, err: &mut E) -> Result<u8, OutOfMemory> {
+/// as in `run`. Threads are those of the runtime, which has them in `main` alone.
+fn answer<T: Threads + Sync, E: Sink>(
+    threads: &T,
+    rt: &HostRuntime,
+    err: &mut E,
+) -> Result<u8, OutOfMemory> {
     let words = words(rt)?;
     let mut shelf = FileShelf::new(rt);
     let writer = BufWriter::new(rt.alloc(), rt.stdout()).map_err(|_| OutOfMemory)?;
     let mut out = OutSink::new(writer);
-    let status = run(rt, rt.alloc(), words.as_slice(), &mut shelf, &mut out, err);
+    let status = run(
+        threads,
+        rt.alloc(),
+        words.as_slice(),
+        &mut shelf,
+        &mut out,
+        err,
+    );
     let is_written = out.writer.flush().is_ok();
     if status == 0 && !is_written {
         return Ok(end(err, b"cannot write\n", 4));
