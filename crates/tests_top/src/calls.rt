@@ -6,6 +6,7 @@ use anyhow::{Result, anyhow};
 use fx_io::{MemShelf, MemSink};
 use fx_top::run;
 use std::alloc::Global;
+use std::thread::Threads;
 
 /// What a call answers.
 #[derive(Drop)]
@@ -16,7 +17,12 @@ pub struct Answer {
 }
 
 /// What the call of these words answers.
-pub fn answered(alloc: Global, case: &Case, words: &str) -> Result<Answer> {
+pub fn answered<R: Threads + Sync>(
+    rt: &R,
+    alloc: Global,
+    case: &Case,
+    words: &str,
+) -> Result<Answer> {
     let mut shelf = MemShelf::new(alloc, case.fetches.as_slice())?;
     for file in case.files.iter() {
         shelf.add(file.name.as_str(), file.bytes.as_slice())?;
@@ -26,11 +32,11 @@ pub fn answered(alloc: Global, case: &Case, words: &str) -> Result<Answer> {
         texts.push(String::from_str(alloc, word)?)?;
     }
     if case.stuck {
-        return stuck(alloc, texts.as_slice(), shelf);
+        return stuck(rt, alloc, texts.as_slice(), shelf);
     }
     let mut out = sink(alloc, case.puts.as_slice(), case.piece)?;
     let mut err = sink(alloc, &[], ROOM)?;
-    let status = run(alloc, texts.as_slice(), &mut shelf, &mut out, &mut err);
+    let status = run(rt, alloc, texts.as_slice(), &mut shelf, &mut out, &mut err);
     Ok(Answer {
         status,
         out: out.taken().to_vec(alloc)?,
@@ -39,10 +45,15 @@ pub fn answered(alloc: Global, case: &Case, words: &str) -> Result<Answer> {
 }
 
 /// The same where standard output takes nothing and standard error fails.
-fn stuck(alloc: Global, words: &[String], mut shelf: MemShelf) -> Result<Answer> {
+fn stuck<R: Threads + Sync>(
+    rt: &R,
+    alloc: Global,
+    words: &[String],
+    mut shelf: MemShelf,
+) -> Result<Answer> {
     let mut out = Stuck { faults: 0 };
     let mut err = sink(alloc, &[1], ROOM)?;
-    let status = run(alloc, words, &mut shelf, &mut out, &mut err);
+    let status = run(rt, alloc, words, &mut shelf, &mut out, &mut err);
     Ok(Answer {
         status,
         out: Vec::new(alloc),

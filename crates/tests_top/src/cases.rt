@@ -4,6 +4,7 @@ use crate::calls::{Answer, answered};
 use anyhow::{Result, anyhow};
 use std::alloc::Global;
 use std::io::Write;
+use std::thread::Threads;
 use tests_rows::{Row, Texts};
 
 /// A file by its name.
@@ -44,8 +45,9 @@ impl Case {
     }
 
     /// Takes a line that is no text's.
-    pub fn take<W: Write>(
+    pub fn take<R: Threads + Sync, W: Write>(
         &mut self,
+        rt: &R,
         alloc: Global,
         texts: &Texts,
         line: &str,
@@ -53,7 +55,7 @@ impl Case {
     ) -> Result<()> {
         if let Some(words) = line.strip_prefix("run ") {
             writeln!(out, "{line}")?;
-            let answer = answered(alloc, self, words)?;
+            let answer = answered(rt, alloc, self, words)?;
             put_answer(&answer, out)?;
             self.fetches.clear();
             self.puts.clear();

@@ -36,7 +36,7 @@ fn main(rt: HostRuntime) -> Result<()> {
     for line in BufReader::new(alloc, rt.reader())?.lines(alloc) {
         let line = line?;
         if !texts.take(alloc, line.as_str())? {
-            case.take(alloc, &texts, line.as_str(), &mut out)?;
+            case.take(&rt, alloc, &texts, line.as_str(), &mut out)?;
         }
     }
     out.flush()?;
