@@ -60,7 +60,6 @@ fn has_counters(netlist: &Netlist) -> bool
 }
 
 /// Whether a netlist has neither ports nor labels, and a Counter of each frame.
-#[tactic(auto, using(crate::proofs::Emitted::bare))]
 fn is_bare(netlist: &Netlist) -> bool
     ensures { result ≡ true → IsEmittable netlist.now }
 {
