@@ -11,4 +11,3 @@ pub mod Products
 pub mod Put
 pub mod Ready
 pub mod Shared
-pub mod Tried

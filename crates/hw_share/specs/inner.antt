@@ -3,4 +3,3 @@ pub mod Parts
 pub mod Choices
 pub mod Joined
 pub mod Steps
-pub mod Tried
