@@ -67,27 +67,38 @@ fn answer<W: Write>(alloc: Global, line: &str, out: &mut W) -> Result<()> {
         b"sum_type" => types::sum_type(alloc, &mut words, out),
         b"product_type" => types::product_type(&mut words, out),
         b"union_type" => types::union_type(&mut words, out),
-        b"output" => {
-            let operation = words.next()?;
-            let answer = operations::carried_out(alloc, operation.as_bytes(), &mut words)?;
-            let Answer {
-                value,
-                prepared,
-                ..
-            } = answer;
-            writeln!(out, "{value} {prepared}")?;
-            Ok(())
-        }
-        operation => {
-            let answer = operations::carried_out(alloc, operation, &mut words)?;
-            let Answer {
-                value,
-                prepared,
-                shown,
-                nets,
-            } = answer;
-            writeln!(out, "{value} {prepared} {shown} {nets}")?;
-            Ok(())
-        }
+        b"output" => put_output(alloc, &mut words, out),
+        operation => put_operation(alloc, operation, &mut words, out),
     }
+}
+
+/// What an operation gives, and what it gives prepared.
+fn put_output<W: Write>(alloc: Global, words: &mut Words<'_>, out: &mut W) -> Result<()> {
+    let operation = words.next()?;
+    let answer = operations::carried_out(alloc, operation.as_bytes(), words)?;
+    let Answer {
+        value,
+        prepared,
+        ..
+    } = answer;
+    writeln!(out, "{value} {prepared}")?;
+    Ok(())
+}
+
+/// The same with what its nets show, and how many these are.
+fn put_operation<W: Write>(
+    alloc: Global,
+    operation: &[u8],
+    words: &mut Words<'_>,
+    out: &mut W,
+) -> Result<()> {
+    let answer = operations::carried_out(alloc, operation, words)?;
+    let Answer {
+        value,
+        prepared,
+        shown,
+        nets,
+    } = answer;
+    writeln!(out, "{value} {prepared} {shown} {nets}")?;
+    Ok(())
 }
