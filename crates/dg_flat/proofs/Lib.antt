@@ -28,7 +28,6 @@ pub mod Standings
 pub mod Law
 pub mod FlatBlock
 mod Crossed
-pub mod Trial
 pub mod One
 pub mod FirstOne
 mod SomeFlat

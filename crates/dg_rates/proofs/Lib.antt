@@ -4,5 +4,4 @@ mod Declaring
 mod Keeping
 mod Linking
 mod Stepping
-mod Trial
 mod Tying

@@ -4,5 +4,4 @@ pub mod Declared
 pub mod Links
 pub mod StepLaws
 pub mod Steps
-pub mod Trial
 pub mod Units

@@ -8,6 +8,5 @@ pub mod Places
 pub mod Placing
 pub mod Stepping
 pub mod Telling
-pub mod Tried
 pub mod Walking
 pub mod Ways

@@ -4,8 +4,6 @@ pub mod FromWired
 pub mod Numbered
 pub mod ScanFacts
 pub mod Shown
-pub mod Trial
-pub mod TypedTrial
 pub mod Verdicts
 pub mod TypedFits
 pub mod TypedGreatest

@@ -8,5 +8,4 @@ mod Stepping
 mod Zero
 mod Closing
 mod Bounds
-mod Tried
 mod Leaving
