@@ -28,5 +28,5 @@ pub use laws::{
     fed_is_one, latencies_are_one, latencies_are_small, latency_cycles_leave_none,
     unasked_blocks_are_zero,
 };
-pub use shared::is_shared;
+pub use shared::{is_shared, multiplies};
 pub use weight::{arc_between, is_registered, samples};

@@ -7,8 +7,8 @@ ghost use Rattle.dg_model.specs.PlanOf.{IsPlanOf};
 use crate::block::block_at;
 use dg_model::{Checked, Kind, Resolved};
 
-/// Whether each element of a block of this kind is a multiplication.
-fn multiplies(kind: &Kind) -> bool
+/// Whether each element of a block of this kind is a multiplication (own).
+pub fn multiplies(kind: &Kind) -> bool
     ensures { result ≡ (row_of kind.now).hardware.multiplies }
 {
     match kind {

@@ -1,43 +1,16 @@
 ghost use Rattle.std.specs.Prelude.{◌≡◌, ◌<◌, IfOk, length};
 ghost use Rattle.dg_model.specs.Attributes.{attributes_of};
-ghost use Rattle.dg_model.specs.Library.{row_of};
 ghost use Rattle.dg_model.specs.PlanOf.{IsPlanOf};
 ghost use Rattle.hw_rules.specs.Times.{AreTimes, timing_in};
 ghost use Rattle.hw_rules.specs.inner.Own.{IsCount, own_at};
 ghost use Rattle.hw_sched.specs.Ready.{owed, unshared};
 
 use crate::times::Times;
-use dg_model::{Checked, Kind, Resolved};
+use dg_model::{Checked, Resolved};
 use fx_io::OutOfMemory;
-use hw_latency::{block_at, is_shared};
+use hw_latency::{block_at, is_shared, multiplies};
 use hw_sched::{own_width, slots_differ, units_are_used};
 use hw_slots::total;
-
-/// Whether each element of a block of this kind is a multiplication.
-fn is_multiplication(kind: &Kind) -> bool
-    ensures { result ≡ (row_of kind.now).hardware.multiplies }
-{
-    match kind {
-        Kind::Gain { .. } | Kind::Product => true,
-        Kind::Inport { .. }
-        | Kind::Outport { .. }
-        | Kind::Constant { .. }
-        | Kind::Ground
-        | Kind::Sum { .. }
-        | Kind::Switch { .. }
-        | Kind::Relational { .. }
-        | Kind::Logic { .. }
-        | Kind::Convert { .. }
-        | Kind::Delay { .. }
-        | Kind::Mux { .. }
-        | Kind::Demux { .. }
-        | Kind::RateTransition { .. }
-        | Kind::Pass { .. }
-        | Kind::EnableTest
-        | Kind::EnOut { .. }
-        | Kind::Terminator => false,
-    }
-}
 
 /// How many multiplications a block has that share no multiplier.
 fn own_multiplications(checked: &Checked, plan: &Resolved, place: u32) -> u64
@@ -45,7 +18,7 @@ fn own_multiplications(checked: &Checked, plan: &Resolved, place: u32) -> u64
     requires there { place < length checked.now.diagram.blocks }
     ensures { result ≡ own_at checked.now.diagram plan.now place }
 {
-    if is_multiplication(&block_at(checked, place).kind) && !is_shared(checked, plan, place) {
+    if multiplies(&block_at(checked, place).kind) && !is_shared(checked, plan, place) {
         u64::from(own_width(checked, place))
     } else {
         0
