@@ -9,14 +9,14 @@ use Rattle.hw_net.specs.Registers.{Span, Takes}
 use Rattle.hw_net.specs.Netlist.{HasWord}
 use Rattle.hw_net.specs.NetRows.{span_of}
 use Rattle.hw_net.specs.Growing.{Extends, InRows}
-use Rattle.hw_net.proofs.Growing.{longer, still-there, extends-self, in-rows-first, in-rows-last, in-rows-both, in-rows-map, in-rows-all}
+use Rattle.hw_net.proofs.Growing.{longer, still-there, extends-self, in-rows-first, in-rows-both, in-rows-map, in-rows-all}
 use Rattle.hw_share.specs.declared.operation.Operation.{Operation}
 use Rattle.hw_share.specs.declared.joining.Ends.{Ends}
 use Rattle.hw_share.specs.Operations.{IsOperation, AreApart, CanShare, SameWord, operands_of, unit_count}
 use Rattle.hw_share.specs.Shared.{IsFrameOf}
 use Rattle.hw_share.specs.inner.Parts.{IsNamed, Grows, IsChoosing}
 use Rattle.hw_share.specs.inner.Joined.{Selects, Offers, AreOffered, CanJoin, HasJoined, IsJoined, AreEnds, own_ends, ends_at}
-use Rattle.hw_share.proofs.Grown.{grows-self, grows-then, choosing-wider, word-then, word-later, word-itself, word-from, named-later}
+use Rattle.hw_share.proofs.Grown.{grows-self, word-then, word-later, word-itself, word-from, named-later}
 use Rattle.hw_share.proofs.Named.{left-named, right-named, among, unit-below, none-at}
 
 -- ---- before the first operation
@@ -94,7 +94,7 @@ module _ (before now : Circuit) (operations : List Operation) (ends : List (Opti
         | inr far ↦ (can.apart k i other one far there at same).right
       ]
 
-  module _ (new : Circuit) (end : Ends) (joined : IsJoined now new (ends_at ends one.unit) one end) where
+  module _ (new : Circuit) (end : Ends) (joined : IsJoined before now new (ends_at ends one.unit) one end) where
     -- what the new ends have
     record IsStep : Type 0 where
       extends : Extends now new
@@ -130,22 +130,11 @@ module _ (before now : Circuit) (operations : List Operation) (ends : List (Opti
         none-taken (Some own) e some = none-some own (sym e)
 
     module _ (old : Ends) (known : ends_at ends one.unit ≡ Some old) where
-      has : HasJoined now new old one end
+      has : HasJoined before now new old one end
       has = joined.more old known
 
       further : Extends now new
-      further = has.grown.appends.extends
-
-      cycles : now.cycles ≡ before.cycles
-      cycles = kept.cycles
-
-      left-selects : InRows before new (λ n rows. Selects n (span_of before.cycles one.frame) one.slot (rows one.left) (rows old.left) (rows end.left))
-      left-selects = subst (λ (x : ℕ). InRows before new (λ n rows. Selects n (span_of x one.frame) one.slot (rows one.left) (rows old.left) (rows end.left))) cycles
-          (in-rows-last before now new (λ n rows. Selects n (span_of now.cycles one.frame) one.slot (rows one.left) (rows old.left) (rows end.left)) kept has.left)
-
-      right-selects : InRows before new (λ n rows. Selects n (span_of before.cycles one.frame) one.slot (rows one.right) (rows old.right) (rows end.right))
-      right-selects = subst (λ (x : ℕ). InRows before new (λ n rows. Selects n (span_of x one.frame) one.slot (rows one.right) (rows old.right) (rows end.right))) cycles
-          (in-rows-last before now new (λ n rows. Selects n (span_of now.cycles one.frame) one.slot (rows one.right) (rows old.right) (rows end.right)) kept has.right)
+      further = has.extends
 
       both-select : InRows before new (λ n rows. Selects n (span_of before.cycles one.frame) one.slot (rows one.left) (rows old.left) (rows end.left)
           × Selects n (span_of before.cycles one.frame) one.slot (rows one.right) (rows old.right) (rows end.right))
@@ -154,7 +143,7 @@ module _ (before now : Circuit) (operations : List Operation) (ends : List (Opti
           (λ n rows. Selects n (span_of before.cycles one.frame) one.slot (rows one.right) (rows old.right) (rows end.right))
           (λ n rows. Selects n (span_of before.cycles one.frame) one.slot (rows one.left) (rows old.left) (rows end.left)
           × Selects n (span_of before.cycles one.frame) one.slot (rows one.right) (rows old.right) (rows end.right))
-          left-selects right-selects (λ n rows p q. (p, q))
+          has.left has.right (λ n rows p q. (p, q))
 
       earlier-offered : (k : ℕ) (other : Operation) → k < i → slice_get operations k ≡ Some other → other.unit ≡ one.unit → AreOffered before new other end
       earlier-offered k other less there units =
@@ -210,9 +199,7 @@ module _ (before now : Circuit) (operations : List Operation) (ends : List (Opti
             right_word = right-word;
             left_named = inr (omega (arith, has.left_new, longer before now kept), slice_get_within new.nets end.left left_at.net left_at.is);
             right_named = inr (omega (arith, has.right_new, longer before now kept), slice_get_within new.nets end.right right_at.net right_at.is);
-            grown = grows-then before now new (operands_of operations) (one.left ∷ one.right ∷ old.left ∷ old.right ∷ []) (IsChoosing (IsFrameOf operations)) (IsChoosing (λ frame. frame ≡ one.frame)) 0 0
-                operands-named
-                (choosing-wider (λ frame. frame ≡ one.frame) (IsFrameOf operations) (λ frame e. (one, among operations i one at, e))) inv.grown has.grown;
+            grown = has.grown operations (operands_of operations) (one, among operations i one at, refl) operands-named inv.grown;
           }
 
     step : IsStep

@@ -1,21 +1,22 @@
 -- The ends of chains with one operation more.
-use Rattle.std.proofs.Common.{◌≡◌, ℕ, inl, inr, List, [], ◌∷◌, Option, Some, None, Result, Ok, Err, IfOk, sym, ◌∙◌, subst, arith, refl}
+use Rattle.std.proofs.Common.{◌≡◌, ℕ, inr, [], ◌∷◌, Contains, Option, Some, None, sym, ◌∙◌, subst, arith, refl}
 use Rattle.std.proofs.lemmas.Int.{ints}
 use Rattle.std.proofs.lemmas.Option.{slice_get_within, none-some, same_Some}
-use Rattle.std.proofs.lemmas.List.Elements.{All-nil}
+use Rattle.std.proofs.lemmas.List.Elements.{All-nil, All-contains}
 use Rattle.hw_net.specs.declared.netlist.NetKind.{NetKind}
 use Rattle.hw_net.specs.Circuit.{Circuit}
 use Rattle.hw_net.specs.Registers.{Wave, Span}
 use Rattle.hw_net.specs.NetRows.{span_of}
 use Rattle.hw_net.specs.Growing.{Extends, InRows}
-use Rattle.hw_net.proofs.Growing.{longer, still-there, extends-trans, in-rows-first, in-rows-last, in-rows-both}
+use Rattle.hw_net.proofs.Growing.{longer, still-there, extends-self, extends-trans, in-rows-first, in-rows-last, in-rows-both}
 use Rattle.hw_share.specs.declared.operation.Operation.{Operation}
 use Rattle.hw_share.specs.declared.joining.Ends.{Ends}
 use Rattle.hw_share.specs.Operations.{SameWord}
+use Rattle.hw_share.specs.Shared.{IsFrameOf}
 use Rattle.hw_share.specs.inner.Parts.{IsNamed, Grows, IsChoosing, IsThere}
 use Rattle.hw_share.specs.inner.Choices.{Tests, Chooses, IsTestAt, IsChoiceAt, HaveOneWord}
-use Rattle.hw_share.specs.inner.Joined.{Selects, CanJoin, HasJoined, IsJoined, own_ends}
-use Rattle.hw_share.proofs.Grown.{all-three, grows-self, grows-then, choosing-wider, word-from, word-later, there-later}
+use Rattle.hw_share.specs.inner.Joined.{Selects, GrowsOn, CanJoin, HasJoined, IsJoined, own_ends}
+use Rattle.hw_share.proofs.Grown.{all-three, grows-then, choosing-wider, word-from, word-later, there-later, named-later}
 
 -- a choice by a test
 selects-of : (n : ℕ) (span : Span) (slot : ℕ) (test operand other wave : Wave) → Tests n span slot test → Chooses n test operand other wave → Selects n span slot operand other wave
@@ -31,16 +32,10 @@ word-of-both a b one other p is = record {
   same = word-from a b b one other is.there.net p is.there.is (word-later a a b one other p is.same);
 }
 
-module _ (a b c d : Circuit) (old : Ends) (one : Operation) (test left right : ℕ) (can : CanJoin a old one)
-    (tested : IsTestAt a b one.frame one.slot test) (begun : Grows a b [] (IsChoosing (λ frame. frame ≡ one.frame)) 0)
+module _ (before a b c d : Circuit) (old : Ends) (one : Operation) (test left right : ℕ) (can : CanJoin a old one) (grew : Extends before a)
+    (tested : IsTestAt before b one.frame one.slot test) (begun : Grows a b [] (IsChoosing (λ frame. frame ≡ one.frame)) 0)
     (chosen : IsChoiceAt b c test one.left old.left left) (more : Grows b c (test ∷ one.left ∷ old.left ∷ []) (IsChoosing (λ frame. ⊥)) 0)
     (also : IsChoiceAt c d test one.right old.right right) (last : Grows c d (test ∷ one.right ∷ old.right ∷ []) (IsChoosing (λ frame. ⊥)) 0) where
-  abbrev named : List ℕ
-  named = one.left ∷ one.right ∷ old.left ∷ old.right ∷ []
-
-  abbrev part : NetKind → Type 0
-  part = IsChoosing (λ frame. frame ≡ one.frame)
-
   ab : Extends a b
   ab = begun.appends.extends
 
@@ -50,42 +45,51 @@ module _ (a b c d : Circuit) (old : Ends) (one : Operation) (test left right : �
   cd : Extends c d
   cd = last.appends.extends
 
-  left-selects : InRows a d (λ n rows. Selects n (span_of a.cycles one.frame) one.slot (rows one.left) (rows old.left) (rows left))
-  left-selects = in-rows-both a d
-      (λ n rows. Tests n (span_of a.cycles one.frame) one.slot (rows test))
+  left-selects : InRows before d (λ n rows. Selects n (span_of before.cycles one.frame) one.slot (rows one.left) (rows old.left) (rows left))
+  left-selects = in-rows-both before d
+      (λ n rows. Tests n (span_of before.cycles one.frame) one.slot (rows test))
       (λ n rows. Chooses n (rows test) (rows one.left) (rows old.left) (rows left))
-      (λ n rows. Selects n (span_of a.cycles one.frame) one.slot (rows one.left) (rows old.left) (rows left))
-      (in-rows-first a b d (λ n rows. Tests n (span_of a.cycles one.frame) one.slot (rows test)) (extends-trans b c d bc cd) tested.shows)
-      (in-rows-last a b d (λ n rows. Chooses n (rows test) (rows one.left) (rows old.left) (rows left)) ab
+      (λ n rows. Selects n (span_of before.cycles one.frame) one.slot (rows one.left) (rows old.left) (rows left))
+      (in-rows-first before b d (λ n rows. Tests n (span_of before.cycles one.frame) one.slot (rows test)) (extends-trans b c d bc cd) tested.shows)
+      (in-rows-last before b d (λ n rows. Chooses n (rows test) (rows one.left) (rows old.left) (rows left)) (extends-trans before a b grew ab)
       (in-rows-first b c d (λ n rows. Chooses n (rows test) (rows one.left) (rows old.left) (rows left)) cd chosen.shows))
-      (λ n rows p q. selects-of n (span_of a.cycles one.frame) one.slot (rows test) (rows one.left) (rows old.left) (rows left) p q)
+      (λ n rows p q. selects-of n (span_of before.cycles one.frame) one.slot (rows test) (rows one.left) (rows old.left) (rows left) p q)
 
-  right-selects : InRows a d (λ n rows. Selects n (span_of a.cycles one.frame) one.slot (rows one.right) (rows old.right) (rows right))
-  right-selects = in-rows-both a d
-      (λ n rows. Tests n (span_of a.cycles one.frame) one.slot (rows test))
+  right-selects : InRows before d (λ n rows. Selects n (span_of before.cycles one.frame) one.slot (rows one.right) (rows old.right) (rows right))
+  right-selects = in-rows-both before d
+      (λ n rows. Tests n (span_of before.cycles one.frame) one.slot (rows test))
       (λ n rows. Chooses n (rows test) (rows one.right) (rows old.right) (rows right))
-      (λ n rows. Selects n (span_of a.cycles one.frame) one.slot (rows one.right) (rows old.right) (rows right))
-      (in-rows-first a b d (λ n rows. Tests n (span_of a.cycles one.frame) one.slot (rows test)) (extends-trans b c d bc cd) tested.shows)
-      (in-rows-last a c d (λ n rows. Chooses n (rows test) (rows one.right) (rows old.right) (rows right)) (extends-trans a b c ab bc) also.shows)
-      (λ n rows p q. selects-of n (span_of a.cycles one.frame) one.slot (rows test) (rows one.right) (rows old.right) (rows right) p q)
+      (λ n rows. Selects n (span_of before.cycles one.frame) one.slot (rows one.right) (rows old.right) (rows right))
+      (in-rows-first before b d (λ n rows. Tests n (span_of before.cycles one.frame) one.slot (rows test)) (extends-trans b c d bc cd) tested.shows)
+      (in-rows-last before c d (λ n rows. Chooses n (rows test) (rows one.right) (rows old.right) (rows right)) (extends-trans before a c grew (extends-trans a b c ab bc)) also.shows)
+      (λ n rows p q. selects-of n (span_of before.cycles one.frame) one.slot (rows test) (rows one.right) (rows old.right) (rows right) p q)
 
-  test-named : (later : Circuit) → Extends b later → IsNamed a later named test
-  test-named later p = inr (tested.new, omega (arith, slice_get_within b.nets test tested.there.net tested.there.is, longer b later p))
+  grows-on : GrowsOn before a d (one.left ∷ one.right ∷ old.left ∷ old.right ∷ []) one.frame
+  grows-on operations named framed names grown =
+      grows-then before c d named (test ∷ one.right ∷ old.right ∷ []) part (IsChoosing (λ frame. ⊥)) 0 0
+      (all-three (IsNamed before c named) test one.right old.right (test-named c bc) (later c (extends-trans a b c ab bc) one.right (1, omega arith, refl)) (later c (extends-trans a b c ab bc) old.right (3, omega arith, refl))) wider second last
+    where
+      part : NetKind → Type 0
+      part = IsChoosing (IsFrameOf operations)
 
-  first : Grows a b named part 0
-  first = grows-then a a b named [] part part 0 0 (All-nil (IsNamed a a named)) (λ kind x. x) (grows-self a named part) begun
+      wider : (kind : NetKind) → IsChoosing (λ frame. ⊥) kind → IsChoosing (IsFrameOf operations) kind
+      wider = choosing-wider (λ frame. ⊥) (IsFrameOf operations) (λ frame none. absurd none)
 
-  second : Grows a c named part 0
-  second = grows-then a b c named (test ∷ one.left ∷ old.left ∷ []) part (IsChoosing (λ frame. ⊥)) 0 0
-      (all-three (IsNamed a b named) test one.left old.left (inr (tested.new, slice_get_within b.nets test tested.there.net tested.there.is)) (inl (0, omega arith, refl)) (inl (2, omega arith, refl)))
-      (choosing-wider (λ frame. ⊥) (λ frame. frame ≡ one.frame) (λ frame none. absurd none)) first more
+      test-named : (more : Circuit) → Extends b more → IsNamed before more named test
+      test-named more p = inr (tested.new, omega (arith, slice_get_within b.nets test tested.there.net tested.there.is, longer b more p))
 
-  third : Grows a d named part 0
-  third = grows-then a c d named (test ∷ one.right ∷ old.right ∷ []) part (IsChoosing (λ frame. ⊥)) 0 0
-      (all-three (IsNamed a c named) test one.right old.right (test-named c bc) (inl (1, omega arith, refl)) (inl (3, omega arith, refl)))
-      (choosing-wider (λ frame. ⊥) (λ frame. frame ≡ one.frame) (λ frame none. absurd none)) second last
+      later : (more : Circuit) → Extends a more → (read : ℕ) → Contains (one.left ∷ one.right ∷ old.left ∷ old.right ∷ []) read → IsNamed before more named read
+      later more p read among = named-later before a more named read p (All-contains (IsNamed before a named) (one.left ∷ one.right ∷ old.left ∷ old.right ∷ []) read names among)
 
-  pub has-joined : HasJoined a d old one (record { left = left; right = right })
+      first : Grows before b named part 0
+      first = grows-then before a b named [] part (IsChoosing (λ frame. frame ≡ one.frame)) 0 0 (All-nil (IsNamed before a named))
+          (choosing-wider (λ frame. frame ≡ one.frame) (IsFrameOf operations) (λ frame e. subst (IsFrameOf operations) (sym e) framed)) grown begun
+
+      second : Grows before c named part 0
+      second = grows-then before b c named (test ∷ one.left ∷ old.left ∷ []) part (IsChoosing (λ frame. ⊥)) 0 0
+          (all-three (IsNamed before b named) test one.left old.left (test-named b (extends-self b)) (later b ab one.left (0, omega arith, refl)) (later b ab old.left (2, omega arith, refl))) wider first more
+
+  pub has-joined : HasJoined before a d old one (record { left = left; right = right })
   has-joined = record {
     left = left-selects;
     right = right-selects;
@@ -93,7 +97,8 @@ module _ (a b c d : Circuit) (old : Ends) (one : Operation) (test left right : �
     right_word = word-back a c d one.right right can.right.there (extends-trans a b c ab bc) also.word;
     left_new = omega (arith, chosen.new, longer a b ab);
     right_new = omega (arith, also.new, longer a b ab, longer b c bc);
-    grown = third;
+    extends = extends-trans a b d ab (extends-trans b c d bc cd);
+    grown = grows-on;
   }
     where
       -- the word of a net is the one that it had before
@@ -101,15 +106,14 @@ module _ (a b c d : Circuit) (old : Ends) (one : Operation) (test left right : �
       word-back x y z from number is p same = λ net there. same net (still-there x y from net p there)
 
 -- an operation joins ends that are known, or begins them
-pub joined-part : {E : Type 0} (result : Result Ends E) (now new : Circuit) (known : Option Ends) (old : Ends) (one : Operation) → known ≡ Some old → IfOk result (HasJoined now new old one) → IfOk result (IsJoined now new known one)
-joined-part (Ok end) now new known old one is has = record {
+pub joined-part : (before now new : Circuit) (known : Option Ends) (old : Ends) (one : Operation) (end : Ends) → known ≡ Some old → HasJoined before now new old one end → IsJoined before now new known one end
+joined-part before now new known old one end is has = record {
   begun = λ none. absurd (none-some old (sym none ∙ is));
-  more = λ other also. let same : old ≡ other = same_Some old other (sym is ∙ also) in subst (λ (x : Ends). HasJoined now new x one end) same has;
+  more = λ other also. let same : old ≡ other = same_Some old other (sym is ∙ also) in subst (λ (x : Ends). HasJoined before now new x one end) same has;
 }
-joined-part (Err e) now new known old one is has = tt
 
-pub begun-part : (now : Circuit) (known : Option Ends) (one : Operation) → known ≡ None → IsJoined now now known one (own_ends one)
-begun-part now known one none = record {
+pub begun-part : (before now : Circuit) (known : Option Ends) (one : Operation) → known ≡ None → IsJoined before now now known one (own_ends one)
+begun-part before now known one none = record {
   begun = λ e. (refl, refl);
   more = λ old is. absurd (none-some old (sym none ∙ is));
 }

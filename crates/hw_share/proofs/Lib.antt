@@ -4,6 +4,7 @@ pub mod Ends
 pub mod Grown
 pub mod Joins
 pub mod Kept
+pub mod Known
 pub mod Multiplied
 pub mod Named
 pub mod Numbers

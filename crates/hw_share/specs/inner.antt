@@ -2,4 +2,5 @@
 pub mod Parts
 pub mod Choices
 pub mod Joined
+pub mod KnownTests
 pub mod Steps

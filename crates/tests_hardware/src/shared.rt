@@ -157,6 +157,7 @@ const OPERATIONS: &[(u32, u64, u64, u64, u32, u32)] = &[
     (1, 0, 0, 1, 2, 0),
     (2, 1, 2, 0, 0, 4),
     (4, 2, 0, 3, 4, 4),
+    (2, 1, 2, 2, 1, 3),
 ];
 
 /// A netlist with inputs of these words, net k being input k.
@@ -320,7 +321,7 @@ fn operations_are_served(rt: HostRuntime) -> Result<(), Fail> {
     let found = units_in(alloc, &net)?;
     assert_eq!(rt; found.len(), 4);
     let size = net.nets().len();
-    assert_eq!(rt; size, 5 + 3 + 4 * 4 + 4 + 8);
+    assert_eq!(rt; size, 5 + 3 + 4 * 2 + 5 * 2 + 4 + 9);
     let rows = rows_of(&rt, alloc, &net, 60)?;
     for (place, one) in operations.iter().enumerate() {
         assert!(rt; place < results.as_slice().len() && one.unit < 4);

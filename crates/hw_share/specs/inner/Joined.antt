@@ -1,10 +1,11 @@
 -- The ends of the chains of multipliers, as operations join them one after another.
-use Rattle.std.specs.Prelude.{◌≡◌, ℕ, ◌<◌, ◌≤◌, List, [], ◌∷◌, length, slice_get}
+use Rattle.std.specs.Prelude.{◌≡◌, ℕ, ◌<◌, ◌≤◌, List, [], ◌∷◌, All, length, slice_get}
 use Rattle.std.specs.Prelude.{slice_index_or, Option, None, Some, IsSome}
 use Rattle.hw_net.specs.Circuit.{Circuit}
 use Rattle.hw_net.specs.Registers.{Wave, Span, Takes}
 use Rattle.hw_net.specs.NetRows.{span_of}
-use Rattle.hw_net.specs.Growing.{InRows}
+use Rattle.hw_net.specs.declared.netlist.Frame.{Frame}
+use Rattle.hw_net.specs.Growing.{Extends, InRows}
 use Rattle.hw_share.specs.declared.operation.Operation.{Operation}
 use Rattle.hw_share.specs.declared.joining.Ends.{Ends}
 use Rattle.hw_share.specs.Operations.{IsOperation, SameWord, operands_of, unit_count}
@@ -28,25 +29,32 @@ pub record CanJoin (netlist : Circuit) (old : Ends) (one : Operation) : Type 0 w
   pub left : HaveOneWord netlist one.left old.left
   pub right : HaveOneWord netlist one.right old.right
 
--- the ends of chains to which an operation was put
-pub record HasJoined (now new : Circuit) (old : Ends) (one : Operation) (end : Ends)
+-- the netlist goes on to be one that has grown from the first by choices of operations
+abbrev pub GrowsOn : Circuit → Circuit → Circuit → List ℕ → Frame → Type 0
+GrowsOn before now new reads frame = (operations : List Operation) (named : List ℕ)
+    → IsFrameOf operations frame → All (IsNamed before now named) reads
+    → Grows before now named (IsChoosing (IsFrameOf operations)) 0
+    → Grows before new named (IsChoosing (IsFrameOf operations)) 0
+
+-- the ends of chains to which an operation was put, in a netlist that has grown from a first one
+pub record HasJoined (before now new : Circuit) (old : Ends) (one : Operation) (end : Ends)
     : Type 0 where
-  pub left : InRows now new (λ n rows. Selects n (span_of now.cycles one.frame) one.slot
+  pub left : InRows before new (λ n rows. Selects n (span_of before.cycles one.frame) one.slot
       (rows one.left) (rows old.left) (rows end.left))
-  pub right : InRows now new (λ n rows. Selects n (span_of now.cycles one.frame) one.slot
+  pub right : InRows before new (λ n rows. Selects n (span_of before.cycles one.frame) one.slot
       (rows one.right) (rows old.right) (rows end.right))
   pub left_word : SameWord now new one.left end.left
   pub right_word : SameWord now new one.right end.right
   pub left_new : length now.nets ≤ end.left
   pub right_new : length now.nets ≤ end.right
-  pub grown : Grows now new (one.left ∷ one.right ∷ old.left ∷ old.right ∷ [])
-      (IsChoosing (λ frame. frame ≡ one.frame)) 0
+  pub extends : Extends now new
+  pub grown : GrowsOn before now new (one.left ∷ one.right ∷ old.left ∷ old.right ∷ []) one.frame
 
 -- an operation begins the chains of its multiplier, or is put to them
-pub record IsJoined (now new : Circuit) (known : Option Ends) (one : Operation) (end : Ends)
+pub record IsJoined (before now new : Circuit) (known : Option Ends) (one : Operation) (end : Ends)
     : Type 0 where
   pub begun : known ≡ None → (new ≡ now) × (end ≡ own_ends one)
-  pub more : (old : Ends) → known ≡ Some old → HasJoined now new old one end
+  pub more : (old : Ends) → known ≡ Some old → HasJoined before now new old one end
 
 -- in the slot of an operation the ends have its operands
 pub record Offers (n : ℕ) (span : Span) (slot : ℕ) (left right first second : Wave)

@@ -1,5 +1,6 @@
 use Rattle.hw_share.specs.inner.Joined.{AreEnds}
+use Rattle.hw_share.specs.inner.KnownTests.{AreTests}
 use Rattle.hw_share.proofs.joining.ends_of.Given as goal
 
 abbrev pub invariant-loop-one : goal.invariant-loop-one
-invariant-loop-one l = AreEnds l.fn.net l.net l.operations l.ends.items l.one-index
+invariant-loop-one l = AreEnds l.fn.net l.net l.operations l.ends.items l.one-index × AreTests l.fn.net l.net l.moments.list.items

@@ -1,23 +1,32 @@
 use Rattle.hw_net.proofs.Growing.{extends-trans}
 use Rattle.hw_share.proofs.Grown.{there-later}
 use Rattle.hw_share.proofs.Joins.{has-joined, word-of-both}
+use Rattle.hw_share.proofs.Known.{tests-later}
 use Rattle.hw_share.proofs.joining.joined.Goals as goal
 
 pub choose-requires : goal.choose-requires
-choose-requires c = record {
-  test = c.in_ok-test.ensures.test.there;
-  word = word-of-both c.args.net.now c.test_at.new.net c.args.one.left c.args.ends.left c.in_ok-test.ensures.grown.appends.extends c.requires.left;
-}
+choose-requires c =
+    let is = c.in_ok-test.ensures.test c.requires.tests.0 c.requires.tests.1 in
+    record {
+      test = (is.test c.requires.tests.2).there;
+      word = word-of-both c.args.net.now c.test_for.new.net c.args.one.left c.args.ends.left c.in_ok-test.ensures.grown.appends.extends c.requires.can.left;
+    }
 
 pub choose-requires-2-clause-word : goal.choose-requires-2-clause-word
 choose-requires-2-clause-word c =
     word-of-both c.args.net.now c.choose.new.net c.args.one.right c.args.ends.right
-    (extends-trans c.args.net.now c.test_at.new.net c.choose.new.net c.in_ok-test.ensures.grown.appends.extends c.in_ok-left.ensures.grown.appends.extends) c.requires.right
+    (extends-trans c.args.net.now c.test_for.new.net c.choose.new.net c.in_ok-test.ensures.grown.appends.extends c.in_ok-left.ensures.grown.appends.extends) c.requires.can.right
 
 pub choose-requires-2-clause-test : goal.choose-requires-2-clause-test
-choose-requires-2-clause-test c = there-later c.test_at.new.net c.choose.new.net c.in_ok-test.test c.in_ok-left.ensures.grown.appends.extends c.in_ok-test.ensures.test.there
+choose-requires-2-clause-test c =
+    let is = c.in_ok-test.ensures.test c.requires.tests.0 c.requires.tests.1 in
+    there-later c.test_for.new.net c.choose.new.net c.in_ok-test.test c.in_ok-left.ensures.grown.appends.extends (is.test c.requires.tests.2).there
 
 pub returns : goal.returns
-returns c =
-    has-joined c.args.net.now c.test_at.new.net c.choose.new.net c.choose-2.new.net c.args.ends c.args.one c.in_ok-test.test c.in_ok-left.left c.in_ok-right.right c.requires
-    c.in_ok-test.ensures.test c.in_ok-test.ensures.grown c.in_ok-left.ensures.chosen c.in_ok-left.ensures.grown c.in_ok-right.ensures.chosen c.in_ok-right.ensures.grown
+returns c = λ before grew tests.
+    let is = c.in_ok-test.ensures.test before grew in
+    let more = extends-trans c.test_for.new.net c.choose.new.net c.choose-2.new.net c.in_ok-left.ensures.grown.appends.extends c.in_ok-right.ensures.grown.appends.extends in (
+      has-joined before c.args.net.now c.test_for.new.net c.choose.new.net c.choose-2.new.net c.args.ends c.args.one c.in_ok-test.test c.in_ok-left.left c.in_ok-right.right c.requires.can grew
+          (is.test tests) c.in_ok-test.ensures.grown c.in_ok-left.ensures.chosen c.in_ok-left.ensures.grown c.in_ok-right.ensures.chosen c.in_ok-right.ensures.grown,
+      tests-later before c.test_for.new.net c.choose-2.new.net c.test_for.new.moments.list.items more (is.tests tests),
+    )
