@@ -1,0 +1,3 @@
+mod Named
+pub mod Places
+pub mod Taking

@@ -1,0 +1,54 @@
+use Rattle.std.proofs.Common.{◌≡◌, ◌+◌, ◌-◌, ◌<◌, ◌∷◌, ◌++◌, [], ℕ, List, All, length, ap, sym, ◌∙◌, subst, arith}
+use Rattle.std.specs.Prelude.{slice_index_or}
+use Rattle.dg_model.specs.declared.diagram.Block.{Block}
+use Rattle.dg_model.specs.declared.diagram.Diagram.{Diagram}
+use Rattle.hw_names.specs.inner.Sides.{AddsNames}
+use Rattle.hw_names.proofs.Named.{block_there, column_on, element_on, given_to, names_more, there_on}
+use Rattle.hw_names.proofs.Taking.{path_is}
+use Rattle.hw_names.proofs.giving.put_names.Goals as goal
+
+pub columns_of-requires : goal.columns_of-requires
+columns_of-requires c =
+    let blocks : c.as_slice.result.now ≡ c.args.checked.now.diagram.blocks = c.as_slice.ensures ∙ ap (λ (d : Diagram). d.blocks) c.diagram.ensures in
+    subst (λ (bs : List Block). All (λ block. block < length bs) c.args.blocks.now) (sym blocks) (there_on c.args.checked.now.diagram c.args.side c.args.blocks.now c.keeps_rules.ensures.checked c.root_elements_are_listed.ensures.inputs c.root_elements_are_listed.ensures.outputs c.requires)
+
+pub bounds-firsts-block : goal.bounds-firsts-block
+bounds-firsts-block c =
+    let column = column_on c.args.checked.now.diagram c.args.side c.args.blocks.now c.loop-column.column c.keeps_rules.ensures.checked c.root_elements_are_listed.ensures.inputs c.root_elements_are_listed.ensures.outputs c.requires c.loop-column-test.true in
+    let low = block_there c.args.checked.now.diagram c.args.side c.args.blocks.now c.loop-column.column column in
+    let many = ap (λ (bs : List Block). length bs) (c.as_slice.ensures ∙ ap (λ (d : Diagram). d.blocks) c.diagram.ensures) in
+    let size = c.in_ok-columns.ensures.size in
+    let whole = ap (λ (xs : List ℕ). length xs) c.as_slice-firsts.ensures.value in
+    omega (arith, low, many, size, whole)
+
+pub overflow_sub-element : goal.overflow_sub-element
+overflow_sub-element c =
+    let column = column_on c.args.checked.now.diagram c.args.side c.args.blocks.now c.loop-column.column c.keeps_rules.ensures.checked c.root_elements_are_listed.ensures.inputs c.root_elements_are_listed.ensures.outputs c.requires c.loop-column-test.true in
+    let here = element_on c.args.checked.now.diagram c.args.side c.args.blocks.now c.in_ok-columns.columns.items c.as_slice-firsts.result.now c.loop-column.column column c.in_ok-columns.ensures.least c.as_slice-firsts.ensures.value in
+    let number : c.in-Ok.number ≡ c.loop-column.column = c.in-Ok.ensures.1 in
+    omega (arith, here, number)
+
+pub width_of-width-requires : goal.width_of-width-requires
+width_of-width-requires c =
+    block_there c.args.checked.now.diagram c.args.side c.args.blocks.now c.loop-column.column
+    (column_on c.args.checked.now.diagram c.args.side c.args.blocks.now c.loop-column.column c.keeps_rules.ensures.checked c.root_elements_are_listed.ensures.inputs c.root_elements_are_listed.ensures.outputs c.requires c.loop-column-test.true)
+
+pub block_at-requires : goal.block_at-requires
+block_at-requires c =
+    block_there c.args.checked.now.diagram c.args.side c.args.blocks.now c.loop-column.column
+    (column_on c.args.checked.now.diagram c.args.side c.args.blocks.now c.loop-column.column c.keeps_rules.ensures.checked c.root_elements_are_listed.ensures.inputs c.root_elements_are_listed.ensures.outputs c.requires c.loop-column-test.true)
+
+pub loop-column-preserved : goal.loop-column-preserved
+loop-column-preserved c =
+    let diagram = c.args.checked.now.diagram in
+    let k : ℕ = c.loop-column.column in
+    let block : ℕ = slice_index_or c.args.blocks.now k 0 in
+    let first : ℕ = slice_index_or c.as_slice-firsts.result.now block 0 in
+    let column = column_on diagram c.args.side c.args.blocks.now k c.keeps_rules.ensures.checked c.root_elements_are_listed.ensures.inputs c.root_elements_are_listed.ensures.outputs c.requires c.loop-column-test.true in
+    let here = element_on diagram c.args.side c.args.blocks.now c.in_ok-columns.columns.items c.as_slice-firsts.result.now k column c.in_ok-columns.ensures.least c.as_slice-firsts.ensures.value in
+    let number : c.in-Ok.number ≡ k = c.in-Ok.ensures.1 in
+    let element_is : c.in-Ok.number - first ≡ column.e.element = omega (arith, here, number) in
+    let path = c.bytes-path.ensures ∙ path_is diagram block c.block_at.result.now c.block_at.ensures in
+    let given = given_to diagram c.args.side c.loop-column.names c.port.new.self column.e block c.width_of-width.result (c.in-Ok.number - first) c.bytes-path.result.now c.in_ok-name.name column.block_is path c.width_of-width.ensures element_is c.in_ok-name.ensures in
+    subst (λ (texts : List (List ℕ)). AddsNames diagram c.args.side c.args.names.now c.port.new.self c.args.texts.now texts (k + 1)) (sym c.in_ok-push.ensures.appended)
+    (names_more diagram c.args.side c.args.names.now c.loop-column.names c.port.new.self c.args.texts.now c.loop-column.texts k column.e c.in_ok-name.name c.loop-column.invariant column.at given)

@@ -1,0 +1,95 @@
+ghost use Rattle.std.specs.Prelude.{◌≡◌, ◌<◌, IfOk, OnOk, length};
+ghost use Rattle.dg_sim.specs.Listing.{AreBlocksOf};
+ghost use Rattle.hw_names.specs.Names.{AreNames, wanted_names};
+ghost use Rattle.hw_names.specs.inner.Sides.{AddsNames, elements_on, width_on};
+
+use crate::columns::columns_of;
+use crate::names::Names;
+use dg_model::Checked;
+use dg_sim::{input_blocks, output_blocks};
+use fx_io::{OutOfMemory, Text, Texts};
+use hw_latency::block_at;
+use hw_sched::{own_width, width_into};
+use std::alloc::Global;
+
+/// The two sides of a module at which root ports stand.
+#[derive(Clone, Copy)]
+enum Side {
+    Inputs,
+    Outputs,
+}
+
+/// The width of the signal of a root port on this side.
+fn width_of(checked: &Checked, side: Side, block: u32) -> u32
+    requires { block < length checked.now.diagram.blocks }
+    ensures { result ≡ width_on side checked.now.diagram block }
+{
+    match side {
+        Side::Inputs => own_width(checked, block),
+        Side::Outputs => width_into(checked, block),
+    }
+}
+
+/// Adds a name for each root element on this side, whose blocks these are.
+fn put_names(
+    alloc: Global,
+    names: &mut Names,
+    texts: &mut Texts,
+    checked: &Checked,
+    side: Side,
+    blocks: &[u32],
+) -> Result<(), OutOfMemory>
+    requires { AreBlocksOf (elements_on side checked.now.diagram) blocks.now }
+    ensures { OnOk result (AddsNames checked.now.diagram side names.old names.new
+        texts.old texts.new (length blocks.now)) }
+{
+    checked.keeps_rules();
+    dg_model::root_elements_are_listed();
+    let columns = columns_of(alloc, checked.diagram().blocks.as_slice().len(), blocks)?;
+    let firsts = columns.as_slice();
+    for column in 0..blocks.len() {
+        let Ok(number) = u32::try_from(column) else {
+            return Err(OutOfMemory);
+        };
+        let block = blocks[column];
+        let element = number - firsts[block as usize];
+        let width = width_of(checked, side, block);
+        let path = block_at(checked, block).path.bytes();
+        let name: Text = names.port(alloc, path, width, element)?;
+        texts.push(name)?;
+    }
+    Ok(())
+}
+
+/// The names of the ports of a checked diagram: those of its root inputs' elements, then those of its
+/// root outputs'; there is one for each element.
+///
+/// # Errors
+/// Want of memory.
+pub fn port_names(alloc: Global, checked: &Checked) -> Result<Texts, OutOfMemory>
+    ensures names { IfOk result (AreNames checked.now.diagram) }
+    ensures size { IfOk result (λ names.
+        length names ≡ length (wanted_names checked.now.diagram)) }
+{
+    let mut names = Names::new(alloc)?;
+    let mut texts = Texts::new(alloc);
+    let inputs = input_blocks(alloc, checked)?;
+    put_names(
+        alloc,
+        &mut names,
+        &mut texts,
+        checked,
+        Side::Inputs,
+        inputs.as_slice(),
+    )?;
+    let outputs = output_blocks(alloc, checked)?;
+    put_names(
+        alloc,
+        &mut names,
+        &mut texts,
+        checked,
+        Side::Outputs,
+        outputs.as_slice(),
+    )?;
+    Ok(texts)
+}
