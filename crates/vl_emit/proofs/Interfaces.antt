@@ -1,5 +1,5 @@
 -- The names and the ports of the module of a netlist.
-use Rattle.std.proofs.Common.{◌≡◌, ◌≢◌, ◌⊎◌, inl, inr, ℕ, ◌+◌, ◌^◌, ◌<◌, ◌==◌, Bool, true, false, if◌then◌else◌, List, [], ◌∷◌, ◌++◌, map, length, get_or, Contains, codes, refl, ap, sym, ◌∙◌, subst, arith}
+use Rattle.std.proofs.Common.{◌≡◌, ◌≢◌, ◌⊎◌, inl, inr, ℕ, ◌^◌, ◌<◌, ◌==◌, Bool, true, false, if◌then◌else◌, List, [], ◌∷◌, ◌++◌, map, length, get_or, Contains, codes, refl, ap, sym, ◌∙◌, subst, arith}
 use Rattle.std.specs.Fmt.{decimal}
 use Rattle.std.specs.List.{AllPairs}
 use Rattle.std.proofs.lemmas.Bool.{eqb-true, eqb-false}
@@ -24,7 +24,7 @@ use Rattle.vl_emit.proofs.Lists.{at-contains, default-free, head-pairs, tail-pai
 use Rattle.vl_emit.proofs.Sounds.{word-at, netlist-ready}
 
 -- a net's name is that of its number, or that of its label
-abbrev IsOwn : List NetLabel → ℕ → List ℕ → Type 0
+abbrev pub IsOwn : List NetLabel → ℕ → List ℕ → Type 0
 IsOwn labels k name = (name ≡ net_name k) ⊎ ((label : NetLabel) × Contains labels label × (label.net ≡ k) × (name ≡ label.name))
 
 name-own-by : (label : NetLabel) (labels : List NetLabel) (k : ℕ) (t : Bool) → (label.net == k) ≡ t → IsOwn labels k (name_by labels k)
@@ -33,7 +33,7 @@ name-own-by label labels k true is r = inr (label, here label labels, eqb-true l
 name-own-by label labels k false is (inl e) = inl e
 name-own-by label labels k false is (inr f) = inr (f.0, later label f.0 labels f.1, f.2, f.3)
 
-name-own : (labels : List NetLabel) (k : ℕ) → IsOwn labels k (name_by labels k)
+pub name-own : (labels : List NetLabel) (k : ℕ) → IsOwn labels k (name_by labels k)
 name-own [] k = inl refl
 name-own (label ∷ labels) k = name-own-by label labels k (label.net == k) refl (name-own labels k)
 

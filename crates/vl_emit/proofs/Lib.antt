@@ -33,3 +33,6 @@ pub mod Multiplied
 pub mod Returned
 pub mod Shows
 pub mod Itemized
+pub mod Writable
+pub mod WritableItems
+pub mod WritableModule

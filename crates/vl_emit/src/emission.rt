@@ -3,6 +3,8 @@ ghost use Rattle.std.specs.Prelude.{◌≡◌, ◌<◌, ◌^◌, length, IfOk};
 ghost use Rattle.hw_net.specs.Frames.{HasCounters};
 ghost use Rattle.hw_net.specs.Netlist.{IsNetlist};
 ghost use Rattle.vl_ast.specs.Conditions.{BreaksNone};
+ghost use Rattle.vl_ast.specs.Grammar.{Spells};
+ghost use Rattle.vl_ast.specs.Spelling.{spelling};
 ghost use Rattle.vl_emit.specs.Emittable.{IsEmittable};
 ghost use Rattle.vl_emit.specs.Header.{HasHeader};
 ghost use Rattle.vl_emit.specs.Items.{ItemsAre, NamesDiffer};
@@ -38,6 +40,7 @@ pub fn emit(alloc: Global, netlist: &Netlist) -> Result<Module, OutOfMemory>
     ensures items { IfOk result (ItemsAre netlist.now) }
     ensures names { IfOk result (λ _. NamesDiffer netlist.now) }
     ensures fit { IfOk result (NetsFit netlist.now) }
+    ensures spelled { IfOk result (λ made. Spells (spelling made) made) }
 {
     steps_give_rows();
     counter_is_telling();

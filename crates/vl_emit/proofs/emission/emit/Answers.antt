@@ -1,5 +1,7 @@
 use Rattle.std.proofs.Common.{◌<◌, ◌^◌, length}
 use Rattle.vl_ast.specs.Conditions.{BreaksNone}
+use Rattle.vl_ast.specs.Grammar.{Spells}
+use Rattle.vl_ast.specs.Spelling.{spelling}
 use Rattle.vl_emit.specs.Header.{HasHeader}
 use Rattle.vl_emit.specs.Items.{ItemsAre, NamesDiffer}
 use Rattle.vl_emit.specs.Labelled.{LabelsAreNames}
@@ -15,6 +17,7 @@ use Rattle.vl_emit.proofs.Multiplied.{products-are, registers-are}
 use Rattle.vl_emit.proofs.Origins.{reads-only}
 use Rattle.vl_emit.proofs.Returned.{if-made}
 use Rattle.vl_emit.proofs.Shows.{nets-are-shown, outputs-are-shown}
+use Rattle.vl_emit.proofs.WritableModule.{module-spells}
 use Rattle.vl_emit.proofs.emission.emit.Goals as goal
 
 pub module_of-requires : goal.module_of-requires
@@ -41,5 +44,6 @@ returns c =
           (λ h. record { are = λ label k. labelled (length c.args.netlist.now.nets) h c.args.netlist.now.labels emits.labels label k });
       items = if-made (module_of c.args.netlist.now) (length c.args.netlist.now.nets < 2 ^ 64) (ItemsAre c.args.netlist.now) c.module_of.result is small (λ h. items-are c.args.netlist.now runs emits h);
       names = if-made (module_of c.args.netlist.now) (length c.args.netlist.now.nets < 2 ^ 64) (λ m. NamesDiffer c.args.netlist.now) c.module_of.result is small (λ h. names-differ c.args.netlist.now runs emits h);
+      spelled = if-made (module_of c.args.netlist.now) (length c.args.netlist.now.nets < 2 ^ 64) (λ m. Spells (spelling m) m) c.module_of.result is small (λ h. module-spells c.args.netlist.now runs emits h);
       fit = if-made (module_of c.args.netlist.now) (length c.args.netlist.now.nets < 2 ^ 64) (NetsFit c.args.netlist.now) c.module_of.result is small (λ h. nets-fit c.args.netlist.now runs emits h);
     }
