@@ -1,5 +1,6 @@
 ghost use Rattle.std.specs.Prelude.{IfErr, IfOk};
 ghost use Rattle.dg_model.specs.Faults.{IsRefusal};
+ghost use Rattle.dg_model.specs.PlanOf.{IsPlanOf};
 ghost use Rattle.dg_model.specs.PlanRange.{IsPlanInRange};
 ghost use Rattle.hw_rules.specs.Rules.{BreaksPlanRule};
 ghost use Rattle.hw_rules.specs.Times.{ArePlanned};
@@ -23,6 +24,7 @@ pub struct Planned {
 pub fn plan_on(alloc: Global, checked: &Checked, plan: &Plan) -> Result<Planned, CheckFault>
     requires { IsPlanInRange plan.now }
     ensures planned { IfOk result (ArePlanned checked.now.diagram plan.now) }
+    ensures of_diagram { IfOk result (λ planned. IsPlanOf checked.now.diagram planned.resolved) }
     ensures refused { IfErr result (IsRefusal (BreaksPlanRule checked.now.diagram plan.now)) }
 {
     let resolved = resolve(alloc, checked, plan)?;
