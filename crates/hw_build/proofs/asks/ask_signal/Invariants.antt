@@ -1,0 +1,5 @@
+use Rattle.hw_build.specs.inner.Seeking.{AsksAll, hub_from, unasked}
+use Rattle.hw_build.proofs.asks.ask_signal.Given as goal
+
+abbrev pub invariant-loop-element : goal.invariant-loop-element
+invariant-loop-element l = AsksAll l.fn.asks.list.items l.asks.list.items l.fn.asks.wants.items l.asks.wants.items (hub_from l.first) unasked l.element

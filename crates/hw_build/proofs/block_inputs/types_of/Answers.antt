@@ -1,0 +1,13 @@
+use Rattle.std.proofs.Common.{List, ◌++◌, ◌∷◌, [], ◌∙◌, map, ap, sym}
+use Rattle.fx_type.specs.declared.kind.FxType.{FxType}
+use Rattle.dg_waves.specs.Rounds.{numbers_from}
+use Rattle.dg_model.specs.Attributes.{attributes_of}
+use Rattle.dg_model.specs.Wires.{type_into}
+use Rattle.hw_build.proofs.EnteringParts.{map_last}
+use Rattle.hw_build.proofs.block_inputs.types_of.Goals as goal
+
+pub loop-input-preserved : goal.loop-input-preserved
+loop-input-preserved c =
+    let f = type_into c.args.checked.now.diagram (attributes_of c.args.checked.now.diagram) c.args.block in
+    rw c.in_ok-push.ensures.items
+    (ap (λ (xs : List FxType). xs ++ c.type_into.result ∷ []) c.loop-input.invariant ∙ ap (λ (t : FxType). map f (numbers_from 1 c.loop-input.input) ++ t ∷ []) c.type_into.ensures ∙ sym (map_last f c.loop-input.input))

@@ -1,0 +1,22 @@
+use Rattle.std.proofs.Common.{rules, ◌∙◌, ◌<◌, ◌^◌}
+use Rattle.std.proofs.lemmas.Option.{slice_get_within}
+use Rattle.hw_build.proofs.Looped.{element_waits, element_reached}
+use Rattle.hw_build.proofs.blocks.put_element.Goals as goal
+
+pub close-requires-clause-there : goal.close-requires-clause-there
+close-requires-clause-there c = slice_get_within c.args.setting.design.checked.now.diagram.blocks c.args.place.block c.args.one.now c.requires.shown.block_is
+
+pub close-requires-clause-cycles : goal.close-requires-clause-cycles
+close-requires-clause-cycles c = c.in_ok-entry.ensures.appends.extends.cycles ∙ c.requires.before.going.cycles
+
+pub close-requires-clause-waits : goal.close-requires-clause-waits
+close-requires-clause-waits c =
+    element_waits c.args.setting c.root_elements_are_listed.ensures.inputs c.operations_prepare.ensures.types c.periods_are_above.ensures.above (record { checked = c.keeps_rules.ensures.checked; ordered = c.keeps_rules.ensures.ordered }) c.requires.set
+    c.args.place.block c.args.one.now c.args.place.port c.args.place.element c.requires.shown c.args.net.now c.put_one.new.net c.args.spots.now c.in_ok-entry.entry c.requires.before c.in_ok-entry.ensures
+
+pub returns : goal.returns
+returns c =
+    let small_block : c.args.place.block < 2 ^ 64 = search rules in
+    let small_element : c.args.place.element < 2 ^ 64 = search rules in
+    element_reached c.args.setting c.root_elements_are_listed.ensures.inputs c.operations_prepare.ensures.types c.periods_are_above.ensures.above (record { checked = c.keeps_rules.ensures.checked; ordered = c.keeps_rules.ensures.ordered }) c.requires.set
+    c.args.place.block c.args.one.now c.args.place.port c.args.place.element c.requires.shown c.requires.other c.args.net.now c.put_one.new.net c.close.new.net c.name_product.new.net c.args.spots.now c.close.new.spots c.in_ok-entry.entry c.requires.before c.in_ok-entry.ensures c.in_ok-close.ensures c.in_ok-name_product.ensures small_block small_element

@@ -1,0 +1,65 @@
+use Rattle.std.proofs.Common.{sym, subst, ◌∙◌}
+use Rattle.hw_build.specs.inner.Offers.{Offer}
+use Rattle.hw_build.proofs.EnteringOne.{args_are, one_entered, IsKnown}
+use Rattle.hw_build.proofs.EnteringProduct.{product_word, shared_entered}
+use Rattle.hw_build.proofs.blocks.put_one.Goals as goal
+
+pub put_shared-requires-clause-word : goal.put_shared-requires-clause-word
+put_shared-requires-clause-word c =
+    let known : IsKnown c.args.setting = record {
+      listed = c.root_elements_are_listed.ensures.inputs;
+      fit = c.operations_prepare.ensures.fit;
+      valid = c.operations_prepare.ensures.types;
+      widths = c.edges_stand_by_port.ensures.widths;
+      storing = c.stored_is_one.ensures;
+      lines = c.lines_are_edges.ensures.lines;
+      controls = c.lines_are_edges.ensures.controls;
+      ordered = record { checked = c.keeps_rules.ensures.checked; ordered = c.keeps_rules.ensures.ordered };
+      set = c.requires.set;
+    } in
+    product_word c.args.setting known c.args.net.now c.requires.going c.args.place.block c.args.one.now c.args.place.port c.args.place.element c.requires.shown c.in-Some.product (sym c.at.ensures ∙ c.in-Some.is) c.full_product_is_one.ensures c.full_type-full.result c.full_type-full.ensures
+
+pub returns-in-Some : goal.returns-in-Some
+returns-in-Some c =
+    let known : IsKnown c.args.setting = record {
+      listed = c.root_elements_are_listed.ensures.inputs;
+      fit = c.operations_prepare.ensures.fit;
+      valid = c.operations_prepare.ensures.types;
+      widths = c.edges_stand_by_port.ensures.widths;
+      storing = c.stored_is_one.ensures;
+      lines = c.lines_are_edges.ensures.lines;
+      controls = c.lines_are_edges.ensures.controls;
+      ordered = record { checked = c.keeps_rules.ensures.checked; ordered = c.keeps_rules.ensures.ordered };
+      set = c.requires.set;
+    } in
+    shared_entered c.args.setting known c.args.net.now c.requires.going c.args.place.block c.args.one.now c.args.place.port c.args.place.element c.requires.shown c.in-Some.product (sym c.at.ensures ∙ c.in-Some.is) c.put_shared.new.net c.in_ok-entry.entry c.in_ok-entry.ensures
+
+pub put_entry-requires-clause-operands : goal.put_entry-requires-clause-operands
+put_entry-requires-clause-operands c =
+    let known : IsKnown c.args.setting = record {
+      listed = c.root_elements_are_listed.ensures.inputs;
+      fit = c.operations_prepare.ensures.fit;
+      valid = c.operations_prepare.ensures.types;
+      widths = c.edges_stand_by_port.ensures.widths;
+      storing = c.stored_is_one.ensures;
+      lines = c.lines_are_edges.ensures.lines;
+      controls = c.lines_are_edges.ensures.controls;
+      ordered = record { checked = c.keeps_rules.ensures.checked; ordered = c.keeps_rules.ensures.ordered };
+      set = c.requires.set;
+    } in
+    args_are c.args.setting known c.args.net.now c.requires.going c.args.place.block c.args.one.now c.args.place.port c.args.place.element c.requires.shown c.as_slice-nets.result.now c.requires.other (subst (Offer c.args.setting c.args.place.block c.args.one.now c.args.place.port c.args.place.element) (sym c.as_slice-nets.ensures) c.in_ok-operands.ensures)
+
+pub returns : goal.returns
+returns c =
+    let known : IsKnown c.args.setting = record {
+      listed = c.root_elements_are_listed.ensures.inputs;
+      fit = c.operations_prepare.ensures.fit;
+      valid = c.operations_prepare.ensures.types;
+      widths = c.edges_stand_by_port.ensures.widths;
+      storing = c.stored_is_one.ensures;
+      lines = c.lines_are_edges.ensures.lines;
+      controls = c.lines_are_edges.ensures.controls;
+      ordered = record { checked = c.keeps_rules.ensures.checked; ordered = c.keeps_rules.ensures.ordered };
+      set = c.requires.set;
+    } in
+    one_entered c.args.setting known c.args.net.now c.requires.going c.args.place.block c.args.one.now c.args.place.port c.args.place.element c.requires.shown c.as_slice-nets.result.now c.requires.other (subst (Offer c.args.setting c.args.place.block c.args.one.now c.args.place.port c.args.place.element) (sym c.as_slice-nets.ensures) c.in_ok-operands.ensures) c.put_entry.new.net c.in_ok-entry-2.entry c.in_ok-entry-2.ensures (sym c.at.ensures ∙ c.in_default.is)

@@ -1,0 +1,19 @@
+use Rattle.std.proofs.Common.{subst, sym}
+use Rattle.fx_type.specs.FxType.{IsType}
+use Rattle.hw_build.proofs.FullyTyped.{full_is_there, second_is_valid}
+use Rattle.hw_build.proofs.full_types.full_type.Goals as goal
+
+pub full_of-requires-clause-one : goal.full_of-requires-clause-one
+full_of-requires-clause-one c =
+    let valid = c.operations_prepare.ensures.types c.args.checked.now.diagram c.args.checked.now.order c.args.block c.args.one.now (record { checked = c.keeps_rules.ensures.checked; ordered = c.keeps_rules.ensures.ordered }) c.requires.block in
+    subst IsType (sym c.type_into-left.ensures) (valid.2 1)
+
+pub full_of-requires-clause-other : goal.full_of-requires-clause-other
+full_of-requires-clause-other c =
+    subst IsType (sym c.second_type-right.ensures)
+    (second_is_valid c.storing_gives_one.ensures c.operations_prepare.ensures.operations c.operations_prepare.ensures.types c.args.checked.now.diagram c.args.checked.now.order (record { checked = c.keeps_rules.ensures.checked; ordered = c.keeps_rules.ensures.ordered }) c.args.block c.args.one.now c.requires.block c.requires.multiplies)
+
+pub full_of-requires-clause-full : goal.full_of-requires-clause-full
+full_of-requires-clause-full c =
+    let full = full_is_there c.storing_gives_one.ensures c.operations_prepare.ensures.operations c.operations_prepare.ensures.types c.args.checked.now.diagram c.args.checked.now.order (record { checked = c.keeps_rules.ensures.checked; ordered = c.keeps_rules.ensures.ordered }) c.args.block c.args.one.now c.requires.block c.requires.multiplies in
+    rw (c.type_into-left.ensures, c.second_type-right.ensures) full

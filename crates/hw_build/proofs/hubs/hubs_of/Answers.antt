@@ -1,0 +1,22 @@
+use Rattle.std.proofs.Common.{◌≡◌, ◌<◌, ℕ, List, All, length, ap, sym, ◌∙◌, subst}
+use Rattle.dg_model.specs.declared.diagram.Block.{Block}
+use Rattle.dg_model.specs.declared.diagram.Diagram.{Diagram}
+use Rattle.hw_names.specs.Columns.{AreColumnsFrom}
+use Rattle.hw_build.specs.inner.HubPlaces.{HasHubs}
+use Rattle.hw_build.proofs.Started.{hubs_are, inputs_there}
+use Rattle.hw_build.proofs.hubs.hubs_of.Goals as goal
+
+pub put_inputs-requires-clause-there : goal.put_inputs-requires-clause-there
+put_inputs-requires-clause-there c = inputs_there c.args.checked.now.diagram c.keeps_rules.ensures.checked c.root_elements_are_listed.ensures.inputs c.args.inputs.now c.requires.are
+
+pub columns_of-requires : goal.columns_of-requires
+columns_of-requires c =
+    let blocks : c.as_slice.result.now ≡ c.args.checked.now.diagram.blocks = c.as_slice.ensures ∙ ap (λ (d : Diagram). d.blocks) c.diagram.ensures in
+    subst (λ (bs : List Block). All (λ block. block < length bs) c.args.inputs.now) (sym blocks) (inputs_there c.args.checked.now.diagram c.keeps_rules.ensures.checked c.root_elements_are_listed.ensures.inputs c.args.inputs.now c.requires.are)
+
+pub returns : goal.returns
+returns c =
+    let columns : List ℕ = c.as_slice-2.result.now in
+    let least : AreColumnsFrom c.args.inputs.now columns 0 = subst (λ (cs : List ℕ). AreColumnsFrom c.args.inputs.now cs 0) (sym c.as_slice-2.ensures.value) c.in_ok-columns.ensures.least in
+    subst (λ (fs : List (List ℕ)). HasHubs c.args.checked.now.diagram c.args.net.now c.put_blocks.new.net fs) (sym c.in_ok-widths.ensures)
+    (hubs_are c.args.checked.now.diagram c.keeps_rules.ensures.checked c.root_elements_are_listed.ensures.inputs c.args.net.now c.put_inputs.new.net c.put_blocks.new.net c.args.inputs.now columns c.in_ok-firsts.firsts c.requires.are c.in_ok-put_inputs.ensures least c.in_ok-firsts.ensures)

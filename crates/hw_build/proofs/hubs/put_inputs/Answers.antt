@@ -1,0 +1,22 @@
+use Rattle.std.proofs.Common.{◌≡◌, ℕ, ap, ◌∙◌}
+use Rattle.std.specs.Prelude.{slice_index_or}
+use Rattle.std.proofs.lemmas.Option.{slice_get-get_or}
+use Rattle.fx_type.specs.declared.kind.FxType.{FxType}
+use Rattle.dg_model.specs.Attributes.{attributes_of}
+use Rattle.hw_net.specs.Growing.{with_net}
+use Rattle.hw_build.specs.inner.HubPlaces.{input_net}
+use Rattle.hw_build.proofs.Placing.{inputs_more}
+use Rattle.hw_build.proofs.hubs.put_inputs.Goals as goal
+
+pub loop-column-preserved : goal.loop-column-preserved
+loop-column-preserved c =
+    let diagram = c.args.checked.now.diagram in
+    let k : ℕ = c.loop-column.column in
+    let block : ℕ = slice_index_or c.args.inputs.now k 0 in
+    let type : FxType = (attributes_of diagram).type_at block 1 in
+    let at = slice_get-get_or c.args.inputs.now k 0 c.loop-column-test.true in
+    let made : c.add.new.self ≡ with_net c.loop-column.net (input_net c.result-kind.result c.in-Ok.number) = rw c.input_net-one.ensures at c.in_ok-place.ensures.grown in
+    let typed : c.result-kind.result ≡ type = c.result-kind.ensures 1 in
+    let number : c.in-Ok.number ≡ k = c.in-Ok.ensures.1 in
+    inputs_more diagram c.args.net.now c.loop-column.net c.add.new.self c.args.inputs.now k block c.loop-column.invariant at
+    (made ∙ ap (λ (t : FxType). with_net c.loop-column.net (input_net t c.in-Ok.number)) typed ∙ ap (λ (n : ℕ). with_net c.loop-column.net (input_net type n)) number)

@@ -1,0 +1,30 @@
+use Rattle.std.proofs.Common.{None, ◌∷◌, [], refl, sym, subst}
+use Rattle.std.specs.Prelude.{slice_index_or}
+use Rattle.std.specs.Int.{w128}
+use Rattle.std.proofs.lemmas.Int.{to_z-of_z}
+use Rattle.fx_type.specs.FxType.{IsType}
+use Rattle.hw_net.specs.declared.netlist.NetKind.TheVariants.{Comb}
+use Rattle.hw_net.specs.declared.netlist.NetOp.TheVariants.{Choose, Const}
+use Rattle.hw_build.proofs.Entering.{typed_net}
+use Rattle.hw_build.specs.inner.Designed.{timing_for}
+use Rattle.hw_build.proofs.EnteringOut.{reset_entry}
+use Rattle.hw_build.proofs.Parameters.{some_control}
+use Rattle.hw_build.proofs.kept.pass_reset.Goals as goal
+
+pub stored-first-requires-clause-kind : goal.stored-first-requires-clause-kind
+stored-first-requires-clause-kind c =
+    let types = c.operations_prepare.ensures.types c.args.design.checked.now.diagram c.args.design.checked.now.order c.args.place.block c.args.one.now (record { checked = c.keeps_rules.ensures.checked; ordered = c.keeps_rules.ensures.ordered }) c.requires.shown.block_is in
+    (subst IsType (sym (c.result-kind.ensures 1)) types.0)
+
+pub returns : goal.returns
+returns c =
+    let types = c.operations_prepare.ensures.types c.args.design.checked.now.diagram c.args.design.checked.now.order c.args.place.block c.args.one.now (record { checked = c.keeps_rules.ensures.checked; ordered = c.keeps_rules.ensures.ordered }) c.requires.shown.block_is in
+    let e = to_z-of_z w128 c.stored-first.result (record { sfits = c.stored-first.type_inv }) in
+    let control = some_control c.args.one.now.enable c.requires.enable in
+    let is_type = subst IsType (sym (c.result-kind.ensures 1)) types.0 in
+    reset_entry c.args.design.checked.now.diagram (timing_for c.args.design) c.args.net.now c.put_const.new.net c.put_comb.new.net c.args.place.block c.args.one.now c.args.place.port c.args.place.element c.args.operands.now
+    (record { net = c.in_ok-chosen.chosen; state = c.in_ok-chosen.chosen; multiply = None }) control.0 c.args.initial.now c.stored-first.result c.result-kind.result c.in_ok-constant.constant c.requires.kind control.1
+    c.result-kind.ensures is_type c.stored-first.ensures.range c.stored-first.ensures.one c.requires.operands
+    (typed_net c.args.net.now c.put_const.new.net c.word_of-word.result c.result-kind.result (Comb (Const c.stored-first.result) []) c.word_of-word.ensures (rw (← e) c.in_ok-constant.ensures.grown)) c.in_ok-constant.ensures.number
+    (typed_net c.put_const.new.net c.put_comb.new.net c.word_of-word.result c.result-kind.result (Comb Choose (slice_index_or c.args.operands.now 1 0 ∷ slice_index_or c.args.operands.now 0 0 ∷ c.in_ok-constant.constant ∷ [])) c.word_of-word.ensures c.in_ok-chosen.ensures.grown)
+    c.in_ok-chosen.ensures.number refl

@@ -1,0 +1,7 @@
+use Rattle.std.proofs.Common.{◌≡◌, map}
+use Rattle.dg_waves.specs.Rounds.{numbers_from}
+use Rattle.hw_build.specs.inner.Operands.{offered_at}
+use Rattle.hw_build.proofs.offers.from_each.Given as goal
+
+abbrev pub invariant-loop-input : goal.invariant-loop-input
+invariant-loop-input l = l.nets ≡ map (λ input. offered_at l.checked.diagram l.setting.operands.now l.place.block input l.place.element) (numbers_from 1 l.input)

@@ -1,0 +1,7 @@
+use Rattle.std.proofs.Common.{◌≡◌, map}
+use Rattle.dg_waves.specs.Rounds.{numbers_from}
+use Rattle.hw_build.specs.inner.Operands.{offered_at}
+use Rattle.hw_build.proofs.offers.from_first.Given as goal
+
+abbrev pub invariant-loop-element : goal.invariant-loop-element
+invariant-loop-element l = l.nets ≡ map (offered_at l.checked.diagram l.setting.operands.now l.place.block 1) (numbers_from 0 l.element)

@@ -1,0 +1,33 @@
+use Rattle.std.proofs.Common.{rules, ◌≡◌, ℕ, ◌+◌, ◌++◌, ◌∷◌, List, [], Option, sym, ap, subst, arith, add-one, refl}
+use Rattle.hw_share.specs.declared.operation.Operation.{Operation}
+use Rattle.hw_build.specs.inner.Designed.{times_for}
+use Rattle.hw_build.specs.inner.Factors.{AreFirsts, GathersFor, first_for}
+use Rattle.hw_build.specs.inner.Operands.{offered_at}
+use Rattle.hw_build.specs.inner.ResultNets.{shared_width}
+use Rattle.hw_build.proofs.Factoring.{firsts_none, firsts_more, gathers_none, gathers_then}
+use Rattle.hw_build.proofs.shared.gather.Goals as goal
+
+pub loop-place-init : goal.loop-place-init
+loop-place-init c =
+    let diagram = c.args.design.checked.now.diagram in
+    let plan = c.args.design.plan.now in
+    let none : c.new-firsts.result.items ≡ [] = search rules in (
+      subst (λ (firsts : List (Option ℕ)). AreFirsts diagram plan firsts 0) (sym none) (firsts_none diagram plan),
+      subst (λ (operations : List Operation). GathersFor c.args.design c.args.operands.now c.args.net.now c.args.net.now [] operations 0 0) (sym c.requires.none)
+          (gathers_none diagram plan (times_for c.args.design) (offered_at diagram c.args.operands.now) c.args.net.now [] 0 refl),
+    )
+
+pub loop-place-preserved : goal.loop-place-preserved
+loop-place-preserved c =
+    let diagram = c.args.design.checked.now.diagram in
+    let plan = c.args.design.plan.now in
+    let place : ℕ = c.loop-place.place in
+    let more : c.push.new.self.items ≡ c.loop-place.firsts.items ++ c.in_ok-first.first ∷ [] = search rules in
+    let zero_first : first_for c.args.design place ≡ 0 + first_for c.args.design place = omega arith in
+    let next : first_for c.args.design place + shared_width diagram plan place ≡ first_for c.args.design (place + 1) = ap (first_for c.args.design) (sym (add-one place)) in
+    let block = subst (λ (n : ℕ). GathersFor c.args.design c.args.operands.now c.loop-place.net c.gather_block.new.net c.loop-place.operations.items c.gather_block.new.operations.items n (shared_width diagram plan place)) zero_first c.in_ok-first.ensures.more in (
+      subst (λ (firsts : List (Option ℕ)). AreFirsts diagram plan firsts (place + 1)) (sym more) (firsts_more diagram plan c.loop-place.firsts.items place c.in_ok-first.first c.loop-place.invariant.0 c.in_ok-first.ensures.first),
+      subst (λ (n : ℕ). GathersFor c.args.design c.args.operands.now c.args.net.now c.gather_block.new.net [] c.gather_block.new.operations.items 0 n) next
+          (gathers_then diagram plan (times_for c.args.design) (offered_at diagram c.args.operands.now) c.args.net.now c.loop-place.net c.gather_block.new.net [] c.loop-place.operations.items c.gather_block.new.operations.items 0 (first_for c.args.design place) (shared_width diagram plan place)
+          c.loop-place.invariant.1 block),
+    )

@@ -1,0 +1,31 @@
+use Rattle.std.proofs.Common.{rules, ◌≡◌, ◌<◌, ◌++◌, ◌∷◌, [], ℕ, List, length, Some, ap, sym, ◌∙◌, slice_get, refl}
+use Rattle.std.proofs.lemmas.Option.{same_Some, slice_get_read, slice_get_within}
+use Rattle.hw_build.specs.declared.wants.Class.{Class}
+use Rattle.hw_build.specs.inner.Wants.{IsClassFor}
+use Rattle.hw_build.proofs.Seating.{seat_more, indexed_set}
+use Rattle.hw_build.proofs.wants.seat_for.Goals as goal
+
+pub returns-clause-is : goal.returns-clause-is
+returns-clause-is c =
+    let old : List Class = c.args.classes.now.list.items in
+    let mid : List Class = c.class_for.new.classes.list.items in
+    let number : ℕ = c.in_ok-class.class in
+    let is : IsClassFor old mid c.args.want.feed number = c.in_ok-class.ensures.is in
+    let below : number < length mid = slice_get_within mid number is.has.one is.has.is in
+    let read : slice_get mid number ≡ Some c.index.result.now = slice_get_read mid (length mid) number c.index.result.now refl below c.index.ensures in
+    let at : slice_get mid number ≡ Some c.index_mut.result.now = slice_get_read mid (length mid) number c.index_mut.result.now refl below c.index_mut.ensures.value in
+    let same : ◌≡◌ {A = Class} c.index.result.now c.index_mut.result.now = same_Some c.index.result.now c.index_mut.result.now (sym read ∙ at) in
+    let now : Class = record { feed = c.index_mut.result.now.feed; uses = c.push.new.self } in
+    let grown : c.push.new.self.items ≡ c.index_mut.result.now.uses.items ++ c.args.want.to ∷ [] = search rules in
+    let size : c.in-Ok.place ≡ length c.index.result.now.uses.items = search rules in
+    seat_more old mid _ c.args.want number c.in-Ok.place c.index_mut.result.now now is at refl refl grown (size ∙ ap (λ (x : Class). length x.uses.items) same)
+
+pub returns-clause-indexed : goal.returns-clause-indexed
+returns-clause-indexed c =
+    let mid : List Class = c.class_for.new.classes.list.items in
+    let number : ℕ = c.in_ok-class.class in
+    let is : IsClassFor c.args.classes.now.list.items mid c.args.want.feed number = c.in_ok-class.ensures.is in
+    let below : number < length mid = slice_get_within mid number is.has.one is.has.is in
+    let at : slice_get mid number ≡ Some c.index_mut.result.now = slice_get_read mid (length mid) number c.index_mut.result.now refl below c.index_mut.ensures.value in
+    let now : Class = record { feed = c.index_mut.result.now.feed; uses = c.push.new.self } in
+    indexed_set mid c.class_for.new.classes.numbers number c.index_mut.result.now now c.in_ok-class.ensures.indexed at refl

@@ -1,0 +1,10 @@
+pub mod Built
+pub mod Laws
+pub mod Multiplied
+pub mod Pipelined
+pub mod Places
+pub mod Ports
+pub mod Serving
+pub mod Shown
+pub mod Times
+pub mod inner

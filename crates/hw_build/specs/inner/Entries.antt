@@ -1,0 +1,308 @@
+-- The nets of an element of a block: what they are made of, and what putting them in owes (own).
+use Rattle.std.specs.Prelude.{◌≡◌, ℕ, suc, ◌+◌, ◌-◌, ◌≤◌, ◌⊎◌, ℤ, Bool, true, false, not, if◌then◌else◌, List, [], ◌∷◌, length, map, sum, Contains, Option, None, Some, slice_get, ⊤}
+use Rattle.fx_type.specs.declared.kind.FxType.{FxType}
+use Rattle.fx_type.specs.FxType.{is_signed, width_of}
+use Rattle.dg_waves.specs.Rounds.{numbers_from}
+use Rattle.dg_model.specs.declared.diagram.Diagram.{Diagram}
+use Rattle.dg_model.specs.declared.diagram.Block.{Block}
+use Rattle.dg_model.specs.declared.kind.Kind.{Kind}
+use Rattle.dg_model.specs.declared.kind.Kind.TheVariants.{Inport, Outport, Constant, Ground, Sum, Gain, Product, Switch, Relational, Logic, Convert, Delay, Mux, Demux, RateTransition, Pass, EnableTest, EnOut, Terminator}
+use Rattle.dg_model.specs.Attributes.{attributes_of}
+use Rattle.dg_model.specs.Equation.{StoresEntry, IsPart}
+use Rattle.dg_model.specs.LatencyEdges.{asks_ever}
+use Rattle.dg_model.specs.Library.{row_of}
+use Rattle.dg_model.specs.Signals.{Attributes}
+use Rattle.dg_model.specs.Wires.{period_into, type_into, types_into, width_into, widths_into}
+use Rattle.hw_net.specs.declared.netlist.Frame.{Frame}
+use Rattle.hw_net.specs.declared.netlist.Net.{Net}
+use Rattle.hw_net.specs.declared.netlist.NetKind.{NetKind}
+use Rattle.hw_net.specs.declared.netlist.NetKind.TheVariants.{Comb, Reg, EnReg, Bridge, Unit, Counter}
+use Rattle.hw_net.specs.declared.netlist.NetOp.TheVariants.{Multiply}
+use Rattle.hw_net.specs.Circuit.{Circuit}
+use Rattle.hw_net.specs.Netlist.{HasWord, reads_now}
+use Rattle.hw_net.specs.NetRows.{Rows}
+use Rattle.hw_net.specs.Registers.{Wave}
+use Rattle.hw_lower.specs.Lowered.{IsComb}
+use Rattle.hw_sched.specs.Storage.{keeps_own, kept_by_role}
+use Rattle.hw_shows.specs.Timing.{Timing}
+use Rattle.hw_shows.specs.Series.{steady, span_at, IsProductAt}
+use Rattle.hw_build.specs.Places.{Places}
+use Rattle.hw_build.specs.declared.entries.Entry.{Entry}
+use Rattle.hw_build.specs.inner.Facts.{IsElementMade}
+use Rattle.hw_build.specs.inner.Grown.{Grows}
+use Rattle.hw_build.specs.inner.Growth.{InLater}
+use Rattle.hw_build.specs.inner.Lowering.{offered_args}
+
+-- ---- what an element is made of
+
+-- what enables a block, if anything does
+abbrev pub enables_of : Places → ℕ → Option ℕ → List ℕ
+enables_of places block None = []
+enables_of places block (Some control) = places.enable block ∷ []
+
+abbrev pub enable_types : Attributes → Option ℕ → List FxType
+enable_types attributes None = []
+enable_types attributes (Some control) = attributes.type_at control 1 ∷ []
+
+-- what the input offers in whose part an element of a Mux stands
+pub record IsPartOffered (diagram : Diagram) (places : Places) (block : ℕ) (b : Block) (element : ℕ) (operands : List ℕ) : Type 0 where
+  pub signal : ℕ
+  pub place : ℕ
+  pub part : IsPart (widths_into diagram (attributes_of diagram) block b.inputs) element signal place
+  pub is : operands ≡ places.offered block (suc signal) place ∷ []
+
+module _ (diagram : Diagram) (places : Places) (block : ℕ) (b : Block) (port element : ℕ) where
+  -- what the ends of a block offer to an element, by its kind
+  abbrev pub AreOffered : Kind → List ℕ → Type 0
+  AreOffered (Inport number width) operands = operands ≡ places.input number element ∷ []
+  AreOffered (Outport number) operands = operands ≡ offered_args places block b element
+  AreOffered (Constant value) operands = operands ≡ []
+  AreOffered Ground operands = operands ≡ []
+  AreOffered (Sum negative) operands = operands ≡ offered_args places block b element
+  AreOffered (Gain value param) operands = operands ≡ offered_args places block b element
+  AreOffered Product operands = operands ≡ offered_args places block b element
+  AreOffered (Switch criterion threshold) operands = operands ≡ offered_args places block b element
+  AreOffered (Relational operator) operands = operands ≡ offered_args places block b element
+  AreOffered (Logic operator) operands = operands ≡ offered_args places block b element
+  AreOffered (Convert stored) operands = operands ≡ offered_args places block b element
+  AreOffered (Delay delay initial reset) operands = operands ≡ places.offered block 1 element ∷ enables_of places block b.enable
+  AreOffered (Mux sizes) operands = IsPartOffered diagram places block b element operands
+  AreOffered (Demux sizes) operands = operands ≡ places.offered block 1 (sum (map ((attributes_of diagram).width_at block) (numbers_from 1 (port - 1))) + element) ∷ []
+  AreOffered (RateTransition period initial) operands = operands ≡ places.offered block 1 element ∷ []
+  AreOffered (Pass width) operands = operands ≡ offered_args places block b element
+  AreOffered EnableTest operands = operands ≡ map (places.offered block 1) (numbers_from 0 (width_into diagram (attributes_of diagram) block 1))
+  AreOffered (EnOut reset initial) operands = operands ≡ places.offered block 1 element ∷ enables_of places block b.enable
+  AreOffered Terminator operands = ⊤
+
+-- the types of these
+abbrev pub operand_types : Diagram → Attributes → ℕ → Block → ℕ → Kind → List FxType
+operand_types diagram attributes block b port (Inport number width) = attributes.type_at block port ∷ []
+operand_types diagram attributes block b port (Outport number) = types_into diagram attributes block b.inputs
+operand_types diagram attributes block b port (Constant value) = []
+operand_types diagram attributes block b port Ground = []
+operand_types diagram attributes block b port (Sum negative) = types_into diagram attributes block b.inputs
+operand_types diagram attributes block b port (Gain value param) = types_into diagram attributes block b.inputs
+operand_types diagram attributes block b port Product = types_into diagram attributes block b.inputs
+operand_types diagram attributes block b port (Switch criterion threshold) = types_into diagram attributes block b.inputs
+operand_types diagram attributes block b port (Relational operator) = types_into diagram attributes block b.inputs
+operand_types diagram attributes block b port (Logic operator) = types_into diagram attributes block b.inputs
+operand_types diagram attributes block b port (Convert stored) = types_into diagram attributes block b.inputs
+operand_types diagram attributes block b port (Delay delay initial reset) = attributes.type_at block port ∷ enable_types attributes b.enable
+operand_types diagram attributes block b port (Mux sizes) = attributes.type_at block port ∷ []
+operand_types diagram attributes block b port (Demux sizes) = attributes.type_at block port ∷ []
+operand_types diagram attributes block b port (RateTransition period initial) = attributes.type_at block port ∷ []
+operand_types diagram attributes block b port (Pass width) = types_into diagram attributes block b.inputs
+operand_types diagram attributes block b port EnableTest = map (λ place. type_into diagram attributes block 1) (numbers_from 0 (width_into diagram attributes block 1))
+operand_types diagram attributes block b port (EnOut reset initial) = attributes.type_at block port ∷ enable_types attributes b.enable
+operand_types diagram attributes block b port Terminator = []
+
+-- what registers have first: the initial value of a kind that has one
+abbrev pub HasFirst : Diagram → ℕ → ℕ → Kind → ℤ → Type 0
+HasFirst diagram block element (Inport number width) first = ⊤
+HasFirst diagram block element (Outport number) first = ⊤
+HasFirst diagram block element (Constant value) first = ⊤
+HasFirst diagram block element Ground first = ⊤
+HasFirst diagram block element (Sum negative) first = ⊤
+HasFirst diagram block element (Gain value param) first = ⊤
+HasFirst diagram block element Product first = ⊤
+HasFirst diagram block element (Switch criterion threshold) first = ⊤
+HasFirst diagram block element (Relational operator) first = ⊤
+HasFirst diagram block element (Logic operator) first = ⊤
+HasFirst diagram block element (Convert stored) first = ⊤
+HasFirst diagram block element (Delay delay initial reset) first = StoresEntry initial element ((attributes_of diagram).type_at block 1) first
+HasFirst diagram block element (Mux sizes) first = ⊤
+HasFirst diagram block element (Demux sizes) first = ⊤
+HasFirst diagram block element (RateTransition period initial) first = StoresEntry initial element ((attributes_of diagram).type_at block 1) first
+HasFirst diagram block element (Pass width) first = ⊤
+HasFirst diagram block element EnableTest first = ⊤
+HasFirst diagram block element (EnOut reset initial) first = StoresEntry initial element ((attributes_of diagram).type_at block 1) first
+HasFirst diagram block element Terminator first = ⊤
+
+-- ---- what is put in
+
+-- the frames of a block
+pub record IsFrameOf (diagram : Diagram) (timing : Timing) (block : ℕ) (frame : Frame) : Type 0 where
+  pub period_is : (attributes_of diagram).period_at block ≡ Some frame.period
+  pub latency_is : frame.latency ≡ timing.latency block
+
+-- operations, registers and Counters of the frames of the block
+abbrev pub IsEntryPart : Diagram → Timing → ℕ → NetKind → Type 0
+IsEntryPart diagram timing block (Comb op args) = ⊤
+IsEntryPart diagram timing block (Reg frame slot first from) = IsFrameOf diagram timing block frame
+IsEntryPart diagram timing block (EnReg frame enable reset first from) = IsFrameOf diagram timing block frame
+IsEntryPart diagram timing block (Bridge frame live from) = ⊥
+IsEntryPart diagram timing block (Unit left right) = ⊥
+IsEntryPart diagram timing block (Counter frame) = IsFrameOf diagram timing block frame
+
+-- the registers of an element beside lines and pipeline
+abbrev pub kept_each : Diagram → ℕ → Block → ℕ
+kept_each diagram block b = (if keeps_own b.enable (period_into diagram (attributes_of diagram) block 1) then (row_of b.kind).timing.delay else 0) + kept_by_role (row_of b.kind).place.role
+
+-- the number of a net that stands so many behind others
+abbrev pub number_behind : ℕ → Option ℕ → Option ℕ
+number_behind first None = None
+number_behind first (Some place) = Some (first + place)
+
+-- the multiplication that an element of a kind has of its own, where it is shared by none
+abbrev pub multiply_at : ℕ → Kind → Option ℕ
+multiply_at first (Inport number width) = None
+multiply_at first (Outport number) = None
+multiply_at first (Constant value) = None
+multiply_at first Ground = None
+multiply_at first (Sum negative) = None
+multiply_at first (Gain value param) = Some (first + 1)
+multiply_at first Product = Some (first + 0)
+multiply_at first (Switch criterion threshold) = None
+multiply_at first (Relational operator) = None
+multiply_at first (Logic operator) = None
+multiply_at first (Convert stored) = None
+multiply_at first (Delay delay initial reset) = None
+multiply_at first (Mux sizes) = None
+multiply_at first (Demux sizes) = None
+multiply_at first (RateTransition period initial) = None
+multiply_at first (Pass width) = None
+multiply_at first EnableTest = None
+multiply_at first (EnOut reset initial) = None
+multiply_at first Terminator = None
+
+-- whether a kind has registers of its own that show its entry: a Delay that isn't one of its line
+abbrev pub keeps_entry : Option ℕ → Option ℕ → Kind → Bool
+keeps_entry enable driver (Inport number width) = false
+keeps_entry enable driver (Outport number) = false
+keeps_entry enable driver (Constant value) = false
+keeps_entry enable driver Ground = false
+keeps_entry enable driver (Sum negative) = false
+keeps_entry enable driver (Gain value param) = false
+keeps_entry enable driver Product = false
+keeps_entry enable driver (Switch criterion threshold) = false
+keeps_entry enable driver (Relational operator) = false
+keeps_entry enable driver (Logic operator) = false
+keeps_entry enable driver (Convert stored) = false
+keeps_entry enable driver (Delay delay initial reset) = keeps_own enable driver
+keeps_entry enable driver (Mux sizes) = false
+keeps_entry enable driver (Demux sizes) = false
+keeps_entry enable driver (RateTransition period initial) = false
+keeps_entry enable driver (Pass width) = false
+keeps_entry enable driver EnableTest = false
+keeps_entry enable driver (EnOut reset initial) = false
+keeps_entry enable driver Terminator = false
+
+-- whether a kind shows what it is offered: a line with registers has them already
+abbrev pub hands_on : Option ℕ → Option ℕ → Kind → Bool
+hands_on enable driver (Inport number width) = true
+hands_on enable driver (Outport number) = false
+hands_on enable driver (Constant value) = false
+hands_on enable driver Ground = false
+hands_on enable driver (Sum negative) = false
+hands_on enable driver (Gain value param) = false
+hands_on enable driver Product = false
+hands_on enable driver (Switch criterion threshold) = false
+hands_on enable driver (Relational operator) = false
+hands_on enable driver (Logic operator) = false
+hands_on enable driver (Convert stored) = false
+hands_on enable driver (Delay delay initial reset) = not (keeps_own enable driver)
+hands_on enable driver (Mux sizes) = true
+hands_on enable driver (Demux sizes) = true
+hands_on enable driver (RateTransition period initial) = true
+hands_on enable driver (Pass width) = false
+hands_on enable driver EnableTest = false
+hands_on enable driver (EnOut reset initial) = false
+hands_on enable driver Terminator = false
+
+-- whether a kind carries out an operation that has no numbers of its own
+abbrev pub works_plainly : Kind → Bool
+works_plainly (Inport number width) = false
+works_plainly (Outport number) = true
+works_plainly (Constant value) = false
+works_plainly Ground = false
+works_plainly (Sum negative) = true
+works_plainly (Gain value param) = false
+works_plainly Product = true
+works_plainly (Switch criterion threshold) = false
+works_plainly (Relational operator) = true
+works_plainly (Logic operator) = true
+works_plainly (Convert stored) = true
+works_plainly (Delay delay initial reset) = false
+works_plainly (Mux sizes) = false
+works_plainly (Demux sizes) = false
+works_plainly (RateTransition period initial) = false
+works_plainly (Pass width) = true
+works_plainly EnableTest = false
+works_plainly (EnOut reset initial) = false
+works_plainly Terminator = false
+
+-- the net was put in, and reads nothing in its own clock
+pub record IsHeldAt (before after : Circuit) (number : ℕ) : Type 0 where
+  pub net : Net
+  pub is : slice_get after.nets number ≡ Some net
+  pub alone : reads_now net.kind ≡ []
+  pub new : length before.nets ≤ number
+
+-- the one multiplication among them
+pub record IsOwnMultiply (before after : Circuit) (found : Option ℕ) : Type 0 where
+  pub one : (k : ℕ) → found ≡ Some k → IsComb after k Multiply
+  pub no_other : (k : ℕ) → length before.nets ≤ k → IsComb after k Multiply → found ≡ Some k
+
+-- places name the nets of an element, and where it has a state the registers of that
+pub record IsEntryAt (places : Places) (block : ℕ) (b : Block) (port element : ℕ) (entry : Entry) : Type 0 where
+  pub net : places.entry block port element ≡ entry.net
+  pub begins : asks_ever (row_of b.kind).timing.asks ≡ true → places.state block element 0 ≡ places.offered block 1 element
+  pub state : asks_ever (row_of b.kind).timing.asks ≡ true → (k : ℕ) → places.state block element (suc k) ≡ entry.state + k
+
+module _ (diagram : Diagram) (timing : Timing) (before after : Circuit) (block : ℕ) (b : Block) (port element : ℕ) (operands : List ℕ) (entry : Entry) where
+  -- what is put in is the element, by any places that name it so
+  abbrev pub IsMadeBy : Type 0
+  IsMadeBy = (closed hubs : ℕ) (places : Places) → hubs ≤ length before.nets → before.cycles ≡ timing.cycles → AreOffered diagram places block b port element b.kind operands → IsEntryAt places block b port element entry
+      → HasFirst diagram block element b.kind (places.first block element) → ((row_of b.kind).hardware.multiplies ≡ true → timing.slot block element ≡ None) → IsElementMade diagram timing places closed hubs after block b port element
+
+  -- an element was put in
+  pub record PutsEntry : Type 0 where
+    pub count : ℕ
+    pub grows : Grows before after operands (IsEntryPart diagram timing block) count
+    pub few : count ≤ kept_each diagram block b
+    pub multiply : entry.multiply ≡ multiply_at (length before.nets) b.kind
+    pub multiplies : IsOwnMultiply before after entry.multiply
+    pub word : HasWord after.nets entry.net (width_of ((attributes_of diagram).type_at block port)) (is_signed ((attributes_of diagram).type_at block port))
+    pub stands : Contains operands entry.net ⊎ (length before.nets ≤ entry.net)
+    pub held : keeps_entry b.enable (period_into diagram (attributes_of diagram) block 1) b.kind ≡ true → IsHeldAt before after entry.net
+    pub made : IsMadeBy
+
+-- ---- a shared element
+
+-- places name the product of a shared multiplier, by the kind of its block
+module _ (diagram : Diagram) (timing : Timing) (places : Places) (closed hubs : ℕ) (now : Circuit) (block element : ℕ) where
+  -- in its slot the multiplier had these operands
+  abbrev pub IsProductOf : ℕ → (Rows → Wave) → Type 0
+  IsProductOf slot right =
+      (period : ℕ) → (attributes_of diagram).period_at block ≡ Some period → InLater closed hubs now (λ n rows. IsProductAt n (span_at timing period block) slot (rows (places.offered block 1 element)) (right rows) (rows (places.product block element)))
+
+  abbrev pub HasProductAs : ℕ → Kind → Type 0
+  HasProductAs slot (Inport number width) = ⊥
+  HasProductAs slot (Outport number) = ⊥
+  HasProductAs slot (Constant value) = ⊥
+  HasProductAs slot Ground = ⊥
+  HasProductAs slot (Sum negative) = ⊥
+  HasProductAs slot (Gain value param) = (coefficient : ℤ) × StoresEntry value element ((attributes_of diagram).param_at block) coefficient × IsProductOf slot (λ rows. steady coefficient)
+  HasProductAs slot Product = IsProductOf slot (λ rows. rows (places.offered block 2 element))
+  HasProductAs slot (Switch criterion threshold) = ⊥
+  HasProductAs slot (Relational operator) = ⊥
+  HasProductAs slot (Logic operator) = ⊥
+  HasProductAs slot (Convert stored) = ⊥
+  HasProductAs slot (Delay delay initial reset) = ⊥
+  HasProductAs slot (Mux sizes) = ⊥
+  HasProductAs slot (Demux sizes) = ⊥
+  HasProductAs slot (RateTransition period initial) = ⊥
+  HasProductAs slot (Pass width) = ⊥
+  HasProductAs slot EnableTest = ⊥
+  HasProductAs slot (EnOut reset initial) = ⊥
+  HasProductAs slot Terminator = ⊥
+
+-- an element was put in that converts such a product
+pub record PutsShared (diagram : Diagram) (timing : Timing) (before after : Circuit) (block : ℕ) (b : Block) (port element product : ℕ) (entry : Entry) : Type 0 where
+  pub grows : Grows before after (product ∷ []) (IsEntryPart diagram timing block) 0
+  pub multiply : entry.multiply ≡ None
+  pub multiplies : IsOwnMultiply before after None
+  pub word : HasWord after.nets entry.net (width_of ((attributes_of diagram).type_at block port)) (is_signed ((attributes_of diagram).type_at block port))
+  pub stands : Contains (product ∷ []) entry.net ⊎ (length before.nets ≤ entry.net)
+  pub made : (closed hubs : ℕ) (places : Places) (slot : ℕ) → hubs ≤ length before.nets → timing.slot block element ≡ Some slot → places.entry block port element ≡ entry.net → places.product block element ≡ product
+      → HasProductAs diagram timing places closed hubs before block element slot b.kind → IsElementMade diagram timing places closed hubs after block b port element

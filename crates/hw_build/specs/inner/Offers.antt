@@ -1,0 +1,78 @@
+-- What the ends of a block offer to an element, for all places that fit what is known (own).
+use Rattle.std.specs.Prelude.{◌≡◌, ◌<◌, ◌+◌, ◌∷◌, [], ℕ, Bool, true, false, List, length, map, sum, slice_index_or}
+use Rattle.dg_waves.specs.Rounds.{numbers_from}
+use Rattle.dg_model.specs.Attributes.{attributes_of}
+use Rattle.dg_model.specs.Solves.{shown_ports, shown_width}
+use Rattle.dg_model.specs.Wires.{types_into, width_into}
+use Rattle.hw_build.specs.declared.block_inputs.BlockInputs.{BlockInputs}
+use Rattle.dg_model.specs.declared.diagram.Block.{Block}
+use Rattle.dg_model.specs.declared.diagram.Diagram.{Diagram}
+use Rattle.dg_model.specs.declared.kind.Kind.{Kind}
+use Rattle.dg_model.specs.declared.kind.Kind.TheVariants.{Inport, Outport, Constant, Ground, Sum, Gain, Product, Switch, Relational, Logic, Convert, Delay, Mux, Demux, RateTransition, Pass, EnableTest, EnOut, Terminator}
+use Rattle.hw_build.specs.declared.blocks.Setting.{Setting}
+use Rattle.hw_build.specs.inner.Entries.{AreOffered}
+use Rattle.hw_build.specs.inner.Looping.{Fits, diagram_of}
+use Rattle.hw_build.specs.Places.{Places}
+
+abbrev pub Offer : Setting → ℕ → Block → ℕ → ℕ → List ℕ → Type 0
+Offer setting block b port element operands = (places : Places) → Fits setting places → AreOffered (diagram_of setting) places block b port element b.kind operands
+
+-- of a Mux the nets that are offered to the elements of its first input ports, and to so many of the next one
+pub record ArePartsTo (setting : Setting) (block : ℕ) (b : Block) (ports left : ℕ) (parts : List ℕ) : Type 0 where
+  pub size : length parts ≡ sum (map (width_into (diagram_of setting) (attributes_of (diagram_of setting)) block) (numbers_from 1 ports)) + left
+  pub each : (element : ℕ) → element < length parts → Offer setting block b 1 element (slice_index_or parts element 0 ∷ [])
+
+-- how many elements stand before those of each of the first ports
+pub record AreBegins (diagram : Diagram) (block : ℕ) (b : Block) (ports : ℕ) (begins : List ℕ) : Type 0 where
+  pub size : length begins ≡ ports
+  pub each : (k : ℕ) → k < ports → slice_index_or begins k 0 ≡ sum (map (shown_width diagram (attributes_of diagram) b.kind block) (numbers_from 1 k))
+
+-- what all elements of a block read
+pub record AreReadBy (setting : Setting) (block : ℕ) (b : Block) (inputs : BlockInputs) : Type 0 where
+  pub types_are : inputs.types.items ≡ types_into (diagram_of setting) (attributes_of (diagram_of setting)) block b.inputs
+  pub parts_are : (sizes : List ℕ) → b.kind ≡ Mux sizes → ArePartsTo setting block b b.inputs 0 inputs.parts
+  pub begins_are : (sizes : List ℕ) → b.kind ≡ Demux sizes → AreBegins (diagram_of setting) block b (shown_ports b.kind b.outputs) inputs.begins
+
+-- whether a kind reads the element itself of each of its inputs
+abbrev pub reads_each : Kind → Bool
+reads_each (Inport number width) = false
+reads_each (Outport number) = true
+reads_each (Constant value) = false
+reads_each Ground = false
+reads_each (Sum negative) = true
+reads_each (Gain value param) = true
+reads_each Product = true
+reads_each (Switch criterion threshold) = true
+reads_each (Relational operator) = true
+reads_each (Logic operator) = true
+reads_each (Convert stored) = true
+reads_each (Delay delay initial reset) = false
+reads_each (Mux sizes) = false
+reads_each (Demux sizes) = false
+reads_each (RateTransition period initial) = false
+reads_each (Pass width) = true
+reads_each EnableTest = false
+reads_each (EnOut reset initial) = false
+reads_each Terminator = false
+
+-- whether it reads the element of its one input, and what enables it
+abbrev pub reads_enable : Kind → Bool
+reads_enable (Inport number width) = false
+reads_enable (Outport number) = false
+reads_enable (Constant value) = false
+reads_enable Ground = false
+reads_enable (Sum negative) = false
+reads_enable (Gain value param) = false
+reads_enable Product = false
+reads_enable (Switch criterion threshold) = false
+reads_enable (Relational operator) = false
+reads_enable (Logic operator) = false
+reads_enable (Convert stored) = false
+reads_enable (Delay delay initial reset) = true
+reads_enable (Mux sizes) = false
+reads_enable (Demux sizes) = false
+reads_enable (RateTransition period initial) = false
+reads_enable (Pass width) = false
+reads_enable EnableTest = false
+reads_enable (EnOut reset initial) = true
+reads_enable Terminator = false

@@ -1,0 +1,139 @@
+//! What the elements of ends ask: nets as they are, or shown later.
+ghost use Rattle.std.specs.Prelude.{◌≡◌, ◌+◌, ◌<◌, ◌≤◌, ◌^◌, None, Some, IfOk, OnOk, length};
+ghost use Rattle.hw_build.specs.inner.Seeking.{AreNets, AreNumbered, AsksAll, AsksOne, IsNetFor, IsNumber};
+ghost use Rattle.hw_build.specs.inner.Seeking.{hub_from, plain_want, unasked};
+
+use crate::wants::{Feed, Want};
+use fx_io::{OutOfMemory, Sizes};
+use hw_lines::Use;
+use hw_net::Frame;
+use std::alloc::Global;
+
+/// What an element of an end asks: the net of a source, and the number of the want if that is to be
+/// shown later.
+#[derive(Clone, Copy)]
+pub struct Ask {
+    pub hub: u32,
+    pub want: Option<u32>,
+}
+
+/// The asks of all ends in order, and the wants of those that ask for something later.
+#[derive(Drop)]
+pub struct Asks {
+    pub list: Vec<Ask>,
+    pub wants: Vec<Want>,
+}
+
+/// Asks for a net as it is.
+fn ask_now(asks: &mut Asks, hub: u32) -> Result<(), OutOfMemory>
+    ensures { OnOk result (AsksOne asks.old.list.items asks.new.list.items
+        asks.old.wants.items asks.new.wants.items hub None) }
+{
+    asks.list.push(Ask { hub, want: None })?;
+    Ok(())
+}
+
+/// Asks for a net that is shown later.
+fn ask_later(asks: &mut Asks, want: Want) -> Result<(), OutOfMemory>
+    ensures { OnOk result (AsksOne asks.old.list.items asks.new.list.items
+        asks.old.wants.items asks.new.wants.items want.feed.hub (Some want)) }
+{
+    let Ok(number) = u32::try_from(asks.wants.len()) else {
+        return Err(OutOfMemory);
+    };
+    asks.list.push(Ask {
+        hub: want.feed.hub,
+        want: Some(number),
+    })?;
+    asks.wants.push(want)?;
+    Ok(())
+}
+
+/// Asks for the elements of a signal, whose nets stand one behind another, as they are.
+pub fn ask_signal(asks: &mut Asks, first: u32, width: u32) -> Result<(), OutOfMemory>
+    requires { first + width ≤ 2 ^ 32 }
+    ensures { OnOk result (AsksAll asks.old.list.items asks.new.list.items
+        asks.old.wants.items asks.new.wants.items (hub_from first) unasked width) }
+{
+    for element in 0..width {
+        ask_now(asks, first + element)?;
+    }
+    Ok(())
+}
+
+/// Asks for the elements of a signal, shown later.
+pub fn ask_plain(
+    asks: &mut Asks,
+    first: u32,
+    width: u32,
+    frame: Frame,
+    to: Use,
+) -> Result<(), OutOfMemory>
+    requires { first + width ≤ 2 ^ 32 }
+    ensures { OnOk result (AsksAll asks.old.list.items asks.new.list.items
+        asks.old.wants.items asks.new.wants.items (hub_from first) (plain_want first frame to)
+        width) }
+{
+    for element in 0..width {
+        let feed = Feed {
+            hub: first + element,
+            frame,
+            first: None,
+        };
+        ask_later(asks, Want { feed, to })?;
+    }
+    Ok(())
+}
+
+/// A source that registers show later, which have this first.
+fn late_feed(hub: u32, frame: Frame, first: i128) -> Feed
+    ensures { result ≡ record { hub = hub; frame = frame; first = Some first } }
+{
+    Feed {
+        hub,
+        frame,
+        first: Some(first),
+    }
+}
+
+/// Asks for a net that registers show later, which have this first.
+pub fn ask_registered(
+    asks: &mut Asks,
+    hub: u32,
+    frame: Frame,
+    first: i128,
+    to: Use,
+) -> Result<(), OutOfMemory>
+    ensures { OnOk result (AsksOne asks.old.list.items asks.new.list.items
+        asks.old.wants.items asks.new.wants.items hub (Some (record {
+          feed = record { hub = hub; frame = frame; first = Some first };
+          to = to;
+        }))) }
+{
+    let feed = late_feed(hub, frame, first);
+    ask_later(asks, Want { feed, to })?;
+    Ok(())
+}
+
+/// The nets of asks, where those of the wants have these numbers.
+pub fn nets_of(alloc: Global, list: &[Ask], numbers: &[u32]) -> Result<Sizes, OutOfMemory>
+    requires { AreNumbered list.now (length numbers.now) }
+    ensures { IfOk result (λ nets. AreNets list.now numbers.now nets (length list.now)) }
+{
+    let mut nets = Sizes::new(alloc);
+    for ask in list {
+        nets.push(net_of(*ask, numbers))?;
+    }
+    Ok(nets)
+}
+
+/// The net of an ask.
+fn net_of(ask: Ask, numbers: &[u32]) -> u32
+    requires { IsNumber (length numbers.now) ask.want }
+    ensures { IsNetFor numbers.now result ask.hub ask.want }
+{
+    match ask.want {
+        None => ask.hub,
+        Some(want) => numbers[want as usize],
+    }
+}

@@ -1,0 +1,148 @@
+//! What all elements of a block read.
+ghost use Rattle.std.specs.Prelude.{◌≡◌, ◌≤◌, ◌-◌, ℕ, IfOk, OnOk, List, Some, slice_get};
+ghost use Rattle.dg_model.specs.declared.kind.Kind.{Kind};
+ghost use Rattle.dg_model.specs.Attributes.{attributes_of};
+ghost use Rattle.dg_model.specs.Wires.{types_into, width_into as width_into_of};
+ghost use Rattle.dg_model.specs.Solves.{shown_ports as shown_ports_of};
+ghost use Rattle.hw_build.specs.inner.Offers.{AreBegins, ArePartsTo, AreReadBy};
+
+use crate::blocks::Setting;
+use crate::full_types::type_into;
+use crate::hubs::{shown_ports, shown_width};
+use crate::operands::line_into;
+use dg_model::{Block, Checked, Kind};
+use fx_io::{OutOfMemory, Sizes};
+use fx_type::FxType;
+use std::alloc::Global;
+
+/// What all elements of a block read.
+#[derive(Drop)]
+pub struct BlockInputs {
+    /// The types of its input ports.
+    pub types: Vec<FxType>,
+    /// Of a Mux the net that each element is offered; of other kinds none.
+    pub parts: Sizes,
+    /// Of a Demux how many elements stand before those of each port; of other kinds none.
+    pub begins: Sizes,
+}
+
+/// The types of what a block reads at its input ports.
+fn types_of(
+    alloc: Global,
+    checked: &Checked,
+    block: u32,
+    one: &Block,
+) -> Result<Vec<FxType>, OutOfMemory>
+    requires is { slice_get checked.now.diagram.blocks block ≡ Some one.now }
+    ensures { IfOk result (λ types. types.items ≡ types_into checked.now.diagram
+        (attributes_of checked.now.diagram) block one.now.inputs) }
+{
+    let mut types = Vec::new(alloc);
+    for input in 0..one.inputs {
+        types.push(type_into(checked, block, input + 1, one))?;
+    }
+    Ok(types)
+}
+
+/// How many elements the line into an input port, from 1, of a block has.
+fn width_at(checked: &Checked, block: u32, port: u32, one: &Block) -> u32
+    requires is { slice_get checked.now.diagram.blocks block ≡ Some one.now }
+    requires from { 1 ≤ port }
+    requires to { port ≤ one.now.inputs }
+    ensures { result ≡ width_into_of checked.now.diagram
+        (attributes_of checked.now.diagram) block port }
+{
+    checked.keeps_rules();
+    let line = line_into(checked, block, port, one);
+    checked.width(line.from, line.from_port)
+}
+
+/// Puts in the nets that a Mux is offered at an input port, from 1.
+fn put_part<'a>(
+    parts: &mut Sizes,
+    setting: Setting<'a>,
+    block: u32,
+    one: &Block,
+    port: u32,
+) -> Result<(), OutOfMemory>
+    requires is { slice_get setting.design.checked.now.diagram.blocks block ≡ Some one.now }
+    requires kind { (sizes : List ℕ) × (one.now.kind ≡ Kind.Mux sizes) }
+    requires from { 1 ≤ port }
+    requires to { port ≤ one.now.inputs }
+    requires before { ArePartsTo setting block one.now (port - 1) 0 parts.old }
+    ensures { OnOk result (ArePartsTo setting.entry block one.now port 0 parts.new) }
+{
+    let checked = setting.design.checked;
+    let width = width_at(checked, block, port, one);
+    for left in 0..width {
+        parts.push(setting.operands.at(checked, block, port, left))?;
+    }
+    Ok(())
+}
+
+/// The nets that the elements of a Mux are offered; none of a block of another kind.
+fn parts_of<'a>(
+    alloc: Global,
+    setting: Setting<'a>,
+    block: u32,
+    one: &Block,
+) -> Result<Sizes, OutOfMemory>
+    requires is { slice_get setting.design.checked.now.diagram.blocks block ≡ Some one.now }
+    ensures { IfOk result (λ parts. (sizes : List ℕ) → one.now.kind ≡ Kind.Mux sizes
+        → ArePartsTo setting.entry block one.now one.now.inputs 0 parts) }
+{
+    let mut parts = Sizes::new(alloc);
+    if let Kind::Mux { .. } = &one.kind {
+        for input in 0..one.inputs {
+            put_part(&mut parts, setting, block, one, input + 1)?;
+        }
+    }
+    Ok(parts)
+}
+
+/// How many elements a Demux shows before those of each port; none of a block of another kind.
+fn begins_of(
+    alloc: Global,
+    checked: &Checked,
+    block: u32,
+    one: &Block,
+) -> Result<Sizes, OutOfMemory>
+    requires is { slice_get checked.now.diagram.blocks block ≡ Some one.now }
+    ensures { IfOk result (λ begins. (sizes : List ℕ) → one.now.kind ≡ Kind.Demux sizes
+        → AreBegins checked.now.diagram block one.now (shown_ports_of one.now.kind one.now.outputs)
+        begins) }
+{
+    let mut begins = Sizes::new(alloc);
+    if let Kind::Demux { .. } = &one.kind {
+        let mut total: u32 = 0;
+        for port in 0..shown_ports(one) {
+            begins.push(total)?;
+            let width = shown_width(checked, block, one, port + 1);
+            let Some(next) = total.checked_add(width) else {
+                return Err(OutOfMemory);
+            };
+            total = next;
+        }
+    }
+    Ok(begins)
+}
+
+/// What all elements of a block read.
+pub fn inputs_of<'a>(
+    alloc: Global,
+    setting: Setting<'a>,
+    block: u32,
+    one: &Block,
+) -> Result<BlockInputs, OutOfMemory>
+    requires is { slice_get setting.design.checked.now.diagram.blocks block ≡ Some one.now }
+    ensures { IfOk result (AreReadBy setting.entry block one.now) }
+{
+    let types = types_of(alloc, setting.design.checked, block, one)?;
+    let parts = parts_of(alloc, setting, block, one)?;
+    let begins = begins_of(alloc, setting.design.checked, block, one)?;
+    Ok(BlockInputs {
+        types,
+        parts,
+        begins,
+    })
+}

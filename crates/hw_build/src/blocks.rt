@@ -1,0 +1,253 @@
+//! The elements of blocks, block by block.
+ghost use Rattle.std.specs.Prelude.{◌≡◌, ◌++◌, ◌+◌, ◌-◌, ◌<◌, ◌≤◌, ℕ, false, suc, IfOk, OnOk, length, slice_get};
+ghost use Rattle.dg_model.specs.Attributes.{attributes_of};
+ghost use Rattle.dg_model.specs.Library.{row_of};
+ghost use Rattle.dg_model.specs.Solves.{IsShown, shown_ports as shown_ports_of, shown_width as shown_width_of};
+ghost use Rattle.hw_build.specs.inner.HubPlaces.{hub_at, hub_start, hubs_in_all, is_input_role};
+ghost use Rattle.hw_build.specs.inner.Offers.{AreReadBy};
+ghost use Rattle.hw_build.specs.inner.Tally.{product_labels};
+ghost use Rattle.hw_build.specs.inner.Looping.{AreInputSpots, HasElements, IsBegun, IsEntered, IsSet, Reaches, Stands, port_start, roots_of};
+
+use crate::block_inputs::{BlockInputs, inputs_of};
+use crate::closing::close;
+use crate::design::Design;
+use crate::entries::{Entry, put_entry};
+use crate::full_types::full_type;
+use crate::hubs::{is_input, shown_ports, shown_width};
+use crate::labels::label_product;
+use crate::offers::operands_of;
+use crate::operands::Operands;
+use crate::products::Products;
+use crate::spots::Spots;
+use crate::worked::put_shared;
+use dg_model::{Block, PortWidths};
+use dg_sim::{Place, operations_prepare};
+use fx_io::OutOfMemory;
+use hw_net::Netlist;
+use hw_sched::{lines_are_edges, periods_are_above};
+use std::alloc::Global;
+
+/// What is known when elements are put in.
+#[derive(Clone, Copy)]
+pub struct Setting<'a> {
+    pub design: Design<'a>,
+    pub firsts: &'a PortWidths,
+    pub operands: &'a Operands,
+    pub products: &'a Products,
+}
+
+/// Puts in an element of a block, before its pipeline.
+fn put_one<'a>(
+    alloc: Global,
+    net: &mut Netlist,
+    setting: Setting<'a>,
+    place: Place,
+    one: &Block,
+    inputs: &BlockInputs,
+) -> Result<Entry, OutOfMemory>
+    requires set { IsSet setting }
+    requires inputs { AreReadBy setting place.block one.now inputs.now }
+    requires shown { IsShown setting.design.checked.now.diagram
+        (attributes_of setting.design.checked.now.diagram) place.block one.now place.port
+        place.element }
+    requires other { is_input_role (row_of one.now.kind).place.role ≡ false }
+    requires going { Stands setting net.old }
+    ensures { IfOk result (λ entry. IsEntered setting.entry net.old net.new place.block one.now
+        place.port place.element entry) }
+{
+    dg_model::root_elements_are_listed();
+    dg_model::edges_stand_by_port();
+    operations_prepare();
+    fx_type::stored_is_one();
+    lines_are_edges();
+    fx_type::full_product_is_one();
+    let design = setting.design;
+    design.checked.keeps_rules();
+    if let Some(product) = setting.products.at(place.block, place.element) {
+        let full = full_type(design.checked, place.block, one);
+        let entry = put_shared(alloc, net, design, place, one, full, product)?;
+        return Ok(entry);
+    }
+    let operands = operands_of(alloc, setting, place, one, inputs)?;
+    let nets = operands.as_slice();
+    let types = inputs.types.as_slice();
+    let entry = put_entry(alloc, net, design, place, one, types, nets)?;
+    Ok(entry)
+}
+
+/// Names the multiplication of an element of a block, if it has one of its own.
+fn name_product(
+    alloc: Global,
+    net: &mut Netlist,
+    block: u32,
+    element: u32,
+    multiply: Option<u32>,
+) -> Result<(), OutOfMemory>
+    ensures { OnOk result (net.new ≡ record net.old {
+      labels = net.old.labels ++ product_labels block element multiply;
+    }) }
+{
+    let Some(number) = multiply else {
+        return Ok(());
+    };
+    label_product(alloc, net, number, block, element)?;
+    Ok(())
+}
+
+/// Puts in an element of a block with its pipeline and its net.
+fn put_element<'a>(
+    alloc: Global,
+    net: &mut Netlist,
+    spots: &mut Spots,
+    setting: Setting<'a>,
+    place: Place,
+    one: &Block,
+    inputs: &BlockInputs,
+) -> Result<(), OutOfMemory>
+    requires set { IsSet setting }
+    requires inputs { AreReadBy setting place.block one.now inputs.now }
+    requires shown { IsShown setting.design.checked.now.diagram
+        (attributes_of setting.design.checked.now.diagram) place.block one.now place.port
+        place.element }
+    requires other { is_input_role (row_of one.now.kind).place.role ≡ false }
+    requires before { Reaches setting net.old spots.old
+        (hub_at setting.firsts.now place.block place.port place.element) }
+    ensures { OnOk result (Reaches setting.entry net.new spots.new
+        (suc (hub_at setting.entry.firsts.now place.block place.port place.element))) }
+{
+    dg_model::root_elements_are_listed();
+    operations_prepare();
+    periods_are_above();
+    setting.design.checked.keeps_rules();
+    let entry = put_one(alloc, net, setting, place, one, inputs)?;
+    close(
+        alloc,
+        net,
+        spots,
+        setting.design,
+        place.block,
+        place.element,
+        entry.net,
+        entry.state,
+    )?;
+    name_product(alloc, net, place.block, place.element, entry.multiply)?;
+    Ok(())
+}
+
+/// Puts in the elements of a block at a port, from 1.
+fn put_port<'a>(
+    alloc: Global,
+    net: &mut Netlist,
+    spots: &mut Spots,
+    setting: Setting<'a>,
+    block: u32,
+    one: &Block,
+    inputs: &BlockInputs,
+    port: u32,
+) -> Result<(), OutOfMemory>
+    requires set { IsSet setting }
+    requires inputs { AreReadBy setting block one.now inputs.now }
+    requires is { slice_get setting.design.checked.now.diagram.blocks block ≡ Some one.now }
+    requires other { is_input_role (row_of one.now.kind).place.role ≡ false }
+    requires from { 1 ≤ port }
+    requires to { port ≤ shown_ports_of one.now.kind one.now.outputs }
+    requires before { Reaches setting net.old spots.old
+        (port_start setting.design.checked.now.diagram block one.now (port - 1)) }
+    ensures { OnOk result (Reaches setting.entry net.new spots.new
+        (port_start setting.entry.design.checked.now.diagram block one.now port)) }
+{
+    let width = shown_width(setting.design.checked, block, one, port);
+    for element in 0..width {
+        let place = Place {
+            block,
+            port,
+            element,
+        };
+        put_element(alloc, net, spots, setting, place, one, inputs)?;
+    }
+    Ok(())
+}
+
+/// Puts in the elements of a block.
+fn put_block<'a>(
+    alloc: Global,
+    net: &mut Netlist,
+    spots: &mut Spots,
+    setting: Setting<'a>,
+    block: u32,
+    one: &Block,
+) -> Result<(), OutOfMemory>
+    requires set { IsSet setting }
+    requires is { slice_get setting.design.checked.now.diagram.blocks block ≡ Some one.now }
+    requires before { Reaches setting net.old spots.old
+        (hub_start setting.design.checked.now.diagram block) }
+    ensures { OnOk result (Reaches setting.entry net.new spots.new
+        (hub_start setting.entry.design.checked.now.diagram (suc block))) }
+{
+    if is_input(&one.kind) {
+        return Ok(());
+    }
+    let inputs = inputs_of(alloc, setting, block, one)?;
+    for port in 0..shown_ports(one) {
+        put_port(alloc, net, spots, setting, block, one, &inputs, port + 1)?;
+    }
+    Ok(())
+}
+
+/// Puts in the elements of all blocks but root inputs, whose places stand first.
+pub fn put_blocks<'a>(
+    alloc: Global,
+    net: &mut Netlist,
+    spots: &mut Spots,
+    setting: Setting<'a>,
+) -> Result<(), OutOfMemory>
+    requires set { IsSet setting }
+    requires before { Reaches setting net.old spots.old
+        (hub_start setting.design.checked.now.diagram 0) }
+    ensures { OnOk result (Reaches setting.entry net.new spots.new
+        (hubs_in_all setting.entry.design.checked.now.diagram)) }
+{
+    let blocks = setting.design.checked.diagram().blocks.as_slice();
+    for block in 0..blocks.len() {
+        let Ok(number) = u32::try_from(block) else {
+            return Err(OutOfMemory);
+        };
+        put_block(alloc, net, spots, setting, number, &blocks[block])?;
+    }
+    Ok(())
+}
+
+/// The places of root inputs, whose nets are elements themselves.
+fn input_spots(alloc: Global, inputs: usize) -> Result<Spots, OutOfMemory>
+    ensures { IfOk result (λ spots. AreInputSpots spots inputs) }
+{
+    let mut spots = Spots::new(alloc);
+    for input in 0..inputs {
+        let Ok(number) = u32::try_from(input) else {
+            return Err(OutOfMemory);
+        };
+        spots.put(number, number, number)?;
+    }
+    Ok(spots)
+}
+
+/// Puts in the elements of all blocks, where so many are those of root inputs, and gives where they
+/// stand.
+pub fn put_elements<'a>(
+    alloc: Global,
+    net: &mut Netlist,
+    setting: Setting<'a>,
+    inputs: usize,
+) -> Result<Spots, OutOfMemory>
+    requires set { IsSet setting }
+    requires inputs { inputs ≡ roots_of setting }
+    requires begun { IsBegun setting net.old }
+    ensures { IfOk result (HasElements setting.entry net.new) }
+{
+    dg_model::root_elements_are_listed();
+    operations_prepare();
+    setting.design.checked.keeps_rules();
+    let mut spots = input_spots(alloc, inputs)?;
+    put_blocks(alloc, net, &mut spots, setting)?;
+    Ok(spots)
+}

@@ -1,0 +1,141 @@
+//! The steps of a building one after another.
+ghost use Rattle.std.specs.Prelude.{◌≡◌, IfErr, IfOk, OnOk};
+ghost use Rattle.dg_model.specs.PlanOf.{IsPlanOf};
+ghost use Rattle.hw_latency.specs.Latency.{AreLatencies};
+ghost use Rattle.hw_sched.specs.Answer.{AreSlots};
+ghost use Rattle.hw_build.specs.Built.{IsBuiltBy, IsBuildFault};
+ghost use Rattle.hw_build.specs.inner.Building.{AreInputBlocks, IsBuiltFor, IsDoneFor, IsEmptyFor, IsFilledFor};
+ghost use Rattle.hw_build.specs.inner.Designed.{IsDesigned};
+ghost use Rattle.hw_build.specs.inner.Factors.{HasSlots};
+ghost use Rattle.hw_build.specs.inner.Outgoing.{AreOutputBlocks, IsSmall};
+
+use crate::blocks::{Setting, put_elements};
+use crate::design::Design;
+use crate::hubs::hubs_of;
+use crate::laws::{done_is_built, slots_are_scheduled};
+use crate::lining::put_lines;
+use crate::outputs::put_outputs;
+use crate::ports::put_inputs;
+use crate::products::products_of;
+use dg_model::{Checked, PortWidths, Resolved};
+use dg_sim::{input_blocks, output_blocks};
+use fx_io::OutOfMemory;
+use hw_latency::Latencies;
+use hw_names::Names;
+use hw_net::Netlist;
+use hw_sched::{SizeFault, Slots, check_size};
+use std::alloc::Global;
+
+/// Puts in all nets, and gives where those begin that readers name. These are the blocks of the root
+/// inputs.
+fn put_nets<'a>(
+    alloc: Global,
+    net: &mut Netlist,
+    design: Design<'a>,
+    inputs: &[u32],
+) -> Result<PortWidths, OutOfMemory>
+    requires designed { IsDesigned design }
+    requires slots { HasSlots design }
+    requires empty { IsEmptyFor design net.old }
+    requires inputs { AreInputBlocks design inputs.now }
+    ensures { IfOk result (IsFilledFor design.entry net.new) }
+{
+    design.checked.keeps_rules();
+    dg_model::columns_are_a_stimulus();
+    dg_model::edges_stand_by_port();
+    dg_model::root_elements_are_listed();
+    let firsts = hubs_of(alloc, net, design.checked, inputs)?;
+    let operands = put_lines(alloc, net, design, &firsts)?;
+    let products = products_of(alloc, net, design, &operands)?;
+    let setting = Setting {
+        design,
+        firsts: &firsts,
+        operands: &operands,
+        products: &products,
+    };
+    let spots = put_elements(alloc, net, setting, inputs.len())?;
+    let _ = spots;
+    Ok(firsts)
+}
+
+/// Puts in all ports, whose blocks these are. By block, the firsts are where the nets begin that
+/// readers name.
+fn put_ports<'a>(
+    alloc: Global,
+    net: &mut Netlist,
+    design: Design<'a>,
+    firsts: &PortWidths,
+    inputs: &[u32],
+    outputs: &[u32],
+) -> Result<(), OutOfMemory>
+    requires designed { IsDesigned design }
+    requires slots { HasSlots design }
+    requires small { IsSmall design }
+    requires filled { IsFilledFor design net.old firsts.now }
+    requires inputs { AreInputBlocks design inputs.now }
+    requires outputs { AreOutputBlocks design outputs.now }
+    ensures { OnOk result (IsDoneFor design.entry net.new) }
+{
+    dg_model::root_elements_are_listed();
+    hw_sched::periods_are_above();
+    let mut names = Names::new(alloc)?;
+    put_inputs(alloc, net, &mut names, design.checked, firsts, inputs)?;
+    put_outputs(alloc, net, &mut names, design, firsts, outputs)?;
+    Ok(())
+}
+
+/// The netlist of a design that keeps the rule of size.
+fn netlist_of<'a>(alloc: Global, design: Design<'a>) -> Result<Netlist, OutOfMemory>
+    requires designed { IsDesigned design }
+    requires slots { HasSlots design }
+    requires small { IsSmall design }
+    ensures { IfOk result (IsBuiltFor design.entry) }
+{
+    design.checked.keeps_rules();
+    done_is_built();
+    let inputs = input_blocks(alloc, design.checked)?;
+    let outputs = output_blocks(alloc, design.checked)?;
+    let mut net = Netlist::new(alloc, design.plan.cycles);
+    let firsts = put_nets(alloc, &mut net, design, inputs.as_slice())?;
+    put_ports(
+        alloc,
+        &mut net,
+        design,
+        &firsts,
+        inputs.as_slice(),
+        outputs.as_slice(),
+    )?;
+    Ok(net)
+}
+
+/// The netlist of a checked diagram by a plan, with its latencies and slots, where it keeps the rule of
+/// size. Its time is n log n in the blocks, lines, elements and registers.
+/// Source: own; HDL Coder, delay balancing and resource sharing.
+pub fn build(
+    alloc: Global,
+    checked: &Checked,
+    plan: &Resolved,
+    latencies: &Latencies,
+    slots: &Slots,
+) -> Result<Netlist, SizeFault>
+    requires plan { IsPlanOf checked.now.diagram plan.now }
+    requires latencies { AreLatencies checked.now.diagram plan.now latencies.now }
+    requires slots { AreSlots checked.now.diagram plan.now latencies.now slots.now }
+    ensures built { IfOk result
+        (IsBuiltBy checked.now.diagram plan.now latencies.now slots.now) }
+    ensures fault { IfErr result
+        (IsBuildFault checked.now.diagram plan.now latencies.now slots.now) }
+{
+    checked.keeps_rules();
+    slots_are_scheduled();
+    let sizing = check_size(checked, plan, latencies, slots.ready.as_slice())?;
+    let _ = sizing;
+    let design = Design {
+        checked,
+        plan,
+        latencies,
+        slots,
+    };
+    let net = netlist_of(alloc, design)?;
+    Ok(net)
+}

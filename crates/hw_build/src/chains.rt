@@ -1,0 +1,107 @@
+//! One chain of registers for all readers of a source.
+ghost use Rattle.std.specs.Prelude.{◌≡◌, ◌<◌, ◌≤◌, IfOk, length};
+ghost use Rattle.hw_build.specs.inner.Wants.{AreAnswered, AreClasses, AreMet, ArePlaces, AreTaken, AreWants};
+ghost use Rattle.hw_build.specs.inner.Seeking.{AreAsked, AreNumbered};
+ghost use Rattle.hw_build.specs.inner.Wants.{IsClass, IsClassAnswered, first_of};
+
+use crate::asks::{Asks, nets_of};
+use crate::feed_index::FeedIndex;
+use crate::wants::{Class, Classes, Seat, Want, seats_of};
+use fx_io::{OutOfMemory, Sizes};
+use hw_lines::chain;
+use hw_net::Netlist;
+use std::alloc::Global;
+
+/// What a chain has first, if its readers have registers.
+fn chain_first(first: Option<i128>) -> i128
+    ensures { result ≡ first_of first }
+{
+    match first {
+        Some(first) => first,
+        None => 0,
+    }
+}
+
+/// The chain of a class: a net for each of its uses.
+fn put_class(alloc: Global, net: &mut Netlist, class: &Class) -> Result<Sizes, OutOfMemory>
+    requires low { 0 < net.old.cycles }
+    requires high { net.old.cycles ≤ 1024 }
+    requires class { IsClass net.old class.now }
+    ensures { IfOk result (λ numbers. IsClassAnswered net.old net.new class.now numbers) }
+{
+    let feed = class.feed;
+    chain(
+        alloc,
+        net,
+        feed.hub,
+        feed.frame,
+        chain_first(feed.first),
+        feed.first.is_some(),
+        class.uses.as_slice(),
+    )
+}
+
+/// The chains of all classes.
+fn put_classes(
+    alloc: Global,
+    net: &mut Netlist,
+    classes: &[Class],
+) -> Result<Vec<Sizes>, OutOfMemory>
+    requires low { 0 < net.old.cycles }
+    requires high { net.old.cycles ≤ 1024 }
+    requires classes { AreClasses net.old classes.now }
+    ensures { IfOk result (λ answers.
+        AreAnswered net.old net.new classes.now answers.items (length classes.now)) }
+{
+    let mut answers: Vec<Sizes> = Vec::new(alloc);
+    for class in classes {
+        let own = put_class(alloc, net, class)?;
+        answers.push(own)?;
+    }
+    Ok(answers)
+}
+
+/// The nets at these places.
+fn taken(alloc: Global, answers: &[Sizes], seats: &[Seat]) -> Result<Sizes, OutOfMemory>
+    requires { ArePlaces answers.now seats.now }
+    ensures { IfOk result (λ numbers. AreTaken seats.now answers.now numbers (length seats.now)) }
+{
+    let mut numbers = Sizes::new(alloc);
+    for seat in seats {
+        let own = answers[seat.class as usize].as_slice();
+        numbers.push(own[seat.place as usize])?;
+    }
+    Ok(numbers)
+}
+
+/// Shows sources later to their readers: for each want a net that meets it. Wants of one source
+/// share one chain.
+pub fn put_wants(alloc: Global, net: &mut Netlist, wants: &[Want]) -> Result<Sizes, OutOfMemory>
+    requires low { 0 < net.old.cycles }
+    requires high { net.old.cycles ≤ 1024 }
+    requires wants { AreWants net.old wants.now }
+    ensures { IfOk result (λ numbers. AreMet net.old net.new wants.now numbers) }
+{
+    let mut classes = Classes {
+        list: Vec::new(alloc),
+        numbers: FeedIndex::new(alloc),
+    };
+    let seats = seats_of(alloc, &mut classes, wants)?;
+    let answers = put_classes(alloc, net, classes.list.as_slice())?;
+    let numbers = taken(alloc, answers.as_slice(), seats.as_slice())?;
+    Ok(numbers)
+}
+
+/// The nets of what ends ask: one for each ask.
+pub fn put_asks(alloc: Global, net: &mut Netlist, asks: &Asks) -> Result<Sizes, OutOfMemory>
+    requires low { 0 < net.old.cycles }
+    requires high { net.old.cycles ≤ 1024 }
+    requires wants { AreWants net.old asks.now.wants.items }
+    requires numbered { AreNumbered asks.now.list.items (length asks.now.wants.items) }
+    ensures { IfOk result (λ nets.
+        AreAsked net.old net.new asks.now.list.items asks.now.wants.items nets) }
+{
+    let numbers = put_wants(alloc, net, asks.wants.as_slice())?;
+    let nets = nets_of(alloc, asks.list.as_slice(), numbers.as_slice())?;
+    Ok(nets)
+}

@@ -1,0 +1,119 @@
+//! The second operands of shared multiplications: nets of coefficients, or what blocks are offered.
+ghost use Rattle.std.specs.Prelude.{◌≡◌, ◌<◌, true, IfOk, OnOk, Some, length, slice_get};
+ghost use Rattle.fx_type.specs.FxType.{IsType};
+ghost use Rattle.dg_model.specs.Attributes.{attributes_of};
+ghost use Rattle.dg_model.specs.Equation.{StoresEntry};
+ghost use Rattle.dg_model.specs.Library.{row_of};
+ghost use Rattle.dg_model.specs.Wires.{repeated};
+ghost use Rattle.hw_net.specs.Growing.{with_net};
+ghost use Rattle.hw_build.specs.inner.Factors.{AddsConstants, IsCoefficient, IsSecond, constant_net};
+ghost use Rattle.hw_build.specs.inner.Operands.{offered_at};
+
+use crate::operands::Operands;
+use dg_model::{Block, Checked, Kind};
+use fx_io::{OutOfMemory, Sizes};
+use fx_type::{Decimal, FxType};
+use hw_net::{Net, NetKind, NetOp, Netlist};
+use std::alloc::Global;
+
+/// Where an element stands in a list of this length.
+fn place_in(length: usize, element: u32) -> usize
+    ensures { result ≡ repeated length element }
+{
+    if length == 1 { 0 } else { element as usize }
+}
+
+/// The entry of a list parameter for an element, stored in a type.
+pub fn stored(list: &[Decimal], element: u32, kind: FxType) -> i128
+    requires valid { IsType kind }
+    requires there { repeated (length list.now) element < length list.now }
+    ensures { StoresEntry list.now element kind result }
+{
+    let decimal = list[place_in(list.len(), element)];
+    fx_round::to_stored(decimal, kind)
+}
+
+/// Puts in a net that shows a number at each clock, in the word of a type.
+pub fn put_constant(
+    alloc: Global,
+    net: &mut Netlist,
+    kind: FxType,
+    value: i128,
+) -> Result<u32, OutOfMemory>
+    ensures number { IfOk result (λ number. number ≡ length net.old.nets) }
+    ensures grown { OnOk result (net.new ≡ with_net net.old (constant_net kind value)) }
+{
+    let args = Sizes::new(alloc);
+    let op = NetOp::Const(value);
+    net.add(Net {
+        signed: kind.is_signed(),
+        width: kind.width(),
+        kind: NetKind::Comb { op, args },
+    })
+}
+
+/// Puts in a net for the coefficient of an element.
+fn put_coefficient(
+    alloc: Global,
+    net: &mut Netlist,
+    list: &[Decimal],
+    element: u32,
+    kind: FxType,
+) -> Result<u32, OutOfMemory>
+    requires valid { IsType kind }
+    requires there { repeated (length list.now) element < length list.now }
+    ensures is { IfOk result (λ number.
+        IsCoefficient net.old net.new list.now element kind number) }
+    ensures adds { OnOk result (AddsConstants net.old net.new) }
+{
+    let value = stored(list, element, kind);
+    let number = put_constant(alloc, net, kind, value)?;
+    Ok(number)
+}
+
+/// The second operand of an element of a block that multiplies: that of its second input, or its
+/// coefficient, whose net is put in.
+pub fn second_of(
+    alloc: Global,
+    net: &mut Netlist,
+    checked: &Checked,
+    operands: &Operands,
+    block: u32,
+    one: &Block,
+    element: u32,
+) -> Result<u32, OutOfMemory>
+    requires block { slice_get checked.now.diagram.blocks block ≡ Some one.now }
+    requires multiplies { (row_of one.now.kind).hardware.multiplies ≡ true }
+    requires element { element < (attributes_of checked.now.diagram).width_at block 1 }
+    ensures is { IfOk result (λ number. IsSecond checked.now.diagram
+        (offered_at checked.now.diagram operands.now) net.old net.new block element
+        (row_of one.now.kind).types.full number) }
+    ensures adds { OnOk result (AddsConstants net.old net.new) }
+{
+    checked.keeps_rules();
+    dg_sim::operations_prepare();
+    match &one.kind {
+        Kind::Gain { value, .. } => {
+            let kind = checked.param(block);
+            put_coefficient(alloc, net, value.as_slice(), element, kind)
+        }
+        Kind::Product
+        | Kind::Inport { .. }
+        | Kind::Outport { .. }
+        | Kind::Constant { .. }
+        | Kind::Ground
+        | Kind::Sum { .. }
+        | Kind::Switch { .. }
+        | Kind::Relational { .. }
+        | Kind::Logic { .. }
+        | Kind::Convert { .. }
+        | Kind::Delay { .. }
+        | Kind::Mux { .. }
+        | Kind::Demux { .. }
+        | Kind::RateTransition { .. }
+        | Kind::Pass { .. }
+        | Kind::EnableTest
+        | Kind::EnOut { .. }
+        | Kind::Terminator => Ok(operands.at(checked, block, 2, element)),
+    }
+}

@@ -1,0 +1,173 @@
+//! What all ends ask: first those of the lines, then those of what enables blocks.
+ghost use Rattle.std.specs.Prelude.{◌≡◌, ◌+◌, ◌-◌, ◌<◌, ◌≤◌, ℕ, [], IfOk, List, OnOk, length, slice_get};
+ghost use Rattle.dg_model.specs.declared.diagram.Block.{Block};
+ghost use Rattle.hw_latency.specs.Control.{control_ever};
+ghost use Rattle.hw_build.specs.declared.operands.Span.{Span};
+ghost use Rattle.hw_build.specs.inner.Designed.{IsDesigned, times_for};
+ghost use Rattle.hw_build.specs.inner.EndAsks.{AreEndsFor, AreHubPlaces, IsControlPut, IsLawful, IsLineThere, IsLinePut, IsSpan, controls_left, lines_left};
+
+use crate::asks::{Asks, ask_signal};
+use crate::design::Design;
+use crate::hubs::shown_ports;
+use crate::laws::schedules_are_timed;
+use crate::line_ends::{enable_end, late_end, plain_end};
+use crate::operands::{Span, Spans};
+use dg_model::{Edge, PortWidths};
+use fx_io::OutOfMemory;
+use hw_latency::{block_at, control_of, is_registered, latencies_are_small, samples};
+use hw_sched::{edges_join_periods, lines_are_edges, periods_are_above};
+
+/// What is known where ends ask.
+pub fn ends_are_lawful<'a>(design: Design<'a>, hubs: &PortWidths)
+    requires designed { IsDesigned design }
+    requires hubs { AreHubPlaces design.checked.now.diagram hubs.now }
+    ensures { IsLawful design.entry.checked.now.diagram design.entry.checked.now.order
+        design.entry.plan.now (times_for design.entry) hubs.now }
+{
+    design.checked.keeps_rules();
+    dg_model::edges_stand_by_port();
+    dg_sim::operations_prepare();
+    fx_round::storing_gives_one();
+    fx_type::stored_is_one();
+    latencies_are_small();
+    lines_are_edges();
+    edges_join_periods();
+    periods_are_above();
+    schedules_are_timed();
+}
+
+/// Asks for what the end of a line is offered.
+fn line_end<'a>(
+    asks: &mut Asks,
+    design: Design<'a>,
+    hubs: &PortWidths,
+    edge: Edge,
+) -> Result<(), OutOfMemory>
+    requires designed { IsDesigned design }
+    requires hubs { AreHubPlaces design.checked.now.diagram hubs.now }
+    requires line { IsLineThere design.checked.now.diagram edge }
+    ensures { OnOk result (IsLinePut design.entry.checked.now.diagram design.entry.plan.now
+        (times_for design.entry) hubs.now asks.old asks.new edge) }
+{
+    let checked = design.checked;
+    ends_are_lawful(design, hubs);
+    let one = block_at(checked, edge.to);
+    if shown_ports(one) == 0 {
+        return Ok(());
+    }
+    let first = hubs.at(edge.from, edge.from_port);
+    let width = checked.width(edge.from, edge.from_port);
+    let Some(period) = checked.period(edge.from) else {
+        ask_signal(asks, first, width)?;
+        return Ok(());
+    };
+    let own = samples(checked.period(edge.to));
+    if is_registered(one, own, period) {
+        late_end(asks, design, edge, one, first, width, period, own)?;
+    } else {
+        plain_end(asks, design, edge, first, width, period, own)?;
+    }
+    Ok(())
+}
+
+/// Asks for what enables a block, if anything does.
+fn control_end<'a>(
+    asks: &mut Asks,
+    design: Design<'a>,
+    hubs: &PortWidths,
+    block: u32,
+) -> Result<(), OutOfMemory>
+    requires designed { IsDesigned design }
+    requires hubs { AreHubPlaces design.checked.now.diagram hubs.now }
+    requires there { block < length design.checked.now.diagram.blocks }
+    ensures { OnOk result (IsControlPut design.entry.checked.now.diagram design.entry.plan.now
+        (times_for design.entry) hubs.now asks.old asks.new block) }
+{
+    let checked = design.checked;
+    ends_are_lawful(design, hubs);
+    let Some(control) = control_of(block_at(checked, block)) else {
+        return Ok(());
+    };
+    let hub = hubs.at(control, 1);
+    let Some(period) = checked.period(control) else {
+        ask_signal(asks, hub, 1)?;
+        return Ok(());
+    };
+    let own = samples(checked.period(block));
+    enable_end(asks, design, control, block, hub, period, own)?;
+    Ok(())
+}
+
+/// The span between two numbers.
+fn span_between(first: usize, end: usize) -> Result<Span, OutOfMemory>
+    requires { first ≤ end }
+    ensures { IfOk result (IsSpan first end) }
+{
+    let Ok(start) = u32::try_from(first) else {
+        return Err(OutOfMemory);
+    };
+    let Ok(count) = u32::try_from(end - first) else {
+        return Err(OutOfMemory);
+    };
+    Ok(Span {
+        first: start,
+        count,
+    })
+}
+
+/// Asks for what the ends of all lines are offered.
+pub fn gather_lines<'a>(
+    asks: &mut Asks,
+    lines: &mut Spans,
+    design: Design<'a>,
+    hubs: &PortWidths,
+) -> Result<(), OutOfMemory>
+    requires designed { IsDesigned design }
+    requires hubs { AreHubPlaces design.checked.now.diagram hubs.now }
+    requires list { asks.old.list.items ≡ [] }
+    requires wants { asks.old.wants.items ≡ [] }
+    requires lines { lines.old ≡ [] }
+    ensures { OnOk result (AreEndsFor design.entry.checked.now.diagram design.entry.plan.now
+        (times_for design.entry) hubs.now asks.new lines.new []
+        (length design.entry.checked.now.diagram.edges) 0
+        (controls_left design.entry.checked.now.diagram 0)) }
+{
+    for edge in design.checked.diagram().edges.as_slice() {
+        let first = asks.list.len();
+        line_end(asks, design, hubs, *edge)?;
+        let span = span_between(first, asks.list.len())?;
+        lines.push(span)?;
+    }
+    Ok(())
+}
+
+/// Asks for what enables all blocks.
+pub fn gather_controls<'a>(
+    asks: &mut Asks,
+    controls: &mut Spans,
+    design: Design<'a>,
+    hubs: &PortWidths,
+) -> Result<(), OutOfMemory>
+    requires designed { IsDesigned design }
+    requires hubs { AreHubPlaces design.checked.now.diagram hubs.now }
+    requires controls { controls.old ≡ [] }
+    ensures { OnOk result ((lines : List Span) (lined : ℕ)
+        → AreEndsFor design.entry.checked.now.diagram design.entry.plan.now
+        (times_for design.entry) hubs.now asks.old lines [] lined 0
+        (controls_left design.entry.checked.now.diagram 0)
+        → AreEndsFor design.entry.checked.now.diagram design.entry.plan.now
+        (times_for design.entry) hubs.now asks.new lines controls.new lined
+        (length design.entry.checked.now.diagram.blocks) []) }
+{
+    let count = design.checked.diagram().blocks.as_slice().len();
+    for block in 0..count {
+        let Ok(number) = u32::try_from(block) else {
+            return Err(OutOfMemory);
+        };
+        let first = asks.list.len();
+        control_end(asks, design, hubs, number)?;
+        let span = span_between(first, asks.list.len())?;
+        controls.push(span)?;
+    }
+    Ok(())
+}

@@ -1,0 +1,268 @@
+//! The net of each element that a block shows, which its readers name.
+ghost use Rattle.std.specs.Prelude.{◌≡◌, ◌-◌, ◌+◌, ◌<◌, ◌≤◌, ◌^◌, [], false, suc, All, IfOk, OnOk, Some, length, slice_get, slice_index_or};
+ghost use Rattle.dg_model.specs.Attributes.{attributes_of};
+ghost use Rattle.dg_model.specs.Library.{row_of};
+ghost use Rattle.dg_model.specs.RootElements.{root_inputs};
+ghost use Rattle.dg_model.specs.Solves.{shown_ports as shown_ports_of, shown_width as shown_width_of};
+ghost use Rattle.dg_sim.specs.Listing.{AreBlocksOf};
+ghost use Rattle.hw_build.specs.inner.HubPlaces.{before, hub_of, input_net as input_net_of, is_input_role, is_output_role, port_size, hub_start, hub_at as hub_at_of, AddsFresh, AddsPorts, AddsBlock, AddsBlocks, AddsInputs, HasHubs};
+
+use dg_model::{Block, Checked, Kind, PortWidths};
+use fx_io::{OutOfMemory, PortSizes, Sizes};
+use fx_type::FxType;
+use hw_names::columns_of;
+use hw_net::{Net, NetKind, NetOp, Netlist};
+use hw_sched::width_into;
+use std::alloc::Global;
+
+/// Whether a block is a root input port.
+pub fn is_input(kind: &Kind) -> bool
+    ensures { result ≡ is_input_role (row_of kind.now).place.role }
+{
+    match kind {
+        Kind::Inport { .. } => true,
+        Kind::Outport { .. }
+        | Kind::Constant { .. }
+        | Kind::Ground
+        | Kind::Sum { .. }
+        | Kind::Gain { .. }
+        | Kind::Product
+        | Kind::Switch { .. }
+        | Kind::Relational { .. }
+        | Kind::Logic { .. }
+        | Kind::Convert { .. }
+        | Kind::Delay { .. }
+        | Kind::Mux { .. }
+        | Kind::Demux { .. }
+        | Kind::RateTransition { .. }
+        | Kind::Pass { .. }
+        | Kind::EnableTest
+        | Kind::EnOut { .. }
+        | Kind::Terminator => false,
+    }
+}
+
+/// Whether a block is a root output port.
+fn is_output(kind: &Kind) -> bool
+    ensures { result ≡ is_output_role (row_of kind.now).place.role }
+{
+    match kind {
+        Kind::Outport { .. } => true,
+        Kind::Inport { .. }
+        | Kind::Constant { .. }
+        | Kind::Ground
+        | Kind::Sum { .. }
+        | Kind::Gain { .. }
+        | Kind::Product
+        | Kind::Switch { .. }
+        | Kind::Relational { .. }
+        | Kind::Logic { .. }
+        | Kind::Convert { .. }
+        | Kind::Delay { .. }
+        | Kind::Mux { .. }
+        | Kind::Demux { .. }
+        | Kind::RateTransition { .. }
+        | Kind::Pass { .. }
+        | Kind::EnableTest
+        | Kind::EnOut { .. }
+        | Kind::Terminator => false,
+    }
+}
+
+/// How many ports a block shows.
+pub fn shown_ports(one: &Block) -> u32
+    ensures { result ≡ shown_ports_of one.now.kind one.now.outputs }
+{
+    if is_output(&one.kind) { 1 } else { one.outputs }
+}
+
+/// How many elements it shows at one, from 1.
+pub fn shown_width(checked: &Checked, block: u32, one: &Block, port: u32) -> u32
+    requires is { slice_get checked.now.diagram.blocks block ≡ Some one.now }
+    requires from { 1 ≤ port }
+    requires to { port ≤ shown_ports_of one.now.kind one.now.outputs }
+    ensures { result
+        ≡ shown_width_of checked.now.diagram (attributes_of checked.now.diagram)
+        one.now.kind block port }
+{
+    checked.keeps_rules();
+    if is_output(&one.kind) {
+        width_into(checked, block)
+    } else {
+        checked.width(block, port)
+    }
+}
+
+/// A net that is to show an element of this type, without an argument yet.
+fn hub(alloc: Global, kind: FxType) -> Net
+    ensures { result ≡ hub_of kind }
+{
+    let args = Sizes::new(alloc);
+    Net {
+        signed: kind.is_signed(),
+        width: kind.width(),
+        kind: NetKind::Comb {
+            op: NetOp::Resize,
+            args,
+        },
+    }
+}
+
+/// A net that shows an input port of this type.
+fn input_net(alloc: Global, kind: FxType, port: u32) -> Net
+    ensures { result ≡ input_net_of kind port }
+{
+    let args = Sizes::new(alloc);
+    Net {
+        signed: kind.is_signed(),
+        width: kind.width(),
+        kind: NetKind::Comb {
+            op: NetOp::Input(port),
+            args,
+        },
+    }
+}
+
+/// Puts in the nets of a port, which have no argument yet, and gives the first.
+fn put_port(alloc: Global, net: &mut Netlist, kind: FxType, width: u32) -> Result<u32, OutOfMemory>
+    ensures first { IfOk result (λ first. first ≡ length net.old.nets) }
+    ensures adds { OnOk result (AddsFresh net.old net.new width kind) }
+{
+    let Ok(first) = u32::try_from(net.nets().len()) else {
+        return Err(OutOfMemory);
+    };
+    for element in 0..width {
+        let one = hub(alloc, kind);
+        let number = net.add(one)?;
+        let _ = number;
+    }
+    Ok(first)
+}
+
+/// Puts in the nets of the ports of a block, and gives the first of each port.
+fn put_ports(
+    alloc: Global,
+    net: &mut Netlist,
+    checked: &Checked,
+    block: u32,
+    one: &Block,
+) -> Result<Sizes, OutOfMemory>
+    requires { slice_get checked.now.diagram.blocks block ≡ Some one.now }
+    ensures { IfOk result (λ firsts. AddsPorts net.old net.new
+        ((attributes_of checked.now.diagram).type_at block 1)
+        (port_size checked.now.diagram block one.now) firsts
+        (shown_ports_of one.now.kind one.now.outputs)) }
+{
+    let kind = checked.result(block);
+    let mut firsts = Sizes::new(alloc);
+    for port in 0..shown_ports(one) {
+        let width = shown_width(checked, block, one, port + 1);
+        let first = put_port(alloc, net, kind, width)?;
+        firsts.push(first)?;
+    }
+    Ok(firsts)
+}
+
+/// Puts in the nets of a block, and gives the first of each port. Those of a root input port are its
+/// inputs, from this column on.
+fn put_block(
+    alloc: Global,
+    net: &mut Netlist,
+    checked: &Checked,
+    column: u32,
+    block: u32,
+    one: &Block,
+) -> Result<Sizes, OutOfMemory>
+    requires { slice_get checked.now.diagram.blocks block ≡ Some one.now }
+    ensures { IfOk result (λ firsts.
+        AddsBlock checked.now.diagram net.old net.new column block one.now firsts) }
+{
+    if is_input(&one.kind) {
+        let mut firsts = Sizes::new(alloc);
+        firsts.push(column)?;
+        return Ok(firsts);
+    }
+    put_ports(alloc, net, checked, block, one)
+}
+
+/// Puts in the nets of all blocks, behind those of the root inputs, and gives the first of each port.
+/// By block, the columns are where those of a root input port begin.
+fn put_blocks(
+    alloc: Global,
+    net: &mut Netlist,
+    checked: &Checked,
+    columns: &[u32],
+) -> Result<PortSizes, OutOfMemory>
+    requires size { length net.old.nets ≡ hub_start checked.now.diagram 0 }
+    requires columns { length columns.now ≡ length checked.now.diagram.blocks }
+    ensures { IfOk result (λ firsts. AddsBlocks checked.now.diagram net.old net.new columns.now
+        firsts (length checked.now.diagram.blocks)) }
+{
+    let blocks = checked.diagram().blocks.as_slice();
+    let Ok(count) = u32::try_from(blocks.len()) else {
+        return Err(OutOfMemory);
+    };
+    let mut firsts = PortSizes::new(alloc);
+    for block in 0..count {
+        let column = columns[block as usize];
+        let own = put_block(alloc, net, checked, column, block, &blocks[block as usize])?;
+        firsts.push(own)?;
+    }
+    Ok(firsts)
+}
+
+/// Puts in a net for each root input element, whose blocks these are.
+fn put_inputs(
+    alloc: Global,
+    net: &mut Netlist,
+    checked: &Checked,
+    inputs: &[u32],
+) -> Result<(), OutOfMemory>
+    requires none { length net.old.nets ≡ 0 }
+    requires there { All (λ block. block < length checked.now.diagram.blocks) inputs.now }
+    ensures { OnOk result (AddsInputs checked.now.diagram net.old net.new inputs.now
+        (length inputs.now)) }
+{
+    for column in 0..inputs.len() {
+        let Ok(number) = u32::try_from(column) else {
+            return Err(OutOfMemory);
+        };
+        let kind = checked.result(inputs[column]);
+        let one = input_net(alloc, kind, number);
+        let place = net.add(one)?;
+        let _ = place;
+    }
+    Ok(())
+}
+
+/// Puts in the nets that readers name: first one for each root input element, whose blocks these
+/// are, then those of the other blocks in order. It gives the first of each port of each block.
+pub fn hubs_of(
+    alloc: Global,
+    net: &mut Netlist,
+    checked: &Checked,
+    inputs: &[u32],
+) -> Result<PortWidths, OutOfMemory>
+    requires none { length net.old.nets ≡ 0 }
+    requires are { AreBlocksOf
+        (root_inputs checked.now.diagram (attributes_of checked.now.diagram)) inputs.now }
+    ensures { IfOk result (λ firsts. HasHubs checked.now.diagram net.old net.new firsts) }
+{
+    checked.keeps_rules();
+    dg_model::root_elements_are_listed();
+    put_inputs(alloc, net, checked, inputs)?;
+    let columns = columns_of(alloc, checked.diagram().blocks.as_slice().len(), inputs)?;
+    let firsts = put_blocks(alloc, net, checked, columns.as_slice())?;
+    let widths = PortWidths::of(alloc, &firsts)?;
+    Ok(widths)
+}
+
+/// The net of an element at a port, from 1, of a block.
+pub fn hub_at(firsts: &PortWidths, block: u32, port: u32, element: u32) -> u32
+    requires port { 1 ≤ port }
+    requires there { port - 1 < length (slice_index_or firsts.now block []) }
+    requires fits { hub_at_of firsts.now block port element < 2 ^ 32 }
+    ensures { result ≡ hub_at_of firsts.now block port element }
+{
+    firsts.at(block, port) + element
+}

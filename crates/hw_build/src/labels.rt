@@ -1,0 +1,72 @@
+//! The names of nets.
+ghost use Rattle.std.specs.Prelude.{◌≡◌, ◌++◌, ◌∷◌, [], IfOk, OnOk};
+ghost use Rattle.hw_build.specs.Multiplied.{multiplication_name};
+ghost use Rattle.hw_build.specs.Pipelined.{stage_name as stage_name_of};
+
+use fx_io::{OutOfMemory, Text};
+use hw_names::put_number;
+use hw_net::{NetLabel, Netlist};
+use std::alloc::Global;
+
+/// The name of the multiplication of an element of a block.
+fn product_name(alloc: Global, block: u32, element: u32) -> Result<Text, OutOfMemory>
+    ensures { IfOk result (λ name. name ≡ multiplication_name block element) }
+{
+    let mut name = Vec::from_slice(alloc, b"fx_m")?;
+    put_number(&mut name, block)?;
+    name.push(b'_')?;
+    put_number(&mut name, element)?;
+    let text = Text::from_vec(alloc, name)?;
+    Ok(text)
+}
+
+/// The name of a register of the pipeline of an element of a block, by its number from 1.
+fn stage_name(alloc: Global, block: u32, element: u32, stage: u32) -> Result<Text, OutOfMemory>
+    ensures { IfOk result (λ name. name ≡ stage_name_of block element stage) }
+{
+    let mut name = Vec::from_slice(alloc, b"fx_p")?;
+    put_number(&mut name, block)?;
+    name.push(b'_')?;
+    put_number(&mut name, element)?;
+    name.push(b'_')?;
+    put_number(&mut name, stage)?;
+    let text = Text::from_vec(alloc, name)?;
+    Ok(text)
+}
+
+/// Names the multiplication of an element of a block.
+pub fn label_product(
+    alloc: Global,
+    net: &mut Netlist,
+    number: u32,
+    block: u32,
+    element: u32,
+) -> Result<(), OutOfMemory>
+    ensures { OnOk result (net.new ≡ record net.old {
+      labels = net.old.labels
+          ++ (record { net = number; name = multiplication_name block element }) ∷ [];
+    }) }
+{
+    let name = product_name(alloc, block, element)?;
+    net.add_label(NetLabel { net: number, name })?;
+    Ok(())
+}
+
+/// Names a register of the pipeline of an element of a block, by its number from 1.
+pub fn label_stage(
+    alloc: Global,
+    net: &mut Netlist,
+    number: u32,
+    block: u32,
+    element: u32,
+    stage: u32,
+) -> Result<(), OutOfMemory>
+    ensures { OnOk result (net.new ≡ record net.old {
+      labels = net.old.labels
+          ++ (record { net = number; name = stage_name_of block element stage }) ∷ [];
+    }) }
+{
+    let name = stage_name(alloc, block, element, stage)?;
+    net.add_label(NetLabel { net: number, name })?;
+    Ok(())
+}

@@ -1,0 +1,57 @@
+//! The nets that ends of blocks are offered are put in.
+ghost use Rattle.std.specs.Prelude.{◌≡◌, ◌≤◌, IfOk, length};
+ghost use Rattle.dg_model.specs.Attributes.{attributes_of};
+ghost use Rattle.dg_model.specs.RootElements.{root_inputs};
+ghost use Rattle.hw_build.specs.inner.Designed.{IsDesigned, times_for};
+ghost use Rattle.hw_build.specs.inner.LinesPut.{AreLinesPut, StandHubs};
+
+use crate::asks::Asks;
+use crate::chains::put_asks;
+use crate::design::Design;
+use crate::gathering::{ends_are_lawful, gather_controls, gather_lines};
+use crate::operands::{Operands, Spans};
+use dg_model::PortWidths;
+use fx_io::OutOfMemory;
+use hw_net::Netlist;
+use std::alloc::Global;
+
+/// Puts in the nets that all ends are offered, behind those that readers name.
+///
+/// # Errors
+/// Want of memory, also where the number of a net has no room in 32 bits.
+pub fn put_lines<'a>(
+    alloc: Global,
+    net: &mut Netlist,
+    design: Design<'a>,
+    hubs: &PortWidths,
+) -> Result<Operands, OutOfMemory>
+    requires designed { IsDesigned design }
+    requires cycles { net.old.cycles ≡ design.plan.now.cycles }
+    requires inputs { length net.old.inputs
+        ≤ length (root_inputs design.checked.now.diagram (attributes_of design.checked.now.diagram)) }
+    requires hubs { StandHubs design.checked.now.diagram net.old hubs.now }
+    ensures { IfOk result (λ operands. AreLinesPut design.entry.checked.now.diagram
+        design.entry.plan.now (times_for design.entry) net.old net.new hubs.now operands) }
+{
+    design.checked.keeps_rules();
+    dg_model::root_elements_are_listed();
+    dg_sim::operations_prepare();
+    let Ok(_count) = u32::try_from(net.nets().len()) else {
+        return Err(OutOfMemory);
+    };
+    ends_are_lawful(design, hubs);
+    let mut asks = Asks {
+        list: Vec::new(alloc),
+        wants: Vec::new(alloc),
+    };
+    let mut lines = Spans::new(alloc);
+    gather_lines(&mut asks, &mut lines, design, hubs)?;
+    let mut controls = Spans::new(alloc);
+    gather_controls(&mut asks, &mut controls, design, hubs)?;
+    let nets = put_asks(alloc, net, &asks)?;
+    Ok(Operands {
+        nets,
+        lines,
+        controls,
+    })
+}

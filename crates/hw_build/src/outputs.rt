@@ -1,0 +1,92 @@
+//! The ports of root outputs.
+ghost use Rattle.std.specs.Prelude.{◌≡◌, ◌<◌, ◌≤◌, ◌^◌, [], IfOk, OnOk, length, slice_index_or};
+ghost use Rattle.hw_build.specs.inner.Designed.{IsDesigned};
+ghost use Rattle.hw_build.specs.inner.Factors.{HasSlots};
+ghost use Rattle.hw_build.specs.inner.HubPlaces.{hub_at as hub_at_of};
+ghost use Rattle.hw_build.specs.inner.Outgoing.{IsSmall, clocks_to, AreOutputBlocks, IsOutputPort, AddsOutputs};
+ghost use Rattle.hw_build.specs.inner.Porting.{AreOutputFirsts};
+
+use crate::design::Design;
+use crate::hubs::hub_at;
+use crate::ports::{Showing, port_of};
+use dg_model::PortWidths;
+use fx_io::OutOfMemory;
+use hw_names::{Names, columns_of};
+use hw_net::{NetPort, Netlist};
+use hw_sched::width_into;
+use std::alloc::Global;
+
+/// The clock in which a root output shows its first value.
+fn latency_of<'a>(design: Design<'a>, block: u32) -> u64
+    requires designed { IsDesigned design }
+    requires slots { HasSlots design }
+    requires there { block < length design.checked.now.diagram.blocks }
+    requires small { clocks_to design block ≤ 16777216 }
+    ensures { result ≡ clocks_to design.entry block }
+{
+    let lat = design.latencies.lat.as_slice()[block as usize];
+    let ready = design.slots.ready.as_slice()[block as usize];
+    lat * u64::from(design.plan.cycles) + ready
+}
+
+/// The port of an element of a root output.
+fn output_of<'a>(
+    alloc: Global,
+    names: &mut Names,
+    design: Design<'a>,
+    firsts: &PortWidths,
+    block: u32,
+    element: u32,
+) -> Result<NetPort, OutOfMemory>
+    requires designed { IsDesigned design }
+    requires slots { HasSlots design }
+    requires there { block < length design.checked.now.diagram.blocks }
+    requires small { clocks_to design block ≤ 16777216 }
+    requires first { 0 < length (slice_index_or firsts.now block []) }
+    requires fits { hub_at_of firsts.now block 1 element < 2 ^ 32 }
+    ensures { IfOk result
+        (IsOutputPort design.entry firsts.now names.old names.new block element) }
+{
+    let width = width_into(design.checked, block);
+    let showing = Showing {
+        net: hub_at(firsts, block, 1, element),
+        latency: latency_of(design, block),
+    };
+    let port = port_of(alloc, names, design.checked, block, width, element, showing)?;
+    Ok(port)
+}
+
+/// Puts in a port for each root output element, whose blocks these are. By block, the firsts are
+/// where the nets of its port begin.
+pub fn put_outputs<'a>(
+    alloc: Global,
+    net: &mut Netlist,
+    names: &mut Names,
+    design: Design<'a>,
+    firsts: &PortWidths,
+    outputs: &[u32],
+) -> Result<(), OutOfMemory>
+    requires designed { IsDesigned design }
+    requires slots { HasSlots design }
+    requires small { IsSmall design }
+    requires are { AreOutputBlocks design outputs.now }
+    requires firsts { AreOutputFirsts design.checked.now.diagram firsts.now }
+    requires none { net.old.outputs ≡ [] }
+    ensures { OnOk result (AddsOutputs design.entry firsts.now names.old names.new net.old net.new
+        (length outputs.now)) }
+{
+    let checked = design.checked;
+    checked.keeps_rules();
+    dg_model::root_elements_are_listed();
+    let columns = columns_of(alloc, checked.diagram().blocks.as_slice().len(), outputs)?;
+    for column in 0..outputs.len() {
+        let Ok(number) = u32::try_from(column) else {
+            return Err(OutOfMemory);
+        };
+        let block = outputs[column];
+        let element = number - columns[block as usize];
+        let port = output_of(alloc, names, design, firsts, block, element)?;
+        net.add_output(port)?;
+    }
+    Ok(())
+}

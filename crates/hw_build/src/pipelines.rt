@@ -1,0 +1,184 @@
+//! The registers of a plan behind an element.
+ghost use Rattle.std.specs.Prelude.{◌≡◌, ◌+◌, ◌-◌, ◌*◌, ◌<◌, ◌++◌, ◌∷◌, ◌^◌, [], IfOk, OnOk, Some, length};
+ghost use Rattle.dg_model.specs.Attributes.{attributes_of};
+ghost use Rattle.hw_build.specs.inner.Designed.{IsDesigned, timing_for};
+ghost use Rattle.hw_build.specs.inner.Piping.{own_frame, stage_labels, stage_net, stage_nets, wire_of, AddsPipeline, IsPipedBy};
+
+use crate::design::Design;
+use crate::labels::label_stage;
+use fx_io::{OutOfMemory, Sizes};
+use fx_type::FxType;
+use hw_net::{Frame, Net, NetKind, NetOp, Netlist};
+use hw_sched::periods_are_above;
+use std::alloc::Global;
+
+/// What stands behind an element.
+#[derive(Clone, Copy)]
+pub struct Piped {
+    /// What the first register takes, or the element itself where there is none. The registers have
+    /// the numbers behind it.
+    pub begin: u32,
+    /// The last register, or the same.
+    pub end: u32,
+}
+
+/// The frames of a block of this period, before its pipeline.
+pub fn own_frame_of<'a>(design: Design<'a>, block: u32, period: u32) -> Frame
+    requires designed { IsDesigned design }
+    requires there { block < length design.checked.now.diagram.blocks }
+    ensures { result ≡ own_frame (timing_for design.entry) period block }
+{
+    Frame {
+        period,
+        latency: design.latencies.lat.as_slice()[block as usize],
+    }
+}
+
+/// The last clock of the frames of a block of this period.
+pub fn last_slot<'a>(design: Design<'a>, block: u32, period: u32) -> u32
+    requires designed { IsDesigned design }
+    requires period { (attributes_of design.checked.now.diagram).period_at block ≡ Some period }
+    ensures { result ≡ period * design.entry.plan.now.cycles - 1 }
+{
+    periods_are_above();
+    period * design.plan.cycles - 1
+}
+
+/// A net that passes another on, in the word of a type.
+fn wire(alloc: Global, kind: FxType, from: u32) -> Result<Net, OutOfMemory>
+    ensures { IfOk result (λ net. net ≡ wire_of kind from) }
+{
+    let mut args = Sizes::new(alloc);
+    args.push(from)?;
+    Ok(Net {
+        signed: kind.is_signed(),
+        width: kind.width(),
+        kind: NetKind::Comb {
+            op: NetOp::Resize,
+            args,
+        },
+    })
+}
+
+/// A register that takes a net in a slot of a frame, in the word of a type. It has 0 first.
+fn register(kind: FxType, frame: Frame, slot: u32, from: u32) -> Net
+    ensures { result ≡ stage_net kind frame slot from }
+{
+    Net {
+        signed: kind.is_signed(),
+        width: kind.width(),
+        kind: NetKind::Reg {
+            frame,
+            slot,
+            first: 0,
+            from,
+        },
+    }
+}
+
+/// Puts in registers that take the net before them in a slot of a frame, behind the last net.
+fn put_registers(
+    net: &mut Netlist,
+    kind: FxType,
+    frame: Frame,
+    slot: u32,
+    begin: u32,
+    count: u32,
+) -> Result<u32, OutOfMemory>
+    requires { length net.old.nets ≡ begin + 1 }
+    ensures end { IfOk result (λ end. end ≡ begin + count) }
+    ensures grown { OnOk result (net.new ≡ record net.old {
+      nets = net.old.nets ++ stage_nets kind frame slot begin count;
+    }) }
+{
+    let mut end = begin;
+    for stage in 0..count {
+        let one = register(kind, frame, slot, end);
+        end = net.add(one)?;
+    }
+    Ok(end)
+}
+
+/// Names the registers behind a net.
+fn name_registers(
+    alloc: Global,
+    net: &mut Netlist,
+    block: u32,
+    element: u32,
+    begin: u32,
+    count: u32,
+) -> Result<(), OutOfMemory>
+    requires { begin + count < 2 ^ 32 }
+    ensures { OnOk result (net.new ≡ record net.old {
+      labels = net.old.labels ++ stage_labels begin block element count;
+    }) }
+{
+    for stage in 0..count {
+        label_stage(alloc, net, begin + (stage + 1), block, element, stage + 1)?;
+    }
+    Ok(())
+}
+
+/// Puts in the registers behind an element of a block that has a period.
+fn put_stages<'a>(
+    alloc: Global,
+    net: &mut Netlist,
+    design: Design<'a>,
+    block: u32,
+    element: u32,
+    entry: u32,
+    period: u32,
+) -> Result<Piped, OutOfMemory>
+    requires designed { IsDesigned design }
+    requires there { block < length design.checked.now.diagram.blocks }
+    requires cycles { net.old.cycles ≡ design.plan.now.cycles }
+    requires period { (attributes_of design.checked.now.diagram).period_at block ≡ Some period }
+    ensures adds { IfOk result (λ piped. AddsPipeline (timing_for design.entry) net.old net.new
+        ((attributes_of design.entry.checked.now.diagram).type_at block 1)
+        block element period entry piped.begin) }
+    ensures end { IfOk result (λ piped.
+        piped.end ≡ piped.begin + (timing_for design.entry).stages block) }
+{
+    periods_are_above();
+    let frame = own_frame_of(design, block, period);
+    let slot = last_slot(design, block, period);
+    let kind = design.checked.result(block);
+    let stages = design.plan.stages.as_slice()[block as usize];
+    let _ = net.counter(frame)?;
+    let first = wire(alloc, kind, entry)?;
+    let begin = net.add(first)?;
+    let end = put_registers(net, kind, frame, slot, begin, stages)?;
+    name_registers(alloc, net, block, element, begin, stages)?;
+    Ok(Piped { begin, end })
+}
+
+/// Puts in the registers of the plan behind an element. Where memory is wanting the netlist is of
+/// no more use.
+pub fn put_pipeline<'a>(
+    alloc: Global,
+    net: &mut Netlist,
+    design: Design<'a>,
+    block: u32,
+    element: u32,
+    entry: u32,
+) -> Result<Piped, OutOfMemory>
+    requires designed { IsDesigned design }
+    requires there { block < length design.checked.now.diagram.blocks }
+    requires cycles { net.old.cycles ≡ design.plan.now.cycles }
+    ensures { IfOk result (λ piped. IsPipedBy design.entry.checked.now.diagram
+        (timing_for design.entry) net.old net.new block element entry piped) }
+{
+    let alone = Piped {
+        begin: entry,
+        end: entry,
+    };
+    let stages = design.plan.stages.as_slice()[block as usize];
+    if stages == 0 {
+        return Ok(alone);
+    }
+    let Some(period) = design.checked.period(block) else {
+        return Ok(alone);
+    };
+    let piped = put_stages(alloc, net, design, block, element, entry, period)?;
+    Ok(piped)
+}
