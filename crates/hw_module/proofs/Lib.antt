@@ -1,0 +1,10 @@
+pub mod Carried
+pub mod Counted
+pub mod Emitted
+pub mod Lists
+pub mod Multiplied
+pub mod Offered
+pub mod Ported
+pub mod Served
+pub mod Staged
+pub mod Whole

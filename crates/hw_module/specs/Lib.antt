@@ -1,0 +1,8 @@
+pub mod Carries
+pub mod Design
+pub mod Interface
+pub mod Laws
+pub mod Multiplied
+pub mod Pipelined
+pub mod Serves
+pub mod inner

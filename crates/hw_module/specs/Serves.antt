@@ -1,0 +1,48 @@
+-- Which operation each shared multiplier of a module serves in which clock, and how many multiplications there are (own; HDL Coder, resource sharing).
+use Rattle.std.specs.Prelude.{◌≡◌, ℕ, ◌<◌, ℤ, length, Some, slice_get}
+use Rattle.dg_model.specs.declared.diagram.Diagram.{Diagram}
+use Rattle.dg_model.specs.declared.diagram.Block.{Block}
+use Rattle.dg_model.specs.declared.resolved.Resolved.{Resolved}
+use Rattle.dg_model.specs.Attributes.{attributes_of}
+use Rattle.dg_model.specs.Hits.{Hits}
+use Rattle.dg_model.specs.Signals.{Stimulus, Table}
+use Rattle.vl_ast.specs.declared.modules.Module.{Module}
+use Rattle.vl_ast.specs.Multiplications.{Multiplication, multiplications}
+use Rattle.vl_ast.specs.Nets.{nets_of}
+use Rattle.vl_ast.specs.Runs.{Row, Rows}
+use Rattle.vl_ast.specs.Value.{value_in, bits_of}
+use Rattle.vl_ast.specs.Windows.{Window, row_at}
+use Rattle.hw_module.specs.Carries.{IsDrivenRun}
+use Rattle.hw_sched.specs.Laws.{IsOperation}
+use Rattle.hw_build.specs.Serving.{AreOperands, clock_of}
+use Rattle.hw_sched.specs.Ready.{owed}
+use Rattle.hw_sched.specs.Slots.{Timing, Operation, unit_of}
+
+-- in this row the multiplication of this number has these operands, cut to the length of its context
+pub record Multiplies (m : Module) (row : Row) (number : ℕ) (left right : ℤ) : Type 0 where
+  pub multiplication : Multiplication
+  pub at : slice_get (multiplications m) number ≡ Some multiplication
+  pub left_is : value_in (nets_of m) row multiplication.width multiplication.signed multiplication.left ≡ bits_of multiplication.width left
+  pub right_is : value_in (nets_of m) row multiplication.width multiplication.signed multiplication.right ≡ bits_of multiplication.width right
+
+-- it multiplies the operands that the operation has at hit t
+pub record IsServed (m : Module) (diagram : Diagram) (table : Table) (row : Row) (number : ℕ) (o : Operation) (b : Block) (t : ℕ) : Type 0 where
+  pub left : ℤ
+  pub right : ℤ
+  pub operands : AreOperands diagram table o.block b o.element t left right
+  pub multiplied : Multiplies m row number left right
+
+-- each shared operation is served at each hit in its clock, in every run, and no multiplication serves two in one clock
+pub record Serves (m : Module) (diagram : Diagram) (plan : Resolved) (timing : Timing) : Type 0 where
+  pub served : (samples : ℕ) (window : Window) (stimulus : Stimulus) (table : Table) (rows : Rows) → IsDrivenRun m diagram samples window stimulus table rows
+      → (number : ℕ) (o : Operation) (b : Block) (t : ℕ) → IsOperation diagram (attributes_of diagram) plan number o → slice_get diagram.blocks o.block ≡ Some b → t < samples → Hits ((attributes_of diagram).period_at o.block) t
+      → row_at window (clock_of diagram plan timing number o t) < window.rows
+      → IsServed m diagram table (rows (row_at window (clock_of diagram plan timing number o t))) (unit_of diagram (attributes_of diagram) plan timing number o) o b t
+  pub apart : (number other : ℕ) (o q : Operation) (t s : ℕ) → IsOperation diagram (attributes_of diagram) plan number o → IsOperation diagram (attributes_of diagram) plan other q
+      → Hits ((attributes_of diagram).period_at o.block) t → Hits ((attributes_of diagram).period_at q.block) s
+      → unit_of diagram (attributes_of diagram) plan timing number o ≡ unit_of diagram (attributes_of diagram) plan timing other q
+      → clock_of diagram plan timing number o t ≡ clock_of diagram plan timing other q s → (number ≡ other) × (t ≡ s)
+
+-- there are as many multiplications as are owed
+abbrev pub MultipliesAsOwed : Module → Diagram → Resolved → Timing → Type 0
+MultipliesAsOwed m diagram plan timing = length (multiplications m) ≡ owed diagram (attributes_of diagram) plan timing

@@ -1,0 +1,42 @@
+//! The module of a built netlist.
+ghost use Rattle.std.specs.Prelude.{IfOk};
+ghost use Rattle.hw_build.specs.Built.{IsBuiltBy};
+ghost use Rattle.dg_model.specs.PlanOf.{IsPlanOf};
+ghost use Rattle.hw_module.specs.Design.{IsModuleOf};
+ghost use Rattle.vl_ast.specs.Grammar.{Spells};
+ghost use Rattle.vl_ast.specs.Spelling.{spelling};
+ghost use Rattle.hw_sched.specs.Answer.{AreSlots, timing_of};
+
+use crate::laws::built_modules_owe_nothing;
+use dg_model::{Checked, Resolved};
+use fx_io::OutOfMemory;
+use hw_build::slots_are_scheduled;
+use hw_latency::Latencies;
+use hw_net::Netlist;
+use hw_sched::Slots;
+use std::alloc::Global;
+use vl_ast::Module;
+use vl_emit::emit;
+
+/// The module of a netlist that is built for a diagram by a plan with its latencies and slots. The
+/// only error is want of memory.
+pub fn module_of(
+    alloc: Global,
+    checked: &Checked,
+    plan: &Resolved,
+    latencies: &Latencies,
+    slots: &Slots,
+    netlist: &Netlist,
+) -> Result<Module, OutOfMemory>
+    requires plan { IsPlanOf checked.now.diagram plan.now }
+    requires slots { AreSlots checked.now.diagram plan.now latencies.now slots.now }
+    requires built { IsBuiltBy checked.now.diagram plan.now latencies.now slots.now netlist.now }
+    ensures owed { IfOk result (λ made. IsModuleOf made checked.now.diagram plan.now
+        (timing_of latencies.now slots.now.depths)) }
+    ensures spelled { IfOk result (λ made. Spells (spelling made) made) }
+{
+    checked.keeps_rules();
+    slots_are_scheduled();
+    built_modules_owe_nothing();
+    emit(alloc, netlist)
+}
