@@ -1,5 +1,5 @@
 -- The model of one delay with initial value 3, as text: the tree that it stands for, its blocks and lines, and its diagram, worked out by hand.
-use Rattle.std.proofs.Common.{◌≡◌, ◌<◌, ◌≤◌, ℕ, zero, suc, pos, true, false, List, [], ◌∷◌, All, None, Some, slice_get, inl, inr, codes, refl, sym, subst, arith}
+use Rattle.std.proofs.Common.{◌≡◌, ◌<◌, ◌≤◌, ℕ, zero, suc, pos, true, false, List, [], ◌∷◌, ◌++◌, All, None, Some, slice_get, inl, inr, codes, refl, sym, subst, arith}
 use Rattle.std.proofs.Math.Dec.{lit<, lit≤}
 use Rattle.std.proofs.lemmas.Option.{none-some, same_Some}
 use lib.Signed.{le_z_yes}
@@ -20,7 +20,9 @@ use Rattle.dg_model.specs.declared.nested.NestedLine.{NestedLine}
 use Rattle.dg_model.specs.declared.nested.Part.TheVariants.{Plain, In, Out}
 use Rattle.dg_model.specs.declared.nested.Target.TheVariants.{Port}
 use Rattle.dg_model.specs.Wired.{StandsBefore}
+use Rattle.mdl_text.specs.declared.tree.Item.{Item}
 use Rattle.mdl_text.specs.declared.tree.Tree.{Tree}
+use Rattle.mdl_text.specs.declared.tree.Value.TheVariants.{Section, Bare, Quoted}
 use Rattle.mdl_text.specs.Bytes.{is_blank, is_name_byte, lines_of as text_lines}
 use Rattle.mdl_text.specs.inner.Plain.{string_step, opened, closed, listed, valued, named, fresh, step, finish, run, start}
 use Rattle.mdl_text.specs.Stands.{Stands}
@@ -34,7 +36,6 @@ use Rattle.mdl_build.specs.Settings.{unset, unsaid, zero_decimal}
 use Rattle.dg_flat.specs.Flat.{IsFlatOf}
 use Rattle.dg_flat.specs.Parts.{in_number, out_number}
 use Rattle.dg_flat.specs.Rules.{AllNestedKeep, KeepsWiring, KeepsEnable, IsNumbered, HasEnd, drivers, is_port}
-use Rattle.fx_top.specs.DelayTree.{DelayTexts, delay_tree}
 use Rattle.fx_top.proofs.Written.{all_of, each_of, pairs_of}
 
 -- ---- the text, and the tree that it stands for
@@ -42,11 +43,37 @@ use Rattle.fx_top.proofs.Written.{all_of, each_of, pairs_of}
 abbrev pub model_text : List ℕ
 model_text = codes "Model {\n  Name \"one\"\n  System {\n    Block {\n      BlockType Inport\n      Name \"u\"\n      OutDataTypeStr \"int8\"\n    }\n    Block {\n      BlockType UnitDelay\n      Name \"D\"\n      InitialCondition \"3\"\n    }\n    Block {\n      BlockType Outport\n      Name \"y\"\n    }\n    Line {\n      SrcBlock \"u\"\n      SrcPort 1\n      DstBlock \"D\"\n      DstPort 1\n    }\n    Line {\n      SrcBlock \"D\"\n      SrcPort 1\n      DstBlock \"y\"\n      DstPort 1\n    }\n  }\n}\n"
 
-abbrev pub texts : DelayTexts
-texts = record { model = codes "one"; input = codes "u"; delay = codes "D"; output = codes "y"; initial = codes "3" }
+-- a section of this depth and name
+abbrev section : ℕ → List ℕ → Item
+section depth name = record { depth = depth; name = name; value = Section }
+
+-- a parameter of a block or a line with a bare value, or with a quoted one
+abbrev bare : List ℕ → List ℕ → Item
+bare name value = record { depth = 3; name = name; value = Bare value }
+
+abbrev quoted : List ℕ → List ℕ → Item
+quoted name value = record { depth = 3; name = name; value = Quoted value }
+
+abbrev blocks : List Item
+blocks =
+    section 2 (codes "Block") ∷ bare (codes "BlockType") (codes "Inport") ∷ quoted (codes "Name") (codes "u")
+    ∷ quoted (codes "OutDataTypeStr") (codes "int8")
+    ∷ section 2 (codes "Block") ∷ bare (codes "BlockType") (codes "UnitDelay") ∷ quoted (codes "Name") (codes "D")
+    ∷ quoted (codes "InitialCondition") (codes "3")
+    ∷ section 2 (codes "Block") ∷ bare (codes "BlockType") (codes "Outport") ∷ quoted (codes "Name") (codes "y") ∷ []
+
+-- a line from the first port of a block to the first of another
+abbrev line_items : List ℕ → List ℕ → List Item
+line_items source target =
+    section 2 (codes "Line") ∷ quoted (codes "SrcBlock") source ∷ bare (codes "SrcPort") (codes "1")
+    ∷ quoted (codes "DstBlock") target ∷ bare (codes "DstPort") (codes "1") ∷ []
 
 abbrev pub tree : Tree
-tree = record { items = delay_tree texts }
+tree = record {
+  items = section 0 (codes "Model") ∷ record { depth = 1; name = codes "Name"; value = Quoted (codes "one") }
+      ∷ section 1 (codes "System")
+      ∷ (blocks ++ (line_items (codes "u") (codes "D") ++ line_items (codes "D") (codes "y")));
+}
 
 read : run start (text_lines model_text) ≡ Some tree.items
 unfolding is_blank is_name_byte string_step opened closed listed valued named fresh step finish

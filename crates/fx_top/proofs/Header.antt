@@ -1,14 +1,11 @@
--- The header of the module of one delay.
+-- The module of one delay breaks no condition.
 use Rattle.std.proofs.Common.{◌≡◌, None, refl}
 use Rattle.vl_ast.specs.Conditions.{undriven, doubly, too_wide, no_reset, no_attribute}
-use Rattle.fx_top.specs.declared.one_delay.OneDelay.{OneDelay}
-use Rattle.fx_top.specs.inner.DelayModule.{delay_module}
+use Rattle.fx_top.proofs.DelayModule.{OneDelay, delay_module}
 use Rattle.fx_top.proofs.Names.{AreDifferent, names_read-name, sound-name, own_length-name}
 use Rattle.fx_top.proofs.Bits.{bits-are_number}
 use Rattle.fx_top.proofs.Loop.{no-loop}
 use Rattle.vl_ast.specs.Conditions.{BreaksNone}
-use Rattle.fx_top.specs.OneDelay.{delay_interface}
-use Rattle.fx_top.specs.Carries.{HasHeader}
 
 undriven-none : (d : OneDelay) → AreDifferent d.input d.output → undriven (delay_module d) ≡ None
 undriven-none d n = simp (names_read-name, sound-name, own_length-name, n.clk-u, n.u-clk, n.reset-u, n.u-reset, n.register-u, n.u-register, n.clk-y, n.y-clk, n.reset-y, n.y-reset, n.register-y, n.y-register, n.u-y, n.y-u, n.u-u, n.y-y)
@@ -32,6 +29,3 @@ breaks-none d n = record {
   clocked = no_reset-none d n;
   attributed = no_attribute-none d n;
 }
-
-pub has-header : (d : OneDelay) → AreDifferent d.input d.output → HasHeader (delay_module d) (delay_interface d)
-has-header d n = record { name = refl; attrs = refl; ports = refl; sound = breaks-none d n }

@@ -1,17 +1,14 @@
 pub mod Bits
-pub mod Carried
 pub mod Commands
 mod DelayDiagram
 mod DelayModel
-pub mod Different
+mod DelayModule
 pub mod Generated
-mod GeneratedDelay
 pub mod Header
 pub mod Lines
 pub mod Loop
 pub mod Names
 mod Outcomes
-pub mod Refusals
 pub mod Replayed
 mod ReplayedDelay
 pub mod Responses
@@ -20,7 +17,7 @@ pub mod Sayings
 mod SimulatedDelay
 pub mod Simulations
 pub mod Spelled
-pub mod Texts
 pub mod Unfetched
+pub mod Verilogs
 mod UnitDelay
 mod Written

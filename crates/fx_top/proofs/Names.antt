@@ -8,7 +8,10 @@ use Rattle.vl_ast.specs.Value.{Bits, value_in, meaning_step, extended}
 use Rattle.vl_ast.specs.Nets.{names_read, names_step}
 use Rattle.vl_ast.specs.Conditions.{is_sound_step}
 use Rattle.vl_ast.specs.declared.expressions.Expr.TheFolds.{para-Expr}
-use Rattle.fx_top.specs.inner.DelayModule.{register}
+
+-- the name of the register, `fx_delay`
+abbrev pub register : List ℕ
+register = codes "fx_delay"
 
 pub record AreDifferent (u y : List ℕ) : Type 0 where
   pub clk-u : bytes_eq (codes "clk") u ≡ false

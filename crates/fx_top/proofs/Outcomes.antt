@@ -6,7 +6,7 @@ use Rattle.fx_top.specs.declared.answer.Answer.TheVariants.{Usage, CannotRead}
 use Rattle.fx_top.specs.Answer.{status_of}
 use Rattle.fx_top.specs.Call.{Files, Stream, Said}
 use Rattle.fx_top.specs.Caused.{Ends, HasCause}
-use Rattle.fx_top.specs.Command.{Generate}
+use Rattle.fx_top.specs.Command.{Generate, EmptyPlan}
 use Rattle.fx_top.specs.Messages.{usage_line, unread_line}
 
 -- a steady shelf that holds nothing, and fails where it is asked
@@ -35,7 +35,7 @@ without-file file is = record {
   status_is = refl;
   said = subst (λ (name : List ℕ). Said (took (unread_line (codes "m"))) (unread_line name)) (sym is) (said (unread_line (codes "m")));
   carried_out = (
-    subst (λ (name : List ℕ). HasCause empty (Generate name) (CannotRead file)) is
+    subst (λ (name : List ℕ). HasCause empty (Generate name EmptyPlan) (CannotRead file)) is
         (record { rise = tt; asked = (0, omega arith, refl); first = λ steady. refl }),
     refl,
   );

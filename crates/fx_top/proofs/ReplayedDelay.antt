@@ -19,8 +19,8 @@ use Rattle.fx_tables.specs.declared.table.Rows.{Rows as Table}
 use Rattle.fx_tables.specs.Response.{response}
 use Rattle.vl_replay.specs.Columns.{step_of}
 use Rattle.vl_replay.specs.Sampled.{AreReplayed, Sampled, hit_at, numbers_of, window_of}
-use Rattle.fx_top.specs.Carries.{output_port}
-use Rattle.fx_top.specs.OneDelay.{byte_output}
+use Rattle.vl_ast.specs.Header.{output_port}
+use Rattle.fx_top.proofs.DelayModule.{byte_port}
 use Rattle.fx_top.specs.Replayed.{AreRowsFor, IsReplayOf, IsSoundText}
 use Rattle.fx_top.specs.declared.answer.Answer.TheVariants.{Done}
 use Rattle.fx_top.specs.Call.{Files}
@@ -154,7 +154,7 @@ replayed = record {
 -- ---- and the output shows 3, 5, -1
 
 abbrev shown_port : Port
-shown_port = output_port (byte_output (codes "y") 0)
+shown_port = output_port (byte_port (codes "y"))
 
 abbrev IsShown : Port → ℕ → ℕ → ℕ → ℕ → Type 0
 IsShown port cycles period latency t =

@@ -1,7 +1,10 @@
 -- What a command's cause says of its status.
-use Rattle.std.proofs.Common.{◌≡◌, ◌≤◌, ◌<◌, inl, inr, ℕ, List, [], ◌∷◌, length, nat_lt, false, All, Option, None, Some, refl, ap, sym, ◌∙◌, subst, arith}
+use Rattle.std.proofs.Common.{◌≡◌, ◌≤◌, ◌<◌, ⊎_elim, inl, inr, ℕ, List, [], ◌∷◌, length, nat_lt, false, All, Option, None, Some, refl, ap, sym, ◌∙◌, subst, arith}
 use Rattle.std.proofs.lemmas.Bool.{false_from_ne_true, ltb-true}
 use Rattle.std.proofs.lemmas.List.Elements.{All-head, All-tail}
+use Rattle.dg_model.specs.declared.diagram.Diagram.{Diagram}
+use Rattle.dg_model.specs.declared.resolved.Resolved.{Resolved}
+use Rattle.hw_sched.specs.Slots.{Timing}
 use Rattle.mdl_text.specs.declared.tree.Tree.{Tree}
 use Rattle.mdl_text.specs.Stands.{Stands}
 use Rattle.fx_tables.specs.declared.table.TableCause.{TableCause}
@@ -11,20 +14,22 @@ use Rattle.vl_ast.specs.Grammar.{Spells}
 use Rattle.vl_check.specs.declared.fault.VlFault.{VlFault}
 use Rattle.fx_io.specs.Shelf.{Told, Fetched}
 use Rattle.fx_top.specs.declared.answer.Answer.{Answer}
-use Rattle.fx_top.specs.declared.answer.Answer.TheVariants.{Done, OutOfMemory, Usage, CannotRead, CannotWrite, NotMdl, BadTable, BreaksRule, NotVerilog, Broken, TooLong, NotBuilt}
+use Rattle.fx_top.specs.declared.answer.Answer.TheVariants.{Done, OutOfMemory, Usage, CannotRead, CannotWrite, NotMdl, BadTable, BreaksRule, NotVerilog, Broken, TooLong}
 use Rattle.fx_top.specs.Answer.{status_of}
 use Rattle.fx_top.specs.Call.{Files, Stream}
-use Rattle.fx_top.specs.Cause.{IsFetched, AreFetched, HasNoTree, HasOtherForm, HasBrokenRule, HasBadLine, HasNoVerilog, BreaksCondition}
+use Rattle.fx_top.specs.Cause.{IsFetched, AreFetched, HasNoTree, HasBrokenRule, HasBrokenPlan, HasBadLine, HasNoVerilog, BreaksCondition}
 use Rattle.fx_top.specs.Caused.{HasCause, HasWritten, IsCarriedOut}
-use Rattle.fx_top.specs.Command.{Command, Generate, Replay, Simulate, Explore, command_of, model_of, generated_of, checked_of, verilog_of, stimulus_of, first_of, files_of}
-use Rattle.fx_top.specs.DelayTree.{IsOneDelay}
+use Rattle.fx_top.specs.Command.{Command, PlanWord, EmptyPlan, Named, Generate, Replay, Simulate, Explore, command_of, model_of, verilog_of, plan_of, plan_file, table_of, first_of, files_of}
+use Rattle.fx_designed.specs.Design.{IsBadPlan, IsDesignOf, TellsPlanRule}
+use Rattle.fx_tables.specs.Plan.{IsPlan}
 use Rattle.fx_model.specs.Model.{IsNoText, IsModelOf, IsBrokenModel, IsWithoutDiagram}
-use Rattle.fx_top.specs.Outcome.{Yields, Tells, IfCommand, IsBadFor, IsDue, CanBeDone, IsComplete}
-use Rattle.fx_top.specs.Output.{IsBuilt, IsNotBuilt, IsOutput}
+use Rattle.fx_top.specs.Generated.{IsWithoutDesign}
+use Rattle.fx_top.specs.Outcome.{Yields, Tells, TellsPlan, IfCommand, IsBadFor, IsDue, CanBeDone, IsComplete}
+use Rattle.fx_top.specs.Output.{IsOutput, IsPlanText}
 use Rattle.fx_top.specs.Replayed.{HasFault, IsNoVerilog, IsSoundText, fault_for}
 use Rattle.fx_top.specs.Simulated.{fault_in}
 use Rattle.fx_top.specs.Trouble.{Trouble, Absent, Overlong, trouble_or, first_trouble, file_limit}
-use Rattle.fx_top.proofs.Commands.{IsFit, IsGood, bad-fit, checked-model, first-model, first-verilog, fit-kept, fit-sound, fit-tree, generated-alone, generated-model, good-diagram, good-sound, good-tree, model-alone, own-first, sound-first, table-good}
+use Rattle.fx_top.proofs.Commands.{IsFit, IsGood, accepted-fit, bad-fit, first-model, first-verilog, fit-kept, fit-sound, fit-tree, good-diagram, good-sound, good-tree, model-alone, own-first, plan-good, sound-first, table-good}
 
 -- a file that was fetched is in no trouble
 pub untroubled : (file : List ℕ) (told : Told) (bytes : List ℕ) → Fetched told file_limit bytes → (later : Option Trouble) → trouble_or file told later ≡ later
@@ -59,10 +64,8 @@ module _ (files : Files) (out : Stream) (unique : (bytes : List ℕ) (one other 
   -- ---- what an output says of the first file
 
   written-good : (command : Command) (text bytes : List ℕ) → IsOutput command files.held text → Tells files (first_of command) bytes → IsGood command bytes
-  written-good (Generate model) text bytes output tells =
-      let verilog = output.1.1 in
-      subst IsBuilt (sym (told-is model bytes output.0 output.1.0 tells))
-      (record { tree = verilog.tree; stands = verilog.stands; delay = verilog.carries.delay; form = verilog.carries.form })
+  written-good (Generate model plan) text bytes output tells =
+      (output.verilog.diagram, subst (λ (b : List ℕ). IsModelOf b output.verilog.diagram) (sym (told-is model bytes output.model_bytes output.model_fetched tells)) output.verilog.design.accepted)
   written-good (Replay verilog stimulus) text bytes output tells =
       (output.replay.made, subst (λ (b : List ℕ). IsSoundText b output.replay.made) (sym (told-is verilog bytes output.verilog_bytes output.verilog_fetched tells)) output.replay.spelled)
   written-good (Simulate model stimulus) text bytes output tells =
@@ -72,28 +75,9 @@ module _ (files : Files) (out : Stream) (unique : (bytes : List ℕ) (one other 
 
   bad-good : (command : Command) (bytes file : List ℕ) (line : ℕ) (cause : TableCause) → Tells files (first_of command) bytes → HasBadLine files command file line cause → IsGood command bytes
   bad-good command bytes file line cause tells why =
-      subst (IsGood command) (sym (told-is (first_of command) bytes why.first why.first_fetched tells)) (table-good command why.first why.stimulus line cause why.bad)
+      subst (IsGood command) (sym (told-is (first_of command) bytes why.first why.first_fetched tells)) (table-good command why.first why.table line cause why.bad)
 
   -- ---- what the faults of the first file exclude
-
-  -- no bytes are of two of the sorts
-  not-both : (bytes : List ℕ) → IsBuilt bytes → IsNotBuilt bytes → ⊥
-  not-both bytes built other =
-      other.other built.delay (subst (λ (known : Tree). IsOneDelay known built.delay) (unique bytes built.tree other.tree built.stands other.stands) built.form)
-
-  good-built : (command : Command) (model bytes : List ℕ) → generated_of command ≡ Some model → IsGood command bytes → IsNotBuilt bytes → ⊥
-  good-built (Generate own) model bytes is good other = not-both bytes good other
-  good-built (Replay own stimulus) model bytes is good other = absurd (cc is)
-  good-built (Simulate own stimulus) model bytes is good other = absurd (cc is)
-  good-built (Explore own range) model bytes is good other = absurd (cc is)
-
-  -- ---- bytes of the first file at which a command tells no fault
-
-  fit-built : (command : Command) (model bytes : List ℕ) → generated_of command ≡ Some model → IsFit command bytes → IsNotBuilt bytes → ⊥
-  fit-built (Generate own) model bytes is fit other = not-both bytes fit other
-  fit-built (Replay own stimulus) model bytes is fit other = absurd (cc is)
-  fit-built (Simulate own stimulus) model bytes is fit other = absurd (cc is)
-  fit-built (Explore own range) model bytes is fit other = absurd (cc is)
 
   -- no bytes spell a sound module and one that isn't
   not-sound : (bytes : List ℕ) (made : Module) (condition : Fault) → IsSoundText bytes made → HasFault bytes condition → ⊥
@@ -109,13 +93,22 @@ module _ (files : Files) (out : Stream) (unique : (bytes : List ℕ) (one other 
 
   told-rule : (command : Command) (bytes line : List ℕ) → Tells files (first_of command) bytes → (why : HasBrokenRule files command line) → IsBrokenModel bytes why.told.fault why.told.paths
   told-rule command bytes line tells why =
-      let first = first-model command why.file (checked-model command why.file why.is_model) in
+      let first = first-model command why.file why.is_model in
       subst (λ (b : List ℕ). IsBrokenModel b why.told.fault why.told.paths) (sym (fetched-told (first_of command) why.file bytes why.bytes (sym first) why.fetched tells)) why.told.broken
 
-  told-other : (command : Command) (bytes file : List ℕ) → Tells files (first_of command) bytes → HasOtherForm files command file → IsNotBuilt bytes
-  told-other command bytes file tells why =
-      let first = first-model command file (generated-model command file why.is_model) in
-      subst IsNotBuilt (sym (fetched-told (first_of command) file bytes why.bytes (sym first) why.fetched tells)) why.not_built
+  -- of a plan
+  told-plan : (plan : PlanWord) (told text : List ℕ) → IsPlanText files.held plan text → TellsPlan files plan told → told ≡ text
+  told-plan EmptyPlan told text says tells = tells ∙ sym says
+  told-plan (Named file) told text says tells = told-is file told text says tells
+
+  -- the plan breaks a rule on the diagram of the told bytes
+  told-plan_rule : (command : Command) (bytes line : List ℕ) → Tells files (first_of command) bytes → (why : HasBrokenPlan files command line) → TellsPlanRule bytes why.text line
+  told-plan_rule command bytes line tells why =
+      let first = first-model command why.file why.is_model in
+      subst (λ (b : List ℕ). TellsPlanRule b why.text line) (sym (fetched-told (first_of command) why.file bytes why.bytes (sym first) why.fetched tells)) why.told
+
+  plan_rule-good : (command : Command) (bytes line : List ℕ) → Tells files (first_of command) bytes → HasBrokenPlan files command line → IsGood command bytes
+  plan_rule-good command bytes line tells why = let told = told-plan_rule command bytes line tells why in plan-good command why.plan bytes told.diagram why.is_plan told.accepted
 
   told-no_verilog : (command : Command) (bytes file : List ℕ) (line : ℕ) → Tells files (first_of command) bytes → HasNoVerilog files command file line → IsNoVerilog bytes
   told-no_verilog command bytes file line tells why =
@@ -134,9 +127,6 @@ module _ (files : Files) (out : Stream) (unique : (bytes : List ℕ) (one other 
     not-rule : (line : List ℕ) → HasBrokenRule files command line → ⊥
     not-rule line why = fit-kept command why.file bytes why.told.fault why.told.paths why.is_model fit (told-rule command bytes line tells why)
 
-    not-other : (file : List ℕ) → HasOtherForm files command file → ⊥
-    not-other file why = fit-built command file bytes why.is_model fit (told-other command bytes file tells why)
-
     not-no_verilog : (file : List ℕ) (line : ℕ) → HasNoVerilog files command file line → ⊥
     not-no_verilog file line why =
         let made = fit-sound command file bytes why.is_verilog fit in
@@ -149,9 +139,15 @@ module _ (files : Files) (out : Stream) (unique : (bytes : List ℕ) (one other 
 
   -- ---- a stimulus
 
+  -- the text of a plan that has a file is what is told of that
+  plan-told : (plan : PlanWord) (file told text : List ℕ) → plan_file plan ≡ Some file → IsPlanText files.held plan text → Tells files file told → told ≡ text
+  plan-told EmptyPlan file told text is says tells = absurd (cc is)
+  plan-told (Named own) file told text is says tells = let same : own ≡ file = cc is in fetched-told file own told text (sym same) says tells
+
   -- a bad line, by what is told of the first file, excludes an output
-  written-bad : (command : Command) (text bytes stimulus numbers : List ℕ) → IsOutput command files.held text → stimulus_of command ≡ Some stimulus → Tells files (first_of command) bytes → Tells files stimulus numbers → IsBadFor command bytes numbers → ⊥
-  written-bad (Generate model) text bytes stimulus numbers output is tells told bad = bad
+  written-bad : (command : Command) (text bytes stimulus numbers : List ℕ) → IsOutput command files.held text → table_of command ≡ Some stimulus → Tells files (first_of command) bytes → Tells files stimulus numbers → IsBadFor command bytes numbers → ⊥
+  written-bad (Generate model plan) text bytes stimulus numbers output is tells told bad =
+      bad.none output.verilog.design.plan (subst (λ (own : List ℕ). IsPlan own output.verilog.design.plan) (sym (plan-told plan stimulus numbers output.plan_bytes is output.plan_says told)) output.verilog.design.says)
   written-bad (Replay verilog rows) text bytes stimulus numbers output is tells told bad =
       let same : stimulus ≡ rows = sym (cc is) in
       let first = told-is verilog bytes output.verilog_bytes output.verilog_fetched tells in
@@ -172,6 +168,62 @@ module _ (files : Files) (out : Stream) (unique : (bytes : List ℕ) (one other 
       absurd (cc (e, f))
   written-bad (Explore model range) text bytes stimulus numbers output is tells told bad = bad
 
+  -- ---- a plan
+
+  -- a file that is fetched for a plan is told
+  file-told : (plan : PlanWord) (file told text : List ℕ) → plan_file plan ≡ Some file → TellsPlan files plan told → IsFetched files file text → told ≡ text
+  file-told EmptyPlan file told text is tells fetched = absurd (cc is)
+  file-told (Named own) file told text is tells fetched = fetched-told own file told text (cc is) fetched tells
+
+  -- what is written of a plan is of a design
+  undesigned : (command : Command) (own bytes text : List ℕ) (plan : PlanWord) → IsOutput command files.held own → plan_of command ≡ Some plan → Tells files (first_of command) bytes → TellsPlan files plan text
+      → ((diagram : Diagram) (resolved : Resolved) (timing : Timing) → IsDesignOf bytes text diagram resolved timing → ⊥) → ⊥
+  undesigned (Generate model word) own bytes text plan output is tells told none =
+      let same : plan ≡ word = sym (cc is) in
+      let first = told-is model bytes output.model_bytes output.model_fetched tells in
+      let second = told-plan word text output.plan_bytes output.plan_says (subst (λ (w : PlanWord). TellsPlan files w text) same told) in
+      let v = output.verilog in
+      none v.diagram v.resolved v.timing
+      (subst (λ (b : List ℕ). IsDesignOf b text v.diagram v.resolved v.timing) (sym first)
+      (subst (λ (t : List ℕ). IsDesignOf output.model_bytes t v.diagram v.resolved v.timing) (sym second) v.design))
+  undesigned (Replay verilog rows) own bytes text plan output is tells told none = absurd (cc is)
+  undesigned (Simulate model rows) own bytes text plan output is tells told none = absurd (cc is)
+  undesigned (Explore model range) own bytes text plan output is tells told none = absurd (cc is)
+
+  -- where no line of it is bad, none is told
+  plan-lines : (command : Command) (plan : PlanWord) (file bytes text : List ℕ) (line : ℕ) (cause : TableCause) → plan_of command ≡ Some plan → Tells files (first_of command) bytes → TellsPlan files plan text
+      → ((line : ℕ) (cause : TableCause) → IsBadPlan bytes text line cause → ⊥) → HasBadLine files command file line cause → ⊥
+  plan-lines (Generate model word) plan file bytes text line cause is tells told good why =
+      let same : plan ≡ word = sym (cc is) in
+      let first = told-is model bytes why.first why.first_fetched tells in
+      let second = file-told word file text why.table why.is_table (subst (λ (w : PlanWord). TellsPlan files w text) same told) why.table_fetched in
+      good line cause (subst (λ (b : List ℕ). IsBadPlan b text line cause) (sym first) (subst (λ (t : List ℕ). IsBadPlan why.first t line cause) (sym second) why.bad))
+  plan-lines (Replay verilog rows) plan file bytes text line cause is tells told good why = absurd (cc is)
+  plan-lines (Simulate model rows) plan file bytes text line cause is tells told good why = absurd (cc is)
+  plan-lines (Explore model range) plan file bytes text line cause is tells told good why = absurd (cc is)
+
+  -- a text that is no plan breaks no rule
+  plan-none : (command : Command) (file bytes numbers : List ℕ) → table_of command ≡ Some file → Tells files file numbers → IsBadFor command bytes numbers → (line : List ℕ) → HasBrokenPlan files command line → ⊥
+  plan-none (Generate model word) file bytes numbers is told bad line why =
+      let same : why.plan ≡ word = sym (cc why.is_plan) in
+      let text = plan-told word file numbers why.text is (subst (λ (w : PlanWord). IsPlanText files.held w why.text) same why.says) told in
+      bad.none why.told.plan (subst (λ (t : List ℕ). IsPlan t why.told.plan) (sym text) why.told.says)
+  plan-none (Replay verilog rows) file bytes numbers is told bad line why = let e = why.is_plan in absurd (cc e)
+  plan-none (Simulate model rows) file bytes numbers is told bad line why = let e = why.is_plan in absurd (cc e)
+  plan-none (Explore model range) file bytes numbers is told bad line why = let e = why.is_plan in absurd (cc e)
+
+  -- where a command can be done its plan breaks none
+  plan-kept : (command : Command) → CanBeDone files command → (line : List ℕ) → HasBrokenPlan files command line → ⊥
+  plan-kept (Generate model word) can line why =
+      let own : model ≡ why.file = cc why.is_model in
+      let same : why.plan ≡ word = sym (cc why.is_plan) in
+      let first = fetched-told model why.file can.model_bytes why.bytes own why.fetched can.model_told in
+      let second = told-plan word can.plan_bytes why.text (subst (λ (w : PlanWord). IsPlanText files.held w why.text) same why.says) can.plan_told in
+      can.can.kept line (subst (λ (b : List ℕ). TellsPlanRule b can.plan_bytes line) (sym first) (subst (λ (t : List ℕ). TellsPlanRule why.bytes t line) (sym second) why.told))
+  plan-kept (Replay verilog rows) can line why = let e = why.is_plan in absurd (cc e)
+  plan-kept (Simulate model rows) can line why = let e = why.is_plan in absurd (cc e)
+  plan-kept (Explore model range) can line why = let e = why.is_plan in absurd (cc e)
+
   -- ---- a clause on the status, answer by answer
 
   by-answer : (own : ℕ) (command : Command) → ((text : List ℕ) → IsOutput command files.held text → ⊥)
@@ -180,20 +232,19 @@ module _ (files : Files) (out : Stream) (unique : (bytes : List ℕ) (one other 
       → ((line : List ℕ) → HasBrokenRule files command line → Yields own (3 ∷ 9 ∷ []) 7)
       → ((file : List ℕ) (line : ℕ) → HasNoVerilog files command file line → Yields own (3 ∷ 9 ∷ []) 8)
       → ((file : List ℕ) (fault : VlFault) → BreaksCondition files command file fault → Yields own (3 ∷ 9 ∷ []) 8)
-      → ((file : List ℕ) → HasOtherForm files command file → Yields own (3 ∷ 9 ∷ []) 10)
+      → ((line : List ℕ) → HasBrokenPlan files command line → Yields own (3 ∷ 9 ∷ []) 7)
       → (answer : Answer) → HasCause files command answer → HasWritten files out command answer → Yields own (3 ∷ 9 ∷ []) (status_of answer)
-  by-answer own command none not_mdl bad rule no_verilog fault other Done why wrote = absurd (none wrote.text wrote.output)
-  by-answer own command none not_mdl bad rule no_verilog fault other OutOfMemory why wrote = (1, omega arith, refl)
-  by-answer own command none not_mdl bad rule no_verilog fault other Usage why wrote = absurd why
-  by-answer own command none not_mdl bad rule no_verilog fault other (CannotRead file) why wrote = (2, omega arith, refl)
-  by-answer own command none not_mdl bad rule no_verilog fault other CannotWrite why wrote = absurd (none wrote.text wrote.output)
-  by-answer own command none not_mdl bad rule no_verilog fault other (NotMdl file line) why wrote = not_mdl file.now line why.1
-  by-answer own command none not_mdl bad rule no_verilog fault other (BadTable file line cause) why wrote = bad file.now line cause why.1
-  by-answer own command none not_mdl bad rule no_verilog fault other (BreaksRule line) why wrote = rule line why.1
-  by-answer own command none not_mdl bad rule no_verilog fault other (NotVerilog file line) why wrote = no_verilog file.now line why.1
-  by-answer own command none not_mdl bad rule no_verilog fault other (Broken file condition) why wrote = fault file.now condition why.1
-  by-answer own command none not_mdl bad rule no_verilog fault other (TooLong file length) why wrote = (3, omega arith, refl)
-  by-answer own command none not_mdl bad rule no_verilog fault other (NotBuilt file) why wrote = other file.now why.1
+  by-answer own command none not_mdl bad rule no_verilog fault plan Done why wrote = absurd (none wrote.text wrote.output)
+  by-answer own command none not_mdl bad rule no_verilog fault plan OutOfMemory why wrote = (1, omega arith, refl)
+  by-answer own command none not_mdl bad rule no_verilog fault plan Usage why wrote = absurd why
+  by-answer own command none not_mdl bad rule no_verilog fault plan (CannotRead file) why wrote = (2, omega arith, refl)
+  by-answer own command none not_mdl bad rule no_verilog fault plan CannotWrite why wrote = absurd (none wrote.text wrote.output)
+  by-answer own command none not_mdl bad rule no_verilog fault plan (NotMdl file line) why wrote = not_mdl file.now line why.1
+  by-answer own command none not_mdl bad rule no_verilog fault plan (BadTable file line cause) why wrote = bad file.now line cause why.1
+  by-answer own command none not_mdl bad rule no_verilog fault plan (BreaksRule line) why wrote = ⊎_elim (rule line) (plan line) why.1
+  by-answer own command none not_mdl bad rule no_verilog fault plan (NotVerilog file line) why wrote = no_verilog file.now line why.1
+  by-answer own command none not_mdl bad rule no_verilog fault plan (Broken file condition) why wrote = fault file.now condition why.1
+  by-answer own command none not_mdl bad rule no_verilog fault plan (TooLong file length) why wrote = (3, omega arith, refl)
 
   module _ (command : Command) where
     read_fault-due : (file : List ℕ) → first_trouble files.held (files_of command) ≡ Some (Absent file) → files.steady → (answer : Answer) → HasCause files command answer → Yields 3 [] (status_of answer)
@@ -208,7 +259,6 @@ module _ (files : Files) (out : Stream) (unique : (bytes : List ℕ) (one other 
     read_fault-due file is steady (NotVerilog answered line) why = absurd (fetched-whole command (Absent file) why.0 is)
     read_fault-due file is steady (Broken answered fault) why = absurd (fetched-whole command (Absent file) why.0 is)
     read_fault-due file is steady (TooLong answered reported) why = let first = why.first steady in absurd (cc (first, is))
-    read_fault-due file is steady (NotBuilt answered) why = absurd (fetched-whole command (Absent file) why.0 is)
 
     too_long-due : (file : List ℕ) (length : ℕ) → first_trouble files.held (files_of command) ≡ Some (Overlong file length) → files.steady → (answer : Answer) → HasCause files command answer → Yields 9 [] (status_of answer)
     too_long-due file length is steady Done why = absurd (fetched-whole command (Overlong file length) why is)
@@ -222,7 +272,6 @@ module _ (files : Files) (out : Stream) (unique : (bytes : List ℕ) (one other 
     too_long-due file length is steady (NotVerilog answered line) why = absurd (fetched-whole command (Overlong file length) why.0 is)
     too_long-due file length is steady (Broken answered fault) why = absurd (fetched-whole command (Overlong file length) why.0 is)
     too_long-due file length is steady (TooLong answered reported) why = (0, omega arith, refl)
-    too_long-due file length is steady (NotBuilt answered) why = absurd (fetched-whole command (Overlong file length) why.0 is)
 
     -- a fault of the first file's told bytes, which excludes an output
     module _ (bytes : List ℕ) (tells : Tells files (first_of command) bytes) (spoilt : IsGood command bytes → ⊥) where
@@ -238,44 +287,44 @@ module _ (files : Files) (out : Stream) (unique : (bytes : List ℕ) (one other 
         by-answer 5 command (no-output bytes tells spoilt) (λ file line why. own-first 5) (no-bad bytes tells spoilt 5)
         (λ line why. let broken = told-rule command bytes line tells why in absurd (none broken.tree broken.stands))
         (λ file line why. absurd (model-alone command model file is why.is_verilog)) (λ file fault why. absurd (model-alone command model file is why.is_verilog))
-        (λ file why. let other = told-other command bytes file tells why in absurd (none other.tree other.stands))
+        (λ line why. absurd (spoilt (plan_rule-good command bytes line tells why)))
 
-    not_built-due : (model bytes : List ℕ) → generated_of command ≡ Some model → Tells files (first_of command) bytes → IsNotBuilt bytes → (answer : Answer) → HasCause files command answer → HasWritten files out command answer → Yields 10 (3 ∷ 9 ∷ []) (status_of answer)
-    not_built-due model bytes is tells other =
-        let spoilt : IsGood command bytes → ⊥ = λ good. good-built command model bytes is good other in
-        let own = generated-model command model is in
-        by-answer 10 command (no-output bytes tells spoilt) (λ file line why. absurd (told-none command bytes file line tells why other.tree other.stands)) (no-bad bytes tells spoilt 10)
-        (λ line why. absurd (generated-alone command model why.file is why.is_model))
-        (λ file line why. absurd (model-alone command model file own why.is_verilog)) (λ file fault why. absurd (model-alone command model file own why.is_verilog))
-        (λ file why. own-first 10)
-
-    broken_rule-due : (model bytes : List ℕ) → checked_of command ≡ Some model → Tells files (first_of command) bytes → IsWithoutDiagram bytes
+    broken_rule-due : (model bytes : List ℕ) → model_of command ≡ Some model → Tells files (first_of command) bytes → IsWithoutDiagram bytes
         → (answer : Answer) → HasCause files command answer → HasWritten files out command answer → Yields 7 (3 ∷ 9 ∷ []) (status_of answer)
     broken_rule-due model bytes is tells refused =
         let spoilt : IsGood command bytes → ⊥ = λ good. (let diagram = good-diagram command model bytes is good in refused.none diagram.0 diagram.1) in
-        let own = checked-model command model is in
         by-answer 7 command (no-output bytes tells spoilt) (λ file line why. absurd (told-none command bytes file line tells why refused.tree refused.stands)) (no-bad bytes tells spoilt 7)
         (λ line why. own-first 7)
-        (λ file line why. absurd (model-alone command model file own why.is_verilog)) (λ file condition why. absurd (model-alone command model file own why.is_verilog))
-        (λ file why. absurd (generated-alone command file model why.is_model is))
+        (λ file line why. absurd (model-alone command model file is why.is_verilog)) (λ file condition why. absurd (model-alone command model file is why.is_verilog))
+        (λ line why. own-first 7)
+
+    broken_plan-due : (model bytes text : List ℕ) (plan : PlanWord) → model_of command ≡ Some model → plan_of command ≡ Some plan → Tells files (first_of command) bytes → TellsPlan files plan text → IsWithoutDesign bytes text
+        → (answer : Answer) → HasCause files command answer → HasWritten files out command answer → Yields 7 (3 ∷ 9 ∷ []) (status_of answer)
+    broken_plan-due model bytes text plan is of tells told refused =
+        let fit = accepted-fit command model bytes is refused.accepted in
+        by-answer 7 command (λ own output. undesigned command own bytes text plan output of tells told refused.none)
+        (λ file line why. absurd (not-none command bytes tells fit file line why)) (λ file line cause why. absurd (plan-lines command plan file bytes text line cause of tells told refused.good why))
+        (λ line why. own-first 7)
+        (λ file line why. absurd (model-alone command model file is why.is_verilog)) (λ file condition why. absurd (model-alone command model file is why.is_verilog))
+        (λ line why. own-first 7)
 
     not_verilog-due : (verilog bytes : List ℕ) → verilog_of command ≡ Some verilog → Tells files (first_of command) bytes → IsNoVerilog bytes → (answer : Answer) → HasCause files command answer → HasWritten files out command answer → Yields 8 (3 ∷ 9 ∷ []) (status_of answer)
     not_verilog-due verilog bytes is tells none =
         let spoilt : IsGood command bytes → ⊥ = λ good. (let made = good-sound command verilog bytes is good in none made.0 made.1.spells made.1.few) in
         by-answer 8 command (no-output bytes tells spoilt) (λ file line why. absurd (model-alone command file verilog why.is_model is)) (no-bad bytes tells spoilt 8)
-        (λ line why. absurd (model-alone command why.file verilog (checked-model command why.file why.is_model) is))
+        (λ line why. absurd (model-alone command why.file verilog why.is_model is))
         (λ file line why. own-first 8) (λ file fault why. own-first 8)
-        (λ file why. absurd (model-alone command file verilog (generated-model command file why.is_model) is))
+        (λ line why. absurd (model-alone command why.file verilog why.is_model is))
 
     broken-due : (verilog bytes : List ℕ) (condition : Fault) → verilog_of command ≡ Some verilog → Tells files (first_of command) bytes → HasFault bytes condition → (answer : Answer) → HasCause files command answer → HasWritten files out command answer → Yields 8 (3 ∷ 9 ∷ []) (status_of answer)
     broken-due verilog bytes condition is tells has =
         let spoilt : IsGood command bytes → ⊥ = λ good. (let made = good-sound command verilog bytes is good in not-sound bytes made.0 condition made.1 has) in
         by-answer 8 command (no-output bytes tells spoilt) (λ file line why. absurd (model-alone command file verilog why.is_model is)) (no-bad bytes tells spoilt 8)
-        (λ line why. absurd (model-alone command why.file verilog (checked-model command why.file why.is_model) is))
+        (λ line why. absurd (model-alone command why.file verilog why.is_model is))
         (λ file line why. own-first 8) (λ file fault why. own-first 8)
-        (λ file why. absurd (model-alone command file verilog (generated-model command file why.is_model) is))
+        (λ line why. absurd (model-alone command why.file verilog why.is_model is))
 
-    bad_table-due : (bytes stimulus numbers : List ℕ) → stimulus_of command ≡ Some stimulus → Tells files (first_of command) bytes → Tells files stimulus numbers → IsBadFor command bytes numbers
+    bad_table-due : (bytes stimulus numbers : List ℕ) → table_of command ≡ Some stimulus → Tells files (first_of command) bytes → Tells files stimulus numbers → IsBadFor command bytes numbers
         → (answer : Answer) → HasCause files command answer → HasWritten files out command answer → Yields 6 (3 ∷ 9 ∷ []) (status_of answer)
     bad_table-due bytes stimulus numbers is tells told bad =
         let fit = bad-fit command bytes numbers bad in
@@ -283,7 +332,7 @@ module _ (files : Files) (out : Stream) (unique : (bytes : List ℕ) (one other 
         (λ file at why. absurd (not-none command bytes tells fit file at why)) (λ file at of why. own-first 6)
         (λ at why. absurd (not-rule command bytes tells fit at why))
         (λ file at why. absurd (not-no_verilog command bytes tells fit file at why)) (λ file fault why. absurd (not-fault command bytes tells fit file fault why))
-        (λ file why. absurd (not-other command bytes tells fit file why))
+        (λ at why. absurd (plan-none command stimulus bytes numbers is told bad at why))
 
     -- told under the file's own name
     told-model : (model bytes : List ℕ) → model_of command ≡ Some model → Tells files model bytes → Tells files (first_of command) bytes
@@ -297,8 +346,8 @@ module _ (files : Files) (out : Stream) (unique : (bytes : List ℕ) (one other 
       read_fault = λ steady file is. read_fault-due file is steady answer why;
       too_long = λ steady file length is. too_long-due file length is steady answer why;
       syntax = λ model bytes is tells none. syntax-due model bytes is (told-model model bytes is tells) none answer why wrote;
-      not_built = λ model bytes is tells other. not_built-due model bytes is (told-model model bytes (generated-model command model is) tells) other answer why wrote;
-      broken_rule = λ model bytes is tells refused. broken_rule-due model bytes is (told-model model bytes (checked-model command model is) tells) refused answer why wrote;
+      broken_rule = λ model bytes is tells refused. broken_rule-due model bytes is (told-model model bytes is tells) refused answer why wrote;
+      broken_plan = λ model bytes text plan is of tells told refused. broken_plan-due model bytes text plan is of (told-model model bytes is tells) told refused answer why wrote;
       not_verilog = λ verilog bytes is tells none. not_verilog-due verilog bytes is (told-verilog verilog bytes is tells) none answer why wrote;
       broken = λ verilog bytes condition is tells has. broken-due verilog bytes condition is (told-verilog verilog bytes is tells) has answer why wrote;
       bad_table = λ first stimulus bytes is tells told bad. bad_table-due first stimulus bytes is tells told bad answer why wrote;
@@ -307,27 +356,30 @@ module _ (files : Files) (out : Stream) (unique : (bytes : List ℕ) (one other 
   -- ---- where the command can be done
 
   can-bytes : (command : Command) → CanBeDone files command → (bytes : List ℕ) × (Tells files (first_of command) bytes × IsFit command bytes)
-  can-bytes (Generate model) can = (can.0, (can.1.0, can.1.1))
+  can-bytes (Generate model plan) can = (can.model_bytes, (can.model_told, can.can.accepted))
   can-bytes (Replay verilog stimulus) can = (can.verilog_bytes, (can.verilog_told, (can.can.made, can.can.spelled)))
   can-bytes (Simulate model stimulus) can = (can.model_bytes, (can.model_told, can.can.accepted))
   can-bytes (Explore model range) can = (can.0, (can.1.0, can.1.1))
 
   -- the stimulus is good
   stimulus-good : (command : Command) → CanBeDone files command → (file : List ℕ) (line : ℕ) (cause : TableCause) → HasBadLine files command file line cause → ⊥
-  stimulus-good (Generate model) can file line cause why = why.bad
+  stimulus-good (Generate model plan) can file line cause why =
+      let first = told-is model can.model_bytes why.first why.first_fetched can.model_told in
+      let second = file-told plan file can.plan_bytes why.table why.is_table can.plan_told why.table_fetched in
+      can.can.good line cause (subst (λ (b : List ℕ). IsBadPlan b can.plan_bytes line cause) (sym first) (subst (λ (t : List ℕ). IsBadPlan why.first t line cause) (sym second) why.bad))
   stimulus-good (Replay verilog stimulus) can file line cause why =
-      let same : stimulus ≡ file = cc why.is_stimulus in
+      let same : stimulus ≡ file = cc why.is_table in
       let first = told-is verilog can.verilog_bytes why.first why.first_fetched can.verilog_told in
-      let second = fetched-told stimulus file can.stimulus_bytes why.stimulus same why.stimulus_fetched can.stimulus_told in
+      let second = fetched-told stimulus file can.stimulus_bytes why.table same why.table_fetched can.stimulus_told in
       let sound = subst (λ (b : List ℕ). IsSoundText b can.can.made) first can.can.spelled in
       let one = one_module why.first can.can.made why.bad.made sound.spells why.bad.spelled.spells in
-      let e = ap (λ (m : Module). fault_for m why.stimulus) (sym one) ∙ ap (fault_for can.can.made) (sym second) ∙ can.can.good in
+      let e = ap (λ (m : Module). fault_for m why.table) (sym one) ∙ ap (fault_for can.can.made) (sym second) ∙ can.can.good in
       let f = why.bad.bad in
       absurd (cc (e, f))
   stimulus-good (Simulate model stimulus) can file line cause why =
-      let same : stimulus ≡ file = cc why.is_stimulus in
+      let same : stimulus ≡ file = cc why.is_table in
       let first = told-is model can.model_bytes why.first why.first_fetched can.model_told in
-      let second = fetched-told stimulus file can.stimulus_bytes why.stimulus same why.stimulus_fetched can.stimulus_told in
+      let second = fetched-told stimulus file can.stimulus_bytes why.table same why.table_fetched can.stimulus_told in
       let e = ap (fault_in why.bad.diagram) (sym second) ∙ can.can.good why.bad.diagram (subst (λ (b : List ℕ). IsModelOf b why.bad.diagram) (sym first) why.bad.accepted) in
       let f = why.bad.bad in
       absurd (cc (e, f))
@@ -342,12 +394,11 @@ module _ (files : Files) (out : Stream) (unique : (bytes : List ℕ) (one other 
   is-complete command CannotWrite why wrote can gives writes = absurd (writes wrote.rise)
   is-complete command (NotMdl file line) why wrote can gives writes = let told = can-bytes command can in absurd (not-none command told.0 told.1.0 told.1.1 file.now line why.1)
   is-complete command (BadTable file line cause) why wrote can gives writes = absurd (stimulus-good command can file.now line cause why.1)
-  is-complete command (BreaksRule line) why wrote can gives writes = let told = can-bytes command can in absurd (not-rule command told.0 told.1.0 told.1.1 line why.1)
+  is-complete command (BreaksRule line) why wrote can gives writes = let told = can-bytes command can in absurd (⊎_elim (not-rule command told.0 told.1.0 told.1.1 line) (plan-kept command can line) why.1)
   is-complete command (NotVerilog file line) why wrote can gives writes = let told = can-bytes command can in absurd (not-no_verilog command told.0 told.1.0 told.1.1 file.now line why.1)
   is-complete command (Broken file fault) why wrote can gives writes = let told = can-bytes command can in absurd (not-fault command told.0 told.1.0 told.1.1 file.now fault why.1)
   is-complete command (TooLong file length) why wrote can (inl steady) writes = let first = why.first steady.0 in let none = steady.1 in absurd (cc (first, none))
   is-complete command (TooLong file length) why wrote can (inr quiet) writes = absurd (quiet.1 why.rise)
-  is-complete command (NotBuilt file) why wrote can gives writes = let told = can-bytes command can in absurd (not-other command told.0 told.1.0 told.1.1 file.now why.1)
 
   -- what holds of the command's answer by its cause holds of the words' command
   by-command : (P : Command → ℕ → Type 0) → ((command : Command) (answer : Answer) → HasCause files command answer → HasWritten files out command answer → P command (status_of answer))

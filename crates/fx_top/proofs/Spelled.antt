@@ -10,9 +10,8 @@ use Rattle.vl_ast.specs.Value.{bits_of}
 use Rattle.vl_ast.specs.Grammar.{comma, expr_tokens, tokens_step, depth, depth_step, is_filled, is_filled_step, IsExpr, IsRange, IsModuleText}
 use Rattle.vl_ast.specs.Spelling.{joined}
 use Rattle.vl_ast.specs.Tokens.{Token, Key, Sign, Identifier, Number, Based, IsWritable, AreWritable, is_identifier}
-use Rattle.fx_top.specs.declared.one_delay.OneDelay.{OneDelay}
-use Rattle.fx_top.specs.DelayTree.{is_port_name}
-use Rattle.fx_top.specs.inner.DelayModule.{register, delay_module}
+use Rattle.fx_top.proofs.DelayModule.{OneDelay, delay_module}
+use Rattle.fx_top.proofs.Names.{register}
 use Rattle.fx_top.proofs.Bits.{bits-fit}
 
 tokens-name : (x : List ℕ) → expr_tokens (Name x) ≡ Identifier x ∷ []
@@ -94,9 +93,6 @@ and-left false b e = absurd (cc e)
 and-right : (a b : Bool) → (a && b) ≡ true → b ≡ true
 and-right true b e = e
 and-right false b e = absurd (cc e)
-
-pub identifier-of : (name : List ℕ) → is_port_name name ≡ true → is_identifier name ≡ true
-identifier-of name e = and-left _ _ (and-left _ _ e)
 
 -- such tokens are writable, by the law on numbers
 module _ (plain : (number : ℕ) → number < 10 ^ 9 → IsWritable (Number number)) (based : (number : Sized) → number.width < 10 ^ 9 → number.bits < 2 ^ 128 → IsWritable (Based number)) where

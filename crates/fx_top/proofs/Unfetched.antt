@@ -43,12 +43,15 @@ module _ (files : Files) (command : Command) (file : List ℕ) (asked : Contains
       ⊎_elim (λ is. subst (λ (a : Answer). HasCause files command a) (sym is) tt)
       (λ more. ⊎_elim (unread answer) (unfit answer) more) why
 
--- with a refused fetch nothing is written
-pub written-unfetched : (files : Files) (out : Stream) (command : Command) (file : List ℕ) (answer : Answer) → IsUntouched out → IsFetchAnswer files file answer → HasWritten files out command answer
-written-unfetched files out command file answer untouched why =
+-- with a refused fetch nothing is written, whatever the call saw of the files before
+pub unwritten : (late files : Files) (out : Stream) (command : Command) (file : List ℕ) (answer : Answer) → IsUntouched out → IsFetchAnswer late file answer → HasWritten files out command answer
+unwritten late files out command file answer untouched why =
     ⊎_elim (λ is. subst (λ (a : Answer). HasWritten files out command a) (sym is) untouched)
-    (λ later. ⊎_elim (λ (w : IsUnread files file answer). subst (λ (a : Answer). HasWritten files out command a) (sym w.answer_is) untouched)
-    (λ (w : IsUnfit files file answer). subst (λ (a : Answer). HasWritten files out command a) (sym w.answer_is) untouched) later) why
+    (λ later. ⊎_elim (λ (w : IsUnread late file answer). subst (λ (a : Answer). HasWritten files out command a) (sym w.answer_is) untouched)
+    (λ (w : IsUnfit late file answer). subst (λ (a : Answer). HasWritten files out command a) (sym w.answer_is) untouched) later) why
+
+pub written-unfetched : (files : Files) (out : Stream) (command : Command) (file : List ℕ) (answer : Answer) → IsUntouched out → IsFetchAnswer files file answer → HasWritten files out command answer
+written-unfetched files out command file answer untouched why = unwritten files files out command file answer untouched why
 
 -- a refused fetch that came later in the call
 pub moved : (before after : Files) (file : List ℕ) (answer : Answer) → after.held ≡ before.held → (before.steady → after.steady) → (after.failed → before.failed) → (after.met_overlong → before.met_overlong)

@@ -1,4 +1,4 @@
--- The unit delay with initial value 3, worked out by hand: 5, -1, 127 shows 3, 5, -1.
+-- Rows of the module of one delay with initial value 3, by hand: driven by 5, -1, 127 its register holds 3, 5, -1.
 use Rattle.std.specs.Prelude.{⊤}
 use Rattle.std.proofs.Common.{◌≡◌, ◌<◌, ◌≤◌, ◌+◌, ◌*◌, ◌^◌, ◌||◌, if◌then◌else◌, ℕ, zero, suc, pos, negsuc, List, [], ◌∷◌, Bool, true, Option, None, Some, Contains, slice_get, bytes_eq, codes, refl, ap, sym, ◌∙◌, subst, arith}
 use Rattle.vl_ast.specs.declared.expressions.Sized.{Sized}
@@ -12,18 +12,12 @@ use Rattle.vl_ast.specs.Attributes.{cycles_of, period_of}
 use Rattle.vl_ast.specs.Driven.{Driven, stimulus_ports}
 use Rattle.vl_ast.specs.Nets.{Declared, InputPort, OutputPort, Register, nets_of}
 use Rattle.vl_ast.specs.Context.{Net}
-use Rattle.fx_type.specs.FxType.{width_of, InRange}
-use Rattle.fx_type.specs.declared.kind.FxType.TheVariants.{Num}
-use Rattle.dg_model.specs.RootElements.{RootElement, AreColumns}
-use lib.Signed.{le_z_yes}
 use Rattle.vl_ast.specs.Runs.{Row, Rows, Runs, next_bits}
 use Rattle.vl_ast.specs.Value.{bits_of, assigned, assigned_number}
 use Rattle.vl_ast.specs.Windows.{PortNumbers, Sample, Window}
-use Rattle.fx_top.specs.declared.one_delay.OneDelay.{OneDelay}
-use Rattle.fx_top.specs.Carries.{CarriesBits, input_roots, OutputsShow, OutputElement, input_port, port_period}
-use Rattle.fx_top.specs.OneDelay.{byte_element, byte_output, delay_interface, SolvesDelay}
-use Rattle.fx_top.specs.inner.DelayModule.{register, delay_module}
-use Rattle.fx_top.proofs.Carried.{assigned-byte, declarations-are, declared_as, bit_net, byte_net}
+use Rattle.vl_ast.specs.Header.{input_port}
+use Rattle.fx_top.proofs.DelayModule.{OneDelay, assigned-byte, bit_net, byte_net, byte_port, declarations-are, declared_as, delay_module}
+use Rattle.fx_top.proofs.Names.{register}
 
 abbrev pub delay : OneDelay
 delay = record { input = codes "u"; output = codes "y"; initial = pos 3 }
@@ -39,11 +33,6 @@ abbrev pub stimulus : PortNumbers
 stimulus place zero = pos 5
 stimulus place (suc zero) = negsuc 0
 stimulus place (suc (suc t)) = pos 127
-
-abbrev pub entries : PortNumbers
-entries place zero = pos 3
-entries place (suc zero) = pos 5
-entries place (suc (suc t)) = negsuc 0
 
 abbrev pub reset_at : ℕ → ℕ
 reset_at zero = 0
@@ -92,7 +81,7 @@ pub shown-by : (place : ℕ) (port : Port) → slice_get (stimulus_ports m) plac
     → (cycles : ℕ) → cycles_of m ≡ Some cycles → (t : ℕ) → t < 3
     → (clock : ℕ) → t * cycles ≤ clock → clock < (t + period) * cycles → inputs (2 + clock) port.name ≡ bits_of port.width (stimulus place t)
 shown-by zero port is period has cycles each t below clock from until =
-    let port_is : input_port (byte_element (codes "u") 0) ≡ port = cc is in
+    let port_is : input_port (byte_port (codes "u")) ≡ port = cc is in
     let period_is : period ≡ 1 = cc (has, port_is) in
     let cycles_is : cycles ≡ 1 = cc each in
     let begun : t * 1 ≤ clock = subst (λ (c : ℕ). t * c ≤ clock) cycles_is from in
@@ -110,13 +99,6 @@ driven = record {
   shows = λ cycles each place port is period has t below hit clock from until there.
       shown-by place port is period has cycles each t below clock from until;
 }
-
-solves : SolvesDelay (pos 3) 3 stimulus entries
-solves = record { first = λ some. refl; later = later } where
-  later : (t : ℕ) → t + 1 < 3 → entries 0 (t + 1) ≡ stimulus 0 t
-  later zero below = refl
-  later (suc zero) below = refl
-  later (suc (suc t)) below = absurd (omega arith)
 
 reset-fits : (k : ℕ) → reset_at k < 2
 reset-fits zero = omega arith
@@ -218,48 +200,3 @@ runs begun small = record {
   assigns = λ k below name value has. assigns begun k small name value has;
   steps = steps begun;
 }
-
--- ---- and so is the conclusion: 3, 5, -1 at clocks 0, 1 and 2
-
-pub output-shown : (t : ℕ) → t < 3 → register_at 9 (2 + t) ≡ bits_of 8 (entries 0 t)
-output-shown zero below = refl
-output-shown (suc zero) below = refl
-output-shown (suc (suc zero)) below = refl
-output-shown (suc (suc (suc t))) below = absurd (omega arith)
-
-abbrev only : OutputElement
-only = byte_output (codes "y") 0
-
-outputs-show : OutputsShow (delay_interface delay) 3 window (rows 9) entries
-outputs-show zero output is t below hit clock from until there =
-    let same : only ≡ output = cc is in
-    let period_is : port_period output.element.root.period ≡ 1 = ap (λ (o : OutputElement). port_period o.element.root.period) (sym same) in
-    let latency_is : output.latency ≡ 0 = ap (λ (o : OutputElement). o.latency) (sym same) in
-    let lat_is : output.lat ≡ 0 = ap (λ (o : OutputElement). o.lat) (sym same) in
-    let here : clock ≡ t = omega (arith, period_is, latency_is, lat_is) in
-    subst (λ (o : OutputElement). rows 9 (2 + clock) o.element.name ≡ bits_of (width_of o.element.root.type) (entries 0 t)) same
-    (ap (register_at 9) (ap (λ (c : ℕ). 2 + c) here) ∙ output-shown t below)
-outputs-show (suc place) output is t below hit clock from until there = absurd (cc is)
-
--- rows whose output is not delayed show no such entries
-not-undelayed : OutputsShow (delay_interface delay) 3 window (λ k name. input_at k) entries → ⊥
-not-undelayed shows =
-    let five : 5 ≡ 3 = shows 0 only refl 0 (omega arith) refl 0 (omega arith) (omega arith) (omega arith) in omega (arith, five)
-
--- the stimulus is one
-in-range : (t : ℕ) → InRange (Num true 8 (pos 0)) (stimulus 0 t)
-in-range zero = record { low = le_z_yes tt; high = le_z_yes tt }
-in-range (suc zero) = record { low = le_z_yes tt; high = le_z_yes tt }
-in-range (suc (suc t)) = record { low = le_z_yes tt; high = le_z_yes tt }
-
-is-stimulus : AreColumns (input_roots (delay_interface delay)) stimulus 3
-is-stimulus zero e t is below hit = subst (λ (root : RootElement). InRange root.type (stimulus 0 t)) (some-is is) (in-range t) where
-  some-is : Some (byte_element (codes "u") 0).root ≡ Some e → (byte_element (codes "u") 0).root ≡ e
-  some-is same = cc same
-is-stimulus (suc place) e t is below hit = absurd (cc is)
-
--- the module doesn't carry the bits of a model that shows its input undelayed
-not-carried : CarriesBits m (delay_interface delay) (λ samples given shown. (t : Sample) → shown 0 t ≡ given 0 t) → ⊥
-not-carried carries =
-    let shows = carries.shows 3 window stimulus stimulus (start 9) inputs (rows 9) is-stimulus (λ t. refl) driven (runs 9 (omega arith)) in
-    let three : 3 ≡ 5 = shows 0 only refl 0 (omega arith) refl 0 (omega arith) (omega arith) (omega arith) in omega (arith, three)

@@ -1,8 +1,8 @@
 -- The status of an answer, and the line that it puts on the stream of messages (own).
 use Rattle.std.specs.Prelude.{ℕ, List, []}
 use Rattle.fx_top.specs.declared.answer.Answer.{Answer}
-use Rattle.fx_top.specs.declared.answer.Answer.TheVariants.{Done, OutOfMemory, Usage, CannotRead, CannotWrite, NotMdl, BadTable, BreaksRule, NotVerilog, Broken, TooLong, NotBuilt}
-use Rattle.fx_top.specs.Messages.{memory_line, usage_line, unread_line, unwritten_line, syntax_line, bad_line, not_verilog_line, broken_line, too_long_line, not_built_line}
+use Rattle.fx_top.specs.declared.answer.Answer.TheVariants.{Done, OutOfMemory, Usage, CannotRead, CannotWrite, NotMdl, BadTable, BreaksRule, NotVerilog, Broken, TooLong}
+use Rattle.fx_top.specs.Messages.{memory_line, usage_line, unread_line, unwritten_line, syntax_line, bad_line, not_verilog_line, broken_line, too_long_line}
 
 -- the exit status of an answer
 abbrev pub status_of : Answer → ℕ
@@ -17,7 +17,6 @@ status_of (BreaksRule line) = 7
 status_of (NotVerilog file line) = 8
 status_of (Broken file fault) = 8
 status_of (TooLong file length) = 9
-status_of (NotBuilt file) = 10
 
 -- the line that an answer puts on the stream of messages
 abbrev pub line_of : Answer → List ℕ
@@ -32,4 +31,3 @@ line_of (BreaksRule line) = line
 line_of (NotVerilog file line) = not_verilog_line file.now line
 line_of (Broken file fault) = broken_line file.now fault
 line_of (TooLong file length) = too_long_line file.now length
-line_of (NotBuilt file) = not_built_line file.now

@@ -1,13 +1,14 @@
 -- Why a command answers as it does (own).
-use Rattle.std.specs.Prelude.{◌≡◌, ℕ, List, Contains, All, Some}
+use Rattle.std.specs.Prelude.{◌≡◌, ℕ, ◌⊎◌, List, Contains, All, Some}
 use Rattle.fx_io.specs.Shelf.{Fetched, IsOverlong}
 use Rattle.fx_io.specs.Sink.{also_took, TookProperPrefix}
 use Rattle.fx_top.specs.Call.{Files, Stream}
-use Rattle.fx_top.specs.Command.{Command, model_of, generated_of, checked_of, verilog_of, stimulus_of, first_of, files_of}
+use Rattle.fx_top.specs.Command.{Command, PlanWord, model_of, verilog_of, plan_of, table_of, first_of, files_of}
 use Rattle.fx_top.specs.Trouble.{Absent, Overlong, first_trouble, file_limit}
+use Rattle.fx_designed.specs.Design.{TellsPlanRule}
 use Rattle.fx_model.specs.Model.{IsNotMdl}
 use Rattle.fx_model.specs.RuleLine.{TellsRule}
-use Rattle.fx_top.specs.Output.{IsNotBuilt, IsBadTable, IsOutput}
+use Rattle.fx_top.specs.Output.{IsBadTable, IsOutput, IsPlanText}
 use Rattle.fx_top.specs.Replayed.{IsBroken, IsNotVerilog}
 use Rattle.fx_tables.specs.declared.table.TableCause.{TableCause}
 use Rattle.vl_check.specs.declared.fault.VlFault.{VlFault}
@@ -41,30 +42,39 @@ pub record HasNoTree (files : Files) (command : Command) (file : List ℕ) (line
   pub fetched : IsFetched files file bytes
   pub not_mdl : IsNotMdl bytes line
 
--- the file is the model, and what was fetched of it stands for a tree of a form that isn't built
-pub record HasOtherForm (files : Files) (command : Command) (file : List ℕ) : Type 0 where
-  pub is_model : generated_of command ≡ Some file
-  pub bytes : List ℕ
-  pub fetched : IsFetched files file bytes
-  pub not_built : IsNotBuilt bytes
-
 -- what was fetched of the model stands for a tree that breaks a rule, and this line tells the first of them
 pub record HasBrokenRule (files : Files) (command : Command) (line : List ℕ) : Type 0 where
   pub file : List ℕ
-  pub is_model : checked_of command ≡ Some file
+  pub is_model : model_of command ≡ Some file
   pub bytes : List ℕ
   pub fetched : IsFetched files file bytes
   pub told : TellsRule bytes line
 
--- the file is the stimulus, and what was fetched of it has its first bad line there, by the columns that the
--- command has of what was fetched of its first file
+-- what was fetched of the model keeps its rules, and the plan breaks one on its diagram, of which this line tells the first
+pub record HasBrokenPlan (files : Files) (command : Command) (line : List ℕ) : Type 0 where
+  pub file : List ℕ
+  pub is_model : model_of command ≡ Some file
+  pub plan : PlanWord
+  pub is_plan : plan_of command ≡ Some plan
+  pub bytes : List ℕ
+  pub fetched : IsFetched files file bytes
+  pub text : List ℕ
+  pub says : IsPlanText files.held plan text
+  pub told : TellsPlanRule bytes text line
+
+-- a rule of models or of plans is broken, the first of them told by this line
+abbrev pub BreaksSomeRule : Files → Command → List ℕ → Type 0
+BreaksSomeRule files command line = HasBrokenRule files command line ⊎ HasBrokenPlan files command line
+
+-- the file is the stimulus or the plan, and what was fetched of it has its first bad line there, of a stimulus
+-- by the columns that the command has of what was fetched of its first file
 pub record HasBadLine (files : Files) (command : Command) (file : List ℕ) (line : ℕ) (cause : TableCause) : Type 0 where
-  pub is_stimulus : stimulus_of command ≡ Some file
+  pub is_table : table_of command ≡ Some file
   pub first : List ℕ
-  pub stimulus : List ℕ
+  pub table : List ℕ
   pub first_fetched : IsFetched files (first_of command) first
-  pub stimulus_fetched : IsFetched files file stimulus
-  pub bad : IsBadTable command first stimulus line cause
+  pub table_fetched : IsFetched files file table
+  pub bad : IsBadTable command first table line cause
 
 -- the file is the Verilog text, and what was fetched of it isn't in the subset, and stops being the beginning
 -- of a text at this line

@@ -1,10 +1,10 @@
 -- How a call ends: its status, its line on the stream of messages, and its cause (own).
 use Rattle.std.specs.Prelude.{◌≡◌, ⊤, ℕ, List, Option, None, Some}
 use Rattle.fx_top.specs.declared.answer.Answer.{Answer}
-use Rattle.fx_top.specs.declared.answer.Answer.TheVariants.{Done, OutOfMemory, Usage, CannotRead, CannotWrite, NotMdl, BadTable, BreaksRule, NotVerilog, Broken, TooLong, NotBuilt}
+use Rattle.fx_top.specs.declared.answer.Answer.TheVariants.{Done, OutOfMemory, Usage, CannotRead, CannotWrite, NotMdl, BadTable, BreaksRule, NotVerilog, Broken, TooLong}
 use Rattle.fx_top.specs.Answer.{status_of, line_of}
 use Rattle.fx_top.specs.Call.{Files, Stream, IsUntouched, Said}
-use Rattle.fx_top.specs.Cause.{CannotBeRead, IsTooLong, AreFetched, HasNoTree, HasOtherForm, HasBadLine, HasBrokenRule, HasNoVerilog, BreaksCondition, WroteAll, WrotePart}
+use Rattle.fx_top.specs.Cause.{CannotBeRead, IsTooLong, AreFetched, HasNoTree, HasBadLine, BreaksSomeRule, HasNoVerilog, BreaksCondition, WroteAll, WrotePart}
 use Rattle.fx_top.specs.Command.{Command, command_of}
 
 -- what a command's answer says of the files
@@ -16,11 +16,10 @@ HasCause files command (CannotRead file) = CannotBeRead files command file.now
 HasCause files command CannotWrite = AreFetched files command
 HasCause files command (NotMdl file line) = AreFetched files command × HasNoTree files command file.now line
 HasCause files command (BadTable file line cause) = AreFetched files command × HasBadLine files command file.now line cause
-HasCause files command (BreaksRule line) = AreFetched files command × HasBrokenRule files command line
+HasCause files command (BreaksRule line) = AreFetched files command × BreaksSomeRule files command line
 HasCause files command (NotVerilog file line) = AreFetched files command × HasNoVerilog files command file.now line
 HasCause files command (Broken file fault) = AreFetched files command × BreaksCondition files command file.now fault
 HasCause files command (TooLong file length) = IsTooLong files command file.now length
-HasCause files command (NotBuilt file) = AreFetched files command × HasOtherForm files command file.now
 
 -- what it says of the output
 abbrev pub HasWritten : Files → Stream → Command → Answer → Type 0
@@ -35,7 +34,6 @@ HasWritten files out command (BreaksRule line) = IsUntouched out
 HasWritten files out command (NotVerilog file line) = IsUntouched out
 HasWritten files out command (Broken file fault) = IsUntouched out
 HasWritten files out command (TooLong file length) = IsUntouched out
-HasWritten files out command (NotBuilt file) = IsUntouched out
 
 -- the answer is that of the command that the words name, and of usage where they name none
 abbrev pub IsCarriedOut : Files → Stream → Option Command → Answer → Type 0

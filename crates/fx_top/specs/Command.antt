@@ -1,18 +1,27 @@
 -- The words of a call, and the files that they name (own).
-use Rattle.std.specs.Prelude.{ℕ, ◌&&◌, if◌then◌else◌, List, [], ◌∷◌, bytes_eq, codes, Option, Some, None}
+use Rattle.std.specs.Prelude.{ℕ, if◌then◌else◌, List, [], ◌∷◌, bytes_eq, codes, Option, Some, None}
 use Rattle.fx_explored.specs.RangeWord.{range_of}
 use Rattle.hw_explore.specs.declared.range.Range.{Range}
 
--- the commands: `Generate` of a model, `Replay` of a Verilog text and a stimulus, `Simulate` of a model and a stimulus, `Explore` of a model and a range of plans
+-- a word for a plan: `-` for the empty one, which no file holds, or the name of a file
+pub data PlanWord : Type 0 where
+  EmptyPlan : PlanWord
+  Named : (file : List ℕ) → PlanWord
+
+-- the commands: `Generate` of a model and a plan, `Replay` of a Verilog text and a stimulus, `Simulate` of a model and a stimulus, `Explore` of a model and a range of plans
 pub data Command : Type 0 where
-  -- writes the Verilog text of a model under the empty plan
-  Generate : (model : List ℕ) → Command
+  -- writes the Verilog text of a model under a plan
+  Generate : (model : List ℕ) → (plan : PlanWord) → Command
   -- writes the response of a Verilog text to a stimulus
   Replay : (verilog stimulus : List ℕ) → Command
   -- writes the response of a model's diagram to a stimulus
   Simulate : (model stimulus : List ℕ) → Command
   -- writes what each plan of a range is worth on a model
   Explore : (model : List ℕ) → (range : Range) → Command
+
+-- the plan that a word names
+abbrev pub plan_word : List ℕ → PlanWord
+plan_word word = if bytes_eq word (codes "-") then EmptyPlan else Named word
 
 -- to explore a model by a range that is named
 abbrev pub explored : List ℕ → Option Range → Option Command
@@ -22,7 +31,7 @@ explored model (Some range) = Some (Explore model range)
 -- the command that the words name, where they have a listed shape
 abbrev pub command_of : List (List ℕ) → Option Command
 command_of (verb ∷ first ∷ second ∷ []) =
-    if bytes_eq verb (codes "generate") && bytes_eq second (codes "-") then Some (Generate first)
+    if bytes_eq verb (codes "generate") then Some (Generate first (plan_word second))
     else (if bytes_eq verb (codes "replay") then Some (Replay first second)
     else (if bytes_eq verb (codes "simulate") then Some (Simulate first second)
     else (if bytes_eq verb (codes "explore") then explored first (range_of second) else None)))
@@ -30,49 +39,52 @@ command_of words = None
 
 -- the word that names the model, of a command that reads one
 abbrev pub model_of : Command → Option (List ℕ)
-model_of (Generate model) = Some model
+model_of (Generate model plan) = Some model
 model_of (Replay verilog stimulus) = None
 model_of (Simulate model stimulus) = Some model
 model_of (Explore model range) = Some model
 
--- the word that names the model, of a command that takes models of a few forms alone
-abbrev pub generated_of : Command → Option (List ℕ)
-generated_of (Generate model) = Some model
-generated_of (Replay verilog stimulus) = None
-generated_of (Simulate model stimulus) = None
-generated_of (Explore model range) = None
-
--- the word that names the model, of a command that looks at the rules 1 to 9
-abbrev pub checked_of : Command → Option (List ℕ)
-checked_of (Generate model) = None
-checked_of (Replay verilog stimulus) = None
-checked_of (Simulate model stimulus) = Some model
-checked_of (Explore model range) = Some model
-
 -- the word that names the Verilog text, of a command that reads one
 abbrev pub verilog_of : Command → Option (List ℕ)
-verilog_of (Generate model) = None
+verilog_of (Generate model plan) = None
 verilog_of (Replay verilog stimulus) = Some verilog
 verilog_of (Simulate model stimulus) = None
 verilog_of (Explore model range) = None
 
--- the word that names the stimulus, of a command that reads one
-abbrev pub stimulus_of : Command → Option (List ℕ)
-stimulus_of (Generate model) = None
-stimulus_of (Replay verilog stimulus) = Some stimulus
-stimulus_of (Simulate model stimulus) = Some stimulus
-stimulus_of (Explore model range) = None
+-- the word that names the plan, of a command that reads one
+abbrev pub plan_of : Command → Option PlanWord
+plan_of (Generate model plan) = Some plan
+plan_of (Replay verilog stimulus) = None
+plan_of (Simulate model stimulus) = None
+plan_of (Explore model range) = None
+
+-- the file of a plan, where there is one
+abbrev pub plan_file : PlanWord → Option (List ℕ)
+plan_file EmptyPlan = None
+plan_file (Named file) = Some file
+
+-- the word that names the table that is read line by line, a stimulus or a plan
+abbrev pub table_of : Command → Option (List ℕ)
+table_of (Generate model plan) = plan_file plan
+table_of (Replay verilog stimulus) = Some stimulus
+table_of (Simulate model stimulus) = Some stimulus
+table_of (Explore model range) = None
 
 -- the word that names the file that is fetched first
 abbrev pub first_of : Command → List ℕ
-first_of (Generate model) = model
+first_of (Generate model plan) = model
 first_of (Replay verilog stimulus) = verilog
 first_of (Simulate model stimulus) = model
 first_of (Explore model range) = model
 
+-- the word of a plan, where it names a file
+abbrev pub plan_files : PlanWord → List (List ℕ)
+plan_files EmptyPlan = []
+plan_files (Named file) = file ∷ []
+
 -- the words that name files, in the order in which these are fetched
 abbrev pub files_of : Command → List (List ℕ)
-files_of (Generate model) = model ∷ []
+files_of (Generate model plan) = model ∷ plan_files plan
 files_of (Replay verilog stimulus) = verilog ∷ stimulus ∷ []
 files_of (Simulate model stimulus) = model ∷ stimulus ∷ []
 files_of (Explore model range) = model ∷ []

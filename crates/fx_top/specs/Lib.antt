@@ -1,13 +1,11 @@
 pub mod Answer
 pub mod Call
-pub mod Carries
 pub mod Cause
 pub mod Caused
 pub mod Command
-pub mod DelayTree
 pub mod Explored
+pub mod Generated
 pub mod Messages
-pub mod OneDelay
 pub mod Outcome
 pub mod Output
 pub mod Replayed

@@ -14,7 +14,7 @@ memory_line = codes "out of memory\n"
 
 -- the line of status 2
 abbrev pub usage_line : List ℕ
-usage_line = codes "usage: simulate MODEL STIM, generate MODEL -, replay VERILOG STIM, explore MODEL RANGE\n"
+usage_line = codes "usage: simulate MODEL STIM, generate MODEL PLAN, replay VERILOG STIM, explore MODEL RANGE\n"
 
 -- the line of status 3
 abbrev pub unread_line : List ℕ → List ℕ
@@ -67,7 +67,3 @@ broken_line file OutOfMemory = memory_line
 -- the line of status 9
 abbrev pub too_long_line : List ℕ → ℕ → List ℕ
 too_long_line file length = file ++ codes ": " ++ decimal length ++ codes " bytes, at most 16777216\n"
-
--- the line of status 10
-abbrev pub not_built_line : List ℕ → List ℕ
-not_built_line file = file ++ codes ": not built: tree\n"

@@ -1,10 +1,10 @@
 -- Which status a command owes, where the shelf tells what it holds (own).
 use Rattle.std.specs.Prelude.{◌≡◌, ℕ, ◌⊎◌, List, [], ◌∷◌, Contains, Some, None}
 use Rattle.fx_top.specs.Call.{Files, Stream}
-use Rattle.fx_top.specs.Command.{Command, Generate, Replay, Simulate, Explore, command_of, model_of, generated_of, checked_of, verilog_of, stimulus_of, first_of, files_of}
+use Rattle.fx_top.specs.Command.{Command, PlanWord, EmptyPlan, Named, Generate, Replay, Simulate, Explore, command_of, model_of, verilog_of, plan_of, table_of, first_of, files_of}
 use Rattle.fx_top.specs.Trouble.{Absent, Overlong, first_trouble}
 use Rattle.fx_model.specs.Model.{IsAccepted, IsNoText, IsWithoutDiagram}
-use Rattle.fx_top.specs.Output.{IsNotBuilt, IsBuilt}
+use Rattle.fx_top.specs.Generated.{CanBeGenerated, HasNoPlan, IsWithoutDesign}
 use Rattle.fx_top.specs.Replayed.{CanBeReplayed, HasFault, IsBadStimulus, IsNoVerilog}
 use Rattle.fx_top.specs.Simulated.{CanBeSimulated, IsSpoilt}
 use Rattle.fx_tables.specs.declared.table.TableCause.{TableCause}
@@ -22,12 +22,17 @@ Yields own earlier status = Contains (own ∷ 1 ∷ earlier) status
 abbrev pub Tells : Files → List ℕ → List ℕ → Type 0
 Tells files file bytes = files.held file ≡ Some (Some bytes)
 
--- a Verilog text whose module breaks no condition, or a model that keeps the rules, and a bad line of the stimulus
+-- the shelf tells the bytes of a plan, of which the empty one has none
+abbrev pub TellsPlan : Files → PlanWord → List ℕ → Type 0
+TellsPlan files EmptyPlan text = text ≡ []
+TellsPlan files (Named file) text = Tells files file text
+
+-- a Verilog text whose module breaks no condition, or a model that keeps the rules, and a bad line of the stimulus or the plan
 abbrev pub IsBadFor : Command → List ℕ → List ℕ → Type 0
-IsBadFor (Generate model) first stimulus = ⊥
-IsBadFor (Replay verilog text) first stimulus = (line : ℕ) × ((cause : TableCause) × IsBadStimulus first stimulus line cause)
-IsBadFor (Simulate model text) first stimulus = IsSpoilt first stimulus
-IsBadFor (Explore model range) first stimulus = ⊥
+IsBadFor (Generate model plan) first table = HasNoPlan first table
+IsBadFor (Replay verilog text) first table = (line : ℕ) × ((cause : TableCause) × IsBadStimulus first table line cause)
+IsBadFor (Simulate model text) first table = IsSpoilt first table
+IsBadFor (Explore model range) first table = ⊥
 
 -- what the files ask of the status
 pub record IsDue (files : Files) (command : Command) (status : ℕ) : Type 0 where
@@ -40,22 +45,30 @@ pub record IsDue (files : Files) (command : Command) (status : ℕ) : Type 0 whe
   -- where the model's bytes are told: 5 where they stand for no tree
   pub syntax : (model bytes : List ℕ) → model_of command ≡ Some model → Tells files model bytes
       → IsNoText bytes → Yields 5 (3 ∷ 9 ∷ []) status
-  -- where the model's bytes are told: 10 where they stand for a tree of another form
-  pub not_built : (model bytes : List ℕ) → generated_of command ≡ Some model → Tells files model bytes
-      → IsNotBuilt bytes → Yields 10 (3 ∷ 9 ∷ []) status
   -- where they are told: 7 where they stand for a tree and are the model of no diagram
-  pub broken_rule : (model bytes : List ℕ) → checked_of command ≡ Some model → Tells files model bytes
+  pub broken_rule : (model bytes : List ℕ) → model_of command ≡ Some model → Tells files model bytes
       → IsWithoutDiagram bytes → Yields 7 (3 ∷ 9 ∷ []) status
+  -- where those of the plan are told too: 7 where the model keeps the rules, and the plan breaks one on its diagram
+  pub broken_plan : (model bytes text : List ℕ) (plan : PlanWord) → model_of command ≡ Some model → plan_of command ≡ Some plan
+      → Tells files model bytes → TellsPlan files plan text → IsWithoutDesign bytes text → Yields 7 (3 ∷ 9 ∷ []) status
   -- where the bytes of the Verilog text are told: 8 where they aren't in the subset
   pub not_verilog : (verilog bytes : List ℕ) → verilog_of command ≡ Some verilog → Tells files verilog bytes
       → IsNoVerilog bytes → Yields 8 (3 ∷ 9 ∷ []) status
   -- where they are told: 8 where their module breaks a condition
   pub broken : (verilog bytes : List ℕ) (condition : Fault) → verilog_of command ≡ Some verilog → Tells files verilog bytes
       → HasFault bytes condition → Yields 8 (3 ∷ 9 ∷ []) status
-  -- where the bytes of the first file and of the stimulus are told: 6 where this has a bad line
-  pub bad_table : (first stimulus bytes : List ℕ) → stimulus_of command ≡ Some stimulus
-      → Tells files (first_of command) first → Tells files stimulus bytes
+  -- where the bytes of the first file and of the stimulus or the plan are told: 6 where this has a bad line
+  pub bad_table : (first table bytes : List ℕ) → table_of command ≡ Some table
+      → Tells files (first_of command) first → Tells files table bytes
       → IsBadFor command first bytes → Yields 6 (3 ∷ 9 ∷ []) status
+
+-- the shelf tells the bytes of a model and of a plan of which nothing is broken
+pub record CanGenerate (files : Files) (model : List ℕ) (plan : PlanWord) : Type 0 where
+  pub model_bytes : List ℕ
+  pub plan_bytes : List ℕ
+  pub model_told : Tells files model model_bytes
+  pub plan_told : TellsPlan files plan plan_bytes
+  pub can : CanBeGenerated model_bytes plan_bytes
 
 -- the shelf tells the bytes of two files, whose module has its columns' numbers in the stimulus
 pub record CanReplay (files : Files) (verilog stimulus : List ℕ) : Type 0 where
@@ -75,7 +88,7 @@ pub record CanSimulate (files : Files) (model stimulus : List ℕ) : Type 0 wher
 
 -- the files' texts are told, and the command has an output of them
 abbrev pub CanBeDone : Files → Command → Type 0
-CanBeDone files (Generate model) = (bytes : List ℕ) × (Tells files model bytes × IsBuilt bytes)
+CanBeDone files (Generate model plan) = CanGenerate files model plan
 CanBeDone files (Replay verilog stimulus) = CanReplay files verilog stimulus
 CanBeDone files (Simulate model stimulus) = CanSimulate files model stimulus
 CanBeDone files (Explore model range) = (bytes : List ℕ) × (Tells files model bytes × IsAccepted bytes)

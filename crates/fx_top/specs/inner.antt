@@ -1,7 +1,5 @@
-pub mod DelayModule
 pub mod Fetching
+pub mod Generating
 pub mod Named
-pub mod Refusing
 pub mod Responding
 pub mod Simulating
-pub mod Template

@@ -32,13 +32,13 @@ pub enum Answer<'a> {
         file: &'a str,
         line: u64,
     },
-    /// The stimulus has its first bad line there, from 1.
+    /// The stimulus or the plan has its first bad line there, from 1.
     BadTable {
         file: &'a str,
         line: u64,
         cause: TableCause,
     },
-    /// The model breaks a rule, which this line tells.
+    /// The model, or the plan on its diagram, breaks a rule, which this line tells.
     BreaksRule {
         line: Text,
     },
@@ -58,10 +58,6 @@ pub enum Answer<'a> {
         file: &'a str,
         length: u64,
     },
-    /// The model's file has a tree of a form that is not built yet.
-    NotBuilt {
-        file: &'a str,
-    },
 }
 
 impl Answer<'_> {
@@ -80,7 +76,6 @@ impl Answer<'_> {
             Answer::BreaksRule { .. } => 7,
             Answer::NotVerilog { .. } | Answer::Broken { .. } => 8,
             Answer::TooLong { .. } => 9,
-            Answer::NotBuilt { .. } => 10,
         }
     }
 
@@ -94,7 +89,7 @@ impl Answer<'_> {
             Answer::Usage => say(
                 err,
                 &[
-                    b"usage: simulate MODEL STIM, generate MODEL -, replay VERILOG STIM, explore MODEL RANGE\n",
+                    b"usage: simulate MODEL STIM, generate MODEL PLAN, replay VERILOG STIM, explore MODEL RANGE\n",
                 ],
             ),
             Answer::CannotRead { file } => say(err, &[file.as_bytes(), b": cannot be read\n"]),
@@ -119,7 +114,6 @@ impl Answer<'_> {
                     ],
                 )
             }
-            Answer::NotBuilt { file } => say(err, &[file.as_bytes(), b": not built: tree\n"]),
         }
     }
 }

@@ -9,8 +9,8 @@ use hw_explore::Range;
 /// What the words of a call ask for.
 #[derive(Clone, Copy)]
 pub enum Command<'a> {
-    /// To write the Verilog text of a model under the empty plan.
-    Generate { model: &'a str },
+    /// To write the Verilog text of a model under a plan, which `-` names where it is the empty one.
+    Generate { model: &'a str, plan: &'a str },
     /// To write the response of a Verilog text to a stimulus.
     Replay { verilog: &'a str, stimulus: &'a str },
     /// To write the response of a model's diagram to a stimulus.
@@ -26,11 +26,10 @@ impl<'a> Command<'a> {
         ensures range { IfSome result HasRange }
     {
         match words {
-            [verb, model, plan] if verb.as_str() == "generate" && plan.as_str() == "-" => {
-                Some(Command::Generate {
-                    model: model.as_str(),
-                })
-            }
+            [verb, model, plan] if verb.as_str() == "generate" => Some(Command::Generate {
+                model: model.as_str(),
+                plan: plan.as_str(),
+            }),
             [verb, verilog, stimulus] if verb.as_str() == "replay" => Some(Command::Replay {
                 verilog: verilog.as_str(),
                 stimulus: stimulus.as_str(),

@@ -3,12 +3,12 @@ ghost use Rattle.fx_top.specs.Call.{files_in, stream_in};
 ghost use Rattle.fx_top.specs.Caused.{HasCause, HasWritten};
 ghost use Rattle.fx_top.specs.Command.{Explore};
 ghost use Rattle.fx_top.specs.Explored.{IsExplorationOf};
-ghost use Rattle.fx_top.specs.inner.Refusing.{IsRefusedModel};
+ghost use Rattle.fx_designed.specs.Refused.{IsRefusedModel};
 ghost use Rattle.hw_explore.specs.Range.{IsRange};
 
 use crate::answer::Answer;
 use crate::fetch::fetch_file;
-use crate::refusal::{ModelRefusal, checked_of};
+use fx_designed::{ModelRefusal, checked_of};
 use fx_explored::findings_text;
 use fx_io::{OpenGate, OutOfMemory, Shelf, Sink, Text, put_all};
 use hw_explore::Range;

@@ -1,8 +1,10 @@
 ghost use Rattle.std.specs.Prelude.{◌≡◌, ◌≤◌, Some, IfOk, IfErr};
 ghost use Rattle.fx_io.specs.Shelf.{Fetched};
 ghost use Rattle.fx_top.specs.Call.{files_in};
+ghost use Rattle.fx_top.specs.Command.{plan_word};
+ghost use Rattle.fx_top.specs.Output.{IsPlanText};
 ghost use Rattle.fx_top.specs.Trouble.{file_limit};
-ghost use Rattle.fx_top.specs.inner.Fetching.{IsFetchAnswer};
+ghost use Rattle.fx_top.specs.inner.Fetching.{IsFetchAnswer, IsPlanAnswer};
 
 use crate::answer::Answer;
 use fx_io::{FetchFault, Shelf, Text};
@@ -31,4 +33,26 @@ pub fn fetch_file<'a, S: Shelf>(
         Err(FetchFault::TooLong { length }) => Err(Answer::TooLong { file, length }),
         Err(FetchFault::OutOfMemory) => Err(Answer::OutOfMemory),
     }
+}
+
+/// Fetches the plan that a word names, or answers why it can't be had. The word `-` names the empty
+/// plan, which no file holds.
+pub fn fetch_plan<'a, S: Shelf>(
+    alloc: Global,
+    plan: &'a str,
+    shelf: &mut S,
+) -> Result<Text, Answer<'a>>
+    ensures says { IfOk result (IsPlanText (S.held shelf.old) (plan_word plan.now)) }
+    ensures refused { IfErr result (IsPlanAnswer
+        (files_in S.held S.steady S.faults S.overlong shelf.old shelf.new)
+        (plan_word plan.now)) }
+    ensures kept { S.held shelf.new ≡ S.held shelf.old }
+    ensures stays_steady { S.steady shelf.old → S.steady shelf.new }
+    ensures later { S.faults shelf.old ≤ S.faults shelf.new }
+    ensures overlong_later { S.overlong shelf.old ≤ S.overlong shelf.new }
+{
+    if plan == "-" {
+        return Ok(Text::new());
+    }
+    fetch_file(alloc, plan, shelf)
 }

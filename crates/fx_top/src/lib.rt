@@ -13,27 +13,21 @@
 //! `replay` writes a response that is `IsReplayOf` (`specs/Replayed.antt`) the two texts, and `simulate`
 //! one that is `IsSimulationOf` (`specs/Simulated.antt`).
 //!
-//! The headline is `IsVerilogOf` in `specs/Output.antt`: the text spells a module alone that carries
-//! the model. `specs/Carries.antt` says what that is, for any interface and any relation of stimulus and
-//! entries; `specs/OneDelay.antt` and `specs/DelayTree.antt` have those of the one form that is built.
+//! The headline is `IsVerilogOf` in `specs/Generated.antt`: the text spells a module alone, and that
+//! module owes the design of the two texts nothing (`IsModuleOf` of `hw_module`, `IsDesignOf` of
+//! `fx_designed`).
 #![tactic(auto)]
 
 mod answer;
 mod command;
-mod delay_module;
-mod delay_tree;
 mod explore;
 mod fetch;
 mod generate;
-mod one_delay;
-mod refusal;
 mod replay;
 mod response;
 mod simulate;
 mod simulated;
-mod small_number;
-mod template;
 mod top;
+mod verilog;
 
-pub use one_delay::OneDelay;
 pub use top::run;

@@ -5,12 +5,12 @@ ghost use Rattle.fx_tables.specs.Response.{response};
 ghost use Rattle.fx_tables.specs.RowText.{periods_of};
 ghost use Rattle.fx_tables.specs.Stimulus.{FitsColumns, IsRows};
 ghost use Rattle.dg_response.specs.Responded.{HasRoom, lines_of, table_of};
-ghost use Rattle.fx_top.specs.inner.Refusing.{IsRefusedModel};
+ghost use Rattle.fx_designed.specs.Refused.{IsRefusedModel};
 ghost use Rattle.fx_top.specs.inner.Simulating.{HasColumns, IsFaultOf, IsReadyFor, IsRespondedTo, IsRowsFault, IsSimulationTo, Refuses, Simulates};
 
-use crate::refusal::{ModelRefusal, checked_of};
 use dg_model::Checked;
 use dg_response::{Responded, RootColumns, columns, respond};
+use fx_designed::{ModelRefusal, checked_of};
 use fx_io::{OutOfMemory, PutFault, Sink, Text, put_all};
 use fx_tables::{Column, RowText, Rows, TableCause, TableFault, read_rows};
 use std::alloc::Global;

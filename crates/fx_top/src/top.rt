@@ -16,8 +16,8 @@ use std::thread::Threads;
 
 /// Does what the words after the program's name ask for, and gives the exit status (own).
 ///
-/// `simulate MODEL STIM` writes the response of a model's diagram to a stimulus. `generate MODEL -`
-/// writes the Verilog text of a model. `replay VERILOG STIM` writes what the module of a Verilog text
+/// `simulate MODEL STIM` writes the response of a model's diagram to a stimulus. `generate MODEL PLAN`
+/// writes the Verilog text of a model under a plan; the word `-` is the empty plan. `replay VERILOG STIM` writes what the module of a Verilog text
 /// of the subset shows under a stimulus. `explore MODEL RANGE` writes what each plan of a range is
 /// worth on a model, found by workers of `rt`. The files come from `shelf`, the text goes
 /// to `out`, and each status but 0 puts one line to `err`, whose failure changes nothing.
@@ -60,7 +60,7 @@ fn carry_out<'a, R: Threads + Sync, S: Shelf, K: Sink>(
 {
     match Command::of_words(words) {
         None => Answer::Usage,
-        Some(Command::Generate { model }) => generate(alloc, model, shelf, out),
+        Some(Command::Generate { model, plan }) => generate(alloc, model, plan, shelf, out),
         Some(Command::Replay { verilog, stimulus }) => {
             replay(alloc, verilog, stimulus, shelf, out)
         }

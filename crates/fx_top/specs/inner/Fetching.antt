@@ -5,6 +5,7 @@ use Rattle.fx_io.specs.Shelf.{IsOverlong}
 use Rattle.fx_top.specs.declared.answer.Answer.{Answer}
 use Rattle.fx_top.specs.declared.answer.Answer.TheVariants.{OutOfMemory, CannotRead, TooLong}
 use Rattle.fx_top.specs.Call.{Files}
+use Rattle.fx_top.specs.Command.{PlanWord, EmptyPlan, Named}
 use Rattle.fx_top.specs.Trouble.{file_limit}
 
 -- the file was not to be had; over a steady shelf it isn't held
@@ -28,3 +29,8 @@ pub record IsUnfit (files : Files) (file : List ℕ) (answer : Answer) : Type 0 
 abbrev pub IsFetchAnswer : Files → List ℕ → Answer → Type 0
 IsFetchAnswer files file answer =
     (answer ≡ OutOfMemory) ⊎ (IsUnread files file answer ⊎ IsUnfit files file answer)
+
+-- of a plan: the empty one is always to be had
+abbrev pub IsPlanAnswer : Files → PlanWord → Answer → Type 0
+IsPlanAnswer files EmptyPlan answer = ⊥
+IsPlanAnswer files (Named file) answer = IsFetchAnswer files file answer

@@ -1,20 +1,20 @@
 -- A command that borrows its words.
 use Rattle.std.specs.Prelude.{⊤}
 use Rattle.hw_explore.specs.Range.{IsRange}
-use Rattle.fx_top.specs.Command.{Command, Generate, Replay, Simulate, Explore}
+use Rattle.fx_top.specs.Command.{Command, Generate, Replay, Simulate, Explore, plan_word}
 use Rattle.fx_top.specs.declared.command.Command.{Command as CommandOf}
 use Rattle.fx_top.specs.declared.command.Command.TheVariants.{Generate as GenerateOf, Replay as ReplayOf, Simulate as SimulateOf, Explore as ExploreOf}
 
 -- the command, by the bytes of its words
 abbrev pub named : CommandOf → Command
-named (GenerateOf model) = Generate model.now
+named (GenerateOf model plan) = Generate model.now (plan_word plan.now)
 named (ReplayOf verilog stimulus) = Replay verilog.now stimulus.now
 named (SimulateOf model stimulus) = Simulate model.now stimulus.now
 named (ExploreOf model range) = Explore model.now range
 
 -- a range that it names is one
 abbrev pub HasRange : CommandOf → Type 0
-HasRange (GenerateOf model) = ⊤
+HasRange (GenerateOf model plan) = ⊤
 HasRange (ReplayOf verilog stimulus) = ⊤
 HasRange (SimulateOf model stimulus) = ⊤
 HasRange (ExploreOf model range) = IsRange range

@@ -1,8 +1,8 @@
-use Rattle.std.proofs.Common.{None, refl, subst, arith}
+use Rattle.std.proofs.Common.{inl, None, refl, subst, arith}
 use Rattle.fx_top.specs.Call.{files_in, stream_in}
 use Rattle.fx_top.specs.Command.{Explore}
-use Rattle.fx_top.specs.declared.refusal.ModelRefusal.{ModelRefusal}
-use Rattle.fx_top.specs.inner.Refusing.{IsRefusedModel}
+use Rattle.fx_designed.specs.declared.refusal.ModelRefusal.{ModelRefusal}
+use Rattle.fx_designed.specs.Refused.{IsRefusedModel}
 use Rattle.fx_top.proofs.Generated.{fetched-all}
 use Rattle.fx_top.proofs.Unfetched.{cause-unfetched, written-unfetched}
 use Rattle.fx_top.proofs.explore.explore.Goals as goal
@@ -29,5 +29,5 @@ pub returns-in-Err-BreaksRule-clause-cause : goal.returns-in-Err-BreaksRule-clau
 returns-in-Err-BreaksRule-clause-cause g c =
     let told = subst (λ (refusal : ModelRefusal). IsRefusedModel c.in-Ok.bytes refusal) c.in-Err-BreaksRule.field-0-is (rw c.bytes-2.ensures at c.in-Err-BreaksRule.ensures.refused) in (
       fetched-all (g.S.Shelf.held c.args.shelf.now) c.args.model.now c.in-Ok.bytes c.in-Ok.ensures.found,
-      record { file = c.args.model.now; is_model = refl; bytes = c.in-Ok.bytes; fetched = c.in-Ok.ensures.found; told = told },
+      inl (record { file = c.args.model.now; is_model = refl; bytes = c.in-Ok.bytes; fetched = c.in-Ok.ensures.found; told = told }),
     )

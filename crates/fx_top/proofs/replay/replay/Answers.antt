@@ -42,11 +42,11 @@ returns-in-Err-BadTable-clause-cause g c =
     let bad = rw (c.bytes.ensures, c.bytes-2.ensures) at (c.in-Err-BadTable.ensures.bad c.in-Err-BadTable.line c.in-Err-BadTable.cause (ap Err c.in-Err-BadTable.field-0-is)) in (
       fetched-both (files_in g.S.Shelf.held g.S.Shelf.steady g.S.Shelf.faults g.S.Shelf.overlong c.args.shelf.now c.fetch_file-2.new.shelf) c.args.verilog.now c.args.stimulus.now c.in-Ok.source c.in-Ok-fetch_file.numbers c.in-Ok.ensures.found numbers,
       record {
-        is_stimulus = refl;
+        is_table = refl;
         first = c.in-Ok.source;
-        stimulus = c.in-Ok-fetch_file.numbers;
+        table = c.in-Ok-fetch_file.numbers;
         first_fetched = c.in-Ok.ensures.found;
-        stimulus_fetched = numbers;
+        table_fetched = numbers;
         bad = bad;
       },
     )

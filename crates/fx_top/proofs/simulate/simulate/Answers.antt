@@ -1,4 +1,4 @@
-use Rattle.std.proofs.Common.{ℕ, List, None, refl, subst, arith}
+use Rattle.std.proofs.Common.{inl, ℕ, List, None, refl, subst, arith}
 use Rattle.fx_io.specs.Cause.{Rose}
 use Rattle.fx_io.specs.Shelf.{Fetched, Told}
 use Rattle.fx_top.specs.Call.{files_in}
@@ -35,7 +35,7 @@ returns-in-Err-BreaksRule-clause-cause g c =
     let numbers = subst (λ (held : List ℕ → Told). Fetched (held c.args.stimulus.now) file_limit c.in-Ok-fetch_file.numbers) c.in-Ok.ensures.kept c.in-Ok-fetch_file.ensures.found in
     let told = subst (λ (fault : SimulationFault). IsFaultOf c.in-Ok.source c.in-Ok-fetch_file.numbers fault) c.in-Err-BreaksRule.field-0-is (rw (c.bytes.ensures, c.bytes-2.ensures) at c.in-Err-BreaksRule.ensures.refused) in (
       fetched-both (files_in g.S.Shelf.held g.S.Shelf.steady g.S.Shelf.faults g.S.Shelf.overlong c.args.shelf.now c.fetch_file-2.new.shelf) c.args.model.now c.args.stimulus.now c.in-Ok.source c.in-Ok-fetch_file.numbers c.in-Ok.ensures.found numbers,
-      record { file = c.args.model.now; is_model = refl; bytes = c.in-Ok.source; fetched = c.in-Ok.ensures.found; told = told },
+      inl (record { file = c.args.model.now; is_model = refl; bytes = c.in-Ok.source; fetched = c.in-Ok.ensures.found; told = told }),
     )
 
 pub returns-in-Err-BadTable-clause-cause : goal.returns-in-Err-BadTable-clause-cause
@@ -44,11 +44,11 @@ returns-in-Err-BadTable-clause-cause g c =
     let bad = subst (λ (fault : SimulationFault). IsFaultOf c.in-Ok.source c.in-Ok-fetch_file.numbers fault) c.in-Err-BadTable.field-0-is (rw (c.bytes.ensures, c.bytes-2.ensures) at c.in-Err-BadTable.ensures.refused) in (
       fetched-both (files_in g.S.Shelf.held g.S.Shelf.steady g.S.Shelf.faults g.S.Shelf.overlong c.args.shelf.now c.fetch_file-2.new.shelf) c.args.model.now c.args.stimulus.now c.in-Ok.source c.in-Ok-fetch_file.numbers c.in-Ok.ensures.found numbers,
       record {
-        is_stimulus = refl;
+        is_table = refl;
         first = c.in-Ok.source;
-        stimulus = c.in-Ok-fetch_file.numbers;
+        table = c.in-Ok-fetch_file.numbers;
         first_fetched = c.in-Ok.ensures.found;
-        stimulus_fetched = numbers;
+        table_fetched = numbers;
         bad = bad;
       },
     )

@@ -1,0 +1,75 @@
+ghost use Rattle.std.specs.Prelude.{IfErr, IfOk};
+ghost use Rattle.dg_model.specs.PlanOf.{IsPlanOf};
+ghost use Rattle.fx_designed.specs.Refused.{IsRefusedDesign};
+ghost use Rattle.fx_top.specs.Generated.{IsVerilogOf};
+ghost use Rattle.fx_top.specs.inner.Generating.{IsWrittenOf};
+ghost use Rattle.hw_build.specs.Built.{IsBuiltBy};
+ghost use Rattle.hw_rules.specs.Times.{AreTimes};
+
+use dg_model::{Checked, Resolved};
+use fx_designed::{DesignFault, Designed, designed_of};
+use fx_io::{OutOfMemory, Text};
+use hw_build::build;
+use hw_module::module_of;
+use hw_net::Netlist;
+use hw_rules::Times;
+use hw_sched::SizeFault;
+use std::alloc::Global;
+
+/// The netlist of a diagram by a plan with its times.
+fn netlist_of(
+    alloc: Global,
+    checked: &Checked,
+    plan: &Resolved,
+    times: &Times,
+) -> Result<Netlist, OutOfMemory>
+    requires plan { IsPlanOf checked.now.diagram plan.now }
+    requires times { AreTimes checked.now.diagram plan.now times.now }
+    ensures { IfOk result (IsBuiltBy checked.now.diagram plan.now times.now.latencies
+        times.now.slots) }
+{
+    match build(alloc, checked, plan, &times.latencies, &times.slots) {
+        Ok(netlist) => Ok(netlist),
+        Err(SizeFault::Size { .. }) => unreachable!(),
+        Err(SizeFault::OutOfMemory) => Err(OutOfMemory),
+    }
+}
+
+/// The Verilog text of a diagram by a plan with its times.
+fn text_of(
+    alloc: Global,
+    checked: &Checked,
+    plan: &Resolved,
+    times: &Times,
+) -> Result<Text, OutOfMemory>
+    requires plan { IsPlanOf checked.now.diagram plan.now }
+    requires times { AreTimes checked.now.diagram plan.now times.now }
+    ensures { IfOk result (IsWrittenOf checked.now.diagram plan.now times.now) }
+{
+    vl_read::unique();
+    let netlist = netlist_of(alloc, checked, plan, times)?;
+    let module = module_of(
+        alloc,
+        checked,
+        plan,
+        &times.latencies,
+        &times.slots,
+        &netlist,
+    )?;
+    vl_write::write(alloc, &module)
+}
+
+/// The Verilog text of the bytes of a model and of a plan; no bytes are the empty plan.
+pub fn verilog_of(alloc: Global, model: &[u8], plan: &[u8]) -> Result<Text, DesignFault>
+    ensures made { IfOk result (IsVerilogOf model.now plan.now) }
+    ensures refused { IfErr result (IsRefusedDesign model.now plan.now) }
+{
+    let Designed { checked, planned } = match designed_of(alloc, model, plan) {
+        Ok(designed) => designed,
+        Err(fault) => return Err(fault),
+    };
+    match text_of(alloc, &checked, &planned.resolved, &planned.times) {
+        Ok(text) => Ok(text),
+        Err(OutOfMemory) => Err(DesignFault::OutOfMemory),
+    }
+}
