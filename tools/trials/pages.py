@@ -82,7 +82,7 @@ class Shown(unittest.TestCase):
 
     def test_rules(self):
         """Each refusal that is shown, and that the model with the second lines for the first is accepted."""
-        blocks = [it for it in blocks_of("docs/RULES.md") if it[0] == "mdl" or it[1].startswith("$ ")]
+        blocks = [it for it in blocks_of("docs/RULES.md") if it[0] == "mdl" or it[1].startswith("$ ./tilecatnip simulate")]
         self.assertEqual(len(blocks) % 3, 0)
         for (_, session), (_, broken), (_, mended) in zip(blocks[::3], blocks[1::3], blocks[2::3]):
             [(command, shown)] = commands_of(session)
@@ -96,6 +96,25 @@ class Shown(unittest.TestCase):
             self.assertEqual(done.returncode, 0, f"{model}, mended: {done.stdout}")
         self.assertEqual({f"examples/rules/{os.path.basename(it)}" for it in glob.glob(os.path.join(TOP, "examples/rules/*.mdl"))},
                          {commands_of(session)[0][0].split()[2] for _, session in blocks[::3]})
+
+
+    def test_rules_of_plans(self):
+        """Each refusal that is shown, and that the model is accepted with the plan that stands behind it."""
+        blocks = [it for it in blocks_of("docs/RULES.md") if it[0] == "plan" or it[1].startswith("$ ./tilecatnip generate")]
+        told = set()
+        for (_, session), (language, plan) in zip(blocks, blocks[1:] + [("", "")]):
+            if not session.startswith("$ "):
+                continue
+            [(command, shown)] = commands_of(session)
+            self.assertEqual(self.print_of(command).stdout, shown, command)
+            told.add(shown.split()[1])
+            if language == "plan":
+                with tempfile.TemporaryDirectory() as room:
+                    write(os.path.join(room, "mended.plan"), plan)
+                    model = shlex.quote(os.path.join(TOP, command.split()[2]))
+                    done = self.print_of(f"./tilecatnip generate {model} mended.plan", room)
+                self.assertEqual(done.returncode, 0, f"{command}, mended: {done.stdout}")
+        self.assertEqual(told, {"10", "11", "12", "13"})
 
 
 class Proved(unittest.TestCase):
