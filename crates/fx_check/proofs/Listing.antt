@@ -1,0 +1,71 @@
+-- The lines of outputs are added one after another.
+use Rattle.std.proofs.Common.{◌≡◌, ◌⊎◌, inl, inr, ℕ, zero, suc, ◌+◌, ◌<◌, List, [], ◌∷◌, ◌++◌, length, take, Some, ap, sym, ◌∙◌, subst, refl, arith}
+use Rattle.std.specs.Prelude.{codes, slice_get, slice_index_or}
+use Rattle.std.proofs.Math.Seq.{take-suc}
+use Rattle.std.proofs.lemmas.List.{map-append}
+use Rattle.std.proofs.lemmas.Option.{none-some, same_Some}
+use Rattle.dg_model.specs.declared.diagram.Diagram.{Diagram}
+use Rattle.dg_model.specs.declared.resolved.Resolved.{Resolved}
+use Rattle.dg_model.specs.Attributes.{attributes_of}
+use Rattle.hw_latency.specs.Weight.{latency_arcs}
+use Rattle.hw_sched.specs.Ready.{declared_latency}
+use Rattle.hw_sched.specs.Slots.{Timing}
+use Rattle.fx_check.specs.CheckText.{Output, head_text, output_line, steps_text}
+use Rattle.fx_check.specs.Paths.{IsTightPath}
+use Rattle.fx_check.specs.inner.Listed.{AddsOutput, AddsOutputs}
+use Rattle.fx_check.proofs.Lines.{line_more, three_added}
+
+own_or_last : {A : Type 0} (xs : List A) (x : A) (k : ℕ) (y : A) → slice_get (xs ++ x ∷ []) k ≡ Some y → (slice_get xs k ≡ Some y) ⊎ (x ≡ y)
+own_or_last [] x zero y at = inr (same_Some x y at)
+own_or_last [] x (suc k) y at = absurd (none-some y at)
+own_or_last (z ∷ xs) x zero y at = inl at
+own_or_last (z ∷ xs) x (suc k) y at = own_or_last xs x k y at
+
+take_next : {A : Type 0} (xs : List A) (k : ℕ) (d x : A) → k < length xs → x ≡ slice_index_or xs k d → take k xs ++ x ∷ [] ≡ take (k + 1) xs
+take_next xs k d x below is =
+    let one : k + 1 ≡ suc k = omega arith in
+    ap (λ (y : _). take k xs ++ y ∷ []) is ∙ sym (take-suc xs k d below) ∙ sym (ap (λ (n : ℕ). take n xs) one)
+
+module _ (diagram : Diagram) (plan : Resolved) (timing : Timing) where
+  pub one_output : (name : List ℕ) (block : ℕ) (path earlier later : List ℕ) → IsTightPath (latency_arcs diagram plan timing.fed) timing.lat block path
+      → later ≡ earlier ++ output_line diagram plan timing (record { name = name; block = block; path = path }) → AddsOutput diagram plan timing name block earlier later
+  one_output name block path earlier later tight is = record {
+    output = record { name = name; block = block; path = path };
+    are = record { names_are = refl; blocks_are = refl; tight = λ k output at. only k output at };
+    text_is = is;
+  } where
+    only : (k : ℕ) (output : Output) → slice_get (record { name = name; block = block; path = path } ∷ []) k ≡ Some output → IsTightPath (latency_arcs diagram plan timing.fed) timing.lat output.block output.path
+    only zero output at = subst (λ (o : Output). IsTightPath (latency_arcs diagram plan timing.fed) timing.lat o.block o.path) (same_Some _ output at) tight
+    only (suc k) output at = absurd (none-some output at)
+
+  pub no_outputs : (names : List (List ℕ)) (blocks earlier later : List ℕ) → later ≡ earlier ++ [] → AddsOutputs diagram plan timing names blocks 0 earlier later
+  no_outputs names blocks earlier later is = record {
+    outputs = [];
+    are = record { names_are = refl; blocks_are = refl; tight = λ k output at. absurd (none-some output at) };
+    text_is = is;
+  }
+
+  pub outputs_more : (names : List (List ℕ)) (blocks : List ℕ) (k : ℕ) (name d : List ℕ) (block e : ℕ) (old text new : List ℕ) → AddsOutputs diagram plan timing names blocks k old text → k < length blocks → length names ≡ length blocks
+      → name ≡ slice_index_or names k d → block ≡ slice_index_or blocks k e → AddsOutput diagram plan timing name block text new → AddsOutputs diagram plan timing names blocks (k + 1) old new
+  outputs_more names blocks k name d block e old text new adds below size name_is block_is one = record {
+    outputs = adds.outputs ++ one.output ∷ [];
+    are = record {
+      names_are = map-append (λ output. output.name) adds.outputs (one.output ∷ []) ∙ ap (λ (ns : List (List ℕ)). ns ++ one.output.name ∷ []) adds.are.names_are ∙ ap (λ (ns : List (List ℕ)). take k names ++ ns) one.are.names_are
+          ∙ take_next names k d name (omega (arith, below, size)) name_is;
+      blocks_are = map-append (λ output. output.block) adds.outputs (one.output ∷ []) ∙ ap (λ (bs : List ℕ). bs ++ one.output.block ∷ []) adds.are.blocks_are ∙ ap (λ (bs : List ℕ). take k blocks ++ bs) one.are.blocks_are
+          ∙ take_next blocks k e block below block_is;
+      tight = λ j output at. elim (own_or_last adds.outputs one.output j output at) [
+        | inl before ↦ adds.are.tight j output before
+        | inr same ↦ subst (λ (o : Output). IsTightPath (latency_arcs diagram plan timing.fed) timing.lat o.block o.path) same (one.are.tight 0 one.output refl)
+      ];
+    };
+    text_is = line_more (output_line diagram plan timing) adds.outputs one.output old text new adds.text_is one.text_is;
+  }
+
+  -- the line, piece by piece
+  pub line_is : (name path old one two new : List ℕ) (block clocks : ℕ) → clocks ≡ declared_latency diagram (attributes_of diagram) plan timing block → one ≡ old ++ head_text name clocks → two ≡ one ++ steps_text diagram path → new ≡ two ++ codes "\n"
+      → new ≡ old ++ output_line diagram plan timing (record { name = name; block = block; path = path })
+  unfolding output_line
+  line_is name path old one two new block clocks clocks_is one_is two_is new_is =
+      let head : List ℕ = head_text name (declared_latency diagram (attributes_of diagram) plan timing block) in
+      three_added head (steps_text diagram path) (codes "\n") old one two new (one_is ∙ ap (λ (n : ℕ). old ++ head_text name n) clocks_is) two_is new_is

@@ -1,0 +1,3 @@
+pub mod CheckText
+pub mod Paths
+pub mod inner
