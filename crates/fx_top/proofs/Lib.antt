@@ -3,12 +3,12 @@ pub mod Commands
 mod DelayDiagram
 mod DelayModel
 mod DelayModule
-pub mod Generated
 pub mod Header
 pub mod Lines
 pub mod Loop
 pub mod Names
 mod Outcomes
+pub mod Planning
 pub mod Replayed
 mod ReplayedDelay
 pub mod Responses
@@ -17,6 +17,7 @@ pub mod Sayings
 mod SimulatedDelay
 pub mod Simulations
 pub mod Spelled
+pub mod Told
 pub mod Unfetched
 pub mod Verilogs
 mod UnitDelay

@@ -1,5 +1,5 @@
 -- What commands of a model and a plan fetch.
-use Rattle.std.proofs.Common.{◌≡◌, ◌⊎◌, inl, inr, ℕ, Bool, true, false, if◌then◌else◌, List, [], ◌∷◌, ◌++◌, All, None, bytes_eq, codes, refl, subst, arith}
+use Rattle.std.proofs.Common.{◌≡◌, ◌⊎◌, inl, inr, ℕ, Bool, true, false, if◌then◌else◌, List, [], ◌∷◌, ◌++◌, All, Contains, None, bytes_eq, codes, refl, ap, sym, ◌∙◌, subst, arith}
 use Rattle.std.specs.Str.Lines.{lines}
 use Rattle.std.proofs.lemmas.List.Elements.{All-cons, All-nil}
 use Rattle.fx_designed.specs.Design.{IsBadPlan, TellsPlanRule}
@@ -12,11 +12,11 @@ use Rattle.fx_top.specs.declared.answer.Answer.{Answer}
 use Rattle.fx_top.specs.Call.{Files, IsUntouched, Stream}
 use Rattle.fx_top.specs.Cause.{BreaksSomeRule, HasBadLine}
 use Rattle.fx_top.specs.Caused.{HasCause, HasWritten}
-use Rattle.fx_top.specs.Command.{Command, PlanWord, EmptyPlan, Named, Generate, plan_files, plan_word}
+use Rattle.fx_top.specs.Command.{Command, PlanWord, EmptyPlan, Named, files_of, plan_files, plan_word}
 use Rattle.fx_top.specs.Output.{IsPlanText}
-use Rattle.fx_top.specs.Trouble.{file_limit, trouble_or}
+use Rattle.fx_top.specs.Trouble.{file_limit, first_trouble, trouble_or}
 use Rattle.fx_top.specs.inner.Fetching.{IsPlanAnswer}
-use Rattle.fx_top.proofs.Running.{untroubled}
+use Rattle.fx_top.proofs.Told.{ReadsPlan, untroubled}
 use Rattle.fx_top.proofs.Unfetched.{cause-unfetched, moved, unwritten}
 
 pub fetched-all : (held : List ℕ → Told) (model bytes : List ℕ) → Fetched (held model) file_limit bytes → All (λ file. (bytes : List ℕ) × Fetched (held file) file_limit bytes) (model ∷ [])
@@ -32,10 +32,13 @@ fetched-planned held model (Named file) bytes text fetched says =
     All-cons P model (file ∷ []) (bytes, fetched) (fetched-all held file text says)
 
 -- a plan that was not to be had, behind a model that was fetched
-pub plan-unfetched : (files : Files) (model : List ℕ) (plan : PlanWord) (bytes : List ℕ) (answer : Answer) → Fetched (files.held model) file_limit bytes → IsPlanAnswer files plan answer → HasCause files (Generate model plan) answer
-plan-unfetched files model EmptyPlan bytes answer fetched why = absurd why
-plan-unfetched files model (Named file) bytes answer fetched why =
-    cause-unfetched files (Generate model (Named file)) file (1, omega arith, refl) None (untroubled model (files.held model) bytes fetched (trouble_or file (files.held file) None)) answer why
+pub plan-unfetched : (files : Files) (command : Command) (model : List ℕ) (plan : PlanWord) → ReadsPlan command model plan → (bytes : List ℕ) (answer : Answer) → Fetched (files.held model) file_limit bytes → IsPlanAnswer files plan answer → HasCause files command answer
+plan-unfetched files command model EmptyPlan reads bytes answer fetched why = absurd why
+plan-unfetched files command model (Named file) reads bytes answer fetched why =
+    let asked : Contains (files_of command) file = subst (λ (names : List (List ℕ)). Contains names file) (sym reads.are_files) (1, omega arith, refl) in
+    let first : first_trouble files.held (files_of command) ≡ trouble_or file (files.held file) None =
+    ap (first_trouble files.held) reads.are_files ∙ untroubled model (files.held model) bytes fetched (trouble_or file (files.held file) None) in
+    cause-unfetched files command file asked None first answer why
 
 -- a plan that was not to be had, later in the call
 pub plan-moved : (before after : Files) (plan : PlanWord) (answer : Answer) → after.held ≡ before.held → (before.steady → after.steady) → (after.failed → before.failed) → (after.met_overlong → before.met_overlong)
@@ -48,26 +51,32 @@ plan-unwritten late files out command EmptyPlan answer untouched why = absurd wh
 plan-unwritten late files out command (Named file) answer untouched why = unwritten late files out command file answer untouched why
 
 -- a rule of the model or of the plan that is told
-pub plan-rule : (files : Files) (model : List ℕ) (plan : PlanWord) (bytes text line : List ℕ) → Fetched (files.held model) file_limit bytes → IsPlanText files.held plan text
-    → TellsRule bytes line ⊎ TellsPlanRule bytes text line → BreaksSomeRule files (Generate model plan) line
-plan-rule files model plan bytes text line fetched says (inl told) = inl (record { file = model; is_model = refl; bytes = bytes; fetched = fetched; told = told })
-plan-rule files model plan bytes text line fetched says (inr told) =
-    inr (record { file = model; is_model = refl; plan = plan; is_plan = refl; bytes = bytes; fetched = fetched; text = text; says = says; told = told })
+pub plan-rule : (files : Files) (command : Command) (model : List ℕ) (plan : PlanWord) → ReadsPlan command model plan → (bytes text line : List ℕ) → Fetched (files.held model) file_limit bytes → IsPlanText files.held plan text
+    → TellsRule bytes line ⊎ TellsPlanRule bytes text line → BreaksSomeRule files command line
+plan-rule files command model plan reads bytes text line fetched says (inl told) = inl (record { file = model; is_model = reads.is_model; bytes = bytes; fetched = fetched; told = told })
+plan-rule files command model plan reads bytes text line fetched says (inr told) =
+    inr (record { file = model; is_model = reads.is_model; plan = plan; is_plan = reads.is_plan; bytes = bytes; fetched = fetched; text = text; says = says; told = told })
 
 -- no bytes have no bad line
 no-line : (before : List (List ℕ)) (bad : List ℕ) (after : List (List ℕ)) → lines [] ≡ before ++ bad ∷ after → ⊥
 no-line [] bad after e = absurd (cc e)
 no-line (line ∷ before) bad after e = absurd (cc e)
 
-bad-by : (files : Files) (model word bytes text : List ℕ) (line : ℕ) (cause : TableCause) (empty : Bool) → Fetched (files.held model) file_limit bytes → IsPlanText files.held (if empty then EmptyPlan else Named word) text
-    → IsBadPlan bytes text line cause → HasBadLine files (Generate model (if empty then EmptyPlan else Named word)) word line cause
-bad-by files model word bytes text line cause true fetched says bad =
+bad-by : (files : Files) (command : Command) (model word : List ℕ) (empty : Bool) → ReadsPlan command model (if empty then EmptyPlan else Named word) → (bytes text : List ℕ) (line : ℕ) (cause : TableCause)
+    → Fetched (files.held model) file_limit bytes → IsPlanText files.held (if empty then EmptyPlan else Named word) text → IsBadPlan bytes text line cause → HasBadLine files command word line cause
+bad-by files command model word true reads bytes text line cause fetched says bad =
     let fault = subst (λ (own : List ℕ). IsPlanFault own (Bad line cause)) says bad.bad in
     absurd (no-line fault.before fault.bad fault.after fault.whole)
-bad-by files model word bytes text line cause false fetched says bad =
-    record { is_table = refl; first = bytes; table = text; first_fetched = fetched; table_fetched = says; bad = bad }
+bad-by files command model word false reads bytes text line cause fetched says bad = record {
+  is_table = reads.is_table;
+  first = bytes;
+  table = text;
+  first_fetched = subst (λ (file : List ℕ). Fetched (files.held file) file_limit bytes) (sym reads.is_first) fetched;
+  table_fetched = says;
+  bad = reads.bad bytes text line cause bad;
+}
 
 -- a bad line of the plan that a word names
-pub plan-bad : (files : Files) (model word bytes text : List ℕ) (line : ℕ) (cause : TableCause) → Fetched (files.held model) file_limit bytes → IsPlanText files.held (plan_word word) text
-    → IsBadPlan bytes text line cause → HasBadLine files (Generate model (plan_word word)) word line cause
-plan-bad files model word bytes text line cause fetched says bad = bad-by files model word bytes text line cause (bytes_eq word (codes "-")) fetched says bad
+pub plan-bad : (files : Files) (command : Command) (model word : List ℕ) → ReadsPlan command model (plan_word word) → (bytes text : List ℕ) (line : ℕ) (cause : TableCause)
+    → Fetched (files.held model) file_limit bytes → IsPlanText files.held (plan_word word) text → IsBadPlan bytes text line cause → HasBadLine files command word line cause
+plan-bad files command model word reads bytes text line cause fetched says bad = bad-by files command model word (bytes_eq word (codes "-")) reads bytes text line cause fetched says bad

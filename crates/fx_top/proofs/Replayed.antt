@@ -13,7 +13,7 @@ use Rattle.fx_top.specs.Replayed.{IsBroken, condition_of}
 use Rattle.fx_top.specs.Cause.{AreFetched, IsFetched}
 use Rattle.fx_top.specs.Command.{Replay, files_of}
 use Rattle.fx_top.specs.Trouble.{first_trouble, trouble_or, file_limit}
-use Rattle.fx_top.proofs.Running.{untroubled}
+use Rattle.fx_top.proofs.Told.{untroubled}
 
 pub fetched-both : (files : Files) (verilog stimulus first second : List ℕ) → IsFetched files verilog first → IsFetched files stimulus second → AreFetched files (Replay verilog stimulus)
 fetched-both files verilog stimulus first second one other =

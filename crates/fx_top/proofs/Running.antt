@@ -1,10 +1,5 @@
 -- What a command's cause says of its status.
-use Rattle.std.proofs.Common.{◌≡◌, ◌≤◌, ◌<◌, ⊎_elim, inl, inr, ℕ, List, [], ◌∷◌, length, nat_lt, false, All, Option, None, Some, refl, ap, sym, ◌∙◌, subst, arith}
-use Rattle.std.proofs.lemmas.Bool.{false_from_ne_true, ltb-true}
-use Rattle.std.proofs.lemmas.List.Elements.{All-head, All-tail}
-use Rattle.dg_model.specs.declared.diagram.Diagram.{Diagram}
-use Rattle.dg_model.specs.declared.resolved.Resolved.{Resolved}
-use Rattle.hw_sched.specs.Slots.{Timing}
+use Rattle.std.proofs.Common.{◌≡◌, ⊎_elim, inl, inr, ℕ, List, [], ◌∷◌, Option, None, Some, refl, ap, sym, ◌∙◌, subst, arith}
 use Rattle.mdl_text.specs.declared.tree.Tree.{Tree}
 use Rattle.mdl_text.specs.Stands.{Stands}
 use Rattle.fx_tables.specs.declared.table.TableCause.{TableCause}
@@ -12,70 +7,70 @@ use Rattle.vl_ast.specs.declared.modules.Module.{Module}
 use Rattle.vl_ast.specs.Conditions.{Fault, IsFirstFault}
 use Rattle.vl_ast.specs.Grammar.{Spells}
 use Rattle.vl_check.specs.declared.fault.VlFault.{VlFault}
-use Rattle.fx_io.specs.Shelf.{Told, Fetched}
+use Rattle.fx_io.specs.Shelf.{Told}
 use Rattle.fx_top.specs.declared.answer.Answer.{Answer}
 use Rattle.fx_top.specs.declared.answer.Answer.TheVariants.{Done, OutOfMemory, Usage, CannotRead, CannotWrite, NotMdl, BadTable, BreaksRule, NotVerilog, Broken, TooLong}
 use Rattle.fx_top.specs.Answer.{status_of}
 use Rattle.fx_top.specs.Call.{Files, Stream}
-use Rattle.fx_top.specs.Cause.{IsFetched, AreFetched, HasNoTree, HasBrokenRule, HasBrokenPlan, HasBadLine, HasNoVerilog, BreaksCondition}
+use Rattle.fx_top.specs.Cause.{AreFetched, HasNoTree, HasBrokenRule, HasBrokenPlan, HasBadLine, HasNoVerilog, BreaksCondition}
 use Rattle.fx_top.specs.Caused.{HasCause, HasWritten, IsCarriedOut}
-use Rattle.fx_top.specs.Command.{Command, PlanWord, EmptyPlan, Named, Generate, Replay, Simulate, Explore, command_of, model_of, verilog_of, plan_of, plan_file, table_of, first_of, files_of}
-use Rattle.fx_designed.specs.Design.{IsBadPlan, IsDesignOf, TellsPlanRule}
-use Rattle.fx_tables.specs.Plan.{IsPlan}
+use Rattle.fx_top.specs.Command.{Command, PlanWord, Generate, Replay, Simulate, Explore, Check, command_of, model_of, verilog_of, plan_of, table_of, first_of, files_of}
+use Rattle.fx_designed.specs.Design.{IsBadPlan, TellsPlanRule}
 use Rattle.fx_model.specs.Model.{IsNoText, IsModelOf, IsBrokenModel, IsWithoutDiagram}
-use Rattle.fx_top.specs.Generated.{IsWithoutDesign}
+use Rattle.fx_top.specs.Designed.{IsWithoutDesign}
 use Rattle.fx_top.specs.Outcome.{Yields, Tells, TellsPlan, IfCommand, IsBadFor, IsDue, CanBeDone, IsComplete}
-use Rattle.fx_top.specs.Output.{IsOutput, IsPlanText}
+use Rattle.fx_top.specs.Output.{IsCheckOfFiles, IsOutput, IsVerilogOfFiles}
 use Rattle.fx_top.specs.Replayed.{HasFault, IsNoVerilog, IsSoundText, fault_for}
 use Rattle.fx_top.specs.Simulated.{fault_in}
-use Rattle.fx_top.specs.Trouble.{Trouble, Absent, Overlong, trouble_or, first_trouble, file_limit}
+use Rattle.fx_top.specs.Trouble.{Trouble, Absent, Overlong, first_trouble}
 use Rattle.fx_top.proofs.Commands.{IsFit, IsGood, accepted-fit, bad-fit, first-model, first-verilog, fit-kept, fit-sound, fit-tree, good-diagram, good-sound, good-tree, model-alone, own-first, plan-good, sound-first, table-good}
+use Rattle.fx_top.proofs.Told.{HasDesign, checks, design-good, design-planned, design-told, fetched-told, generates, lines-kept, no-trouble, none-broken, rules-kept, told-is}
 
--- a file that was fetched is in no trouble
-pub untroubled : (file : List ℕ) (told : Told) (bytes : List ℕ) → Fetched told file_limit bytes → (later : Option Trouble) → trouble_or file told later ≡ later
-untroubled file None bytes fetched later = refl
-untroubled file (Some None) bytes fetched later = let is = fetched.held None refl in absurd (cc is)
-untroubled file (Some (Some own)) bytes fetched later =
-    let is : Some own ≡ Some bytes = fetched.held (Some own) refl in
-    let same : own ≡ bytes = cc is in
-    let within : length own ≤ file_limit = subst (λ (text : List ℕ). length text ≤ file_limit) (sym same) fetched.within in
-    let short : nat_lt file_limit (length own) ≡ false = false_from_ne_true (nat_lt file_limit (length own)) (λ e. let above : file_limit < length own = ltb-true file_limit (length own) e in absurd (omega arith)) in
-    simp short
+-- the design that a written text is of
+verilog-design : {held : List ℕ → Told} {model : List ℕ} {plan : PlanWord} {text : List ℕ} → IsVerilogOfFiles held model plan text → HasDesign held model plan
+verilog-design output = record {
+  model_bytes = output.model_bytes;
+  plan_bytes = output.plan_bytes;
+  model_fetched = output.model_fetched;
+  plan_says = output.plan_says;
+  diagram = output.verilog.diagram;
+  resolved = output.verilog.resolved;
+  timing = output.verilog.timing;
+  design = output.verilog.design;
+}
 
-no-trouble : (held : List ℕ → Told) (names : List (List ℕ)) → All (λ file. (bytes : List ℕ) × Fetched (held file) file_limit bytes) names → first_trouble held names ≡ None
-no-trouble held [] all = refl
-no-trouble held (file ∷ names) all =
-    let P : List ℕ → Type 0 = λ name. (bytes : List ℕ) × Fetched (held name) file_limit bytes in
-    let here = All-head P file names all in
-    untroubled file (held file) here.0 here.1 (first_trouble held names) ∙ no-trouble held names (All-tail P file names all)
+check-design : {held : List ℕ → Told} {model : List ℕ} {plan : PlanWord} {text : List ℕ} → IsCheckOfFiles held model plan text → HasDesign held model plan
+check-design output = record {
+  model_bytes = output.model_bytes;
+  plan_bytes = output.plan_bytes;
+  model_fetched = output.model_fetched;
+  plan_says = output.plan_says;
+  diagram = output.check.diagram;
+  resolved = output.check.resolved;
+  timing = output.check.timing;
+  design = output.check.design;
+}
 
 module _ (files : Files) (out : Stream) (unique : (bytes : List ℕ) (one other : Tree) → Stands bytes one → Stands bytes other → one ≡ other)
     (one_module : (bytes : List ℕ) (one other : Module) → Spells bytes one → Spells bytes other → one ≡ other) where
   fetched-whole : (command : Command) (trouble : Trouble) → AreFetched files command → first_trouble files.held (files_of command) ≡ Some trouble → ⊥
   fetched-whole command trouble all is = let none = no-trouble files.held (files_of command) all in absurd (cc (none, is))
 
-  told-is : (file told bytes : List ℕ) → IsFetched files file bytes → Tells files file told → told ≡ bytes
-  told-is file told bytes fetched tells = let same : Some told ≡ Some bytes = fetched.held (Some told) tells in cc same
-
-  -- what was fetched under a name is what the shelf tells under it
-  fetched-told : (name file told bytes : List ℕ) → name ≡ file → IsFetched files file bytes → Tells files name told → told ≡ bytes
-  fetched-told name file told bytes same fetched tells = told-is file told bytes fetched (subst (λ (n : List ℕ). Tells files n told) same tells)
-
   -- ---- what an output says of the first file
 
   written-good : (command : Command) (text bytes : List ℕ) → IsOutput command files.held text → Tells files (first_of command) bytes → IsGood command bytes
-  written-good (Generate model plan) text bytes output tells =
-      (output.verilog.diagram, subst (λ (b : List ℕ). IsModelOf b output.verilog.diagram) (sym (told-is model bytes output.model_bytes output.model_fetched tells)) output.verilog.design.accepted)
+  written-good (Generate model plan) text bytes output tells = design-good files model plan (verilog-design output) bytes tells
   written-good (Replay verilog stimulus) text bytes output tells =
-      (output.replay.made, subst (λ (b : List ℕ). IsSoundText b output.replay.made) (sym (told-is verilog bytes output.verilog_bytes output.verilog_fetched tells)) output.replay.spelled)
+      (output.replay.made, subst (λ (b : List ℕ). IsSoundText b output.replay.made) (sym (told-is files verilog bytes output.verilog_bytes output.verilog_fetched tells)) output.replay.spelled)
   written-good (Simulate model stimulus) text bytes output tells =
-      (output.simulation.diagram, subst (λ (b : List ℕ). IsModelOf b output.simulation.diagram) (sym (told-is model bytes output.model_bytes output.model_fetched tells)) output.simulation.accepted)
+      (output.simulation.diagram, subst (λ (b : List ℕ). IsModelOf b output.simulation.diagram) (sym (told-is files model bytes output.model_bytes output.model_fetched tells)) output.simulation.accepted)
   written-good (Explore model range) text bytes output tells =
-      (output.1.1.diagram, subst (λ (b : List ℕ). IsModelOf b output.1.1.diagram) (sym (told-is model bytes output.0 output.1.0 tells)) output.1.1.accepted)
+      (output.1.1.diagram, subst (λ (b : List ℕ). IsModelOf b output.1.1.diagram) (sym (told-is files model bytes output.0 output.1.0 tells)) output.1.1.accepted)
+  written-good (Check model plan) text bytes output tells = design-good files model plan (check-design output) bytes tells
 
   bad-good : (command : Command) (bytes file : List ℕ) (line : ℕ) (cause : TableCause) → Tells files (first_of command) bytes → HasBadLine files command file line cause → IsGood command bytes
   bad-good command bytes file line cause tells why =
-      subst (IsGood command) (sym (told-is (first_of command) bytes why.first why.first_fetched tells)) (table-good command why.first why.table line cause why.bad)
+      subst (IsGood command) (sym (told-is files (first_of command) bytes why.first why.first_fetched tells)) (table-good command why.first why.table line cause why.bad)
 
   -- ---- what the faults of the first file exclude
 
@@ -89,34 +84,29 @@ module _ (files : Files) (out : Stream) (unique : (bytes : List ℕ) (one other 
   -- they are no text of MDL
   told-none : (command : Command) (bytes file : List ℕ) (line : ℕ) → Tells files (first_of command) bytes → HasNoTree files command file line → IsNoText bytes
   told-none command bytes file line tells why =
-      subst IsNoText (sym (fetched-told (first_of command) file bytes why.bytes (sym (first-model command file why.is_model)) why.fetched tells)) why.not_mdl.no_tree
+      subst IsNoText (sym (fetched-told files (first_of command) file bytes why.bytes (sym (first-model command file why.is_model)) why.fetched tells)) why.not_mdl.no_tree
 
   told-rule : (command : Command) (bytes line : List ℕ) → Tells files (first_of command) bytes → (why : HasBrokenRule files command line) → IsBrokenModel bytes why.told.fault why.told.paths
   told-rule command bytes line tells why =
       let first = first-model command why.file why.is_model in
-      subst (λ (b : List ℕ). IsBrokenModel b why.told.fault why.told.paths) (sym (fetched-told (first_of command) why.file bytes why.bytes (sym first) why.fetched tells)) why.told.broken
-
-  -- of a plan
-  told-plan : (plan : PlanWord) (told text : List ℕ) → IsPlanText files.held plan text → TellsPlan files plan told → told ≡ text
-  told-plan EmptyPlan told text says tells = tells ∙ sym says
-  told-plan (Named file) told text says tells = told-is file told text says tells
+      subst (λ (b : List ℕ). IsBrokenModel b why.told.fault why.told.paths) (sym (fetched-told files (first_of command) why.file bytes why.bytes (sym first) why.fetched tells)) why.told.broken
 
   -- the plan breaks a rule on the diagram of the told bytes
   told-plan_rule : (command : Command) (bytes line : List ℕ) → Tells files (first_of command) bytes → (why : HasBrokenPlan files command line) → TellsPlanRule bytes why.text line
   told-plan_rule command bytes line tells why =
       let first = first-model command why.file why.is_model in
-      subst (λ (b : List ℕ). TellsPlanRule b why.text line) (sym (fetched-told (first_of command) why.file bytes why.bytes (sym first) why.fetched tells)) why.told
+      subst (λ (b : List ℕ). TellsPlanRule b why.text line) (sym (fetched-told files (first_of command) why.file bytes why.bytes (sym first) why.fetched tells)) why.told
 
   plan_rule-good : (command : Command) (bytes line : List ℕ) → Tells files (first_of command) bytes → HasBrokenPlan files command line → IsGood command bytes
   plan_rule-good command bytes line tells why = let told = told-plan_rule command bytes line tells why in plan-good command why.plan bytes told.diagram why.is_plan told.accepted
 
   told-no_verilog : (command : Command) (bytes file : List ℕ) (line : ℕ) → Tells files (first_of command) bytes → HasNoVerilog files command file line → IsNoVerilog bytes
   told-no_verilog command bytes file line tells why =
-      subst IsNoVerilog (sym (fetched-told (first_of command) file bytes why.bytes (sym (first-verilog command file why.is_verilog)) why.fetched tells)) why.not_verilog.refused
+      subst IsNoVerilog (sym (fetched-told files (first_of command) file bytes why.bytes (sym (first-verilog command file why.is_verilog)) why.fetched tells)) why.not_verilog.refused
 
   told-fault : (command : Command) (bytes file : List ℕ) (fault : VlFault) → Tells files (first_of command) bytes → (why : BreaksCondition files command file fault) → HasFault bytes why.broken.condition
   told-fault command bytes file fault tells why =
-      subst (λ (b : List ℕ). HasFault b why.broken.condition) (sym (fetched-told (first_of command) file bytes why.bytes (sym (first-verilog command file why.is_verilog)) why.fetched tells)) why.broken.has
+      subst (λ (b : List ℕ). HasFault b why.broken.condition) (sym (fetched-told files (first_of command) file bytes why.bytes (sym (first-verilog command file why.is_verilog)) why.fetched tells)) why.broken.has
 
   -- ---- such bytes exclude each fault
 
@@ -139,19 +129,13 @@ module _ (files : Files) (out : Stream) (unique : (bytes : List ℕ) (one other 
 
   -- ---- a stimulus
 
-  -- the text of a plan that has a file is what is told of that
-  plan-told : (plan : PlanWord) (file told text : List ℕ) → plan_file plan ≡ Some file → IsPlanText files.held plan text → Tells files file told → told ≡ text
-  plan-told EmptyPlan file told text is says tells = absurd (cc is)
-  plan-told (Named own) file told text is says tells = let same : own ≡ file = cc is in fetched-told file own told text (sym same) says tells
-
   -- a bad line, by what is told of the first file, excludes an output
   written-bad : (command : Command) (text bytes stimulus numbers : List ℕ) → IsOutput command files.held text → table_of command ≡ Some stimulus → Tells files (first_of command) bytes → Tells files stimulus numbers → IsBadFor command bytes numbers → ⊥
-  written-bad (Generate model plan) text bytes stimulus numbers output is tells told bad =
-      bad.none output.verilog.design.plan (subst (λ (own : List ℕ). IsPlan own output.verilog.design.plan) (sym (plan-told plan stimulus numbers output.plan_bytes is output.plan_says told)) output.verilog.design.says)
+  written-bad (Generate model plan) text bytes stimulus numbers output is tells told bad = design-planned files model plan (verilog-design output) bytes tells stimulus numbers is told bad
   written-bad (Replay verilog rows) text bytes stimulus numbers output is tells told bad =
       let same : stimulus ≡ rows = sym (cc is) in
-      let first = told-is verilog bytes output.verilog_bytes output.verilog_fetched tells in
-      let second = fetched-told stimulus rows numbers output.stimulus_bytes same output.stimulus_fetched told in
+      let first = told-is files verilog bytes output.verilog_bytes output.verilog_fetched tells in
+      let second = fetched-told files stimulus rows numbers output.stimulus_bytes same output.stimulus_fetched told in
       let sound = subst (λ (b : List ℕ). IsSoundText b output.replay.made) (sym first) output.replay.spelled in
       let fault = bad.1.1 in
       let one = one_module bytes output.replay.made fault.made sound.spells fault.spelled.spells in
@@ -160,69 +144,53 @@ module _ (files : Files) (out : Stream) (unique : (bytes : List ℕ) (one other 
       absurd (cc (e, f))
   written-bad (Simulate model rows) text bytes stimulus numbers output is tells told bad =
       let same : stimulus ≡ rows = sym (cc is) in
-      let first = told-is model bytes output.model_bytes output.model_fetched tells in
-      let second = fetched-told stimulus rows numbers output.stimulus_bytes same output.stimulus_fetched told in
+      let first = told-is files model bytes output.model_bytes output.model_fetched tells in
+      let second = fetched-told files stimulus rows numbers output.stimulus_bytes same output.stimulus_fetched told in
       let fault = bad.bad output.simulation.diagram (subst (λ (b : List ℕ). IsModelOf b output.simulation.diagram) (sym first) output.simulation.accepted) in
       let e = ap (fault_in output.simulation.diagram) second ∙ output.simulation.rows_are.no_fault in
       let f = fault.1.1 in
       absurd (cc (e, f))
   written-bad (Explore model range) text bytes stimulus numbers output is tells told bad = bad
+  written-bad (Check model plan) text bytes stimulus numbers output is tells told bad = design-planned files model plan (check-design output) bytes tells stimulus numbers is told bad
 
   -- ---- a plan
 
-  -- a file that is fetched for a plan is told
-  file-told : (plan : PlanWord) (file told text : List ℕ) → plan_file plan ≡ Some file → TellsPlan files plan told → IsFetched files file text → told ≡ text
-  file-told EmptyPlan file told text is tells fetched = absurd (cc is)
-  file-told (Named own) file told text is tells fetched = fetched-told own file told text (cc is) fetched tells
-
   -- what is written of a plan is of a design
-  undesigned : (command : Command) (own bytes text : List ℕ) (plan : PlanWord) → IsOutput command files.held own → plan_of command ≡ Some plan → Tells files (first_of command) bytes → TellsPlan files plan text
-      → ((diagram : Diagram) (resolved : Resolved) (timing : Timing) → IsDesignOf bytes text diagram resolved timing → ⊥) → ⊥
-  undesigned (Generate model word) own bytes text plan output is tells told none =
-      let same : plan ≡ word = sym (cc is) in
-      let first = told-is model bytes output.model_bytes output.model_fetched tells in
-      let second = told-plan word text output.plan_bytes output.plan_says (subst (λ (w : PlanWord). TellsPlan files w text) same told) in
-      let v = output.verilog in
-      none v.diagram v.resolved v.timing
-      (subst (λ (b : List ℕ). IsDesignOf b text v.diagram v.resolved v.timing) (sym first)
-      (subst (λ (t : List ℕ). IsDesignOf output.model_bytes t v.diagram v.resolved v.timing) (sym second) v.design))
-  undesigned (Replay verilog rows) own bytes text plan output is tells told none = absurd (cc is)
-  undesigned (Simulate model rows) own bytes text plan output is tells told none = absurd (cc is)
-  undesigned (Explore model range) own bytes text plan output is tells told none = absurd (cc is)
+  undesigned : (command : Command) (own bytes text : List ℕ) (plan : PlanWord) → IsOutput command files.held own → plan_of command ≡ Some plan → Tells files (first_of command) bytes → TellsPlan files plan text → IsWithoutDesign bytes text → ⊥
+  undesigned (Generate model word) own bytes text plan output is tells told refused =
+      design-told files model word (verilog-design output) bytes tells text (subst (λ (w : PlanWord). TellsPlan files w text) (sym (cc is)) told) refused
+  undesigned (Replay verilog rows) own bytes text plan output is tells told refused = absurd (cc is)
+  undesigned (Simulate model rows) own bytes text plan output is tells told refused = absurd (cc is)
+  undesigned (Explore model range) own bytes text plan output is tells told refused = absurd (cc is)
+  undesigned (Check model word) own bytes text plan output is tells told refused =
+      design-told files model word (check-design output) bytes tells text (subst (λ (w : PlanWord). TellsPlan files w text) (sym (cc is)) told) refused
 
   -- where no line of it is bad, none is told
-  plan-lines : (command : Command) (plan : PlanWord) (file bytes text : List ℕ) (line : ℕ) (cause : TableCause) → plan_of command ≡ Some plan → Tells files (first_of command) bytes → TellsPlan files plan text
-      → ((line : ℕ) (cause : TableCause) → IsBadPlan bytes text line cause → ⊥) → HasBadLine files command file line cause → ⊥
-  plan-lines (Generate model word) plan file bytes text line cause is tells told good why =
-      let same : plan ≡ word = sym (cc is) in
-      let first = told-is model bytes why.first why.first_fetched tells in
-      let second = file-told word file text why.table why.is_table (subst (λ (w : PlanWord). TellsPlan files w text) same told) why.table_fetched in
-      good line cause (subst (λ (b : List ℕ). IsBadPlan b text line cause) (sym first) (subst (λ (t : List ℕ). IsBadPlan why.first t line cause) (sym second) why.bad))
-  plan-lines (Replay verilog rows) plan file bytes text line cause is tells told good why = absurd (cc is)
-  plan-lines (Simulate model rows) plan file bytes text line cause is tells told good why = absurd (cc is)
-  plan-lines (Explore model range) plan file bytes text line cause is tells told good why = absurd (cc is)
+  plan-lines : (command : Command) (plan : PlanWord) (bytes text : List ℕ) → plan_of command ≡ Some plan → Tells files (first_of command) bytes → TellsPlan files plan text
+      → ((line : ℕ) (cause : TableCause) → IsBadPlan bytes text line cause → ⊥) → (file : List ℕ) (line : ℕ) (cause : TableCause) → HasBadLine files command file line cause → ⊥
+  plan-lines (Generate model word) plan bytes text is tells told good =
+      lines-kept files (Generate model word) model word (generates model word) bytes text tells (subst (λ (w : PlanWord). TellsPlan files w text) (sym (cc is)) told) good
+  plan-lines (Replay verilog rows) plan bytes text is tells told good = absurd (cc is)
+  plan-lines (Simulate model rows) plan bytes text is tells told good = absurd (cc is)
+  plan-lines (Explore model range) plan bytes text is tells told good = absurd (cc is)
+  plan-lines (Check model word) plan bytes text is tells told good =
+      lines-kept files (Check model word) model word (checks model word) bytes text tells (subst (λ (w : PlanWord). TellsPlan files w text) (sym (cc is)) told) good
 
   -- a text that is no plan breaks no rule
   plan-none : (command : Command) (file bytes numbers : List ℕ) → table_of command ≡ Some file → Tells files file numbers → IsBadFor command bytes numbers → (line : List ℕ) → HasBrokenPlan files command line → ⊥
-  plan-none (Generate model word) file bytes numbers is told bad line why =
-      let same : why.plan ≡ word = sym (cc why.is_plan) in
-      let text = plan-told word file numbers why.text is (subst (λ (w : PlanWord). IsPlanText files.held w why.text) same why.says) told in
-      bad.none why.told.plan (subst (λ (t : List ℕ). IsPlan t why.told.plan) (sym text) why.told.says)
-  plan-none (Replay verilog rows) file bytes numbers is told bad line why = let e = why.is_plan in absurd (cc e)
-  plan-none (Simulate model rows) file bytes numbers is told bad line why = let e = why.is_plan in absurd (cc e)
-  plan-none (Explore model range) file bytes numbers is told bad line why = let e = why.is_plan in absurd (cc e)
+  plan-none (Generate model word) file bytes numbers is told bad = none-broken files (Generate model word) model word (generates model word) file bytes numbers is told bad
+  plan-none (Replay verilog rows) file bytes numbers is told bad = λ line why. (let e = why.is_plan in absurd (cc e))
+  plan-none (Simulate model rows) file bytes numbers is told bad = λ line why. (let e = why.is_plan in absurd (cc e))
+  plan-none (Explore model range) file bytes numbers is told bad = λ line why. (let e = why.is_plan in absurd (cc e))
+  plan-none (Check model word) file bytes numbers is told bad = none-broken files (Check model word) model word (checks model word) file bytes numbers is told bad
 
   -- where a command can be done its plan breaks none
   plan-kept : (command : Command) → CanBeDone files command → (line : List ℕ) → HasBrokenPlan files command line → ⊥
-  plan-kept (Generate model word) can line why =
-      let own : model ≡ why.file = cc why.is_model in
-      let same : why.plan ≡ word = sym (cc why.is_plan) in
-      let first = fetched-told model why.file can.model_bytes why.bytes own why.fetched can.model_told in
-      let second = told-plan word can.plan_bytes why.text (subst (λ (w : PlanWord). IsPlanText files.held w why.text) same why.says) can.plan_told in
-      can.can.kept line (subst (λ (b : List ℕ). TellsPlanRule b can.plan_bytes line) (sym first) (subst (λ (t : List ℕ). TellsPlanRule why.bytes t line) (sym second) why.told))
-  plan-kept (Replay verilog rows) can line why = let e = why.is_plan in absurd (cc e)
-  plan-kept (Simulate model rows) can line why = let e = why.is_plan in absurd (cc e)
-  plan-kept (Explore model range) can line why = let e = why.is_plan in absurd (cc e)
+  plan-kept (Generate model word) can = rules-kept files (Generate model word) model word (generates model word) can
+  plan-kept (Replay verilog rows) can = λ line why. (let e = why.is_plan in absurd (cc e))
+  plan-kept (Simulate model rows) can = λ line why. (let e = why.is_plan in absurd (cc e))
+  plan-kept (Explore model range) can = λ line why. (let e = why.is_plan in absurd (cc e))
+  plan-kept (Check model word) can = rules-kept files (Check model word) model word (checks model word) can
 
   -- ---- a clause on the status, answer by answer
 
@@ -302,8 +270,8 @@ module _ (files : Files) (out : Stream) (unique : (bytes : List ℕ) (one other 
         → (answer : Answer) → HasCause files command answer → HasWritten files out command answer → Yields 7 (3 ∷ 9 ∷ []) (status_of answer)
     broken_plan-due model bytes text plan is of tells told refused =
         let fit = accepted-fit command model bytes is refused.accepted in
-        by-answer 7 command (λ own output. undesigned command own bytes text plan output of tells told refused.none)
-        (λ file line why. absurd (not-none command bytes tells fit file line why)) (λ file line cause why. absurd (plan-lines command plan file bytes text line cause of tells told refused.good why))
+        by-answer 7 command (λ own output. undesigned command own bytes text plan output of tells told refused)
+        (λ file line why. absurd (not-none command bytes tells fit file line why)) (λ file line cause why. absurd (plan-lines command plan bytes text of tells told refused.good file line cause why))
         (λ line why. own-first 7)
         (λ file line why. absurd (model-alone command model file is why.is_verilog)) (λ file condition why. absurd (model-alone command model file is why.is_verilog))
         (λ line why. own-first 7)
@@ -360,17 +328,16 @@ module _ (files : Files) (out : Stream) (unique : (bytes : List ℕ) (one other 
   can-bytes (Replay verilog stimulus) can = (can.verilog_bytes, (can.verilog_told, (can.can.made, can.can.spelled)))
   can-bytes (Simulate model stimulus) can = (can.model_bytes, (can.model_told, can.can.accepted))
   can-bytes (Explore model range) can = (can.0, (can.1.0, can.1.1))
+  can-bytes (Check model plan) can = (can.model_bytes, (can.model_told, can.can.accepted))
 
   -- the stimulus is good
   stimulus-good : (command : Command) → CanBeDone files command → (file : List ℕ) (line : ℕ) (cause : TableCause) → HasBadLine files command file line cause → ⊥
   stimulus-good (Generate model plan) can file line cause why =
-      let first = told-is model can.model_bytes why.first why.first_fetched can.model_told in
-      let second = file-told plan file can.plan_bytes why.table why.is_table can.plan_told why.table_fetched in
-      can.can.good line cause (subst (λ (b : List ℕ). IsBadPlan b can.plan_bytes line cause) (sym first) (subst (λ (t : List ℕ). IsBadPlan why.first t line cause) (sym second) why.bad))
+      lines-kept files (Generate model plan) model plan (generates model plan) can.model_bytes can.plan_bytes can.model_told can.plan_told can.can.good file line cause why
   stimulus-good (Replay verilog stimulus) can file line cause why =
       let same : stimulus ≡ file = cc why.is_table in
-      let first = told-is verilog can.verilog_bytes why.first why.first_fetched can.verilog_told in
-      let second = fetched-told stimulus file can.stimulus_bytes why.table same why.table_fetched can.stimulus_told in
+      let first = told-is files verilog can.verilog_bytes why.first why.first_fetched can.verilog_told in
+      let second = fetched-told files stimulus file can.stimulus_bytes why.table same why.table_fetched can.stimulus_told in
       let sound = subst (λ (b : List ℕ). IsSoundText b can.can.made) first can.can.spelled in
       let one = one_module why.first can.can.made why.bad.made sound.spells why.bad.spelled.spells in
       let e = ap (λ (m : Module). fault_for m why.table) (sym one) ∙ ap (fault_for can.can.made) (sym second) ∙ can.can.good in
@@ -378,12 +345,14 @@ module _ (files : Files) (out : Stream) (unique : (bytes : List ℕ) (one other 
       absurd (cc (e, f))
   stimulus-good (Simulate model stimulus) can file line cause why =
       let same : stimulus ≡ file = cc why.is_table in
-      let first = told-is model can.model_bytes why.first why.first_fetched can.model_told in
-      let second = fetched-told stimulus file can.stimulus_bytes why.table same why.table_fetched can.stimulus_told in
+      let first = told-is files model can.model_bytes why.first why.first_fetched can.model_told in
+      let second = fetched-told files stimulus file can.stimulus_bytes why.table same why.table_fetched can.stimulus_told in
       let e = ap (fault_in why.bad.diagram) (sym second) ∙ can.can.good why.bad.diagram (subst (λ (b : List ℕ). IsModelOf b why.bad.diagram) (sym first) why.bad.accepted) in
       let f = why.bad.bad in
       absurd (cc (e, f))
   stimulus-good (Explore model range) can file line cause why = why.bad
+  stimulus-good (Check model plan) can file line cause why =
+      lines-kept files (Check model plan) model plan (checks model plan) can.model_bytes can.plan_bytes can.model_told can.plan_told can.can.good file line cause why
 
   is-complete : (command : Command) (answer : Answer) → HasCause files command answer → HasWritten files out command answer → IsComplete files out command (status_of answer)
   is-complete command Done why wrote can gives writes = (0, omega arith, refl)

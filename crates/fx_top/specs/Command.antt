@@ -8,7 +8,7 @@ pub data PlanWord : Type 0 where
   EmptyPlan : PlanWord
   Named : (file : List ℕ) → PlanWord
 
--- the commands: `Generate` of a model and a plan, `Replay` of a Verilog text and a stimulus, `Simulate` of a model and a stimulus, `Explore` of a model and a range of plans
+-- the commands: `Generate` of a model and a plan, `Replay` of a Verilog text and a stimulus, `Simulate` of a model and a stimulus, `Explore` of a model and a range of plans, `Check` of a model and a plan
 pub data Command : Type 0 where
   -- writes the Verilog text of a model under a plan
   Generate : (model : List ℕ) → (plan : PlanWord) → Command
@@ -18,6 +18,8 @@ pub data Command : Type 0 where
   Simulate : (model stimulus : List ℕ) → Command
   -- writes what each plan of a range is worth on a model
   Explore : (model : List ℕ) → (range : Range) → Command
+  -- writes what is worked out of a model by a plan
+  Check : (model : List ℕ) → (plan : PlanWord) → Command
 
 -- the plan that a word names
 abbrev pub plan_word : List ℕ → PlanWord
@@ -34,7 +36,8 @@ command_of (verb ∷ first ∷ second ∷ []) =
     if bytes_eq verb (codes "generate") then Some (Generate first (plan_word second))
     else (if bytes_eq verb (codes "replay") then Some (Replay first second)
     else (if bytes_eq verb (codes "simulate") then Some (Simulate first second)
-    else (if bytes_eq verb (codes "explore") then explored first (range_of second) else None)))
+    else (if bytes_eq verb (codes "explore") then explored first (range_of second)
+    else (if bytes_eq verb (codes "check") then Some (Check first (plan_word second)) else None))))
 command_of words = None
 
 -- the word that names the model, of a command that reads one
@@ -43,6 +46,7 @@ model_of (Generate model plan) = Some model
 model_of (Replay verilog stimulus) = None
 model_of (Simulate model stimulus) = Some model
 model_of (Explore model range) = Some model
+model_of (Check model plan) = Some model
 
 -- the word that names the Verilog text, of a command that reads one
 abbrev pub verilog_of : Command → Option (List ℕ)
@@ -50,6 +54,7 @@ verilog_of (Generate model plan) = None
 verilog_of (Replay verilog stimulus) = Some verilog
 verilog_of (Simulate model stimulus) = None
 verilog_of (Explore model range) = None
+verilog_of (Check model plan) = None
 
 -- the word that names the plan, of a command that reads one
 abbrev pub plan_of : Command → Option PlanWord
@@ -57,6 +62,7 @@ plan_of (Generate model plan) = Some plan
 plan_of (Replay verilog stimulus) = None
 plan_of (Simulate model stimulus) = None
 plan_of (Explore model range) = None
+plan_of (Check model plan) = Some plan
 
 -- the file of a plan, where there is one
 abbrev pub plan_file : PlanWord → Option (List ℕ)
@@ -69,6 +75,7 @@ table_of (Generate model plan) = plan_file plan
 table_of (Replay verilog stimulus) = Some stimulus
 table_of (Simulate model stimulus) = Some stimulus
 table_of (Explore model range) = None
+table_of (Check model plan) = plan_file plan
 
 -- the word that names the file that is fetched first
 abbrev pub first_of : Command → List ℕ
@@ -76,6 +83,7 @@ first_of (Generate model plan) = model
 first_of (Replay verilog stimulus) = verilog
 first_of (Simulate model stimulus) = model
 first_of (Explore model range) = model
+first_of (Check model plan) = model
 
 -- the word of a plan, where it names a file
 abbrev pub plan_files : PlanWord → List (List ℕ)
@@ -88,3 +96,4 @@ files_of (Generate model plan) = model ∷ plan_files plan
 files_of (Replay verilog stimulus) = verilog ∷ stimulus ∷ []
 files_of (Simulate model stimulus) = model ∷ stimulus ∷ []
 files_of (Explore model range) = model ∷ []
+files_of (Check model plan) = model ∷ plan_files plan

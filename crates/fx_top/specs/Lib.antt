@@ -2,7 +2,9 @@ pub mod Answer
 pub mod Call
 pub mod Cause
 pub mod Caused
+pub mod CheckedText
 pub mod Command
+pub mod Designed
 pub mod Explored
 pub mod Generated
 pub mod Messages

@@ -1,10 +1,10 @@
 -- Which status a command owes, where the shelf tells what it holds (own).
 use Rattle.std.specs.Prelude.{◌≡◌, ℕ, ◌⊎◌, List, [], ◌∷◌, Contains, Some, None}
 use Rattle.fx_top.specs.Call.{Files, Stream}
-use Rattle.fx_top.specs.Command.{Command, PlanWord, EmptyPlan, Named, Generate, Replay, Simulate, Explore, command_of, model_of, verilog_of, plan_of, table_of, first_of, files_of}
+use Rattle.fx_top.specs.Command.{Command, PlanWord, EmptyPlan, Named, Generate, Replay, Simulate, Explore, Check, command_of, model_of, verilog_of, plan_of, table_of, first_of, files_of}
 use Rattle.fx_top.specs.Trouble.{Absent, Overlong, first_trouble}
 use Rattle.fx_model.specs.Model.{IsAccepted, IsNoText, IsWithoutDiagram}
-use Rattle.fx_top.specs.Generated.{CanBeGenerated, HasNoPlan, IsWithoutDesign}
+use Rattle.fx_top.specs.Designed.{CanBeDesigned, HasNoPlan, IsWithoutDesign}
 use Rattle.fx_top.specs.Replayed.{CanBeReplayed, HasFault, IsBadStimulus, IsNoVerilog}
 use Rattle.fx_top.specs.Simulated.{CanBeSimulated, IsSpoilt}
 use Rattle.fx_tables.specs.declared.table.TableCause.{TableCause}
@@ -33,6 +33,7 @@ IsBadFor (Generate model plan) first table = HasNoPlan first table
 IsBadFor (Replay verilog text) first table = (line : ℕ) × ((cause : TableCause) × IsBadStimulus first table line cause)
 IsBadFor (Simulate model text) first table = IsSpoilt first table
 IsBadFor (Explore model range) first table = ⊥
+IsBadFor (Check model plan) first table = HasNoPlan first table
 
 -- what the files ask of the status
 pub record IsDue (files : Files) (command : Command) (status : ℕ) : Type 0 where
@@ -63,12 +64,12 @@ pub record IsDue (files : Files) (command : Command) (status : ℕ) : Type 0 whe
       → IsBadFor command first bytes → Yields 6 (3 ∷ 9 ∷ []) status
 
 -- the shelf tells the bytes of a model and of a plan of which nothing is broken
-pub record CanGenerate (files : Files) (model : List ℕ) (plan : PlanWord) : Type 0 where
+pub record CanDesign (files : Files) (model : List ℕ) (plan : PlanWord) : Type 0 where
   pub model_bytes : List ℕ
   pub plan_bytes : List ℕ
   pub model_told : Tells files model model_bytes
   pub plan_told : TellsPlan files plan plan_bytes
-  pub can : CanBeGenerated model_bytes plan_bytes
+  pub can : CanBeDesigned model_bytes plan_bytes
 
 -- the shelf tells the bytes of two files, whose module has its columns' numbers in the stimulus
 pub record CanReplay (files : Files) (verilog stimulus : List ℕ) : Type 0 where
@@ -88,10 +89,11 @@ pub record CanSimulate (files : Files) (model stimulus : List ℕ) : Type 0 wher
 
 -- the files' texts are told, and the command has an output of them
 abbrev pub CanBeDone : Files → Command → Type 0
-CanBeDone files (Generate model plan) = CanGenerate files model plan
+CanBeDone files (Generate model plan) = CanDesign files model plan
 CanBeDone files (Replay verilog stimulus) = CanReplay files verilog stimulus
 CanBeDone files (Simulate model stimulus) = CanSimulate files model stimulus
 CanBeDone files (Explore model range) = (bytes : List ℕ) × (Tells files model bytes × IsAccepted bytes)
+CanBeDone files (Check model plan) = CanDesign files model plan
 
 -- the shelf is steady and no file is in trouble, or neither of its counts rose
 abbrev pub GivesAll : Files → Command → Type 0

@@ -17,6 +17,8 @@ pub enum Command<'a> {
     Simulate { model: &'a str, stimulus: &'a str },
     /// To write what each plan of a range is worth on a model.
     Explore { model: &'a str, range: Range },
+    /// To write what is worked out of a model by a plan, which `-` names where it is the empty one.
+    Check { model: &'a str, plan: &'a str },
 }
 
 impl<'a> Command<'a> {
@@ -47,6 +49,10 @@ impl<'a> Command<'a> {
                     None => None,
                 }
             }
+            [verb, model, plan] if verb.as_str() == "check" => Some(Command::Check {
+                model: model.as_str(),
+                plan: plan.as_str(),
+            }),
             _ => None,
         }
     }

@@ -11,7 +11,8 @@
 //! further answer adds one to `Answer`, `status_of`, `line_of`, `HasCause` and `HasWritten`.
 //!
 //! `replay` writes a response that is `IsReplayOf` (`specs/Replayed.antt`) the two texts, and `simulate`
-//! one that is `IsSimulationOf` (`specs/Simulated.antt`).
+//! one that is `IsSimulationOf` (`specs/Simulated.antt`). `check` writes a text that is `IsCheckOf`
+//! (`specs/CheckedText.antt`) the model and the plan.
 //!
 //! The headline is `IsVerilogOf` in `specs/Generated.antt`: the text spells a module alone, and that
 //! module owes the design of the two texts nothing (`IsModuleOf` of `hw_module`, `IsDesignOf` of
@@ -19,6 +20,7 @@
 #![tactic(auto)]
 
 mod answer;
+mod check;
 mod command;
 mod explore;
 mod fetch;

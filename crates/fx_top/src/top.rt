@@ -5,6 +5,7 @@ ghost use Rattle.fx_top.specs.Command.{command_of};
 ghost use Rattle.fx_top.specs.Outcome.{IfCommand, IsDue, IsComplete};
 
 use crate::answer::Answer;
+use crate::check::check;
 use crate::command::Command;
 use crate::explore::explore;
 use crate::generate::generate;
@@ -16,11 +17,13 @@ use std::thread::Threads;
 
 /// Does what the words after the program's name ask for, and gives the exit status (own).
 ///
-/// `simulate MODEL STIM` writes the response of a model's diagram to a stimulus. `generate MODEL PLAN`
-/// writes the Verilog text of a model under a plan; the word `-` is the empty plan. `replay VERILOG STIM` writes what the module of a Verilog text
-/// of the subset shows under a stimulus. `explore MODEL RANGE` writes what each plan of a range is
-/// worth on a model, found by workers of `rt`. The files come from `shelf`, the text goes
-/// to `out`, and each status but 0 puts one line to `err`, whose failure changes nothing.
+/// `check MODEL PLAN` writes what is worked out of a model by a plan, which the word `-` names where it
+/// is the empty one. `simulate MODEL STIM` writes the response of a model's diagram to a stimulus.
+/// `generate MODEL PLAN` writes the Verilog text of a model under a plan. `replay VERILOG STIM` writes
+/// what the module of a Verilog text of the subset shows under a stimulus. `explore MODEL RANGE` writes
+/// what each plan of a range is worth on a model, found by workers of `rt`. The files come from
+/// `shelf`, the text goes to `out`, and each status but 0 puts one line to `err`, whose failure changes
+/// nothing.
 pub fn run<R: Threads + Sync, S: Shelf, K: Sink, E: Sink>(
     rt: &R,
     alloc: Global,
@@ -68,5 +71,6 @@ fn carry_out<'a, R: Threads + Sync, S: Shelf, K: Sink>(
             simulate(alloc, model, stimulus, shelf, out)
         }
         Some(Command::Explore { model, range }) => explore(rt, alloc, model, range, shelf, out),
+        Some(Command::Check { model, plan }) => check(alloc, model, plan, shelf, out),
     }
 }

@@ -3,7 +3,7 @@ use Rattle.fx_top.specs.Call.{files_in, stream_in}
 use Rattle.fx_top.specs.Command.{Explore}
 use Rattle.fx_designed.specs.declared.refusal.ModelRefusal.{ModelRefusal}
 use Rattle.fx_designed.specs.Refused.{IsRefusedModel}
-use Rattle.fx_top.proofs.Generated.{fetched-all}
+use Rattle.fx_top.proofs.Planning.{fetched-all}
 use Rattle.fx_top.proofs.Unfetched.{cause-unfetched, written-unfetched}
 use Rattle.fx_top.proofs.explore.explore.Goals as goal
 
