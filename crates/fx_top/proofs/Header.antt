@@ -1,5 +1,5 @@
 -- The module of one delay breaks no condition.
-use Rattle.std.proofs.Common.{◌≡◌, None, refl}
+use Rattle.std.proofs.Common.{◌≡◌, None}
 use Rattle.vl_ast.specs.Conditions.{undriven, doubly, too_wide, no_reset, no_attribute}
 use Rattle.fx_top.proofs.DelayModule.{OneDelay, delay_module}
 use Rattle.fx_top.proofs.Names.{AreDifferent, names_read-name, sound-name, own_length-name}

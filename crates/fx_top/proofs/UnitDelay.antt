@@ -14,7 +14,7 @@ use Rattle.vl_ast.specs.Nets.{Declared, InputPort, OutputPort, Register, nets_of
 use Rattle.vl_ast.specs.Context.{Net}
 use Rattle.vl_ast.specs.Runs.{Row, Rows, Runs, next_bits}
 use Rattle.vl_ast.specs.Value.{bits_of, assigned, assigned_number}
-use Rattle.vl_ast.specs.Windows.{PortNumbers, Sample, Window}
+use Rattle.vl_ast.specs.Windows.{PortNumbers, Window}
 use Rattle.vl_ast.specs.Header.{input_port}
 use Rattle.fx_top.proofs.DelayModule.{OneDelay, assigned-byte, bit_net, byte_net, byte_port, declarations-are, declared_as, delay_module}
 use Rattle.fx_top.proofs.Names.{register}
