@@ -14,7 +14,8 @@ use Rattle.vl_ast.specs.Context.{own_length, is_signed}
 use Rattle.vl_ast.specs.Nets.{InputPort, OutputPort, Register, Declared, port_declared, Mention, Declares, Drives, Reads, mentions, nets_of, names_read, condition_names, place_of}
 use Rattle.vl_ast.specs.Value.{assigned_number}
 use Rattle.vl_ast.specs.Runs.{Runs, next_bits, takes_value}
-use Rattle.vl_ast.specs.Conditions.{undriven, doubly, no_reset, may_drive, needs_driver, AssignmentReads, IsLoop, is_bit_input, is_reset_at_fault, is_clk_at_fault}
+use Rattle.vl_ast.specs.Conditions.{undriven, doubly, no_reset, may_drive, needs_driver, AssignmentReads, IsLoop, is_reset_at_fault, is_clk_at_fault}
+use Rattle.vl_ast.specs.Control.{is_bit_input}
 use Rattle.vl_ast.specs.Room.{AreSame}
 use Rattle.vl_ast.proofs.Agree.{ByLayer, values-agree}
 use Rattle.vl_ast.proofs.Chains.{owed-of-none}

@@ -13,9 +13,9 @@ use Rattle.vl_ast.specs.declared.modules.ModItem.TheVariants.{Wire, Reg, Assign,
 use Rattle.vl_ast.specs.declared.modules.Module.{Module}
 use Rattle.vl_ast.specs.Context.{Net, own_length, is_signed}
 use Rattle.vl_ast.specs.Gated.{gated, gated_item, gated_condition}
+use Rattle.vl_ast.specs.Stalls.{KeepsBits}
 use Rattle.vl_ast.specs.Nets.{Declared, Mention, Reads, port_declared, Declares, item_mentions, declared_by, declarations, net_or_none, nets_of, condition_names, names_read}
 use Rattle.vl_ast.specs.Runs.{Row, Rows, Runs, next_bits, takes_value}
-use Rattle.vl_ast.specs.Stalls.{KeepsBits}
 use Rattle.vl_ast.specs.Value.{extended, truth, is_true, assigned, assigned_number}
 use Rattle.vl_ast.proofs.Layers.{value_by_layer}
 use Rattle.vl_ast.proofs.Values.{is_signed-roll}

@@ -14,11 +14,11 @@ use Rattle.vl_ast.specs.declared.expressions.Expr.TheFolds.{para-roll-Expr, fold
 use Rattle.vl_ast.specs.declared.modules.ModItem.{ModItem}
 use Rattle.vl_ast.specs.declared.modules.ModItem.TheVariants.{Wire, Reg, Assign, Always}
 use Rattle.vl_ast.specs.declared.modules.Module.{Module}
-use Rattle.vl_ast.specs.Conditions.{first_fault, mentioned, is_undriven, is_double, is_declaration_of, is_driver_of, is_read_of, needs_driver, may_drive_it, AssignmentReads, IsLoop, IsAcyclic, is_number, is_sound_step, is_sound, is_sound_condition, is_sound_item, item_name, is_width, too_wide, is_bit_input, is_clk_at_fault, is_reset_at_fault, no_reset}
-use Rattle.vl_ast.specs.Context.{Net}
+use Rattle.vl_ast.specs.Conditions.{first_fault, mentioned, is_undriven, is_double, is_declaration_of, is_driver_of, is_read_of, needs_driver, may_drive_it, AssignmentReads, IsLoop, IsAcyclic, is_number, is_sound_step, is_sound, is_sound_condition, is_sound_item, item_name, is_width, too_wide, is_clk_at_fault, is_reset_at_fault, no_reset, BreaksNone}
+use Rattle.vl_ast.specs.Control.{is_bit_input, is_stallable}
 use Rattle.vl_ast.specs.Gated.{gated, gated_item, gated_condition}
+use Rattle.vl_ast.specs.Context.{Net}
 use Rattle.vl_ast.specs.Nets.{Declared, Mention, Declares, Drives, Reads, Clocks, port_declared, mentions, item_mentions, declaration_of, nets_of, condition_names, names_read, names_step, place_of}
-use Rattle.vl_ast.specs.Stalls.{is_stallable, BreaksNoneIn}
 use Rattle.vl_ast.proofs.Agree.{ByLayer}
 use Rattle.vl_ast.proofs.Chains.{owed-of-none}
 use Rattle.vl_ast.proofs.Facts.{in-port}
@@ -256,7 +256,7 @@ module _ (by_layer : ByLayer) (m : Module) (acyclic : IsAcyclic m) (stallable : 
     acyclic = λ first others loop. no-loop m acyclic.acyclic first others loop;
   }
 
-pub gated-breaks-none : (by_layer : ByLayer) (m : Module) → is_stallable m ≡ true → BreaksNoneIn m → BreaksNoneIn (gated m)
+pub gated-breaks-none : (by_layer : ByLayer) (m : Module) → is_stallable m ≡ true → BreaksNone m → BreaksNone (gated m)
 gated-breaks-none by_layer m stallable b = record {
   acyclic = gated-acyclic by_layer m b.acyclic stallable;
   narrow = too_wide-same m (ap (λ (net : Net). net.width) (enable-net by_layer m b.acyclic stallable)) ∙ b.narrow;

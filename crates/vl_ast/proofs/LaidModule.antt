@@ -15,16 +15,16 @@ use Rattle.vl_ast.proofs.LaidNets.{attrs_lay, range_tokens, range_kept, net_lays
 
 -- the tokens of an item and of a port in the one text
 
-abbrev item_tokens : ModItem → List Token
+abbrev pub item_tokens : ModItem → List Token
 item_tokens (Wire signed width name) = net_item (codes "wire") signed width name
 item_tokens (Reg signed width name) = net_item (codes "reg") signed width name
 item_tokens (Assign name value) = assign_item name value
 item_tokens (Always name first condition value) = always_item name first condition value
 
-abbrev port_words : Bool → List Token
+abbrev pub port_words : Bool → List Token
 port_words input = Key (if input then codes "input" else codes "output") ∷ Key (codes "wire") ∷ []
 
-abbrev port_tokens : Port → List Token
+abbrev pub port_tokens : Port → List Token
 port_tokens port = attrs_tokens port.attrs ++ declaration_tokens (port_words port.input) port.signed (range_tokens port.width) port.name
 
 -- these can be written where those of some text can
@@ -182,10 +182,10 @@ list_lays (port ∷ ports) some w tail rest next =
     (laid_same false _ (port_tokens port ++ (others ++ tail)) _ (append_assoc (port_tokens port) others tail)
     (port_lays port (AllWritable-front (port_tokens port) others w) (others ++ tail) _ (ports_lay ports (AllWritable-back (port_tokens port) others w) tail rest next)))
 
-abbrev module_tail : Module → List Token
+abbrev pub module_tail : Module → List Token
 module_tail m = Sign (codes ")") ∷ Sign (codes ";") ∷ (flat_map (λ ts. ts) (map item_tokens m.items) ++ Key (codes "endmodule") ∷ [])
 
-abbrev module_tokens : Module → List Token
+abbrev pub module_tokens : Module → List Token
 module_tokens m =
     attrs_tokens m.attrs ++ (Key (codes "module") ∷ Identifier m.name ∷ Sign (codes "(") ∷ (joined comma (map port_tokens m.ports) ++ module_tail m))
 
@@ -194,7 +194,7 @@ spelling_shape : (attrs name ports items : List ℕ) →
     ≡ [] ++ (attrs ++ (codes "module" ++ (codes " " ++ (name ++ (codes " " ++ (codes "(" ++ (codes "\n" ++ (ports ++ (codes "\n" ++ (codes ")" ++ (codes ";" ++ (codes "\n" ++ (items ++ codes "endmodule\n")))))))))))))
 spelling_shape attrs name ports items = simp append_assoc
 
-module_lays : (m : Module) → m.ports ≢ [] → AreWritable (module_tokens m) → Lays false (module_tokens m) (spelling m)
+pub module_lays : (m : Module) → m.ports ≢ [] → AreWritable (module_tokens m) → Lays false (module_tokens m) (spelling m)
 module_lays m some w =
     let items : List Token = flat_map (λ ts. ts) (map item_tokens m.items) in
     let ports : List Token = joined comma (map port_tokens m.ports) in

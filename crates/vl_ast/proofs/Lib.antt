@@ -31,3 +31,5 @@ pub mod Unstalled
 pub mod Stimulated
 pub mod Values
 pub mod Written
+pub mod WrittenExpr
+pub mod WrittenModule

@@ -14,8 +14,8 @@ use Rattle.vl_ast.specs.declared.modules.ModItem.{ModItem}
 use Rattle.vl_ast.specs.declared.modules.ModItem.TheVariants.{Assign}
 use Rattle.vl_ast.specs.declared.modules.Module.{Module}
 use Rattle.vl_ast.specs.Conditions.{first_fault, mentioned, is_undriven, is_double, is_declaration_of, is_driver_of, needs_driver, may_drive_it, AssignmentReads, IsLoop, IsAcyclic}
-use Rattle.vl_ast.specs.Gated.{IsFresh, IsOpened, HasAllOf, shows_enable, bit_output}
-use Rattle.vl_ast.specs.Header.{bit_input}
+use Rattle.vl_ast.specs.Gated.{IsFresh, IsOpened, HasAllOf, shows_enable}
+use Rattle.vl_ast.specs.Header.{bit_output, bit_input}
 use Rattle.vl_ast.specs.Nets.{Declared, Mention, Declares, Drives, Reads, Clocks, port_declared, mentions, item_mentions, declared_by, declaration_of, names_read}
 use Rattle.vl_ast.proofs.Chains.{owed-of-none}
 use Rattle.vl_ast.proofs.Facts.{mention-listed, read-declared, driven-declared, assign-drives}

@@ -4,13 +4,15 @@ use Rattle.std.proofs.Common.{◌≡◌, ℕ, nat_le, Bool, true, false, not, �
 use Rattle.std.specs.List.{list_any}
 use Rattle.vl_ast.specs.declared.modules.Port.{Port}
 use Rattle.vl_ast.specs.declared.modules.Module.{Module}
-use Rattle.vl_ast.specs.Conditions.{IsAcyclic, is_bit_input, is_clk_at_fault, is_read_of, is_reset_at_fault, no_reset}
-use Rattle.vl_ast.specs.Gated.{IsFresh, IsOpened, gated, bit_output}
-use Rattle.vl_ast.specs.Header.{bit_input}
+use Rattle.vl_ast.specs.Conditions.{IsAcyclic, is_clk_at_fault, is_read_of, is_reset_at_fault, no_reset}
+use Rattle.vl_ast.specs.Control.{is_bit_input, is_stallable}
+use Rattle.vl_ast.specs.Driven.{IsResetLast}
+use Rattle.vl_ast.specs.Gated.{IsFresh, IsOpened, gated}
+use Rattle.vl_ast.specs.Header.{bit_output, bit_input}
+use Rattle.vl_ast.specs.Stalls.{AreCounted, AreUngated}
+use Rattle.vl_ast.specs.Windows.{Window}
 use Rattle.vl_ast.specs.Nets.{place_of, mentions}
 use Rattle.vl_ast.specs.Runs.{Row, Rows, Runs}
-use Rattle.vl_ast.specs.Stalls.{AreCounted, AreUngated, IsResetLast, is_stallable}
-use Rattle.vl_ast.specs.Windows.{Window}
 use Rattle.vl_ast.proofs.Agree.{ByLayer}
 use Rattle.vl_ast.proofs.Gated.{enable}
 use Rattle.vl_ast.proofs.GatedSound.{neither}

@@ -10,12 +10,11 @@ use Rattle.vl_ast.specs.declared.modules.ModItem.TheVariants.{Wire, Reg, Assign,
 use Rattle.vl_ast.specs.declared.modules.Module.{Module}
 use Rattle.vl_ast.specs.Attributes.{cycles_of, period_of, latency_of, attribute}
 use Rattle.vl_ast.specs.Conditions.{IsAcyclic, is_number, is_sound, is_sound_condition, is_width, lacks_attribute, no_attribute, soundness, too_wide, BreaksNone}
+use Rattle.vl_ast.specs.Control.{is_clock_or_reset, is_stallable}
+use Rattle.vl_ast.specs.Gated.{IsFresh, IsOpened, shows_enable}
+use Rattle.vl_ast.specs.Header.{bit_output, bit_input}
 use Rattle.vl_ast.specs.Context.{Net}
-use Rattle.vl_ast.specs.Driven.{is_clock_or_reset}
-use Rattle.vl_ast.specs.Gated.{IsFresh, IsOpened, shows_enable, bit_output}
-use Rattle.vl_ast.specs.Header.{bit_input}
 use Rattle.vl_ast.specs.Nets.{Reads, mentions, nets_of, names_read, condition_names, port_declared}
-use Rattle.vl_ast.specs.Stalls.{BreaksNoneIn, lacks_attribute_in, no_attribute_in}
 use Rattle.vl_ast.proofs.Agree.{ByLayer}
 use Rattle.vl_ast.proofs.Facts.{in-port, mention-listed, reads-of-assign, reads-of-always}
 use Rattle.vl_ast.proofs.Gated.{enable}
@@ -27,6 +26,16 @@ use Rattle.vl_ast.proofs.Places.{head-in, tail-in}
 use Rattle.vl_ast.proofs.SoundAgree.{sound-same}
 
 -- ---- nothing is found in parts
+
+-- `lacks_attribute`, by whether the module can be stalled and the port has the name of a control
+abbrev lacks : Bool → Bool → Bool → Port → Bool
+lacks stalls enables shows port =
+    if port.input then not ((stalls && enables) || is_clock_or_reset port) && is_none (period_of port)
+    else not (stalls && shows && not port.signed && port.width == 1) && (is_none (period_of port) || is_none (latency_of port))
+
+unnamed-lacks : (stalls : Bool) (port : Port) → lacks stalls false false port ≡ lacks true false false port
+unnamed-lacks true port = refl
+unnamed-lacks false port = refl
 
 module _ {A : Type 0} (test : A → Bool) where
   abbrev None' : List A → Type 0
@@ -136,36 +145,34 @@ module _ (by_layer : ByLayer) (m o : Module) (small : IsAcyclic m) (fresh : IsFr
       (λ k. find unsound (ports k ++ items k)) ∙ ap (find unsound) shape ∙ all in
       ap (option_map (λ (part : List ℕ × Bool). part.0)) whole
 
-  port-same : (port : Port) → Contains m.ports port → lacks_attribute_in o port ≡ lacks_attribute port
+  port-same : (port : Port) → Contains m.ports port → lacks_attribute (is_stallable o) port ≡ lacks_attribute (is_stallable m) port
   port-same port h =
       let d = mention-listed m small.driven small.once (port_declared port) (in-port m small.driven small.once port h) in
       let e = unequal port.name enable (fresh.enable (port_declared port) d) in
       let f = unequal port.name out (fresh.out (port_declared port) d) in
-      let s = opened-stallable m o opened in
-      (λ i. if port.input then not ((s i && e i) || is_clock_or_reset port) && is_none (period_of port)
-      else not (s i && f i && not port.signed && port.width == 1) && (is_none (period_of port) || is_none (latency_of port)))
+      (λ i. lacks (is_stallable o) (e i) (f i) port) ∙ unnamed-lacks (is_stallable o) port ∙ sym (unnamed-lacks (is_stallable m) port) ∙ sym (λ i. lacks (is_stallable m) (e i) (f i) port)
 
   parts-of : (n : List ℕ) (c : Bool) (found : Option Port) → (if c then Some n else option_map (λ (port : Port). port.name) found) ≡ None → (c ≡ false) × (found ≡ None)
   parts-of n true found e = absurd (cc e)
   parts-of n false None e = (refl, refl)
   parts-of n false (Some port) e = absurd (cc e)
 
-  pub opened-attributed : no_attribute m ≡ None → no_attribute_in o ≡ None
+  pub opened-attributed : no_attribute m ≡ None → no_attribute o ≡ None
   opened-attributed e =
-      let p = parts-of m.name (is_none (cycles_of m)) (find lacks_attribute m.ports) e in
+      let p = parts-of m.name (is_none (cycles_of m)) (find (lacks_attribute (is_stallable m)) m.ports) e in
       let s = opened-stallable m o opened in
       let cycles : is_none (cycles_of o) ≡ false = ap (λ attrs. is_none (attribute attrs (codes "fx_cycles") 1 1024)) opened.attrs ∙ p.0 in
-      let same : find (lacks_attribute_in o) m.ports ≡ None = none-like lacks_attribute (lacks_attribute_in o) m.ports port-same p.1 in
-      let x : lacks_attribute_in o (bit_input enable) ≡ false =
+      let same : find (lacks_attribute (is_stallable o)) m.ports ≡ None = none-like (lacks_attribute (is_stallable m)) (lacks_attribute (is_stallable o)) m.ports port-same p.1 in
+      let x : lacks_attribute (is_stallable o) (bit_input enable) ≡ false =
       ap (λ t. not ((t && true) || is_clock_or_reset (bit_input enable)) && is_none (period_of (bit_input enable))) s in
-      let y : lacks_attribute_in o (bit_output out) ≡ false =
+      let y : lacks_attribute (is_stallable o) (bit_output out) ≡ false =
       ap (λ t. not (t && true && true && true) && (is_none (period_of (bit_output out)) || is_none (latency_of (bit_output out)))) s in
-      let ports : find (lacks_attribute_in o) o.ports ≡ None =
-      ap (find (lacks_attribute_in o)) opened.ports
-      ∙ none-two (lacks_attribute_in o) opened.front opened.middle opened.back (bit_input enable) (bit_output out) x y (subst (λ ps. find (lacks_attribute_in o) ps ≡ None) opened.were same) in
+      let ports : find (lacks_attribute (is_stallable o)) o.ports ≡ None =
+      ap (find (lacks_attribute (is_stallable o))) opened.ports
+      ∙ none-two (lacks_attribute (is_stallable o)) opened.front opened.middle opened.back (bit_input enable) (bit_output out) x y (subst (λ ps. find (lacks_attribute (is_stallable o)) ps ≡ None) opened.were same) in
       (λ i. if cycles i then Some o.name else option_map (λ (port : Port). port.name) (ports i))
 
-pub opened-breaks-none : (by_layer : ByLayer) (m o : Module) → BreaksNone m → IsFresh m → IsOpened m o → BreaksNoneIn o
+pub opened-breaks-none : (by_layer : ByLayer) (m o : Module) → BreaksNone m → IsFresh m → IsOpened m o → BreaksNone o
 opened-breaks-none by_layer m o b fresh opened = record {
   acyclic = opened-acyclic m o b.acyclic fresh opened;
   narrow = opened-narrow by_layer m o b.acyclic fresh opened b.narrow;

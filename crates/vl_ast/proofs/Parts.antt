@@ -7,8 +7,8 @@ use Rattle.vl_ast.specs.declared.modules.ModItem.TheVariants.{Reg, Assign, Alway
 use Rattle.vl_ast.specs.declared.modules.Port.{Port}
 use Rattle.vl_ast.specs.declared.modules.Module.{Module}
 use Rattle.vl_ast.specs.Conditions.{IsAcyclic}
-use Rattle.vl_ast.specs.Context.{Net}
 use Rattle.vl_ast.specs.Gated.{HasAllOf}
+use Rattle.vl_ast.specs.Context.{Net}
 use Rattle.vl_ast.specs.Nets.{Declared, Mention, Declares, Drives, Reads, port_declared, item_mentions, mentions, nets_of, names_read, condition_names}
 use Rattle.vl_ast.specs.Runs.{Row, Rows, Runs, takes_value}
 use Rattle.vl_ast.specs.Value.{assigned, assigned_number}

@@ -11,8 +11,8 @@ use Rattle.vl_ast.specs.declared.modules.Port.{Port}
 use Rattle.vl_ast.specs.declared.modules.Module.{Module}
 use Rattle.vl_ast.specs.declared.modules.ModItem.TheVariants.{Wire, Reg, Assign, Always}
 use Rattle.vl_ast.specs.Conditions.{Undriven, Doubly, CombLoop, TooWide, NoReset, NoAttribute, IsFirstFault, IsLoop, AssignmentReads}
-use Rattle.vl_ast.specs.Context.{Net, Operand}
 use Rattle.vl_ast.specs.Driven.{port_number}
+use Rattle.vl_ast.specs.Context.{Net, Operand}
 use Rattle.vl_ast.specs.Multiplications.{Multiplication, multiplications_step, multiplications_in, multiplications}
 use Rattle.vl_ast.specs.Nets.{names_read, names_step, place_of}
 use Rattle.vl_ast.proofs.Values.{own_length-roll, is_signed-roll}

@@ -3,11 +3,12 @@ use Rattle.std.proofs.Common.{◌≡◌, ℕ, zero, suc, Bool, true, false, if�
 use Rattle.vl_ast.specs.declared.modules.Attr.{Attr}
 use Rattle.vl_ast.specs.declared.modules.Port.{Port}
 use Rattle.vl_ast.specs.declared.modules.Module.{Module}
-use Rattle.vl_ast.specs.Header.{attribute_of, bit_input}
+use Rattle.vl_ast.specs.Conditions.{no_attribute}
+use Rattle.vl_ast.specs.Control.{is_stallable}
+use Rattle.vl_ast.specs.Driven.{stimulus_ports, output_ports}
+use Rattle.vl_ast.specs.Header.{attribute_of, bit_input, HasHeader, bit_output}
+use Rattle.vl_ast.specs.Windows.{Window, IsClock, clocks_in}
 use Rattle.vl_ast.specs.Runs.{Rows}
-use Rattle.vl_ast.specs.Windows.{Window}
-use Rattle.vl_ast.specs.Stalls.{is_stallable, IsClock, clocks_in, number_inputs, number_outputs, no_attribute_in, HasStallHeader}
-use Rattle.vl_ast.specs.Gated.{bit_output}
 
 abbrev port : Bool → Bool → ℕ → List ℕ → List Attr → Port
 port input signed width name attrs = record { attrs = attrs; input = input; signed = signed; width = width; name = name }
@@ -39,16 +40,16 @@ stallable : is_stallable stalls ∷ is_stallable plain ∷ is_stallable (with (p
     ≡ true ∷ false ∷ false ∷ false ∷ false ∷ []
 stallable = refl
 
-carry : number_inputs stalls ++ number_outputs stalls ≡ input_u ∷ output_y ∷ []
+carry : stimulus_ports stalls ++ output_ports stalls ≡ input_u ∷ output_y ∷ []
 carry = refl
 
 -- an input `clk_enable` that is signed, or a `ce_out` beside none, wants its attributes
-bare : no_attribute_in stalls ∷ no_attribute_in plain ∷ no_attribute_in (with (port true true 1 (codes "clk_enable") []))
-    ∷ no_attribute_in (with (port true true 1 (codes "clk_enable") (period ∷ []))) ∷ no_attribute_in (with (bit_input (codes "run"))) ∷ []
+bare : no_attribute stalls ∷ no_attribute plain ∷ no_attribute (with (port true true 1 (codes "clk_enable") []))
+    ∷ no_attribute (with (port true true 1 (codes "clk_enable") (period ∷ []))) ∷ no_attribute (with (bit_input (codes "run"))) ∷ []
     ≡ None ∷ None ∷ Some (codes "clk_enable") ∷ Some (codes "ce_out") ∷ Some (codes "run") ∷ []
 bare = refl
 
-headed : HasStallHeader stalls 1 (input_u ∷ []) (output_y ∷ [])
+headed : HasHeader stalls 1 (input_u ∷ []) (output_y ∷ [])
 headed = record { name = refl; attrs = refl; ports = refl }
 
 -- ---- rows: one of reset, then `clk_enable` is 1, 0, 0, 1, 1

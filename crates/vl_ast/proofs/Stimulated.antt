@@ -1,7 +1,7 @@
 -- For every stimulus and every count of rows there are inputs that it drives.
-use Rattle.std.proofs.Common.{◌≡◌, ◌≢◌, ◌<◌, ◌≤◌, ◌+◌, ◌-◌, ◌*◌, ◌/◌, ◌%◌, ◌^◌, ⊎_elim, ℕ, zero, suc, Bool, true, false, not, ◌&&◌, if◌then◌else◌, nat_le, List, [], ◌∷◌, ◌++◌, map, flat_map, filter, slice_get, Contains, bytes_eq, codes, Option, Some, None, ℤ, pos, negsuc, refl, sym, ap, subst, ◌∙◌, arith}
+use Rattle.std.proofs.Common.{◌≡◌, ◌≢◌, ◌<◌, ◌≤◌, ◌+◌, ◌-◌, ◌*◌, ◌/◌, ◌%◌, ◌^◌, ⊎_elim, ℕ, zero, suc, Bool, true, false, not, ◌&&◌, ◌||◌, ◌==◌, if◌then◌else◌, nat_le, List, [], ◌∷◌, ◌++◌, map, flat_map, filter, slice_get, Contains, bytes_eq, codes, Option, Some, None, ℤ, pos, negsuc, refl, sym, ap, subst, ◌∙◌, arith}
 use Rattle.std.proofs.lemmas.List.{append_assoc, map-append}
-use Rattle.std.proofs.lemmas.Bool.{cond-true, cond-false, cases_Bool, or_parts, and_parts, not-true, le-leb, lt-leb}
+use Rattle.std.proofs.lemmas.Bool.{cond-true, cond-false, eq-eqb, cases_Bool, or_parts, and_parts, not-true, le-leb, lt-leb}
 use Rattle.std.proofs.lemmas.Nat.{mod_below, pow_pos, mod-mul-add, div-add-mod'}
 use Rattle.std.proofs.Math.Nat.{mod-eq_of_lt, div-lt_iff_lt-mul, le-div_iff_mul-le}
 use Rattle.std.proofs.lemmas.Slice.Eq.{bytes_eq-Decides}
@@ -10,16 +10,19 @@ use Rattle.vl_ast.specs.declared.modules.Module.{Module}
 use Rattle.vl_ast.specs.Context.{Net}
 use Rattle.vl_ast.specs.Nets.{port_declared, Mention, Declares, mentions, item_mentions, nets_of}
 use Rattle.vl_ast.specs.Attributes.{cycles_of, period_of}
-use Rattle.vl_ast.specs.Driven.{is_clock_or_reset, stimulus_ports}
-use Rattle.vl_ast.specs.Value.{bits_of}
-use Rattle.vl_ast.specs.Windows.{PortNumbers, Window}
 use Rattle.vl_ast.specs.Conditions.{undriven, doubly, no_reset, IsLoop}
+use Rattle.vl_ast.specs.Control.{is_clock_or_reset, is_control_input, is_number_input, is_stallable}
+use Rattle.vl_ast.specs.Driven.{stimulus_ports}
+use Rattle.vl_ast.specs.Windows.{PortNumbers, Window}
+use Rattle.vl_ast.specs.Value.{bits_of}
 use Rattle.vl_ast.specs.Room.{CanBeDriven}
 use Rattle.vl_ast.proofs.Agree.{ByLayer}
 use Rattle.vl_ast.proofs.Places.{cons-cases, head-in, tail-in, none-in, cut-at, in-cut}
 use Rattle.vl_ast.proofs.Facts.{in-port, no-earlier-declaration}
 use Rattle.vl_ast.proofs.Settled.{net-is}
 use Rattle.vl_ast.proofs.Alone.{reset-port}
+use Rattle.vl_ast.proofs.Thinned.{bit-port}
+use Rattle.vl_ast.proofs.Unstalled.{AllCount, shows-clocks}
 
 bits-fit : (width : ℕ) (number : ℤ) → bits_of width number < 2 ^ width
 bits-fit width (pos n) = mod_below n (2 ^ width) (pow_pos width)
@@ -134,7 +137,8 @@ module _ (by_layer : ByLayer) (m : Module) (driven : undriven m ≡ None) (once 
     abbrev wanted : ℕ → List ℕ → ℕ
     wanted k name =
         if bytes_eq name (codes "reset") then (if nat_le k last then 1 else 0)
-        else shown (cycles_of m) stimulus (stimulus_ports m) 0 (k - (last + 1)) name
+        else (if is_stallable m && bytes_eq name (codes "clk_enable") then 1
+        else shown (cycles_of m) stimulus (stimulus_ports m) 0 (k - (last + 1)) name)
 
     stimulated : ℕ → List ℕ → ℕ
     stimulated k name = wanted k name % 2 ^ (nets_of m name).width
@@ -149,29 +153,52 @@ module _ (by_layer : ByLayer) (m : Module) (driven : undriven m ≡ None) (once 
     at-reset k n below e =
         ap (λ w. (if nat_le k last then 1 else 0) % 2 ^ w) reset-width ∙ ap (λ v. v % 2) e ∙ mod-eq_of_lt below
 
-    stimulus-port : (place : ℕ) (port : Port) → slice_get (stimulus_ports m) place ≡ Some port → Contains m.ports port × (bytes_eq port.name (codes "reset") ≡ false)
+    stimulus-port : (place : ℕ) (port : Port) → slice_get (stimulus_ports m) place ≡ Some port
+        → Contains m.ports port × (bytes_eq port.name (codes "reset") ≡ false) × ((is_stallable m && bytes_eq port.name (codes "clk_enable")) ≡ false)
     stimulus-port place port e =
-        let kept = filter-in (λ port. port.input && not (is_clock_or_reset port)) m.ports port (slice-in (stimulus_ports m) place port e) in
-        let other = and_parts port.input (not (is_clock_or_reset port)) kept.1 in
-        let neither = or_parts (bytes_eq port.name (codes "clk")) (bytes_eq port.name (codes "reset")) (not-true (is_clock_or_reset port) other.1) in
-        (kept.0, neither.1)
+        let kept = filter-in (is_number_input (is_stallable m)) m.ports port (slice-in (stimulus_ports m) place port e) in
+        let other = and_parts port.input (not (is_control_input (is_stallable m) port)) kept.1 in
+        let both = or_parts (is_stallable m && bytes_eq port.name (codes "clk_enable")) (is_clock_or_reset port) (not-true (is_control_input (is_stallable m) port) other.1) in
+        let neither = or_parts (bytes_eq port.name (codes "clk")) (bytes_eq port.name (codes "reset")) both.1 in
+        (kept.0, neither.1, both.0)
+
+    -- every row counts
+    enabled : (k : ℕ) → is_stallable m ≡ true → stimulated k (codes "clk_enable") ≡ 1
+    unfolding stimulated
+    enabled k stalls =
+        let p = bit-port (codes "clk_enable") m.ports stalls in
+        let width : (nets_of m (codes "clk_enable")).width ≡ 1 =
+        ap (λ (n : List ℕ). (nets_of m n).width) (sym p.2) ∙ ap (λ (net : Net). net.width) (net-is by_layer m driven once none (port_declared p.0) (in-port m driven once p.0 p.1)) ∙ p.4 in
+        ap (λ s. (if s && true then 1 else shown (cycles_of m) stimulus (stimulus_ports m) 0 (k - (last + 1)) (codes "clk_enable")) % 2 ^ (nets_of m (codes "clk_enable")).width) stalls
+        ∙ ap (λ w. 1 % 2 ^ w) width
+
+    all : AllCount m window stimulated
+    all j below = by (is_stallable m) refl where
+      by : (s : Bool) → is_stallable m ≡ s → (not s || stimulated (last + 1 + j) (codes "clk_enable") == 1) ≡ true
+      by false e = refl
+      by true e = eq-eqb (stimulated (last + 1 + j) (codes "clk_enable")) 1 (enabled (last + 1 + j) e)
 
     pub can-be-driven : CanBeDriven m stimulus samples window
     unfolding stimulated
     can-be-driven = record {
       inputs = stimulated;
       driven = record {
-        within = within;
-        reset = at-reset last 1 (omega arith) (cond-true (nat_le last last) 1 0 (le-leb last last (omega arith)));
-        released = λ k after below. at-reset k 0 (omega arith) (cond-false (nat_le k last) 1 0 (lt-leb k last after));
-        shows = λ cycles ec place port es period ep t sample at clock from under below.
+        reset = record {
+          within = within;
+          reset = at-reset last 1 (omega arith) (cond-true (nat_le last last) 1 0 (le-leb last last (omega arith)));
+          released = λ k after below. at-reset k 0 (omega arith) (cond-false (nat_le k last) 1 0 (lt-leb k last after));
+        };
+        shows = λ cycles ec place port es period ep t sample at.
+            shows-clocks m window stimulated all stimulated port.name port.width (stimulus place t) (t * cycles) ((t + period) * cycles)
+            (λ clock from under below.
             let known = stimulus-port place port es in
             let net = net-is by_layer m driven once none (port_declared port) (in-port m driven once port known.0) in
             let since : last + 1 + clock - (last + 1) ≡ clock = omega arith in
             let first : wanted (last + 1 + clock) port.name ≡ shown (cycles_of m) stimulus (stimulus_ports m) 0 clock port.name =
             cond-false (bytes_eq port.name (codes "reset")) (if nat_le (last + 1 + clock) last then 1 else 0) _ known.1
+            ∙ cond-false (is_stallable m && bytes_eq port.name (codes "clk_enable")) 1 _ known.2
             ∙ ap (λ c. shown (cycles_of m) stimulus (stimulus_ports m) 0 c port.name) since in
-            let found = shown-at (cycles_of m) stimulus (λ port. port.input && not (is_clock_or_reset port)) m.ports ports-apart 0 place clock port es in
+            let found = shown-at (cycles_of m) stimulus (is_number_input (is_stallable m)) m.ports ports-apart 0 place clock port es in
             let begin : 0 + place ≡ place = omega arith in
             let gives : timed port (stimulus (0 + place)) clock (cycles_of m) (period_of port) ≡ bits_of port.width (stimulus place t) =
             ap (λ o. timed port (stimulus o) clock (cycles_of m) (period_of port)) begin
@@ -181,7 +208,7 @@ module _ (by_layer : ByLayer) (m : Module) (driven : undriven m ≡ None) (once 
             let width : (nets_of m port.name).width ≡ port.width = ap (λ (net : Net). net.width) net in
             ap (λ v. v % 2 ^ (nets_of m port.name).width) (first ∙ found ∙ gives)
             ∙ ap (λ w. bits_of port.width (stimulus place t) % 2 ^ w) width
-            ∙ mod-eq_of_lt (bits-fit port.width (stimulus place t));
+            ∙ mod-eq_of_lt (bits-fit port.width (stimulus place t)));
       };
       room = λ k below port h input.
           let net = net-is by_layer m driven once none (port_declared port) (in-port m driven once port h) in

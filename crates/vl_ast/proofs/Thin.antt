@@ -2,7 +2,7 @@
 use Rattle.std.proofs.Common.{◌≡◌, ◌<◌, ◌≤◌, ⊎_elim, ℕ, zero, suc, Bool, true, false, ◌&&◌, if◌then◌else◌, ◌==◌, refl, sym, ap, subst, ◌∙◌, arith}
 use Rattle.std.proofs.lemmas.Bool.{cond-true, cond-false, cases_eq, eq-eqb, eqb-true, cases_Bool}
 use Rattle.vl_ast.specs.Runs.{Row, Rows}
-use Rattle.vl_ast.specs.Stalls.{counted}
+use Rattle.vl_ast.specs.Windows.{counted}
 
 module _ (test : ℕ → Bool) where
   pub counted-yes : (j : ℕ) → test j ≡ true → counted test (suc j) ≡ suc (counted test j)

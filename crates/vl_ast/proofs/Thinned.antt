@@ -13,11 +13,13 @@ use Rattle.vl_ast.specs.Context.{Net}
 use Rattle.vl_ast.specs.Nets.{port_declared, nets_of}
 use Rattle.vl_ast.specs.Value.{assigned_number}
 use Rattle.vl_ast.specs.Runs.{Row, Rows, Runs, next_bits}
-use Rattle.vl_ast.specs.Conditions.{IsAcyclic, is_bit_input, no_reset}
+use Rattle.vl_ast.specs.Conditions.{IsAcyclic, no_reset}
+use Rattle.vl_ast.specs.Control.{is_bit_input, is_stallable}
+use Rattle.vl_ast.specs.Driven.{IsResetLast}
+use Rattle.vl_ast.specs.Stalls.{KeepsBits, AreThinned}
+use Rattle.vl_ast.specs.Windows.{Window, row_at, counted, counts_at, clocks_in, IsClock}
 use Rattle.vl_ast.specs.Room.{HasRows}
 use Rattle.vl_ast.specs.Steps.{IsRow, AreSteps}
-use Rattle.vl_ast.specs.Windows.{Window, row_at}
-use Rattle.vl_ast.specs.Stalls.{is_stallable, counted, counts_at, clocks_in, IsClock, IsResetLast, KeepsBits, AreThinned}
 use Rattle.vl_ast.proofs.Agree.{ByLayer}
 use Rattle.vl_ast.proofs.Alone.{reset-port}
 use Rattle.vl_ast.proofs.Facts.{in-port, mention-listed, reg-declared}

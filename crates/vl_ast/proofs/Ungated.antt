@@ -2,11 +2,13 @@
 use Rattle.std.proofs.Common.{◌≡◌, true, None, codes, ap, subst, ◌∙◌}
 use Rattle.vl_ast.specs.declared.modules.Module.{Module}
 use Rattle.vl_ast.specs.Conditions.{IsAcyclic, no_reset}
-use Rattle.vl_ast.specs.Context.{Net}
+use Rattle.vl_ast.specs.Control.{is_stallable}
+use Rattle.vl_ast.specs.Driven.{IsResetLast}
 use Rattle.vl_ast.specs.Gated.{gated}
-use Rattle.vl_ast.specs.Runs.{Row, Rows, Runs}
-use Rattle.vl_ast.specs.Stalls.{AreThinned, AreUngated, IsResetLast, is_stallable}
+use Rattle.vl_ast.specs.Stalls.{AreThinned, AreUngated}
 use Rattle.vl_ast.specs.Windows.{Window}
+use Rattle.vl_ast.specs.Context.{Net}
+use Rattle.vl_ast.specs.Runs.{Row, Rows, Runs}
 use Rattle.vl_ast.proofs.Agree.{ByLayer}
 use Rattle.vl_ast.proofs.Gated.{gated-keeps, gated-runs}
 use Rattle.vl_ast.proofs.GatedSound.{enable-net, gated-acyclic, no_reset-same}

@@ -1,6 +1,6 @@
 -- The six conditions on a module, tried in this order, each with the first name at fault in the text
 -- (own; widths are bounded by 128 so that a value fits the program's numbers).
-use Rattle.std.specs.Prelude.{◌≡◌, ℕ, ◌+◌, ◌%◌, ◌^◌, ◌<◌, ◌≤◌, ◌==◌, nat_le, nat_lt, Bool, true, false, not, ◌&&◌, ◌||◌, if◌then◌else◌, List, [], ◌∷◌, ◌++◌, map, length, slice_index_or, find, All, Contains, bytes_eq, codes, Option, Some, None, option_map, is_none}
+use Rattle.std.specs.Prelude.{◌≡◌, ℕ, ◌+◌, ◌%◌, ◌^◌, ◌<◌, ◌≤◌, nat_le, nat_lt, Bool, true, false, not, ◌&&◌, ◌||◌, if◌then◌else◌, List, [], ◌∷◌, ◌++◌, map, length, slice_index_or, find, All, Contains, bytes_eq, codes, Option, Some, None, option_map, is_none}
 use Rattle.std.specs.List.{list_any, list_all, IsDistinct}
 use Rattle.vl_ast.specs.declared.expressions.Sized.{Sized}
 use Rattle.vl_ast.specs.declared.expressions.Expr.{Expr}
@@ -12,7 +12,8 @@ use Rattle.vl_ast.specs.declared.modules.ModItem.TheVariants.{Wire, Reg, Assign,
 use Rattle.vl_ast.specs.declared.modules.Module.{Module}
 use Rattle.vl_ast.specs.Attributes.{cycles_of, period_of, latency_of}
 use Rattle.vl_ast.specs.Context.{Net, own_length}
-use Rattle.vl_ast.specs.Driven.{is_clock_or_reset}
+pub use Rattle.vl_ast.specs.Control.{is_bit_input}
+use Rattle.vl_ast.specs.Control.{is_control_input, is_control_output, is_stallable}
 use Rattle.vl_ast.specs.Nets.{Kind, InputPort, OutputPort, PlainWire, Register, Declared, Mention, Declares, Drives, Reads, Clocks, mentions, names_read, declaration_of, nets_of, place_of}
 
 -- the place declares the name
@@ -177,10 +178,6 @@ too_wide m = option_map (λ part. part.0) (find (λ part. not part.1) (soundness
 
 -- 5. `clk` and `reset` aren't both unsigned inputs of one bit, or `clk` is read
 
--- an unsigned input of one bit with this name
-abbrev pub is_bit_input : List ℕ → Port → Bool
-is_bit_input name port = bytes_eq port.name name && port.input && not port.signed && port.width == 1
-
 -- `clk` is no such input, or is read
 abbrev pub is_clk_at_fault : Module → Bool
 is_clk_at_fault m =
@@ -197,18 +194,18 @@ no_reset m =
     then Some (if nat_le (place_of m (codes "clk")) (place_of m (codes "reset")) then codes "clk" else codes "reset")
     else (if is_clk_at_fault m then Some (codes "clk") else (if is_reset_at_fault m then Some (codes "reset") else None))
 
--- 6. the module or a port lacks an attribute in its range
+-- 6. the module or a port that carries numbers lacks an attribute in its range
 
--- the port lacks an attribute in its range
-abbrev pub lacks_attribute : Port → Bool
-lacks_attribute port =
-    if port.input then not (is_clock_or_reset port) && is_none (period_of port)
-    else is_none (period_of port) || is_none (latency_of port)
+-- the port of a module that stalls or doesn't lacks an attribute in its range
+abbrev pub lacks_attribute : Bool → Port → Bool
+lacks_attribute stalls port =
+    if port.input then not (is_control_input stalls port) && is_none (period_of port)
+    else not (is_control_output stalls port) && (is_none (period_of port) || is_none (latency_of port))
 
--- sixth condition: the module or the first port that lacks an attribute in its range
+-- sixth condition: the module or the first port that carries numbers and lacks an attribute in its range
 abbrev pub no_attribute : Module → Option (List ℕ)
 no_attribute m =
-    if is_none (cycles_of m) then Some m.name else option_map (λ port. port.name) (find lacks_attribute m.ports)
+    if is_none (cycles_of m) then Some m.name else option_map (λ port. port.name) (find (lacks_attribute (is_stallable m)) m.ports)
 
 -- a broken condition, with the name or the names that it shows
 pub data Fault : Type 0 where

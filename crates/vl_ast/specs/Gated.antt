@@ -1,5 +1,5 @@
 -- A module whose registers stand still where `clk_enable` is 0 (own).
-use Rattle.std.specs.Prelude.{◌≡◌, ◌≢◌, false, List, [], ◌∷◌, ◌++◌, map, codes, Contains, Option, Some, None, ℕ}
+use Rattle.std.specs.Prelude.{◌≡◌, ◌≢◌, List, [], ◌∷◌, ◌++◌, map, codes, Contains, Option, Some, None}
 use Rattle.vl_ast.specs.declared.expressions.BinOp.TheVariants.{Both}
 use Rattle.vl_ast.specs.declared.expressions.Expr.{Expr}
 use Rattle.vl_ast.specs.declared.expressions.Expr.TheVariants.{Name, Binary}
@@ -7,12 +7,8 @@ use Rattle.vl_ast.specs.declared.modules.ModItem.{ModItem}
 use Rattle.vl_ast.specs.declared.modules.ModItem.TheVariants.{Wire, Reg, Assign, Always}
 use Rattle.vl_ast.specs.declared.modules.Port.{Port}
 use Rattle.vl_ast.specs.declared.modules.Module.{Module}
-use Rattle.vl_ast.specs.Header.{bit_input}
+use Rattle.vl_ast.specs.Header.{bit_input, bit_output}
 use Rattle.vl_ast.specs.Nets.{Declared, declarations}
-
--- an unsigned output of one bit, without attributes
-abbrev pub bit_output : List ℕ → Port
-bit_output name = record { attrs = []; input = false; signed = false; width = 1; name = name }
 
 -- `clk_enable`, and the condition where there is one
 abbrev pub gated_condition : Option Expr → Expr

@@ -1,6 +1,7 @@
 pub mod Attributes
 pub mod Conditions
 pub mod Context
+pub mod Control
 pub mod Driven
 pub mod Gated
 pub mod Grammar
@@ -10,6 +11,7 @@ pub mod Operators
 pub mod Reserved
 pub mod Room
 pub mod Runs
+pub mod Spellable
 pub mod Spelling
 pub mod Stalls
 pub mod Steps

@@ -6,21 +6,22 @@ ghost use Rattle.vl_ast.specs.declared.expressions.Expr.TheOpen.{Expr-F};
 ghost use Rattle.vl_ast.specs.declared.expressions.Expr.TheViews.{roll-Expr};
 ghost use Rattle.vl_ast.specs.declared.expressions.Expr.TheFolds.{map-Expr};
 ghost use Rattle.vl_ast.specs.declared.modules.Module.{Module};
-ghost use Rattle.vl_ast.specs.Conditions.{BreaksNone, IsAcyclic, no_attribute, no_reset};
+ghost use Rattle.vl_ast.specs.Conditions.{BreaksNone, IsAcyclic, no_reset, too_wide};
 ghost use Rattle.vl_ast.specs.Context.{Net, Operand, in_context, own_length, length_step, is_signed, sign_step};
-ghost use Rattle.vl_ast.specs.Driven.{Driven, output_ports, stimulus_ports};
+ghost use Rattle.vl_ast.specs.Control.{is_stallable};
+ghost use Rattle.vl_ast.specs.Driven.{Driven, IsEnabled, IsResetLast};
 ghost use Rattle.vl_ast.specs.Gated.{HasAllOf, IsFresh, IsOpened, gated};
 ghost use Rattle.vl_ast.specs.Grammar.{IsModuleText, Spells};
 ghost use Rattle.vl_ast.specs.Nets.{names_read};
-ghost use Rattle.vl_ast.specs.Windows.{PortNumbers, Shows, Window};
 ghost use Rattle.vl_ast.specs.Room.{AreSame, CanBeDriven, HasRoom, HasRows, RunsDriven, StartFits};
 ghost use Rattle.vl_ast.specs.Runs.{Runs};
+ghost use Rattle.vl_ast.specs.Spellable.{IsSpellable};
 ghost use Rattle.vl_ast.specs.Spelling.{spelling};
-ghost use Rattle.vl_ast.specs.Stalls.{AreCounted, AreThinned, AreUngated, BreaksNoneIn, DrivenAtClocks, IsEnabled, IsResetLast, KeepsBits, ShowsAtClocks};
-ghost use Rattle.vl_ast.specs.Stalls.{is_stallable, no_attribute_in, number_inputs, number_outputs, thin_window};
+ghost use Rattle.vl_ast.specs.Stalls.{AreCounted, AreThinned, AreUngated, KeepsBits, thin_window};
 ghost use Rattle.vl_ast.specs.Steps.{AreSteps};
 ghost use Rattle.vl_ast.specs.Tokens.{Token, Number, Based, IsWritable, AreWritable};
 ghost use Rattle.vl_ast.specs.Value.{Bits, bits_step, operand_of, value_in};
+ghost use Rattle.vl_ast.specs.Windows.{IsClock, PortNumbers, Shows, Window, row_at};
 
 /// The written text of a module spells it, where some text does.
 pub fn spelling_spells()
@@ -32,6 +33,15 @@ pub fn tokens_spell()
     ensures { (m : Module) (tokens : List Token) → IsModuleText m tokens → AreWritable tokens
         → Spells (spelling m) m }
 {}
+
+/// A module that breaks none of the first four conditions is spelled by its written text, where its
+/// names are identifiers, its attributes short, and its expressions of the grammar.
+pub fn sound_modules_spell()
+    ensures { (m : Module) → IsAcyclic m → too_wide m ≡ None → IsSpellable m
+        → Spells (spelling m) m }
+{
+    meaning_by_layer();
+}
 
 /// Numbers of at most nine digits and based numbers of at most 128 bits can be written.
 pub fn numbers_are_writable()
@@ -109,30 +119,24 @@ pub fn counted_rows_run()
 }
 
 /// The counted rows of a run that a stimulus drives are driven by it as rows of a run without stalls,
-/// and what a name shows there it shows at each clock. Without stalls each row is a clock.
+/// and what a name shows there it shows at each clock.
 pub fn counted_rows_show()
     ensures driven { (m : Module) (window : Window) (inputs rows : ℕ → List ℕ → ℕ) (thinned : AreThinned m window inputs rows)
-        (stimulus : PortNumbers) (samples : ℕ) → DrivenAtClocks m stimulus samples window inputs
-        → DrivenAtClocks m stimulus samples (thin_window m window inputs) thinned.thin_inputs }
+        (stimulus : PortNumbers) (samples : ℕ) → Driven m stimulus samples window inputs
+        → Driven m stimulus samples (thin_window m window inputs) thinned.thin_inputs }
     ensures shows { (m : Module) (window : Window) (inputs rows : ℕ → List ℕ → ℕ) (thinned : AreThinned m window inputs rows)
         (name : List ℕ) (width : ℕ) (number : ℤ) (from until : ℕ)
-        → ShowsAtClocks m (thin_window m window inputs) thinned.thin_inputs thinned.thin_rows name width number from until
-        → ShowsAtClocks m window inputs rows name width number from until }
-    ensures unstalled { (m : Module) (window : Window) (inputs rows : ℕ → List ℕ → ℕ) → IsEnabled window inputs
-        → (name : List ℕ) (width : ℕ) (number : ℤ) (from until : ℕ)
-        → Shows window rows name width number from until
-        → ShowsAtClocks m window inputs rows name width number from until }
+        → Shows m (thin_window m window inputs) thinned.thin_inputs thinned.thin_rows name width number from until
+        → Shows m window inputs rows name width number from until }
 {}
 
-/// A module without `clk_enable` means what it meant before there were stalls.
-pub fn plain_modules_stay()
-    ensures inputs { (m : Module) → is_stallable m ≡ false → number_inputs m ≡ stimulus_ports m }
-    ensures outputs { (m : Module) → is_stallable m ≡ false → number_outputs m ≡ output_ports m }
-    ensures attributes { (m : Module) → is_stallable m ≡ false → no_attribute_in m ≡ no_attribute m }
-    ensures clocks { (m : Module) (stimulus : PortNumbers) (samples : ℕ) (window : Window) (inputs : ℕ → List ℕ → ℕ) →
-        is_stallable m ≡ false → Driven m stimulus samples window inputs → DrivenAtClocks m stimulus samples window inputs }
-    ensures driven { (m : Module) (stimulus : PortNumbers) (samples : ℕ) (window : Window) (inputs : ℕ → List ℕ → ℕ) →
-        is_stallable m ≡ false → DrivenAtClocks m stimulus samples window inputs → Driven m stimulus samples window inputs }
+/// Each row behind the last with `reset` is a clock where `clk_enable` is 1 in every row, and of a module
+/// that can't be stalled.
+pub fn rows_are_clocks()
+    ensures enabled { (m : Module) (window : Window) (inputs : ℕ → List ℕ → ℕ) → IsEnabled window inputs
+        → (place : ℕ) → row_at window place < window.rows → IsClock m window inputs place place }
+    ensures plain { (m : Module) (window : Window) (inputs : ℕ → List ℕ → ℕ) → is_stallable m ≡ false
+        → (place : ℕ) → row_at window place < window.rows → IsClock m window inputs place place }
 {}
 
 /// Of a stallable module whose registers are gated by `clk_enable`: they keep their bits where it is 0, a
@@ -144,7 +148,7 @@ pub fn gated_modules()
         IsAcyclic m → is_stallable m ≡ true → Runs (gated m) count start inputs rows
         → ((k : ℕ) → k < count → inputs k (codes "clk_enable") ≡ 1)
         → Runs m count start inputs rows }
-    ensures conditions { (m : Module) → is_stallable m ≡ true → BreaksNoneIn m → BreaksNoneIn (gated m) }
+    ensures conditions { (m : Module) → is_stallable m ≡ true → BreaksNone m → BreaksNone (gated m) }
 {
     meaning_by_layer();
 }
@@ -174,7 +178,7 @@ pub fn opened_modules()
     ensures acyclic { (m opened : Module) → IsAcyclic m → IsFresh m → IsOpened m opened → IsAcyclic opened }
     ensures clocked { (m opened : Module) → IsAcyclic m → IsFresh m → IsOpened m opened → no_reset m ≡ None
         → no_reset opened ≡ None }
-    ensures conditions { (m opened : Module) → BreaksNone m → IsFresh m → IsOpened m opened → BreaksNoneIn opened }
+    ensures conditions { (m opened : Module) → BreaksNone m → IsFresh m → IsOpened m opened → BreaksNone opened }
     ensures stallable { (m opened : Module) → IsOpened m opened → is_stallable opened ≡ true }
     ensures rows { (m opened : Module) (window : Window) (start : List ℕ → ℕ) (inputs rows : ℕ → List ℕ → ℕ) →
         IsAcyclic m → IsFresh m → IsOpened m opened → no_reset m ≡ None → IsResetLast window inputs

@@ -2,11 +2,13 @@
 //!
 //! The crate holds types, definitions, the test of identifiers, and laws as functions that do nothing.
 //! The definitions are in `specs/`, by subject: `Operators` (how they are written), `Spelling` (the one
-//! written text of a module), `Tokens` and `Grammar` (which bytes spell a module), `Context` (length and sign of an expression), `Value`
-//! (its value), `Nets` (what is declared and where names stand), `Runs` (the rows of a module), `Steps`
-//! (a row, and an edge to the next), `Room` (what fits), `Conditions` (the six conditions), `Attributes`,
-//! `Windows` (what a name shows over clocks), `Driven` (how a module is reset and driven), `Stalls` (rows
-//! that count), `Gated` (registers that stand still) and `Multiplications`.
+//! written text of a module), `Tokens` and `Grammar` (which bytes spell a module), `Spellable` (what some
+//! text spells), `Context` (length and sign of an expression), `Value` (its value), `Nets` (what is
+//! declared and where names stand), `Runs` (the rows of a module), `Steps` (a row, and an edge to the
+//! next), `Room` (what fits), `Conditions` (the six conditions), `Attributes`, `Control` (ports that carry
+//! no numbers), `Windows` (which rows count, and what a name shows over them), `Driven` (how a module is
+//! reset and driven), `Stalls` (rows that don't count), `Gated` (registers that stand still) and
+//! `Multiplications`.
 #![tactic(auto)]
 
 mod expressions;
@@ -19,7 +21,7 @@ pub use expressions::{BinOp, Expr, Exprs, ShiftOp, Sized, UnOp};
 pub use identifiers::is_identifier;
 pub use laws::{
     agreement, can_be_driven, counted_rows_run, counted_rows_show, gated_modules, gated_rows_run,
-    meaning_by_layer, numbers_are_writable, one_run, opened_modules, parts_run, plain_modules_stay,
-    spelling_spells, steps_run, tokens_spell,
+    meaning_by_layer, numbers_are_writable, one_run, opened_modules, parts_run, rows_are_clocks,
+    sound_modules_spell, spelling_spells, steps_run, tokens_spell,
 };
 pub use modules::{Attr, Attrs, ModItem, ModItems, Module, Port, Ports};

@@ -1,4 +1,4 @@
-use Rattle.vl_ast.proofs.Unstalled.{enabled-count, shows-clocks, thinned-driven, thinned-shows}
+use Rattle.vl_ast.proofs.Unstalled.{thinned-driven, thinned-shows}
 use Rattle.vl_ast.proofs.laws.counted_rows_show.Goals as goal
 
 pub returns-clause-driven : goal.returns-clause-driven
@@ -6,6 +6,3 @@ returns-clause-driven c = thinned-driven
 
 pub returns-clause-shows : goal.returns-clause-shows
 returns-clause-shows c = thinned-shows
-
-pub returns-clause-unstalled : goal.returns-clause-unstalled
-returns-clause-unstalled c m window inputs rows on = shows-clocks m window inputs (enabled-count m window inputs on) rows
