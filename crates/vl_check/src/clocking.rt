@@ -1,6 +1,7 @@
 ghost use Rattle.std.specs.Prelude.{◌≡◌, ◌||◌, codes, nat_le, not, option_map};
 ghost use Rattle.std.specs.List.{list_any};
-ghost use Rattle.vl_ast.specs.Conditions.{is_bit_input, is_read_of, no_reset};
+ghost use Rattle.vl_ast.specs.Conditions.{is_read_of, no_reset};
+ghost use Rattle.vl_ast.specs.Control.{is_bit_input};
 ghost use Rattle.vl_ast.specs.Nets.{is_mention_of, mentions};
 ghost use Rattle.vl_check.specs.inner.Clocked.{first_of_both, name_at_fault, place_in};
 ghost use Rattle.vl_check.specs.inner.Mentioned.{mention_of, shown};
@@ -43,7 +44,8 @@ fn is_bit_input(port: &Port, name: &[u8]) -> bool
     port.name.bytes() == name && port.input && !port.signed && port.width == 1
 }
 
-fn has_bit_input(ports: &[Port], name: &[u8]) -> bool
+/// Whether one of the ports is an unsigned input of one bit with this name.
+pub fn has_bit_input(ports: &[Port], name: &[u8]) -> bool
     ensures { result ≡ list_any (is_bit_input name.now) ports.now }
 {
     ports.iter().any(|port| is_bit_input(port, name))

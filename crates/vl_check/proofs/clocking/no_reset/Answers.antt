@@ -1,7 +1,8 @@
 use Rattle.std.proofs.Common.{◌≡◌, ◌∙◌, ◌||◌, not, length, nat_le, codes, ap, ℕ, List}
 use Rattle.std.specs.Prelude.{take_while}
 use Rattle.std.specs.List.{list_any}
-use Rattle.vl_ast.specs.Conditions.{is_bit_input, is_read_of, is_clk_at_fault}
+use Rattle.vl_ast.specs.Conditions.{is_read_of, is_clk_at_fault}
+use Rattle.vl_ast.specs.Control.{is_bit_input}
 use Rattle.vl_ast.specs.Nets.{is_mention_of}
 use Rattle.vl_check.specs.inner.Mentioned.{mention_of}
 use Rattle.vl_check.specs.inner.Clocked.{first_of_both, name_at_fault}
