@@ -1,5 +1,5 @@
 -- What a machine hands out of an output's place is what the row shows of its port.
-use Rattle.std.proofs.Common.{◌≡◌, ◌<◌, ◌≤◌, ◌+◌, ◌^◌, ℕ, Bool, true, false, not, ◌||◌, List, length, slice_get, slice_index, slice_index_or, bytes_eq, Contains, None, Some, refl, sym, ap, subst, ◌∙◌, arith}
+use Rattle.std.proofs.Common.{◌≡◌, ◌<◌, ◌≤◌, ◌+◌, ◌^◌, ℕ, Bool, true, false, ◌||◌, List, length, slice_get, slice_index, slice_index_or, bytes_eq, Contains, None, Some, refl, sym, ap, subst, ◌∙◌, arith}
 use Rattle.std.proofs.lemmas.Bool.{eq-eqb}
 use Rattle.std.specs.List.{position}
 use Rattle.std.proofs.lemmas.Option.{slice_get_within, slice_get-get_or}
@@ -7,6 +7,8 @@ use Rattle.std.proofs.lemmas.List.{get_or-map, get_or_default}
 use Rattle.vl_ast.specs.declared.modules.Port.{Port}
 use Rattle.vl_ast.specs.declared.modules.Module.{Module}
 use Rattle.vl_ast.specs.Conditions.{BreaksNone, doubly, undriven}
+use Rattle.vl_ast.specs.Control.{is_number_output, is_stallable}
+use Rattle.vl_ast.specs.Driven.{output_ports, port_number}
 use Rattle.vl_ast.specs.Context.{Net}
 use Rattle.vl_ast.specs.Nets.{Declared, declarations, port_declared}
 use Rattle.vl_ast.specs.Value.{number_of}
@@ -20,7 +22,6 @@ use Rattle.vl_eval.specs.declared.ops.Op.{Op}
 use Rattle.vl_eval.specs.declared.plan.Plan.{Plan}
 use Rattle.vl_eval.specs.inner.Planned.{IsPlan, output_of}
 use Rattle.vl_check.specs.Names.{names_of}
-use Rattle.vl_ast.specs.Driven.{output_ports, port_number}
 use Rattle.vl_eval.specs.declared.plan.Output.{Output}
 use Rattle.vl_eval.specs.inner.Site.{slot_at, slot_in}
 use Rattle.vl_eval.proofs.Grown.{grows-length}
@@ -70,7 +71,7 @@ module _ (by_layer : ByLayer) (m : Module) (b : BreaksNone m) (scope : Scope) (s
       record {
         port = port;
         found = found;
-        inside = (filter-in (λ (x : Port). not x.input) m.ports port (slice-in (output_ports m) place port found)).0;
+        inside = (filter-in (is_number_output (is_stallable m)) m.ports port (slice-in (output_ports m) place port found)).0;
         is = λ d. ap (λ xs. slice_index_or xs place d) p.outputs ∙ get_or-map (output_of scope slots) (output_ports m) place any-port d below;
       }
 

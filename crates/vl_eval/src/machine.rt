@@ -139,7 +139,7 @@ impl Machine {
         );
     }
 
-    /// The number that an output port shows, by its place among the output ports.
+    /// The number that an output port shows, by its place among those that carry numbers.
     pub fn port(&self, place: usize) -> i128
         requires ready { IsReady self.now }
         requires within { place < length (output_ports (source_of self.now)) }

@@ -15,7 +15,7 @@ use crate::steps::{Step, constants, steps_of};
 use fx_io::OutOfMemory;
 use std::alloc::Global;
 use vl_ast::{Expr, ModItem, Module, meaning_by_layer};
-use vl_check::{Scope, VlFault, check, net};
+use vl_check::{Scope, VlFault, check, is_number_output, is_stallable, net};
 
 /// What a register takes at an edge: the value at a place, into its own.
 #[derive(Clone, Copy, Debug)]
@@ -172,14 +172,15 @@ fn inputs(alloc: Global, site: &Site<'_, '_>, source: &Module) -> Result<Vec<usi
     Ok(places)
 }
 
-/// Where the output ports have their values, in order.
+/// Where the output ports that carry numbers have their values, in order.
 fn outputs(alloc: Global, site: &Site<'_, '_>, source: &Module) -> Result<Vec<Output>, OutOfMemory>
     ensures { IfOk result (λ outputs. outputs.items
         ≡ map (output_of site.now.scope.now site.now.slots.now) (output_ports source.now)) }
 {
     let mut outputs = Vec::new(alloc);
+    let stalls = is_stallable(source);
     for port in source.ports.as_slice() {
-        if !port.input {
+        if is_number_output(port, stalls) {
             outputs.push(Output {
                 slot: slot(site, port.name.bytes()),
                 width: port.width,
