@@ -1,5 +1,6 @@
 -- The row with `reset`, and one clock more.
 use Rattle.std.proofs.Common.{◌≡◌, ◌<◌, ◌+◌, ◌*◌, ◌/◌, ℕ, suc, List, length, map, ℤ, sym, ap, subst, ◌∙◌, arith}
+use Rattle.vl_ast.specs.Control.{is_stallable}
 use Rattle.vl_ast.specs.declared.modules.Module.{Module}
 use Rattle.vl_ast.specs.Runs.{Row, Rows}
 use Rattle.vl_ast.specs.Steps.{AreSteps, IsEdge, IsFirstRow}
@@ -67,7 +68,7 @@ module _ (m : Module) (score : Score) (is : IsScoreOf m score) (sample phase : �
   bits-in : given (driven_ports m) bits ≡ inputs' (1 + (1 + clock))
   bits-in =
       ap (given (driven_ports m)) (bits-of-score m score is (driver_bits (numbers_of score.stimulus) score.stimulus.lines sample) bits are)
-      ∙ ap (λ s. given (driven_ports m) (map (driver_bits (numbers_of score.stimulus) score.stimulus.lines s) (drivers_from 0 (driven_ports m)))) (sym in-sample)
+      ∙ ap (λ s. given (driven_ports m) (map (driver_bits (numbers_of score.stimulus) score.stimulus.lines s) (drivers_from (is_stallable m) 0 (driven_ports m)))) (sym in-sample)
       ∙ ap inputs' (sym two)
 
   edge-next : IsEdge m (rows (1 + clock)) (inputs' (1 + (1 + clock))) next

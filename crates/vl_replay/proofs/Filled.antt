@@ -8,9 +8,9 @@ use Rattle.std.proofs.Math.Nat.{mul-le-mul_right}
 use Rattle.vl_ast.specs.declared.modules.Port.{Port}
 use Rattle.vl_ast.specs.declared.modules.Module.{Module}
 use Rattle.vl_ast.specs.Driven.{output_ports, port_number}
+use Rattle.vl_ast.specs.Windows.{row_at}
 use Rattle.vl_ast.specs.Runs.{Rows, Runs}
 use Rattle.vl_ast.specs.Steps.{AreSteps}
-use Rattle.vl_ast.specs.Windows.{row_at}
 use Rattle.vl_replay.specs.declared.playing.Score.{Score}
 use Rattle.vl_replay.specs.Columns.{step_of}
 use Rattle.vl_replay.specs.Sampled.{Sampled, hit_at, numbers_of, window_of}

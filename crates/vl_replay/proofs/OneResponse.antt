@@ -1,6 +1,6 @@
 -- Two tables that are sampled of a module under one stimulus have the same numbers.
 use Rattle.std.proofs.Common.{◌≡◌, ◌<◌, ◌≤◌, ◌+◌, ◌*◌, ◌/◌, ◌%◌, ⊎_elim, inl, inr, ◌⊎◌, ℕ, zero, suc, Bool, true, false, not, ◌&&◌, ◌||◌, if◌then◌else◌, List, [], ◌∷◌, length, find, get_or, map, flat_map, slice_get, Contains, bytes_eq, codes, Option, None, Some, is_none, unwrap_or, ℤ, pos, refl, sym, ap, subst, ◌∙◌, arith}
-use Rattle.std.proofs.lemmas.Bool.{cases_Bool, cases_lt, or_parts, not-true}
+use Rattle.std.proofs.lemmas.Bool.{and_parts, cases_Bool, cases_lt, or_parts, not-true}
 use Rattle.std.proofs.lemmas.List.{ext_get_or}
 use Rattle.std.proofs.lemmas.List.Elements.{Contains-append_left}
 use Rattle.std.proofs.lemmas.Nat.{div-add-mod', mod_below}
@@ -11,19 +11,21 @@ use Rattle.vl_ast.specs.declared.modules.Port.{Port}
 use Rattle.vl_ast.specs.declared.modules.Module.{Module}
 use Rattle.vl_ast.specs.Attributes.{cycles_of, latency_of, period_of}
 use Rattle.vl_ast.specs.Conditions.{BreaksNone, lacks_attribute}
-use Rattle.vl_ast.specs.Driven.{is_clock_or_reset, output_ports, port_number, stimulus_ports}
+use Rattle.vl_ast.specs.Control.{is_control_input, is_control_output, is_number_input, is_number_output, is_stallable}
+use Rattle.vl_ast.specs.Driven.{output_ports, port_number, stimulus_ports}
+use Rattle.vl_ast.specs.Windows.{PortNumbers, Sample, row_at}
 use Rattle.vl_ast.specs.Nets.{Declares, declarations, declared_by, item_mentions, mentions, port_declared}
 use Rattle.vl_ast.specs.Room.{AreSame}
 use Rattle.vl_ast.specs.Runs.{Rows, Runs}
-use Rattle.vl_ast.specs.Windows.{PortNumbers, Sample, row_at}
+use Rattle.vl_ast.proofs.Unstalled.{place-clock}
 use Rattle.vl_ast.proofs.Places.{cons-cases, flat-in, head-in, map-in, none-in}
 use Rattle.vl_eval.proofs.Given.{filter-has}
 use Rattle.vl_eval.proofs.PortLists.{filter-in, slice-in}
 use Rattle.vl_replay.specs.Sampled.{AreReplayed, Sampled, hit_at, window_of}
-use Rattle.vl_replay.proofs.Bits.{is_stimulus}
 use Rattle.vl_replay.proofs.Cells.{port-at}
 use Rattle.vl_replay.proofs.Ranges.{clocks-some, step-some}
 use Rattle.vl_replay.proofs.Rows.{zeros}
+use Rattle.vl_replay.proofs.Stimulated.{all-count}
 use Rattle.vl_replay.proofs.Times.{hit-below, last-is-hit}
 
 place-of : (xs : List Port) (x : Port) → Contains xs x → (place : ℕ) × (slice_get xs place ≡ Some x)
@@ -48,13 +50,13 @@ frame cycles period clock some more =
     next : (a b : ℕ) → (a + 1) * b ≡ a * b + b
     next a b = grind arith
 
-not-lacking : (ports : List Port) → find lacks_attribute ports ≡ None → (port : Port) → Contains ports port → lacks_attribute port ≡ false
-not-lacking [] e port c = absurd (none-in port c)
-not-lacking (first ∷ ports) e port c = by (not-lacking ports) (lacks_attribute first) refl e (cons-cases first port ports c) where
-  by : (find lacks_attribute ports ≡ None → (port : Port) → Contains ports port → lacks_attribute port ≡ false) → (t : Bool) → lacks_attribute first ≡ t → (if t then Some first else find lacks_attribute ports) ≡ None
-      → (first ≡ port) ⊎ Contains ports port → lacks_attribute port ≡ false
+not-lacking : (stalls : Bool) (ports : List Port) → find (lacks_attribute stalls) ports ≡ None → (port : Port) → Contains ports port → lacks_attribute stalls port ≡ false
+not-lacking stalls [] e port c = absurd (none-in port c)
+not-lacking stalls (first ∷ ports) e port c = by (not-lacking stalls ports) (lacks_attribute stalls first) refl e (cons-cases first port ports c) where
+  by : (find (lacks_attribute stalls) ports ≡ None → (port : Port) → Contains ports port → lacks_attribute stalls port ≡ false) → (t : Bool) → lacks_attribute stalls first ≡ t
+      → (if t then Some first else find (lacks_attribute stalls) ports) ≡ None → (first ≡ port) ⊎ Contains ports port → lacks_attribute stalls port ≡ false
   by rest true s f where-it = absurd (cc f)
-  by rest false s f (inl same) = subst (λ (p : Port). lacks_attribute p ≡ false) same s
+  by rest false s f (inl same) = subst (λ (p : Port). lacks_attribute stalls p ≡ false) same s
   by rest false s f (inr later) = rest f port later
 
 there-is : (o : Option ℕ) → is_none o ≡ false → (n : ℕ) × (o ≡ Some n)
@@ -68,8 +70,8 @@ attributed (Some n) (Some port) name e = absurd (cc e)
 
 module _ (one_run : (m : Module) (count : ℕ) (start : List ℕ → ℕ) (inputs rows other : ℕ → List ℕ → ℕ) → BreaksNone m → Runs m count start inputs rows → Runs m count start inputs other → AreSame m count rows other)
     (m : Module) (sound : BreaksNone m) (stimulus : PortNumbers) (samples : ℕ) where
-  both-attributes : (is_none (cycles_of m) ≡ false) × (find lacks_attribute m.ports ≡ None)
-  both-attributes = attributed (cycles_of m) (find lacks_attribute m.ports) m.name sound.attributed
+  both-attributes : (is_none (cycles_of m) ≡ false) × (find (lacks_attribute (is_stallable m)) m.ports ≡ None)
+  both-attributes = attributed (cycles_of m) (find (lacks_attribute (is_stallable m)) m.ports) m.name sound.attributed
 
   cycles : (n : ℕ) × (cycles_of m ≡ Some n)
   cycles = there-is (cycles_of m) both-attributes.0
@@ -77,40 +79,43 @@ module _ (one_run : (m : Module) (count : ℕ) (start : List ℕ → ℕ) (input
   some-cycles : 1 ≤ cycles.0
   some-cycles = let c = (clocks-some m).0 in let e = ap (λ o. unwrap_or o 1) cycles.1 in omega (arith, c, e)
 
-  abbrev lacks : Port → Bool
-  lacks port = lacks_attribute port
+  abbrev stalls : Bool
+  stalls = is_stallable m
 
-  input-period : (port : Port) → Contains m.ports port → port.input ≡ true → is_clock_or_reset port ≡ false → (n : ℕ) × (period_of port ≡ Some n)
-  input-period port c input other = there-is (period_of port) (by port.input (is_clock_or_reset port) (not-lacking m.ports both-attributes.1 port c) input other)
+  input-period : (port : Port) → Contains m.ports port → port.input ≡ true → is_control_input (is_stallable m) port ≡ false → (n : ℕ) × (period_of port ≡ Some n)
+  input-period port c input other =
+      there-is (period_of port) (by port.input (is_control_input stalls port) (is_control_output stalls port) (not-lacking stalls m.ports both-attributes.1 port c) input other)
     where
-      by : (i r : Bool) → (if i then not r && is_none (period_of port) else is_none (period_of port) || is_none (latency_of port)) ≡ false → i ≡ true → r ≡ false → is_none (period_of port) ≡ false
-      by true false e i r = e
-      by true true e i r = absurd (cc r)
-      by false r e i n = absurd (cc i)
+      by : (i r o : Bool) → (if i then not r && is_none (period_of port) else not o && (is_none (period_of port) || is_none (latency_of port))) ≡ false → i ≡ true → r ≡ false → is_none (period_of port) ≡ false
+      by true false o e i r = e
+      by true true o e i r = absurd (cc r)
+      by false r o e i n = absurd (cc i)
 
-  output-has : (port : Port) → Contains m.ports port → port.input ≡ false → ((n : ℕ) × (period_of port ≡ Some n)) × ((n : ℕ) × (latency_of port ≡ Some n))
-  output-has port c output =
-      let neither = by port.input (not-lacking m.ports both-attributes.1 port c) output in
+  output-has : (port : Port) → Contains m.ports port → port.input ≡ false → is_control_output (is_stallable m) port ≡ false → ((n : ℕ) × (period_of port ≡ Some n)) × ((n : ℕ) × (latency_of port ≡ Some n))
+  output-has port c output other =
+      let neither = by port.input (is_control_input stalls port) (is_control_output stalls port) (not-lacking stalls m.ports both-attributes.1 port c) output other in
       let parts = or_parts (is_none (period_of port)) (is_none (latency_of port)) neither in
       (there-is (period_of port) parts.0, there-is (latency_of port) parts.1)
     where
-      by : (i : Bool) → (if i then not (is_clock_or_reset port) && is_none (period_of port) else is_none (period_of port) || is_none (latency_of port)) ≡ false → i ≡ false → is_none (period_of port) || is_none (latency_of port) ≡ false
-      by true e i = absurd (cc i)
-      by false e i = e
+      by : (i r o : Bool) → (if i then not r && is_none (period_of port) else not o && (is_none (period_of port) || is_none (latency_of port))) ≡ false → i ≡ false → o ≡ false
+          → is_none (period_of port) || is_none (latency_of port) ≡ false
+      by true r o e i f = absurd (cc i)
+      by false r true e i f = absurd (cc f)
+      by false r false e i f = e
 
   module _ (count other-count : ℕ) (inputs other : Rows) (a : AreReplayed m stimulus samples count inputs) (b : AreReplayed m stimulus samples other-count other) where
-    at-clock : (clock : ℕ) → suc (suc clock) < count → suc (suc clock) < other-count → (port : Port) → Contains m.ports port → port.input ≡ true → is_clock_or_reset port ≡ false → inputs (suc (suc clock)) port.name ≡ other (suc (suc clock)) port.name
+    at-clock : (clock : ℕ) → suc (suc clock) < count → suc (suc clock) < other-count → (port : Port) → Contains m.ports port → port.input ≡ true → is_control_input (is_stallable m) port ≡ false → inputs (suc (suc clock)) port.name ≡ other (suc (suc clock)) port.name
     at-clock clock low low' port c input neither =
         let period = input-period port c input neither in
         let more : 1 ≤ period.0 = (let s = (step-some port).0 in let e = ap (λ o. unwrap_or o 1) period.1 in omega (arith, s, e)) in
-        let found = place-of (stimulus_ports m) port (filter-has is_stimulus m.ports port c (rw (input, neither) refl)) in
+        let found = place-of (stimulus_ports m) port (filter-has (is_number_input (is_stallable m)) m.ports port c (rw (input, neither) refl)) in
         let row : 1 + 1 + clock ≡ suc (suc clock) = omega arith in
         let hit = hit_at period.0 (clock / cycles.0) in
         let within = frame cycles.0 period.0 clock some-cycles more in
         let is-hit = last-is-hit period.0 (clock / cycles.0) more in
         let at : inputs (1 + 1 + clock) port.name ≡ other (1 + 1 + clock) port.name = ⊎_elim
-        (λ below. a.driven.shows cycles.0 cycles.1 found.0 port found.1 period.0 period.1 hit below is-hit clock within.0 within.1 (omega (arith, low))
-        ∙ sym (b.driven.shows cycles.0 cycles.1 found.0 port found.1 period.0 period.1 hit below is-hit clock within.0 within.1 (omega (arith, low'))))
+        (λ below. a.driven.shows cycles.0 cycles.1 found.0 port found.1 period.0 period.1 hit below is-hit clock clock within.0 within.1 (place-clock m (window_of count) inputs (all-count m count inputs a.enabled) clock (omega (arith, low)))
+        ∙ sym (b.driven.shows cycles.0 cycles.1 found.0 port found.1 period.0 period.1 hit below is-hit clock clock within.0 within.1 (place-clock m (window_of other-count) other (all-count m other-count other b.enabled) clock (omega (arith, low')))))
         (λ past. a.idle cycles.0 cycles.1 found.0 port found.1 period.0 period.1 clock (omega (arith, low)) past
         ∙ sym (b.idle cycles.0 cycles.1 found.0 port found.1 period.0 period.1 clock (omega (arith, low')) past))
         (cases_lt hit samples) in
@@ -120,16 +125,21 @@ module _ (one_run : (m : Module) (count : ℕ) (start : List ℕ → ℕ) (input
     inputs-agree zero low low' port c input = a.first port c input ∙ sym (b.first port c input)
     inputs-agree (suc zero) low low' port c input = ⊎_elim
         (λ is. let name = (bytes_eq-Decides port.name (codes "reset")).0 is in
-        ap (inputs 1) name ∙ a.driven.reset ∙ sym b.driven.reset ∙ ap (other 1) (sym name))
+        ap (inputs 1) name ∙ a.driven.reset.reset ∙ sym b.driven.reset.reset ∙ ap (other 1) (sym name))
         (λ isnt. a.reset port c input isnt ∙ sym (b.reset port c input isnt))
         (cases_Bool (bytes_eq port.name (codes "reset")))
-    inputs-agree (suc (suc clock)) low low' port c input = by (bytes_eq port.name (codes "clk")) (bytes_eq port.name (codes "reset")) refl refl where
-      by : (clk reset : Bool) → bytes_eq port.name (codes "clk") ≡ clk → bytes_eq port.name (codes "reset") ≡ reset → inputs (suc (suc clock)) port.name ≡ other (suc (suc clock)) port.name
-      by clk true ec er = let name = (bytes_eq-Decides port.name (codes "reset")).0 er in
-          ap (inputs (suc (suc clock))) name ∙ a.driven.released (suc (suc clock)) (omega arith) low ∙ sym (b.driven.released (suc (suc clock)) (omega arith) low') ∙ ap (other (suc (suc clock))) (sym name)
-      by true false ec er = let name = (bytes_eq-Decides port.name (codes "clk")).0 ec in
+    inputs-agree (suc (suc clock)) low low' port c input = by (is_stallable m && bytes_eq port.name (codes "clk_enable")) (bytes_eq port.name (codes "clk")) (bytes_eq port.name (codes "reset")) refl refl refl where
+      by : (enable clk reset : Bool) → (is_stallable m && bytes_eq port.name (codes "clk_enable")) ≡ enable → bytes_eq port.name (codes "clk") ≡ clk → bytes_eq port.name (codes "reset") ≡ reset
+          → inputs (suc (suc clock)) port.name ≡ other (suc (suc clock)) port.name
+      by true clk reset ee ec er =
+          let parts = and_parts (is_stallable m) (bytes_eq port.name (codes "clk_enable")) ee in
+          let name = (bytes_eq-Decides port.name (codes "clk_enable")).0 parts.1 in
+          ap (inputs (suc (suc clock))) name ∙ a.enabled parts.0 (suc (suc clock)) (omega arith) low ∙ sym (b.enabled parts.0 (suc (suc clock)) (omega arith) low') ∙ ap (other (suc (suc clock))) (sym name)
+      by false clk true ee ec er = let name = (bytes_eq-Decides port.name (codes "reset")).0 er in
+          ap (inputs (suc (suc clock))) name ∙ a.driven.reset.released (suc (suc clock)) (omega arith) low ∙ sym (b.driven.reset.released (suc (suc clock)) (omega arith) low') ∙ ap (other (suc (suc clock))) (sym name)
+      by false true false ee ec er = let name = (bytes_eq-Decides port.name (codes "clk")).0 ec in
           ap (inputs (suc (suc clock))) name ∙ a.clock (suc (suc clock)) low ∙ sym (b.clock (suc (suc clock)) low') ∙ ap (other (suc (suc clock))) (sym name)
-      by false false ec er = at-clock clock low low' port c input (rw (ec, er) refl)
+      by false false false ee ec er = at-clock clock low low' port c input (rw (ee, ec, er) refl)
 
     rows-agree : (rows later : Rows) → Runs m count zeros inputs rows → Runs m other-count zeros other later → (k : ℕ) → k < count → k < other-count → (port : Port) → Contains m.ports port → rows k port.name ≡ later k port.name
     rows-agree rows later runs runs' k low low' port c =
@@ -160,8 +170,9 @@ module _ (one_run : (m : Module) (count : ℕ) (start : List ℕ → ℕ) (input
     same : (i : ℕ) → i < length (one t) → get_or (one t) i (pos 0) ≡ get_or (other t) i (pos 0)
     same i low =
         let port = port-at (output_ports m) i (let l = a.long t below in omega (arith, low, l)) in
-        let kept = filter-in (λ (p : Port). not p.input) m.ports port.0 (slice-in (output_ports m) i port.0 port.1) in
-        let has = output-has port.0 kept.0 (not-true port.0.input kept.1) in
+        let kept = filter-in (is_number_output (is_stallable m)) m.ports port.0 (slice-in (output_ports m) i port.0 port.1) in
+        let neither = or_parts (is_control_output (is_stallable m) port.0) port.0.input (not-true (is_control_output (is_stallable m) port.0 || port.0.input) kept.1) in
+        let has = output-has port.0 kept.0 neither.1 neither.0 in
         let mine = a.shows cycles.0 cycles.1 i port.0 port.1 has.0.0 has.1.0 has.0.1 has.1.1 t below in
         let yours = b.shows cycles.0 cycles.1 i port.0 port.1 has.0.0 has.1.0 has.0.1 has.1.1 t below in
         let row = hit_at has.0.0 t * cycles.0 + has.1.0 in

@@ -1,13 +1,15 @@
 -- What is sampled of a module that is driven by a stimulus (own): the run starts with every register 0.
--- In its row 0 every input is 0, in its row 1 `reset` is 1 and all else 0. Clock 0 is the row after.
+-- In its row 0 every input is 0, in its row 1 `reset` is 1 and all else 0. Clock 0 is the row after, and from it
+-- on `clk_enable` of a stallable module is 1.
 use Rattle.std.specs.Prelude.{◌≡◌, ℕ, ◌+◌, ◌-◌, ◌*◌, ◌/◌, ◌%◌, ◌<◌, ◌≤◌, true, false, List, length, bytes_eq, codes, slice_get, slice_index_or, Contains, Some, ℤ, pos}
 use Rattle.fx_tables.specs.declared.table.Rows.{Rows as Table}
 use Rattle.vl_ast.specs.declared.modules.Port.{Port}
 use Rattle.vl_ast.specs.declared.modules.Module.{Module}
 use Rattle.vl_ast.specs.Attributes.{cycles_of, latency_of, period_of}
+use Rattle.vl_ast.specs.Control.{is_stallable}
 use Rattle.vl_ast.specs.Driven.{Driven, output_ports, port_number, stimulus_ports}
-use Rattle.vl_ast.specs.Runs.{Rows, Runs}
 use Rattle.vl_ast.specs.Windows.{Clock, Each, PortNumbers, Sample, Window, row_at}
+use Rattle.vl_ast.specs.Runs.{Rows, Runs}
 
 -- the number of a column at a sample
 abbrev pub numbers_of : Table → PortNumbers
@@ -28,6 +30,7 @@ pub record AreReplayed (m : Module) (stimulus : PortNumbers) (samples count : �
   pub reset : (port : Port) → Contains m.ports port → port.input ≡ true → bytes_eq port.name (codes "reset") ≡ false → inputs 1 port.name ≡ 0
   -- an edge of `clk` stands between a row and the next
   pub clock : (k : ℕ) → k < count → inputs k (codes "clk") ≡ 0
+  pub enabled : is_stallable m ≡ true → (k : ℕ) → 1 < k → k < count → inputs k (codes "clk_enable") ≡ 1
   pub idle : (cycles : ℕ) → cycles_of m ≡ Some cycles → Each (stimulus_ports m) (λ place port. (period : ℕ) → period_of port ≡ Some period
       → (clock : Clock) → row_at (window_of count) clock < count → samples ≤ hit_at period (clock / cycles) → inputs (row_at (window_of count) clock) port.name ≡ 0)
 

@@ -1,9 +1,10 @@
 ghost use Rattle.std.specs.Prelude.{◌≡◌, IfOk, length, true};
 ghost use Rattle.vl_ast.specs.Conditions.{is_width};
+ghost use Rattle.vl_ast.specs.Control.{is_stallable};
 ghost use Rattle.vl_ast.specs.Value.{bits_of};
 ghost use Rattle.vl_eval.specs.Given.{driven_ports};
 ghost use Rattle.vl_replay.specs.Sampled.{numbers_of};
-ghost use Rattle.vl_replay.specs.inner.Driving.{AreBits, AreWithin, IsWithin, driver_bits, driver_of, drivers_from, reset_bits};
+ghost use Rattle.vl_replay.specs.inner.Driving.{AreBits, AreWithin, IsWithin, driver_bits, drivers_from, is_own, own_driver, reset_bits};
 
 use crate::port_columns::{mask_of, step_of};
 use crate::samplers::hit_at;
@@ -11,46 +12,60 @@ use fx_io::OutOfMemory;
 use fx_tables::Rows;
 use std::alloc::Global;
 use vl_ast::{Module, Port};
+use vl_check::is_stallable;
 
 /// How an input port but `clk` is driven.
 #[derive(Clone, Copy, Debug)]
 pub enum Driver {
     /// By 1 in the row before clock 0, and else by 0.
     Reset,
+    /// By 0 before clock 0, and else by 1.
+    Enable,
     /// By a column of the stimulus.
     Column { place: u32, period: u32, width: u32 },
 }
 
-/// How a port is driven, by the column at a place where it isn't `reset`.
-fn driver_of(port: &Port, place: u32) -> Driver
-    ensures { result ≡ driver_of place port.now }
+/// Whether the port is `reset`, or `clk_enable` of a module that stalls.
+fn is_own(port: &Port, stalls: bool) -> bool
+    ensures { result ≡ is_own stalls port.now }
+{
+    (stalls && port.name.bytes() == b"clk_enable".as_slice())
+        || port.name.bytes() == b"reset".as_slice()
+}
+
+/// How such a port is driven.
+fn own_driver(port: &Port) -> Driver
+    ensures { result ≡ own_driver port.now }
 {
     if port.name.bytes() == b"reset".as_slice() {
         Driver::Reset
     } else {
-        Driver::Column {
-            place,
-            period: step_of(port),
-            width: port.width,
-        }
+        Driver::Enable
     }
 }
 
 /// How the input ports of a module but `clk` are driven, in order. `None` where there are more than
 /// 2^32 - 1 columns.
 pub fn drivers_of(alloc: Global, source: &Module) -> Result<Vec<Driver>, OutOfMemory>
-    ensures { IfOk result (λ drivers. drivers.items ≡ drivers_from 0 (driven_ports source.now)) }
+    ensures { IfOk result (λ drivers. drivers.items
+        ≡ drivers_from (is_stallable source.now) 0 (driven_ports source.now)) }
 {
+    let stalls = is_stallable(source);
     let mut drivers = Vec::new(alloc);
     let mut place: u32 = 0;
     for port in source.ports.as_slice() {
         if port.input && port.name.bytes() != b"clk".as_slice() {
-            let driver = driver_of(port, place);
-            drivers.push(driver)?;
-            if let Driver::Column { .. } = driver {
+            if is_own(port, stalls) {
+                drivers.push(own_driver(port))?;
+            } else {
                 let Some(next) = place.checked_add(1) else {
                     return Err(OutOfMemory);
                 };
+                drivers.push(Driver::Column {
+                    place,
+                    period: step_of(port),
+                    width: port.width,
+                })?;
                 place = next;
             }
         }
@@ -71,19 +86,21 @@ fn driven_bits(driver: Driver, stimulus: &Rows, sample: u64) -> u128
     requires { IsWithin stimulus.now.columns driver }
     ensures { result ≡ driver_bits (numbers_of stimulus.now) stimulus.now.lines sample driver }
 {
-    let Driver::Column {
-        place,
-        period,
-        width,
-    } = driver
-    else {
-        return 0;
-    };
-    let sample = hit_at(period, sample);
-    if sample < stimulus.count() {
-        bits_of(stimulus.get(sample, place), width)
-    } else {
-        0
+    match driver {
+        Driver::Reset => 0,
+        Driver::Enable => 1,
+        Driver::Column {
+            place,
+            period,
+            width,
+        } => {
+            let sample = hit_at(period, sample);
+            if sample < stimulus.count() {
+                bits_of(stimulus.get(sample, place), width)
+            } else {
+                0
+            }
+        }
     }
 }
 
@@ -95,7 +112,7 @@ pub fn put_reset(drivers: &[Driver], bits: &mut [u128])
     for k in 0..drivers.len() {
         bits[k] = match drivers[k] {
             Driver::Reset => 1,
-            Driver::Column { .. } => 0,
+            Driver::Enable | Driver::Column { .. } => 0,
         };
     }
 }

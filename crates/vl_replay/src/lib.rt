@@ -3,8 +3,8 @@
 //! `columns` gives the columns of a module's stimulus and response. `Replay::new` makes the room for
 //! a response, `Replay::fill` runs the machine over its stimulus, and `Replay::row` gives the numbers
 //! of a sample. Its contract: the rows are `Sampled`, the numbers of the run that starts with every
-//! register 0, in which `reset` is 1 for one row and each input then shows its numbers. By the law
-//! `one_response` no other numbers are.
+//! register 0, in which `reset` is 1 for one row, and each input then shows its numbers while
+//! `clk_enable` of a module that can stall is 1. By the law `one_response` no other numbers are.
 //!
 //! The definitions: `specs/Columns` says which columns a module has, `specs/Sampled` what is sampled,
 //! and `specs/Replays` what callers see of a `Replay`. `specs/inner` is cited by private contracts

@@ -22,7 +22,7 @@ pub struct Score {
     pub stimulus: Rows,
     /// By the input ports but `clk`.
     pub drivers: Vec<Driver>,
-    /// By the output ports.
+    /// By the output ports that carry numbers.
     pub samplers: Vec<Sampler>,
     /// The clocks of a sample.
     pub cycles: u64,

@@ -1,5 +1,7 @@
-ghost use Rattle.std.specs.Prelude.{◌≡◌, ◌<◌, ◌+◌, ◌^◌, All, IfOk, length, true};
+ghost use Rattle.std.specs.Prelude.{◌≡◌, ◌<◌, ◌+◌, ◌^◌, All, Contains, IfOk, filter, length, true};
+ghost use Rattle.vl_ast.specs.declared.modules.Port.{Port};
 ghost use Rattle.vl_ast.specs.Conditions.{BreaksNone, is_width};
+ghost use Rattle.vl_ast.specs.Control.{is_number_input, is_number_output};
 ghost use Rattle.vl_ast.specs.Driven.{output_ports, stimulus_ports};
 ghost use Rattle.vl_eval.specs.Machine.{source_of};
 ghost use Rattle.vl_replay.specs.Columns.{column_of, columns_of, step_of};
@@ -8,15 +10,15 @@ use fx_io::{OutOfMemory, Sequence};
 use fx_tables::{Column, Columns};
 use std::alloc::Global;
 use vl_ast::Port;
-use vl_check::{is_clock_or_reset, period_of};
+use vl_check::{is_number_input, is_number_output, is_stallable, period_of};
 use vl_eval::Machine;
 
 /// The columns of a stimulus and of its response (own).
 #[derive(Drop)]
 pub struct PortColumns {
-    /// One for each input port but `clk` and `reset`.
+    /// One for each input port that carries numbers.
     pub inputs: Columns,
-    /// One for each output port.
+    /// One for each output port that carries numbers.
     pub outputs: Columns,
 }
 
@@ -68,6 +70,38 @@ fn column(port: &Port) -> Column
     }
 }
 
+/// The columns of the inputs that carry numbers, in order.
+fn input_columns(alloc: Global, ports: &[Port], stalls: bool) -> Result<Columns, OutOfMemory>
+    requires { (port : Port) → Contains ports.now port → is_width port.width ≡ true }
+    ensures columns { IfOk result (λ columns.
+        columns ≡ columns_of (filter (is_number_input stalls) ports.now)) }
+    ensures periods { IfOk result (All (λ column. 0 < column.period)) }
+{
+    let mut columns = Sequence::new(alloc);
+    for port in ports {
+        if is_number_input(port, stalls) {
+            columns.push(column(port))?;
+        }
+    }
+    Ok(columns)
+}
+
+/// The columns of the outputs that carry numbers, in order.
+fn output_columns(alloc: Global, ports: &[Port], stalls: bool) -> Result<Columns, OutOfMemory>
+    requires { (port : Port) → Contains ports.now port → is_width port.width ≡ true }
+    ensures columns { IfOk result (λ columns.
+        columns ≡ columns_of (filter (is_number_output stalls) ports.now)) }
+    ensures periods { IfOk result (All (λ column. 0 < column.period)) }
+{
+    let mut columns = Sequence::new(alloc);
+    for port in ports {
+        if is_number_output(port, stalls) {
+            columns.push(column(port))?;
+        }
+    }
+    Ok(columns)
+}
+
 /// The columns of a machine's stimulus and response, in the order of its ports.
 ///
 /// # Errors
@@ -85,16 +119,11 @@ pub fn columns(alloc: Global, machine: &Machine) -> Result<PortColumns, OutOfMem
     ensures output_periods { IfOk result (λ columns.
         All (λ column. 0 < column.period) columns.outputs) }
 {
-    let mut inputs = Sequence::new(alloc);
-    let mut outputs = Sequence::new(alloc);
-    let ports = machine.module().ports.as_slice();
-    for port in ports {
-        if !port.input {
-            outputs.push(column(port))?;
-        } else if !is_clock_or_reset(port) {
-            inputs.push(column(port))?;
-        }
-    }
+    let source = machine.module();
+    let ports = source.ports.as_slice();
+    let stalls = is_stallable(source);
+    let inputs = input_columns(alloc, ports, stalls)?;
+    let outputs = output_columns(alloc, ports, stalls)?;
     if inputs.as_slice().len() >= MOST_COLUMNS || outputs.as_slice().len() >= MOST_COLUMNS {
         return Err(OutOfMemory);
     }

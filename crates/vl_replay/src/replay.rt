@@ -76,7 +76,7 @@ impl Replay {
         );
     }
 
-    /// The numbers of a sample, one for each output port. It takes no memory.
+    /// The numbers of a sample, one for each output that carries numbers. It takes no memory.
     pub fn row(&self, sample: u64) -> &[i128]
         requires room { HasRoom self.now }
         requires within { sample < (stimulus_of self.now).lines }

@@ -9,7 +9,7 @@ use crate::port_columns::step_of;
 use fx_io::OutOfMemory;
 use std::alloc::Global;
 use vl_ast::Module;
-use vl_check::latency_of;
+use vl_check::{is_number_output, is_stallable, latency_of};
 use vl_eval::Machine;
 
 /// When an output is sampled: at a clock of `phase` in its sample, so many samples late.
@@ -33,15 +33,16 @@ pub fn hit_at(period: u32, sample: u64) -> u64
     }
 }
 
-/// When the output ports of a module are sampled, in order, at so many clocks per sample.
+/// When the output ports of a module that carry numbers are sampled, in order, at so many clocks per sample.
 pub fn samplers_of(alloc: Global, source: &Module, cycles: u64) -> Result<Vec<Sampler>, OutOfMemory>
     requires { 0 < cycles }
     ensures { IfOk result (λ samplers. samplers.items
         ≡ map (sampler_of cycles) (output_ports source.now)) }
 {
     let mut samplers = Vec::new(alloc);
+    let stalls = is_stallable(source);
     for port in source.ports.as_slice() {
-        if !port.input {
+        if is_number_output(port, stalls) {
             let latency = match latency_of(port) {
                 None => 0,
                 Some(latency) => latency,

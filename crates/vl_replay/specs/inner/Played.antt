@@ -2,10 +2,11 @@
 use Rattle.std.specs.Prelude.{◌≡◌, ℕ, ◌+◌, ◌*◌, ◌^◌, ◌<◌, ◌≤◌, List, length, map, slice_get, slice_index_or, Some, ℤ, pos}
 use Rattle.vl_ast.specs.declared.modules.Module.{Module}
 use Rattle.vl_ast.specs.Conditions.{BreaksNone}
+use Rattle.vl_ast.specs.Control.{is_stallable}
 use Rattle.vl_ast.specs.Driven.{output_ports, port_number, stimulus_ports}
+use Rattle.vl_ast.specs.Windows.{Each, Sample}
 use Rattle.vl_ast.specs.Runs.{Rows}
 use Rattle.vl_ast.specs.Steps.{AreSteps}
-use Rattle.vl_ast.specs.Windows.{Each, Sample}
 use Rattle.vl_eval.specs.Given.{driven_ports}
 use Rattle.vl_eval.specs.Machine.{IsReady, row_of, source_of}
 use Rattle.vl_eval.specs.declared.machine.Machine.{Machine}
@@ -21,7 +22,7 @@ pub record IsScoreOf (m : Module) (score : Score) : Type 0 where
   pub sound : BreaksNone m
   pub columns : score.stimulus.columns ≡ length (stimulus_ports m)
   pub cycles : score.cycles ≡ clocks_of m
-  pub drivers : score.drivers.items ≡ drivers_from 0 (driven_ports m)
+  pub drivers : score.drivers.items ≡ drivers_from (is_stallable m) 0 (driven_ports m)
   pub samplers : score.samplers.items ≡ map (sampler_of (clocks_of m)) (output_ports m)
 
 -- the cells whose clocks are among so many have the numbers of their hits

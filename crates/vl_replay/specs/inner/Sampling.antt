@@ -4,8 +4,8 @@ use Rattle.vl_ast.specs.declared.modules.Port.{Port}
 use Rattle.vl_ast.specs.declared.modules.Module.{Module}
 use Rattle.vl_ast.specs.Attributes.{latency_of}
 use Rattle.vl_ast.specs.Driven.{output_ports, port_number}
-use Rattle.vl_ast.specs.Runs.{Row}
 use Rattle.vl_ast.specs.Windows.{Sample}
+use Rattle.vl_ast.specs.Runs.{Row}
 use Rattle.vl_replay.specs.declared.samplers.Sampler.{Sampler}
 use Rattle.vl_replay.specs.Columns.{step_of}
 use Rattle.vl_replay.specs.Sampled.{hit_at}

@@ -1,3 +1,4 @@
+use Rattle.vl_ast.specs.Control.{is_stallable}
 use Rattle.std.proofs.Common.{List, length, slice_get, ap, subst, sym, ◌∙◌}
 use Rattle.vl_eval.specs.Machine.{row_of, source_of}
 use Rattle.vl_replay.specs.Sampled.{numbers_of}
@@ -12,7 +13,7 @@ use Rattle.vl_replay.proofs.playing.step.Goals as goal
 pub edge-requires-clause-fit : goal.edge-requires-clause-fit
 edge-requires-clause-fit c =
     let score = c.args.score.now in
-    fit-score (source_of c.args.machine.now) score c.requires.played.score_is (driver_bits (numbers_of score.stimulus) score.stimulus.lines c.args.sample) (driver-fits (numbers_of score.stimulus) score.stimulus.lines c.args.sample) c.args.bits.now c.requires.bits
+    fit-score (source_of c.args.machine.now) score c.requires.played.score_is (driver_bits (numbers_of score.stimulus) score.stimulus.lines c.args.sample) (driver-fits (numbers_of score.stimulus) score.stimulus.lines c.args.sample (is_stallable (source_of c.args.machine.now))) c.args.bits.now c.requires.bits
 
 pub put_numbers-requires-clause-periods : goal.put_numbers-requires-clause-periods
 put_numbers-requires-clause-periods c = λ place sampler e. samplers-step (source_of c.args.machine.now) c.args.score.now c.requires.played.score_is place sampler

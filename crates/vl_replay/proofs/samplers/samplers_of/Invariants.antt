@@ -1,6 +1,7 @@
-use Rattle.std.proofs.Common.{◌≡◌, map, filter, not, take}
+use Rattle.std.proofs.Common.{◌≡◌, map, filter, take}
+use Rattle.vl_ast.specs.Control.{is_number_output}
 use Rattle.vl_replay.specs.inner.Sampling.{sampler_of}
 use Rattle.vl_replay.proofs.samplers.samplers_of.Given as goal
 
 abbrev pub invariant-loop-port : goal.invariant-loop-port
-invariant-loop-port l = l.samplers.items ≡ map (sampler_of l.cycles) (filter (λ port. not port.input) (take l.port-index l.source.ports))
+invariant-loop-port l = l.samplers.items ≡ map (sampler_of l.cycles) (filter (is_number_output l.stalls) (take l.port-index l.source.ports))
