@@ -167,7 +167,9 @@ fn kinds(alloc: Global) -> Result<Netlist, OutOfMemory> {
 const KINDS: &str = "(* fx_cycles = 3 *)
 module fx_model (
   input wire clk,
-  input wire reset
+  input wire reset,
+  input wire clk_enable,
+  output wire ce_out
 );
 wire signed [7:0] fx_n0;
 reg signed [7:0] fx_n1;
@@ -181,14 +183,15 @@ wire signed [15:0] fx_n7;
 reg [4:0] fx_n8;
 assign fx_n7 = ({{8 {fx_n0 [7]}}, fx_n0} * {{8 {fx_n1 [7]}}, fx_n1});
 assign fx_n0 = 8'd3;
-always @ (posedge clk) begin if (reset) fx_n1 <= 8'd255; else if ((fx_n8 == 5'd5)) fx_n1 <= fx_n0; end
-always @ (posedge clk) begin if (reset) fx_n2 <= 8'd0; else if (1'd0) fx_n2 <= fx_n0; end
-always @ (posedge clk) begin if (reset) fx_n3 <= 8'd7; else if ((fx_n8 == 5'd0)) fx_n3 <= ((fx_n0 != 8'd0) ? fx_n0 : 8'd7); end
-always @ (posedge clk) begin if (reset) fx_n4 <= 8'd7; else if (((fx_n8 == 5'd0) && (fx_n0 != 8'd0))) fx_n4 <= fx_n1; end
+always @ (posedge clk) begin if (reset) fx_n1 <= 8'd255; else if ((clk_enable && (fx_n8 == 5'd5))) fx_n1 <= fx_n0; end
+always @ (posedge clk) begin if (reset) fx_n2 <= 8'd0; else if ((clk_enable && 1'd0)) fx_n2 <= fx_n0; end
+always @ (posedge clk) begin if (reset) fx_n3 <= 8'd7; else if ((clk_enable && (fx_n8 == 5'd0))) fx_n3 <= ((fx_n0 != 8'd0) ? fx_n0 : 8'd7); end
+always @ (posedge clk) begin if (reset) fx_n4 <= 8'd7; else if ((clk_enable && ((fx_n8 == 5'd0) && (fx_n0 != 8'd0)))) fx_n4 <= fx_n1; end
 assign fx_n5 = ((fx_n8 >= 5'd3) ? fx_n1 : fx_h5);
-always @ (posedge clk) begin if (reset) fx_h5 <= 8'd0; else fx_h5 <= fx_n5; end
+always @ (posedge clk) begin if (reset) fx_h5 <= 8'd0; else if (clk_enable) fx_h5 <= fx_n5; end
 assign fx_n6 = ({{8 {fx_n0 [7]}}, fx_n0} * {{8 {fx_n1 [7]}}, fx_n1});
-always @ (posedge clk) begin if (reset) fx_n8 <= 5'd8; else fx_n8 <= ((fx_n8 != 5'd0) ? (fx_n8 - 5'd1) : 5'd5); end
+always @ (posedge clk) begin if (reset) fx_n8 <= 5'd8; else if (clk_enable) fx_n8 <= ((fx_n8 != 5'd0) ? (fx_n8 - 5'd1) : 5'd5); end
+assign ce_out = clk_enable;
 endmodule
 ";
 

@@ -1,5 +1,5 @@
 -- The clock, the reset and the attributes of the module of a netlist.
-use Rattle.std.proofs.Common.{◌≡◌, ◌≢◌, inl, inr, ℕ, ◌^◌, ◌<◌, ◌≤◌, nat_le, true, false, not, ◌&&◌, ◌||◌, if◌then◌else◌, List, [], ◌∷◌, ◌++◌, map, flat_map, find, option_map, length, get_or, Contains, codes, Some, None, refl, ap, sym, ◌∙◌, subst, arith}
+use Rattle.std.proofs.Common.{◌≡◌, ◌≢◌, inl, inr, ℕ, ◌^◌, ◌<◌, ◌≤◌, nat_le, Bool, true, false, not, ◌&&◌, ◌||◌, if◌then◌else◌, List, [], ◌∷◌, ◌++◌, map, flat_map, find, option_map, length, get_or, Contains, codes, Some, None, refl, ap, sym, ◌∙◌, subst, arith}
 use Rattle.std.specs.Prelude.{is_none}
 use Rattle.std.specs.List.{list_any, AllPairs}
 use Rattle.std.proofs.lemmas.Bool.{le-leb, and_right}
@@ -10,19 +10,19 @@ use Rattle.vl_ast.specs.declared.modules.Port.{Port}
 use Rattle.vl_ast.specs.declared.modules.Module.{Module}
 use Rattle.vl_ast.specs.Attributes.{cycles_of, period_of, latency_of}
 use Rattle.vl_ast.specs.Conditions.{BreaksNone, is_read_of, is_reset_at_fault, no_reset, lacks_attribute, no_attribute}
-use Rattle.vl_ast.specs.Driven.{is_clock_or_reset}
+use Rattle.vl_ast.specs.Control.{is_control_input, is_control_output, is_stallable}
 use Rattle.vl_ast.specs.Nets.{Mention, Declares, Drives, Reads, Clocks, port_declared, item_mentions, mentions, names_read, condition_names, nets_of, place_of}
 use Rattle.vl_ast.specs.Context.{Net as DeclaredNet}
 use Rattle.hw_net.specs.declared.netlist.NetPort.{NetPort}
 use Rattle.hw_net.specs.declared.netlist.NetOp.TheVariants.{Input}
-use Rattle.hw_net.specs.declared.netlist.NetKind.TheVariants.{Comb, Reg}
+use Rattle.hw_net.specs.declared.netlist.NetKind.TheVariants.{Comb}
 use Rattle.hw_net.specs.Circuit.{Circuit}
 use Rattle.hw_net.specs.Netlist.{IsNetlist}
 use Rattle.vl_emit.specs.Emittable.{IsPeriod, IsEmittable}
-use Rattle.vl_emit.specs.Header.{input_port, output_port, HasHeader}
+use Rattle.vl_emit.specs.Header.{bit_input, input_port, output_port}
 use Rattle.vl_emit.specs.Names.{net_at, name_of, hold_name, port_at, input_wire}
 use Rattle.vl_emit.specs.Reads.{item_reads}
-use Rattle.vl_emit.specs.inner.Emitted.{naming_of, module_of}
+use Rattle.vl_emit.specs.inner.Emitted.{naming_of, plain_module}
 use Rattle.vl_emit.proofs.Cleaned.{name-clean}
 use Rattle.vl_emit.proofs.NoDouble.{differ-test}
 use Rattle.vl_emit.proofs.Doubly.{emitted-once}
@@ -40,7 +40,7 @@ module _ (netlist : Circuit) (runs : IsNetlist netlist) (emits : IsEmittable net
   count = length netlist.nets
 
   abbrev m : Module
-  m = module_of netlist
+  m = plain_module netlist
 
   abbrev NotClock : List ℕ → Type 0
   NotClock name = name ≢ codes "clk"
@@ -66,7 +66,7 @@ module _ (netlist : Circuit) (runs : IsNetlist netlist) (emits : IsEmittable net
   not-read i (Showing output c e) read r =
       let em = emitted netlist runs emits few in
       let h = em.ports.there output c in
-      let clean = name-clean (nets_of (module_of netlist)) NotClock (name_of netlist output.net) (net_at netlist.nets output.net).width
+      let clean = name-clean (nets_of (plain_module netlist)) NotClock (name_of netlist output.net) (net_at netlist.nets output.net).width
       (ap (λ (n : DeclaredNet). n.width) ((has netlist runs emits few).declared output.net h)) (net-not-clock output.net) in
       clean.reads read (subst (λ (x : ModItem). Contains (item_reads x) read) (sym e) r)
 
@@ -99,7 +99,7 @@ module _ (netlist : Circuit) (runs : IsNetlist netlist) (emits : IsEmittable net
         ]
       ]
 
-  clock-unread : list_any (is_read_of (codes "clk")) (mentions (module_of netlist)) ≡ false
+  clock-unread : list_any (is_read_of (codes "clk")) (mentions (plain_module netlist)) ≡ false
   clock-unread =
       none-of (is_read_of (codes "clk")) (mentions m)
       (λ x c. elim (Contains-append_cases (map (λ (port : Port). Declares (port_declared port)) m.ports) (flat_map item_mentions m.items) x c) [
@@ -107,13 +107,13 @@ module _ (netlist : Circuit) (runs : IsNetlist netlist) (emits : IsEmittable net
         | inr a ↦ (let r = of-one item_mentions m.items x a in mention-fine r.0 (not-read r.0 (origin netlist runs emits few r.0 r.1)) x r.2)
       ])
 
-  pub clocked : no_reset (module_of netlist) ≡ None
+  pub clocked : no_reset (plain_module netlist) ≡ None
   clocked =
       (λ i. if clock-unread i && is_reset_at_fault m
       then Some (if nat_le (place_of m (codes "clk")) (place_of m (codes "reset")) then codes "clk" else codes "reset")
       else (if clock-unread i then Some (codes "clk") else (if is_reset_at_fault m then Some (codes "reset") else None)))
 
-  cycles-of : cycles_of (module_of netlist) ≡ Some netlist.cycles
+  cycles-of : cycles_of (plain_module netlist) ≡ Some netlist.cycles
   cycles-of =
       let a : nat_le 1 netlist.cycles ≡ true = le-leb 1 netlist.cycles runs.cycles in
       let b : nat_le netlist.cycles 1024 ≡ true = le-leb netlist.cycles 1024 emits.cycles in
@@ -137,28 +137,37 @@ module _ (netlist : Circuit) (runs : IsNetlist netlist) (emits : IsEmittable net
       let b : nat_le x.latency 16777216 ≡ true = le-leb x.latency 16777216 h in
       (λ i. if a i && b i then Some x.latency else None)
 
-  has-all : (port : Port) → PortOrigin netlist runs emits port → lacks_attribute port ≡ false
-  has-all port (OfClock e) = subst (λ (p : Port). lacks_attribute p ≡ false) e refl
-  has-all port (OfReset e) = subst (λ (p : Port). lacks_attribute p ≡ false) e refl
-  has-all port (OfInput x c e) =
+  clock-has : (stalls : Bool) → lacks_attribute stalls (bit_input (codes "clk")) ≡ false
+  clock-has true = refl
+  clock-has false = refl
+
+  reset-has : (stalls : Bool) → lacks_attribute stalls (bit_input (codes "reset")) ≡ false
+  reset-has true = refl
+  reset-has false = refl
+
+  has-all : (stalls : Bool) (port : Port) → PortOrigin netlist runs emits port → lacks_attribute stalls port ≡ false
+  has-all stalls port (OfClock e) = subst (λ (p : Port). lacks_attribute stalls p ≡ false) e (clock-has stalls)
+  has-all stalls port (OfReset e) = subst (λ (p : Port). lacks_attribute stalls p ≡ false) e (reset-has stalls)
+  has-all stalls port (OfInput x c e) =
       let p = period-in x (emits.ports.periods x (Contains-append_left netlist.inputs netlist.outputs x c)) in
-      subst (λ (q : Port). lacks_attribute q ≡ false) e
-      (and_right (not (is_clock_or_reset (input_port netlist x))) (is_none (period_of (input_port netlist x))) (ap is_none p))
-  has-all port (OfOutput x c e) =
+      subst (λ (q : Port). lacks_attribute stalls q ≡ false) e
+      (and_right (not (is_control_input stalls (input_port netlist x))) (is_none (period_of (input_port netlist x))) (ap is_none p))
+  has-all stalls port (OfOutput x c e) =
       let p = ap is_none (period-out x (emits.ports.periods x (Contains-append_right netlist.inputs netlist.outputs x c))) in
       let l = ap is_none (latency-out x (emits.ports.latencies x c)) in
-      subst (λ (q : Port). lacks_attribute q ≡ false) e (λ i. p i || l i)
+      subst (λ (q : Port). lacks_attribute stalls q ≡ false) e
+      (and_right (not (is_control_output stalls (output_port netlist x))) (is_none (period_of (output_port netlist x)) || is_none (latency_of (output_port netlist x))) (λ i. p i || l i))
 
-  pub attributed : no_attribute (module_of netlist) ≡ None
+  pub attributed : no_attribute (plain_module netlist) ≡ None
   attributed =
-      let none : find lacks_attribute m.ports ≡ None = find-none lacks_attribute m.ports (λ port c. has-all port (port-where netlist runs emits port c)) in
-      (λ i. if is_none (cycles-of i) then Some m.name else option_map (λ port. port.name) (find lacks_attribute m.ports))
+      let none : find (lacks_attribute (is_stallable m)) m.ports ≡ None = find-none (lacks_attribute (is_stallable m)) m.ports (λ port c. has-all (is_stallable m) port (port-where netlist runs emits port c)) in
+      (λ i. if is_none (cycles-of i) then Some m.name else option_map (λ port. port.name) (find (lacks_attribute (is_stallable m)) m.ports))
       ∙ ap (option_map (λ (port : Port). port.name)) none
 
   outputs-differ : AllPairs (λ (one other : NetPort). one.name ≢ other.name) netlist.outputs
   outputs-differ = back-pairs (λ (one other : NetPort). one.name ≢ other.name) netlist.inputs netlist.outputs emits.ports.differ
 
-  pub breaks-none : BreaksNone (module_of netlist)
+  pub breaks-none : BreaksNone (plain_module netlist)
   breaks-none =
       let sound = netlist-sound netlist runs emits.counters in
       let em = emitted netlist runs emits few in
@@ -173,6 +182,3 @@ module _ (netlist : Circuit) (runs : IsNetlist netlist) (emits : IsEmittable net
         clocked = clocked;
         attributed = attributed;
       }
-
-  pub header : HasHeader netlist (module_of netlist)
-  header = record { name = refl; attrs = refl; ports = refl }

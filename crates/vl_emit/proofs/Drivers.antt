@@ -125,7 +125,7 @@ module _ (nets : List ℕ → DeclaredNet) (allowed : List ℕ → Type 0) where
         (net-clean nets allowed counter r) (literal-clean nets allowed (plain_number counter.width ((frame.period - live) * cycles)) some most below)
 
 -- a counter has room for the bound of a live clock
-pub bound-fits : (cycles : ℕ) (frame : Frame) (live most : ℕ) → 0 < frame.period * cycles → 0 < live → frame.latency * cycles + (frame.period * cycles - 1) < most → (frame.period - live) * cycles < most
+bound-fits : (cycles : ℕ) (frame : Frame) (live most : ℕ) → 0 < frame.period * cycles → 0 < live → frame.latency * cycles + (frame.period * cycles - 1) < most → (frame.period - live) * cycles < most
 bound-fits cycles frame live most some h room =
     let parts = both-some frame.period cycles some in
     let less : (frame.period - live) * cycles ≤ (frame.period - 1) * cycles = mul-le-mul_right cycles (let e : frame.period - live ≤ frame.period - 1 = omega arith in e) in

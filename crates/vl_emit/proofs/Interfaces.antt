@@ -13,9 +13,9 @@ use Rattle.hw_net.specs.declared.netlist.NetKind.TheVariants.{Comb}
 use Rattle.hw_net.specs.Circuit.{Circuit}
 use Rattle.hw_net.specs.Netlist.{IsNetlist}
 use Rattle.vl_emit.specs.Emittable.{IsPortName, IsLabelName, AreLabels, IsEmittable}
-use Rattle.vl_emit.specs.Header.{bit_input, input_port, output_port, ports_of}
+use Rattle.vl_emit.specs.Header.{bit_input, input_port, output_port}
 use Rattle.vl_emit.specs.Names.{net_name, hold_name, net_at, port_at, name_by}
-use Rattle.vl_emit.specs.inner.Emitted.{naming_of, module_of}
+use Rattle.vl_emit.specs.inner.Emitted.{naming_of, plain_module, plain_ports}
 use Rattle.vl_emit.specs.inner.Ready.{IsReady}
 use Rattle.vl_emit.specs.inner.Sound.{AreNames, HasPorts, HasOnly, IsEmitted}
 use Rattle.vl_emit.proofs.Drivers.{net-width}
@@ -24,7 +24,7 @@ use Rattle.vl_emit.proofs.Lists.{at-contains, default-free, head-pairs, tail-pai
 use Rattle.vl_emit.proofs.Sounds.{word-at, netlist-ready}
 
 -- a net's name is that of its number, or that of its label
-abbrev pub IsOwn : List NetLabel → ℕ → List ℕ → Type 0
+abbrev IsOwn : List NetLabel → ℕ → List ℕ → Type 0
 IsOwn labels k name = (name ≡ net_name k) ⊎ ((label : NetLabel) × Contains labels label × (label.net ≡ k) × (name ≡ label.name))
 
 name-own-by : (label : NetLabel) (labels : List NetLabel) (k : ℕ) (t : Bool) → (label.net == k) ≡ t → IsOwn labels k (name_by labels k)
@@ -33,7 +33,7 @@ name-own-by label labels k true is r = inr (label, here label labels, eqb-true l
 name-own-by label labels k false is (inl e) = inl e
 name-own-by label labels k false is (inr f) = inr (f.0, later label f.0 labels f.1, f.2, f.3)
 
-pub name-own : (labels : List NetLabel) (k : ℕ) → IsOwn labels k (name_by labels k)
+name-own : (labels : List NetLabel) (k : ℕ) → IsOwn labels k (name_by labels k)
 name-own [] k = inl refl
 name-own (label ∷ labels) k = name-own-by label labels k (label.net == k) refl (name-own labels k)
 
@@ -137,7 +137,7 @@ module _ (netlist : Circuit) (runs : IsNetlist netlist) (emits : IsEmittable net
     OfInput : (x : NetPort) → Contains netlist.inputs x → input_port netlist x ≡ port → Origin port
     OfOutput : (x : NetPort) → Contains netlist.outputs x → output_port netlist x ≡ port → Origin port
 
-  pub port-where : (port : Port) → Contains (ports_of netlist) port → Origin port
+  pub port-where : (port : Port) → Contains (plain_ports netlist) port → Origin port
   port-where port c = elim (first-or-later clk port (reset ∷ (ins ++ outs)) c) [
     | inl e ↦ OfClock e
     | inr c ↦ elim (first-or-later reset port (ins ++ outs) c) [
@@ -179,13 +179,13 @@ module _ (netlist : Circuit) (runs : IsNetlist netlist) (emits : IsEmittable net
     | inr l ↦ (let r = of-mapped (output_port netlist) netlist.outputs port l in (output-name r.0 r.1).no_reset (ap (λ (p : Port). p.name) r.2 ∙ sym same))
   ]
 
-  pub ports-differ : AllPairs Differ (ports_of netlist)
+  pub ports-differ : AllPairs Differ (plain_ports netlist)
   ports-differ =
       pairs-cons Differ clk (reset ∷ (ins ++ outs)) clock-new (pairs-cons Differ reset (ins ++ outs) reset-new
       (two-pairs (input_port netlist) (output_port netlist) (λ x. refl) (λ x. refl) netlist.inputs netlist.outputs emits.ports.differ))
 
   module _ (few : length netlist.nets < 2 ^ 64) where
-    pub names-are : AreNames (length netlist.nets) (naming_of netlist) (ports_of netlist)
+    pub names-are : AreNames (length netlist.nets) (naming_of netlist) (plain_ports netlist)
     names-are = record {
       nets = λ j k p q e. labels-differ (length netlist.nets) few netlist.labels emits.labels j k p q e;
       holds = λ j k p q e. holds-differ j k (omega (arith, p, few)) (omega (arith, q, few)) e;
@@ -198,9 +198,9 @@ module _ (netlist : Circuit) (runs : IsNetlist netlist) (emits : IsEmittable net
     input-there k port args h is =
         let ready = subst (IsReady netlist) is ((netlist-ready netlist runs emits.counters).kinds k h) in ready.3 port refl
 
-    pub ports-are : HasPorts (length netlist.nets) (naming_of netlist) (net_at netlist.nets) netlist.outputs (module_of netlist)
+    pub ports-are : HasPorts (length netlist.nets) (naming_of netlist) (net_at netlist.nets) netlist.outputs (plain_module netlist)
     ports-are = record {
-      differ = λ one other c d e. same-element (λ (p : Port). p.name) (ports_of netlist) ports-differ one other c d e;
+      differ = λ one other c d e. same-element (λ (p : Port). p.name) (plain_ports netlist) ports-differ one other c d e;
       inputs = λ k port args h is. (let x : NetPort = port_at netlist.inputs port in
           let below = input-there k port args h is in
           record {
@@ -223,7 +223,7 @@ module _ (netlist : Circuit) (runs : IsNetlist netlist) (emits : IsEmittable net
       };
     }
 
-    pub emitted : IsEmitted netlist.cycles (length netlist.nets) (naming_of netlist) (net_at netlist.nets) netlist.outputs (module_of netlist)
+    pub emitted : IsEmitted netlist.cycles (length netlist.nets) (naming_of netlist) (net_at netlist.nets) netlist.outputs (plain_module netlist)
     emitted = record { items = refl; names = names-are; ports = ports-are }
 
     width-of : (port : Port) → Origin port → is_width port.width ≡ true
@@ -247,7 +247,7 @@ module _ (netlist : Circuit) (runs : IsNetlist netlist) (emits : IsEmittable net
     shown-by port (OfInput x c e) f = absurd (let g : true ≡ false = ap (λ (p : Port). p.input) e ∙ f in cc g)
     shown-by port (OfOutput x c e) f = (x, c, ap (λ (p : Port). p.name) e)
 
-    pub only : HasOnly netlist.outputs (module_of netlist)
+    pub only : HasOnly netlist.outputs (plain_module netlist)
     only = record {
       widths = λ port c. width-of port (port-where port c);
       shown = λ port c e. shown-by port (port-where port c) e;

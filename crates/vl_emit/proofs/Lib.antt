@@ -33,6 +33,7 @@ pub mod Multiplied
 pub mod Returned
 pub mod Shows
 pub mod Itemized
-pub mod Writable
-pub mod WritableItems
-pub mod WritableModule
+pub mod Opened
+pub mod Reading
+pub mod Short
+pub mod Spellings

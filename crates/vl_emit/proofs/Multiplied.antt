@@ -1,16 +1,19 @@
 -- The multiplications and the registers of the module of a netlist.
-use Rattle.std.proofs.Common.{max, ◌≡◌, ℕ, zero, suc, ◌^◌, ◌<◌, ◌≤◌, Bool, true, false, List, [], ◌∷◌, ◌++◌, map, flat_map, length, get_or, Contains, refl, ap, sym, ◌∙◌, subst, arith, append-nil}
+use Rattle.std.proofs.Common.{max, ◌≡◌, ℕ, zero, suc, ◌^◌, ◌<◌, ◌≤◌, Bool, true, false, List, [], ◌∷◌, ◌++◌, map, flat_map, length, get_or, Contains, Option, Some, None, codes, refl, ap, sym, ◌∙◌, subst, arith, append-nil}
 use Rattle.std.specs.Prelude.{⊤}
 use Rattle.std.specs.List.{AllZip}
 use Rattle.std.proofs.lemmas.Grind.{flat_map-append}
 use Rattle.vl_ast.specs.declared.expressions.BinOp.TheVariants as binary
 use Rattle.vl_ast.specs.declared.expressions.Expr.{Expr}
+use Rattle.vl_ast.specs.declared.expressions.Expr.TheOpen.{Expr-F}
+use Rattle.vl_ast.specs.declared.expressions.Expr.TheFolds.{para-roll-Expr}
 use Rattle.vl_ast.specs.declared.expressions.Expr.TheVariants as expression
 use Rattle.vl_ast.specs.declared.modules.ModItem.{ModItem}
 use Rattle.vl_ast.specs.declared.modules.ModItem.TheVariants as item
 use Rattle.vl_ast.specs.declared.modules.Module.{Module}
 use Rattle.vl_ast.specs.Context.{Net as DeclaredNet, own_length, is_signed}
-use Rattle.vl_ast.specs.Multiplications.{Multiplication, multiplications, item_multiplications}
+use Rattle.vl_ast.specs.Gated.{gated_condition, gated_item, shows_enable}
+use Rattle.vl_ast.specs.Multiplications.{Multiplication, multiplications, multiplications_in, multiplications_step, item_multiplications, condition_multiplications, value_multiplications}
 use Rattle.vl_ast.specs.Nets.{nets_of}
 use Rattle.hw_net.specs.declared.netlist.Net.{Net}
 use Rattle.hw_net.specs.declared.netlist.NetPort.{NetPort}
@@ -20,20 +23,22 @@ use Rattle.hw_net.specs.declared.netlist.NetKind.TheVariants.{Comb, Reg, EnReg, 
 use Rattle.hw_net.specs.Circuit.{Circuit}
 use Rattle.hw_net.specs.Netlist.{IsNetlist}
 use Rattle.vl_emit.specs.Emittable.{IsEmittable}
-use Rattle.vl_emit.specs.Names.{net_at, net_wire, places, shown}
+use Rattle.vl_emit.specs.Names.{Wire, net_at, name_of, hold_name, input_wire, net_wire, places, shown}
 use Rattle.vl_emit.specs.Products.{HasFactor, IsProduct, ProductsAre, unit_product, comb_product, products_of}
 use Rattle.vl_emit.specs.Registers.{declared_register, register_name, RegistersAre}
-use Rattle.vl_emit.specs.inner.Emitted.{Naming, wire_of, drivers, declarers, unit_drivers, other_drivers, output_item, naming_of, module_of}
+use Rattle.vl_emit.specs.inner.Emitted.{Naming, wire_of, drivers, declarers, unit_drivers, other_drivers, output_item, naming_of, items_of, plain_module, module_of}
 use Rattle.vl_emit.specs.inner.Sound.{IsSound, IsSoundKind}
 use Rattle.vl_emit.specs.inner.Spelled.{at_width}
 use Rattle.vl_emit.proofs.AtWidth.{operand-written}
 use Rattle.vl_emit.proofs.Cleaned.{Readable, at-clean, name-clean, word-most, binary-products}
-use Rattle.vl_emit.proofs.Drivers.{multiplies, assign-clean}
+use Rattle.vl_emit.proofs.Drivers.{multiplies, assign-clean, drivers-clean}
 use Rattle.vl_emit.proofs.Found.{no-element, of-one, of-mapped, one-more}
 use Rattle.vl_emit.proofs.Layers.{length-Binary}
 use Rattle.vl_emit.proofs.Lists.{empty-list, flat_map-twice, flat_map-same}
 use Rattle.vl_emit.proofs.OfOperations.{width-at-least}
-use Rattle.vl_emit.proofs.Origins.{has, driver-clean}
+use Rattle.vl_emit.proofs.Opened.{kept-net}
+use Rattle.vl_emit.proofs.Origins.{has}
+use Rattle.vl_emit.proofs.Ports.{named-net}
 use Rattle.vl_emit.proofs.InRun.{wire-shows}
 use Rattle.vl_emit.proofs.Sounds.{netlist-sound}
 use Rattle.vl_emit.proofs.Interfaces.{emitted}
@@ -51,6 +56,48 @@ module _ {A B : Type 0} (R : A → B → Type 0) where
       subst (AllZip R (flat_map f (places (suc n)))) (sym (one-more g n (suc n) (omega arith)))
       (subst (λ (l : List A). AllZip R l (flat_map g (places n) ++ g n)) (sym (one-more f n (suc n) (omega arith)))
       (zip-append (flat_map f (places n)) (flat_map g (places n)) (f n) (g n) (zip-places f g n (λ k below. h k (omega (arith, below)))) (h n (omega arith))))
+
+-- ---- the clock enable multiplies nothing, and is no register
+
+name-products : (nets : List ℕ → DeclaredNet) (width : ℕ) (signed : Bool) → multiplications_in nets width signed (expression.Name (codes "clk_enable")) ≡ []
+name-products nets width signed =
+    ap (multiplications_in nets width signed) (sym (expression.rolls-Name (codes "clk_enable")))
+    ∙ ap (λ (f : ℕ → Bool → List Multiplication). f width signed) (para-roll-Expr (ℕ → Bool → List Multiplication) (multiplications_step nets) (Expr-F.Name (codes "clk_enable")))
+
+both-products : (nets : List ℕ → DeclaredNet) (width : ℕ) (signed : Bool) (left right : Expr) → multiplications_in nets width signed (expression.Binary binary.Both left right)
+    ≡ multiplications_in nets (own_length nets left) (is_signed nets left) left ++ multiplications_in nets (own_length nets right) (is_signed nets right) right
+both-products nets width signed left right =
+    ap (multiplications_in nets width signed) (sym (expression.rolls-Binary binary.Both left right))
+    ∙ ap (λ (f : ℕ → Bool → List Multiplication). f width signed) (para-roll-Expr (ℕ → Bool → List Multiplication) (multiplications_step nets) (Expr-F.Binary binary.Both left right))
+
+condition-products : (nets : List ℕ → DeclaredNet) (condition : Option Expr) → condition_multiplications nets (Some (gated_condition condition)) ≡ condition_multiplications nets condition
+condition-products nets None = name-products nets _ _
+condition-products nets (Some condition) =
+    both-products nets _ _ (expression.Name (codes "clk_enable")) condition
+    ∙ ap (λ (l : List Multiplication). l ++ multiplications_in nets (own_length nets condition) (is_signed nets condition) condition) (name-products nets _ _)
+
+gated-products : (nets : List ℕ → DeclaredNet) (i : ModItem) → item_multiplications nets (gated_item i) ≡ item_multiplications nets i
+gated-products nets (item.Wire signed width name) = refl
+gated-products nets (item.Reg signed width name) = refl
+gated-products nets (item.Assign name value) = refl
+gated-products nets (item.Always name first condition value) =
+    ap (λ (l : List Multiplication). l ++ value_multiplications nets (nets name).width value) (condition-products nets condition)
+
+gated-register : (i : ModItem) → declared_register (gated_item i) ≡ declared_register i
+gated-register (item.Wire signed width name) = refl
+gated-register (item.Reg signed width name) = refl
+gated-register (item.Assign name value) = refl
+gated-register (item.Always name first condition value) = refl
+
+gated-same : {X : Type 0} (f : ModItem → List X) → ((i : ModItem) → f (gated_item i) ≡ f i) → (is : List ModItem) → flat_map f (map gated_item is) ≡ flat_map f is
+gated-same f same [] = refl
+gated-same f same (i ∷ is) = (λ j. same i j ++ gated-same f same is j)
+
+with-enable : {X : Type 0} (f : ModItem → List X) → ((i : ModItem) → f (gated_item i) ≡ f i) → f shows_enable ≡ [] → (is : List ModItem)
+    → flat_map f (map gated_item (is ++ shows_enable ∷ [])) ≡ flat_map f is
+with-enable f same none is =
+    gated-same f same (is ++ shows_enable ∷ []) ∙ flat_map-append f is (shows_enable ∷ [])
+    ∙ ap (λ (l : List _). flat_map f is ++ (l ++ [])) none ∙ append-nil (flat_map f is)
 
 module _ (netlist : Circuit) (runs : IsNetlist netlist) (emits : IsEmittable netlist) (few : length netlist.nets < 2 ^ 64) where
   abbrev cycles : ℕ
@@ -77,8 +124,27 @@ module _ (netlist : Circuit) (runs : IsNetlist netlist) (emits : IsEmittable net
   abbrev any : List ℕ → Type 0
   any name = ⊤
 
+  some-bits : (j : ℕ) → j < length netlist.nets → 1 ≤ (net_at netlist.nets j).width
+  some-bits j h = width-at-least (net j).signed (net j).width (sound.word j h)
+
+  kept : (j : ℕ) → j < length netlist.nets → nets_of (module_of netlist) (name_of netlist j) ≡ record { width = (net_at netlist.nets j).width; signed = (net_at netlist.nets j).signed }
+  kept j h = kept-net netlist runs emits few (name_of netlist j) (net j).width (net j).signed ((has netlist runs emits few).declared j h) (some-bits j h)
+
   readable : (j : ℕ) → j < length netlist.nets → Readable (nets_of (module_of netlist)) (λ name. ⊤) (wire_of (naming_of netlist) (net_at netlist.nets) j)
-  readable j h = record { declared = (has netlist runs emits few).declared j h; word = sound.word j h; may = tt }
+  readable j h = record { declared = kept j h; word = sound.word j h; may = tt }
+
+  input-readable : (k port : ℕ) (args : List ℕ) → k < length netlist.nets → (net_at netlist.nets k).kind ≡ Comb (Input port) args → Readable (nets_of (module_of netlist)) (λ name. ⊤) (input_wire netlist port)
+  input-readable k port args h is =
+      let em = emitted netlist runs emits few in
+      let word = em.ports.words k port args h is in
+      let wire : Wire = input_wire netlist port in
+      record {
+        declared = kept-net netlist runs emits few wire.name wire.width wire.signed
+            (named-net cycles count naming net runs.ranked.0 netlist.outputs (plain_module netlist) sound em true (input_wire netlist port) (em.ports.inputs k port args h is))
+            (width-at-least wire.signed wire.width word);
+        word = word;
+        may = tt;
+      }
 
   -- an operand of a product in a context of its width
   factor : (w : ℕ) (width : ℕ) (signed : Bool) (j : ℕ) → j < length netlist.nets → 1 ≤ w → width ≡ w
@@ -88,7 +154,7 @@ module _ (netlist : Circuit) (runs : IsNetlist netlist) (emits : IsEmittable net
       (record {
         is = λ total start inputs rows run k below.
             (operand-written nets (rows k) w (wire_of naming net j) (shown (rows k) (net_wire netlist j)) some
-            (wire-shows m total start inputs rows run k below (wire_of naming net j) ((has netlist runs emits few).declared j h) (sound.word j h))).value signed;
+            (wire-shows m total start inputs rows run k below (wire_of naming net j) (kept j h) (sound.word j h))).value signed;
       })
 
   -- the item of a product
@@ -106,7 +172,7 @@ module _ (netlist : Circuit) (runs : IsNetlist netlist) (emits : IsEmittable net
       let cx = at-clean nets any w (wire_of naming net left) some most (readable left p) in
       let cy = at-clean nets any w (wire_of naming net right) some most (readable right q) in
       let long : own_length nets e ≡ w = length-Binary nets binary.Multiply x y ∙ omega (arith, cx.length, cy.length) in
-      let wide : (nets (naming.net k)).width ≡ w = ap (λ (n : DeclaredNet). n.width) ((has netlist runs emits few).declared k h) in
+      let wide : (nets (naming.net k)).width ≡ w = ap (λ (n : DeclaredNet). n.width) (kept k h) in
       let context : max (nets (naming.net k)).width (own_length nets e) ≡ w = omega (arith, long, wide) in
       let is = binary-products nets any w binary.Multiply x y (max (nets (naming.net k)).width (own_length nets e)) (is_signed nets e) cx cy in
       subst (λ (l : List Multiplication). AllZip (IsProduct netlist m) (record { left = left; right = right; width = w } ∷ []) (l ++ [])) (sym is) (
@@ -133,7 +199,13 @@ module _ (netlist : Circuit) (runs : IsNetlist netlist) (emits : IsEmittable net
   -- the others have none
   none-at : (k : ℕ) → k < length netlist.nets → multiplies (net_at netlist.nets k).kind ≡ false → (i : ModItem)
       → Contains (drivers netlist.cycles (naming_of netlist) (net_at netlist.nets) k (net_at netlist.nets k).kind) i → item_multiplications (nets_of (module_of netlist)) i ≡ []
-  none-at k h e i c = (driver-clean netlist runs emits few any k h (λ j below n. tt) (λ frame live from is. tt) (λ port args is. tt) i c).products e
+  none-at k h e i c =
+      (drivers-clean (nets_of (module_of netlist)) any cycles count naming net runs.ranked.0 sound k h
+      (λ j below n. readable j below)
+      (λ frame live from is. name-clean (nets_of (module_of netlist)) any (hold_name k) (net k).width
+      (ap (λ (n : DeclaredNet). n.width) (kept-net netlist runs emits few (hold_name k) (net k).width (net k).signed ((has netlist runs emits few).held k h frame live from is) (some-bits k h))) tt)
+      (λ port args is. input-readable k port args h is)
+      (net k).kind refl i c).products e
 
   none-by : (k : ℕ) → k < length netlist.nets → (kind : NetKind) → (net_at netlist.nets k).kind ≡ kind → multiplies kind ≡ false
       → flat_map (item_multiplications (nets_of (module_of netlist))) (drivers netlist.cycles (naming_of netlist) (net_at netlist.nets) k kind) ≡ []
@@ -206,12 +278,11 @@ module _ (netlist : Circuit) (runs : IsNetlist netlist) (emits : IsEmittable net
       let h = e.ports.there output c in
       let k : ℕ = output.net in
       (assign-clean nets any output.name (net k).width (expression.Name (naming.net k)) (word-most nets any (net k).width (net k).signed (sound.word k h))
-      (name-clean nets any (naming.net k) (net k).width (ap (λ (n : DeclaredNet). n.width) ((has netlist runs emits few).declared k h)) tt)).products refl
+      (name-clean nets any (naming.net k) (net k).width (ap (λ (n : DeclaredNet). n.width) (kept k h)) tt)).products refl
 
   pub products-are : ProductsAre netlist (module_of netlist)
   products-are = record {
     each =
-        let f : ModItem → List Multiplication = item_multiplications nets in
         let first : flat_map (item_multiplications nets) declaring ≡ [] =
         flat_map-twice (item_multiplications nets) (λ k. declarers naming net k (net k).kind) (places count)
         ∙ flat_map-same (λ k. flat_map (item_multiplications nets) (declarers naming net k (net k).kind)) (λ k. []) (λ k. declared-none k (net k).kind) (places count)
@@ -219,7 +290,8 @@ module _ (netlist : Circuit) (runs : IsNetlist netlist) (emits : IsEmittable net
         let last : flat_map (item_multiplications nets) showing ≡ [] =
         none-of-list (item_multiplications nets) showing (λ i c. (let r = of-mapped (output_item naming) netlist.outputs i c in subst (λ (x : ModItem). item_multiplications nets x ≡ []) r.2 (shown-none r.0 r.1))) in
         let all : multiplications m ≡ flat_map (item_multiplications nets) units ++ (flat_map (item_multiplications nets) others ++ []) =
-        flat_map-append (item_multiplications nets) declaring (units ++ (others ++ showing))
+        with-enable (item_multiplications nets) (gated-products nets) (name-products nets _ _ ∙ refl) (items_of netlist)
+        ∙ flat_map-append (item_multiplications nets) declaring (units ++ (others ++ showing))
         ∙ (λ i. first i ++ flat_map-append (item_multiplications nets) units (others ++ showing) i)
         ∙ (λ i. flat_map (item_multiplications nets) units ++ flat_map-append (item_multiplications nets) others showing i)
         ∙ (λ i. flat_map (item_multiplications nets) units ++ (flat_map (item_multiplications nets) others ++ last i)) in
@@ -269,7 +341,8 @@ module _ (netlist : Circuit) (runs : IsNetlist netlist) (emits : IsEmittable net
         let u = empty-places (λ k. unit_drivers cycles naming net k (net k).kind) declared_register (λ k. no-register k (net k).kind) in
         let o = empty-places (λ k. other_drivers cycles naming net k (net k).kind) declared_register (λ k. none-more k (net k).kind) in
         let s : flat_map declared_register showing ≡ [] = none-of-list declared_register showing (λ i c. (let r = of-mapped (output_item naming) netlist.outputs i c in subst (λ (x : ModItem). declared_register x ≡ []) r.2 refl)) in
-        flat_map-append declared_register declaring (units ++ (others ++ showing))
+        with-enable declared_register gated-register refl (items_of netlist)
+        ∙ flat_map-append declared_register declaring (units ++ (others ++ showing))
         ∙ (λ i. flat_map declared_register declaring ++ flat_map-append declared_register units (others ++ showing) i)
         ∙ (λ i. flat_map declared_register declaring ++ (u i ++ flat_map-append declared_register others showing i))
         ∙ (λ i. flat_map declared_register declaring ++ (o i ++ s i))

@@ -19,13 +19,13 @@ use Rattle.hw_net.specs.declared.netlist.NetKind.{NetKind}
 use Rattle.hw_net.specs.declared.netlist.NetKind.TheVariants.{Comb, Reg, EnReg, Bridge, Unit, Counter}
 use Rattle.hw_net.specs.Circuit.{Circuit}
 use Rattle.hw_net.specs.Frames.{counter_of}
-use Rattle.hw_net.specs.Netlist.{IsNetlist, reads}
+use Rattle.hw_net.specs.Netlist.{IsNetlist}
 use Rattle.hw_net.specs.Operation.{arity}
 use Rattle.vl_emit.specs.Emittable.{IsEmittable}
 use Rattle.vl_emit.specs.Names.{net_at, name_of, hold_name, input_wire, places}
-use Rattle.vl_emit.specs.Reads.{item_reads, IsNamed, IsCounterName, MayRead, ReadsOnly}
+use Rattle.vl_emit.specs.Reads.{item_reads, IsNamed, IsCounterName, MayRead}
 use Rattle.vl_emit.specs.inner.Clean.{IsCleanItem}
-use Rattle.vl_emit.specs.inner.Emitted.{Naming, drivers, declarers, unit_drivers, other_drivers, output_item, naming_of, module_of, items_of}
+use Rattle.vl_emit.specs.inner.Emitted.{Naming, drivers, declarers, unit_drivers, other_drivers, output_item, naming_of, plain_module, items_of}
 use Rattle.vl_emit.specs.inner.Ready.{IsReady, IsTimed}
 use Rattle.vl_emit.specs.inner.Sound.{IsSound, HasNets, IsEmitted, NamedBy}
 use Rattle.vl_emit.proofs.Cleaned.{name-clean}
@@ -50,14 +50,14 @@ module _ (netlist : Circuit) (runs : IsNetlist netlist) (emits : IsEmittable net
   abbrev naming : Naming
   naming = naming_of netlist
 
-  abbrev is_emitted : IsEmitted netlist.cycles (length netlist.nets) (naming_of netlist) (net_at netlist.nets) netlist.outputs (module_of netlist)
+  abbrev is_emitted : IsEmitted netlist.cycles (length netlist.nets) (naming_of netlist) (net_at netlist.nets) netlist.outputs (plain_module netlist)
   is_emitted = emitted netlist runs emits few
 
   abbrev is_sound : IsSound netlist.cycles (length netlist.nets) (naming_of netlist) (net_at netlist.nets) runs.ranked.0
   is_sound = netlist-sound netlist runs emits.counters
 
-  pub has : HasNets netlist.cycles (length netlist.nets) (naming_of netlist) (net_at netlist.nets) (module_of netlist)
-  has = has-nets netlist.cycles (length netlist.nets) (naming_of netlist) (net_at netlist.nets) netlist.outputs (module_of netlist) refl (is_emitted.names)
+  pub has : HasNets netlist.cycles (length netlist.nets) (naming_of netlist) (net_at netlist.nets) (plain_module netlist)
+  has = has-nets netlist.cycles (length netlist.nets) (naming_of netlist) (net_at netlist.nets) netlist.outputs (plain_module netlist) refl (is_emitted.names)
 
   -- an item declares a net, drives one, or shows an output
   pub data Origin (i : ModItem) : Type 0 where
@@ -139,14 +139,14 @@ module _ (netlist : Circuit) (runs : IsNetlist netlist) (emits : IsEmittable net
       (held : (frame : Frame) (live from : ℕ) → (net_at netlist.nets k).kind ≡ Bridge frame live from → allowed (hold_name k))
       (input : (port : ℕ) (args : List ℕ) → (net_at netlist.nets k).kind ≡ Comb (Input port) args → allowed (input_wire netlist port).name) where
     pub driver-clean : (i : ModItem) → Contains (drivers netlist.cycles (naming_of netlist) (net_at netlist.nets) k (net_at netlist.nets k).kind) i
-        → IsCleanItem (nets_of (module_of netlist)) allowed (multiplies (net_at netlist.nets k).kind) i
+        → IsCleanItem (nets_of (plain_module netlist)) allowed (multiplies (net_at netlist.nets k).kind) i
     driver-clean i c =
-        drivers-clean (nets_of (module_of netlist)) allowed cycles count naming net runs.ranked.0 is_sound k h
+        drivers-clean (nets_of (plain_module netlist)) allowed cycles count naming net runs.ranked.0 is_sound k h
         (λ j below n. record { declared = has.declared j below; word = is_sound.word j below; may = named j below n })
-        (λ frame live from is. name-clean (nets_of (module_of netlist)) allowed (naming.hold k) (net k).width (ap (λ (n : DeclaredNet). n.width) (has.held k h frame live from is)) (held frame live from is))
+        (λ frame live from is. name-clean (nets_of (plain_module netlist)) allowed (naming.hold k) (net k).width (ap (λ (n : DeclaredNet). n.width) (has.held k h frame live from is)) (held frame live from is))
         (λ place args is. (let p = is_emitted.ports.inputs k place args h is in
         record {
-          declared = named-net cycles count naming net runs.ranked.0 netlist.outputs (module_of netlist) is_sound is_emitted true (naming.port place) p;
+          declared = named-net cycles count naming net runs.ranked.0 netlist.outputs (plain_module netlist) is_sound is_emitted true (naming.port place) p;
           word = is_emitted.ports.words k place args h is;
           may = input place args is;
         }))
@@ -183,7 +183,7 @@ module _ (netlist : Circuit) (runs : IsNetlist netlist) (emits : IsEmittable net
   may-input : (k : ℕ) (kind : NetKind) (port : ℕ) (args : List ℕ) → kind ≡ Comb (Input port) args → MayRead netlist k kind (input_wire netlist port).name
   may-input k kind port args e = subst (λ (t : NetKind). MayRead netlist k t (input_wire netlist port).name) (sym e) (inr (port, refl, refl))
 
-  reads-of : (k : ℕ) → k < length netlist.nets → (i : ModItem) → Origin i → IsOf k (item_name i) → (read : List ℕ) → Contains (item_reads i) read → MayRead netlist k (net_at netlist.nets k).kind read
+  pub reads-of : (k : ℕ) → k < length netlist.nets → (i : ModItem) → Origin i → IsOf k (item_name i) → (read : List ℕ) → Contains (item_reads i) read → MayRead netlist k (net_at netlist.nets k).kind read
   reads-of k h i (Declaring j p c) of read r =
       let d = declarer-of j (net j).kind i c in absurd (no-element read (subst (λ (l : List (List ℕ)). Contains l read) d.1 r))
   reads-of k h i (Driving j p c) of read r =
@@ -201,7 +201,7 @@ module _ (netlist : Circuit) (runs : IsNetlist netlist) (emits : IsEmittable net
   IsDeclaration (item.Always name first condition value) = ⊥
 
   -- the value of a register
-  register-by : (k from : ℕ) (name : List ℕ) (first : Sized) (condition : Option Expr) (value : Expr) → name ≡ name_of netlist k → k < length netlist.nets → (frame : Frame) (slot : ℕ) (start : ℤ)
+  pub register-by : (k from : ℕ) (name : List ℕ) (first : Sized) (condition : Option Expr) (value : Expr) → name ≡ name_of netlist k → k < length netlist.nets → (frame : Frame) (slot : ℕ) (start : ℤ)
       → (net_at netlist.nets k).kind ≡ Reg frame slot start from → Origin (item.Always name first condition value) → value ≡ expression.Name (name_of netlist from)
   register-by k from name first condition value same h frame slot start is (Declaring j p c) = absurd (not-always j (net j).kind c) where
     not-always : (j : ℕ) (kind : NetKind) → Contains (declarers (naming_of netlist) (net_at netlist.nets) j kind) (item.Always name first condition value) → ⊥
@@ -221,7 +221,7 @@ module _ (netlist : Circuit) (runs : IsNetlist netlist) (emits : IsEmittable net
       ]
   register-by k from name first condition value same h frame slot start is (Showing output c e) = absurd (cc e)
 
-  output-by : (output : NetPort) → Contains netlist.outputs output → (i : ModItem) → Origin i → item_name i ≡ output.name → i ≡ output_item (naming_of netlist) output
+  pub output-by : (output : NetPort) → Contains netlist.outputs output → (i : ModItem) → Origin i → item_name i ≡ output.name → i ≡ output_item (naming_of netlist) output
   output-by output c i (Declaring j p d) e = absurd (no-output output c j p (subst (IsOf j) e (declarer-of j (net j).kind i d).0))
   output-by output c i (Driving j p d) e = absurd (no-output output c j p (subst (IsOf j) e (driver-of j (net j).kind i d)))
   output-by output c i (Showing other d f) e =
@@ -229,10 +229,3 @@ module _ (netlist : Circuit) (runs : IsNetlist netlist) (emits : IsEmittable net
       let same : other ≡ output = same-element (λ (p : NetPort). p.name) (netlist.inputs ++ netlist.outputs) emits.ports.differ other output
       (Contains-append_right netlist.inputs netlist.outputs other d) (Contains-append_right netlist.inputs netlist.outputs output c) names in
       sym f ∙ ap (output_item naming) same
-
-  pub reads-only : ReadsOnly netlist (module_of netlist)
-  reads-only = record {
-    nets = λ k h i c of read r. reads-of k h i (origin i c) of read r;
-    registers = λ k h frame slot first from is reset_value condition value c. register-by k from (name_of netlist k) reset_value condition value refl h frame slot first is (origin (item.Always (name_of netlist k) reset_value condition value) c);
-    outputs = λ output c i d e. output-by output c i (origin i d) e;
-  }

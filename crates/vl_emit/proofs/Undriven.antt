@@ -7,7 +7,7 @@ use Rattle.vl_ast.specs.declared.modules.ModItem.{ModItem}
 use Rattle.vl_ast.specs.declared.modules.ModItem.TheVariants as item
 use Rattle.vl_ast.specs.declared.modules.Module.{Module}
 use Rattle.vl_ast.specs.Nets.{Declared, Declares, Register, port_declared, item_mentions}
-use Rattle.vl_ast.specs.Conditions.{undriven}
+use Rattle.vl_ast.specs.Conditions.{undriven, soundness, too_wide, is_sound_item, item_name, is_width}
 use Rattle.vl_emit.specs.inner.Clean.{IsCleanItem}
 use Rattle.vl_emit.specs.Reads.{item_reads}
 use Rattle.vl_emit.proofs.Found.{DeclaredBy, no-element, first-or-later, here, later, in-one, of-one, mapped, of-mapped}
@@ -27,7 +27,6 @@ use Rattle.vl_emit.proofs.NetItems.{DeclaresName, declares-net, drivers-silent, 
 use Rattle.vl_emit.proofs.Cleaned.{name-clean, word-most}
 use Rattle.vl_emit.proofs.Drivers.{assign-clean}
 use Rattle.vl_emit.proofs.Drivers.{multiplies, drivers-clean, net-width}
-use Rattle.vl_ast.specs.Conditions.{soundness, too_wide, is_sound_item, item_name, is_width}
 use Rattle.vl_emit.proofs.Ports.{named-net}
 use Rattle.vl_emit.proofs.DeclaredFirst.{find-none, item_drives, port_mentions, IsDeclaredBefore, IsDriven, none-undriven}
 

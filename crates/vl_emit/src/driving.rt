@@ -1,6 +1,7 @@
 //! What drives each net.
 ghost use Rattle.std.specs.Prelude.{◌≡◌, ◌++◌, ◌<◌, ◌-◌, ◌*◌, ℕ, true, false, length, get_or};
-ghost use Rattle.std.specs.Prelude.{IfOk, OnOk};
+ghost use Rattle.std.specs.Prelude.{IfOk, OnOk, Some, None};
+ghost use Rattle.vl_ast.specs.Gated.{gated_condition};
 ghost use Rattle.hw_net.specs.declared.netlist.NetOp.TheVariants.{Input};
 ghost use Rattle.hw_net.specs.declared.netlist.NetKind.TheVariants.{Comb, Reg, EnReg, Bridge};
 ghost use Rattle.hw_net.specs.declared.netlist.NetKind.TheVariants.{Unit, Counter};
@@ -156,6 +157,20 @@ fn live_test(alloc: Global, source: Source, frame: Frame, live: u32) -> Result<E
     binary(alloc, BinOp::GreaterEqual, name, number)
 }
 
+/// The name of the clock enable.
+pub fn enable(alloc: Global) -> Result<Expr, OutOfMemory>
+    ensures { IfOk result (λ e. e ≡ gated_condition None) }
+{
+    Ok(Expr::Name(Text::copy(alloc, b"clk_enable")?))
+}
+
+/// A condition of a register, with the clock enable before it.
+fn enabled(alloc: Global, condition: Expr) -> Result<Expr, OutOfMemory>
+    ensures { IfOk result (λ e. e ≡ gated_condition (Some condition)) }
+{
+    binary(alloc, BinOp::Both, enable(alloc)?, condition)
+}
+
 /// The item of a Counter.
 pub fn counter_item(
     alloc: Global,
@@ -175,10 +190,11 @@ pub fn counter_item(
     let test = test_of(alloc, net)?;
     let one = Expr::Literal(plain(net.width, 1));
     let less = binary(alloc, BinOp::Subtract, named(alloc, net)?, one)?;
+    let counting = enable(alloc)?;
     Ok(ModItem::Always {
         name,
         first: plain(net.width, start + top),
-        condition: None,
+        condition: Some(counting),
         value: choose(alloc, test, less, Expr::Literal(plain(net.width, top)))?,
     })
 }
@@ -204,7 +220,7 @@ pub fn reg_item(
     Ok(ModItem::Always {
         name,
         first: constant(net.width, net.signed, first),
-        condition: Some(test),
+        condition: Some(enabled(alloc, test)?),
         value: named(alloc, operand(source, from as usize))?,
     })
 }
@@ -234,7 +250,7 @@ pub fn reset_item(
     Ok(ModItem::Always {
         name,
         first: begun,
-        condition: Some(condition),
+        condition: Some(enabled(alloc, condition)?),
         value: choose(alloc, test, taken, Expr::Literal(begun))?,
     })
 }
@@ -263,7 +279,7 @@ pub fn held_item(
     Ok(ModItem::Always {
         name,
         first: constant(net.width, net.signed, first),
-        condition: Some(condition),
+        condition: Some(enabled(alloc, condition)?),
         value: named(alloc, operand(source, from as usize))?,
     })
 }
@@ -303,7 +319,7 @@ pub fn put_bridge(
     items.push(ModItem::Always {
         name: hold_text(alloc, own)?,
         first: plain(net.width, 0),
-        condition: None,
+        condition: Some(enable(alloc)?),
         value: named(alloc, net)?,
     })
 }

@@ -2,9 +2,10 @@
 ghost use Rattle.std.specs.Prelude.{◌≡◌, ◌<◌, ◌^◌, length, IfOk};
 ghost use Rattle.hw_net.specs.Frames.{HasCounters};
 ghost use Rattle.hw_net.specs.Netlist.{IsNetlist};
-ghost use Rattle.vl_ast.specs.Conditions.{BreaksNone};
 ghost use Rattle.vl_ast.specs.Grammar.{Spells};
 ghost use Rattle.vl_ast.specs.Spelling.{spelling};
+ghost use Rattle.vl_ast.specs.Conditions.{BreaksNone};
+ghost use Rattle.vl_ast.specs.Stalls.{KeepsBits};
 ghost use Rattle.vl_emit.specs.Emittable.{IsEmittable};
 ghost use Rattle.vl_emit.specs.Header.{HasHeader};
 ghost use Rattle.vl_emit.specs.Items.{ItemsAre, NamesDiffer};
@@ -31,16 +32,17 @@ pub fn emit(alloc: Global, netlist: &Netlist) -> Result<Module, OutOfMemory>
     requires emittable { IsEmittable netlist.now }
     ensures header { IfOk result (HasHeader netlist.now) }
     ensures conditions { IfOk result BreaksNone }
+    ensures keeps { IfOk result KeepsBits }
     ensures nets { IfOk result (NetsAreShown netlist.now) }
     ensures outputs { IfOk result (OutputsAreShown netlist.now) }
     ensures products { IfOk result (ProductsAre netlist.now) }
     ensures reads { IfOk result (ReadsOnly netlist.now) }
     ensures registers { IfOk result (RegistersAre netlist.now) }
-    ensures labels { IfOk result (λ _. LabelsAreNames netlist.now) }
+    ensures labels { IfOk result (LabelsAreNames netlist.now) }
     ensures items { IfOk result (ItemsAre netlist.now) }
     ensures names { IfOk result (λ _. NamesDiffer netlist.now) }
-    ensures fit { IfOk result (NetsFit netlist.now) }
     ensures spelled { IfOk result (λ made. Spells (spelling made) made) }
+    ensures fit { IfOk result (NetsFit netlist.now) }
 {
     steps_give_rows();
     counter_is_telling();

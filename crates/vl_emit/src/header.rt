@@ -1,6 +1,7 @@
 //! The header of a netlist's module.
 ghost use Rattle.std.specs.Prelude.{◌≡◌, ◌++◌, ◌<◌, length, IfOk, OnOk};
-ghost use Rattle.vl_emit.specs.Header.{attribute_of, bit_input, input_port, output_port};
+ghost use Rattle.vl_emit.specs.Header.{attribute_of, bit_input, bit_output};
+ghost use Rattle.vl_emit.specs.Header.{input_port, output_port};
 ghost use Rattle.vl_emit.specs.Header.{input_ports, output_ports, ports_of};
 ghost use Rattle.vl_emit.specs.inner.Ready.{AreReady};
 
@@ -23,6 +24,18 @@ fn bit_input(alloc: Global, name: &[u8]) -> Result<Port, OutOfMemory>
     Ok(Port {
         attrs: Attrs::new(alloc),
         input: true,
+        signed: false,
+        width: 1,
+        name: Text::copy(alloc, name)?,
+    })
+}
+
+fn bit_output(alloc: Global, name: &[u8]) -> Result<Port, OutOfMemory>
+    ensures { IfOk result (λ port. port ≡ bit_output name.now) }
+{
+    Ok(Port {
+        attrs: Attrs::new(alloc),
+        input: false,
         signed: false,
         width: 1,
         name: Text::copy(alloc, name)?,
@@ -82,7 +95,8 @@ fn put_outputs(alloc: Global, netlist: &Netlist, ports: &mut Ports) -> Result<()
     Ok(())
 }
 
-/// The clock, the reset, and the ports of a netlist in order.
+/// The clock, the reset, the clock enable, and the ports of a netlist in order, with `ce_out` before
+/// its outputs.
 pub fn module_ports(alloc: Global, netlist: &Netlist) -> Result<Ports, OutOfMemory>
     requires { AreReady netlist.now }
     ensures { IfOk result (λ ports. ports ≡ ports_of netlist.now) }
@@ -90,7 +104,9 @@ pub fn module_ports(alloc: Global, netlist: &Netlist) -> Result<Ports, OutOfMemo
     let mut ports = Ports::new(alloc);
     ports.push(bit_input(alloc, b"clk")?)?;
     ports.push(bit_input(alloc, b"reset")?)?;
+    ports.push(bit_input(alloc, b"clk_enable")?)?;
     put_inputs(alloc, netlist, &mut ports)?;
+    ports.push(bit_output(alloc, b"ce_out")?)?;
     put_outputs(alloc, netlist, &mut ports)?;
     Ok(ports)
 }

@@ -1,13 +1,14 @@
 //! The items of a netlist's module: declarations, then the drivers of Unit nets, then the other
-//! drivers, then the output ports.
-ghost use Rattle.std.specs.Prelude.{◌≡◌, ◌++◌, ◌<◌, length, IfOk, OnOk};
+//! drivers, then the output ports, then `ce_out`.
+ghost use Rattle.std.specs.Prelude.{◌≡◌, ◌++◌, ◌<◌, ◌∷◌, [], length, map, IfOk, OnOk};
+ghost use Rattle.vl_ast.specs.Gated.{gated_item, shows_enable};
 ghost use Rattle.vl_emit.specs.inner.Emitted.{items_of};
 ghost use Rattle.vl_emit.specs.inner.Ready.{IsSource, circuit_of, net_count};
 ghost use Rattle.vl_emit.specs.inner.Ready.{declarers_in, units_in, others_in};
 ghost use Rattle.vl_emit.specs.inner.Ready.{all_declared, all_units, all_others, all_shown};
 
 use crate::driving::{
-    comb_item, counter_item, held_item, put_bridge, reg_item, reset_item, unit_item,
+    comb_item, counter_item, enable, held_item, put_bridge, reg_item, reset_item, unit_item,
 };
 use crate::operands::{hold_text, named, text_of};
 use crate::source::{Source, operand};
@@ -164,15 +165,26 @@ fn show_outputs(alloc: Global, source: Source, items: &mut ModItems) -> Result<(
     Ok(())
 }
 
+/// The item of `ce_out`.
+fn show_enable(alloc: Global, items: &mut ModItems) -> Result<(), OutOfMemory>
+    ensures { OnOk result (items.new ≡ items.old ++ shows_enable ∷ []) }
+{
+    let name = Text::copy(alloc, b"ce_out")?;
+    let value = enable(alloc)?;
+    items.push(ModItem::Assign { name, value })
+}
+
 /// All items, in order.
 pub fn module_items(alloc: Global, source: Source) -> Result<ModItems, OutOfMemory>
     requires { IsSource source }
-    ensures { IfOk result (λ items. items ≡ items_of (circuit_of source.entry)) }
+    ensures { IfOk result (λ items. items
+        ≡ map gated_item (items_of (circuit_of source.entry) ++ shows_enable ∷ [])) }
 {
     let mut items = ModItems::new(alloc);
     declare_all(alloc, source, &mut items)?;
     drive_units(alloc, source, &mut items)?;
     drive_others(alloc, source, &mut items)?;
     show_outputs(alloc, source, &mut items)?;
+    show_enable(alloc, &mut items)?;
     Ok(items)
 }

@@ -34,9 +34,9 @@ fn items_of(alloc: Global, count: u32) -> Result<usize, OutOfMemory> {
     Ok(made.map_or(0, |made| made.items.as_slice().len()))
 }
 
-/// A declaration and a driver of each net.
+/// A declaration and a driver of each net, and the item of `ce_out`.
 #[test]
 fn each_net_has_two_items(rt: HostRuntime) -> Result<(), Fail> {
-    assert_eq!(rt; items_of(rt.alloc(), 400)?, 804);
+    assert_eq!(rt; items_of(rt.alloc(), 400)?, 805);
     Ok(())
 }

@@ -19,10 +19,12 @@ use Rattle.vl_emit.specs.Names.{Wire}
 use Rattle.vl_emit.specs.inner.Spelled.{zeros, at_width}
 use Rattle.vl_emit.specs.inner.Operators.{test_of, expression_of}
 use Rattle.vl_emit.specs.Names.{places, name_of, hold_name, net_at, net_wire, input_wire}
-use Rattle.vl_emit.specs.Header.{attribute_of, ports_of}
+use Rattle.vl_emit.specs.Header.{attribute_of, bit_input, input_ports, output_ports, ports_of}
 use Rattle.hw_net.specs.Circuit.{Circuit}
 use Rattle.hw_net.specs.Frames.{counter_of}
 use Rattle.vl_ast.specs.declared.modules.Module.{Module}
+use Rattle.vl_ast.specs.declared.modules.Port.{Port}
+use Rattle.vl_ast.specs.Gated.{gated, gated_item, shows_enable}
 
 -- how the parts of a netlist are named: the ports of its inputs, its nets, the registers that
 -- bridges hold their values in, and the net that counts a frame
@@ -179,18 +181,40 @@ first_declared netlist n =
 abbrev pub first_units : Circuit → ℕ → List ModItem
 first_units netlist n = flat_map (λ k. units_at netlist k (net_at netlist.nets k).kind) (places n)
 
-abbrev pub first_others : Circuit → ℕ → List ModItem
-first_others netlist n = flat_map (λ k. others_at netlist k (net_at netlist.nets k).kind) (places n)
-
 abbrev pub items_of : Circuit → List ModItem
 items_of netlist =
     module_items netlist.cycles (length netlist.nets) (naming_of netlist)
     (net_at netlist.nets) netlist.outputs
 
-abbrev pub module_of : Circuit → Module
-module_of netlist = record {
+-- the ports but those of the clock enable
+abbrev pub plain_ports : Circuit → List Port
+plain_ports netlist =
+    bit_input (codes "clk") ∷ bit_input (codes "reset")
+    ∷ (input_ports netlist ++ output_ports netlist)
+
+-- the module whose registers take their values in every clock
+abbrev pub plain_module : Circuit → Module
+plain_module netlist = record {
+  name = codes "fx_model";
+  attrs = attribute_of (codes "fx_cycles") netlist.cycles ∷ [];
+  ports = plain_ports netlist;
+  items = items_of netlist;
+}
+
+-- the same with the ports of the clock enable
+abbrev pub opened_module : Circuit → Module
+opened_module netlist = record {
   name = codes "fx_model";
   attrs = attribute_of (codes "fx_cycles") netlist.cycles ∷ [];
   ports = ports_of netlist;
-  items = items_of netlist;
+  items = items_of netlist ++ shows_enable ∷ [];
 }
+
+-- the module whose registers stand still without the clock enable
+abbrev pub module_of : Circuit → Module
+module_of netlist = gated (opened_module netlist)
+
+-- the drivers of the first nets, where they take their values with the clock enable alone
+abbrev pub first_gated : Circuit → ℕ → List ModItem
+first_gated netlist n =
+    flat_map (λ k. map gated_item (others_at netlist k (net_at netlist.nets k).kind)) (places n)

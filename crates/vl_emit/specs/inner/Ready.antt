@@ -15,10 +15,11 @@ use Rattle.hw_net.specs.Frames.{frame_of, counter_of}
 use Rattle.vl_emit.specs.declared.source.Source.{Source}
 use Rattle.vl_ast.specs.declared.expressions.Expr.{Expr}
 use Rattle.vl_ast.specs.declared.modules.ModItem.{ModItem}
+use Rattle.vl_ast.specs.Gated.{gated_item}
 use Rattle.vl_emit.specs.Names.{Wire, net_at, port_at, net_name, name_by, net_wire, input_wire}
 use Rattle.vl_emit.specs.inner.Emitted.{naming_of, counter_wire, slot_test, live_test, declarers_at}
 use Rattle.vl_emit.specs.inner.Emitted.{drivers_at, units_at, others_at, first_declared}
-use Rattle.vl_emit.specs.inner.Emitted.{first_units, first_others, output_item}
+use Rattle.vl_emit.specs.inner.Emitted.{first_units, first_gated, output_item}
 use Rattle.vl_emit.specs.inner.Operators.{expression_of}
 use Rattle.vl_emit.specs.inner.Spoken.{IsWithin}
 
@@ -126,10 +127,12 @@ live_in source frame live = live_test (cycles_in source) frame (counter_in sourc
 
 -- the item is the one driver of a net of this kind
 abbrev pub IsDriver : Source → ℕ → NetKind → ModItem → Type 0
-IsDriver source own kind item = item ∷ [] ≡ drivers_at (circuit_of source) own kind
+IsDriver source own kind item =
+    item ∷ [] ≡ map gated_item (drivers_at (circuit_of source) own kind)
 
 abbrev pub bridge_in : Source → ℕ → Frame → ℕ → ℕ → List ModItem
-bridge_in source own frame live from = drivers_at (circuit_of source) own (Bridge frame live from)
+bridge_in source own frame live from =
+    map gated_item (drivers_at (circuit_of source) own (Bridge frame live from))
 
 abbrev pub declarers_in : Source → ℕ → List ModItem
 declarers_in source own = declarers_at (circuit_of source) own (kind_at source own)
@@ -138,7 +141,7 @@ abbrev pub units_in : Source → ℕ → List ModItem
 units_in source own = units_at (circuit_of source) own (kind_at source own)
 
 abbrev pub others_in : Source → ℕ → List ModItem
-others_in source own = others_at (circuit_of source) own (kind_at source own)
+others_in source own = map gated_item (others_at (circuit_of source) own (kind_at source own))
 
 -- those of all nets, and of the output ports
 abbrev pub all_declared : Source → List ModItem
@@ -148,7 +151,7 @@ abbrev pub all_units : Source → List ModItem
 all_units source = first_units (circuit_of source) (net_count source)
 
 abbrev pub all_others : Source → List ModItem
-all_others source = first_others (circuit_of source) (net_count source)
+all_others source = first_gated (circuit_of source) (net_count source)
 
 abbrev pub all_shown : Source → List ModItem
 all_shown source = map (output_item (naming_of (circuit_of source))) (circuit_of source).outputs

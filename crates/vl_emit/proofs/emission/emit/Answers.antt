@@ -1,5 +1,6 @@
 use Rattle.std.proofs.Common.{◌<◌, ◌^◌, length}
 use Rattle.vl_ast.specs.Conditions.{BreaksNone}
+use Rattle.vl_ast.specs.Stalls.{KeepsBits}
 use Rattle.vl_ast.specs.Grammar.{Spells}
 use Rattle.vl_ast.specs.Spelling.{spelling}
 use Rattle.vl_emit.specs.Header.{HasHeader}
@@ -10,14 +11,13 @@ use Rattle.vl_emit.specs.Reads.{ReadsOnly}
 use Rattle.vl_emit.specs.Registers.{RegistersAre}
 use Rattle.vl_emit.specs.Shown.{NetsAreShown, NetsFit, OutputsAreShown}
 use Rattle.vl_emit.specs.inner.Emitted.{module_of}
-use Rattle.vl_emit.proofs.Clocked.{breaks-none, header}
-use Rattle.vl_emit.proofs.Interfaces.{labelled}
-use Rattle.vl_emit.proofs.Itemized.{items-are, names-differ, nets-fit}
+use Rattle.vl_emit.proofs.Itemized.{items-are, labels-are, names-differ, nets-fit}
 use Rattle.vl_emit.proofs.Multiplied.{products-are, registers-are}
-use Rattle.vl_emit.proofs.Origins.{reads-only}
+use Rattle.vl_emit.proofs.Opened.{gated-breaks, header, keeps-bits}
+use Rattle.vl_emit.proofs.Reading.{reads-only}
 use Rattle.vl_emit.proofs.Returned.{if-made}
+use Rattle.vl_emit.proofs.Spellings.{spells}
 use Rattle.vl_emit.proofs.Shows.{nets-are-shown, outputs-are-shown}
-use Rattle.vl_emit.proofs.WritableModule.{module-spells}
 use Rattle.vl_emit.proofs.emission.emit.Goals as goal
 
 pub module_of-requires : goal.module_of-requires
@@ -33,17 +33,17 @@ returns c =
     let small = c.module_of.ensures.few in
     record {
       header = if-made (module_of c.args.netlist.now) (length c.args.netlist.now.nets < 2 ^ 64) (HasHeader c.args.netlist.now) c.module_of.result is small (λ h. header c.args.netlist.now runs emits h);
-      conditions = if-made (module_of c.args.netlist.now) (length c.args.netlist.now.nets < 2 ^ 64) BreaksNone c.module_of.result is small (λ h. breaks-none c.args.netlist.now runs emits h);
+      conditions = if-made (module_of c.args.netlist.now) (length c.args.netlist.now.nets < 2 ^ 64) BreaksNone c.module_of.result is small (λ h. gated-breaks c.args.netlist.now runs emits h);
+      keeps = if-made (module_of c.args.netlist.now) (length c.args.netlist.now.nets < 2 ^ 64) KeepsBits c.module_of.result is small (λ h. keeps-bits c.args.netlist.now runs emits h);
       nets = if-made (module_of c.args.netlist.now) (length c.args.netlist.now.nets < 2 ^ 64) (NetsAreShown c.args.netlist.now) c.module_of.result is small
           (λ h. nets-are-shown c.args.netlist.now runs emits h c.counter_is_telling.ensures c.steps_give_rows.ensures);
       outputs = if-made (module_of c.args.netlist.now) (length c.args.netlist.now.nets < 2 ^ 64) (OutputsAreShown c.args.netlist.now) c.module_of.result is small (λ h. outputs-are-shown c.args.netlist.now runs emits h);
       products = if-made (module_of c.args.netlist.now) (length c.args.netlist.now.nets < 2 ^ 64) (ProductsAre c.args.netlist.now) c.module_of.result is small (λ h. products-are c.args.netlist.now runs emits h);
       reads = if-made (module_of c.args.netlist.now) (length c.args.netlist.now.nets < 2 ^ 64) (ReadsOnly c.args.netlist.now) c.module_of.result is small (λ h. reads-only c.args.netlist.now runs emits h);
       registers = if-made (module_of c.args.netlist.now) (length c.args.netlist.now.nets < 2 ^ 64) (RegistersAre c.args.netlist.now) c.module_of.result is small (λ h. registers-are c.args.netlist.now runs emits h);
-      labels = if-made (module_of c.args.netlist.now) (length c.args.netlist.now.nets < 2 ^ 64) (λ m. LabelsAreNames c.args.netlist.now) c.module_of.result is small
-          (λ h. record { are = λ label k. labelled (length c.args.netlist.now.nets) h c.args.netlist.now.labels emits.labels label k });
+      labels = if-made (module_of c.args.netlist.now) (length c.args.netlist.now.nets < 2 ^ 64) (LabelsAreNames c.args.netlist.now) c.module_of.result is small (λ h. labels-are c.args.netlist.now runs emits h);
       items = if-made (module_of c.args.netlist.now) (length c.args.netlist.now.nets < 2 ^ 64) (ItemsAre c.args.netlist.now) c.module_of.result is small (λ h. items-are c.args.netlist.now runs emits h);
       names = if-made (module_of c.args.netlist.now) (length c.args.netlist.now.nets < 2 ^ 64) (λ m. NamesDiffer c.args.netlist.now) c.module_of.result is small (λ h. names-differ c.args.netlist.now runs emits h);
-      spelled = if-made (module_of c.args.netlist.now) (length c.args.netlist.now.nets < 2 ^ 64) (λ m. Spells (spelling m) m) c.module_of.result is small (λ h. module-spells c.args.netlist.now runs emits h);
+      spelled = if-made (module_of c.args.netlist.now) (length c.args.netlist.now.nets < 2 ^ 64) (λ m. Spells (spelling m) m) c.module_of.result is small (λ h. spells c.args.netlist.now runs emits h);
       fit = if-made (module_of c.args.netlist.now) (length c.args.netlist.now.nets < 2 ^ 64) (NetsFit c.args.netlist.now) c.module_of.result is small (λ h. nets-fit c.args.netlist.now runs emits h);
     }

@@ -1,3 +1,5 @@
+use Rattle.std.proofs.Common.{map}
+use Rattle.vl_ast.specs.Gated.{gated_item}
 use Rattle.vl_emit.specs.Names.{net_at}
 use Rattle.vl_emit.specs.inner.Emitted.{others_at}
 use Rattle.vl_emit.specs.inner.Ready.{circuit_of}
@@ -6,5 +8,5 @@ use Rattle.vl_emit.proofs.items.drive_others.Goals as goal
 
 pub loop-own-preserved : goal.loop-own-preserved
 loop-own-preserved c =
-    loop-step (λ k. others_at (circuit_of c.args.source) k (net_at (circuit_of c.args.source).nets k).kind) c.args.items.now c.loop-own.items c.drive.new.items c.loop-own.own
+    loop-step (λ k. map gated_item (others_at (circuit_of c.args.source) k (net_at (circuit_of c.args.source).nets k).kind)) c.args.items.now c.loop-own.items c.drive.new.items c.loop-own.own
     c.loop-own.invariant c.in_ok-drive.ensures
