@@ -13,24 +13,30 @@ use Rattle.dg_model.specs.Laws.{StimulusGivesColumns}
 use Rattle.dg_model.specs.RootElements.{RootElement, root_inputs, column_of_stimulus, number_for}
 use Rattle.dg_model.specs.Signals.{Stimulus, Table}
 use Rattle.vl_ast.specs.declared.modules.Module.{Module}
-use Rattle.vl_ast.specs.Header.{DataPort, HasHeader, attribute_of, bit_input, input_port, output_port}
+use Rattle.vl_ast.specs.Header.{bit_output, DataPort, attribute_of, bit_input, input_port, output_port, HasHeader}
+use Rattle.vl_ast.specs.Windows.{Window, AtHits, row_at}
 use Rattle.vl_ast.specs.Runs.{Rows}
 use Rattle.vl_ast.specs.Value.{bits_of}
-use Rattle.vl_ast.specs.Windows.{Window, row_at}
+use Rattle.vl_ast.proofs.Layers.{value_by_layer}
+use Rattle.vl_ast.proofs.Thinned.{are-thinned}
 use Rattle.hw_names.specs.Names.{AreNames}
 use Rattle.hw_build.specs.Places.{IsRunOf}
 use Rattle.hw_module.specs.Interface.{NamedElement, named, step_of, input_elements, output_elements, input_data, output_data}
 use Rattle.hw_module.specs.inner.Offers.{Offers}
 use Rattle.hw_shows.specs.Shows.{IsSeen}
 use Rattle.hw_net.specs.Circuit.{Circuit}
+use Rattle.hw_arcs.specs.Latencies.{latency_at}
+use Rattle.hw_sched.specs.Ready.{declared_latency}
 use Rattle.hw_sched.specs.Slots.{Timing}
 use Rattle.vl_emit.specs.Header.{data_port}
 use Rattle.vl_emit.specs.Names.{net_at}
 use Rattle.vl_emit.specs.Shown.{inputs_from, rows_from}
-use Rattle.hw_module.specs.Carries.{IsDrivenRun, OutputShows, Carries}
+use Rattle.hw_module.specs.Carries.{IsDrivenRun, Carries}
 use Rattle.hw_module.specs.inner.Emission.{IsEmissionOf}
+use Rattle.hw_module.specs.inner.Steady.{IsSteadyRun, ShowsThroughout}
 use Rattle.hw_module.proofs.Lists.{paired, relabelled, got, get-below}
-use Rattle.hw_module.proofs.Ported.{is-reset, input-shows, output-bits}
+use Rattle.hw_module.proofs.Ported.{can-stall, enabled-rows, is-reset, input-shows, output-bits}
+use Rattle.hw_module.proofs.Thinned.{clocks-show, steady-run}
 
 -- each root input takes a value again and again
 abbrev pub InputsHavePeriods : Diagram → Type 0
@@ -74,11 +80,22 @@ module _ {netlist : Circuit} {names : List (List ℕ)} {diagram : Diagram} {plan
       record {
         name = made.header.name;
         attrs = made.header.attrs ∙ ap (λ (cycles : ℕ). attribute_of (codes "fx_cycles") cycles ∷ []) built.ports.cycles;
-        ports = made.header.ports ∙ (λ i. bit_input (codes "clk") ∷ bit_input (codes "reset") ∷ (ins i ++ outs i));
+        ports = made.header.ports ∙ (λ i. bit_input (codes "clk") ∷ bit_input (codes "reset") ∷ bit_input (codes "clk_enable") ∷ (ins i ++ bit_output (codes "ce_out") ∷ outs i));
       }
 
+  -- an output shows its entries in a run in which every row counts
+  abbrev OutputShowsIn : ℕ → Window → Table → Rows → NamedElement → Type 0
+  OutputShowsIn samples window table rows e =
+      AtHits (step_of e.root) samples (λ t.
+      ShowsThroughout window rows e.name (width_of e.root.type) (table e.root.block 1 e.root.element t)
+      (t * plan.cycles + declared_latency diagram (attributes_of diagram) plan timing e.root.block)
+      ((t + latency_at timing.lat e.root.block + step_of e.root) * plan.cycles))
+
   module _ (columns : StimulusGivesColumns) (periods : InputsHavePeriods diagram) {samples : ℕ} {window : Window} {stimulus : Stimulus} {table : Table} {rows : Rows}
-      (run : IsDrivenRun m diagram samples window stimulus table rows) where
+      (steady : IsSteadyRun m diagram samples window stimulus table rows) where
+    abbrev run : IsDrivenRun m diagram samples window stimulus table rows
+    run = steady.run
+
     abbrev pub clocks : ℕ
     clocks = window.rows - (window.last_reset + 1)
 
@@ -99,7 +116,7 @@ module _ {netlist : Circuit} {names : List (List ℕ)} {diagram : Diagram} {plan
         let word : InWord (net_at netlist.nets x.0.net).width (net_at netlist.nets x.0.net).signed (column_of_stimulus (root_inputs diagram (attributes_of diagram)) stimulus place t) = rw (wide, sign) within in
         let input = built.runs.inputs place x.0 x.1 in
         let there = get-below netlist.nets x.0.net input.net input.is in
-        input-shows built.runs built.emittable made run.driven run.runs place x.0 x.1 t clock early
+        input-shows built.runs built.emittable made run.driven steady.enabled run.runs place x.0 x.1 t clock early
         (subst (λ (n : ℕ). t % n ≡ 0) (sym stands) hit) (omega (arith, from))
         (subst (λ (n : ℕ). clock < (t + n) * netlist.cycles) (sym stands) (omega (arith, until))) (omega (arith, below)) word there
 
@@ -119,10 +136,11 @@ module _ {netlist : Circuit} {names : List (List ℕ)} {diagram : Diagram} {plan
       stimulus_is = run.in_range;
       solves = run.solves;
       fed = record { shows = input-fed };
-      rows_are = made.nets.are window.rows window.last_reset run.start run.inputs rows (is-reset built.runs built.emittable made run.driven run.runs);
+      rows_are = made.nets.are window.rows window.last_reset run.start run.inputs rows (is-reset built.runs built.emittable made run.driven steady.enabled run.runs)
+          (enabled-rows built.runs built.emittable made run.driven steady.enabled run.runs);
     }
 
-    pub output-shows : (place : ℕ) (e : NamedElement) → slice_get (output_elements names diagram) place ≡ Some e → OutputShows diagram plan timing samples window table rows e
+    pub output-shows : (place : ℕ) (e : NamedElement) → slice_get (output_elements names diagram) place ≡ Some e → OutputShowsIn samples window table rows e
     output-shows place e is t early hit clock from until below =
         let x = paired (data_port netlist) (output_data diagram plan timing) netlist.outputs (output_elements names diagram) built.ports.outputs place e is in
         let wide : (net_at netlist.nets x.0.net).width ≡ width_of e.root.type = ap (λ (d : DataPort). d.width) x.2 in
@@ -131,7 +149,7 @@ module _ {netlist : Circuit} {names : List (List ℕ)} {diagram : Diagram} {plan
         let entry = (built.outputs stimulus samples clocks (inputs_from netlist window.last_reset rows) (rows_from netlist window.last_reset rows) table net-run place x.0 e x.1 is).at t clock early within
         (record { is_hit = hit; from = omega (arith, from); until = until }) in
         ap (rows (row_at window clock)) (sym name)
-        ∙ output-bits built.runs built.emittable made run.driven run.runs x.0 (got netlist.outputs place x.0 x.1) clock below
+        ∙ output-bits built.runs built.emittable made run.driven steady.enabled run.runs x.0 (got netlist.outputs place x.0 x.1) clock below
         ∙ (λ i. bits_of (wide i) (entry i))
 
   pub carries : StimulusGivesColumns → InputsHavePeriods diagram → AreNames diagram names → Carries m diagram plan timing
@@ -140,5 +158,9 @@ module _ {netlist : Circuit} {names : List (List ℕ)} {diagram : Diagram} {plan
     are_names = are;
     header = has-header;
     sound = made.conditions;
-    bits = λ samples window stimulus table rows run place e is. output-shows columns periods run place e is;
+    enabled = made.outputs.enable;
+    thinned = λ window start inputs rows last runs. are-thinned value_by_layer m made.conditions.acyclic made.conditions.clocked (can-stall made) made.keeps window start inputs rows last runs;
+    bits = λ samples window stimulus table rows run place e is t early hit.
+        clocks-show made run e.name (width_of e.root.type) (table e.root.block 1 e.root.element t) _ _
+        (output-shows columns periods (steady-run made run) place e is t early hit);
   }

@@ -2,6 +2,7 @@
 use Rattle.std.proofs.Common.{Result, Ok, Err, IfOk}
 use Rattle.vl_ast.specs.declared.modules.Module.{Module}
 use Rattle.vl_ast.specs.Conditions.{BreaksNone}
+use Rattle.vl_ast.specs.Stalls.{KeepsBits}
 use Rattle.hw_net.specs.Circuit.{Circuit}
 use Rattle.vl_emit.specs.Header.{HasHeader}
 use Rattle.vl_emit.specs.Items.{ItemsAre, NamesDiffer}
@@ -12,11 +13,12 @@ use Rattle.vl_emit.specs.Registers.{RegistersAre}
 use Rattle.vl_emit.specs.Shown.{NetsAreShown, NetsFit, OutputsAreShown}
 use Rattle.hw_module.specs.inner.Emission.{IsEmissionOf}
 
-pub emission-of : {E : Type 0} (netlist : Circuit) (r : Result Module E) → IfOk r (HasHeader netlist) → IfOk r BreaksNone → IfOk r (NetsAreShown netlist) → IfOk r (OutputsAreShown netlist) → IfOk r (ProductsAre netlist) → IfOk r (ReadsOnly netlist)
-    → IfOk r (RegistersAre netlist) → IfOk r (λ m. LabelsAreNames netlist) → IfOk r (ItemsAre netlist) → IfOk r (λ m. NamesDiffer netlist) → IfOk r (NetsFit netlist) → IfOk r (IsEmissionOf netlist)
-emission-of netlist (Ok m) header conditions nets outputs products reads registers labels items names fit = record {
+pub emission-of : {E : Type 0} (netlist : Circuit) (r : Result Module E) → IfOk r (HasHeader netlist) → IfOk r BreaksNone → IfOk r KeepsBits → IfOk r (NetsAreShown netlist) → IfOk r (OutputsAreShown netlist) → IfOk r (ProductsAre netlist) → IfOk r (ReadsOnly netlist)
+    → IfOk r (RegistersAre netlist) → IfOk r (LabelsAreNames netlist) → IfOk r (ItemsAre netlist) → IfOk r (λ m. NamesDiffer netlist) → IfOk r (NetsFit netlist) → IfOk r (IsEmissionOf netlist)
+emission-of netlist (Ok m) header conditions keeps nets outputs products reads registers labels items names fit = record {
   header = header;
   conditions = conditions;
+  keeps = keeps;
   nets = nets;
   fit = fit;
   outputs = outputs;
@@ -27,4 +29,4 @@ emission-of netlist (Ok m) header conditions nets outputs products reads registe
   labels = labels;
   names = names;
 }
-emission-of netlist (Err e) header conditions nets outputs products reads registers labels items names fit = tt
+emission-of netlist (Err e) header conditions keeps nets outputs products reads registers labels items names fit = tt

@@ -7,4 +7,5 @@ pub mod Offered
 pub mod Ported
 pub mod Served
 pub mod Staged
+pub mod Thinned
 pub mod Whole

@@ -10,6 +10,7 @@ use Rattle.hw_net.specs.declared.netlist.Net.{Net}
 use Rattle.hw_net.specs.declared.netlist.NetOp.TheVariants.{Multiply}
 use Rattle.hw_net.specs.declared.netlist.NetKind.TheVariants.{Comb}
 use Rattle.hw_net.specs.Circuit.{Circuit}
+use Rattle.vl_emit.specs.Items.{IsMultiplied}
 use Rattle.vl_emit.specs.Names.{net_at}
 use Rattle.hw_module.specs.Multiplied.{NamesMultiplications}
 use Rattle.hw_module.specs.inner.Emission.{IsEmissionOf}
@@ -21,4 +22,7 @@ names-multiplications {diagram} {plan} {netlist} {m} are made block element ther
     let same : net_at netlist.nets x.number ≡ x.net = get_or_from_slice_get netlist.nets x.number x.net _ x.is in
     let kind : (net_at netlist.nets x.number).kind ≡ Comb Multiply x.args = ap (λ (net : Net). net.kind) same ∙ x.multiplies in
     let called = made.labels.are (record { net = x.number; name = multiplication_name block element }) x.named in
-    subst (IsWire m) called (record { signed = _; width = _; there = made.items.wires x.number (get-below netlist.nets x.number x.net x.is) Multiply x.args kind })
+    let there = get-below netlist.nets x.number x.net x.is in (
+      subst (IsWire m) called (record { signed = _; width = _; there = made.items.wires x.number there Multiply x.args kind }),
+      subst (IsMultiplied m) called (made.items.products x.number there x.args kind),
+    )

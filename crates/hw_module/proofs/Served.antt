@@ -8,6 +8,9 @@ use Rattle.dg_model.specs.Hits.{Hits}
 use Rattle.dg_model.specs.Laws.{StimulusGivesColumns}
 use Rattle.vl_ast.specs.declared.modules.Module.{Module}
 use Rattle.vl_ast.specs.Multiplications.{multiplications}
+use Rattle.vl_ast.specs.Runs.{Row, Rows}
+use Rattle.vl_ast.specs.Stalls.{thin_window}
+use Rattle.vl_ast.specs.Windows.{Window}
 use Rattle.hw_arcs.specs.Latencies.{latency_at}
 use Rattle.hw_build.specs.Serving.{clock_of}
 use Rattle.hw_module.specs.inner.Offers.{Offers}
@@ -18,10 +21,11 @@ use Rattle.hw_sched.specs.Scheduled.{IsScheduled}
 use Rattle.hw_sched.specs.Slots.{Timing, Operation, OperationKind, shared_operations, slot_of, unit_of}
 use Rattle.vl_emit.specs.Products.{IsProduct, products_of}
 use Rattle.vl_emit.specs.Shown.{inputs_from, rows_from}
-use Rattle.hw_module.specs.Serves.{Serves, MultipliesAsOwed}
+use Rattle.hw_module.specs.Serves.{IsServed, Serves, MultipliesAsOwed}
 use Rattle.hw_module.specs.inner.Emission.{IsEmissionOf}
 use Rattle.hw_module.proofs.Carried.{InputsHavePeriods, net-run}
 use Rattle.hw_module.proofs.Lists.{zip-get, zip-length}
+use Rattle.hw_module.proofs.Thinned.{clock-below, clock-row, steady-run, thinned}
 
 -- two places in frames of one length are one only where the frame and the place in it are
 frame-apart : (i j w a b : ℕ) → a < w → b < w → i * w + a ≡ j * w + b → (i ≡ j) × (a ≡ b)
@@ -106,21 +110,25 @@ module _ {netlist : Circuit} {names : List (List ℕ)} {diagram : Diagram} {plan
 
   pub serves : OperationsAreServed → OperationsHavePeriods → SlotsDiffer → ReadyFits → StimulusGivesColumns → InputsHavePeriods diagram → IsScheduled diagram plan timing → Serves m diagram plan timing
   serves served have_periods differ fits columns periods scheduled = record {
-    served = λ samples window stimulus table rows run number o b t is at early hit below.
+    served = λ samples window stimulus table rows run number o b t place is at early hit counts.
+        let steady = steady-run made run in
+        let thin : Window = thin_window m window run.inputs in
+        let thin_rows : Rows = (thinned made run).thin_rows in
         let unit = built.units number o b is at in
         let x = zip-get (IsProduct netlist m) (products_of netlist) (multiplications m) made.products.each (unit_of diagram (attributes_of diagram) plan timing number o) unit.product unit.at in
         let c = clock_of diagram plan timing number o t in
-        record {
-          left = rows_from netlist window.last_reset rows unit.product.left c;
-          right = rows_from netlist window.last_reset rows unit.product.right c;
-          operands = unit.has stimulus samples (window.rows - (window.last_reset + 1)) (inputs_from netlist window.last_reset rows) (rows_from netlist window.last_reset rows) table
-              (net-run built made columns periods run) t early hit (omega (arith, below));
+        let below = clock-below made run c place counts in
+        subst (λ (row : Row). IsServed m diagram table row (unit_of diagram (attributes_of diagram) plan timing number o) o b t) (clock-row made run c place counts) (record {
+          left = rows_from netlist 0 thin_rows unit.product.left c;
+          right = rows_from netlist 0 thin_rows unit.product.right c;
+          operands = unit.has stimulus samples (thin.rows - (0 + 1)) (inputs_from netlist 0 thin_rows) (rows_from netlist 0 thin_rows) table
+              (net-run built made columns periods steady) t early hit (omega (arith, below));
           multiplied = record {
             multiplication = x.0;
             at = x.1;
-            left_is = x.2.left.is window.rows run.start run.inputs rows run.runs (window.last_reset + 1 + c) below;
-            right_is = x.2.right.is window.rows run.start run.inputs rows run.runs (window.last_reset + 1 + c) below;
+            left_is = x.2.left.is thin.rows steady.run.start steady.run.inputs thin_rows steady.run.runs (0 + 1 + c) below;
+            right_is = x.2.right.is thin.rows steady.run.start steady.run.inputs thin_rows steady.run.runs (0 + 1 + c) below;
           };
-        };
+        });
     apart = services-apart served have_periods differ fits scheduled;
   }

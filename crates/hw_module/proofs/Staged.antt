@@ -1,5 +1,5 @@
 -- The pipelines of a built module: their items, who reads them, and what they show.
-use Rattle.std.proofs.Common.{◌≡◌, ◌≢◌, ◌⊎◌, inl, inr, ℕ, zero, suc, ◌+◌, ◌-◌, ◌*◌, ◌<◌, ◌≤◌, Bool, true, false, if◌then◌else◌, List, [], ◌∷◌, All, length, Contains, Some, None, ℤ, Option, refl, ap, sym, ◌∙◌, subst, arith}
+use Rattle.std.proofs.Common.{◌≡◌, ◌≢◌, ◌⊎◌, inl, inr, ℕ, zero, suc, ◌+◌, ◌-◌, ◌*◌, ◌<◌, ◌≤◌, Bool, true, false, if◌then◌else◌, List, [], ◌∷◌, All, length, Contains, Some, None, codes, ℤ, Option, refl, ap, sym, ◌∙◌, subst, arith}
 use Rattle.std.proofs.lemmas.List.Elements.{All-contains}
 use Rattle.std.proofs.lemmas.Option.{get_or_from_slice_get}
 use Rattle.fx_type.specs.FxType.{width_of}
@@ -13,11 +13,12 @@ use Rattle.vl_ast.specs.declared.expressions.Expr.TheFolds.{fold-roll-Expr}
 use Rattle.vl_ast.specs.declared.expressions.Expr.TheVariants.{Name, rolls-Name}
 use Rattle.vl_ast.specs.declared.modules.Module.{Module}
 use Rattle.vl_ast.specs.Conditions.{item_name}
+use Rattle.vl_ast.specs.Gated.{shows_enable}
+use Rattle.vl_ast.specs.Windows.{Window, AtHits, row_at}
 use Rattle.vl_ast.specs.Items.{IsRegisterOf, IsReadByAlone, item_reads}
 use Rattle.vl_ast.specs.Nets.{names_read, names_step}
 use Rattle.vl_ast.specs.Runs.{Rows}
 use Rattle.vl_ast.specs.Value.{bits_of}
-use Rattle.vl_ast.specs.Windows.{Window, Shows, AtHits, row_at}
 use Rattle.hw_arcs.specs.Latencies.{latency_at}
 use Rattle.hw_build.specs.Pipelined.{stage_name}
 use Rattle.hw_module.specs.inner.Offers.{Offers, HasPipeline, IsReadBy}
@@ -40,11 +41,12 @@ use Rattle.vl_emit.specs.Reads.{IsNamed, IsCounterName, MayRead}
 use Rattle.vl_emit.specs.Shown.{inputs_from, rows_from}
 use Rattle.vl_emit.proofs.Found.{no-element, first-or-later}
 use Rattle.vl_emit.proofs.Lists.{at-contains}
-use Rattle.hw_module.specs.Carries.{IsDrivenRun}
+use Rattle.hw_module.specs.inner.Steady.{IsSteadyRun, ShowsThroughout}
 use Rattle.hw_module.specs.Pipelined.{IsPipeline, Pipelined, HasFewRegisters}
 use Rattle.hw_module.specs.inner.Emission.{IsEmissionOf}
 use Rattle.hw_module.proofs.Carried.{InputsHavePeriods, net-run}
 use Rattle.hw_module.proofs.Ported.{net-bits}
+use Rattle.hw_module.proofs.Thinned.{clocks-show, steady-run}
 
 names_read-name : (x : List ℕ) → names_read (Name x) ≡ x ∷ []
 names_read-name x = ap names_read (sym (rolls-Name x)) ∙ fold-roll-Expr (List (List ℕ)) names_step (Expr-F.Name x)
@@ -75,6 +77,9 @@ module _ {netlist : Circuit} {m : Module} (runs : IsNetlist netlist) (emits : Is
     -- a net whose items may read it names it
     named : (k : ℕ) (kind : NetKind) → ((j : ℕ) → Contains (reads kind) j → j < length netlist.nets) → IsNamed netlist kind (name_of netlist read) → Contains (reads kind) read
     named k kind there n = (let same = made.names.nets n.net read (there n.net n.named) h (sym n.is) in subst (Contains (reads kind)) same n.named)
+
+    not-enable : name_of netlist read ≢ codes "clk_enable"
+    not-enable e = made.names.enable read h e
 
     counted : (frame : Frame) → IsCounterName netlist frame (name_of netlist read) → ⊥
     counted frame c =
@@ -113,8 +118,12 @@ module _ {netlist : Circuit} {m : Module} (runs : IsNetlist netlist) (emits : Is
           (reader k (net_at netlist.nets k).kind below refl
           (λ j d. All-contains (λ (n : ℕ). n < length netlist.nets) (reads (net_at netlist.nets k).kind) j (All-contains (λ (n : Net). All (λ read. read < length netlist.nets) (reads n.kind)) netlist.nets (net_at netlist.nets k) runs.there (net-contains k below)) d)
           (λ number args e. input-there (net_at netlist.nets k).kind number args e (All-contains (λ (n : Net). IsKind netlist.nets netlist.cycles (length netlist.inputs) n.width n.signed n.kind) netlist.nets (net_at netlist.nets k) runs.kinds (net-contains k below)))
-          (made.reads.nets k below i c name (name_of netlist read) r))
+          (enable-not (made.reads.nets k below i c name (name_of netlist read) r)))
         where
+          enable-not : MayRead netlist k (net_at netlist.nets k).kind (name_of netlist read) ⊎ (name_of netlist read ≡ codes "clk_enable") → MayRead netlist k (net_at netlist.nets k).kind (name_of netlist read)
+          enable-not (inl may) = may
+          enable-not (inr e) = absurd (not-enable e)
+
           input-there : (kind : NetKind) (number : ℕ) (args : List ℕ) → kind ≡ Comb (Input number) args → IsKind netlist.nets netlist.cycles (length netlist.inputs) (net_at netlist.nets k).width (net_at netlist.nets k).signed kind → number < length netlist.inputs
           input-there kind number args e is = (subst (λ (t : NetKind). IsKind netlist.nets netlist.cycles (length netlist.inputs) (net_at netlist.nets k).width (net_at netlist.nets k).signed t) e is).1
 
@@ -142,9 +151,18 @@ module _ {netlist : Circuit} {m : Module} (runs : IsNetlist netlist) (emits : Is
             | inr after ↦ no-element (name_of netlist read) after
           ]
 
-      of : IsItemOf netlist i ⊎ IsItemOfOutput netlist i → item_name i ≡ name_of netlist by
+      enable-shown : i ≡ shows_enable → ⊥
+      enable-shown e =
+          let only = subst (λ (l : List (List ℕ)). Contains l (name_of netlist read)) (ap item_reads e ∙ names_read-name (codes "clk_enable")) r in
+          elim (first-or-later (codes "clk_enable") (name_of netlist read) [] only) [
+            | inl same ↦ not-enable (sym same)
+            | inr after ↦ no-element (name_of netlist read) after
+          ]
+
+      of : IsItemOf netlist i ⊎ (IsItemOfOutput netlist i ⊎ (i ≡ shows_enable)) → item_name i ≡ name_of netlist by
       of (inl x) = by-name x.net x.there x.name
-      of (inr x) = absurd (shown-not x)
+      of (inr (inl x)) = absurd (shown-not x)
+      of (inr (inr e)) = absurd (enable-shown e)
 
 comb-plain : (kind : NetKind) (op : NetOp) (args : List ℕ) → kind ≡ Comb op args → IsPlain kind
 comb-plain kind op args is = record { no_counter = λ frame e. absurd (cc (is, e)); no_bridge = λ frame live from e. absurd (cc (is, e)) }
@@ -238,8 +256,8 @@ module _ {netlist : Circuit} {names : List (List ℕ)} {diagram : Diagram} {plan
     called (suc k) some most = stage-called k (omega (arith, most))
 
     pub stage-shows : (columns : StimulusGivesColumns) (periods : InputsHavePeriods diagram) {samples : ℕ} {window : Window} {stimulus : Stimulus} {table : Table} {rows : Rows}
-        → IsDrivenRun m diagram samples window stimulus table rows → (k : ℕ) → 1 ≤ k → k ≤ stages_at plan block
-        → AtHits period samples (λ t. Shows window rows (stage_name block element k) (width_of ((attributes_of diagram).type_at block 1)) (table block 1 element t)
+        → IsSteadyRun m diagram samples window stimulus table rows → (k : ℕ) → 1 ≤ k → k ≤ stages_at plan block
+        → AtHits period samples (λ t. ShowsThroughout window rows (stage_name block element k) (width_of ((attributes_of diagram).type_at block 1)) (table block 1 element t)
         ((t + latency_at timing.lat block + k * period) * plan.cycles) ((t + latency_at timing.lat block + (k + 1) * period) * plan.cycles))
     stage-shows columns periods {samples} {window} {stimulus} {table} {rows} run k some most t early hit clock from until below =
         let entry = (p.shows stimulus samples (window.rows - (window.last_reset + 1)) (inputs_from netlist window.last_reset rows) (rows_from netlist window.last_reset rows) table (net-run built made columns periods run) k some most).at
@@ -248,14 +266,15 @@ module _ {netlist : Circuit} {names : List (List ℕ)} {diagram : Diagram} {plan
         let same : net_at netlist.nets (p.stage k) ≡ word.net = get_or_from_slice_get netlist.nets (p.stage k) word.net _ word.is in
         let wide : (net_at netlist.nets (p.stage k)).width ≡ width_of ((attributes_of diagram).type_at block 1) = ap (λ (n : Net). n.width) same ∙ word.wide in
         ap (rows (row_at window clock)) (sym (called k some most))
-        ∙ net-bits built.runs built.emittable made run.driven run.runs (p.stage k) clock (stage-there k most) below
+        ∙ net-bits built.runs built.emittable made run.run.driven run.enabled run.run.runs (p.stage k) clock (stage-there k most) below
         ∙ (λ i. bits_of (wide i) (entry i))
 
   pub pipelined : StimulusGivesColumns → InputsHavePeriods diagram → Pipelined m diagram plan timing
   pipelined columns periods = record {
     there = λ block element period b shown is some. pipeline block element period (built.pipelines block element period b shown is some) some;
-    shows = λ samples window stimulus table rows run block element k period b shown is some most.
-        stage-shows block element period (built.pipelines block element period b shown is (omega (arith, some, most))) columns periods run k some most;
+    shows = λ samples window stimulus table rows run block element k period b shown is some most t early hit.
+        clocks-show made run (stage_name block element k) (width_of ((attributes_of diagram).type_at block 1)) (table block 1 element t) _ _
+        (stage-shows block element period (built.pipelines block element period b shown is (omega (arith, some, most))) columns periods (steady-run made run) k some most t early hit);
   }
 
   pub few-registers : HasFewRegisters m diagram plan timing

@@ -11,7 +11,7 @@ use Rattle.vl_ast.specs.Multiplications.{Multiplication, multiplications}
 use Rattle.vl_ast.specs.Nets.{nets_of}
 use Rattle.vl_ast.specs.Runs.{Row, Rows}
 use Rattle.vl_ast.specs.Value.{value_in, bits_of}
-use Rattle.vl_ast.specs.Windows.{Window, row_at}
+use Rattle.vl_ast.specs.Windows.{IsClock, Window, row_at}
 use Rattle.hw_module.specs.Carries.{IsDrivenRun}
 use Rattle.hw_sched.specs.Laws.{IsOperation}
 use Rattle.hw_build.specs.Serving.{AreOperands, clock_of}
@@ -34,10 +34,10 @@ pub record IsServed (m : Module) (diagram : Diagram) (table : Table) (row : Row)
 
 -- each shared operation is served at each hit in its clock, in every run, and no multiplication serves two in one clock
 pub record Serves (m : Module) (diagram : Diagram) (plan : Resolved) (timing : Timing) : Type 0 where
-  pub served : (samples : ℕ) (window : Window) (stimulus : Stimulus) (table : Table) (rows : Rows) → IsDrivenRun m diagram samples window stimulus table rows
-      → (number : ℕ) (o : Operation) (b : Block) (t : ℕ) → IsOperation diagram (attributes_of diagram) plan number o → slice_get diagram.blocks o.block ≡ Some b → t < samples → Hits ((attributes_of diagram).period_at o.block) t
-      → row_at window (clock_of diagram plan timing number o t) < window.rows
-      → IsServed m diagram table (rows (row_at window (clock_of diagram plan timing number o t))) (unit_of diagram (attributes_of diagram) plan timing number o) o b t
+  pub served : (samples : ℕ) (window : Window) (stimulus : Stimulus) (table : Table) (rows : Rows) (run : IsDrivenRun m diagram samples window stimulus table rows)
+      → (number : ℕ) (o : Operation) (b : Block) (t place : ℕ) → IsOperation diagram (attributes_of diagram) plan number o → slice_get diagram.blocks o.block ≡ Some b → t < samples → Hits ((attributes_of diagram).period_at o.block) t
+      → IsClock m window run.inputs (clock_of diagram plan timing number o t) place
+      → IsServed m diagram table (rows (row_at window place)) (unit_of diagram (attributes_of diagram) plan timing number o) o b t
   pub apart : (number other : ℕ) (o q : Operation) (t s : ℕ) → IsOperation diagram (attributes_of diagram) plan number o → IsOperation diagram (attributes_of diagram) plan other q
       → Hits ((attributes_of diagram).period_at o.block) t → Hits ((attributes_of diagram).period_at q.block) s
       → unit_of diagram (attributes_of diagram) plan timing number o ≡ unit_of diagram (attributes_of diagram) plan timing other q

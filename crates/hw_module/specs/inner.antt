@@ -1,3 +1,4 @@
 -- What only private contracts cite.
 pub mod Emission
 pub mod Offers
+pub mod Steady
