@@ -1,11 +1,21 @@
 -- The module of one delay breaks no condition.
-use Rattle.std.proofs.Common.{◌≡◌, None}
-use Rattle.vl_ast.specs.Conditions.{undriven, doubly, too_wide, no_reset, no_attribute}
+use Rattle.std.proofs.Common.{◌≡◌, ◌&&◌, ◌||◌, Bool, true, false, None, codes, bytes_eq, find, option_map, refl, ap, ◌∙◌}
+use Rattle.vl_ast.specs.declared.modules.Port.{Port}
+use Rattle.vl_ast.specs.Conditions.{BreaksNone, undriven, doubly, too_wide, no_reset, lacks_attribute, no_attribute}
+use Rattle.vl_ast.specs.Control.{is_stallable}
 use Rattle.fx_top.proofs.DelayModule.{OneDelay, delay_module}
 use Rattle.fx_top.proofs.Names.{AreDifferent, names_read-name, sound-name, own_length-name}
 use Rattle.fx_top.proofs.Bits.{bits-are_number}
 use Rattle.fx_top.proofs.Loop.{no-loop}
-use Rattle.vl_ast.specs.Conditions.{BreaksNone}
+
+-- neither a signed input nor an output is a clock enable
+pub unstallable : (d : OneDelay) → is_stallable (delay_module d) ≡ false
+unstallable d = neither (bytes_eq d.input (codes "clk_enable")) (bytes_eq d.output (codes "clk_enable")) where
+  neither : (input output : Bool) → ((input && false) || ((output && false) || false)) ≡ false
+  neither true true = refl
+  neither true false = refl
+  neither false true = refl
+  neither false false = refl
 
 undriven-none : (d : OneDelay) → AreDifferent d.input d.output → undriven (delay_module d) ≡ None
 undriven-none d n = simp (names_read-name, sound-name, own_length-name, n.clk-u, n.u-clk, n.reset-u, n.u-reset, n.register-u, n.u-register, n.clk-y, n.y-clk, n.reset-y, n.y-reset, n.register-y, n.y-register, n.u-y, n.y-u, n.u-u, n.y-y)
@@ -20,7 +30,8 @@ no_reset-none : (d : OneDelay) → AreDifferent d.input d.output → no_reset (d
 no_reset-none d n = simp (names_read-name, sound-name, own_length-name, n.clk-u, n.u-clk, n.reset-u, n.u-reset, n.register-u, n.u-register, n.clk-y, n.y-clk, n.reset-y, n.y-reset, n.register-y, n.y-register, n.u-y, n.y-u, n.u-u, n.y-y)
 
 no_attribute-none : (d : OneDelay) → AreDifferent d.input d.output → no_attribute (delay_module d) ≡ None
-no_attribute-none d n = simp (names_read-name, sound-name, own_length-name, n.clk-u, n.u-clk, n.reset-u, n.u-reset, n.register-u, n.u-register, n.clk-y, n.y-clk, n.reset-y, n.y-reset, n.register-y, n.y-register, n.u-y, n.y-u, n.u-u, n.y-y)
+no_attribute-none d n =
+    ap (λ stalls. option_map (λ (port : Port). port.name) (find (lacks_attribute stalls) (delay_module d).ports)) (unstallable d) ∙ simp (names_read-name, sound-name, own_length-name, n.clk-u, n.u-clk, n.reset-u, n.u-reset, n.register-u, n.u-register, n.clk-y, n.y-clk, n.reset-y, n.y-reset, n.register-y, n.y-register, n.u-y, n.y-u, n.u-u, n.y-y)
 
 pub breaks-none : (d : OneDelay) → AreDifferent d.input d.output → BreaksNone (delay_module d)
 breaks-none d n = record {

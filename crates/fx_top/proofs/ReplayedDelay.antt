@@ -14,6 +14,7 @@ use Rattle.vl_ast.specs.Spelling.{expr_step, expr_text, spelling}
 use Rattle.vl_ast.specs.Value.{bits_of}
 use Rattle.vl_ast.specs.Windows.{Each, Sample, row_at}
 use Rattle.vl_ast.proofs.LaidModule.{tokens_spell}
+use Rattle.vl_ast.proofs.Unstalled.{shows-clocks}
 use Rattle.vl_ast.proofs.Written.{number-writable, based-writable}
 use Rattle.fx_tables.specs.declared.table.Rows.{Rows as Table}
 use Rattle.fx_tables.specs.Response.{response}
@@ -34,7 +35,7 @@ use Rattle.fx_top.proofs.Header.{breaks-none}
 use Rattle.fx_top.proofs.Names.{AreDifferent}
 use Rattle.fx_top.proofs.Outcomes.{took, said}
 use Rattle.fx_top.proofs.Spelled.{is-module-text, module_text, module-writable}
-use Rattle.fx_top.proofs.UnitDelay.{delay, m, stimulus, inputs, rows, driven, shown-by, runs}
+use Rattle.fx_top.proofs.UnitDelay.{all, delay, m, stimulus, inputs, rows, driven, shown-by, runs}
 
 abbrev pub verilog_text : List ℕ
 verilog_text = codes "(* fx_cycles = 1 *)\nmodule fx_model (\n  input wire clk,\n  input wire reset,\n  (* fx_period = 1 *)\n  input wire signed [7:0] u,\n  (* fx_period = 1, fx_latency = 0 *)\n  output wire signed [7:0] y\n);\nreg signed [7:0] fx_delay;\nalways @ (posedge clk) begin if (reset) fx_delay <= 8'sd3; else fx_delay <= u; end\nassign y = fx_delay;\nendmodule\n"
@@ -111,11 +112,10 @@ shown-numbers (suc place) port is period has cycles each t below clock from unti
 
 driven-so : Driven m (numbers_of numbers) 3 (window_of 5) inputs
 driven-so = record {
-  within = driven.within;
   reset = driven.reset;
-  released = driven.released;
-  shows = λ cycles each place port is period has t below hit clock from until there.
-      shown-numbers place port is period has cycles each t below clock from until;
+  shows = λ cycles each place port is period has t below hit.
+      shows-clocks m (window_of 5) inputs all inputs port.name port.width (numbers_of numbers place t) (t * cycles) ((t + period) * cycles)
+      (λ clock from until there. shown-numbers place port is period has cycles each t below clock from until);
 }
 
 first-is : (port : Port) → Contains m.ports port → port.input ≡ true → inputs 0 port.name ≡ 0
@@ -146,6 +146,7 @@ replayed = record {
   first = first-is;
   reset = reset-is;
   clock = λ k below. refl;
+  enabled = λ stalls. absurd (cc stalls);
   idle = λ cycles each place port is period has clock below late.
       let cycles_is : cycles ≡ 1 = cc each in
       absurd (too-early period clock below (subst (λ (c : ℕ). 3 ≤ hit_at period (clock / c)) cycles_is late));

@@ -15,6 +15,7 @@ use Rattle.vl_ast.specs.Context.{Net}
 use Rattle.vl_ast.specs.Runs.{Row, Rows, Runs, next_bits}
 use Rattle.vl_ast.specs.Value.{bits_of, assigned, assigned_number}
 use Rattle.vl_ast.specs.Windows.{PortNumbers, Window}
+use Rattle.vl_ast.proofs.Unstalled.{AllCount, shows-clocks, unstallable-count}
 use Rattle.vl_ast.specs.Header.{input_port}
 use Rattle.fx_top.proofs.DelayModule.{OneDelay, assigned-byte, bit_net, byte_net, byte_port, declarations-are, declared_as, delay_module}
 use Rattle.fx_top.proofs.Names.{register}
@@ -64,6 +65,10 @@ inputs k name =
 abbrev pub rows : ℕ → Rows
 rows begun k name = if bytes_eq name (codes "y") || bytes_eq name register then register_at begun k else inputs k name
 
+-- every row after the reset is a clock
+pub all : AllCount m window inputs
+all = unstallable-count m window inputs refl
+
 -- ---- the premises are met
 
 input-shown : (t : ℕ) → t < 3 → input_at (2 + t) ≡ bits_of 8 (stimulus 0 t)
@@ -93,11 +98,10 @@ shown-by (suc place) port is period has cycles each t below clock from until = a
 
 pub driven : Driven m stimulus 3 window inputs
 driven = record {
-  within = omega arith;
-  reset = refl;
-  released = λ k after below. released k after;
-  shows = λ cycles each place port is period has t below hit clock from until there.
-      shown-by place port is period has cycles each t below clock from until;
+  reset = record { within = omega arith; reset = refl; released = λ k after below. released k after };
+  shows = λ cycles each place port is period has t below hit.
+      shows-clocks m window inputs all inputs port.name port.width (stimulus place t) (t * cycles) ((t + period) * cycles)
+      (λ clock from until there. shown-by place port is period has cycles each t below clock from until);
 }
 
 reset-fits : (k : ℕ) → reset_at k < 2
