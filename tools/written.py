@@ -8,7 +8,8 @@ from collections import namedtuple
 MODULE = "fx_model"
 
 Port = namedtuple("Port", "is_input signed width name period latency")
-Case = namedtuple("Case", "text cycles ports rows")
+# `controls` are the ports that carry no numbers, but for `clk` and `reset`
+Case = namedtuple("Case", "text cycles controls ports rows")
 
 
 class Failed(Exception):
@@ -20,7 +21,7 @@ def attributes(text):
 
 
 def header(text):
-    """The clocks per base sample, and the ports but `clk` and `reset`, of a written module."""
+    """The clocks per base sample of a written module, its ports of the clock enable, and those that carry numbers."""
     head = re.match(r"\(\* (.*?) \*\)\nmodule " + MODULE + r" \(\n(.*?)\n\);\n", text, re.S)
     if head is None:
         raise Failed("its header is not understood")
@@ -31,7 +32,19 @@ def header(text):
         port = Port(way == "input", bool(signed), int(high or 0) + 1, name, told.get("fx_period"), told.get("fx_latency"))
         if name not in ("clk", "reset"):
             ports.append(port)
-    return attributes(head.group(1))["fx_cycles"], ports
+    controls = [port for port in ports if is_bit(port, True, "clk_enable")]
+    if controls:
+        controls += [port for port in ports if is_bit(port, False, "ce_out")]
+    return attributes(head.group(1))["fx_cycles"], controls, [port for port in ports if port not in controls]
+
+
+def is_bit(port, is_input, name):
+    """Whether a port is an unsigned one of one bit with this name."""
+    return port.is_input == is_input and port.name == name and not port.signed and port.width == 1
+
+
+def stalls(case):
+    return any(port.is_input for port in case.controls)
 
 
 def inputs_of(case):
@@ -51,11 +64,11 @@ def case_of(path):
     """The text at a path, with the stimulus that stands beside it."""
     with open(path) as file:
         text = file.read()
-    cycles, ports = header(text)
+    cycles, controls, ports = header(text)
     stimulus = beside(path, ".stim")
     if not os.path.isfile(stimulus):
         raise Failed(f"no {os.path.basename(stimulus)} stands beside it")
-    case = Case(text, cycles, ports, rows_of(stimulus))
+    case = Case(text, cycles, controls, ports, rows_of(stimulus))
     if any(len(row) != len(inputs_of(case)) for row in case.rows):
         raise Failed(f"{os.path.basename(stimulus)} has a line without a field for each of {len(inputs_of(case))} inputs")
     return case
@@ -73,8 +86,9 @@ def declaration(port):
 
 def instance(case, module=MODULE):
     """A bench's nets, and the module between them."""
-    names = ["clk", "reset"] + [port.name for port in case.ports]
-    lines = ["  reg clk, reset;"] + [declaration(port) for port in case.ports]
+    ports = case.controls + case.ports
+    names = ["clk", "reset"] + [port.name for port in ports]
+    lines = ["  reg clk, reset;"] + [declaration(port) for port in ports]
     return lines + [f"  {module} fx_tested ({', '.join(f'.{name}({name})' for name in names)});"]
 
 
