@@ -8,9 +8,11 @@ use crate::verilog::verilog_of;
 use fx_designed::DesignFault;
 use fx_io::{Shelf, Sink, put_all};
 use std::alloc::Global;
+use std::thread::Threads;
 
 /// Writes the Verilog text of a model under a plan.
-pub fn generate<'a, S: Shelf, K: Sink>(
+pub fn generate<'a, R: Threads + Sync, S: Shelf, K: Sink>(
+    rt: &R,
     alloc: Global,
     model: &'a str,
     plan: &'a str,
@@ -31,7 +33,7 @@ pub fn generate<'a, S: Shelf, K: Sink>(
         Ok(lines) => lines,
         Err(answer) => return answer,
     };
-    let verilog = match verilog_of(alloc, source.bytes(), lines.bytes()) {
+    let verilog = match verilog_of(rt, alloc, source.bytes(), lines.bytes()) {
         Ok(verilog) => verilog,
         Err(DesignFault::NotMdl { line }) => return Answer::NotMdl { file: model, line },
         Err(DesignFault::BreaksRule { line }) => return Answer::BreaksRule { line },

@@ -19,11 +19,11 @@ use std::thread::Threads;
 ///
 /// `check MODEL PLAN` writes what is worked out of a model by a plan, which the word `-` names where it
 /// is the empty one. `simulate MODEL STIM` writes the response of a model's diagram to a stimulus.
-/// `generate MODEL PLAN` writes the Verilog text of a model under a plan. `replay VERILOG STIM` writes
-/// what the module of a Verilog text of the subset shows under a stimulus. `explore MODEL RANGE` writes
-/// what each plan of a range is worth on a model, found by workers of `rt`. The files come from
-/// `shelf`, the text goes to `out`, and each status but 0 puts one line to `err`, whose failure changes
-/// nothing.
+/// `generate MODEL PLAN` writes the Verilog text of a model under a plan, spelled by workers of `rt`.
+/// `replay VERILOG STIM` writes what the module of a Verilog text of the subset shows under a stimulus.
+/// `explore MODEL RANGE` writes what each plan of a range is worth on a model, found by workers of
+/// `rt`. The files come from `shelf`, the text goes to `out`, and each status but 0 puts one line to
+/// `err`, whose failure changes nothing.
 pub fn run<R: Threads + Sync, S: Shelf, K: Sink, E: Sink>(
     rt: &R,
     alloc: Global,
@@ -63,7 +63,7 @@ fn carry_out<'a, R: Threads + Sync, S: Shelf, K: Sink>(
 {
     match Command::of_words(words) {
         None => Answer::Usage,
-        Some(Command::Generate { model, plan }) => generate(alloc, model, plan, shelf, out),
+        Some(Command::Generate { model, plan }) => generate(rt, alloc, model, plan, shelf, out),
         Some(Command::Replay { verilog, stimulus }) => {
             replay(alloc, verilog, stimulus, shelf, out)
         }

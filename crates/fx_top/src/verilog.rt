@@ -8,13 +8,14 @@ ghost use Rattle.hw_rules.specs.Times.{AreTimes};
 
 use dg_model::{Checked, Resolved};
 use fx_designed::{DesignFault, Designed, designed_of};
-use fx_io::{OutOfMemory, Text};
+use fx_io::{OpenGate, OutOfMemory, Text};
 use hw_build::build;
 use hw_module::module_of;
 use hw_net::Netlist;
 use hw_rules::Times;
 use hw_sched::SizeFault;
 use std::alloc::Global;
+use std::thread::Threads;
 
 /// The netlist of a diagram by a plan with its times.
 fn netlist_of(
@@ -36,7 +37,8 @@ fn netlist_of(
 }
 
 /// The Verilog text of a diagram by a plan with its times.
-fn text_of(
+fn text_of<R: Threads + Sync>(
+    rt: &R,
     alloc: Global,
     checked: &Checked,
     plan: &Resolved,
@@ -56,11 +58,16 @@ fn text_of(
         &times.slots,
         &netlist,
     )?;
-    vl_write::write(alloc, &module)
+    vl_write::write(rt, alloc, &module, &OpenGate)
 }
 
 /// The Verilog text of the bytes of a model and of a plan; no bytes are the empty plan.
-pub fn verilog_of(alloc: Global, model: &[u8], plan: &[u8]) -> Result<Text, DesignFault>
+pub fn verilog_of<R: Threads + Sync>(
+    rt: &R,
+    alloc: Global,
+    model: &[u8],
+    plan: &[u8],
+) -> Result<Text, DesignFault>
     ensures made { IfOk result (IsVerilogOf model.now plan.now) }
     ensures refused { IfErr result (IsRefusedDesign model.now plan.now) }
 {
@@ -68,7 +75,7 @@ pub fn verilog_of(alloc: Global, model: &[u8], plan: &[u8]) -> Result<Text, Desi
         Ok(designed) => designed,
         Err(fault) => return Err(fault),
     };
-    match text_of(alloc, &checked, &planned.resolved, &planned.times) {
+    match text_of(rt, alloc, &checked, &planned.resolved, &planned.times) {
         Ok(text) => Ok(text),
         Err(OutOfMemory) => Err(DesignFault::OutOfMemory),
     }

@@ -4,12 +4,14 @@ ghost use Rattle.std.specs.Prelude.{◌≡◌, true, All};
 ghost use Rattle.vl_emit.specs.Emittable.{IsEmittable};
 ghost use Rattle.tests_hardware.specs.inner.Emitted.{IsCounted};
 
-use fx_io::{OutOfMemory, Sizes, Text};
+use fx_io::{OpenGate, OutOfMemory, Sizes, Text};
 use hw_net::{Frame, Net, NetKind, NetOp, Netlist, is_netlist};
 use std::alloc::Global;
 use std::test::Fail;
+use std::thread::Threads;
 use vl_ast::Module;
 use vl_emit::emit;
+use vl_write::write;
 
 mod large;
 mod operations;
@@ -84,11 +86,15 @@ fn checked_module(alloc: Global, netlist: &Netlist) -> Result<Option<Module>, Ou
 }
 
 /// The text of the module of a netlist, or none of a netlist that has none.
-fn text_of(alloc: Global, netlist: &Netlist) -> Result<Option<Text>, OutOfMemory> {
+fn text_of<R: Threads + Sync>(
+    rt: &R,
+    alloc: Global,
+    netlist: &Netlist,
+) -> Result<Option<Text>, OutOfMemory> {
     let Some(made) = checked_module(alloc, netlist)? else {
         return Ok(None);
     };
-    Ok(Some(vl_write::write(alloc, &made)?))
+    Ok(Some(write(rt, alloc, &made, &OpenGate)?))
 }
 
 const FRAME: Frame = Frame {
@@ -199,7 +205,7 @@ endmodule
 fn kinds_are_spelled(rt: HostRuntime) -> Result<(), Fail> {
     let alloc = rt.alloc();
     let netlist = kinds(alloc)?;
-    let text = text_of(alloc, &netlist)?.ok_or("no netlist")?;
+    let text = text_of(&rt, alloc, &netlist)?.ok_or("no netlist")?;
     assert_eq!(rt; text.bytes(), KINDS.as_bytes());
     Ok(())
 }

@@ -21,11 +21,14 @@ mod shown;
 
 use crate::shown::shown;
 use anyhow::{Result, anyhow};
+use fx_io::OpenGate;
 use std::alloc::Global;
 use std::io::{self, BufRead, BufReader, BufWriter, Write};
+use std::thread::Threads;
 use tests_rows::{Row, Texts};
 use vl_ast::Module;
 use vl_read::{VlSyntax, read};
+use vl_write::write;
 
 fn main(rt: HostRuntime) -> Result<()> {
     let alloc = rt.alloc();
@@ -34,14 +37,19 @@ fn main(rt: HostRuntime) -> Result<()> {
     for line in BufReader::new(alloc, rt.reader())?.lines(alloc) {
         let line = line?;
         if !texts.take(alloc, line.as_str())? {
-            answer(alloc, texts.row(alloc, line.as_str())?, &mut out)?;
+            answer(&rt, alloc, texts.row(alloc, line.as_str())?, &mut out)?;
         }
     }
     out.flush()?;
     Ok(())
 }
 
-fn answer<W: Write>(alloc: Global, row: Row<'_>, out: &mut W) -> Result<()> {
+fn answer<R: Threads + Sync, W: Write>(
+    rt: &R,
+    alloc: Global,
+    row: Row<'_>,
+    out: &mut W,
+) -> Result<()> {
     let text = row.text.as_slice();
     match row.command.as_bytes() {
         b"read" => match module_of(alloc, text)? {
@@ -49,7 +57,7 @@ fn answer<W: Write>(alloc: Global, row: Row<'_>, out: &mut W) -> Result<()> {
             Err(line) => writeln!(out, "line {line}")?,
         },
         b"write" => match module_of(alloc, text)? {
-            Ok(module) => out.write_all(vl_write::write(alloc, &module)?.bytes())?,
+            Ok(module) => out.write_all(write(rt, alloc, &module, &OpenGate)?.bytes())?,
             Err(line) => writeln!(out, "line {line}")?,
         },
         b"fault" => {

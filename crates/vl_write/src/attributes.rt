@@ -1,7 +1,7 @@
 ghost use Rattle.std.specs.Prelude.{◌≡◌, ◌++◌, OnOk, map, codes};
 ghost use Rattle.vl_ast.specs.Spelling.{joined, attr_text, attrs_text};
 
-use crate::pieces::{put, put_number};
+use crate::parts::{put, put_number};
 use fx_io::OutOfMemory;
 use vl_ast::Attr;
 

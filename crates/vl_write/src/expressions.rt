@@ -1,7 +1,7 @@
 ghost use Rattle.std.specs.Prelude.{◌≡◌, ◌++◌, OnOk, map, codes, decimal};
 ghost use Rattle.vl_ast.specs.Spelling.{joined, expr_text, sized_text};
 
-use crate::pieces::{put, put_number, put_sized};
+use crate::parts::{put, put_number, put_sized};
 use fx_io::OutOfMemory;
 use vl_ast::{Expr, Sized};
 

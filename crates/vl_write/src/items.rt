@@ -1,9 +1,9 @@
-ghost use Rattle.std.specs.Prelude.{◌≡◌, ◌++◌, OnOk, flat_map, codes};
+ghost use Rattle.std.specs.Prelude.{◌≡◌, ◌<◌, ◌+◌, ◌^◌, ◌++◌, OnOk, length, flat_map, codes};
 ghost use Rattle.vl_ast.specs.Spelling.{item_text, condition_text, expr_text, sized_text, signed_text, range_text};
 
 use crate::expressions::put_expr;
-use crate::pieces::{put, put_range, put_signed, put_sized};
-use fx_io::OutOfMemory;
+use crate::parts::{put, put_range, put_signed, put_sized};
+use fx_io::{Gate, OutOfMemory};
 use vl_ast::{Expr, ModItem, Sized};
 
 fn put_net(
@@ -94,12 +94,21 @@ fn put_item(out: &mut Vec<u8>, item: &ModItem) -> Result<(), OutOfMemory>
     }
 }
 
-/// Puts the items, each on a line of its own.
-pub fn put_items(out: &mut Vec<u8>, items: &[ModItem]) -> Result<(), OutOfMemory>
+/// Puts items, each on a line of its own, and passes the gate before each; the first has this place.
+pub fn put_lines<G: Gate>(
+    out: &mut Vec<u8>,
+    items: &[ModItem],
+    first: u64,
+    gate: &G,
+) -> Result<(), OutOfMemory>
+    requires { first + length items.now < 2 ^ 64 }
     ensures { OnOk result (out.new.items ≡ out.old.items ++ flat_map item_text items.now) }
 {
+    let mut place = first;
     for item in items {
+        gate.pass(place);
         put_item(out, item)?;
+        place += 1;
     }
     Ok(())
 }

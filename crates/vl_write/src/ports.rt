@@ -2,7 +2,7 @@ ghost use Rattle.std.specs.Prelude.{◌≡◌, ◌++◌, OnOk, map, codes, if◌
 ghost use Rattle.vl_ast.specs.Spelling.{joined, port_text};
 
 use crate::attributes::put_attrs;
-use crate::pieces::{put, put_range, put_signed};
+use crate::parts::{put, put_range, put_signed};
 use fx_io::OutOfMemory;
 use vl_ast::Port;
 

@@ -176,7 +176,7 @@ fn operations_are_spelled(rt: HostRuntime) -> Result<(), Fail> {
     let alloc = rt.alloc();
     for &(words, op, word, value) in OPERATIONS {
         let netlist = operation(alloc, words, op, word)?;
-        let text = text_of(alloc, &netlist)?.ok_or("no netlist")?;
+        let text = text_of(&rt, alloc, &netlist)?.ok_or("no netlist")?;
         let count = words.len();
         let line = format!(in alloc; "assign fx_n{count} = {value};")?;
         assert!(rt;

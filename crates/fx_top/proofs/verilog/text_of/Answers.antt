@@ -3,6 +3,6 @@ use Rattle.fx_top.proofs.Verilogs.{written-of}
 use Rattle.fx_top.proofs.verilog.text_of.Goals as goal
 
 pub returns : goal.returns
-returns c =
+returns g c =
     IfOk-weaker c.write.result _ _
     (λ text is. written-of c.args.checked.now.diagram c.args.plan.now c.args.times.now c.in_ok-module.module text c.unique.ensures c.in_ok-module.ensures.owed c.in_ok-module.ensures.spelled is) c.write.ensures.text

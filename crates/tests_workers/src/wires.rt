@@ -1,0 +1,63 @@
+use crate::meeting::Meeting;
+use anyhow::Result;
+use fx_io::{OpenGate, Text};
+use std::alloc::Global;
+use std::fmt::Write;
+use std::thread::Threads;
+use vl_ast::{Attrs, ModItem, ModItems, Module, Ports};
+use vl_write::write;
+
+/// How often a module is written.
+const TEXTS: u32 = 20;
+
+/// A module of so many wires of one bit, called `w0`, `w1` and on.
+fn module_of(alloc: Global, count: u32) -> Result<Module> {
+    let mut items = ModItems::new(alloc);
+    for number in 0..count {
+        let name = format!(in alloc; "w{number}")?;
+        items.push(ModItem::Wire {
+            signed: false,
+            width: 1,
+            name: Text::copy(alloc, name.as_bytes())?,
+        })?;
+    }
+    Ok(Module {
+        name: Text::copy(alloc, b"m")?,
+        attrs: Attrs::new(alloc),
+        ports: Ports::new(alloc),
+        items,
+    })
+}
+
+/// The text of such a module, line by line.
+fn expected_text(alloc: Global, count: u32) -> Result<String> {
+    let mut text = String::new(alloc);
+    text.push_str("module m (\n\n);\n")?;
+    for number in 0..count {
+        writeln!(text, "wire w{number};")?;
+    }
+    text.push_str("endmodule\n")?;
+    Ok(text)
+}
+
+/// How many workers meet while a module of so many wires is written.
+pub fn meet<R: Threads + Sync>(rt: &R, alloc: Global, count: u32) -> Result<u64> {
+    let module = module_of(alloc, count)?;
+    let meeting = Meeting::new(u64::from(count.saturating_sub(1)));
+    let _text = write(rt, alloc, &module, &meeting)?;
+    Ok(meeting.met())
+}
+
+/// How many of 20 texts of a module of so many wires are the expected one.
+pub fn texts_as_expected<R: Threads + Sync>(rt: &R, alloc: Global, count: u32) -> Result<u32> {
+    let module = module_of(alloc, count)?;
+    let expected = expected_text(alloc, count)?;
+    let mut same = 0;
+    for _ in 0..TEXTS {
+        let text = write(rt, alloc, &module, &OpenGate)?;
+        if text.bytes() == expected.as_bytes() {
+            same += 1;
+        }
+    }
+    Ok(same)
+}

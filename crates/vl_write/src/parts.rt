@@ -1,0 +1,55 @@
+// The smallest parts of the text, each put at its end.
+ghost use Rattle.std.specs.Prelude.{◌≡◌, ◌++◌, OnOk, decimal};
+ghost use Rattle.vl_ast.specs.Spelling.{sized_text, signed_text, range_text};
+
+use fx_io::OutOfMemory;
+use itoa::Buffer;
+use vl_ast::Sized;
+
+/// Puts bytes at the end of the text.
+pub fn put(out: &mut Vec<u8>, bytes: &[u8]) -> Result<(), OutOfMemory>
+    ensures { OnOk result (out.new.items ≡ out.old.items ++ bytes.now) }
+{
+    out.extend_from_slice(bytes)?;
+    Ok(())
+}
+
+/// Puts a number in base ten, without leading zeros.
+pub fn put_number(out: &mut Vec<u8>, number: u128) -> Result<(), OutOfMemory>
+    ensures { OnOk result (out.new.items ≡ out.old.items ++ decimal number) }
+{
+    let mut digits = Buffer::new();
+    put(out, digits.format(number).as_bytes())
+}
+
+/// Puts a based number, as `16'sd7`.
+pub fn put_sized(out: &mut Vec<u8>, number: &Sized) -> Result<(), OutOfMemory>
+    ensures { OnOk result (out.new.items ≡ out.old.items ++ sized_text number.now) }
+{
+    put_number(out, u128::from(number.width))?;
+    put(out, b"'")?;
+    if number.signed {
+        put(out, b"s")?;
+    }
+    put(out, b"d")?;
+    put_number(out, number.bits)
+}
+
+/// Puts the word of a signed net.
+pub fn put_signed(out: &mut Vec<u8>, signed: bool) -> Result<(), OutOfMemory>
+    ensures { OnOk result (out.new.items ≡ out.old.items ++ signed_text signed) }
+{
+    if signed { put(out, b"signed ") } else { Ok(()) }
+}
+
+/// Puts the range of a net, which one of one bit lacks.
+pub fn put_range(out: &mut Vec<u8>, width: u32) -> Result<(), OutOfMemory>
+    ensures { OnOk result (out.new.items ≡ out.old.items ++ range_text width) }
+{
+    if width == 1 {
+        return Ok(());
+    }
+    put(out, b"[")?;
+    put_number(out, u128::from(width.saturating_sub(1)))?;
+    put(out, b":0] ")
+}
