@@ -48,16 +48,15 @@ pub fn meet<R: Threads + Sync>(rt: &R, alloc: Global, count: u32) -> Result<u64>
     Ok(meeting.met())
 }
 
-/// How many of 20 texts of a module of so many wires are the expected one.
+/// How many texts of a module of so many wires, one after another, are the expected one: up to 20.
 pub fn texts_as_expected<R: Threads + Sync>(rt: &R, alloc: Global, count: u32) -> Result<u32> {
     let module = module_of(alloc, count)?;
     let expected = expected_text(alloc, count)?;
-    let mut same = 0;
-    for _ in 0..TEXTS {
+    for texts in 0..TEXTS {
         let text = write(rt, alloc, &module, &OpenGate)?;
-        if text.bytes() == expected.as_bytes() {
-            same += 1;
+        if text.bytes() != expected.as_bytes() {
+            return Ok(texts);
         }
     }
-    Ok(same)
+    Ok(TEXTS)
 }
