@@ -1,0 +1,3 @@
+pub mod Congruence
+mod FirstTexts
+pub mod Texts

@@ -1,0 +1,13 @@
+use Rattle.std.proofs.Common.{◌+◌, ◌++◌, ◌∙◌, ap, arith}
+use Rattle.fx_sample.specs.Chain.{kind_of}
+use Rattle.fx_sample.specs.ModelText.{lines_at, chain_lines}
+use Rattle.fx_sample.proofs.Congruence.{next_is}
+use Rattle.fx_sample.proofs.Texts.{texts_more}
+use Rattle.fx_sample.proofs.modeling.push_lines.Goals as goal
+
+pub loop-before-preserved : goal.loop-before-preserved
+loop-before-preserved c =
+    let next = c.number_after-number.ensures ∙ next_is c.args.count c.loop-before.before c.loop-before.number c.loop-before.invariant.0 in
+    let kind = c.of.ensures ∙ ap (kind_of (c.loop-before.before + 1)) next in
+    let put = c.in_ok-push_lines_into.ensures ∙ ap (λ kind. c.loop-before.text.items ++ chain_lines (c.loop-before.before + 1) kind) kind in
+    (next, texts_more (lines_at c.args.count) 1 c.loop-before.before (c.loop-before.before + 1) c.args.text.now.items c.loop-before.text.items _ c.loop-before.invariant.1 put (omega arith))

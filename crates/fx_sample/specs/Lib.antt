@@ -1,0 +1,5 @@
+pub mod Chain
+pub mod ModelText
+pub mod Numbers
+pub mod Stimulus
+pub mod Summary
