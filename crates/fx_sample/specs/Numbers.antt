@@ -1,4 +1,5 @@
--- The numbers that a sample is made of: a congruential sequence modulo 2^64 (Knuth, MMIX).
+-- The numbers that a sample is made of: a congruential sequence modulo 2^64 (own; the multiplier and
+-- the increment are Knuth's of MMIX).
 use Rattle.std.specs.Prelude.{ℕ, zero, suc, ◌+◌, ◌*◌, ◌%◌, ◌^◌}
 
 -- the number after a number
