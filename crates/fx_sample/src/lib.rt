@@ -1,7 +1,7 @@
 //! Samples: models of any length that a number makes, with their stimulus and plan, and what comes of
 //! one on its way from a model to hardware.
 //!
-//! - `model_text`, `stimulus_text` and `PLAN`: the texts (`specs/ModelText`, `specs/Stimulus`), over the
+//! - `model_text`, `stimulus_text` and `plan_text`: the texts (`specs/ModelText`, `specs/Stimulus`), over the
 //!   numbers of `specs/Numbers` and the kinds of `specs/Chain`.
 //! - `Bench`: what replays a Verilog text. `summary` asks one, and tells in how many fields at hits
 //!   it agrees with the response of the diagram (`specs/Summary`).
@@ -20,5 +20,5 @@ pub use bench::{Bench, summary};
 pub use chain::ChainKind;
 pub use fields::equal_count;
 pub use modeling::model_text;
-pub use stimulus::{PLAN, stimulus_text};
+pub use stimulus::{plan_text, stimulus_text};
 pub use summing::{Made, summary_text};

@@ -1,6 +1,6 @@
 ghost use Rattle.std.specs.Prelude.{◌≡◌, ◌+◌, ◌≤◌, ◌++◌, IfOk, OnOk};
 ghost use Rattle.fx_sample.specs.Numbers.{sample_number};
-ghost use Rattle.fx_sample.specs.Stimulus.{sample_stimulus, stimulus_line, stimulus_of as stimulus_of_number};
+ghost use Rattle.fx_sample.specs.Stimulus.{sample_plan, sample_stimulus, stimulus_line, stimulus_of as stimulus_of_number};
 
 use crate::numbers::number_after;
 use crate::pushing::push;
@@ -9,7 +9,11 @@ use itoa::Buffer;
 use std::alloc::Global;
 
 /// The plan of a sample: 64 clocks for a base sample, and up to 64 multipliers for operations of a kind.
-pub const PLAN: &[u8] = b"cycles 64\nmultipliers 64\n";
+pub fn plan_text() -> &'static [u8]
+    ensures { result.now ≡ sample_plan }
+{
+    b"cycles 64\nmultipliers 64\n"
+}
 
 /// How many base samples a stimulus has.
 const SAMPLES: u32 = 8;
