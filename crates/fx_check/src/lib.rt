@@ -10,4 +10,5 @@ mod paths;
 mod pieces;
 mod writing;
 
+pub use outputs::clocks_of;
 pub use writing::check_text;

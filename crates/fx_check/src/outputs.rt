@@ -17,7 +17,7 @@ use hw_slots::total;
 use std::alloc::Global;
 
 /// When the first number of a block is shown, in clocks; 2^64 or more is want of memory.
-fn clocks_of(checked: &Checked, planned: &Planned, block: u32) -> Result<u64, OutOfMemory>
+pub fn clocks_of(checked: &Checked, planned: &Planned, block: u32) -> Result<u64, OutOfMemory>
     requires times { AreTimes checked.now.diagram planned.now.resolved planned.now.times }
     requires there { block < length checked.now.diagram.blocks }
     ensures { IfOk result (λ clocks. clocks ≡ declared_latency checked.now.diagram

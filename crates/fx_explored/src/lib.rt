@@ -7,5 +7,5 @@
 mod range_word;
 mod writing;
 
-pub use range_word::read_range;
+pub use range_word::{plain_number, read_range};
 pub use writing::findings_text;

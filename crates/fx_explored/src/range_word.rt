@@ -26,7 +26,7 @@ fn first_of(mark: u8, word: &[u8]) -> usize
 }
 
 /// The number of one to four digits, without a zero in front of others.
-fn plain_number(word: &[u8]) -> Option<u64>
+pub fn plain_number(word: &[u8]) -> Option<u64>
     ensures { result ≡ plain_number_of word.now }
 {
     if word.is_empty() || word.len() > 4 {
