@@ -9,7 +9,8 @@ use Rattle.vl_ast.specs.declared.expressions.Expr.TheVariants.{Name, rolls-Name}
 use Rattle.vl_ast.specs.Value.{bits_of}
 use Rattle.vl_ast.specs.Grammar.{comma, expr_tokens, tokens_step, depth, depth_step, is_filled, is_filled_step, IsExpr, IsRange, IsModuleText}
 use Rattle.vl_ast.specs.Spelling.{joined}
-use Rattle.vl_ast.specs.Tokens.{Token, Key, Sign, Identifier, Number, Based, IsWritable, AreWritable, is_identifier}
+use Rattle.vl_ast.specs.Tokens.{Token, Key, Sign, Identifier, Number, Based, IsWritable, AreWritable}
+use Rattle.vl_names.specs.Identifiers.{is_identifier}
 use Rattle.fx_top.proofs.DelayModule.{OneDelay, delay_module}
 use Rattle.fx_top.proofs.Names.{register}
 use Rattle.fx_top.proofs.Bits.{bits-fit}

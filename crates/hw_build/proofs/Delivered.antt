@@ -25,7 +25,7 @@ use Rattle.hw_sched.specs.Laws.{is_moving, MovingHavePeriods, PeriodsAreAbove, P
 use Rattle.hw_sched.specs.Ready.{declared_latency}
 use Rattle.hw_sched.specs.Slots.{Timing as Times}
 use Rattle.hw_sched.specs.Storage.{KeepsSize}
-use Rattle.vl_emit.specs.Emittable.{IsPeriod, ArePorts, IsEmittable}
+use Rattle.hw_net.specs.Emittable.{IsPeriod, ArePorts, IsEmittable}
 use Rattle.hw_names.specs.declared.names.Names.{Names}
 use Rattle.hw_build.specs.Places.{Places}
 use Rattle.hw_build.specs.Ports.{HasPorts}

@@ -3,7 +3,7 @@ use Rattle.std.proofs.Common.{◌≡◌, ◌≢◌, ℕ, zero, suc, ◌^◌, ◌
 use Rattle.std.specs.Prelude.{slice_get, slice_index_or}
 use Rattle.std.proofs.lemmas.Option.{slice_get-get_or}
 use Rattle.hw_net.specs.declared.netlist.NetLabel.{NetLabel}
-use Rattle.vl_emit.specs.Emittable.{IsLabelName, AreLabels}
+use Rattle.hw_net.specs.Emittable.{IsLabelName, AreLabels}
 use Rattle.hw_build.specs.inner.Labelled.{Mark, name_by, mark_name, IsMarkBefore, AreLabelled}
 use Rattle.hw_build.proofs.Naming.{stage_labelled, stage_injective, multiplication_labelled, multiplication_injective, labels_apart}
 use Rattle.hw_build.proofs.Porting.{mapped}

@@ -5,7 +5,7 @@ use Rattle.std.proofs.lemmas.List.{length-map, append-nil}
 use Rattle.std.proofs.lemmas.Option.{none-some, slice_get_within, slice_get-get_or}
 use Rattle.hw_net.specs.declared.netlist.NetLabel.{NetLabel}
 use Rattle.hw_net.proofs.Growing.{split-last}
-use Rattle.vl_emit.specs.Emittable.{IsLabelName, AreLabels}
+use Rattle.hw_net.specs.Emittable.{IsLabelName, AreLabels}
 use Rattle.hw_build.specs.Multiplied.{multiplication_name}
 use Rattle.hw_build.specs.Pipelined.{stage_name}
 use Rattle.hw_build.specs.inner.Labelled.{Mark, mark_name, IsSmallMark}

@@ -8,7 +8,7 @@ use Rattle.dg_model.specs.declared.diagram.Diagram.{Diagram}
 use Rattle.dg_model.specs.Faults.{path_of}
 use Rattle.dg_model.specs.RootElements.{RootElement}
 use Rattle.hw_net.specs.declared.netlist.NetPort.{NetPort}
-use Rattle.vl_emit.specs.Emittable.{IsPortName}
+use Rattle.hw_net.specs.Emittable.{IsPortName}
 use Rattle.hw_names.specs.declared.names.Names.{Names}
 use Rattle.hw_names.specs.Names.{own_names, undoubled, element_name, Given, wanted_of}
 use Rattle.hw_build.specs.inner.Porting.{ArePortsFor}

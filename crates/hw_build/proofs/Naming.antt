@@ -8,8 +8,8 @@ use Rattle.std.proofs.lemmas.Bool.{and_from, or_left, false≢true, le-leb}
 use Rattle.std.proofs.lemmas.Fmt.{decimal_is_IsNumeral, decimal_injective}
 use Rattle.std.proofs.lemmas.Str.Parse.{digit_from_value}
 use Rattle.std.proofs.lemmas.List.Folds.{list_all-append}
-use Rattle.vl_ast.specs.Tokens.{continues_name, is_identifier}
-use Rattle.vl_emit.specs.Emittable.{IsPortName, IsLabelName}
+use Rattle.vl_names.specs.Identifiers.{continues_name, is_identifier}
+use Rattle.hw_net.specs.Emittable.{IsPortName, IsLabelName}
 use Rattle.hw_build.specs.Multiplied.{multiplication_name}
 use Rattle.hw_build.specs.Pipelined.{stage_name}
 use Rattle.hw_names.specs.Names.{plain_byte, element_name, port_name, own_names, IsGiven, Given}

@@ -17,7 +17,7 @@ use Rattle.hw_sched.specs.Slots.{Timing as Times}
 use Rattle.hw_sched.specs.Chained.{chained}
 use Rattle.hw_sched.specs.Sizing.{IsSizeFault}
 use Rattle.hw_sched.specs.Storage.{KeepsSize}
-use Rattle.vl_emit.specs.Emittable.{IsEmittable}
+use Rattle.hw_net.specs.Emittable.{IsEmittable}
 use Rattle.hw_build.specs.Times.{timing_by}
 use Rattle.hw_build.specs.Places.{Places}
 use Rattle.hw_build.specs.Shown.{ShowsTables}

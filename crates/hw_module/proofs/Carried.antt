@@ -29,7 +29,7 @@ use Rattle.hw_arcs.specs.Latencies.{latency_at}
 use Rattle.hw_sched.specs.Ready.{declared_latency}
 use Rattle.hw_sched.specs.Slots.{Timing}
 use Rattle.vl_emit.specs.Header.{data_port}
-use Rattle.vl_emit.specs.Names.{net_at}
+use Rattle.hw_net.specs.Products.{net_at}
 use Rattle.vl_emit.specs.Shown.{inputs_from, rows_from}
 use Rattle.hw_module.specs.Carries.{IsDrivenRun, Carries}
 use Rattle.hw_module.specs.inner.Emission.{IsEmissionOf}

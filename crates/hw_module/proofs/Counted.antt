@@ -10,8 +10,8 @@ use Rattle.hw_net.specs.Circuit.{Circuit}
 use Rattle.hw_net.specs.Frames.{is_register, register_count}
 use Rattle.hw_build.specs.Built.{counts, counter_count}
 use Rattle.hw_build.specs.Serving.{Factors, unit_factors, op_factors, own_factors, multipliers, others}
-use Rattle.vl_emit.specs.Names.{places, net_at}
-use Rattle.vl_emit.specs.Products.{Product, unit_product, op_product, comb_product, products_of}
+use Rattle.hw_net.specs.Products.{places, net_at}
+use Rattle.hw_net.specs.Products.{Product, unit_product, op_product, comb_product, products_of}
 use Rattle.vl_emit.specs.Registers.{register_name}
 use Rattle.hw_module.proofs.Lists.{map-get}
 

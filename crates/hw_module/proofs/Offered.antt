@@ -40,7 +40,7 @@ use Rattle.hw_shows.specs.Shows.{Shows}
 use Rattle.hw_shows.specs.Timing.{Timing as Times, latency_behind, ready_behind, ready_after}
 use Rattle.vl_ast.specs.Header.{DataPort}
 use Rattle.vl_emit.specs.Header.{data_port}
-use Rattle.vl_emit.specs.Names.{net_at}
+use Rattle.hw_net.specs.Products.{net_at}
 use Rattle.hw_module.specs.Interface.{NamedElement, named, step_of, input_data, output_data}
 use Rattle.hw_module.specs.inner.Offers.{Offers, HasPortsOf, OutputsShow}
 use Rattle.hw_module.proofs.Carried.{InputsHavePeriods, named-get, step-by}

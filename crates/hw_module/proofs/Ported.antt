@@ -20,9 +20,10 @@ use Rattle.vl_ast.proofs.Unstalled.{enabled-count, place-clock}
 use Rattle.hw_net.specs.declared.netlist.NetPort.{NetPort}
 use Rattle.hw_net.specs.Circuit.{Circuit}
 use Rattle.hw_net.specs.Netlist.{IsNetlist}
-use Rattle.vl_emit.specs.Emittable.{IsEmittable, IsPortName}
+use Rattle.hw_net.specs.Emittable.{IsEmittable, IsPortName}
 use Rattle.vl_emit.specs.Header.{input_port, output_port, input_ports, output_ports}
-use Rattle.vl_emit.specs.Names.{net_at, port_at, name_of, port_wire, shown}
+use Rattle.vl_emit.specs.Names.{port_at, name_of, port_wire, shown}
+use Rattle.hw_net.specs.Products.{net_at}
 use Rattle.vl_emit.specs.Shown.{IsReset, inputs_from, rows_from}
 use Rattle.vl_emit.proofs.Found.{of-mapped, mapped, later, here}
 use Rattle.vl_emit.proofs.Numbers.{number-bits, number-is}

@@ -19,7 +19,8 @@ use Rattle.hw_net.specs.Circuit.{Circuit}
 use Rattle.hw_sched.specs.Laws.{IsOperation, OperationsAreServed, OperationsHavePeriods, SlotsDiffer, ReadyFits}
 use Rattle.hw_sched.specs.Scheduled.{IsScheduled}
 use Rattle.hw_sched.specs.Slots.{Timing, Operation, OperationKind, shared_operations, slot_of, unit_of}
-use Rattle.vl_emit.specs.Products.{IsProduct, products_of}
+use Rattle.vl_emit.specs.Products.{IsProduct}
+use Rattle.hw_net.specs.Products.{products_of}
 use Rattle.vl_emit.specs.Shown.{inputs_from, rows_from}
 use Rattle.hw_module.specs.Serves.{IsServed, Serves, MultipliesAsOwed}
 use Rattle.hw_module.specs.inner.Emission.{IsEmissionOf}

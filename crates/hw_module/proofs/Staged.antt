@@ -34,9 +34,10 @@ use Rattle.hw_net.specs.Circuit.{Circuit}
 use Rattle.hw_net.specs.Frames.{is_frame, counted_frame, counter_from, counter_of}
 use Rattle.hw_net.specs.Netlist.{IsNetlist, IsKind, reads}
 use Rattle.hw_sched.specs.Slots.{Timing}
-use Rattle.vl_emit.specs.Emittable.{IsEmittable}
+use Rattle.hw_net.specs.Emittable.{IsEmittable}
 use Rattle.vl_emit.specs.Items.{IsBridge, IsItemOf, IsItemOfOutput}
-use Rattle.vl_emit.specs.Names.{net_at, name_of, hold_name}
+use Rattle.vl_emit.specs.Names.{name_of, hold_name}
+use Rattle.hw_net.specs.Products.{net_at}
 use Rattle.vl_emit.specs.Reads.{IsNamed, IsCounterName, MayRead}
 use Rattle.vl_emit.specs.Shown.{inputs_from, rows_from}
 use Rattle.vl_emit.proofs.Found.{no-element, first-or-later}

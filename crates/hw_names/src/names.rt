@@ -7,7 +7,7 @@ use fx_io::{OutOfMemory, Text};
 use itoa::Buffer;
 use std::alloc::Global;
 use std::collections::{BTreeMap, BTreeSet};
-use vl_ast::is_identifier;
+use vl_names::is_identifier;
 
 /// Puts a number in base ten behind the bytes.
 pub fn put_number(bytes: &mut Vec<u8>, number: u32) -> Result<(), OutOfMemory>

@@ -1,11 +1,13 @@
 pub mod ByFrame
 pub mod Circuit
 pub mod Closed
+pub mod Emittable
 pub mod Frames
 pub mod Growing
 pub mod NetRows
 pub mod Netlist
 pub mod Operation
+pub mod Products
 pub mod Registers
 pub mod Run
 pub mod State

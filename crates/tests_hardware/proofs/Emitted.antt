@@ -4,7 +4,7 @@ use Rattle.std.proofs.lemmas.List.{length-append}
 use Rattle.hw_net.specs.declared.netlist.Net.{Net}
 use Rattle.hw_net.specs.Circuit.{Circuit}
 use Rattle.hw_net.proofs.Places.{at-place}
-use Rattle.vl_emit.specs.Emittable.{IsEmittable}
+use Rattle.hw_net.specs.Emittable.{IsEmittable}
 use Rattle.tests_hardware.specs.inner.Emitted.{IsCounted}
 
 pub bare : (netlist : Circuit) → netlist.cycles ≤ 1024 → All (λ net. IsCounted netlist net.kind) netlist.nets

@@ -1,7 +1,7 @@
 //! Modules of netlists without ports and labels. `tools/cross_nets` reads the table of operations
 //! and the text beside it.
 ghost use Rattle.std.specs.Prelude.{◌≡◌, true, All};
-ghost use Rattle.vl_emit.specs.Emittable.{IsEmittable};
+ghost use Rattle.hw_net.specs.Emittable.{IsEmittable};
 ghost use Rattle.tests_hardware.specs.inner.Emitted.{IsCounted};
 
 use fx_io::{OpenGate, OutOfMemory, Sizes, Text};

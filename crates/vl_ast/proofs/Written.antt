@@ -10,7 +10,8 @@ use Rattle.std.proofs.lemmas.Int.Digits.{digits_value-lt}
 use Rattle.std.proofs.lemmas.Str.Parse.{digit_from_value}
 use Rattle.vl_ast.specs.declared.expressions.Sized.{Sized}
 use Rattle.vl_ast.specs.Spelling.{sized_text}
-use Rattle.vl_ast.specs.Tokens.{Token, Key, Sign, Identifier, Number, Based, IsDec, IsBased, IsSignMark, IsWritten, is_identifier, is_longest, IsWritable}
+use Rattle.vl_ast.specs.Tokens.{Token, Key, Sign, Identifier, Number, Based, IsDec, IsBased, IsSignMark, IsWritten, is_longest, IsWritable}
+use Rattle.vl_names.specs.Identifiers.{is_identifier}
 
 -- a number of at most so many digits is below that power of ten
 below_power : (digits : List ℕ) (k : ℕ) → AllDigits 10 digits → length digits ≤ k → digits_value 10 digits < 10 ^ k

@@ -16,7 +16,8 @@ use Rattle.vl_ast.specs.Grammar.{comma, expr_tokens, tokens_step, is_filled, is_
 use Rattle.vl_ast.specs.Nets.{names_read, names_step}
 use Rattle.vl_ast.specs.Operators.{unary_text, binary_text, shift_text}
 use Rattle.vl_ast.specs.Spelling.{joined}
-use Rattle.vl_ast.specs.Tokens.{Token, Key, Sign, Identifier, Based, IsWritable, AreWritable, is_identifier}
+use Rattle.vl_ast.specs.Tokens.{Token, Key, Sign, Identifier, Based, IsWritable, AreWritable}
+use Rattle.vl_names.specs.Identifiers.{is_identifier}
 use Rattle.vl_ast.proofs.Laid.{left_true, AllWritable-append}
 use Rattle.vl_ast.proofs.Places.{head-in}
 use Rattle.vl_ast.proofs.Values.{own_length-roll}

@@ -15,7 +15,8 @@ use Rattle.vl_ast.specs.Grammar.{comma, attr_tokens, attrs_tokens, signed_tokens
 use Rattle.vl_ast.specs.Nets.{Declared, Declares, Drives, Reads, mentions, declaration_of, nets_of, names_read, condition_names, port_declared}
 use Rattle.vl_ast.specs.Spellable.{IsShortAttr, IsSpellable}
 use Rattle.vl_ast.specs.Spelling.{joined, spelling}
-use Rattle.vl_ast.specs.Tokens.{Token, Key, Sign, Identifier, AreWritable, is_identifier}
+use Rattle.vl_ast.specs.Tokens.{Token, Key, Sign, Identifier, AreWritable}
+use Rattle.vl_names.specs.Identifiers.{is_identifier}
 use Rattle.vl_ast.proofs.Agree.{ByLayer}
 use Rattle.vl_ast.proofs.Facts.{Declaration, OfPort, OfWire, OfReg, declaration-by, is-declared, mention-listed, read-declared, driven-declared, in-port, wire-declared, reg-declared, assign-drives, always-drives, reads-of-assign, reads-of-always}
 use Rattle.vl_ast.proofs.Laid.{AllWritable-append}

@@ -8,7 +8,6 @@ pub mod Grammar
 pub mod Multiplications
 pub mod Nets
 pub mod Operators
-pub mod Reserved
 pub mod Room
 pub mod Runs
 pub mod Spellable

@@ -8,7 +8,7 @@ use Rattle.vl_ast.specs.declared.modules.ModItem.TheVariants.{Wire, Reg, Assign,
 use Rattle.vl_ast.specs.declared.modules.Module.{Module}
 use Rattle.vl_ast.specs.Grammar.{IsExpr, IsCondition}
 use Rattle.vl_ast.specs.Nets.{Declared, declarations}
-use Rattle.vl_ast.specs.Tokens.{is_identifier}
+use Rattle.vl_names.specs.Identifiers.{is_identifier}
 
 -- an attribute's name is an identifier, and its number has at most nine digits
 pub record IsShortAttr (attr : Attr) : Type 0 where

@@ -1,12 +1,11 @@
 -- The tokens of a text: how each may be written, and what may stand between them (IEEE 1364-2005,
 -- 3.1 to 3.7, of which the subset keeps these forms).
 use Prim.Native.Char.{code}
-use Rattle.std.specs.Prelude.{◌≡◌, ◌≢◌, ◌⊎◌, ℕ, ◌^◌, ◌<◌, ◌≤◌, ◌==◌, nat_le, nat_eq, ⊤, Bool, true, false, not, ◌&&◌, ◌||◌, if◌then◌else◌, List, [], ◌∷◌, ◌++◌, length, flat_map, All, Contains, bytes_eq, codes, Option, Some, None}
-use Rattle.std.specs.List.{list_any, list_all, starts_with}
-use Rattle.std.specs.Char.{is_ascii_alphabetic, is_ascii_alphanumeric}
+use Rattle.std.specs.Prelude.{◌≡◌, ◌≢◌, ◌⊎◌, ℕ, ◌^◌, ◌<◌, ◌≤◌, ◌==◌, nat_le, nat_eq, ⊤, Bool, true, false, not, ◌&&◌, ◌||◌, if◌then◌else◌, List, [], ◌∷◌, ◌++◌, length, flat_map, All, Contains, codes, Option, Some, None}
+use Rattle.std.specs.List.{list_all, starts_with}
 use Rattle.std.specs.Str.Parse.{IsNumeral, digits_value}
 use Rattle.vl_ast.specs.declared.expressions.Sized.{Sized}
-use Rattle.vl_ast.specs.Reserved.{reserved}
+use Rattle.vl_names.specs.Identifiers.{is_identifier}
 
 -- a key word, a sign, an identifier, a number or a based number
 pub data Token : Type 0 where
@@ -38,20 +37,6 @@ long_signs =
 abbrev pub is_longest : List ℕ → List ℕ → Bool
 is_longest sign after =
     list_all (λ longer. nat_le (length longer) (length sign) || not (starts_with nat_eq (sign ++ after) longer)) long_signs
-
--- a letter or an underscore
-abbrev pub begins_name : ℕ → Bool
-begins_name byte = is_ascii_alphabetic byte || byte == code "_"
-
--- a letter, a digit or an underscore
-abbrev pub continues_name : ℕ → Bool
-continues_name byte = is_ascii_alphanumeric byte || byte == code "_"
-
--- a letter or an underscore, and then letters, digits and underscores, but no reserved word
-abbrev pub is_identifier : List ℕ → Bool
-is_identifier [] = false
-is_identifier (first ∷ others) =
-    begins_name first && list_all continues_name others && not (list_any (bytes_eq (first ∷ others)) reserved)
 
 -- one to nine decimal digits
 pub record IsDec (number : ℕ) (digits : List ℕ) : Type 0 where

@@ -1,6 +1,6 @@
 //! The Verilog subset: modules as data, and what they mean.
 //!
-//! The crate holds types, definitions, the test of identifiers, and laws as functions that do nothing.
+//! The crate holds types, definitions, and laws as functions that do nothing.
 //! The definitions are in `specs/`, by subject: `Operators` (how they are written), `Spelling` (the one
 //! written text of a module), `Tokens` and `Grammar` (which bytes spell a module), `Spellable` (what some
 //! text spells), `Context` (length and sign of an expression), `Value` (its value), `Nets` (what is
@@ -12,13 +12,11 @@
 #![tactic(auto)]
 
 mod expressions;
-mod identifiers;
 mod laws;
 mod modules;
 mod operators;
 
 pub use expressions::{BinOp, Expr, Exprs, ShiftOp, Sized, UnOp};
-pub use identifiers::is_identifier;
 pub use laws::{
     agreement, can_be_driven, counted_rows_run, counted_rows_show, gated_modules, gated_rows_run,
     meaning_by_layer, numbers_are_writable, one_run, opened_modules, parts_run, rows_are_clocks,

@@ -22,7 +22,8 @@ use Rattle.hw_net.specs.Circuit.{Circuit}
 use Rattle.hw_net.specs.Closed.{CounterTells, CounterIsTelling}
 use Rattle.hw_net.specs.NetRows.{span_of}
 use Rattle.hw_net.specs.Registers.{Takes as TakesAt, IsLive, IsCounter}
-use Rattle.vl_emit.specs.Names.{Wire, net_at, shown}
+use Rattle.vl_emit.specs.Names.{Wire, shown}
+use Rattle.hw_net.specs.Products.{net_at}
 use Rattle.vl_emit.specs.inner.Spelled.{zeros}
 use Rattle.vl_emit.specs.inner.Operators.{test_of}
 use Rattle.vl_emit.specs.inner.Written.{IsWritten, Shows}

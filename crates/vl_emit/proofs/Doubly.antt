@@ -16,7 +16,7 @@ use Rattle.hw_net.specs.declared.netlist.Net.{Net}
 use Rattle.hw_net.specs.declared.netlist.NetPort.{NetPort}
 use Rattle.hw_net.specs.declared.netlist.NetKind.{NetKind}
 use Rattle.hw_net.specs.declared.netlist.NetKind.TheVariants.{Comb, Reg, EnReg, Bridge, Unit, Counter}
-use Rattle.vl_emit.specs.Names.{places}
+use Rattle.hw_net.specs.Products.{places}
 use Rattle.vl_emit.specs.inner.Emitted.{Naming, drivers, declarers, unit_drivers, other_drivers, output_item, module_items}
 use Rattle.vl_emit.specs.inner.Sound.{IsEmitted}
 use Rattle.vl_emit.proofs.Found.{no-element, first-or-later, here, later, in-one, of-one, of-mapped, DeclaredBy, declared-item, declared-port, place-below, below-place}

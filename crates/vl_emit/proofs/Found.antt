@@ -13,7 +13,8 @@ use Rattle.vl_ast.specs.declared.modules.ModItem.TheVariants.{Wire, Reg, Assign,
 use Rattle.vl_ast.specs.declared.modules.Module.{Module}
 use Rattle.vl_ast.specs.Context.{Net}
 use Rattle.vl_ast.specs.Nets.{Declared, Mention, Declares, Drives, Reads, Clocks, PlainWire, Register, port_declared, item_mentions, mentions, declared_by, declarations, nets_of, net_or_none, names_read, condition_names}
-use Rattle.vl_emit.specs.Names.{net_name, hold_name, places}
+use Rattle.vl_emit.specs.Names.{net_name, hold_name}
+use Rattle.hw_net.specs.Products.{places}
 
 module _ {X : Type 0} where
   pub no-element : (x : X) → Contains [] x → ⊥

@@ -14,7 +14,8 @@ use Rattle.vl_ast.specs.Runs.{Runs, next_bits}
 use Rattle.hw_net.specs.declared.netlist.Net.{Net}
 use Rattle.hw_net.specs.declared.netlist.NetKind.{NetKind}
 use Rattle.hw_net.specs.Circuit.{Circuit}
-use Rattle.vl_emit.specs.Names.{Wire, net_at, shown}
+use Rattle.vl_emit.specs.Names.{Wire, shown}
+use Rattle.hw_net.specs.Products.{net_at}
 use Rattle.vl_emit.specs.Shown.{IsReset}
 use Rattle.vl_emit.specs.inner.Written.{IsWritten, Shows}
 use Rattle.vl_emit.specs.inner.Emitted.{Naming, wire_of, plain_number, drivers, naming_of}

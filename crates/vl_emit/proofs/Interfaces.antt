@@ -12,9 +12,10 @@ use Rattle.hw_net.specs.declared.netlist.NetOp.TheVariants.{Input}
 use Rattle.hw_net.specs.declared.netlist.NetKind.TheVariants.{Comb}
 use Rattle.hw_net.specs.Circuit.{Circuit}
 use Rattle.hw_net.specs.Netlist.{IsNetlist}
-use Rattle.vl_emit.specs.Emittable.{IsPortName, IsLabelName, AreLabels, IsEmittable}
+use Rattle.hw_net.specs.Emittable.{IsPortName, IsLabelName, AreLabels, IsEmittable}
 use Rattle.vl_emit.specs.Header.{bit_input, input_port, output_port}
-use Rattle.vl_emit.specs.Names.{net_name, hold_name, net_at, port_at, name_by}
+use Rattle.vl_emit.specs.Names.{net_name, hold_name, port_at, name_by}
+use Rattle.hw_net.specs.Products.{net_at}
 use Rattle.vl_emit.specs.inner.Emitted.{naming_of, plain_module, plain_ports}
 use Rattle.vl_emit.specs.inner.Ready.{IsReady}
 use Rattle.vl_emit.specs.inner.Sound.{AreNames, HasPorts, HasOnly, IsEmitted}

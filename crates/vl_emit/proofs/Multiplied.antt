@@ -22,9 +22,11 @@ use Rattle.hw_net.specs.declared.netlist.NetKind.{NetKind}
 use Rattle.hw_net.specs.declared.netlist.NetKind.TheVariants.{Comb, Reg, EnReg, Bridge, Unit, Counter}
 use Rattle.hw_net.specs.Circuit.{Circuit}
 use Rattle.hw_net.specs.Netlist.{IsNetlist}
-use Rattle.vl_emit.specs.Emittable.{IsEmittable}
-use Rattle.vl_emit.specs.Names.{Wire, net_at, name_of, hold_name, input_wire, net_wire, places, shown}
-use Rattle.vl_emit.specs.Products.{HasFactor, IsProduct, ProductsAre, unit_product, comb_product, products_of}
+use Rattle.hw_net.specs.Emittable.{IsEmittable}
+use Rattle.vl_emit.specs.Names.{Wire, name_of, hold_name, input_wire, net_wire, shown}
+use Rattle.hw_net.specs.Products.{net_at, places}
+use Rattle.vl_emit.specs.Products.{HasFactor, IsProduct, ProductsAre}
+use Rattle.hw_net.specs.Products.{unit_product, comb_product, products_of}
 use Rattle.vl_emit.specs.Registers.{declared_register, register_name, RegistersAre}
 use Rattle.vl_emit.specs.inner.Emitted.{Naming, wire_of, drivers, declarers, unit_drivers, other_drivers, output_item, naming_of, items_of, plain_module, module_of}
 use Rattle.vl_emit.specs.inner.Sound.{IsSound, IsSoundKind}

@@ -10,7 +10,7 @@ use Rattle.hw_net.specs.declared.netlist.Net.{Net}
 use Rattle.hw_net.specs.declared.netlist.NetPort.{NetPort}
 use Rattle.hw_net.specs.declared.netlist.NetKind.{NetKind}
 use Rattle.hw_net.specs.declared.netlist.NetKind.TheVariants.{Comb, Reg, EnReg, Bridge, Unit, Counter}
-use Rattle.vl_emit.specs.Names.{places}
+use Rattle.hw_net.specs.Products.{places}
 use Rattle.vl_emit.specs.inner.Emitted.{Naming, drivers, declarers, unit_drivers, other_drivers, output_item, module_items, plain_number}
 use Rattle.vl_ast.specs.declared.expressions.Expr.TheVariants as expression
 use Rattle.vl_emit.specs.inner.Sound.{HasNets, AreNames}

@@ -18,7 +18,7 @@ use Rattle.hw_net.specs.declared.netlist.NetPort.{NetPort}
 use Rattle.hw_net.specs.declared.netlist.NetKind.{NetKind}
 use Rattle.hw_net.specs.declared.netlist.NetKind.TheVariants.{Comb, Reg, EnReg, Bridge, Unit, Counter}
 use Rattle.hw_net.specs.Operation.{arity}
-use Rattle.vl_emit.specs.Names.{places}
+use Rattle.hw_net.specs.Products.{places}
 use Rattle.vl_emit.specs.inner.Clean.{IsClean, IsCleanItem}
 use Rattle.vl_emit.specs.inner.Emitted.{Naming, wire_of, drivers, declarers, unit_drivers, other_drivers, output_item}
 use Rattle.vl_emit.specs.inner.Sound.{NamedBy, IsSoundKind, HasOnly, IsSound, IsEmitted, HasNets}

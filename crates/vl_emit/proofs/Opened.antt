@@ -28,9 +28,10 @@ use Rattle.hw_net.specs.declared.netlist.NetKind.{NetKind}
 use Rattle.hw_net.specs.declared.netlist.NetKind.TheVariants.{Comb, Reg, EnReg, Bridge, Unit, Counter}
 use Rattle.hw_net.specs.Circuit.{Circuit}
 use Rattle.hw_net.specs.Netlist.{IsNetlist}
-use Rattle.vl_emit.specs.Emittable.{IsEmittable}
+use Rattle.hw_net.specs.Emittable.{IsEmittable}
 use Rattle.vl_emit.specs.Header.{input_ports, output_ports, HasHeader}
-use Rattle.vl_emit.specs.Names.{name_of, hold_name, places, net_at}
+use Rattle.vl_emit.specs.Names.{name_of, hold_name}
+use Rattle.hw_net.specs.Products.{places, net_at}
 use Rattle.vl_emit.specs.inner.Emitted.{declarers_at, units_at, others_at, first_declared, first_units, first_gated, naming_of, output_item, items_of, plain_module, opened_module, module_of}
 use Rattle.vl_emit.proofs.Clocked.{breaks-none}
 use Rattle.vl_emit.proofs.Found.{declared-where, declared-item, declared-port, DeclaredBy, of-mapped, mapped, here, later, no-element, first-or-later}

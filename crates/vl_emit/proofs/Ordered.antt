@@ -3,7 +3,7 @@
 use Rattle.std.proofs.Common.{◌≡◌, ℕ, zero, suc, ◌<◌, Bool, true, false, if◌then◌else◌, List, [], ◌∷◌, ◌++◌, flat_map, Contains, Some, None, refl, sym, ◌∙◌, subst, arith, append_assoc, append-nil}
 use Rattle.vl_ast.specs.Nets.{Mention}
 use Rattle.vl_ast.specs.Conditions.{first_fault, mentioned}
-use Rattle.vl_emit.specs.Names.{places}
+use Rattle.hw_net.specs.Products.{places}
 use Rattle.vl_emit.proofs.Found.{here, later, one-more}
 
 module _ (at_fault : List Mention → Mention → Bool) where

@@ -21,8 +21,9 @@ use Rattle.hw_net.specs.Circuit.{Circuit}
 use Rattle.hw_net.specs.Frames.{counter_of}
 use Rattle.hw_net.specs.Netlist.{IsNetlist}
 use Rattle.hw_net.specs.Operation.{arity}
-use Rattle.vl_emit.specs.Emittable.{IsEmittable}
-use Rattle.vl_emit.specs.Names.{net_at, name_of, hold_name, input_wire, places}
+use Rattle.hw_net.specs.Emittable.{IsEmittable}
+use Rattle.vl_emit.specs.Names.{name_of, hold_name, input_wire}
+use Rattle.hw_net.specs.Products.{net_at, places}
 use Rattle.vl_emit.specs.Reads.{item_reads, IsNamed, IsCounterName, MayRead}
 use Rattle.vl_emit.specs.inner.Clean.{IsCleanItem}
 use Rattle.vl_emit.specs.inner.Emitted.{Naming, drivers, declarers, unit_drivers, other_drivers, output_item, naming_of, plain_module, items_of}

@@ -18,8 +18,9 @@ use Rattle.hw_net.specs.declared.netlist.NetPort.{NetPort}
 use Rattle.hw_net.specs.declared.netlist.NetKind.TheVariants.{Reg}
 use Rattle.hw_net.specs.Circuit.{Circuit}
 use Rattle.hw_net.specs.Netlist.{IsNetlist}
-use Rattle.vl_emit.specs.Emittable.{IsEmittable}
-use Rattle.vl_emit.specs.Names.{net_at, name_of}
+use Rattle.hw_net.specs.Emittable.{IsEmittable}
+use Rattle.vl_emit.specs.Names.{name_of}
+use Rattle.hw_net.specs.Products.{net_at}
 use Rattle.vl_emit.specs.Reads.{item_reads, MayRead, ReadsOnly}
 use Rattle.vl_emit.specs.inner.Emitted.{items_of, naming_of, module_of, output_item}
 use Rattle.vl_emit.proofs.Found.{first-or-later}

@@ -19,7 +19,8 @@ use Rattle.hw_net.specs.NetRows.{NetRows, span_of, number_at, operands_at}
 use Rattle.hw_net.specs.Netlist.{IsNetlist}
 use Rattle.hw_net.specs.Operation.{given_by}
 use Rattle.hw_net.specs.Step.{BridgeSteps, NetStarts, NetSteps, NetGoes, StepsGiveRows}
-use Rattle.vl_emit.specs.Names.{Wire, net_at, no_net, shown, input_wire}
+use Rattle.vl_emit.specs.Names.{Wire, shown, input_wire}
+use Rattle.hw_net.specs.Products.{net_at, no_net}
 use Rattle.vl_emit.specs.Shown.{inputs_from, rows_from}
 use Rattle.vl_emit.specs.inner.Spelled.{at_width}
 use Rattle.vl_emit.specs.inner.Operators.{expression_of}

@@ -9,8 +9,9 @@ use Rattle.hw_net.specs.Circuit.{Circuit}
 use Rattle.hw_net.specs.Closed.{CounterIsTelling}
 use Rattle.hw_net.specs.Netlist.{IsNetlist}
 use Rattle.hw_net.specs.Step.{StepsGiveRows}
-use Rattle.vl_emit.specs.Emittable.{IsEmittable}
-use Rattle.vl_emit.specs.Names.{Wire, net_at, name_of, net_wire, input_wire, shown}
+use Rattle.hw_net.specs.Emittable.{IsEmittable}
+use Rattle.vl_emit.specs.Names.{Wire, name_of, net_wire, input_wire, shown}
+use Rattle.hw_net.specs.Products.{net_at}
 use Rattle.vl_emit.specs.Shown.{IsReset, NetsAreShown, OutputsAreShown}
 use Rattle.vl_emit.specs.inner.Emitted.{naming_of, plain_module, module_of}
 use Rattle.vl_emit.specs.inner.Sound.{wire_of_output}

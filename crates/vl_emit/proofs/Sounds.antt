@@ -18,7 +18,8 @@ use Rattle.hw_net.specs.ByFrame.{is_same_frame}
 use Rattle.hw_net.specs.Frames.{frame_of, counted_frame, is_frame, counter_from, counter_of, HasCounters}
 use Rattle.hw_net.specs.Netlist.{reads, reads_now, HasWord, HasParts, IsKind, IsNetlist}
 use Rattle.hw_net.specs.Operation.{arity}
-use Rattle.vl_emit.specs.Names.{net_at, port_at, no_net}
+use Rattle.vl_emit.specs.Names.{port_at}
+use Rattle.hw_net.specs.Products.{net_at, no_net}
 use Rattle.vl_emit.specs.inner.Emitted.{Naming, naming_of}
 use Rattle.vl_emit.specs.inner.Ready.{IsTimed, IsReady, AreReady}
 use Rattle.vl_emit.specs.inner.Sound.{IsCounted, HasWordOf, IsSoundKind, IsSound}

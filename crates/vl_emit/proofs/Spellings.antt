@@ -22,7 +22,7 @@ use Rattle.vl_ast.specs.Grammar.{IsExpr, Spells}
 use Rattle.vl_ast.specs.Nets.{Declared, declarations}
 use Rattle.vl_ast.specs.Spellable.{IsShortAttr, HasExprs, IsSpellable}
 use Rattle.vl_ast.specs.Spelling.{spelling}
-use Rattle.vl_ast.specs.Tokens.{continues_name, is_identifier}
+use Rattle.vl_names.specs.Identifiers.{continues_name, is_identifier}
 use Rattle.vl_ast.proofs.Gated.{gated-declares}
 use Rattle.vl_ast.proofs.Layers.{value_by_layer}
 use Rattle.vl_ast.proofs.WrittenModule.{module-spells}
@@ -33,9 +33,10 @@ use Rattle.hw_net.specs.declared.netlist.NetKind.{NetKind}
 use Rattle.hw_net.specs.declared.netlist.NetKind.TheVariants.{Comb, Reg, EnReg, Bridge, Unit, Counter}
 use Rattle.hw_net.specs.Circuit.{Circuit}
 use Rattle.hw_net.specs.Netlist.{IsNetlist}
-use Rattle.vl_emit.specs.Emittable.{IsEmittable}
+use Rattle.hw_net.specs.Emittable.{IsEmittable}
 use Rattle.vl_emit.specs.Header.{attribute_of, bit_input, bit_output, input_port, input_ports, output_port, output_ports, ports_of}
-use Rattle.vl_emit.specs.Names.{Wire, net_at, name_by, net_name, hold_name}
+use Rattle.vl_emit.specs.Names.{Wire, name_by, net_name, hold_name}
+use Rattle.hw_net.specs.Products.{net_at}
 use Rattle.vl_emit.specs.inner.Emitted.{wire_of, declarers, drivers, items_of, module_of, naming_of, opened_module}
 use Rattle.vl_emit.proofs.Found.{DeclaredBy, declared-where, first-or-later, here, later, no-element, of-mapped}
 use Rattle.vl_emit.proofs.NetItems.{hold_declarer, hold_driver}

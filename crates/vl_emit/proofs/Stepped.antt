@@ -22,7 +22,8 @@ use Rattle.hw_net.specs.Closed.{CounterIsTelling}
 use Rattle.hw_net.specs.NetRows.{span_of}
 use Rattle.hw_net.specs.Registers.{Takes as TakesAt, IsLive}
 use Rattle.hw_net.specs.Step.{RegSteps, EnRegSteps, BridgeSteps, CounterSteps}
-use Rattle.vl_emit.specs.Names.{Wire, net_at, shown}
+use Rattle.vl_emit.specs.Names.{Wire, shown}
+use Rattle.hw_net.specs.Products.{net_at}
 use Rattle.vl_emit.specs.inner.Operators.{test_of}
 use Rattle.vl_emit.specs.inner.Written.{IsWritten}
 use Rattle.vl_emit.specs.inner.Emitted.{Naming, wire_of, plain_number, constant, slot_test, live_test, drivers, naming_of}

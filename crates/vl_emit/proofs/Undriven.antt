@@ -19,7 +19,7 @@ use Rattle.hw_net.specs.declared.netlist.Net.{Net}
 use Rattle.hw_net.specs.declared.netlist.NetPort.{NetPort}
 use Rattle.hw_net.specs.declared.netlist.NetKind.{NetKind}
 use Rattle.hw_net.specs.declared.netlist.NetKind.TheVariants.{Comb, Reg, EnReg, Bridge, Unit, Counter}
-use Rattle.vl_emit.specs.Names.{places}
+use Rattle.hw_net.specs.Products.{places}
 use Rattle.vl_emit.specs.inner.Emitted.{Naming, drivers, declarers, unit_drivers, other_drivers, output_item}
 use Rattle.vl_emit.specs.inner.Sound.{HasOnly, IsSound, IsEmitted, HasNets}
 use Rattle.vl_emit.proofs.Found.{declares, place-below, below-place}

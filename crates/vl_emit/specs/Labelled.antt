@@ -4,7 +4,8 @@ use Rattle.vl_ast.specs.declared.modules.Module.{Module}
 use Rattle.vl_ast.specs.Nets.{nets_of}
 use Rattle.hw_net.specs.declared.netlist.NetLabel.{NetLabel}
 use Rattle.hw_net.specs.Circuit.{Circuit}
-use Rattle.vl_emit.specs.Names.{net_at, name_of}
+use Rattle.vl_emit.specs.Names.{name_of}
+use Rattle.hw_net.specs.Products.{net_at}
 
 pub record LabelsAreNames (netlist : Circuit) (m : Module) : Type 0 where
   pub are : (label : NetLabel) → Contains netlist.labels label

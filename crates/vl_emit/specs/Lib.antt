@@ -1,4 +1,3 @@
-pub mod Emittable
 pub mod Header
 pub mod Items
 pub mod Labelled

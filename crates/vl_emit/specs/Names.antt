@@ -1,13 +1,10 @@
 -- The names that the nets and the ports of a netlist have in its module, each with its word (own).
-use Rattle.std.specs.Prelude.{ℕ, zero, suc, ◌==◌, Bool, false, if◌then◌else◌, List, [], ◌∷◌, ◌++◌}
+use Rattle.std.specs.Prelude.{ℕ, ◌==◌, Bool, if◌then◌else◌, List, [], ◌∷◌, ◌++◌}
 use Rattle.std.specs.Prelude.{slice_index_or, codes, ℤ}
 use Rattle.std.specs.Fmt.{decimal}
 use Rattle.vl_ast.specs.Value.{number_of}
-use Rattle.hw_net.specs.declared.netlist.Net.{Net}
 use Rattle.hw_net.specs.declared.netlist.NetPort.{NetPort}
 use Rattle.hw_net.specs.declared.netlist.NetLabel.{NetLabel}
-use Rattle.hw_net.specs.declared.netlist.NetKind.TheVariants.{Comb}
-use Rattle.hw_net.specs.declared.netlist.NetOp.TheVariants.{Input}
 use Rattle.hw_net.specs.Circuit.{Circuit}
 
 -- a name with its word
@@ -24,18 +21,7 @@ net_name k = codes "fx_n" ++ decimal k
 abbrev pub hold_name : ℕ → List ℕ
 hold_name k = codes "fx_h" ++ decimal k
 
--- 0 and so on, so many
-abbrev pub places : ℕ → List ℕ
-places zero = []
-places (suc n) = places n ++ n ∷ []
-
-abbrev pub no_net : Net
-no_net = record { signed = false; width = 0; kind = Comb (Input 0) [] }
-
--- a net by its number, and an input port by its place
-abbrev pub net_at : List Net → ℕ → Net
-net_at nets k = slice_index_or nets k no_net
-
+-- an input port by its place
 abbrev pub port_at : List NetPort → ℕ → NetPort
 port_at ports i = slice_index_or ports i (record { name = []; net = 0; period = 0; latency = 0 })
 

@@ -6,7 +6,7 @@ ghost use Rattle.vl_ast.specs.Grammar.{Spells};
 ghost use Rattle.vl_ast.specs.Spelling.{spelling};
 ghost use Rattle.vl_ast.specs.Conditions.{BreaksNone};
 ghost use Rattle.vl_ast.specs.Stalls.{KeepsBits};
-ghost use Rattle.vl_emit.specs.Emittable.{IsEmittable};
+ghost use Rattle.hw_net.specs.Emittable.{IsEmittable};
 ghost use Rattle.vl_emit.specs.Header.{HasHeader};
 ghost use Rattle.vl_emit.specs.Items.{ItemsAre, NamesDiffer};
 ghost use Rattle.vl_emit.specs.Labelled.{LabelsAreNames};

@@ -5,7 +5,8 @@ use Rattle.std.proofs.lemmas.Bool.{and_parts, or_cases, cond_both, ltb-true, leb
 use Rattle.std.specs.Str.Parse.{IsNumeral, digits_value}
 use Rattle.std.specs.Char.{digit_value}
 use Rattle.vl_ast.specs.declared.expressions.Sized.{Sized}
-use Rattle.vl_ast.specs.Tokens.{is_identifier, IsDec, IsBased, IsSignMark, base_of}
+use Rattle.vl_ast.specs.Tokens.{IsDec, IsBased, IsSignMark, base_of}
+use Rattle.vl_names.specs.Identifiers.{is_identifier}
 use Rattle.vl_read.specs.declared.scan.Kind.{Kind}
 use Rattle.vl_read.specs.declared.scan.Kind.TheVariants.{Name, Count, Constant, Fixed}
 use Rattle.vl_read.specs.inner.Lexemes.{kind_of, kind_by, dec_of, sized_of, sized_in, sized_after, sized_by, sized_as, number_after, around_quote, is_digit, is_nonempty}

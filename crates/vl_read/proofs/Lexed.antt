@@ -7,7 +7,8 @@ use Rattle.std.specs.Str.Parse.{AllDigits}
 use Rattle.std.specs.Int.{is_in_range}
 use Rattle.std.proofs.lemmas.Bool.{false≢true, and_parts, and_from, or_cases, or_left, or_right, not-true, le-leb, eqb-true}
 use Rattle.vl_ast.specs.declared.expressions.Sized.{Sized}
-use Rattle.vl_ast.specs.Tokens.{Token, Key, Sign, Identifier, Number, Based, is_word, is_identifier, IsWritten, IsDec, IsBased, IsSignMark, base_of, IsGap, Lays}
+use Rattle.vl_ast.specs.Tokens.{Token, Key, Sign, Identifier, Number, Based, is_word, IsWritten, IsDec, IsBased, IsSignMark, base_of, IsGap, Lays}
+use Rattle.vl_names.specs.Identifiers.{is_identifier}
 use Rattle.vl_read.specs.declared.scan.ByteClass.{ByteClass}
 use Rattle.vl_read.specs.declared.scan.ByteClass.TheVariants.{OfWord, OfBlank, OfComment, OfMark, OfNone}
 use Rattle.vl_read.specs.declared.scan.Mode.{Mode}

@@ -9,7 +9,8 @@ use Rattle.std.proofs.lemmas.Int.Digits.{digits_value-lt}
 use Rattle.std.specs.Str.Parse.{digits_value_after, AllDigits, IsNumeral, digits_value}
 use Rattle.std.specs.Char.{is_ascii_alphabetic, digit_value}
 use Rattle.vl_ast.specs.declared.expressions.Sized.{Sized}
-use Rattle.vl_ast.specs.Tokens.{is_identifier, IsDec, IsBased, IsSignMark, base_of}
+use Rattle.vl_ast.specs.Tokens.{IsDec, IsBased, IsSignMark, base_of}
+use Rattle.vl_names.specs.Identifiers.{is_identifier}
 use Rattle.vl_read.specs.declared.scan.Kind.TheVariants.{Name, Count, Constant}
 use Rattle.vl_read.specs.inner.Lexemes.{kind_of, kind_by, dec_of, sized_of, sized_in, sized_after, sized_by, sized_as, number_after, around_quote, is_digit, is_nonempty}
 use Rattle.vl_read.proofs.Digits.{around_mark}

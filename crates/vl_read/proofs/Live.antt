@@ -11,7 +11,7 @@ use Rattle.vl_ast.specs.declared.expressions.Expr.TheOpen.{Expr-F}
 use Rattle.vl_ast.specs.declared.expressions.Expr.TheViews.{roll-Expr, out-Expr}
 use Rattle.vl_ast.specs.declared.modules.Attr.{Attr}
 use Rattle.vl_ast.specs.declared.modules.ModItem.TheVariants.{Wire, Reg}
-use Rattle.vl_ast.specs.Tokens.{is_identifier}
+use Rattle.vl_names.specs.Identifiers.{is_identifier}
 use Rattle.vl_read.specs.declared.places.Opening.TheVariants.{OpenParenthesis, OpenBrace}
 use Rattle.vl_read.specs.declared.places.Closing.TheVariants.{CloseParenthesis, CloseBrace, CloseBracket}
 use Rattle.vl_read.specs.declared.scan.Kind.{Kind}

@@ -5,7 +5,7 @@ use Rattle.std.specs.Char.{digit_value, is_ascii_digit}
 use Rattle.std.proofs.lemmas.Bool.{and_left, true≢false, cond_both}
 use Rattle.std.proofs.lemmas.Slice.Eq.{bytes_eq-Decides}
 use Rattle.vl_ast.specs.declared.expressions.Sized.{Sized}
-use Rattle.vl_ast.specs.Tokens.{is_identifier}
+use Rattle.vl_names.specs.Identifiers.{is_identifier}
 use Rattle.vl_read.specs.declared.scan.Kind.TheVariants.{Name, Fixed}
 use Rattle.vl_read.specs.inner.Lexemes.{begins_number, kind_of, kind_by, dec_of, sized_of, sized_in, is_nonempty, number_after, around_quote}
 use Rattle.vl_read.specs.inner.Plain.{is_name, count_of, constant_of}

@@ -5,7 +5,8 @@ use Rattle.std.proofs.lemmas.Grind.{flat_map-append}
 use Rattle.vl_ast.specs.declared.modules.ModItem.{ModItem}
 use Rattle.vl_ast.specs.declared.modules.ModItem.TheVariants.{Assign, Always}
 use Rattle.vl_ast.specs.Spelling.{joined}
-use Rattle.vl_ast.specs.Tokens.{Token, Key, Sign, Identifier, IsWritten, is_identifier}
+use Rattle.vl_ast.specs.Tokens.{Token, Key, Sign, Identifier, IsWritten}
+use Rattle.vl_names.specs.Identifiers.{is_identifier}
 use Rattle.vl_ast.specs.Grammar.{comma, expr_tokens, condition_tokens, IsCondition, IsItemText}
 use Rattle.vl_read.specs.declared.scan.Kind.{Kind}
 use Rattle.vl_read.specs.declared.places.Frame.{Frame}

@@ -6,7 +6,8 @@ use Rattle.vl_ast.specs.declared.modules.Attr.{Attr}
 use Rattle.vl_ast.specs.declared.modules.Port.{Port}
 use Rattle.vl_ast.specs.declared.modules.ModItem.TheVariants.{Wire, Reg}
 use Rattle.vl_ast.specs.Spelling.{joined}
-use Rattle.vl_ast.specs.Tokens.{Token, Key, Sign, Identifier, Number, IsWritten, is_identifier}
+use Rattle.vl_ast.specs.Tokens.{Token, Key, Sign, Identifier, Number, IsWritten}
+use Rattle.vl_names.specs.Identifiers.{is_identifier}
 use Rattle.vl_ast.specs.Grammar.{comma, attr_tokens, attrs_tokens, signed_tokens, IsRange, IsPortText, IsItemText}
 use Rattle.vl_read.specs.declared.scan.Kind.{Kind}
 use Rattle.vl_read.specs.declared.scan.Kind.TheVariants.{Name, Count, Constant, Fixed}

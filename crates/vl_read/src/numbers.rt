@@ -5,7 +5,8 @@ ghost use Rattle.vl_read.specs.inner.Plain.{is_name, count_of, constant_of};
 
 use crate::scan::Kind;
 use fx_text::{SHORT_DIGITS, read_short};
-use vl_ast::{Sized, is_identifier};
+use vl_ast::Sized;
+use vl_names::is_identifier;
 
 /// How many digits a number without base has at most (own).
 const DEC_DIGITS: usize = 9;

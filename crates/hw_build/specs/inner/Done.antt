@@ -11,7 +11,7 @@ use Rattle.hw_sched.specs.Chained.{chained}
 use Rattle.hw_sched.specs.Ready.{units_in_all, unshared}
 use Rattle.hw_sched.specs.Scheduled.{IsScheduled}
 use Rattle.hw_sched.specs.Slots.{Timing as Times}
-use Rattle.vl_emit.specs.Emittable.{IsEmittable}
+use Rattle.hw_net.specs.Emittable.{IsEmittable}
 use Rattle.hw_build.specs.Built.{IsBuilt, counter_count}
 use Rattle.hw_build.specs.Multiplied.{AreMultiplied}
 use Rattle.hw_build.specs.Pipelined.{ArePipelined}

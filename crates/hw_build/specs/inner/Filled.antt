@@ -12,7 +12,7 @@ use Rattle.hw_net.specs.Frames.{register_count}
 use Rattle.hw_sched.specs.Chained.{chained}
 use Rattle.hw_sched.specs.Ready.{units_in_all, unshared}
 use Rattle.hw_sched.specs.Slots.{Timing as Times}
-use Rattle.vl_emit.specs.Emittable.{AreLabels}
+use Rattle.hw_net.specs.Emittable.{AreLabels}
 use Rattle.hw_build.specs.Built.{counter_count}
 use Rattle.hw_build.specs.Multiplied.{AreMultiplied}
 use Rattle.hw_build.specs.Pipelined.{ArePipelined}

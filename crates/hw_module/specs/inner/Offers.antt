@@ -26,10 +26,10 @@ use Rattle.hw_sched.specs.Laws.{IsOperation}
 use Rattle.hw_sched.specs.Ready.{ready_of, owed}
 use Rattle.hw_sched.specs.Slots.{Timing, Operation, unit_of}
 use Rattle.hw_shows.specs.Shows.{Shows}
-use Rattle.vl_emit.specs.Emittable.{IsEmittable}
+use Rattle.hw_net.specs.Emittable.{IsEmittable}
 use Rattle.vl_emit.specs.Header.{data_port}
-use Rattle.vl_emit.specs.Names.{net_at, places}
-use Rattle.vl_emit.specs.Products.{Product, products_of}
+use Rattle.hw_net.specs.Products.{net_at, places}
+use Rattle.hw_net.specs.Products.{Product, products_of}
 use Rattle.vl_emit.specs.Registers.{register_name}
 use Rattle.hw_module.specs.Interface.{NamedElement, input_elements, output_elements, input_data, output_data, step_of}
 

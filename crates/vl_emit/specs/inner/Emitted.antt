@@ -18,7 +18,8 @@ use Rattle.hw_net.specs.declared.netlist.NetKind.TheVariants.{Counter}
 use Rattle.vl_emit.specs.Names.{Wire}
 use Rattle.vl_emit.specs.inner.Spelled.{zeros, at_width}
 use Rattle.vl_emit.specs.inner.Operators.{test_of, expression_of}
-use Rattle.vl_emit.specs.Names.{places, name_of, hold_name, net_at, net_wire, input_wire}
+use Rattle.vl_emit.specs.Names.{name_of, hold_name, net_wire, input_wire}
+use Rattle.hw_net.specs.Products.{places, net_at}
 use Rattle.vl_emit.specs.Header.{attribute_of, bit_input, input_ports, output_ports, ports_of}
 use Rattle.hw_net.specs.Circuit.{Circuit}
 use Rattle.hw_net.specs.Frames.{counter_of}

@@ -16,7 +16,8 @@ use Rattle.vl_emit.specs.declared.source.Source.{Source}
 use Rattle.vl_ast.specs.declared.expressions.Expr.{Expr}
 use Rattle.vl_ast.specs.declared.modules.ModItem.{ModItem}
 use Rattle.vl_ast.specs.Gated.{gated_item}
-use Rattle.vl_emit.specs.Names.{Wire, net_at, port_at, net_name, name_by, net_wire, input_wire}
+use Rattle.vl_emit.specs.Names.{Wire, port_at, net_name, name_by, net_wire, input_wire}
+use Rattle.hw_net.specs.Products.{net_at}
 use Rattle.vl_emit.specs.inner.Emitted.{naming_of, counter_wire, slot_test, live_test, declarers_at}
 use Rattle.vl_emit.specs.inner.Emitted.{drivers_at, units_at, others_at, first_declared}
 use Rattle.vl_emit.specs.inner.Emitted.{first_units, first_gated, output_item}

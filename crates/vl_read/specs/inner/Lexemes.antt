@@ -5,7 +5,8 @@ use Rattle.std.specs.Prelude.{ℕ, not, ◌+◌, ◌*◌, ◌^◌, ◌==◌, nat
 use Rattle.std.specs.List.{prefix_len}
 use Rattle.std.specs.Char.{is_ascii_alphanumeric, is_ascii_digit, digit_value}
 use Rattle.vl_ast.specs.declared.expressions.Sized.{Sized}
-use Rattle.vl_ast.specs.Tokens.{is_identifier, base_of, is_blank}
+use Rattle.vl_ast.specs.Tokens.{base_of, is_blank}
+use Rattle.vl_names.specs.Identifiers.{is_identifier}
 use Rattle.vl_read.specs.declared.scan.ByteClass.{ByteClass}
 use Rattle.vl_read.specs.declared.scan.ByteClass.TheVariants.{OfWord, OfBlank, OfComment, OfMark, OfNone}
 use Rattle.vl_read.specs.declared.scan.Mode.{Mode}

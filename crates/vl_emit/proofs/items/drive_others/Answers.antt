@@ -1,6 +1,6 @@
 use Rattle.std.proofs.Common.{map}
 use Rattle.vl_ast.specs.Gated.{gated_item}
-use Rattle.vl_emit.specs.Names.{net_at}
+use Rattle.hw_net.specs.Products.{net_at}
 use Rattle.vl_emit.specs.inner.Emitted.{others_at}
 use Rattle.vl_emit.specs.inner.Ready.{circuit_of}
 use Rattle.vl_emit.proofs.Lists.{loop-step}

@@ -1,4 +1,4 @@
-use Rattle.vl_emit.specs.Names.{net_at}
+use Rattle.hw_net.specs.Products.{net_at}
 use Rattle.vl_emit.specs.inner.Emitted.{units_at}
 use Rattle.vl_emit.specs.inner.Ready.{circuit_of}
 use Rattle.vl_emit.proofs.Lists.{loop-step}

@@ -1,7 +1,7 @@
 -- What the emission of a netlist asks beside that it can be run (own).
 use Rattle.std.specs.Prelude.{◌≡◌, ◌≢◌, ◌⊎◌, ℕ, ◌<◌, ◌≤◌, true, List, ◌++◌, length, Contains, codes}
 use Rattle.std.specs.List.{AllPairs}
-use Rattle.vl_ast.specs.Tokens.{is_identifier}
+use Rattle.vl_names.specs.Identifiers.{is_identifier}
 use Rattle.hw_net.specs.declared.netlist.NetPort.{NetPort}
 use Rattle.hw_net.specs.declared.netlist.NetLabel.{NetLabel}
 use Rattle.hw_net.specs.Circuit.{Circuit}

@@ -3,8 +3,8 @@ use Rattle.std.specs.List.{list_any, filter, range_with_len}
 use Rattle.std.proofs.Math.ListN.{get_or-map}
 use Rattle.std.proofs.lemmas.List.FromFn.{get_or-map-range_with_len}
 use Rattle.std.proofs.lemmas.Map.Views.{any-filter_same}
-use Rattle.vl_ast.specs.Reserved.{reserved}
-use Rattle.vl_ast.proofs.identifiers.reserved_words.Goals as goal
+use Rattle.vl_names.specs.Reserved.{reserved}
+use Rattle.vl_names.proofs.identifiers.reserved_words.Goals as goal
 
 -- whether the word begins with the byte
 abbrev begins_with : ℕ → List ℕ → Bool

@@ -1,7 +1,7 @@
 ghost use Rattle.std.specs.Prelude.{◌≡◌, ℕ, List, ◌∷◌, bytes_eq};
 ghost use Rattle.std.specs.List.{list_any, list_all};
-ghost use Rattle.vl_ast.specs.Reserved.{reserved};
-ghost use Rattle.vl_ast.specs.Tokens.{begins_name, continues_name, is_identifier};
+ghost use Rattle.vl_names.specs.Reserved.{reserved};
+ghost use Rattle.vl_names.specs.Identifiers.{begins_name, continues_name, is_identifier};
 
 /// The reserved words (IEEE 1364-2005, annex B) that begin with each letter from `a` to `z`.
 const RESERVED: [&[&str]; 26] = [

@@ -1,7 +1,7 @@
 use Rattle.std.proofs.Common.{◌≡◌, ℕ, ◌≤◌, List, [], ◌∷◌, length, get_or, bytes_eq, Bor, ◌∙◌, arith}
 use Rattle.std.specs.List.{list_any}
-use Rattle.vl_ast.specs.Reserved.{reserved}
-use Rattle.vl_ast.proofs.identifiers.is_reserved.Goals as goal
+use Rattle.vl_names.specs.Reserved.{reserved}
+use Rattle.vl_names.proofs.identifiers.is_reserved.Goals as goal
 
 by_first : (word : List ℕ) (words : List (Bor (List ℕ))) → 1 ≤ length word
     → ((others : List ℕ) → list_any (λ other. bytes_eq (get_or word 0 0 ∷ others) other.now) words ≡ list_any (bytes_eq (get_or word 0 0 ∷ others)) reserved)
