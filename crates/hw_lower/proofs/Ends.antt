@@ -10,7 +10,7 @@ use Rattle.fx_type.specs.declared.kind.FxType.TheVariants.{Num}
 use Rattle.fx_type.specs.Conversion.{Saturates}
 use Rattle.hw_lower.specs.declared.plan.Word.{Word}
 use Rattle.hw_lower.specs.inner.Planned.{IsHeldBelow, IsHeldAbove}
-use Rattle.hw_lower.proofs.Cut.{wrapped-is}
+use Rattle.hw_net.proofs.Numbers.{wrapped-is}
 
 pub up-bound : (high floor : ℤ) (d : ℕ) → IsDivided high d floor → (v : ℤ) → ((v *ℤ pos d) ≤ℤ high) ↔ (v ≤ℤ floor)
 up-bound high floor d is v = (

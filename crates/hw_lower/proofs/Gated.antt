@@ -15,7 +15,7 @@ use Rattle.dg_model.specs.Operation.{is_true, stored_truth, value_of, gate_of}
 use Rattle.dg_model.specs.declared.kind.Gate.TheVariants.{Nxor}
 use Rattle.hw_lower.specs.inner.Planned.{Numbers, IsChosen}
 use Rattle.hw_lower.specs.inner.Spread.{AreArguments, OfArguments, is_odd}
-use Rattle.hw_lower.proofs.Cut.{is-same}
+use Rattle.hw_net.proofs.Numbers.{is-same}
 
 -- a number is 0 or true
 record ByTruth (v : ℤ) (t : Bool) : Type 0 where

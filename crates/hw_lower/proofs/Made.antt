@@ -6,7 +6,7 @@ use Rattle.fx_num.specs.Word.{IsWord, InWord, IsWrapped}
 use Rattle.hw_net.specs.declared.netlist.NetOp.{NetOp}
 use Rattle.hw_net.specs.declared.netlist.NetOp.TheVariants.{Input, Const, Resize, ShiftUp, ShiftDown, Add, Subtract, Negate, Multiply, And, Or, Xor, Not, Less, Equal, Choose, Slice}
 use Rattle.hw_net.specs.Operation.{Operands, arity, given_by}
-use Rattle.hw_lower.proofs.Cut.{wrapped-is}
+use Rattle.hw_net.proofs.Numbers.{wrapped-is}
 use Rattle.hw_lower.specs.declared.plan.Word.{Word}
 use Rattle.hw_lower.specs.declared.plan.Step.{Step}
 use Rattle.hw_lower.specs.declared.plan.Operand.{Operand}

@@ -1,16 +1,14 @@
 -- A product is in the word of its full type.
-use Rattle.std.proofs.Common.{◌≡◌, ℕ, zero, suc, ◌+◌, ◌-◌, ◌*◌, ◌^◌, ◌<◌, ◌≤◌, Bool, true, false, true≢false, cond, ◌||◌, ℤ, pos, negsuc, neg_ℤ, ◌*ℤ◌, ◌≤ℤ◌, ap, sym, mul_comm, ◌∙◌, arith, pow_pos, unsigned_abs, refl, subst}
+use Rattle.std.proofs.Common.{◌≡◌, ℕ, ◌-◌, ◌*◌, ◌^◌, ◌<◌, ◌≤◌, Bool, true, false, true≢false, cond, ◌||◌, ℤ, pos, ◌*ℤ◌, ◌≤ℤ◌, ap, sym, mul_comm, ◌∙◌, arith, pow_pos, unsigned_abs, refl, subst}
 use Rattle.std.proofs.lemmas.Int.{ints}
-use Rattle.std.proofs.lemmas.Nat.{pow-add}
 use Rattle.std.proofs.Math.Dec.{lit<, lit≤}
-use Rattle.std.proofs.Math.Pow.{pow_mono, pow-lt}
-use Rattle.std.proofs.Math.Nat.{mul-le-mul}
 use Rattle.fx_num.specs.Word.{IsWord, InWord, IsWrapped}
 use Rattle.fx_type.specs.declared.kind.FxType.{FxType}
 use Rattle.fx_type.specs.declared.kind.FxType.TheVariants.{Num, Logical}
 use Rattle.fx_type.specs.FxType.{IsType, InRange, is_signed, width_of}
 use Rattle.fx_type.specs.FullType.{IsFullProduct}
-use Rattle.hw_lower.proofs.Cut.{wrapped-is}
+use Rattle.hw_net.proofs.Numbers.{wrapped-is}
+use Rattle.hw_net.proofs.Magnitudes.{abs-between, abs-below, below-power, below-power-strict, signed-product, unsigned-product}
 
 -- the word of a valid type is one, and has its range
 pub type-word : (type : FxType) → IsType type → IsWord (width_of type) (is_signed type)
@@ -35,14 +33,6 @@ record IsWithin (type : FxType) (v : ℤ) : Type 0 where
   below : is_signed type ≡ false → unsigned_abs v < 2 ^ exponent type
   sign : is_signed type ≡ false → pos 0 ≤ℤ v
 
-abs-between : (v : ℤ) (n : ℕ) → neg_ℤ (pos n) ≤ℤ v → v ≤ℤ pos n → unsigned_abs v ≤ n
-abs-between (pos k) n low high = omega (arith, ints)
-abs-between (negsuc k) n low high = omega (arith, ints)
-
-abs-below : (v : ℤ) (n : ℕ) → pos 0 ≤ℤ v → v ≤ℤ pos (n - 1) → 0 < n → unsigned_abs v < n
-abs-below (pos k) n low high some = omega (arith, ints)
-abs-below (negsuc k) n low high some = absurd low.le
-
 within : (type : FxType) (v : ℤ) → InRange type v → IsWithin type v
 within (Num true width frac) v range = record {
   at_most = abs-between v (2 ^ (width - 1)) range.low (omega (arith, ints, range.high));
@@ -61,38 +51,11 @@ some-width (Num true width frac) valid = omega (arith, valid.0.0)
 some-width (Num false width frac) valid = valid.0.0
 some-width Logical valid = lit≤ tt
 
-below-power : (m n i j k : ℕ) → m ≤ 2 ^ i → n ≤ 2 ^ j → i + j < k → m * n < 2 ^ k
-below-power m n i j k p q h =
-    let both : m * n ≤ 2 ^ i * 2 ^ j = mul-le-mul p q
-    in let power : 2 ^ i * 2 ^ j ≡ 2 ^ (i + j) = sym (pow-add 2 i j)
-    in let less : 2 ^ (i + j) < 2 ^ k = pow-lt h
-    in omega (arith, both, power, less)
-
-below-power-strict : (m n i j k : ℕ) → m ≤ 2 ^ i → n < 2 ^ j → i + j ≤ k → m * n < 2 ^ k
-below-power-strict zero n i j k p q h = omega (arith, pow_pos k)
-below-power-strict (suc m) n i j k p q h =
-    let both : suc m * suc n ≤ 2 ^ i * 2 ^ j = mul-le-mul p q
-    in let power : 2 ^ i * 2 ^ j ≡ 2 ^ (i + j) = sym (pow-add 2 i j)
-    in let less : 2 ^ (i + j) ≤ 2 ^ k = pow_mono h
-    in omega (arith, both, power, less)
-
 signed-exponent : (type : FxType) → is_signed type ≡ true → exponent type ≡ width_of type - 1
 signed-exponent type e = ap (λ b. cond b (width_of type - 1) (width_of type)) e
 
 unsigned-exponent : (type : FxType) → is_signed type ≡ false → exponent type ≡ width_of type
 unsigned-exponent type e = ap (λ b. cond b (width_of type - 1) (width_of type)) e
-
--- a product from how large its factors are
-signed-product : (x y : ℤ) (width : ℕ) → unsigned_abs x * unsigned_abs y < 2 ^ (width - 1) → InWord width true (x *ℤ y)
-signed-product (pos a) (pos b) width h = record { low = omega (arith, ints, h); high = omega (arith, ints, h) }
-signed-product (pos a) (negsuc b) width h = record { low = omega (arith, ints, h); high = omega (arith, ints, h) }
-signed-product (negsuc a) (pos b) width h = record { low = omega (arith, ints, h); high = omega (arith, ints, h) }
-signed-product (negsuc a) (negsuc b) width h = record { low = omega (arith, ints, h); high = omega (arith, ints, h) }
-
-unsigned-product : (x y : ℤ) (width : ℕ) → pos 0 ≤ℤ x → pos 0 ≤ℤ y → unsigned_abs x * unsigned_abs y < 2 ^ width → InWord width false (x *ℤ y)
-unsigned-product (pos a) (pos b) width p q h = record { low = omega (arith, ints, h); high = omega (arith, ints, h) }
-unsigned-product (pos a) (negsuc b) width p q h = absurd q.le
-unsigned-product (negsuc a) y width p q h = absurd p.le
 
 module _ (a b full : FxType) (x y : ℤ) (valid_a : IsType a) (valid_b : IsType b) (in_a : InRange a x) (in_b : InRange b y) (is_full : IsFullProduct a b full) where
   of-word : (sign : Bool) → is_signed full ≡ sign → InWord (width_of full) sign (x *ℤ y) → InWord (width_of full) (is_signed full) (x *ℤ y)

@@ -11,7 +11,7 @@ use Rattle.fx_type.specs.FullType.{HoldsType, IsUnion}
 use Rattle.fx_type.proofs.Ranges.{int_max_cases, gap_none}
 use Rattle.dg_model.specs.declared.kind.Relation.{Relation}
 use Rattle.dg_model.specs.Operation.{compares, compares_values, stored_truth}
-use Rattle.hw_lower.proofs.Cut.{wrapped-is}
+use Rattle.hw_net.proofs.Numbers.{wrapped-is}
 use Rattle.hw_lower.proofs.Truths.{lt-yes, lt-no}
 use Rattle.hw_lower.proofs.Products.{type-word, range-word}
 

@@ -13,7 +13,7 @@ use Rattle.fx_type.specs.FullType.{Terms, negated_if, IsPossibleSum, IsFullSum}
 use Rattle.dg_model.specs.Operation.{signed_sum, type_of, value_of}
 use Rattle.hw_lower.specs.inner.Planned.{Numbers}
 use Rattle.hw_lower.specs.inner.Spread.{OfArguments}
-use Rattle.hw_lower.proofs.Cut.{wrapped-is}
+use Rattle.hw_net.proofs.Numbers.{wrapped-is}
 use Rattle.hw_lower.proofs.Products.{type-word, range-word}
 
 -- Congruence.

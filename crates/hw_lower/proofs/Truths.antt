@@ -7,7 +7,7 @@ use Rattle.fx_num.specs.Word.{IsWrapped}
 use Rattle.dg_model.specs.Operation.{stored_truth}
 use Rattle.hw_net.specs.Operation.{truth}
 use Rattle.hw_lower.specs.inner.Planned.{IsChosen, IsSwitched}
-use Rattle.hw_lower.proofs.Cut.{wrapped-is, is-same}
+use Rattle.hw_net.proofs.Numbers.{wrapped-is, is-same}
 
 pub truth-is : (b : Bool) (r : ℤ) → IsWrapped (truth b) 1 false r → r ≡ stored_truth b
 truth-is true r is = wrapped-is (pos 1) 1 false r (omega arith, omega arith) (record { low = omega (arith, ints); high = omega (arith, ints) }) is

@@ -4,7 +4,9 @@ pub mod Exists
 pub mod Extending
 pub mod Growing
 pub mod Index
+pub mod Magnitudes
 pub mod Modular
+pub mod Numbers
 pub mod Ordering
 pub mod Places
 pub mod Products

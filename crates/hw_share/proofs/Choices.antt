@@ -21,7 +21,8 @@ use Rattle.hw_net.specs.Growing.{Extends, InRows, IsCounted, MayReadNow, with_ne
 use Rattle.hw_net.proofs.Growing.{longer, still-there, extends-trans, is-counter-stays, in-rows-first, in-rows-last, in-rows-both, in-rows-one}
 use Rattle.hw_share.specs.inner.Parts.{IsNamed, Grows, IsChoosing, IsThere}
 use Rattle.hw_share.specs.inner.Choices.{Tests, Chooses, IsTestAt, IsChoiceAt, HaveOneWord}
-use Rattle.hw_share.proofs.Numbers.{bit-word, wrapped-is, truth-is, chosen-on, chosen-off}
+use Rattle.hw_share.proofs.Numbers.{bit-word, truth-is, chosen-on, chosen-off}
+use Rattle.hw_net.proofs.Numbers.{wrapped-is}
 use Rattle.hw_share.proofs.Grown.{all-two, all-three, grows-then}
 use Rattle.hw_share.proofs.Put.{put-extends, put-there, comb-grows}
 use Rattle.hw_share.proofs.Counters.{counter-of-at, counter-shows, counter-grows, tests-of}

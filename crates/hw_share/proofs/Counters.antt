@@ -17,7 +17,7 @@ use Rattle.hw_net.proofs.Index.{same-is}
 use Rattle.hw_net.proofs.Growing.{split-last, still-there, appends-counter, count-append}
 use Rattle.hw_share.specs.inner.Parts.{Grows}
 use Rattle.hw_share.specs.inner.Choices.{Tests}
-use Rattle.hw_share.proofs.Numbers.{is-same, not-same}
+use Rattle.hw_net.proofs.Numbers.{is-same, not-same}
 
 -- the number that is found is that of a Counter of the frame
 pub counter-at : (nets : List Net) (start k : ℕ) (frame : Frame) → counter_from nets start frame ≡ Some k → (i : ℕ) × (k ≡ start + i) × IsCounterAt nets i frame

@@ -1,10 +1,8 @@
 -- A word as wide as two words together has the products of their numbers.
-use Rattle.std.proofs.Common.{◌≡◌, ℕ, zero, suc, ◌+◌, ◌-◌, ◌*◌, ◌^◌, ◌<◌, ◌≤◌, Bool, true, false, true≢false, cond, ◌||◌, ℤ, pos, negsuc, neg_ℤ, ◌*ℤ◌, ◌≤ℤ◌, sym, mul_comm, arith, pow_pos, unsigned_abs, refl}
+use Rattle.std.proofs.Common.{◌≡◌, ℕ, ◌+◌, ◌-◌, ◌*◌, ◌^◌, ◌<◌, ◌≤◌, Bool, true, false, true≢false, cond, ◌||◌, ℤ, pos, ◌*ℤ◌, ◌≤ℤ◌, mul_comm, arith, pow_pos, unsigned_abs, refl}
 use Rattle.std.proofs.lemmas.Int.{ints}
-use Rattle.std.proofs.lemmas.Nat.{pow-add}
-use Rattle.std.proofs.Math.Pow.{pow_mono, pow-lt}
-use Rattle.std.proofs.Math.Nat.{mul-le-mul}
 use Rattle.fx_num.specs.Word.{IsWord, InWord}
+use Rattle.hw_net.proofs.Magnitudes.{abs-between, abs-below, below-power, below-power-strict, signed-product, unsigned-product}
 
 -- how many bits the absolute value of a word's numbers has at most
 abbrev exponent : ℕ → Bool → ℕ
@@ -16,14 +14,6 @@ record IsWithin (width : ℕ) (signed : Bool) (v : ℤ) : Type 0 where
   below : signed ≡ false → unsigned_abs v < 2 ^ exponent width signed
   sign : signed ≡ false → pos 0 ≤ℤ v
 
-abs-between : (v : ℤ) (n : ℕ) → neg_ℤ (pos n) ≤ℤ v → v ≤ℤ pos n → unsigned_abs v ≤ n
-abs-between (pos k) n low high = omega (arith, ints)
-abs-between (negsuc k) n low high = omega (arith, ints)
-
-abs-below : (v : ℤ) (n : ℕ) → pos 0 ≤ℤ v → v ≤ℤ pos (n - 1) → 0 < n → unsigned_abs v < n
-abs-below (pos k) n low high some = omega (arith, ints)
-abs-below (negsuc k) n low high some = absurd low.le
-
 within : (width : ℕ) (signed : Bool) (v : ℤ) → InWord width signed v → IsWithin width signed v
 within width true v has = record {
   at_most = abs-between v (2 ^ (width - 1)) has.low (omega (arith, ints, has.high));
@@ -33,33 +23,6 @@ within width true v has = record {
 within width false v has =
     let less = abs-below v (2 ^ width) has.low has.high (pow_pos width)
     in record { at_most = omega (arith, less); below = λ e. less; sign = λ e. has.low }
-
-below-power : (m n i j k : ℕ) → m ≤ 2 ^ i → n ≤ 2 ^ j → i + j < k → m * n < 2 ^ k
-below-power m n i j k p q h =
-    let both : m * n ≤ 2 ^ i * 2 ^ j = mul-le-mul p q
-    in let power : 2 ^ i * 2 ^ j ≡ 2 ^ (i + j) = sym (pow-add 2 i j)
-    in let less : 2 ^ (i + j) < 2 ^ k = pow-lt h
-    in omega (arith, both, power, less)
-
-below-power-strict : (m n i j k : ℕ) → m ≤ 2 ^ i → n < 2 ^ j → i + j ≤ k → m * n < 2 ^ k
-below-power-strict zero n i j k p q h = omega (arith, pow_pos k)
-below-power-strict (suc m) n i j k p q h =
-    let both : suc m * suc n ≤ 2 ^ i * 2 ^ j = mul-le-mul p q
-    in let power : 2 ^ i * 2 ^ j ≡ 2 ^ (i + j) = sym (pow-add 2 i j)
-    in let less : 2 ^ (i + j) ≤ 2 ^ k = pow_mono h
-    in omega (arith, both, power, less)
-
--- a product from how large its factors are
-signed-product : (x y : ℤ) (width : ℕ) → unsigned_abs x * unsigned_abs y < 2 ^ (width - 1) → InWord width true (x *ℤ y)
-signed-product (pos a) (pos b) width h = record { low = omega (arith, ints, h); high = omega (arith, ints, h) }
-signed-product (pos a) (negsuc b) width h = record { low = omega (arith, ints, h); high = omega (arith, ints, h) }
-signed-product (negsuc a) (pos b) width h = record { low = omega (arith, ints, h); high = omega (arith, ints, h) }
-signed-product (negsuc a) (negsuc b) width h = record { low = omega (arith, ints, h); high = omega (arith, ints, h) }
-
-unsigned-product : (x y : ℤ) (width : ℕ) → pos 0 ≤ℤ x → pos 0 ≤ℤ y → unsigned_abs x * unsigned_abs y < 2 ^ width → InWord width false (x *ℤ y)
-unsigned-product (pos a) (pos b) width p q h = record { low = omega (arith, ints, h); high = omega (arith, ints, h) }
-unsigned-product (pos a) (negsuc b) width p q h = absurd q.le
-unsigned-product (negsuc a) y width p q h = absurd p.le
 
 pub product-in : (one other : ℕ) (signed also : Bool) (x y : ℤ) → IsWord one signed → IsWord other also → InWord one signed x → InWord other also y → InWord (one + other) (signed || also) (x *ℤ y)
 product-in one other true true x y p q a b =

@@ -9,7 +9,7 @@ use Rattle.vl_ast.specs.declared.modules.Port.{Port}
 use Rattle.vl_ast.specs.Conditions.{BreaksNone, IsAcyclic, item_name}
 use Rattle.vl_ast.specs.Context.{Net as DeclaredNet}
 use Rattle.vl_ast.specs.Control.{is_stallable}
-use Rattle.vl_ast.specs.Gated.{IsFresh, IsOpened, HasAllOf, gated, gated_item, shows_enable}
+use Rattle.vl_ast.specs.Gated.{IsFresh, IsOpened, HasAllOf, gated_item, shows_enable}
 use Rattle.vl_ast.specs.Header.{bit_output, bit_input}
 use Rattle.vl_ast.specs.Stalls.{KeepsBits}
 use Rattle.vl_ast.specs.Nets.{Declared, declarations, nets_of, port_declared}

@@ -3,7 +3,7 @@ use Rattle.fx_num.specs.Word.{InWord}
 use Rattle.hw_net.specs.Operation.{shifted_down}
 use Rattle.hw_lower.specs.declared.plan.Word.{Word}
 use Rattle.hw_lower.proofs.Chained.{if-then}
-use Rattle.hw_lower.proofs.Cut.{wrapped-is}
+use Rattle.hw_net.proofs.Numbers.{wrapped-is}
 use Rattle.hw_lower.proofs.Rounded.{bit-cases, carried-in-word}
 use Rattle.hw_lower.proofs.rounding.raised.Goals as goal
 
