@@ -7,7 +7,7 @@ use Rattle.hw_net.specs.Emittable.{IsLabelName, AreLabels}
 use Rattle.hw_build.specs.inner.Labelled.{Mark, name_by, mark_name, IsMarkBefore, AreLabelled}
 use Rattle.hw_build.proofs.Naming.{stage_labelled, stage_injective, multiplication_labelled, multiplication_injective, labels_apart}
 use Rattle.hw_build.proofs.Porting.{mapped}
-use Rattle.hw_build.proofs.Started.{map_from}
+use Rattle.hw_names.proofs.Places.{map_from}
 
 -- ---- one label more
 

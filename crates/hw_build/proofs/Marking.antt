@@ -14,7 +14,7 @@ use Rattle.hw_build.specs.inner.Piping.{stage_labels}
 use Rattle.hw_build.specs.inner.Tally.{product_labels}
 use Rattle.hw_build.proofs.Labelling.{name_labelled, name_injective, mark_same}
 use Rattle.hw_build.proofs.Porting.{map_more, mapped}
-use Rattle.hw_build.proofs.Started.{map_from}
+use Rattle.hw_names.proofs.Places.{map_from}
 
 pub apart_none : (hub_of : Mark → ℕ) (count hub begin stages : ℕ) → AreApart hub_of [] count hub begin stages
 apart_none hub_of count hub begin stages = record {

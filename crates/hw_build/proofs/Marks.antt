@@ -28,7 +28,7 @@ use Rattle.hw_build.specs.inner.Tally.{product_labels}
 use Rattle.hw_build.proofs.Levels.{given, connected_here, connected_elsewhere, connected_length}
 use Rattle.hw_build.proofs.Marking.{apart_none, apart_stages, apart_product}
 use Rattle.hw_build.proofs.Piping.{with_labels, count_stages}
-use Rattle.hw_build.proofs.Started.{get_behind}
+use Rattle.hw_names.proofs.Places.{get_behind}
 
 -- ---- Counters of a pipeline
 

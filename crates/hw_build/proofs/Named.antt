@@ -15,7 +15,7 @@ use Rattle.hw_build.specs.inner.Porting.{ArePortsFor}
 use Rattle.hw_names.specs.Taken.{AreTaken, taken_by}
 use Rattle.hw_build.proofs.Naming.{IsWanted, names_are, names_differ, plain_element}
 use Rattle.hw_build.proofs.Porting.{mapped}
-use Rattle.hw_build.proofs.Started.{map_from}
+use Rattle.hw_names.proofs.Places.{map_from}
 
 abbrev pub name_of : NetPort → List ℕ
 name_of port = port.name

@@ -24,7 +24,7 @@ use Rattle.hw_build.specs.inner.Porting.{IsPortOf, IsPortFor, ArePortsFor, AddsI
 use Rattle.dg_model.specs.Checked.{IsChecked}
 use Rattle.dg_model.specs.Laws.{InputsAreListed, OutputsAreListed, AreRootElements}
 use Rattle.dg_sim.specs.Listing.{AreBlocksOf}
-use Rattle.hw_build.proofs.Started.{map_from, place_is}
+use Rattle.hw_names.proofs.Places.{map_from, place_is}
 use Rattle.hw_names.proofs.Taking.{given_more, taken_more}
 
 pub take_more : {A : Type 0} (xs : List A) (k : ℕ) (x : A) → slice_get xs k ≡ Some x → take (suc k) xs ≡ take k xs ++ x ∷ []

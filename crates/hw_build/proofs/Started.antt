@@ -1,89 +1,27 @@
 -- The nets that readers name are all in, and stand where their elements say.
-use Rattle.std.proofs.Common.{◌≡◌, ℕ, zero, suc, ◌+◌, ◌-◌, ◌<◌, ◌⊎◌, inl, inr, Bool, true, false, List, [], ◌∷◌, ◌++◌, length, map, Option, None, Some, ap, sym, ◌∙◌, subst, arith, refl}
-use Rattle.std.specs.Prelude.{All, get_or, slice_get, slice_index_or}
-use Rattle.std.specs.List.{flat_map, position}
-use Rattle.std.proofs.lemmas.Bool.{cases_lt, false≢true}
-use Rattle.std.proofs.lemmas.List.{length-map}
-use Rattle.std.proofs.lemmas.Option.{none-some, same_Some, slice_get_within, slice_get-get_or}
+use Rattle.std.proofs.Common.{◌≡◌, ℕ, ◌+◌, ◌-◌, ◌<◌, ◌⊎◌, inl, inr, Bool, true, false, List, length, Some, ap, sym, ◌∙◌, arith, refl}
+use Rattle.std.specs.Prelude.{All, slice_get, slice_index_or}
+use Rattle.std.proofs.lemmas.Bool.{false≢true}
+use Rattle.std.proofs.lemmas.Option.{none-some, slice_get_within}
 use Rattle.fx_type.specs.declared.kind.FxType.{FxType}
-use Rattle.dg_waves.specs.Rounds.{numbers_from}
-use Rattle.dg_waves.proofs.Waved.{mapped_at}
 use Rattle.dg_model.specs.declared.diagram.Diagram.{Diagram}
 use Rattle.dg_model.specs.declared.kind.Kind.{Kind}
 use Rattle.dg_model.specs.declared.kind.Kind.TheVariants.{Inport}
 use Rattle.dg_model.specs.KindRow.{Role}
 use Rattle.dg_model.specs.Library.{row_of, HasPorts}
 use Rattle.dg_model.specs.Attributes.{attributes_of}
-use Rattle.dg_model.specs.Signals.{Attributes}
 use Rattle.dg_model.specs.Checked.{IsChecked}
-use Rattle.dg_model.specs.Laws.{InputsAreListed, AreRootElements}
-use Rattle.dg_model.specs.RootElements.{RootElement, root_element, elements_of_port, has_number, number_in, root_elements, root_inputs}
+use Rattle.dg_model.specs.Laws.{InputsAreListed}
+use Rattle.dg_model.specs.RootElements.{RootElement, root_inputs}
 use Rattle.dg_model.specs.Solves.{shown_ports}
 use Rattle.dg_model.specs.Wired.{root_input}
 use Rattle.dg_sim.specs.Listing.{AreBlocksOf}
 use Rattle.hw_net.specs.Circuit.{Circuit}
-use Rattle.hw_net.proofs.Growing.{front-of, extends-trans, still-there}
+use Rattle.hw_net.proofs.Growing.{extends-trans, still-there}
 use Rattle.hw_sched.proofs.Periods.{readable_at}
 use Rattle.hw_names.specs.Columns.{AreColumnsFrom}
+use Rattle.hw_names.proofs.Places.{map_at, place_is, blocks_there}
 use Rattle.hw_build.specs.inner.HubPlaces.{input_net, is_input_role, AddsBlocks, AddsInputs, HasHubs}
-
--- ---- columns
-
-numbers_length : (from n : ℕ) → length (numbers_from from n) ≡ n
-numbers_length from zero = refl
-numbers_length from (suc n) = ap suc (numbers_length (suc from) n)
-
-pub get_behind : {A : Type 0} (xs ys : List A) (k : ℕ) → slice_get (xs ++ ys) (length xs + k) ≡ slice_get ys k
-get_behind [] ys k = let e : 0 + k ≡ k = omega arith in ap (slice_get ys) e
-get_behind (x ∷ xs) ys k = let e : suc (length xs) + k ≡ suc (length xs + k) = omega arith in ap (slice_get (x ∷ (xs ++ ys))) e ∙ get_behind xs ys k
-
-map_at : {A B : Type 0} (f : A → B) (xs : List A) (k : ℕ) (x : A) → slice_get xs k ≡ Some x → slice_get (map f xs) k ≡ Some (f x)
-map_at f [] k x at = absurd (none-some x at)
-map_at f (y ∷ xs) zero x at = ap (λ z. Some (f z)) (same_Some y x at)
-map_at f (y ∷ xs) (suc k) x at = map_at f xs k x at
-
-pub map_from : {A B : Type 0} (f : A → B) (xs : List A) (k : ℕ) (y : B) → slice_get (map f xs) k ≡ Some y → (x : A) × (slice_get xs k ≡ Some x) × (f x ≡ y)
-map_from f [] k y at = absurd (none-some y at)
-map_from f (x ∷ xs) zero y at = (x, refl, same_Some (f x) y at)
-map_from f (x ∷ xs) (suc k) y at = map_from f xs k y at
-
-element_at : (a : Attributes) (n own wide k : ℕ) → k < wide → slice_get (map (root_element a n own) (numbers_from 0 wide)) k ≡ Some (root_element a n own k)
-element_at a n own wide k below = let e : 0 + k ≡ k = omega arith in mapped_at (root_element a n own) 0 wide k below ∙ ap (λ (x : ℕ). Some (root_element a n own x)) e
-
--- the elements of a port stand one behind another
-module _ (a : Attributes) (width_of : ℕ → ℕ) where
-  run_by : (o : Option ℕ) (n : ℕ) (rest : List RootElement) (k number block m : ℕ) → slice_get (elements_of_port a width_of n o ++ rest) k ≡ Some (root_element a number block 0) → m < width_of block
-      → ((j : ℕ) → slice_get rest j ≡ Some (root_element a number block 0) → slice_get rest (j + m) ≡ Some (root_element a number block m))
-      → slice_get (elements_of_port a width_of n o ++ rest) (k + m) ≡ Some (root_element a number block m)
-  run_by None n rest k number block m at below next = next k at
-  run_by (Some own) n rest k number block m at below next =
-      let part : List RootElement = map (root_element a n own) (numbers_from 0 (width_of own)) in
-      let size : length part ≡ width_of own = length-map (numbers_from 0 (width_of own)) (root_element a n own) ∙ numbers_length 0 (width_of own) in
-      elim (cases_lt k (length part)) [
-        | inl less ↦
-            let here : slice_get part k ≡ Some (root_element a n own k) = element_at a n own (width_of own) k (omega (arith, less, size)) in
-            let same : root_element a n own k ≡ root_element a number block 0 = same_Some (root_element a n own k) (root_element a number block 0) (sym here ∙ sym (front-of part rest k less) ∙ at) in
-            let number_is : n ≡ number = ap (λ (e : RootElement). e.number) same in
-            let block_is : own ≡ block = ap (λ (e : RootElement). e.block) same in
-            let first : k ≡ 0 = ap (λ (e : RootElement). e.element) same in
-            let wide : width_of own ≡ width_of block = ap width_of block_is in
-            let place : k + m ≡ m = omega (arith, first) in
-            ap (slice_get (part ++ rest)) place ∙ front-of part rest m (omega (arith, below, wide, size)) ∙ element_at a n own (width_of own) m (omega (arith, below, wide))
-            ∙ ap (λ (x : ℕ). Some (root_element a x own m)) number_is ∙ ap (λ (x : ℕ). Some (root_element a number x m)) block_is
-        | inr past ↦
-            let j : ℕ = k - length part in
-            let split : k ≡ length part + j = omega (arith, past) in
-            let later : k + m ≡ length part + (j + m) = omega (arith, split) in
-            ap (slice_get (part ++ rest)) later ∙ get_behind part rest (j + m) ∙ next j (sym (get_behind part rest j) ∙ ap (slice_get (part ++ rest)) (sym split) ∙ at)
-      ]
-
-  run : (place_of : ℕ → Option ℕ) (ns : List ℕ) (k number block m : ℕ) → slice_get (flat_map (λ n. elements_of_port a width_of n (place_of n)) ns) k ≡ Some (root_element a number block 0) → m < width_of block
-      → slice_get (flat_map (λ n. elements_of_port a width_of n (place_of n)) ns) (k + m) ≡ Some (root_element a number block m)
-  run place_of [] k number block m at below = absurd (none-some (root_element a number block 0) at)
-  run place_of (n ∷ ns) k number block m at below =
-      run_by (place_of n) n (flat_map (λ n. elements_of_port a width_of n (place_of n)) ns) k number block m at below (λ j h. run place_of ns j number block m h below)
-
--- ---- root inputs
 
 pub role_is_input : (role : Role) (number : ℕ) → root_input role ≡ Some number → is_input_role role ≡ true
 role_is_input (Role.RootInput own) number is = refl
@@ -101,36 +39,6 @@ pub both : (x : Bool) → (x ≡ true) ⊎ (x ≡ false)
 both true = inl refl
 both false = inr refl
 
--- the elements of root ports, inputs or outputs, by the columns at which their blocks first stand
-module _ (number_of : Role → Option ℕ) (width_of : ℕ → ℕ) (diagram : Diagram) (all : AreRootElements number_of width_of diagram (attributes_of diagram) (root_elements number_of width_of diagram (attributes_of diagram))) where
-  abbrev elements : List RootElement
-  elements = root_elements number_of width_of diagram (attributes_of diagram)
-
-  -- the first column of its block, and its place there
-  pub place_is : (inputs columns : List ℕ) (k : ℕ) (e : RootElement) → AreBlocksOf elements inputs → AreColumnsFrom inputs columns 0 → slice_get elements k ≡ Some e → slice_index_or columns e.block 0 + e.element ≡ k
-  place_is inputs columns k e blocks are at =
-      let of = all.elements_of k e at in
-      let low = of.3 in
-      let first = all.has_each e.block of.0 e.number 0 of.1 of.2 (omega (arith, low)) in
-      let reach : (j : ℕ) (f : RootElement) → slice_get elements j ≡ Some f → f.block ≡ e.block → f.number ≡ e.number → j ≡ first.0 + f.element =
-      λ j f f_at block_is number_is.
-      let of_f = all.elements_of j f f_at in
-      let low_f = of_f.3 in
-      let wide : width_of f.block ≡ width_of e.block = ap width_of block_is in
-      let here = run (attributes_of diagram) width_of (λ number. position (has_number number_of number) diagram.blocks) (numbers_from 1 _) first.0 e.number e.block f.element first.1 (omega (arith, low_f, wide)) in
-      all.different j (first.0 + f.element) f (root_element (attributes_of diagram) e.number e.block f.element) f_at here number_is refl
-      in
-      let block_at : slice_get inputs first.0 ≡ Some e.block = ap (λ (xs : List ℕ). slice_get xs first.0) blocks ∙ map_at (λ (x : RootElement). x.block) elements first.0 (root_element (attributes_of diagram) e.number e.block 0) first.1 in
-      let least = are.least first.0 e.block block_at (omega arith) in
-      let found = map_from (λ (x : RootElement). x.block) elements (slice_index_or columns e.block 0) e.block (sym (ap (λ (xs : List ℕ). slice_get xs (slice_index_or columns e.block 0)) blocks) ∙ least.0) in
-      let of_found = all.elements_of (slice_index_or columns e.block 0) found.0 found.1 in
-      let same : of_found.0 ≡ of.0 = same_Some of_found.0 of.0 (sym of_found.1 ∙ ap (slice_get diagram.blocks) found.2 ∙ of.1) in
-      let number_is : found.0.number ≡ e.number = same_Some found.0.number e.number (sym of_found.2 ∙ ap (number_in number_of) same ∙ of.2) in
-      let there = reach (slice_index_or columns e.block 0) found.0 found.1 found.2 number_is in
-      let own = reach k e at refl refl in
-      let most = least.1 in
-      omega (arith, there, own, most)
-
 module _ (diagram : Diagram) (checked : IsChecked diagram) (listed : InputsAreListed) where
   abbrev roots : List RootElement
   roots = root_inputs diagram (attributes_of diagram)
@@ -140,10 +48,7 @@ module _ (diagram : Diagram) (checked : IsChecked diagram) (listed : InputsAreLi
   column_is inputs columns k e blocks are at = place_is root_input (λ block. (attributes_of diagram).width_at block 1) diagram (listed diagram (attributes_of diagram) checked.wired) inputs columns k e blocks are at
 
   pub inputs_there : (inputs : List ℕ) → AreBlocksOf roots inputs → All (λ block. block < length diagram.blocks) inputs
-  inputs_there inputs blocks = λ k d within.
-      let found = map_from (λ (x : RootElement). x.block) roots k (get_or inputs k d) (sym (ap (λ (xs : List ℕ). slice_get xs k) blocks) ∙ slice_get-get_or inputs k d within) in
-      let of = (listed diagram (attributes_of diagram) checked.wired).elements_of k found.0 found.1 in
-      subst (λ (x : ℕ). x < length diagram.blocks) found.2 (slice_get_within diagram.blocks found.0.block of.0 of.1)
+  inputs_there inputs blocks = blocks_there root_input (λ block. (attributes_of diagram).width_at block 1) diagram (listed diagram (attributes_of diagram) checked.wired) inputs blocks
 
   pub hubs_are : (earlier middle later : Circuit) (inputs columns : List ℕ) (firsts : List (List ℕ)) → AreBlocksOf roots inputs → AddsInputs diagram earlier middle inputs (length inputs) → AreColumnsFrom inputs columns 0 → AddsBlocks diagram middle later columns firsts (length diagram.blocks)
       → HasHubs diagram earlier later firsts

@@ -1,6 +1,6 @@
 use Rattle.std.proofs.Common.{◌≡◌, ℕ, List, length, ap, ◌∙◌}
 use Rattle.hw_names.specs.declared.giving.Side.TheVariants.{Inputs, Outputs}
-use Rattle.hw_names.specs.Names.{Given, own_names, wanted_names}
+use Rattle.hw_names.specs.Names.{own_names, wanted_names}
 use Rattle.hw_names.specs.inner.Sides.{elements_on}
 use Rattle.hw_names.proofs.Named.{all_named, blocks_size}
 use Rattle.hw_names.proofs.Taking.{given_size}
