@@ -6,6 +6,7 @@ use Rattle.std.proofs.Common.{eqb, eqb-true, true≢false, int_lt}
 use Rattle.hw_net.specs.Operation.{truth}
 use Rattle.std.specs.Ordering.{int_eq}
 use Rattle.std.proofs.lemmas.Int.{ints}
+use Rattle.std.proofs.lemmas.Bool.{false_from_ne_true}
 use Rattle.hw_lower.specs.declared.plan.Word.{Word}
 use Rattle.hw_lower.specs.inner.Planned.{IsChosen}
 use Rattle.fx_num.specs.Word.{IsWord, InWord, IsWrapped}
@@ -53,7 +54,7 @@ none-shifted v up width signed e has =
 
 -- what a Less gives
 int-lt-is : (a b : ℤ) → (a <ℤ b → int_lt a b ≡ true) × (b ≤ℤ a → int_lt a b ≡ false)
-int-lt-is a b = ((λ h. grind (arith, ints)), (λ h. only-false (int_lt a b) (λ e. omega (arith, ints))))
+int-lt-is a b = ((λ h. grind (arith, ints)), (λ h. false_from_ne_true (int_lt a b) (λ e. omega (arith, ints))))
 
 pub less-is : (a b r : ℤ) → IsWrapped (truth (int_lt a b)) 1 false r → (a <ℤ b → r ≡ pos 1) × (b ≤ℤ a → r ≡ pos 0)
 less-is a b r is =
