@@ -6,6 +6,7 @@ use Rattle.vl_ast.specs.Value.{number_of}
 use Rattle.hw_net.specs.declared.netlist.NetPort.{NetPort}
 use Rattle.hw_net.specs.declared.netlist.NetLabel.{NetLabel}
 use Rattle.hw_net.specs.Circuit.{Circuit}
+use Rattle.hw_net.specs.Products.{net_at}
 
 -- a name with its word
 pub record Wire : Type 0 where
