@@ -9,12 +9,11 @@ use Rattle.fx_tables.specs.declared.table.TableCause.{TableCause}
 use Rattle.fx_tables.specs.declared.table.TableFault.TheVariants.{Bad}
 use Rattle.fx_tables.specs.Plan.{IsPlanFault}
 use Rattle.fx_top.specs.declared.answer.Answer.{Answer}
-use Rattle.fx_top.specs.Call.{Files, IsUntouched, Stream}
+use Rattle.fx_top.specs.Call.{Files, IsUntouched, Stream, file_limit, first_trouble, trouble_or}
 use Rattle.fx_top.specs.Cause.{BreaksSomeRule, HasBadLine}
 use Rattle.fx_top.specs.Caused.{HasCause, HasWritten}
 use Rattle.fx_top.specs.Command.{Command, PlanWord, EmptyPlan, Named, files_of, plan_files, plan_word}
 use Rattle.fx_top.specs.Output.{IsPlanText}
-use Rattle.fx_top.specs.Trouble.{file_limit, first_trouble, trouble_or}
 use Rattle.fx_top.specs.inner.Fetching.{IsPlanAnswer}
 use Rattle.fx_top.proofs.Told.{ReadsPlan, untroubled}
 use Rattle.fx_top.proofs.Unfetched.{cause-unfetched, moved, unwritten}

@@ -8,11 +8,10 @@ use Rattle.vl_ast.specs.Grammar.{Spells, most_items}
 use Rattle.vl_check.specs.Cause.{IsCause}
 use Rattle.vl_check.specs.declared.fault.VlFault.{VlFault}
 use Rattle.vl_check.specs.declared.fault.VlFault.TheVariants.{Undriven, Doubly, CombLoop, TooWide, NoReset, NoAttribute, OutOfMemory}
-use Rattle.fx_top.specs.Call.{Files}
+use Rattle.fx_top.specs.Call.{Files, first_trouble, trouble_or, file_limit}
 use Rattle.fx_top.specs.Replayed.{IsBroken, condition_of}
 use Rattle.fx_top.specs.Cause.{AreFetched, IsFetched}
 use Rattle.fx_top.specs.Command.{Replay, files_of}
-use Rattle.fx_top.specs.Trouble.{first_trouble, trouble_or, file_limit}
 use Rattle.fx_top.proofs.Told.{untroubled}
 
 pub fetched-both : (files : Files) (verilog stimulus first second : List ℕ) → IsFetched files verilog first → IsFetched files stimulus second → AreFetched files (Replay verilog stimulus)

@@ -24,13 +24,12 @@ use Rattle.vl_ast.specs.Header.{output_port}
 use Rattle.fx_top.proofs.DelayModule.{byte_port}
 use Rattle.fx_top.specs.Replayed.{AreRowsFor, IsReplayOf, IsSoundText}
 use Rattle.fx_top.specs.declared.answer.Answer.TheVariants.{Done}
-use Rattle.fx_top.specs.Call.{Files}
+use Rattle.fx_top.specs.Call.{Files, file_limit}
 use Rattle.fx_top.specs.Cause.{IsFetched}
 use Rattle.fx_top.specs.Caused.{Ends}
 use Rattle.fx_top.specs.Command.{Replay}
 use Rattle.fx_top.specs.Outcome.{CanReplay, IsComplete}
 use Rattle.fx_io.specs.Shelf.{Fetched}
-use Rattle.fx_top.specs.Trouble.{file_limit}
 use Rattle.fx_top.proofs.Header.{breaks-none}
 use Rattle.fx_top.proofs.Names.{AreDifferent}
 use Rattle.fx_top.proofs.Outcomes.{took, said}

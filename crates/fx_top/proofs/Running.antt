@@ -11,18 +11,17 @@ use Rattle.fx_io.specs.Shelf.{Told}
 use Rattle.fx_top.specs.declared.answer.Answer.{Answer}
 use Rattle.fx_top.specs.declared.answer.Answer.TheVariants.{Done, OutOfMemory, Usage, CannotRead, CannotWrite, NotMdl, BadTable, BreaksRule, NotVerilog, Broken, TooLong}
 use Rattle.fx_top.specs.Answer.{status_of}
-use Rattle.fx_top.specs.Call.{Files, Stream}
+use Rattle.fx_top.specs.Call.{Files, Stream, Trouble, Absent, Overlong, first_trouble}
 use Rattle.fx_top.specs.Cause.{AreFetched, HasNoTree, HasBrokenRule, HasBrokenPlan, HasBadLine, HasNoVerilog, BreaksCondition}
 use Rattle.fx_top.specs.Caused.{HasCause, HasWritten, IsCarriedOut}
 use Rattle.fx_top.specs.Command.{Command, PlanWord, Generate, Replay, Simulate, Explore, Check, command_of, model_of, verilog_of, plan_of, table_of, first_of, files_of}
 use Rattle.fx_designed.specs.Design.{IsBadPlan, TellsPlanRule}
 use Rattle.fx_model.specs.Model.{IsNoText, IsModelOf, IsBrokenModel, IsWithoutDiagram}
-use Rattle.fx_top.specs.Designed.{IsWithoutDesign}
+use Rattle.fx_top.specs.Generated.{IsWithoutDesign}
 use Rattle.fx_top.specs.Outcome.{Yields, Tells, TellsPlan, IfCommand, IsBadFor, IsDue, CanBeDone, IsComplete}
 use Rattle.fx_top.specs.Output.{IsCheckOfFiles, IsOutput, IsVerilogOfFiles}
 use Rattle.fx_top.specs.Replayed.{HasFault, IsNoVerilog, IsSoundText, fault_for}
 use Rattle.fx_top.specs.Simulated.{fault_in}
-use Rattle.fx_top.specs.Trouble.{Trouble, Absent, Overlong, first_trouble}
 use Rattle.fx_top.proofs.Commands.{IsFit, IsGood, accepted-fit, bad-fit, first-model, first-verilog, fit-kept, fit-sound, fit-tree, good-diagram, good-sound, good-tree, model-alone, own-first, plan-good, sound-first, table-good}
 use Rattle.fx_top.proofs.Told.{HasDesign, checks, design-good, design-planned, design-told, fetched-told, generates, lines-kept, no-trouble, none-broken, rules-kept, told-is}
 

@@ -10,13 +10,12 @@ use Rattle.fx_tables.specs.Plan.{IsPlan}
 use Rattle.fx_io.specs.Shelf.{Told, Fetched}
 use Rattle.fx_designed.specs.Design.{IsBadPlan, IsDesignOf, TellsPlanRule}
 use Rattle.fx_model.specs.Model.{IsModelOf}
-use Rattle.fx_top.specs.Call.{Files}
+use Rattle.fx_top.specs.Call.{Files, Trouble, trouble_or, first_trouble, file_limit}
 use Rattle.fx_top.specs.Cause.{IsFetched, HasBadLine, HasBrokenPlan}
 use Rattle.fx_top.specs.Command.{Command, PlanWord, EmptyPlan, Named, Generate, Check, model_of, plan_of, plan_file, plan_files, table_of, first_of, files_of}
-use Rattle.fx_top.specs.Designed.{HasNoPlan, IsWithoutDesign}
+use Rattle.fx_top.specs.Generated.{HasNoPlan, IsWithoutDesign}
 use Rattle.fx_top.specs.Outcome.{CanDesign, Tells, TellsPlan}
 use Rattle.fx_top.specs.Output.{IsBadTable, IsPlanText}
-use Rattle.fx_top.specs.Trouble.{Trouble, trouble_or, first_trouble, file_limit}
 
 -- a file that was fetched is in no trouble
 pub untroubled : (file : List ℕ) (told : Told) (bytes : List ℕ) → Fetched told file_limit bytes → (later : Option Trouble) → trouble_or file told later ≡ later

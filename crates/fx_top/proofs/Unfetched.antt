@@ -3,10 +3,9 @@ use Rattle.std.proofs.Common.{◌≡◌, ◌<◌, ℕ, List, length, ⊎_elim, i
 use Rattle.std.proofs.lemmas.Bool.{lt-ltb}
 use Rattle.fx_io.specs.Shelf.{Told, IsOverlong}
 use Rattle.fx_top.specs.declared.answer.Answer.{Answer}
-use Rattle.fx_top.specs.Call.{Files, Stream, IsUntouched}
+use Rattle.fx_top.specs.Call.{Files, Stream, IsUntouched, Trouble, Absent, Overlong, trouble_or, first_trouble, file_limit}
 use Rattle.fx_top.specs.Caused.{HasCause, HasWritten}
 use Rattle.fx_top.specs.Command.{Command, files_of}
-use Rattle.fx_top.specs.Trouble.{Trouble, Absent, Overlong, trouble_or, first_trouble, file_limit}
 use Rattle.fx_top.specs.inner.Fetching.{IsUnread, IsUnfit, IsFetchAnswer}
 
 -- the file is one of the command's, and those before it are in no trouble

@@ -2,9 +2,8 @@
 use Rattle.std.specs.Prelude.{◌≡◌, ℕ, ◌⊎◌, List, Contains, All, Some}
 use Rattle.fx_io.specs.Shelf.{Fetched, IsOverlong}
 use Rattle.fx_io.specs.Sink.{also_took, TookProperPrefix}
-use Rattle.fx_top.specs.Call.{Files, Stream}
+use Rattle.fx_top.specs.Call.{Files, Stream, Absent, Overlong, first_trouble, file_limit}
 use Rattle.fx_top.specs.Command.{Command, PlanWord, model_of, verilog_of, plan_of, table_of, first_of, files_of}
-use Rattle.fx_top.specs.Trouble.{Absent, Overlong, first_trouble, file_limit}
 use Rattle.fx_designed.specs.Design.{TellsPlanRule}
 use Rattle.fx_model.specs.Model.{IsNotMdl}
 use Rattle.fx_model.specs.RuleLine.{TellsRule}

@@ -4,7 +4,6 @@ pub mod Cause
 pub mod Caused
 pub mod CheckedText
 pub mod Command
-pub mod Designed
 pub mod Explored
 pub mod Generated
 pub mod Messages
@@ -12,5 +11,4 @@ pub mod Outcome
 pub mod Output
 pub mod Replayed
 pub mod Simulated
-pub mod Trouble
 pub mod inner

@@ -1,10 +1,9 @@
 -- Which status a command owes, where the shelf tells what it holds (own).
 use Rattle.std.specs.Prelude.{◌≡◌, ℕ, ◌⊎◌, List, [], ◌∷◌, Contains, Some, None}
-use Rattle.fx_top.specs.Call.{Files, Stream}
+use Rattle.fx_top.specs.Call.{Files, Stream, Absent, Overlong, first_trouble}
 use Rattle.fx_top.specs.Command.{Command, PlanWord, EmptyPlan, Named, Generate, Replay, Simulate, Explore, Check, command_of, model_of, verilog_of, plan_of, table_of, first_of, files_of}
-use Rattle.fx_top.specs.Trouble.{Absent, Overlong, first_trouble}
 use Rattle.fx_model.specs.Model.{IsAccepted, IsNoText, IsWithoutDiagram}
-use Rattle.fx_top.specs.Designed.{CanBeDesigned, HasNoPlan, IsWithoutDesign}
+use Rattle.fx_top.specs.Generated.{CanBeDesigned, HasNoPlan, IsWithoutDesign}
 use Rattle.fx_top.specs.Replayed.{CanBeReplayed, HasFault, IsBadStimulus, IsNoVerilog}
 use Rattle.fx_top.specs.Simulated.{CanBeSimulated, IsSpoilt}
 use Rattle.fx_tables.specs.declared.table.TableCause.{TableCause}

@@ -9,7 +9,7 @@ use Rattle.fx_tables.specs.declared.table.TableCause.{TableCause}
 use Rattle.fx_top.specs.Generated.{IsVerilogOf}
 use Rattle.fx_top.specs.Replayed.{IsReplayOf, IsBadStimulus}
 use Rattle.fx_top.specs.Simulated.{IsSimulationOf, IsBadSimulation}
-use Rattle.fx_top.specs.Trouble.{file_limit}
+use Rattle.fx_top.specs.Call.{file_limit}
 
 -- the text of a plan: no bytes of the empty one, and else those that were fetched
 abbrev pub IsPlanText : (List ℕ → Told) → PlanWord → List ℕ → Type 0

@@ -3,7 +3,7 @@ ghost use Rattle.fx_io.specs.Shelf.{Fetched};
 ghost use Rattle.fx_top.specs.Call.{files_in};
 ghost use Rattle.fx_top.specs.Command.{plan_word};
 ghost use Rattle.fx_top.specs.Output.{IsPlanText};
-ghost use Rattle.fx_top.specs.Trouble.{file_limit};
+ghost use Rattle.fx_top.specs.Call.{file_limit};
 ghost use Rattle.fx_top.specs.inner.Fetching.{IsFetchAnswer, IsPlanAnswer};
 
 use crate::answer::Answer;

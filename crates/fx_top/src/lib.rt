@@ -3,9 +3,9 @@
 //! `run` says its end once (`ends`): it ends by an answer, with the answer's status, line, cause and
 //! output (`specs/Caused.antt`), over what the call saw of the files and did to the streams
 //! (`specs/Call.antt`). `due` and `complete` say what it owes where the shelf tells what it holds
-//! (`specs/Outcome.antt`). What these cite: `specs/Command.antt` (the words), `specs/Cause.antt` and
-//! `specs/Trouble.antt` (why an answer comes), `specs/Answer.antt` and `specs/Messages.antt` (its status
-//! and line), `specs/Output.antt` (the text that is written).
+//! (`specs/Outcome.antt`). What these cite: `specs/Command.antt` (the words), `specs/Cause.antt` (why an
+//! answer comes), `specs/Answer.antt` and `specs/Messages.antt` (its status and line),
+//! `specs/Output.antt` (the text that is written).
 //!
 //! A further command adds a case to `Command`, `command_of`, `files_of`, `IsOutput` and `CanBeDone`; a
 //! further answer adds one to `Answer`, `status_of`, `line_of`, `HasCause` and `HasWritten`.

@@ -12,7 +12,7 @@ use Rattle.hw_net.specs.declared.netlist.NetKind.TheVariants.{Comb}
 use Rattle.hw_net.specs.Circuit.{Circuit}
 use Rattle.vl_emit.specs.Items.{IsMultiplied}
 use Rattle.hw_net.specs.Products.{net_at}
-use Rattle.hw_module.specs.Multiplied.{NamesMultiplications}
+use Rattle.hw_module.specs.Serves.{NamesMultiplications}
 use Rattle.hw_module.specs.inner.Emission.{IsEmissionOf}
 use Rattle.hw_module.proofs.Lists.{get-below}
 

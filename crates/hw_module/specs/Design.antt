@@ -3,9 +3,8 @@ use Rattle.dg_model.specs.declared.diagram.Diagram.{Diagram}
 use Rattle.dg_model.specs.declared.resolved.Resolved.{Resolved}
 use Rattle.vl_ast.specs.declared.modules.Module.{Module}
 use Rattle.hw_module.specs.Carries.{Carries}
-use Rattle.hw_module.specs.Multiplied.{NamesMultiplications}
+use Rattle.hw_module.specs.Serves.{NamesMultiplications, Serves, MultipliesAsOwed}
 use Rattle.hw_module.specs.Pipelined.{Pipelined, HasFewRegisters}
-use Rattle.hw_module.specs.Serves.{Serves, MultipliesAsOwed}
 use Rattle.hw_sched.specs.Slots.{Timing}
 
 pub record IsModuleOf (m : Module) (diagram : Diagram) (plan : Resolved) (timing : Timing) : Type 0 where

@@ -2,7 +2,6 @@ pub mod Carries
 pub mod Design
 pub mod Interface
 pub mod Laws
-pub mod Multiplied
 pub mod Pipelined
 pub mod Serves
 pub mod inner

@@ -1,5 +1,5 @@
 -- Which operation each shared multiplier of a module serves in which clock, and how many multiplications there are (own; HDL Coder, resource sharing).
-use Rattle.std.specs.Prelude.{◌≡◌, ℕ, ◌<◌, ℤ, length, Some, slice_get}
+use Rattle.std.specs.Prelude.{◌≡◌, ℕ, ◌<◌, ℤ, length, Some, slice_get, true, false}
 use Rattle.dg_model.specs.declared.diagram.Diagram.{Diagram}
 use Rattle.dg_model.specs.declared.diagram.Block.{Block}
 use Rattle.dg_model.specs.declared.resolved.Resolved.{Resolved}
@@ -17,6 +17,10 @@ use Rattle.hw_sched.specs.Laws.{IsOperation}
 use Rattle.hw_build.specs.Serving.{AreOperands, clock_of}
 use Rattle.hw_sched.specs.Ready.{owed}
 use Rattle.hw_sched.specs.Slots.{Timing, Operation, unit_of}
+use Rattle.vl_ast.specs.Items.{IsWire}
+use Rattle.hw_build.specs.Multiplied.{multiplication_name}
+use Rattle.vl_emit.specs.Items.{IsMultiplied}
+use Rattle.hw_latency.specs.Shared.{multiplies, is_shared}
 
 -- in this row the multiplication of this number has these operands, cut to the length of its context
 pub record Multiplies (m : Module) (row : Row) (number : ℕ) (left right : ℤ) : Type 0 where
@@ -46,3 +50,10 @@ pub record Serves (m : Module) (diagram : Diagram) (plan : Resolved) (timing : T
 -- there are as many multiplications as are owed
 abbrev pub MultipliesAsOwed : Module → Diagram → Resolved → Timing → Type 0
 MultipliesAsOwed m diagram plan timing = length (multiplications m) ≡ owed diagram (attributes_of diagram) plan timing
+
+-- each element of a Product or Gain that isn't shared has a wire by the name of its multiplication, which is
+-- assigned a product
+abbrev pub NamesMultiplications : Module → Diagram → Resolved → Type 0
+NamesMultiplications m diagram plan =
+    (block element : ℕ) → block < length diagram.blocks → multiplies diagram block ≡ true → is_shared diagram (attributes_of diagram) plan block ≡ false → element < (attributes_of diagram).width_at block 1
+    → IsWire m (multiplication_name block element) × IsMultiplied m (multiplication_name block element)

@@ -4,9 +4,8 @@ use Rattle.std.specs.Borrow.{Bor}
 use Rattle.fx_io.specs.Shelf.{IsOverlong}
 use Rattle.fx_top.specs.declared.answer.Answer.{Answer}
 use Rattle.fx_top.specs.declared.answer.Answer.TheVariants.{OutOfMemory, CannotRead, TooLong}
-use Rattle.fx_top.specs.Call.{Files}
+use Rattle.fx_top.specs.Call.{Files, file_limit}
 use Rattle.fx_top.specs.Command.{PlanWord, EmptyPlan, Named}
-use Rattle.fx_top.specs.Trouble.{file_limit}
 
 -- the file was not to be had; over a steady shelf it isn't held
 pub record IsUnread (files : Files) (file : List ℕ) (answer : Answer) : Type 0 where

@@ -1,9 +1,8 @@
 use Rattle.std.proofs.Common.{ℕ, List, Err, None, refl, ap, subst, arith}
 use Rattle.fx_io.specs.Cause.{Rose}
 use Rattle.fx_io.specs.Shelf.{Fetched, Told}
-use Rattle.fx_top.specs.Call.{files_in}
+use Rattle.fx_top.specs.Call.{files_in, file_limit}
 use Rattle.fx_top.specs.Command.{Replay}
-use Rattle.fx_top.specs.Trouble.{file_limit}
 use Rattle.fx_top.proofs.Replayed.{fetched-both, second-first}
 use Rattle.fx_top.proofs.Unfetched.{cause-unfetched, moved}
 use Rattle.fx_top.proofs.replay.replay.Goals as goal

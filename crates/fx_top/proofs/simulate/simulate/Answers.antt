@@ -1,10 +1,9 @@
 use Rattle.std.proofs.Common.{inl, ℕ, List, None, refl, subst, arith}
 use Rattle.fx_io.specs.Cause.{Rose}
 use Rattle.fx_io.specs.Shelf.{Fetched, Told}
-use Rattle.fx_top.specs.Call.{files_in}
+use Rattle.fx_top.specs.Call.{files_in, file_limit}
 use Rattle.fx_top.specs.Command.{Simulate}
 use Rattle.fx_top.specs.declared.simulated.SimulationFault.{SimulationFault}
-use Rattle.fx_top.specs.Trouble.{file_limit}
 use Rattle.fx_top.specs.inner.Simulating.{IsFaultOf}
 use Rattle.fx_top.proofs.Replayed.{fetched-both, second-first}
 use Rattle.fx_top.proofs.Unfetched.{cause-unfetched, moved}
