@@ -11,7 +11,7 @@ use Rattle.fx_top.proofs.Loop.{no-loop}
 -- neither a signed input nor an output is a clock enable
 pub unstallable : (d : OneDelay) → is_stallable (delay_module d) ≡ false
 unstallable d = neither (bytes_eq d.input (codes "clk_enable")) (bytes_eq d.output (codes "clk_enable")) where
-  neither : (input output : Bool) → ((input && false) || ((output && false) || false)) ≡ false
+  neither : (input output : Bool) → ((input && true && false && false) || ((output && false && false && false) || false)) ≡ false
   neither true true = refl
   neither true false = refl
   neither false true = refl
