@@ -1,0 +1,122 @@
+//! Designs: a model's diagram, the numbers of its simulation, and its netlist by a plan.
+ghost use Rattle.std.specs.Prelude.{◌≡◌, ◌<◌, ◌^◌, All, IfOk, OnOk, length, true};
+ghost use Rattle.dg_model.specs.PlanOf.{IsPlanOf};
+ghost use Rattle.dg_response.specs.Response.{input_columns, output_columns};
+ghost use Rattle.fx_tables.specs.Stimulus.{FitsColumns};
+ghost use Rattle.hw_net.specs.Netlist.{IsNetlist};
+ghost use Rattle.hw_rules.specs.Times.{AreTimes};
+
+use anyhow::{Result, anyhow};
+use dg_model::{Checked, Resolved};
+use dg_response::{RootColumns, columns, respond};
+use fx_tables::{Column, Rows, TableFault, read_rows};
+use hw_build::build;
+use hw_net::{Netlist, is_netlist};
+use hw_rules::Times;
+use hw_sched::SizeFault;
+use std::alloc::Global;
+
+/// What a simulation takes and gives.
+#[derive(Drop)]
+pub struct Simulated {
+    pub columns: RootColumns,
+    /// The numbers of the inputs.
+    pub rows: Rows,
+    /// Those of the outputs, sample by sample.
+    pub shown: Vec<i128>,
+}
+
+/// The columns of a diagram, where each has a period.
+fn columns_of(alloc: Global, checked: &Checked) -> Result<RootColumns>
+    ensures inputs { IfOk result (λ columns. columns.inputs ≡ input_columns checked.now.diagram) }
+    ensures outputs { IfOk result (λ columns. columns.outputs
+        ≡ output_columns checked.now.diagram) }
+    ensures periods { IfOk result (λ columns. All (λ column. 0 < column.period) columns.inputs) }
+    ensures few { IfOk result (λ columns. length columns.inputs < 2 ^ 32) }
+{
+    let columns = columns(alloc, checked)?;
+    if have_periods(columns.inputs.as_slice()) && are_few(columns.inputs.as_slice()) {
+        Ok(columns)
+    } else {
+        Err(anyhow!("an input has no period"))
+    }
+}
+
+/// Whether each column has a period above 0.
+fn have_periods(columns: &[Column]) -> bool
+    ensures { result ≡ true → All (λ column. 0 < column.period) columns.now }
+{
+    columns.iter().all(|column| column.period > 0)
+}
+
+/// Whether columns can be numbered by 32 bits.
+fn are_few(columns: &[Column]) -> bool
+    ensures { result ≡ true → length columns.now < 2 ^ 32 }
+{
+    (columns.len() as u64) < 4_294_967_296
+}
+
+/// The rows of a stimulus.
+fn rows_of(alloc: Global, stimulus: &[u8], columns: &RootColumns) -> Result<Rows>
+    requires periods { All (λ column. 0 < column.period) columns.now.inputs }
+    requires few { length columns.now.inputs < 2 ^ 32 }
+    ensures count { IfOk result (λ rows. rows.columns ≡ length columns.now.inputs) }
+    ensures fits { IfOk result (FitsColumns columns.now.inputs) }
+{
+    let outputs = columns.outputs.as_slice().len() as u64;
+    match read_rows(alloc, stimulus, columns.inputs.as_slice(), outputs) {
+        Ok(rows) => Ok(rows),
+        Err(TableFault::Bad { line, .. }) => Err(anyhow!("a bad line {line}")),
+        Err(TableFault::OutOfMemory) => Err(anyhow!("out of memory")),
+    }
+}
+
+/// The numbers of the outputs under these rows, sample by sample.
+fn shown_of(alloc: Global, checked: &Checked, rows: &Rows, outputs: usize) -> Result<Vec<i128>>
+    requires columns { rows.now.columns ≡ length (input_columns checked.now.diagram) }
+    requires fits { FitsColumns (input_columns checked.now.diagram) rows.now }
+    requires outputs { outputs ≡ length (output_columns checked.now.diagram) }
+{
+    let responded = respond(alloc, checked, rows, outputs)?;
+    let mut shown = Vec::new(alloc);
+    for sample in 0..rows.count() {
+        shown.extend_from_slice(responded.row(sample))?;
+    }
+    Ok(shown)
+}
+
+/// The simulation of a diagram under a stimulus.
+pub fn simulated(alloc: Global, checked: &Checked, stimulus: &[u8]) -> Result<Simulated> {
+    let columns = columns_of(alloc, checked)?;
+    let rows = rows_of(alloc, stimulus, &columns)?;
+    let outputs = columns.outputs.as_slice().len();
+    let shown = shown_of(alloc, checked, &rows, outputs)?;
+    Ok(Simulated {
+        columns,
+        rows,
+        shown,
+    })
+}
+
+/// The netlist of a diagram by a plan with its times.
+pub fn netlist_of(
+    alloc: Global,
+    checked: &Checked,
+    plan: &Resolved,
+    times: &Times,
+) -> Result<Netlist>
+    requires plan { IsPlanOf checked.now.diagram plan.now }
+    requires times { AreTimes checked.now.diagram plan.now times.now }
+    ensures { IfOk result (λ netlist. IsNetlist netlist) }
+{
+    let netlist = match build(alloc, checked, plan, &times.latencies, &times.slots) {
+        Ok(netlist) => netlist,
+        Err(SizeFault::Size { .. }) => return Err(anyhow!("too large")),
+        Err(SizeFault::OutOfMemory) => return Err(anyhow!("out of memory")),
+    };
+    if is_netlist(alloc, &netlist)? {
+        Ok(netlist)
+    } else {
+        Err(anyhow!("a netlist can't be run"))
+    }
+}

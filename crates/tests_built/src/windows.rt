@@ -1,0 +1,90 @@
+//! The clocks in which outputs show their numbers.
+
+use anyhow::{Result, anyhow};
+use dg_sim::output_blocks;
+use fx_designed::Designed;
+use hw_net::Netlist;
+use std::alloc::Global;
+
+/// When an output shows its numbers.
+#[derive(Clone, Copy)]
+pub struct Window {
+    /// The net that it shows.
+    pub net: u32,
+    /// The base samples from one hit to the next.
+    pub period: u32,
+    /// The clock of its first frame.
+    pub start: u64,
+    /// The clock of a frame from which on it shows.
+    pub ready: u64,
+}
+
+/// The sample whose number is to be seen at a clock of a frame that begins at `start`, if there is one.
+pub fn sample_at(cycles: u32, period: u32, start: u64, ready: u64, clock: u64) -> Option<u64> {
+    let Some(since) = clock.checked_sub(start) else {
+        return None;
+    };
+    let Some(length) = u64::from(period).checked_mul(u64::from(cycles)) else {
+        return None;
+    };
+    if length == 0 || since % length < ready {
+        return None;
+    }
+    (since / length).checked_mul(u64::from(period))
+}
+
+impl Window {
+    /// The clock behind the frame of the last of so many samples.
+    pub fn end(self, cycles: u32, samples: u64) -> Result<u64> {
+        let Some(frames) = samples.checked_add(u64::from(self.period)) else {
+            return Err(anyhow!("too many samples"));
+        };
+        let Some(length) = frames.checked_mul(u64::from(cycles)) else {
+            return Err(anyhow!("too many clocks"));
+        };
+        match self.start.checked_add(length) {
+            Some(end) => Ok(end),
+            None => Err(anyhow!("too many clocks")),
+        }
+    }
+}
+
+/// The windows of a netlist's outputs, in order.
+pub fn windows_of(alloc: Global, designed: &Designed, netlist: &Netlist) -> Result<Vec<Window>> {
+    let blocks = output_blocks(alloc, &designed.checked)?;
+    let mut windows = Vec::new(alloc);
+    if netlist.outputs().len() != blocks.as_slice().len() {
+        return Err(anyhow!("an output lacks a port"));
+    }
+    for (port, block) in netlist.outputs().iter().zip(blocks.as_slice().iter()) {
+        let start = start_of(designed, *block)?;
+        let Some(ready) = port.latency.checked_sub(start) else {
+            return Err(anyhow!("an output is declared too early"));
+        };
+        windows.push(Window {
+            net: port.net,
+            period: port.period,
+            start,
+            ready,
+        })?;
+    }
+    Ok(windows)
+}
+
+/// The clock of the first frame of a block.
+fn start_of(designed: &Designed, block: u32) -> Result<u64> {
+    let Some(lat) = designed
+        .planned
+        .times
+        .latencies
+        .lat
+        .as_slice()
+        .get(block as usize)
+    else {
+        return Err(anyhow!("an output has no latency"));
+    };
+    match lat.checked_mul(u64::from(designed.planned.resolved.cycles)) {
+        Some(start) => Ok(start),
+        None => Err(anyhow!("a latency is too great")),
+    }
+}
