@@ -6,13 +6,26 @@
 //! of a stimulus, which a line `end` closes. The first two are printed as they stand, and then what
 //! `replay` shows of the text that `generate` wrote.
 //!
-//! What the gate compares it with is the response of an independent reference to each model.
+//! A line that begins with `cut ` stands before the next `end`, and is printed too: there the text is
+//! read, an expression of its module is changed, and the text of that module is replayed.
+//!
+//! | cut | what is changed |
+//! |---|---|
+//! | `cut nothing` | nothing |
+//! | `cut taken NAME` | the wire that the register of this name takes is 0 |
+//! | `cut factor` | the right operand of the one multiplication is 0 |
+//!
+//! What the gate compares it with is the response of an independent reference to each model. What is
+//! shown behind a cut was worked out by hand: readers use the registers and the multiplier that are
+//! said to serve them.
 #![tactic(auto)]
 
 mod calls;
+mod cutting;
 
 use crate::calls::{Held, output_of};
-use anyhow::Result;
+use crate::cutting::{Cut, cut_text};
+use anyhow::{Result, anyhow};
 use std::alloc::Global;
 use std::io::{self, BufRead, BufReader, BufWriter, Write};
 use std::thread::Threads;
@@ -32,6 +45,7 @@ struct Case {
     plan: Vec<u8>,
     stimulus: Vec<u8>,
     part: Part,
+    cut: Option<Cut>,
 }
 
 fn main(rt: HostRuntime) -> Result<()> {
@@ -42,6 +56,7 @@ fn main(rt: HostRuntime) -> Result<()> {
         plan: Vec::new(alloc),
         stimulus: Vec::new(alloc),
         part: Part::Model,
+        cut: None,
     };
     for line in BufReader::new(alloc, rt.reader())?.lines(alloc) {
         let line = line?;
@@ -71,8 +86,12 @@ impl Case {
         } else if line.starts_with("stimulus ") {
             self.stimulus.clear();
             self.part = Part::Stimulus;
+        } else if let Some(words) = line.strip_prefix("cut ") {
+            self.cut = Some(cut_of(alloc, words)?);
+            writeln!(out, "{line}")?;
         } else if line == "end" {
             out.write_all(self.replayed(rt, alloc)?.as_slice())?;
+            self.cut = None;
         } else {
             self.put(line.as_bytes())?;
         }
@@ -90,9 +109,20 @@ impl Case {
             bytes: self.plan.as_slice(),
         };
         let text = output_of(rt, alloc, &["generate", "m.mdl", "m.plan"], &[model, plan])?;
+        match &self.cut {
+            Some(cut) => {
+                let text = cut_text(rt, alloc, text.as_slice(), cut)?;
+                self.shown(rt, alloc, text.bytes())
+            }
+            None => self.shown(rt, alloc, text.as_slice()),
+        }
+    }
+
+    /// What a text shows of the stimulus.
+    fn shown<R: Threads + Sync>(&self, rt: &R, alloc: Global, text: &[u8]) -> Result<Vec<u8>> {
         let verilog = Held {
             name: "m.v",
-            bytes: text.as_slice(),
+            bytes: text,
         };
         let stimulus = Held {
             name: "m.stim",
@@ -113,6 +143,19 @@ impl Case {
             Part::Plan => put_line(&mut self.plan, line),
             Part::Stimulus => put_line(&mut self.stimulus, line),
         }
+    }
+}
+
+/// The cut that words say.
+fn cut_of(alloc: Global, words: &str) -> Result<Cut> {
+    if words == "nothing" {
+        Ok(Cut::Nothing)
+    } else if words == "factor" {
+        Ok(Cut::Factor)
+    } else if let Some(register) = words.strip_prefix("taken ") {
+        Ok(Cut::Taken(register.as_bytes().to_vec(alloc)?))
+    } else {
+        Err(anyhow!("no cut"))
     }
 }
 
