@@ -43,11 +43,12 @@ impl Case {
 
 /// Prints the words of a row on a line.
 fn put_words<W: Write>(words: &[&str], out: &mut W) -> Result<()> {
-    let mut space = "";
-    for word in words {
-        write!(out, "{space}{word}")?;
-        space = " ";
+    for (place, word) in words.iter().enumerate() {
+        if place > 0 {
+            out.write_all(b" ")?;
+        }
+        out.write_all(word.as_bytes())?;
     }
-    writeln!(out)?;
+    out.write_all(b"\n")?;
     Ok(())
 }

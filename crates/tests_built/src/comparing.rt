@@ -4,7 +4,7 @@ use crate::designs::{netlist_of, simulated};
 use crate::stepping::{Tally, tallies_of};
 use crate::windows::windows_of;
 use anyhow::{Result, anyhow};
-use fx_designed::{DesignFault, Designed, designed_of};
+use fx_designed::{DesignFault, designed_of};
 use hw_net::{NetKind, Netlist};
 use std::alloc::Global;
 use std::io::Write;
@@ -21,9 +21,9 @@ pub fn put_comparison<W: Write>(
         Ok(designed) => designed,
         Err(fault) => return put_fault(&fault, out),
     };
-    let Designed { checked, planned } = &designed;
-    let simulated = simulated(alloc, checked, stimulus)?;
-    let netlist = netlist_of(alloc, checked, &planned.resolved, &planned.times)?;
+    let simulated = simulated(alloc, &designed.checked, stimulus)?;
+    let plan = &designed.planned.resolved;
+    let netlist = netlist_of(alloc, &designed.checked, plan, &designed.planned.times)?;
     let windows = windows_of(alloc, &designed, &netlist)?;
     let tallies = tallies_of(alloc, &simulated, &netlist, windows.as_slice())?;
     put_inputs(&netlist, out)?;
@@ -36,8 +36,8 @@ pub fn put_held<W: Write>(alloc: Global, model: &[u8], plan: &[u8], out: &mut W)
         Ok(designed) => designed,
         Err(fault) => return put_fault(&fault, out),
     };
-    let Designed { checked, planned } = &designed;
-    let netlist = netlist_of(alloc, checked, &planned.resolved, &planned.times)?;
+    let plan = &designed.planned.resolved;
+    let netlist = netlist_of(alloc, &designed.checked, plan, &designed.planned.times)?;
     let held = netlist.nets().iter().filter(|net| holds(&net.kind)).count();
     writeln!(out, "held {held}")?;
     Ok(())
@@ -62,8 +62,8 @@ fn put_fault<W: Write>(fault: &DesignFault, out: &mut W) -> Result<()> {
             out.write_all(line.bytes())?;
             Ok(())
         }
-        DesignFault::NotMdl { line } => Err(anyhow!("line {line} of a model")),
-        DesignFault::BadPlan { line, .. } => Err(anyhow!("line {line} of a plan")),
+        DesignFault::NotMdl { .. } => Err(anyhow!("a text is no model")),
+        DesignFault::BadPlan { .. } => Err(anyhow!("a text is no plan")),
         DesignFault::OutOfMemory => Err(anyhow!("out of memory")),
     }
 }
@@ -73,7 +73,7 @@ fn put_inputs<W: Write>(netlist: &Netlist, out: &mut W) -> Result<()> {
     for port in netlist.inputs() {
         out.write_all(b"input ")?;
         out.write_all(port.name.bytes())?;
-        writeln!(out)?;
+        out.write_all(b"\n")?;
     }
     Ok(())
 }

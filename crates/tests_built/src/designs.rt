@@ -1,5 +1,5 @@
 //! Designs: a model's diagram, the numbers of its simulation, and its netlist by a plan.
-ghost use Rattle.std.specs.Prelude.{◌≡◌, ◌<◌, ◌^◌, All, IfOk, OnOk, length, true};
+ghost use Rattle.std.specs.Prelude.{◌≡◌, ◌<◌, ◌^◌, All, IfOk, length, true};
 ghost use Rattle.dg_model.specs.PlanOf.{IsPlanOf};
 ghost use Rattle.dg_response.specs.Response.{input_columns, output_columns};
 ghost use Rattle.fx_tables.specs.Stimulus.{FitsColumns};
@@ -66,7 +66,7 @@ fn rows_of(alloc: Global, stimulus: &[u8], columns: &RootColumns) -> Result<Rows
     let outputs = columns.outputs.as_slice().len() as u64;
     match read_rows(alloc, stimulus, columns.inputs.as_slice(), outputs) {
         Ok(rows) => Ok(rows),
-        Err(TableFault::Bad { line, .. }) => Err(anyhow!("a bad line {line}")),
+        Err(TableFault::Bad { .. }) => Err(anyhow!("a stimulus has a bad line")),
         Err(TableFault::OutOfMemory) => Err(anyhow!("out of memory")),
     }
 }
