@@ -1,6 +1,6 @@
 //! What is printed of a model by a plan.
 
-use crate::designs::{netlist_of, simulated};
+use crate::designs::{netlist_of, simulate};
 use crate::stepping::{Tally, tallies_of};
 use crate::windows::windows_of;
 use anyhow::{Result, anyhow};
@@ -21,7 +21,7 @@ pub fn put_comparison<W: Write>(
         Ok(designed) => designed,
         Err(fault) => return put_fault(&fault, out),
     };
-    let simulated = simulated(alloc, &designed.checked, stimulus)?;
+    let simulated = simulate(alloc, &designed.checked, stimulus)?;
     let plan = &designed.planned.resolved;
     let netlist = netlist_of(alloc, &designed.checked, plan, &designed.planned.times)?;
     let windows = windows_of(alloc, &designed, &netlist)?;

@@ -86,7 +86,7 @@ fn shown_of(alloc: Global, checked: &Checked, rows: &Rows, outputs: usize) -> Re
 }
 
 /// The simulation of a diagram under a stimulus.
-pub fn simulated(alloc: Global, checked: &Checked, stimulus: &[u8]) -> Result<Simulated> {
+pub fn simulate(alloc: Global, checked: &Checked, stimulus: &[u8]) -> Result<Simulated> {
     let columns = columns_of(alloc, checked)?;
     let rows = rows_of(alloc, stimulus, &columns)?;
     let outputs = columns.outputs.as_slice().len();
