@@ -1,0 +1,2 @@
+pub mod WholeChecked
+pub mod WholeTable
