@@ -1,2 +1,4 @@
 pub mod WholeChecked
+pub mod WholePaths
+pub mod WholePlan
 pub mod WholeTable

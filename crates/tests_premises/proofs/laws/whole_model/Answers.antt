@@ -1,4 +1,5 @@
 use Rattle.tests_premises.proofs.WholeChecked.{checked}
+use Rattle.tests_premises.proofs.WholePlan.{planned, scheduled, shared}
 use Rattle.tests_premises.proofs.WholeTable.{in_range, solves}
 use Rattle.tests_premises.proofs.laws.whole_model.Goals as goal
 
@@ -10,3 +11,12 @@ returns-clause-in_range c = in_range
 
 pub returns-clause-solves : goal.returns-clause-solves
 returns-clause-solves c = solves
+
+pub returns-clause-planned : goal.returns-clause-planned
+returns-clause-planned c = planned
+
+pub returns-clause-scheduled : goal.returns-clause-scheduled
+returns-clause-scheduled c = scheduled
+
+pub returns-clause-shared : goal.returns-clause-shared
+returns-clause-shared c = shared
