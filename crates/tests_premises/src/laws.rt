@@ -1,18 +1,18 @@
 ghost use Rattle.dg_model.specs.Attributes.{attributes_of};
-ghost use Rattle.dg_model.specs.Checked.{IsChecked};
 ghost use Rattle.dg_model.specs.Solves.{IsStimulus, Solves};
-ghost use Rattle.hw_rules.specs.Rules.{IsPlanned};
+ghost use Rattle.fx_designed.specs.Design.{IsDesignOf};
 ghost use Rattle.hw_sched.specs.Scheduled.{IsScheduled};
 ghost use Rattle.tests_premises.specs.Sharing.{AreSharedByOne};
-ghost use Rattle.tests_premises.specs.Whole.{diagram, plan, resolved, stimulus, table, timing};
+ghost use Rattle.tests_premises.specs.Whole.{
+    diagram, model_text, plan_text, resolved, stimulus, table, timing,
+};
 
-/// The diagram keeps the rules, and the table solves it; the plan keeps its own on it, and one multiplier
-/// serves two operations.
+/// The texts are those of the design: the model and the plan keep their rules. One multiplier serves two
+/// operations, and the table solves the diagram.
 pub fn whole_model()
-    ensures checked { IsChecked diagram }
-    ensures in_range { IsStimulus diagram (attributes_of diagram) stimulus 3 }
-    ensures solves { Solves diagram (attributes_of diagram) stimulus 3 table }
-    ensures planned { IsPlanned diagram plan resolved timing }
+    ensures design { IsDesignOf model_text plan_text diagram resolved timing }
     ensures scheduled { IsScheduled diagram resolved timing }
     ensures shared { AreSharedByOne (attributes_of diagram) }
+    ensures in_range { IsStimulus diagram (attributes_of diagram) stimulus 3 }
+    ensures solves { Solves diagram (attributes_of diagram) stimulus 3 table }
 {}
