@@ -2,6 +2,7 @@ ghost use Rattle.dg_model.specs.Attributes.{attributes_of};
 ghost use Rattle.dg_model.specs.Solves.{IsStimulus, Solves};
 ghost use Rattle.fx_designed.specs.Design.{IsDesignOf};
 ghost use Rattle.hw_sched.specs.Scheduled.{IsScheduled};
+ghost use Rattle.tests_premises.specs.Running.{WholeModulesRun};
 ghost use Rattle.tests_premises.specs.Sharing.{AreSharedByOne};
 ghost use Rattle.tests_premises.specs.Whole.{
     diagram, model_text, plan_text, resolved, stimulus, table, timing,
@@ -16,3 +17,11 @@ pub fn whole_model()
     ensures in_range { IsStimulus diagram (attributes_of diagram) stimulus 3 }
     ensures solves { Solves diagram (attributes_of diagram) stimulus 3 table }
 {}
+
+/// Each module with the ports of the design that breaks no condition has a run in which the stimulus drives
+/// it and every row behind the one with `reset` is a clock.
+pub fn whole_modules()
+    ensures { WholeModulesRun }
+{
+    vl_ast::one_run();
+}

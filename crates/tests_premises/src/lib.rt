@@ -3,4 +3,4 @@
 
 mod laws;
 
-pub use laws::whole_model;
+pub use laws::{whole_model, whole_modules};
