@@ -1,7 +1,9 @@
 pub mod WholeChecked
 pub mod WholeDesign
+pub mod WholeNames
 pub mod WholePaths
 pub mod WholePlan
 pub mod WholeRuns
+pub mod WholeShown
 pub mod WholeTable
 pub mod WholeText

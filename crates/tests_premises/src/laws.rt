@@ -4,8 +4,15 @@ ghost use Rattle.fx_designed.specs.Design.{IsDesignOf};
 ghost use Rattle.hw_sched.specs.Scheduled.{IsScheduled};
 ghost use Rattle.tests_premises.specs.Running.{WholeModulesRun};
 ghost use Rattle.tests_premises.specs.Sharing.{AreSharedByOne};
+ghost use Rattle.tests_premises.specs.Shown.{WholeModulesShow};
 ghost use Rattle.tests_premises.specs.Whole.{
-    diagram, model_text, plan_text, resolved, stimulus, table, timing,
+  diagram,
+  model_text,
+  plan_text,
+  resolved,
+  stimulus,
+  table,
+  timing,
 };
 
 /// The texts are those of the design: the model and the plan keep their rules. One multiplier serves two
@@ -22,6 +29,14 @@ pub fn whole_model()
 /// it and every row behind the one with `reset` is a clock.
 pub fn whole_modules()
     ensures { WholeModulesRun }
+{
+    vl_ast::one_run();
+}
+
+/// Each module that is owed of the design has a run in which it shows the numbers of the table, multiplies
+/// both elements by one multiplication, and holds them in registers.
+pub fn whole_modules_show()
+    ensures { WholeModulesShow }
 {
     vl_ast::one_run();
 }
