@@ -1,3 +1,6 @@
 pub mod Congruence
 mod FirstTexts
+pub mod SamplePlan
+pub mod SampleTree
+pub mod Spelled
 pub mod Texts

@@ -1,4 +1,5 @@
 pub mod Chain
+pub mod Laws
 pub mod ModelText
 pub mod Numbers
 pub mod Stimulus
