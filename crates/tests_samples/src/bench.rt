@@ -3,6 +3,7 @@ use fx_sample::Bench;
 use std::alloc::Global;
 
 /// A bench that tells the same bytes of every text.
+#[derive(Drop)]
 pub struct Fixed<'a> {
     pub tells: &'a [u8],
 }
