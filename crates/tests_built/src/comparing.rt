@@ -1,10 +1,13 @@
 //! What is printed of a model by a plan.
+ghost use Rattle.dg_model.specs.PlanOf.{IsPlanOf};
+ghost use Rattle.hw_net.specs.Netlist.{IsNetlist};
+ghost use Rattle.hw_rules.specs.Times.{AreTimes};
 
-use crate::designs::{netlist_of, simulate};
+use crate::designs::{Simulated, netlist_of, simulate};
 use crate::stepping::{Tally, tallies_of};
 use crate::windows::windows_of;
 use anyhow::{Result, anyhow};
-use fx_designed::{DesignFault, designed_of};
+use fx_designed::{DesignFault, Designed, designed_of};
 use hw_net::{NetKind, Netlist};
 use std::alloc::Global;
 use std::io::Write;
@@ -17,27 +20,82 @@ pub fn put_comparison<W: Write>(
     stimulus: &[u8],
     out: &mut W,
 ) -> Result<()> {
-    let designed = match designed_of(alloc, model, plan) {
-        Ok(designed) => designed,
-        Err(fault) => return put_fault(&fault, out),
-    };
+    match designed_of(alloc, model, plan) {
+        Ok(designed) => put_designed(alloc, &designed, stimulus, out),
+        Err(fault) => put_fault(&fault, out),
+    }
+}
+
+/// Prints what the netlist of a design shows under a stimulus.
+fn put_designed<W: Write>(
+    alloc: Global,
+    designed: &Designed,
+    stimulus: &[u8],
+    out: &mut W,
+) -> Result<()>
+    requires plan { IsPlanOf designed.now.checked.diagram designed.now.planned.resolved }
+    requires times { AreTimes designed.now.checked.diagram designed.now.planned.resolved
+        designed.now.planned.times }
+{
+    let netlist = netlist_of(
+        alloc,
+        &designed.checked,
+        &designed.planned.resolved,
+        &designed.planned.times,
+    )?;
+    put_netlist(alloc, designed, &netlist, stimulus, out)
+}
+
+/// Prints what this netlist of a design shows under a stimulus.
+fn put_netlist<W: Write>(
+    alloc: Global,
+    designed: &Designed,
+    netlist: &Netlist,
+    stimulus: &[u8],
+    out: &mut W,
+) -> Result<()>
+    requires { IsNetlist netlist.now }
+{
     let simulated = simulate(alloc, &designed.checked, stimulus)?;
-    let plan = &designed.planned.resolved;
-    let netlist = netlist_of(alloc, &designed.checked, plan, &designed.planned.times)?;
-    let windows = windows_of(alloc, &designed, &netlist)?;
-    let tallies = tallies_of(alloc, &simulated, &netlist, windows.as_slice())?;
-    put_inputs(&netlist, out)?;
-    put_outputs(&netlist, tallies.as_slice(), out)
+    put_simulated(alloc, designed, netlist, &simulated, out)
+}
+
+/// Prints what the netlist of a design shows beside a simulation.
+fn put_simulated<W: Write>(
+    alloc: Global,
+    designed: &Designed,
+    netlist: &Netlist,
+    simulated: &Simulated,
+    out: &mut W,
+) -> Result<()>
+    requires { IsNetlist netlist.now }
+{
+    let windows = windows_of(alloc, designed, netlist)?;
+    let tallies = tallies_of(alloc, simulated, netlist, windows.as_slice())?;
+    put_inputs(netlist, out)?;
+    put_outputs(netlist, tallies.as_slice(), out)
 }
 
 /// Prints how many registers and Counters the netlist of a model by a plan has.
 pub fn put_held<W: Write>(alloc: Global, model: &[u8], plan: &[u8], out: &mut W) -> Result<()> {
-    let designed = match designed_of(alloc, model, plan) {
-        Ok(designed) => designed,
-        Err(fault) => return put_fault(&fault, out),
-    };
-    let plan = &designed.planned.resolved;
-    let netlist = netlist_of(alloc, &designed.checked, plan, &designed.planned.times)?;
+    match designed_of(alloc, model, plan) {
+        Ok(designed) => put_held_of(alloc, &designed, out),
+        Err(fault) => put_fault(&fault, out),
+    }
+}
+
+/// Prints how many registers and Counters the netlist of a design has.
+fn put_held_of<W: Write>(alloc: Global, designed: &Designed, out: &mut W) -> Result<()>
+    requires plan { IsPlanOf designed.now.checked.diagram designed.now.planned.resolved }
+    requires times { AreTimes designed.now.checked.diagram designed.now.planned.resolved
+        designed.now.planned.times }
+{
+    let netlist = netlist_of(
+        alloc,
+        &designed.checked,
+        &designed.planned.resolved,
+        &designed.planned.times,
+    )?;
     let held = netlist.nets().iter().filter(|net| holds(&net.kind)).count();
     writeln!(out, "held {held}")?;
     Ok(())
