@@ -1,4 +1,4 @@
--- The edges into a block by its ports.
+-- The edges into a block by its ports. Crates above may cite this file.
 use Rattle.std.proofs.Common.{◌≡◌, ℕ, zero, suc, ◌+◌, ◌<◌, List, [], ◌∷◌, length, map, slice_get, Option, Some, ap, sym, ◌∙◌, refl, arith}
 use Rattle.std.proofs.lemmas.Option.{none-some, same_Some}
 use Rattle.dg_waves.specs.Rounds.{numbers_from}

@@ -1,4 +1,4 @@
--- What the rules of a model give the laws: widths and types that fit, and a rank of each block above those that it reads at once (own).
+-- What the rules of a model give the laws: widths and types that fit, and a rank of each block above those that it reads at once (own). Crates above may cite this file.
 pub use Rattle.dg_sim.specs.Fit.{AreRepeated, FitShape, HasWidths, HasLists, KeepsType}
 use Rattle.std.specs.Prelude.{◌≡◌, ℕ, ◌≤◌, ◌<◌, true, length, map, sum, All, Some, slice_get, ⊤}
 use Rattle.fx_type.specs.declared.kind.FxType.TheVariants.{Logical}

@@ -1,4 +1,4 @@
--- Lists of numbers, hits, and what a search finds.
+-- Lists of numbers, hits, and what a search finds. Crates above may cite this file.
 use Rattle.std.proofs.Common.{◌≡◌, ℕ, zero, suc, ◌+◌, ◌-◌, ◌%◌, ◌<◌, ◌≤◌, ◌⊎◌, ◌||◌, cond, Bool, true, false, List, [], ◌∷◌, length, map, take, sum, filter, find, slice_get, slice_index, get_or, All, Option, Some, None, if◌then◌else◌, ◌==◌, inl, inr, ap, ap₂, sym, ◌∙◌, subst, refl, arith, le_refl, lit<}
 use Rattle.std.proofs.Math.Nat.{mod-le}
 use Rattle.std.specs.List.{list_any}

@@ -1,4 +1,4 @@
--- The equation of a block at a place gives at most one number.
+-- The equation of a block at a place gives at most one number. Crates above may cite this file.
 use Rattle.std.proofs.Common.{◌≡◌, ℕ, suc, ◌-◌, Bool, true, false, MatchBool, List, filter, slice_get, Option, Some, None, MatchOption, ℤ, ap, ap₂, sym, ◌∙◌, subst}
 use Rattle.fx_type.specs.declared.kind.FxType.{FxType}
 use Rattle.fx_type.specs.declared.decimal.Decimal.{Decimal}

@@ -1,4 +1,4 @@
--- What an input reads: a place that the table shows.
+-- What an input reads: a place that the table shows. Crates above may cite this file.
 use Rattle.std.proofs.Common.{◌≡◌, ℕ, ◌<◌, ◌≤◌, ◌⊎◌, inl, inr, slice_get, Option, Some, None, MatchOption, pos, Bool, true, false, true≢false, ap, sym, subst, refl, arith}
 use Rattle.fx_type.specs.declared.kind.FxType.TheVariants.{Logical}
 use Rattle.fx_type.specs.FxType.{IsType}

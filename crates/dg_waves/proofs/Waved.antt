@@ -1,4 +1,4 @@
--- A wave over all changes is a round.
+-- A wave over all changes is a round. Crates above may cite this file.
 use Rattle.std.proofs.Common.{◌≡◌, ℕ, zero, suc, ◌+◌, ◌<◌, Bool, true, false, Some, inl, inr, List, [], ◌∷◌, ◌++◌, length, map, eqb, All, refl, sym, ap, subst, ◌∙◌, arith}
 use Rattle.std.specs.Prelude.{set, slice_get}
 use Rattle.std.proofs.lemmas.Bool.{true≢false, false≢true, eqb-true, eqb-false, eq-eqb, or_parts, or_cases, or_left, or_right, or_from, cases_Bool}

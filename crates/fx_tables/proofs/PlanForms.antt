@@ -1,4 +1,4 @@
--- What is read of a line of a plan has its form.
+-- What is read of a line of a plan has its form. Crates above may cite this file.
 use Rattle.std.proofs.Common.{◌≡◌, ◌≢◌, ℕ, zero, suc, ◌<◌, ◌≤◌, Bool, true, false, cond, not, eqb, None, Some, Option, List, [], ◌∷◌, ◌++◌, ◌⊎◌, inl, inr, length, take, drop, get_or, refl, sym, ap, subst, ◌∙◌, ⊎_elim, arith, rules, eqb-true}
 use Rattle.std.specs.Prelude.{codes, ◌&&◌, nat_le}
 use Rattle.std.specs.List.{list_all, prefix_len}

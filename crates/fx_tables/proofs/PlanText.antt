@@ -1,4 +1,4 @@
--- What is read of a plan's lines is what they say, and the first bad line.
+-- What is read of a plan's lines is what they say, and the first bad line. Crates above may cite this file.
 use Rattle.std.proofs.Common.{◌≡◌, ℕ, ◌+◌, true, false, None, Some, Option, List, [], ◌∷◌, ◌++◌, length, refl, sym, ap, ◌∙◌, ⊎_elim, append_assoc, append-nil, arith}
 use Rattle.std.specs.List.{filter_map, cons_option}
 use Rattle.std.specs.Option.{option_to_list}

@@ -1,4 +1,4 @@
--- The index of Counters, as nets and ports are put in.
+-- The index of Counters, as nets and ports are put in. Crates above may cite this file.
 use Rattle.std.proofs.Common.{◌≡◌, ℕ, zero, suc, Result, Ok, Err, IfOk, OnOk, take, drop, slice_index_or, length-set, IsSome, subst, slice_get, set, ◌+◌, ◌==◌, nat_lt, List, [], ◌∷◌, ◌++◌, length, Option, None, Some, Bool, true, false, cond, refl, if◌then◌else◌, ap, sym, ◌∙◌, arith}
 use Rattle.std.proofs.lemmas.Bool.{eqb-true, eqb-false, ltb-true, and_parts, and_from}
 use Rattle.std.specs.declared.cmp.Ordering.TheVariants.{Less, Equal, Greater}

@@ -1,4 +1,4 @@
--- Periods are above 0, and blocks whose values move on have one.
+-- Periods are above 0, and blocks whose values move on have one. Crates above may cite this file.
 use Rattle.std.proofs.Common.{◌≡◌, ℕ, zero, ◌*◌, suc, ◌/◌, ◌<◌, ◌≤◌, min, Bool, true, false, List, [], ◌∷◌, length, map, refl, sym, ap, subst, ◌∙◌, inl, inr, arith}
 use Rattle.std.specs.Prelude.{slice_get, Option, Some, None, if◌then◌else◌, ◌^◌, negsuc, ⊤}
 use Rattle.std.specs.List.{filter_map, cons_option}

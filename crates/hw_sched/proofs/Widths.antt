@@ -1,4 +1,4 @@
--- Each output port of a checked diagram has a width, and each block one of its own.
+-- Each output port of a checked diagram has a width, and each block one of its own. Crates above may cite this file.
 use Rattle.std.proofs.Common.{◌≡◌, ℕ, zero, suc, ◌-◌, ◌<◌, ◌≤◌, min, Bool, true, false, cond, List, length, map, refl, sym, ap, subst, ◌∙◌, arith}
 use Rattle.std.specs.Prelude.{slice_get, slice_index_or, [], ◌∷◌, Option, Some}
 use Rattle.std.proofs.lemmas.List.{length-map}

@@ -1,4 +1,4 @@
--- Parts of small diagrams that are worked out by hand, and the order of those whose lines all lead to later blocks.
+-- Parts of small diagrams that are worked out by hand, and the order of those whose lines all lead to later blocks. Crates above may cite this file.
 use Rattle.std.proofs.Common.{◌≡◌, ℕ, zero, suc, ◌+◌, ◌-◌, ◌%◌, ◌^◌, ◌<◌, ◌≤◌, inl, pos, Bool, true, false, List, [], ◌∷◌, length, get_or, Option, Some, None, slice_get, All, ap, sym, ◌∙◌, subst, refl, arith}
 use Rattle.std.specs.Prelude.{nat_lt, slice_index, AllPairs, IsSome, count_by, ⊤}
 use Rattle.std.specs.List.{AllByRecursion, list_all}

@@ -1,4 +1,4 @@
--- What is read is what the text stands for.
+-- What is read is what the text stands for. Crates above may cite this file.
 use Rattle.std.proofs.Common.{◌≡◌, ◌≢◌, ℕ, false, cond, List, [], ◌∷◌, ◌++◌, length, take, drop, Option, Some, None, inl, inr, refl, sym, ◌∙◌, ap, subst, ⊎_elim, append_assoc, append-nil, eqb-true, flat_map, take-append-drop, option_and_then}
 use Rattle.std.specs.Prelude.{◌==◌}
 use Rattle.std.specs.List.{list_all, prefix_len, AllByRecursion}

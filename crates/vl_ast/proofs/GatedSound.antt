@@ -1,4 +1,4 @@
--- A gated module breaks no condition that the module itself doesn't break.
+-- A gated module breaks no condition that the module itself doesn't break. Crates above may cite this file.
 use Rattle.std.proofs.Common.{◌≡◌, ◌<◌, ◌+◌, ◌%◌, ◌⊎◌, inl, inr, ℕ, suc, nat_le, Bool, true, false, not, ◌&&◌, ◌||◌, if◌then◌else◌, List, [], ◌∷◌, ◌++◌, map, flat_map, find, length, slice_index_or, Contains, bytes_eq, codes, Option, Some, None, option_map, refl, sym, ap, subst, ◌∙◌, arith}
 use Rattle.std.specs.List.{list_any}
 use Rattle.std.proofs.lemmas.List.{append_assoc, append-nil}

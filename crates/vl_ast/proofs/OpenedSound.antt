@@ -1,4 +1,4 @@
--- A module to which `clk_enable` and `ce_out` are added keeps the fourth and the sixth condition.
+-- A module to which `clk_enable` and `ce_out` are added keeps the fourth and the sixth condition. Crates above may cite this file.
 use Rattle.std.proofs.Common.{◌≡◌, ℕ, Bool, true, false, not, ◌&&◌, ◌||◌, if◌then◌else◌, ◌==◌, List, [], ◌∷◌, ◌++◌, map, find, Contains, codes, Option, Some, None, option_map, is_none, refl, sym, ap, subst, ◌∙◌}
 use Rattle.std.proofs.lemmas.List.{append_assoc, append-nil, map-append}
 use Rattle.std.proofs.lemmas.List.Elements.{Contains-append_left, Contains-append_right}

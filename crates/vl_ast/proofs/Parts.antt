@@ -1,4 +1,4 @@
--- The rows of a module are rows of one that has some of its ports and items.
+-- The rows of a module are rows of one that has some of its ports and items. Crates above may cite this file.
 use Rattle.std.proofs.Common.{◌≡◌, ⊎_elim, ℕ, Bool, true, false, if◌then◌else◌, ◌==◌, List, ◌++◌, map, flat_map, Contains, codes, Option, Some, None, refl, sym, ap, subst, ◌∙◌}
 use Rattle.std.proofs.lemmas.List.Elements.{Contains-append_left, Contains-append_right, Contains-append_cases}
 use Rattle.vl_ast.specs.declared.expressions.Sized.{Sized}

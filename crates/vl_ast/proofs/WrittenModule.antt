@@ -1,4 +1,4 @@
--- The tokens of a module that breaks no condition can be written, where its names are identifiers.
+-- The tokens of a module that breaks no condition can be written, where its names are identifiers. Crates above may cite this file.
 use Rattle.std.proofs.Common.{◌≡◌, ◌≤◌, ◌-◌, ⊎_elim, inl, inr, ℕ, nat_le, Bool, true, false, not, ◌&&◌, ◌==◌, if◌then◌else◌, List, [], ◌∷◌, ◌++◌, map, find, flat_map, Contains, codes, Option, Some, None, option_map, refl, sym, ap, subst, ◌∙◌, arith}
 use Rattle.std.specs.List.{AllZip}
 use Rattle.std.proofs.lemmas.Bool.{leb-true, eqb-true}

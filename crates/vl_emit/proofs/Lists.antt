@@ -1,4 +1,4 @@
--- Elements of lists by their places, and lists of which no two elements agree.
+-- Elements of lists by their places, and lists of which no two elements agree. Crates above may cite this file.
 use Rattle.std.proofs.Common.{◌≡◌, ◌≢◌, inl, inr, ℕ, zero, suc, ◌+◌, ◌<◌, Bool, false, ◌||◌, List, [], ◌∷◌, ◌++◌, map, flat_map, length, get_or, Contains, Option, None, Some, refl, ap, sym, ◌∙◌, subst, arith, append_assoc}
 use Rattle.std.specs.Prelude.{IsSome}
 use Rattle.std.specs.List.{AllPairs, list_any}

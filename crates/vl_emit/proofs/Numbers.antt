@@ -1,4 +1,4 @@
--- The number that bits of a word show, and the bits of the number.
+-- The number that bits of a word show, and the bits of the number. Crates above may cite this file.
 use Rattle.std.proofs.Common.{◌≡◌, ℕ, ◌-◌, ◌%◌, ◌^◌, ◌<◌, ◌≤◌, nat_le, Bool, true, false, List, Contains, find, bytes_eq, Option, None, Some, ℤ, pos, negsuc, ◌-ℤ◌, ap, sym, ◌∙◌, subst, refl, arith, pow_pos}
 use Rattle.std.proofs.lemmas.Int.{ints}
 use Rattle.std.proofs.lemmas.Bool.{cond_both, leb-true, leb-false}

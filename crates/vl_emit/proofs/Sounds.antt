@@ -1,4 +1,4 @@
--- A netlist that can be run and has its Counters is sound, net by net.
+-- A netlist that can be run and has its Counters is sound, net by net. Crates above may cite this file.
 use Rattle.std.proofs.Common.{◌≡◌, ℕ, suc, ◌+◌, ◌-◌, ◌*◌, ◌<◌, ◌==◌, Bool, true, false, if◌then◌else◌, List, [], ◌∷◌, length, get_or, slice_get, Contains, Option, Some, pos, refl, ap, sym, ◌∙◌, subst, arith}
 use Rattle.std.specs.Prelude.{All, IsSome, unwrap_or}
 use Rattle.std.proofs.lemmas.Bool.{and_parts, eqb-true}

@@ -1,4 +1,4 @@
--- The bits that an edge is given, by the places of its ports.
+-- The bits that an edge is given, by the places of its ports. Crates above may cite this file.
 use Rattle.std.proofs.Common.{◌≡◌, ◌≢◌, ◌<◌, ◌≤◌, ◌+◌, ◌^◌, inl, inr, ◌⊎◌, ⊎_elim, ℕ, zero, suc, Bool, true, false, List, [], ◌∷◌, ◌++◌, length, filter, slice_get, slice_index, Contains, bytes_eq, Some, refl, sym, ap, subst, ◌∙◌, arith}
 use Rattle.std.proofs.lemmas.Bool.{cond-true, cond-false, cases_Bool, cases_lt}
 use Rattle.std.proofs.lemmas.List.{get_or_append_left, get_or_at, length-append}

@@ -1,4 +1,4 @@
--- The ports of a module have different names, and so have those of them that pass a test.
+-- The ports of a module have different names, and so have those of them that pass a test. Crates above may cite this file.
 use Rattle.std.proofs.Common.{◌≡◌, ◌≢◌, ◌<◌, ⊎_elim, ℕ, zero, suc, Bool, true, false, List, [], ◌∷◌, ◌++◌, map, flat_map, filter, slice_get, Contains, Some, None, refl, sym, ap, subst, ◌∙◌, arith}
 use Rattle.std.proofs.lemmas.List.{append_assoc, map-append}
 use Rattle.std.proofs.lemmas.Bool.{cond-true, cond-false}

@@ -1,4 +1,4 @@
--- What the fourth condition says of each item and each name of a module.
+-- What the fourth condition says of each item and each name of a module. Crates above may cite this file.
 use Rattle.std.proofs.Common.{◌≡◌, ◌≤◌, ℕ, Bool, true, false, not, ◌&&◌, if◌then◌else◌, nat_le, ◌⊎◌, inl, inr, bytes_eq, List, [], ◌∷◌, map, find, Contains, Option, None, Some, refl, sym, subst, ◌∙◌, arith}
 use Rattle.std.specs.Option.{option_map}
 use Rattle.std.proofs.lemmas.Bool.{and_parts, leb-true, not-false}
