@@ -167,6 +167,25 @@ declares (Reg signed width name) d e = subst (λ (x : Declared). Contains (item_
 declares (Assign name value) d e = absurd e
 declares (Always name first condition value) d e = absurd e
 
+-- the mention is that an item drives a name
+abbrev pub DrivenBy : ModItem → Mention → Type 0
+DrivenBy (Wire signed width name) mention = ⊥
+DrivenBy (Reg signed width name) mention = ⊥
+DrivenBy (Assign name value) mention = Drives false name ≡ mention
+DrivenBy (Always name first condition value) mention = Drives true name ≡ mention
+
+pub driven-item : (m : Module) (item : ModItem) (mention : Mention) → Contains m.items item → DrivenBy item mention → Contains (mentions m) mention
+driven-item m item mention c e =
+    Contains-append_right (map (λ (port : Port). Declares (port_declared port)) m.ports) (flat_map item_mentions m.items) mention
+    (in-one item_mentions m.items item mention c (own item e)) where
+      own : (item : ModItem) → DrivenBy item mention → Contains (item_mentions item) mention
+      own (Wire signed width name) e = absurd e
+      own (Reg signed width name) e = absurd e
+      own (Assign name value) e = subst (Contains (item_mentions (Assign name value))) e (here (Drives false name) (map Reads (names_read value)))
+      own (Always name first condition value) e =
+          let reads : List Mention = map Reads (condition_names condition ++ names_read value) in
+          subst (Contains (item_mentions (Always name first condition value))) e (later Clocks (Drives true name) (Drives true name ∷ reads) (here (Drives true name) reads))
+
 pub declared-item : (m : Module) (item : ModItem) (d : Declared) → Contains m.items item → DeclaredBy item d → Contains (declarations m) d
 declared-item m item d c e =
     in-one declared_by (mentions m) (Declares d) d

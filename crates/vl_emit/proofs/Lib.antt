@@ -30,6 +30,7 @@ pub mod Agree
 pub mod Origins
 pub mod Clocked
 pub mod Multiplied
+pub mod Assigned
 pub mod Returned
 pub mod Shows
 pub mod Itemized

@@ -25,10 +25,11 @@ use Rattle.hw_net.specs.Netlist.{IsNetlist}
 use Rattle.hw_net.specs.Emittable.{IsEmittable}
 use Rattle.vl_emit.specs.Names.{Wire, name_of, hold_name, input_wire, net_wire, shown}
 use Rattle.hw_net.specs.Products.{net_at, places}
-use Rattle.vl_emit.specs.Products.{HasFactor, IsProduct, ProductsAre}
-use Rattle.hw_net.specs.Products.{unit_product, comb_product, products_of}
+use Rattle.vl_emit.specs.Products.{HasFactor, IsProduct}
+use Rattle.hw_net.specs.Products.{Product, unit_product, comb_product, products_of}
 use Rattle.vl_emit.specs.Registers.{declared_register, register_name, RegistersAre}
-use Rattle.vl_emit.specs.inner.Emitted.{Naming, wire_of, drivers, declarers, unit_drivers, other_drivers, output_item, naming_of, items_of, plain_module, module_of}
+use Rattle.vl_emit.specs.inner.Clean.{IsClean}
+use Rattle.vl_emit.specs.inner.Emitted.{Naming, wire_of, drivers, declarers, unit_drivers, other_drivers, output_item, naming_of, items_of, first_declared, plain_module, module_of}
 use Rattle.vl_emit.specs.inner.Sound.{IsSound, IsSoundKind}
 use Rattle.vl_emit.specs.inner.Spelled.{at_width}
 use Rattle.vl_emit.proofs.AtWidth.{operand-written}
@@ -37,6 +38,7 @@ use Rattle.vl_emit.proofs.Drivers.{multiplies, assign-clean, drivers-clean}
 use Rattle.vl_emit.proofs.Found.{no-element, of-one, of-mapped, one-more}
 use Rattle.vl_emit.proofs.Layers.{length-Binary}
 use Rattle.vl_emit.proofs.Lists.{empty-list, flat_map-twice, flat_map-same}
+use Rattle.vl_emit.proofs.NetItems.{others-drive}
 use Rattle.vl_emit.proofs.OfOperations.{width-at-least}
 use Rattle.vl_emit.proofs.Opened.{kept-net}
 use Rattle.vl_emit.proofs.Origins.{has}
@@ -46,22 +48,49 @@ use Rattle.vl_emit.proofs.Sounds.{netlist-sound}
 use Rattle.vl_emit.proofs.Interfaces.{emitted}
 
 module _ {A B : Type 0} (R : A → B → Type 0) where
-  zip-append : (xs : List A) (ys : List B) (us : List A) (vs : List B) → AllZip R xs ys → AllZip R us vs → AllZip R (xs ++ us) (ys ++ vs)
+  pub zip-append : (xs : List A) (ys : List B) (us : List A) (vs : List B) → AllZip R xs ys → AllZip R us vs → AllZip R (xs ++ us) (ys ++ vs)
   zip-append [] [] us vs p q = q
   zip-append [] (y ∷ ys) us vs p q = absurd p
   zip-append (x ∷ xs) [] us vs p q = absurd p
   zip-append (x ∷ xs) (y ∷ ys) us vs p q = (p.0, zip-append xs ys us vs p.1 q)
 
-  zip-places : (f : ℕ → List A) (g : ℕ → List B) (n : ℕ) → ((k : ℕ) → k < n → AllZip R (f k) (g k)) → AllZip R (flat_map f (places n)) (flat_map g (places n))
+  pub zip-places : (f : ℕ → List A) (g : ℕ → List B) (n : ℕ) → ((k : ℕ) → k < n → AllZip R (f k) (g k)) → AllZip R (flat_map f (places n)) (flat_map g (places n))
   zip-places f g zero h = tt
   zip-places f g (suc n) h =
       subst (AllZip R (flat_map f (places (suc n)))) (sym (one-more g n (suc n) (omega arith)))
       (subst (λ (l : List A). AllZip R l (flat_map g (places n) ++ g n)) (sym (one-more f n (suc n) (omega arith)))
       (zip-append (flat_map f (places n)) (flat_map g (places n)) (f n) (g n) (zip-places f g n (λ k below. h k (omega (arith, below)))) (h n (omega arith))))
 
+-- what holds of a Multiply, of a Unit, and of each kind of net that multiplies nothing, holds of all
+module _ (P : NetKind → Type 0) (product : (args : List ℕ) → P (Comb Multiply args)) (unit : (left right : ℕ) → P (Unit left right))
+    (none : (kind : NetKind) → multiplies kind ≡ false → ((width : ℕ) → comb_product width kind ≡ []) → P kind) where
+  pub by-kind : (kind : NetKind) → P kind
+  by-kind (Comb Multiply args) = product args
+  by-kind (Unit left right) = unit left right
+  by-kind (Comb (Input number) args) = none (Comb (Input number) args) refl (λ width. refl)
+  by-kind (Comb (Const value) args) = none (Comb (Const value) args) refl (λ width. refl)
+  by-kind (Comb Resize args) = none (Comb Resize args) refl (λ width. refl)
+  by-kind (Comb (ShiftUp shift) args) = none (Comb (ShiftUp shift) args) refl (λ width. refl)
+  by-kind (Comb (ShiftDown shift) args) = none (Comb (ShiftDown shift) args) refl (λ width. refl)
+  by-kind (Comb Add args) = none (Comb Add args) refl (λ width. refl)
+  by-kind (Comb Subtract args) = none (Comb Subtract args) refl (λ width. refl)
+  by-kind (Comb Negate args) = none (Comb Negate args) refl (λ width. refl)
+  by-kind (Comb And args) = none (Comb And args) refl (λ width. refl)
+  by-kind (Comb Or args) = none (Comb Or args) refl (λ width. refl)
+  by-kind (Comb Xor args) = none (Comb Xor args) refl (λ width. refl)
+  by-kind (Comb Not args) = none (Comb Not args) refl (λ width. refl)
+  by-kind (Comb Less args) = none (Comb Less args) refl (λ width. refl)
+  by-kind (Comb Equal args) = none (Comb Equal args) refl (λ width. refl)
+  by-kind (Comb Choose args) = none (Comb Choose args) refl (λ width. refl)
+  by-kind (Comb (Slice high low) args) = none (Comb (Slice high low) args) refl (λ width. refl)
+  by-kind (Reg frame slot first from) = none (Reg frame slot first from) refl (λ width. refl)
+  by-kind (EnReg frame enable resets first from) = none (EnReg frame enable resets first from) refl (λ width. refl)
+  by-kind (Bridge frame live from) = none (Bridge frame live from) refl (λ width. refl)
+  by-kind (Counter frame) = none (Counter frame) refl (λ width. refl)
+
 -- ---- the clock enable multiplies nothing, and is no register
 
-name-products : (nets : List ℕ → DeclaredNet) (width : ℕ) (signed : Bool) → multiplications_in nets width signed (expression.Name (codes "clk_enable")) ≡ []
+pub name-products : (nets : List ℕ → DeclaredNet) (width : ℕ) (signed : Bool) → multiplications_in nets width signed (expression.Name (codes "clk_enable")) ≡ []
 name-products nets width signed =
     ap (multiplications_in nets width signed) (sym (expression.rolls-Name (codes "clk_enable")))
     ∙ ap (λ (f : ℕ → Bool → List Multiplication). f width signed) (para-roll-Expr (ℕ → Bool → List Multiplication) (multiplications_step nets) (Expr-F.Name (codes "clk_enable")))
@@ -78,7 +107,7 @@ condition-products nets (Some condition) =
     both-products nets _ _ (expression.Name (codes "clk_enable")) condition
     ∙ ap (λ (l : List Multiplication). l ++ multiplications_in nets (own_length nets condition) (is_signed nets condition) condition) (name-products nets _ _)
 
-gated-products : (nets : List ℕ → DeclaredNet) (i : ModItem) → item_multiplications nets (gated_item i) ≡ item_multiplications nets i
+pub gated-products : (nets : List ℕ → DeclaredNet) (i : ModItem) → item_multiplications nets (gated_item i) ≡ item_multiplications nets i
 gated-products nets (item.Wire signed width name) = refl
 gated-products nets (item.Reg signed width name) = refl
 gated-products nets (item.Assign name value) = refl
@@ -91,7 +120,7 @@ gated-register (item.Reg signed width name) = refl
 gated-register (item.Assign name value) = refl
 gated-register (item.Always name first condition value) = refl
 
-gated-same : {X : Type 0} (f : ModItem → List X) → ((i : ModItem) → f (gated_item i) ≡ f i) → (is : List ModItem) → flat_map f (map gated_item is) ≡ flat_map f is
+pub gated-same : {X : Type 0} (f : ModItem → List X) → ((i : ModItem) → f (gated_item i) ≡ f i) → (is : List ModItem) → flat_map f (map gated_item is) ≡ flat_map f is
 gated-same f same [] = refl
 gated-same f same (i ∷ is) = (λ j. same i j ++ gated-same f same is j)
 
@@ -159,29 +188,47 @@ module _ (netlist : Circuit) (runs : IsNetlist netlist) (emits : IsEmittable net
             (wire-shows m total start inputs rows run k below (wire_of naming net j) (kept j h) (sound.word j h))).value signed;
       })
 
+  -- an operand of a product
+  factor-clean : (k j : ℕ) → k < length netlist.nets → j < length netlist.nets → IsClean (nets_of (module_of netlist)) (λ name. ⊤) (net_at netlist.nets k).width (at_width (net_at netlist.nets k).width (wire_of (naming_of netlist) (net_at netlist.nets) j))
+  factor-clean k j h p =
+      at-clean nets any (net k).width (wire_of naming net j) (some-bits k h) (word-most nets any (net k).width (net k).signed (sound.word k h)) (readable j p)
+
+  abbrev pub product_value : ℕ → ℕ → ℕ → Expr
+  product_value k left right =
+      expression.Binary binary.Multiply (at_width (net_at netlist.nets k).width (wire_of (naming_of netlist) (net_at netlist.nets) left)) (at_width (net_at netlist.nets k).width (wire_of (naming_of netlist) (net_at netlist.nets) right))
+
+  -- the multiplication of a product
+  abbrev pub multiplication_of : ℕ → ℕ → ℕ → Multiplication
+  multiplication_of k left right = record {
+    left = at_width (net_at netlist.nets k).width (wire_of (naming_of netlist) (net_at netlist.nets) left);
+    right = at_width (net_at netlist.nets k).width (wire_of (naming_of netlist) (net_at netlist.nets) right);
+    width = max (nets_of (module_of netlist) ((naming_of netlist).net k)).width (own_length (nets_of (module_of netlist)) (product_value k left right));
+    signed = is_signed (nets_of (module_of netlist)) (product_value k left right);
+  }
+
+  pub product-alone : (k left right : ℕ) → k < length netlist.nets → left < length netlist.nets → right < length netlist.nets
+      → item_multiplications (nets_of (module_of netlist)) (item.Assign ((naming_of netlist).net k) (product_value k left right)) ≡ multiplication_of k left right ∷ []
+  product-alone k left right h p q =
+      binary-products nets any (net k).width binary.Multiply _ _ (multiplication_of k left right).width (multiplication_of k left right).signed (factor-clean k left h p) (factor-clean k right h q)
+
   -- the item of a product
   product-zip : (k left right : ℕ) → k < length netlist.nets → left < length netlist.nets → right < length netlist.nets
       → AllZip (IsProduct netlist (module_of netlist)) (record { left = left; right = right; width = (net_at netlist.nets k).width } ∷ [])
-      (item_multiplications (nets_of (module_of netlist)) (item.Assign ((naming_of netlist).net k)
-      (expression.Binary binary.Multiply (at_width (net_at netlist.nets k).width (wire_of (naming_of netlist) (net_at netlist.nets) left)) (at_width (net_at netlist.nets k).width (wire_of (naming_of netlist) (net_at netlist.nets) right)))) ++ [])
+      (item_multiplications (nets_of (module_of netlist)) (item.Assign ((naming_of netlist).net k) (product_value k left right)) ++ [])
   product-zip k left right h p q =
       let w : ℕ = (net_at netlist.nets k).width in
       let x : Expr = at_width w (wire_of naming net left) in
       let y : Expr = at_width w (wire_of naming net right) in
-      let e : Expr = expression.Binary binary.Multiply x y in
-      let some : 1 ≤ w = width-at-least (net k).signed w (sound.word k h) in
-      let most : w ≤ 128 = word-most nets any w (net k).signed (sound.word k h) in
-      let cx = at-clean nets any w (wire_of naming net left) some most (readable left p) in
-      let cy = at-clean nets any w (wire_of naming net right) some most (readable right q) in
-      let long : own_length nets e ≡ w = length-Binary nets binary.Multiply x y ∙ omega (arith, cx.length, cy.length) in
+      let cx = factor-clean k left h p in
+      let cy = factor-clean k right h q in
+      let long : own_length nets (product_value k left right) ≡ w = length-Binary nets binary.Multiply x y ∙ omega (arith, cx.length, cy.length) in
       let wide : (nets (naming.net k)).width ≡ w = ap (λ (n : DeclaredNet). n.width) (kept k h) in
-      let context : max (nets (naming.net k)).width (own_length nets e) ≡ w = omega (arith, long, wide) in
-      let is = binary-products nets any w binary.Multiply x y (max (nets (naming.net k)).width (own_length nets e)) (is_signed nets e) cx cy in
-      subst (λ (l : List Multiplication). AllZip (IsProduct netlist m) (record { left = left; right = right; width = w } ∷ []) (l ++ [])) (sym is) (
+      let context : (multiplication_of k left right).width ≡ w = omega (arith, long, wide) in
+      subst (λ (l : List Multiplication). AllZip (IsProduct netlist m) (record { left = left; right = right; width = w } ∷ []) (l ++ [])) (sym (product-alone k left right h p q)) (
         record {
           width = context;
-          left = factor w (max (nets (naming.net k)).width (own_length nets e)) (is_signed nets e) left p some context;
-          right = factor w (max (nets (naming.net k)).width (own_length nets e)) (is_signed nets e) right q some context;
+          left = factor w (multiplication_of k left right).width (multiplication_of k left right).signed left p (some-bits k h) context;
+          right = factor w (multiplication_of k left right).width (multiplication_of k left right).signed right q (some-bits k h) context;
         },
         tt,
       )
@@ -209,12 +256,13 @@ module _ (netlist : Circuit) (runs : IsNetlist netlist) (emits : IsEmittable net
       (λ port args is. input-readable k port args h is)
       (net k).kind refl i c).products e
 
-  none-by : (k : ℕ) → k < length netlist.nets → (kind : NetKind) → (net_at netlist.nets k).kind ≡ kind → multiplies kind ≡ false
-      → flat_map (item_multiplications (nets_of (module_of netlist))) (drivers netlist.cycles (naming_of netlist) (net_at netlist.nets) k kind) ≡ []
-  none-by k h kind is e =
-      empty-list (flat_map (item_multiplications (nets_of (module_of netlist))) (drivers netlist.cycles (naming_of netlist) (net_at netlist.nets) k kind))
-      (λ x c. (let r = of-one (item_multiplications (nets_of (module_of netlist))) (drivers netlist.cycles (naming_of netlist) (net_at netlist.nets) k kind) x c in
-      let none = none-at k h (ap multiplies is ∙ e) r.0 (subst (λ (t : NetKind). Contains (drivers netlist.cycles (naming_of netlist) (net_at netlist.nets) k t) r.0) (sym is) r.1) in
+  pub others-none : (k : ℕ) → k < length netlist.nets → (kind : NetKind) → (net_at netlist.nets k).kind ≡ kind → multiplies kind ≡ false
+      → flat_map (item_multiplications (nets_of (module_of netlist))) (other_drivers netlist.cycles (naming_of netlist) (net_at netlist.nets) k kind) ≡ []
+  others-none k h kind is e =
+      empty-list (flat_map (item_multiplications nets) (other_drivers cycles naming net k kind))
+      (λ x c. (let r = of-one (item_multiplications nets) (other_drivers cycles naming net k kind) x c in
+      let there = others-drive cycles count naming net netlist.outputs k kind r.0 r.1 in
+      let none = none-at k h (ap multiplies is ∙ e) r.0 (subst (λ (t : NetKind). Contains (drivers cycles naming net k t) r.0) (sym is) there) in
       no-element x (subst (λ (l : List Multiplication). Contains l x) none r.2)))
 
   abbrev Zips : ℕ → NetKind → Type 0
@@ -225,30 +273,12 @@ module _ (netlist : Circuit) (runs : IsNetlist netlist) (emits : IsEmittable net
   no-zip l e = subst (AllZip (IsProduct netlist (module_of netlist)) []) (sym e) tt
 
   other-zip : (k : ℕ) → k < length netlist.nets → (kind : NetKind) → (net_at netlist.nets k).kind ≡ kind → Zips k kind
-  other-zip k h (Comb Multiply args) is =
-      let names = subst (IsSoundKind cycles count naming net runs.ranked.0 k) is (sound.names k h) in
-      product-zip k (get_or args 0 0) (get_or args 1 0) h (names.1 0 (omega arith)).there (names.1 1 (omega arith)).there
-  other-zip k h (Comb (Input number) args) is = no-zip _ (none-by k h (Comb (Input number) args) is refl)
-  other-zip k h (Comb (Const value) args) is = no-zip _ (none-by k h (Comb (Const value) args) is refl)
-  other-zip k h (Comb Resize args) is = no-zip _ (none-by k h (Comb Resize args) is refl)
-  other-zip k h (Comb (ShiftUp shift) args) is = no-zip _ (none-by k h (Comb (ShiftUp shift) args) is refl)
-  other-zip k h (Comb (ShiftDown shift) args) is = no-zip _ (none-by k h (Comb (ShiftDown shift) args) is refl)
-  other-zip k h (Comb Add args) is = no-zip _ (none-by k h (Comb Add args) is refl)
-  other-zip k h (Comb Subtract args) is = no-zip _ (none-by k h (Comb Subtract args) is refl)
-  other-zip k h (Comb Negate args) is = no-zip _ (none-by k h (Comb Negate args) is refl)
-  other-zip k h (Comb And args) is = no-zip _ (none-by k h (Comb And args) is refl)
-  other-zip k h (Comb Or args) is = no-zip _ (none-by k h (Comb Or args) is refl)
-  other-zip k h (Comb Xor args) is = no-zip _ (none-by k h (Comb Xor args) is refl)
-  other-zip k h (Comb Not args) is = no-zip _ (none-by k h (Comb Not args) is refl)
-  other-zip k h (Comb Less args) is = no-zip _ (none-by k h (Comb Less args) is refl)
-  other-zip k h (Comb Equal args) is = no-zip _ (none-by k h (Comb Equal args) is refl)
-  other-zip k h (Comb Choose args) is = no-zip _ (none-by k h (Comb Choose args) is refl)
-  other-zip k h (Comb (Slice high low) args) is = no-zip _ (none-by k h (Comb (Slice high low) args) is refl)
-  other-zip k h (Reg frame slot first from) is = no-zip _ (none-by k h (Reg frame slot first from) is refl)
-  other-zip k h (EnReg frame enable resets first from) is = no-zip _ (none-by k h (EnReg frame enable resets first from) is refl)
-  other-zip k h (Bridge frame live from) is = no-zip _ (none-by k h (Bridge frame live from) is refl)
-  other-zip k h (Unit left right) is = tt
-  other-zip k h (Counter frame) is = no-zip _ (none-by k h (Counter frame) is refl)
+  other-zip k h =
+      by-kind (λ kind. (net_at netlist.nets k).kind ≡ kind → Zips k kind)
+      (λ args is. (let names = subst (IsSoundKind cycles count naming net runs.ranked.0 k) is (sound.names k h) in
+      product-zip k (get_or args 0 0) (get_or args 1 0) h (names.1 0 (omega arith)).there (names.1 1 (omega arith)).there))
+      (λ left right is. tt)
+      (λ kind none bare is. subst (λ (l : List Product). AllZip (IsProduct netlist m) l (flat_map (item_multiplications nets) (other_drivers cycles naming net k kind))) (sym (bare (net k).width)) (no-zip _ (others-none k h kind is none)))
 
   abbrev declaring : List ModItem
   declaring = flat_map (λ k. declarers naming net k (net k).kind) (places count)
@@ -282,29 +312,33 @@ module _ (netlist : Circuit) (runs : IsNetlist netlist) (emits : IsEmittable net
       (assign-clean nets any output.name (net k).width (expression.Name (naming.net k)) (word-most nets any (net k).width (net k).signed (sound.word k h))
       (name-clean nets any (naming.net k) (net k).width (ap (λ (n : DeclaredNet). n.width) (kept k h)) tt)).products refl
 
-  pub products-are : ProductsAre netlist (module_of netlist)
-  products-are = record {
-    each =
-        let first : flat_map (item_multiplications nets) declaring ≡ [] =
-        flat_map-twice (item_multiplications nets) (λ k. declarers naming net k (net k).kind) (places count)
-        ∙ flat_map-same (λ k. flat_map (item_multiplications nets) (declarers naming net k (net k).kind)) (λ k. []) (λ k. declared-none k (net k).kind) (places count)
-        ∙ empty-list (flat_map (λ k. []) (places count)) (λ x c. (let r = of-one (λ k. []) (places count) x c in no-element x r.2)) in
-        let last : flat_map (item_multiplications nets) showing ≡ [] =
-        none-of-list (item_multiplications nets) showing (λ i c. (let r = of-mapped (output_item naming) netlist.outputs i c in subst (λ (x : ModItem). item_multiplications nets x ≡ []) r.2 (shown-none r.0 r.1))) in
-        let all : multiplications m ≡ flat_map (item_multiplications nets) units ++ (flat_map (item_multiplications nets) others ++ []) =
-        with-enable (item_multiplications nets) (gated-products nets) (name-products nets _ _ ∙ refl) (items_of netlist)
-        ∙ flat_map-append (item_multiplications nets) declaring (units ++ (others ++ showing))
-        ∙ (λ i. first i ++ flat_map-append (item_multiplications nets) units (others ++ showing) i)
-        ∙ (λ i. flat_map (item_multiplications nets) units ++ flat_map-append (item_multiplications nets) others showing i)
-        ∙ (λ i. flat_map (item_multiplications nets) units ++ (flat_map (item_multiplications nets) others ++ last i)) in
-        let u = flat_map-twice (item_multiplications nets) (λ k. unit_drivers cycles naming net k (net k).kind) (places count) in
-        let o = flat_map-twice (item_multiplications nets) (λ k. other_drivers cycles naming net k (net k).kind) (places count) in
-        subst (AllZip (IsProduct netlist m) (products_of netlist))
-        (sym (all ∙ (λ i. u i ++ append-nil (o i) i)))
-        (zip-append (IsProduct netlist m) _ _ _ _
-        (zip-places (IsProduct netlist m) (λ k. unit_product (net k).width (net k).kind) (λ k. flat_map (item_multiplications nets) (unit_drivers cycles naming net k (net k).kind)) count (λ k h. unit-zip k h (net k).kind refl))
-        (zip-places (IsProduct netlist m) (λ k. comb_product (net k).width (net k).kind) (λ k. flat_map (item_multiplications nets) (other_drivers cycles naming net k (net k).kind)) count (λ k h. other-zip k h (net k).kind refl)));
-  }
+  -- what declares a net, and what shows an output, multiply nothing
+  pub declared-bare : flat_map (item_multiplications (nets_of (module_of netlist))) (first_declared netlist (length netlist.nets)) ≡ []
+  declared-bare =
+      flat_map-twice (item_multiplications nets) (λ k. declarers naming net k (net k).kind) (places count)
+      ∙ flat_map-same (λ k. flat_map (item_multiplications nets) (declarers naming net k (net k).kind)) (λ k. []) (λ k. declared-none k (net k).kind) (places count)
+      ∙ empty-list (flat_map (λ k. []) (places count)) (λ x c. (let r = of-one (λ k. []) (places count) x c in no-element x r.2))
+
+  pub shown-bare : flat_map (item_multiplications (nets_of (module_of netlist))) (map (output_item (naming_of netlist)) netlist.outputs) ≡ []
+  shown-bare =
+      none-of-list (item_multiplications nets) showing
+      (λ i c. (let r = of-mapped (output_item naming) netlist.outputs i c in subst (λ (x : ModItem). item_multiplications nets x ≡ []) r.2 (shown-none r.0 r.1)))
+
+  pub products-zip : AllZip (IsProduct netlist (module_of netlist)) (products_of netlist) (multiplications (module_of netlist))
+  products-zip =
+      let all : multiplications m ≡ flat_map (item_multiplications nets) units ++ (flat_map (item_multiplications nets) others ++ []) =
+      with-enable (item_multiplications nets) (gated-products nets) (name-products nets _ _ ∙ refl) (items_of netlist)
+      ∙ flat_map-append (item_multiplications nets) declaring (units ++ (others ++ showing))
+      ∙ (λ i. declared-bare i ++ flat_map-append (item_multiplications nets) units (others ++ showing) i)
+      ∙ (λ i. flat_map (item_multiplications nets) units ++ flat_map-append (item_multiplications nets) others showing i)
+      ∙ (λ i. flat_map (item_multiplications nets) units ++ (flat_map (item_multiplications nets) others ++ shown-bare i)) in
+      let u = flat_map-twice (item_multiplications nets) (λ k. unit_drivers cycles naming net k (net k).kind) (places count) in
+      let o = flat_map-twice (item_multiplications nets) (λ k. other_drivers cycles naming net k (net k).kind) (places count) in
+      subst (AllZip (IsProduct netlist m) (products_of netlist))
+      (sym (all ∙ (λ i. u i ++ append-nil (o i) i)))
+      (zip-append (IsProduct netlist m) _ _ _ _
+      (zip-places (IsProduct netlist m) (λ k. unit_product (net k).width (net k).kind) (λ k. flat_map (item_multiplications nets) (unit_drivers cycles naming net k (net k).kind)) count (λ k h. unit-zip k h (net k).kind refl))
+      (zip-places (IsProduct netlist m) (λ k. comb_product (net k).width (net k).kind) (λ k. flat_map (item_multiplications nets) (other_drivers cycles naming net k (net k).kind)) count (λ k h. other-zip k h (net k).kind refl)))
 
   -- the registers
   register-at : (k : ℕ) (kind : NetKind) → flat_map declared_register (declarers (naming_of netlist) (net_at netlist.nets) k kind) ≡ register_name netlist k kind

@@ -1,12 +1,26 @@
--- A net with a label has it as name in the module, which declares it with the net's word (own).
-use Rattle.std.specs.Prelude.{◌≡◌, Contains}
+-- A net with a label has it as name in the module, which declares it with the net's word and drives
+-- it (own).
+use Rattle.std.specs.Prelude.{◌≡◌, Bool, true, false, Contains}
 use Rattle.vl_ast.specs.declared.modules.Module.{Module}
-use Rattle.vl_ast.specs.Nets.{nets_of}
+use Rattle.vl_ast.specs.Nets.{Drives, mentions, nets_of}
 use Rattle.hw_net.specs.declared.netlist.NetLabel.{NetLabel}
+use Rattle.hw_net.specs.declared.netlist.NetKind.{NetKind}
+use Rattle.hw_net.specs.declared.netlist.NetKind.TheVariants.{Comb, Reg, EnReg, Bridge, Unit}
+use Rattle.hw_net.specs.declared.netlist.NetKind.TheVariants.{Counter}
 use Rattle.hw_net.specs.Circuit.{Circuit}
 use Rattle.vl_emit.specs.Names.{name_of}
 use Rattle.hw_net.specs.Products.{net_at}
 
+-- whether a clocked item drives the name of a net of this kind, and else an assignment
+abbrev pub is_clocked : NetKind → Bool
+is_clocked (Comb op args) = false
+is_clocked (Reg frame slot first from) = true
+is_clocked (EnReg frame enable reset first from) = true
+is_clocked (Bridge frame live from) = false
+is_clocked (Unit left right) = false
+is_clocked (Counter frame) = true
+
+-- labels are names of the module, which it declares and drives
 pub record LabelsAreNames (netlist : Circuit) (m : Module) : Type 0 where
   pub are : (label : NetLabel) → Contains netlist.labels label
       → name_of netlist label.net ≡ label.name
@@ -16,3 +30,5 @@ pub record LabelsAreNames (netlist : Circuit) (m : Module) : Type 0 where
         width = (net_at netlist.nets label.net).width;
         signed = (net_at netlist.nets label.net).signed;
       }
+  pub driven : (label : NetLabel) → Contains netlist.labels label
+      → Contains (mentions m) (Drives (is_clocked (net_at netlist.nets label.net).kind) label.name)

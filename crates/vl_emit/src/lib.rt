@@ -3,8 +3,9 @@
 //! `emit` gives a netlist's module: a wire or a register for each net, named by its label or its
 //! number, and a port for each of its ports. `specs/Emittable` says what it asks of a netlist
 //! beside that it can be run. `specs/Header`, `Shown`, `Products`, `Reads` and `Registers` say what
-//! the module is: its header, the rows that its names show, its multiplications, what its items
-//! read, and its registers. It breaks none of the conditions of `vl_ast`.
+//! the module is: its header, the rows that its names show, its multiplications and the names that
+//! they are assigned to, what its items read, and its registers. `specs/Items` and `Labelled` say
+//! which items there are, and what becomes of labels. It breaks none of the conditions of `vl_ast`.
 #![tactic(auto)]
 
 mod driving;

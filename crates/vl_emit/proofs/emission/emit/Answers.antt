@@ -12,7 +12,8 @@ use Rattle.vl_emit.specs.Registers.{RegistersAre}
 use Rattle.vl_emit.specs.Shown.{NetsAreShown, NetsFit, OutputsAreShown}
 use Rattle.vl_emit.specs.inner.Emitted.{module_of}
 use Rattle.vl_emit.proofs.Itemized.{items-are, labels-are, names-differ, nets-fit}
-use Rattle.vl_emit.proofs.Multiplied.{products-are, registers-are}
+use Rattle.vl_emit.proofs.Assigned.{products-are}
+use Rattle.vl_emit.proofs.Multiplied.{registers-are}
 use Rattle.vl_emit.proofs.Opened.{gated-breaks, header, keeps-bits}
 use Rattle.vl_emit.proofs.Reading.{reads-only}
 use Rattle.vl_emit.proofs.Returned.{if-made}
