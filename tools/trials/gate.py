@@ -70,9 +70,30 @@ def text_of(code):
     return f"{command}\nexit {status}"
 
 
+class Citing(unittest.TestCase):
+    """A file of lemmas that another crate cites says so at its head, and one that says so is cited."""
+
+    def ends(self, head, cited):
+        with tempfile.TemporaryDirectory() as room:
+            write(os.path.join(room, "crates/low/proofs/Facts.antt"), f"{head}\nfact : ...\n")
+            write(os.path.join(room, "crates/high/proofs/Uses.antt"), f"-- Uses.\nuse Rattle.{cited}.proofs.Facts.{{fact}}\n")
+            write(os.path.join(room, "tools/cites"), "")
+            shutil.copy(os.path.join(TOOLS, "cites"), os.path.join(room, "tools/cites"))
+            words = [sys.executable, os.path.join(room, "tools/cites")]
+            return subprocess.run(words, capture_output=True, text=True).returncode
+
+    def test_heads(self):
+        open_to_others = "-- Facts. Crates\n-- above may cite this file."
+        self.assertEqual(self.ends("-- Facts.", "low"), 1)
+        self.assertEqual(self.ends(open_to_others, "low"), 0)
+        self.assertEqual(self.ends("-- Facts.", "high"), 0)
+        self.assertEqual(self.ends(open_to_others, "high"), 1)
+
+
 class Gate(unittest.TestCase):
     CHECKS = (
-        "examples/run", "tools/glossary", "tools/try", "tools/cross_check", "tools/cross_values", "tools/cross_nets"
+        "examples/run", "tools/glossary", "tools/cites", "tools/try", "tools/cross_check", "tools/cross_values",
+        "tools/cross_nets",
     )
 
     def gate(self, status, last, statuses):
