@@ -1,5 +1,5 @@
 -- What an expression's soundness, length and names say of its operands.
-use Rattle.std.proofs.Common.{◌≡◌, ◌<◌, ◌≤◌, ◌*◌, ℕ, max, sum, Bool, true, ◌&&◌, nat_le, nat_lt, List, [], ◌∷◌, ◌++◌, map, flat_map, refl, sym, ap, ◌∙◌, arith}
+use Rattle.std.proofs.Common.{◌≡◌, ◌<◌, ◌≤◌, ◌*◌, ℕ, max, sum, Bool, true, false, ◌&&◌, nat_le, nat_lt, List, [], ◌∷◌, ◌++◌, map, flat_map, refl, sym, ap, ◌∙◌, arith}
 use Rattle.std.specs.List.{list_all}
 use Rattle.std.proofs.lemmas.Bool.{and_parts, leb-true, ltb-true}
 use Rattle.vl_ast.specs.declared.expressions.UnOp.{UnOp}
@@ -11,7 +11,7 @@ use Rattle.vl_ast.specs.declared.expressions.Expr.TheOpen.{Expr-F}
 use Rattle.vl_ast.specs.declared.expressions.Expr.TheViews.{roll-Expr}
 use Rattle.vl_ast.specs.declared.expressions.Expr.TheVariants.{Name, Bit, Part, Literal, Concat, Repeat, AsSigned, AsUnsigned, Unary, Binary, Shift, Choose, rolls-Name, rolls-Bit, rolls-Part, rolls-Literal, rolls-Concat, rolls-Repeat, rolls-AsSigned, rolls-AsUnsigned, rolls-Unary, rolls-Binary, rolls-Shift, rolls-Choose}
 use Rattle.vl_ast.specs.declared.expressions.Expr.TheFolds.{map-Expr, para-Expr, para-roll-Expr, fold-roll-Expr}
-use Rattle.vl_ast.specs.Context.{Net, own_length, length_step, length_at, unary_place, binary_place}
+use Rattle.vl_ast.specs.Context.{Net, own_length, is_signed, length_step, sign_step, length_at, unary_place, binary_place}
 use Rattle.vl_ast.specs.Conditions.{is_number, is_sound, is_sound_step, is_narrow}
 use Rattle.vl_ast.specs.Nets.{names_read, names_step}
 
@@ -33,6 +33,9 @@ module _ (nets : List ℕ → Net) where
 
   length-of : (x : Expr-F Expr) (e : Expr) → roll-Expr x ≡ e → own_length nets e ≡ length_step nets (map-Expr Expr ℕ (own_length nets) x)
   length-of x e rolls = ap (own_length nets) (sym rolls) ∙ fold-roll-Expr ℕ (length_step nets) x
+
+  sign-of : (x : Expr-F Expr) (e : Expr) → roll-Expr x ≡ e → is_signed nets e ≡ sign_step nets (map-Expr Expr Bool (is_signed nets) x)
+  sign-of x e rolls = ap (is_signed nets) (sym rolls) ∙ fold-roll-Expr Bool (sign_step nets) x
 
   names-of : (x : Expr-F Expr) (e : Expr) → roll-Expr x ≡ e → names_read e ≡ names_step (map-Expr Expr (List (List ℕ)) names_read x)
   names-of x e rolls = ap names_read (sym rolls) ∙ fold-roll-Expr (List (List ℕ)) names_step x
@@ -101,6 +104,12 @@ module _ (nets : List ℕ → Net) where
   pub names-repeat : (count : ℕ) (part : Expr) → names_read (Repeat count part) ≡ names_read part
   names-repeat count part = names-of (Expr-F.Repeat count part) (Repeat count part) (rolls-Repeat count part)
 
+  pub length-repeat : (count : ℕ) (part : Expr) → own_length nets (Repeat count part) ≡ count * own_length nets part
+  length-repeat count part = length-of (Expr-F.Repeat count part) (Repeat count part) (rolls-Repeat count part)
+
+  pub sign-repeat : (count : ℕ) (part : Expr) → is_signed nets (Repeat count part) ≡ false
+  sign-repeat count part = sign-of (Expr-F.Repeat count part) (Repeat count part) (rolls-Repeat count part)
+
   list-sound : (parts : List Expr) → list_all (is_narrow nets) (map (λ e. (e, steps e)) parts) ≡ list_all (is_sound nets) parts
   list-sound [] = refl
   list-sound (part ∷ parts) = ap (λ t. is_sound nets part && t) (list-sound parts)
@@ -110,6 +119,12 @@ module _ (nets : List ℕ → Net) where
       let l = length-of (Expr-F.Concat parts) (Concat parts) (rolls-Concat parts) in
       let few = few-of (Concat parts) h in
       (sym (list-sound parts) ∙ layer-sound (Expr-F.Concat parts) (Concat parts) (rolls-Concat parts) h, omega (arith, l, few))
+
+  pub length-concat : (parts : List Expr) → own_length nets (Concat parts) ≡ sum (map (own_length nets) parts)
+  length-concat parts = length-of (Expr-F.Concat parts) (Concat parts) (rolls-Concat parts)
+
+  pub sign-concat : (parts : List Expr) → is_signed nets (Concat parts) ≡ false
+  sign-concat parts = sign-of (Expr-F.Concat parts) (Concat parts) (rolls-Concat parts)
 
   pub names-concat : (parts : List Expr) → names_read (Concat parts) ≡ flat_map (λ p. p) (map names_read parts)
   names-concat parts = names-of (Expr-F.Concat parts) (Concat parts) (rolls-Concat parts)

@@ -24,7 +24,8 @@ use Rattle.vl_eval.specs.declared.ops.Op.{Op}
 use Rattle.vl_eval.specs.declared.ops.Op.TheVariants.{Constant, Beside}
 use Rattle.vl_eval.specs.inner.Ops.{IsSettled}
 use Rattle.vl_eval.specs.inner.Shown.{NamesFit, row_of, Grows, Pushed, IsBeside}
-use Rattle.vl_eval.specs.inner.Site.{ArePlaced, Built, slot_in}
+use Rattle.vl_eval.specs.declared.site.Alone.{Alone}
+use Rattle.vl_eval.specs.inner.Site.{ArePlaced, Built, BuiltAlone, slot_in}
 use Rattle.vl_eval.proofs.Forms.{Value, shows-op, ShowsBeside, still-beside, shows-beside, shows-first, shows-concat, shows-repeat}
 use Rattle.vl_eval.proofs.Grown.{grows-more, grows-none, grows-push, shows-later, ends, value, stays, alone-of, settled-later}
 
@@ -246,3 +247,13 @@ module _ (by_layer : ByLayer) (base : ℕ) (scope : Scope) (slots : List ℕ) wh
   pub built-copies : (count : ℕ) (part : Expr) (before now : List Op) (slot length' width : ℕ) (signed : Bool) → Copied before now slot length' count part → Here before now slot width signed (Repeat count part)
   built-copies count part before now slot length' width signed c =
       stays by_layer base scope slots before now slot width signed (Repeat count part) (roll-Expr (Expr-F.Repeat count part)) c.grows (rolls-Repeat count part) (shows-repeat by_layer base nets at now slot length' width signed count part c.shows)
+
+  -- a place that shows an expression in every context shows it in its own
+  pub shows-alone-too : (before now : List Op) (e : Expr) (alone : Alone) → alone.shape.length ≡ own_length nets e → is_signed nets e ≡ false → own_length nets e ≤ 128 → alone.shape.signed ≡ false
+      → ((width : ℕ) (signed : Bool) → Here before now alone.slot width signed e) → BuiltAlone base scope slots before now alone e
+  shows-alone-too before now e alone long plain few unsigned' built' = record {
+    length = long;
+    sign = unsigned' ∙ sym plain;
+    few = omega (arith, long, few);
+    built = built' alone.shape.length alone.shape.signed;
+  }

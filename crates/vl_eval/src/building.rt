@@ -1,105 +1,19 @@
-ghost use Rattle.std.specs.Prelude.{◌≡◌, ◌≤◌, true, IfOk};
-ghost use Rattle.vl_ast.specs.declared.expressions.Expr.TheVariants.{AsSigned, AsUnsigned, Binary, Bit, Choose, Concat, Literal, Name, Part, Repeat, Shift, Unary};
+ghost use Rattle.std.specs.Prelude.{◌≡◌, ◌≤◌, ℕ, Bool, true, IfOk};
+ghost use Rattle.vl_ast.specs.declared.expressions.Expr.TheVariants.{AsSigned, AsUnsigned, Binary, Choose, Concat, Repeat, Shift, Unary};
 ghost use Rattle.vl_ast.specs.Conditions.{is_sound};
 ghost use Rattle.vl_ast.specs.Context.{own_length};
 ghost use Rattle.vl_ast.specs.Nets.{names_read};
 ghost use Rattle.vl_check.specs.Scope.{nets_in};
-ghost use Rattle.vl_eval.specs.inner.Site.{ArePlaced, Built};
+ghost use Rattle.vl_eval.specs.inner.Site.{ArePlaced, Built, BuiltAlone};
 
 use crate::adding::{beside, extend, push};
 use crate::contexts::{half_in, left_context, unary_context};
-use crate::operators::{binary_op, literal, mask_of, shift_op, unary_op};
+use crate::leaves::{build_bit, build_literal, build_name, build_part};
+use crate::operators::{binary_op, mask_of, shift_op, unary_op};
 use crate::ops::Op;
-use crate::site::{Site, shape_of, slot};
+use crate::site::{Alone, Site, shape_of, unsigned};
 use fx_io::OutOfMemory;
 use vl_ast::{BinOp, Expr, ShiftOp, Sized, UnOp, meaning_by_layer};
-use vl_check::net;
-
-fn build_name(
-    ops: &mut Vec<Op>,
-    site: &Site<'_, '_>,
-    name: &[u8],
-    width: u32,
-    signed: bool,
-) -> Result<usize, OutOfMemory>
-    requires sound { is_sound (nets_in site.now.scope.now) (Name name.now) ≡ true }
-    requires longer { own_length (nets_in site.now.scope.now) (Name name.now) ≤ width }
-    requires most { width ≤ 128 }
-    requires placed { ArePlaced site.now.base site.now.scope.now site.now.slots.now ops.old.items
-        (names_read (Name name.now)) }
-    ensures { IfOk result (λ slot. Built site.now.base site.now.scope.now site.now.slots.now
-        ops.old.items ops.new.items slot width signed (Name name.now)) }
-{
-    meaning_by_layer();
-    let part = slot(site, name);
-    if !signed {
-        return Ok(part);
-    }
-    extend(ops, site.base, part, net(site.scope, name).length, width)
-}
-
-fn build_bit(
-    ops: &mut Vec<Op>,
-    site: &Site<'_, '_>,
-    name: &[u8],
-    low: u32,
-    width: u32,
-    signed: bool,
-) -> Result<usize, OutOfMemory>
-    requires sound { is_sound (nets_in site.now.scope.now) (Bit name.now low) ≡ true }
-    requires longer { own_length (nets_in site.now.scope.now) (Bit name.now low) ≤ width }
-    requires most { width ≤ 128 }
-    requires placed { ArePlaced site.now.base site.now.scope.now site.now.slots.now ops.old.items
-        (names_read (Bit name.now low)) }
-    ensures { IfOk result (λ slot. Built site.now.base site.now.scope.now site.now.slots.now
-        ops.old.items ops.new.items slot width signed (Bit name.now low)) }
-{
-    meaning_by_layer();
-    let part = slot(site, name);
-    push(ops, site.base, Op::Select { part, low, mask: 1 })
-}
-
-fn build_part(
-    ops: &mut Vec<Op>,
-    site: &Site<'_, '_>,
-    name: &[u8],
-    high: u32,
-    low: u32,
-    width: u32,
-    signed: bool,
-) -> Result<usize, OutOfMemory>
-    requires sound { is_sound (nets_in site.now.scope.now) (Part name.now high low) ≡ true }
-    requires longer { own_length (nets_in site.now.scope.now) (Part name.now high low) ≤ width }
-    requires most { width ≤ 128 }
-    requires placed { ArePlaced site.now.base site.now.scope.now site.now.slots.now ops.old.items
-        (names_read (Part name.now high low)) }
-    ensures { IfOk result (λ slot. Built site.now.base site.now.scope.now site.now.slots.now
-        ops.old.items ops.new.items slot width signed (Part name.now high low)) }
-{
-    meaning_by_layer();
-    let part = slot(site, name);
-    let mask = mask_of(high - low + 1);
-    push(ops, site.base, Op::Select { part, low, mask })
-}
-
-fn build_literal(
-    ops: &mut Vec<Op>,
-    site: &Site<'_, '_>,
-    number: &Sized,
-    width: u32,
-    signed: bool,
-) -> Result<usize, OutOfMemory>
-    requires sound { is_sound (nets_in site.now.scope.now) (Literal number.now) ≡ true }
-    requires longer { own_length (nets_in site.now.scope.now) (Literal number.now) ≤ width }
-    requires most { width ≤ 128 }
-    requires placed { ArePlaced site.now.base site.now.scope.now site.now.slots.now ops.old.items
-        (names_read (Literal number.now)) }
-    ensures { IfOk result (λ slot. Built site.now.base site.now.scope.now site.now.slots.now
-        ops.old.items ops.new.items slot width signed (Literal number.now)) }
-{
-    meaning_by_layer();
-    push(ops, site.base, Op::Constant(literal(number, width, signed)))
-}
 
 #[cycle(build)]
 fn build_unary(
@@ -266,34 +180,29 @@ fn build_as_unsigned(
 }
 
 #[cycle(build)]
-fn build_parts(
-    ops: &mut Vec<Op>,
-    site: &Site<'_, '_>,
-    parts: &[Expr],
-    width: u32,
-    signed: bool,
-) -> Result<usize, OutOfMemory>
+fn build_parts(ops: &mut Vec<Op>, site: &Site<'_, '_>, parts: &[Expr]) -> Result<Alone, OutOfMemory>
     requires sound { is_sound (nets_in site.now.scope.now) (Concat parts.now) ≡ true }
-    requires longer { own_length (nets_in site.now.scope.now) (Concat parts.now) ≤ width }
-    requires most { width ≤ 128 }
     requires placed { ArePlaced site.now.base site.now.scope.now site.now.slots.now ops.old.items
         (names_read (Concat parts.now)) }
-    ensures { IfOk result (λ slot. Built site.now.base site.now.scope.now site.now.slots.now
-        ops.old.items ops.new.items slot width signed (Concat parts.now)) }
+    ensures own { IfOk result (λ alone. BuiltAlone site.now.base site.now.scope.now
+        site.now.slots.now ops.old.items ops.new.items alone (Concat parts.now)) }
+    ensures built { IfOk result (λ alone. (width : ℕ) → (signed : Bool) → Built site.now.base
+        site.now.scope.now site.now.slots.now ops.old.items ops.new.items alone.slot width signed
+        (Concat parts.now)) }
 {
     meaning_by_layer();
     let mut joined = 0;
     let mut length = 0;
     for part in parts {
-        let context = shape_of(site, part);
-        let slot = build(ops, site, part, context.length, context.signed)?;
-        joined = beside(ops, site.base, joined, length, slot, context.length)?;
-        length += context.length;
+        let own = build_alone(ops, site, part)?;
+        joined = beside(ops, site.base, joined, length, own.slot, own.shape.length)?;
+        length += own.shape.length;
     }
     if length == 0 {
-        return push(ops, site.base, Op::Constant(0));
+        let slot = push(ops, site.base, Op::Constant(0))?;
+        return Ok(unsigned(slot, length));
     }
-    Ok(joined)
+    Ok(unsigned(joined, length))
 }
 
 #[cycle(build)]
@@ -302,27 +211,65 @@ fn build_copies(
     site: &Site<'_, '_>,
     count: u32,
     part: &Expr,
-    width: u32,
-    signed: bool,
-) -> Result<usize, OutOfMemory>
+) -> Result<Alone, OutOfMemory>
     requires sound { is_sound (nets_in site.now.scope.now) (Repeat count part.now) ≡ true }
-    requires longer { own_length (nets_in site.now.scope.now) (Repeat count part.now) ≤ width }
-    requires most { width ≤ 128 }
     requires placed { ArePlaced site.now.base site.now.scope.now site.now.slots.now ops.old.items
         (names_read (Repeat count part.now)) }
-    ensures { IfOk result (λ slot. Built site.now.base site.now.scope.now site.now.slots.now
-        ops.old.items ops.new.items slot width signed (Repeat count part.now)) }
+    ensures own { IfOk result (λ alone. BuiltAlone site.now.base site.now.scope.now
+        site.now.slots.now ops.old.items ops.new.items alone (Repeat count part.now)) }
+    ensures built { IfOk result (λ alone. (width : ℕ) → (signed : Bool) → Built site.now.base
+        site.now.scope.now site.now.slots.now ops.old.items ops.new.items alone.slot width signed
+        (Repeat count part.now)) }
 {
     meaning_by_layer();
-    let context = shape_of(site, part);
-    let slot = build(ops, site, part, context.length, context.signed)?;
-    let mut joined = slot;
-    let mut length = context.length;
+    let own = build_alone(ops, site, part)?;
+    let mut joined = own.slot;
+    let mut length = own.shape.length;
     for _copy in 1..count {
-        joined = beside(ops, site.base, joined, length, slot, context.length)?;
-        length += context.length;
+        joined = beside(ops, site.base, joined, length, own.slot, own.shape.length)?;
+        length += own.shape.length;
     }
-    Ok(joined)
+    Ok(unsigned(joined, length))
+}
+
+/// Adds the operations of an expression in the context that it makes by itself. Those of parts that
+/// stand side by side say how long they are, so that nested ones are gone through once.
+#[cycle(build)]
+fn build_alone(ops: &mut Vec<Op>, site: &Site<'_, '_>, e: &Expr) -> Result<Alone, OutOfMemory>
+    requires sound { is_sound (nets_in site.now.scope.now) e.now ≡ true }
+    requires placed { ArePlaced site.now.base site.now.scope.now site.now.slots.now ops.old.items
+        (names_read e.now) }
+    ensures { IfOk result (λ alone. BuiltAlone site.now.base site.now.scope.now site.now.slots.now
+        ops.old.items ops.new.items alone e.now) }
+{
+    match e {
+        Expr::Concat(parts) => build_parts(ops, site, parts.as_slice()),
+        Expr::Repeat(count, part) => build_copies(ops, site, *count, part.get()),
+        Expr::Name(_)
+        | Expr::Bit(_, _)
+        | Expr::Part(_, _, _)
+        | Expr::Literal(_)
+        | Expr::AsSigned(_)
+        | Expr::AsUnsigned(_)
+        | Expr::Unary(_, _)
+        | Expr::Binary(_, _, _)
+        | Expr::Shift(_, _, _)
+        | Expr::Choose(_, _, _) => build_shaped(ops, site, e),
+    }
+}
+
+/// The same, where the context is worked out first.
+#[cycle(build)]
+fn build_shaped(ops: &mut Vec<Op>, site: &Site<'_, '_>, e: &Expr) -> Result<Alone, OutOfMemory>
+    requires sound { is_sound (nets_in site.now.scope.now) e.now ≡ true }
+    requires placed { ArePlaced site.now.base site.now.scope.now site.now.slots.now ops.old.items
+        (names_read e.now) }
+    ensures { IfOk result (λ alone. BuiltAlone site.now.base site.now.scope.now site.now.slots.now
+        ops.old.items ops.new.items alone e.now) }
+{
+    let shape = shape_of(site, e);
+    let slot = build(ops, site, e, shape.length, shape.signed)?;
+    Ok(Alone { slot, shape })
 }
 
 /// Adds the operations of an expression in a context, and gives the place of its value. The recursion
@@ -350,8 +297,14 @@ pub fn build(
             build_part(ops, site, name.bytes(), *high, *low, width, signed)
         }
         Expr::Literal(number) => build_literal(ops, site, number, width, signed),
-        Expr::Concat(parts) => build_parts(ops, site, parts.as_slice(), width, signed),
-        Expr::Repeat(count, part) => { build_copies(ops, site, *count, part.get(), width, signed) }
+        Expr::Concat(parts) => {
+            let alone = build_parts(ops, site, parts.as_slice())?;
+            Ok(alone.slot)
+        }
+        Expr::Repeat(count, part) => {
+            let alone = build_copies(ops, site, *count, part.get())?;
+            Ok(alone.slot)
+        }
         Expr::AsSigned(part) => build_as_signed(ops, site, part.get(), width, signed),
         Expr::AsUnsigned(part) => build_as_unsigned(ops, site, part.get(), width, signed),
         Expr::Unary(op, part) => build_unary(ops, site, *op, part.get(), width, signed),

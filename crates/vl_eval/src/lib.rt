@@ -1,7 +1,8 @@
 //! The Verilog machine: a module that breaks no condition, row after row of its run.
 //!
 //! `Machine::new` has the module checked (`vl_check`) and makes a plan of it: each assignment and what
-//! each register takes become operations over places of values (`plan`, `assigning`, `building`, `ops`).
+//! each register takes become operations over places of values (`plan`, `assigning`, `building`,
+//! `leaves`, `ops`).
 //! Widths, signs and contexts are worked out then (`contexts`, `operators`), and the operations are
 //! sorted by level and kind (`leveling`, `arranging`), so that the jump on the kind of an operation is
 //! foreseen. Those whose numbers have at most 64 bits get a step half as long, whose sums and products
@@ -23,6 +24,7 @@ mod arranging;
 mod assigning;
 mod building;
 mod contexts;
+mod leaves;
 mod leveling;
 mod machine;
 mod operators;

@@ -84,7 +84,8 @@ impl Machine {
     ghost use Rattle.vl_eval.specs.Machine.{AreFit, IsReady, row_of, source_of};
 
     /// A machine in row 0 of its module, in which every register and input is 0. The time is linear in
-    /// the module, but for the lengths of operands, which are worked out at each depth (own).
+    /// the module, but for the lengths of operands of operators, casts and choices, which are worked
+    /// out at each depth (own).
     ///
     /// # Errors
     /// The first of the six conditions that the module breaks, or want of memory.

@@ -1,4 +1,4 @@
-ghost use Rattle.std.specs.Prelude.{◌≡◌, ◌≤◌, true};
+ghost use Rattle.std.specs.Prelude.{◌≡◌, ◌≤◌, true, false};
 ghost use Rattle.vl_ast.specs.Conditions.{is_sound};
 ghost use Rattle.vl_ast.specs.Context.{is_signed, own_length};
 ghost use Rattle.vl_check.specs.Scope.{nets_in};
@@ -42,4 +42,22 @@ pub fn shape_of(site: &Site<'_, '_>, e: &Expr) -> Shape
             signed: false,
         },
     }
+}
+
+/// Where an expression has its value in the context that it makes by itself, and that context.
+#[derive(Clone, Copy)]
+pub struct Alone {
+    pub slot: usize,
+    pub shape: Shape,
+}
+
+/// A place that shows so many bits without sign.
+pub fn unsigned(slot: usize, length: u32) -> Alone
+    ensures slot { result.slot ≡ slot }
+    ensures length { result.shape.length ≡ length }
+    ensures sign { result.shape.signed ≡ false }
+{
+    let signed = false;
+    let shape = Shape { length, signed };
+    Alone { slot, shape }
 }

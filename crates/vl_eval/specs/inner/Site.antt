@@ -1,9 +1,11 @@
 -- What is built for the expressions of a module, whose names have places by their numbers.
-use Rattle.std.specs.Prelude.{ℕ, ◌+◌, ◌≤◌, ◌<◌, Bool, List, length, slice_index, Contains, Option, Some, None}
+use Rattle.std.specs.Prelude.{◌≡◌, ℕ, ◌+◌, ◌≤◌, ◌<◌, Bool, List, length, slice_index, Contains, Option, Some, None}
 use Rattle.vl_ast.specs.declared.expressions.Expr.{Expr}
+use Rattle.vl_ast.specs.Context.{own_length, is_signed}
 use Rattle.vl_check.specs.declared.scope.Scope.{Scope}
 use Rattle.vl_check.specs.Scope.{nets_in, number_in}
 use Rattle.vl_eval.specs.declared.ops.Op.{Op}
+use Rattle.vl_eval.specs.declared.site.Alone.{Alone}
 use Rattle.vl_eval.specs.inner.Shown.{Grows, Shows}
 
 -- the place of a name
@@ -18,6 +20,13 @@ slot_in scope slots name = slot_at slots (number_in scope name)
 pub record Built (base : ℕ) (scope : Scope) (slots : List ℕ) (before after : List Op) (slot width : ℕ) (signed : Bool) (e : Expr) : Type 0 where
   pub grows : Grows base before after
   pub shows : Shows base (nets_in scope) (slot_in scope slots) after slot width signed e
+
+-- operations were added, and the place shows the expression in the context that it makes by itself
+pub record BuiltAlone (base : ℕ) (scope : Scope) (slots : List ℕ) (before after : List Op) (alone : Alone) (e : Expr) : Type 0 where
+  pub length : alone.shape.length ≡ own_length (nets_in scope) e
+  pub sign : alone.shape.signed ≡ is_signed (nets_in scope) e
+  pub few : alone.shape.length ≤ 128
+  pub built : Built base scope slots before after alone.slot alone.shape.length alone.shape.signed e
 
 -- the names have places that stand before the next operation, and 1 to 128 bits
 pub record ArePlaced (base : ℕ) (scope : Scope) (slots : List ℕ) (ops : List Op) (names : List (List ℕ)) : Type 0 where

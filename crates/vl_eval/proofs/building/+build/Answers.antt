@@ -1,5 +1,6 @@
-use Rattle.std.proofs.Common.{◌≡◌, ◌≤◌, ◌+◌, [], ◌++◌, ℕ, List, take, refl, sym, subst, arith}
+use Rattle.std.proofs.Common.{◌≡◌, ◌≤◌, ◌+◌, [], ◌++◌, ℕ, List, take, refl, sym, ap, subst, ◌∙◌, arith}
 use Rattle.vl_ast.specs.declared.expressions.Expr.{Expr}
+use Rattle.vl_ast.specs.declared.expressions.Expr.TheVariants.{Concat, Repeat}
 use Rattle.vl_ast.specs.Context.{own_length}
 use Rattle.vl_ast.specs.Nets.{names_read}
 use Rattle.vl_check.specs.declared.shapes.Shape.{Shape}
@@ -7,12 +8,12 @@ use Rattle.vl_check.specs.Scope.{nets_in}
 use Rattle.vl_eval.specs.declared.ops.Op.{Op}
 use Rattle.vl_eval.specs.declared.site.Site.{Site}
 use Rattle.vl_eval.specs.inner.Shown.{Pushed}
-use Rattle.vl_eval.specs.inner.Site.{ArePlaced}
+use Rattle.vl_eval.specs.inner.Site.{ArePlaced, Built}
 use Rattle.vl_eval.proofs.Results.{if-ok}
-use Rattle.vl_eval.proofs.Operands.{sound-unary, names-unary, sound-as-signed, names-as-signed, sound-as-unsigned, names-as-unsigned, sound-binary, names-binary, sound-shift, length-shift, names-shift, sound-choose, length-choose, names-choose, sound-repeat, names-repeat, sound-concat, names-concat}
+use Rattle.vl_eval.proofs.Operands.{sound-unary, names-unary, sound-as-signed, names-as-signed, sound-as-unsigned, names-as-unsigned, sound-binary, names-binary, sound-shift, length-shift, names-shift, sound-choose, length-choose, names-choose, sound-repeat, length-repeat, sign-repeat, names-repeat, sound-concat, length-concat, sign-concat, names-concat}
 use Rattle.vl_eval.proofs.Rooms.{unary-room, left-context-room, right-context-room}
 use Rattle.std.proofs.lemmas.List.{take_all}
-use Rattle.vl_eval.proofs.SideBySide.{Copied, Joined, beside-grows, built-copies, built-no-parts, built-parts, copied-more, copied-one, copies-few, joined-more, lengths-more, one-copy, part-in, part-placed, part-size, part-sound, parts-few, parts-more, value-at}
+use Rattle.vl_eval.proofs.SideBySide.{Copied, Joined, beside-grows, built-copies, built-no-parts, built-parts, copied-more, copied-one, copies-few, joined-more, lengths-more, one-copy, part-in, part-placed, part-size, part-sound, parts-few, parts-more, shows-alone-too, value-at}
 use Rattle.vl_eval.proofs.Grown.{grows-more, grows-none, placed-left, placed-right, placed-later}
 use Rattle.vl_eval.proofs.Builds.{built-unary, built-binary, built-as-signed, built-as-signed-plain, built-as-unsigned, built-shift, built-choice}
 use Rattle.vl_eval.proofs.building.+build.Given as given
@@ -238,25 +239,22 @@ build_shift-returns t c =
     if-ok c.push.result (λ slot p. built-shift c.meaning_by_layer.ensures.value site.base site.scope.now site.slots.now c.args.op c.args.part.now c.args.amount.now c.args.ops.now.items c.build.new.ops.items c.push.new.ops.items c.in_ok-slot.slot slot c.args.width c.args.signed
     c.requires.sound c.requires.longer c.requires.most c.in_ok-slot.ensures (subst (λ o. Pushed site.base c.build.new.ops.items c.push.new.ops.items slot o) c.shift_op.ensures p)) c.push.ensures
 
-pub build_copies-shape_of-context-requires : goal.build_copies-shape_of-context-requires
-build_copies-shape_of-context-requires t c = (sound-repeat (nets_in c.args.site.now.scope.now) c.args.count c.args.part.now c.requires.sound).1
-
-pub build_copies-build-requires : goal.build_copies-build-requires
-build_copies-build-requires t c =
+pub build_copies-build_alone-requires : goal.build_copies-build_alone-requires
+build_copies-build_alone-requires t c =
     let site = c.args.site.now in
     let nets = nets_in site.scope.now in
     let ok = sound-repeat nets c.args.count c.args.part.now c.requires.sound in
     let names = placed site c.args.ops.now.items _ _ (names-repeat nets c.args.count c.args.part.now) c.requires.placed in
-    (omega arith, (ok.1, (omega (arith, c.shape_of-context.ensures.length), (c.shape_of-context.ensures.few, names))))
+    (omega arith, (ok.1, names))
 
 pub build_copies-loop-copy-init : goal.build_copies-loop-copy-init
 build_copies-loop-copy-init t c =
     let site = c.args.site.now in
     let ok = sound-repeat (nets_in site.scope.now) c.args.count c.args.part.now c.requires.sound in
     record {
-      later = grows-none site.base c.build.new.ops.items;
-      copied = λ b. copied-one b site.base site.scope.now site.slots.now c.args.ops.now.items c.build.new.ops.items c.in_ok-slot.slot c.args.part.now c.shape_of-context.result ok.1
-          c.shape_of-context.ensures.length c.shape_of-context.ensures.sign c.in_ok-slot.ensures;
+      later = grows-none site.base c.build_alone.new.ops.items;
+      copied = λ b. copied-one b site.base site.scope.now site.slots.now c.args.ops.now.items c.build_alone.new.ops.items c.in_ok-own.own.slot c.args.part.now c.in_ok-own.own.shape ok.1
+          c.in_ok-own.ensures.length c.in_ok-own.ensures.sign c.in_ok-own.ensures.built;
     }
 
 pub build_copies-overflow_add-length : goal.build_copies-overflow_add-length
@@ -269,7 +267,7 @@ build_copies-overflow_add-length t c =
     let few = copies-few by_layer site.base site.scope.now site.slots.now c.loop-copy._copy c.args.count own c.loop-copy-test.true ok.2 in
     let more = one-copy by_layer site.base site.scope.now site.slots.now c.loop-copy._copy own in
     let now = (c.loop-copy.invariant.copied by_layer).long in
-    omega (arith, few, more, now, c.shape_of-context.ensures.length)
+    omega (arith, few, more, now, c.in_ok-own.ensures.length)
 
 pub build_copies-loop-copy-preserved : goal.build_copies-loop-copy-preserved
 build_copies-loop-copy-preserved t c =
@@ -282,36 +280,43 @@ build_copies-loop-copy-preserved t c =
     let more = one-copy by_layer site.base site.scope.now site.slots.now c.loop-copy._copy own in
     let copied = c.loop-copy.invariant.copied by_layer in
     let now = copied.long in
-    let value = value-at by_layer site.base site.scope.now site.slots.now c.args.ops.now.items c.build.new.ops.items c.loop-copy.ops.items c.in_ok-slot.slot c.args.part.now c.shape_of-context.result ok.1
-    c.shape_of-context.ensures.length c.shape_of-context.ensures.sign c.in_ok-slot.ensures c.loop-copy.invariant.later in
+    let value = value-at by_layer site.base site.scope.now site.slots.now c.args.ops.now.items c.build_alone.new.ops.items c.loop-copy.ops.items c.in_ok-own.own.slot c.args.part.now c.in_ok-own.own.shape ok.1
+    c.in_ok-own.ensures.length c.in_ok-own.ensures.sign c.in_ok-own.ensures.built c.loop-copy.invariant.later in
     record {
-      later = grows-more site.base c.build.new.ops.items c.loop-copy.ops.items c.beside.new.ops.items c.loop-copy.invariant.later
-          (beside-grows by_layer site.base site.scope.now site.slots.now c.loop-copy.ops.items c.beside.new.ops.items c.loop-copy.joined c.in_ok-joined.joined c.in_ok-slot.slot c.loop-copy.length c.shape_of-context.result.length
-          copied.shows.below value.here.below (omega (arith, few, more, now, c.shape_of-context.ensures.length)) c.in_ok-joined.ensures);
-      copied = λ b. copied-more b site.base site.scope.now site.slots.now c.args.ops.now.items c.loop-copy.ops.items c.beside.new.ops.items c.loop-copy.joined c.in_ok-joined.joined c.in_ok-slot.slot c.loop-copy.length c.loop-copy._copy
-          c.args.part.now c.shape_of-context.result ok.1 few c.shape_of-context.ensures.length
-          (value-at b site.base site.scope.now site.slots.now c.args.ops.now.items c.build.new.ops.items c.loop-copy.ops.items c.in_ok-slot.slot c.args.part.now c.shape_of-context.result ok.1
-          c.shape_of-context.ensures.length c.shape_of-context.ensures.sign c.in_ok-slot.ensures c.loop-copy.invariant.later)
+      later = grows-more site.base c.build_alone.new.ops.items c.loop-copy.ops.items c.beside.new.ops.items c.loop-copy.invariant.later
+          (beside-grows by_layer site.base site.scope.now site.slots.now c.loop-copy.ops.items c.beside.new.ops.items c.loop-copy.joined c.in_ok-joined.joined c.in_ok-own.own.slot c.loop-copy.length c.in_ok-own.own.shape.length
+          copied.shows.below value.here.below (omega (arith, few, more, now, c.in_ok-own.ensures.length)) c.in_ok-joined.ensures);
+      copied = λ b. copied-more b site.base site.scope.now site.slots.now c.args.ops.now.items c.loop-copy.ops.items c.beside.new.ops.items c.loop-copy.joined c.in_ok-joined.joined c.in_ok-own.own.slot c.loop-copy.length c.loop-copy._copy
+          c.args.part.now c.in_ok-own.own.shape ok.1 few c.in_ok-own.ensures.length
+          (value-at b site.base site.scope.now site.slots.now c.args.ops.now.items c.build_alone.new.ops.items c.loop-copy.ops.items c.in_ok-own.own.slot c.args.part.now c.in_ok-own.own.shape ok.1
+          c.in_ok-own.ensures.length c.in_ok-own.ensures.sign c.in_ok-own.ensures.built c.loop-copy.invariant.later)
           (c.loop-copy.invariant.copied b) c.in_ok-joined.ensures;
     }
 
-pub build_copies-returns : goal.build_copies-returns
-build_copies-returns t c =
+pub build_copies-returns-clause-built : goal.build_copies-returns-clause-built
+build_copies-returns-clause-built t c = λ width signed.
     let site = c.args.site.now in
     let by_layer = c.meaning_by_layer.ensures.value in
     let ok = sound-repeat (nets_in site.scope.now) c.args.count c.args.part.now c.requires.sound in
     let all : c.loop-copy._copy ≡ c.args.count = omega (arith, ok.0) in
-    built-copies by_layer site.base site.scope.now site.slots.now c.args.count c.args.part.now c.args.ops.now.items c.loop-copy.ops.items c.loop-copy.joined c.loop-copy.length c.args.width c.args.signed
-    (subst (λ n. Copied by_layer site.base site.scope.now site.slots.now c.args.ops.now.items c.loop-copy.ops.items c.loop-copy.joined c.loop-copy.length n c.args.part.now) all (c.loop-copy.invariant.copied by_layer))
+    subst (λ slot. Built site.base site.scope.now site.slots.now c.args.ops.now.items c.loop-copy.ops.items slot width signed (Repeat c.args.count c.args.part.now)) (sym c.unsigned.ensures.slot)
+    (built-copies by_layer site.base site.scope.now site.slots.now c.args.count c.args.part.now c.args.ops.now.items c.loop-copy.ops.items c.loop-copy.joined c.loop-copy.length width signed
+    (subst (λ n. Copied by_layer site.base site.scope.now site.slots.now c.args.ops.now.items c.loop-copy.ops.items c.loop-copy.joined c.loop-copy.length n c.args.part.now) all (c.loop-copy.invariant.copied by_layer)))
 
-pub build_parts-shape_of-context-requires-in-loop-part : goal.build_parts-shape_of-context-requires-in-loop-part
-build_parts-shape_of-context-requires-in-loop-part t c =
+pub build_copies-returns-clause-own : goal.build_copies-returns-clause-own
+build_copies-returns-clause-own t c =
     let site = c.args.site.now in
+    let by_layer = c.meaning_by_layer.ensures.value in
     let nets = nets_in site.scope.now in
-    part-sound c.meaning_by_layer.ensures.value site.base site.scope.now site.slots.now c.args.parts.now c.loop-part.part-index c.part-item.result (sound-concat nets c.args.parts.now c.requires.sound).0 c.loop-part-test.true c.part-item.is
+    let ok = sound-repeat nets c.args.count c.args.part.now c.requires.sound in
+    let all : c.loop-copy._copy ≡ c.args.count = omega (arith, ok.0) in
+    let copied = subst (λ n. Copied by_layer site.base site.scope.now site.slots.now c.args.ops.now.items c.loop-copy.ops.items c.loop-copy.joined c.loop-copy.length n c.args.part.now) all (c.loop-copy.invariant.copied by_layer) in
+    let l = length-repeat nets c.args.count c.args.part.now in
+    shows-alone-too by_layer site.base site.scope.now site.slots.now c.args.ops.now.items c.loop-copy.ops.items (Repeat c.args.count c.args.part.now) c.unsigned.result
+    (c.unsigned.ensures.length ∙ copied.long ∙ sym l) (sign-repeat nets c.args.count c.args.part.now) (omega (arith, l, ok.2)) c.unsigned.ensures.sign (build_copies-returns-clause-built t c)
 
-pub build_parts-build-requires : goal.build_parts-build-requires
-build_parts-build-requires t c =
+pub build_parts-build_alone-requires : goal.build_parts-build_alone-requires
+build_parts-build_alone-requires t c =
     let site = c.args.site.now in
     let by_layer = c.meaning_by_layer.ensures.value in
     let nets = nets_in site.scope.now in
@@ -324,20 +329,12 @@ build_parts-build-requires t c =
       ops = c.args.ops;
       site = c.args.site;
       parts = record { ref_ptr = c.args.parts.ref_ptr; now = ps };
-      width = c.args.width;
-      signed = c.args.signed;
     })) in (
       (let less = part-size sizes (λ x xs. refl) parts c.loop-part.part-index part c.loop-part-test.true c.part-item.is in omega (arith, less)),
       (
         part-sound by_layer site.base site.scope.now site.slots.now parts c.loop-part.part-index part (sound-concat nets parts c.requires.sound).0 c.loop-part-test.true c.part-item.is,
-        (
-          omega (arith, c.shape_of-context.ensures.length),
-          (
-            c.shape_of-context.ensures.few,
-            placed-later by_layer site.base site.scope.now site.slots.now c.args.ops.now.items c.loop-part.ops.items (names_read part) (c.loop-part.invariant by_layer).grows
-                (part-placed by_layer site.base site.scope.now site.slots.now c.args.ops.now.items parts part there all),
-          ),
-        ),
+        placed-later by_layer site.base site.scope.now site.slots.now c.args.ops.now.items c.loop-part.ops.items (names_read part) (c.loop-part.invariant by_layer).grows
+            (part-placed by_layer site.base site.scope.now site.slots.now c.args.ops.now.items parts part there all),
       ),
     )
 
@@ -350,7 +347,7 @@ build_parts-overflow_add-length t c =
     let few = parts-few by_layer site.base site.scope.now site.slots.now parts c.loop-part.part-index c.part-item.result (sound-concat nets parts c.requires.sound).1 c.loop-part-test.true c.part-item.is in
     let more = lengths-more by_layer site.base site.scope.now site.slots.now (take c.loop-part.part-index parts) c.part-item.result in
     let now = (c.loop-part.invariant by_layer).long in
-    omega (arith, few, more, now, c.shape_of-context.ensures.length)
+    omega (arith, few, more, now, c.in_ok-own.ensures.length)
 
 pub build_parts-loop-part-preserved : goal.build_parts-loop-part-preserved
 build_parts-loop-part-preserved t c = λ b.
@@ -361,28 +358,68 @@ build_parts-loop-part-preserved t c = λ b.
     let i = c.loop-part.part-index in
     let ok = sound-concat nets parts c.requires.sound in
     let there = part-in b site.base site.scope.now site.slots.now parts i part c.loop-part-test.true c.part-item.is in
-    subst (λ done. Joined b site.base site.scope.now site.slots.now c.args.ops.now.items c.beside.new.ops.items c.in_ok-joined.joined (c.loop-part.length + c.shape_of-context.result.length) done parts)
+    subst (λ done. Joined b site.base site.scope.now site.slots.now c.args.ops.now.items c.beside.new.ops.items c.in_ok-joined.joined (c.loop-part.length + c.in_ok-own.own.shape.length) done parts)
     (sym (parts-more b site.base site.scope.now site.slots.now parts i part c.loop-part-test.true c.part-item.is))
-    (joined-more b site.base site.scope.now site.slots.now c.args.ops.now.items c.loop-part.ops.items c.build.new.ops.items c.beside.new.ops.items c.loop-part.joined c.in_ok-joined.joined c.in_ok-slot.slot c.loop-part.length
-    (take i parts) parts part c.shape_of-context.result there (part-sound b site.base site.scope.now site.slots.now parts i part ok.0 c.loop-part-test.true c.part-item.is)
+    (joined-more b site.base site.scope.now site.slots.now c.args.ops.now.items c.loop-part.ops.items c.build_alone.new.ops.items c.beside.new.ops.items c.loop-part.joined c.in_ok-joined.joined c.in_ok-own.own.slot c.loop-part.length
+    (take i parts) parts part c.in_ok-own.own.shape there (part-sound b site.base site.scope.now site.slots.now parts i part ok.0 c.loop-part-test.true c.part-item.is)
     (parts-few b site.base site.scope.now site.slots.now parts i part ok.1 c.loop-part-test.true c.part-item.is)
-    c.shape_of-context.ensures.length c.shape_of-context.ensures.sign (c.loop-part.invariant b) c.in_ok-slot.ensures c.in_ok-joined.ensures)
+    c.in_ok-own.ensures.length c.in_ok-own.ensures.sign (c.loop-part.invariant b) c.in_ok-own.ensures.built c.in_ok-joined.ensures)
 
-pub build_parts-returns-then-length-eq0 : goal.build_parts-returns-then-length-eq0
-build_parts-returns-then-length-eq0 t c =
+pub build_parts-returns-then-length-eq0-clause-built : goal.build_parts-returns-then-length-eq0-clause-built
+build_parts-returns-then-length-eq0-clause-built t c = λ width signed.
     let site = c.args.site.now in
     let by_layer = c.meaning_by_layer.ensures.value in
     let parts = c.args.parts.now in
     let all = take_all c.loop-part.part-index parts (omega (arith, c.loop-part-test.false)) in
     let joined = subst (λ done. Joined by_layer site.base site.scope.now site.slots.now c.args.ops.now.items c.loop-part.ops.items c.loop-part.joined c.loop-part.length done parts) all (c.loop-part.invariant by_layer) in
-    if-ok c.push.result (λ slot p. built-no-parts by_layer site.base site.scope.now site.slots.now parts c.args.ops.now.items c.loop-part.ops.items c.push.new.ops.items slot c.loop-part.joined c.loop-part.length c.args.width c.args.signed
-    joined c.if-length-eq0.true p) c.push.ensures
+    subst (λ slot. Built site.base site.scope.now site.slots.now c.args.ops.now.items c.push.new.ops.items slot width signed (Concat parts)) (sym c.unsigned.ensures.slot)
+    (built-no-parts by_layer site.base site.scope.now site.slots.now parts c.args.ops.now.items c.loop-part.ops.items c.push.new.ops.items c.in_ok-slot.slot c.loop-part.joined c.loop-part.length width signed
+    joined c.if-length-eq0.true c.in_ok-slot.ensures)
 
-pub build_parts-returns : goal.build_parts-returns
-build_parts-returns t c =
+pub build_parts-returns-then-length-eq0-clause-own : goal.build_parts-returns-then-length-eq0-clause-own
+build_parts-returns-then-length-eq0-clause-own t c =
+    let site = c.args.site.now in
+    let by_layer = c.meaning_by_layer.ensures.value in
+    let nets = nets_in site.scope.now in
+    let parts = c.args.parts.now in
+    let all = take_all c.loop-part.part-index parts (omega (arith, c.loop-part-test.false)) in
+    let joined = subst (λ done. Joined by_layer site.base site.scope.now site.slots.now c.args.ops.now.items c.loop-part.ops.items c.loop-part.joined c.loop-part.length done parts) all (c.loop-part.invariant by_layer) in
+    let l = length-concat nets parts in
+    shows-alone-too by_layer site.base site.scope.now site.slots.now c.args.ops.now.items c.push.new.ops.items (Concat parts) c.unsigned.result
+    (c.unsigned.ensures.length ∙ joined.long ∙ sym l) (sign-concat nets parts) (let few = (sound-concat nets parts c.requires.sound).1 in omega (arith, l, few)) c.unsigned.ensures.sign
+    (build_parts-returns-then-length-eq0-clause-built t c)
+
+pub build_parts-returns-clause-built : goal.build_parts-returns-clause-built
+build_parts-returns-clause-built t c = λ width signed.
     let site = c.args.site.now in
     let by_layer = c.meaning_by_layer.ensures.value in
     let parts = c.args.parts.now in
     let all = take_all c.loop-part.part-index parts (omega (arith, c.loop-part-test.false)) in
     let joined = subst (λ done. Joined by_layer site.base site.scope.now site.slots.now c.args.ops.now.items c.loop-part.ops.items c.loop-part.joined c.loop-part.length done parts) all (c.loop-part.invariant by_layer) in
-    built-parts by_layer site.base site.scope.now site.slots.now parts c.args.ops.now.items c.loop-part.ops.items c.loop-part.joined c.loop-part.length c.args.width c.args.signed joined (omega (arith, c.if-length-eq0.false))
+    subst (λ slot. Built site.base site.scope.now site.slots.now c.args.ops.now.items c.loop-part.ops.items slot width signed (Concat parts)) (sym c.unsigned-2.ensures.slot)
+    (built-parts by_layer site.base site.scope.now site.slots.now parts c.args.ops.now.items c.loop-part.ops.items c.loop-part.joined c.loop-part.length width signed joined (omega (arith, c.if-length-eq0.false)))
+
+pub build_parts-returns-clause-own : goal.build_parts-returns-clause-own
+build_parts-returns-clause-own t c =
+    let site = c.args.site.now in
+    let by_layer = c.meaning_by_layer.ensures.value in
+    let nets = nets_in site.scope.now in
+    let parts = c.args.parts.now in
+    let all = take_all c.loop-part.part-index parts (omega (arith, c.loop-part-test.false)) in
+    let joined = subst (λ done. Joined by_layer site.base site.scope.now site.slots.now c.args.ops.now.items c.loop-part.ops.items c.loop-part.joined c.loop-part.length done parts) all (c.loop-part.invariant by_layer) in
+    let l = length-concat nets parts in
+    shows-alone-too by_layer site.base site.scope.now site.slots.now c.args.ops.now.items c.loop-part.ops.items (Concat parts) c.unsigned-2.result
+    (c.unsigned-2.ensures.length ∙ joined.long ∙ sym l) (sign-concat nets parts) (let few = (sound-concat nets parts c.requires.sound).1 in omega (arith, l, few)) c.unsigned-2.ensures.sign
+    (build_parts-returns-clause-built t c)
+
+pub build-returns-in_ok-alone-in-Concat : goal.build-returns-in_ok-alone-in-Concat
+build-returns-in_ok-alone-in-Concat t c =
+    let site = c.args.site.now in
+    subst (λ e. Built site.base site.scope.now site.slots.now c.args.ops.now.items c.build_parts.new.ops.items c.in_ok-alone-in-Concat.alone.slot c.args.width c.args.signed e) (ap Concat c.as_slice.ensures ∙ sym c.in-Concat.is)
+    (c.in_ok-alone-in-Concat.ensures.built c.args.width c.args.signed)
+
+pub build-returns-in_ok-alone-in-Repeat : goal.build-returns-in_ok-alone-in-Repeat
+build-returns-in_ok-alone-in-Repeat t c =
+    let site = c.args.site.now in
+    subst (λ e. Built site.base site.scope.now site.slots.now c.args.ops.now.items c.build_copies.new.ops.items c.in_ok-alone-in-Repeat.alone.slot c.args.width c.args.signed e) (ap (Repeat c.in-Repeat.count) c.get.ensures ∙ sym c.in-Repeat.is)
+    (c.in_ok-alone-in-Repeat.ensures.built c.args.width c.args.signed)

@@ -16,28 +16,34 @@ invariant-build_copies-loop-copy l = record {
 }
 
 abbrev pub decreases-build : goal.decreases-build
-decreases-build l = 2 * size-Expr l.e.now
+decreases-build l = 4 * size-Expr l.e.now
 
 abbrev pub decreases-build_unary : goal.decreases-build_unary
-decreases-build_unary l = 2 * size-Expr l.part.now + 1
+decreases-build_unary l = 4 * size-Expr l.part.now + 3
 
 abbrev pub decreases-build_binary : goal.decreases-build_binary
-decreases-build_binary l = 2 * max (size-Expr l.left.now) (size-Expr l.right.now) + 1
+decreases-build_binary l = 4 * max (size-Expr l.left.now) (size-Expr l.right.now) + 3
 
 abbrev pub decreases-build_shift : goal.decreases-build_shift
-decreases-build_shift l = 2 * size-Expr l.part.now + 1
+decreases-build_shift l = 4 * size-Expr l.part.now + 3
 
 abbrev pub decreases-build_choice : goal.decreases-build_choice
-decreases-build_choice l = 2 * max (size-Expr l.test.now) (max (size-Expr l.chosen.now) (size-Expr l.other.now)) + 1
+decreases-build_choice l = 4 * max (size-Expr l.test.now) (max (size-Expr l.chosen.now) (size-Expr l.other.now)) + 3
 
 abbrev pub decreases-build_as_signed : goal.decreases-build_as_signed
-decreases-build_as_signed l = 2 * size-Expr l.part.now + 1
+decreases-build_as_signed l = 4 * size-Expr l.part.now + 3
 
 abbrev pub decreases-build_as_unsigned : goal.decreases-build_as_unsigned
-decreases-build_as_unsigned l = 2 * size-Expr l.part.now + 1
+decreases-build_as_unsigned l = 4 * size-Expr l.part.now + 3
 
 abbrev pub decreases-build_parts : goal.decreases-build_parts
-decreases-build_parts l = 2 * goal.size-build_parts l + 1
+decreases-build_parts l = 4 * goal.size-build_parts l + 3
 
 abbrev pub decreases-build_copies : goal.decreases-build_copies
-decreases-build_copies l = 2 * size-Expr l.part.now + 1
+decreases-build_copies l = 4 * size-Expr l.part.now + 3
+
+abbrev pub decreases-build_shaped : goal.decreases-build_shaped
+decreases-build_shaped l = 4 * size-Expr l.e.now + 1
+
+abbrev pub decreases-build_alone : goal.decreases-build_alone
+decreases-build_alone l = 4 * size-Expr l.e.now + 2

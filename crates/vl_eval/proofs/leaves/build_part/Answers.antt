@@ -5,7 +5,7 @@ use Rattle.vl_check.specs.Scope.{nets_in}
 use Rattle.vl_eval.proofs.Results.{if-ok}
 use Rattle.vl_eval.proofs.Operands.{names-part, sound-part}
 use Rattle.vl_eval.proofs.Builds.{built-part}
-use Rattle.vl_eval.proofs.building.build_part.Goals as goal
+use Rattle.vl_eval.proofs.leaves.build_part.Goals as goal
 
 pub overflow_sub-high : goal.overflow_sub-high
 overflow_sub-high c = (sound-part (nets_in c.args.site.now.scope.now) c.args.name.now c.args.high c.args.low c.requires.sound).0

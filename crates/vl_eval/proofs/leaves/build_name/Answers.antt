@@ -6,7 +6,7 @@ use Rattle.vl_check.specs.Scope.{nets_in}
 use Rattle.vl_eval.proofs.Results.{if-ok}
 use Rattle.vl_eval.proofs.Operands.{length-name, names-name}
 use Rattle.vl_eval.proofs.Builds.{built-name, built-signed-name}
-use Rattle.vl_eval.proofs.building.build_name.Goals as goal
+use Rattle.vl_eval.proofs.leaves.build_name.Goals as goal
 
 pub returns-then-not-signed : goal.returns-then-not-signed
 returns-then-not-signed c =

@@ -3,7 +3,7 @@ use Rattle.vl_check.specs.Scope.{nets_in}
 use Rattle.vl_eval.proofs.Results.{if-ok}
 use Rattle.vl_eval.proofs.Operands.{length-literal, sound-literal}
 use Rattle.vl_eval.proofs.Builds.{built-literal}
-use Rattle.vl_eval.proofs.building.build_literal.Goals as goal
+use Rattle.vl_eval.proofs.leaves.build_literal.Goals as goal
 
 pub literal-requires-clause-number : goal.literal-requires-clause-number
 literal-requires-clause-number c = sound-literal (nets_in c.args.site.now.scope.now) c.args.number.now c.requires.sound

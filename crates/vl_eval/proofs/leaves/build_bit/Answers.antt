@@ -5,7 +5,7 @@ use Rattle.vl_check.specs.Scope.{nets_in}
 use Rattle.vl_eval.proofs.Results.{if-ok}
 use Rattle.vl_eval.proofs.Operands.{names-bit, sound-bit}
 use Rattle.vl_eval.proofs.Builds.{built-bit}
-use Rattle.vl_eval.proofs.building.build_bit.Goals as goal
+use Rattle.vl_eval.proofs.leaves.build_bit.Goals as goal
 
 pub returns : goal.returns
 returns c =
