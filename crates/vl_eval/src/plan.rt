@@ -5,7 +5,7 @@ ghost use Rattle.vl_check.specs.Cause.{IsCause};
 ghost use Rattle.vl_check.specs.Ordering.{IsOrdering};
 ghost use Rattle.vl_check.specs.Scope.{IsScopeOf, names_in};
 ghost use Rattle.vl_eval.specs.Given.{driven_ports};
-ghost use Rattle.vl_eval.specs.inner.Planned.{AreCaptured, AreNumbers, AreWired, IsPlan, IsPlanOf, assignment_at, output_of, slot_of_port, the_assignment};
+ghost use Rattle.vl_eval.specs.inner.Planned.{AreCaptured, AreNumbers, AreOperations, AreWired, IsPlan, IsPlanOf, assignment_at, output_of, slot_of_port, the_assignment};
 
 use crate::arranging::{Arranged, arrange};
 use crate::assigning::{build_assigned, build_next};
@@ -191,6 +191,33 @@ fn outputs(alloc: Global, site: &Site<'_, '_>, source: &Module) -> Result<Vec<Ou
     Ok(outputs)
 }
 
+/// The operations of the assignments and the registers of a module, by level and kind.
+fn arranged_in(
+    alloc: Global,
+    scope: &Scope<'_>,
+    source: &Module,
+    order: &[usize],
+    places: &[Option<usize>],
+) -> Result<Arranged, OutOfMemory>
+    requires sound { BreaksNone source.now }
+    requires scope { IsScopeOf source.now scope.now }
+    requires order { IsOrdering source.now scope.now order.now places.now }
+    ensures { IfOk result (AreOperations source.now scope.now) }
+{
+    meaning_by_layer();
+    let base = scope.count();
+    let mut slots = numbers(alloc, base)?;
+    let mut ops = Vec::new(alloc);
+    wires(&mut ops, &mut slots, scope, source, order, places)?;
+    let site = Site {
+        scope,
+        slots: slots.as_slice(),
+        base,
+    };
+    let taken = captures(alloc, &mut ops, &site, source)?;
+    arrange(alloc, base, ops, slots, taken)
+}
+
 /// The operations of a module that breaks no condition.
 fn plan_in(
     alloc: Global,
@@ -204,22 +231,12 @@ fn plan_in(
     requires order { IsOrdering source.now scope.now order.now places.now }
     ensures { IfOk result (IsPlan source.now scope.now) }
 {
-    meaning_by_layer();
     let base = scope.count();
-    let mut slots = numbers(alloc, base)?;
-    let mut ops = Vec::new(alloc);
-    wires(&mut ops, &mut slots, scope, source, order, places)?;
-    let site = Site {
-        scope,
-        slots: slots.as_slice(),
-        base,
-    };
-    let taken = captures(alloc, &mut ops, &site, source)?;
     let Arranged {
         ops,
         slots,
         captures,
-    } = arrange(alloc, base, ops, slots, taken)?;
+    } = arranged_in(alloc, scope, source, order, places)?;
     let site = Site {
         scope,
         slots: slots.as_slice(),

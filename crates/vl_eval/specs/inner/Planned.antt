@@ -13,6 +13,7 @@ use Rattle.vl_ast.specs.Value.{assigned}
 use Rattle.vl_check.specs.declared.scope.Scope.{Scope}
 use Rattle.vl_check.specs.Scope.{IsScopeOf, names_in, nets_in, number_in}
 use Rattle.vl_eval.specs.Given.{driven_ports}
+use Rattle.vl_eval.specs.declared.arranging.Arranged.{Arranged}
 use Rattle.vl_eval.specs.declared.ops.Op.{Op}
 use Rattle.vl_eval.specs.declared.plan.Assignment.{Assignment}
 use Rattle.vl_eval.specs.declared.plan.Capture.{Capture}
@@ -104,6 +105,12 @@ slot_of_port scope slots port = slot_in scope slots port.name
 
 abbrev pub output_of : Scope → List ℕ → Port → Output
 output_of scope slots port = record { slot = slot_of_port scope slots port; width = port.width; signed = port.signed || port.width == 128 }
+
+-- the operations of a module's assignments and registers, in some order
+pub record AreOperations (m : Module) (scope : Scope) (arranged : Arranged) : Type 0 where
+  pub wires : List Op
+  pub wired : AreWired m scope arranged.slots.items wires
+  pub captured : AreCaptured m scope arranged.slots.items m.items wires arranged.ops.items arranged.captures.items
 
 -- the operations of a module, and where its names have their values
 pub record IsPlan (m : Module) (scope : Scope) (plan : Plan) : Type 0 where
