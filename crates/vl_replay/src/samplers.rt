@@ -136,17 +136,11 @@ fn put_if_due(
     if own != phase || sample < delay {
         return;
     }
-    if samples <= sample - delay {
+    let due = sample - delay;
+    if samples <= due {
         return;
     }
-    put_number(
-        machine,
-        period,
-        samplers.len(),
-        place,
-        sample - delay,
-        cells,
-    );
+    put_number(machine, period, samplers.len(), place, due, cells);
 }
 
 /// Puts the numbers that are due at a clock of this phase of a sample into their cells, of which

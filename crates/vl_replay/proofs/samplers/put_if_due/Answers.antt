@@ -20,11 +20,11 @@ returns-then-own-phase c = λ before put.
       | then-own-phase-via-else-own-phase+then-sample-delay w ↦ (let less = w.if-sample-delay.true in absurd (omega (arith, less, due)))
     ])
 
-pub returns-then-samples-sample : goal.returns-then-samples-sample
-returns-then-samples-sample c = λ before put.
+pub returns-then-samples-due : goal.returns-then-samples-due
+returns-then-samples-due c = λ before put.
     let there = slice_get-get_or c.args.samplers.now c.args.place none c.requires.within in
     put-undue (number_at (source_of c.args.machine.now) (row_of c.args.machine.now)) c.args.samplers.now c.args.samples c.args.sample c.args.phase c.args.place before c.args.cells.now (slice_index_or c.args.samplers.now c.args.place none) there put
-    (λ t below own due. let past = c.if-samples-sample.true in absurd (omega (arith, past, due, below)))
+    (λ t below own due. let past = c.if-samples-due.true in absurd (omega (arith, past, due, below)))
 
 pub put_number-requires-clause-period : goal.put_number-requires-clause-period
 put_number-requires-clause-period c = c.requires.periods c.args.place (slice_index_or c.args.samplers.now c.args.place none) (slice_get-get_or c.args.samplers.now c.args.place none c.requires.within)
@@ -37,4 +37,4 @@ returns c = λ before put.
     let late = c.if-sample-delay.false in
     let due : c.args.sample - own.delay + own.delay ≡ c.args.sample = omega (arith, late) in
     subst (λ (cells : List ℤ). ArePut numbers c.args.samplers.now c.args.samples c.args.sample c.args.phase (c.args.place + 1) before cells) (sym c.put_number.ensures)
-    (put-due numbers c.args.samplers.now c.args.samples c.args.sample c.args.phase c.args.place before c.args.cells.now own there put (c.args.sample - own.delay) c.if-samples-sample.false c.if-own-phase.false due c.requires.room)
+    (put-due numbers c.args.samplers.now c.args.samples c.args.sample c.args.phase c.args.place before c.args.cells.now own there put (c.args.sample - own.delay) c.if-samples-due.false c.if-own-phase.false due c.requires.room)
