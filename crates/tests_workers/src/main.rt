@@ -17,8 +17,11 @@ mod wires;
 use anyhow::Result;
 use std::io::{self, Read, Write};
 
-/// The pieces of a text have 32 items, and are spelled by more than one worker from 2,048 pieces on.
-const WIRES: [u32; 8] = [1, 992, 1_024, 1_056, 65_535, 65_536, 65_537, 65_568];
+/// The pieces of a text have 32 items, are spelled by more than one worker from 2,048 pieces on, and
+/// together up to 8,192.
+const WIRES: [u32; 9] = [
+    1, 992, 1_024, 1_056, 65_535, 65_536, 65_537, 65_568, 262_145,
+];
 
 fn main(rt: HostRuntime) -> Result<()> {
     let alloc = rt.alloc();

@@ -37,10 +37,18 @@ fn put_count(out: &mut Vec<u8>, count: u32) -> Result<(), OutOfMemory>
     put(out, b" {")
 }
 
-fn put_amount(out: &mut Vec<u8>, amount: &Sized) -> Result<(), OutOfMemory>
-    ensures { OnOk result (out.new.items
-        ≡ out.old.items ++ (codes " " ++ sized_text amount.now ++ codes ")")) }
+fn put_opened(out: &mut Vec<u8>, operator: &[u8]) -> Result<(), OutOfMemory>
+    ensures { OnOk result (out.new.items ≡ out.old.items ++ (codes "(" ++ operator.now)) }
 {
+    put(out, b"(")?;
+    put(out, operator)
+}
+
+fn put_amount(out: &mut Vec<u8>, operator: &[u8], amount: &Sized) -> Result<(), OutOfMemory>
+    ensures { OnOk result (out.new.items
+        ≡ out.old.items ++ (operator.now ++ codes " " ++ sized_text amount.now ++ codes ")")) }
+{
+    put(out, operator)?;
     put(out, b" ")?;
     put_sized(out, amount)?;
     put(out, b")")
@@ -68,8 +76,7 @@ pub fn put_expr(out: &mut Vec<u8>, e: &Expr) -> Result<(), OutOfMemory>
         Expr::AsSigned(part) => put_within(out, b"$signed (", part.get(), b")"),
         Expr::AsUnsigned(part) => put_within(out, b"$unsigned (", part.get(), b")"),
         Expr::Unary(op, part) => {
-            put(out, b"(")?;
-            put(out, op.text())?;
+            put_opened(out, op.text())?;
             put_within(out, b" ", part.get(), b")")
         }
         Expr::Binary(op, left, right) => {
@@ -79,8 +86,7 @@ pub fn put_expr(out: &mut Vec<u8>, e: &Expr) -> Result<(), OutOfMemory>
         }
         Expr::Shift(op, part, amount) => {
             put_within(out, b"(", part.get(), b" ")?;
-            put(out, op.text())?;
-            put_amount(out, amount)
+            put_amount(out, op.text(), amount)
         }
         Expr::Choose(test, chosen, other) => {
             put_within(out, b"(", test.get(), b" ? ")?;

@@ -4,7 +4,7 @@ ghost use Rattle.vl_ast.specs.Spelling.{spelling};
 
 use crate::attributes::put_attrs;
 use crate::parts::put;
-use crate::pieces::put_items;
+use crate::pieces::with_items;
 use crate::ports::put_ports;
 use fx_io::{Gate, OutOfMemory, Text};
 use std::alloc::Global;
@@ -34,7 +34,7 @@ pub fn write<R: Threads + Sync, G: Gate + Sync>(
     put(&mut out, b" (\n")?;
     put_ports(&mut out, module.ports.as_slice())?;
     put(&mut out, b"\n);\n")?;
-    put_items(rt, alloc, &mut out, module.items.as_slice(), gate)?;
-    put(&mut out, b"endmodule\n")?;
-    Text::from_vec(alloc, out)
+    let mut text = with_items(rt, alloc, out, module.items.as_slice(), gate)?;
+    put(&mut text, b"endmodule\n")?;
+    Text::from_vec(alloc, text)
 }
