@@ -4,6 +4,7 @@ ghost use Rattle.hw_explore.specs.Candidates.{IsFinding};
 ghost use Rattle.hw_explore.specs.Findings.{AreFindings, IsLeast, IsRanked};
 ghost use Rattle.hw_explore.specs.declared.rank.Rank.{Rank};
 ghost use Rattle.hw_explore.specs.inner.Best.{IsBest};
+ghost use Rattle.hw_explore.specs.inner.Timed.{AreTimed};
 ghost use Rattle.hw_explore.specs.Range.{IsRange, pairs_of};
 
 use crate::finding::{Finding, Judged};
@@ -11,6 +12,7 @@ use crate::findings::{FindingRows, Findings};
 use crate::judging::found;
 use crate::range::Range;
 use crate::rank::Rank;
+use crate::timed::BySharing;
 use dg_model::Checked;
 use fx_io::{Gate, OutOfMemory};
 use rayon::prelude::*;
@@ -81,10 +83,12 @@ fn all_found<R: Threads + Sync, G: Gate + Sync>(
     rt: &R,
     alloc: Global,
     checked: &Checked,
+    timed: &BySharing,
     range: Range,
     gate: &G,
 ) -> Result<FindingRows, OutOfMemory>
-    requires { IsRange range }
+    requires timed { AreTimed checked.now.diagram timed.now }
+    requires range { IsRange range }
     ensures { IfOk result (λ rows. AllZip (IsFinding checked.now.diagram range)
         (range_with_len 0 (pairs_of range)) rows) }
 {
@@ -93,11 +97,12 @@ fn all_found<R: Threads + Sync, G: Gate + Sync>(
         .into_par_iter()
         .map(
             |place: u32| -> Result<Finding, OutOfMemory>
-                requires { IsRange range × (place < pairs_of range) }
+                requires { IsRange range × (place < pairs_of range)
+                    × AreTimed checked.now.diagram timed.now }
                 ensures { IfOk result (IsFinding checked.entry.now.diagram range place) }
             {
                 gate.pass(u64::from(place));
-                found(alloc, checked, range, place)
+                found(alloc, checked, timed, range, place)
             },
         )
         .collect(rt, alloc)?;
@@ -118,7 +123,8 @@ pub fn explore<R: Threads + Sync, G: Gate + Sync>(
     requires { IsRange range }
     ensures { IfOk result (AreFindings checked.now.diagram range) }
 {
-    let rows = all_found(rt, alloc, checked, range, gate)?;
+    let timed = BySharing::of(alloc, checked)?;
+    let rows = all_found(rt, alloc, checked, &timed, range, gate)?;
     let least = least_of(rows.as_slice());
     Ok(Findings { rows, least })
 }

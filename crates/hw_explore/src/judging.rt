@@ -1,52 +1,109 @@
-ghost use Rattle.std.specs.Prelude.{◌≡◌, ◌<◌, ◌≤◌, IfOk};
+ghost use Rattle.std.specs.Prelude.{◌≡◌, ◌<◌, IfOk};
 ghost use Rattle.dg_model.specs.PlanOf.{IsPlanOf};
-ghost use Rattle.hw_explore.specs.Candidates.{IsFinding, IsJudged, plain_plan};
+ghost use Rattle.hw_explore.specs.Candidates.{IsFinding, IsJudged};
 ghost use Rattle.hw_explore.specs.Range.{IsRange, pairs_of};
+ghost use Rattle.hw_explore.specs.inner.Timed.{AreTimed, IsTimed};
+ghost use Rattle.hw_latency.specs.Latency.{AreLatencies};
+ghost use Rattle.hw_sched.specs.Answer.{AreSlots};
 
 use crate::finding::{Finding, Judged};
+use crate::plain::without_pipelines;
 use crate::range::Range;
-use dg_model::{CheckFault, Checked, Resolved};
-use fx_io::{OutOfMemory, Sizes};
-use hw_rules::{multiplications, times_of};
+use crate::timed::{BySharing, Timed};
+use dg_model::{Checked, Resolved, Shown};
+use fx_io::{Flags, Longs, OutOfMemory, Periods, Sizes};
+use hw_latency::Latencies;
+use hw_rules::{Times, multiplications};
+use hw_sched::{BudgetFault, SizeFault, Slots, check_size, slots_of};
 use std::alloc::Global;
 
-/// The plan of these clocks and multipliers that sets no registers.
-fn without_pipelines(
-    alloc: Global,
-    checked: &Checked,
-    cycles: u32,
-    multipliers: u32,
-) -> Result<Resolved, OutOfMemory>
-    requires some { 1 ≤ cycles }
-    requires clocks { cycles ≤ 1024 }
-    requires multipliers { multipliers ≤ 64 }
-    ensures is { IfOk result (λ plan. plan ≡ plain_plan checked.now.diagram cycles multipliers) }
-    ensures plan { IfOk result (λ plan. IsPlanOf checked.now.diagram plan) }
+/// A copy of latencies.
+fn copy_of(alloc: Global, latencies: &Latencies) -> Result<Latencies, OutOfMemory>
+    ensures { IfOk result (λ copy. copy ≡ latencies.now) }
 {
-    let count = checked.diagram().blocks.as_slice().len();
-    let stages = Sizes::from_vec(vec![in alloc; 0u32; count]?);
-    Ok(Resolved {
-        cycles,
-        multipliers,
-        stages,
+    Ok(Latencies {
+        lat: Longs::from_vec(latencies.lat.as_slice().to_vec(alloc)?),
+        tight: Periods::from_vec(latencies.tight.as_slice().to_vec(alloc)?),
+        fed: Flags::from_vec(latencies.fed.as_slice().to_vec(alloc)?),
     })
 }
 
-/// What a plan is worth.
-fn judge(alloc: Global, checked: &Checked, plan: &Resolved) -> Result<Judged, OutOfMemory>
-    requires { IsPlanOf checked.now.diagram plan.now }
+/// What a plan is worth that keeps the rules up to that of budget.
+fn judge_size(
+    alloc: Global,
+    checked: &Checked,
+    plan: &Resolved,
+    latencies: &Latencies,
+    slots: Slots,
+) -> Result<Judged, OutOfMemory>
+    requires plan { IsPlanOf checked.now.diagram plan.now }
+    requires latencies { AreLatencies checked.now.diagram plan.now latencies.now }
+    requires slots { AreSlots checked.now.diagram plan.now latencies.now slots }
     ensures { IfOk result (IsJudged checked.now.diagram plan.now) }
 {
-    match times_of(alloc, checked, plan) {
-        Ok(times) => Ok(Judged::Good {
-            owed: multiplications(checked, plan, &times)?,
-            latency: times.sizing.latency,
+    match check_size(checked, plan, latencies, slots.ready.as_slice()) {
+        Ok(sizing) => {
+            let latencies = copy_of(alloc, latencies)?;
+            let times = Times {
+                latencies,
+                slots,
+                sizing,
+            };
+            let owed = multiplications(checked, plan, &times)?;
+            Ok(Judged::Good {
+                owed,
+                latency: sizing.latency,
+            })
+        }
+        Err(SizeFault::Size { storage, latency }) => Ok(Judged::Bad {
+            rule: 13,
+            shown: Shown::Size { storage, latency },
         }),
-        Err(CheckFault::Broken(fault)) => Ok(Judged::Bad {
-            rule: fault.rule,
-            shown: fault.shown,
+        Err(SizeFault::OutOfMemory) => Err(OutOfMemory),
+    }
+}
+
+/// What a plan is worth that keeps the rule of latency.
+fn judge_slots(
+    alloc: Global,
+    checked: &Checked,
+    plan: &Resolved,
+    latencies: &Latencies,
+) -> Result<Judged, OutOfMemory>
+    requires plan { IsPlanOf checked.now.diagram plan.now }
+    requires latencies { AreLatencies checked.now.diagram plan.now latencies.now }
+    ensures { IfOk result (IsJudged checked.now.diagram plan.now) }
+{
+    match slots_of(alloc, checked, latencies, plan) {
+        Ok(slots) => judge_size(alloc, checked, plan, latencies, slots),
+        Err(BudgetFault::Budget { period, need, have }) => Ok(Judged::Bad {
+            rule: 12,
+            shown: Shown::Budget { period, need, have },
         }),
-        Err(CheckFault::OutOfMemory) => Err(OutOfMemory),
+        Err(BudgetFault::OutOfMemory) => Err(OutOfMemory),
+    }
+}
+
+/// What a plan is worth, by its latencies.
+fn judge(
+    alloc: Global,
+    checked: &Checked,
+    plan: &Resolved,
+    timed: &Timed,
+) -> Result<Judged, OutOfMemory>
+    requires plan { IsPlanOf checked.now.diagram plan.now }
+    requires timed { IsTimed checked.now.diagram plan.now timed.now }
+    ensures { IfOk result (IsJudged checked.now.diagram plan.now) }
+{
+    match timed {
+        Timed::Kept(latencies) => judge_slots(alloc, checked, plan, latencies),
+        Timed::Gaining { blocks, total } => Ok(Judged::Bad {
+            rule: 11,
+            shown: Shown::Latency {
+                blocks: Sizes::from_vec(blocks.as_slice().to_vec(alloc)?),
+                total: *total,
+            },
+        }),
     }
 }
 
@@ -54,9 +111,11 @@ fn judge(alloc: Global, checked: &Checked, plan: &Resolved) -> Result<Judged, Ou
 pub fn found(
     alloc: Global,
     checked: &Checked,
+    timed: &BySharing,
     range: Range,
     place: u32,
 ) -> Result<Finding, OutOfMemory>
+    requires timed { AreTimed checked.now.diagram timed.now }
     requires range { IsRange range }
     requires there { place < pairs_of range }
     ensures { IfOk result (IsFinding checked.now.diagram range place) }
@@ -64,7 +123,7 @@ pub fn found(
     let cycles = range.cycles(place);
     let multipliers = range.multipliers(place);
     let plan = without_pipelines(alloc, checked, cycles, multipliers)?;
-    let verdict = judge(alloc, checked, &plan)?;
+    let verdict = judge(alloc, checked, &plan, timed.at(cycles, multipliers))?;
     Ok(Finding {
         cycles,
         multipliers,

@@ -9,8 +9,10 @@ mod exploring;
 mod finding;
 mod findings;
 mod judging;
+mod plain;
 mod range;
 mod rank;
+mod timed;
 
 pub use exploring::explore;
 pub use finding::{Finding, Judged};
