@@ -1,17 +1,16 @@
 -- Plans that set the same registers and share the same multiplications have the same latencies.
-use Rattle.std.proofs.Common.{◌≡◌, ℕ, suc, ◌*◌, ◌<◌, ◌≤◌, Bool, true, false, List, ◌∷◌, [], map, length, refl, sym, subst, ap, ◌∙◌, arith}
+use Rattle.std.proofs.Common.{◌≡◌, ℕ, zero, suc, ◌*◌, ◌<◌, ◌≤◌, Bool, List, ◌∷◌, [], map, refl, sym, subst, ap, ◌∙◌, arith}
 use Rattle.std.specs.Prelude.{◌&&◌, nat_lt, Option, Some, None, slice_get, slice_index}
 use Rattle.std.proofs.lemmas.Bool.{lt-ltb}
+use Rattle.std.proofs.lemmas.Nat.{mul-le}
 use Rattle.dg_model.specs.declared.diagram.Diagram.{Diagram}
 use Rattle.dg_model.specs.declared.resolved.Resolved.{Resolved}
 use Rattle.dg_model.specs.Attributes.{attributes_of}
 use Rattle.dg_model.specs.LatencyEdges.{LatencyEdge, latency_edges}
 use Rattle.dg_model.specs.PlanOf.{stages_at}
-use Rattle.dg_model.specs.Signals.{Attributes}
 use Rattle.hw_arcs.specs.declared.arc.Arc.{Arc}
 use Rattle.hw_arcs.specs.Latencies.{IsLeast, AreTight, IsGainingCycle}
 use Rattle.hw_latency.specs.Cone.{AreFed, IsFed, is_marked}
-use Rattle.hw_latency.specs.Latency.{AreLatencies, IsCycleTold}
 use Rattle.hw_latency.specs.Shared.{multiplies, shares, is_shared}
 use Rattle.hw_latency.specs.Weight.{samples, arc_into, arc_from, arc_of, latency_arcs}
 use Rattle.hw_explore.specs.declared.timed.Timed.{Timed}
@@ -77,14 +76,14 @@ module _ (diagram : Diagram) (plan other : Resolved) (stages : plan.stages ≡ o
 
 -- periods of two or more clocks share, whatever the clocks of a base sample
 shares_whole : (period cycles : ℕ) → 1 < cycles → nat_lt 1 (period * 2) ≡ nat_lt 1 (period * cycles)
-shares_whole 0 cycles many = refl
+shares_whole zero cycles many =
+    let none : 0 * cycles ≡ 0 = omega arith in
+    ap (λ (clocks : ℕ). nat_lt 1 clocks) (sym none)
 shares_whole (suc period) cycles many =
     let one : 1 < suc period * 2 = omega arith in
-    let more : 1 < suc period * cycles = omega (arith, mul-above) in
+    let least : 1 * cycles ≤ suc period * cycles = mul-le 1 cycles (suc period) cycles (omega arith) (omega arith) in
+    let more : 1 < suc period * cycles = omega (arith, least, many) in
     lt-ltb 1 (suc period * 2) one ∙ sym (lt-ltb 1 (suc period * cycles) more)
-  where
-    mul-above : cycles ≤ suc period * cycles
-    mul-above = omega arith
 
 module _ (diagram : Diagram) (cycles multipliers : ℕ) (timed : Timed) where
   pub timed_none : multipliers ≡ 0 → IsTimed diagram (plain_plan diagram 1 0) timed → IsTimed diagram (plain_plan diagram cycles multipliers) timed

@@ -1,10 +1,13 @@
 ghost use Rattle.std.specs.Prelude.{◌≡◌, ◌<◌, IfOk};
 ghost use Rattle.dg_model.specs.PlanOf.{IsPlanOf};
+ghost use Rattle.dg_model.specs.declared.fault.Shown.TheVariants.{Size as SizeShown};
 ghost use Rattle.hw_explore.specs.Candidates.{IsFinding, IsJudged};
+ghost use Rattle.hw_explore.specs.declared.finding.Judged.TheVariants.{Bad};
 ghost use Rattle.hw_explore.specs.Range.{IsRange, pairs_of};
 ghost use Rattle.hw_explore.specs.inner.Timed.{AreTimed, IsTimed};
 ghost use Rattle.hw_latency.specs.Latency.{AreLatencies};
-ghost use Rattle.hw_sched.specs.Answer.{AreSlots};
+ghost use Rattle.hw_sched.specs.Answer.{AreSlots, timing_of};
+ghost use Rattle.hw_sched.specs.Sizing.{IsKeptSize};
 
 use crate::finding::{Finding, Judged};
 use crate::plain::without_pipelines;
@@ -14,7 +17,7 @@ use dg_model::{Checked, Resolved, Shown};
 use fx_io::{Flags, Longs, OutOfMemory, Periods, Sizes};
 use hw_latency::Latencies;
 use hw_rules::{Times, multiplications};
-use hw_sched::{BudgetFault, SizeFault, Slots, check_size, slots_of};
+use hw_sched::{BudgetFault, SizeFault, Sizing, Slots, check_size, slots_of};
 use std::alloc::Global;
 
 /// A copy of latencies.
@@ -26,6 +29,45 @@ fn copy_of(alloc: Global, latencies: &Latencies) -> Result<Latencies, OutOfMemor
         tight: Periods::from_vec(latencies.tight.as_slice().to_vec(alloc)?),
         fed: Flags::from_vec(latencies.fed.as_slice().to_vec(alloc)?),
     })
+}
+
+/// What a plan is worth that keeps the rules.
+fn judge_good(
+    alloc: Global,
+    checked: &Checked,
+    plan: &Resolved,
+    latencies: &Latencies,
+    slots: Slots,
+    sizing: Sizing,
+) -> Result<Judged, OutOfMemory>
+    requires plan { IsPlanOf checked.now.diagram plan.now }
+    requires latencies { AreLatencies checked.now.diagram plan.now latencies.now }
+    requires slots { AreSlots checked.now.diagram plan.now latencies.now slots }
+    requires size { IsKeptSize checked.now.diagram plan.now sizing
+        (timing_of latencies.now slots.depths) }
+    ensures { IfOk result (IsJudged checked.now.diagram plan.now) }
+{
+    let copy = copy_of(alloc, latencies)?;
+    let times = Times {
+        latencies: copy,
+        slots,
+        sizing,
+    };
+    let owed = multiplications(checked, plan, &times)?;
+    Ok(Judged::Good {
+        owed,
+        latency: sizing.latency,
+    })
+}
+
+/// What a plan is worth that breaks the rule of size.
+fn too_large(storage: u64, latency: u64) -> Judged
+    ensures { result ≡ Bad 13 (SizeShown storage latency) }
+{
+    Judged::Bad {
+        rule: 13,
+        shown: Shown::Size { storage, latency },
+    }
 }
 
 /// What a plan is worth that keeps the rules up to that of budget.
@@ -42,23 +84,8 @@ fn judge_size(
     ensures { IfOk result (IsJudged checked.now.diagram plan.now) }
 {
     match check_size(checked, plan, latencies, slots.ready.as_slice()) {
-        Ok(sizing) => {
-            let latencies = copy_of(alloc, latencies)?;
-            let times = Times {
-                latencies,
-                slots,
-                sizing,
-            };
-            let owed = multiplications(checked, plan, &times)?;
-            Ok(Judged::Good {
-                owed,
-                latency: sizing.latency,
-            })
-        }
-        Err(SizeFault::Size { storage, latency }) => Ok(Judged::Bad {
-            rule: 13,
-            shown: Shown::Size { storage, latency },
-        }),
+        Ok(sizing) => judge_good(alloc, checked, plan, latencies, slots, sizing),
+        Err(SizeFault::Size { storage, latency }) => Ok(too_large(storage, latency)),
         Err(SizeFault::OutOfMemory) => Err(OutOfMemory),
     }
 }
