@@ -95,6 +95,7 @@ fn all_found<R: Threads + Sync, G: Gate + Sync>(
     let pairs = range.pairs();
     let rows: Result<Vec<Finding>, OutOfMemory> = (0..pairs)
         .into_par_iter()
+        .with_min_len(1)
         .map(
             |place: u32| -> Result<Finding, OutOfMemory>
                 requires { IsRange range × (place < pairs_of range)

@@ -3,6 +3,7 @@
 //! | line | what was done |
 //! |---|---|
 //! | `4096 plans, 2 workers met` | the model in standard input was explored, while the worker of the first plan and that of the last waited for each other at a gate |
+//! | `8 plans, 2 workers met` | the same with few plans |
 //! | `100000 wires, 2 workers met` | a module of wires was written, while the workers of the first item and of the last did |
 //! | `N wires, 20 texts as expected` | such a module was written over and over, and each text compared with the one found line by line |
 //!
@@ -29,7 +30,9 @@ fn main(rt: HostRuntime) -> Result<()> {
     let mut reader = rt.reader();
     let _ = reader.read_to_end(&mut model)?;
     let mut out = io::writer(&rt);
-    let (explored, met) = plans::meet(&rt, alloc, model.as_slice())?;
+    let (explored, met) = plans::meet(&rt, alloc, model.as_slice(), plans::WHOLE)?;
+    writeln!(out, "{explored} plans, {met} workers met")?;
+    let (explored, met) = plans::meet(&rt, alloc, model.as_slice(), plans::FEW)?;
     writeln!(out, "{explored} plans, {met} workers met")?;
     let met = wires::meet(&rt, alloc, 100_000)?;
     writeln!(out, "100000 wires, {met} workers met")?;

@@ -1,3 +1,5 @@
+ghost use Rattle.hw_explore.specs.Range.{IsRange};
+
 use crate::meeting::Meeting;
 use anyhow::{Result, anyhow};
 use fx_model::accept;
@@ -6,19 +8,34 @@ use std::alloc::Global;
 use std::thread::Threads;
 
 /// 64 clocks by 64 multipliers.
-const WHOLE: Range = Range {
+pub const WHOLE: Range = Range {
     low_cycles: 1,
     high_cycles: 64,
     low_multipliers: 1,
     high_multipliers: 64,
 };
 
+/// 8 clocks without multipliers.
+pub const FEW: Range = Range {
+    low_cycles: 1,
+    high_cycles: 8,
+    low_multipliers: 0,
+    high_multipliers: 0,
+};
+
 /// How many plans of a model are explored, and how many workers met meanwhile.
-pub fn meet<R: Threads + Sync>(rt: &R, alloc: Global, model: &[u8]) -> Result<(usize, u64)> {
+pub fn meet<R: Threads + Sync>(
+    rt: &R,
+    alloc: Global,
+    model: &[u8],
+    range: Range,
+) -> Result<(usize, u64)>
+    requires { IsRange range }
+{
     let Ok(checked) = accept(alloc, model) else {
         return Err(anyhow!("the model is refused"));
     };
-    let meeting = Meeting::new(4095);
-    let findings = explore(rt, alloc, &checked, WHOLE, &meeting)?;
+    let meeting = Meeting::new(u64::from(range.pairs()).saturating_sub(1));
+    let findings = explore(rt, alloc, &checked, range, &meeting)?;
     Ok((findings.rows.as_slice().len(), meeting.met()))
 }

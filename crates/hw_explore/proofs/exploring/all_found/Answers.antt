@@ -16,14 +16,14 @@ collect-requires-clause-ready g c =
     let ends = c.into_par_iter.ensures in
     let inside = nat_range-All (λ i. IsRange c.args.range × (i < pairs_of c.args.range) × AreTimed c.args.checked.now.diagram c.args.timed.now) 0 c.pairs-pairs.result
     (λ i low high. (c.requires.range, subst (λ (n : ℕ). i < n) c.pairs-pairs.ensures high, c.requires.timed)) in
-    rw (c.map.ensures.base, c.map.ensures.f, ends.0, ends.1) (λ a b k d lt. (inside k d lt, λ y p. tt))
+    rw (c.map.ensures.base, c.with_min_len.ensures.base, c.map.ensures.f, ends.0, ends.1) (λ a b k d lt. (inside k d lt, λ y p. tt))
 
 pub returns : goal.returns
 returns g c =
     let ends = c.into_par_iter.ensures in
     let pairs = c.pairs-pairs.result in
     let whole : pairs - 0 ≡ pairs_of c.args.range = omega (arith, c.pairs-pairs.ensures) in
-    let chain = rw (c.map.ensures.base, c.map.ensures.f) at c.in_ok-rows.ensures.1 in
+    let chain = rw (c.map.ensures.base, c.with_min_len.ensures.base, c.map.ensures.f) at c.in_ok-rows.ensures.1 in
     let places = chain.1 ∙ (λ i. nat_range (ends.0 i) (ends.1 i)) ∙ ap (range_with_len 0) whole in
     let xs = c.in_ok-rows.ensures.0 in
     let given = subst
