@@ -1,11 +1,12 @@
 -- The word that names a range of plans: `A..B,C..D`, clocks from A to B and multipliers from C to D (own).
 use Prim.Native.Char.{code}
-use Rattle.std.specs.Prelude.{ℕ, ◌+◌, ◌-◌, ◌*◌, ◌==◌, ◌&&◌, ◌||◌, not, nat_le, nat_eq, Bool, if◌then◌else◌, List, length, take, drop, codes, Option, Some, None}
+use Rattle.std.specs.Prelude.{ℕ, ◌+◌, ◌==◌, ◌&&◌, ◌||◌, not, nat_eq, Bool, if◌then◌else◌, List, length, take, drop, codes, Option, Some, None}
 use Rattle.std.specs.List.{position_or_len, starts_with}
 use Rattle.std.specs.Str.Parse.{digits_value}
 use Rattle.fx_text.specs.Digits.{is_number}
-use Rattle.fx_explored.specs.declared.range_word.Ends.{Ends}
+use Rattle.hw_explore.specs.declared.range.Ends.{Ends}
 use Rattle.hw_explore.specs.declared.range.Range.{Range}
+use Rattle.hw_explore.specs.Range.{range_between}
 
 -- one to four digits, without a zero in front of others
 abbrev pub is_plain : List ℕ → Bool
@@ -35,18 +36,8 @@ ends_by None high = None
 abbrev pub ends_of : List ℕ → Option Ends
 ends_of word = if starts_with nat_eq (drop (first_of (code ".") word) word) (codes "..") then ends_by (plain_number (before (code ".") word)) (plain_number (behind (code ".") 2 word)) else None
 
--- 1 to 1024 clocks and 0 to 64 multipliers, each from the lowest to the highest, and at most 4096 pairs
-abbrev pub is_within : Ends → Ends → Bool
-is_within cycles multipliers =
-    nat_le 1 cycles.low && nat_le cycles.low cycles.high && nat_le cycles.high 1024
-    && nat_le multipliers.low multipliers.high && nat_le multipliers.high 64
-    && nat_le ((cycles.high - cycles.low + 1) * (multipliers.high - multipliers.low + 1)) 4096
-
 abbrev pub range_by : Option Ends → Option Ends → Option Range
-range_by (Some cycles) (Some multipliers) =
-    if is_within cycles multipliers
-    then Some (record { low_cycles = cycles.low; high_cycles = cycles.high; low_multipliers = multipliers.low; high_multipliers = multipliers.high })
-    else None
+range_by (Some cycles) (Some multipliers) = range_between cycles multipliers
 range_by (Some cycles) None = None
 range_by None multipliers = None
 

@@ -1,16 +1,9 @@
 ghost use Rattle.std.specs.Prelude.{◌≡◌, ◌≤◌, IfSome, length};
-ghost use Rattle.fx_explored.specs.RangeWord.{ends_of as ends_of_word, first_of as first_of_mark, is_within as is_within_of, plain_number as plain_number_of, range_of};
+ghost use Rattle.fx_explored.specs.RangeWord.{ends_of as ends_of_word, first_of as first_of_mark, plain_number as plain_number_of, range_of};
 ghost use Rattle.hw_explore.specs.Range.{IsRange};
 
 use fx_text::read_short;
-use hw_explore::Range;
-
-/// From a number to another.
-#[derive(Clone, Copy)]
-struct Ends {
-    low: u64,
-    high: u64,
-}
+use hw_explore::{Ends, Range};
 
 /// Where a byte stands first, or the length.
 fn first_of(mark: u8, word: &[u8]) -> usize
@@ -54,18 +47,6 @@ fn ends_of(word: &[u8]) -> Option<Ends>
     }
 }
 
-/// Whether the ends are those of a range.
-fn is_within(cycles: Ends, multipliers: Ends) -> bool
-    ensures { result ≡ is_within_of cycles multipliers }
-{
-    1 <= cycles.low
-        && cycles.low <= cycles.high
-        && cycles.high <= 1024
-        && multipliers.low <= multipliers.high
-        && multipliers.high <= 64
-        && (cycles.high - cycles.low + 1) * (multipliers.high - multipliers.low + 1) <= 4096
-}
-
 /// The range that a word names, where it has the shape `A..B,C..D`: 1 to 1024 clocks, 0 to 64
 /// multipliers, without zeros in front, and at most 4096 pairs.
 pub fn read_range(word: &[u8]) -> Option<Range>
@@ -79,12 +60,7 @@ pub fn read_range(word: &[u8]) -> Option<Range>
         &word[place..]
     };
     match (ends_of(&word[..place]), ends_of(rest)) {
-        (Some(cycles), Some(multipliers)) if is_within(cycles, multipliers) => Some(Range {
-            low_cycles: cycles.low as u32,
-            high_cycles: cycles.high as u32,
-            low_multipliers: multipliers.low as u32,
-            high_multipliers: multipliers.high as u32,
-        }),
+        (Some(cycles), Some(multipliers)) => Range::between(cycles, multipliers),
         _ => None,
     }
 }

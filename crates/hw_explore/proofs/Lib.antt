@@ -1,4 +1,5 @@
 mod Alike
 mod Found
+mod Ranges
 mod Ranking
 mod Worth

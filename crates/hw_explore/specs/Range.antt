@@ -1,5 +1,6 @@
 -- The plans of a range, numbered (own).
-use Rattle.std.specs.Prelude.{ℕ, ◌+◌, ◌-◌, ◌*◌, ◌/◌, ◌%◌, ◌≤◌}
+use Rattle.std.specs.Prelude.{◌≡◌, ℕ, ◌+◌, ◌-◌, ◌*◌, ◌/◌, ◌%◌, ◌&&◌, nat_le, Bool, true, if◌then◌else◌, Option, Some, None}
+use Rattle.hw_explore.specs.declared.range.Ends.{Ends}
 use Rattle.hw_explore.specs.declared.range.Range.{Range}
 
 -- how many numbers of multipliers there are, and how many pairs of clocks and multipliers
@@ -9,14 +10,22 @@ choices_of range = range.high_multipliers - range.low_multipliers + 1
 abbrev pub pairs_of : Range → ℕ
 pairs_of range = (range.high_cycles - range.low_cycles + 1) * choices_of range
 
--- 1 to 1024 clocks and 0 to 64 multipliers, and at most 4096 pairs
-pub record IsRange (range : Range) : Type 0 where
-  pub some_clocks : 1 ≤ range.low_cycles
-  pub clocks : range.low_cycles ≤ range.high_cycles
-  pub few_clocks : range.high_cycles ≤ 1024
-  pub multipliers : range.low_multipliers ≤ range.high_multipliers
-  pub few_multipliers : range.high_multipliers ≤ 64
-  pub few : pairs_of range ≤ 4096
+-- 1 to 1024 clocks and 0 to 64 multipliers, each from the lowest to the highest, and at most 4096 pairs
+abbrev pub is_range : Range → Bool
+is_range range =
+    nat_le 1 range.low_cycles && nat_le range.low_cycles range.high_cycles && nat_le range.high_cycles 1024
+    && nat_le range.low_multipliers range.high_multipliers && nat_le range.high_multipliers 64
+    && nat_le (pairs_of range) 4096
+
+abbrev pub IsRange : Range → Type 0
+IsRange range = is_range range ≡ true
+
+-- the range of clocks and of multipliers between these ends, where it is one
+abbrev pub between : Ends → Ends → Range
+between cycles multipliers = record { low_cycles = cycles.low; high_cycles = cycles.high; low_multipliers = multipliers.low; high_multipliers = multipliers.high }
+
+abbrev pub range_between : Ends → Ends → Option Range
+range_between cycles multipliers = if is_range (between cycles multipliers) then Some (between cycles multipliers) else None
 
 -- the pair of a number: all numbers of multipliers for the least clocks, then for the next
 abbrev pub cycles_of : Range → ℕ → ℕ

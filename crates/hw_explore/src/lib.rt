@@ -17,4 +17,4 @@ mod timed;
 pub use exploring::explore;
 pub use finding::{Finding, Judged};
 pub use findings::{FindingRows, Findings};
-pub use range::Range;
+pub use range::{Ends, Range};

@@ -1,3 +1,12 @@
+/// From a number to another (own).
+#[derive(Clone, Copy, Debug)]
+pub struct Ends {
+    /// The lowest number.
+    pub low: u64,
+    /// The highest number.
+    pub high: u64,
+}
+
 /// Numbers of clocks for a base sample and numbers of multipliers, each from the lowest to the
 /// highest (own).
 #[derive(Clone, Copy, Debug, PartialEq, Eq)]
@@ -12,10 +21,39 @@ pub struct Range {
     pub high_multipliers: u32,
 }
 
-ghost use Rattle.std.specs.Prelude.{◌≡◌, ◌<◌, ◌≤◌};
-ghost use Rattle.hw_explore.specs.Range.{IsRange, choices_of, cycles_of, multipliers_of, pairs_of};
+ghost use Rattle.std.specs.Prelude.{◌≡◌, ◌<◌, ◌≤◌, IfSome};
+ghost use Rattle.hw_explore.specs.Range.{IsRange, between as between_of, choices_of, cycles_of, is_range, multipliers_of, pairs_of, range_between};
+
+/// Whether the ends are those of a range.
+fn is_range_between(cycles: Ends, multipliers: Ends) -> bool
+    ensures { result ≡ is_range (between_of cycles multipliers) }
+{
+    1 <= cycles.low
+        && cycles.low <= cycles.high
+        && cycles.high <= 1024
+        && multipliers.low <= multipliers.high
+        && multipliers.high <= 64
+        && (cycles.high - cycles.low + 1) * (multipliers.high - multipliers.low + 1) <= 4096
+}
 
 impl Range {
+    /// The range of clocks and of multipliers between these ends, where they are 1 to 1024 clocks and
+    /// 0 to 64 multipliers, each from the lowest to the highest, and at most 4096 pairs.
+    pub fn between(cycles: Ends, multipliers: Ends) -> Option<Range>
+        ensures is { result ≡ range_between cycles multipliers }
+        ensures range { IfSome result IsRange }
+    {
+        if !is_range_between(cycles, multipliers) {
+            return None;
+        }
+        Some(Range {
+            low_cycles: cycles.low as u32,
+            high_cycles: cycles.high as u32,
+            low_multipliers: multipliers.low as u32,
+            high_multipliers: multipliers.high as u32,
+        })
+    }
+
     /// How many numbers of multipliers there are.
     fn choices(&self) -> u32
         requires { IsRange self.now }
