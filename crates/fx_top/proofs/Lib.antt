@@ -13,6 +13,7 @@ pub mod Replayed
 mod ReplayedDelay
 pub mod Responses
 pub mod Running
+pub mod Samples
 pub mod Sayings
 mod SimulatedDelay
 pub mod Simulations

@@ -14,7 +14,7 @@ use Rattle.fx_top.specs.Answer.{status_of}
 use Rattle.fx_top.specs.Call.{Files, Stream, Trouble, Absent, Overlong, first_trouble}
 use Rattle.fx_top.specs.Cause.{AreFetched, HasNoTree, HasBrokenRule, HasBrokenPlan, HasBadLine, HasNoVerilog, BreaksCondition}
 use Rattle.fx_top.specs.Caused.{HasCause, HasWritten, IsCarriedOut}
-use Rattle.fx_top.specs.Command.{Command, PlanWord, Generate, Replay, Simulate, Explore, Check, command_of, model_of, verilog_of, plan_of, table_of, first_of, files_of}
+use Rattle.fx_top.specs.Command.{Asked, Command, PlanWord, Generate, Replay, Simulate, Explore, Check, OfFiles, Sample, asked_of, model_of, verilog_of, plan_of, table_of, first_of, files_of}
 use Rattle.fx_designed.specs.Design.{IsBadPlan, TellsPlanRule}
 use Rattle.fx_model.specs.Model.{IsNoText, IsModelOf, IsBrokenModel, IsWithoutDiagram}
 use Rattle.fx_top.specs.Generated.{IsWithoutDesign}
@@ -370,14 +370,15 @@ module _ (files : Files) (out : Stream) (unique : (bytes : List ℕ) (one other 
 
   -- what holds of the command's answer by its cause holds of the words' command
   by-command : (P : Command → ℕ → Type 0) → ((command : Command) (answer : Answer) → HasCause files command answer → HasWritten files out command answer → P command (status_of answer))
-      → (words : List (List ℕ)) (answer : Answer) → (named : Option Command) → command_of words ≡ named → IsCarriedOut files out named answer → IfCommand words (λ command. P command (status_of answer))
+      → (words : List (List ℕ)) (answer : Answer) → (named : Option Asked) → asked_of words ≡ named → IsCarriedOut files out named answer → IfCommand words (λ command. P command (status_of answer))
   by-command P by words answer None is why command shape = absurd (cc (is, shape))
-  by-command P by words answer (Some here) is why command shape =
+  by-command P by words answer (Some (Sample number)) is why command shape = absurd (cc (is, shape))
+  by-command P by words answer (Some (OfFiles here)) is why command shape =
       let same : here ≡ command = cc (is, shape) in
       subst (λ (known : Command). P known (status_of answer)) same (by here answer why.0 why.1)
 
-  pub due-clause : (words : List (List ℕ)) (answer : Answer) → IsCarriedOut files out (command_of words) answer → IfCommand words (λ command. IsDue files command (status_of answer))
-  due-clause words answer why = by-command (λ command status. IsDue files command status) is-due words answer (command_of words) refl why
+  pub due-clause : (words : List (List ℕ)) (answer : Answer) → IsCarriedOut files out (asked_of words) answer → IfCommand words (λ command. IsDue files command (status_of answer))
+  due-clause words answer why = by-command (λ command status. IsDue files command status) is-due words answer (asked_of words) refl why
 
-  pub complete-clause : (words : List (List ℕ)) (answer : Answer) → IsCarriedOut files out (command_of words) answer → IfCommand words (λ command. IsComplete files out command (status_of answer))
-  complete-clause words answer why = by-command (λ command status. IsComplete files out command status) is-complete words answer (command_of words) refl why
+  pub complete-clause : (words : List (List ℕ)) (answer : Answer) → IsCarriedOut files out (asked_of words) answer → IfCommand words (λ command. IsComplete files out command (status_of answer))
+  complete-clause words answer why = by-command (λ command status. IsComplete files out command status) is-complete words answer (asked_of words) refl why

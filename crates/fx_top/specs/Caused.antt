@@ -1,11 +1,14 @@
 -- How a call ends: its status, its line on the stream of messages, and its cause (own).
 use Rattle.std.specs.Prelude.{◌≡◌, ⊤, ℕ, List, Option, None, Some}
+use Rattle.fx_top.specs.Benched.{IsTold}
 use Rattle.fx_top.specs.declared.answer.Answer.{Answer}
 use Rattle.fx_top.specs.declared.answer.Answer.TheVariants.{Done, OutOfMemory, Usage, CannotRead, CannotWrite, NotMdl, BadTable, BreaksRule, NotVerilog, Broken, TooLong}
 use Rattle.fx_top.specs.Answer.{status_of, line_of}
 use Rattle.fx_top.specs.Call.{Files, Stream, IsUntouched, Said}
 use Rattle.fx_top.specs.Cause.{CannotBeRead, IsTooLong, AreFetched, HasNoTree, HasBadLine, BreaksSomeRule, HasNoVerilog, BreaksCondition, WroteAll, WrotePart}
-use Rattle.fx_top.specs.Command.{Command, command_of}
+use Rattle.fx_top.specs.Command.{Asked, Command, OfFiles, Sample, asked_of}
+use Rattle.fx_top.specs.Sampled.{HasSampleCause, HasSampleWritten}
+use Rattle.fx_top.specs.Summarized.{IsSummed}
 
 -- what a command's answer says of the files
 abbrev pub HasCause : Files → Command → Answer → Type 0
@@ -35,14 +38,15 @@ HasWritten files out command (NotVerilog file line) = IsUntouched out
 HasWritten files out command (Broken file fault) = IsUntouched out
 HasWritten files out command (TooLong file length) = IsUntouched out
 
--- the answer is that of the command that the words name, and of usage where they name none
-abbrev pub IsCarriedOut : Files → Stream → Option Command → Answer → Type 0
+-- the answer is that of what the words ask for, and of usage where they have no listed shape
+abbrev pub IsCarriedOut : Files → Stream → Option Asked → Answer → Type 0
 IsCarriedOut files out None answer = (answer ≡ Usage) × IsUntouched out
-IsCarriedOut files out (Some command) answer = HasCause files command answer × HasWritten files out command answer
+IsCarriedOut files out (Some (OfFiles command)) answer = HasCause files command answer × HasWritten files out command answer
+IsCarriedOut files out (Some (Sample number)) answer = HasSampleCause number answer × HasSampleWritten (IsSummed IsTold number) out answer
 
 -- the call ends by an answer: the status is the answer's, its line was said, and it has its cause
 pub record Ends (words : List (List ℕ)) (files : Files) (out err : Stream) (status : ℕ) : Type 0 where
   pub answer : Answer
   pub status_is : status ≡ status_of answer
   pub said : Said err (line_of answer)
-  pub carried_out : IsCarriedOut files out (command_of words) answer
+  pub carried_out : IsCarriedOut files out (asked_of words) answer

@@ -1,6 +1,6 @@
 -- The words of a call, and the files that they name (own).
-use Rattle.std.specs.Prelude.{ℕ, if◌then◌else◌, List, [], ◌∷◌, bytes_eq, codes, Option, Some, None}
-use Rattle.fx_explored.specs.RangeWord.{range_of}
+use Rattle.std.specs.Prelude.{ℕ, nat_le, ◌&&◌, if◌then◌else◌, List, [], ◌∷◌, bytes_eq, codes, Option, Some, None}
+use Rattle.fx_explored.specs.RangeWord.{plain_number, range_of}
 use Rattle.hw_explore.specs.declared.range.Range.{Range}
 
 -- a word for a plan: `-` for the empty one, which no file holds, or the name of a file
@@ -8,7 +8,7 @@ pub data PlanWord : Type 0 where
   EmptyPlan : PlanWord
   Named : (file : List ℕ) → PlanWord
 
--- the commands: `Generate` of a model and a plan, `Replay` of a Verilog text and a stimulus, `Simulate` of a model and a stimulus, `Explore` of a model and a range of plans, `Check` of a model and a plan
+-- the commands over files: `Generate` of a model and a plan, `Replay` of a Verilog text and a stimulus, `Simulate` of a model and a stimulus, `Explore` of a model and a range of plans, `Check` of a model and a plan
 pub data Command : Type 0 where
   -- writes the Verilog text of a model under a plan
   Generate : (model : List ℕ) → (plan : PlanWord) → Command
@@ -25,20 +25,39 @@ pub data Command : Type 0 where
 abbrev pub plan_word : List ℕ → PlanWord
 plan_word word = if bytes_eq word (codes "-") then EmptyPlan else Named word
 
--- to explore a model by a range that is named
-abbrev pub explored : List ℕ → Option Range → Option Command
-explored model None = None
-explored model (Some range) = Some (Explore model range)
+-- what words ask for: a command over files, or to write the summary of the sample of a number
+pub data Asked : Type 0 where
+  OfFiles : (command : Command) → Asked
+  Sample : (number : ℕ) → Asked
 
--- the command that the words name, where they have a listed shape
-abbrev pub command_of : List (List ℕ) → Option Command
-command_of (verb ∷ first ∷ second ∷ []) =
-    if bytes_eq verb (codes "generate") then Some (Generate first (plan_word second))
-    else (if bytes_eq verb (codes "replay") then Some (Replay first second)
-    else (if bytes_eq verb (codes "simulate") then Some (Simulate first second)
+-- to explore a model by a range that is named
+abbrev pub explored : List ℕ → Option Range → Option Asked
+explored model None = None
+explored model (Some range) = Some (OfFiles (Explore model range))
+
+-- the number of a sample that a word names: 1 to 5000, without zeros in front
+abbrev pub within_samples : Option ℕ → Option ℕ
+within_samples None = None
+within_samples (Some number) = if nat_le 1 number && nat_le number 5000 then Some number else None
+
+abbrev pub number_of : List ℕ → Option ℕ
+number_of word = within_samples (plain_number word)
+
+-- to make the sample of a number that is named
+abbrev pub sampled : Option ℕ → Option Asked
+sampled None = None
+sampled (Some number) = Some (Sample number)
+
+-- what the words ask for, where they have a listed shape
+abbrev pub asked_of : List (List ℕ) → Option Asked
+asked_of (verb ∷ first ∷ second ∷ []) =
+    if bytes_eq verb (codes "generate") then Some (OfFiles (Generate first (plan_word second)))
+    else (if bytes_eq verb (codes "replay") then Some (OfFiles (Replay first second))
+    else (if bytes_eq verb (codes "simulate") then Some (OfFiles (Simulate first second))
     else (if bytes_eq verb (codes "explore") then explored first (range_of second)
-    else (if bytes_eq verb (codes "check") then Some (Check first (plan_word second)) else None))))
-command_of words = None
+    else (if bytes_eq verb (codes "check") then Some (OfFiles (Check first (plan_word second))) else None))))
+asked_of (verb ∷ number ∷ []) = if bytes_eq verb (codes "sample") then sampled (number_of number) else None
+asked_of words = None
 
 -- the word that names the model, of a command that reads one
 abbrev pub model_of : Command → Option (List ℕ)

@@ -1,4 +1,5 @@
 pub mod Answer
+pub mod Benched
 pub mod Call
 pub mod Cause
 pub mod Caused
@@ -10,5 +11,7 @@ pub mod Messages
 pub mod Outcome
 pub mod Output
 pub mod Replayed
+pub mod Sampled
 pub mod Simulated
+pub mod Summarized
 pub mod inner

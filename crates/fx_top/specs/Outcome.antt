@@ -1,7 +1,7 @@
 -- Which status a command owes, where the shelf tells what it holds (own).
 use Rattle.std.specs.Prelude.{◌≡◌, ℕ, ◌⊎◌, List, [], ◌∷◌, Contains, Some, None}
 use Rattle.fx_top.specs.Call.{Files, Stream, Absent, Overlong, first_trouble}
-use Rattle.fx_top.specs.Command.{Command, PlanWord, EmptyPlan, Named, Generate, Replay, Simulate, Explore, Check, command_of, model_of, verilog_of, plan_of, table_of, first_of, files_of}
+use Rattle.fx_top.specs.Command.{Command, PlanWord, EmptyPlan, Named, Generate, Replay, Simulate, Explore, Check, OfFiles, asked_of, model_of, verilog_of, plan_of, table_of, first_of, files_of}
 use Rattle.fx_model.specs.Model.{IsAccepted, IsNoText, IsWithoutDiagram}
 use Rattle.fx_top.specs.Generated.{CanBeDesigned, HasNoPlan, IsWithoutDesign}
 use Rattle.fx_top.specs.Replayed.{CanBeReplayed, HasFault, IsBadStimulus, IsNoVerilog}
@@ -9,9 +9,9 @@ use Rattle.fx_top.specs.Simulated.{CanBeSimulated, IsSpoilt}
 use Rattle.fx_tables.specs.declared.table.TableCause.{TableCause}
 use Rattle.vl_ast.specs.Conditions.{Fault}
 
--- P holds of the words' command, where they have a listed shape
+-- P holds of the command over files that the words ask for, where they do
 abbrev pub IfCommand : List (List ℕ) → (Command → Type 0) → Type 0
-IfCommand words P = (command : Command) → command_of words ≡ Some command → P command
+IfCommand words P = (command : Command) → asked_of words ≡ Some (OfFiles command) → P command
 
 -- the status is this one, or want of memory, or one that comes earlier in the order of work
 abbrev pub Yields : ℕ → List ℕ → ℕ → Type 0

@@ -1,9 +1,9 @@
 ghost use Rattle.std.specs.Prelude.{◌≡◌, IfSome, map, string_bytes};
 ghost use Rattle.std.specs.Option.{option_map};
-ghost use Rattle.fx_top.specs.Command.{command_of};
+ghost use Rattle.fx_top.specs.Command.{asked_of, number_of as number_of_word};
 ghost use Rattle.fx_top.specs.inner.Named.{HasRange, named};
 
-use fx_explored::read_range;
+use fx_explored::{plain_number, read_range};
 use hw_explore::Range;
 
 /// What the words of a call ask for.
@@ -19,12 +19,14 @@ pub enum Command<'a> {
     Explore { model: &'a str, range: Range },
     /// To write what is worked out of a model by a plan, which `-` names where it is the empty one.
     Check { model: &'a str, plan: &'a str },
+    /// To write the summary of the sample of this number.
+    Sample { number: u32 },
 }
 
 impl<'a> Command<'a> {
     /// The command that the words name, where they have a listed shape.
     pub fn of_words(words: &'a [String]) -> Option<Command<'a>>
-        ensures is { option_map named result ≡ command_of (map string_bytes words.now) }
+        ensures is { option_map named result ≡ asked_of (map string_bytes words.now) }
         ensures range { IfSome result HasRange }
     {
         match words {
@@ -53,7 +55,23 @@ impl<'a> Command<'a> {
                 model: model.as_str(),
                 plan: plan.as_str(),
             }),
+            [verb, word] if verb.as_str() == "sample" => {
+                match number_of(word.as_str().as_bytes()) {
+                    Some(number) => Some(Command::Sample { number }),
+                    None => None,
+                }
+            }
             _ => None,
         }
+    }
+}
+
+/// The number of a sample that a word names: 1 to 5000, without zeros in front.
+fn number_of(word: &[u8]) -> Option<u32>
+    ensures { result ≡ number_of_word word.now }
+{
+    match plain_number(word) {
+        Some(number) if 1 <= number && number <= 5000 => Some(number as u32),
+        _ => None,
     }
 }

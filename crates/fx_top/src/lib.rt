@@ -7,12 +7,14 @@
 //! answer comes), `specs/Answer.antt` and `specs/Messages.antt` (its status and line),
 //! `specs/Output.antt` (the text that is written).
 //!
-//! A further command adds a case to `Command`, `command_of`, `files_of`, `IsOutput` and `CanBeDone`; a
+//! A further command over files adds a case to `Command`, `asked_of`, `files_of`, `IsOutput` and `CanBeDone`; a
 //! further answer adds one to `Answer`, `status_of`, `line_of`, `HasCause` and `HasWritten`.
 //!
 //! `replay` writes a response that is `IsReplayOf` (`specs/Replayed.antt`) the two texts, and `simulate`
 //! one that is `IsSimulationOf` (`specs/Simulated.antt`). `check` writes a text that is `IsCheckOf`
-//! (`specs/CheckedText.antt`) the model and the plan.
+//! (`specs/CheckedText.antt`) the model and the plan. `sample` writes one that is `IsSummaryOf`
+//! (`specs/Summarized.antt`) a number; `sample_with` does its work by a bench of the caller's, and
+//! `TrueBench` (`specs/Benched.antt`) is that of `run`.
 //!
 //! The headline is `IsVerilogOf` in `specs/Generated.antt`: the text spells a module alone, and that
 //! module owes the design of the two texts nothing (`IsModuleOf` of `hw_module`, `IsDesignOf` of
@@ -20,6 +22,7 @@
 #![tactic(auto)]
 
 mod answer;
+mod bench;
 mod check;
 mod command;
 mod explore;
@@ -27,9 +30,12 @@ mod fetch;
 mod generate;
 mod replay;
 mod response;
+mod sample;
 mod simulate;
 mod simulated;
 mod top;
 mod verilog;
 
+pub use bench::TrueBench;
+pub use sample::sample_with;
 pub use top::run;

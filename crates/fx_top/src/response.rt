@@ -9,7 +9,7 @@ ghost use Rattle.fx_top.specs.Replayed.{IsBadStimulus, IsBroken, IsNotVerilog, c
 ghost use Rattle.fx_top.specs.inner.Responding.{IsMachineOf, IsResponseTo};
 ghost use Rattle.vl_replay.specs.Replays.{HasRoom, stimulus_of, table_of};
 
-use fx_io::{OutOfMemory, PutFault, Sink, put_all};
+use fx_io::{OutOfMemory, PutFault, Sink, Text, put_all};
 use fx_tables::{RowText, TableCause, TableFault, read_rows};
 use std::alloc::Global;
 use vl_check::VlFault;
@@ -149,4 +149,25 @@ pub fn write_lines<K: Sink>(
         }
     }
     Ok(())
+}
+
+/// The lines of so many samples, one after another.
+pub fn response_text(
+    alloc: Global,
+    replay: &Replay,
+    text: &mut RowText,
+    samples: u64,
+) -> Result<Text, OutOfMemory>
+    requires room { HasRoom replay.now }
+    requires samples { samples ≡ (stimulus_of replay.now).lines }
+    requires wide { (t : ℕ) → t < samples
+        → length (table_of replay.now t) ≡ length (periods_of text.old) }
+    ensures { IfOk result (λ lines. lines
+        ≡ response (periods_of text.old) (table_of replay.now) samples) }
+{
+    let mut lines = Vec::new(alloc);
+    for sample in 0..samples {
+        lines.extend_from_slice(text.line(sample, replay.row(sample)))?;
+    }
+    Text::from_vec(alloc, lines)
 }

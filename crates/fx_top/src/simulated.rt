@@ -125,7 +125,7 @@ fn simulation_with(
 }
 
 /// The response of a diagram to a stimulus.
-fn simulation_in(
+pub fn simulation_in(
     alloc: Global,
     checked: &Checked,
     stimulus: &[u8],
@@ -221,4 +221,25 @@ pub fn write_simulation<K: Sink>(
         }
     }
     Ok(())
+}
+
+/// The lines of so many samples, one after another.
+pub fn simulation_text(
+    alloc: Global,
+    responded: &Responded,
+    text: &mut RowText,
+    samples: u64,
+) -> Result<Text, OutOfMemory>
+    requires room { HasRoom responded.now }
+    requires samples { samples ≡ lines_of responded.now }
+    requires wide { (t : ℕ) → t < samples
+        → length (table_of responded.now t) ≡ length (periods_of text.old) }
+    ensures { IfOk result (λ lines. lines
+        ≡ response (periods_of text.old) (table_of responded.now) samples) }
+{
+    let mut lines = Vec::new(alloc);
+    for sample in 0..samples {
+        lines.extend_from_slice(text.line(sample, responded.row(sample)))?;
+    }
+    Text::from_vec(alloc, lines)
 }

@@ -1,15 +1,18 @@
 ghost use Rattle.std.specs.Prelude.{map, string_bytes};
 ghost use Rattle.fx_top.specs.Call.{files_in, stream_in};
 ghost use Rattle.fx_top.specs.Caused.{IsCarriedOut, Ends};
-ghost use Rattle.fx_top.specs.Command.{command_of};
+ghost use Rattle.fx_top.specs.Command.{asked_of};
 ghost use Rattle.fx_top.specs.Outcome.{IfCommand, IsDue, IsComplete};
+ghost use Rattle.fx_top.specs.Sampled.{IfSample, IsCompleteSample, IsDueSample};
 
 use crate::answer::Answer;
+use crate::bench::TrueBench;
 use crate::check::check;
 use crate::command::Command;
 use crate::explore::explore;
 use crate::generate::generate;
 use crate::replay::replay;
+use crate::sample::sample;
 use crate::simulate::simulate;
 use fx_io::{Shelf, Sink};
 use std::alloc::Global;
@@ -22,8 +25,8 @@ use std::thread::Threads;
 /// `generate MODEL PLAN` writes the Verilog text of a model under a plan, spelled by workers of `rt`.
 /// `replay VERILOG STIM` writes what the module of a Verilog text of the subset shows under a stimulus.
 /// `explore MODEL RANGE` writes what each plan of a range is worth on a model, found by workers of
-/// `rt`. The files come from `shelf`, the text goes to `out`, and each status but 0 puts one line to
-/// `err`, whose failure changes nothing.
+/// `rt`. `sample NUMBER` writes the summary of the sample of this number. The files come from `shelf`,
+/// the text goes to `out`, and each status but 0 puts one line to `err`, whose failure changes nothing.
 pub fn run<R: Threads + Sync, S: Shelf, K: Sink, E: Sink>(
     rt: &R,
     alloc: Global,
@@ -41,6 +44,10 @@ pub fn run<R: Threads + Sync, S: Shelf, K: Sink, E: Sink>(
     ensures complete { IfCommand (map string_bytes words.now) (λ command. IsComplete
         (files_in S.held S.steady S.faults S.overlong shelf.old shelf.new)
         (stream_in K.taken K.faults out.old out.new) command result) }
+    ensures sample_due { IfSample (map string_bytes words.now) (λ number.
+        IsDueSample number result) }
+    ensures sample_complete { IfSample (map string_bytes words.now) (λ number.
+        IsCompleteSample (stream_in K.taken K.faults out.old out.new) number result) }
 {
     mdl_text::unique();
     vl_read::unique();
@@ -59,7 +66,7 @@ fn carry_out<'a, R: Threads + Sync, S: Shelf, K: Sink>(
     ensures { IsCarriedOut
         (files_in S.held S.steady S.faults S.overlong shelf.old shelf.new)
         (stream_in K.taken K.faults out.old out.new)
-        (command_of (map string_bytes words.now)) result }
+        (asked_of (map string_bytes words.now)) result }
 {
     match Command::of_words(words) {
         None => Answer::Usage,
@@ -72,5 +79,8 @@ fn carry_out<'a, R: Threads + Sync, S: Shelf, K: Sink>(
         }
         Some(Command::Explore { model, range }) => explore(rt, alloc, model, range, shelf, out),
         Some(Command::Check { model, plan }) => check(alloc, model, plan, shelf, out),
+        Some(Command::Sample { number }) => {
+            sample(rt, alloc, number, &mut TrueBench::new(alloc), out)
+        }
     }
 }

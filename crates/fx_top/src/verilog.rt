@@ -37,7 +37,7 @@ fn netlist_of(
 }
 
 /// The Verilog text of a diagram by a plan with its times.
-fn text_of<R: Threads + Sync>(
+pub fn text_of<R: Threads + Sync>(
     rt: &R,
     alloc: Global,
     checked: &Checked,

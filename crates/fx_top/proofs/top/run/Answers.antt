@@ -1,6 +1,7 @@
 use Rattle.std.proofs.Common.{map, string_bytes}
 use Rattle.fx_top.specs.Call.{files_in, stream_in}
 use Rattle.fx_top.proofs.Running.{due-clause, complete-clause}
+use Rattle.fx_top.proofs.Samples.{sample_due-clause, sample_complete-clause}
 use Rattle.fx_top.proofs.top.run.Goals as goal
 
 pub returns-clause-ends : goal.returns-clause-ends
@@ -22,3 +23,15 @@ returns-clause-complete g c = rw c.status.ensures (complete-clause
     (files_in g.S.Shelf.held g.S.Shelf.steady g.S.Shelf.faults g.S.Shelf.overlong c.args.shelf.now c.carry_out-answer.new.shelf)
     (stream_in g.K.Sink.taken g.K.Sink.faults c.args.out.now c.carry_out-answer.new.out)
     c.unique.ensures c.unique-2.ensures (map string_bytes c.args.words.now) c.carry_out-answer.result c.carry_out-answer.ensures)
+
+pub returns-clause-sample_due : goal.returns-clause-sample_due
+returns-clause-sample_due g c = rw c.status.ensures (sample_due-clause
+    (files_in g.S.Shelf.held g.S.Shelf.steady g.S.Shelf.faults g.S.Shelf.overlong c.args.shelf.now c.carry_out-answer.new.shelf)
+    (stream_in g.K.Sink.taken g.K.Sink.faults c.args.out.now c.carry_out-answer.new.out)
+    (map string_bytes c.args.words.now) c.carry_out-answer.result c.carry_out-answer.ensures)
+
+pub returns-clause-sample_complete : goal.returns-clause-sample_complete
+returns-clause-sample_complete g c = rw c.status.ensures (sample_complete-clause
+    (files_in g.S.Shelf.held g.S.Shelf.steady g.S.Shelf.faults g.S.Shelf.overlong c.args.shelf.now c.carry_out-answer.new.shelf)
+    (stream_in g.K.Sink.taken g.K.Sink.faults c.args.out.now c.carry_out-answer.new.out)
+    (map string_bytes c.args.words.now) c.carry_out-answer.result c.carry_out-answer.ensures)

@@ -1,0 +1,81 @@
+-- What the answer to a sample says of its status, and of the bench that it was made by.
+use Rattle.std.proofs.Common.{◌≡◌, ◌⊎◌, ⊎_elim, ℕ, List, Option, None, Some, refl, subst, arith}
+use Rattle.fx_top.specs.declared.answer.Answer.{Answer}
+use Rattle.fx_top.specs.declared.answer.Answer.TheVariants.{Done, OutOfMemory, Usage, CannotRead, CannotWrite, NotMdl, BadTable, BreaksRule, NotVerilog, Broken, TooLong}
+use Rattle.fx_designed.specs.Design.{TellsPlanRule}
+use Rattle.fx_model.specs.Model.{IsWithoutDiagram}
+use Rattle.fx_model.specs.RuleLine.{TellsRule}
+use Rattle.fx_sample.specs.ModelText.{sample_model}
+use Rattle.fx_sample.specs.Stimulus.{sample_plan}
+use Rattle.fx_top.specs.Answer.{status_of}
+use Rattle.fx_top.specs.Benched.{IsTold}
+use Rattle.fx_top.specs.Call.{Files, Stream}
+use Rattle.fx_top.specs.Caused.{IsCarriedOut}
+use Rattle.fx_top.specs.Command.{Asked, OfFiles, Sample, asked_of}
+use Rattle.fx_top.specs.Designed.{CanBeDesigned, IsWithoutDesign}
+use Rattle.fx_top.specs.Sampled.{HasSampleCause, HasSampleWritten, IfSample, IsCompleteSample, IsDueSample}
+use Rattle.fx_top.specs.Summarized.{IsSummaryOf, IsSummed, TellsSampleRule}
+
+-- what was written by some bytes that the bench tells
+pub written-summed : (MayTell : List ℕ → List ℕ → List ℕ → Type 0) (number : ℕ) (told : List ℕ) (out : Stream) (answer : Answer) → HasSampleWritten (IsSummaryOf MayTell number told) out answer → HasSampleWritten (IsSummed MayTell number) out answer
+written-summed MayTell number told out Done wrote = record { text = wrote.text; summary = (told, wrote.summary); taken = wrote.taken }
+written-summed MayTell number told out OutOfMemory wrote = wrote
+written-summed MayTell number told out Usage wrote = wrote
+written-summed MayTell number told out (CannotRead file) wrote = wrote
+written-summed MayTell number told out CannotWrite wrote = record { rise = wrote.rise; text = wrote.text; summary = (told, wrote.summary); taken = wrote.taken }
+written-summed MayTell number told out (NotMdl file line) wrote = wrote
+written-summed MayTell number told out (BadTable file line cause) wrote = wrote
+written-summed MayTell number told out (BreaksRule line) wrote = wrote
+written-summed MayTell number told out (NotVerilog file line) wrote = wrote
+written-summed MayTell number told out (Broken file fault) wrote = wrote
+written-summed MayTell number told out (TooLong file length) wrote = wrote
+
+-- a summary is that of a design
+designed : (number : ℕ) (text : List ℕ) → IsSummed IsTold number text → IsWithoutDiagram (sample_model number) ⊎ IsWithoutDesign (sample_model number) sample_plan → ⊥
+designed number text summed = ⊎_elim (λ refused. refused.none summed.1.diagram summed.1.design.accepted) (λ refused. refused.none summed.1.diagram summed.1.plan summed.1.timing summed.1.design)
+
+module _ (out : Stream) (number : ℕ) where
+  is-due : (answer : Answer) → HasSampleCause number answer → HasSampleWritten (IsSummed IsTold number) out answer → IsDueSample number (status_of answer)
+  is-due Done why wrote refused = absurd (designed number wrote.text wrote.summary refused)
+  is-due OutOfMemory why wrote refused = (1, omega arith, refl)
+  is-due Usage why wrote refused = absurd why
+  is-due (CannotRead file) why wrote refused = absurd why
+  is-due CannotWrite why wrote refused = absurd (designed number wrote.text wrote.summary refused)
+  is-due (NotMdl file line) why wrote refused = absurd why
+  is-due (BadTable file line cause) why wrote refused = absurd why
+  is-due (BreaksRule line) why wrote refused = (0, omega arith, refl)
+  is-due (NotVerilog file line) why wrote refused = absurd why
+  is-due (Broken file fault) why wrote refused = absurd why
+  is-due (TooLong file length) why wrote refused = absurd why
+
+  none-broken : (line : List ℕ) → CanBeDesigned (sample_model number) sample_plan → TellsSampleRule number line → ⊥
+  none-broken line can = ⊎_elim (λ (told : TellsRule (sample_model number) line). can.accepted.kept told.fault told.paths told.broken) (λ (told : TellsPlanRule (sample_model number) sample_plan line). can.kept line told)
+
+  is-complete : (answer : Answer) → HasSampleCause number answer → HasSampleWritten (IsSummed IsTold number) out answer → IsCompleteSample out number (status_of answer)
+  is-complete Done why wrote can writes = (0, omega arith, refl)
+  is-complete OutOfMemory why wrote can writes = (1, omega arith, refl)
+  is-complete Usage why wrote can writes = absurd why
+  is-complete (CannotRead file) why wrote can writes = absurd why
+  is-complete CannotWrite why wrote can writes = absurd (writes wrote.rise)
+  is-complete (NotMdl file line) why wrote can writes = absurd why
+  is-complete (BadTable file line cause) why wrote can writes = absurd why
+  is-complete (BreaksRule line) why wrote can writes = absurd (none-broken line can why)
+  is-complete (NotVerilog file line) why wrote can writes = absurd why
+  is-complete (Broken file fault) why wrote can writes = absurd why
+  is-complete (TooLong file length) why wrote can writes = absurd why
+
+module _ (files : Files) (out : Stream) where
+  -- what holds of the answer to a sample holds of the words' sample
+  by-sample : (P : ℕ → ℕ → Type 0) → ((number : ℕ) (answer : Answer) → HasSampleCause number answer → HasSampleWritten (IsSummed IsTold number) out answer → P number (status_of answer))
+      → (words : List (List ℕ)) (answer : Answer) → (named : Option Asked) → asked_of words ≡ named → IsCarriedOut files out named answer → IfSample words (λ number. P number (status_of answer))
+  by-sample P by words answer None is why number shape = absurd (cc (is, shape))
+  by-sample P by words answer (Some (OfFiles command)) is why number shape = absurd (cc (is, shape))
+  by-sample P by words answer (Some (Sample here)) is why number shape =
+      let same : here ≡ number = cc (is, shape) in
+      subst (λ (known : ℕ). P known (status_of answer)) same (by here answer why.0 why.1)
+
+  pub sample_due-clause : (words : List (List ℕ)) (answer : Answer) → IsCarriedOut files out (asked_of words) answer → IfSample words (λ number. IsDueSample number (status_of answer))
+  sample_due-clause words answer why = by-sample IsDueSample (is-due out) words answer (asked_of words) refl why
+
+  pub sample_complete-clause : (words : List (List ℕ)) (answer : Answer) → IsCarriedOut files out (asked_of words) answer → IfSample words (λ number. IsCompleteSample out number (status_of answer))
+  sample_complete-clause words answer why = by-sample (IsCompleteSample out) (is-complete out) words answer (asked_of words) refl why

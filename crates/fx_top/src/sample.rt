@@ -1,0 +1,206 @@
+ghost use Rattle.std.specs.Prelude.{◌≡◌, ◌≤◌, ◌<◌, All, IfErr, IfOk, length};
+ghost use Rattle.dg_model.specs.Attributes.{attributes_of};
+ghost use Rattle.dg_model.specs.PlanOf.{IsPlanOf};
+ghost use Rattle.dg_model.specs.RootElements.{root_outputs};
+ghost use Rattle.dg_sim.specs.Listing.{AreBlocksOf};
+ghost use Rattle.fx_designed.specs.Refused.{IsDesigned};
+ghost use Rattle.fx_model.specs.Model.{IsModelOf};
+ghost use Rattle.fx_sample.specs.ModelText.{sample_model};
+ghost use Rattle.fx_sample.specs.Stimulus.{sample_plan, sample_stimulus};
+ghost use Rattle.fx_top.specs.Call.{stream_in};
+ghost use Rattle.fx_top.specs.Sampled.{EndsSample, HasSampleCause, HasSampleWritten};
+ghost use Rattle.fx_top.specs.Simulated.{IsSimulationOf};
+ghost use Rattle.fx_top.specs.Summarized.{IsSummaryOf, latency_of_output};
+ghost use Rattle.fx_top.specs.inner.Sampling.{IsOwed, IsSampleFault};
+ghost use Rattle.hw_rules.specs.Times.{AreTimes, timing_in};
+
+use crate::answer::Answer;
+use crate::simulated::{Simulation, SimulationFault, simulation_in, simulation_text};
+use crate::verilog::text_of;
+use dg_model::Checked;
+use dg_sim::output_blocks;
+use fx_check::clocks_of;
+use fx_designed::{DesignFault, Designed, designed_of};
+use fx_io::{OutOfMemory, Sink, Text, put_all};
+use fx_sample::{Bench, Made, model_text, plan_text, stimulus_text, summary};
+use hw_rules::{Planned, multiplications};
+use std::alloc::Global;
+use std::thread::Threads;
+
+/// Why a sample has no summary.
+#[derive(Drop)]
+pub enum SampleFault {
+    /// Its model, or its plan on the model's diagram, breaks a rule, which this line tells.
+    BreaksRule { line: Text },
+    /// Memory is wanting.
+    OutOfMemory,
+}
+
+impl From<OutOfMemory> for SampleFault {
+    ghost use Rattle.std.specs.Prelude.{◌≡◌};
+    ghost use Rattle.fx_top.specs.declared.sample.SampleFault.TheVariants.{OutOfMemory as WithoutMemory};
+
+    ghost from_gives = { λ _ fault. fault ≡ WithoutMemory };
+
+    fn from(_refused: OutOfMemory) -> SampleFault {
+        SampleFault::OutOfMemory
+    }
+}
+
+/// When the output at a place of a list shows its first number, in clocks; 0 where there is none.
+fn latency_at(
+    checked: &Checked,
+    planned: &Planned,
+    outputs: &[u32],
+    place: usize,
+) -> Result<u64, OutOfMemory>
+    requires times { AreTimes checked.now.diagram planned.now.resolved planned.now.times }
+    requires blocks { AreBlocksOf
+        (root_outputs checked.now.diagram (attributes_of checked.now.diagram)) outputs.now }
+    requires there { All (λ block. block < length checked.now.diagram.blocks) outputs.now }
+    ensures { IfOk result (λ clocks. clocks ≡ latency_of_output checked.now.diagram
+        planned.now.resolved (timing_in planned.now.times) place) }
+{
+    match outputs.get(place) {
+        Some(block) => clocks_of(checked, planned, *block),
+        None => Ok(0),
+    }
+}
+
+/// What the module of a design says of itself.
+fn made_of(alloc: Global, checked: &Checked, planned: &Planned) -> Result<Made, OutOfMemory>
+    requires plan { IsPlanOf checked.now.diagram planned.now.resolved }
+    requires times { AreTimes checked.now.diagram planned.now.resolved planned.now.times }
+    ensures { IfOk result (IsOwed checked.now.diagram planned.now.resolved
+        (timing_in planned.now.times)) }
+{
+    checked.keeps_rules();
+    dg_model::root_elements_are_listed();
+    let outputs = output_blocks(alloc, checked)?;
+    Ok(Made {
+        multiplications: multiplications(checked, &planned.resolved, &planned.times)?,
+        out_latency: latency_at(checked, planned, outputs.as_slice(), 0)?,
+        slow_latency: latency_at(checked, planned, outputs.as_slice(), 1)?,
+    })
+}
+
+/// The response of the diagram of a sample to the sample's stimulus.
+fn sample_response(alloc: Global, checked: &Checked, number: u32) -> Result<Text, OutOfMemory>
+    requires few { number ≤ 5000 }
+    requires model { IsModelOf (sample_model number) checked.now.diagram }
+    ensures { IfOk result (IsSimulationOf (sample_model number) (sample_stimulus number)) }
+{
+    let stimulus = stimulus_text(alloc, number)?;
+    match simulation_in(alloc, checked, stimulus.bytes()) {
+        Ok(
+            Simulation {
+                samples,
+                responded,
+                mut text,
+            },
+        ) => simulation_text(alloc, &responded, &mut text, samples),
+        Err(
+            SimulationFault::NotMdl { .. }
+            | SimulationFault::BreaksRule { .. }
+            | SimulationFault::BadTable { .. },
+        ) => unreachable!(),
+        Err(SimulationFault::OutOfMemory) => Err(OutOfMemory),
+    }
+}
+
+/// The design of a sample.
+fn sample_design(alloc: Global, number: u32) -> Result<Designed, SampleFault>
+    requires { number ≤ 5000 }
+    ensures designed { IfOk result (IsDesigned (sample_model number) sample_plan) }
+    ensures plan { IfOk result (λ designed. IsPlanOf designed.checked.diagram
+        designed.planned.resolved) }
+    ensures times { IfOk result (λ designed. AreTimes designed.checked.diagram
+        designed.planned.resolved designed.planned.times) }
+    ensures refused { IfErr result (IsSampleFault number) }
+{
+    let model = model_text(alloc, number)?;
+    match designed_of(alloc, model.bytes(), plan_text()) {
+        Ok(designed) => Ok(designed),
+        Err(DesignFault::BreaksRule { line }) => Err(SampleFault::BreaksRule { line }),
+        Err(DesignFault::NotMdl { .. } | DesignFault::BadPlan { .. }) => unreachable!(),
+        Err(DesignFault::OutOfMemory) => Err(SampleFault::OutOfMemory),
+    }
+}
+
+/// The summary of a sample, by what a bench tells of its module.
+fn summary_of<R: Threads + Sync, B: Bench>(
+    rt: &R,
+    alloc: Global,
+    number: u32,
+    bench: &mut B,
+) -> Result<Text, SampleFault>
+    requires { number ≤ 5000 }
+    ensures made { IfOk result (IsSummaryOf B.may_tell number (B.tells bench.new)) }
+    ensures refused { IfErr result (IsSampleFault number) }
+{
+    let Designed { checked, planned } = match sample_design(alloc, number) {
+        Ok(designed) => designed,
+        Err(fault) => return Err(fault),
+    };
+    let made = made_of(alloc, &checked, &planned)?;
+    let response = sample_response(alloc, &checked, number)?;
+    let verilog = text_of(rt, alloc, &checked, &planned.resolved, &planned.times)?;
+    let text = summary(
+        alloc,
+        number,
+        made,
+        verilog.bytes(),
+        response.bytes(),
+        bench,
+    )?;
+    Ok(text)
+}
+
+/// Writes the summary of a sample.
+pub fn sample<'a, R: Threads + Sync, B: Bench, K: Sink>(
+    rt: &R,
+    alloc: Global,
+    number: u32,
+    bench: &mut B,
+    out: &mut K,
+) -> Answer<'a>
+    requires { number ≤ 5000 }
+    ensures cause { HasSampleCause number result }
+    ensures written { HasSampleWritten (IsSummaryOf B.may_tell number (B.tells bench.new))
+        (stream_in K.taken K.faults out.old out.new) result }
+{
+    let text = match summary_of(rt, alloc, number, bench) {
+        Ok(text) => text,
+        Err(SampleFault::BreaksRule { line }) => return Answer::BreaksRule { line },
+        Err(SampleFault::OutOfMemory) => return Answer::OutOfMemory,
+    };
+    match put_all(out, text.bytes()) {
+        Ok(()) => Answer::Done,
+        Err(_) => Answer::CannotWrite,
+    }
+}
+
+/// Does what `run` does on `sample NUMBER`, by a bench of the caller's, and gives the exit status
+/// (own). The number is from 1 to 5000.
+///
+/// The summary tells of a model of so many blocks how many multiplications its module has, how late
+/// its outputs are in clocks, and in how many fields at hits what `bench` tells of its Verilog text
+/// agrees with the response of its diagram. The status is 0; or 1, 4 or 7 with one line to `err`.
+pub fn sample_with<R: Threads + Sync, B: Bench, K: Sink, E: Sink>(
+    rt: &R,
+    alloc: Global,
+    number: u32,
+    bench: &mut B,
+    out: &mut K,
+    err: &mut E,
+) -> u8
+    requires least { 1 ≤ number }
+    requires most { number ≤ 5000 }
+    ensures { EndsSample number (IsSummaryOf B.may_tell number (B.tells bench.new))
+        (stream_in K.taken K.faults out.old out.new)
+        (stream_in E.taken E.faults err.old err.new) result }
+{
+    let answer = sample(rt, alloc, number, bench, out);
+    answer.report(err);
+    answer.status()
+}
