@@ -35,11 +35,12 @@ abbrev pub explored : List ℕ → Option Range → Option Asked
 explored model None = None
 explored model (Some range) = Some (OfFiles (Explore model range))
 
--- the number of a sample that a word names: 1 to 5000, without zeros in front
+-- a number that samples have
 abbrev pub within_samples : Option ℕ → Option ℕ
 within_samples None = None
 within_samples (Some number) = if nat_le 1 number && nat_le number 5000 then Some number else None
 
+-- the number of a sample that a word names: 1 to 5000, without zeros in front
 abbrev pub number_of : List ℕ → Option ℕ
 number_of word = within_samples (plain_number word)
 
