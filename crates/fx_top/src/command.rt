@@ -70,8 +70,12 @@ impl<'a> Command<'a> {
 fn number_of(word: &[u8]) -> Option<u32>
     ensures { result ≡ number_of_word word.now }
 {
-    match plain_number(word) {
-        Some(number) if 1 <= number && number <= 5000 => Some(number as u32),
-        _ => None,
+    let Some(number) = plain_number(word) else {
+        return None;
+    };
+    if 1 <= number && number <= 5000 {
+        Some(number as u32)
+    } else {
+        None
     }
 }

@@ -84,7 +84,8 @@ fn made_of(alloc: Global, checked: &Checked, planned: &Planned) -> Result<Made, 
     })
 }
 
-/// The response of the diagram of a sample to the sample's stimulus.
+/// The response of the diagram of a sample to the sample's stimulus. A stimulus that didn't fit the
+/// diagram, which no sample has, would be said as want of memory: `sample` has no other answer for it.
 fn sample_response(alloc: Global, checked: &Checked, number: u32) -> Result<Text, OutOfMemory>
     requires few { number ≤ 5000 }
     requires model { IsModelOf (sample_model number) checked.now.diagram }
@@ -102,9 +103,9 @@ fn sample_response(alloc: Global, checked: &Checked, number: u32) -> Result<Text
         Err(
             SimulationFault::NotMdl { .. }
             | SimulationFault::BreaksRule { .. }
-            | SimulationFault::BadTable { .. },
-        ) => unreachable!(),
-        Err(SimulationFault::OutOfMemory) => Err(OutOfMemory),
+            | SimulationFault::BadTable { .. }
+            | SimulationFault::OutOfMemory,
+        ) => Err(OutOfMemory),
     }
 }
 
@@ -118,6 +119,8 @@ fn sample_design(alloc: Global, number: u32) -> Result<Designed, SampleFault>
         designed.planned.resolved designed.planned.times) }
     ensures refused { IfErr result (IsSampleFault number) }
 {
+    fx_sample::models_stand();
+    fx_sample::plan_is_good();
     let model = model_text(alloc, number)?;
     match designed_of(alloc, model.bytes(), plan_text()) {
         Ok(designed) => Ok(designed),
