@@ -69,13 +69,13 @@ class Shown(unittest.TestCase):
     """What README.md and docs/RULES.md show of a command is what it prints."""
 
     def print_of(self, command, folder=TOP):
-        command = re.sub(r"^\./tilecatnip (?=check|simulate|generate|replay|explore)", shlex.quote(program()) + " ", command)
+        command = re.sub(r"^\./tilecatnip (?=check|simulate|generate|replay|explore|sample)", shlex.quote(program()) + " ", command)
         return subprocess.run(["sh", "-c", command], cwd=folder, stdout=subprocess.PIPE, stderr=subprocess.STDOUT, text=True, timeout=60)
 
     def test_README(self):
         tried = 0
         for command, shown in (it for _, text in blocks_of("README.md") for it in commands_of(text)):
-            if re.match(r"(\./tilecatnip (check|simulate|generate|replay|explore)|tools/lint)[^>|&]*$", command):
+            if re.match(r"(\./tilecatnip (check|simulate|generate|replay|explore|sample)|tools/lint)[^>|&]*$", command):
                 self.assertEqual(self.print_of(command).stdout, shown, command)
                 tried += 1
         self.assertGreater(tried, 3)
