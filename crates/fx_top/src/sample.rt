@@ -3,6 +3,7 @@ ghost use Rattle.dg_model.specs.Attributes.{attributes_of};
 ghost use Rattle.dg_model.specs.PlanOf.{IsPlanOf};
 ghost use Rattle.dg_model.specs.RootElements.{root_outputs};
 ghost use Rattle.dg_sim.specs.Listing.{AreBlocksOf};
+ghost use Rattle.fx_designed.specs.Design.{IsDesignOf};
 ghost use Rattle.fx_designed.specs.Refused.{IsDesigned};
 ghost use Rattle.fx_model.specs.Model.{IsModelOf};
 ghost use Rattle.fx_sample.specs.ModelText.{sample_model};
@@ -12,6 +13,7 @@ ghost use Rattle.fx_top.specs.Sampled.{EndsSample, HasSampleCause, HasSampleWrit
 ghost use Rattle.fx_top.specs.Simulated.{IsSimulationOf};
 ghost use Rattle.fx_top.specs.Summarized.{IsSummaryOf, latency_of_output};
 ghost use Rattle.fx_top.specs.inner.Sampling.{IsOwed, IsSampleFault};
+ghost use Rattle.fx_top.specs.inner.Simulating.{IsSimulationTo};
 ghost use Rattle.hw_rules.specs.Times.{AreTimes, timing_in};
 
 use crate::answer::Answer;
@@ -84,22 +86,21 @@ fn made_of(alloc: Global, checked: &Checked, planned: &Planned) -> Result<Made, 
     })
 }
 
-/// The response of the diagram of a sample to the sample's stimulus. A stimulus that didn't fit the
-/// diagram, which no sample has, would be said as want of memory: `sample` has no other answer for it.
-fn sample_response(alloc: Global, checked: &Checked, number: u32) -> Result<Text, OutOfMemory>
+/// The response of the diagram of a sample to the sample's stimulus, and the writer of its lines. A
+/// stimulus that didn't fit the diagram, which no sample has, would be said as want of memory: `sample`
+/// has no other answer for it.
+fn sample_simulation(
+    alloc: Global,
+    checked: &Checked,
+    number: u32,
+) -> Result<Simulation, OutOfMemory>
     requires few { number ≤ 5000 }
     requires model { IsModelOf (sample_model number) checked.now.diagram }
-    ensures { IfOk result (IsSimulationOf (sample_model number) (sample_stimulus number)) }
+    ensures { IfOk result (IsSimulationTo (sample_model number) (sample_stimulus number)) }
 {
     let stimulus = stimulus_text(alloc, number)?;
     match simulation_in(alloc, checked, stimulus.bytes()) {
-        Ok(
-            Simulation {
-                samples,
-                responded,
-                mut text,
-            },
-        ) => simulation_text(alloc, &responded, &mut text, samples),
+        Ok(simulation) => Ok(simulation),
         Err(
             SimulationFault::NotMdl { .. }
             | SimulationFault::BreaksRule { .. }
@@ -107,6 +108,20 @@ fn sample_response(alloc: Global, checked: &Checked, number: u32) -> Result<Text
             | SimulationFault::OutOfMemory,
         ) => Err(OutOfMemory),
     }
+}
+
+/// The response of the diagram of a sample to the sample's stimulus.
+fn sample_response(alloc: Global, checked: &Checked, number: u32) -> Result<Text, OutOfMemory>
+    requires few { number ≤ 5000 }
+    requires model { IsModelOf (sample_model number) checked.now.diagram }
+    ensures { IfOk result (IsSimulationOf (sample_model number) (sample_stimulus number)) }
+{
+    let Simulation {
+        samples,
+        responded,
+        mut text,
+    } = sample_simulation(alloc, checked, number)?;
+    simulation_text(alloc, &responded, &mut text, samples)
 }
 
 /// The design of a sample.
@@ -130,6 +145,35 @@ fn sample_design(alloc: Global, number: u32) -> Result<Designed, SampleFault>
     }
 }
 
+/// The summary of a design of a sample, by what a bench tells of its module.
+fn summary_by<R: Threads + Sync, B: Bench>(
+    rt: &R,
+    alloc: Global,
+    number: u32,
+    checked: &Checked,
+    planned: &Planned,
+    bench: &mut B,
+) -> Result<Text, OutOfMemory>
+    requires few { number ≤ 5000 }
+    requires design { IsDesignOf (sample_model number) sample_plan checked.now.diagram
+        planned.now.resolved (timing_in planned.now.times) }
+    requires plan { IsPlanOf checked.now.diagram planned.now.resolved }
+    requires times { AreTimes checked.now.diagram planned.now.resolved planned.now.times }
+    ensures { IfOk result (IsSummaryOf B.may_tell number (B.tells bench.new)) }
+{
+    let made = made_of(alloc, checked, planned)?;
+    let response = sample_response(alloc, checked, number)?;
+    let verilog = text_of(rt, alloc, checked, &planned.resolved, &planned.times)?;
+    summary(
+        alloc,
+        number,
+        made,
+        verilog.bytes(),
+        response.bytes(),
+        bench,
+    )
+}
+
 /// The summary of a sample, by what a bench tells of its module.
 fn summary_of<R: Threads + Sync, B: Bench>(
     rt: &R,
@@ -145,18 +189,10 @@ fn summary_of<R: Threads + Sync, B: Bench>(
         Ok(designed) => designed,
         Err(fault) => return Err(fault),
     };
-    let made = made_of(alloc, &checked, &planned)?;
-    let response = sample_response(alloc, &checked, number)?;
-    let verilog = text_of(rt, alloc, &checked, &planned.resolved, &planned.times)?;
-    let text = summary(
-        alloc,
-        number,
-        made,
-        verilog.bytes(),
-        response.bytes(),
-        bench,
-    )?;
-    Ok(text)
+    match summary_by(rt, alloc, number, &checked, &planned, bench) {
+        Ok(text) => Ok(text),
+        Err(OutOfMemory) => Err(SampleFault::OutOfMemory),
+    }
 }
 
 /// Writes the summary of a sample.
