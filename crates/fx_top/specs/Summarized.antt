@@ -10,7 +10,8 @@ use Rattle.fx_sample.specs.declared.summing.Made.{Made}
 use Rattle.fx_sample.specs.ModelText.{sample_model}
 use Rattle.fx_sample.specs.Stimulus.{sample_plan, sample_stimulus}
 use Rattle.fx_sample.specs.Summary.{equal_count, summary_text}
-use Rattle.fx_top.specs.Simulated.{IsSimulationOf}
+use Rattle.fx_tables.specs.declared.table.TableCause.{TableCause}
+use Rattle.fx_top.specs.Simulated.{IsBadSimulation, IsSimulationOf}
 use Rattle.hw_module.specs.Design.{IsModuleOf}
 use Rattle.hw_sched.specs.Ready.{declared_latency}
 use Rattle.hw_sched.specs.Slots.{Timing}
@@ -47,6 +48,18 @@ pub record IsSummaryOf (MayTell : List ℕ → List ℕ → List ℕ → Type 0)
 -- the text is the summary of a sample by some bytes that its bench may tell
 abbrev pub IsSummed : (List ℕ → List ℕ → List ℕ → Type 0) → ℕ → List ℕ → Type 0
 IsSummed MayTell count text = (told : List ℕ) × IsSummaryOf MayTell count told text
+
+-- the model of a sample makes a design by its plan
+pub record MakesDesign (count : ℕ) : Type 0 where
+  pub diagram : Diagram
+  pub plan : Resolved
+  pub timing : Timing
+  pub design : IsDesignOf (sample_model count) sample_plan diagram plan timing
+
+-- the sample has a design, and the first bad line of its stimulus, by the columns of its model's diagram, is this one
+pub record HasBadSample (count line : ℕ) (cause : TableCause) : Type 0 where
+  pub made : MakesDesign count
+  pub bad : IsBadSimulation (sample_model count) (sample_stimulus count) line cause
 
 -- the model of a sample breaks a rule, or its plan does on the model's diagram, and this line tells the first of them
 abbrev pub TellsSampleRule : ℕ → List ℕ → Type 0

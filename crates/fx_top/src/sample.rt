@@ -11,9 +11,9 @@ ghost use Rattle.fx_sample.specs.Stimulus.{sample_plan, sample_stimulus};
 ghost use Rattle.fx_top.specs.Call.{stream_in};
 ghost use Rattle.fx_top.specs.Sampled.{EndsSample, HasSampleCause, HasSampleWritten};
 ghost use Rattle.fx_top.specs.Simulated.{IsSimulationOf};
-ghost use Rattle.fx_top.specs.Summarized.{IsSummaryOf, latency_of_output};
+ghost use Rattle.fx_top.specs.Summarized.{IsSummaryOf, MakesDesign, latency_of_output};
 ghost use Rattle.fx_top.specs.inner.Sampling.{IsOwed, IsSampleFault};
-ghost use Rattle.fx_top.specs.inner.Simulating.{IsSimulationTo};
+ghost use Rattle.fx_top.specs.inner.Simulating.{IsFaultOf, IsSimulationTo};
 ghost use Rattle.hw_rules.specs.Times.{AreTimes, timing_in};
 
 use crate::answer::Answer;
@@ -25,6 +25,7 @@ use fx_check::clocks_of;
 use fx_designed::{DesignFault, Designed, designed_of};
 use fx_io::{OutOfMemory, Sink, Text, put_all};
 use fx_sample::{Bench, Made, model_text, plan_text, stimulus_text, summary};
+use fx_tables::TableCause;
 use hw_rules::{Planned, multiplications};
 use std::alloc::Global;
 use std::thread::Threads;
@@ -34,6 +35,8 @@ use std::thread::Threads;
 pub enum SampleFault {
     /// Its model, or its plan on the model's diagram, breaks a rule, which this line tells.
     BreaksRule { line: Text },
+    /// Its stimulus has the first line that doesn't fit its inputs there, from 1.
+    BadStimulus { line: u64, cause: TableCause },
     /// Memory is wanting.
     OutOfMemory,
 }
@@ -86,42 +89,59 @@ fn made_of(alloc: Global, checked: &Checked, planned: &Planned) -> Result<Made, 
     })
 }
 
-/// The response of the diagram of a sample to the sample's stimulus, and the writer of its lines. A
-/// stimulus that didn't fit the diagram, which no sample has, would be said as want of memory: `sample`
-/// has no other answer for it.
+/// Why the simulation of a sample has no response.
+fn refused(number: u32, fault: SimulationFault) -> SampleFault
+    requires few { number ≤ 5000 }
+    requires design { MakesDesign number }
+    requires cause { IsFaultOf (sample_model number) (sample_stimulus number) fault }
+    ensures { IsSampleFault number result }
+{
+    fx_sample::models_stand();
+    match fault {
+        SimulationFault::NotMdl { .. } => unreachable!(),
+        SimulationFault::BreaksRule { line } => SampleFault::BreaksRule { line },
+        SimulationFault::BadTable { line, cause } => SampleFault::BadStimulus { line, cause },
+        SimulationFault::OutOfMemory => SampleFault::OutOfMemory,
+    }
+}
+
+/// The response of the diagram of a sample to the sample's stimulus, and the writer of its lines.
 fn sample_simulation(
     alloc: Global,
     checked: &Checked,
     number: u32,
-) -> Result<Simulation, OutOfMemory>
+) -> Result<Simulation, SampleFault>
     requires few { number ≤ 5000 }
     requires model { IsModelOf (sample_model number) checked.now.diagram }
-    ensures { IfOk result (IsSimulationTo (sample_model number) (sample_stimulus number)) }
+    requires design { MakesDesign number }
+    ensures made { IfOk result (IsSimulationTo (sample_model number) (sample_stimulus number)) }
+    ensures refused { IfErr result (IsSampleFault number) }
 {
     let stimulus = stimulus_text(alloc, number)?;
     match simulation_in(alloc, checked, stimulus.bytes()) {
         Ok(simulation) => Ok(simulation),
-        Err(
-            SimulationFault::NotMdl { .. }
-            | SimulationFault::BreaksRule { .. }
-            | SimulationFault::BadTable { .. }
-            | SimulationFault::OutOfMemory,
-        ) => Err(OutOfMemory),
+        Err(fault) => Err(refused(number, fault)),
     }
 }
 
 /// The response of the diagram of a sample to the sample's stimulus.
-fn sample_response(alloc: Global, checked: &Checked, number: u32) -> Result<Text, OutOfMemory>
+fn sample_response(alloc: Global, checked: &Checked, number: u32) -> Result<Text, SampleFault>
     requires few { number ≤ 5000 }
     requires model { IsModelOf (sample_model number) checked.now.diagram }
-    ensures { IfOk result (IsSimulationOf (sample_model number) (sample_stimulus number)) }
+    requires design { MakesDesign number }
+    ensures made { IfOk result (IsSimulationOf (sample_model number) (sample_stimulus number)) }
+    ensures refused { IfErr result (IsSampleFault number) }
 {
     let Simulation {
         samples,
         responded,
         mut text,
-    } = sample_simulation(alloc, checked, number)?;
-    simulation_text(alloc, &responded, &mut text, samples)
+    } = match sample_simulation(alloc, checked, number) {
+        Ok(simulation) => simulation,
+        Err(fault) => return Err(fault),
+    };
+    let lines = simulation_text(alloc, &responded, &mut text, samples)?;
+    Ok(lines)
 }
 
 /// The design of a sample.
@@ -153,25 +173,30 @@ fn summary_by<R: Threads + Sync, B: Bench>(
     checked: &Checked,
     planned: &Planned,
     bench: &mut B,
-) -> Result<Text, OutOfMemory>
+) -> Result<Text, SampleFault>
     requires few { number ≤ 5000 }
     requires design { IsDesignOf (sample_model number) sample_plan checked.now.diagram
         planned.now.resolved (timing_in planned.now.times) }
     requires plan { IsPlanOf checked.now.diagram planned.now.resolved }
     requires times { AreTimes checked.now.diagram planned.now.resolved planned.now.times }
-    ensures { IfOk result (IsSummaryOf B.may_tell number (B.tells bench.new)) }
+    ensures made { IfOk result (IsSummaryOf B.may_tell number (B.tells bench.new)) }
+    ensures refused { IfErr result (IsSampleFault number) }
 {
     let made = made_of(alloc, checked, planned)?;
-    let response = sample_response(alloc, checked, number)?;
+    let response = match sample_response(alloc, checked, number) {
+        Ok(response) => response,
+        Err(fault) => return Err(fault),
+    };
     let verilog = text_of(rt, alloc, checked, &planned.resolved, &planned.times)?;
-    summary(
+    let text = summary(
         alloc,
         number,
         made,
         verilog.bytes(),
         response.bytes(),
         bench,
-    )
+    )?;
+    Ok(text)
 }
 
 /// The summary of a sample, by what a bench tells of its module.
@@ -189,10 +214,7 @@ fn summary_of<R: Threads + Sync, B: Bench>(
         Ok(designed) => designed,
         Err(fault) => return Err(fault),
     };
-    match summary_by(rt, alloc, number, &checked, &planned, bench) {
-        Ok(text) => Ok(text),
-        Err(OutOfMemory) => Err(SampleFault::OutOfMemory),
-    }
+    summary_by(rt, alloc, number, &checked, &planned, bench)
 }
 
 /// Writes the summary of a sample.
@@ -211,6 +233,13 @@ pub fn sample<'a, R: Threads + Sync, B: Bench, K: Sink>(
     let text = match summary_of(rt, alloc, number, bench) {
         Ok(text) => text,
         Err(SampleFault::BreaksRule { line }) => return Answer::BreaksRule { line },
+        Err(SampleFault::BadStimulus { line, cause }) => {
+            return Answer::BadTable {
+                file: "sample",
+                line,
+                cause,
+            };
+        }
         Err(SampleFault::OutOfMemory) => return Answer::OutOfMemory,
     };
     match put_all(out, text.bytes()) {
@@ -224,7 +253,7 @@ pub fn sample<'a, R: Threads + Sync, B: Bench, K: Sink>(
 ///
 /// The summary tells of a model of so many blocks how many multiplications its module has, how late
 /// its outputs are in clocks, and in how many fields at hits what `bench` tells of its Verilog text
-/// agrees with the response of its diagram. The status is 0; or 1, 4 or 7 with one line to `err`.
+/// agrees with the response of its diagram. The status is 0; or 1, 4, 6 or 7 with one line to `err`.
 pub fn sample_with<R: Threads + Sync, B: Bench, K: Sink, E: Sink>(
     rt: &R,
     alloc: Global,

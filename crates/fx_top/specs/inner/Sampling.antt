@@ -5,8 +5,8 @@ use Rattle.dg_model.specs.declared.resolved.Resolved.{Resolved}
 use Rattle.dg_model.specs.Attributes.{attributes_of}
 use Rattle.fx_sample.specs.declared.summing.Made.{Made}
 use Rattle.fx_top.specs.declared.sample.SampleFault.{SampleFault}
-use Rattle.fx_top.specs.declared.sample.SampleFault.TheVariants.{BreaksRule, OutOfMemory}
-use Rattle.fx_top.specs.Summarized.{TellsSampleRule, latency_of_output}
+use Rattle.fx_top.specs.declared.sample.SampleFault.TheVariants.{BreaksRule, BadStimulus, OutOfMemory}
+use Rattle.fx_top.specs.Summarized.{HasBadSample, TellsSampleRule, latency_of_output}
 use Rattle.hw_sched.specs.Ready.{owed}
 use Rattle.hw_sched.specs.Slots.{Timing}
 
@@ -19,4 +19,5 @@ pub record IsOwed (diagram : Diagram) (plan : Resolved) (timing : Timing) (made 
 -- what a fault says of a sample
 abbrev pub IsSampleFault : ℕ → SampleFault → Type 0
 IsSampleFault count (BreaksRule line) = TellsSampleRule count line
+IsSampleFault count (BadStimulus line cause) = HasBadSample count line cause
 IsSampleFault count OutOfMemory = ⊤
