@@ -1,10 +1,11 @@
 //! Calls of the top.
 
 use crate::cases::{Case, ROOM};
+use crate::fixed::Fixed;
 use crate::stuck::Stuck;
 use anyhow::{Result, anyhow};
 use fx_io::{MemShelf, MemSink};
-use fx_top::run;
+use fx_top::{run, sample_with};
 use std::alloc::Global;
 use std::thread::Threads;
 
@@ -57,6 +58,19 @@ fn stuck<R: Threads + Sync>(
     Ok(Answer {
         status,
         out: Vec::new(alloc),
+        err: err.taken().to_vec(alloc)?,
+    })
+}
+
+/// What `sample 1` answers by a bench that tells these bytes.
+pub fn benched<R: Threads + Sync>(rt: &R, alloc: Global, tells: &[u8]) -> Result<Answer> {
+    let mut bench = Fixed { tells };
+    let mut out = sink(alloc, &[], ROOM)?;
+    let mut err = sink(alloc, &[], ROOM)?;
+    let status = sample_with(rt, alloc, 1, &mut bench, &mut out, &mut err);
+    Ok(Answer {
+        status,
+        out: out.taken().to_vec(alloc)?,
         err: err.taken().to_vec(alloc)?,
     })
 }

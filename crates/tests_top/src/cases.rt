@@ -1,6 +1,6 @@
 //! What a call finds.
 
-use crate::calls::{Answer, answered};
+use crate::calls::{Answer, answered, benched};
 use anyhow::{Result, anyhow};
 use std::alloc::Global;
 use std::io::Write;
@@ -62,6 +62,11 @@ impl Case {
             self.piece = ROOM;
             self.stuck = false;
             return Ok(());
+        }
+        if let Some(tells) = line.strip_prefix("bench:") {
+            writeln!(out, "{line}")?;
+            let answer = benched(rt, alloc, tells.as_bytes())?;
+            return put_answer(&answer, out);
         }
         self.set(alloc, texts.row(alloc, line)?)
     }

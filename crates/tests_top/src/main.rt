@@ -12,8 +12,9 @@
 //! | `piece = N` | at the next call standard output takes at most so many bytes a put |
 //! | `stuck =` | at the next call standard output takes none, and standard error fails |
 //! | `run WORD ..` | the call of these words |
+//! | `bench:BYTES` | `sample 1`, by a bench that tells these bytes |
 //!
-//! Each `run` is printed as it stands, and then the status, what standard error took, and what
+//! Each `run` and `bench` is printed as it stands, and then the status, what standard error took, and what
 //! standard output took with a bar behind it, where it took any.
 //!
 //! What the gate compares this with was worked out by hand.
@@ -21,6 +22,7 @@
 
 mod calls;
 mod cases;
+mod fixed;
 mod stuck;
 
 use crate::cases::Case;
