@@ -13,6 +13,7 @@ pub mod Replayed
 mod ReplayedDelay
 pub mod Responses
 pub mod Running
+pub mod SampleOutputs
 pub mod Samples
 pub mod Sayings
 mod SimulatedDelay
@@ -20,6 +21,7 @@ pub mod Simulations
 pub mod Spelled
 pub mod Told
 pub mod Unfetched
+pub mod Unreplayed
 pub mod Verilogs
 mod UnitDelay
 mod Written

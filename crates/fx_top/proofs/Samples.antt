@@ -2,12 +2,23 @@
 use Rattle.std.proofs.Common.{◌≡◌, ◌⊎◌, ⊎_elim, ℕ, List, Option, None, Some, refl, subst, arith}
 use Rattle.fx_top.specs.declared.answer.Answer.{Answer}
 use Rattle.fx_top.specs.declared.answer.Answer.TheVariants.{Done, OutOfMemory, Usage, CannotRead, CannotWrite, NotMdl, BadTable, BreaksRule, NotVerilog, Broken, TooLong}
-use Rattle.fx_designed.specs.Design.{TellsPlanRule}
-use Rattle.fx_model.specs.Model.{IsWithoutDiagram}
+use Rattle.dg_model.specs.declared.diagram.Diagram.{Diagram}
+use Rattle.fx_designed.specs.declared.designing.DesignFault.{DesignFault}
+use Rattle.fx_designed.specs.declared.designing.DesignFault.TheVariants as design
+use Rattle.fx_designed.specs.Design.{IsBadPlan, TellsPlanRule}
+use Rattle.fx_designed.specs.Refused.{IsRefusedDesign}
+use Rattle.fx_model.specs.Model.{IsModelOf, IsNotMdl, IsWithoutDiagram}
 use Rattle.fx_model.specs.RuleLine.{TellsRule}
+use Rattle.fx_sample.specs.Laws.{PlanIsGood}
 use Rattle.fx_sample.specs.ModelText.{sample_model}
 use Rattle.fx_sample.specs.Stimulus.{sample_plan, sample_stimulus}
 use Rattle.fx_tables.specs.declared.table.TableCause.{TableCause}
+use Rattle.fx_tables.specs.declared.table.TableFault.TheVariants.{Bad}
+use Rattle.fx_top.specs.declared.simulated.Simulation.{Simulation}
+use Rattle.fx_top.specs.declared.simulated.SimulationFault.{SimulationFault}
+use Rattle.fx_top.specs.declared.simulated.SimulationFault.TheVariants as simulated
+use Rattle.fx_top.specs.inner.Simulating.{IsFaultOf, IsSimulationTo, Refuses, Simulates}
+use Rattle.mdl_text.specs.Prefix.{IsMdl}
 use Rattle.fx_top.specs.Answer.{status_of}
 use Rattle.fx_top.specs.Benched.{IsTold}
 use Rattle.fx_top.specs.Call.{Files, Stream}
@@ -87,3 +98,30 @@ module _ (files : Files) (out : Stream) where
 
   pub sample_complete-clause : (words : List (List ℕ)) (answer : Answer) → IsCarriedOut files out (asked_of words) answer → IfSample words (λ number. IsCompleteSample out number (status_of answer))
   sample_complete-clause words answer why = by-sample (IsCompleteSample out) (is-complete out) words answer (asked_of words) refl why
+
+-- ---- what a model and a plan of a sample can't be refused for
+
+pub no-syntax : (number line : ℕ) (fault : SimulationFault) → IsMdl (sample_model number) → fault ≡ simulated.NotMdl line → IsFaultOf (sample_model number) (sample_stimulus number) fault → ⊥
+no-syntax number line fault there is why =
+    let told : IsNotMdl (sample_model number) line = subst (λ (one : SimulationFault). IsFaultOf (sample_model number) (sample_stimulus number) one) is why in
+    told.no_tree there.0 there.1
+
+pub no-design-syntax : (number line : ℕ) (fault : DesignFault) → IsMdl (sample_model number) → fault ≡ design.NotMdl line → IsRefusedDesign (sample_model number) sample_plan fault → ⊥
+no-design-syntax number line fault there is why =
+    let told : IsNotMdl (sample_model number) line = subst (λ (one : DesignFault). IsRefusedDesign (sample_model number) sample_plan one) is why in
+    told.no_tree there.0 there.1
+
+pub no-bad-plan : (number line : ℕ) (cause : TableCause) (fault : DesignFault) → PlanIsGood → fault ≡ design.BadPlan line cause → IsRefusedDesign (sample_model number) sample_plan fault → ⊥
+no-bad-plan number line cause fault good is why =
+    let told : IsBadPlan (sample_model number) sample_plan line cause = subst (λ (one : DesignFault). IsRefusedDesign (sample_model number) sample_plan one) is why in
+    good (Bad line cause) told.bad
+
+-- ---- a simulation of a sample's own stimulus
+
+pub simulates-sample : (diagram : Diagram) (source stimulus own : List ℕ) (ready : Simulation) → IsModelOf source diagram → own ≡ stimulus → Simulates diagram own ready → IsSimulationTo source stimulus ready
+unfolding Simulates
+simulates-sample diagram source stimulus own ready accepted same is = subst (λ (text : List ℕ). IsSimulationTo source text ready) same (is source accepted)
+
+pub refuses-sample : (diagram : Diagram) (source stimulus own : List ℕ) (fault : SimulationFault) → IsModelOf source diagram → own ≡ stimulus → Refuses diagram own fault → IsFaultOf source stimulus fault
+unfolding Refuses
+refuses-sample diagram source stimulus own fault accepted same is = subst (λ (text : List ℕ). IsFaultOf source text fault) same (is source accepted)

@@ -1,4 +1,5 @@
 ghost use Rattle.std.specs.Prelude.{◌≡◌, [], IfOk};
+ghost use Rattle.fx_top.specs.Benched.{IsTold};
 ghost use Rattle.fx_top.specs.inner.Benching.{IsReplayedAs};
 
 use crate::response::{ReplayFault, Response, response_of, response_text};
@@ -39,14 +40,23 @@ impl Bench for TrueBench {
         stimulus: &[u8],
     ) -> Result<(), OutOfMemory> {
         self.told = Text::new();
-        if let Some(text) = replayed_text(alloc, verilog, stimulus)? {
-            self.told = text;
-        }
+        self.told = told_text(alloc, verilog, stimulus)?;
         Ok(())
     }
 
     fn told(&self) -> &[u8] {
         self.told.bytes()
+    }
+}
+
+/// What is told of a Verilog text and a stimulus.
+fn told_text(alloc: Global, verilog: &[u8], stimulus: &[u8]) -> Result<Text, OutOfMemory>
+    ensures { IfOk result (IsTold verilog.now stimulus.now) }
+{
+    let replayed = replayed_text(alloc, verilog, stimulus)?;
+    match replayed {
+        Some(text) => Ok(text),
+        None => Ok(Text::new()),
     }
 }
 
@@ -59,19 +69,23 @@ fn replayed_text(
     ensures { IfOk result (IsReplayedAs verilog.now stimulus.now) }
 {
     vl_read::unique();
-    match response_of(alloc, verilog, stimulus) {
-        Ok(
-            Response {
-                samples,
-                replay,
-                mut text,
-            },
-        ) => Ok(Some(response_text(alloc, &replay, &mut text, samples)?)),
+    let response = match response_of(alloc, verilog, stimulus) {
+        Ok(response) => response,
+        Err(ReplayFault::NotVerilog { line: _line }) => return Ok(None),
+        Err(ReplayFault::Broken { fault: _fault }) => return Ok(None),
         Err(
-            ReplayFault::NotVerilog { .. }
-            | ReplayFault::Broken { .. }
-            | ReplayFault::BadTable { .. },
-        ) => Ok(None),
-        Err(ReplayFault::OutOfMemory) => Err(OutOfMemory),
-    }
+            ReplayFault::BadTable {
+                line: _line,
+                cause: _cause,
+            },
+        ) => return Ok(None),
+        Err(ReplayFault::OutOfMemory) => return Err(OutOfMemory),
+    };
+    let Response {
+        samples,
+        replay,
+        mut text,
+    } = response;
+    let lines = response_text(alloc, &replay, &mut text, samples)?;
+    Ok(Some(lines))
 }

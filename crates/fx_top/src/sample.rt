@@ -4,7 +4,7 @@ ghost use Rattle.dg_model.specs.PlanOf.{IsPlanOf};
 ghost use Rattle.dg_model.specs.RootElements.{root_outputs};
 ghost use Rattle.dg_sim.specs.Listing.{AreBlocksOf};
 ghost use Rattle.fx_designed.specs.Design.{IsDesignOf};
-ghost use Rattle.fx_designed.specs.Refused.{IsDesigned};
+ghost use Rattle.fx_designed.specs.Refused.{IsDesigned, IsRefusedDesign};
 ghost use Rattle.fx_model.specs.Model.{IsModelOf};
 ghost use Rattle.fx_sample.specs.ModelText.{sample_model};
 ghost use Rattle.fx_sample.specs.Stimulus.{sample_plan, sample_stimulus};
@@ -144,6 +144,22 @@ fn sample_response(alloc: Global, checked: &Checked, number: u32) -> Result<Text
     Ok(lines)
 }
 
+/// Why the texts of a sample make no design.
+fn undesigned(number: u32, fault: DesignFault) -> SampleFault
+    requires few { number ≤ 5000 }
+    requires cause { IsRefusedDesign (sample_model number) sample_plan fault }
+    ensures { IsSampleFault number result }
+{
+    fx_sample::models_stand();
+    fx_sample::plan_is_good();
+    match fault {
+        DesignFault::NotMdl { .. } => unreachable!(),
+        DesignFault::BadPlan { .. } => unreachable!(),
+        DesignFault::BreaksRule { line } => SampleFault::BreaksRule { line },
+        DesignFault::OutOfMemory => SampleFault::OutOfMemory,
+    }
+}
+
 /// The design of a sample.
 fn sample_design(alloc: Global, number: u32) -> Result<Designed, SampleFault>
     requires { number ≤ 5000 }
@@ -154,14 +170,10 @@ fn sample_design(alloc: Global, number: u32) -> Result<Designed, SampleFault>
         designed.planned.resolved designed.planned.times) }
     ensures refused { IfErr result (IsSampleFault number) }
 {
-    fx_sample::models_stand();
-    fx_sample::plan_is_good();
     let model = model_text(alloc, number)?;
     match designed_of(alloc, model.bytes(), plan_text()) {
         Ok(designed) => Ok(designed),
-        Err(DesignFault::BreaksRule { line }) => Err(SampleFault::BreaksRule { line }),
-        Err(DesignFault::NotMdl { .. } | DesignFault::BadPlan { .. }) => unreachable!(),
-        Err(DesignFault::OutOfMemory) => Err(SampleFault::OutOfMemory),
+        Err(fault) => Err(undesigned(number, fault)),
     }
 }
 

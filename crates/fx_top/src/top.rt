@@ -1,9 +1,11 @@
-ghost use Rattle.std.specs.Prelude.{map, string_bytes};
+ghost use Rattle.std.specs.Prelude.{◌≤◌, map, string_bytes};
+ghost use Rattle.fx_top.specs.Benched.{IsTold};
 ghost use Rattle.fx_top.specs.Call.{files_in, stream_in};
 ghost use Rattle.fx_top.specs.Caused.{IsCarriedOut, Ends};
 ghost use Rattle.fx_top.specs.Command.{asked_of};
 ghost use Rattle.fx_top.specs.Outcome.{IfCommand, IsDue, IsComplete};
-ghost use Rattle.fx_top.specs.Sampled.{IfSample, IsCompleteSample, IsDueSample};
+ghost use Rattle.fx_top.specs.Sampled.{HasSampleCause, HasSampleWritten, IfSample, IsCompleteSample, IsDueSample};
+ghost use Rattle.fx_top.specs.Summarized.{IsSummed};
 
 use crate::answer::Answer;
 use crate::bench::TrueBench;
@@ -79,8 +81,22 @@ fn carry_out<'a, R: Threads + Sync, S: Shelf, K: Sink>(
         }
         Some(Command::Explore { model, range }) => explore(rt, alloc, model, range, shelf, out),
         Some(Command::Check { model, plan }) => check(alloc, model, plan, shelf, out),
-        Some(Command::Sample { number }) => {
-            sample(rt, alloc, number, &mut TrueBench::new(alloc), out)
-        }
+        Some(Command::Sample { number }) => { replayed_sample(rt, alloc, number, out) }
     }
+}
+
+/// Writes the summary of a sample, by the bench that replays.
+fn replayed_sample<'a, R: Threads + Sync, K: Sink>(
+    rt: &R,
+    alloc: Global,
+    number: u32,
+    out: &mut K,
+) -> Answer<'a>
+    requires { number ≤ 5000 }
+    ensures cause { HasSampleCause number result }
+    ensures written { HasSampleWritten (IsSummed IsTold number)
+        (stream_in K.taken K.faults out.old out.new) result }
+{
+    let mut bench = TrueBench::new(alloc);
+    sample(rt, alloc, number, &mut bench, out)
 }
