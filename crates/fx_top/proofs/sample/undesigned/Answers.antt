@@ -4,5 +4,5 @@ use Rattle.fx_top.proofs.sample.undesigned.Goals as goal
 pub unreachable-requires : goal.unreachable-requires
 unreachable-requires c = no-design-syntax c.args.number c.in-NotMdl.line c.args.fault (c.models_stand.ensures c.args.number c.requires.few) c.in-NotMdl.is c.requires.cause
 
-pub unreachable-2-requires : goal.unreachable-2-requires
-unreachable-2-requires c = no-bad-plan c.args.number c.in-BadPlan.line c.in-BadPlan.cause c.args.fault c.plan_is_good.ensures c.in-BadPlan.is c.requires.cause
+pub unreachable-requires-in-BadPlan : goal.unreachable-requires-in-BadPlan
+unreachable-requires-in-BadPlan c = no-bad-plan c.args.number c.in-BadPlan.line c.in-BadPlan.cause c.args.fault c.plan_is_good.ensures c.in-BadPlan.is c.requires.cause
