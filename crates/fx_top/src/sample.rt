@@ -60,7 +60,7 @@ fn latency_at(
     place: usize,
 ) -> Result<u64, OutOfMemory>
     requires times { AreTimes checked.now.diagram planned.now.resolved planned.now.times }
-    requires blocks { AreBlocksOf
+    requires listed { AreBlocksOf
         (root_outputs checked.now.diagram (attributes_of checked.now.diagram)) outputs.now }
     requires there { All (λ block. block < length checked.now.diagram.blocks) outputs.now }
     ensures { IfOk result (λ clocks. clocks ≡ latency_of_output checked.now.diagram

@@ -11,5 +11,5 @@ returns-in-Some c =
     let h = c.in-Some.ensures.lookup in
     let at = slice_get_read c.args.outputs.now _ c.args.place block refl h.3.0 h.1 in
     IfOk-weaker c.clocks_of.result _ _
-    (λ clocks is. latency_there c.args.checked.now.diagram c.args.planned.now.resolved (timing_in c.args.planned.now.times) c.args.outputs.now c.requires.blocks c.args.place block clocks at is)
+    (λ clocks is. latency_there c.args.checked.now.diagram c.args.planned.now.resolved (timing_in c.args.planned.now.times) c.args.outputs.now c.requires.listed c.args.place block clocks at is)
     c.clocks_of.ensures
