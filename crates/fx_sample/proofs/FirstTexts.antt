@@ -1,11 +1,11 @@
 -- The texts of the first sample, as a reference that is written apart from these definitions has them.
-use Rattle.std.proofs.Common.{◌≡◌, ◌++◌, [], refl}
+use Rattle.std.proofs.Common.{◌≡◌, ◌+◌, ◌++◌, ℕ, Bool, false, List, [], Option, None, Some, ap, refl}
 use Rattle.std.specs.Prelude.{codes}
 use Rattle.std.specs.Fmt.{digits}
 use Rattle.fx_sample.specs.ModelText.{sample_model, parameter_text, block_head, section_end, type_parameter, gain_parameters, source_text, target_text, model_head, input_text, ends_text, end_lines, model_end}
 use Rattle.fx_sample.specs.Numbers.{number_after}
 use Rattle.fx_sample.specs.Stimulus.{sample_stimulus}
-use Rattle.fx_sample.specs.Summary.{equal_count, equal_line, made_lines, number_line, summary_text}
+use Rattle.fx_sample.specs.Summary.{are_equal, equal_count, equal_line, field_at, one_if, made_lines, number_line, summary_text}
 
 first-model : sample_model 1
     ≡ codes "Model {\n"
@@ -94,6 +94,14 @@ none-equal = refl
 
 two-equal : equal_count (codes "1 2\n3 -\n5 6\n7 -\n9 0\n1 -\n3 4\n5 -\n") (codes "1 2\n") ≡ 2
 two-equal = refl
+
+-- a response of no bytes has no field in common with any other
+empty-field : (other : Option (List ℕ)) → are_equal (Some []) other ≡ false
+empty-field None = refl
+empty-field (Some other) = refl
+
+nothing-equal : (told : List ℕ) → equal_count [] told ≡ 0
+nothing-equal told = ap (λ (flag : Bool). 0 + (one_if flag + 0) + 0 + 0 + 0 + 0 + 0 + 0 + 0) (empty-field (field_at told 0 0))
 
 all-equal : equal_count (codes "1 2\n3 -\n5 6\n7 -\n9 0\n1 -\n3 4\n5 -\n") (codes "1 2\n3 -\n5 6\n7 -\n9 0\n1 -\n3 4\n5 -\n") ≡ 12
 all-equal = refl

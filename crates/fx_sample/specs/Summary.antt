@@ -1,6 +1,6 @@
 -- The summary of a sample, and how many fields of two responses are equal (own).
 use Prim.Native.Char.{code}
-use Rattle.std.specs.Prelude.{ℕ, ◌+◌, ◌%◌, ◌==◌, Bool, false, if◌then◌else◌, List, ◌++◌, codes, Option, Some, None, slice_get, bytes_eq}
+use Rattle.std.specs.Prelude.{ℕ, ◌+◌, ◌%◌, ◌==◌, ◌&&◌, not, Bool, false, if◌then◌else◌, List, ◌++◌, length, codes, Option, Some, None, slice_get, bytes_eq}
 use Rattle.std.specs.Fmt.{decimal}
 use Rattle.std.specs.List.{range_with_len, slice_split, sum_by}
 use Rattle.fx_sample.specs.declared.summing.Made.{Made}
@@ -18,11 +18,11 @@ field_in (Some line) column = piece_at (code " ") line column
 abbrev pub field_at : List ℕ → ℕ → ℕ → Option (List ℕ)
 field_at text sample column = field_in (piece_at (code "\n") text sample) column
 
--- both fields are there, with the same bytes
+-- both fields are there, with the same bytes, of which there are some
 abbrev pub are_equal : Option (List ℕ) → Option (List ℕ) → Bool
 are_equal None other = false
 are_equal (Some field) None = false
-are_equal (Some field) (Some other) = bytes_eq field other
+are_equal (Some field) (Some other) = not (length field == 0) && bytes_eq field other
 
 abbrev pub one_if : Bool → ℕ
 one_if equal = if equal then 1 else 0

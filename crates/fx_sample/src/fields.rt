@@ -22,7 +22,7 @@ fn field_at(text: &[u8], sample: usize, column: usize) -> Option<&[u8]>
     piece_at(b' ', line, column)
 }
 
-/// 1 where the field of a base sample and a column stands in both responses, else 0.
+/// 1 where the field of a base sample and a column stands in both responses and isn't empty, else 0.
 fn equal_at(response: &[u8], told: &[u8], sample: usize, column: usize) -> u64
     ensures is { result ≡ equal_at_of response.now told.now sample column }
     ensures few { result ≤ 1 }
@@ -33,7 +33,7 @@ fn equal_at(response: &[u8], told: &[u8], sample: usize, column: usize) -> u64
     let Some(other) = field_at(told, sample, column) else {
         return 0;
     };
-    u64::from(field == other)
+    u64::from(!field.is_empty() && field == other)
 }
 
 /// How many fields of a base sample are equal at hits.

@@ -14,8 +14,7 @@ use Rattle.fx_sample.specs.Summary.{equal_count, summary_text}
 use Rattle.fx_sample.specs.ModelText.{sample_model}
 use Rattle.fx_sample.specs.Stimulus.{sample_plan, sample_stimulus}
 use Rattle.fx_designed.specs.Design.{IsDesignOf}
-use Rattle.fx_top.specs.Simulated.{IsSimulationOf}
-use Rattle.fx_top.specs.Summarized.{IsMade, IsSummaryOf, latency_of_output}
+use Rattle.fx_top.specs.Summarized.{IsMade, IsSampleResponse, IsSummaryOf, latency_of_output}
 use Rattle.fx_top.specs.inner.Generating.{IsWrittenOf}
 use Rattle.fx_top.specs.inner.Sampling.{IsOwed}
 use Rattle.hw_module.specs.Design.{IsModuleOf}
@@ -77,7 +76,7 @@ module _ (diagram : Diagram) where
 
   -- the summary of a design
   pub summed : (MayTell : List ℕ → List ℕ → List ℕ → Type 0) (number : ℕ) (plan : Resolved) (times : Times) (made : Made) (verilog response told text : List ℕ)
-      → IsDesignOf (sample_model number) sample_plan diagram plan (timing_in times) → IsWrittenOf diagram plan times verilog → IsOwed diagram plan (timing_in times) made → IsSimulationOf (sample_model number) (sample_stimulus number) response
+      → IsDesignOf (sample_model number) sample_plan diagram plan (timing_in times) → IsWrittenOf diagram plan times verilog → IsOwed diagram plan (timing_in times) made → IsSampleResponse number response
       → MayTell verilog (sample_stimulus number) told → text ≡ summary_text number made (equal_count response told) → IsSummaryOf MayTell number told text
   summed MayTell number plan times made verilog response told text design written owed simulated may is = record {
     diagram = diagram;

@@ -26,8 +26,8 @@ use Rattle.fx_top.specs.Caused.{IsCarriedOut}
 use Rattle.fx_top.specs.Command.{Asked, OfFiles, Sample, asked_of}
 use Rattle.fx_top.specs.Generated.{CanBeDesigned, IsWithoutDesign}
 use Rattle.fx_top.specs.Sampled.{HasSampleCause, HasSampleWritten, IfSample, IsCompleteSample, IsDueSample}
-use Rattle.fx_top.specs.Simulated.{CanBeSimulated}
-use Rattle.fx_top.specs.Summarized.{HasBadSample, IsSummaryOf, IsSummed, MakesDesign, TellsSampleRule}
+use Rattle.fx_top.specs.Simulated.{CanBeSimulated, IsBadSimulation}
+use Rattle.fx_top.specs.Summarized.{IsSummaryOf, IsSummed, TellsSampleRule}
 
 -- what was written by some bytes that the bench tells
 pub written-summed : (MayTell : List ℕ → List ℕ → List ℕ → Type 0) (number : ℕ) (told : List ℕ) (out : Stream) (answer : Answer) → HasSampleWritten (IsSummaryOf MayTell number told) out answer → HasSampleWritten (IsSummed MayTell number) out answer
@@ -47,9 +47,6 @@ written-summed MayTell number told out (TooLong file length) wrote = wrote
 designed : (number : ℕ) (text : List ℕ) → IsSummed IsTold number text → IsWithoutDiagram (sample_model number) ⊎ IsWithoutDesign (sample_model number) sample_plan → ⊥
 designed number text summed = ⊎_elim (λ refused. refused.none summed.1.diagram summed.1.design.accepted) (λ refused. refused.none summed.1.diagram summed.1.plan summed.1.timing summed.1.design)
 
-made-none : (number : ℕ) → MakesDesign number → IsWithoutDiagram (sample_model number) ⊎ IsWithoutDesign (sample_model number) sample_plan → ⊥
-made-none number made = ⊎_elim (λ refused. refused.none made.diagram made.design.accepted) (λ refused. refused.none made.diagram made.plan made.timing made.design)
-
 module _ (out : Stream) (number : ℕ) where
   is-due : (answer : Answer) → HasSampleCause number answer → HasSampleWritten (IsSummed IsTold number) out answer → IsDueSample number (status_of answer)
   is-due Done why wrote refused = absurd (designed number wrote.text wrote.summary refused)
@@ -58,7 +55,7 @@ module _ (out : Stream) (number : ℕ) where
   is-due (CannotRead file) why wrote refused = absurd why
   is-due CannotWrite why wrote refused = absurd (designed number wrote.text wrote.summary refused)
   is-due (NotMdl file line) why wrote refused = absurd why
-  is-due (BadTable file line cause) why wrote refused = absurd (made-none number why.made refused)
+  is-due (BadTable file line cause) why wrote refused = absurd why
   is-due (BreaksRule line) why wrote refused = (0, omega arith, refl)
   is-due (NotVerilog file line) why wrote refused = absurd why
   is-due (Broken file fault) why wrote refused = absurd why
@@ -67,21 +64,18 @@ module _ (out : Stream) (number : ℕ) where
   none-broken : (line : List ℕ) → CanBeDesigned (sample_model number) sample_plan → TellsSampleRule number line → ⊥
   none-broken line can = ⊎_elim (λ (told : TellsRule (sample_model number) line). can.accepted.kept told.fault told.paths told.broken) (λ (told : TellsPlanRule (sample_model number) sample_plan line). can.kept line told)
 
-  none-bad : (line : ℕ) (cause : TableCause) → CanBeSimulated (sample_model number) (sample_stimulus number) → HasBadSample number line cause → ⊥
-  none-bad line cause good why = absurd (cc (good.good why.bad.diagram why.bad.accepted, why.bad.bad))
-
   is-complete : (answer : Answer) → HasSampleCause number answer → HasSampleWritten (IsSummed IsTold number) out answer → IsCompleteSample out number (status_of answer)
-  is-complete Done why wrote can good writes = (0, omega arith, refl)
-  is-complete OutOfMemory why wrote can good writes = (1, omega arith, refl)
-  is-complete Usage why wrote can good writes = absurd why
-  is-complete (CannotRead file) why wrote can good writes = absurd why
-  is-complete CannotWrite why wrote can good writes = absurd (writes wrote.rise)
-  is-complete (NotMdl file line) why wrote can good writes = absurd why
-  is-complete (BadTable file line cause) why wrote can good writes = absurd (none-bad line cause good why)
-  is-complete (BreaksRule line) why wrote can good writes = absurd (none-broken line can why)
-  is-complete (NotVerilog file line) why wrote can good writes = absurd why
-  is-complete (Broken file fault) why wrote can good writes = absurd why
-  is-complete (TooLong file length) why wrote can good writes = absurd why
+  is-complete Done why wrote can writes = (0, omega arith, refl)
+  is-complete OutOfMemory why wrote can writes = (1, omega arith, refl)
+  is-complete Usage why wrote can writes = absurd why
+  is-complete (CannotRead file) why wrote can writes = absurd why
+  is-complete CannotWrite why wrote can writes = absurd (writes wrote.rise)
+  is-complete (NotMdl file line) why wrote can writes = absurd why
+  is-complete (BadTable file line cause) why wrote can writes = absurd why
+  is-complete (BreaksRule line) why wrote can writes = absurd (none-broken line can why)
+  is-complete (NotVerilog file line) why wrote can writes = absurd why
+  is-complete (Broken file fault) why wrote can writes = absurd why
+  is-complete (TooLong file length) why wrote can writes = absurd why
 
 module _ (files : Files) (out : Stream) where
   -- what holds of the answer to a sample holds of the words' sample
@@ -125,3 +119,8 @@ simulates-sample diagram source stimulus own ready accepted same is = subst (λ 
 pub refuses-sample : (diagram : Diagram) (source stimulus own : List ℕ) (fault : SimulationFault) → IsModelOf source diagram → own ≡ stimulus → Refuses diagram own fault → IsFaultOf source stimulus fault
 unfolding Refuses
 refuses-sample diagram source stimulus own fault accepted same is = subst (λ (text : List ℕ). IsFaultOf source text fault) same (is source accepted)
+
+pub no-stimulus : (number line : ℕ) (cause : TableCause) (fault : SimulationFault) → fault ≡ simulated.BadTable line cause → IsFaultOf (sample_model number) (sample_stimulus number) fault → CanBeSimulated (sample_model number) (sample_stimulus number) → ⊥
+no-stimulus number line cause fault is why can =
+    let bad : IsBadSimulation (sample_model number) (sample_stimulus number) line cause = subst (IsFaultOf (sample_model number) (sample_stimulus number)) is why in
+    absurd (cc (can.good bad.diagram bad.accepted, bad.bad))

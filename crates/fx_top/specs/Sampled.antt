@@ -2,7 +2,7 @@
 use Rattle.std.specs.Prelude.{◌≡◌, ◌⊎◌, ⊤, ℕ, List, [], ◌∷◌, Contains, Some}
 use Rattle.fx_model.specs.Model.{IsWithoutDiagram}
 use Rattle.fx_sample.specs.ModelText.{sample_model}
-use Rattle.fx_sample.specs.Stimulus.{sample_plan, sample_stimulus}
+use Rattle.fx_sample.specs.Stimulus.{sample_plan}
 use Rattle.fx_io.specs.Sink.{also_took, TookProperPrefix}
 use Rattle.fx_top.specs.declared.answer.Answer.{Answer}
 use Rattle.fx_top.specs.declared.answer.Answer.TheVariants.{Done, OutOfMemory, Usage, CannotRead, CannotWrite, NotMdl, BadTable, BreaksRule, NotVerilog, Broken, TooLong}
@@ -10,8 +10,7 @@ use Rattle.fx_top.specs.Answer.{status_of, line_of}
 use Rattle.fx_top.specs.Call.{Stream, IsUntouched, Said}
 use Rattle.fx_top.specs.Command.{Sample, asked_of}
 use Rattle.fx_top.specs.Generated.{CanBeDesigned, IsWithoutDesign}
-use Rattle.fx_top.specs.Simulated.{CanBeSimulated}
-use Rattle.fx_top.specs.Summarized.{HasBadSample, TellsSampleRule}
+use Rattle.fx_top.specs.Summarized.{TellsSampleRule}
 
 -- what an answer says of the sample
 abbrev pub HasSampleCause : ℕ → Answer → Type 0
@@ -21,7 +20,7 @@ HasSampleCause count Usage = ⊥
 HasSampleCause count (CannotRead file) = ⊥
 HasSampleCause count CannotWrite = ⊤
 HasSampleCause count (NotMdl file line) = ⊥
-HasSampleCause count (BadTable file line cause) = HasBadSample count line cause
+HasSampleCause count (BadTable file line cause) = ⊥
 HasSampleCause count (BreaksRule line) = TellsSampleRule count line
 HasSampleCause count (NotVerilog file line) = ⊥
 HasSampleCause count (Broken file fault) = ⊥
@@ -70,6 +69,6 @@ IfSample words P = (number : ℕ) → asked_of words ≡ Some (Sample number) �
 abbrev pub IsDueSample : ℕ → ℕ → Type 0
 IsDueSample number status = IsWithoutDiagram (sample_model number) ⊎ IsWithoutDesign (sample_model number) sample_plan → Contains (7 ∷ 1 ∷ []) status
 
--- where nothing is broken, the stimulus has the numbers of the columns and the output doesn't fail, it is 0 or want of memory
+-- where nothing is broken and the output doesn't fail, it is 0 or want of memory
 abbrev pub IsCompleteSample : Stream → ℕ → ℕ → Type 0
-IsCompleteSample out number status = CanBeDesigned (sample_model number) sample_plan → CanBeSimulated (sample_model number) (sample_stimulus number) → (out.failed → ⊥) → Contains (0 ∷ 1 ∷ []) status
+IsCompleteSample out number status = CanBeDesigned (sample_model number) sample_plan → (out.failed → ⊥) → Contains (0 ∷ 1 ∷ []) status

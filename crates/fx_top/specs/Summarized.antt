@@ -1,5 +1,5 @@
 -- The summary of a sample: the whole way from its model to what a bench tells of its module (own).
-use Rattle.std.specs.Prelude.{◌≡◌, ◌⊎◌, ℕ, List, length, map, slice_index_or}
+use Rattle.std.specs.Prelude.{◌≡◌, ◌⊎◌, ℕ, List, [], length, map, slice_index_or}
 use Rattle.dg_model.specs.declared.diagram.Diagram.{Diagram}
 use Rattle.dg_model.specs.declared.resolved.Resolved.{Resolved}
 use Rattle.dg_model.specs.Attributes.{attributes_of}
@@ -10,8 +10,7 @@ use Rattle.fx_sample.specs.declared.summing.Made.{Made}
 use Rattle.fx_sample.specs.ModelText.{sample_model}
 use Rattle.fx_sample.specs.Stimulus.{sample_plan, sample_stimulus}
 use Rattle.fx_sample.specs.Summary.{equal_count, summary_text}
-use Rattle.fx_tables.specs.declared.table.TableCause.{TableCause}
-use Rattle.fx_top.specs.Simulated.{IsBadSimulation, IsSimulationOf}
+use Rattle.fx_top.specs.Simulated.{CanBeSimulated, IsSimulationOf}
 use Rattle.hw_module.specs.Design.{IsModuleOf}
 use Rattle.hw_sched.specs.Ready.{declared_latency}
 use Rattle.hw_sched.specs.Slots.{Timing}
@@ -30,6 +29,11 @@ pub record IsMade (m : Module) (diagram : Diagram) (plan : Resolved) (timing : T
   pub out_is : made.out_latency ≡ latency_of_output diagram plan timing 0
   pub slow_is : made.slow_latency ≡ latency_of_output diagram plan timing 1
 
+-- the response of the model of a sample to the sample's stimulus, and no bytes where the stimulus doesn't fit the columns of the model's diagram
+abbrev pub IsSampleResponse : ℕ → List ℕ → Type 0
+IsSampleResponse count response =
+    IsSimulationOf (sample_model count) (sample_stimulus count) response ⊎ ((CanBeSimulated (sample_model count) (sample_stimulus count) → ⊥) × (response ≡ []))
+
 -- the text is the summary of a sample whose bench tells these bytes, as it may of the module that owes the sample's design nothing
 pub record IsSummaryOf (MayTell : List ℕ → List ℕ → List ℕ → Type 0) (count : ℕ) (told text : List ℕ) : Type 0 where
   pub diagram : Diagram
@@ -40,7 +44,7 @@ pub record IsSummaryOf (MayTell : List ℕ → List ℕ → List ℕ → Type 0)
   pub owed : IsModuleOf own diagram plan timing
   pub may : MayTell (spelling own) (sample_stimulus count) told
   pub response : List ℕ
-  pub simulated : IsSimulationOf (sample_model count) (sample_stimulus count) response
+  pub simulated : IsSampleResponse count response
   pub made : Made
   pub says : IsMade own diagram plan timing made
   pub text_is : text ≡ summary_text count made (equal_count response told)
@@ -48,18 +52,6 @@ pub record IsSummaryOf (MayTell : List ℕ → List ℕ → List ℕ → Type 0)
 -- the text is the summary of a sample by some bytes that its bench may tell
 abbrev pub IsSummed : (List ℕ → List ℕ → List ℕ → Type 0) → ℕ → List ℕ → Type 0
 IsSummed MayTell count text = (told : List ℕ) × IsSummaryOf MayTell count told text
-
--- the model of a sample makes a design by its plan
-pub record MakesDesign (count : ℕ) : Type 0 where
-  pub diagram : Diagram
-  pub plan : Resolved
-  pub timing : Timing
-  pub design : IsDesignOf (sample_model count) sample_plan diagram plan timing
-
--- the sample has a design, and the first bad line of its stimulus, by the columns of its model's diagram, is this one
-pub record HasBadSample (count line : ℕ) (cause : TableCause) : Type 0 where
-  pub made : MakesDesign count
-  pub bad : IsBadSimulation (sample_model count) (sample_stimulus count) line cause
 
 -- the model of a sample breaks a rule, or its plan does on the model's diagram, and this line tells the first of them
 abbrev pub TellsSampleRule : ℕ → List ℕ → Type 0

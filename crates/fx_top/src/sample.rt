@@ -10,10 +10,9 @@ ghost use Rattle.fx_sample.specs.ModelText.{sample_model};
 ghost use Rattle.fx_sample.specs.Stimulus.{sample_plan, sample_stimulus};
 ghost use Rattle.fx_top.specs.Call.{stream_in};
 ghost use Rattle.fx_top.specs.Sampled.{EndsSample, HasSampleCause, HasSampleWritten};
-ghost use Rattle.fx_top.specs.Simulated.{IsSimulationOf};
-ghost use Rattle.fx_top.specs.Summarized.{IsSummaryOf, MakesDesign, latency_of_output};
-ghost use Rattle.fx_top.specs.inner.Sampling.{IsOwed, IsSampleFault};
-ghost use Rattle.fx_top.specs.inner.Simulating.{IsFaultOf, IsSimulationTo};
+ghost use Rattle.fx_top.specs.Summarized.{IsSampleResponse, IsSummaryOf, latency_of_output};
+ghost use Rattle.fx_top.specs.inner.Sampling.{IsOwed, IsRespondedAs, IsSampleFault, IsSimulatedAs};
+ghost use Rattle.fx_top.specs.inner.Simulating.{IsFaultOf};
 ghost use Rattle.hw_rules.specs.Times.{AreTimes, timing_in};
 
 use crate::answer::Answer;
@@ -25,7 +24,6 @@ use fx_check::clocks_of;
 use fx_designed::{DesignFault, Designed, designed_of};
 use fx_io::{OutOfMemory, Sink, Text, put_all};
 use fx_sample::{Bench, Made, model_text, plan_text, stimulus_text, summary};
-use fx_tables::TableCause;
 use hw_rules::{Planned, multiplications};
 use std::alloc::Global;
 use std::thread::Threads;
@@ -35,8 +33,6 @@ use std::thread::Threads;
 pub enum SampleFault {
     /// Its model, or its plan on the model's diagram, breaks a rule, which this line tells.
     BreaksRule { line: Text },
-    /// Its stimulus has the first line that doesn't fit its inputs there, from 1.
-    BadStimulus { line: u64, cause: TableCause },
     /// Memory is wanting.
     OutOfMemory,
 }
@@ -89,47 +85,46 @@ fn made_of(alloc: Global, checked: &Checked, planned: &Planned) -> Result<Made, 
     })
 }
 
-/// Why the simulation of a sample has no response.
-fn refused(number: u32, fault: SimulationFault) -> SampleFault
+/// What a fault of the simulation of a sample says of the sample.
+fn unsimulated(number: u32, fault: SimulationFault) -> Result<Option<Simulation>, SampleFault>
     requires few { number ≤ 5000 }
-    requires design { MakesDesign number }
     requires cause { IsFaultOf (sample_model number) (sample_stimulus number) fault }
-    ensures { IsSampleFault number result }
+    ensures made { IfOk result (IsSimulatedAs number) }
+    ensures refused { IfErr result (IsSampleFault number) }
 {
     fx_sample::models_stand();
     match fault {
         SimulationFault::NotMdl { .. } => unreachable!(),
-        SimulationFault::BreaksRule { line } => SampleFault::BreaksRule { line },
-        SimulationFault::BadTable { line, cause } => SampleFault::BadStimulus { line, cause },
-        SimulationFault::OutOfMemory => SampleFault::OutOfMemory,
+        SimulationFault::BreaksRule { line } => Err(SampleFault::BreaksRule { line }),
+        SimulationFault::BadTable { .. } => Ok(None),
+        SimulationFault::OutOfMemory => Err(SampleFault::OutOfMemory),
     }
 }
 
-/// The response of the diagram of a sample to the sample's stimulus, and the writer of its lines.
+/// The response of the diagram of a sample to the sample's stimulus and the writer of its lines,
+/// where the stimulus fits the diagram's columns.
 fn sample_simulation(
     alloc: Global,
     checked: &Checked,
     number: u32,
-) -> Result<Simulation, SampleFault>
+) -> Result<Option<Simulation>, SampleFault>
     requires few { number ≤ 5000 }
     requires model { IsModelOf (sample_model number) checked.now.diagram }
-    requires design { MakesDesign number }
-    ensures made { IfOk result (IsSimulationTo (sample_model number) (sample_stimulus number)) }
+    ensures made { IfOk result (IsSimulatedAs number) }
     ensures refused { IfErr result (IsSampleFault number) }
 {
     let stimulus = stimulus_text(alloc, number)?;
     match simulation_in(alloc, checked, stimulus.bytes()) {
-        Ok(simulation) => Ok(simulation),
-        Err(fault) => Err(refused(number, fault)),
+        Ok(simulation) => Ok(Some(simulation)),
+        Err(fault) => unsimulated(number, fault),
     }
 }
 
-/// The response of the diagram of a sample to the sample's stimulus.
-fn sample_response(alloc: Global, checked: &Checked, number: u32) -> Result<Text, SampleFault>
+/// The lines of that response.
+fn sample_lines(alloc: Global, checked: &Checked, number: u32) -> Result<Option<Text>, SampleFault>
     requires few { number ≤ 5000 }
     requires model { IsModelOf (sample_model number) checked.now.diagram }
-    requires design { MakesDesign number }
-    ensures made { IfOk result (IsSimulationOf (sample_model number) (sample_stimulus number)) }
+    ensures made { IfOk result (IsRespondedAs number) }
     ensures refused { IfErr result (IsSampleFault number) }
 {
     let Simulation {
@@ -137,11 +132,27 @@ fn sample_response(alloc: Global, checked: &Checked, number: u32) -> Result<Text
         responded,
         mut text,
     } = match sample_simulation(alloc, checked, number) {
-        Ok(simulation) => simulation,
+        Ok(Some(simulation)) => simulation,
+        Ok(None) => return Ok(None),
         Err(fault) => return Err(fault),
     };
     let lines = simulation_text(alloc, &responded, &mut text, samples)?;
-    Ok(lines)
+    Ok(Some(lines))
+}
+
+/// What the module of a sample is compared with: the response of its diagram, and no bytes where the
+/// stimulus doesn't fit the diagram's columns.
+fn sample_response(alloc: Global, checked: &Checked, number: u32) -> Result<Text, SampleFault>
+    requires few { number ≤ 5000 }
+    requires model { IsModelOf (sample_model number) checked.now.diagram }
+    ensures made { IfOk result (IsSampleResponse number) }
+    ensures refused { IfErr result (IsSampleFault number) }
+{
+    match sample_lines(alloc, checked, number) {
+        Ok(Some(lines)) => Ok(lines),
+        Ok(None) => Ok(Text::new()),
+        Err(fault) => Err(fault),
+    }
 }
 
 /// Why the texts of a sample make no design.
@@ -245,13 +256,6 @@ pub fn sample<'a, R: Threads + Sync, B: Bench, K: Sink>(
     let text = match summary_of(rt, alloc, number, bench) {
         Ok(text) => text,
         Err(SampleFault::BreaksRule { line }) => return Answer::BreaksRule { line },
-        Err(SampleFault::BadStimulus { line, cause }) => {
-            return Answer::BadTable {
-                file: "sample",
-                line,
-                cause,
-            };
-        }
         Err(SampleFault::OutOfMemory) => return Answer::OutOfMemory,
     };
     match put_all(out, text.bytes()) {
@@ -265,7 +269,7 @@ pub fn sample<'a, R: Threads + Sync, B: Bench, K: Sink>(
 ///
 /// The summary tells of a model of so many blocks how many multiplications its module has, how late
 /// its outputs are in clocks, and in how many fields at hits what `bench` tells of its Verilog text
-/// agrees with the response of its diagram. The status is 0; or 1, 4, 6 or 7 with one line to `err`.
+/// agrees with the response of its diagram. The status is 0; or 1, 4 or 7 with one line to `err`.
 pub fn sample_with<R: Threads + Sync, B: Bench, K: Sink, E: Sink>(
     rt: &R,
     alloc: Global,

@@ -8,6 +8,6 @@ pub returns-in-Ok-clause-made : goal.returns-in-Ok-clause-made
 returns-in-Ok-clause-made c =
     simulates-sample c.args.checked.now.diagram (sample_model c.args.number) (sample_stimulus c.args.number) c.bytes.result.now c.in-Ok.simulation c.requires.model (c.bytes.ensures ∙ c.in_ok-stimulus.ensures) c.in-Ok.ensures.made
 
-pub refused-requires-clause-cause : goal.refused-requires-clause-cause
-refused-requires-clause-cause c =
+pub unsimulated-requires-clause-cause : goal.unsimulated-requires-clause-cause
+unsimulated-requires-clause-cause c =
     refuses-sample c.args.checked.now.diagram (sample_model c.args.number) (sample_stimulus c.args.number) c.bytes.result.now c.in-Err.fault c.requires.model (c.bytes.ensures ∙ c.in_ok-stimulus.ensures) c.in-Err.ensures.refused

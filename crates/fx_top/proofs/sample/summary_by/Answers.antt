@@ -5,14 +5,6 @@ use Rattle.hw_rules.specs.Times.{timing_in}
 use Rattle.fx_top.proofs.SampleOutputs.{summed}
 use Rattle.fx_top.proofs.sample.summary_by.Goals as goal
 
-pub sample_response-requires-clause-design : goal.sample_response-requires-clause-design
-sample_response-requires-clause-design g c = record {
-  diagram = c.args.checked.now.diagram;
-  plan = c.args.planned.now.resolved;
-  timing = timing_in c.args.planned.now.times;
-  design = c.requires.design;
-}
-
 pub returns-clause-made : goal.returns-clause-made
 returns-clause-made g c =
     let told = g.B.Bench.tells c.summary.new.bench in
