@@ -1,0 +1,7 @@
+pub mod Names
+pub mod Pace
+pub mod Header
+pub mod Handshake
+pub mod Transfers
+pub mod Carried
+pub mod inner

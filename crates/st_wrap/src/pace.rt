@@ -1,0 +1,82 @@
+//! How many clocks a sample of the core takes, how late its outputs are, and the counters for both.
+ghost use Rattle.std.specs.Prelude.{◌≡◌, ◌<◌, ◌≤◌, ◌^◌};
+ghost use Rattle.st_wrap.specs.Pace.{cycles_in, latest_in, samples_late};
+ghost use Rattle.st_wrap.specs.inner.Control.{CountFor, HasRoom};
+
+use vl_ast::{Module, Port};
+use vl_check::{cycles_of, is_number_output, is_stallable, latency_of};
+
+/// A counter's greatest number, and how many bits it has.
+#[derive(Clone, Copy, Debug)]
+pub struct Counter {
+    pub most: u64,
+    pub width: u32,
+}
+
+/// The counters of a wrapper.
+#[derive(Clone, Copy, Debug)]
+pub struct Counters {
+    /// Of the clocks of a sample.
+    pub phase: Counter,
+    /// Of the samples to wait for.
+    pub wait: Counter,
+}
+
+/// How many clocks a sample takes.
+pub fn cycles_in(core: &Module) -> u64
+    ensures is { result ≡ cycles_in core.now }
+    ensures some { 1 ≤ result }
+{
+    match cycles_of(core) {
+        None => 1,
+        Some(cycles) => cycles,
+    }
+}
+
+/// How many whole samples an output comes late.
+pub fn samples_late(cycles: u64, port: &Port) -> u64
+    requires { 1 ≤ cycles }
+    ensures { result ≡ samples_late cycles port.now }
+{
+    match latency_of(port) {
+        None => 0,
+        Some(latency) => latency / cycles,
+    }
+}
+
+/// How many whole samples the latest output comes late.
+pub fn latest_in(core: &Module) -> u64
+    ensures { result ≡ latest_in core.now }
+{
+    let cycles = cycles_in(core);
+    let stalls = is_stallable(core);
+    let mut latest = 0;
+    for port in core.ports.as_slice() {
+        if is_number_output(port, stalls) {
+            latest = latest.max(samples_late(cycles, port));
+        }
+    }
+    latest
+}
+
+/// A counter that reaches this number.
+fn counter_to(most: u64) -> Counter
+    ensures most { result.most ≡ most }
+    ensures room { HasRoom result }
+{
+    let mut width = 1;
+    while width < 64 && most >> width != 0 {
+        width += 1;
+    }
+    Counter { most, width }
+}
+
+/// The counters of the wrapper round a core.
+pub fn counters_for(core: &Module) -> Counters
+    ensures { CountFor core.now result }
+{
+    Counters {
+        phase: counter_to(cycles_in(core) - 1),
+        wait: counter_to(latest_in(core)),
+    }
+}

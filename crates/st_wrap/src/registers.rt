@@ -1,0 +1,142 @@
+//! What holds the inputs, and what holds the outputs back.
+ghost use Rattle.std.specs.Prelude.{◌≡◌, ◌+◌, ◌++◌, ◌<◌, ◌^◌, flat_map, IfOk, OnOk};
+ghost use Rattle.st_wrap.specs.inner.Columns.{held_declared, held_driven, late_declared, late_driven};
+ghost use Rattle.st_wrap.specs.inner.Columns.{stage_declared, stage_driven, stage_name};
+
+use crate::columns::Column;
+use crate::expressions::{choice, moving, named, plain};
+use crate::names::{held_name, inner_name, late_name};
+use fx_io::{OutOfMemory, Text};
+use std::alloc::Global;
+use vl_ast::{Expr, ModItem, ModItems};
+
+/// Declares what holds each input.
+pub fn declare_held(
+    alloc: Global,
+    inputs: &[Column],
+    items: &mut ModItems,
+) -> Result<(), OutOfMemory>
+    ensures { OnOk result (items.new ≡ items.old ++ flat_map held_declared inputs.now) }
+{
+    for column in inputs {
+        items.push(ModItem::Reg {
+            signed: column.signed,
+            width: column.width,
+            name: held_name(alloc, column.name.bytes())?,
+        })?;
+    }
+    Ok(())
+}
+
+fn drive_input(alloc: Global, column: &Column, items: &mut ModItems) -> Result<(), OutOfMemory>
+    ensures { OnOk result (items.new ≡ items.old ++ held_driven column.now) }
+{
+    let begin = named(alloc, b"fx_begin")?;
+    let fresh = named(alloc, column.name.bytes())?;
+    let held = Expr::Name(held_name(alloc, column.name.bytes())?);
+    items.push(ModItem::Assign {
+        name: inner_name(alloc, column.inner.bytes())?,
+        value: choice(alloc, begin, fresh, held)?,
+    })?;
+    items.push(ModItem::Always {
+        name: held_name(alloc, column.name.bytes())?,
+        first: plain(column.width, 0),
+        condition: Some(moving(alloc, b"fx_begin")?),
+        value: named(alloc, column.name.bytes())?,
+    })
+}
+
+/// Drives each input of the core, and what holds it.
+pub fn drive_inputs(
+    alloc: Global,
+    inputs: &[Column],
+    items: &mut ModItems,
+) -> Result<(), OutOfMemory>
+    ensures { OnOk result (items.new ≡ items.old ++ flat_map held_driven inputs.now) }
+{
+    for column in inputs {
+        drive_input(alloc, column, items)?;
+    }
+    Ok(())
+}
+
+/// The name of an output of so many samples ago.
+fn stage_name(alloc: Global, column: &Column, samples: u64) -> Result<Text, OutOfMemory>
+    ensures { IfOk result (λ name. name ≡ stage_name column.now samples) }
+{
+    if samples == 0 {
+        return inner_name(alloc, column.inner.bytes());
+    }
+    late_name(alloc, column.name.bytes(), samples)
+}
+
+fn stage_declared(alloc: Global, column: &Column, place: u64) -> Result<ModItem, OutOfMemory>
+    requires { place + 1 < 2 ^ 64 }
+    ensures { IfOk result (λ item. item ≡ stage_declared column.now place) }
+{
+    Ok(ModItem::Reg {
+        signed: column.signed,
+        width: column.width,
+        name: late_name(alloc, column.name.bytes(), place + 1)?,
+    })
+}
+
+fn stage_driven(alloc: Global, column: &Column, place: u64) -> Result<ModItem, OutOfMemory>
+    requires { place + 1 < 2 ^ 64 }
+    ensures { IfOk result (λ item. item ≡ stage_driven column.now place) }
+{
+    Ok(ModItem::Always {
+        name: late_name(alloc, column.name.bytes(), place + 1)?,
+        first: plain(column.width, 0),
+        condition: Some(moving(alloc, b"fx_end")?),
+        value: Expr::Name(stage_name(alloc, column, place)?),
+    })
+}
+
+fn declare_output(alloc: Global, column: &Column, items: &mut ModItems) -> Result<(), OutOfMemory>
+    ensures { OnOk result (items.new ≡ items.old ++ late_declared column.now) }
+{
+    for place in 0..column.late {
+        items.push(stage_declared(alloc, column, place)?)?;
+    }
+    Ok(())
+}
+
+/// Declares what holds each output back.
+pub fn declare_late(
+    alloc: Global,
+    outputs: &[Column],
+    items: &mut ModItems,
+) -> Result<(), OutOfMemory>
+    ensures { OnOk result (items.new ≡ items.old ++ flat_map late_declared outputs.now) }
+{
+    for column in outputs {
+        declare_output(alloc, column, items)?;
+    }
+    Ok(())
+}
+
+fn drive_output(alloc: Global, column: &Column, items: &mut ModItems) -> Result<(), OutOfMemory>
+    ensures { OnOk result (items.new ≡ items.old ++ late_driven column.now) }
+{
+    for place in 0..column.late {
+        items.push(stage_driven(alloc, column, place)?)?;
+    }
+    let name = Text::copy(alloc, column.name.bytes())?;
+    let value = Expr::Name(stage_name(alloc, column, column.late)?);
+    items.push(ModItem::Assign { name, value })
+}
+
+/// Drives what holds each output back, and its port.
+pub fn drive_outputs(
+    alloc: Global,
+    outputs: &[Column],
+    items: &mut ModItems,
+) -> Result<(), OutOfMemory>
+    ensures { OnOk result (items.new ≡ items.old ++ flat_map late_driven outputs.now) }
+{
+    for column in outputs {
+        drive_output(alloc, column, items)?;
+    }
+    Ok(())
+}

@@ -1,0 +1,149 @@
+//! The core's items and ports in the wrapper.
+ghost use Rattle.std.specs.Prelude.{◌≡◌, ◌++◌, map, IfOk, OnOk};
+ghost use Rattle.st_wrap.specs.inner.Renamed.{core_items, renamed, renamed_condition, renamed_item, wires_of};
+
+use crate::expressions::{binary, choice, unary};
+use crate::names::{inner_name, is_shared};
+use fx_io::{Boxed, OutOfMemory};
+use std::alloc::Global;
+use vl_ast::{Expr, Exprs, ModItem, ModItems, Module};
+
+/// An expression over the names that the core's have in the wrapper. The recursion is as deep as the
+/// expression nests.
+#[cycle(renaming)]
+fn renamed(alloc: Global, e: &Expr) -> Result<Expr, OutOfMemory>
+    ensures { IfOk result (λ made. made ≡ renamed e.now) }
+{
+    match e {
+        Expr::Name(name) => Ok(Expr::Name(inner_name(alloc, name.bytes())?)),
+        Expr::Bit(name, place) => Ok(Expr::Bit(inner_name(alloc, name.bytes())?, *place)),
+        Expr::Part(name, high, low) => {
+            Ok(Expr::Part(inner_name(alloc, name.bytes())?, *high, *low))
+        }
+        Expr::Literal(number) => Ok(Expr::Literal(*number)),
+        Expr::Concat(parts) => Ok(Expr::Concat(renamed_parts(alloc, parts.as_slice())?)),
+        Expr::Repeat(count, part) => {
+            let part = renamed(alloc, part.get())?;
+            Ok(Expr::Repeat(*count, Boxed::new(alloc, part)?))
+        }
+        Expr::AsSigned(part) => {
+            let part = renamed(alloc, part.get())?;
+            Ok(Expr::AsSigned(Boxed::new(alloc, part)?))
+        }
+        Expr::AsUnsigned(part) => {
+            let part = renamed(alloc, part.get())?;
+            Ok(Expr::AsUnsigned(Boxed::new(alloc, part)?))
+        }
+        Expr::Unary(op, part) => {
+            let part = renamed(alloc, part.get())?;
+            unary(alloc, *op, part)
+        }
+        Expr::Binary(op, left, right) => {
+            let left = renamed(alloc, left.get())?;
+            let right = renamed(alloc, right.get())?;
+            binary(alloc, *op, left, right)
+        }
+        Expr::Shift(op, part, amount) => {
+            let part = renamed(alloc, part.get())?;
+            Ok(Expr::Shift(*op, Boxed::new(alloc, part)?, *amount))
+        }
+        Expr::Choose(test, chosen, other) => {
+            let test = renamed(alloc, test.get())?;
+            let chosen = renamed(alloc, chosen.get())?;
+            let other = renamed(alloc, other.get())?;
+            choice(alloc, test, chosen, other)
+        }
+    }
+}
+
+#[cycle(renaming)]
+fn renamed_parts(alloc: Global, parts: &[Expr]) -> Result<Exprs, OutOfMemory>
+    ensures { IfOk result (λ made. made ≡ map renamed parts.now) }
+{
+    let mut made = Exprs::new(alloc);
+    for part in parts {
+        made.push(renamed(alloc, part)?)?;
+    }
+    Ok(made)
+}
+
+fn renamed_condition(alloc: Global, condition: &Option<Expr>) -> Result<Option<Expr>, OutOfMemory>
+    ensures { IfOk result (λ made. made ≡ renamed_condition condition.now) }
+{
+    match condition {
+        None => Ok(None),
+        Some(condition) => Ok(Some(renamed(alloc, condition)?)),
+    }
+}
+
+fn renamed_item(alloc: Global, item: &ModItem) -> Result<ModItem, OutOfMemory>
+    ensures { IfOk result (λ made. made ≡ renamed_item item.now) }
+{
+    match item {
+        ModItem::Wire {
+            signed,
+            width,
+            name,
+        } => Ok(ModItem::Wire {
+            signed: *signed,
+            width: *width,
+            name: inner_name(alloc, name.bytes())?,
+        }),
+        ModItem::Reg {
+            signed,
+            width,
+            name,
+        } => Ok(ModItem::Reg {
+            signed: *signed,
+            width: *width,
+            name: inner_name(alloc, name.bytes())?,
+        }),
+        ModItem::Assign { name, value } => {
+            let name = inner_name(alloc, name.bytes())?;
+            let value = renamed(alloc, value)?;
+            Ok(ModItem::Assign { name, value })
+        }
+        ModItem::Always {
+            name,
+            first,
+            condition,
+            value,
+        } => {
+            let name = inner_name(alloc, name.bytes())?;
+            let condition = renamed_condition(alloc, condition)?;
+            let value = renamed(alloc, value)?;
+            Ok(ModItem::Always {
+                name,
+                first: *first,
+                condition,
+                value,
+            })
+        }
+    }
+}
+
+/// Puts a wire for each port of the core but `clk` and `reset`.
+pub fn put_wires(alloc: Global, core: &Module, items: &mut ModItems) -> Result<(), OutOfMemory>
+    ensures { OnOk result (items.new ≡ items.old ++ wires_of core.now) }
+{
+    for port in core.ports.as_slice() {
+        if !is_shared(port.name.bytes()) {
+            items.push(ModItem::Wire {
+                signed: port.signed,
+                width: port.width,
+                name: inner_name(alloc, port.name.bytes())?,
+            })?;
+        }
+    }
+    Ok(())
+}
+
+/// Puts the items of the core.
+pub fn put_core(alloc: Global, core: &Module, items: &mut ModItems) -> Result<(), OutOfMemory>
+    ensures { OnOk result (items.new ≡ items.old ++ core_items core.now) }
+{
+    for item in core.items.as_slice() {
+        items.push(renamed_item(alloc, item)?)?;
+    }
+    Ok(())
+}

@@ -1,0 +1,98 @@
+//! The module with valid and ready round a core.
+ghost use Rattle.std.specs.Prelude.{◌≡◌, List, ℕ, true, IfOk, length};
+ghost use Rattle.vl_ast.specs.Conditions.{BreaksNone};
+ghost use Rattle.vl_ast.specs.Control.{is_stallable};
+ghost use Rattle.vl_ast.specs.Grammar.{Spells};
+ghost use Rattle.vl_ast.specs.Multiplications.{multiplications};
+ghost use Rattle.vl_ast.specs.Spelling.{spelling};
+ghost use Rattle.vl_ast.specs.Stalls.{KeepsBits};
+ghost use Rattle.st_wrap.specs.Carried.{CarriesTransfers, FollowsCore, ShakesHands};
+ghost use Rattle.st_wrap.specs.Header.{HasStreamHeader};
+ghost use Rattle.st_wrap.specs.Names.{AreColumnNames};
+ghost use Rattle.st_wrap.specs.inner.Wrapped.{items_of, made_of, IsWrapped};
+
+use crate::columns::{Column, input_columns, output_columns, output_names};
+use crate::control::{declare_control, drive_control};
+use crate::header::{module_attrs, module_ports};
+use crate::pace::{Counters, counters_for};
+use crate::registers::{declare_held, declare_late, drive_inputs, drive_outputs};
+use crate::renaming::{put_core, put_wires};
+use fx_io::{OutOfMemory, Text};
+use std::alloc::Global;
+use vl_ast::{ModItems, Module, counted_rows_run, one_run, sound_modules_spell};
+
+/// The module `fx_stream` with valid and ready round a core. It takes a sample of all inputs where
+/// `in_valid` and `in_ready` are 1, and hands over a sample of all outputs where `out_valid` and
+/// `out_ready` are 1. `names` has a name for each port of the core that carries numbers, the inputs
+/// first. The core has no registers that change without `clk_enable` or `reset`.
+///
+/// # Errors
+/// Want of memory.
+pub fn wrap(alloc: Global, core: &Module, names: &[Text]) -> Result<Module, OutOfMemory>
+    requires sound { BreaksNone core.now }
+    requires stallable { is_stallable core.now ≡ true }
+    requires keeps { KeepsBits core.now }
+    requires names { AreColumnNames core.now names.now }
+    ensures header { IfOk result (HasStreamHeader core.now names.now) }
+    ensures conditions { IfOk result BreaksNone }
+    ensures products { IfOk result (λ made.
+        length (multiplications made) ≡ length (multiplications core.now)) }
+    ensures spelled { IfOk result (λ made.
+        (bytes : List ℕ) → Spells bytes core.now → Spells (spelling made) made) }
+    ensures handshake { IfOk result (ShakesHands core.now) }
+    ensures transfers { IfOk result (CarriesTransfers core.now names.now) }
+    ensures follows { IfOk result (FollowsCore core.now names.now) }
+{
+    one_run();
+    counted_rows_run();
+    sound_modules_spell();
+    module_of(alloc, core, names)
+}
+
+/// What `wrap` gives. It asks nothing.
+fn module_of(alloc: Global, core: &Module, names: &[Text]) -> Result<Module, OutOfMemory>
+    ensures { IfOk result (IsWrapped core.now names.now) }
+{
+    let inputs = input_columns(alloc, core, names)?;
+    let outputs = output_columns(alloc, core, output_names(core, names))?;
+    let counters = counters_for(core);
+    made_of(alloc, core, counters, inputs.as_slice(), outputs.as_slice())
+}
+
+fn made_of(
+    alloc: Global,
+    core: &Module,
+    counters: Counters,
+    inputs: &[Column],
+    outputs: &[Column],
+) -> Result<Module, OutOfMemory>
+    ensures { IfOk result (λ made. made ≡ made_of core.now counters inputs.now outputs.now) }
+{
+    Ok(Module {
+        name: Text::copy(alloc, b"fx_stream")?,
+        attrs: module_attrs(alloc)?,
+        ports: module_ports(alloc, inputs, outputs)?,
+        items: module_items(alloc, core, counters, inputs, outputs)?,
+    })
+}
+
+fn module_items(
+    alloc: Global,
+    core: &Module,
+    counters: Counters,
+    inputs: &[Column],
+    outputs: &[Column],
+) -> Result<ModItems, OutOfMemory>
+    ensures { IfOk result (λ items. items ≡ items_of core.now counters inputs.now outputs.now) }
+{
+    let mut items = ModItems::new(alloc);
+    put_wires(alloc, core, &mut items)?;
+    declare_control(alloc, counters, &mut items)?;
+    declare_held(alloc, inputs, &mut items)?;
+    declare_late(alloc, outputs, &mut items)?;
+    put_core(alloc, core, &mut items)?;
+    drive_control(alloc, counters, &mut items)?;
+    drive_inputs(alloc, inputs, &mut items)?;
+    drive_outputs(alloc, outputs, &mut items)?;
+    Ok(items)
+}
