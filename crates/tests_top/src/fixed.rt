@@ -5,6 +5,7 @@ use fx_sample::Bench;
 use std::alloc::Global;
 
 /// It tells these.
+#[derive(Drop)]
 pub struct Fixed<'a> {
     pub tells: &'a [u8],
 }
