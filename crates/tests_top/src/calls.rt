@@ -24,20 +24,14 @@ pub fn answered<R: Threads + Sync>(
     case: &Case,
     words: &str,
 ) -> Result<Answer> {
-    let mut shelf = MemShelf::new(alloc, case.fetches.as_slice())?;
-    for file in case.files.iter() {
-        shelf.add(file.name.as_str(), file.bytes.as_slice())?;
-    }
-    let mut texts = Vec::new(alloc);
-    for word in words.split_whitespace() {
-        texts.push(String::from_str(alloc, word)?)?;
-    }
     if case.stuck {
-        return stuck(rt, alloc, texts.as_slice(), shelf);
+        return stopped(rt, alloc, case, words, 0, &[1]);
     }
+    let mut shelf = shelf_of(alloc, case)?;
+    let words = words_of(alloc, words)?;
     let mut out = sink(alloc, case.puts.as_slice(), case.piece)?;
     let mut err = sink(alloc, &[], ROOM)?;
-    let status = run(rt, alloc, texts.as_slice(), &mut shelf, &mut out, &mut err);
+    let status = run(rt, alloc, words.as_slice(), &mut shelf, &mut out, &mut err);
     Ok(Answer {
         status,
         out: out.taken().to_vec(alloc)?,
@@ -45,19 +39,29 @@ pub fn answered<R: Threads + Sync>(
     })
 }
 
-/// The same where standard output takes nothing and standard error fails.
-fn stuck<R: Threads + Sync>(
+/// The same where standard output takes so many pieces and then nothing, and these puts to standard
+/// error fail.
+pub fn stopped<R: Threads + Sync>(
     rt: &R,
     alloc: Global,
-    words: &[String],
-    mut shelf: MemShelf,
+    case: &Case,
+    words: &str,
+    takes: usize,
+    failing: &[u64],
 ) -> Result<Answer> {
-    let mut out = Stuck { faults: 0 };
-    let mut err = sink(alloc, &[1], ROOM)?;
-    let status = run(rt, alloc, words, &mut shelf, &mut out, &mut err);
+    let mut shelf = shelf_of(alloc, case)?;
+    let words = words_of(alloc, words)?;
+    let mut out = Stuck {
+        takes,
+        taken: Vec::new(alloc),
+        faults: 0,
+        stalls: 0,
+    };
+    let mut err = sink(alloc, failing, ROOM)?;
+    let status = run(rt, alloc, words.as_slice(), &mut shelf, &mut out, &mut err);
     Ok(Answer {
         status,
-        out: Vec::new(alloc),
+        out: out.taken,
         err: err.taken().to_vec(alloc)?,
     })
 }
@@ -73,6 +77,24 @@ pub fn benched<R: Threads + Sync>(rt: &R, alloc: Global, tells: &[u8]) -> Result
         out: out.taken().to_vec(alloc)?,
         err: err.taken().to_vec(alloc)?,
     })
+}
+
+/// A shelf of the files.
+fn shelf_of(alloc: Global, case: &Case) -> Result<MemShelf> {
+    let mut shelf = MemShelf::new(alloc, case.fetches.as_slice())?;
+    for file in case.files.iter() {
+        shelf.add(file.name.as_str(), file.bytes.as_slice())?;
+    }
+    Ok(shelf)
+}
+
+/// The words of a line.
+fn words_of(alloc: Global, line: &str) -> Result<Vec<String>> {
+    let mut words = Vec::new(alloc);
+    for word in line.split_whitespace() {
+        words.push(String::from_str(alloc, word)?)?;
+    }
+    Ok(words)
 }
 
 /// A sink in memory.

@@ -1,6 +1,7 @@
 //! What a call finds.
 
 use crate::calls::{Answer, answered, benched};
+use crate::many::{put_cuts, put_ends};
 use anyhow::{Result, anyhow};
 use std::alloc::Global;
 use std::io::Write;
@@ -68,11 +69,44 @@ impl Case {
             let answer = benched(rt, alloc, tells.as_bytes())?;
             return put_answer(&answer, out);
         }
+        if let Some(words) = line.strip_prefix("ends ") {
+            writeln!(out, "{line}")?;
+            return put_ends(rt, alloc, self, words, out);
+        }
+        if let Some(words) = line.strip_prefix("cuts ") {
+            writeln!(out, "{line}")?;
+            let Some((name, words)) = words.split_once(" ") else {
+                return Err(anyhow!("no words"));
+            };
+            return put_cuts(rt, alloc, self, name, words, out);
+        }
         self.set(alloc, texts.row(alloc, line)?)
     }
 
+    /// What a file holds.
+    pub fn held(&self, alloc: Global, name: &str) -> Result<Vec<u8>> {
+        for file in self.files.iter() {
+            if file.name.as_bytes() == name.as_bytes() {
+                return Ok(file.bytes.to_vec(alloc)?);
+            }
+        }
+        Err(anyhow!("no file of this name"))
+    }
+
+    /// Puts a text behind a file for each number.
+    fn put_numbered(&mut self, alloc: Global, mut row: Row<'_>) -> Result<()> {
+        let name = row.next()?;
+        let from = row.number()?;
+        let to = row.number()?;
+        let mut bytes = self.held(alloc, name)?;
+        for number in from..to {
+            push_numbered(alloc, &mut bytes, row.text.as_slice(), number)?;
+        }
+        self.put(alloc, name, bytes)
+    }
+
     /// Puts a file in, in the place of one of the same name.
-    fn put(&mut self, alloc: Global, name: &str, bytes: Vec<u8>) -> Result<()> {
+    pub fn put(&mut self, alloc: Global, name: &str, bytes: Vec<u8>) -> Result<()> {
         self.files
             .retain(|held| held.name.as_bytes() != name.as_bytes());
         let name = String::from_str(alloc, name)?;
@@ -97,6 +131,7 @@ impl Case {
                 let text = chain(alloc, row.number()?)?;
                 self.put(alloc, name, text.into_bytes())?;
             }
+            b"numbered" => self.put_numbered(alloc, row)?,
             b"fetch" => self.fetches.push(u64::from(row.number()?))?,
             b"put" => self.puts.push(u64::from(row.number()?))?,
             b"piece" => self.piece = row.number()? as usize,
@@ -121,7 +156,23 @@ fn chain(alloc: Global, count: u32) -> Result<String> {
     Ok(text)
 }
 
-fn put_answer<W: Write>(answer: &Answer, out: &mut W) -> Result<()> {
+/// Puts a text at the end in which `#` stands for a number and `@` for the next.
+fn push_numbered(alloc: Global, bytes: &mut Vec<u8>, text: &[u8], number: u32) -> Result<()> {
+    let next = u64::from(number).saturating_add(1);
+    let number = format!(in alloc; "{number}")?;
+    let next = format!(in alloc; "{next}")?;
+    for byte in text {
+        match *byte {
+            b'#' => bytes.extend_from_slice(number.as_bytes())?,
+            b'@' => bytes.extend_from_slice(next.as_bytes())?,
+            other => bytes.push(other)?,
+        }
+    }
+    Ok(())
+}
+
+/// Writes what a call answers.
+pub fn put_answer<W: Write>(answer: &Answer, out: &mut W) -> Result<()> {
     let status = answer.status;
     writeln!(out, "status {status}")?;
     out.write_all(answer.err.as_slice())?;
