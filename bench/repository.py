@@ -1,4 +1,4 @@
-"""A repository for a program above crates of this one, or for tests of one, for what no command does yet."""
+"""A repository for a program above crates of this one, or for one of its own, for what no command does yet."""
 
 import os
 import shutil
@@ -51,7 +51,7 @@ def write_crates(folder, crates):
 def prove(crate, command):
     """Proves a crate and builds what the command runs."""
     print("proving and building, which takes minutes", file=sys.stderr)
-    made = subprocess.run(["rt", command], cwd=crate, capture_output=True, text=True)
+    made = subprocess.run(["rt", command], cwd=crate, stdin=subprocess.DEVNULL, capture_output=True, text=True)
     if made.returncode != 0:
         sys.exit(made.stdout + made.stderr)
 
@@ -69,15 +69,12 @@ def build(folder, name, libraries, files):
     return os.path.join(program, "out", name)
 
 
-def build_tests(folder, name, added):
-    """Makes the repository of a crate of this one with these texts added to its files, proves and builds
-    its tests, and gives the path of what runs one that it is given by name."""
+def build_program(folder, name):
+    """Makes the repository of a program of this one, proves and builds it there, and gives the path of
+    what it runs."""
     crates = crate_lines([name])
     copy_crates(folder, crates)
     write_crates(folder, crates)
     crate = os.path.join(folder, "crates", name)
-    for path, text in added.items():
-        with open(os.path.join(crate, path), "a") as file:
-            file.write(text)
-    prove(crate, "test")
-    return os.path.join(crate, "out", f"{name}_tests")
+    prove(crate, "run")
+    return os.path.join(crate, "out", name)

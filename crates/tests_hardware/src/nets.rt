@@ -1,90 +1,176 @@
-//! Netlists made by hand, with rows worked out by hand.
-ghost use Rattle.std.specs.Prelude.{◌≡◌, ◌<◌, length};
+//! Nets by the words of a row.
+//!
+//! | KIND | net |
+//! |---|---|
+//! | `input NUMBER`, `const V`, `up PLACES NET`, `down PLACES NET`, `slice HIGH LOW NET` | an operation with numbers |
+//! | `resize NET`, `add NET NET`, .. | one without; the names are those of `NetOp` |
+//! | `reg FRAME SLOT INITIAL NET` | a register |
+//! | `keep FRAME ENABLE INITIAL NET`, `reset FRAME ENABLE INITIAL NET` | an enabled register, which keeps its number or takes its first one where it isn't enabled |
+//! | `bridge FRAME LIVE NET`, `unit NET NET`, `counter FRAME` | a bridge, a shared multiplier, a Counter |
 
-use fx_io::{OutOfMemory, Sizes, Text};
-use hw_net::{Net, NetKind, NetOp, NetPort, NetState, Netlist, is_netlist};
+use anyhow::{Result, anyhow};
+use fx_io::{Sizes, Text};
+use hw_net::{Frame, Net, NetKind, NetOp, NetPort, Netlist};
 use std::alloc::Global;
-use std::process::Abort;
+use tests_rows::Row;
 
-mod netlists;
-mod operations;
-mod registers;
-
-/// A word: its width, and whether it is signed.
-type Word = (u8, bool);
-
-/// The word of a byte.
-const BYTE: Word = (8, true);
-
-/// A net of a word.
-fn net_of(word: Word, kind: NetKind) -> Net {
-    let (width, signed) = word;
-    Net {
+/// The net that the words tell.
+pub fn net_of(alloc: Global, row: &mut Row<'_>) -> Result<Net> {
+    let signed = match row.next()?.as_bytes() {
+        b"s" => true,
+        b"u" => false,
+        _ => return Err(anyhow!("no sign")),
+    };
+    let width = row.byte()?;
+    let kind = kind_of(alloc, row)?;
+    Ok(Net {
         signed,
         width,
         kind,
+    })
+}
+
+pub fn frame_of(row: &mut Row<'_>) -> Result<Frame> {
+    let period = row.number()?;
+    let latency = row.long()?;
+    Ok(Frame { period, latency })
+}
+
+fn kind_of(alloc: Global, row: &mut Row<'_>) -> Result<NetKind> {
+    let name = row.next()?;
+    match name.as_bytes() {
+        b"reg" => register(row),
+        b"keep" => enabled(row, false),
+        b"reset" => enabled(row, true),
+        b"bridge" => bridge(row),
+        b"counter" => Ok(NetKind::Counter {
+            frame: frame_of(row)?,
+        }),
+        b"unit" => unit(row),
+        _ => operation(alloc, name, row),
     }
 }
 
-/// An operation on nets.
-fn comb(alloc: Global, word: Word, op: NetOp, numbers: &[u32]) -> Result<Net, OutOfMemory> {
+fn register(row: &mut Row<'_>) -> Result<NetKind> {
+    let frame = frame_of(row)?;
+    let slot = row.number()?;
+    let first = row.integer()?;
+    let from = row.number()?;
+    Ok(NetKind::Reg {
+        frame,
+        slot,
+        first,
+        from,
+    })
+}
+
+fn enabled(row: &mut Row<'_>, reset: bool) -> Result<NetKind> {
+    let frame = frame_of(row)?;
+    let enable = row.number()?;
+    let first = row.integer()?;
+    let from = row.number()?;
+    Ok(NetKind::EnReg {
+        frame,
+        enable,
+        reset,
+        first,
+        from,
+    })
+}
+
+fn bridge(row: &mut Row<'_>) -> Result<NetKind> {
+    let frame = frame_of(row)?;
+    let live = row.number()?;
+    let from = row.number()?;
+    Ok(NetKind::Bridge { frame, live, from })
+}
+
+fn unit(row: &mut Row<'_>) -> Result<NetKind> {
+    let left = row.number()?;
+    let right = row.number()?;
+    Ok(NetKind::Unit { left, right })
+}
+
+/// An operation on the nets of the words that are left.
+fn operation(alloc: Global, name: &str, row: &mut Row<'_>) -> Result<NetKind> {
+    let op = op_of(name, row)?;
     let mut args = Sizes::new(alloc);
-    for number in numbers {
-        args.push(*number)?;
+    for _ in 0..row.left() {
+        args.push(row.number()?)?;
     }
-    Ok(net_of(word, NetKind::Comb { op, args }))
+    Ok(NetKind::Comb { op, args })
 }
 
-/// A netlist with two inputs of bytes, nets 0 and 1.
-fn with_inputs(alloc: Global, cycles: u32) -> Result<Netlist, OutOfMemory> {
-    let mut net = Netlist::new(alloc, cycles);
-    for input in 0..2 {
-        let number = net.add(comb(alloc, BYTE, NetOp::Input(input), &[])?)?;
-        net.add_input(NetPort {
-            name: Text::copy(alloc, b"in")?,
-            net: number,
-            period: 1,
-            latency: 0,
+fn op_of(name: &str, row: &mut Row<'_>) -> Result<NetOp> {
+    match name.as_bytes() {
+        b"input" => Ok(NetOp::Input(row.number()?)),
+        b"const" => Ok(NetOp::Const(row.integer()?)),
+        b"up" => Ok(NetOp::ShiftUp(row.byte()?)),
+        b"down" => Ok(NetOp::ShiftDown(row.byte()?)),
+        b"slice" => {
+            let high = row.byte()?;
+            let low = row.byte()?;
+            Ok(NetOp::Slice { high, low })
+        }
+        _ => plain(name),
+    }
+}
+
+fn plain(name: &str) -> Result<NetOp> {
+    match name.as_bytes() {
+        b"resize" => Ok(NetOp::Resize),
+        b"add" => Ok(NetOp::Add),
+        b"subtract" => Ok(NetOp::Subtract),
+        b"negate" => Ok(NetOp::Negate),
+        b"multiply" => Ok(NetOp::Multiply),
+        b"and" => Ok(NetOp::And),
+        b"or" => Ok(NetOp::Or),
+        b"xor" => Ok(NetOp::Xor),
+        b"not" => Ok(NetOp::Not),
+        b"less" => Ok(NetOp::Less),
+        b"equal" => Ok(NetOp::Equal),
+        b"choose" => Ok(NetOp::Choose),
+        _ => Err(anyhow!("no kind of net")),
+    }
+}
+
+/// A port that shows a net.
+pub fn port_of(alloc: Global, net: u32, period: u32, latency: u64) -> Result<NetPort> {
+    let name = Text::copy(alloc, b"in")?;
+    Ok(NetPort {
+        name,
+        net,
+        period,
+        latency,
+    })
+}
+
+/// Puts in so many nets: sums of the last net and net 0, and registers that take them, in turn.
+pub fn put_sums(alloc: Global, netlist: &mut Netlist, count: u32) -> Result<()> {
+    let mut last = 0;
+    for place in 0..count {
+        let kind = if place % 2 == 0 {
+            let mut args = Sizes::new(alloc);
+            args.push(last)?;
+            args.push(0)?;
+            let op = NetOp::Add;
+            NetKind::Comb { op, args }
+        } else {
+            NetKind::Reg {
+                frame: Frame {
+                    period: 2,
+                    latency: 1,
+                },
+                slot: 0,
+                first: 0,
+                from: last,
+            }
+        };
+        last = netlist.add(Net {
+            signed: true,
+            width: 16,
+            kind,
         })?;
     }
-    Ok(net)
+    Ok(())
 }
-
-/// What a net shows, clock by clock, under the numbers of the inputs.
-fn shown(
-    rt: &impl Abort,
-    alloc: Global,
-    net: &Netlist,
-    number: u32,
-    inputs: &[[i128; 2]],
-) -> Result<Vec<i128>, OutOfMemory> {
-    let sound = is_netlist(alloc, net)?;
-    assert!(rt; sound, "a net of {number} nets can't be run");
-    assert!(rt; (number as usize) < net.nets().len());
-    assert_eq!(rt; net.inputs().len(), 2);
-    let mut state = NetState::new(alloc, net)?;
-    let mut row = Vec::new(alloc);
-    for input in inputs {
-        state.step(net, input.as_slice());
-        row.push(state.value(number))?;
-    }
-    Ok(row)
-}
-
-/// What the first input shows at clock c is 10 + c. The second is 0 at clock 4 and else 1.
-const INPUTS: [[i128; 2]; 14] = [
-    [10, 1],
-    [11, 1],
-    [12, 1],
-    [13, 1],
-    [14, 0],
-    [15, 1],
-    [16, 1],
-    [17, 1],
-    [18, 1],
-    [19, 1],
-    [20, 1],
-    [21, 1],
-    [22, 1],
-    [23, 1],
-];

@@ -1,17 +1,16 @@
-//! Shared multipliers stepped clock by clock, against what is owed to each operation, looked up in
-//! the rows of the netlist itself.
-ghost use Rattle.std.specs.Prelude.{◌≡◌, ◌<◌, ◌≤◌, All, IfOk, true, length};
-ghost use Rattle.hw_net.specs.State.{IsStateOf};
+//! Shared multipliers.
+ghost use Rattle.std.specs.Prelude.{◌≡◌, ◌<◌, All, IfOk, true, length};
 ghost use Rattle.hw_share.specs.Operations.{IsOperation, SameWord, AreApart, CanShare, IsUsed, unit_count};
 ghost use Rattle.tests_hardware.specs.inner.Tried.{AreUsed, IsApartAt};
 
-use fx_io::{OutOfMemory, Sizes, Text};
+use crate::nets::frame_of;
+use anyhow::{Result, anyhow};
+use fx_io::{OutOfMemory, Sizes};
 use fx_num::is_word;
-use hw_net::{Frame, Net, NetKind, NetOp, NetPort, NetState, Netlist, is_netlist};
+use hw_net::{Frame, NetKind, Netlist};
 use hw_share::{Operation, units};
 use std::alloc::Global;
-use std::process::Abort;
-use std::test::Fail;
+use tests_rows::Row;
 
 /// Whether an operation can be served.
 fn is_operation(net: &Netlist, one: Operation) -> bool
@@ -144,51 +143,18 @@ fn can_share(net: &Netlist, operations: &[Operation]) -> Result<bool, OutOfMemor
     Ok(are_used(operations, count))
 }
 
-/// The words of the inputs: whether signed, and how wide.
-const WORDS: &[(bool, u8)] = &[(true, 8), (true, 8), (true, 12), (false, 5), (false, 5)];
-
-/// Operations: the period and the latency of the frame, the slot, the multiplier, and the operands.
-const OPERATIONS: &[(u32, u64, u64, u64, u32, u32)] = &[
-    (2, 1, 4, 0, 1, 4),
-    (1, 0, 1, 1, 2, 1),
-    (2, 1, 1, 2, 1, 3),
-    (2, 1, 1, 0, 0, 3),
-    (4, 2, 10, 3, 3, 4),
-    (1, 0, 0, 1, 2, 0),
-    (2, 1, 2, 0, 0, 4),
-    (4, 2, 0, 3, 4, 4),
-    (2, 1, 2, 2, 1, 3),
-];
-
-/// A netlist with inputs of these words, net k being input k.
-fn with_inputs(alloc: Global, cycles: u32) -> Result<Netlist, OutOfMemory> {
-    let mut net = Netlist::new(alloc, cycles);
-    let mut input: u32 = 0;
-    for &(signed, width) in WORDS {
-        let args = Sizes::new(alloc);
-        let op = NetOp::Input(input);
-        let number = net.add(Net {
-            signed,
-            width,
-            kind: NetKind::Comb { op, args },
-        })?;
-        net.add_input(NetPort {
-            name: Text::copy(alloc, b"in")?,
-            net: number,
-            period: 1,
-            latency: 0,
-        })?;
-        input = input.saturating_add(1);
-    }
-    Ok(net)
-}
-
-/// The operations of the table.
-fn operations_of(alloc: Global) -> Result<Vec<Operation>, OutOfMemory> {
+/// The operations of a text.
+pub fn operations_of(alloc: Global, text: &[u8]) -> Result<Vec<Operation>> {
+    let mut table = Row::of(alloc, str::from_utf8(text)?)?;
     let mut operations = Vec::new(alloc);
-    for &(period, latency, slot, unit, left, right) in OPERATIONS {
+    for _ in 0..table.left() / 6 {
+        let frame = frame_of(&mut table)?;
+        let slot = table.long()?;
+        let unit = table.long()?;
+        let left = table.number()?;
+        let right = table.number()?;
         operations.push(Operation {
-            frame: Frame { period, latency },
+            frame,
             slot,
             unit,
             left,
@@ -198,136 +164,24 @@ fn operations_of(alloc: Global) -> Result<Vec<Operation>, OutOfMemory> {
     Ok(operations)
 }
 
-/// The inputs at a clock.
-fn inputs_at(clock: u64) -> [i128; 5] {
-    let value = i128::from(clock.wrapping_mul(40503) % 30011);
-    [value, value - 20000, 7000 - value, value, 30000 - value]
-}
-
-/// Puts the numbers of all nets behind those of the clocks before.
-fn put_row(net: &Netlist, state: &NetState, rows: &mut Vec<i128>) -> Result<(), OutOfMemory>
-    requires made { 0 < state.now.clocks }
-    requires of { IsStateOf net.now state.now }
-{
-    let Ok(count) = u32::try_from(net.nets().len()) else {
-        return Err(OutOfMemory);
-    };
-    for number in 0..count {
-        rows.push(state.value(number))?;
+/// Puts the multipliers of operations into the netlist, and gives the numbers of their products.
+pub fn put_units(alloc: Global, net: &mut Netlist, operations: &[Operation]) -> Result<Sizes> {
+    if net.cycles() == 0 || net.cycles() > 1024 {
+        return Err(anyhow!("no number of clocks"));
     }
-    Ok(())
-}
-
-/// The rows of a netlist in the first clocks, one behind another.
-fn rows_of(
-    rt: &impl Abort,
-    alloc: Global,
-    net: &Netlist,
-    clocks: u64,
-) -> Result<Vec<i128>, OutOfMemory>
-    requires { clocks < 1000000 }
-{
-    let sound = is_netlist(alloc, net)?;
-    assert!(rt; sound, "the netlist can't be run");
-    assert_eq!(rt; net.inputs().len(), 5);
-    let mut state = NetState::new(alloc, net)?;
-    let mut rows = Vec::new(alloc);
-    for clock in 0..clocks {
-        let inputs = inputs_at(clock);
-        state.step(net, inputs.as_slice());
-        put_row(net, &state, &mut rows)?;
+    if !can_share(net, operations)? {
+        return Err(anyhow!("the operations can't share"));
     }
-    Ok(rows)
+    Ok(units(alloc, net, operations)?)
 }
 
-/// What a net shows at a clock, where rows are so long.
-fn shown(rows: &[i128], size: usize, clock: u64, number: u32) -> Option<i128> {
-    let Some(first) = (clock as usize).checked_mul(size) else {
-        return None;
-    };
-    let Some(place) = first.checked_add(number as usize) else {
-        return None;
-    };
-    rows.get(place).copied()
-}
-
-/// The product of two numbers that are there.
-fn product(left: Option<i128>, right: Option<i128>) -> Option<i128> {
-    let Some(one) = left else {
-        return None;
-    };
-    let Some(other) = right else {
-        return None;
-    };
-    one.checked_mul(other)
-}
-
-/// The operands of the Unit nets, in order.
-fn units_in(alloc: Global, net: &Netlist) -> Result<Vec<(u32, u32)>, OutOfMemory> {
-    let mut found = Vec::new(alloc);
+/// Puts the operands of the Unit nets behind other numbers, in order.
+pub fn put_operands(net: &Netlist, numbers: &mut Vec<u32>) -> Result<()> {
     for one in net.nets() {
         if let NetKind::Unit { left, right } = &one.kind {
-            found.push((*left, *right))?;
+            numbers.push(*left)?;
+            numbers.push(*right)?;
         }
-    }
-    Ok(found)
-}
-
-/// Compares what a multiplier and a register show with what is owed to an operation.
-fn compare(
-    rt: &impl Abort,
-    rows: &[i128],
-    size: usize,
-    cycles: u64,
-    one: Operation,
-    unit: (u32, u32),
-    kept: u32,
-)
-    requires { cycles < 1024 }
-{
-    let length = u64::from(one.frame.period) * cycles;
-    let start = one.frame.latency.saturating_mul(cycles);
-    assert!(rt; 0 < length);
-    for clock in 0..60 {
-        if clock < start {
-            continue;
-        }
-        let place = (clock - start) % length;
-        let served = clock.saturating_sub(place).saturating_add(one.slot);
-        let left = shown(rows, size, served, one.left);
-        let right = shown(rows, size, served, one.right);
-        if place == one.slot {
-            assert!(rt; left.is_some());
-            assert_eq!(rt; shown(rows, size, clock, unit.0), left);
-            assert_eq!(rt; shown(rows, size, clock, unit.1), right);
-        }
-        if place > one.slot {
-            assert!(rt; left.is_some());
-            assert_eq!(rt; shown(rows, size, clock, kept), product(left, right));
-        }
-    }
-}
-
-/// Each operation has its operands in its slot and its product behind it.
-#[test]
-fn operations_are_served(rt: HostRuntime) -> Result<(), Fail> {
-    let alloc = rt.alloc();
-    let mut net = with_inputs(alloc, 3)?;
-    let operations = operations_of(alloc)?;
-    assert!(rt; 0 < net.cycles() && net.cycles() <= 1024);
-    let can = can_share(&net, operations.as_slice())?;
-    assert!(rt; can);
-    let results = units(alloc, &mut net, operations.as_slice())?;
-    let found = units_in(alloc, &net)?;
-    assert_eq!(rt; found.len(), 4);
-    let size = net.nets().len();
-    assert_eq!(rt; size, 5 + 3 + 4 * 2 + 5 * 2 + 4 + 9);
-    let rows = rows_of(&rt, alloc, &net, 60)?;
-    for (place, one) in operations.iter().enumerate() {
-        assert!(rt; place < results.as_slice().len() && one.unit < 4);
-        let unit = found[one.unit as usize];
-        let kept = results.as_slice()[place];
-        compare(&rt, rows.as_slice(), size, 3, *one, unit, kept);
     }
     Ok(())
 }

@@ -1,18 +1,19 @@
-//! Operations with the slots and multipliers that were worked out by hand.
+//! Slots and multipliers of operations.
 
-use fx_io::OutOfMemory;
-use hw_slots::{Operation, SlotFault, Span, slots_of};
+use anyhow::{Result, anyhow};
+use hw_slots::{Operation, SlotFault, Slots, Span, slots_of};
 use std::alloc::Global;
-use std::test::Fail;
+use std::io::Write;
+use tests_rows::Row;
 
-/// An operation's kind, period and level.
-type Row = (u64, u64, u64);
-
-/// Operations by their rows.
-fn operations_of(alloc: Global, rows: &[Row]) -> Result<Vec<Operation>, OutOfMemory> {
+/// The operations of a text.
+fn operations_of(alloc: Global, text: &[u8]) -> Result<Vec<Operation>> {
+    let mut table = Row::of(alloc, str::from_utf8(text)?)?;
     let mut operations = Vec::new(alloc);
-    for row in rows {
-        let (kind, period, level) = *row;
+    for _ in 0..table.left() / 3 {
+        let kind = table.long()?;
+        let period = table.long()?;
+        let level = table.long()?;
         operations.push(Operation {
             kind,
             period,
@@ -22,195 +23,67 @@ fn operations_of(alloc: Global, rows: &[Row]) -> Result<Vec<Operation>, OutOfMem
     Ok(operations)
 }
 
-/// Periods by their first slots, and how many they have.
-fn periods_of(alloc: Global, rows: &[(u64, u64)]) -> Result<Vec<Span>, OutOfMemory> {
+/// The periods of the words that are left.
+fn periods_of(alloc: Global, row: &mut Row<'_>) -> Result<Vec<Span>> {
     let mut periods = Vec::new(alloc);
-    for row in rows {
-        let (start, have) = *row;
+    for _ in 0..row.left() / 2 {
+        let start = row.long()?;
+        let have = row.long()?;
         periods.push(Span { start, have })?;
     }
     Ok(periods)
 }
 
-/// Three operations of a kind at the first level of a period and one at the next, one of another
-/// kind beside them, and one of a third kind in a longer period.
-const MIXED: &[Row] = &[
-    (0, 0, 0),
-    (0, 0, 0),
-    (0, 0, 0),
-    (1, 0, 0),
-    (0, 0, 1),
-    (2, 1, 0),
-];
+/// Prints the slots and multipliers of operations, or the period that is short.
+pub fn put_slots<W: Write>(alloc: Global, row: &mut Row<'_>, out: &mut W) -> Result<()> {
+    let multipliers = row.long()?;
+    let kinds = row.long()?;
+    let period = row.long()?;
+    let levels = row.long()?;
+    let periods = periods_of(alloc, row)?;
+    let operations = operations_of(alloc, row.text.as_slice())?;
+    if multipliers == 0 {
+        return Err(anyhow!("no multiplier"));
+    }
+    match slots_of(
+        alloc,
+        operations.as_slice(),
+        periods.as_slice(),
+        multipliers,
+        kinds,
+    ) {
+        Ok(slots) => put_served(&slots, period, levels, out),
+        Err(fault) => put_fault(fault, out),
+    }
+}
 
-/// Levels that two kinds take in turn, and one that none takes.
-const LEVELS: &[Row] = &[(0, 0, 0), (1, 0, 1), (1, 0, 1), (0, 0, 3), (0, 0, 1)];
+fn put_served<W: Write>(slots: &Slots, period: u64, levels: u64, out: &mut W) -> Result<()> {
+    out.write_all(b"slots ")?;
+    put_numbers(slots.starts.as_slice(), out)?;
+    out.write_all(b"multipliers ")?;
+    put_numbers(slots.units.as_slice(), out)?;
+    out.write_all(b"levels ")?;
+    for level in 0..levels {
+        let base = slots.bases.at(period, level);
+        write!(out, "{base} ")?;
+    }
+    out.write_all(b"\n")?;
+    Ok(())
+}
 
-/// Operations of kinds, the first slots and the slots of periods, the most multipliers of a kind,
-/// how many kinds there are, and the slots and multipliers.
-type Served = (
-    &'static [Row],
-    &'static [(u64, u64)],
-    u64,
-    u64,
-    &'static [u64],
-    &'static [u64],
-);
-
-const SERVED: &[Served] = &[
-    (&[], &[], 1, 0, &[], &[]),
-    // periods without operations need what comes before their first slot
-    (&[], &[(0, 0), (5, 5)], 1, 0, &[], &[]),
-    // two multipliers: the first level takes 2 slots and the second 1; the kinds have 2, 1 and 1
-    (
-        MIXED,
-        &[(0, 3), (8, 9)],
-        2,
-        3,
-        &[0, 0, 1, 0, 2, 8],
-        &[0, 1, 0, 2, 0, 3],
-    ),
-    // one: 3 slots and 1
-    (
-        MIXED,
-        &[(0, 4), (8, 9)],
-        1,
-        3,
-        &[0, 1, 2, 0, 3, 8],
-        &[0, 0, 0, 1, 0, 2],
-    ),
-    // more than a level has: the kinds have 3, 1 and 1
-    (
-        MIXED,
-        &[(0, 2), (8, 9)],
-        64,
-        3,
-        &[0, 0, 0, 0, 1, 8],
-        &[0, 1, 2, 3, 0, 4],
-    ),
-    // levels of 1, 2, 0 and 1 slots from slot 10 on
-    (
-        LEVELS,
-        &[(10, 14)],
-        1,
-        2,
-        &[10, 11, 12, 13, 11],
-        &[0, 1, 1, 0, 0],
-    ),
-];
-
-#[test]
-fn operations_have_their_slots_and_multipliers(rt: HostRuntime) -> Result<(), Fail> {
-    for &(rows, spans, multipliers, kinds, starts, units) in SERVED {
-        assert!(rt; 0 < multipliers);
-        let operations = operations_of(rt.alloc(), rows)?;
-        let periods = periods_of(rt.alloc(), spans)?;
-        let served = slots_of(
-            rt.alloc(),
-            operations.as_slice(),
-            periods.as_slice(),
-            multipliers,
-            kinds,
-        );
-        match served {
-            Ok(slots) => {
-                assert_eq!(rt; slots.starts.as_slice(), starts);
-                assert_eq!(rt; slots.units.as_slice(), units);
-            }
-            Err(_) => assert!(rt; false),
-        }
+fn put_numbers<W: Write>(numbers: &[u64], out: &mut W) -> Result<()> {
+    for number in numbers {
+        write!(out, "{number} ")?;
     }
     Ok(())
 }
 
-/// The same with the period that is short, what it needs and what it has.
-type Short = (
-    &'static [Row],
-    &'static [(u64, u64)],
-    u64,
-    u64,
-    usize,
-    u64,
-    u64,
-);
-
-const SHORT: &[Short] = &[
-    // a slot too few, and then two periods that are short
-    (MIXED, &[(0, 2), (8, 9)], 2, 3, 0, 3, 2),
-    (MIXED, &[(0, 4), (8, 8)], 1, 3, 1, 9, 8),
-    (MIXED, &[(0, 3), (8, 8)], 1, 3, 0, 4, 3),
-    (&[], &[(0, 0), (5, 4)], 1, 0, 1, 5, 4),
-    (LEVELS, &[(10, 13)], 1, 2, 0, 14, 13),
-];
-
-#[test]
-fn the_first_short_period_is_told(rt: HostRuntime) -> Result<(), Fail> {
-    for &(rows, spans, multipliers, kinds, short, wanted, there) in SHORT {
-        assert!(rt; 0 < multipliers);
-        let operations = operations_of(rt.alloc(), rows)?;
-        let periods = periods_of(rt.alloc(), spans)?;
-        let served = slots_of(
-            rt.alloc(),
-            operations.as_slice(),
-            periods.as_slice(),
-            multipliers,
-            kinds,
-        );
-        match served {
-            Err(SlotFault::Budget { period, need, have }) => {
-                assert_eq!(rt; period, short);
-                assert_eq!(rt; need, wanted);
-                assert_eq!(rt; have, there);
-            }
-            Err(SlotFault::OutOfMemory) => assert!(rt; false),
-            Ok(_) => assert!(rt; false),
+fn put_fault<W: Write>(fault: SlotFault, out: &mut W) -> Result<()> {
+    match fault {
+        SlotFault::Budget { period, need, have } => {
+            writeln!(out, "period {period} needs {need} and has {have}")?;
+            Ok(())
         }
+        SlotFault::OutOfMemory => Err(anyhow!("out of memory")),
     }
-    Ok(())
-}
-
-/// Operations, periods, multipliers and kinds, a period, and the first slots of its levels from the
-/// first one on.
-type Begun = (
-    &'static [Row],
-    &'static [(u64, u64)],
-    u64,
-    u64,
-    u64,
-    &'static [u64],
-);
-
-const BEGUN: &[Begun] = &[
-    // two slots and one, and then what is behind them
-    (MIXED, &[(0, 3), (8, 9)], 2, 3, 0, &[0, 2, 3, 3]),
-    (MIXED, &[(0, 3), (8, 9)], 2, 3, 1, &[8, 9, 9]),
-    // 1, 2, 0 and 1 slots
-    (LEVELS, &[(10, 14)], 1, 2, 0, &[10, 11, 13, 13, 14, 14, 14]),
-    // a period without operations
-    (&[], &[(0, 0), (5, 5)], 1, 0, 1, &[5, 5]),
-];
-
-#[test]
-fn levels_begin_behind_one_another(rt: HostRuntime) -> Result<(), Fail> {
-    for &(rows, spans, multipliers, kinds, period, firsts) in BEGUN {
-        assert!(rt; 0 < multipliers);
-        let operations = operations_of(rt.alloc(), rows)?;
-        let periods = periods_of(rt.alloc(), spans)?;
-        let served = slots_of(
-            rt.alloc(),
-            operations.as_slice(),
-            periods.as_slice(),
-            multipliers,
-            kinds,
-        );
-        match served {
-            Ok(slots) => {
-                for level in 0..firsts.len() {
-                    assert_eq!(rt; slots.bases.at(period, level as u64), firsts[level]);
-                }
-            }
-            Err(_) => assert!(rt; false),
-        }
-    }
-    Ok(())
 }

@@ -1,6 +1,7 @@
 //! A row, whose words are read in order.
 
 use anyhow::{Result, anyhow};
+use std::alloc::Global;
 
 /// The words of a row behind its command and the name of its text, and that text.
 #[derive(Drop)]
@@ -12,6 +13,21 @@ pub struct Row<'a> {
 }
 
 impl<'a> Row<'a> {
+    /// The words of a line alone, of which none is read.
+    pub fn of(alloc: Global, line: &'a str) -> Result<Row<'a>> {
+        Ok(Row {
+            command: "",
+            words: line.split_whitespace().collect(alloc)?,
+            at: 0,
+            text: Vec::new(alloc),
+        })
+    }
+
+    /// How many words are left.
+    pub fn left(&self) -> usize {
+        self.words.len().saturating_sub(self.at)
+    }
+
     pub fn next(&mut self) -> Result<&'a str> {
         let word = match self.words.get(self.at) {
             Some(word) => *word,
@@ -21,10 +37,31 @@ impl<'a> Row<'a> {
         Ok(word)
     }
 
+    pub fn byte(&mut self) -> Result<u8> {
+        match self.next()?.parse::<u8>() {
+            Ok(v) => Ok(v),
+            Err(_) => Err(anyhow!("no byte")),
+        }
+    }
+
     pub fn number(&mut self) -> Result<u32> {
         match self.next()?.parse::<u32>() {
             Ok(v) => Ok(v),
             Err(_) => Err(anyhow!("no number")),
+        }
+    }
+
+    pub fn long(&mut self) -> Result<u64> {
+        match self.next()?.parse::<u64>() {
+            Ok(v) => Ok(v),
+            Err(_) => Err(anyhow!("no long number")),
+        }
+    }
+
+    pub fn integer(&mut self) -> Result<i128> {
+        match self.next()?.parse::<i128>() {
+            Ok(v) => Ok(v),
+            Err(_) => Err(anyhow!("no integer")),
         }
     }
 }

@@ -71,13 +71,7 @@ impl Texts {
     pub fn row<'a>(&self, alloc: Global, line: &'a str) -> Result<Row<'a>> {
         let mut parts = line.split('`');
         let front = parts.next().unwrap_or("");
-        let words = front.split_whitespace().collect(alloc)?;
-        let mut row = Row {
-            command: "",
-            words,
-            at: 0,
-            text: Vec::new(alloc),
-        };
+        let mut row = Row::of(alloc, front)?;
         row.command = row.next()?;
         let name = row.next()?;
         let parts: Vec<&str> = parts.collect(alloc)?;

@@ -1,9 +1,9 @@
 use Rattle.std.proofs.Common.{◌≡◌}
 use Rattle.hw_net.specs.State.{IsStateOf}
-use Rattle.tests_hardware.proofs.lines.shown.Given as goal
+use Rattle.tests_hardware.proofs.stepping.values_of.Given as goal
 
 abbrev pub invariant-loop-clock : goal.invariant-loop-clock
-invariant-loop-clock g l = record {
+invariant-loop-clock l = record {
   state : IsStateOf l.net l.state;
   clocks : l.state.clocks ≡ l.clock;
 }

@@ -1,9 +1,0 @@
-use Rattle.std.proofs.Common.{◌≡◌}
-use Rattle.hw_net.specs.State.{IsStateOf}
-use Rattle.tests_hardware.proofs.shared.rows_of.Given as goal
-
-abbrev pub invariant-loop-clock : goal.invariant-loop-clock
-invariant-loop-clock g l = record {
-  state : IsStateOf l.net l.state;
-  clocks : l.state.clocks ≡ l.clock;
-}

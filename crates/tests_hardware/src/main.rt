@@ -1,0 +1,58 @@
+//! Makes netlists, steps them clock by clock, and writes their modules, so that the gate compares
+//! what each shows; and tells the slots and multipliers of shared operations.
+//!
+//! Standard input has texts and rows (`tests_rows` says how they are written). There is one netlist
+//! at a time, whose nets are named by their numbers, or as `@K` by place K of the answers of the
+//! last `chain`, `line` or `share`. A WORD is `s` or `u` and a width, a FRAME its period and latency.
+//!
+//! | row | what it does |
+//! |---|---|
+//! | `new = CYCLES` | begins a netlist with so many clocks a base sample |
+//! | `net = WORD KIND ..` | a net more (`nets.rt` has the kinds) |
+//! | `port = NET` | an input port of the net |
+//! | `output = NET PERIOD LATENCY`, `label = NET NAME` | an output port, and a label |
+//! | `connect = NET ARGUMENT` | gives a `resize` its argument |
+//! | `counter = FRAME` | prints the number and the width of the frame's Counter |
+//! | `sums = COUNT` | so many nets more, sums and registers in turn, the first of nets 0 and 0 |
+//! | `sound =` | prints whether the netlist can be run |
+//! | `size =` | prints how many nets, ports, labels, registers and Units there are, and answers |
+//! | `inputs NAME` | the text has the numbers of the inputs, clock by clock |
+//! | `show = NET CLOCKS FIRST STEP` | prints what the net shows in clock FIRST, FIRST + STEP and so on |
+//! | `chain NAME FROM FRAME INITIAL plain` or `.. registered` | a chain, whose uses the text has: shift, period, and how many such uses there are, each shifted by one more |
+//! | `line = FROM FRAME INITIAL plain SHIFT PERIOD` or `.. registered ..` | a chain of one use |
+//! | `share NAME` | shared multipliers; the text has of each operation its frame, slot, multiplier and operands. Behind the numbers of the products, the answers have the operands of each Unit |
+//! | `module =`, `items =` | prints the netlist's module, and how many items it has |
+//! | `spelled = NET` | prints the lines of its module that give the net its value |
+//! | `slots NAME MULTIPLIERS KINDS PERIOD LEVELS START HAVE ..` | prints slots and multipliers, and the first slots of so many levels of the period, or the period that is short; the text has the kind, period and level of each operation |
+//! | `put = FRAME NUMBER`, `remove = FRAME`, `find = FRAME` | an index of frames |
+//!
+//! What the gate compares this with was worked out by hand.
+#![tactic(auto)]
+
+mod bench;
+mod lines;
+mod modules;
+mod nets;
+mod shared;
+mod slots;
+mod stepping;
+
+use crate::bench::Bench;
+use anyhow::Result;
+use std::io::{self, BufRead, BufReader, BufWriter, Write};
+use tests_rows::Texts;
+
+fn main(rt: HostRuntime) -> Result<()> {
+    let alloc = rt.alloc();
+    let mut out = BufWriter::new(alloc, io::writer(&rt))?;
+    let mut texts = Texts::new(alloc);
+    let mut bench = Bench::new(alloc);
+    for line in BufReader::new(alloc, rt.reader())?.lines(alloc) {
+        let line = line?;
+        if !texts.take(alloc, line.as_str())? {
+            bench.take(&rt, alloc, texts.row(alloc, line.as_str())?, &mut out)?;
+        }
+    }
+    out.flush()?;
+    Ok(())
+}
