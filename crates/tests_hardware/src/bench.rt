@@ -1,15 +1,14 @@
 //! Rows, one after another.
 
 use crate::lines::{put_chain, put_line, source_of, uses_of};
-use crate::modules::{module_of, put_spelled, text_of};
-use crate::nets::{frame_of, net_of, port_of, put_sums};
+use crate::modules::{put_items, put_module, put_spelled};
+use crate::nets::{connect, frame_of, put_label, put_net, put_output, put_port, put_sums};
 use crate::shared::{operations_of, put_operands, put_units};
 use crate::slots::put_slots;
 use crate::stepping::{numbers_of, put_shown, view_of};
 use anyhow::{Result, anyhow};
-use fx_io::Text;
 use hw_lines::Use;
-use hw_net::{Frame, FrameIndex, Net, NetKind, NetLabel, Netlist, is_netlist};
+use hw_net::{Frame, FrameIndex, Net, NetKind, Netlist, is_netlist};
 use std::alloc::Global;
 use std::io::Write;
 use std::thread::Threads;
@@ -40,69 +39,38 @@ impl Bench {
         &mut self,
         rt: &R,
         alloc: Global,
-        mut row: Row<'_>,
+        row: &mut Row<'_>,
         out: &mut W,
     ) -> Result<()> {
         match row.command.as_bytes() {
-            b"inputs" => self.inputs = numbers_of(alloc, row.text.as_slice())?,
-            b"show" => self.show(alloc, &mut row, out)?,
-            b"slots" => put_slots(alloc, &mut row, out)?,
-            b"module" => out.write_all(text_of(rt, alloc, &self.netlist)?.bytes())?,
-            b"spelled" => {
-                let net = row.number()?;
-                let text = text_of(rt, alloc, &self.netlist)?;
-                put_spelled(alloc, text.bytes(), net, out)?;
-            }
-            b"items" => {
-                let count = module_of(alloc, &self.netlist)?.items.as_slice().len();
-                writeln!(out, "{count} items")?;
-            }
-            b"sound" => {
-                let sound = is_netlist(alloc, &self.netlist)?;
-                writeln!(out, "{sound}")?;
-            }
-            b"size" => put_size(&self.netlist, self.answers.len(), out)?,
-            b"counter" => put_counter(&mut self.netlist, frame_of(&mut row)?, out)?,
-            b"find" => {
-                let found = self.index.find(frame_of(&mut row)?);
-                writeln!(out, "{found:?}")?;
-            }
-            _ => self.change(alloc, &mut row)?,
+            b"show" => self.show(alloc, row, out),
+            b"slots" => put_slots(alloc, row, out),
+            b"module" => put_module(rt, alloc, &self.netlist, out),
+            b"spelled" => put_spelled(rt, alloc, &self.netlist, row.number()?, out),
+            b"items" => put_items(alloc, &self.netlist, out),
+            b"sound" => put_sound(alloc, &self.netlist, out),
+            b"size" => put_size(&self.netlist, self.answers.len(), out),
+            b"counter" => put_counter(&mut self.netlist, frame_of(row)?, out),
+            b"find" => self.find(row, out),
+            _ => self.change(alloc, row),
         }
-        Ok(())
     }
 
     /// Does what a row says that prints nothing.
     fn change(&mut self, alloc: Global, row: &mut Row<'_>) -> Result<()> {
         match row.command.as_bytes() {
             b"new" => self.netlist = Netlist::new(alloc, row.number()?),
-            b"net" => {
-                let _ = self.netlist.add(net_of(alloc, row)?)?;
-            }
-            b"port" => {
-                let port = port_of(alloc, row.number()?, 1, 0)?;
-                self.netlist.add_input(port)?;
-            }
-            b"output" => {
-                let net = row.number()?;
-                let frame = frame_of(row)?;
-                let port = port_of(alloc, net, frame.period, frame.latency)?;
-                self.netlist.add_output(port)?;
-            }
-            b"label" => {
-                let net = row.number()?;
-                let name = Text::copy(alloc, row.next()?.as_bytes())?;
-                self.netlist.add_label(NetLabel { net, name })?;
-            }
-            b"connect" => self.connect(alloc, row)?,
+            b"net" => put_net(alloc, &mut self.netlist, row)?,
+            b"port" => put_port(alloc, &mut self.netlist, row.number()?)?,
+            b"output" => put_output(alloc, &mut self.netlist, row)?,
+            b"label" => put_label(alloc, &mut self.netlist, row)?,
+            b"connect" => connect(alloc, &mut self.netlist, row)?,
             b"sums" => put_sums(alloc, &mut self.netlist, row.number()?)?,
+            b"inputs" => self.inputs = numbers_of(alloc, row.text.as_slice())?,
             b"chain" => self.chain(alloc, row)?,
             b"line" => self.line(alloc, row)?,
             b"share" => self.share(alloc, row)?,
-            b"put" => {
-                let frame = frame_of(row)?;
-                self.index.put(frame, row.number()?)?;
-            }
+            b"put" => self.index.put(frame_of(row)?, row.number()?)?,
             b"remove" => self.index.remove(frame_of(row)?),
             _ => return Err(anyhow!("no command")),
         }
@@ -136,13 +104,9 @@ impl Bench {
         )
     }
 
-    fn connect(&mut self, alloc: Global, row: &mut Row<'_>) -> Result<()> {
-        let number = row.number()?;
-        let argument = row.number()?;
-        if !self.netlist.is_resize(number) {
-            return Err(anyhow!("no resize"));
-        }
-        self.netlist.connect(alloc, number, argument)?;
+    fn find<W: Write>(&self, row: &mut Row<'_>, out: &mut W) -> Result<()> {
+        let found = self.index.find(frame_of(row)?);
+        writeln!(out, "{found:?}")?;
         Ok(())
     }
 
@@ -170,6 +134,12 @@ impl Bench {
         self.answers = products.as_slice().to_vec(alloc)?;
         put_operands(&self.netlist, &mut self.answers)
     }
+}
+
+fn put_sound<W: Write>(alloc: Global, netlist: &Netlist, out: &mut W) -> Result<()> {
+    let sound = is_netlist(alloc, netlist)?;
+    writeln!(out, "{sound}")?;
+    Ok(())
 }
 
 /// Prints the number of the Counter of a frame, and its width.

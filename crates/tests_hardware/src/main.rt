@@ -50,7 +50,8 @@ fn main(rt: HostRuntime) -> Result<()> {
     for line in BufReader::new(alloc, rt.reader())?.lines(alloc) {
         let line = line?;
         if !texts.take(alloc, line.as_str())? {
-            bench.take(&rt, alloc, texts.row(alloc, line.as_str())?, &mut out)?;
+            let mut row = texts.row(alloc, line.as_str())?;
+            bench.take(&rt, alloc, &mut row, &mut out)?;
         }
     }
     out.flush()?;

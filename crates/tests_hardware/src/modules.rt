@@ -47,23 +47,55 @@ fn is_bare(netlist: &Netlist) -> bool
     netlist.labels().is_empty()
 }
 
-pub fn module_of(alloc: Global, netlist: &Netlist) -> Result<Module> {
+fn module_of(alloc: Global, netlist: &Netlist) -> Result<Module> {
     if !is_netlist(alloc, netlist)? || !is_bare(netlist) {
         return Err(anyhow!("the netlist has no module"));
     }
     Ok(emit(alloc, netlist)?)
 }
 
-pub fn text_of<R: Threads + Sync>(rt: &R, alloc: Global, netlist: &Netlist) -> Result<Text> {
+/// Prints how many items the module of a netlist has.
+pub fn put_items<W: Write>(alloc: Global, netlist: &Netlist, out: &mut W) -> Result<()> {
+    let module = module_of(alloc, netlist)?;
+    let count = module.items.as_slice().len();
+    writeln!(out, "{count} items")?;
+    Ok(())
+}
+
+fn text_of<R: Threads + Sync>(rt: &R, alloc: Global, netlist: &Netlist) -> Result<Text> {
     let module = module_of(alloc, netlist)?;
     Ok(write(rt, alloc, &module, &OpenGate)?)
 }
 
-/// Prints the lines of a text that begin with the words that give a net its value.
-pub fn put_spelled<W: Write>(alloc: Global, text: &[u8], net: u32, out: &mut W) -> Result<()> {
+/// Prints the module of a netlist.
+pub fn put_module<R: Threads + Sync, W: Write>(
+    rt: &R,
+    alloc: Global,
+    netlist: &Netlist,
+    out: &mut W,
+) -> Result<()> {
+    let text = text_of(rt, alloc, netlist)?;
+    out.write_all(text.bytes())?;
+    Ok(())
+}
+
+/// Prints the lines of a netlist's module that give a net its value.
+pub fn put_spelled<R: Threads + Sync, W: Write>(
+    rt: &R,
+    alloc: Global,
+    netlist: &Netlist,
+    net: u32,
+    out: &mut W,
+) -> Result<()> {
+    let text = text_of(rt, alloc, netlist)?;
     let begin = format!(in alloc; "assign fx_n{net} = ")?;
+    put_lines(text.bytes(), begin.as_bytes(), out)
+}
+
+/// Prints the lines of a text that begin so.
+fn put_lines<W: Write>(text: &[u8], begin: &[u8], out: &mut W) -> Result<()> {
     for line in text.split(|byte| *byte == b'\n') {
-        if line.starts_with(begin.as_bytes()) {
+        if line.starts_with(begin) {
             out.write_all(line)?;
             out.write_all(b"\n")?;
         }

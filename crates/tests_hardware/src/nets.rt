@@ -10,12 +10,12 @@
 
 use anyhow::{Result, anyhow};
 use fx_io::{Sizes, Text};
-use hw_net::{Frame, Net, NetKind, NetOp, NetPort, Netlist};
+use hw_net::{Frame, Net, NetKind, NetLabel, NetOp, NetPort, Netlist};
 use std::alloc::Global;
 use tests_rows::Row;
 
 /// The net that the words tell.
-pub fn net_of(alloc: Global, row: &mut Row<'_>) -> Result<Net> {
+fn net_of(alloc: Global, row: &mut Row<'_>) -> Result<Net> {
     let signed = match row.next()?.as_bytes() {
         b"s" => true,
         b"u" => false,
@@ -134,15 +134,55 @@ fn plain(name: &str) -> Result<NetOp> {
     }
 }
 
+pub fn put_net(alloc: Global, netlist: &mut Netlist, row: &mut Row<'_>) -> Result<()> {
+    let _ = netlist.add(net_of(alloc, row)?)?;
+    Ok(())
+}
+
 /// A port that shows a net.
-pub fn port_of(alloc: Global, net: u32, period: u32, latency: u64) -> Result<NetPort> {
+fn port_of(alloc: Global, net: u32, frame: Frame) -> Result<NetPort> {
     let name = Text::copy(alloc, b"in")?;
+    let Frame { period, latency } = frame;
     Ok(NetPort {
         name,
         net,
         period,
         latency,
     })
+}
+
+pub fn put_port(alloc: Global, netlist: &mut Netlist, net: u32) -> Result<()> {
+    let frame = Frame {
+        period: 1,
+        latency: 0,
+    };
+    netlist.add_input(port_of(alloc, net, frame)?)?;
+    Ok(())
+}
+
+pub fn put_output(alloc: Global, netlist: &mut Netlist, row: &mut Row<'_>) -> Result<()> {
+    let net = row.number()?;
+    let frame = frame_of(row)?;
+    netlist.add_output(port_of(alloc, net, frame)?)?;
+    Ok(())
+}
+
+pub fn put_label(alloc: Global, netlist: &mut Netlist, row: &mut Row<'_>) -> Result<()> {
+    let net = row.number()?;
+    let name = Text::copy(alloc, row.next()?.as_bytes())?;
+    netlist.add_label(NetLabel { net, name })?;
+    Ok(())
+}
+
+/// Gives a resize its argument.
+pub fn connect(alloc: Global, netlist: &mut Netlist, row: &mut Row<'_>) -> Result<()> {
+    let number = row.number()?;
+    let argument = row.number()?;
+    if !netlist.is_resize(number) {
+        return Err(anyhow!("no resize"));
+    }
+    netlist.connect(alloc, number, argument)?;
+    Ok(())
 }
 
 /// Puts in so many nets: sums of the last net and net 0, and registers that take them, in turn.

@@ -5,5 +5,5 @@ use Rattle.tests_hardware.proofs.stepping.values_of.Given as goal
 abbrev pub invariant-loop-clock : goal.invariant-loop-clock
 invariant-loop-clock l = record {
   state : IsStateOf l.net l.state;
-  clocks : l.state.clocks ≡ l.clock;
+  clocks : l.state.clocks ≡ l._clock;
 }
