@@ -20,7 +20,9 @@ fn main(rt: HostRuntime) -> ExitCode {
 
 /// The status of `run` over the program's words. The output goes through a buffer, so that lines
 /// share calls of the system; what stands in it at the end and can't be written is a write fault,
-/// as in `run`. Threads are those of the runtime, which has them in `main` alone.
+/// as in `run`. What a fault of `run` leaves in it is written no more: a part of the output could
+/// then stand behind one that failed. Threads are those of the runtime, which has them in `main`
+/// alone.
 fn answer<T: Threads + Sync, E: Sink>(
     threads: &T,
     rt: &HostRuntime,
@@ -38,8 +40,9 @@ fn answer<T: Threads + Sync, E: Sink>(
         &mut out,
         err,
     );
-    let is_written = out.writer.flush().is_ok();
-    if status == 0 && !is_written {
+    let is_written = status != 0 || out.writer.flush().is_ok();
+    let _ = out.writer.into_parts();
+    if !is_written {
         return Ok(end(err, b"cannot write\n", 4));
     }
     Ok(status)
