@@ -1,0 +1,162 @@
+"""Mutated texts: no crash, no hang, a status that the command may end with, nothing on standard output
+but with status 0, and commands that agree with each other."""
+
+import collections
+import glob
+import os
+import random
+import re
+import time
+
+from .calls import fault_of
+from .mutants import MOST_BYTES, mutant, shrunk
+
+MOST_SECONDS = 2.0
+TOP = os.path.dirname(os.path.dirname(os.path.dirname(os.path.abspath(__file__))))
+
+
+def held(path):
+    with open(path, "rb") as file:
+        return file.read()
+
+
+class Seeds:
+    """Models with their plans and stimuli, and Verilog texts with stimuli."""
+
+    def __init__(self, program, folders):
+        self.models, self.verilogs = [], []
+        for path in sorted(found for folder in folders for found in glob.glob(os.path.join(folder, "**", "*.mdl"), recursive=True)):
+            self.add(program, path)
+        for path in sorted(found for folder in folders for found in glob.glob(os.path.join(folder, "**", "*.v"), recursive=True)):
+            stimulus = beside(path, ".stim")
+            if stimulus is not None and os.path.getsize(path) <= MOST_BYTES:
+                self.verilogs.append((held(path), stimulus))
+        self.texts = {
+            "model": [model for model, _, _ in self.models],
+            "plan": [plan for _, plan, _ in self.models],
+            "stimulus": [stimulus for _, _, stimulus in self.models],
+            "verilog": [verilog for verilog, _ in self.verilogs],
+        }
+
+    def add(self, program, path):
+        """A model, and the text that is generated of it, where there is one."""
+        model, plan, stimulus = held(path), beside(path, ".plan") or b"cycles 2\n", beside(path, ".stim") or b""
+        if len(model) > MOST_BYTES:
+            return
+        self.models.append((model, plan, stimulus))
+        program.put("m", model)
+        program.put("p", plan)
+        made = program.run("generate", "m", "p")
+        if made.status == 0 and len(made.out) <= MOST_BYTES:
+            self.verilogs.append((made.out, stimulus))
+
+
+def beside(path, ending):
+    """The file of a case with this ending: of the same name, or the only one of its folder."""
+    folder = os.path.dirname(path)
+    found = [os.path.splitext(path)[0] + ending] + sorted(glob.glob(os.path.join(glob.escape(folder), "*" + ending)))[:1]
+    return next((held(one) for one in found if os.path.isfile(one)), None)
+
+
+class Trial:
+    """The calls over one set of texts. What is wrong with them is a line for each fault."""
+
+    def __init__(self, program):
+        self.program = program
+        self.statuses = collections.Counter()
+        self.seconds = (0.0, "")
+        self.kilobytes = (0, "")
+        self.calls = 0
+
+    def call(self, faults, *words):
+        answer = self.program.run(*words)
+        self.calls += 1
+        self.statuses[words[0], answer.status] += 1
+        self.seconds = max(self.seconds, (answer.seconds, self.label + words[0]))
+        self.kilobytes = max(self.kilobytes, (answer.kilobytes, self.label + words[0]))
+        fault = fault_of(words[0], answer)
+        if fault is None and answer.seconds > MOST_SECONDS:
+            fault = f"{answer.seconds:.1f} s"
+        if fault is not None:
+            faults.append(f"{' '.join(words)}: {fault}")
+        return answer
+
+    label = ""
+
+    def models(self, texts):
+        """The faults of the calls over a model, a plan and a stimulus."""
+        faults = []
+        for name, text in texts.items():
+            self.program.put(name, text)
+        checked = self.call(faults, "check", "m", "p")
+        made = self.call(faults, "generate", "m", "p")
+        simulated = self.call(faults, "simulate", "m", "s")
+        if (checked.status, checked.err) != (made.status, made.err):
+            faults.append(f"check: {checked.status} {checked.err!r}, generate: {made.status} {made.err!r}")
+        # rules 10 to 13 are of a plan
+        refused = checked.status == 5 or re.match(rb"rule [1-9] ", checked.err)
+        if refused and (checked.status, checked.err) != (simulated.status, simulated.err):
+            faults.append(f"check: {checked.status} {checked.err!r}, simulate: {simulated.status} {simulated.err!r}")
+        if made.status == simulated.status == 0:
+            self.program.put("g", made.out)
+            replayed = self.call(faults, "replay", "g", "s")
+            if (replayed.status, replayed.out) != (0, simulated.out):
+                faults.append(f"replay of what generate wrote: {replayed.status} {replayed.err!r}, another response than simulate's")
+        return faults
+
+    def verilogs(self, texts):
+        faults = []
+        for name, text in texts.items():
+            self.program.put(name, text)
+        self.call(faults, "replay", "v", "s")
+        return faults
+
+
+def case_of(seeds, rng):
+    """Texts by the words that name them, with the one that is mutated, and how they are tried."""
+    kind = rng.choice(["model"] * 8 + ["verilog"] * 8 + ["plan"] * 2 + ["stimulus"] * 2)
+    if kind == "verilog" or (kind == "stimulus" and rng.random() < 0.5):
+        verilog, stimulus = rng.choice(seeds.verilogs)
+        texts, names, trial = {"v": verilog, "s": stimulus}, {"verilog": "v", "stimulus": "s"}, Trial.verilogs
+    else:
+        model, plan, stimulus = rng.choice(seeds.models)
+        texts, names, trial = {"m": model, "p": plan, "s": stimulus}, {"model": "m", "plan": "p", "stimulus": "s"}, Trial.models
+    name = names[kind]
+    texts[name] = mutant(rng, texts[name], kind, seeds.texts[kind])
+    return texts, name, trial
+
+
+def run(program, options, say):
+    """Tries so many cases. Each is known by the seed and its number."""
+    seeds = Seeds(program, options.texts or [os.path.join(TOP, "examples")])
+    say(f"texts: {len(seeds.models)} models and {len(seeds.verilogs)} Verilog texts, seed {options.seed}")
+    trial, wrong, start, done = Trial(program), 0, time.monotonic(), 0
+    numbers = [options.case] if options.case is not None else range(options.cases)
+    for number in numbers:
+        if time.monotonic() - start > options.seconds:
+            break
+        texts, name, way = case_of(seeds, random.Random(f"{options.seed} {number}"))
+        trial.label = f"case {number}, "
+        faults = way(trial, texts)
+        done += 1
+        if not faults:
+            continue
+        wrong += 1
+        say(f"  case {number}, {name}: " + "; ".join(faults))
+        kind = faults[0].split(":")[0]
+        short = shrunk(texts[name], lambda text: any(fault.startswith(kind) for fault in way(trial, {**texts, name: text})))
+        keep(options.keep, number, {**texts, name: short})
+    say(f"  {done} cases, {trial.calls} calls, {wrong} cases with a fault, {time.monotonic() - start:.0f} s")
+    say("  statuses: " + ", ".join(f"{command} {status}: {count}" for (command, status), count in sorted(trial.statuses.items())))
+    say(f"  most time {trial.seconds[0]:.2f} s ({trial.seconds[1]}), most memory {trial.kilobytes[0] / 1024:.0f} MB ({trial.kilobytes[1]})")
+    return wrong
+
+
+def keep(folder, number, texts):
+    """The texts of a case with a fault, the mutated one shrunk."""
+    if folder:
+        for name, text in texts.items():
+            path = os.path.join(folder, f"case_{number}.{name}")
+            os.makedirs(folder, exist_ok=True)
+            with open(path, "wb") as file:
+                file.write(text)
