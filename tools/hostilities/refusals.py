@@ -161,11 +161,13 @@ def calls(program, options, say):
 
 
 def refusal(words, answer, whole, kind, how):
-    """What a refused call of the system may come to."""
+    """What a refused call of the system may come to. Of the files that `explore` opens one is the system's,
+    which says how many processors there are, and which it does without."""
     if how == "short" and not is_whole(answer, whole):
         return f"a call cut short changes the answer: status {answer.status}"
     if is_whole(answer, whole):
-        return None if how in ("short", "again") else "a refused call changes nothing"
+        is_done_without = how in ("short", "again") or (words[0], kind) == ("explore", "open")
+        return None if is_done_without else "a refused call changes nothing"
     if kind != "write":
         return fault_of(words[0], answer, {3})
     if not whole.out.startswith(answer.out) or answer.out == whole.out:
