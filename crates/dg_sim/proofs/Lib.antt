@@ -17,6 +17,8 @@ mod Kept
 mod Known
 mod Moves
 mod Numbered
+mod Lines
+mod Laid
 mod Listed
 pub mod Lists
 mod Moved
@@ -34,6 +36,7 @@ mod Swept
 mod Taken
 mod Tested
 mod TypeRules
+mod Turns
 mod Typed
 mod Unique
 mod Worked

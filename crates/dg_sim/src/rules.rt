@@ -8,6 +8,7 @@ ghost use Rattle.dg_model.specs.declared.diagram.Block.{Block};
 ghost use Rattle.dg_model.specs.Equation.{StoresEntry};
 ghost use Rattle.dg_sim.specs.inner.Building.{IsAlways, AreEntries, IsEntry, IsMade};
 ghost use Rattle.dg_sim.specs.inner.Cursors.{AreCursors};
+ghost use Rattle.dg_sim.specs.inner.Finding.{Finds, IsTurn};
 ghost use Rattle.dg_sim.specs.inner.Roots.{roots_of};
 ghost use Rattle.dg_model.specs.RootElements.{root_inputs};
 ghost use Rattle.dg_model.specs.declared.kind.Kind.{Kind};
@@ -123,6 +124,8 @@ pub fn rule_of(
     requires entries { AreEntries checked.now.diagram (attributes_of checked.now.diagram)
         program.old.places }
     requires entry { IsEntry checked.now.diagram (attributes_of checked.now.diagram) place }
+    requires finds { Finds checked.now starts.now program.old.places }
+    requires at { slice_get program.old.places k ≡ Some place }
     requires cursors { AreCursors checked.now.diagram
         (attributes_of checked.now.diagram) cursors.old }
     ensures made { IfOk result (λ rule. IsMade checked.now.diagram
@@ -142,7 +145,7 @@ pub fn rule_of(
         Kind::Constant { value } => constant(checked, program, k, place, block, value.as_slice()),
         Kind::Ground => fixed(checked, program, k, place, 0),
         Kind::Mux { .. } => joined(checked, starts, cursors, program, k, place, block),
-        Kind::Demux { .. } => parted(checked, starts, cursors, program, k, place),
+        Kind::Demux { .. } => parted(checked, starts, cursors, program, k, place, block),
         Kind::RateTransition { initial, .. } => {
             transition(
                 checked,
@@ -179,6 +182,7 @@ fn kept_rule(
     block: &Block,
 ) -> Result<Rule, OutOfMemory>
     requires block { slice_get checked.now.diagram.blocks place.block ≡ Some block.now }
+    requires turn { IsTurn checked.now starts.now program.old.places k place block.now }
     requires entries { AreEntries checked.now.diagram (attributes_of checked.now.diagram)
         program.old.places }
     ensures { IfOk result (λ rule. IsMade checked.now.diagram (attributes_of checked.now.diagram)
@@ -245,6 +249,7 @@ fn worked(
     block: &Block,
 ) -> Result<Rule, OutOfMemory>
     requires block { slice_get checked.now.diagram.blocks place.block ≡ Some block.now }
+    requires turn { IsTurn checked.now starts.now program.old.places k place block.now }
     requires entries { AreEntries checked.now.diagram (attributes_of checked.now.diagram)
         program.old.places }
     ensures { IfOk result (λ rule. IsMade checked.now.diagram (attributes_of checked.now.diagram)

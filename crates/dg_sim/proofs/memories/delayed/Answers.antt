@@ -6,6 +6,7 @@ use Rattle.fx_type.specs.declared.kind.FxType.{FxType}
 use Rattle.dg_model.specs.Attributes.{attributes_of}
 use Rattle.dg_model.specs.Equation.{StoresEntry}
 use Rattle.dg_sim.proofs.Kept.{delay_made, delay_move_is}
+use Rattle.dg_sim.proofs.Turns.{delay_reads}
 use Rattle.dg_sim.proofs.memories.delayed.Goals as goal
 
 pub stored-requires : goal.stored-requires
@@ -17,7 +18,7 @@ stored-requires c =
 pub remember-requires-clause-moves : goal.remember-requires-clause-moves
 remember-requires-clause-moves c =
     let diagram = c.args.checked.now.diagram in
-    delay_move_is diagram (attributes_of diagram) c.args.program.now c.args.program.now c.args.place c.args.block.now c.requires.block c.args.program.now.places c.period-period.result c.in_ok-control.control c.args.length c.args.initial.now c.args.reset c.requires.kind c.period-period.ensures c.in_ok-control.ensures
+    delay_move_is diagram (attributes_of diagram) c.args.program.now c.args.program.now c.args.place c.args.block.now c.requires.block c.args.program.now.places c.period-period.result c.control_of-control.result c.args.length c.args.initial.now c.args.reset c.requires.kind c.period-period.ensures c.control_of-control.ensures
 
 pub returns : goal.returns
 returns c =
@@ -27,3 +28,6 @@ returns c =
     rw (to_z-of_z w128 c.in-Some.first fits)
     (delay_made diagram (attributes_of diagram) c.args.program.now c.remember.new.program c.args.place c.args.block.now c.requires.block c.kept_moves.ensures.read c.args.k c.in_ok-memory.memory c.args.length c.args.initial.now c.args.reset c.in-Some.first
     c.requires.kind c.requires.some stores c.in_ok-memory.ensures)
+
+pub remember-requires-clause-read : goal.remember-requires-clause-read
+remember-requires-clause-read c = delay_reads c.args.checked.now c.args.starts.now c.args.program.now.places c.args.k c.args.place c.args.block.now c.requires.turn c.keeps_rules.ensures.checked c.args.length c.args.initial.now c.args.reset c.requires.kind

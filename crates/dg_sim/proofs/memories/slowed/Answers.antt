@@ -6,6 +6,7 @@ use Rattle.fx_type.specs.declared.kind.FxType.{FxType}
 use Rattle.dg_model.specs.Attributes.{attributes_of}
 use Rattle.dg_model.specs.Equation.{StoresEntry}
 use Rattle.dg_sim.proofs.Kept.{slow_made, slow_moves}
+use Rattle.dg_sim.proofs.Turns.{rate_reads}
 use Rattle.dg_sim.proofs.memories.slowed.Goals as goal
 
 pub stored-requires : goal.stored-requires
@@ -27,3 +28,6 @@ returns c =
     rw (to_z-of_z w128 c.in-Some.first fits)
     (slow_made diagram (attributes_of diagram) c.args.program.now c.remember.new.program c.args.place c.args.block.now c.requires.block c.kept_moves.ensures.read c.args.k c.in_ok-memory.memory c.args.slow c.requires.kind.0 c.args.initial.now c.in-Some.first
     c.requires.kind.1 c.requires.slow c.requires.slower stores c.in_ok-memory.ensures)
+
+pub remember-requires-clause-read : goal.remember-requires-clause-read
+remember-requires-clause-read c = rate_reads c.args.checked.now c.args.starts.now c.args.program.now.places c.args.k c.args.place c.args.block.now c.requires.turn c.keeps_rules.ensures.checked c.requires.kind.0 c.args.initial.now c.requires.kind.1
