@@ -27,6 +27,7 @@ mod Readied
 mod Rings
 mod Rooted
 mod Serving
+mod Shared
 mod Shown
 pub mod Single
 pub mod Sources

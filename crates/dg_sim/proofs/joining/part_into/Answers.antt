@@ -42,5 +42,25 @@ loop-width-preserved c =
       at = at;
       low = low;
       below = before_end f c.args.inputs (signal + 1) (c.loop-width.before + c.loop-width.width) c.args.element (omega (arith, inv.below)) at low c.requires.element;
-      width = c.width_of_input-width-2.ensures;
+      width = c.width_of_input-width-in-loop-width.ensures;
     }
+
+pub overflow_add-signal : goal.overflow_add-signal
+overflow_add-signal c =
+    let diagram = c.args.checked.now.diagram in
+    let f = width_into diagram (attributes_of diagram) c.args.block in
+    let at = c.begun-start.ensures.sums (width_into diagram (attributes_of diagram)) c.requires.into in
+    let below = before_end f c.args.inputs c.begun-start.result.ports c.begun-start.result.before c.args.element c.begun-start.ensures.ports at c.begun-start.ensures.before c.requires.element in
+    record { fits = omega (arith, below) }
+
+pub overflow_add-signal-in-loop-width-2 : goal.overflow_add-signal-in-loop-width-2
+overflow_add-signal-in-loop-width-2 c =
+    let diagram = c.args.checked.now.diagram in
+    let f = width_into diagram (attributes_of diagram) c.args.block in
+    let inv = c.loop-width.invariant in
+    let signal : ℕ = c.loop-width.signal in
+    let last = sum_last f signal in
+    let at : c.loop-width.before + c.loop-width.width ≡ sum (map f (numbers_from 1 (signal + 1))) = omega (arith, inv.at, last, inv.width) in
+    let low : c.loop-width.before + c.loop-width.width ≤ c.args.element = omega (arith, inv.low, c.loop-width-test.true) in
+    let below = before_end f c.args.inputs (signal + 1) (c.loop-width.before + c.loop-width.width) c.args.element (omega (arith, inv.below)) at low c.requires.element in
+    record { fits = omega (arith, below) }
