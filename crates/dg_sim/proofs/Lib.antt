@@ -19,6 +19,7 @@ mod Moves
 mod Numbered
 mod Lines
 mod Laid
+mod ListEntries
 mod Listed
 pub mod Lists
 mod Moved

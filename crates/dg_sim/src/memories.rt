@@ -128,9 +128,7 @@ pub fn delayed(
     kept_moves();
     checked.keeps_rules();
     let control = control_of(checked, starts, program, block);
-    let Some(first) = stored(initial, place.element, checked.result(place.block)) else {
-        return Err(OutOfMemory);
-    };
+    let first = stored(initial, place.element, checked.result(place.block));
     let period = checked.period(place.block);
     let memory = remember(
         checked, starts, program, place, block, period, control, reset, length,
@@ -166,9 +164,7 @@ pub fn slowed(
     operations_prepare();
     kept_moves();
     checked.keeps_rules();
-    let Some(first) = stored(initial, place.element, checked.result(place.block)) else {
-        return Err(OutOfMemory);
-    };
+    let first = stored(initial, place.element, checked.result(place.block));
     let memory = remember(checked, starts, program, place, block, slow, None, false, 2)?;
     Ok(Rule::Slower {
         memory,
@@ -210,9 +206,7 @@ pub fn gated(
         1,
         place.element,
     );
-    let Some(first) = stored(initial, place.element, checked.result(place.block)) else {
-        return Err(OutOfMemory);
-    };
+    let first = stored(initial, place.element, checked.result(place.block));
     if reset {
         return Ok(Rule::Reset {
             from,

@@ -4,6 +4,7 @@ ghost use Rattle.dg_model.specs.Attributes.{attributes_of};
 ghost use Rattle.dg_model.specs.declared.diagram.Block.{Block};
 ghost use Rattle.dg_model.specs.Equation.{IsOpOf, signs_of};
 ghost use Rattle.dg_model.specs.Wires.{type_into, types_into};
+ghost use Rattle.dg_model.specs.Solves.{IsShown};
 ghost use Rattle.dg_sim.specs.inner.Building.{Reads, AreRead, AreEntries, IsMade};
 ghost use Rattle.dg_sim.specs.inner.Finding.{AreLines, Finds, IsRead, IsTurn, ReadsNow};
 ghost use Rattle.dg_model.specs.declared.kind.Kind.{Kind};
@@ -90,23 +91,23 @@ fn put_signs(signs: &mut Flags, negative: &[bool]) -> Result<(), OutOfMemory>
     Ok(())
 }
 
-/// The operation of a block that works element by element.
-pub fn op_of(checked: &Checked, starts: &Starts, place: Place, kind: &Kind) -> Option<Op>
-    requires block { (b : Block) × (slice_get checked.now.diagram.blocks place.block ≡ Some b) }
+/// The operation of a block that works element by element; none of another block.
+pub fn op_of(checked: &Checked, starts: &Starts, place: Place, block: &Block) -> Option<Op>
+    requires block { slice_get checked.now.diagram.blocks place.block ≡ Some block.now }
     requires lines { AreLines checked.now.diagram starts.now.lines.items }
-    ensures { IfSome result (λ op. IsOpOf kind.now place.element
+    requires shown { IsShown checked.now.diagram (attributes_of checked.now.diagram) place.block
+        block.now place.port place.element }
+    ensures { IfSome result (λ op. IsOpOf block.now.kind place.element
         ((attributes_of checked.now.diagram).param_at place.block)
         (type_into checked.now.diagram (attributes_of checked.now.diagram) place.block 2) op) }
 {
     operations_prepare();
     checked.keeps_rules();
-    match kind {
+    match &block.kind {
         Kind::Sum { .. } => Some(Op::Sum),
         Kind::Gain { value, .. } => {
             let param = checked.param(place.block);
-            let Some(coefficient) = stored(value.as_slice(), place.element, param) else {
-                return None;
-            };
+            let coefficient = stored(value.as_slice(), place.element, param);
             Some(Op::Gain { coefficient, param })
         }
         Kind::Product => Some(Op::Product),
@@ -115,9 +116,7 @@ pub fn op_of(checked: &Checked, starts: &Starts, place: Place, kind: &Kind) -> O
             threshold,
         } => {
             let control = type_of_input(checked, starts, place.block, 2);
-            let Some(threshold) = stored(threshold.as_slice(), place.element, control) else {
-                return None;
-            };
+            let threshold = stored(threshold.as_slice(), place.element, control);
             Some(Op::Switch {
                 criterion: *criterion,
                 threshold,

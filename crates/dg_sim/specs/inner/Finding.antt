@@ -1,5 +1,6 @@
 -- What finds the lines and the entries of a block (own).
 use Rattle.std.specs.Prelude.{◌≡◌, ℕ, ◌<◌, ◌+◌, ◌-◌, ◌^◌, ◌==◌, Bool, true, if◌then◌else◌, List, length, Some, slice_get, slice_set, slice_index_or}
+use Rattle.fx_type.specs.declared.decimal.Decimal.{Decimal}
 use Rattle.dg_model.specs.declared.diagram.Diagram.{Diagram}
 use Rattle.dg_model.specs.declared.diagram.Block.{Block}
 use Rattle.dg_model.specs.declared.diagram.Edge.{Edge}
@@ -67,3 +68,7 @@ pub record IsTurn (checked : CheckedDiagram) (starts : Starts) (places : List Pl
   pub finds : Finds checked starts places
   pub at : slice_get places k ≡ Some place
   pub shown : IsShown checked.diagram (attributes_of checked.diagram) place.block b place.port place.element
+
+-- a list parameter has an entry for an element
+abbrev pub HasEntry : List Decimal → ℕ → Type 0
+HasEntry list element = repeated (length list) element < length list

@@ -103,6 +103,17 @@ kept_rule-requires c =
     let turn = turn_of c.args.checked.now c.args.starts.now c.args.program.now.places c.args.k place one c.requires.finds c.requires.at c.requires.entry here in
     record { block = here; turn = turn; entries = c.requires.entries }
 
+pub constant-requires-clause-shown : goal.constant-requires-clause-shown
+constant-requires-clause-shown c =
+    let diagram = c.args.checked.now.diagram in
+    let attributes = attributes_of diagram in
+    let place = c.args.place in
+    let one : Block = c.index-as_slice-place.result in
+    let list = c.as_slice.ensures ∙ ap (λ (d : Diagram). d.blocks) c.diagram.ensures in
+    let here : slice_get diagram.blocks place.block ≡ Some one = block_there diagram attributes place c.as_slice.result.now one list c.requires.entry c.index-as_slice-place.is in
+    let turn = turn_of c.args.checked.now c.args.starts.now c.args.program.now.places c.args.k place one c.requires.finds c.requires.at c.requires.entry here in
+    turn.shown
+
 pub transition-requires-clause-turn : goal.transition-requires-clause-turn
 transition-requires-clause-turn c =
     let diagram = c.args.checked.now.diagram in
