@@ -11,6 +11,6 @@ pub returns : goal.returns
 returns c =
     let list = c.args.list.now in
     let within : c.place_in-at.result < length list = subst (λ (n : ℕ). n < length list) (sym c.place_in-at.ensures) c.requires.entry in
-    let entry = ap (slice_get list) (sym c.place_in-at.ensures) ∙ slice_get-get_or list c.place_in-at.result _ within in
+    let entry = ap (slice_get list) (sym c.place_in-at.ensures) ∙ slice_get-get_or list c.place_in-at.result _ within ∙ ap (λ (d : Decimal). Some d) (sym c.index-list-at.is) in
     rw (to_z-of_z w128 c.to_stored.result (record { sfits = c.to_stored.type_inv }))
     (subst (λ (o : Option Decimal). MatchOption o ⊥ (λ decimal. Stores decimal c.args.kind c.to_stored.result)) (sym entry) c.to_stored.ensures)
