@@ -18,7 +18,7 @@ unit_if b = cond b 1 0
 pub count_by-cons : {X : Type 0} (p : X → Bool) (y : X) (ys : List X) → count_by p (y ∷ ys) ≡ unit_if (p y) + count_by p ys
 count_by-cons p y ys = sum_by-cons (λ x. unit_if (p x)) y ys
 
-some_counted : {X : Type 0} (p : X → Bool) (xs : List X) (i : ℕ) (x : X) → slice_get xs i ≡ Some x → p x ≡ true → 1 ≤ count_by p xs
+pub some_counted : {X : Type 0} (p : X → Bool) (xs : List X) (i : ℕ) (x : X) → slice_get xs i ≡ Some x → p x ≡ true → 1 ≤ count_by p xs
 some_counted p [] i x at passes = absurd (none-some x at)
 some_counted p (y ∷ ys) zero x at passes =
     let here : unit_if (p y) ≡ 1 = ap (λ (b : Bool). unit_if b) (ap p (same_Some y x at) ∙ passes) in omega (arith, here, count_by-cons p y ys)

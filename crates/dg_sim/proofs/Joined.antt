@@ -1,6 +1,7 @@
 -- Signals end to end: which element of an input a Mux and a Demux hand on.
-use Rattle.std.proofs.Common.{◌≡◌, ℕ, zero, suc, ◌<◌, ◌≤◌, ◌+◌, ◌-◌, List, [], ◌∷◌, map, take, sum, Some, slice_get, slice_index, sym, ◌∙◌, subst, ap, refl, arith}
+use Rattle.std.proofs.Common.{◌≡◌, ℕ, zero, suc, ◌<◌, ◌≤◌, ◌+◌, ◌-◌, List, [], ◌∷◌, map, take, sum, Some, slice_get, slice_index, sym, ◌∙◌, subst, ap, refl, arith, inl, inr}
 use Rattle.std.proofs.lemmas.List.Sums.{sum_by-append, sum_by-cons}
+use Rattle.std.proofs.lemmas.Bool.{cases_lt}
 use Rattle.dg_waves.specs.Rounds.{numbers_from}
 use Rattle.dg_model.specs.declared.diagram.Diagram.{Diagram}
 use Rattle.dg_model.specs.declared.diagram.Block.{Block}
@@ -27,6 +28,16 @@ sum_last f n =
     let split = sum_by-append (λ x. x) (map f (numbers_from 1 n)) (f (n + 1) ∷ []) in
     let one = sum_by-cons (λ x. x) (f (n + 1)) [] in
     omega (arith, e, split, one)
+
+-- where the elements of some signals end before one of all, there are more signals
+pub before_end : (f : ℕ → ℕ) (inputs ports before element : ℕ) → ports ≤ inputs → before ≡ sum (map f (numbers_from 1 ports)) → before ≤ element → element < sum (map f (numbers_from 1 inputs)) → ports < inputs
+before_end f inputs ports before element within at low below = elim (cases_lt ports inputs) [
+  | inl less ↦ less
+  | inr past ↦
+      let same : ports ≡ inputs = omega (arith, within, past) in
+      let all : sum (map f (numbers_from 1 ports)) ≡ sum (map f (numbers_from 1 inputs)) = ap (λ (n : ℕ). sum (map f (numbers_from 1 n))) same in
+      absurd (omega (arith, at, low, below, all))
+]
 
 -- the signal in which the elements before end has the element
 pub part_here : (f : ℕ → ℕ) (inputs signal left width element : ℕ) → signal < inputs → width ≡ f (signal + 1) → left < width → element ≡ sum (map f (numbers_from 1 signal)) + left

@@ -17,6 +17,9 @@ mod Kept
 mod Known
 mod Moves
 mod Numbered
+mod Lines
+mod Laid
+mod ListEntries
 mod Listed
 pub mod Lists
 mod Moved
@@ -25,6 +28,7 @@ mod Readied
 mod Rings
 mod Rooted
 mod Serving
+mod Shared
 mod Shown
 pub mod Single
 pub mod Sources
@@ -34,6 +38,7 @@ mod Swept
 mod Taken
 mod Tested
 mod TypeRules
+mod Turns
 mod Typed
 mod Unique
 mod Worked

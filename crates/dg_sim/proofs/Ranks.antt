@@ -28,7 +28,7 @@ there_map f [] k x e = absurd (none-some x e)
 there_map f (y ∷ xs) zero x e = ap (λ z. Some (f z)) (same_Some y x e)
 there_map f (y ∷ xs) (suc k) x e = there_map f xs k x e
 
-found_at : {X : Type 0} (test : X → Bool) (xs : List X) (x : X) → find test xs ≡ Some x → (k : ℕ) × (slice_get xs k ≡ Some x) × (test x ≡ true)
+pub found_at : {X : Type 0} (test : X → Bool) (xs : List X) (x : X) → find test xs ≡ Some x → (k : ℕ) × (slice_get xs k ≡ Some x) × (test x ≡ true)
 found_at test [] x e = absurd (none-some x e)
 found_at {X} test (y ∷ ys) x e = go (test y) refl (found_at test ys x) e
   where
@@ -95,12 +95,35 @@ enable_stands place (suc k) (x ∷ xs) b control at same e asks is =
     let r = enable_stands (suc place) k xs b control at (omega (arith, same)) e asks is in
     there_right (enable_edge place (asks_ever (row_of x.kind).timing.asks) x.enable) (enable_edges_from (suc place) xs) r.0 (control_edge control at) r.1
 
+-- ---- instant edges
+module _ (diagram : Diagram) (attributes : Attributes) where
+  leads : (k : ℕ) (edge : LatencyEdge) → slice_get (latency_edges diagram) k ≡ Some edge → is_instant diagram attributes edge ≡ true → LeadsNow diagram attributes edge.from edge.to
+  leads k edge e instant = (k, edge, slice_get_within (latency_edges diagram) k edge e, get_or_from_slice_get (latency_edges diagram) k edge edge e, (refl, refl, instant))
+
+  -- one leads from what drives a block that reads its inputs in the same sample
+  pub driver_leads : (block : ℕ) (b : Block) (port : ℕ) (edge : Edge) → slice_get diagram.blocks block ≡ Some b → reads_now diagram attributes block b.kind ≡ true → driver_of diagram block port ≡ Some edge → LeadsNow diagram attributes edge.from block
+  driver_leads block b port edge e now driver =
+      let f = found_at (enters block port) diagram.edges edge driver in
+      let to : edge.to ≡ block = enters_block block port edge f.2 in
+      let at : slice_get diagram.blocks edge.to ≡ Some b = ap (slice_get diagram.blocks) to ∙ e in
+      let instant : takes_now_at diagram attributes (signal_edge edge) (slice_get diagram.blocks edge.to) ≡ true =
+      subst (λ (o : Option Block). takes_now_at diagram attributes (signal_edge edge) o ≡ true) (sym at) (subst (λ (n : ℕ). reads_now diagram attributes n b.kind ≡ true) (sym to) now) in
+      let lead : LeadsNow diagram attributes edge.from edge.to =
+      leads f.0 (signal_edge edge) (there_left (map signal_edge diagram.edges) (enable_edges_from 0 diagram.blocks) f.0 (signal_edge edge) (there_map signal_edge diagram.edges f.0 edge f.1)) instant in
+      subst (λ (n : ℕ). LeadsNow diagram attributes edge.from n) to lead
+
+  -- and from the control of a block that asks in the same sample whether it is enabled
+  pub control_leads : (block : ℕ) (b : Block) (control : ℕ) → slice_get diagram.blocks block ≡ Some b → asks_now b.kind ≡ true → b.enable ≡ Some control → LeadsNow diagram attributes control block
+  control_leads block b control e asks is =
+      let own = enable_stands 0 block diagram.blocks b control block (omega arith) e asks is in
+      let there = there_right (map signal_edge diagram.edges) (enable_edges_from 0 diagram.blocks) own.0 (control_edge control block) own.1 in
+      let instant : takes_now_at diagram attributes (control_edge control block) (slice_get diagram.blocks block) ≡ true =
+      subst (λ (o : Option Block). takes_now_at diagram attributes (control_edge control block) o ≡ true) (sym e) asks in
+      leads there.0 (control_edge control block) there.1 instant
+
 module _ (diagram : Diagram) (attributes : Attributes) (order : List ℕ) (is_order : IsOrder diagram attributes order) where
   abbrev pub rank : ℕ → ℕ
   rank place = place_in order place
-
-  leads : (k : ℕ) (edge : LatencyEdge) → slice_get (latency_edges diagram) k ≡ Some edge → is_instant diagram attributes edge ≡ true → LeadsNow diagram attributes edge.from edge.to
-  leads k edge e instant = (k, edge, slice_get_within (latency_edges diagram) k edge e, get_or_from_slice_get (latency_edges diagram) k edge edge e, (refl, refl, instant))
 
   stands : (block : ℕ) (b : Block) → slice_get diagram.blocks block ≡ Some b → slice_get order (rank block) ≡ Some block
   stands block b e =
@@ -114,23 +137,10 @@ module _ (diagram : Diagram) (attributes : Attributes) (order : List ℕ) (is_or
       omega (arith, j.1, first)
 
   pub driver_lower : (block : ℕ) (b : Block) (port : ℕ) (edge : Edge) → slice_get diagram.blocks block ≡ Some b → reads_now diagram attributes block b.kind ≡ true → driver_of diagram block port ≡ Some edge → rank edge.from < rank block
-  driver_lower block b port edge e now driver =
-      let f = found_at (enters block port) diagram.edges edge driver in
-      let to : edge.to ≡ block = enters_block block port edge f.2 in
-      let at : slice_get diagram.blocks edge.to ≡ Some b = ap (slice_get diagram.blocks) to ∙ e in
-      let instant : takes_now_at diagram attributes (signal_edge edge) (slice_get diagram.blocks edge.to) ≡ true =
-      subst (λ (o : Option Block). takes_now_at diagram attributes (signal_edge edge) o ≡ true) (sym at) (subst (λ (n : ℕ). reads_now diagram attributes n b.kind ≡ true) (sym to) now) in
-      let lead : LeadsNow diagram attributes edge.from edge.to =
-      leads f.0 (signal_edge edge) (there_left (map signal_edge diagram.edges) (enable_edges_from 0 diagram.blocks) f.0 (signal_edge edge) (there_map signal_edge diagram.edges f.0 edge f.1)) instant in
-      lower edge.from block b e (subst (λ (n : ℕ). LeadsNow diagram attributes edge.from n) to lead)
+  driver_lower block b port edge e now driver = lower edge.from block b e (driver_leads diagram attributes block b port edge e now driver)
 
   pub control_lower : (block : ℕ) (b : Block) (control : ℕ) → slice_get diagram.blocks block ≡ Some b → asks_now b.kind ≡ true → b.enable ≡ Some control → rank control < rank block
-  control_lower block b control e asks is =
-      let own = enable_stands 0 block diagram.blocks b control block (omega arith) e asks is in
-      let there = there_right (map signal_edge diagram.edges) (enable_edges_from 0 diagram.blocks) own.0 (control_edge control block) own.1 in
-      let instant : takes_now_at diagram attributes (control_edge control block) (slice_get diagram.blocks block) ≡ true =
-      subst (λ (o : Option Block). takes_now_at diagram attributes (control_edge control block) o ≡ true) (sym e) asks in
-      lower control block b e (leads there.0 (control_edge control block) there.1 instant)
+  control_lower block b control e asks is = lower control block b e (control_leads diagram attributes block b control e asks is)
 
   pub rank_below : (block : ℕ) (b : Block) → slice_get diagram.blocks block ≡ Some b → rank block < length order
   rank_below block b e = slice_get_within order (rank block) block (stands block b e)

@@ -1,13 +1,21 @@
 -- Lists of root elements, port after port.
-use Rattle.std.proofs.Common.{◌≡◌, ℕ, zero, suc, ◌+◌, ◌++◌, List, [], ◌∷◌, length, map, filter_map, count_by, Option, Some, None, is_some, ap, sym, ◌∙◌, refl, arith, append_assoc, append-nil, add-one}
+use Rattle.std.proofs.Common.{◌≡◌, ℕ, zero, suc, ◌+◌, ◌≤◌, ◌++◌, List, [], ◌∷◌, length, map, filter_map, count_by, Option, Some, None, is_some, slice_get, ap, sym, ◌∙◌, refl, arith, append_assoc, append-nil, add-one}
 use Rattle.std.specs.List.{flat_map, cons_option}
 use Rattle.std.proofs.lemmas.List.{map-append}
 use Rattle.dg_waves.specs.Rounds.{numbers_from}
+use Rattle.std.proofs.lemmas.Option.{none-some}
+use Rattle.dg_model.specs.declared.diagram.Diagram.{Diagram}
+use Rattle.dg_model.specs.declared.diagram.Block.{Block}
+use Rattle.dg_model.specs.declared.kind.Kind.{Kind}
+use Rattle.dg_model.specs.declared.kind.Kind.TheVariants.{Inport}
+use Rattle.dg_model.specs.Library.{row_of, HasPorts, IsReadable}
+use Rattle.dg_model.specs.Wired.{IsWired, root_input}
 use Rattle.dg_model.specs.Signals.{Attributes}
-use Rattle.dg_model.specs.RootElements.{RootElement, root_element, elements_of_port}
+use Rattle.dg_model.specs.RootElements.{RootElement, root_element, elements_of_port, number_in}
 use Rattle.dg_sim.specs.declared.roots.Root.{Root}
 use Rattle.dg_sim.specs.inner.Roots.{root_at, roots_of}
 use Rattle.dg_sim.proofs.Drivers.{count_by-cons, unit_if}
+use Rattle.dg_sim.proofs.Lists.{get_holds}
 
 pub counted_map : {A B : Type 0} (f : A → Option B) (xs : List A) → count_by (λ x. is_some (f x)) xs ≡ length (filter_map f xs)
 counted_map f [] = refl
@@ -40,3 +48,11 @@ pub port_roots : (attributes : Attributes) (width_of : ℕ → ℕ) (number bloc
     → map (root_at number block) (numbers_from 0 width) ≡ roots_of (elements_of_port attributes width_of number o)
 port_roots attributes width_of number block width o e w =
     ap (λ (n : ℕ). map (root_at number block) (numbers_from 0 n)) w ∙ sym (roots_port attributes number block (width_of block)) ∙ ap (λ (o : Option ℕ). roots_of (elements_of_port attributes width_of number o)) (sym e)
+
+-- a root input port has an output port
+pub input_shows : (diagram : Diagram) → IsWired diagram → (block : ℕ) (b : Block) (number : ℕ) → slice_get diagram.blocks block ≡ Some b → number_in root_input b ≡ Some number → 1 ≤ b.outputs
+input_shows diagram wired block b number at is = by_kind b.kind b.inputs b.outputs (get_holds IsReadable diagram.blocks block b wired.blocks at).ports is
+  where
+    by_kind : (kind : Kind) (inputs outputs : ℕ) → HasPorts kind inputs outputs → root_input (row_of kind).place.role ≡ Some number → 1 ≤ outputs
+    by_kind (Inport own width) inputs outputs ports is = omega (arith, ports.1)
+    by_kind _ inputs outputs ports is = absurd (none-some number is)

@@ -13,6 +13,7 @@ use Rattle.dg_model.specs.Library.{row_of, HasPorts, IsReadable}
 use Rattle.dg_model.specs.Solves.{IsShown, shown_ports, shown_width, AgreeAt}
 use Rattle.dg_model.specs.Wired.{IsWired, Joins, NamesControl}
 use Rattle.dg_model.specs.Wires.{enters, driver_of, at_source, repeated, width_into, type_into, value_into, values_into}
+pub use Rattle.dg_sim.specs.inner.Finding.{IsRead}
 use Rattle.dg_sim.proofs.Ground.{HasWidths}
 use Rattle.dg_sim.proofs.Lists.{find_holds, get_holds, map_same, below_repeated}
 
@@ -34,10 +35,6 @@ shown_port diagram attributes _ inputs outputs block port element ports from to 
 port_shown : (kind : Kind) (inputs outputs port : ℕ) → HasPorts kind inputs outputs → 1 ≤ port → port ≤ outputs → port ≤ shown_ports kind outputs
 port_shown (Outport number) inputs outputs port ports from to = absurd (omega (arith, ports.1))
 port_shown _ inputs outputs port ports from to = to
-
--- an input reads an element that its driver has
-abbrev pub IsRead : Diagram → Attributes → ℕ → ℕ → ℕ → Type 0
-IsRead diagram attributes block port element = repeated (width_into diagram attributes block port) element < width_into diagram attributes block port
 
 module _ (diagram : Diagram) (attributes : Attributes) (wired : IsWired diagram) where
   pub is_readable : (block : ℕ) (b : Block) → slice_get diagram.blocks block ≡ Some b → IsReadable b

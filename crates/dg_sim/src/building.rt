@@ -3,7 +3,10 @@ ghost use Rattle.std.specs.Prelude.{◌≡◌, ◌<◌, ◌+◌, ℕ, Some, leng
 ghost use Rattle.dg_model.specs.Attributes.{attributes_of};
 ghost use Rattle.dg_model.specs.RootElements.{root_inputs, root_outputs};
 ghost use Rattle.dg_sim.specs.Sim.{IsProgram};
-ghost use Rattle.dg_sim.specs.inner.Building.{AreShown, IsFilled};
+ghost use Rattle.dg_sim.specs.inner.Building.{AreShown, IsEntry, IsFilled};
+ghost use Rattle.dg_sim.specs.inner.Finding.{Finds};
+ghost use Rattle.dg_sim.specs.inner.Laying.{place_at};
+ghost use Rattle.dg_sim.specs.declared.roots.Root.{Root};
 ghost use Rattle.dg_sim.specs.inner.Cursors.{AreCursors};
 ghost use Rattle.dg_sim.specs.inner.Roots.{roots_of};
 
@@ -31,6 +34,7 @@ fn put_cell(
     requires filled { IsFilled checked.now.diagram (attributes_of checked.now.diagram)
         program.old k }
     requires there { k < length program.old.places }
+    requires finds { Finds checked.now starts.now program.old.places }
     requires cursors { AreCursors checked.now.diagram
         (attributes_of checked.now.diagram) cursors.old }
     ensures filled { OnOk result (IsFilled checked.now.diagram
@@ -58,12 +62,12 @@ fn fill(
         ≡ roots_of (root_inputs checked.now.diagram (attributes_of checked.now.diagram)) }
     requires filled { IsFilled checked.now.diagram (attributes_of checked.now.diagram)
         program.old 0 }
-    ensures { OnOk result (IsFilled checked.now.diagram (attributes_of checked.now.diagram)
+    requires finds { Finds checked.now starts.now program.old.places }
+    ensures filled { OnOk result (IsFilled checked.now.diagram (attributes_of checked.now.diagram)
         program.new (length program.new.places)) }
+    ensures places { OnOk result (program.new.places ≡ program.old.places) }
 {
-    let Ok(count) = u32::try_from(program.places.as_slice().len()) else {
-        return Err(OutOfMemory);
-    };
+    let count = program.places.as_slice().len() as u32;
     let mut cursors = Cursors::new();
     for k in 0..count {
         put_cell(checked, starts, roots, &mut cursors, program, k)?;
@@ -74,10 +78,15 @@ fn fill(
 /// The entries of root output elements.
 fn shown_of(
     alloc: Global,
+    checked: &Checked,
     starts: &Starts,
     places: &[Place],
     roots: &[Root],
 ) -> Result<Sizes, OutOfMemory>
+    requires finds { Finds checked.now starts.now places.now }
+    requires entries { (i : ℕ) (root : Root) → slice_get roots.now i ≡ Some root
+        → IsEntry checked.now.diagram (attributes_of checked.now.diagram)
+        (place_at root.block 1 root.element) }
     ensures { IfOk result (λ shown. AreShown places.now roots.now shown (length roots.now)) }
 {
     let mut shown = Sizes::new(alloc);
@@ -87,10 +96,7 @@ fn shown_of(
             port: 1,
             element: root.element,
         };
-        let Some(cell) = look_up(places, starts, place) else {
-            return Err(OutOfMemory);
-        };
-        shown.push(cell)?;
+        shown.push(look_up(checked, starts, places, place))?;
     }
     Ok(shown)
 }
@@ -103,6 +109,8 @@ pub fn program_of(alloc: Global, checked: &Checked) -> Result<Program, OutOfMemo
     ensures { IfOk result (λ program.
         IsProgram checked.now.diagram (attributes_of checked.now.diagram) program) }
 {
+    checked.keeps_rules();
+    dg_model::root_elements_are_listed();
     let (starts, places) = lay_out(alloc, checked)?;
     let roots = input_roots(alloc, checked)?;
     let mut program = Program {
@@ -118,6 +126,7 @@ pub fn program_of(alloc: Global, checked: &Checked) -> Result<Program, OutOfMemo
     let outputs = output_roots(alloc, checked, &starts)?;
     let shown = shown_of(
         alloc,
+        checked,
         &starts,
         program.places.as_slice(),
         outputs.as_slice(),

@@ -3,7 +3,9 @@ ghost use Rattle.std.specs.Prelude.{◌≡◌, ◌<◌, ◌++◌, ◌∷◌, [],
 ghost use Rattle.fx_type.specs.declared.kind.FxType.{FxType};
 ghost use Rattle.dg_model.specs.Attributes.{attributes_of};
 ghost use Rattle.dg_model.specs.declared.diagram.Block.{Block};
+ghost use Rattle.dg_model.specs.Wires.{width_into};
 ghost use Rattle.dg_sim.specs.inner.Building.{Reads, AreElements, IsMade};
+ghost use Rattle.dg_sim.specs.inner.Finding.{Finds, IsRead, IsTurn, ReadsNow};
 ghost use Rattle.dg_model.specs.declared.kind.Kind.{Kind};
 
 use crate::program::{Place, Places, Program, Rule};
@@ -23,18 +25,16 @@ fn put_element(
     args: &mut Sizes,
     types: &mut FxTypes,
 ) -> Result<(), OutOfMemory>
+    requires finds { Finds checked.now starts.now places.now }
+    requires now { ReadsNow checked.now places.now k block }
+    requires read { IsRead checked.now.diagram (attributes_of checked.now.diagram) block 1 element }
     ensures { OnOk result ((number : ℕ) × (args.new ≡ args.old ++ number ∷ [])
         × (number < k) × Reads checked.now.diagram (attributes_of checked.now.diagram) places.now
         block 1 element number
         × (types.new ≡ types.old ++ FxType.Logical ∷ [])) }
 {
-    let found = input(checked, starts, places.as_slice(), block, 1, element);
-    let Some(number) = found else {
-        return Err(OutOfMemory);
-    };
-    if number >= k {
-        return Err(OutOfMemory);
-    }
+    let _ = k;
+    let number = input(checked, starts, places.as_slice(), block, 1, element);
     args.push(number)?;
     types.push(FxType::Logical)?;
     Ok(())
@@ -51,6 +51,10 @@ fn put_elements(
     args: &mut Sizes,
     types: &mut FxTypes,
 ) -> Result<(), OutOfMemory>
+    requires finds { Finds checked.now starts.now places.now }
+    requires now { ReadsNow checked.now places.now k block }
+    requires width { width ≡ width_into checked.now.diagram (attributes_of checked.now.diagram)
+        block 1 }
     ensures { OnOk result ((numbers : List ℕ) × (length numbers ≡ width)
         × (args.new ≡ args.old ++ numbers)
         × AreElements checked.now.diagram (attributes_of checked.now.diagram) places.now block k
@@ -73,13 +77,13 @@ pub fn above(
 ) -> Result<Rule, OutOfMemory>
     requires block { slice_get checked.now.diagram.blocks place.block ≡ Some block.now }
     requires kind { block.now.kind ≡ Kind.EnableTest }
+    requires turn { IsTurn checked.now starts.now program.old.places k place block.now }
     ensures { IfOk result (λ rule. IsMade checked.now.diagram (attributes_of checked.now.diagram)
         program.old program.new k place rule) }
 {
     let _name = &block.path;
-    let Some(width) = width_of_input(checked, starts, place.block, 1) else {
-        return Err(OutOfMemory);
-    };
+    let width = width_of_input(checked, starts, place.block, 1);
+    // A rule names arguments in 32 bits: more of them leave the word.
     let Ok(first) = u32::try_from(program.args.as_slice().len()) else {
         return Err(OutOfMemory);
     };

@@ -4,6 +4,7 @@ ghost use Rattle.fx_type.specs.declared.decimal.Decimal.{Decimal};
 ghost use Rattle.dg_model.specs.Attributes.{attributes_of};
 ghost use Rattle.dg_model.specs.declared.diagram.Block.{Block};
 ghost use Rattle.dg_sim.specs.inner.Building.{HandsOn, IsMade};
+ghost use Rattle.dg_sim.specs.inner.Finding.{Finds, IsRead, IsTurn, ReadsNow};
 ghost use Rattle.dg_model.specs.declared.kind.Kind.{Kind};
 
 use crate::memories::slowed;
@@ -23,19 +24,19 @@ pub fn hand_on(
     port: u32,
     element: u32,
 ) -> Result<Rule, OutOfMemory>
-    requires { HandsOn checked.now.diagram (attributes_of checked.now.diagram) place port element }
+    requires hands { HandsOn checked.now.diagram (attributes_of checked.now.diagram) place port
+        element }
+    requires finds { Finds checked.now starts.now program.now.places }
+    requires now { ReadsNow checked.now program.now.places k place.block }
+    requires read { IsRead checked.now.diagram (attributes_of checked.now.diagram) place.block port
+        element }
     ensures { IfOk result (λ rule. IsMade checked.now.diagram (attributes_of checked.now.diagram)
         program.now program.now k place rule) }
 {
+    let _ = k;
     let places = program.places.as_slice();
-    let Some(from) = input(checked, starts, places, place.block, port, element) else {
-        return Err(OutOfMemory);
-    };
-    if from < k {
-        Ok(Rule::Same { from })
-    } else {
-        Err(OutOfMemory)
-    }
+    let from = input(checked, starts, places, place.block, port, element);
+    Ok(Rule::Same { from })
 }
 
 /// The rule of a rate transition.
@@ -49,14 +50,13 @@ pub fn transition(
     initial: &[Decimal],
 ) -> Result<Rule, OutOfMemory>
     requires block { slice_get checked.now.diagram.blocks place.block ≡ Some block.now }
+    requires turn { IsTurn checked.now starts.now program.old.places k place block.now }
     requires kind { (period : Decimal) × (block.now.kind ≡ Kind.RateTransition period initial.now) }
     ensures { IfOk result (λ rule. IsMade checked.now.diagram (attributes_of checked.now.diagram)
         program.old program.new k place rule) }
 {
     checked.keeps_rules();
-    let Some(slow) = period_of_input(checked, starts, place.block, 1) else {
-        return Err(OutOfMemory);
-    };
+    let slow = period_of_input(checked, starts, place.block, 1);
     let own = checked.period(place.block);
     if is_slower(slow, own) {
         slowed(checked, starts, program, k, place, block, initial, slow)

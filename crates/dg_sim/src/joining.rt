@@ -1,5 +1,5 @@
 //! The rules of a Mux and of a Demux: which element of an input they hand on.
-ghost use Rattle.std.specs.Prelude.{◌≡◌, ◌≤◌, ◌-◌, ℕ, suc, map, sum, List, Some, slice_get, IfOk, IfSome};
+ghost use Rattle.std.specs.Prelude.{◌≡◌, ◌≤◌, ◌<◌, ◌-◌, ◌^◌, ℕ, suc, map, sum, List, Some, slice_get, IfOk};
 ghost use Rattle.dg_waves.specs.Rounds.{numbers_from};
 ghost use Rattle.dg_model.specs.Attributes.{attributes_of};
 ghost use Rattle.dg_model.specs.Signals.{Attributes};
@@ -10,6 +10,7 @@ ghost use Rattle.dg_model.specs.Equation.{IsPart};
 ghost use Rattle.dg_model.specs.Wires.{width_into, widths_into};
 ghost use Rattle.dg_sim.specs.inner.Building.{IsMade};
 ghost use Rattle.dg_sim.specs.inner.Cursors.{AreCursors, IsInto, IsOut};
+ghost use Rattle.dg_sim.specs.inner.Finding.{AreLines, IsTurn};
 
 use crate::handing::hand_on;
 use crate::program::{Place, Program, Rule};
@@ -87,52 +88,49 @@ fn part_into(
     block: u32,
     inputs: u32,
     element: u32,
-) -> Option<Part>
-    requires { IsInto checked.now.diagram (attributes_of checked.now.diagram) from }
-    ensures { IfSome result (λ part. (signal : ℕ) × (part.port ≡ suc signal) × IsPart (widths_into
+) -> Part
+    requires into { IsInto checked.now.diagram (attributes_of checked.now.diagram) from }
+    requires lines { AreLines checked.now.diagram starts.now.lines.items }
+    requires element { element < sum (widths_into checked.now.diagram
+        (attributes_of checked.now.diagram) block inputs) }
+    ensures { (signal : ℕ) × (result.port ≡ suc signal) × IsPart (widths_into
         checked.now.diagram (attributes_of checked.now.diagram) block inputs) element signal
-        part.element × (part.before ≡ sum (map (width_into checked.now.diagram
-        (attributes_of checked.now.diagram) block) (numbers_from 1 signal)))) }
+        result.element × (result.before ≡ sum (map (width_into checked.now.diagram
+        (attributes_of checked.now.diagram) block) (numbers_from 1 signal))) }
 {
     let start = begun(from, block, inputs, element);
+    let mut signal = start.ports;
     let mut before = start.before;
-    for signal in start.ports..inputs {
-        let port = signal + 1;
-        let Some(width) = width_of_input(checked, starts, block, port) else {
-            return None;
-        };
-        let left = element - before;
-        if left < width {
-            return Some(Part {
-                port,
-                element: left,
-                before,
-            });
-        }
+    let mut width = width_of_input(checked, starts, block, signal + 1);
+    while width <= element - before {
         before += width;
+        signal += 1;
+        width = width_of_input(checked, starts, block, signal + 1);
     }
-    None
+    Part {
+        port: signal + 1,
+        element: element - before,
+        before,
+    }
 }
 
 /// How many elements the output ports of a block before one of them have.
-fn width_before(checked: &Checked, from: Cursor, block: u32, port: u32) -> Option<u32>
-    requires { IsOut (attributes_of checked.now.diagram) from }
-    ensures { IfSome result (λ width. width ≡ sum (map
-        ((attributes_of checked.now.diagram).width_at block) (numbers_from 1 (port - 1)))) }
+fn width_before(checked: &Checked, from: Cursor, block: u32, port: u32) -> u32
+    requires out { IsOut (attributes_of checked.now.diagram) from }
+    requires block { (b : Block) × (slice_get checked.now.diagram.blocks block ≡ Some b)
+        × (port ≤ b.outputs) × (sum (map ((attributes_of checked.now.diagram).width_at block)
+        (numbers_from 1 b.outputs)) < 2 ^ 32) }
+    requires from { 1 ≤ port }
+    ensures { result ≡ sum (map ((attributes_of checked.now.diagram).width_at block)
+        (numbers_from 1 (port - 1))) }
 {
-    let count = port.saturating_sub(1);
+    let count = port - 1;
     let start = begun(from, block, count, u32::MAX);
     let mut total = start.before;
     for i in start.ports..count {
-        let Some(width) = width_of_output(checked, block, i + 1) else {
-            return None;
-        };
-        let Some(more) = total.checked_add(width) else {
-            return None;
-        };
-        total = more;
+        total += width_of_output(checked, block, i + 1);
     }
-    Some(total)
+    total
 }
 
 /// The rule of a Mux.
@@ -147,6 +145,7 @@ pub fn joined(
 ) -> Result<Rule, OutOfMemory>
     requires block { slice_get checked.now.diagram.blocks place.block ≡ Some block.now }
     requires kind { (sizes : List ℕ) × (block.now.kind ≡ Kind.Mux sizes) }
+    requires turn { IsTurn checked.now starts.now program.now.places k place block.now }
     requires cursors { AreCursors checked.now.diagram
         (attributes_of checked.now.diagram) cursors.old }
     ensures made { IfOk result (λ rule. IsMade checked.now.diagram
@@ -155,8 +154,9 @@ pub fn joined(
     ensures cursors { AreCursors checked.now.diagram
         (attributes_of checked.now.diagram) cursors.new }
 {
+    checked.keeps_rules();
     let from = cursors.into;
-    let found = part_into(
+    let part = part_into(
         checked,
         starts,
         from,
@@ -164,9 +164,6 @@ pub fn joined(
         block.inputs,
         place.element,
     );
-    let Some(part) = found else {
-        return Err(OutOfMemory);
-    };
     cursors.into = Cursor {
         block: place.block,
         ports: part.port - 1,
@@ -183,9 +180,11 @@ pub fn parted(
     program: &Program,
     k: u32,
     place: Place,
+    block: &Block,
 ) -> Result<Rule, OutOfMemory>
-    requires block { (b : Block) × (slice_get checked.now.diagram.blocks place.block ≡ Some b)
-        × (sizes : List ℕ) × (b.kind ≡ Kind.Demux sizes) }
+    requires block { slice_get checked.now.diagram.blocks place.block ≡ Some block.now }
+    requires kind { (sizes : List ℕ) × (block.now.kind ≡ Kind.Demux sizes) }
+    requires turn { IsTurn checked.now starts.now program.now.places k place block.now }
     requires cursors { AreCursors checked.now.diagram
         (attributes_of checked.now.diagram) cursors.old }
     ensures made { IfOk result (λ rule. IsMade checked.now.diagram
@@ -194,17 +193,22 @@ pub fn parted(
     ensures cursors { AreCursors checked.now.diagram
         (attributes_of checked.now.diagram) cursors.new }
 {
+    checked.keeps_rules();
+    let _name = &block.path;
     let from = cursors.out;
-    let Some(before) = width_before(checked, from, place.block, place.port) else {
-        return Err(OutOfMemory);
-    };
+    let before = width_before(checked, from, place.block, place.port);
     cursors.out = Cursor {
         block: place.block,
-        ports: place.port.saturating_sub(1),
+        ports: place.port - 1,
         before,
     };
-    let Some(element) = before.checked_add(place.element) else {
-        return Err(OutOfMemory);
-    };
-    hand_on(checked, starts, program, k, place, 1, element)
+    hand_on(
+        checked,
+        starts,
+        program,
+        k,
+        place,
+        1,
+        before + place.element,
+    )
 }

@@ -1,12 +1,14 @@
 //! What is kept for the rules that look back.
-ghost use Rattle.std.specs.Prelude.{◌≡◌, ◌≤◌, Some, slice_get, true, IfOk, IfSome};
+ghost use Rattle.std.specs.Prelude.{◌≡◌, ◌≤◌, ℕ, Some, slice_get, true, IfOk, IfSome};
 ghost use Rattle.dg_model.specs.Attributes.{attributes_of};
 ghost use Rattle.fx_type.specs.declared.decimal.Decimal.{Decimal};
 ghost use Rattle.dg_model.specs.declared.kind.Kind.{Kind};
 ghost use Rattle.dg_model.specs.Hits.{is_slow_to_fast};
 ghost use Rattle.dg_model.specs.Wires.{period_into};
 ghost use Rattle.dg_sim.specs.State.{kept_count};
-ghost use Rattle.dg_sim.specs.inner.Building.{IsControl, Moves, IsRemembered, IsMade, IsControlCell};
+ghost use Rattle.dg_sim.specs.inner.Building.{IsControl, Moves, IsRemembered, IsMade};
+ghost use Rattle.dg_sim.specs.inner.Finding.{Finds, IsRead, IsTurn};
+ghost use Rattle.dg_sim.specs.inner.Laying.{place_at};
 
 use crate::laws::{kept_moves, operations_prepare};
 use crate::program::{Memory, Place, Program, Rule};
@@ -16,29 +18,45 @@ use dg_model::{Block, Checked};
 use fx_io::OutOfMemory;
 use fx_type::Decimal;
 
+/// The cell of the control of the enabled subsystem that holds a block.
+fn control_cell(
+    checked: &Checked,
+    starts: &Starts,
+    program: &Program,
+    block: &Block,
+    enable: u32,
+) -> u32
+    requires finds { Finds checked.now starts.now program.now.places }
+    requires block { (at : ℕ) × (slice_get checked.now.diagram.blocks at ≡ Some block.now) }
+    requires enable { block.now.enable ≡ Some enable }
+    ensures { slice_get program.now.places result ≡ Some (place_at enable 1 0) }
+{
+    checked.keeps_rules();
+    let _name = &block.path;
+    let place = Place {
+        block: enable,
+        port: 1,
+        element: 0,
+    };
+    look_up(checked, starts, program.places.as_slice(), place)
+}
+
 /// The cell of the control that enables a block; none outside of enabled subsystems.
 fn control_of(
     checked: &Checked,
     starts: &Starts,
     program: &Program,
     block: &Block,
-) -> Result<Option<u32>, OutOfMemory>
-    ensures { IfOk result (λ control. IsControl checked.now.diagram
-        (attributes_of checked.now.diagram) program.now.places block.now.enable control) }
+) -> Option<u32>
+    requires finds { Finds checked.now starts.now program.now.places }
+    requires block { (at : ℕ) × (slice_get checked.now.diagram.blocks at ≡ Some block.now) }
+    ensures { IsControl checked.now.diagram (attributes_of checked.now.diagram) program.now.places
+        block.now.enable result }
 {
-    let _ = checked.order();
-    let Some(enable) = block.enable else {
-        return Ok(None);
-    };
-    let place = Place {
-        block: enable,
-        port: 1,
-        element: 0,
-    };
-    let Some(cell) = look_up(program.places.as_slice(), starts, place) else {
-        return Err(OutOfMemory);
-    };
-    Ok(Some(cell))
+    match block.enable {
+        Some(enable) => Some(control_cell(checked, starts, program, block, enable)),
+        None => None,
+    }
 }
 
 /// One more memory for an entry of a block, which keeps what its input port offers.
@@ -54,6 +72,9 @@ fn remember(
     room: u32,
 ) -> Result<u32, OutOfMemory>
     requires block { slice_get checked.now.diagram.blocks place.block ≡ Some block.now }
+    requires finds { Finds checked.now starts.now program.old.places }
+    requires read { IsRead checked.now.diagram (attributes_of checked.now.diagram) place.block 1
+        place.element }
     requires room { room ≡ kept_count block.now.kind }
     requires moves { Moves checked.now.diagram (attributes_of checked.now.diagram)
         program.old.places place block.now period control reset }
@@ -61,7 +82,7 @@ fn remember(
         (attributes_of checked.now.diagram) program.old program.new place m) }
 {
     let _name = &block.path;
-    let found = input(
+    let from = input(
         checked,
         starts,
         program.places.as_slice(),
@@ -69,9 +90,7 @@ fn remember(
         1,
         place.element,
     );
-    let Some(from) = found else {
-        return Err(OutOfMemory);
-    };
+    // A rule names memories in 32 bits: more of them leave the word.
     let Ok(number) = u32::try_from(program.memories.as_slice().len()) else {
         return Err(OutOfMemory);
     };
@@ -99,6 +118,7 @@ pub fn delayed(
     reset: bool,
 ) -> Result<Rule, OutOfMemory>
     requires block { slice_get checked.now.diagram.blocks place.block ≡ Some block.now }
+    requires turn { IsTurn checked.now starts.now program.old.places k place block.now }
     requires kind { block.now.kind ≡ Kind.Delay length initial.now reset }
     requires some { 1 ≤ length }
     ensures { IfOk result (λ rule. IsMade checked.now.diagram (attributes_of checked.now.diagram)
@@ -107,10 +127,8 @@ pub fn delayed(
     operations_prepare();
     kept_moves();
     checked.keeps_rules();
-    let control = control_of(checked, starts, program, block)?;
-    let Some(first) = stored(initial, place.element, checked.result(place.block)) else {
-        return Err(OutOfMemory);
-    };
+    let control = control_of(checked, starts, program, block);
+    let first = stored(initial, place.element, checked.result(place.block));
     let period = checked.period(place.block);
     let memory = remember(
         checked, starts, program, place, block, period, control, reset, length,
@@ -134,6 +152,7 @@ pub fn slowed(
     slow: Option<u32>,
 ) -> Result<Rule, OutOfMemory>
     requires block { slice_get checked.now.diagram.blocks place.block ≡ Some block.now }
+    requires turn { IsTurn checked.now starts.now program.old.places k place block.now }
     requires kind { (period : Decimal) × (block.now.kind ≡ Kind.RateTransition period initial.now) }
     requires slow { slow ≡ period_into checked.now.diagram (attributes_of checked.now.diagram)
         place.block 1 }
@@ -145,30 +164,13 @@ pub fn slowed(
     operations_prepare();
     kept_moves();
     checked.keeps_rules();
-    let Some(first) = stored(initial, place.element, checked.result(place.block)) else {
-        return Err(OutOfMemory);
-    };
+    let first = stored(initial, place.element, checked.result(place.block));
     let memory = remember(checked, starts, program, place, block, slow, None, false, 2)?;
     Ok(Rule::Slower {
         memory,
         period: slow,
         initial: first,
     })
-}
-
-/// The cell of the control of the enabled subsystem that holds a block.
-fn control_cell(starts: &Starts, program: &Program, block: &Block) -> Option<u32>
-    ensures { IfSome result (λ cell. IsControlCell program.now.places block.now.enable cell) }
-{
-    let Some(enable) = block.enable else {
-        return None;
-    };
-    let place = Place {
-        block: enable,
-        port: 1,
-        element: 0,
-    };
-    look_up(program.places.as_slice(), starts, place)
 }
 
 /// The rule of an output port of an enabled subsystem.
@@ -183,6 +185,7 @@ pub fn gated(
     initial: &[Decimal],
 ) -> Result<Rule, OutOfMemory>
     requires block { slice_get checked.now.diagram.blocks place.block ≡ Some block.now }
+    requires turn { IsTurn checked.now starts.now program.old.places k place block.now }
     requires kind { block.now.kind ≡ Kind.EnOut reset initial.now }
     ensures { IfOk result (λ rule. IsMade checked.now.diagram (attributes_of checked.now.diagram)
         program.old program.new k place rule) }
@@ -190,13 +193,12 @@ pub fn gated(
     operations_prepare();
     kept_moves();
     checked.keeps_rules();
-    let Some(cell) = control_cell(starts, program, block) else {
-        return Err(OutOfMemory);
+    let Some(enable) = block.enable else {
+        unreachable!();
     };
-    if cell >= k {
-        return Err(OutOfMemory);
-    }
-    let found = input(
+    let cell = control_cell(checked, starts, program, block, enable);
+    let _ = k;
+    let from = input(
         checked,
         starts,
         program.places.as_slice(),
@@ -204,15 +206,7 @@ pub fn gated(
         1,
         place.element,
     );
-    let Some(from) = found else {
-        return Err(OutOfMemory);
-    };
-    if from >= k {
-        return Err(OutOfMemory);
-    }
-    let Some(first) = stored(initial, place.element, checked.result(place.block)) else {
-        return Err(OutOfMemory);
-    };
+    let first = stored(initial, place.element, checked.result(place.block));
     if reset {
         return Ok(Rule::Reset {
             from,

@@ -1,35 +1,64 @@
 //! Where the values come from that a block reads.
-ghost use Rattle.std.specs.Prelude.{◌≡◌, ◌≤◌, ◌<◌, Some, None, IfSome, slice_get};
+ghost use Rattle.std.specs.Prelude.{◌≡◌, ◌≤◌, ◌<◌, ℕ, Some, None, IfSome, slice_get, slice_index_or};
 ghost use Rattle.dg_model.specs.Attributes.{attributes_of};
-ghost use Rattle.dg_model.specs.Wires.{driver_of, width_into, type_into, period_into, repeated};
+ghost use Rattle.dg_model.specs.Wires.{driver_of, enters, width_into, type_into, period_into, repeated};
 ghost use Rattle.dg_model.specs.Hits.{is_slow_to_fast};
-ghost use Rattle.dg_sim.specs.inner.Building.{IsSource, Reads, IsShownPort};
+ghost use Rattle.dg_sim.specs.inner.Building.{IsEntry, Reads};
+ghost use Rattle.dg_model.specs.Solves.{shown_ports, shown_width};
+ghost use Rattle.dg_sim.specs.inner.Finding.{AreLines, Finds, IsRead, IsBeforeReader, source_of};
+ghost use Rattle.dg_model.specs.declared.diagram.Block.{Block};
 
 use crate::program::Place;
 use crate::roots::output_number;
 use dg_model::{Block, Checked, Edge};
 use fx_type::FxType;
 
-/// What finds the lines and the entries of a block: where its input lines and its entries begin. A
-/// place that is not right finds nothing.
+/// What finds the lines and the entries of a block.
 #[derive(Drop)]
 pub struct Starts {
-    pub edges: Vec<u32>,
-    pub places: Vec<u32>,
+    /// Where the lines into each block begin.
+    pub lines: Vec<usize>,
+    /// Where the ports of each block begin.
+    pub ports: Vec<usize>,
+    /// Where the entries of each port begin.
+    pub entries: Vec<usize>,
 }
 
-/// The line into an input port.
+/// A place that is written down; 0 past the last one.
+fn place_of(list: &[usize], at: usize) -> usize
+    ensures { result ≡ slice_index_or list.now at 0 }
+{
+    match list.get(at) {
+        Some(place) => *place,
+        None => 0,
+    }
+}
+
+/// Whether a line is the one into this input port.
+fn is_into(edge: Edge, block: u32, port: u32) -> bool
+    ensures { result ≡ enters block port edge }
+{
+    edge.to == block && edge.to_port == port
+}
+
+/// The line into an input port, where there is such a port.
 fn driver(checked: &Checked, starts: &Starts, block: u32, port: u32) -> Option<Edge>
-    ensures { IfSome result (λ edge. driver_of checked.now.diagram block port ≡ Some edge) }
+    requires { AreLines checked.now.diagram starts.now.lines.items }
+    ensures { result ≡ driver_of checked.now.diagram block port }
 {
     checked.keeps_rules();
-    let Some(first) = starts.edges.get(block as usize) else {
+    let edges = checked.diagram().edges.as_slice();
+    let at = place_of(starts.lines.as_slice(), block as usize)
+        .saturating_add(port as usize)
+        .saturating_sub(1);
+    if at >= edges.len() {
         return None;
-    };
-    let at = (u64::from(*first) + u64::from(port)).saturating_sub(1) as usize;
-    match checked.diagram().edges.as_slice().get(at) {
-        Some(edge) if edge.to == block && edge.to_port == port => Some(*edge),
-        _ => None,
+    }
+    let edge = edges[at];
+    if is_into(edge, block, port) {
+        Some(edge)
+    } else {
+        None
     }
 }
 
@@ -40,100 +69,76 @@ pub fn place_in(width: usize, element: u32) -> usize
     if width == 1 { 0 } else { element as usize }
 }
 
-/// The width at the source of an input port.
-pub fn width_of_input(checked: &Checked, starts: &Starts, block: u32, port: u32) -> Option<u32>
-    ensures { IfSome result (λ width.
-        width ≡ width_into checked.now.diagram (attributes_of checked.now.diagram) block port) }
+/// The width at the source of an input port; 0 where there is no such port.
+pub fn width_of_input(checked: &Checked, starts: &Starts, block: u32, port: u32) -> u32
+    requires { AreLines checked.now.diagram starts.now.lines.items }
+    ensures { result ≡ width_into checked.now.diagram (attributes_of checked.now.diagram) block port }
 {
     checked.keeps_rules();
-    let Some(edge) = driver(checked, starts, block, port) else {
-        return None;
-    };
-    Some(checked.width(edge.from, edge.from_port))
+    match driver(checked, starts, block, port) {
+        Some(edge) => checked.width(edge.from, edge.from_port),
+        None => 0,
+    }
 }
 
 /// The width at an output port.
-pub fn width_of_output(checked: &Checked, block: u32, port: u32) -> Option<u32>
-    ensures { IfSome result (λ width.
-        width ≡ (attributes_of checked.now.diagram).width_at block port) }
+pub fn width_of_output(checked: &Checked, block: u32, port: u32) -> u32
+    requires { (b : Block) × (slice_get checked.now.diagram.blocks block ≡ Some b) × (1 ≤ port)
+        × (port ≤ b.outputs) }
+    ensures { result ≡ (attributes_of checked.now.diagram).width_at block port }
 {
     checked.keeps_rules();
-    let Some(one) = checked.diagram().blocks.as_slice().get(block as usize) else {
-        return None;
-    };
-    let Some(width) = width_of_output_of(checked, one, block, port) else {
-        return None;
-    };
-    Some(width)
+    checked.width(block, port)
 }
 
-/// How many elements the table shows at a port of a block; none where it shows no such port.
-pub fn shown_at(checked: &Checked, starts: &Starts, block: u32, port: u32) -> Option<u32>
-    ensures { IfSome result (λ width. IsShownPort checked.now.diagram
-        (attributes_of checked.now.diagram) block port width) }
+/// At how many ports the table shows a block.
+pub fn ports_shown(block: &Block) -> u32
+    ensures { result ≡ shown_ports block.now.kind block.now.outputs }
 {
-    checked.keeps_rules();
-    let Some(one) = checked.diagram().blocks.as_slice().get(block as usize) else {
-        return None;
-    };
+    match output_number(&block.kind) {
+        Some(_) => 1,
+        None => block.outputs,
+    }
+}
+
+/// How many elements the table shows at a port of a block.
+pub fn width_shown(checked: &Checked, starts: &Starts, one: &Block, block: u32, port: u32) -> u32
+    requires lines { AreLines checked.now.diagram starts.now.lines.items }
+    requires block { slice_get checked.now.diagram.blocks block ≡ Some one.now }
+    requires from { 1 ≤ port }
+    requires to { port ≤ shown_ports one.now.kind one.now.outputs }
+    ensures { result ≡ shown_width checked.now.diagram (attributes_of checked.now.diagram)
+        one.now.kind block port }
+{
     match output_number(&one.kind) {
-        Some(_) => {
-            if port == 1 {
-                width_of_input(checked, starts, block, 1)
-            } else {
-                None
-            }
-        }
-        None => {
-            let Some(width) = width_of_output_of(checked, one, block, port) else {
-                return None;
-            };
-            Some(width)
-        }
+        Some(_) => width_of_input(checked, starts, block, 1),
+        None => width_of_output(checked, block, port),
     }
 }
 
-/// The same of a block that is no root output port.
-fn width_of_output_of(checked: &Checked, one: &Block, block: u32, port: u32) -> Option<u32>
-    requires { slice_get checked.now.diagram.blocks block ≡ Some one.now }
-    ensures { IfSome result (λ width. (1 ≤ port) × (port ≤ one.now.outputs)
-        × (width ≡ (attributes_of checked.now.diagram).width_at block port)) }
+/// The type of what an input port offers; Logical where there is no such port.
+pub fn type_of_input(checked: &Checked, starts: &Starts, block: u32, port: u32) -> FxType
+    requires { AreLines checked.now.diagram starts.now.lines.items }
+    ensures { result ≡ type_into checked.now.diagram (attributes_of checked.now.diagram) block port }
 {
     checked.keeps_rules();
-    if 1 <= port && port <= one.outputs {
-        Some(checked.width(block, port))
-    } else {
-        None
+    match driver(checked, starts, block, port) {
+        Some(edge) => checked.result(edge.from),
+        None => FxType::Logical,
     }
 }
 
-/// The type of what an input port offers.
-pub fn type_of_input(checked: &Checked, starts: &Starts, block: u32, port: u32) -> Option<FxType>
-    ensures { IfSome result (λ kind.
-        kind ≡ type_into checked.now.diagram (attributes_of checked.now.diagram) block port) }
+/// The period of the block that drives an input port; none where there is no such port.
+pub fn period_of_input(checked: &Checked, starts: &Starts, block: u32, port: u32) -> Option<u32>
+    requires { AreLines checked.now.diagram starts.now.lines.items }
+    ensures { result ≡ period_into checked.now.diagram (attributes_of checked.now.diagram) block
+        port }
 {
     checked.keeps_rules();
-    let Some(edge) = driver(checked, starts, block, port) else {
-        return None;
-    };
-    Some(checked.result(edge.from))
-}
-
-/// The period of the block that drives an input port.
-pub fn period_of_input(
-    checked: &Checked,
-    starts: &Starts,
-    block: u32,
-    port: u32,
-) -> Option<Option<u32>>
-    ensures { IfSome result (λ period.
-        period ≡ period_into checked.now.diagram (attributes_of checked.now.diagram) block port) }
-{
-    checked.keeps_rules();
-    let Some(edge) = driver(checked, starts, block, port) else {
-        return None;
-    };
-    Some(checked.period(edge.from))
+    match driver(checked, starts, block, port) {
+        Some(edge) => checked.period(edge.from),
+        None => None,
+    }
 }
 
 /// Whether a rate transition leads from slow to fast.
@@ -147,65 +152,30 @@ pub fn is_slower(driver: Option<u32>, own: Option<u32>) -> bool
 }
 
 /// The entry that an input port offers to an element.
-pub fn source(
-    checked: &Checked,
-    starts: &Starts,
-    block: u32,
-    port: u32,
-    element: u32,
-) -> Option<Place>
-    ensures { IfSome result (λ place. IsSource checked.now.diagram
-        (attributes_of checked.now.diagram) block port element place) }
+fn source(checked: &Checked, edge: Edge, element: u32) -> Place
+    requires { (block port : ℕ) × (driver_of checked.now.diagram block port ≡ Some edge) }
+    ensures { result ≡ source_of (attributes_of checked.now.diagram) edge element }
 {
     checked.keeps_rules();
-    let Some(edge) = driver(checked, starts, block, port) else {
-        return None;
-    };
     let width = checked.width(edge.from, edge.from_port);
-    Some(Place {
+    Place {
         block: edge.from,
         port: edge.from_port,
         element: if width == 1 { 0 } else { element },
-    })
-}
-
-/// Whether a place stands before another one of the same block.
-fn is_before(place: Place, other: Place) -> bool {
-    place.block == other.block
-        && (place.port < other.port || place.port == other.port && place.element < other.element)
-}
-
-/// Where a place stands in a list in which the places of each block stand in order.
-pub fn look_up(places: &[Place], starts: &Starts, place: Place) -> Option<u32>
-    ensures { IfSome result (λ j. slice_get places.now j ≡ Some place) }
-{
-    let Some(start) = starts.places.get(place.block as usize) else {
-        return None;
-    };
-    let mut low = *start as usize;
-    let mut high = places.len();
-    while low < high {
-        let middle = low + (high - low) / 2;
-        if is_before(places[middle], place) {
-            low = middle + 1;
-        } else {
-            high = middle;
-        }
     }
-    found_at(places, low, place)
 }
 
-/// The number of a place in the list, where it stands there.
-fn found_at(places: &[Place], at: usize, place: Place) -> Option<u32>
-    ensures { IfSome result (λ j. slice_get places.now j ≡ Some place) }
+/// The number of an entry in the list. A number below 2^32 is one of 32 bits.
+pub fn look_up(checked: &Checked, starts: &Starts, places: &[Place], place: Place) -> u32
+    requires finds { Finds checked.now starts.now places.now }
+    requires entry { IsEntry checked.now.diagram (attributes_of checked.now.diagram) place }
+    ensures { slice_get places.now result ≡ Some place }
 {
-    let Ok(number) = u32::try_from(at) else {
-        return None;
-    };
-    match places.get(number as usize) {
-        Some(found) if *found == place => Some(number),
-        _ => None,
-    }
+    let _ = (checked.order().len(), places.len());
+    let (ports, entries) = (starts.ports.as_slice(), starts.entries.as_slice());
+    let first = place_of(ports, place.block as usize);
+    let from = place_of(entries, first + (place.port - 1) as usize);
+    (from + place.element as usize) as u32
 }
 
 /// The entry in the list that an input port offers to an element.
@@ -216,12 +186,17 @@ pub fn input(
     block: u32,
     port: u32,
     element: u32,
-) -> Option<u32>
-    ensures { IfSome result (λ j. Reads checked.now.diagram
-        (attributes_of checked.now.diagram) places.now block port element j) }
+) -> u32
+    requires finds { Finds checked.now starts.now places.now }
+    requires read { IsRead checked.now.diagram (attributes_of checked.now.diagram) block port
+        element }
+    ensures reads { Reads checked.now.diagram (attributes_of checked.now.diagram) places.now block
+        port element result }
+    ensures before { IsBeforeReader checked.now places.now block result }
 {
-    let Some(place) = source(checked, starts, block, port, element) else {
-        return None;
+    checked.keeps_rules();
+    let Some(edge) = driver(checked, starts, block, port) else {
+        unreachable!();
     };
-    look_up(places, starts, place)
+    look_up(checked, starts, places, source(checked, edge, element))
 }

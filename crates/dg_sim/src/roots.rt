@@ -1,12 +1,14 @@
 //! The elements of the root inputs and outputs, in the order in which rows have their numbers.
-ghost use Rattle.std.specs.Prelude.{◌≡◌, ◌≢◌, ◌++◌, ◌≤◌, ℕ, map, filter_map, count_by, is_some, position, AllPairs, IfOk, IfSome, OnOk, Some, slice_get};
+ghost use Rattle.std.specs.Prelude.{◌≡◌, ◌≢◌, ◌++◌, ◌≤◌, ℕ, map, filter_map, count_by, is_some, length, position, AllPairs, IfOk, IfSome, OnOk, Some, slice_get};
 ghost use Rattle.dg_waves.specs.Rounds.{numbers_from};
 ghost use Rattle.dg_model.specs.Attributes.{attributes_of};
 ghost use Rattle.dg_model.specs.Library.{row_of};
 ghost use Rattle.dg_model.specs.Wired.{root_input, root_output};
 ghost use Rattle.dg_model.specs.RootElements.{number_in, has_number, elements_of_port, root_inputs, root_outputs};
-ghost use Rattle.dg_sim.specs.inner.Roots.{root_at, roots_of};
+ghost use Rattle.dg_sim.specs.inner.Roots.{root_at, roots_of, is_root_before};
+ghost use Rattle.dg_sim.specs.inner.Finding.{AreLines};
 ghost use Rattle.dg_model.specs.Wires.{width_into};
+ghost use Rattle.dg_model.specs.declared.diagram.Block.{Block};
 
 use crate::reading::{Starts, width_of_input, width_of_output};
 use dg_model::{Block, Checked, Kind};
@@ -86,7 +88,8 @@ fn is_input(block: &Block) -> bool
 
 /// How many root input ports there are.
 fn count_inputs(blocks: &[Block]) -> usize
-    ensures { result ≡ count_by (λ block. is_some (number_in root_input block)) blocks.now }
+    ensures count { result ≡ count_by (λ block. is_some (number_in root_input block)) blocks.now }
+    ensures few { result ≤ length blocks.now }
 {
     let mut count: usize = 0;
     for block in blocks {
@@ -106,7 +109,8 @@ fn is_output(block: &Block) -> bool
 
 /// How many root output ports there are.
 fn count_outputs(blocks: &[Block]) -> usize
-    ensures { result ≡ count_by (λ block. is_some (number_in root_output block)) blocks.now }
+    ensures count { result ≡ count_by (λ block. is_some (number_in root_output block)) blocks.now }
+    ensures few { result ≤ length blocks.now }
 {
     let mut count: usize = 0;
     for block in blocks {
@@ -156,7 +160,8 @@ fn input_of(blocks: &[Block], places: &[u32], number: u32) -> Option<u32>
     requires { AllPairs (λ number other. number ≢ other) (filter_map (number_in root_input)
         blocks.now) }
     ensures { IfSome result (λ block.
-        position (has_number root_input number) blocks.now ≡ Some block) }
+        (position (has_number root_input number) blocks.now ≡ Some block) × (b : Block)
+        × (slice_get blocks.now block ≡ Some b) × (number_in root_input b ≡ Some number)) }
 {
     let Some(place) = places.get(number.saturating_sub(1) as usize) else {
         return None;
@@ -220,9 +225,7 @@ fn put_input_port(
     let Some(block) = input_of(checked.diagram().blocks.as_slice(), places, number) else {
         return Err(OutOfMemory);
     };
-    let Some(width) = width_of_output(checked, block, 1) else {
-        return Err(OutOfMemory);
-    };
+    let width = width_of_output(checked, block, 1);
     put_port(roots, number, block, width)?;
     Ok(())
 }
@@ -235,6 +238,7 @@ fn put_output_port(
     places: &[u32],
     number: u32,
 ) -> Result<(), OutOfMemory>
+    requires { AreLines checked.now.diagram starts.now.lines.items }
     ensures { OnOk result (roots.new ≡ roots.old ++ roots_of (elements_of_port
         (attributes_of checked.now.diagram)
         (λ block. width_into checked.now.diagram (attributes_of checked.now.diagram) block 1)
@@ -244,9 +248,7 @@ fn put_output_port(
     let Some(block) = output_of(checked.diagram().blocks.as_slice(), places, number) else {
         return Err(OutOfMemory);
     };
-    let Some(width) = width_of_input(checked, starts, block, 1) else {
-        return Err(OutOfMemory);
-    };
+    let width = width_of_input(checked, starts, block, 1);
     put_port(roots, number, block, width)?;
     Ok(())
 }
@@ -257,10 +259,8 @@ pub fn input_roots(alloc: Global, checked: &Checked) -> Result<Roots, OutOfMemor
         (root_inputs checked.now.diagram (attributes_of checked.now.diagram))) }
 {
     let mut roots = Roots::new(alloc);
-    let count = count_inputs(checked.diagram().blocks.as_slice());
-    let Ok(count) = u32::try_from(count) else {
-        return Err(OutOfMemory);
-    };
+    checked.keeps_rules();
+    let count = count_inputs(checked.diagram().blocks.as_slice()) as u32;
     let places = input_places(alloc, checked.diagram().blocks.as_slice(), count)?;
     for i in 0..count {
         put_input_port(&mut roots, checked, places.as_slice(), i + 1)?;
@@ -270,14 +270,13 @@ pub fn input_roots(alloc: Global, checked: &Checked) -> Result<Roots, OutOfMemor
 
 /// The elements of the root outputs.
 pub fn output_roots(alloc: Global, checked: &Checked, starts: &Starts) -> Result<Roots, OutOfMemory>
+    requires { AreLines checked.now.diagram starts.now.lines.items }
     ensures { IfOk result (λ roots. roots ≡ roots_of
         (root_outputs checked.now.diagram (attributes_of checked.now.diagram))) }
 {
     let mut roots = Roots::new(alloc);
-    let count = count_outputs(checked.diagram().blocks.as_slice());
-    let Ok(count) = u32::try_from(count) else {
-        return Err(OutOfMemory);
-    };
+    checked.keeps_rules();
+    let count = count_outputs(checked.diagram().blocks.as_slice()) as u32;
     let places = output_places(alloc, checked.diagram().blocks.as_slice(), count)?;
     for i in 0..count {
         put_output_port(&mut roots, checked, starts, places.as_slice(), i + 1)?;
@@ -286,7 +285,9 @@ pub fn output_roots(alloc: Global, checked: &Checked, starts: &Starts) -> Result
 }
 
 /// Whether a root element stands before another one.
-fn is_before(root: Root, other: Root) -> bool {
+fn is_before(root: Root, other: Root) -> bool
+    ensures { result ≡ is_root_before root other }
+{
     root.number < other.number || root.number == other.number && root.element < other.element
 }
 

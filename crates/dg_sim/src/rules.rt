@@ -8,6 +8,8 @@ ghost use Rattle.dg_model.specs.declared.diagram.Block.{Block};
 ghost use Rattle.dg_model.specs.Equation.{StoresEntry};
 ghost use Rattle.dg_sim.specs.inner.Building.{IsAlways, AreEntries, IsEntry, IsMade};
 ghost use Rattle.dg_sim.specs.inner.Cursors.{AreCursors};
+ghost use Rattle.dg_sim.specs.inner.Finding.{Finds, HasEntry, IsTurn};
+ghost use Rattle.dg_model.specs.Solves.{IsShown};
 ghost use Rattle.dg_sim.specs.inner.Roots.{roots_of};
 ghost use Rattle.dg_model.specs.RootElements.{root_inputs};
 ghost use Rattle.dg_model.specs.declared.kind.Kind.{Kind};
@@ -26,14 +28,13 @@ use fx_io::OutOfMemory;
 use fx_type::{Decimal, FxType};
 
 /// The entry of a list parameter for an element, stored in a type.
-pub fn stored(list: &[Decimal], element: u32, kind: FxType) -> Option<i128>
-    requires { IsType kind }
-    ensures { IfSome result (λ v. StoresEntry list.now element kind v) }
+pub fn stored(list: &[Decimal], element: u32, kind: FxType) -> i128
+    requires kind { IsType kind }
+    requires entry { HasEntry list.now element }
+    ensures { StoresEntry list.now element kind result }
 {
-    match list.get(place_in(list.len(), element)) {
-        Some(decimal) => Some(fx_round::to_stored(*decimal, kind)),
-        None => None,
-    }
+    let at = place_in(list.len(), element);
+    fx_round::to_stored(list[at], kind)
 }
 
 /// The rule of a block whose value never changes.
@@ -64,15 +65,15 @@ fn constant(
 ) -> Result<Rule, OutOfMemory>
     requires block { slice_get checked.now.diagram.blocks place.block ≡ Some block.now }
     requires kind { block.now.kind ≡ Kind.Constant value.now }
+    requires shown { IsShown checked.now.diagram (attributes_of checked.now.diagram) place.block
+        block.now place.port place.element }
     ensures { IfOk result (λ rule. IsMade checked.now.diagram (attributes_of checked.now.diagram)
         program.now program.now k place rule) }
 {
     operations_prepare();
     checked.keeps_rules();
     let _name = &block.path;
-    let Some(first) = stored(value, place.element, checked.result(place.block)) else {
-        return Err(OutOfMemory);
-    };
+    let first = stored(value, place.element, checked.result(place.block));
     fixed(checked, program, k, place, first)
 }
 
@@ -123,6 +124,8 @@ pub fn rule_of(
     requires entries { AreEntries checked.now.diagram (attributes_of checked.now.diagram)
         program.old.places }
     requires entry { IsEntry checked.now.diagram (attributes_of checked.now.diagram) place }
+    requires finds { Finds checked.now starts.now program.old.places }
+    requires at { slice_get program.old.places k ≡ Some place }
     requires cursors { AreCursors checked.now.diagram
         (attributes_of checked.now.diagram) cursors.old }
     ensures made { IfOk result (λ rule. IsMade checked.now.diagram
@@ -142,7 +145,7 @@ pub fn rule_of(
         Kind::Constant { value } => constant(checked, program, k, place, block, value.as_slice()),
         Kind::Ground => fixed(checked, program, k, place, 0),
         Kind::Mux { .. } => joined(checked, starts, cursors, program, k, place, block),
-        Kind::Demux { .. } => parted(checked, starts, cursors, program, k, place),
+        Kind::Demux { .. } => parted(checked, starts, cursors, program, k, place, block),
         Kind::RateTransition { initial, .. } => {
             transition(
                 checked,
@@ -179,6 +182,7 @@ fn kept_rule(
     block: &Block,
 ) -> Result<Rule, OutOfMemory>
     requires block { slice_get checked.now.diagram.blocks place.block ≡ Some block.now }
+    requires turn { IsTurn checked.now starts.now program.old.places k place block.now }
     requires entries { AreEntries checked.now.diagram (attributes_of checked.now.diagram)
         program.old.places }
     ensures { IfOk result (λ rule. IsMade checked.now.diagram (attributes_of checked.now.diagram)
@@ -245,12 +249,13 @@ fn worked(
     block: &Block,
 ) -> Result<Rule, OutOfMemory>
     requires block { slice_get checked.now.diagram.blocks place.block ≡ Some block.now }
+    requires turn { IsTurn checked.now starts.now program.old.places k place block.now }
     requires entries { AreEntries checked.now.diagram (attributes_of checked.now.diagram)
         program.old.places }
     ensures { IfOk result (λ rule. IsMade checked.now.diagram (attributes_of checked.now.diagram)
         program.old program.new k place rule) }
 {
-    let Some(op) = op_of(checked, starts, place, &block.kind) else {
+    let Some(op) = op_of(checked, starts, place, block) else {
         return Err(OutOfMemory);
     };
     works(checked, starts, program, k, place, block, op)

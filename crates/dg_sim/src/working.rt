@@ -1,10 +1,12 @@
 //! The rules of blocks that work element by element.
-ghost use Rattle.std.specs.Prelude.{◌≡◌, ◌<◌, ◌++◌, ◌∷◌, [], ℕ, List, Some, length, slice_get, IfSome, IfOk, OnOk};
+ghost use Rattle.std.specs.Prelude.{◌≡◌, ◌<◌, ◌≤◌, ◌++◌, ◌∷◌, [], ℕ, List, Some, length, slice_get, IfSome, IfOk, OnOk};
 ghost use Rattle.dg_model.specs.Attributes.{attributes_of};
 ghost use Rattle.dg_model.specs.declared.diagram.Block.{Block};
 ghost use Rattle.dg_model.specs.Equation.{IsOpOf, signs_of};
 ghost use Rattle.dg_model.specs.Wires.{type_into, types_into};
+ghost use Rattle.dg_model.specs.Solves.{IsShown};
 ghost use Rattle.dg_sim.specs.inner.Building.{Reads, AreRead, AreEntries, IsMade};
+ghost use Rattle.dg_sim.specs.inner.Finding.{AreLines, Finds, IsRead, IsTurn, ReadsNow};
 ghost use Rattle.dg_model.specs.declared.kind.Kind.{Kind};
 
 use crate::laws::operations_prepare;
@@ -25,6 +27,10 @@ fn put_inputs(
     args: &mut Sizes,
     types: &mut FxTypes,
 ) -> Result<(), OutOfMemory>
+    requires finds { Finds checked.now starts.now places.now }
+    requires now { ReadsNow checked.now places.now k place.block }
+    requires read { (port : ℕ) → 1 ≤ port → port ≤ inputs → IsRead checked.now.diagram
+        (attributes_of checked.now.diagram) place.block port place.element }
     ensures { OnOk result ((numbers : List ℕ) × (length numbers ≡ inputs)
         × (args.new ≡ args.old ++ numbers)
         × AreRead checked.now.diagram (attributes_of checked.now.diagram) places.now place.block
@@ -49,6 +55,10 @@ fn put_input(
     args: &mut Sizes,
     types: &mut FxTypes,
 ) -> Result<(), OutOfMemory>
+    requires finds { Finds checked.now starts.now places.now }
+    requires now { ReadsNow checked.now places.now k place.block }
+    requires read { IsRead checked.now.diagram (attributes_of checked.now.diagram) place.block port
+        place.element }
     ensures { OnOk result ((number : ℕ) × (args.new ≡ args.old ++ number ∷ [])
         × (number < k) × Reads checked.now.diagram (attributes_of checked.now.diagram) places.now
         place.block port place.element number
@@ -56,10 +66,9 @@ fn put_input(
         ++ type_into checked.now.diagram (attributes_of checked.now.diagram) place.block port
         ∷ [])) }
 {
-    let Some(kind) = type_of_input(checked, starts, place.block, port) else {
-        return Err(OutOfMemory);
-    };
-    let found = input(
+    let _ = k;
+    let kind = type_of_input(checked, starts, place.block, port);
+    let number = input(
         checked,
         starts,
         places.as_slice(),
@@ -67,12 +76,6 @@ fn put_input(
         port,
         place.element,
     );
-    let Some(number) = found else {
-        return Err(OutOfMemory);
-    };
-    if number >= k {
-        return Err(OutOfMemory);
-    }
     args.push(number)?;
     types.push(kind)?;
     Ok(())
@@ -88,22 +91,23 @@ fn put_signs(signs: &mut Flags, negative: &[bool]) -> Result<(), OutOfMemory>
     Ok(())
 }
 
-/// The operation of a block that works element by element.
-pub fn op_of(checked: &Checked, starts: &Starts, place: Place, kind: &Kind) -> Option<Op>
-    requires { (b : Block) × (slice_get checked.now.diagram.blocks place.block ≡ Some b) }
-    ensures { IfSome result (λ op. IsOpOf kind.now place.element
+/// The operation of a block that works element by element; none of another block.
+pub fn op_of(checked: &Checked, starts: &Starts, place: Place, block: &Block) -> Option<Op>
+    requires block { slice_get checked.now.diagram.blocks place.block ≡ Some block.now }
+    requires lines { AreLines checked.now.diagram starts.now.lines.items }
+    requires shown { IsShown checked.now.diagram (attributes_of checked.now.diagram) place.block
+        block.now place.port place.element }
+    ensures { IfSome result (λ op. IsOpOf block.now.kind place.element
         ((attributes_of checked.now.diagram).param_at place.block)
         (type_into checked.now.diagram (attributes_of checked.now.diagram) place.block 2) op) }
 {
     operations_prepare();
     checked.keeps_rules();
-    match kind {
+    match &block.kind {
         Kind::Sum { .. } => Some(Op::Sum),
         Kind::Gain { value, .. } => {
             let param = checked.param(place.block);
-            let Some(coefficient) = stored(value.as_slice(), place.element, param) else {
-                return None;
-            };
+            let coefficient = stored(value.as_slice(), place.element, param);
             Some(Op::Gain { coefficient, param })
         }
         Kind::Product => Some(Op::Product),
@@ -111,12 +115,8 @@ pub fn op_of(checked: &Checked, starts: &Starts, place: Place, kind: &Kind) -> O
             criterion,
             threshold,
         } => {
-            let Some(control) = type_of_input(checked, starts, place.block, 2) else {
-                return None;
-            };
-            let Some(threshold) = stored(threshold.as_slice(), place.element, control) else {
-                return None;
-            };
+            let control = type_of_input(checked, starts, place.block, 2);
+            let threshold = stored(threshold.as_slice(), place.element, control);
             Some(Op::Switch {
                 criterion: *criterion,
                 threshold,
@@ -186,6 +186,7 @@ pub fn works(
     op: Op,
 ) -> Result<Rule, OutOfMemory>
     requires block { slice_get checked.now.diagram.blocks place.block ≡ Some block.now }
+    requires turn { IsTurn checked.now starts.now program.old.places k place block.now }
     requires entries { AreEntries checked.now.diagram (attributes_of checked.now.diagram)
         program.old.places }
     requires op { IsOpOf block.now.kind place.element
@@ -197,6 +198,7 @@ pub fn works(
     operations_prepare();
     checked.keeps_rules();
     let negative = negative_of(&block.kind);
+    // A rule names arguments and signs in 32 bits: more of them leave the word.
     let Ok(first) = u32::try_from(program.args.as_slice().len()) else {
         return Err(OutOfMemory);
     };

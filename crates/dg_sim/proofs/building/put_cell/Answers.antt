@@ -22,3 +22,8 @@ returns-clause-filled c =
     let within : c.args.k < length c.as_slice.result.now = subst (λ (xs : List Place). c.args.k < length xs) (sym c.as_slice.ensures) c.requires.there in
     let here = ap (λ (xs : List Place). slice_get xs c.args.k) (sym c.as_slice.ensures) ∙ slice_get-get_or c.as_slice.result.now c.args.k _ within in
     filled_more diagram (attributes_of diagram) c.args.program.now c.rule_of.new.program c.args.k _ c.in_ok-rule.rule c.period-period.result c.push.new.self c.requires.filled here c.in_ok-rule.ensures.made c.period-period.ensures c.in_ok-push.ensures.appended
+
+pub rule_of-requires-clause-at : goal.rule_of-requires-clause-at
+rule_of-requires-clause-at c =
+    let within : c.args.k < length c.as_slice.result.now = subst (λ (xs : List Place). c.args.k < length xs) (sym c.as_slice.ensures) c.requires.there in
+    ap (λ (xs : List Place). slice_get xs c.args.k) (sym c.as_slice.ensures) ∙ slice_get-get_or c.as_slice.result.now c.args.k _ within

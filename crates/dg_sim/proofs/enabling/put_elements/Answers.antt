@@ -1,8 +1,10 @@
-use Rattle.std.proofs.Common.{ℕ, ◌++◌, List, [], ◌∷◌, ap, ◌∙◌, arith, append_assoc, length-append}
+use Rattle.std.proofs.Common.{ℕ, ◌++◌, List, [], ◌∷◌, ap, ◌∙◌, ◌<◌, subst, arith, append_assoc, append-nil, length-append, sym, refl}
+use Rattle.std.proofs.lemmas.Option.{none-some}
 use Rattle.fx_type.specs.declared.kind.FxType.{FxType}
 use Rattle.fx_type.specs.declared.kind.FxType.TheVariants.{Logical}
 use Rattle.dg_model.specs.Attributes.{attributes_of}
 use Rattle.dg_sim.proofs.Tested.{elements_more}
+use Rattle.dg_sim.proofs.Turns.{below_read}
 use Rattle.dg_sim.proofs.enabling.put_elements.Goals as goal
 
 pub loop-element-preserved : goal.loop-element-preserved
@@ -17,3 +19,11 @@ loop-element-preserved c =
       inv.4 ++ Logical ∷ [],
       new.4 ∙ ap (λ (xs : List FxType). xs ++ Logical ∷ []) inv.5 ∙ append_assoc c.args.types.now inv.4 (Logical ∷ []),
     )
+
+pub put_element-requires-clause-read : goal.put_element-requires-clause-read
+put_element-requires-clause-read c =
+    let diagram = c.args.checked.now.diagram in
+    below_read diagram (attributes_of diagram) c.args.block 1 c.loop-element.element (subst (λ (n : ℕ). c.loop-element.element < n) c.requires.width c.loop-element-test.true)
+
+pub loop-element-init : goal.loop-element-init
+loop-element-init c = ([], refl, sym (append-nil c.args.args.now), (λ i j at. absurd (none-some j at)), [], sym (append-nil c.args.types.now))

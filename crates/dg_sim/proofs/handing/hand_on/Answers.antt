@@ -1,17 +1,20 @@
-use Rattle.std.proofs.Common.{List, subst}
+use Rattle.std.proofs.Common.{◌<◌, List, sym, subst}
 use Rattle.dg_model.specs.Attributes.{attributes_of}
 use Rattle.dg_sim.specs.declared.program.Place.{Place}
 use Rattle.dg_sim.specs.inner.Building.{Reads}
+use Rattle.dg_sim.specs.inner.Finding.{ReadsNow}
 use Rattle.dg_sim.proofs.Serving.{same_rule}
 use Rattle.dg_sim.proofs.Grown.{grows_same}
 use Rattle.dg_sim.proofs.handing.hand_on.Goals as goal
 
-pub returns-then-from-k : goal.returns-then-from-k
-returns-then-from-k c =
+pub returns : goal.returns
+returns c =
     let diagram = c.args.checked.now.diagram in
-    let reads = subst (λ (places : List Place). Reads diagram (attributes_of diagram) places c.args.place.block c.args.port c.args.element c.in-Some.from) c.as_slice-places.ensures c.in-Some.ensures in
+    let from = c.input-from.result in
+    let reads = subst (λ (places : List Place). Reads diagram (attributes_of diagram) places c.args.place.block c.args.port c.args.element from) c.as_slice-places.ensures c.input-from.ensures.reads in
+    let below : from < c.args.k = c.input-from.ensures.before c.args.k (subst (λ (places : List Place). ReadsNow c.args.checked.now places c.args.k c.args.place.block) (sym c.as_slice-places.ensures) c.requires.now) in
     record {
       grows = grows_same c.args.program.now;
       memories = λ are. are;
-      made = same_rule diagram (attributes_of diagram) c.args.program.now c.args.k c.args.place c.args.port c.args.element c.in-Some.from reads c.if-from-k.true c.requires;
+      made = same_rule diagram (attributes_of diagram) c.args.program.now c.args.k c.args.place c.args.port c.args.element from reads below c.requires.hands;
     }

@@ -1,12 +1,31 @@
-use Rattle.std.proofs.Common.{◌≡◌, ◌∙◌, sym, ap, false}
+use Rattle.std.proofs.Common.{◌≡◌, ◌∙◌, sym, ap, false, true, Bool, not, refl, arith}
 use Rattle.dg_model.specs.Attributes.{attributes_of}
 use Rattle.dg_model.specs.Hits.{is_slow_to_fast}
+use Rattle.dg_model.specs.Instant.{reads_now}
+use Rattle.dg_model.specs.Wires.{period_into}
+use Rattle.dg_model.specs.declared.kind.Kind.TheVariants.{RateTransition}
+use Rattle.dg_sim.proofs.Entries.{ports_are}
 use Rattle.dg_sim.proofs.Kept.{fast_hands}
+use Rattle.dg_sim.proofs.Turns.{turn_now, turn_read}
 use Rattle.dg_sim.proofs.handing.transition.Goals as goal
 
 pub hand_on-requires : goal.hand_on-requires
 hand_on-requires c =
-    let diagram = c.args.checked.now.diagram in
-    let fast : is_slow_to_fast c.in-Some.slow c.period-own.result ≡ false = sym c.is_slower.ensures ∙ c.if-is_slower.false in
-    let own : is_slow_to_fast c.in-Some.slow ((attributes_of diagram).period_at c.args.place.block) ≡ false = ap (is_slow_to_fast c.in-Some.slow) (sym c.period-own.ensures) ∙ fast in
-    fast_hands diagram (attributes_of diagram) c.args.program.now c.args.program.now c.args.place c.args.block.now c.requires.block c.in-Some.slow c.requires.kind.0 c.args.initial.now c.requires.kind.1 c.in-Some.ensures own
+    let checked = c.args.checked.now in
+    let diagram = checked.diagram in
+    let place = c.args.place in
+    let b = c.args.block.now in
+    let slow = c.period_of_input-slow.result in
+    let kind = RateTransition c.requires.kind.0 c.args.initial.now in
+    let fast : is_slow_to_fast slow c.period-own.result ≡ false = sym c.is_slower.ensures ∙ c.if-is_slower.false in
+    let own : is_slow_to_fast slow ((attributes_of diagram).period_at place.block) ≡ false = ap (is_slow_to_fast slow) (sym c.period-own.ensures) ∙ fast in
+    let driver : is_slow_to_fast (period_into diagram (attributes_of diagram) place.block 1) ((attributes_of diagram).period_at place.block) ≡ false =
+    ap (λ p. is_slow_to_fast p ((attributes_of diagram).period_at place.block)) (sym c.period_of_input-slow.ensures) ∙ own in
+    let now : reads_now diagram (attributes_of diagram) place.block kind ≡ true = ap (λ (slower : Bool). not slower) driver in
+    let ports = (ports_are diagram c.keeps_rules.ensures.checked.wired place.block b c.requires.block kind c.requires.kind.1).0 in
+    record {
+      hands = fast_hands diagram (attributes_of diagram) c.args.program.now c.args.program.now place b c.requires.block slow c.requires.kind.0 c.args.initial.now c.requires.kind.1 c.period_of_input-slow.ensures own;
+      finds = c.requires.turn.finds;
+      now = turn_now checked c.args.starts.now c.args.program.now.places c.args.k place b c.requires.turn kind c.requires.kind.1 now;
+      read = turn_read checked c.args.starts.now c.args.program.now.places c.args.k place b c.requires.turn kind c.requires.kind.1 c.keeps_rules.ensures.checked refl 1 (omega arith) (omega (arith, ports));
+    }

@@ -1,20 +1,40 @@
-use Rattle.std.proofs.Common.{◌≡◌, ◌-◌, ℕ, map, sum, ap, ◌∙◌, arith}
+use Rattle.std.proofs.Common.{◌≡◌, ◌-◌, ℕ, suc, map, sum, ap, sym, ◌∙◌, subst, refl, arith}
 use Rattle.dg_waves.specs.Rounds.{numbers_from}
 use Rattle.dg_model.specs.Attributes.{attributes_of}
 use Rattle.dg_model.specs.Wires.{width_into}
+use Rattle.dg_model.specs.declared.kind.Kind.TheVariants.{Mux}
+use Rattle.dg_sim.specs.inner.Finding.{IsRead}
 use Rattle.dg_sim.proofs.Joined.{mux_hands}
+use Rattle.dg_sim.proofs.Shared.{mux_below, part_read}
+use Rattle.dg_sim.proofs.Turns.{turn_now}
 use Rattle.dg_sim.proofs.joining.joined.Goals as goal
+
+pub part_into-part-requires : goal.part_into-part-requires
+part_into-part-requires c =
+    let diagram = c.args.checked.now.diagram in
+    record {
+      into = c.requires.cursors.into;
+      lines = c.requires.turn.finds.lines;
+      element = mux_below diagram c.keeps_rules.ensures.checked c.args.place.block c.args.block.now c.args.place.port c.args.place.element c.requires.turn.shown c.requires.kind.0 c.requires.kind.1;
+    }
 
 pub hand_on-requires : goal.hand_on-requires
 hand_on-requires c =
     let diagram = c.args.checked.now.diagram in
-    let part = c.in-Some.ensures in
-    mux_hands diagram (attributes_of diagram) c.args.place c.args.block.now c.requires.block c.requires.kind.0 part.0 c.in-Some.part.port c.in-Some.part.element c.requires.kind.1 part.1 part.2
+    let part = c.part_into-part.ensures in
+    record {
+      hands = mux_hands diagram (attributes_of diagram) c.args.place c.args.block.now c.requires.block c.requires.kind.0 part.0 c.part_into-part.result.port c.part_into-part.result.element c.requires.kind.1 part.1 part.2;
+      finds = c.requires.turn.finds;
+      now = turn_now c.args.checked.now c.args.starts.now c.args.program.now.places c.args.k c.args.place c.args.block.now c.requires.turn (Mux c.requires.kind.0) c.requires.kind.1 refl;
+      read = subst (λ (port : ℕ). IsRead diagram (attributes_of diagram) c.args.place.block port c.part_into-part.result.element) (sym part.1)
+          (part_read diagram c.keeps_rules.ensures.checked c.args.place.block c.args.block.now.inputs c.args.place.element part.0 c.part_into-part.result.element part.2);
+    }
 
 pub returns-clause-cursors : goal.returns-clause-cursors
 returns-clause-cursors c =
     let diagram = c.args.checked.now.diagram in
-    let part = c.in-Some.ensures in
+    let part = c.part_into-part.ensures in
     let f = width_into diagram (attributes_of diagram) c.args.place.block in
-    let signal : part.0 ≡ c.in-Some.part.port - 1 = omega (arith, part.1) in
+    let port = part.1 in
+    let signal : part.0 ≡ c.part_into-part.result.port - 1 = omega (arith, port) in
     record { into = part.3 ∙ ap (λ (n : ℕ). sum (map f (numbers_from 1 n))) signal; out = c.requires.cursors.out }

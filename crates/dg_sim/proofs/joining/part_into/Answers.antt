@@ -1,30 +1,66 @@
-use Rattle.std.proofs.Common.{◌≡◌, ◌+◌, ◌-◌, ◌<◌, ℕ, suc, map, sum, arith}
+use Rattle.std.proofs.Common.{◌≡◌, ◌≤◌, ◌+◌, ◌-◌, ◌<◌, ℕ, suc, map, sum, arith}
 use Rattle.dg_waves.specs.Rounds.{numbers_from}
 use Rattle.dg_model.specs.Attributes.{attributes_of}
 use Rattle.dg_model.specs.Wires.{width_into}
-use Rattle.dg_sim.proofs.Joined.{part_here, sum_last}
+use Rattle.dg_sim.proofs.Joined.{part_here, sum_last, before_end}
 use Rattle.dg_sim.proofs.joining.part_into.Goals as goal
 
-pub loop-signal-init : goal.loop-signal-init
-loop-signal-init c =
-    let diagram = c.args.checked.now.diagram in
-    record { at = c.begun-start.ensures.sums (width_into diagram (attributes_of diagram)) c.requires; low = c.begun-start.ensures.before }
-
-pub returns-then-left-width : goal.returns-then-left-width
-returns-then-left-width c =
+pub loop-width-init : goal.loop-width-init
+loop-width-init c =
     let diagram = c.args.checked.now.diagram in
     let f = width_into diagram (attributes_of diagram) c.args.block in
-    let signal : ℕ = c.loop-signal.signal in
-    let next : signal + 1 ≡ suc signal = omega arith in
-    let below : signal < c.args.inputs = omega arith in
-    let at : c.args.element ≡ sum (map f (numbers_from 1 signal)) + (c.args.element - c.loop-signal.before) = omega (arith, c.loop-signal.invariant.at, c.loop-signal.invariant.low) in
-    (signal, next, part_here f c.args.inputs signal (c.args.element - c.loop-signal.before) c.in-Some.width c.args.element below c.in-Some.ensures c.if-left-width.true at, c.loop-signal.invariant.at)
-
-pub loop-signal-preserved : goal.loop-signal-preserved
-loop-signal-preserved c =
-    let diagram = c.args.checked.now.diagram in
-    let last = sum_last (width_into diagram (attributes_of diagram) c.args.block) c.loop-signal.signal in
+    let at = c.begun-start.ensures.sums (width_into diagram (attributes_of diagram)) c.requires.into in
+    let low = c.begun-start.ensures.before in
     record {
-      at = omega (arith, c.loop-signal.invariant.at, last, c.in-Some.ensures);
-      low = omega (arith, c.loop-signal.invariant.low, c.if-left-width.false);
+      at = at;
+      low = low;
+      below = before_end f c.args.inputs c.begun-start.result.ports c.begun-start.result.before c.args.element c.begun-start.ensures.ports at low c.requires.element;
+      width = c.width_of_input-width.ensures;
     }
+
+pub returns : goal.returns
+returns c =
+    let diagram = c.args.checked.now.diagram in
+    let f = width_into diagram (attributes_of diagram) c.args.block in
+    let inv = c.loop-width.invariant in
+    let signal : ℕ = c.loop-width.signal in
+    let next : signal + 1 ≡ suc signal = omega arith in
+    let left : c.args.element - c.loop-width.before < c.loop-width.width = omega (arith, c.loop-width-test.false) in
+    let at : c.args.element ≡ sum (map f (numbers_from 1 signal)) + (c.args.element - c.loop-width.before) = omega (arith, inv.at, inv.low) in
+    (signal, next, part_here f c.args.inputs signal (c.args.element - c.loop-width.before) c.loop-width.width c.args.element inv.below inv.width left at, inv.at)
+
+pub loop-width-preserved : goal.loop-width-preserved
+loop-width-preserved c =
+    let diagram = c.args.checked.now.diagram in
+    let f = width_into diagram (attributes_of diagram) c.args.block in
+    let inv = c.loop-width.invariant in
+    let signal : ℕ = c.loop-width.signal in
+    let last = sum_last f signal in
+    let at : c.loop-width.before + c.loop-width.width ≡ sum (map f (numbers_from 1 (signal + 1))) = omega (arith, inv.at, last, inv.width) in
+    let low : c.loop-width.before + c.loop-width.width ≤ c.args.element = omega (arith, inv.low, c.loop-width-test.true) in
+    record {
+      at = at;
+      low = low;
+      below = before_end f c.args.inputs (signal + 1) (c.loop-width.before + c.loop-width.width) c.args.element (omega (arith, inv.below)) at low c.requires.element;
+      width = c.width_of_input-width-in-loop-width.ensures;
+    }
+
+pub overflow_add-signal : goal.overflow_add-signal
+overflow_add-signal c =
+    let diagram = c.args.checked.now.diagram in
+    let f = width_into diagram (attributes_of diagram) c.args.block in
+    let at = c.begun-start.ensures.sums (width_into diagram (attributes_of diagram)) c.requires.into in
+    let below = before_end f c.args.inputs c.begun-start.result.ports c.begun-start.result.before c.args.element c.begun-start.ensures.ports at c.begun-start.ensures.before c.requires.element in
+    record { fits = omega (arith, below) }
+
+pub overflow_add-signal-in-loop-width-2 : goal.overflow_add-signal-in-loop-width-2
+overflow_add-signal-in-loop-width-2 c =
+    let diagram = c.args.checked.now.diagram in
+    let f = width_into diagram (attributes_of diagram) c.args.block in
+    let inv = c.loop-width.invariant in
+    let signal : ℕ = c.loop-width.signal in
+    let last = sum_last f signal in
+    let at : c.loop-width.before + c.loop-width.width ≡ sum (map f (numbers_from 1 (signal + 1))) = omega (arith, inv.at, last, inv.width) in
+    let low : c.loop-width.before + c.loop-width.width ≤ c.args.element = omega (arith, inv.low, c.loop-width-test.true) in
+    let below = before_end f c.args.inputs (signal + 1) (c.loop-width.before + c.loop-width.width) c.args.element (omega (arith, inv.below)) at low c.requires.element in
+    record { fits = omega (arith, below) }

@@ -1,10 +1,35 @@
-use Rattle.std.proofs.Common.{◌+◌, ap, ◌∙◌}
+use Rattle.std.proofs.Common.{◌≡◌, ◌+◌, ◌-◌, ◌<◌, ℕ, map, sum, ap, ◌∙◌, refl, arith}
+use Rattle.dg_waves.specs.Rounds.{numbers_from}
 use Rattle.dg_model.specs.Attributes.{attributes_of}
+use Rattle.dg_model.specs.declared.kind.Kind.TheVariants.{Demux}
 use Rattle.dg_sim.proofs.Joined.{demux_hands}
+use Rattle.dg_sim.proofs.Shared.{small, demux_to, demux_few, demux_below, demux_read}
+use Rattle.dg_sim.proofs.Turns.{turn_now}
 use Rattle.dg_sim.proofs.joining.parted.Goals as goal
+
+pub width_before-before-requires : goal.width_before-before-requires
+width_before-before-requires c =
+    let diagram = c.args.checked.now.diagram in
+    let is = c.keeps_rules.ensures.checked in
+    let to = demux_to diagram is c.args.place.block c.args.block.now c.args.place.port c.args.place.element c.requires.turn.shown c.requires.kind.0 c.requires.kind.1 in
+    let few = demux_few diagram is c.args.place.block c.args.block.now c.args.place.port c.args.place.element c.requires.turn.shown c.requires.kind.0 c.requires.kind.1 in
+    record { out = c.requires.cursors.out; block = (c.args.block.now, c.requires.block, to, few); from = c.requires.turn.shown.port_from }
 
 pub hand_on-requires : goal.hand_on-requires
 hand_on-requires c =
     let diagram = c.args.checked.now.diagram in
-    let at = c.in-Some-checked_add.ensures.1 ∙ ap (λ n. n + c.args.place.element) c.in-Some.ensures in
-    demux_hands diagram (attributes_of diagram) c.args.place c.requires.block.0 c.requires.block.1 c.requires.block.2 c.in-Some-checked_add.element c.requires.block.3 at
+    let before : ℕ = c.width_before-before.result in
+    let at : before + c.args.place.element ≡ sum (map ((attributes_of diagram).width_at c.args.place.block) (numbers_from 1 (c.args.place.port - 1))) + c.args.place.element = ap (λ (n : ℕ). n + c.args.place.element) c.width_before-before.ensures in
+    record {
+      hands = demux_hands diagram (attributes_of diagram) c.args.place c.args.block.now c.requires.block c.requires.kind.0 (before + c.args.place.element) c.requires.kind.1 at;
+      finds = c.requires.turn.finds;
+      now = turn_now c.args.checked.now c.args.starts.now c.args.program.now.places c.args.k c.args.place c.args.block.now c.requires.turn (Demux c.requires.kind.0) c.requires.kind.1 refl;
+      read = demux_read diagram c.keeps_rules.ensures.checked c.args.place.block c.args.block.now c.args.place.port c.args.place.element c.requires.turn.shown c.requires.kind.0 (before + c.args.place.element) c.requires.kind.1 at;
+    }
+
+pub overflow_add-before : goal.overflow_add-before
+overflow_add-before c =
+    let diagram = c.args.checked.now.diagram in
+    let is = c.keeps_rules.ensures.checked in
+    let below = demux_below diagram is c.args.place.block c.args.block.now c.args.place.port c.args.place.element c.requires.turn.shown c.requires.kind.0 c.requires.kind.1 in
+    record { fits = omega (arith, c.width_before-before.ensures, below, small diagram is c.args.place.block 1) }

@@ -6,10 +6,12 @@ use Rattle.fx_type.specs.declared.kind.FxType.{FxType}
 use Rattle.dg_model.specs.Attributes.{attributes_of}
 use Rattle.dg_model.specs.Equation.{StoresEntry}
 use Rattle.dg_sim.proofs.Kept.{delay_made, delay_move_is}
+use Rattle.dg_sim.proofs.Turns.{delay_reads}
+use Rattle.dg_sim.proofs.ListEntries.{delay_entry}
 use Rattle.dg_sim.proofs.memories.delayed.Goals as goal
 
-pub stored-requires : goal.stored-requires
-stored-requires c =
+pub stored-first-requires-clause-kind : goal.stored-first-requires-clause-kind
+stored-first-requires-clause-kind c =
     let checked = c.args.checked.now in
     let valid = c.operations_prepare.ensures.types checked.diagram checked.order c.args.place.block c.args.block.now (record { checked = c.keeps_rules.ensures.checked; ordered = c.keeps_rules.ensures.ordered }) c.requires.block in
     subst IsType (sym (c.result.ensures 1)) valid.0
@@ -17,13 +19,19 @@ stored-requires c =
 pub remember-requires-clause-moves : goal.remember-requires-clause-moves
 remember-requires-clause-moves c =
     let diagram = c.args.checked.now.diagram in
-    delay_move_is diagram (attributes_of diagram) c.args.program.now c.args.program.now c.args.place c.args.block.now c.requires.block c.args.program.now.places c.period-period.result c.in_ok-control.control c.args.length c.args.initial.now c.args.reset c.requires.kind c.period-period.ensures c.in_ok-control.ensures
+    delay_move_is diagram (attributes_of diagram) c.args.program.now c.args.program.now c.args.place c.args.block.now c.requires.block c.args.program.now.places c.period-period.result c.control_of-control.result c.args.length c.args.initial.now c.args.reset c.requires.kind c.period-period.ensures c.control_of-control.ensures
 
 pub returns : goal.returns
 returns c =
     let diagram = c.args.checked.now.diagram in
-    let fits : FitsSigned w128 c.in-Some.first = search rules in
-    let stores = subst (λ (kind : FxType). StoresEntry c.args.initial.now c.args.place.element kind c.in-Some.first) (c.result.ensures 1) c.in-Some.ensures in
-    rw (to_z-of_z w128 c.in-Some.first fits)
-    (delay_made diagram (attributes_of diagram) c.args.program.now c.remember.new.program c.args.place c.args.block.now c.requires.block c.kept_moves.ensures.read c.args.k c.in_ok-memory.memory c.args.length c.args.initial.now c.args.reset c.in-Some.first
+    let fits : FitsSigned w128 c.stored-first.result = search rules in
+    let stores = subst (λ (kind : FxType). StoresEntry c.args.initial.now c.args.place.element kind c.stored-first.result) (c.result.ensures 1) c.stored-first.ensures in
+    rw (to_z-of_z w128 c.stored-first.result fits)
+    (delay_made diagram (attributes_of diagram) c.args.program.now c.remember.new.program c.args.place c.args.block.now c.requires.block c.kept_moves.ensures.read c.args.k c.in_ok-memory.memory c.args.length c.args.initial.now c.args.reset c.stored-first.result
     c.requires.kind c.requires.some stores c.in_ok-memory.ensures)
+
+pub remember-requires-clause-read : goal.remember-requires-clause-read
+remember-requires-clause-read c = delay_reads c.args.checked.now c.args.starts.now c.args.program.now.places c.args.k c.args.place c.args.block.now c.requires.turn c.keeps_rules.ensures.checked c.args.length c.args.initial.now c.args.reset c.requires.kind
+
+pub stored-first-requires-clause-entry : goal.stored-first-requires-clause-entry
+stored-first-requires-clause-entry c = delay_entry c.args.checked.now.diagram c.keeps_rules.ensures.checked c.args.place.block c.args.place.port c.args.place.element c.args.block.now c.requires.turn.shown c.args.length c.args.initial.now c.args.reset c.requires.kind

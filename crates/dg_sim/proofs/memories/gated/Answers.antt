@@ -1,4 +1,4 @@
-use Rattle.std.proofs.Common.{◌∙◌, List, Bool, ap, sym, subst, ◌<◌, FitsSigned, rules, arith}
+use Rattle.std.proofs.Common.{◌∙◌, List, Bool, ap, sym, subst, ◌<◌, FitsSigned, rules, arith, refl}
 use Rattle.std.specs.Int.{w128}
 use Rattle.std.proofs.lemmas.Int.{to_z-of_z}
 use Rattle.std.proofs.lemmas.Option.{slice_get_within}
@@ -9,12 +9,15 @@ use Rattle.dg_model.specs.Attributes.{attributes_of}
 use Rattle.dg_model.specs.Equation.{StoresEntry}
 use Rattle.dg_sim.specs.declared.program.Place.{Place}
 use Rattle.dg_sim.specs.inner.Building.{Reads, IsControlCell}
+use Rattle.dg_sim.specs.inner.Finding.{ReadsNow}
 use Rattle.dg_sim.proofs.Grown.{grows_same}
+use Rattle.dg_sim.proofs.Turns.{control_before, output_reads, turn_now}
 use Rattle.dg_sim.proofs.Kept.{gated_moves, reset_rule, held_rule}
+use Rattle.dg_sim.proofs.ListEntries.{output_entry_there}
 use Rattle.dg_sim.proofs.memories.gated.Goals as goal
 
-pub stored-requires : goal.stored-requires
-stored-requires c =
+pub stored-first-requires-clause-kind : goal.stored-first-requires-clause-kind
+stored-first-requires-clause-kind c =
     let checked = c.args.checked.now in
     let valid = c.operations_prepare.ensures.types checked.diagram checked.order c.args.place.block c.args.block.now (record { checked = c.keeps_rules.ensures.checked; ordered = c.keeps_rules.ensures.ordered }) c.requires.block in
     subst IsType (sym (c.result.ensures 1)) valid.0
@@ -22,16 +25,18 @@ stored-requires c =
 pub returns-then-reset : goal.returns-then-reset
 returns-then-reset c =
     let diagram = c.args.checked.now.diagram in
-    let fits : FitsSigned w128 c.in-Some-stored.first = search rules in
-    let stores = subst (λ (kind : FxType). StoresEntry c.args.initial.now c.args.place.element kind c.in-Some-stored.first) (c.result.ensures 1) c.in-Some-stored.ensures in
-    let reads = subst (λ (places : List Place). Reads diagram (attributes_of diagram) places c.args.place.block 1 c.args.place.element c.in-Some-found.from) c.as_slice.ensures c.in-Some-found.ensures in
+    let fits : FitsSigned w128 c.stored-first.result = search rules in
+    let stores = subst (λ (kind : FxType). StoresEntry c.args.initial.now c.args.place.element kind c.stored-first.result) (c.result.ensures 1) c.stored-first.ensures in
+    let reads = subst (λ (places : List Place). Reads diagram (attributes_of diagram) places c.args.place.block 1 c.args.place.element c.input-from.result) c.as_slice.ensures c.input-from.ensures.reads in
     let kind = c.requires.kind ∙ ap (λ (reset : Bool). EnOut reset c.args.initial.now) c.if-reset.true in
-    let below : c.in-Some.cell < c.args.k = omega arith in
-    let from_below : c.in-Some-found.from < c.args.k = omega arith in
-    rw (to_z-of_z w128 c.in-Some-stored.first fits) (record {
+    let below : c.control_cell-cell.result < c.args.k =
+    control_before c.args.checked.now c.args.starts.now c.args.program.now.places c.args.k c.args.place c.args.block.now c.requires.turn c.control_cell-cell.result c.in-Some.enable c.args.reset c.args.initial.now c.requires.kind c.in-Some.is c.control_cell-cell.ensures in
+    let now = turn_now c.args.checked.now c.args.starts.now c.args.program.now.places c.args.k c.args.place c.args.block.now c.requires.turn (EnOut c.args.reset c.args.initial.now) c.requires.kind refl in
+    let from_below : c.input-from.result < c.args.k = c.input-from.ensures.before c.args.k (subst (λ (places : List Place). ReadsNow c.args.checked.now places c.args.k c.args.place.block) (sym c.as_slice.ensures) now) in
+    rw (to_z-of_z w128 c.stored-first.result fits) (record {
       grows = grows_same c.args.program.now;
       memories = λ are. are;
-      made = reset_rule diagram (attributes_of diagram) c.args.program.now c.args.program.now c.args.place c.args.block.now c.requires.block c.args.k c.in-Some.cell c.in-Some-found.from c.args.initial.now c.in-Some-stored.first below from_below c.in-Some.ensures reads stores kind;
+      made = reset_rule diagram (attributes_of diagram) c.args.program.now c.args.program.now c.args.place c.args.block.now c.requires.block c.args.k c.control_cell-cell.result c.input-from.result c.args.initial.now c.stored-first.result below from_below (c.in-Some.enable, c.in-Some.is, c.control_cell-cell.ensures) reads stores kind;
     })
 
 pub period-period-requires : goal.period-period-requires
@@ -40,21 +45,32 @@ period-period-requires c = slice_get_within c.args.checked.now.diagram.blocks c.
 pub remember-requires-clause-moves : goal.remember-requires-clause-moves
 remember-requires-clause-moves c =
     let diagram = c.args.checked.now.diagram in
-    gated_moves diagram (attributes_of diagram) c.args.program.now c.args.program.now c.args.place c.args.block.now c.requires.block c.args.program.now.places c.period-period.result c.in-Some.cell c.args.reset c.args.initial.now c.requires.kind c.period-period.ensures c.in-Some.ensures
+    gated_moves diagram (attributes_of diagram) c.args.program.now c.args.program.now c.args.place c.args.block.now c.requires.block c.args.program.now.places c.period-period.result c.control_cell-cell.result c.args.reset c.args.initial.now c.requires.kind c.period-period.ensures (c.in-Some.enable, c.in-Some.is, c.control_cell-cell.ensures)
 
 pub returns : goal.returns
 returns c =
     let diagram = c.args.checked.now.diagram in
-    let fits : FitsSigned w128 c.in-Some-stored.first = search rules in
-    let stores = subst (λ (kind : FxType). StoresEntry c.args.initial.now c.args.place.element kind c.in-Some-stored.first) (c.result.ensures 1) c.in-Some-stored.ensures in
+    let fits : FitsSigned w128 c.stored-first.result = search rules in
+    let stores = subst (λ (kind : FxType). StoresEntry c.args.initial.now c.args.place.element kind c.stored-first.result) (c.result.ensures 1) c.stored-first.ensures in
     let is = c.in_ok-memory.ensures in
-    let reads = subst (λ (places : List Place). Reads diagram (attributes_of diagram) places c.args.place.block 1 c.args.place.element c.in-Some-found.from) (c.as_slice.ensures ∙ sym is.grows.places) c.in-Some-found.ensures in
-    let control = subst (λ (places : List Place). IsControlCell places c.args.block.now.enable c.in-Some.cell) (sym is.grows.places) c.in-Some.ensures in
+    let reads = subst (λ (places : List Place). Reads diagram (attributes_of diagram) places c.args.place.block 1 c.args.place.element c.input-from.result) (c.as_slice.ensures ∙ sym is.grows.places) c.input-from.ensures.reads in
+    let control = subst (λ (places : List Place). IsControlCell places c.args.block.now.enable c.control_cell-cell.result) (sym is.grows.places) (c.in-Some.enable, c.in-Some.is, c.control_cell-cell.ensures) in
     let kind = c.requires.kind ∙ ap (λ (reset : Bool). EnOut reset c.args.initial.now) c.if-reset.false in
-    let below : c.in-Some.cell < c.args.k = omega arith in
-    let from_below : c.in-Some-found.from < c.args.k = omega arith in
-    rw (to_z-of_z w128 c.in-Some-stored.first fits) (record {
+    let below : c.control_cell-cell.result < c.args.k =
+    control_before c.args.checked.now c.args.starts.now c.args.program.now.places c.args.k c.args.place c.args.block.now c.requires.turn c.control_cell-cell.result c.in-Some.enable c.args.reset c.args.initial.now c.requires.kind c.in-Some.is c.control_cell-cell.ensures in
+    let now = turn_now c.args.checked.now c.args.starts.now c.args.program.now.places c.args.k c.args.place c.args.block.now c.requires.turn (EnOut c.args.reset c.args.initial.now) c.requires.kind refl in
+    let from_below : c.input-from.result < c.args.k = c.input-from.ensures.before c.args.k (subst (λ (places : List Place). ReadsNow c.args.checked.now places c.args.k c.args.place.block) (sym c.as_slice.ensures) now) in
+    rw (to_z-of_z w128 c.stored-first.result fits) (record {
       grows = is.grows;
       memories = is.memories;
-      made = held_rule diagram (attributes_of diagram) c.args.program.now c.remember.new.program c.args.place c.args.block.now c.requires.block c.args.k c.in-Some.cell c.in-Some-found.from c.args.initial.now c.in-Some-stored.first below from_below control reads stores c.kept_moves.ensures.read c.in_ok-memory.memory kind is;
+      made = held_rule diagram (attributes_of diagram) c.args.program.now c.remember.new.program c.args.place c.args.block.now c.requires.block c.args.k c.control_cell-cell.result c.input-from.result c.args.initial.now c.stored-first.result below from_below control reads stores c.kept_moves.ensures.read c.in_ok-memory.memory kind is;
     })
+
+pub input-from-requires-clause-read : goal.input-from-requires-clause-read
+input-from-requires-clause-read c = output_reads c.args.checked.now c.args.starts.now c.args.program.now.places c.args.k c.args.place c.args.block.now c.requires.turn c.keeps_rules.ensures.checked c.args.reset c.args.initial.now c.requires.kind
+
+pub remember-requires-clause-read : goal.remember-requires-clause-read
+remember-requires-clause-read c = output_reads c.args.checked.now c.args.starts.now c.args.program.now.places c.args.k c.args.place c.args.block.now c.requires.turn c.keeps_rules.ensures.checked c.args.reset c.args.initial.now c.requires.kind
+
+pub stored-first-requires-clause-entry : goal.stored-first-requires-clause-entry
+stored-first-requires-clause-entry c = output_entry_there c.args.checked.now.diagram c.keeps_rules.ensures.checked c.args.place.block c.args.place.port c.args.place.element c.args.block.now c.requires.turn.shown c.args.reset c.args.initial.now c.requires.kind

@@ -6,10 +6,12 @@ use Rattle.fx_type.specs.declared.kind.FxType.{FxType}
 use Rattle.dg_model.specs.Attributes.{attributes_of}
 use Rattle.dg_model.specs.Equation.{StoresEntry}
 use Rattle.dg_sim.proofs.Kept.{slow_made, slow_moves}
+use Rattle.dg_sim.proofs.Turns.{rate_reads}
+use Rattle.dg_sim.proofs.ListEntries.{rate_entry}
 use Rattle.dg_sim.proofs.memories.slowed.Goals as goal
 
-pub stored-requires : goal.stored-requires
-stored-requires c =
+pub stored-first-requires-clause-kind : goal.stored-first-requires-clause-kind
+stored-first-requires-clause-kind c =
     let checked = c.args.checked.now in
     let valid = c.operations_prepare.ensures.types checked.diagram checked.order c.args.place.block c.args.block.now (record { checked = c.keeps_rules.ensures.checked; ordered = c.keeps_rules.ensures.ordered }) c.requires.block in
     subst IsType (sym (c.result.ensures 1)) valid.0
@@ -22,8 +24,14 @@ remember-requires-clause-moves c =
 pub returns : goal.returns
 returns c =
     let diagram = c.args.checked.now.diagram in
-    let fits : FitsSigned w128 c.in-Some.first = search rules in
-    let stores = subst (λ (kind : FxType). StoresEntry c.args.initial.now c.args.place.element kind c.in-Some.first) (c.result.ensures 1) c.in-Some.ensures in
-    rw (to_z-of_z w128 c.in-Some.first fits)
-    (slow_made diagram (attributes_of diagram) c.args.program.now c.remember.new.program c.args.place c.args.block.now c.requires.block c.kept_moves.ensures.read c.args.k c.in_ok-memory.memory c.args.slow c.requires.kind.0 c.args.initial.now c.in-Some.first
+    let fits : FitsSigned w128 c.stored-first.result = search rules in
+    let stores = subst (λ (kind : FxType). StoresEntry c.args.initial.now c.args.place.element kind c.stored-first.result) (c.result.ensures 1) c.stored-first.ensures in
+    rw (to_z-of_z w128 c.stored-first.result fits)
+    (slow_made diagram (attributes_of diagram) c.args.program.now c.remember.new.program c.args.place c.args.block.now c.requires.block c.kept_moves.ensures.read c.args.k c.in_ok-memory.memory c.args.slow c.requires.kind.0 c.args.initial.now c.stored-first.result
     c.requires.kind.1 c.requires.slow c.requires.slower stores c.in_ok-memory.ensures)
+
+pub remember-requires-clause-read : goal.remember-requires-clause-read
+remember-requires-clause-read c = rate_reads c.args.checked.now c.args.starts.now c.args.program.now.places c.args.k c.args.place c.args.block.now c.requires.turn c.keeps_rules.ensures.checked c.requires.kind.0 c.args.initial.now c.requires.kind.1
+
+pub stored-first-requires-clause-entry : goal.stored-first-requires-clause-entry
+stored-first-requires-clause-entry c = rate_entry c.args.checked.now.diagram c.keeps_rules.ensures.checked c.args.place.block c.args.place.port c.args.place.element c.args.block.now c.requires.turn.shown c.requires.kind.0 c.args.initial.now c.requires.kind.1

@@ -7,8 +7,8 @@ use Rattle.dg_sim.proofs.Drivers.{source_within}
 use Rattle.dg_sim.proofs.reading.type_of_input.Goals as goal
 
 pub result-requires : goal.result-requires
-result-requires c = source_within c.args.checked.now.diagram c.keeps_rules.ensures.checked c.args.block c.args.port c.in-Some.edge c.in-Some.ensures
+result-requires c = source_within c.args.checked.now.diagram c.keeps_rules.ensures.checked c.args.block c.args.port c.in-Some.edge (sym c.in-Some.ensures)
 
-pub returns : goal.returns
-returns c =
-    c.result.ensures c.in-Some.edge.from_port ∙ sym (ap (λ (o : Option Edge). at_source o Logical (attributes_of c.args.checked.now.diagram).type_at) c.in-Some.ensures)
+pub returns-in-Some : goal.returns-in-Some
+returns-in-Some c =
+    c.result.ensures c.in-Some.edge.from_port ∙ ap (λ (o : Option Edge). at_source o Logical (attributes_of c.args.checked.now.diagram).type_at) c.in-Some.ensures

@@ -14,4 +14,4 @@ returns-then-own-number c =
     let h = c.in-Some-get.ensures.lookup in
     let there : slice_get blocks place ≡ Some one = slice_get_read blocks _ place one refl h.3.0 h.1 in
     let own : number_in root_input one ≡ Some c.args.number = sym c.in-Some-input_number.ensures ∙ ap (λ (n : ℕ). Some n) c.if-own-number.true in
-    first_is root_input blocks c.requires place one c.args.number there own
+    (first_is root_input blocks c.requires place one c.args.number there own, one, there, own)

@@ -21,6 +21,6 @@ returns c =
     let part : ℕ → List RootElement = λ number. elements_of_port (attributes_of c.args.checked.now.diagram) (λ (block : ℕ). (attributes_of c.args.checked.now.diagram).width_at block 1) number (position (has_number root_input number) c.args.checked.now.diagram.blocks) in
     let blocks : c.as_slice.result.now ≡ c.args.checked.now.diagram.blocks = c.as_slice.ensures ∙ ap (λ (d : Diagram). d.blocks) c.diagram.ensures in
     let all : c.count_inputs-count.result ≡ length (filter_map (number_in root_input) c.args.checked.now.diagram.blocks) =
-    c.count_inputs-count.ensures ∙ counted_map (number_in root_input) c.as_slice.result.now ∙ ap (λ (xs : List Block). length (filter_map (number_in root_input) xs)) blocks in
-    let last : c.loop-i.i ≡ c.in-Ok.count = omega arith in
-    c.loop-i.invariant ∙ ap (λ (n : ℕ). roots_of (flat_map part (numbers_from 1 n))) (last ∙ c.in-Ok.ensures.1 ∙ all)
+    c.count_inputs-count.ensures.count ∙ counted_map (number_in root_input) c.as_slice.result.now ∙ ap (λ (xs : List Block). length (filter_map (number_in root_input) xs)) blocks in
+    let last : c.loop-i.i ≡ c.count_inputs-count.result = omega arith in
+    c.loop-i.invariant ∙ ap (λ (n : ℕ). roots_of (flat_map part (numbers_from 1 n))) (last ∙ all)

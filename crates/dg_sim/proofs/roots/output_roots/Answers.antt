@@ -22,6 +22,6 @@ returns c =
     let part : ℕ → List RootElement = λ number. elements_of_port (attributes_of c.args.checked.now.diagram) (λ (block : ℕ). width_into c.args.checked.now.diagram (attributes_of c.args.checked.now.diagram) block 1) number (position (has_number root_output number) c.args.checked.now.diagram.blocks) in
     let blocks : c.as_slice.result.now ≡ c.args.checked.now.diagram.blocks = c.as_slice.ensures ∙ ap (λ (d : Diagram). d.blocks) c.diagram.ensures in
     let all : c.count_outputs-count.result ≡ length (filter_map (number_in root_output) c.args.checked.now.diagram.blocks) =
-    c.count_outputs-count.ensures ∙ counted_map (number_in root_output) c.as_slice.result.now ∙ ap (λ (xs : List Block). length (filter_map (number_in root_output) xs)) blocks in
-    let last : c.loop-i.i ≡ c.in-Ok.count = omega arith in
-    c.loop-i.invariant ∙ ap (λ (n : ℕ). roots_of (flat_map part (numbers_from 1 n))) (last ∙ c.in-Ok.ensures.1 ∙ all)
+    c.count_outputs-count.ensures.count ∙ counted_map (number_in root_output) c.as_slice.result.now ∙ ap (λ (xs : List Block). length (filter_map (number_in root_output) xs)) blocks in
+    let last : c.loop-i.i ≡ c.count_outputs-count.result = omega arith in
+    c.loop-i.invariant ∙ ap (λ (n : ℕ). roots_of (flat_map part (numbers_from 1 n))) (last ∙ all)

@@ -22,4 +22,4 @@ returns c =
     let found : position (has_number root_output c.args.number) c.args.checked.now.diagram.blocks ≡ Some c.in-Some.block =
     ap (position (has_number root_output c.args.number)) (sym blocks) ∙ c.in-Some.ensures in
     c.in_ok-put_port.ensures
-    ∙ ap (λ (xs : List Root). c.args.roots.now ++ xs) (port_roots (attributes_of c.args.checked.now.diagram) (λ (block : ℕ). width_into c.args.checked.now.diagram (attributes_of c.args.checked.now.diagram) block 1) c.args.number c.in-Some.block c.in-Some-width_of_input.width (position (has_number root_output c.args.number) c.args.checked.now.diagram.blocks) found c.in-Some-width_of_input.ensures)
+    ∙ ap (λ (xs : List Root). c.args.roots.now ++ xs) (port_roots (attributes_of c.args.checked.now.diagram) (λ (block : ℕ). width_into c.args.checked.now.diagram (attributes_of c.args.checked.now.diagram) block 1) c.args.number c.in-Some.block c.width_of_input-width.result (position (has_number root_output c.args.number) c.args.checked.now.diagram.blocks) found c.width_of_input-width.ensures)

@@ -1,4 +1,4 @@
-use Rattle.std.proofs.Common.{◌≡◌, ◌∙◌, List, Some, slice_get, ap, sym}
+use Rattle.std.proofs.Common.{◌≡◌, ◌∙◌, List, Some, slice_get, ap, sym, refl, arith}
 use Rattle.fx_type.specs.declared.decimal.Decimal.{Decimal}
 use Rattle.dg_model.specs.declared.diagram.Block.{Block}
 use Rattle.dg_model.specs.declared.diagram.Diagram.{Diagram}
@@ -6,6 +6,7 @@ use Rattle.dg_model.specs.declared.kind.Kind.TheVariants.{Outport, Pass, RateTra
 use Rattle.dg_model.specs.Attributes.{attributes_of}
 use Rattle.dg_sim.proofs.ByKind.{outport_hands, pass_hands, ground_always}
 use Rattle.dg_sim.proofs.Entries.{block_there, ports_are}
+use Rattle.dg_sim.proofs.Turns.{turn_of, turn_now, turn_read}
 use Rattle.dg_sim.proofs.rules.rule_of.Goals as goal
 
 pub hand_on-requires : goal.hand_on-requires
@@ -17,7 +18,14 @@ hand_on-requires c =
     let list = c.as_slice.ensures ∙ ap (λ (d : Diagram). d.blocks) c.diagram.ensures in
     let here : slice_get diagram.blocks place.block ≡ Some one = block_there diagram attributes place c.as_slice.result.now one list c.requires.entry c.index-as_slice-place.is in
     let wired = c.keeps_rules.ensures.checked.wired in
-    outport_hands diagram attributes place one here c.in-Outport.number c.in-Outport.is (ports_are diagram wired place.block one here (Outport c.in-Outport.number) c.in-Outport.is).0
+    let turn = turn_of c.args.checked.now c.args.starts.now c.args.program.now.places c.args.k place one c.requires.finds c.requires.at c.requires.entry here in
+    let ports = (ports_are diagram wired place.block one here (Outport c.in-Outport.number) c.in-Outport.is).0 in
+    record {
+      hands = outport_hands diagram attributes place one here c.in-Outport.number c.in-Outport.is ports;
+      finds = c.requires.finds;
+      now = turn_now c.args.checked.now c.args.starts.now c.args.program.now.places c.args.k place one turn (Outport c.in-Outport.number) c.in-Outport.is refl;
+      read = turn_read c.args.checked.now c.args.starts.now c.args.program.now.places c.args.k place one turn (Outport c.in-Outport.number) c.in-Outport.is c.keeps_rules.ensures.checked refl 1 (omega arith) (omega (arith, ports));
+    }
 
 pub hand_on-requires-in-Pass : goal.hand_on-requires-in-Pass
 hand_on-requires-in-Pass c =
@@ -28,7 +36,14 @@ hand_on-requires-in-Pass c =
     let list = c.as_slice.ensures ∙ ap (λ (d : Diagram). d.blocks) c.diagram.ensures in
     let here : slice_get diagram.blocks place.block ≡ Some one = block_there diagram attributes place c.as_slice.result.now one list c.requires.entry c.index-as_slice-place.is in
     let wired = c.keeps_rules.ensures.checked.wired in
-    pass_hands diagram attributes place one here c.in-Pass.width c.in-Pass.is (ports_are diagram wired place.block one here (Pass c.in-Pass.width) c.in-Pass.is).0
+    let turn = turn_of c.args.checked.now c.args.starts.now c.args.program.now.places c.args.k place one c.requires.finds c.requires.at c.requires.entry here in
+    let ports = (ports_are diagram wired place.block one here (Pass c.in-Pass.width) c.in-Pass.is).0 in
+    record {
+      hands = pass_hands diagram attributes place one here c.in-Pass.width c.in-Pass.is ports;
+      finds = c.requires.finds;
+      now = turn_now c.args.checked.now c.args.starts.now c.args.program.now.places c.args.k place one turn (Pass c.in-Pass.width) c.in-Pass.is refl;
+      read = turn_read c.args.checked.now c.args.starts.now c.args.program.now.places c.args.k place one turn (Pass c.in-Pass.width) c.in-Pass.is c.keeps_rules.ensures.checked refl 1 (omega arith) (omega (arith, ports));
+    }
 
 pub constant-requires-clause-block : goal.constant-requires-clause-block
 constant-requires-clause-block c =
@@ -63,7 +78,8 @@ joined-requires c =
     let one : Block = c.index-as_slice-place.result in
     let list = c.as_slice.ensures ∙ ap (λ (d : Diagram). d.blocks) c.diagram.ensures in
     let here : slice_get diagram.blocks place.block ≡ Some one = block_there diagram attributes place c.as_slice.result.now one list c.requires.entry c.index-as_slice-place.is in
-    record { block = here; kind = (c.in-Mux.sizes, c.in-Mux.is); cursors = c.requires.cursors }
+    let turn = turn_of c.args.checked.now c.args.starts.now c.args.program.now.places c.args.k place one c.requires.finds c.requires.at c.requires.entry here in
+    record { block = here; kind = (c.in-Mux.sizes, c.in-Mux.is); turn = turn; cursors = c.requires.cursors }
 
 pub parted-requires : goal.parted-requires
 parted-requires c =
@@ -73,7 +89,8 @@ parted-requires c =
     let one : Block = c.index-as_slice-place.result in
     let list = c.as_slice.ensures ∙ ap (λ (d : Diagram). d.blocks) c.diagram.ensures in
     let here : slice_get diagram.blocks place.block ≡ Some one = block_there diagram attributes place c.as_slice.result.now one list c.requires.entry c.index-as_slice-place.is in
-    record { block = (one, here, c.in-Demux.sizes, c.in-Demux.is); cursors = c.requires.cursors }
+    let turn = turn_of c.args.checked.now c.args.starts.now c.args.program.now.places c.args.k place one c.requires.finds c.requires.at c.requires.entry here in
+    record { block = here; kind = (c.in-Demux.sizes, c.in-Demux.is); turn = turn; cursors = c.requires.cursors }
 
 pub kept_rule-requires : goal.kept_rule-requires
 kept_rule-requires c =
@@ -82,4 +99,39 @@ kept_rule-requires c =
     let place = c.args.place in
     let one : Block = c.index-as_slice-place.result in
     let list = c.as_slice.ensures ∙ ap (λ (d : Diagram). d.blocks) c.diagram.ensures in
-    record { block = block_there diagram attributes place c.as_slice.result.now one list c.requires.entry c.index-as_slice-place.is; entries = c.requires.entries }
+    let here : slice_get diagram.blocks place.block ≡ Some one = block_there diagram attributes place c.as_slice.result.now one list c.requires.entry c.index-as_slice-place.is in
+    let turn = turn_of c.args.checked.now c.args.starts.now c.args.program.now.places c.args.k place one c.requires.finds c.requires.at c.requires.entry here in
+    record { block = here; turn = turn; entries = c.requires.entries }
+
+pub constant-requires-clause-shown : goal.constant-requires-clause-shown
+constant-requires-clause-shown c =
+    let diagram = c.args.checked.now.diagram in
+    let attributes = attributes_of diagram in
+    let place = c.args.place in
+    let one : Block = c.index-as_slice-place.result in
+    let list = c.as_slice.ensures ∙ ap (λ (d : Diagram). d.blocks) c.diagram.ensures in
+    let here : slice_get diagram.blocks place.block ≡ Some one = block_there diagram attributes place c.as_slice.result.now one list c.requires.entry c.index-as_slice-place.is in
+    let turn = turn_of c.args.checked.now c.args.starts.now c.args.program.now.places c.args.k place one c.requires.finds c.requires.at c.requires.entry here in
+    turn.shown
+
+pub transition-requires-clause-turn : goal.transition-requires-clause-turn
+transition-requires-clause-turn c =
+    let diagram = c.args.checked.now.diagram in
+    let attributes = attributes_of diagram in
+    let place = c.args.place in
+    let one : Block = c.index-as_slice-place.result in
+    let list = c.as_slice.ensures ∙ ap (λ (d : Diagram). d.blocks) c.diagram.ensures in
+    let here : slice_get diagram.blocks place.block ≡ Some one = block_there diagram attributes place c.as_slice.result.now one list c.requires.entry c.index-as_slice-place.is in
+    let turn = turn_of c.args.checked.now c.args.starts.now c.args.program.now.places c.args.k place one c.requires.finds c.requires.at c.requires.entry here in
+    turn
+
+pub above-requires-clause-turn : goal.above-requires-clause-turn
+above-requires-clause-turn c =
+    let diagram = c.args.checked.now.diagram in
+    let attributes = attributes_of diagram in
+    let place = c.args.place in
+    let one : Block = c.index-as_slice-place.result in
+    let list = c.as_slice.ensures ∙ ap (λ (d : Diagram). d.blocks) c.diagram.ensures in
+    let here : slice_get diagram.blocks place.block ≡ Some one = block_there diagram attributes place c.as_slice.result.now one list c.requires.entry c.index-as_slice-place.is in
+    let turn = turn_of c.args.checked.now c.args.starts.now c.args.program.now.places c.args.k place one c.requires.finds c.requires.at c.requires.entry here in
+    turn

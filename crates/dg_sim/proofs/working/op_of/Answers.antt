@@ -1,15 +1,28 @@
-use Rattle.std.proofs.Common.{sym, subst}
+use Rattle.std.proofs.Common.{List, ap, sym, ◌∙◌, subst}
 use Rattle.fx_type.specs.FxType.{IsType}
+use Rattle.fx_type.specs.declared.decimal.Decimal.{Decimal}
+use Rattle.dg_sim.specs.inner.Finding.{HasEntry}
+use Rattle.dg_sim.proofs.ListEntries.{gain_entry, switch_entry}
 use Rattle.dg_sim.proofs.working.op_of.Goals as goal
 
-pub stored-requires : goal.stored-requires
-stored-requires c =
+pub stored-coefficient-requires-clause-kind : goal.stored-coefficient-requires-clause-kind
+stored-coefficient-requires-clause-kind c =
     let checked = c.args.checked.now in
-    let valid = c.operations_prepare.ensures.types checked.diagram checked.order c.args.place.block c.requires.0 (record { checked = c.keeps_rules.ensures.checked; ordered = c.keeps_rules.ensures.ordered }) c.requires.1 in
+    let valid = c.operations_prepare.ensures.types checked.diagram checked.order c.args.place.block c.args.block.now (record { checked = c.keeps_rules.ensures.checked; ordered = c.keeps_rules.ensures.ordered }) c.requires.block in
     subst IsType (sym c.param-param.ensures) valid.1
 
-pub stored-requires-in-Switch : goal.stored-requires-in-Switch
-stored-requires-in-Switch c =
+pub stored-coefficient-requires-clause-entry : goal.stored-coefficient-requires-clause-entry
+stored-coefficient-requires-clause-entry c =
+    subst (λ (list : List Decimal). HasEntry list c.args.place.element) (sym c.as_slice.ensures)
+    (gain_entry c.args.checked.now.diagram c.keeps_rules.ensures.checked c.args.place.block c.args.place.port c.args.place.element c.args.block.now c.requires.shown _ _ c.in-Gain.is)
+
+pub stored-threshold-requires-clause-kind : goal.stored-threshold-requires-clause-kind
+stored-threshold-requires-clause-kind c =
     let checked = c.args.checked.now in
-    let valid = c.operations_prepare.ensures.types checked.diagram checked.order c.args.place.block c.requires.0 (record { checked = c.keeps_rules.ensures.checked; ordered = c.keeps_rules.ensures.ordered }) c.requires.1 in
-    subst IsType (sym c.in-Some-type_of_input.ensures) (valid.2 2)
+    let valid = c.operations_prepare.ensures.types checked.diagram checked.order c.args.place.block c.args.block.now (record { checked = c.keeps_rules.ensures.checked; ordered = c.keeps_rules.ensures.ordered }) c.requires.block in
+    subst IsType (sym c.type_of_input-control.ensures) (valid.2 2)
+
+pub stored-threshold-requires-clause-entry : goal.stored-threshold-requires-clause-entry
+stored-threshold-requires-clause-entry c =
+    subst (λ (list : List Decimal). HasEntry list c.args.place.element) (sym c.as_slice-in-Switch.ensures)
+    (switch_entry c.args.checked.now.diagram c.keeps_rules.ensures.checked c.args.place.block c.args.place.port c.args.place.element c.args.block.now c.requires.shown _ _ c.in-Switch.is)

@@ -21,3 +21,6 @@ loop-i-preserved c =
           ∙ append_assoc c.args.types.now _ (type_into diagram (attributes_of diagram) place.block (i + 1) ∷ [])
           ∙ ap (λ (xs : List FxType). c.args.types.now ++ xs) (sym (map_last (type_into diagram (attributes_of diagram) place.block) i)),
     )
+
+pub put_input-requires-clause-read : goal.put_input-requires-clause-read
+put_input-requires-clause-read c = c.requires.read (c.loop-i.i + 1) (omega arith) (omega (arith, c.loop-i-test.true))

@@ -1,6 +1,7 @@
 use Rattle.std.proofs.Common.{◌≡◌, ◌∙◌, ap, length, arith}
 use Rattle.dg_model.specs.Attributes.{attributes_of}
 use Rattle.dg_sim.proofs.ByKind.{op_elementwise}
+use Rattle.dg_sim.proofs.Turns.{op_now, op_reads}
 use Rattle.dg_sim.proofs.Worked.{works_made}
 use Rattle.dg_sim.proofs.working.works.Goals as goal
 
@@ -16,3 +17,11 @@ returns c =
     works_made diagram attributes c.args.program.now c.args.k place b c.args.op c.in-Ok.first c.in-Ok-try_from.first_sign c.in-Ok-try_from-2.signs c.result.result read.0 c.put_inputs.new.args c.put_inputs.new.types c.negative_of-negative.result.now c.put_signs.new.signs
     (op_elementwise diagram attributes place b c.requires.block c.args.op c.requires.op) c.requires.entries c.requires.op prepared (omega arith) (c.result.ensures 1) (c.in-Ok.ensures.1 ∙ ap length c.as_slice.ensures) (omega (arith, types))
     (c.in-Ok-try_from.ensures.1 ∙ ap length c.as_slice-2.ensures) c.in-Ok-try_from-2.ensures.1 c.negative_of-negative.ensures read.1 read.2 read.3 read.4 c.in_ok-put_signs.ensures
+
+pub put_inputs-requires-clause-now : goal.put_inputs-requires-clause-now
+put_inputs-requires-clause-now c =
+    op_now c.args.checked.now c.args.starts.now c.args.program.now.places c.args.k c.args.place c.args.block.now c.requires.turn _ _ c.args.op c.requires.op
+
+pub put_inputs-requires-clause-read : goal.put_inputs-requires-clause-read
+put_inputs-requires-clause-read c =
+    op_reads c.args.checked.now c.args.starts.now c.args.program.now.places c.args.k c.args.place c.args.block.now c.requires.turn c.keeps_rules.ensures.checked _ _ c.args.op c.requires.op

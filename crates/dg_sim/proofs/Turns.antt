@@ -1,0 +1,122 @@
+-- What the rule of an entry reads: each input is there, and stands before the entry where it is read in the same sample.
+use Rattle.std.proofs.Common.{◌≡◌, ℕ, ◌<◌, ◌≤◌, inl, inr, List, Option, Some, None, pos, Bool, true, slice_get, ap, sym, ◌∙◌, subst, refl, arith}
+use Rattle.std.proofs.lemmas.Option.{same_Some}
+use Rattle.fx_type.specs.declared.kind.FxType.TheVariants.{Logical}
+use Rattle.dg_model.specs.declared.diagram.Diagram.{Diagram}
+use Rattle.dg_model.specs.declared.diagram.Block.{Block}
+use Rattle.dg_model.specs.declared.diagram.Edge.{Edge}
+use Rattle.dg_model.specs.declared.kind.Kind.{Kind}
+use Rattle.dg_model.specs.declared.kind.Kind.TheVariants.{Delay, Mux, Demux, RateTransition, EnableTest, EnOut}
+use Rattle.dg_model.specs.declared.op.Op.{Op}
+use Rattle.dg_model.specs.Equation.{IsOpOf}
+use Rattle.fx_type.specs.declared.kind.FxType.{FxType}
+use Rattle.fx_type.specs.declared.decimal.Decimal.{Decimal}
+use Rattle.dg_model.specs.Attributes.{attributes_of}
+use Rattle.dg_model.specs.Checked.{IsChecked, CheckedDiagram}
+use Rattle.dg_model.specs.Instant.{reads_now, asks_now}
+use Rattle.dg_model.specs.KindRow.{Shape}
+use Rattle.dg_model.specs.Library.{row_of, HasPorts, IsReadable}
+use Rattle.dg_model.specs.Loop.{LeadsNow}
+use Rattle.dg_model.specs.Signals.{Attributes}
+use Rattle.dg_model.specs.Solves.{IsShown}
+use Rattle.dg_model.specs.Wired.{IsWired}
+use Rattle.dg_model.specs.Wires.{driver_of, at_source, repeated, width_into}
+use Rattle.dg_sim.specs.Fit.{FitShape}
+use Rattle.dg_sim.specs.declared.program.Place.{Place}
+use Rattle.dg_sim.specs.declared.reading.Starts.{Starts}
+use Rattle.dg_sim.specs.inner.Building.{IsSource, IsEntry}
+use Rattle.dg_sim.specs.inner.Finding.{Finds, IsRead, IsTurn, ReadsNow, IsBeforeReader, source_of}
+use Rattle.dg_sim.specs.inner.Laying.{place_at}
+use Rattle.dg_sim.proofs.Fitting.{widths_fit}
+use Rattle.dg_sim.proofs.Lists.{below_repeated}
+use Rattle.dg_sim.proofs.Ranks.{driver_leads, control_leads}
+use Rattle.dg_sim.proofs.Sources.{source_shown, elements_read, is_readable}
+
+-- ---- the entry at the source of a line
+module _ (diagram : Diagram) (attributes : Attributes) (block port element : ℕ) where
+  pub none_read : driver_of diagram block port ≡ None → IsRead diagram attributes block port element → ⊥
+  none_read none read =
+      let h : repeated 0 element < 0 = subst (λ (o : Option Edge). repeated (at_source o 0 attributes.width_at) element < at_source o 0 attributes.width_at) none read in
+      omega (arith, h)
+
+  pub source_is : (edge : Edge) → driver_of diagram block port ≡ Some edge → IsSource diagram attributes block port element (source_of attributes edge element)
+  source_is edge e = record {
+    value = λ table t. ap (λ (o : Option Edge). at_source o (pos 0) (λ from from_port. table from from_port (repeated (attributes.width_at from from_port) element) t)) e;
+    type = ap (λ (o : Option Edge). at_source o Logical attributes.type_at) e;
+  }
+
+  pub source_entry : (edge : Edge) → IsWired diagram → driver_of diagram block port ≡ Some edge → IsRead diagram attributes block port element → IsEntry diagram attributes (source_of attributes edge element)
+  source_entry edge wired e read =
+      source_shown diagram attributes wired block port edge (repeated (attributes.width_at edge.from edge.from_port) element) e
+      (subst (λ (o : Option Edge). repeated (at_source o 0 attributes.width_at) element < at_source o 0 attributes.width_at) e read)
+
+  pub below_read : element < width_into diagram attributes block port → IsRead diagram attributes block port element
+  below_read below = below_repeated (width_into diagram attributes block port) element (inr below)
+
+pub source_before : (checked : CheckedDiagram) (starts : Starts) (places : List Place) (block port element number : ℕ) (edge : Edge) → Finds checked starts places → driver_of checked.diagram block port ≡ Some edge
+    → slice_get places number ≡ Some (source_of (attributes_of checked.diagram) edge element) → IsBeforeReader checked places block number
+source_before checked starts places block port element number edge finds e there k now =
+    let attributes : Attributes = attributes_of checked.diagram in
+    finds.ranked number k (source_of attributes edge element) now.0 there now.2
+    (subst (λ (n : ℕ). LeadsNow checked.diagram attributes edge.from n) (sym now.3) (driver_leads checked.diagram attributes block now.1 port edge now.4 now.5 e))
+
+-- ---- the entry whose rule is to be made
+module _ (checked : CheckedDiagram) (starts : Starts) (places : List Place) (k : ℕ) (place : Place) (b : Block) where
+  pub turn_of : Finds checked starts places → slice_get places k ≡ Some place → IsEntry checked.diagram (attributes_of checked.diagram) place → slice_get checked.diagram.blocks place.block ≡ Some b → IsTurn checked starts places k place b
+  turn_of finds at entry block_is =
+      let one : entry.0 ≡ b = same_Some entry.0 b (sym entry.1.block_is ∙ block_is) in
+      record { finds = finds; at = at; shown = subst (λ (x : Block). IsShown checked.diagram (attributes_of checked.diagram) place.block x place.port place.element) one entry.1 }
+
+  module _ (turn : IsTurn checked starts places k place b) (kind : Kind) (kind_is : b.kind ≡ kind) where
+    pub turn_now : reads_now checked.diagram (attributes_of checked.diagram) place.block kind ≡ true → ReadsNow checked places k place.block
+    turn_now now = (place, b, turn.at, refl, turn.shown.block_is, subst (λ (kind : Kind). reads_now checked.diagram (attributes_of checked.diagram) place.block kind ≡ true) (sym kind_is) now)
+
+    pub turn_read : IsChecked checked.diagram → (row_of kind).signal.shape ≡ Shape.Elementwise → (input : ℕ) → 1 ≤ input → input ≤ b.inputs → IsRead checked.diagram (attributes_of checked.diagram) place.block input place.element
+    turn_read is elementwise =
+        let shape : (row_of b.kind).signal.shape ≡ Shape.Elementwise = ap (λ (kind : Kind). (row_of kind).signal.shape) kind_is ∙ elementwise in
+        elements_read checked.diagram (attributes_of checked.diagram) place.block b.inputs b.outputs b.kind place.port place.element turn.shown.port_from turn.shown.port_to turn.shown.element_below
+        (subst (λ (shape : Shape). FitShape shape checked.diagram (attributes_of checked.diagram) place.block b.kind b.inputs b.outputs) shape
+        (widths_fit checked.diagram is.wired is.dimensions place.block b turn.shown.block_is))
+
+  op_shape : (kind : Kind) (param control : FxType) (op : Op) → IsOpOf kind place.element param control op → (row_of kind).signal.shape ≡ Shape.Elementwise
+  op_shape (Mux sizes) param control op is = absurd is
+  op_shape (Demux sizes) param control op is = absurd is
+  op_shape EnableTest param control op is = absurd is
+  op_shape _ param control op is = refl
+
+  op_kind_now : (kind : Kind) (param control : FxType) (op : Op) → IsOpOf kind place.element param control op → reads_now checked.diagram (attributes_of checked.diagram) place.block kind ≡ true
+  op_kind_now (Delay length initial reset) param control op is = absurd is
+  op_kind_now (RateTransition period initial) param control op is = absurd is
+  op_kind_now _ param control op is = refl
+
+  module _ (turn : IsTurn checked starts places k place b) where
+    readable : IsChecked checked.diagram → IsReadable b
+    readable is = is_readable checked.diagram (attributes_of checked.diagram) is.wired place.block b turn.shown.block_is
+
+    -- the one input of a Delay, of a rate transition and of an output port of an enabled subsystem
+    one_read : IsChecked checked.diagram → (kind : Kind) → b.kind ≡ kind → (row_of kind).signal.shape ≡ Shape.Elementwise → (HasPorts kind b.inputs b.outputs → b.inputs ≡ 1) → IsRead checked.diagram (attributes_of checked.diagram) place.block 1 place.element
+    one_read is kind kind_is elementwise single =
+        let one : b.inputs ≡ 1 = single (subst (λ (kind : Kind). HasPorts kind b.inputs b.outputs) kind_is (readable is).ports) in
+        turn_read turn kind kind_is is elementwise 1 (omega arith) (omega (arith, one))
+
+    pub delay_reads : IsChecked checked.diagram → (length : ℕ) (initial : List Decimal) (reset : Bool) → b.kind ≡ Delay length initial reset → IsRead checked.diagram (attributes_of checked.diagram) place.block 1 place.element
+    delay_reads is length initial reset e = one_read is (Delay length initial reset) e refl (λ ports. ports.0)
+
+    pub rate_reads : IsChecked checked.diagram → (period : Decimal) (initial : List Decimal) → b.kind ≡ RateTransition period initial → IsRead checked.diagram (attributes_of checked.diagram) place.block 1 place.element
+    rate_reads is period initial e = one_read is (RateTransition period initial) e refl (λ ports. ports.0)
+
+    pub output_reads : IsChecked checked.diagram → (reset : Bool) (initial : List Decimal) → b.kind ≡ EnOut reset initial → IsRead checked.diagram (attributes_of checked.diagram) place.block 1 place.element
+    output_reads is reset initial e = one_read is (EnOut reset initial) e refl (λ ports. ports.0)
+
+    -- the control of an output port of an enabled subsystem stands before it
+    pub control_before : (cell enable : ℕ) (reset : Bool) (initial : List Decimal) → b.kind ≡ EnOut reset initial → b.enable ≡ Some enable → slice_get places cell ≡ Some (place_at enable 1 0) → cell < k
+    control_before cell enable reset initial kind_is is there =
+        turn.finds.ranked cell k (place_at enable 1 0) place there turn.at
+        (control_leads checked.diagram (attributes_of checked.diagram) place.block b enable turn.shown.block_is (ap (λ (kind : Kind). asks_now kind) kind_is) is)
+
+    -- a block that works element by element has an operation, and all its inputs are read in the same sample
+    pub op_reads : IsChecked checked.diagram → (param control : FxType) (op : Op) → IsOpOf b.kind place.element param control op → (input : ℕ) → 1 ≤ input → input ≤ b.inputs → IsRead checked.diagram (attributes_of checked.diagram) place.block input place.element
+    op_reads is param control op is_op = turn_read turn b.kind refl is (op_shape b.kind param control op is_op)
+
+    pub op_now : (param control : FxType) (op : Op) → IsOpOf b.kind place.element param control op → ReadsNow checked places k place.block
+    op_now param control op is_op = turn_now turn b.kind refl (op_kind_now b.kind param control op is_op)

@@ -1,0 +1,11 @@
+use Rattle.dg_model.specs.Attributes.{attributes_of}
+use Rattle.dg_sim.proofs.Fitting.{widths_fit}
+use Rattle.dg_sim.proofs.Sources.{control_shown}
+use Rattle.dg_sim.proofs.memories.control_cell.Goals as goal
+
+pub look_up-requires-clause-entry : goal.look_up-requires-clause-entry
+look_up-requires-clause-entry c =
+    let checked = c.args.checked.now in
+    control_shown checked.diagram (attributes_of checked.diagram) c.keeps_rules.ensures.checked.wired
+    (λ block b at. widths_fit checked.diagram c.keeps_rules.ensures.checked.wired c.keeps_rules.ensures.checked.dimensions block b at)
+    c.requires.block.0 c.args.block.now c.args.enable c.requires.block.1 c.requires.enable

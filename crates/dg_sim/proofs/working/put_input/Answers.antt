@@ -1,0 +1,19 @@
+use Rattle.std.proofs.Common.{◌∙◌, List, sym, subst}
+use Rattle.dg_model.specs.Attributes.{attributes_of}
+use Rattle.fx_type.specs.declared.kind.FxType.{FxType}
+use Rattle.std.specs.Prelude.{◌≡◌, ◌++◌, ◌∷◌, []}
+use Rattle.dg_sim.specs.declared.program.Place.{Place}
+use Rattle.dg_sim.specs.inner.Building.{Reads}
+use Rattle.dg_sim.specs.inner.Finding.{ReadsNow}
+use Rattle.dg_sim.proofs.working.put_input.Goals as goal
+
+pub returns : goal.returns
+returns c =
+    let diagram = c.args.checked.now.diagram in
+    let number = c.input-number.result in (
+      number,
+      c.in_ok-push.ensures.appended,
+      c.input-number.ensures.before c.args.k (subst (λ (places : List Place). ReadsNow c.args.checked.now places c.args.k c.args.place.block) (sym c.as_slice.ensures) c.requires.now),
+      subst (λ (places : List Place). Reads diagram (attributes_of diagram) places c.args.place.block c.args.port c.args.place.element number) c.as_slice.ensures c.input-number.ensures.reads,
+      subst (λ (kind : FxType). c.push-2.new.self ≡ c.args.types.now ++ kind ∷ []) c.type_of_input-kind.ensures c.in_ok-push-2.ensures.appended,
+    )
