@@ -15,7 +15,7 @@ use Rattle.hw_names.specs.declared.giving.Side.{Side}
 use Rattle.hw_names.specs.declared.giving.Side.TheVariants.{Inputs, Outputs}
 use Rattle.hw_names.specs.declared.names.Names.{Names}
 use Rattle.hw_names.specs.Columns.{AreColumnsFrom}
-use Rattle.hw_names.specs.Names.{Given, IsGiven, element_name, own_names, port_name, undoubled, wanted_names, wanted_of}
+use Rattle.hw_names.specs.Names.{Given, IsGiven, element_name, port_name, undoubled, wanted_names, wanted_of}
 use Rattle.hw_names.specs.Taken.{AreTaken, taken_by}
 use Rattle.hw_names.specs.inner.Sides.{AddsNames, elements_on, number_on, wanted_on, width_on}
 use Rattle.hw_names.proofs.Places.{blocks_there, map_at, map_from, place_is}
@@ -100,19 +100,19 @@ there_on diagram side blocks checked inputs outputs are = blocks_there (number_o
 
 -- ---- all names
 
-pub all_named : (diagram : Diagram) (old middle new : Names) (none one both : List (List ℕ)) (inputs outputs : ℕ) → AreTaken old own_names → none ≡ [] → AddsNames diagram Inputs old middle none one inputs → AddsNames diagram Outputs middle new one both outputs
-    → inputs ≡ length (elements_on Inputs diagram) → outputs ≡ length (elements_on Outputs diagram) → Given own_names (wanted_names diagram) both
-all_named diagram old middle new none one both inputs outputs taken empty first second all_in all_out =
+pub all_named : (diagram : Diagram) (list : List (List ℕ)) (old middle new : Names) (none one both : List (List ℕ)) (inputs outputs : ℕ) → AreTaken old list → none ≡ [] → AddsNames diagram Inputs old middle none one inputs → AddsNames diagram Outputs middle new one both outputs
+    → inputs ≡ length (elements_on Inputs diagram) → outputs ≡ length (elements_on Outputs diagram) → Given list (wanted_names diagram) both
+all_named diagram list old middle new none one both inputs outputs taken empty first second all_in all_out =
     let ins : List (List ℕ) = wanted_on Inputs diagram in
     let outs : List (List ℕ) = wanted_on Outputs diagram in
     let in_size = length-map (elements_on Inputs diagram) (wanted_of diagram (width_on Inputs diagram)) in
     let out_size = length-map (elements_on Outputs diagram) (wanted_of diagram (width_on Outputs diagram)) in
     let begun = subst (λ (xs : List (List ℕ)). AddsNames diagram Inputs old middle xs one inputs) empty first in
-    let front = begun.added own_names [] taken tt in
-    let back = second.added own_names (take inputs ins) front.1 front.0 in
+    let front = begun.added list [] taken tt in
+    let back = second.added list (take inputs ins) front.1 front.0 in
     let in_all : take inputs ins ≡ ins = take_all inputs ins (omega (arith, in_size, all_in)) in
     let out_all : take outputs outs ≡ outs = take_all outputs outs (omega (arith, out_size, all_out)) in
-    subst (λ (ws : List (List ℕ)). Given own_names ws both) (ap (λ (ws : List (List ℕ)). ws ++ take outputs outs) in_all ∙ ap (λ (ws : List (List ℕ)). ins ++ ws) out_all) back.0
+    subst (λ (ws : List (List ℕ)). Given list ws both) (ap (λ (ws : List (List ℕ)). ws ++ take outputs outs) in_all ∙ ap (λ (ws : List (List ℕ)). ins ++ ws) out_all) back.0
 
 pub blocks_size : (diagram : Diagram) (side : Side) (blocks : List ℕ) → AreBlocksOf (elements_on side diagram) blocks → length blocks ≡ length (elements_on side diagram)
 blocks_size diagram side blocks are = ap (λ (xs : List ℕ). length xs) are ∙ length-map (elements_on side diagram) (λ e. e.block)

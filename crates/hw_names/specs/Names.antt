@@ -58,6 +58,10 @@ Given taken (wanted ∷ others) (name ∷ names) = IsGiven taken wanted name × 
 abbrev pub own_names : List (List ℕ)
 own_names = codes "clk" ∷ codes "reset" ∷ codes "clk_enable" ∷ codes "ce_out" ∷ []
 
+-- those that it has beside them, where it takes and gives samples by valid and ready
+abbrev pub handshake_names : List (List ℕ)
+handshake_names = codes "in_valid" ∷ codes "out_ready" ∷ codes "in_ready" ∷ codes "out_valid" ∷ []
+
 -- the name that an element of a root port wants, by the path of its block and the width of its signal
 abbrev pub wanted_of : Diagram → (ℕ → ℕ) → RootElement → List ℕ
 wanted_of diagram width_of e = port_name (element_name (undoubled false (path_of diagram e.block)) (width_of e.block) e.element)
@@ -71,3 +75,7 @@ wanted_names diagram =
 -- the names of the ports of a diagram
 pub record AreNames (diagram : Diagram) (names : List (List ℕ)) : Type 0 where
   pub given : Given own_names (wanted_names diagram) names
+
+-- those of its ports in a module with valid and ready
+pub record AreStreamNames (diagram : Diagram) (names : List (List ℕ)) : Type 0 where
+  pub given : Given (handshake_names ++ own_names) (wanted_names diagram) names

@@ -1,6 +1,7 @@
-ghost use Rattle.std.specs.Prelude.{◌≡◌, ◌<◌, IfOk, OnOk, length};
+ghost use Rattle.std.specs.Prelude.{◌≡◌, ◌<◌, ℕ, List, IfOk, OnOk, length};
 ghost use Rattle.dg_sim.specs.Listing.{AreBlocksOf};
-ghost use Rattle.hw_names.specs.Names.{AreNames, wanted_names};
+ghost use Rattle.hw_names.specs.Names.{AreNames, AreStreamNames, Given, wanted_names};
+ghost use Rattle.hw_names.specs.Taken.{AreTaken};
 ghost use Rattle.hw_names.specs.inner.Sides.{AddsNames, elements_on, width_on};
 
 use crate::columns::columns_of;
@@ -61,6 +62,33 @@ fn put_names(
     Ok(())
 }
 
+/// A name for each root element, beside those that are taken.
+fn names_beside(alloc: Global, names: &mut Names, checked: &Checked) -> Result<Texts, OutOfMemory>
+    ensures { IfOk result (λ texts. (list : List (List ℕ)) → AreTaken names.old list
+        → Given list (wanted_names checked.now.diagram) texts) }
+{
+    let mut texts = Texts::new(alloc);
+    let inputs = input_blocks(alloc, checked)?;
+    put_names(
+        alloc,
+        names,
+        &mut texts,
+        checked,
+        Side::Inputs,
+        inputs.as_slice(),
+    )?;
+    let outputs = output_blocks(alloc, checked)?;
+    put_names(
+        alloc,
+        names,
+        &mut texts,
+        checked,
+        Side::Outputs,
+        outputs.as_slice(),
+    )?;
+    Ok(texts)
+}
+
 /// The names of the ports of a checked diagram: those of its root inputs' elements, then those of its
 /// root outputs'; there is one for each element.
 ///
@@ -72,24 +100,20 @@ pub fn port_names(alloc: Global, checked: &Checked) -> Result<Texts, OutOfMemory
         length names ≡ length (wanted_names checked.now.diagram)) }
 {
     let mut names = Names::new(alloc)?;
-    let mut texts = Texts::new(alloc);
-    let inputs = input_blocks(alloc, checked)?;
-    put_names(
-        alloc,
-        &mut names,
-        &mut texts,
-        checked,
-        Side::Inputs,
-        inputs.as_slice(),
-    )?;
-    let outputs = output_blocks(alloc, checked)?;
-    put_names(
-        alloc,
-        &mut names,
-        &mut texts,
-        checked,
-        Side::Outputs,
-        outputs.as_slice(),
-    )?;
+    let texts = names_beside(alloc, &mut names, checked)?;
+    Ok(texts)
+}
+
+/// The names of the same ports in a module with valid and ready.
+///
+/// # Errors
+/// Want of memory.
+pub fn stream_names(alloc: Global, checked: &Checked) -> Result<Texts, OutOfMemory>
+    ensures names { IfOk result (AreStreamNames checked.now.diagram) }
+    ensures size { IfOk result (λ names.
+        length names ≡ length (wanted_names checked.now.diagram)) }
+{
+    let mut names = Names::of_stream(alloc)?;
+    let texts = names_beside(alloc, &mut names, checked)?;
     Ok(texts)
 }

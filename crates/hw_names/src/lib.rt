@@ -1,7 +1,7 @@
 //! The names of a module's ports.
 //!
 //! `specs/Names` says which names the elements of root inputs and root outputs get; `port_names` gives
-//! them all, and `Names` one after another to who asks. `specs/Taken` says which names are taken,
+//! them all, `stream_names` those of a module with valid and ready, and `Names` one after another to who asks. `specs/Taken` says which names are taken,
 //! `specs/Columns` where the elements of a block begin among the columns.
 #![tactic(auto)]
 
@@ -10,5 +10,5 @@ mod giving;
 mod names;
 
 pub use columns::columns_of;
-pub use giving::port_names;
+pub use giving::{port_names, stream_names};
 pub use names::{Names, put_number};

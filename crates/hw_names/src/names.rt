@@ -1,6 +1,6 @@
 //! The names of ports.
 ghost use Rattle.std.specs.Prelude.{◌≡◌, ◌++◌, ◌∷◌, ◌↔◌, ℕ, List, false, map, Contains, IsTrue, IfOk, OnOk, decimal, ◌+◌, ◌<◌, ◌^◌};
-ghost use Rattle.hw_names.specs.Names.{plain_byte as plain_byte_of, undoubled, element_name as element_name_of, port_name as port_name_of, numbered as numbered_of, own_names, IsGiven, IsNumbered};
+ghost use Rattle.hw_names.specs.Names.{plain_byte as plain_byte_of, undoubled, element_name as element_name_of, port_name as port_name_of, numbered as numbered_of, own_names, handshake_names, IsGiven, IsNumbered};
 ghost use Rattle.hw_names.specs.Taken.{AreTaken, AreTried};
 
 use fx_io::{OutOfMemory, Text};
@@ -107,6 +107,18 @@ impl Names {
         names.take(Vec::from_slice(alloc, b"clk_enable")?)?;
         names.take(Vec::from_slice(alloc, b"reset")?)?;
         names.take(Vec::from_slice(alloc, b"clk")?)?;
+        Ok(names)
+    }
+
+    /// The names that every module with valid and ready has.
+    pub fn of_stream(alloc: Global) -> Result<Names, OutOfMemory>
+        ensures { IfOk result (λ names. AreTaken names (handshake_names ++ own_names)) }
+    {
+        let mut names = Names::new(alloc)?;
+        names.take(Vec::from_slice(alloc, b"out_valid")?)?;
+        names.take(Vec::from_slice(alloc, b"in_ready")?)?;
+        names.take(Vec::from_slice(alloc, b"out_ready")?)?;
+        names.take(Vec::from_slice(alloc, b"in_valid")?)?;
         Ok(names)
     }
 
