@@ -5,6 +5,7 @@ ghost use Rattle.dg_model.specs.PlanOf.{IsPlanOf};
 ghost use Rattle.hw_module.specs.Design.{IsModuleOf};
 ghost use Rattle.vl_ast.specs.Grammar.{Spells};
 ghost use Rattle.vl_ast.specs.Spelling.{spelling};
+ghost use Rattle.vl_ast.specs.Stalls.{KeepsBits};
 ghost use Rattle.hw_sched.specs.Answer.{AreSlots, timing_of};
 
 use crate::laws::built_modules_owe_nothing;
@@ -34,6 +35,7 @@ pub fn module_of(
     ensures owed { IfOk result (λ made. IsModuleOf made checked.now.diagram plan.now
         (timing_of latencies.now slots.now.depths)) }
     ensures spelled { IfOk result (λ made. Spells (spelling made) made) }
+    ensures keeps { IfOk result KeepsBits }
 {
     checked.keeps_rules();
     slots_are_scheduled();
