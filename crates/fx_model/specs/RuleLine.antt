@@ -15,7 +15,7 @@ rule_word rule =
     else (if rule == 4 then codes "wiring" else (if rule == 5 then codes "enable" else (if rule == 6 then codes "dimension"
     else (if rule == 7 then codes "type" else (if rule == 8 then codes "rate" else (if rule == 9 then codes "loop"
     else (if rule == 10 then codes "plan" else (if rule == 11 then codes "latency" else (if rule == 12 then codes "budget"
-    else codes "size")))))))))))
+    else (if rule == 13 then codes "size" else codes "stream"))))))))))))
 
 -- a digit of a number in base sixteen
 abbrev pub hex_digit : ℕ → ℕ

@@ -43,7 +43,8 @@ pub fn word_of(rule: u8) -> &'static [u8]
         10 => b"plan",
         11 => b"latency",
         12 => b"budget",
-        _ => b"size",
+        13 => b"size",
+        _ => b"stream",
     }
 }
 
