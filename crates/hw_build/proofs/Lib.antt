@@ -65,7 +65,7 @@ mod Marking
 mod Marks
 mod Multiplying
 mod Named
-mod Naming
+pub mod Naming
 mod Nets
 mod Numbering
 mod Offered
