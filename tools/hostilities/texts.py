@@ -91,8 +91,12 @@ class Trial:
         checked = self.call(faults, "check", "m", "p")
         made = self.call(faults, "generate", "m", "p")
         simulated = self.call(faults, "simulate", "m", "s")
+        streamed = self.call(faults, "stream", "m", "p")
         if (checked.status, checked.err) != (made.status, made.err):
             faults.append(f"check: {checked.status} {checked.err!r}, generate: {made.status} {made.err!r}")
+        # rule 14 is of a stream alone
+        if (streamed.status, streamed.err) != (made.status, made.err) and (made.status or not re.match(rb"rule 14 ", streamed.err)):
+            faults.append(f"stream: {streamed.status} {streamed.err!r}, generate: {made.status} {made.err!r}")
         # rules 10 to 13 are of a plan
         refused = checked.status == 5 or re.match(rb"rule [1-9] ", checked.err)
         if refused and (checked.status, checked.err) != (simulated.status, simulated.err):
