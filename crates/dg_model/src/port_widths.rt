@@ -36,6 +36,7 @@ fn put_part(starts: &mut Sizes, all: &mut Sizes, part: &[u32]) -> Result<(), Out
     ensures starts { OnOk result (AreStarts starts.new (length all.new)) }
 {
     let Ok(start) = u32::try_from(all.as_slice().len()) else {
+        // word: widths are numbered in 32 bits
         return Err(OutOfMemory);
     };
     append(all, part)?;
