@@ -1,10 +1,10 @@
 -- A netlist with a net of each kind, and its rows over six clocks, two of which make a base sample, by hand.
-use Rattle.std.proofs.Common.{◌≡◌, ◌≢◌, ℕ, zero, suc, ◌+◌, ◌≤◌, ◌<◌, ℤ, pos, negsuc, ◌*ℤ◌, ◌+ℤ◌, ◌^◌, Bool, true, false, List, [], ◌∷◌, length, get_or, Some, slice_get, All, codes, refl, sym, ap, subst, arith}
-use Rattle.std.proofs.Math.Dec.{T, lit<, lit≤}
+use Rattle.std.proofs.Common.{ℕ, zero, suc, ◌<◌, ℤ, pos, negsuc, ◌*ℤ◌, Bool, true, false, List, [], ◌∷◌, All, codes, refl, subst, arith}
+use Rattle.std.proofs.Math.Dec.{lit<, lit≤}
 use Rattle.std.proofs.lemmas.Int.{ints}
-use Rattle.std.proofs.lemmas.Option.{none-some, same_Some}
-use lib.Signed.{le_z, le_z_yes}
-use Rattle.fx_num.specs.Word.{InWord, IsWord, IsWrapped, word_lowest, word_highest}
+use Rattle.std.proofs.lemmas.Option.{same_Some}
+use lib.Signed.{le_z_yes}
+use Rattle.fx_num.specs.Word.{InWord, IsWord}
 use Rattle.hw_net.specs.declared.netlist.Frame.{Frame}
 use Rattle.hw_net.specs.declared.netlist.Net.{Net}
 use Rattle.hw_net.specs.declared.netlist.NetKind.{NetKind}
@@ -13,8 +13,6 @@ use Rattle.hw_net.specs.declared.netlist.NetOp.TheVariants.{Input, Add, Choose, 
 use Rattle.hw_net.specs.declared.netlist.NetPort.{NetPort}
 use Rattle.hw_net.specs.Circuit.{Circuit}
 use Rattle.hw_net.specs.Netlist.{IsInput, IsKind, IsNetlist, IsRanked, HoldsProducts, reads, reads_now}
-use Rattle.hw_net.specs.NetRows.{Inputs, NetRows, NetShows, Rows}
-use Rattle.hw_net.specs.Registers.{IsBridge, IsCounter, IsEnReg, IsReg, Span}
 use Rattle.hw_shows.proofs.Small.{all_of, each_by}
 
 -- ---- the nets

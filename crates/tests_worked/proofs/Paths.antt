@@ -14,7 +14,7 @@ use Rattle.dg_model.specs.Instant.{is_instant}
 use Rattle.dg_model.specs.LatencyEdges.{LatencyEdge, latency_edges}
 use Rattle.dg_model.specs.Loop.{LeadsNow, IsInstantPath, KeepsLoop}
 use Rattle.dg_model.specs.Signals.{Attributes}
-use Rattle.hw_latency.specs.Cone.{AreFed, IsFed, is_marked}
+use Rattle.hw_latency.specs.Cone.{IsFed, is_marked}
 use Rattle.hw_latency.specs.Shared.{is_shared, multiplies_if, shares}
 use Rattle.hw_sched.specs.Level.{EndsWith, IsDepth, is_same_period, shared_on}
 

@@ -1,8 +1,7 @@
 -- The rule of size at its bounds, and what a Delay keeps, by hand.
-use Rattle.std.proofs.Common.{◌≡◌, ℕ, ◌<◌, ◌≤◌, ◌^◌, pos, Bool, true, false, List, [], ◌∷◌, if◌then◌else◌, Option, Some, None, inl, inr, refl, sym, subst}
+use Rattle.std.proofs.Common.{◌≡◌, ℕ, ◌<◌, ◌≤◌, true, false, List, [], ◌∷◌, if◌then◌else◌, Option, Some, None, inl, inr, refl, sym, subst}
 use Rattle.std.specs.Prelude.{◌==◌}
 use Rattle.std.proofs.Math.Dec.{lit<, lit≤}
-use Rattle.fx_type.specs.declared.kind.FxType.{FxType}
 use Rattle.fx_type.specs.declared.decimal.Decimal.{Decimal}
 use Rattle.fx_type.specs.declared.spec.TypeSpec.TheVariants.{Fixed}
 use Rattle.dg_model.specs.declared.diagram.Block.{Block}
@@ -13,10 +12,9 @@ use Rattle.dg_model.specs.declared.kind.Kind.TheVariants.{Constant, Delay, Enabl
 use Rattle.dg_model.specs.declared.resolved.Resolved.{Resolved}
 use Rattle.dg_model.specs.Attributes.{attributes_of}
 use Rattle.dg_model.specs.Faults.{fault_of}
-use Rattle.dg_model.specs.Periods.{periods_of}
 use Rattle.dg_model.specs.Signals.{Attributes}
-use Rattle.dg_model.specs.TypeRounds.{Types, types_of}
-use Rattle.dg_model.specs.Widths.{Widths, widths_of}
+use Rattle.dg_model.specs.TypeRounds.{types_of}
+use Rattle.dg_model.specs.Widths.{Widths}
 use Rattle.hw_sched.specs.Slots.{Timing}
 use Rattle.hw_sched.specs.Storage.{BreaksSize, KeepsSize, greatest_latency, keeps_own, registers_in_all, storage}
 use Rattle.hw_shows.proofs.Small.{int8, decimal_of, block_of, edge_of, input_of, output, attributes_by, attributes_are}

@@ -1,8 +1,7 @@
 -- A design of two rates, worked by hand: P = a * b and Q = P * b in each base sample, R takes Q into every other one, and there S = R * D with D = S a hit before. Outputs y = S and z = D. All signals have three elements. Two multipliers serve each kind.
-use Rattle.std.proofs.Common.{◌≡◌, ℕ, ◌<◌, ◌^◌, pos, Bool, true, false, List, [], ◌∷◌, Option, Some, None, codes, refl}
+use Rattle.std.proofs.Common.{◌≡◌, ℕ, Bool, true, false, List, [], ◌∷◌, Option, Some, None, codes, refl}
 use Rattle.std.proofs.Math.Dec.{lit<}
 use Rattle.fx_type.specs.declared.decimal.Decimal.{Decimal}
-use Rattle.fx_type.specs.declared.kind.FxType.{FxType}
 use Rattle.fx_type.specs.declared.rounding.Rounding.TheVariants.{Floor}
 use Rattle.fx_type.specs.declared.spec.TypeSpec.TheVariants.{Auto, Fixed}
 use Rattle.dg_model.specs.declared.diagram.Block.{Block}

@@ -1,6 +1,6 @@
 -- The diagram of the worked design keeps the rules.
 use Rattle.std.proofs.Common.{◌≡◌, ◌≢◌, ℕ, zero, suc, ◌≤◌, Bool, true, false, true≢false, ◌&&◌, cond, List, [], ◌∷◌, length, All, Option, Some, slice_get, inl, inr, codes, sym, subst, refl, arith}
-use Rattle.std.specs.Prelude.{◌==◌, IsSome, AllPairs, nat_le, nat_lt}
+use Rattle.std.specs.Prelude.{◌==◌, IsSome, nat_le, nat_lt}
 use Rattle.std.specs.List.{AllByRecursion}
 use Rattle.std.proofs.Math.Dec.{lit<, lit≤}
 use Rattle.std.proofs.lemmas.Bool.{and_parts, eqb-true, leb-true, ltb-true}
