@@ -34,8 +34,8 @@ pub fn port_of(
     ensures { IfOk result (IsPortOf checked.now.diagram names.old names.new block width element
         showing.net showing.latency) }
 {
-    let path = block_at(checked, block).path.bytes();
-    let name = names.port(alloc, path, width, element)?;
+    let path = block_at(checked, block).path.text(alloc)?;
+    let name = names.port(alloc, path.bytes(), width, element)?;
     let period = samples(checked.period(block));
     let Showing { net, latency } = showing;
     Ok(NetPort {

@@ -56,8 +56,8 @@ fn put_names(
         let block = blocks[column];
         let element = number - firsts[block as usize];
         let width = width_of(checked, side, block);
-        let path = block_at(checked, block).path.bytes();
-        let name: Text = names.port(alloc, path, width, element)?;
+        let path = block_at(checked, block).path.text(alloc)?;
+        let name: Text = names.port(alloc, path.bytes(), width, element)?;
         texts.push(name)?;
     }
     Ok(())
