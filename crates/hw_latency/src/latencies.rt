@@ -61,6 +61,7 @@ pub fn latencies_of(
     let fed = fed_of(alloc, checked, plan)?;
     let arcs = arcs_of(alloc, checked, plan, fed.as_slice())?;
     if arcs.len() > MOST_EDGES {
+        // word: the number of an edge, of 31 bits
         return Err(LatencyFault::OutOfMemory);
     }
     match hw_arcs::latencies(alloc, arcs.as_slice(), checked.order(), count)? {
