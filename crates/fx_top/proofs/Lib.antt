@@ -1,3 +1,4 @@
+pub mod Answering
 pub mod Bits
 pub mod Commands
 mod DelayDiagram
@@ -9,6 +10,7 @@ pub mod Loop
 pub mod Names
 mod Outcomes
 pub mod Planning
+pub mod Ported
 pub mod Replayed
 mod ReplayedDelay
 pub mod Responses
@@ -25,3 +27,6 @@ pub mod Unreplayed
 pub mod Verilogs
 mod UnitDelay
 mod Written
+pub mod Steadied
+pub mod Streams
+pub mod Titled

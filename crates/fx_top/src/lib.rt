@@ -33,6 +33,8 @@ mod response;
 mod sample;
 mod simulate;
 mod simulated;
+mod steady;
+mod streamed;
 mod top;
 mod verilog;
 

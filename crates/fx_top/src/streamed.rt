@@ -1,0 +1,101 @@
+//! The Verilog text with valid and ready of a model under a plan.
+ghost use Rattle.std.specs.Prelude.{IfErr, IfOk};
+ghost use Rattle.dg_model.specs.Faults.{AllKeep};
+ghost use Rattle.dg_model.specs.PlanOf.{IsPlanOf};
+ghost use Rattle.fx_top.specs.Streamed.{IsStreamedOf, KeepsStream};
+ghost use Rattle.fx_top.specs.inner.Streaming.{IsCoreOf, IsRefusedOnPorts, IsRefusedStream, IsStreamWritten};
+ghost use Rattle.hw_rules.specs.Times.{AreTimes};
+
+use crate::steady::check_ports;
+use crate::verilog::netlist_of;
+use dg_model::{CheckFault, Checked, Resolved};
+use fx_designed::{DesignFault, Designed, designed_of};
+use fx_io::{OpenGate, OutOfMemory, Text};
+use fx_model::rule_text;
+use hw_module::module_of;
+use hw_names::stream_names;
+use hw_rules::Times;
+use st_wrap::wrap;
+use std::alloc::Global;
+use std::thread::Threads;
+use vl_ast::Module;
+
+/// The module that takes and gives the samples.
+fn core_of(
+    alloc: Global,
+    checked: &Checked,
+    plan: &Resolved,
+    times: &Times,
+) -> Result<Module, OutOfMemory>
+    requires plan { IsPlanOf checked.now.diagram plan.now }
+    requires times { AreTimes checked.now.diagram plan.now times.now }
+    ensures { IfOk result (IsCoreOf checked.now.diagram plan.now times.now) }
+{
+    let netlist = netlist_of(alloc, checked, plan, times)?;
+    module_of(
+        alloc,
+        checked,
+        plan,
+        &times.latencies,
+        &times.slots,
+        &netlist,
+    )
+}
+
+/// The text of the module round it.
+fn text_of<R: Threads + Sync>(
+    rt: &R,
+    alloc: Global,
+    checked: &Checked,
+    plan: &Resolved,
+    times: &Times,
+) -> Result<Text, OutOfMemory>
+    requires plan { IsPlanOf checked.now.diagram plan.now }
+    requires times { AreTimes checked.now.diagram plan.now times.now }
+    requires steady { AllKeep checked.now.diagram (KeepsStream checked.now.diagram) }
+    ensures { IfOk result (IsStreamWritten checked.now.diagram plan.now times.now) }
+{
+    vl_read::unique();
+    let core = core_of(alloc, checked, plan, times)?;
+    let names = stream_names(alloc, checked)?;
+    let module = wrap(alloc, &core, names.as_slice())?;
+    vl_write::write(rt, alloc, &module, &OpenGate)
+}
+
+/// The fault of ports that break the rule, by its line.
+fn told_of(alloc: Global, checked: &Checked, fault: CheckFault) -> DesignFault
+    ensures { IsRefusedOnPorts checked.now.diagram fault result }
+{
+    let CheckFault::Broken(fault) = fault else {
+        return DesignFault::OutOfMemory;
+    };
+    match rule_text(alloc, &fault, checked.diagram().blocks.as_slice()) {
+        Ok(line) => DesignFault::BreaksRule { line },
+        Err(OutOfMemory) => DesignFault::OutOfMemory,
+    }
+}
+
+/// The Verilog text with valid and ready of the bytes of a model and of a plan; no bytes are the empty
+/// plan.
+pub fn streamed_of<R: Threads + Sync>(
+    rt: &R,
+    alloc: Global,
+    model: &[u8],
+    plan: &[u8],
+) -> Result<Text, DesignFault>
+    ensures made { IfOk result (IsStreamedOf model.now plan.now) }
+    ensures refused { IfErr result (IsRefusedStream model.now plan.now) }
+{
+    let Designed { checked, planned } = match designed_of(alloc, model, plan) {
+        Ok(designed) => designed,
+        Err(fault) => return Err(fault),
+    };
+    match check_ports(alloc, &checked) {
+        Ok(()) => (),
+        Err(fault) => return Err(told_of(alloc, &checked, fault)),
+    }
+    match text_of(rt, alloc, &checked, &planned.resolved, &planned.times) {
+        Ok(text) => Ok(text),
+        Err(OutOfMemory) => Err(DesignFault::OutOfMemory),
+    }
+}
