@@ -4,11 +4,13 @@ pub mod Commands
 mod DelayDiagram
 mod DelayModel
 mod DelayModule
+pub mod Elements
 pub mod Header
 pub mod Lines
 pub mod Loop
 pub mod Names
 mod Outcomes
+pub mod Placing
 pub mod Planning
 pub mod Ported
 pub mod Replayed
@@ -21,12 +23,13 @@ pub mod Sayings
 mod SimulatedDelay
 pub mod Simulations
 pub mod Spelled
-pub mod Told
-pub mod Unfetched
-pub mod Unreplayed
-pub mod Verilogs
-mod UnitDelay
-mod Written
 pub mod Steadied
 pub mod Streams
 pub mod Titled
+pub mod Told
+pub mod Unfetched
+mod UnitDelay
+pub mod Unreplayed
+pub mod Unsteady
+pub mod Verilogs
+mod Written

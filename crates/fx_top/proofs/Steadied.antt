@@ -31,7 +31,7 @@ input-port b number e = let s = ap is_some e in (λ i. s i || is_some (root_outp
 output-port : (b : Block) (number : ℕ) → number_in root_output b ≡ Some number → is_root_port b ≡ true
 output-port b number e = or-right (is_some (root_input (row_of b.kind).place.role)) (is_some (root_output (row_of b.kind).place.role)) (ap is_some e)
 
-placed : (elements : List RootElement) (e : RootElement) (c : Contains elements e) → slice_get elements c.0 ≡ Some e
+pub placed : (elements : List RootElement) (e : RootElement) (c : Contains elements e) → slice_get elements c.0 ≡ Some e
 placed elements e c = slice_get-get_or elements c.0 e c.1 ∙ ap (λ (x : RootElement). Some x) c.2
 
 module _ (diagram : Diagram) (wired : IsWired diagram) (kept : AllKeep diagram (KeepsStream diagram)) (inputs : InputsAreListed) (outputs : OutputsAreListed) where

@@ -46,7 +46,7 @@ column-name name identifier plain free = record {
 
 -- each is one, by the names that were taken before
 each-name : (taken wanted names : List (List ℕ)) → ((own : List ℕ) → Contains taken_names own → Contains taken own)
-    → ((j : ℕ) (d : List ℕ) → j < length wanted → IsWanted (slice_index_or wanted j d)) → ((j : ℕ) (d : List ℕ) → j < length names → is_identifier (slice_index_or names j d) ≡ true)
+    → All IsWanted wanted → ((j : ℕ) (d : List ℕ) → j < length names → is_identifier (slice_index_or names j d) ≡ true)
     → Given taken wanted names → (n : List ℕ) → Contains names n → IsColumnName n
 each-name taken [] [] own are words g n c = absurd (none-in n c)
 each-name taken [] (name ∷ names) own are words g n c = absurd g
@@ -76,7 +76,7 @@ names-apart taken (want ∷ wanted) [] g = absurd g
 names-apart taken (want ∷ wanted) (name ∷ names) g = (others (name ∷ taken) wanted names g.1 name (head-in name taken), names-apart (name ∷ taken) wanted names g.1)
 
 -- each is a name of a column, where each that is wanted is a name
-pub names-each : (wanted names : List (List ℕ)) → ((j : ℕ) (d : List ℕ) → j < length wanted → IsWanted (slice_index_or wanted j d)) → Given taken_names wanted names → All IsColumnName names
+pub names-each : (wanted names : List (List ℕ)) → All IsWanted wanted → Given taken_names wanted names → All IsColumnName names
 names-each wanted names are given = λ k d low.
     each-name taken_names wanted names (λ own c. c) are
     (λ j e less. (names_are taken_names wanted names (λ own c. Contains-append_right handshake_names own_names own c) are given j e less).identifier)
