@@ -12,9 +12,11 @@ use Rattle.dg_model.specs.Library.{row_of}
 use Rattle.dg_model.specs.Signals.{Stimulus, Table}
 use Rattle.dg_model.specs.Solves.{IsStimulus, Solves}
 use Rattle.dg_model.specs.Wired.{root_input, root_output}
-use Rattle.fx_designed.specs.Design.{IsDesignOf}
+use Rattle.fx_designed.specs.Design.{IsBadPlan, IsDesignOf}
+use Rattle.fx_model.specs.Model.{IsAccepted}
 use Rattle.fx_model.specs.RuleLine.{rule_line}
-use Rattle.fx_top.specs.Generated.{SpellsAlone}
+use Rattle.fx_tables.specs.declared.table.TableCause.{TableCause}
+use Rattle.fx_top.specs.Generated.{CanBeDesigned, SpellsAlone}
 use Rattle.fx_type.specs.FxType.{width_of}
 use Rattle.hw_module.specs.Design.{IsModuleOf}
 use Rattle.hw_module.specs.Interface.{input_elements, output_elements}
@@ -56,6 +58,17 @@ pub record TellsStreamRule (model plan line : List ℕ) : Type 0 where
   pub fault : RuleFault
   pub broken : BreaksStream diagram fault
   pub line_is : line ≡ rule_line (map (λ block. block.path) diagram.blocks) fault
+
+-- nothing is broken, and no rule of ports
+pub record CanBeStreamed (model plan : List ℕ) : Type 0 where
+  pub designed : CanBeDesigned model plan
+  pub steady : (line : List ℕ) → TellsStreamRule model plan line → ⊥
+
+-- the model keeps its rules, no line of the plan is bad, and the two make no design whose ports keep the rule
+pub record IsWithoutStream (model plan : List ℕ) : Type 0 where
+  pub accepted : IsAccepted model
+  pub good : (line : ℕ) (cause : TableCause) → IsBadPlan model plan line cause → ⊥
+  pub none : (diagram : Diagram) (resolved : Resolved) (timing : Timing) → IsDesignOf model plan diagram resolved timing → AllKeep diagram (KeepsStream diagram) → ⊥
 
 -- ---- the transfers
 
