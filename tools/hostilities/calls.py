@@ -16,7 +16,7 @@ FORMS = {
     4: rb"cannot write",
     5: rb".*: line [1-9][0-9]*: not MDL text",
     6: rb".*: line [1-9][0-9]*: (plan line|too many rows|field count|not a whole number|dash at a hit|number off a hit|out of range)",
-    7: rb"rule ([1-9]|1[0-3]) \((structure|library|parameter|wiring|enable|dimension|type|rate|loop|plan|latency|budget|size)\): (model|\".*\").*",
+    7: rb"rule ([1-9]|1[0-4]) \((structure|library|parameter|wiring|enable|dimension|type|rate|loop|plan|latency|budget|size|stream)\): (model|\".*\").*",
     8: rb".*: (line [1-9][0-9]*: not in the Verilog subset|(undriven|doubly driven|combinational loop|too wide|no reset|no attribute): .*)",
     9: rb".*: [0-9]+ bytes, at most 16777216",
 }
@@ -26,6 +26,7 @@ ANSWERS = {
     "generate": {0, 1, 3, 5, 6, 7, 9},
     "replay": {0, 1, 3, 6, 8, 9},
     "explore": {0, 1, 3, 5, 7, 9},
+    "stream": {0, 1, 3, 5, 6, 7, 9},
 }
 # A call that hasn't ended by then is killed.
 MOST_WALL_SECONDS = 600
