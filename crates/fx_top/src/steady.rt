@@ -5,7 +5,7 @@ ghost use Rattle.fx_top.specs.Streamed.{BreaksStream, KeepsStream, is_root_port}
 ghost use Rattle.fx_top.specs.inner.Steady.{is_base, is_slow, slow_fault};
 
 use dg_model::{Block, CheckFault, Checked, Kind, RuleFault, Shown};
-use fx_io::{OutOfMemory, Text};
+use fx_io::OutOfMemory;
 use hw_latency::block_at;
 use std::alloc::Global;
 
@@ -60,7 +60,7 @@ fn fault_at(alloc: Global, checked: &Checked, place: u32) -> Result<RuleFault, O
     let own = checked.period(place).unwrap_or(0);
     Ok(RuleFault {
         rule: 14,
-        place: Text::copy(alloc, block_at(checked, place).path.bytes())?,
+        place: block_at(checked, place).path.text(alloc)?,
         shown: Shown::Periods { own, other: 1 },
     })
 }
@@ -75,6 +75,7 @@ pub fn check_ports(alloc: Global, checked: &Checked) -> Result<(), CheckFault>
 {
     for place in 0..checked.diagram().blocks.as_slice().len() {
         let Ok(block) = u32::try_from(place) else {
+            // word: blocks are numbered in 32 bits
             return Err(CheckFault::OutOfMemory);
         };
         if is_slow(checked, block) {

@@ -91,8 +91,9 @@ fn text_of<R: Threads + Sync>(
 fn told_of(alloc: Global, checked: &Checked, fault: CheckFault) -> DesignFault
     ensures { IsRefusedOnPorts checked.now.diagram fault result }
 {
-    let CheckFault::Broken(fault) = fault else {
-        return DesignFault::OutOfMemory;
+    let fault = match fault {
+        CheckFault::Broken(fault) => fault,
+        CheckFault::OutOfMemory => return DesignFault::OutOfMemory,
     };
     match rule_text(alloc, &fault, checked.diagram().blocks.as_slice()) {
         Ok(line) => DesignFault::BreaksRule { line },
