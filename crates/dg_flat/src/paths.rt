@@ -62,7 +62,7 @@ fn system_path(
     requires { slot_of block.now.parent ≤ length systems.now }
     ensures { IfOk result (λ path. is_subsystem_of block.now.part ≡ true → path ≡
         below (λ place. slice_index_or systems.now place []) (escaped block.now.name)
-            block.now.parent) }
+        block.now.parent) }
 {
     if !is_subsystem(&block.part) {
         return empty.share();

@@ -1,19 +1,18 @@
 -- The paths of a plan's lines differ, so that a path has one number.
-use Rattle.std.proofs.Common.{◌≡◌, ℕ, zero, suc, Bool, true, false, if◌then◌else◌, List, [], ◌∷◌, ◌++◌, map, take, length, Some, None, bytes_eq, Bor, refl, sym, ap, subst, ◌∙◌, true≢false, inl, inr, arith}
-use Rattle.std.specs.Prelude.{find, position, slice_get, nat_lt, ◌⊎◌, ◌+◌, ◌<◌, ◌≤◌, not, cond, ◌||◌}
-use Rattle.std.specs.List.{list_any, AllByRecursion, position_or_len}
+use Rattle.std.proofs.Common.{◌≡◌, ℕ, zero, suc, Bool, true, false, List, [], ◌∷◌, take, length, Some, None, bytes_eq, Bor, refl, sym, ap, subst, ◌∙◌, true≢false, inl, inr, arith}
+use Rattle.std.specs.Prelude.{find, position, slice_get, nat_lt, ◌⊎◌, ◌+◌, ◌<◌, ◌≤◌, not, cond}
+use Rattle.std.specs.List.{AllByRecursion, position_from, position_or_len}
 use Rattle.std.proofs.lemmas.Bool.{cases_lt, cond-true, cond-false, lt-ltb, le-ltb}
-use Rattle.std.proofs.lemmas.List.{length-map, map-append}
+use Rattle.std.proofs.lemmas.Iterator.Adapters.{position_from-zero}
 use Rattle.std.proofs.lemmas.List.Folds.{find_at}
 use Rattle.std.proofs.lemmas.List.Quantifiers.{position-Some}
 use Rattle.std.proofs.lemmas.Option.{none-some, same_Some, get_or_from_slice_get, slice_get_past}
 use Rattle.std.proofs.lemmas.Slice.Eq.{bytes_eq-Decides}
-use Rattle.indexmap.specs.IndexSet.{insert_key}
 use Rattle.dg_model.specs.declared.plan.Pipeline.{Pipeline}
 use Rattle.dg_model.specs.declared.plan.Plan.{Plan}
 use Rattle.dg_model.specs.PlanNames.{count_of}
 use Rattle.dg_model.specs.PlanRange.{AreDifferent}
-use Rattle.dg_rules.specs.inner.Lines.{texts_of, number_of}
+use Rattle.dg_rules.specs.inner.Lines.{AreNumbered, number_of}
 use Rattle.dg_rules.specs.inner.Standings.{count_in}
 
 same_path : (a b : List ℕ) → a ≡ b → bytes_eq a b ≡ true
@@ -31,55 +30,52 @@ each_of P [] k x all at = absurd (none-some x at)
 each_of P (y ∷ ys) zero x all at = subst P (same_Some y x at) all.0
 each_of P (y ∷ ys) (suc k) x all at = each_of P ys k x all.1 at
 
-any_key : (name : List ℕ) (keys : List (Bor (List ℕ))) → list_any (λ (key : Bor (List ℕ)). bytes_eq name key.now) keys ≡ list_any (bytes_eq name) (texts_of keys)
-any_key name [] = refl
-any_key name (key ∷ keys) = ap (λ rest. bytes_eq name key.now || rest) (any_key name keys)
-
-grown : (keys : List (Bor (List ℕ))) (key : Bor (List ℕ)) → list_any (bytes_eq key.now) (texts_of keys) ≡ false
-    → texts_of (insert_key (λ (x y : Bor (List ℕ)). bytes_eq x.now y.now) keys key) ≡ texts_of keys ++ key.now ∷ []
-grown keys key new =
-    ap (λ there. texts_of (if there then keys else keys ++ key ∷ [])) (any_key key.now keys ∙ new)
-    ∙ map-append (λ (k : Bor (List ℕ)). k.now) keys (key ∷ [])
-
--- the path of a line is none of those before it
-fresh : (lines : List Pipeline) (k : ℕ) (line : Pipeline) → AreDifferent lines → slice_get lines k ≡ Some line
-    → list_any (bytes_eq line.path) (map (λ (l : Pipeline). l.path) (take k lines)) ≡ false
-fresh [] k line apart at = absurd (none-some line at)
-fresh (x ∷ xs) zero line apart at = refl
-fresh (x ∷ xs) (suc k) line apart at =
-    let differs = each_of (λ (other : Pipeline). x.path ≡ other.path → ⊥) xs k line apart.0 at in
-    rw (other_path line.path x.path (λ e. differs (sym e))) (fresh xs k line apart.1 at)
-
--- one more line
-pub one_more : (lines : List Pipeline) (keys : List (Bor (List ℕ))) (key : Bor (List ℕ)) (k : ℕ) (line : Pipeline)
-    → AreDifferent lines → slice_get lines k ≡ Some line → key.now ≡ line.path
-    → texts_of keys ≡ map (λ (l : Pipeline). l.path) (take k lines)
-    → texts_of (insert_key (λ (x y : Bor (List ℕ)). bytes_eq x.now y.now) keys key) ≡ map (λ (l : Pipeline). l.path) (take k lines) ++ line.path ∷ []
-one_more lines keys key k line apart at named texts =
-    grown keys key (ap (λ name. list_any (bytes_eq name) (texts_of keys)) named ∙ ap (list_any (bytes_eq line.path)) texts ∙ fresh lines k line apart at)
-    ∙ ap (λ front. front ++ key.now ∷ []) texts
-    ∙ ap (λ name. map (λ (l : Pipeline). l.path) (take k lines) ++ name ∷ []) named
-
 -- ---- the number of a path
 
 -- a line has this path
 abbrev pub has : List ℕ → Pipeline → Bool
 has path line = bytes_eq path line.path
 
-first_mapped : {X Y : Type 0} (f : X → Y) (p : Y → Bool) (xs : List X) → position_or_len p (map f xs) ≡ position_or_len (λ x. p (f x)) xs
-first_mapped f p [] = refl
-first_mapped f p (x ∷ xs) = ap (λ n. cond (not (p (f x))) (1 + n) 0) (first_mapped f p xs)
+turned_eq : (a b : List ℕ) → bytes_eq a b ≡ bytes_eq b a
+turned_eq a b = by (bytes_eq a b) refl where
+  by : (t : Bool) → bytes_eq a b ≡ t → t ≡ bytes_eq b a
+  by true e = sym (same_path b a (sym ((bytes_eq-Decides a b).0 e)))
+  by false e = sym (other_path b a (λ same. true≢false (sym (same_path a b (sym same)) ∙ e)))
+
+-- one more line, whose path is none of those before it
+one_more_from : (i : ℕ) (lines : List Pipeline) (k : ℕ) (line : Pipeline) (path : List ℕ) → AreDifferent lines → slice_get lines k ≡ Some line
+    → cond (bytes_eq line.path path) (Some (i + k)) (position_from (has path) i (take k lines)) ≡ position_from (has path) i (take (suc k) lines)
+one_more_from i [] k line path apart at = absurd (none-some line at)
+one_more_from i (x ∷ xs) zero line path apart at =
+    let same : x.path ≡ line.path = ap (λ (l : Pipeline). l.path) (same_Some x line at) in
+    let here : i + 0 ≡ i = omega arith in
+    ap (λ n. cond (bytes_eq line.path path) (Some n) None) here
+    ∙ ap (λ t. cond t (Some i) None) (turned_eq line.path path ∙ ap (bytes_eq path) (sym same))
+one_more_from i (x ∷ xs) (suc k) line path apart at = by (one_more_from (i + 1) xs k line path apart.1 at) (has path x) refl where
+  differs : has path x ≡ true → bytes_eq line.path path ≡ false
+  differs is = other_path line.path path (λ same. each_of (λ (other : Pipeline). x.path ≡ other.path → ⊥) xs k line apart.0 at (sym ((bytes_eq-Decides path x.path).0 is) ∙ sym same))
+
+  by : cond (bytes_eq line.path path) (Some ((i + 1) + k)) (position_from (has path) (i + 1) (take k xs)) ≡ position_from (has path) (i + 1) (take (suc k) xs)
+      → (t : Bool) → has path x ≡ t
+      → cond (bytes_eq line.path path) (Some (i + suc k)) (cond t (Some i) (position_from (has path) (i + 1) (take k xs))) ≡ cond t (Some i) (position_from (has path) (i + 1) (take (suc k) xs))
+  by rest true is = ap (λ b. cond b (Some (i + suc k)) (Some i)) (differs is)
+  by rest false is =
+      let next : i + suc k ≡ (i + 1) + k = omega arith in
+      ap (λ n. cond (bytes_eq line.path path) (Some n) (position_from (has path) (i + 1) (take k xs))) next ∙ rest
+
+pub one_more : (lines : List Pipeline) (k : ℕ) (line : Pipeline) (path : List ℕ) → AreDifferent lines → slice_get lines k ≡ Some line
+    → cond (bytes_eq line.path path) (Some k) (position (has path) (take k lines)) ≡ position (has path) (take (suc k) lines)
+one_more lines k line path apart at =
+    let here : k ≡ 0 + k = omega arith in
+    ap (λ n. cond (bytes_eq line.path path) (Some n) (position (has path) (take k lines))) here
+    ∙ ap (cond (bytes_eq line.path path) (Some (0 + k))) (position_from-zero (has path) (take k lines))
+    ∙ one_more_from 0 lines k line path apart at
+    ∙ sym (position_from-zero (has path) (take (suc k) lines))
 
 -- the number of a path is the place of the first line that has it
-pub number_is : (keys : List (Bor (List ℕ))) (lines : List Pipeline) (path : List ℕ) → texts_of keys ≡ map (λ (line : Pipeline). line.path) lines
-    → number_of keys path ≡ position (has path) lines
-number_is keys lines path texts =
-    let first : position_or_len (λ (key : Bor (List ℕ)). bytes_eq path key.now) keys ≡ position_or_len (has path) lines =
-    sym (first_mapped (λ (key : Bor (List ℕ)). key.now) (bytes_eq path) keys) ∙ ap (position_or_len (bytes_eq path)) texts
-    ∙ first_mapped (λ (line : Pipeline). line.path) (bytes_eq path) lines in
-    let long : length keys ≡ length lines =
-    sym (length-map keys (λ (key : Bor (List ℕ)). key.now)) ∙ ap length texts ∙ length-map lines (λ (line : Pipeline). line.path) in
-    rw (first, long) refl
+pub number_is : (entries : List (Bor (List ℕ) × ℕ)) (lines : List Pipeline) (path : List ℕ) → AreNumbered lines entries
+    → number_of entries path ≡ position (has path) lines
+number_is entries lines path are = are path
 
 pub found : (lines : List Pipeline) (path : List ℕ) (k : ℕ) (line : Pipeline) → position (has path) lines ≡ Some k → slice_get lines k ≡ Some line → line.path ≡ path
 found lines path k line at there =
@@ -120,12 +116,7 @@ one_line (x ∷ xs) (suc i) (suc j) a b apart ai bj same = ap (λ n. suc n) (one
 
 turned : (path : List ℕ) (lines : List Pipeline) → find (λ (line : Pipeline). bytes_eq line.path path) lines ≡ find (has path) lines
 turned path [] = refl
-turned path (x ∷ xs) = rw (both x.path path) (ap (λ rest. cond (bytes_eq path x.path) (Some x) rest) (turned path xs)) where
-  both : (a b : List ℕ) → bytes_eq a b ≡ bytes_eq b a
-  both a b = by (bytes_eq a b) refl where
-    by : (t : Bool) → bytes_eq a b ≡ t → t ≡ bytes_eq b a
-    by true e = sym (same_path b a (sym ((bytes_eq-Decides a b).0 e)))
-    by false e = sym (other_path b a (λ same. true≢false (sym (same_path a b (sym same)) ∙ e)))
+turned path (x ∷ xs) = rw (turned_eq x.path path) (ap (λ rest. cond (bytes_eq path x.path) (Some x) rest) (turned path xs))
 
 pub count_is : (plan : Plan) (path : List ℕ) → count_in (position (has path) plan.pipelines) plan.pipelines ≡ count_of plan path
 count_is plan path = by (cases_lt (position_or_len (has path) plan.pipelines) (length plan.pipelines)) where

@@ -1,16 +1,16 @@
-ghost use Rattle.std.specs.Prelude.{◌≡◌, IfOk, map, position, bytes_eq};
+ghost use Rattle.std.specs.Prelude.{◌≡◌, IfOk};
 ghost use Rattle.dg_model.specs.PlanRange.{AreDifferent};
-ghost use Rattle.dg_rules.specs.inner.Lines.{number_of, texts_of};
+ghost use Rattle.dg_rules.specs.inner.Lines.{number_of};
 
 use dg_model::Pipeline;
 use fx_io::OutOfMemory;
-use indexmap::IndexSet;
 use std::alloc::Global;
+use std::collections::BTreeMap;
 
-/// The paths of a plan's lines, numbered in order.
+/// The numbers of a plan's lines by their paths.
 #[derive(Drop)]
 pub struct Lines<'a> {
-    paths: IndexSet<&'a [u8]>,
+    by_path: BTreeMap<&'a [u8], usize>,
 }
 
 impl<'a> Lines<'a> {
@@ -21,17 +21,17 @@ impl<'a> Lines<'a> {
         requires { AreDifferent pipelines.now }
         ensures { IfOk result (λ lines. AreLines pipelines.now lines) }
     {
-        let mut paths = IndexSet::new(alloc);
-        for pipeline in pipelines {
-            paths.insert(pipeline.path.bytes())?;
+        let mut by_path = BTreeMap::new(alloc);
+        for (number, pipeline) in pipelines.iter().enumerate() {
+            by_path.insert(pipeline.path.bytes(), number)?;
         }
-        Ok(Lines { paths })
+        Ok(Lines { by_path })
     }
 
     /// The number of the line of a path, if there is one.
     pub fn number(&self, path: &[u8]) -> Option<usize>
         ensures { result ≡ number_of (paths_in self.now) path.now }
     {
-        self.paths.get_index_of(&path)
+        self.by_path.get(path).copied()
     }
 }

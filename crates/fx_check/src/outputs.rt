@@ -28,6 +28,7 @@ pub fn clocks_of(checked: &Checked, planned: &Planned, block: u32) -> Result<u64
     let ready = planned.times.slots.ready.as_slice()[block as usize];
     match lat.checked_mul(u64::from(planned.resolved.cycles)) {
         Some(clocks) => total(clocks, ready),
+        // word: clocks are counted in 64 bits
         None => Err(OutOfMemory),
     }
 }

@@ -169,6 +169,7 @@ fn fit(columns: &[Column]) -> Result<(), OutOfMemory>
     ensures few { OnOk result (length columns.now < 2 ^ 32) }
 {
     if columns.len() >= MOST_COLUMNS {
+        // word: columns are numbered in 32 bits
         return Err(OutOfMemory);
     }
     if have_periods(columns) {

@@ -18,7 +18,7 @@ use std::alloc::Global;
 use std::thread::Threads;
 
 /// The netlist of a diagram by a plan with its times.
-fn netlist_of(
+pub fn netlist_of(
     alloc: Global,
     checked: &Checked,
     plan: &Resolved,

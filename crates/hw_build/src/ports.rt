@@ -67,6 +67,7 @@ pub fn put_inputs(
     dg_model::root_elements_are_listed();
     for column in 0..inputs.len() {
         let Ok(number) = u32::try_from(column) else {
+            // word: the number of a root input element, of 32 bits
             return Err(OutOfMemory);
         };
         let block = inputs[column];

@@ -50,6 +50,7 @@ fn put_names(
     let firsts = columns.as_slice();
     for column in 0..blocks.len() {
         let Ok(number) = u32::try_from(column) else {
+            // word: the place of a root element, of 32 bits
             return Err(OutOfMemory);
         };
         let block = blocks[column];

@@ -1,17 +1,26 @@
 -- The numbers of names, with one more block.
 use Rattle.std.proofs.Common.{◌≡◌, ℕ, Bool, true, false, cond, List, [], ◌∷◌, ◌++◌, length, Option, Some, None, refl, sym, ap, ◌∙◌, true≢false, eqb-true}
 use Rattle.std.specs.Prelude.{◌==◌, ◌&&◌, position, bytes_eq, is_some}
+use Rattle.std.specs.Cmp.{both_tied, unsigned_ties}
+use Rattle.std.specs.Cmp.Lexicographic.{slice_cmp, texts_ties}
+use Rattle.std.specs.Ordering.{is_eq, nat_cmp}
 use Rattle.std.proofs.lemmas.Slice.Eq.{bytes_eq-Decides}
 use Rattle.mdl_text.specs.declared.tree.Item.{Item}
 use Rattle.mdl_build.specs.declared.names.Key.{Key}
 use Rattle.mdl_build.specs.Blocks.{is_named_in}
-use Rattle.mdl_build.specs.inner.Names.{IsKeyAt, key_eq}
+use Rattle.mdl_build.specs.inner.Names.{IsKeyAt, compare_keys, key_eq}
 use Rattle.mdl_build.proofs.Ranges.{pushed, pushed-false, position-push}
 
 both : (a b : Bool) → (a && b) ≡ true → (a ≡ true) × (b ≡ true)
 both true true e = (refl, refl)
 both true false e = absurd (true≢false (sym e))
 both false b e = absurd (true≢false (sym e))
+
+-- the order of keys tells them apart as they are
+pub tied_keys : (key other : Key) → is_eq (compare_keys key other) ≡ key_eq key other
+tied_keys key other =
+    sym (both_tied _ _ (nat_cmp key.system other.system) (slice_cmp nat_cmp key.name.now other.name.now)
+    (unsigned_ties key.system other.system) (texts_ties key.name.now other.name.now))
 
 module _ (items : List Item) (places : List ℕ) (place : ℕ) (found : Key → Option ℕ)
     (old : (key : Key) → found key ≡ position (is_named_in items key.system key.name.now) places) where

@@ -6,14 +6,14 @@ ghost use Rattle.mdl_build.specs.inner.Names.{IsKeyAt};
 use crate::layout::Layout;
 use crate::roles::Role;
 use fx_io::OutOfMemory;
-use indexmap::IndexMap;
 use std::alloc::Global;
+use std::collections::BTreeMap;
 
 /// The most blocks of a model.
 const MOST: usize = 20000;
 
 /// A name in the System at a place.
-#[derive(Clone, Copy, PartialEq, Eq, Hash)]
+#[derive(Clone, Copy, PartialEq, Eq, PartialOrd, Ord)]
 pub struct Key<'a> {
     system: usize,
     name: &'a [u8],
@@ -25,7 +25,7 @@ pub struct Blocks<'a> {
     /// The places of their sections.
     places: Vec<usize>,
     /// Of each name of a System, the number of its first block.
-    numbers: IndexMap<Key<'a>, u32>,
+    numbers: BTreeMap<Key<'a>, u32>,
 }
 
 /// Whether an item is a block.
@@ -71,7 +71,7 @@ impl<'a> Blocks<'a> {
     {
         Blocks {
             places: Vec::new(alloc),
-            numbers: IndexMap::new(alloc),
+            numbers: BTreeMap::new(alloc),
         }
     }
 

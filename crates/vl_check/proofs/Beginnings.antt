@@ -57,7 +57,7 @@ module _ (scope : Scope) (apart : IsDistinct bytes_eq (names_in scope)) (marks :
     by None n e = absurd (cc e)
     by (Some j) n e = on (slice_index_or marks j false) refl e where
       on : (t : Bool) → slice_index_or marks j false ≡ t → (if t then Some j else None) ≡ Some k → (slice_index_or marks k false ≡ true) × (name_of scope k ≡ name)
-      on true s e = let same : j ≡ k = cc e in (ap (λ x. slice_index_or marks x false) (sym same) ∙ s, get_or_from_slice_get (names_in scope) k name [] (at-number scope.names.keys k name (n ∙ ap Some same)))
+      on true s e = let same : j ≡ k = cc e in (ap (λ x. slice_index_or marks x false) (sym same) ∙ s, get_or_from_slice_get (names_in scope) k name [] (at-number scope.names.items k name (n ∙ ap Some same)))
       on false s e = absurd (cc e)
 
   number-none : (name : List ℕ) (b : ℕ) → Marked b → marked_number scope marks name ≡ None → bytes_eq name (name_of scope b) ≡ false
@@ -66,7 +66,7 @@ module _ (scope : Scope) (apart : IsDistinct bytes_eq (names_in scope)) (marks :
     by false q = q
     by true q =
         let same : name ≡ name_of scope b = (bytes_eq-Decides name (name_of scope b)).0 q in
-        let at : number_in scope name ≡ Some b = number-at scope.names.keys apart b name (slice_get-get_or (names_in scope) b [] marked.1 ∙ ap Some (sym same)) in
+        let at : number_in scope name ≡ Some b = number-at scope.names.items apart b name (slice_get-get_or (names_in scope) b [] marked.1 ∙ ap Some (sym same)) in
         let some : marked_number scope marks name ≡ Some b = ap (option_and_then (if_marked marks)) at ∙ ap (λ t. if t then Some b else None) marked.0 in
         absurd (cc (some, e))
 

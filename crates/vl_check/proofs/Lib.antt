@@ -13,3 +13,4 @@ pub mod Scoped
 pub mod Noting
 pub mod Loops
 pub mod Beginnings
+pub mod ByName

@@ -33,7 +33,7 @@ module _ (m : Module) (scope : Scope) (places : List (Option ℕ)) (reads : List
   one-number p = cc p
 
   name-of-number : (name : List ℕ) (v : ℕ) → number_in scope name ≡ Some v → name_of scope v ≡ name
-  name-of-number name v e = get_or_from_slice_get (names_in scope) v name [] (at-number scope.names.keys v name e)
+  name-of-number name v e = get_or_from_slice_get (names_in scope) v name [] (at-number scope.names.items v name e)
 
   -- what an assignment reads and drives stands in the text
   item-of : (name : List ℕ) (value : Expr) (j : ℕ) → slice_get m.items j ≡ Some (Assign name value) → Contains m.items (Assign name value)

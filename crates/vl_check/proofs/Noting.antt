@@ -30,7 +30,7 @@ back-or-front items item j x e =
 
 module _ (scope : Scope) where
   pub number-below : (name : List ℕ) (v : ℕ) → number_in scope name ≡ Some v → v < length (names_in scope)
-  number-below name v e = slice_get_within (names_in scope) v name (at-number scope.names.keys v name e)
+  number-below name v e = slice_get_within (names_in scope) v name (at-number scope.names.items v name e)
 
   pub number-is : (name : List ℕ) (v : ℕ) → number_in scope name ≡ Some v → number_at scope name ≡ v
   number-is name v e = ap (λ o. unwrap_or o (length (names_in scope))) e

@@ -3,18 +3,17 @@ use Rattle.std.proofs.Common.{◌≡◌, ◌<◌, ◌≤◌, ⊎_elim, ℕ, Bool
 use Rattle.std.specs.List.{list_any, IsDistinct}
 use Rattle.std.proofs.lemmas.List.Sums.{fold-append}
 use Rattle.std.proofs.lemmas.Bool.{cases_lt}
-use Rattle.std.proofs.lemmas.Map.Keys.{IsDistinct-from_apart, apart_from_distinct}
+use Rattle.std.proofs.lemmas.Map.Keys.{IsDistinct-from_apart, IsDistinct-push, apart_from_distinct}
 use Rattle.std.proofs.lemmas.Slice.Eq.{bytes_eq-Decides}
+use Rattle.std.specs.Cmp.Lexicographic.{nat_list_eq_equiv}
 use Rattle.std.proofs.lemmas.Option.{slice_get_within, slice_get-get_or, get_or_from_slice_get}
-use Rattle.std.proofs.lemmas.List.{get_or_append_left, get_or_at, length-append, map-append, length-map, get_or-map}
-use Rattle.indexmap.specs.IndexSet.{insert_key}
+use Rattle.std.proofs.lemmas.List.{get_or_append_left, get_or_at, length-append, length-map, get_or-map}
 use Rattle.vl_ast.specs.Conditions.{mentioned}
 use Rattle.vl_check.specs.declared.mentions.Mention.{Mention as MentionHere}
 use Rattle.vl_check.specs.inner.Mentioned.{mention_of, shown, texts}
 use Rattle.vl_check.specs.inner.Marks.{AreNumbers}
 use Rattle.vl_check.specs.Names.{with_name}
 use Rattle.vl_check.specs.inner.Names.{Numbered}
-use Rattle.vl_check.proofs.Searched.{any-map}
 
 -- an element of the front stands at the same place in the whole
 pub slice_get-front : {X : Type 0} (xs ys : List X) (k : ℕ) (x : X) → slice_get xs k ≡ Some x → slice_get (xs ++ ys) k ≡ Some x
@@ -35,15 +34,6 @@ longer keys keys' name is = by (list_any (bytes_eq name) keys) is where
   by : (t : Bool) → keys' ≡ (if t then keys else keys ++ name ∷ []) → Longer keys keys' name
   by true e = inl e
   by false e = inr e
-
-pub grown : (keys : List (Bor (List ℕ))) (key : Bor (List ℕ)) → IsGrown (texts keys) (texts (insert_key (λ (x y : Bor (List ℕ)). bytes_eq x.now y.now) keys key)) key.now
-grown keys key =
-    by (list_any (λ (y : Bor (List ℕ)). bytes_eq key.now y.now) keys)
-    ∙ ap (λ t. if t then texts keys else texts keys ++ key.now ∷ []) (any-map (λ (y : Bor (List ℕ)). y.now) (bytes_eq key.now) keys)
-  where
-    by : (t : Bool) → texts (if t then keys else keys ++ key ∷ []) ≡ (if t then texts keys else texts keys ++ key.now ∷ [])
-    by true = refl
-    by false = map-append (λ (x : Bor (List ℕ)). x.now) keys (key ∷ [])
 
 -- a name stands at one place alone
 pub one-place : (keys : List (List ℕ)) → IsDistinct bytes_eq keys → (a b : ℕ) (x : List ℕ) → slice_get keys a ≡ Some x → slice_get keys b ≡ Some x → a ≡ b
@@ -76,9 +66,16 @@ module _ (names : List (List ℕ)) (keys keys' : List (List ℕ)) (numbers : Lis
       let there : slice_get keys' k ≡ Some name = ap (λ ks. slice_get ks k) more ∙ slice_get-get_or (keys ++ name ∷ []) k name (omega (arith, longer, e)) ∙ ap Some (get_or_at keys name [] name k e) in
       one-place keys' different number k name here there
 
-  pub one-more : IsGrown keys keys' name → IsDistinct bytes_eq keys' → slice_get keys' number ≡ Some name
+  -- and keys stay different
+  apart-still : IsGrown keys keys' name → IsDistinct bytes_eq keys → IsDistinct bytes_eq keys'
+  apart-still is different = by (list_any (bytes_eq name) keys) refl where
+    by : (t : Bool) → list_any (bytes_eq name) keys ≡ t → IsDistinct bytes_eq keys'
+    by true e = subst (IsDistinct bytes_eq) (sym (is ∙ ap (λ t. if t then keys else keys ++ name ∷ []) e)) different
+    by false e = subst (IsDistinct bytes_eq) (sym (is ∙ ap (λ t. if t then keys else keys ++ name ∷ []) e)) (IsDistinct-push nat_list_eq_equiv keys name different e)
+
+  pub one-more : IsGrown keys keys' name → slice_get keys' number ≡ Some name
       → Numbered names keys numbers → Numbered (names ++ name ∷ []) keys' (numbers ++ number ∷ [])
-  one-more is different here n = record {
+  one-more is here n = let different = apart-still is n.different in record {
     long = let l = n.long in let a = length-append numbers (number ∷ []) in let b = length-append names (name ∷ []) in omega (arith, l, a, b);
     at = λ i d below.
         let l = n.long in
@@ -106,30 +103,10 @@ module _ (names : List (List ℕ)) (keys keys' : List (List ℕ)) (numbers : Lis
     whole = is ∙ ap (λ ks. with_name ks name) n.whole ∙ sym (fold-append with_name [] names (name ∷ []));
   }
 
--- names apart as texts
-pub distinct-texts : (keys : List (Bor (List ℕ))) → IsDistinct (λ (x y : Bor (List ℕ)). bytes_eq x.now y.now) keys → IsDistinct bytes_eq (texts keys)
-distinct-texts keys d = IsDistinct-from_apart bytes_eq (texts keys) (λ i j e less below.
-    let long : length (texts keys) ≡ length keys = length-map keys (λ (x : Bor (List ℕ)). x.now) in
-    let key : Bor (List ℕ) = record { ref_ptr = (0, 0); now = e } in
-    let bj : j < length keys = omega (arith, long, below) in
-    let bi : i < length keys = omega (arith, bj, less) in
-    (λ k. bytes_eq (get_or-map (λ (x : Bor (List ℕ)). x.now) keys i key e bi k) (get_or-map (λ (x : Bor (List ℕ)). x.now) keys j key e bj k))
-    ∙ apart_from_distinct (λ (x y : Bor (List ℕ)). bytes_eq x.now y.now) keys i j key d less bj)
-
 pub no-names : (keys : List (Bor (List ℕ))) (numbers : List ℕ) → keys ≡ [] → numbers ≡ [] → Numbered [] (texts keys) numbers
 no-names keys numbers e f =
     subst (λ ns. Numbered [] (texts keys) ns) (sym f) (subst (λ ks. Numbered [] (texts ks) []) (sym e)
     (record { long = refl; at = λ i d below. absurd (omega arith); used = λ k below. absurd (omega arith); different = IsDistinct-from_apart bytes_eq [] (λ i j e less below. absurd (omega arith)); whole = refl }))
-
-slice_get-map : {X Y : Type 0} (f : X → Y) (xs : List X) (k : ℕ) (x : X) → slice_get xs k ≡ Some x → slice_get (map f xs) k ≡ Some (f x)
-slice_get-map f xs k x e =
-    let below = slice_get_within xs k x e in
-    let long = length-map xs f in
-    slice_get-get_or (map f xs) k (f x) (omega (arith, below, long)) ∙ ap Some (get_or-map f xs k x (f x) below ∙ ap f (get_or_from_slice_get xs k x x e))
-
--- the stored key is the name
-pub stored-text : (keys : List (Bor (List ℕ))) (k : ℕ) (name : Bor (List ℕ)) → ((x : Bor (List ℕ)) × (slice_get keys k ≡ Some x) × (bytes_eq name.now x.now ≡ true)) → slice_get (texts keys) k ≡ Some name.now
-stored-text keys k name s = slice_get-map (λ (x : Bor (List ℕ)). x.now) keys k s.0 s.1 ∙ ap Some (sym ((bytes_eq-Decides name.now s.0.now).0 s.2))
 
 pub names-long : (text : List MentionHere) → length (map mentioned (shown text)) ≡ length text
 names-long text = length-map (shown text) mentioned ∙ length-map text mention_of

@@ -81,7 +81,7 @@ module _ (m : Module) (scope : Scope) (text : List MentionHere) (numbers : List 
 
   knows : (name : List ℕ) → Contains names name → (k : ℕ) × (number_in scope name ≡ Some k)
   knows name (i, below, e) =
-      (slice_index numbers i, number-at scope.names.keys n.different (slice_index numbers i) name (n.at i name below ∙ ap Some e))
+      (slice_index numbers i, number-at scope.names.items n.different (slice_index numbers i) name (n.at i name below ∙ ap Some e))
 
   in-names : (d : Declared) → Contains (declarations m) d → Contains names d.name
   in-names d h =
@@ -92,7 +92,7 @@ module _ (m : Module) (scope : Scope) (text : List MentionHere) (numbers : List 
 
   declared-at : (name : List ℕ) (k : ℕ) → number_in scope name ≡ Some k → option_map declared_of (slice_index_or scope.declared.items k None) ≡ declaration_of m name
   declared-at name k e =
-      let there = at-number scope.names.keys k name e in
+      let there = at-number scope.names.items k name e in
       let used = n.used k (slice_get_within (names_in scope) k name there) in
       let i = used.0 in
       let same : slice_index_or names i [] ≡ name = some-one (sym (n.at i [] used.1) ∙ ap (slice_get (names_in scope)) used.2 ∙ there) in

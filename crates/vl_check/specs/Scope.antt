@@ -12,11 +12,11 @@ use Rattle.vl_check.specs.inner.Mentioned.{declared_of, texts}
 
 -- the names in order
 abbrev pub names_in : Scope → List (List ℕ)
-names_in scope = texts scope.names.keys
+names_in scope = texts scope.names.items
 
 -- the place of a name among them
 abbrev pub number_in : Scope → List ℕ → Option ℕ
-number_in scope name = position (λ (key : Bor (List ℕ)). bytes_eq name key.now) scope.names.keys
+number_in scope name = position (λ (key : Bor (List ℕ)). bytes_eq name key.now) scope.names.items
 
 -- its declaration
 abbrev pub declaration_in : Scope → List ℕ → Option Declared

@@ -50,13 +50,22 @@ fn known_of<'a>(alloc: Global, text: &[Mention<'a>]) -> Result<Known<'a>, OutOfM
         AreFirst (map mentioned (shown text.now)) known.numbers.items known.scope.declared.items
         (shown text.now)) }
 {
-    let Numbers { names, numbers } = numbers_of(alloc, text)?;
+    let Numbers {
+        names,
+        by_name,
+        numbers,
+    } = numbers_of(alloc, text)?;
     let declared = first_declarations(alloc, text, numbers.as_slice(), names.len())?;
-    let scope = Scope { names, declared };
+    let scope = Scope {
+        names,
+        by_name,
+        declared,
+    };
     Ok(Known { scope, numbers })
 }
 
-/// Tries the six conditions in their order (own). The time is linear in the module.
+/// Tries the six conditions in their order (own). The time is linear in the module, but for names, which
+/// are looked up in an ordered map.
 pub fn check<'a>(alloc: Global, source: &'a Module) -> Result<Checked<'a>, VlFault>
     ensures sound { IfOk result (λ checked. BreaksNone source.now) }
     ensures scope { IfOk result (λ checked. IsScopeOf source.now checked.scope) }

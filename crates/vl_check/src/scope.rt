@@ -1,16 +1,19 @@
 ghost use Rattle.std.specs.Prelude.{◌≡◌, ◌<◌, [], Some, None, length, option_map, slice_index_or};
 ghost use Rattle.vl_check.specs.inner.Mentioned.{declared_of};
+ghost use Rattle.vl_check.specs.inner.Names.{HasPlaces};
 
 use crate::mentions::Declared;
-use indexmap::IndexSet;
+use std::collections::BTreeMap;
 
 /// The names that stand in a module's text, numbered from 0 in the order of their first places, each
 /// with its first declaration.
 #[derive(Drop)]
 pub struct Scope<'a> {
-    pub(crate) names: IndexSet<&'a [u8]>,
+    pub(crate) names: Vec<&'a [u8]>,
+    pub(crate) by_name: BTreeMap<&'a [u8], usize>,
     pub(crate) declared: Vec<Option<Declared<'a>>>,
-    ghost long: { length declared.items ≡ length names.keys },
+    ghost long: { length declared.items ≡ length names.items },
+    ghost places: { HasPlaces names.items by_name },
 }
 
 impl<'a> Scope<'a> {
@@ -27,7 +30,7 @@ impl<'a> Scope<'a> {
     pub fn number(&self, name: &[u8]) -> Option<usize>
         ensures { result ≡ number_in self.now name.now }
     {
-        self.names.get_index_of(&name)
+        self.by_name.get(name).copied()
     }
 
     /// The number of a name, or how many names there are where it is none of them.
@@ -45,17 +48,14 @@ impl<'a> Scope<'a> {
         requires { number < length (names_in self.now) }
         ensures { result.now ≡ slice_index_or (names_in self.now) number [] }
     {
-        match self.names.get_index(number) {
-            None => b"",
-            Some(name) => *name,
-        }
+        self.names[number]
     }
 
     /// The first declaration of a name. `None` where it has none.
     pub fn declared(&self, name: &[u8]) -> Option<Declared<'a>>
         ensures { option_map declared_of result ≡ declaration_in self.now name.now }
     {
-        let Some(number) = self.names.get_index_of(&name) else {
+        let Some(number) = self.number(name) else {
             return None;
         };
         self.declared[number]

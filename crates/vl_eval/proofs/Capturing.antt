@@ -61,7 +61,7 @@ module _ (by_layer : ByLayer) (m : Module) (scope : Scope) (s : IsScopeOf m scop
   known-placed ops g names k = record {
     below = λ name c.
         let n = number-of name (k name c) in
-        let low = slice_get_within (names_in scope) n.0 name (at-number scope.names.keys n.0 name n.1) in
+        let low = slice_get_within (names_in scope) n.0 name (at-number scope.names.items n.0 name n.1) in
         let b = w.below n.0 low in
         let l = grows-length count wired ops g in
         let e : slot_in scope slots name ≡ slice_index slots n.0 = ap (slot_at slots) n.1 in

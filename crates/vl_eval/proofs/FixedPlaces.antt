@@ -125,10 +125,10 @@ module _ (by_layer : ByLayer) (m : Module) (b : BreaksNone m) (scope : Scope) (s
   pub fixed-slot : (name : List ℕ) → Known name → IsFixed m name → (k : ℕ) × (number_in scope name ≡ Some k) × (slot_in scope slots name ≡ k) × (k < count)
   fixed-slot name known fixed =
       let k = number-of by_layer m scope s driven' once' few slots p.wires p.wired name known in
-      (k.0, k.1, ap (slot_at slots) k.1 ∙ p.wired.fixed name k.0 k.1 fixed, slice_get_within (names_in scope) k.0 name (at-number scope.names.keys k.0 name k.1))
+      (k.0, k.1, ap (slot_at slots) k.1 ∙ p.wired.fixed name k.0 k.1 fixed, slice_get_within (names_in scope) k.0 name (at-number scope.names.items k.0 name k.1))
 
   same-name : (one other : List ℕ) (k : ℕ) → number_in scope one ≡ Some k → number_in scope other ≡ Some k → one ≡ other
-  same-name one other k e f = same (sym (at-number scope.names.keys k one e) ∙ at-number scope.names.keys k other f) where
+  same-name one other k e f = same (sym (at-number scope.names.items k one e) ∙ at-number scope.names.items k other f) where
     same : {a c : List ℕ} → Some a ≡ Some c → a ≡ c
     same x = cc x
 

@@ -18,4 +18,4 @@ position-map p f xs =
     λ i. if nat_lt (e i) (l i) then Some (e i) else None
 
 pub number-is : (m : Module) (scope : Scope) → names_in scope ≡ names_of m → (name : List ℕ) → position (bytes_eq name) (names_of m) ≡ number_in scope name
-number-is m scope names name = ap (position (bytes_eq name)) (sym names) ∙ position-map (bytes_eq name) (λ (key : Bor (List ℕ)). key.now) scope.names.keys
+number-is m scope names name = ap (position (bytes_eq name)) (sym names) ∙ position-map (bytes_eq name) (λ (key : Bor (List ℕ)). key.now) scope.names.items

@@ -78,7 +78,7 @@ module _ (by_layer : ByLayer) (m : Module) (b : BreaksNone m) (scope : Scope) (s
   slot-within : (name : List ℕ) → Known name → slot_in scope slots name < plan.base + length ops
   slot-within name known =
       let k = number-of by_layer m scope s driven' once' (few by_layer m b scope s plan p) slots p.wires p.wired name known in
-      let low = slice_get_within (names_in scope) k.0 name (at-number scope.names.keys k.0 name k.1) in
+      let low = slice_get_within (names_in scope) k.0 name (at-number scope.names.items k.0 name k.1) in
       let b = p.wired.below k.0 low in
       let e : slot_in scope slots name ≡ slice_index slots k.0 = ap (slot_at slots) k.1 in
       let g = grows-length count p.wires ops p.captured.grows in

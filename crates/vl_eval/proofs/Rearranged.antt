@@ -37,7 +37,7 @@ module _ (by_layer : ByLayer) (m : Module) (scope : Scope) (some : 0 < length (n
   slot-moved name = by (number_in scope name) refl where
     by : (n : Option ℕ) → number_in scope name ≡ n → slot_at (map a.move slots) n ≡ a.move (slot_at slots n)
     by None e = sym (a.fixed 0 some)
-    by (Some k) e = at-slot k (slice_get_within (names_in scope) k name (at-number scope.names.keys k name e))
+    by (Some k) e = at-slot k (slice_get_within (names_in scope) k name (at-number scope.names.items k name e))
 
   row-moved : (values : ℕ → ℕ) → row_in scope slots (back values) ≡ row_in scope (map a.move slots) values
   row-moved values = λ i name. values (sym (slot-moved name) i)
@@ -65,7 +65,7 @@ module _ (by_layer : ByLayer) (m : Module) (scope : Scope) (some : 0 < length (n
         let m' = move-below (slice_index slots k) (omega (arith, b, g)) in
         omega (arith, e, m');
     fixed = λ name k e fixed.
-        let low = slice_get_within (names_in scope) k name (at-number scope.names.keys k name e) in
+        let low = slice_get_within (names_in scope) k name (at-number scope.names.items k name e) in
         at-slot k low ∙ ap a.move (w.fixed name k e fixed) ∙ a.fixed k low;
     given = λ name value i. record {
       is = λ values st f.

@@ -58,7 +58,7 @@ module _ (by_layer : ByLayer) (m : Module) (scope : Scope) (order : List ℕ) (p
       one-item x = cc x
 
   name-of : (n : List ℕ) (k : ℕ) → number_in scope n ≡ Some k → slice_index_or (names_in scope) k [] ≡ n
-  name-of n k e = get_or_from_slice_get (names_in scope) k n [] (at-number scope.names.keys k n e)
+  name-of n k e = get_or_from_slice_get (names_in scope) k n [] (at-number scope.names.items k n e)
 
   declared-number : (d : Declared) → Contains (declarations m) d → (k : ℕ) × (number_in scope d.name ≡ Some k)
   declared-number d listed = s.knows d.name (map-in mentioned (mentions m) (Declares d) (listed-mention m driven once d listed))
@@ -125,7 +125,7 @@ module _ (by_layer : ByLayer) (m : Module) (scope : Scope) (order : List ℕ) (p
     grows = w.grows;
     long = w.long;
     below = w.below;
-    fixed = λ name k e fixed. w.fixed k (slice_get_within (names_in scope) k name (at-number scope.names.keys k name e)) (place-none name k e fixed);
+    fixed = λ name k e fixed. w.fixed k (slice_get_within (names_in scope) k name (at-number scope.names.items k name e)) (place-none name k e fixed);
     given = λ name value (i, low, at).
         let r = o.each i name value (slice_get-get_or m.items i (Assign name value) low ∙ ap Some at) in
         let q = r.5 in
@@ -192,7 +192,7 @@ module _ (by_layer : ByLayer) (m : Module) (scope : Scope) (order : List ℕ) (p
     wired-placed ops few w = record {
       below = λ read c.
           let k = read-known name read value j item c in
-          let b = w.below k.0 (slice_get_within (names_in scope) k.0 read (at-number scope.names.keys k.0 read k.1)) in
+          let b = w.below k.0 (slice_get_within (names_in scope) k.0 read (at-number scope.names.items k.0 read k.1)) in
           let e = slot-of slots read k.0 k.1 in
           omega (arith, b, e);
       few = λ read c. few read;
@@ -265,7 +265,7 @@ module _ (by_layer : ByLayer) (m : Module) (scope : Scope) (order : List ℕ) (p
             one-item h = cc h
 
             number-below : (n : List ℕ) (k : ℕ) → number_in scope n ≡ Some k → k < count
-            number-below n k e' = slice_get_within (names_in scope) k n (at-number scope.names.keys k n e')
+            number-below n k e' = slice_get_within (names_in scope) k n (at-number scope.names.items k n e')
 
             here : IsGiven m scope slots' ops' name value
             here = record {

@@ -1,21 +1,25 @@
 -- The paths of a plan's lines by number (own).
-use Rattle.std.specs.Prelude.{◌≡◌, ℕ, List, Option, map, position, bytes_eq}
+use Rattle.std.specs.Prelude.{◌≡◌, ℕ, List, Option, position, bytes_eq}
 use Rattle.std.specs.Borrow.{Bor}
+use Rattle.std.specs.BTreeMap.{is_at}
+use Rattle.std.specs.Cmp.Lexicographic.{slice_cmp}
+use Rattle.std.specs.Map.{lookup}
+use Rattle.std.specs.Ordering.{nat_cmp}
 use Rattle.dg_model.specs.declared.plan.Pipeline.{Pipeline}
 use Rattle.dg_rules.specs.declared.lines.Lines.{Lines}
 
--- the keys as texts
-abbrev pub texts_of : List (Bor (List ℕ)) → List (List ℕ)
-texts_of keys = map (λ key. key.now) keys
+-- the paths with their numbers
+abbrev pub paths_in : Lines → List (Bor (List ℕ) × ℕ)
+paths_in lines = lines.by_path.entries
 
--- the paths in order
-abbrev pub paths_in : Lines → List (Bor (List ℕ))
-paths_in lines = lines.paths.keys
+-- the number of this path among them
+abbrev pub number_of : List (Bor (List ℕ) × ℕ) → List ℕ → Option ℕ
+number_of entries path = lookup (is_at (λ (key : Bor (List ℕ)). slice_cmp nat_cmp path key.now)) entries
 
--- the number of the key that is this path
-abbrev pub number_of : List (Bor (List ℕ)) → List ℕ → Option ℕ
-number_of keys path = position (λ key. bytes_eq path key.now) keys
+-- each path has the number of the first line that has it
+abbrev pub AreNumbered : List Pipeline → List (Bor (List ℕ) × ℕ) → Type 0
+AreNumbered pipelines entries = (path : List ℕ) → number_of entries path ≡ position (λ (line : Pipeline). bytes_eq path line.path) pipelines
 
--- these are the paths of the lines, in order
+-- these are the paths of the lines
 abbrev pub AreLines : List Pipeline → Lines → Type 0
-AreLines pipelines lines = texts_of (paths_in lines) ≡ map (λ line. line.path) pipelines
+AreLines pipelines lines = AreNumbered pipelines (paths_in lines)

@@ -1,7 +1,10 @@
 -- The blocks of a tree and the numbers of their names, as the code keeps them (own).
 use Rattle.std.specs.Prelude.{◌≡◌, ℕ, ◌≤◌, ◌==◌, ◌&&◌, Bool, false, List, Option, Some, None, filter, position, length, bytes_eq}
 use Rattle.std.specs.List.{range_with_len}
-use Rattle.indexmap.specs.IndexMap.{get}
+use Rattle.std.specs.declared.cmp.Ordering.{Ordering}
+use Rattle.std.specs.BTreeMap.{get}
+use Rattle.std.specs.Cmp.Lexicographic.{slice_cmp}
+use Rattle.std.specs.Ordering.{nat_cmp, then_cmp, on}
 use Rattle.mdl_text.specs.declared.tree.Item.{Item}
 use Rattle.mdl_build.specs.declared.names.Blocks.{Blocks}
 use Rattle.mdl_build.specs.declared.names.Key.{Key}
@@ -21,9 +24,13 @@ IsKeyAt items place key = (system : ℕ) (name : List ℕ) → is_named_in items
 abbrev pub key_eq : Key → Key → Bool
 key_eq key other = (key.system == other.system) && bytes_eq key.name.now other.name.now
 
+-- the order in which a map has its keys
+abbrev pub compare_keys : Key → Key → Ordering
+compare_keys = then_cmp (on (λ (key : Key). key.system) nat_cmp) (on (λ (key : Key). key.name) (λ one other. slice_cmp nat_cmp one.now other.now))
+
 -- of each name the number of the first block that has it
 abbrev pub AreNumbered : List Item → Blocks → Type 0
-AreNumbered items blocks = (key : Key) → get key_eq blocks.numbers key ≡ position (is_named_in items key.system key.name.now) blocks.places.items
+AreNumbered items blocks = (key : Key) → get compare_keys blocks.numbers key ≡ position (is_named_in items key.system key.name.now) blocks.places.items
 
 -- the blocks before a place
 abbrev pub blocks_before : List Item → ℕ → List ℕ

@@ -13,20 +13,20 @@ counted keys n e = length-map keys (λ (x : Bor (List ℕ)). x.now) ∙ sym e
 pub first_declarations-requires : goal.first_declarations-requires
 first_declarations-requires c =
     let names = map mentioned (shown c.args.text.now) in
-    let n = numbered-apart names (texts c.in_ok-names.field-0.names.keys) c.in_ok-names.field-0.numbers.items c.in_ok-names.ensures in
+    let n = numbered-apart names (texts c.in_ok-names.field-0.names.items) c.in_ok-names.field-0.numbers.items c.in_ok-names.ensures.numbers in
     let ns = c.in_ok-names.field-0.numbers.items in
     let same : c.as_slice.result.now ≡ ns = c.as_slice.ensures.value in
     subst (λ xs. AreNumbers names xs c.len.result) (sym same)
-    (subst (λ k. AreNumbers names ns k) (counted _ c.len.result c.len.ensures.len) n)
+    (subst (λ k. AreNumbers names ns k) (counted _ c.len.result (c.len.ensures ∙ c.in_ok-names.field-0.names.ok.0)) n)
 
 pub returns-clause-scope : goal.returns-clause-scope
 returns-clause-scope c m whole =
     let names = map mentioned (shown c.args.text.now) in
-    scope-is m _ c.args.text.now c.in_ok-names.field-0.numbers.items whole c.in_ok-names.ensures
+    scope-is m _ c.args.text.now c.in_ok-names.field-0.numbers.items whole c.in_ok-names.ensures.numbers
     (subst (λ ns. AreFirst names ns c.in_ok-declared.declared.items (shown c.args.text.now)) c.as_slice.ensures.value c.in_ok-declared.ensures.first)
 
 pub returns-clause-numbers : goal.returns-clause-numbers
 returns-clause-numbers c =
     let names = map mentioned (shown c.args.text.now) in
-    let n = numbered-apart names (texts c.in_ok-names.field-0.names.keys) c.in_ok-names.field-0.numbers.items c.in_ok-names.ensures in
-    subst (λ k. AreNumbers names c.in_ok-names.field-0.numbers.items k) (counted _ c.len.result c.len.ensures.len ∙ sym c.in_ok-declared.ensures.long) n
+    let n = numbered-apart names (texts c.in_ok-names.field-0.names.items) c.in_ok-names.field-0.numbers.items c.in_ok-names.ensures.numbers in
+    subst (λ k. AreNumbers names c.in_ok-names.field-0.numbers.items k) (counted _ c.len.result (c.len.ensures ∙ c.in_ok-names.field-0.names.ok.0) ∙ sym c.in_ok-declared.ensures.long) n

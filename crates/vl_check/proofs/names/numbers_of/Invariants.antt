@@ -1,8 +1,11 @@
 use Rattle.std.proofs.Common.{map, take}
 use Rattle.vl_ast.specs.Conditions.{mentioned}
 use Rattle.vl_check.specs.inner.Mentioned.{shown, texts}
-use Rattle.vl_check.specs.inner.Names.{Numbered}
+use Rattle.vl_check.specs.inner.Names.{HasPlaces, Numbered}
 use Rattle.vl_check.proofs.names.numbers_of.Given as goal
 
 abbrev pub invariant-loop-mention : goal.invariant-loop-mention
-invariant-loop-mention l = Numbered (take l.mention-index (map mentioned (shown l.mentions))) (texts l.names.keys) l.numbers.items
+invariant-loop-mention l = record {
+  numbers : Numbered (take l.mention-index (map mentioned (shown l.mentions))) (texts l.names.items) l.numbers.items;
+  places : HasPlaces l.names.items l.by_name;
+}

@@ -24,7 +24,7 @@ returns c =
     let taken = c.in_ok-taken.taken.items in
     let captured = subst (λ xs. AreCaptured m scope xs m.items wires ops taken) c.as_slice.ensures.value c.in_ok-taken.ensures in
     let reset = number-of by_layer m scope c.requires.scope a.driven a.once few slots wires wired (codes "reset") (reset-known by_layer m scope c.requires.scope a.driven a.once few slots wires wired c.requires.sound.clocked) in
-    let low = slice_get_within (names_in scope) reset.0 (codes "reset") (at-number scope.names.keys reset.0 (codes "reset") reset.1) in
+    let low = slice_get_within (names_in scope) reset.0 (codes "reset") (at-number scope.names.items reset.0 (codes "reset") reset.1) in
     let some : 0 < length (names_in scope) = omega (arith, low) in
     if-ok c.arrange.result (λ arranged sorted.
     let is = subst (λ n. IsArranged n ops slots taken arranged) c.count-base.ensures sorted in

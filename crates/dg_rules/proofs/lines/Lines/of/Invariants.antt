@@ -1,6 +1,6 @@
-use Rattle.std.proofs.Common.{◌≡◌, map, take}
-use Rattle.dg_rules.specs.inner.Lines.{texts_of}
+use Rattle.std.proofs.Common.{take}
+use Rattle.dg_rules.specs.inner.Lines.{AreNumbered}
 use Rattle.dg_rules.proofs.lines.Lines.of.Given as goal
 
-abbrev pub invariant-loop-pipeline : goal.invariant-loop-pipeline
-invariant-loop-pipeline l = texts_of l.paths.keys ≡ map (λ line. line.path) (take l.pipeline-index l.pipelines)
+abbrev pub invariant-loop-number : goal.invariant-loop-number
+invariant-loop-number l = AreNumbered (take l.number l.pipelines) l.by_path.entries
