@@ -29,6 +29,7 @@ mod command;
 mod explore;
 mod fetch;
 mod generate;
+mod parts;
 mod replay;
 mod response;
 mod sample;
