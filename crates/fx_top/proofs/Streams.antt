@@ -1,5 +1,5 @@
 -- What is written with valid and ready of a design whose ports keep the rule.
-use Rattle.std.proofs.Common.{◌≡◌, ◌⊎◌, inl, inr, ℕ, List, length, Result, Ok, Err, IfOk, sym, subst, ◌∙◌}
+use Rattle.std.proofs.Common.{◌≡◌, inr, ℕ, List, length, Result, Ok, Err, IfOk, sym, subst, ◌∙◌}
 use Rattle.dg_model.specs.declared.diagram.Diagram.{Diagram}
 use Rattle.dg_model.specs.declared.resolved.Resolved.{Resolved}
 use Rattle.dg_model.specs.declared.fault.CheckFault.{CheckFault}
@@ -11,8 +11,7 @@ use Rattle.dg_model.specs.PlanOf.{IsPlanOf}
 use Rattle.fx_designed.specs.declared.designing.DesignFault.{DesignFault}
 use Rattle.fx_designed.specs.declared.designing.DesignFault.TheVariants as design
 use Rattle.fx_designed.specs.Design.{IsDesignOf}
-use Rattle.fx_designed.specs.Refused.{IsRefusedDesign}
-use Rattle.fx_top.specs.Streamed.{BreaksStream, IsStreamOf, IsStreamedOf, KeepsStream}
+use Rattle.fx_top.specs.Streamed.{BreaksStream, IsStreamOf, KeepsStream}
 use Rattle.fx_top.specs.inner.Streaming.{IsCoreOf, IsRefusedOnPorts, IsRefusedStream, IsStreamWritten}
 use Rattle.fx_top.proofs.Answering.{answers, columns-many, stalls}
 use Rattle.fx_top.proofs.Elements.{wanted-are}
@@ -104,31 +103,7 @@ stream-written diagram plan times made text unique streams spelled is =
     let spells = subst (λ (bytes : List ℕ). Spells bytes made) (sym is) spelled in
     record { made = made; spelled = is; alone = record { spells = spells; alone = λ other theirs. unique text other made theirs spells }; streams = streams }
 
--- the text of a design whose ports keep the rule
-pub stream-text : (model plan text : List ℕ) (diagram : Diagram) (resolved : Resolved) (times : Times) → IsDesignOf model plan diagram resolved (timing_in times) → AllKeep diagram (KeepsStream diagram) → IsStreamWritten diagram resolved times text
-    → IsStreamedOf model plan text
-stream-text model plan text diagram resolved times design kept written = record {
-  diagram = diagram;
-  resolved = resolved;
-  timing = timing_in times;
-  design = design;
-  kept = kept;
-  made = written.made;
-  spelled = written.spelled;
-  alone = written.alone;
-  streams = written.streams;
-}
-
--- ---- what refuses it
-
-pub refused-design : (model text : List ℕ) (fault : DesignFault) → IsRefusedDesign model text fault → IsRefusedStream model text fault
-refused-design model text (design.NotMdl line) why = why
-refused-design model text (design.BreaksRule line) (inl told) = inl told
-refused-design model text (design.BreaksRule line) (inr told) = inr (inl told)
-refused-design model text (design.BadPlan line cause) why = why
-refused-design model text design.OutOfMemory why = tt
-
--- by the ports of a design
+-- what refuses the ports of a design
 pub refused-ports : (model text : List ℕ) (diagram : Diagram) (resolved : Resolved) (timing : Timing) → IsDesignOf model text diagram resolved timing
     → (fault : CheckFault) (told : DesignFault) → IsRefusal (BreaksStream diagram) fault → IsRefusedOnPorts diagram fault told → IsRefusedStream model text told
 refused-ports model text diagram resolved timing made (Broken rule) (design.NotMdl line) why told = absurd told
