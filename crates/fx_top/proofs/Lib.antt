@@ -11,6 +11,7 @@ pub mod Loop
 pub mod Names
 mod Outcomes
 pub mod Placing
+mod Periods
 pub mod Planning
 pub mod Ported
 pub mod Replayed
