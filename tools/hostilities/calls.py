@@ -26,6 +26,7 @@ ANSWERS = {
     "generate": {0, 1, 3, 5, 6, 7, 9},
     "replay": {0, 1, 3, 6, 8, 9},
     "explore": {0, 1, 3, 5, 7, 9},
+    "sample": {0, 1},
 }
 # A call that hasn't ended by then is killed.
 MOST_WALL_SECONDS = 600

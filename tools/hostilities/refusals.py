@@ -37,6 +37,7 @@ def runs_of(program):
         yield "generate", f"{name}.m", f"{name}.p"
         yield "replay", f"{name}.v", f"{name}.s"
     yield "explore", f"{EXAMPLES[2]}.m", "3..4,0..1"
+    yield "sample", "1"
 
 
 class Refused:
