@@ -6,6 +6,8 @@ import subprocess
 from collections import namedtuple
 
 MODULE = "fx_model"
+# The module with valid and ready.
+STREAM = "fx_stream"
 
 Port = namedtuple("Port", "is_input signed width name period latency")
 # `controls` are the ports that carry no numbers, but for `clk` and `reset`
@@ -22,7 +24,7 @@ def attributes(text):
 
 def header(text):
     """The clocks per base sample of a written module, its ports of the clock enable, and those that carry numbers."""
-    head = re.match(r"\(\* (.*?) \*\)\nmodule " + MODULE + r" \(\n(.*?)\n\);\n", text, re.S)
+    head = re.match(r"\(\* (.*?) \*\)\nmodule (?:" + MODULE + "|" + STREAM + r") \(\n(.*?)\n\);\n", text, re.S)
     if head is None:
         raise Failed("its header is not understood")
     ports = []
@@ -61,9 +63,9 @@ def rows_of(path):
 
 
 def case_of(path):
-    """The text at a path, with the stimulus that stands beside it."""
+    """The text at a path, with the stimulus that stands beside it. A module with valid and ready is renamed."""
     with open(path) as file:
-        text = file.read()
+        text = file.read().replace(f"module {STREAM} (", f"module {MODULE} (", 1)
     cycles, controls, ports = header(text)
     stimulus = beside(path, ".stim")
     if not os.path.isfile(stimulus):

@@ -5,7 +5,6 @@ import os
 import re
 import resource
 import signal
-import time
 
 # The statuses that a command may end with, and the form of the one line of each.
 USAGE = rb"usage: [^\n]*"
@@ -16,7 +15,7 @@ FORMS = {
     4: rb"cannot write",
     5: rb".*: line [1-9][0-9]*: not MDL text",
     6: rb".*: line [1-9][0-9]*: (plan line|too many rows|field count|not a whole number|dash at a hit|number off a hit|out of range)",
-    7: rb"rule ([1-9]|1[0-3]) \((structure|library|parameter|wiring|enable|dimension|type|rate|loop|plan|latency|budget|size)\): (model|\".*\").*",
+    7: rb"rule ([1-9]|1[0-4]) \((structure|library|parameter|wiring|enable|dimension|type|rate|loop|plan|latency|budget|size|stream)\): (model|\".*\").*",
     8: rb".*: (line [1-9][0-9]*: not in the Verilog subset|(undriven|doubly driven|combinational loop|too wide|no reset|no attribute): .*)",
     9: rb".*: [0-9]+ bytes, at most 16777216",
 }
@@ -27,6 +26,7 @@ ANSWERS = {
     "replay": {0, 1, 3, 6, 8, 9},
     "explore": {0, 1, 3, 5, 7, 9},
     "sample": {0, 1},
+    "stream": {0, 1, 3, 5, 6, 7, 9},
 }
 # A call that hasn't ended by then is killed.
 MOST_WALL_SECONDS = 600
@@ -88,18 +88,7 @@ class Program:
 
     def end(self, child, out=b"", err=b""):
         """The answer of a call, once it ends or is killed."""
-        deadline = time.monotonic() + MOST_WALL_SECONDS
-        pause = 0.0002
-        while True:
-            ended, status, used = os.wait4(child, os.WNOHANG)
-            if ended:
-                break
-            if time.monotonic() > deadline:
-                os.kill(child, signal.SIGKILL)
-                _, status, used = os.wait4(child, 0)
-                break
-            time.sleep(pause)
-            pause = min(pause * 1.5, 0.05)
+        status, used = ended(child)
         return Answer(os.waitstatus_to_exitcode(status), out, err, used.ru_utime + used.ru_stime, used.ru_maxrss)
 
     def run(self, *words, environment=None, actions=()):
@@ -109,6 +98,17 @@ class Program:
         answer = self.end(self.begin(words, files + list(actions), environment))
         answer.out, answer.err = self.got("out"), self.got("err")
         return answer
+
+
+def ended(child):
+    """How a process ended, and what it used. One that stands for too long is killed."""
+    kept = signal.signal(signal.SIGALRM, lambda number, frame: os.kill(child, signal.SIGKILL))
+    signal.setitimer(signal.ITIMER_REAL, MOST_WALL_SECONDS)
+    try:
+        return os.wait4(child, 0)[1:]
+    finally:
+        signal.setitimer(signal.ITIMER_REAL, 0)
+        signal.signal(signal.SIGALRM, kept)
 
 
 def limited(limits, start):

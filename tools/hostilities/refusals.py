@@ -35,6 +35,7 @@ def runs_of(program):
         yield "check", f"{name}.m", f"{name}.p"
         yield "simulate", f"{name}.m", f"{name}.s"
         yield "generate", f"{name}.m", f"{name}.p"
+        yield "stream", f"{name}.m", f"{name}.p"
         yield "replay", f"{name}.v", f"{name}.s"
     yield "explore", f"{EXAMPLES[2]}.m", "3..4,0..1"
     yield "sample", "1"
@@ -116,8 +117,10 @@ def long_runs_of(program):
     yield "check", "delays", "-"
     yield "simulate", "delays", "few"
     yield "generate", "delays", "-"
+    yield "stream", "delays", "-"
     yield "replay", "text", "few"
     yield "explore", f"{EXAMPLES[2]}.m", "1..128,0..3"
+    yield "sample", "20"
 
 
 def in_room(program, words, room):
@@ -162,12 +165,12 @@ def calls(program, options, say):
 
 
 def refusal(words, answer, whole, kind, how):
-    """What a refused call of the system may come to. Of the files that `explore` opens one is the system's,
-    which says how many processors there are, and which it does without."""
+    """What a refused call of the system may come to. Of the files that `explore` and `sample` open one is
+    the system's, which says how many processors there are, and which it does without."""
     if how == "short" and not is_whole(answer, whole):
         return f"a call cut short changes the answer: status {answer.status}"
     if is_whole(answer, whole):
-        is_done_without = how in ("short", "again") or (words[0], kind) == ("explore", "open")
+        is_done_without = how in ("short", "again") or kind == "open" and words[0] in ("explore", "sample")
         return None if is_done_without else "a refused call changes nothing"
     if kind != "write":
         return fault_of(words[0], answer, {3})

@@ -58,69 +58,86 @@ def beside(path, ending):
     return next((held(one) for one in found if os.path.isfile(one)), None)
 
 
-class Trial:
-    """The calls over one set of texts. What is wrong with them is a line for each fault."""
+class Tally:
+    """What the calls over texts came to."""
 
-    def __init__(self, program):
-        self.program = program
+    def __init__(self):
         self.statuses = collections.Counter()
         self.seconds = (0.0, "")
         self.kilobytes = (0, "")
-        self.calls = 0
 
-    def call(self, faults, *words):
-        answer = self.program.run(*words)
-        self.calls += 1
+    def take(self, label, words, answer):
+        """Counts a call, and gives what is wrong with its answer alone."""
         self.statuses[words[0], answer.status] += 1
-        self.seconds = max(self.seconds, (answer.seconds, self.label + words[0]))
-        self.kilobytes = max(self.kilobytes, (answer.kilobytes, self.label + words[0]))
+        self.seconds = max(self.seconds, (answer.seconds, f"{label}, {words[0]}"))
+        self.kilobytes = max(self.kilobytes, (answer.kilobytes, f"{label}, {words[0]}"))
         fault = fault_of(words[0], answer)
         if fault is None and answer.seconds > MOST_SECONDS:
             fault = f"{answer.seconds:.1f} s"
-        if fault is not None:
-            faults.append(f"{' '.join(words)}: {fault}")
-        return answer
+        return [] if fault is None else [f"{' '.join(words)}: {fault}"]
 
-    label = ""
-
-    def models(self, texts):
-        """The faults of the calls over a model, a plan and a stimulus."""
-        faults = []
-        for name, text in texts.items():
-            self.program.put(name, text)
-        checked = self.call(faults, "check", "m", "p")
-        made = self.call(faults, "generate", "m", "p")
-        simulated = self.call(faults, "simulate", "m", "s")
-        if (checked.status, checked.err) != (made.status, made.err):
-            faults.append(f"check: {checked.status} {checked.err!r}, generate: {made.status} {made.err!r}")
-        # rules 10 to 13 are of a plan
-        refused = checked.status == 5 or re.match(rb"rule [1-9] ", checked.err)
-        if refused and (checked.status, checked.err) != (simulated.status, simulated.err):
-            faults.append(f"check: {checked.status} {checked.err!r}, simulate: {simulated.status} {simulated.err!r}")
-        if made.status == simulated.status == 0:
-            self.program.put("g", made.out)
-            replayed = self.call(faults, "replay", "g", "s")
-            if (replayed.status, replayed.out) != (0, simulated.out):
-                faults.append(f"replay of what generate wrote: {replayed.status} {replayed.err!r}, another response than simulate's")
-        return faults
-
-    def verilogs(self, texts):
-        faults = []
-        for name, text in texts.items():
-            self.program.put(name, text)
-        self.call(faults, "replay", "v", "s")
-        return faults
+    def say(self, say):
+        say("  statuses: " + ", ".join(f"{command} {status}: {count}" for (command, status), count in sorted(self.statuses.items())))
+        say(f"  most time {self.seconds[0]:.2f} s ({self.seconds[1]}), most memory {self.kilobytes[0] / 1024:.0f} MB ({self.kilobytes[1]})")
 
 
-def case_of(seeds, rng):
+# A trial yields texts by the words that name them, with calls over these, is sent the answers, and
+# returns what is wrong with all of them together.
+
+
+def models(texts):
+    """The calls over a model, a plan and a stimulus."""
+    faults = []
+    calls = [("check", "m", "p"), ("generate", "m", "p"), ("simulate", "m", "s"), ("stream", "m", "p")]
+    checked, made, simulated, streamed = yield texts, calls
+    if (checked.status, checked.err) != (made.status, made.err):
+        faults.append(f"check: {checked.status} {checked.err!r}, generate: {made.status} {made.err!r}")
+    # rule 14 is of a stream alone
+    if (streamed.status, streamed.err) != (made.status, made.err) and (made.status or not streamed.err.startswith(b"rule 14 ")):
+        faults.append(f"stream: {streamed.status} {streamed.err!r}, generate: {made.status} {made.err!r}")
+    # rules 10 to 13 are of a plan
+    refused = checked.status == 5 or re.match(rb"rule [1-9] ", checked.err)
+    if refused and (checked.status, checked.err) != (simulated.status, simulated.err):
+        faults.append(f"check: {checked.status} {checked.err!r}, simulate: {simulated.status} {simulated.err!r}")
+    if made.status == simulated.status == 0:
+        (replayed,) = yield {"g": made.out, "s": texts["s"]}, [("replay", "g", "s")]
+        if (replayed.status, replayed.out) != (0, simulated.out):
+            faults.append(f"replay of what generate wrote: {replayed.status} {replayed.err!r}, another response than simulate's")
+    return faults
+
+
+def verilogs(texts):
+    """The call over a Verilog text and a stimulus."""
+    yield texts, [("replay", "v", "s")]
+    return []
+
+
+def tried(program, tally, label, trial):
+    """The faults of a trial, each call of which is a process."""
+    faults = []
+    try:
+        texts, calls = next(trial)
+        while True:
+            for name, text in texts.items():
+                program.put(name, text)
+            answers = [program.run(*words) for words in calls]
+            for words, answer in zip(calls, answers):
+                faults += tally.take(label, words, answer)
+            texts, calls = trial.send(answers)
+    except StopIteration as end:
+        return faults + end.value
+
+
+def case_of(seeds, seed, number):
     """Texts by the words that name them, with the one that is mutated, and how they are tried."""
+    rng = random.Random(f"{seed} {number}")
     kind = rng.choice(["model"] * 8 + ["verilog"] * 8 + ["plan"] * 2 + ["stimulus"] * 2)
     if kind == "verilog" or (kind == "stimulus" and rng.random() < 0.5):
         verilog, stimulus = rng.choice(seeds.verilogs)
-        texts, names, trial = {"v": verilog, "s": stimulus}, {"verilog": "v", "stimulus": "s"}, Trial.verilogs
+        texts, names, trial = {"v": verilog, "s": stimulus}, {"verilog": "v", "stimulus": "s"}, verilogs
     else:
         model, plan, stimulus = rng.choice(seeds.models)
-        texts, names, trial = {"m": model, "p": plan, "s": stimulus}, {"model": "m", "plan": "p", "stimulus": "s"}, Trial.models
+        texts, names, trial = {"m": model, "p": plan, "s": stimulus}, {"model": "m", "plan": "p", "stimulus": "s"}, models
     name = names[kind]
     texts[name] = mutant(rng, texts[name], kind, seeds.texts[kind])
     return texts, name, trial
@@ -130,25 +147,23 @@ def run(program, options, say):
     """Tries so many cases. Each is known by the seed and its number."""
     seeds = Seeds(program, options.texts or [os.path.join(TOP, "examples")])
     say(f"texts: {len(seeds.models)} models and {len(seeds.verilogs)} Verilog texts, seed {options.seed}")
-    trial, wrong, start, done = Trial(program), 0, time.monotonic(), 0
-    numbers = [options.case] if options.case is not None else range(options.cases)
-    for number in numbers:
+    tally, wrong, start, done = Tally(), 0, time.monotonic(), 0
+    for number in [options.case] if options.case is not None else range(options.cases):
         if time.monotonic() - start > options.seconds:
             break
-        texts, name, way = case_of(seeds, random.Random(f"{options.seed} {number}"))
-        trial.label = f"case {number}, "
-        faults = way(trial, texts)
+        texts, name, trial = case_of(seeds, options.seed, number)
+        label = f"case {number}"
+        faults = tried(program, tally, label, trial(texts))
         done += 1
         if not faults:
             continue
         wrong += 1
-        say(f"  case {number}, {name}: " + "; ".join(faults))
+        say(f"  {label}, {name}: " + "; ".join(faults))
         kind = faults[0].split(":")[0]
-        short = shrunk(texts[name], lambda text: any(fault.startswith(kind) for fault in way(trial, {**texts, name: text})))
-        keep(options.keep, number, {**texts, name: short})
-    say(f"  {done} cases, {trial.calls} calls, {wrong} cases with a fault, {time.monotonic() - start:.0f} s")
-    say("  statuses: " + ", ".join(f"{command} {status}: {count}" for (command, status), count in sorted(trial.statuses.items())))
-    say(f"  most time {trial.seconds[0]:.2f} s ({trial.seconds[1]}), most memory {trial.kilobytes[0] / 1024:.0f} MB ({trial.kilobytes[1]})")
+        again = lambda text: any(fault.startswith(kind) for fault in tried(program, tally, label, trial({**texts, name: text})))
+        keep(options.keep, number, {**texts, name: shrunk(texts[name], again)})
+    say(f"  {done} cases, {tally.statuses.total()} calls, {wrong} cases with a fault, {time.monotonic() - start:.0f} s")
+    tally.say(say)
     return wrong
 
 

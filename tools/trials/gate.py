@@ -90,10 +90,46 @@ class Citing(unittest.TestCase):
         self.assertEqual(self.ends(open_to_others, "high"), 1)
 
 
+class Wanting(unittest.TestCase):
+    """Want of memory that is written by hand has its reason on the line above, unless it passes a refusal on."""
+
+    def ends(self, line, told=""):
+        with tempfile.TemporaryDirectory() as room:
+            write(os.path.join(room, "crates/low/src/lib.rt"), f"fn f() -> Result<u8, OutOfMemory> {{\n{line}\n}}\n")
+            write(os.path.join(room, "docs/PROVED.md"), told)
+            write(os.path.join(room, "tools/memory"), "")
+            shutil.copy(os.path.join(TOOLS, "memory"), os.path.join(room, "tools/memory"))
+            words = [sys.executable, os.path.join(room, "tools/memory")]
+            return subprocess.run(words, capture_output=True, text=True).returncode
+
+    def test_places(self):
+        for line in (
+            "return Err(OutOfMemory);",
+            "// it can't be\nreturn Err(OutOfMemory);",
+            "// word: a count of 32 bits\nlet a = 1;\nreturn Err(OutOfMemory);",
+            "match g() {\n    Some(a) => Ok(a),\n    None => Err(OutOfMemory),\n}",
+            "match g() {\n    Err(OutOfMemory) => Ok(1),\n    Ok(_) => Err(SizeFault::OutOfMemory),\n}",
+            "g().ok_or(OutOfMemory)",
+        ):
+            self.assertEqual(self.ends(line), 1, line)
+        for line in (
+            "// allocation: the buffer's\nreturn Err(OutOfMemory);",
+            "match g() {\n    Ok(a) => Ok(a),\n    Err(AllocError) => Err(OutOfMemory),\n}",
+            "match g() {\n    Err(SizeFault::OutOfMemory) => return Err(OutOfMemory),\n}",
+            "}\nimpl From<OutOfMemory> for F {\n    fn from(_refused: OutOfMemory) -> F {\n        F::OutOfMemory\n    }",
+        ):
+            self.assertEqual(self.ends(line), 0, line)
+
+    def test_words_are_told(self):
+        line = "// word: a count of 32 bits,\n// which rules hold\nreturn Err(OutOfMemory);"
+        self.assertEqual(self.ends(line), 1)
+        self.assertEqual(self.ends(line, "| `low/src/lib.rt` | a count | 32 |"), 0)
+
+
 class Gate(unittest.TestCase):
     CHECKS = (
-        "examples/run", "tools/glossary", "tools/cites", "tools/try", "tools/cross_check", "tools/cross_values",
-        "tools/cross_nets",
+        "examples/run", "tools/glossary", "tools/cites", "tools/memory", "tools/try", "tools/cross_check",
+        "tools/cross_values", "tools/cross_nets",
     )
 
     def gate(self, status, last, statuses):

@@ -69,13 +69,13 @@ class Shown(unittest.TestCase):
     """What README.md and docs/RULES.md show of a command is what it prints."""
 
     def print_of(self, command, folder=TOP):
-        command = re.sub(r"^\./tilecatnip (?=check|simulate|generate|replay|explore|sample)", shlex.quote(program()) + " ", command)
+        command = re.sub(r"^\./tilecatnip (?=check|simulate|generate|replay|explore|sample|stream)", shlex.quote(program()) + " ", command)
         return subprocess.run(["sh", "-c", command], cwd=folder, stdout=subprocess.PIPE, stderr=subprocess.STDOUT, text=True, timeout=60)
 
     def test_README(self):
         tried = 0
         for command, shown in (it for _, text in blocks_of("README.md") for it in commands_of(text)):
-            if re.match(r"(\./tilecatnip (check|simulate|generate|replay|explore|sample)|tools/lint)[^>|&]*$", command):
+            if re.match(r"(\./tilecatnip (check|simulate|generate|replay|explore|sample|stream)|tools/lint)[^>|&]*$", command):
                 self.assertEqual(self.print_of(command).stdout, shown, command)
                 tried += 1
         self.assertGreater(tried, 3)
@@ -115,6 +115,12 @@ class Shown(unittest.TestCase):
                     done = self.print_of(f"./tilecatnip generate {model} mended.plan", room)
                 self.assertEqual(done.returncode, 0, f"{command}, mended: {done.stdout}")
         self.assertEqual(told, {"10", "11", "12", "13"})
+
+    def test_rule_of_streams(self):
+        """The refusal that is shown."""
+        [session] = [text for _, text in blocks_of("docs/RULES.md") if text.startswith("$ ./tilecatnip stream")]
+        [(command, shown)] = commands_of(session)
+        self.assertEqual(self.print_of(command).stdout, shown)
 
 
 class Proved(unittest.TestCase):

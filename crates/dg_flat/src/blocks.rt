@@ -11,8 +11,8 @@ ghost use Rattle.dg_flat.specs.inner.Tables.{IsTable};
 use crate::kinds::copy_kind;
 use crate::paths::path_in;
 use crate::systems::{Systems, is_subsystem};
-use dg_model::{Block, Blocks, Kind, NestedBlock, Part, PeriodSpec};
-use fx_io::{OutOfMemory, Text};
+use dg_model::{Block, Blocks, Kind, NestedBlock, Part, Path, PeriodSpec, SystemPath};
+use fx_io::OutOfMemory;
 use fx_type::{Rounding, TypeSpec};
 use std::alloc::Global;
 
@@ -63,7 +63,7 @@ fn enable_of(places: &[u32], control: Option<u32>) -> Option<u32>
 fn placed(
     alloc: Global,
     block: &Block,
-    path: Text,
+    path: Path,
     resets: bool,
     enable: Option<u32>,
 ) -> Result<Block, OutOfMemory>
@@ -84,7 +84,7 @@ fn placed(
 }
 
 /// The control of an enabled subsystem.
-fn control_block(path: Text) -> Block
+fn control_block(path: Path) -> Block
     ensures { result ≡ control_as path }
 {
     Block {
@@ -106,7 +106,7 @@ fn placed_under(
     blocks: &[NestedBlock],
     places: &[u32],
     block: &Block,
-    path: Text,
+    path: Path,
     control: Option<u32>,
 ) -> Result<Block, OutOfMemory>
     requires places { IsTable (length blocks.now) (flat_place blocks.now) places.now }
@@ -124,7 +124,7 @@ fn flat_block(
     systems: &Systems,
     blocks: &[NestedBlock],
     places: &[u32],
-    paths: &[Text],
+    paths: &[SystemPath],
     block: &NestedBlock,
 ) -> Result<Option<Block>, OutOfMemory>
     requires parents { HaveParents blocks.now }
@@ -162,7 +162,7 @@ pub fn flat_blocks(
     systems: &Systems,
     blocks: &[NestedBlock],
     places: &[u32],
-    paths: &[Text],
+    paths: &[SystemPath],
 ) -> Result<Blocks, OutOfMemory>
     requires parents { HaveParents blocks.now }
     requires systems { AreSystems blocks.now systems.now }

@@ -15,8 +15,8 @@ use crate::enables::first_misplaced;
 use crate::paths::{path_in, system_paths};
 use crate::systems::Systems;
 use crate::wiring::first_unwired;
-use dg_model::{CheckFault, Diagram, Nested, NestedBlock, RuleFault, Shown};
-use fx_io::{OutOfMemory, Text};
+use dg_model::{CheckFault, Diagram, Nested, NestedBlock, RuleFault, Shown, SystemPath};
+use fx_io::OutOfMemory;
 use std::alloc::Global;
 
 /// A rule is broken at a block.
@@ -24,7 +24,7 @@ fn broken(
     alloc: Global,
     rule: u8,
     blocks: &[NestedBlock],
-    paths: &[Text],
+    paths: &[SystemPath],
     place: u32,
 ) -> Result<RuleFault, OutOfMemory>
     requires parents { HaveParents blocks.now }
@@ -33,7 +33,8 @@ fn broken(
     ensures { IfOk result (λ fault. fault ≡ fault_of rule (nested_path blocks.now place) Nothing) }
 {
     let block = &blocks[place as usize];
-    let place = path_in(alloc, paths, block.parent, &block.name)?;
+    let path = path_in(alloc, paths, block.parent, &block.name)?;
+    let place = path.text(alloc)?;
     Ok(RuleFault {
         rule,
         place,

@@ -1,5 +1,6 @@
 use crate::kind::Kind;
-use fx_io::{Sequence, Text};
+use crate::path::Path;
+use fx_io::Sequence;
 use fx_type::{Decimal, Rounding, TypeSpec};
 
 /// A flat block diagram: subsystems are taken apart, and every signal line is one edge from an output
@@ -29,7 +30,7 @@ pub struct Edge {
 #[derive(Debug, Drop)]
 pub struct Block {
     /// The names from the root to the block, joined by `/`; a `/` inside a name is written `//`.
-    pub path: Text,
+    pub path: Path,
     /// What the block does.
     pub kind: Kind,
     /// How many input ports it has.

@@ -9,7 +9,7 @@ ghost use Rattle.dg_rates.specs.inner.Links.{AreSources};
 
 use crate::links::Links;
 use dg_model::{Block, CheckFault, Diagram, Kind, RuleFault, Shown};
-use fx_io::{OutOfMemory, Text};
+use fx_io::OutOfMemory;
 use std::alloc::Global;
 
 /// Whether a block of this kind joins two periods.
@@ -114,7 +114,7 @@ fn periods_fault(
 {
     Ok(RuleFault {
         rule: 8,
-        place: Text::copy(alloc, block.path.bytes())?,
+        place: block.path.text(alloc)?,
         shown: Shown::Periods {
             own: own.unwrap_or(0),
             other: other.unwrap_or(0),

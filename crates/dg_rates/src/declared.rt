@@ -123,7 +123,7 @@ fn declared_fault(alloc: Global, block: &Block) -> Result<RuleFault, OutOfMemory
 {
     Ok(RuleFault {
         rule: 8,
-        place: Text::copy(alloc, block.path.bytes())?,
+        place: block.path.text(alloc)?,
         shown: Shown::Word(Text::copy(alloc, b"declared")?),
     })
 }

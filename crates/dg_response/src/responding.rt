@@ -76,9 +76,11 @@ pub fn respond(
     dg_sim::some_table_solves();
     let samples = rows.count();
     if samples > 1 << 62 {
+        // word: samples are counted in 62 bits
         return Err(OutOfMemory);
     }
     let Some(room) = (samples as usize).checked_mul(outputs) else {
+        // word: the numbers of all samples are counted in 64 bits
         return Err(OutOfMemory);
     };
     let mut sim = Sim::new(alloc, checked)?;

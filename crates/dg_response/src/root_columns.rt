@@ -4,7 +4,7 @@ ghost use Rattle.dg_response.specs.Response.{input_columns, output_columns};
 ghost use Rattle.dg_response.specs.inner.Columns.{column_at};
 
 use dg_model::Checked;
-use dg_sim::{input_blocks, output_blocks};
+use dg_sim::{input_blocks, operations_prepare, output_blocks};
 use fx_io::OutOfMemory;
 use fx_tables::{Column, Columns};
 use std::alloc::Global;
@@ -18,21 +18,19 @@ pub struct RootColumns {
     pub outputs: Columns,
 }
 
-/// The column of each element of a root port. A type that is not valid, as no checked diagram has,
-/// is answered like want of memory.
-fn column(checked: &Checked, block: u32) -> Result<Column, OutOfMemory>
+/// The column of each element of a root port.
+fn column(checked: &Checked, block: u32) -> Column
     requires { block < length checked.now.diagram.blocks }
-    ensures { IfOk result (λ column. column ≡ column_at (attributes_of checked.now.diagram) block) }
+    ensures { result ≡ column_at (attributes_of checked.now.diagram) block }
 {
+    checked.keeps_rules();
+    operations_prepare();
     let kind = checked.result(block);
-    if !kind.is_valid() {
-        return Err(OutOfMemory);
-    }
-    Ok(Column {
+    Column {
         low: kind.lowest(),
         high: kind.highest(),
         period: checked.period(block).unwrap_or(1),
-    })
+    }
 }
 
 /// The columns of elements of these blocks.
@@ -44,8 +42,7 @@ fn columns_of(alloc: Global, checked: &Checked, blocks: &[u32]) -> Result<Column
 {
     let mut columns = Columns::new(alloc);
     for block in blocks {
-        let next = column(checked, *block)?;
-        columns.push(next)?;
+        columns.push(column(checked, *block))?;
     }
     Ok(columns)
 }

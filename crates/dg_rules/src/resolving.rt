@@ -96,8 +96,11 @@ fn look_at_all(
     let blocks = checked.diagram().blocks.as_slice();
     let mut standings = unseen(alloc, pipelines.len())?;
     let mut stages = Sizes::new(alloc);
+    let mut path = Vec::new(alloc);
     for place in 0..blocks.len() {
-        let number = lines.number(blocks[place].path.bytes());
+        path.clear();
+        blocks[place].path.put(&mut path)?;
+        let number = lines.number(&path);
         let may = may_be_pipelined(checked, place);
         let count = look_at(pipelines, number, may, &mut standings);
         stages.push(count)?;

@@ -51,7 +51,8 @@ module _ (diagram : Diagram) (attributes : Attributes) (old grown : Program) (k 
     pub filled_more : IsFilled diagram attributes new (k + 1)
     filled_more = record {
       entries = λ j p at. filled.entries j p (ap (λ (xs : List Place). slice_get xs j) (sym made.grows.places) ∙ at);
-      memories = λ m memory at. let is = made.memories filled.memories m memory at in (is.0, record { block_is = is.1.block_is; room = is.1.room; moves = is.1.moves; from = is.1.from });
+      memories = λ m memory at. let is = made.memories filled.memories m memory at in (is.0, record { block_is = is.1.block_is; room = is.1.room; some = is.1.some; moves = is.1.moves; from = is.1.from });
+      paired = made.grows.paired filled.paired;
       size = ap length cells_are ∙ length-append grown.cells (record { period = period; rule = rule } ∷ []) ∙ ap (λ (xs : List Cell). length xs + 1) made.grows.cells ∙ ap (λ (n : ℕ). n + 1) filled.size;
       cells = λ j p cell at_place at_cell.
           let old_place : slice_get old.places j ≡ Some p = ap (λ (xs : List Place). slice_get xs j) (sym made.grows.places) ∙ at_place in
@@ -83,7 +84,7 @@ module _ (diagram : Diagram) (attributes : Attributes) (program : Program) (outp
     cells = λ k place cell at_place at_cell.
         let is = filled.cells k place cell at_place at_cell in
         cell_is diagram attributes whole k place cell (is.block, is.shown) is.period (same_rule k place cell.rule (rule_is diagram attributes program k place cell is));
-    memories = λ m memory at. let is = filled.memories m memory at in (is.0, record { block_is = is.1.block_is; room = is.1.room; moves = is.1.moves; from = is.1.from });
+    memories = λ m memory at. let is = filled.memories m memory at in (is.0, record { block_is = is.1.block_is; room = is.1.room; some = is.1.some; moves = is.1.moves; from = is.1.from });
     outputs = many;
     shows = λ place e here.
         let root = there_map (λ (e : RootElement). root_at e.number e.block e.element) (root_outputs diagram attributes) place e here in

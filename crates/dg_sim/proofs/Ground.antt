@@ -1,25 +1,18 @@
 -- What the rules of a model give the laws: widths and types that fit, and a rank of each block above those that it reads at once (own). Crates above may cite this file.
 pub use Rattle.dg_sim.specs.Fit.{AreRepeated, FitShape, HasWidths, HasLists, KeepsType}
-use Rattle.std.specs.Prelude.{◌≡◌, ℕ, ◌≤◌, ◌<◌, true, length, map, sum, All, Some, slice_get, ⊤}
-use Rattle.fx_type.specs.declared.kind.FxType.TheVariants.{Logical}
+use Rattle.std.specs.Prelude.{◌≡◌, ℕ, ◌≤◌, ◌<◌, true, Some, slice_get}
 use Rattle.fx_type.specs.FxType.{IsType}
-use Rattle.dg_waves.specs.Rounds.{numbers_from}
 use Rattle.dg_model.specs.declared.diagram.Diagram.{Diagram}
 use Rattle.dg_model.specs.declared.diagram.Block.{Block}
 use Rattle.dg_model.specs.declared.diagram.Edge.{Edge}
-use Rattle.dg_model.specs.declared.kind.Kind.{Kind}
-use Rattle.dg_model.specs.declared.kind.Kind.TheVariants.{Inport, Outport, Constant, Ground, Sum, Gain, Product, Switch, Relational, Logic, Convert, Delay, Mux, Demux, RateTransition, Pass, EnableTest, EnOut, Terminator}
 use Rattle.dg_model.specs.declared.op.Op.{Op}
-use Rattle.dg_model.specs.KindRow.{Shape}
-use Rattle.dg_model.specs.Library.{row_of}
-use Rattle.dg_model.specs.Dimension.{IsRepeated}
 use Rattle.dg_model.specs.Instant.{reads_now, asks_now}
 use Rattle.dg_model.specs.Operation.{Operation, CanPrepare}
 use Rattle.dg_model.specs.Signals.{Attributes, Stimulus, Table}
 use Rattle.dg_model.specs.Equation.{IsOpOf, signs_of}
-use Rattle.dg_model.specs.Solves.{IsStimulus, Solves, AgreeBelow, shown_ports, shown_width}
+use Rattle.dg_model.specs.Solves.{IsStimulus, Solves, AgreeBelow, shown_ports}
 use Rattle.dg_sim.specs.Laws.{EntriesAreInRange}
-use Rattle.dg_model.specs.Wires.{driver_of, width_into, widths_into, type_into, types_into}
+use Rattle.dg_model.specs.Wires.{driver_of, type_into, types_into}
 use Rattle.dg_model.specs.Wired.{IsWired}
 
 -- what makes two tables that solve agree

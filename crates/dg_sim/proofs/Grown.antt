@@ -23,6 +23,7 @@ grows_same program = record {
   cells = refl;
   args = ([], sym (append-nil program.args));
   types = ([], sym (append-nil program.types));
+  paired = λ same. same;
   signs = ([], sym (append-nil program.signs));
   memories = ([], sym (append-nil program.memories));
 }

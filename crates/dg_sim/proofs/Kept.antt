@@ -53,16 +53,17 @@ delay_moves table (Some control) true hit on t e = ap (λ (on : Bool). move_of h
     go false enabled = refl
 
 module _ (diagram : Diagram) (attributes : Attributes) (old new : Program) (place : Place) (b : Block) (block_is : slice_get diagram.blocks place.block ≡ Some b) where
-  pub remembered : (memory : Memory) → memory.place ≡ place → memory.room ≡ kept_count b.kind
+  pub remembered : (memory : Memory) → memory.place ≡ place → memory.room ≡ kept_count b.kind → 1 ≤ memory.room
       → Moves diagram attributes old.places place b memory.period memory.control memory.reset → Reads diagram attributes old.places place.block 1 place.element memory.from
       → new.places ≡ old.places → new.cells ≡ old.cells → new.args ≡ old.args → new.types ≡ old.types → new.signs ≡ old.signs → new.memories ≡ old.memories ++ memory ∷ []
       → (m : ℕ) → m ≡ length old.memories → IsRemembered diagram attributes old new place m
-  remembered memory place_is room moves reads places cells args types signs memories m at = record {
+  remembered memory place_is room some moves reads places cells args types signs memories m at = record {
     grows = record {
       places = places;
       cells = cells;
       args = ([], args ∙ sym (append-nil old.args));
       types = ([], types ∙ sym (append-nil old.types));
+      paired = λ same. ap length types ∙ same ∙ sym (ap length args);
       signs = ([], signs ∙ sym (append-nil old.signs));
       memories = (memory ∷ [], memories);
     };
@@ -76,6 +77,7 @@ module _ (diagram : Diagram) (attributes : Attributes) (old new : Program) (plac
       own = record {
         block_is = ap (λ (p : Place). slice_get diagram.blocks p.block) place_is ∙ block_is;
         room = room;
+        some = some;
         moves = λ table t look agrees.
             moves table t look (subst (λ (places : List Place). Agrees diagram attributes places (length places) look table t) places agrees)
             ∙ ap (λ (p : Place). move_at diagram attributes table p.block b.enable b.kind t) (sym place_is);
@@ -92,6 +94,7 @@ module _ (diagram : Diagram) (attributes : Attributes) (old new : Program) (plac
             record {
               block_is = is.1.block_is;
               room = is.1.room;
+              some = is.1.some;
               moves = λ table t look agrees. is.1.moves table t look (subst (λ (places : List Place). Agrees diagram attributes places (length places) look table t) places agrees);
               from = λ table t look agrees. is.1.from table t look (subst (λ (places : List Place). Agrees diagram attributes places (length places) look table t) places agrees);
             },

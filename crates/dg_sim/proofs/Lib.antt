@@ -17,6 +17,7 @@ mod Kept
 mod Known
 mod Moves
 mod Numbered
+mod Ported
 mod Lines
 mod Laid
 mod ListEntries
@@ -30,6 +31,7 @@ mod Rooted
 mod Serving
 mod Shared
 mod Shown
+mod Sorted
 pub mod Single
 pub mod Sources
 mod Staying

@@ -1,6 +1,6 @@
 -- Where the lines into a block stand: one behind another, by their ports.
-use Rattle.std.proofs.Common.{◌≡◌, ℕ, zero, suc, ◌+◌, ◌-◌, ◌<◌, ◌≤◌, ◌⊎◌, inl, inr, ◌&&◌, ◌==◌, Bool, true, false, true≢false, cond, List, [], ◌∷◌, length, count_by, find, Option, Some, None, slice_get, slice_index_or, MatchOption, if◌then◌else◌, length-set, get_or-set_other, get_or-set_same, ap, sym, ◌∙◌, subst, subst₂, refl, arith}
-use Rattle.std.specs.Prelude.{get_or, slice_set}
+use Rattle.std.proofs.Common.{◌≡◌, ℕ, zero, suc, ◌+◌, ◌-◌, ◌<◌, ◌≤◌, inl, inr, ◌==◌, Bool, true, false, true≢false, List, [], ◌∷◌, length, count_by, Option, Some, None, slice_get, slice_index_or, MatchOption, if◌then◌else◌, length-set, get_or-set_other, get_or-set_same, ap, sym, ◌∙◌, subst, subst₂, refl, arith}
+use Rattle.std.specs.Prelude.{slice_set}
 use Rattle.std.proofs.lemmas.Bool.{and_from, and_parts, cases_lt, eq-eqb, eqb-true}
 use Rattle.std.proofs.lemmas.Option.{none-some, same_Some, slice_get_within, get_or_from_slice_get}
 use Rattle.dg_model.specs.declared.diagram.Diagram.{Diagram}

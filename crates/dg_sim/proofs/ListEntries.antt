@@ -1,7 +1,6 @@
 -- A list parameter has an entry for each element that is shown.
 use Rattle.std.proofs.Common.{◌≡◌, ℕ, ◌<◌, ◌≤◌, ◌⊎◌, Bool, inl, inr, List, [], ◌∷◌, length, All, sym, subst, refl, arith}
 use Rattle.std.proofs.lemmas.List.Elements.{All-head}
-use Rattle.fx_type.specs.declared.kind.FxType.{FxType}
 use Rattle.fx_type.specs.declared.spec.TypeSpec.{TypeSpec}
 use Rattle.fx_type.specs.declared.decimal.Decimal.{Decimal}
 use Rattle.dg_model.specs.declared.diagram.Diagram.{Diagram}

@@ -9,13 +9,13 @@ use Rattle.dg_model.specs.declared.diagram.Block.{Block}
 use Rattle.dg_model.specs.KindRow.{Role}
 use Rattle.dg_model.specs.RootElements.{number_in, is_number, has_number}
 
-abbrev IsIn : {A : Type 0} → A → List A → Type 0
+abbrev pub IsIn : {A : Type 0} → A → List A → Type 0
 IsIn x xs = (k : ℕ) × (slice_get xs k ≡ Some x)
 
-in_later : {A : Type 0} (x y : A) (xs : List A) → IsIn x xs → IsIn x (y ∷ xs)
+pub in_later : {A : Type 0} (x y : A) (xs : List A) → IsIn x xs → IsIn x (y ∷ xs)
 in_later x y xs is = (suc is.0, is.1)
 
-in_filter_map : {A B : Type 0} (h : A → Option B) (x : A) (y : B) (xs : List A) (k : ℕ) → slice_get xs k ≡ Some x → h x ≡ Some y → IsIn y (filter_map h xs)
+pub in_filter_map : {A B : Type 0} (h : A → Option B) (x : A) (y : B) (xs : List A) (k : ℕ) → slice_get xs k ≡ Some x → h x ≡ Some y → IsIn y (filter_map h xs)
 in_filter_map h x y [] k is gives = absurd (none-some x is)
 in_filter_map h x y (z ∷ xs) zero is gives =
     subst (λ o. IsIn y (cons_option o (filter_map h xs))) (sym (ap h (same_Some z x is) ∙ gives)) (0, refl)
@@ -25,7 +25,7 @@ in_filter_map {A} {B} h x y (z ∷ xs) (suc k) is gives = go (h z) (in_filter_ma
   go (Some other) later = in_later y other (filter_map h xs) later
 
 -- two with one number can't stand at two places
-apart : {A : Type 0} (h : A → Option ℕ) (xs : List A) → AllPairs (λ (number other : ℕ). number ≢ other) (filter_map h xs) → (i j : ℕ) (x y : A) (n : ℕ) → i < j → slice_get xs i ≡ Some x → slice_get xs j ≡ Some y →
+pub apart : {A : Type 0} (h : A → Option ℕ) (xs : List A) → AllPairs (λ (number other : ℕ). number ≢ other) (filter_map h xs) → (i j : ℕ) (x y : A) (n : ℕ) → i < j → slice_get xs i ≡ Some x → slice_get xs j ≡ Some y →
     h x ≡ Some n → h y ≡ Some n → ⊥
 apart h [] pairs i j x y n before at_i at_j gives_x gives_y = none-some x at_i
 apart h (z ∷ xs) pairs i zero x y n before at_i at_j gives_x gives_y = absurd (omega (arith, before))

@@ -51,9 +51,12 @@ output_entry diagram attributes are i root at =
     let e = m.0 in
     let is = are.elements_of i e m.1 in
     let shown = shown_some diagram attributes is.0.kind is.0.outputs e.block 1 e.number is.2 in
-    subst (λ (root : Root). IsEntry diagram attributes (place_at root.block 1 root.element)) m.2 (is.0, record {
-      block_is = is.1;
-      port_from = omega arith;
-      port_to = omega (arith, shown.0);
-      element_below = subst (λ (n : ℕ). e.element < n) (sym shown.1) is.3;
-    })
+    subst (λ (root : Root). IsEntry diagram attributes (place_at root.block 1 root.element)) m.2 (
+      is.0,
+      record {
+        block_is = is.1;
+        port_from = omega arith;
+        port_to = omega (arith, shown.0);
+        element_below = subst (λ (n : ℕ). e.element < n) (sym shown.1) is.3;
+      },
+    )

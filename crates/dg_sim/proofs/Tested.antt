@@ -1,5 +1,5 @@
 -- The control of an enabled subsystem asks for some element above 0.
-use Rattle.std.proofs.Common.{◌≡◌, ℕ, ◌<◌, ◌+◌, ◌++◌, ◌||◌, Bool, ℤ, pos, int_lt, List, [], ◌∷◌, ◌⊎◌, inl, inr, length, map, Some, slice_get, ap, sym, ◌∙◌, subst, subst₂, refl, arith, append-nil}
+use Rattle.std.proofs.Common.{◌≡◌, ℕ, ◌<◌, ◌+◌, ◌++◌, ◌||◌, Bool, ℤ, pos, int_lt, List, [], ◌∷◌, ◌⊎◌, inl, inr, length, map, Some, slice_get, ap, sym, ◌∙◌, subst, subst₂, refl, arith, append-nil, length-append}
 use Rattle.std.specs.List.{list_any}
 use Rattle.fx_type.specs.declared.kind.FxType.{FxType}
 use Rattle.dg_waves.specs.Rounds.{numbers_from}
@@ -34,18 +34,19 @@ elements_more diagram attributes places block k numbers number n size below read
 
 pub above_made : (diagram : Diagram) (attributes : Attributes) (old : Program) (k : ℕ) (place : Place) (b : Block) → slice_get diagram.blocks place.block ≡ Some b → b.kind ≡ EnableTest
     → (first width : ℕ) (numbers args : List ℕ) (types more : List FxType) → first ≡ length old.args → width ≡ width_into diagram attributes place.block 1 → length numbers ≡ width → args ≡ old.args ++ numbers
-    → AreElements diagram attributes old.places place.block k numbers → types ≡ old.types ++ more
+    → AreElements diagram attributes old.places place.block k numbers → types ≡ old.types ++ more → length more ≡ width
     → IsMade diagram attributes old (record { places = old.places; cells = old.cells; args = args; types = types; signs = old.signs; memories = old.memories; outputs = old.outputs }) k place (Above first width)
-above_made diagram attributes old k place b block_is kind first width numbers args types more first_is width_is size args_is are types_is = record {
+above_made diagram attributes old k place b block_is kind first width numbers args types more first_is width_is size args_is are types_is more_size = record {
   grows = record {
     places = refl;
     cells = refl;
     args = (numbers, args_is);
     types = (more, types_is);
+    paired = λ same. omega (arith, same, size, more_size, ap length args_is ∙ length-append old.args numbers, ap length types_is ∙ length-append old.types more);
     signs = ([], sym (append-nil old.signs));
     memories = ([], sym (append-nil old.memories));
   };
-  memories = λ are_memories m memory at. let is = are_memories m memory at in (is.0, record { block_is = is.1.block_is; room = is.1.room; moves = is.1.moves; from = is.1.from });
+  memories = λ are_memories m memory at. let is = are_memories m memory at in (is.0, record { block_is = is.1.block_is; room = is.1.room; some = is.1.some; moves = is.1.moves; from = is.1.from });
   made = record {
     within = end_there old.args numbers args first width args_is first_is (sym size);
     serves = λ stimulus table t look kept row v agrees keep row_is hit gives.

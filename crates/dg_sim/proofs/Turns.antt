@@ -1,21 +1,23 @@
 -- What the rule of an entry reads: each input is there, and stands before the entry where it is read in the same sample.
-use Rattle.std.proofs.Common.{◌≡◌, ℕ, ◌<◌, ◌≤◌, inl, inr, List, Option, Some, None, pos, Bool, true, slice_get, ap, sym, ◌∙◌, subst, refl, arith}
+use Rattle.std.proofs.Common.{◌≡◌, ℕ, ◌<◌, ◌≤◌, inr, List, length, Option, Some, None, pos, Bool, true, slice_get, ap, sym, ◌∙◌, subst, refl, arith}
 use Rattle.std.proofs.lemmas.Option.{same_Some}
 use Rattle.fx_type.specs.declared.kind.FxType.TheVariants.{Logical}
 use Rattle.dg_model.specs.declared.diagram.Diagram.{Diagram}
 use Rattle.dg_model.specs.declared.diagram.Block.{Block}
 use Rattle.dg_model.specs.declared.diagram.Edge.{Edge}
 use Rattle.dg_model.specs.declared.kind.Kind.{Kind}
-use Rattle.dg_model.specs.declared.kind.Kind.TheVariants.{Delay, Mux, Demux, RateTransition, EnableTest, EnOut}
+use Rattle.dg_model.specs.declared.kind.Kind.TheVariants.{Inport, Outport, Constant, Ground, Sum, Gain, Product, Switch, Relational, Logic, Convert, Delay, Mux, Demux, RateTransition, Pass, EnableTest, EnOut, Terminator}
+use Rattle.dg_model.specs.declared.kind.Gate.{Gate}
+use Rattle.dg_model.specs.declared.kind.Gate.TheVariants.{And, Or, Nand, Nor, Xor, Nxor, Not}
 use Rattle.dg_model.specs.declared.op.Op.{Op}
-use Rattle.dg_model.specs.Equation.{IsOpOf}
+use Rattle.dg_model.specs.Equation.{IsOpOf, signs_of}
 use Rattle.fx_type.specs.declared.kind.FxType.{FxType}
 use Rattle.fx_type.specs.declared.decimal.Decimal.{Decimal}
 use Rattle.dg_model.specs.Attributes.{attributes_of}
 use Rattle.dg_model.specs.Checked.{IsChecked, CheckedDiagram}
 use Rattle.dg_model.specs.Instant.{reads_now, asks_now}
 use Rattle.dg_model.specs.KindRow.{Shape}
-use Rattle.dg_model.specs.Library.{row_of, HasPorts, IsReadable}
+use Rattle.dg_model.specs.Library.{row_of, HasOperands, HasPorts, IsReadable}
 use Rattle.dg_model.specs.Loop.{LeadsNow}
 use Rattle.dg_model.specs.Signals.{Attributes}
 use Rattle.dg_model.specs.Solves.{IsShown}
@@ -89,6 +91,41 @@ module _ (checked : CheckedDiagram) (starts : Starts) (places : List Place) (k :
   op_kind_now (RateTransition period initial) param control op is = absurd is
   op_kind_now _ param control op is = refl
 
+  -- it has at most 32 inputs, and so many signs
+  gate_few : (operator : Gate) (inputs : ℕ) → HasOperands operator inputs → inputs ≤ 32
+  gate_few And inputs operands = operands.1
+  gate_few Or inputs operands = operands.1
+  gate_few Nand inputs operands = operands.1
+  gate_few Nor inputs operands = operands.1
+  gate_few Xor inputs operands = operands.1
+  gate_few Nxor inputs operands = operands.1
+  gate_few Not inputs operands = omega (arith, operands)
+
+  op_few : (kind : Kind) (param control : FxType) (op : Op) (inputs outputs : ℕ) → IsOpOf kind place.element param control op → HasPorts kind inputs outputs → (row_of kind).parameters → inputs ≤ 32
+  op_few (Inport number width) param control op inputs outputs is ports parameters = absurd is
+  op_few (Outport number) param control op inputs outputs is ports parameters = omega (arith, ports.0)
+  op_few (Constant value) param control op inputs outputs is ports parameters = absurd is
+  op_few Ground param control op inputs outputs is ports parameters = absurd is
+  op_few (Sum negative) param control op inputs outputs is ports parameters = omega (arith, ports.0, parameters.1)
+  op_few (Gain value spec) param control op inputs outputs is ports parameters = omega (arith, ports.0)
+  op_few Product param control op inputs outputs is ports parameters = omega (arith, ports.0)
+  op_few (Switch criterion threshold) param control op inputs outputs is ports parameters = omega (arith, ports.0)
+  op_few (Relational operator) param control op inputs outputs is ports parameters = omega (arith, ports.0)
+  op_few (Logic operator) param control op inputs outputs is ports parameters = gate_few operator inputs ports.0
+  op_few (Convert stored) param control op inputs outputs is ports parameters = omega (arith, ports.0)
+  op_few (Delay length initial reset) param control op inputs outputs is ports parameters = absurd is
+  op_few (Mux sizes) param control op inputs outputs is ports parameters = absurd is
+  op_few (Demux sizes) param control op inputs outputs is ports parameters = absurd is
+  op_few (RateTransition period initial) param control op inputs outputs is ports parameters = absurd is
+  op_few (Pass width) param control op inputs outputs is ports parameters = omega (arith, ports.0)
+  op_few EnableTest param control op inputs outputs is ports parameters = absurd is
+  op_few (EnOut reset initial) param control op inputs outputs is ports parameters = absurd is
+  op_few Terminator param control op inputs outputs is ports parameters = absurd is
+
+  signs_few : (kind : Kind) → (row_of kind).parameters → length (signs_of kind) ≤ 32
+  signs_few (Sum negative) parameters = parameters.1
+  signs_few _ parameters = omega arith
+
   module _ (turn : IsTurn checked starts places k place b) where
     readable : IsChecked checked.diagram → IsReadable b
     readable is = is_readable checked.diagram (attributes_of checked.diagram) is.wired place.block b turn.shown.block_is
@@ -120,3 +157,9 @@ module _ (checked : CheckedDiagram) (starts : Starts) (places : List Place) (k :
 
     pub op_now : (param control : FxType) (op : Op) → IsOpOf b.kind place.element param control op → ReadsNow checked places k place.block
     op_now param control op is_op = turn_now turn b.kind refl (op_kind_now b.kind param control op is_op)
+
+    pub op_inputs : IsChecked checked.diagram → (param control : FxType) (op : Op) → IsOpOf b.kind place.element param control op → b.inputs ≤ 32
+    op_inputs is param control op is_op = op_few b.kind param control op b.inputs b.outputs is_op (readable is).ports (readable is).parameters
+
+    pub op_signs : IsChecked checked.diagram → length (signs_of b.kind) ≤ 32
+    op_signs is = signs_few b.kind (readable is).parameters

@@ -1,5 +1,5 @@
 -- What it means that a program simulates a checked diagram, and that a simulator stands at a sample of a table (own).
-use Rattle.std.specs.Prelude.{◌≡◌, ℕ, suc, ◌<◌, ℤ, List, [], length, Option, Some, None, slice_get}
+use Rattle.std.specs.Prelude.{◌≡◌, ℕ, suc, ◌<◌, ◌≤◌, ℤ, List, [], length, Option, Some, None, slice_get}
 use Rattle.dg_model.specs.declared.diagram.Diagram.{Diagram}
 use Rattle.dg_model.specs.declared.diagram.Block.{Block}
 use Rattle.dg_model.specs.Signals.{Attributes, Stimulus, Table}
@@ -78,6 +78,7 @@ module _ (diagram : Diagram) (attributes : Attributes) where
   pub record IsMemory (program : Program) (memory : Memory) (block : Block) : Type 0 where
     pub block_is : slice_get diagram.blocks memory.place.block ≡ Some block
     pub room : memory.room ≡ kept_count block.kind
+    pub some : 1 ≤ memory.room
     pub moves : (table : Table) (t : ℕ) (look : ℕ → ℤ) → Agrees program.places (length program.places) look table t
         → move_of (is_hit memory.period t) (is_on look memory.control) memory.reset ≡ move_at diagram attributes table memory.place.block block.enable block.kind t
     pub from : (table : Table) (t : ℕ) (look : ℕ → ℤ) → Agrees program.places (length program.places) look table t

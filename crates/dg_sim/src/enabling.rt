@@ -58,7 +58,8 @@ fn put_elements(
     ensures { OnOk result ((numbers : List ℕ) × (length numbers ≡ width)
         × (args.new ≡ args.old ++ numbers)
         × AreElements checked.now.diagram (attributes_of checked.now.diagram) places.now block k
-        numbers × (more : List FxType) × (types.new ≡ types.old ++ more)) }
+        numbers × (more : List FxType) × (types.new ≡ types.old ++ more)
+        × (length more ≡ width)) }
 {
     for element in 0..width {
         put_element(checked, starts, places, k, block, element, args, types)?;
@@ -83,8 +84,8 @@ pub fn above(
 {
     let _name = &block.path;
     let width = width_of_input(checked, starts, place.block, 1);
-    // A rule names arguments in 32 bits: more of them leave the word.
     let Ok(first) = u32::try_from(program.args.as_slice().len()) else {
+        // word: a rule names its arguments in 32 bits
         return Err(OutOfMemory);
     };
     put_elements(

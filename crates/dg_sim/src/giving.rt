@@ -31,14 +31,21 @@ pub fn hits(period: Option<u32>, t: u64) -> bool
     }
 }
 
+/// The value at a place.
+fn value_in(row: &[i128], at: usize) -> i128
+    ensures { result ≡ value_at row.now at }
+{
+    match row.get(at) {
+        Some(value) => *value,
+        None => 0,
+    }
+}
+
 /// The value of a cell.
 pub fn read(row: &[i128], cell: u32) -> i128
     ensures { result ≡ value_at row.now cell }
 {
-    match row.get(cell as usize) {
-        Some(value) => *value,
-        None => 0,
-    }
+    value_in(row, cell as usize)
 }
 
 /// Whether a control is on.
@@ -147,7 +154,7 @@ pub fn give(
     ensures { Gives program.now (value_at row.now) (kept_at pasts.now) numbers.now t rule result }
 {
     match rule {
-        Rule::Input { column } => read(numbers, column),
+        Rule::Input { column } => value_in(numbers, column),
         Rule::Fixed { value } => value,
         Rule::Same { from } => read(row, from),
         Rule::Works { work: one } => work(program, one, prepared, row, inputs),

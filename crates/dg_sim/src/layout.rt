@@ -125,8 +125,8 @@ pub fn lay_out(alloc: Global, checked: &Checked) -> Result<(Starts, Places), Out
         let one = &checked.diagram().blocks.as_slice()[*block as usize];
         put_block(checked, &mut starts, &mut places, one, *block)?;
     }
-    // Rules name entries in 32 bits: more of them leave the word.
     let Ok(_count) = u32::try_from(places.as_slice().len()) else {
+        // word: rules name entries in 32 bits
         return Err(OutOfMemory);
     };
     Ok((starts, places))

@@ -42,12 +42,7 @@ fn control_cell(
 }
 
 /// The cell of the control that enables a block; none outside of enabled subsystems.
-fn control_of(
-    checked: &Checked,
-    starts: &Starts,
-    program: &Program,
-    block: &Block,
-) -> Option<u32>
+fn control_of(checked: &Checked, starts: &Starts, program: &Program, block: &Block) -> Option<u32>
     requires finds { Finds checked.now starts.now program.now.places }
     requires block { (at : ℕ) × (slice_get checked.now.diagram.blocks at ≡ Some block.now) }
     ensures { IsControl checked.now.diagram (attributes_of checked.now.diagram) program.now.places
@@ -76,6 +71,7 @@ fn remember(
     requires read { IsRead checked.now.diagram (attributes_of checked.now.diagram) place.block 1
         place.element }
     requires room { room ≡ kept_count block.now.kind }
+    requires some { 1 ≤ room }
     requires moves { Moves checked.now.diagram (attributes_of checked.now.diagram)
         program.old.places place block.now period control reset }
     ensures { IfOk result (λ m. IsRemembered checked.now.diagram
@@ -90,8 +86,8 @@ fn remember(
         1,
         place.element,
     );
-    // A rule names memories in 32 bits: more of them leave the word.
     let Ok(number) = u32::try_from(program.memories.as_slice().len()) else {
+        // word: a rule names its memory in 32 bits
         return Err(OutOfMemory);
     };
     program.memories.push(Memory {

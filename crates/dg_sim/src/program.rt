@@ -30,7 +30,7 @@ pub struct Work {
 pub enum Rule {
     /// The number of the stimulus in a column.
     Input {
-        column: u32,
+        column: usize,
     },
     /// Always this one.
     Fixed {

@@ -1,14 +1,13 @@
 //! The elements of the root inputs and outputs, in the order in which rows have their numbers.
-ghost use Rattle.std.specs.Prelude.{◌≡◌, ◌≢◌, ◌++◌, ◌≤◌, ℕ, map, filter_map, count_by, is_some, length, position, AllPairs, IfOk, IfSome, OnOk, Some, slice_get};
+ghost use Rattle.std.specs.Prelude.{◌≡◌, ◌++◌, ◌≤◌, ℕ, map, filter_map, count_by, is_some, length, position, IfOk, OnOk, Some, slice_get};
 ghost use Rattle.dg_waves.specs.Rounds.{numbers_from};
 ghost use Rattle.dg_model.specs.Attributes.{attributes_of};
 ghost use Rattle.dg_model.specs.Library.{row_of};
-ghost use Rattle.dg_model.specs.Wired.{root_input, root_output};
+ghost use Rattle.dg_model.specs.Wired.{AreNumbered, root_input, root_output};
 ghost use Rattle.dg_model.specs.RootElements.{number_in, has_number, elements_of_port, root_inputs, root_outputs};
-ghost use Rattle.dg_sim.specs.inner.Roots.{root_at, roots_of, is_root_before};
+ghost use Rattle.dg_sim.specs.inner.Roots.{ArePortsTo, AreSorted, IsNumberOf, IsPortNumber, port_put, root_at, roots_of, is_root_before};
 ghost use Rattle.dg_sim.specs.inner.Finding.{AreLines};
 ghost use Rattle.dg_model.specs.Wires.{width_into};
-ghost use Rattle.dg_model.specs.declared.diagram.Block.{Block};
 
 use crate::reading::{Starts, width_of_input, width_of_output};
 use dg_model::{Block, Checked, Kind};
@@ -121,77 +120,44 @@ fn count_outputs(blocks: &[Block]) -> usize
     count
 }
 
-/// Writes down the block of a port's number, from 1.
-fn put_place(places: &mut [u32], number: u32, block: usize) {
-    let at = number.saturating_sub(1) as usize;
-    if let Ok(block) = u32::try_from(block) {
-        if at < places.len() {
-            places[at] = block;
-        }
-    }
-}
-
-/// The blocks of the root input ports by number, as many as there are. One that is not right finds
-/// nothing.
-fn input_places(alloc: Global, blocks: &[Block], count: u32) -> Result<Vec<u32>, OutOfMemory> {
-    let mut places: Vec<u32> = vec![in alloc; 0; count as usize]?;
-    for (i, block) in blocks.iter().enumerate() {
-        if let Some(number) = input_number(&block.kind) {
-            put_place(places.as_mut_slice(), number, i);
-        }
-    }
-    Ok(places)
-}
-
-/// The blocks of the root output ports by number, as many as there are. One that is not right finds
-/// nothing.
-fn output_places(alloc: Global, blocks: &[Block], count: u32) -> Result<Vec<u32>, OutOfMemory> {
-    let mut places: Vec<u32> = vec![in alloc; 0; count as usize]?;
-    for (i, block) in blocks.iter().enumerate() {
-        if let Some(number) = output_number(&block.kind) {
-            put_place(places.as_mut_slice(), number, i);
-        }
-    }
-    Ok(places)
-}
-
-/// The block that is the root input port of a number.
-fn input_of(blocks: &[Block], places: &[u32], number: u32) -> Option<u32>
-    requires { AllPairs (λ number other. number ≢ other) (filter_map (number_in root_input)
-        blocks.now) }
-    ensures { IfSome result (λ block.
-        (position (has_number root_input number) blocks.now ≡ Some block) × (b : Block)
-        × (slice_get blocks.now block ≡ Some b) × (number_in root_input b ≡ Some number)) }
+/// Writes down the block of a port at its number, from 1.
+fn put_number(ports: &mut Vec<u32>, number: Option<u32>, block: u32)
+    requires { IsNumberOf (length ports.old.items) number }
+    ensures { ports.new.items ≡ port_put ports.old.items number block }
 {
-    let Some(place) = places.get(number.saturating_sub(1) as usize) else {
-        return None;
-    };
-    let Some(block) = blocks.get(*place as usize) else {
-        return None;
-    };
-    let Some(own) = input_number(&block.kind) else {
-        return None;
-    };
-    if own == number { Some(*place) } else { None }
+    if let Some(number) = number {
+        ports[(number - 1) as usize] = block;
+    }
 }
 
-/// The block that is the root output port of a number.
-fn output_of(blocks: &[Block], places: &[u32], number: u32) -> Option<u32>
-    requires { AllPairs (λ number other. number ≢ other) (filter_map (number_in root_output)
-        blocks.now) }
-    ensures { IfSome result (λ block.
-        position (has_number root_output number) blocks.now ≡ Some block) }
+/// The blocks of the root input ports by their numbers, from 1.
+fn input_ports(alloc: Global, blocks: &[Block], count: usize) -> Result<Vec<u32>, OutOfMemory>
+    requires ports { AreNumbered (filter_map (number_in root_input) blocks.now) }
+    requires count { count ≡ length (filter_map (number_in root_input) blocks.now) }
+    requires few { length blocks.now ≤ 20000 }
+    ensures { IfOk result (λ ports.
+        ArePortsTo root_input blocks.now (length blocks.now) ports.items) }
 {
-    let Some(place) = places.get(number.saturating_sub(1) as usize) else {
-        return None;
-    };
-    let Some(block) = blocks.get(*place as usize) else {
-        return None;
-    };
-    let Some(own) = output_number(&block.kind) else {
-        return None;
-    };
-    if own == number { Some(*place) } else { None }
+    let mut ports: Vec<u32> = vec![in alloc; 0; count]?;
+    for (i, block) in blocks.iter().enumerate() {
+        put_number(&mut ports, input_number(&block.kind), i as u32);
+    }
+    Ok(ports)
+}
+
+/// The blocks of the root output ports by their numbers, from 1.
+fn output_ports(alloc: Global, blocks: &[Block], count: usize) -> Result<Vec<u32>, OutOfMemory>
+    requires ports { AreNumbered (filter_map (number_in root_output) blocks.now) }
+    requires count { count ≡ length (filter_map (number_in root_output) blocks.now) }
+    requires few { length blocks.now ≤ 20000 }
+    ensures { IfOk result (λ ports.
+        ArePortsTo root_output blocks.now (length blocks.now) ports.items) }
+{
+    let mut ports: Vec<u32> = vec![in alloc; 0; count]?;
+    for (i, block) in blocks.iter().enumerate() {
+        put_number(&mut ports, output_number(&block.kind), i as u32);
+    }
+    Ok(ports)
 }
 
 /// Puts the elements of a port behind the others.
@@ -213,18 +179,19 @@ fn put_port(roots: &mut Roots, number: u32, block: u32, width: u32) -> Result<()
 fn put_input_port(
     roots: &mut Roots,
     checked: &Checked,
-    places: &[u32],
+    ports: &[u32],
     number: u32,
 ) -> Result<(), OutOfMemory>
+    requires ports { ArePortsTo root_input checked.now.diagram.blocks
+        (length checked.now.diagram.blocks) ports.now }
+    requires number { IsPortNumber root_input checked.now.diagram.blocks number }
     ensures { OnOk result (roots.new ≡ roots.old ++ roots_of (elements_of_port
         (attributes_of checked.now.diagram)
         (λ block. (attributes_of checked.now.diagram).width_at block 1)
         number (position (has_number root_input number) checked.now.diagram.blocks))) }
 {
     checked.keeps_rules();
-    let Some(block) = input_of(checked.diagram().blocks.as_slice(), places, number) else {
-        return Err(OutOfMemory);
-    };
+    let block = ports[(number - 1) as usize];
     let width = width_of_output(checked, block, 1);
     put_port(roots, number, block, width)?;
     Ok(())
@@ -235,19 +202,20 @@ fn put_output_port(
     roots: &mut Roots,
     checked: &Checked,
     starts: &Starts,
-    places: &[u32],
+    ports: &[u32],
     number: u32,
 ) -> Result<(), OutOfMemory>
-    requires { AreLines checked.now.diagram starts.now.lines.items }
+    requires lines { AreLines checked.now.diagram starts.now.lines.items }
+    requires ports { ArePortsTo root_output checked.now.diagram.blocks
+        (length checked.now.diagram.blocks) ports.now }
+    requires number { IsPortNumber root_output checked.now.diagram.blocks number }
     ensures { OnOk result (roots.new ≡ roots.old ++ roots_of (elements_of_port
         (attributes_of checked.now.diagram)
         (λ block. width_into checked.now.diagram (attributes_of checked.now.diagram) block 1)
         number (position (has_number root_output number) checked.now.diagram.blocks))) }
 {
     checked.keeps_rules();
-    let Some(block) = output_of(checked.diagram().blocks.as_slice(), places, number) else {
-        return Err(OutOfMemory);
-    };
+    let block = ports[(number - 1) as usize];
     let width = width_of_input(checked, starts, block, 1);
     put_port(roots, number, block, width)?;
     Ok(())
@@ -260,10 +228,11 @@ pub fn input_roots(alloc: Global, checked: &Checked) -> Result<Roots, OutOfMemor
 {
     let mut roots = Roots::new(alloc);
     checked.keeps_rules();
-    let count = count_inputs(checked.diagram().blocks.as_slice()) as u32;
-    let places = input_places(alloc, checked.diagram().blocks.as_slice(), count)?;
-    for i in 0..count {
-        put_input_port(&mut roots, checked, places.as_slice(), i + 1)?;
+    let blocks = checked.diagram().blocks.as_slice();
+    let count = count_inputs(blocks);
+    let ports = input_ports(alloc, blocks, count)?;
+    for i in 0..count as u32 {
+        put_input_port(&mut roots, checked, ports.as_slice(), i + 1)?;
     }
     Ok(roots)
 }
@@ -276,10 +245,11 @@ pub fn output_roots(alloc: Global, checked: &Checked, starts: &Starts) -> Result
 {
     let mut roots = Roots::new(alloc);
     checked.keeps_rules();
-    let count = count_outputs(checked.diagram().blocks.as_slice()) as u32;
-    let places = output_places(alloc, checked.diagram().blocks.as_slice(), count)?;
-    for i in 0..count {
-        put_output_port(&mut roots, checked, starts, places.as_slice(), i + 1)?;
+    let blocks = checked.diagram().blocks.as_slice();
+    let count = count_outputs(blocks);
+    let ports = output_ports(alloc, blocks, count)?;
+    for i in 0..count as u32 {
+        put_output_port(&mut roots, checked, starts, ports.as_slice(), i + 1)?;
     }
     Ok(roots)
 }
@@ -291,9 +261,11 @@ fn is_before(root: Root, other: Root) -> bool
     root.number < other.number || root.number == other.number && root.element < other.element
 }
 
-/// The place of a root element in a list in order.
-pub fn find_root(roots: &[Root], root: Root) -> Option<u32>
-    ensures { IfSome result (λ j. slice_get roots.now j ≡ Some root) }
+/// The place of a root element in a list in order that has it.
+pub fn find_root(roots: &[Root], root: Root) -> usize
+    requires sorted { AreSorted roots.now }
+    requires there { (place : ℕ) × (slice_get roots.now place ≡ Some root) }
+    ensures { slice_get roots.now result ≡ Some root }
 {
     let mut low: usize = 0;
     let mut high = roots.len();
@@ -305,18 +277,5 @@ pub fn find_root(roots: &[Root], root: Root) -> Option<u32>
             high = middle;
         }
     }
-    root_there(roots, low, root)
-}
-
-/// The place of a root element, where it stands there.
-fn root_there(roots: &[Root], at: usize, root: Root) -> Option<u32>
-    ensures { IfSome result (λ j. slice_get roots.now j ≡ Some root) }
-{
-    let Ok(number) = u32::try_from(at) else {
-        return None;
-    };
-    match roots.get(number as usize) {
-        Some(found) if *found == root => Some(number),
-        _ => None,
-    }
+    low
 }

@@ -1,12 +1,12 @@
 //! The rules of cells, kind by kind.
-ghost use Rattle.std.specs.Prelude.{◌≡◌, ◌<◌, ℕ, Some, length, slice_get, IfSome, IfOk};
+ghost use Rattle.std.specs.Prelude.{◌≡◌, ◌<◌, ℕ, Some, length, slice_get, true, IfOk};
 ghost use Rattle.fx_type.specs.FxType.{IsType};
 ghost use Rattle.fx_type.specs.declared.kind.FxType.{FxType};
 ghost use Rattle.fx_type.specs.declared.decimal.Decimal.{Decimal};
 ghost use Rattle.dg_model.specs.Attributes.{attributes_of};
 ghost use Rattle.dg_model.specs.declared.diagram.Block.{Block};
 ghost use Rattle.dg_model.specs.Equation.{StoresEntry};
-ghost use Rattle.dg_sim.specs.inner.Building.{IsAlways, AreEntries, IsEntry, IsMade};
+ghost use Rattle.dg_sim.specs.inner.Building.{IsAlways, AreEntries, IsEntry, IsMade, is_kept, is_worked};
 ghost use Rattle.dg_sim.specs.inner.Cursors.{AreCursors};
 ghost use Rattle.dg_sim.specs.inner.Finding.{Finds, HasEntry, IsTurn};
 ghost use Rattle.dg_model.specs.Solves.{IsShown};
@@ -90,6 +90,8 @@ fn from_row(
     requires roots { roots.now
         ≡ roots_of (root_inputs checked.now.diagram (attributes_of checked.now.diagram)) }
     requires block { slice_get checked.now.diagram.blocks place.block ≡ Some block.now }
+    requires shown { IsShown checked.now.diagram (attributes_of checked.now.diagram) place.block
+        block.now place.port place.element }
     requires kind { (width : ℕ) × (block.now.kind ≡ Kind.Inport number width) }
     ensures { IfOk result (λ rule. IsMade checked.now.diagram (attributes_of checked.now.diagram)
         program.now program.now k place rule) }
@@ -103,9 +105,7 @@ fn from_row(
         block: place.block,
         element: place.element,
     };
-    let Some(column) = find_root(roots, root) else {
-        return Err(OutOfMemory);
-    };
+    let column = find_root(roots, root);
     Ok(Rule::Input { column })
 }
 
@@ -126,6 +126,7 @@ pub fn rule_of(
     requires entry { IsEntry checked.now.diagram (attributes_of checked.now.diagram) place }
     requires finds { Finds checked.now starts.now program.old.places }
     requires at { slice_get program.old.places k ≡ Some place }
+    requires paired { length program.old.types ≡ length program.old.args }
     requires cursors { AreCursors checked.now.diagram
         (attributes_of checked.now.diagram) cursors.old }
     ensures made { IfOk result (λ rule. IsMade checked.now.diagram
@@ -158,21 +159,21 @@ pub fn rule_of(
             )
         }
         Kind::EnableTest => above(checked, starts, program, k, place, block),
-        Kind::Delay { .. }
-        | Kind::EnOut { .. }
-        | Kind::Sum { .. }
+        Kind::Delay { .. } | Kind::EnOut { .. } => {
+            kept_rule(checked, starts, program, k, place, block)
+        }
+        Kind::Sum { .. }
         | Kind::Gain { .. }
         | Kind::Product
         | Kind::Switch { .. }
         | Kind::Relational { .. }
         | Kind::Logic { .. }
-        | Kind::Convert { .. }
-        | Kind::Terminator => kept_rule(checked, starts, program, k, place, block),
+        | Kind::Convert { .. } => worked(checked, starts, program, k, place, block),
+        Kind::Terminator => unreachable!(),
     }
 }
 
-/// The rule of a block that keeps values from hit to hit, or else of one that works element by
-/// element.
+/// The rule of a block that keeps values from hit to hit.
 fn kept_rule(
     checked: &Checked,
     starts: &Starts,
@@ -183,8 +184,7 @@ fn kept_rule(
 ) -> Result<Rule, OutOfMemory>
     requires block { slice_get checked.now.diagram.blocks place.block ≡ Some block.now }
     requires turn { IsTurn checked.now starts.now program.old.places k place block.now }
-    requires entries { AreEntries checked.now.diagram (attributes_of checked.now.diagram)
-        program.old.places }
+    requires kept { is_kept block.now.kind ≡ true }
     ensures { IfOk result (λ rule. IsMade checked.now.diagram (attributes_of checked.now.diagram)
         program.old program.new k place rule) }
 {
@@ -235,7 +235,7 @@ fn kept_rule(
         | Kind::RateTransition { .. }
         | Kind::Pass { .. }
         | Kind::EnableTest
-        | Kind::Terminator => worked(checked, starts, program, k, place, block),
+        | Kind::Terminator => unreachable!(),
     }
 }
 
@@ -252,11 +252,11 @@ fn worked(
     requires turn { IsTurn checked.now starts.now program.old.places k place block.now }
     requires entries { AreEntries checked.now.diagram (attributes_of checked.now.diagram)
         program.old.places }
+    requires paired { length program.old.types ≡ length program.old.args }
+    requires worked { is_worked block.now.kind ≡ true }
     ensures { IfOk result (λ rule. IsMade checked.now.diagram (attributes_of checked.now.diagram)
         program.old program.new k place rule) }
 {
-    let Some(op) = op_of(checked, starts, place, block) else {
-        return Err(OutOfMemory);
-    };
+    let op = op_of(checked, starts, place, block);
     works(checked, starts, program, k, place, block, op)
 }

@@ -1,5 +1,5 @@
 //! A simulator of a checked diagram.
-ghost use Rattle.std.specs.Prelude.{◌≡◌, ◌<◌, ◌+◌, ◌^◌, ℕ, IfOk, length};
+ghost use Rattle.std.specs.Prelude.{◌≡◌, ◌<◌, ◌≤◌, ◌+◌, ◌^◌, ℕ, All, IfOk, length};
 ghost use Rattle.dg_model.specs.Attributes.{attributes_of};
 ghost use Rattle.dg_model.specs.RootElements.{root_outputs};
 ghost use Rattle.dg_model.specs.Signals.{Stimulus, Table};
@@ -78,13 +78,11 @@ impl Sim {
 
 /// Room for what each memory keeps.
 fn pasts_of(alloc: Global, memories: &[Memory]) -> Result<Vec<Past>, OutOfMemory>
+    requires { All (λ memory. 1 ≤ memory.room) memories.now }
     ensures { IfOk result (λ pasts. AreRooms memories.now pasts.items (length memories.now)) }
 {
     let mut pasts = Vec::new(alloc);
     for memory in memories {
-        if memory.room == 0 {
-            return Err(OutOfMemory);
-        }
         pasts.push(Past::new(alloc, memory.room as usize)?)?;
     }
     Ok(pasts)

@@ -1,11 +1,11 @@
 //! The rules of blocks that work element by element.
-ghost use Rattle.std.specs.Prelude.{◌≡◌, ◌<◌, ◌≤◌, ◌++◌, ◌∷◌, [], ℕ, List, Some, length, slice_get, IfSome, IfOk, OnOk};
+ghost use Rattle.std.specs.Prelude.{◌≡◌, ◌<◌, ◌≤◌, ◌++◌, ◌∷◌, [], ℕ, List, Some, length, slice_get, true, IfOk, OnOk};
 ghost use Rattle.dg_model.specs.Attributes.{attributes_of};
 ghost use Rattle.dg_model.specs.declared.diagram.Block.{Block};
 ghost use Rattle.dg_model.specs.Equation.{IsOpOf, signs_of};
 ghost use Rattle.dg_model.specs.Wires.{type_into, types_into};
 ghost use Rattle.dg_model.specs.Solves.{IsShown};
-ghost use Rattle.dg_sim.specs.inner.Building.{Reads, AreRead, AreEntries, IsMade};
+ghost use Rattle.dg_sim.specs.inner.Building.{Reads, AreRead, AreEntries, IsMade, is_worked};
 ghost use Rattle.dg_sim.specs.inner.Finding.{AreLines, Finds, IsRead, IsTurn, ReadsNow};
 ghost use Rattle.dg_model.specs.declared.kind.Kind.{Kind};
 
@@ -91,48 +91,49 @@ fn put_signs(signs: &mut Flags, negative: &[bool]) -> Result<(), OutOfMemory>
     Ok(())
 }
 
-/// The operation of a block that works element by element; none of another block.
-pub fn op_of(checked: &Checked, starts: &Starts, place: Place, block: &Block) -> Option<Op>
+/// The operation of a block that works element by element.
+pub fn op_of(checked: &Checked, starts: &Starts, place: Place, block: &Block) -> Op
     requires block { slice_get checked.now.diagram.blocks place.block ≡ Some block.now }
     requires lines { AreLines checked.now.diagram starts.now.lines.items }
     requires shown { IsShown checked.now.diagram (attributes_of checked.now.diagram) place.block
         block.now place.port place.element }
-    ensures { IfSome result (λ op. IsOpOf block.now.kind place.element
+    requires worked { is_worked block.now.kind ≡ true }
+    ensures { IsOpOf block.now.kind place.element
         ((attributes_of checked.now.diagram).param_at place.block)
-        (type_into checked.now.diagram (attributes_of checked.now.diagram) place.block 2) op) }
+        (type_into checked.now.diagram (attributes_of checked.now.diagram) place.block 2) result }
 {
     operations_prepare();
     checked.keeps_rules();
     match &block.kind {
-        Kind::Sum { .. } => Some(Op::Sum),
+        Kind::Sum { .. } => Op::Sum,
         Kind::Gain { value, .. } => {
             let param = checked.param(place.block);
             let coefficient = stored(value.as_slice(), place.element, param);
-            Some(Op::Gain { coefficient, param })
+            Op::Gain { coefficient, param }
         }
-        Kind::Product => Some(Op::Product),
+        Kind::Product => Op::Product,
         Kind::Switch {
             criterion,
             threshold,
         } => {
             let control = type_of_input(checked, starts, place.block, 2);
             let threshold = stored(threshold.as_slice(), place.element, control);
-            Some(Op::Switch {
+            Op::Switch {
                 criterion: *criterion,
                 threshold,
-            })
+            }
         }
         Kind::Relational { operator } => {
-            Some(Op::Relational {
+            Op::Relational {
                 operator: *operator,
-            })
+            }
         }
         Kind::Logic { operator } => {
-            Some(Op::Logic {
+            Op::Logic {
                 operator: *operator,
-            })
+            }
         }
-        Kind::Convert { stored: integer } => Some(Op::Convert { stored: *integer }),
+        Kind::Convert { stored: integer } => Op::Convert { stored: *integer },
         Kind::Inport { .. }
         | Kind::Outport { .. }
         | Kind::Constant { .. }
@@ -144,7 +145,7 @@ pub fn op_of(checked: &Checked, starts: &Starts, place: Place, block: &Block) ->
         | Kind::Pass { .. }
         | Kind::EnableTest
         | Kind::EnOut { .. }
-        | Kind::Terminator => None,
+        | Kind::Terminator => unreachable!(),
     }
 }
 
@@ -189,6 +190,7 @@ pub fn works(
     requires turn { IsTurn checked.now starts.now program.old.places k place block.now }
     requires entries { AreEntries checked.now.diagram (attributes_of checked.now.diagram)
         program.old.places }
+    requires paired { length program.old.types ≡ length program.old.args }
     requires op { IsOpOf block.now.kind place.element
         ((attributes_of checked.now.diagram).param_at place.block)
         (type_into checked.now.diagram (attributes_of checked.now.diagram) place.block 2) op }
@@ -198,22 +200,15 @@ pub fn works(
     operations_prepare();
     checked.keeps_rules();
     let negative = negative_of(&block.kind);
-    // A rule names arguments and signs in 32 bits: more of them leave the word.
     let Ok(first) = u32::try_from(program.args.as_slice().len()) else {
+        // word: a rule names its arguments in 32 bits
         return Err(OutOfMemory);
     };
     let Ok(first_sign) = u32::try_from(program.signs.as_slice().len()) else {
+        // word: a rule names its signs in 32 bits
         return Err(OutOfMemory);
     };
-    let Ok(signs) = u32::try_from(negative.len()) else {
-        return Err(OutOfMemory);
-    };
-    if program.types.as_slice().len() != first as usize {
-        return Err(OutOfMemory);
-    }
-    if block.inputs > 32 {
-        return Err(OutOfMemory);
-    }
+    let signs = negative.len() as u32;
     put_inputs(
         checked,
         starts,

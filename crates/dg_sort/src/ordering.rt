@@ -10,7 +10,7 @@ use crate::cycle::cycle_from;
 use crate::rows::rows_of;
 use crate::search::search_all;
 use dg_model::{CheckFault, Diagram, RuleFault, Shown};
-use fx_io::{OutOfMemory, Sizes, Text};
+use fx_io::{OutOfMemory, Sizes};
 use std::alloc::Global;
 
 /// The number of the rule of loops.
@@ -27,7 +27,7 @@ fn loop_fault(
     ensures { IfOk result (λ fault. fault ≡ fault_of 9 (path_of diagram.now first) (Cycle blocks)) }
 {
     let block = &diagram.blocks.as_slice()[first as usize];
-    let place = Text::copy(alloc, block.path.bytes())?;
+    let place = block.path.text(alloc)?;
     Ok(RuleFault {
         rule: RULE,
         place,

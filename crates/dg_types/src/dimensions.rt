@@ -11,7 +11,7 @@ use crate::elements::is_bounded;
 use crate::fitting::keeps;
 use crate::scanning::{Scan, scan_of};
 use dg_model::{CheckFault, Diagram, PortWidths, RuleFault, Shown};
-use fx_io::{OutOfMemory, PortSizes, Text};
+use fx_io::{PortSizes, Text};
 use std::alloc::Global;
 
 /// The row of a block.
@@ -54,14 +54,14 @@ fn first_broken(diagram: &Diagram, scan: &Scan) -> Option<usize>
 }
 
 /// The fault of a path, where the empty one is the whole model.
-fn fault_at(alloc: Global, path: &[u8]) -> Result<RuleFault, OutOfMemory>
-    ensures { IfOk result (λ fault. fault ≡ fault_of 6 path.now Nothing) }
+fn fault_at(place: Text) -> RuleFault
+    ensures { result ≡ fault_of 6 place Nothing }
 {
-    Ok(RuleFault {
+    RuleFault {
         rule: 6,
-        place: Text::copy(alloc, path)?,
+        place,
         shown: Shown::Nothing,
-    })
+    }
 }
 
 /// The widths of the signals of a diagram: those after as many rounds as it has blocks, where in
@@ -82,12 +82,11 @@ pub fn widths(alloc: Global, diagram: &Diagram) -> Result<PortWidths, CheckFault
 {
     let scan = scan_of(alloc, diagram)?;
     if let Some(place) = first_broken(diagram, &scan) {
-        let fault = fault_at(alloc, diagram.blocks.as_slice()[place].path.bytes())?;
-        return Err(CheckFault::Broken(fault));
+        let path = diagram.blocks.as_slice()[place].path.text(alloc)?;
+        return Err(CheckFault::Broken(fault_at(path)));
     }
     if !is_bounded(diagram, scan.widths.as_slice()) {
-        let fault = fault_at(alloc, b"")?;
-        return Err(CheckFault::Broken(fault));
+        return Err(CheckFault::Broken(fault_at(Text::new())));
     }
     let widths = PortWidths::of(alloc, &scan.widths)?;
     Ok(widths)

@@ -13,7 +13,7 @@ ghost use Rattle.dg_types.specs.inner.TypedScan.{IsTyped, keeps_part, word_of as
 use crate::typed_round::{TypeRound, known_types, round_of};
 use crate::typed_rule::{agrees, has_types, is_narrow};
 use crate::typed_step::coefficient_type;
-use dg_model::{CheckFault, Diagram, FxTypes, PortWidths, RuleFault, Shown};
+use dg_model::{CheckFault, Diagram, FxTypes, Path, PortWidths, RuleFault, Shown};
 use fx_io::{OutOfMemory, Text};
 use fx_type::FxType;
 use std::alloc::Global;
@@ -99,12 +99,12 @@ fn first_broken(
 }
 
 /// The fault of a path and a part.
-fn fault_at(alloc: Global, path: &[u8], part: Part) -> Result<RuleFault, OutOfMemory>
+fn fault_at(alloc: Global, path: &Path, part: Part) -> Result<RuleFault, OutOfMemory>
     ensures { IfOk result (λ fault. fault ≡ fault_of 7 path.now (Word (word_of_part part))) }
 {
     Ok(RuleFault {
         rule: 7,
-        place: Text::copy(alloc, path)?,
+        place: path.text(alloc)?,
         shown: Shown::Word(Text::copy(alloc, word_of(part))?),
     })
 }
@@ -129,7 +129,7 @@ fn check(
     let Some(place) = first_broken(part, diagram, round, types) else {
         return Ok(());
     };
-    let fault = fault_at(alloc, diagram.blocks.as_slice()[place].path.bytes(), part)?;
+    let fault = fault_at(alloc, &diagram.blocks.as_slice()[place].path, part)?;
     Err(CheckFault::Broken(fault))
 }
 

@@ -10,7 +10,7 @@ use crate::paths::path_to;
 use crate::pieces::{push, push_named};
 use dg_model::Checked;
 use fx_io::{OutOfMemory, Text};
-use fx_model::push_quoted;
+use fx_model::push_path;
 use hw_latency::block_at;
 use hw_rules::Planned;
 use hw_slots::total;
@@ -28,6 +28,7 @@ pub fn clocks_of(checked: &Checked, planned: &Planned, block: u32) -> Result<u64
     let ready = planned.times.slots.ready.as_slice()[block as usize];
     match lat.checked_mul(u64::from(planned.resolved.cycles)) {
         Some(clocks) => total(clocks, ready),
+        // word: clocks are counted in 64 bits
         None => Err(OutOfMemory),
     }
 }
@@ -40,7 +41,7 @@ fn push_step(text: &mut Vec<u8>, checked: &Checked, block: u32) -> Result<(), Ou
         ≡ text.old.items ++ step_text checked.now.diagram block) }
 {
     push(text, b" ")?;
-    push_quoted(text, block_at(checked, block).path.bytes())
+    push_path(text, &block_at(checked, block).path)
 }
 
 /// Adds those of all blocks on a path.

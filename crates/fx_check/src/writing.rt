@@ -5,10 +5,10 @@ ghost use Rattle.fx_check.specs.CheckText.{IsCheckText, begun_block, block_line,
 
 use crate::outputs::push_outputs;
 use crate::pieces::{push, push_named, push_period, push_type};
-use dg_model::{Block, Checked, Resolved};
+use dg_model::{Block, Checked, Path, Resolved};
 use dg_sim::output_blocks;
 use fx_io::{OutOfMemory, Text};
-use fx_model::push_quoted;
+use fx_model::push_path;
 use hw_latency::block_at;
 use hw_names::port_names;
 use hw_rules::Planned;
@@ -55,7 +55,7 @@ fn push_ports(
 #[tactic(auto, unfolding(crate::specs::CheckText::begun_block))]
 fn push_begun(
     text: &mut Vec<u8>,
-    path: &[u8],
+    path: &Path,
     period: Option<u32>,
     latency: u64,
 ) -> Result<(), OutOfMemory>
@@ -63,7 +63,7 @@ fn push_begun(
         ≡ text.old.items ++ begun_block path.now period latency) }
 {
     push(text, b"block ")?;
-    push_quoted(text, path)?;
+    push_path(text, path)?;
     push_period(text, period)?;
     push_named(text, b" latency ", latency)
 }
@@ -83,7 +83,7 @@ fn push_block(
 {
     let block = block_at(checked, place);
     let latency = planned.times.latencies.lat.as_slice()[place as usize];
-    push_begun(text, block.path.bytes(), checked.period(place), latency)?;
+    push_begun(text, &block.path, checked.period(place), latency)?;
     push_ports(text, checked, place, block)?;
     push(text, b"\n")
 }

@@ -4,7 +4,7 @@ ghost use Rattle.std.specs.Fmt.{decimal, signed_decimal};
 ghost use Rattle.std.specs.List.{flat_map};
 ghost use Rattle.fx_model.specs.RuleLine.{control_byte, cycle_text, period_text, place_text, quoted_byte, quoted_path, rule_line, rule_word, shown_text};
 
-use dg_model::{Block, RuleFault, Shown};
+use dg_model::{Block, Path, RuleFault, Shown};
 use fx_io::{OutOfMemory, Text};
 use itoa::Buffer;
 use std::alloc::Global;
@@ -73,12 +73,20 @@ fn push_signed(line: &mut Vec<u8>, number: i64) -> Result<(), OutOfMemory>
 }
 
 /// Adds a path between quotes, with what would break a line escaped (own).
-pub fn push_quoted(line: &mut Vec<u8>, path: &[u8]) -> Result<(), OutOfMemory>
+fn push_quoted(line: &mut Vec<u8>, path: &[u8]) -> Result<(), OutOfMemory>
     ensures { OnOk result (line.new.items ≡ line.old.items ++ quoted_path path.now) }
 {
     push(line, b"\"")?;
     push_escaped(line, path)?;
     push(line, b"\"")
+}
+
+/// Adds the path of a block in the same way.
+pub fn push_path(line: &mut Vec<u8>, path: &Path) -> Result<(), OutOfMemory>
+    ensures { OnOk result (line.new.items ≡ line.old.items ++ quoted_path path.now) }
+{
+    let path = path.text(*line.allocator())?;
+    push_quoted(line, path.bytes())
 }
 
 /// Adds bytes of a name as they stand between quotes.
@@ -146,18 +154,19 @@ fn push_cycle(line: &mut Vec<u8>, numbers: &[u32], blocks: &[Block]) -> Result<(
 {
     for number in numbers {
         push(line, b" ")?;
-        push_quoted(line, path_of(blocks, *number))?;
+        push_path_of(line, blocks, *number)?;
     }
     Ok(())
 }
 
-/// The path of a block; where there is no such block it is empty.
-fn path_of(blocks: &[Block], number: u32) -> &[u8]
-    ensures { result.now ≡ slice_index_or (map (λ block. block.path) blocks.now) number [] }
+/// Adds the path of a block; where there is no such block it is empty.
+fn push_path_of(line: &mut Vec<u8>, blocks: &[Block], number: u32) -> Result<(), OutOfMemory>
+    ensures { OnOk result (line.new.items ≡ line.old.items
+        ++ quoted_path (slice_index_or (map (λ block. block.path) blocks.now) number [])) }
 {
     match blocks.get(number as usize) {
-        Some(block) => block.path.bytes(),
-        None => b"",
+        Some(block) => push_path(line, &block.path),
+        None => push_quoted(line, b""),
     }
 }
 

@@ -30,6 +30,7 @@ fn answer<T: Threads + Sync, E: Sink>(
 ) -> Result<u8, OutOfMemory> {
     let words = words(rt)?;
     let mut shelf = FileShelf::new(rt);
+    // allocation: the writer's buffer
     let writer = BufWriter::new(rt.alloc(), rt.stdout()).map_err(|_| OutOfMemory)?;
     let mut out = OutSink::new(writer);
     let status = run(

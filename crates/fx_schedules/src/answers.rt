@@ -63,7 +63,7 @@ fn scheduled<W: Write>(alloc: Global, checked: &Checked, plan: &Resolved, out: &
         Ok(latencies) => {
             let by_block = depths(alloc, checked, plan)?;
             let blocks = checked.diagram().blocks.as_slice();
-            list(blocks, &latencies, &by_block, out)?;
+            list(alloc, blocks, &latencies, &by_block, out)?;
             put_schedule(alloc, checked, plan, &latencies, out)
         }
         Err(LatencyFault::Cycle { blocks, total }) => {
@@ -74,6 +74,7 @@ fn scheduled<W: Write>(alloc: Global, checked: &Checked, plan: &Resolved, out: &
 }
 
 fn list<W: Write>(
+    alloc: Global,
     blocks: &[Block],
     latencies: &Latencies,
     depths: &Longs,
@@ -84,7 +85,8 @@ fn list<W: Write>(
     requires depths { length depths.now ≡ length blocks.now }
 {
     for place in 0..blocks.len() {
-        out.write_all(blocks[place].path.bytes())?;
+        let path = blocks[place].path.text(alloc)?;
+        out.write_all(path.bytes())?;
         let lat = latencies.lat.as_slice()[place];
         let depth = depths.as_slice()[place];
         let fed = latencies.fed.as_slice()[place];

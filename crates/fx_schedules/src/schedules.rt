@@ -24,8 +24,8 @@ pub fn put_schedule<W: Write>(
 {
     match slots_of(alloc, checked, latencies, plan) {
         Ok(slots) => {
-            put_operations(checked, plan, &slots, out)?;
-            put_outputs(checked, plan, latencies, &slots, out)?;
+            put_operations(alloc, checked, plan, &slots, out)?;
+            put_outputs(alloc, checked, plan, latencies, &slots, out)?;
             put_size(alloc, checked, plan, latencies, &slots, out)
         }
         Err(BudgetFault::Budget { period, need, have }) => {
@@ -38,6 +38,7 @@ pub fn put_schedule<W: Write>(
 
 /// Tells of each shared operation its slot and its multiplier.
 fn put_operations<W: Write>(
+    alloc: Global,
     checked: &Checked,
     plan: &Resolved,
     slots: &Slots,
@@ -51,7 +52,7 @@ fn put_operations<W: Write>(
     for place in 0..blocks.len() {
         if is_shared(checked, plan, place as u32) {
             let width = own_width(checked, place as u32);
-            number = put_elements(&blocks[place], width, slots, number, out)?;
+            number = put_elements(alloc, &blocks[place], width, slots, number, out)?;
         }
     }
     Ok(())
@@ -60,12 +61,14 @@ fn put_operations<W: Write>(
 /// Tells these of the elements of a block, whose first operation has this number; gives the number
 /// behind them.
 fn put_elements<W: Write>(
+    alloc: Global,
     block: &Block,
     width: u32,
     slots: &Slots,
     first: usize,
     out: &mut W,
 ) -> Result<usize> {
+    let path = block.path.text(alloc)?;
     let mut number = first;
     for element in 0..width {
         let Some(slot) = slots.starts.as_slice().get(number) else {
@@ -74,7 +77,7 @@ fn put_elements<W: Write>(
         let Some(unit) = slots.units.as_slice().get(number) else {
             return Err(anyhow!("an operation has no multiplier"));
         };
-        out.write_all(block.path.bytes())?;
+        out.write_all(path.bytes())?;
         writeln!(out, " element {element} slot {slot} multiplier {unit}")?;
         number += 1;
     }
@@ -83,6 +86,7 @@ fn put_elements<W: Write>(
 
 /// Tells of each root output when it is ready in its period, and the latency that is declared of it.
 fn put_outputs<W: Write>(
+    alloc: Global,
     checked: &Checked,
     plan: &Resolved,
     latencies: &Latencies,
@@ -98,7 +102,8 @@ fn put_outputs<W: Write>(
             let lat = latencies.lat.as_slice()[place];
             let ready = slots.ready.as_slice()[place];
             let declared = declared(lat, plan.cycles, ready)?;
-            out.write_all(blocks[place].path.bytes())?;
+            let path = blocks[place].path.text(alloc)?;
+            out.write_all(path.bytes())?;
             writeln!(out, " ready {ready} declared {declared}")?;
         }
     }

@@ -1,14 +1,19 @@
+pub mod Answering
 pub mod Bits
 pub mod Commands
 mod DelayDiagram
 mod DelayModel
 mod DelayModule
+pub mod Elements
 pub mod Header
 pub mod Lines
 pub mod Loop
 pub mod Names
 mod Outcomes
+pub mod Placing
+mod Periods
 pub mod Planning
+pub mod Ported
 pub mod Replayed
 mod ReplayedDelay
 pub mod Responses
@@ -19,9 +24,13 @@ pub mod Sayings
 mod SimulatedDelay
 pub mod Simulations
 pub mod Spelled
+pub mod Steadied
+pub mod Streams
+pub mod Titled
 pub mod Told
 pub mod Unfetched
-pub mod Unreplayed
-pub mod Verilogs
 mod UnitDelay
+pub mod Unreplayed
+pub mod Unsteady
+pub mod Verilogs
 mod Written

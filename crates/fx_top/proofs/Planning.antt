@@ -12,10 +12,11 @@ use Rattle.fx_top.specs.declared.answer.Answer.{Answer}
 use Rattle.fx_top.specs.Call.{Files, IsUntouched, Stream, file_limit, first_trouble, trouble_or}
 use Rattle.fx_top.specs.Cause.{BreaksSomeRule, HasBadLine}
 use Rattle.fx_top.specs.Caused.{HasCause, HasWritten}
-use Rattle.fx_top.specs.Command.{Command, PlanWord, EmptyPlan, Named, files_of, plan_files, plan_word}
+use Rattle.fx_top.specs.Command.{Command, PlanWord, EmptyPlan, Named, Stream as StreamOf, files_of, plan_files, plan_word}
 use Rattle.fx_top.specs.Output.{IsPlanText}
+use Rattle.fx_top.specs.Streamed.{TellsStreamRule}
 use Rattle.fx_top.specs.inner.Fetching.{IsPlanAnswer}
-use Rattle.fx_top.proofs.Told.{ReadsPlan, untroubled}
+use Rattle.fx_top.proofs.Told.{ReadsPlan, streams, untroubled}
 use Rattle.fx_top.proofs.Unfetched.{cause-unfetched, moved, unwritten}
 
 pub fetched-all : (held : List ℕ → Told) (model bytes : List ℕ) → Fetched (held model) file_limit bytes → All (λ file. (bytes : List ℕ) × Fetched (held file) file_limit bytes) (model ∷ [])
@@ -54,7 +55,15 @@ pub plan-rule : (files : Files) (command : Command) (model : List ℕ) (plan : P
     → TellsRule bytes line ⊎ TellsPlanRule bytes text line → BreaksSomeRule files command line
 plan-rule files command model plan reads bytes text line fetched says (inl told) = inl (record { file = model; is_model = reads.is_model; bytes = bytes; fetched = fetched; told = told })
 plan-rule files command model plan reads bytes text line fetched says (inr told) =
-    inr (record { file = model; is_model = reads.is_model; plan = plan; is_plan = reads.is_plan; bytes = bytes; fetched = fetched; text = text; says = says; told = told })
+    inr (inl (record { file = model; is_model = reads.is_model; plan = plan; is_plan = reads.is_plan; bytes = bytes; fetched = fetched; text = text; says = says; told = told }))
+
+-- a rule of ports too
+pub stream-rule : (files : Files) (model : List ℕ) (plan : PlanWord) (bytes text line : List ℕ) → Fetched (files.held model) file_limit bytes → IsPlanText files.held plan text
+    → TellsRule bytes line ⊎ (TellsPlanRule bytes text line ⊎ TellsStreamRule bytes text line) → BreaksSomeRule files (StreamOf model plan) line
+stream-rule files model plan bytes text line fetched says (inl told) = plan-rule files (StreamOf model plan) model plan (streams model plan) bytes text line fetched says (inl told)
+stream-rule files model plan bytes text line fetched says (inr (inl told)) = plan-rule files (StreamOf model plan) model plan (streams model plan) bytes text line fetched says (inr told)
+stream-rule files model plan bytes text line fetched says (inr (inr told)) =
+    inr (inr (record { model = model; plan = plan; streams = refl; bytes = bytes; fetched = fetched; text = text; says = says; told = told }))
 
 -- no bytes have no bad line
 no-line : (before : List (List ℕ)) (bad : List ℕ) (after : List (List ℕ)) → lines [] ≡ before ++ bad ∷ after → ⊥

@@ -12,43 +12,20 @@ use Rattle.fx_top.specs.declared.answer.Answer.{Answer}
 use Rattle.fx_top.specs.declared.answer.Answer.TheVariants.{Done, OutOfMemory, Usage, CannotRead, CannotWrite, NotMdl, BadTable, BreaksRule, NotVerilog, Broken, TooLong}
 use Rattle.fx_top.specs.Answer.{status_of}
 use Rattle.fx_top.specs.Call.{Files, Stream, Trouble, Absent, Overlong, first_trouble}
-use Rattle.fx_top.specs.Cause.{AreFetched, HasNoTree, HasBrokenRule, HasBrokenPlan, HasBadLine, HasNoVerilog, BreaksCondition}
+use Rattle.fx_top.specs.Cause.{AreFetched, HasNoTree, HasBrokenRule, HasBrokenPlan, HasBrokenPorts, HasBadLine, HasNoVerilog, BreaksCondition}
 use Rattle.fx_top.specs.Caused.{HasCause, HasWritten, IsCarriedOut}
-use Rattle.fx_top.specs.Command.{Asked, Command, PlanWord, Generate, Replay, Simulate, Explore, Check, OfFiles, Sample, asked_of, model_of, verilog_of, plan_of, table_of, first_of, files_of}
+use Rattle.fx_top.specs.Command.{Asked, Command, PlanWord, Generate, Replay, Simulate, Explore, Check, Stream as StreamOf, OfFiles, Sample, asked_of, model_of, verilog_of, plan_of, table_of, first_of, files_of}
 use Rattle.fx_designed.specs.Design.{IsBadPlan, TellsPlanRule}
 use Rattle.fx_model.specs.Model.{IsNoText, IsModelOf, IsBrokenModel, IsWithoutDiagram}
 use Rattle.fx_top.specs.Generated.{IsWithoutDesign}
 use Rattle.fx_top.specs.Outcome.{Yields, Tells, TellsPlan, IfCommand, IsBadFor, IsDue, CanBeDone, IsComplete}
-use Rattle.fx_top.specs.Output.{IsCheckOfFiles, IsOutput, IsVerilogOfFiles}
+use Rattle.fx_top.specs.Output.{IsOutput}
 use Rattle.fx_top.specs.Replayed.{HasFault, IsNoVerilog, IsSoundText, fault_for}
 use Rattle.fx_top.specs.Simulated.{fault_in}
+use Rattle.fx_top.specs.Streamed.{IsWithoutStream}
 use Rattle.fx_top.proofs.Commands.{IsFit, IsGood, accepted-fit, bad-fit, first-model, first-verilog, fit-kept, fit-sound, fit-tree, good-diagram, good-sound, good-tree, model-alone, own-first, plan-good, sound-first, table-good}
-use Rattle.fx_top.proofs.Told.{HasDesign, checks, design-good, design-planned, design-told, fetched-told, generates, lines-kept, no-trouble, none-broken, rules-kept, told-is}
-
--- the design that a written text is of
-verilog-design : {held : List ℕ → Told} {model : List ℕ} {plan : PlanWord} {text : List ℕ} → IsVerilogOfFiles held model plan text → HasDesign held model plan
-verilog-design output = record {
-  model_bytes = output.model_bytes;
-  plan_bytes = output.plan_bytes;
-  model_fetched = output.model_fetched;
-  plan_says = output.plan_says;
-  diagram = output.verilog.diagram;
-  resolved = output.verilog.resolved;
-  timing = output.verilog.timing;
-  design = output.verilog.design;
-}
-
-check-design : {held : List ℕ → Told} {model : List ℕ} {plan : PlanWord} {text : List ℕ} → IsCheckOfFiles held model plan text → HasDesign held model plan
-check-design output = record {
-  model_bytes = output.model_bytes;
-  plan_bytes = output.plan_bytes;
-  model_fetched = output.model_fetched;
-  plan_says = output.plan_says;
-  diagram = output.check.diagram;
-  resolved = output.check.resolved;
-  timing = output.check.timing;
-  design = output.check.design;
-}
+use Rattle.fx_top.proofs.Told.{check-design, checks, design-good, design-planned, design-told, fetched-told, generates, lines-kept, no-trouble, none-broken, rules-kept, stream-design, streams, told-is, verilog-design}
+use Rattle.fx_top.proofs.Unsteady.{designable, ports-good, ports-kept, ports-model, ports-planned, unstreamed}
 
 module _ (files : Files) (out : Stream) (unique : (bytes : List ℕ) (one other : Tree) → Stands bytes one → Stands bytes other → one ≡ other)
     (one_module : (bytes : List ℕ) (one other : Module) → Spells bytes one → Spells bytes other → one ≡ other) where
@@ -66,6 +43,7 @@ module _ (files : Files) (out : Stream) (unique : (bytes : List ℕ) (one other 
   written-good (Explore model range) text bytes output tells =
       (output.1.1.diagram, subst (λ (b : List ℕ). IsModelOf b output.1.1.diagram) (sym (told-is files model bytes output.0 output.1.0 tells)) output.1.1.accepted)
   written-good (Check model plan) text bytes output tells = design-good files model plan (check-design output) bytes tells
+  written-good (StreamOf model plan) text bytes output tells = design-good files model plan (stream-design output) bytes tells
 
   bad-good : (command : Command) (bytes file : List ℕ) (line : ℕ) (cause : TableCause) → Tells files (first_of command) bytes → HasBadLine files command file line cause → IsGood command bytes
   bad-good command bytes file line cause tells why =
@@ -151,6 +129,7 @@ module _ (files : Files) (out : Stream) (unique : (bytes : List ℕ) (one other 
       absurd (cc (e, f))
   written-bad (Explore model range) text bytes stimulus numbers output is tells told bad = bad
   written-bad (Check model plan) text bytes stimulus numbers output is tells told bad = design-planned files model plan (check-design output) bytes tells stimulus numbers is told bad
+  written-bad (StreamOf model plan) text bytes stimulus numbers output is tells told bad = design-planned files model plan (stream-design output) bytes tells stimulus numbers is told bad
 
   -- ---- a plan
 
@@ -163,6 +142,8 @@ module _ (files : Files) (out : Stream) (unique : (bytes : List ℕ) (one other 
   undesigned (Explore model range) own bytes text plan output is tells told refused = absurd (cc is)
   undesigned (Check model word) own bytes text plan output is tells told refused =
       design-told files model word (check-design output) bytes tells text (subst (λ (w : PlanWord). TellsPlan files w text) (sym (cc is)) told) refused
+  undesigned (StreamOf model word) own bytes text plan output is tells told refused =
+      design-told files model word (stream-design output) bytes tells text (subst (λ (w : PlanWord). TellsPlan files w text) (sym (cc is)) told) refused
 
   -- where no line of it is bad, none is told
   plan-lines : (command : Command) (plan : PlanWord) (bytes text : List ℕ) → plan_of command ≡ Some plan → Tells files (first_of command) bytes → TellsPlan files plan text
@@ -174,6 +155,8 @@ module _ (files : Files) (out : Stream) (unique : (bytes : List ℕ) (one other 
   plan-lines (Explore model range) plan bytes text is tells told good = absurd (cc is)
   plan-lines (Check model word) plan bytes text is tells told good =
       lines-kept files (Check model word) model word (checks model word) bytes text tells (subst (λ (w : PlanWord). TellsPlan files w text) (sym (cc is)) told) good
+  plan-lines (StreamOf model word) plan bytes text is tells told good =
+      lines-kept files (StreamOf model word) model word (streams model word) bytes text tells (subst (λ (w : PlanWord). TellsPlan files w text) (sym (cc is)) told) good
 
   -- a text that is no plan breaks no rule
   plan-none : (command : Command) (file bytes numbers : List ℕ) → table_of command ≡ Some file → Tells files file numbers → IsBadFor command bytes numbers → (line : List ℕ) → HasBrokenPlan files command line → ⊥
@@ -182,6 +165,7 @@ module _ (files : Files) (out : Stream) (unique : (bytes : List ℕ) (one other 
   plan-none (Simulate model rows) file bytes numbers is told bad = λ line why. (let e = why.is_plan in absurd (cc e))
   plan-none (Explore model range) file bytes numbers is told bad = λ line why. (let e = why.is_plan in absurd (cc e))
   plan-none (Check model word) file bytes numbers is told bad = none-broken files (Check model word) model word (checks model word) file bytes numbers is told bad
+  plan-none (StreamOf model word) file bytes numbers is told bad = none-broken files (StreamOf model word) model word (streams model word) file bytes numbers is told bad
 
   -- where a command can be done its plan breaks none
   plan-kept : (command : Command) → CanBeDone files command → (line : List ℕ) → HasBrokenPlan files command line → ⊥
@@ -190,6 +174,7 @@ module _ (files : Files) (out : Stream) (unique : (bytes : List ℕ) (one other 
   plan-kept (Simulate model rows) can = λ line why. (let e = why.is_plan in absurd (cc e))
   plan-kept (Explore model range) can = λ line why. (let e = why.is_plan in absurd (cc e))
   plan-kept (Check model word) can = rules-kept files (Check model word) model word (checks model word) can
+  plan-kept (StreamOf model word) can = rules-kept files (StreamOf model word) model word (streams model word) (designable can)
 
   -- ---- a clause on the status, answer by answer
 
@@ -200,18 +185,19 @@ module _ (files : Files) (out : Stream) (unique : (bytes : List ℕ) (one other 
       → ((file : List ℕ) (line : ℕ) → HasNoVerilog files command file line → Yields own (3 ∷ 9 ∷ []) 8)
       → ((file : List ℕ) (fault : VlFault) → BreaksCondition files command file fault → Yields own (3 ∷ 9 ∷ []) 8)
       → ((line : List ℕ) → HasBrokenPlan files command line → Yields own (3 ∷ 9 ∷ []) 7)
+      → ((line : List ℕ) → HasBrokenPorts files command line → Yields own (3 ∷ 9 ∷ []) 7)
       → (answer : Answer) → HasCause files command answer → HasWritten files out command answer → Yields own (3 ∷ 9 ∷ []) (status_of answer)
-  by-answer own command none not_mdl bad rule no_verilog fault plan Done why wrote = absurd (none wrote.text wrote.output)
-  by-answer own command none not_mdl bad rule no_verilog fault plan OutOfMemory why wrote = (1, omega arith, refl)
-  by-answer own command none not_mdl bad rule no_verilog fault plan Usage why wrote = absurd why
-  by-answer own command none not_mdl bad rule no_verilog fault plan (CannotRead file) why wrote = (2, omega arith, refl)
-  by-answer own command none not_mdl bad rule no_verilog fault plan CannotWrite why wrote = absurd (none wrote.text wrote.output)
-  by-answer own command none not_mdl bad rule no_verilog fault plan (NotMdl file line) why wrote = not_mdl file.now line why.1
-  by-answer own command none not_mdl bad rule no_verilog fault plan (BadTable file line cause) why wrote = bad file.now line cause why.1
-  by-answer own command none not_mdl bad rule no_verilog fault plan (BreaksRule line) why wrote = ⊎_elim (rule line) (plan line) why.1
-  by-answer own command none not_mdl bad rule no_verilog fault plan (NotVerilog file line) why wrote = no_verilog file.now line why.1
-  by-answer own command none not_mdl bad rule no_verilog fault plan (Broken file condition) why wrote = fault file.now condition why.1
-  by-answer own command none not_mdl bad rule no_verilog fault plan (TooLong file length) why wrote = (3, omega arith, refl)
+  by-answer own command none not_mdl bad rule no_verilog fault plan ports Done why wrote = absurd (none wrote.text wrote.output)
+  by-answer own command none not_mdl bad rule no_verilog fault plan ports OutOfMemory why wrote = (1, omega arith, refl)
+  by-answer own command none not_mdl bad rule no_verilog fault plan ports Usage why wrote = absurd why
+  by-answer own command none not_mdl bad rule no_verilog fault plan ports (CannotRead file) why wrote = (2, omega arith, refl)
+  by-answer own command none not_mdl bad rule no_verilog fault plan ports CannotWrite why wrote = absurd (none wrote.text wrote.output)
+  by-answer own command none not_mdl bad rule no_verilog fault plan ports (NotMdl file line) why wrote = not_mdl file.now line why.1
+  by-answer own command none not_mdl bad rule no_verilog fault plan ports (BadTable file line cause) why wrote = bad file.now line cause why.1
+  by-answer own command none not_mdl bad rule no_verilog fault plan ports (BreaksRule line) why wrote = ⊎_elim (rule line) (⊎_elim (plan line) (ports line)) why.1
+  by-answer own command none not_mdl bad rule no_verilog fault plan ports (NotVerilog file line) why wrote = no_verilog file.now line why.1
+  by-answer own command none not_mdl bad rule no_verilog fault plan ports (Broken file condition) why wrote = fault file.now condition why.1
+  by-answer own command none not_mdl bad rule no_verilog fault plan ports (TooLong file length) why wrote = (3, omega arith, refl)
 
   module _ (command : Command) where
     read_fault-due : (file : List ℕ) → first_trouble files.held (files_of command) ≡ Some (Absent file) → files.steady → (answer : Answer) → HasCause files command answer → Yields 3 [] (status_of answer)
@@ -255,6 +241,7 @@ module _ (files : Files) (out : Stream) (unique : (bytes : List ℕ) (one other 
         (λ line why. let broken = told-rule command bytes line tells why in absurd (none broken.tree broken.stands))
         (λ file line why. absurd (model-alone command model file is why.is_verilog)) (λ file fault why. absurd (model-alone command model file is why.is_verilog))
         (λ line why. absurd (spoilt (plan_rule-good command bytes line tells why)))
+        (λ line why. absurd (spoilt (ports-good files command line why bytes tells)))
 
     broken_rule-due : (model bytes : List ℕ) → model_of command ≡ Some model → Tells files (first_of command) bytes → IsWithoutDiagram bytes
         → (answer : Answer) → HasCause files command answer → HasWritten files out command answer → Yields 7 (3 ∷ 9 ∷ []) (status_of answer)
@@ -263,6 +250,7 @@ module _ (files : Files) (out : Stream) (unique : (bytes : List ℕ) (one other 
         by-answer 7 command (no-output bytes tells spoilt) (λ file line why. absurd (told-none command bytes file line tells why refused.tree refused.stands)) (no-bad bytes tells spoilt 7)
         (λ line why. own-first 7)
         (λ file line why. absurd (model-alone command model file is why.is_verilog)) (λ file condition why. absurd (model-alone command model file is why.is_verilog))
+        (λ line why. own-first 7)
         (λ line why. own-first 7)
 
     broken_plan-due : (model bytes text : List ℕ) (plan : PlanWord) → model_of command ≡ Some model → plan_of command ≡ Some plan → Tells files (first_of command) bytes → TellsPlan files plan text → IsWithoutDesign bytes text
@@ -274,6 +262,19 @@ module _ (files : Files) (out : Stream) (unique : (bytes : List ℕ) (one other 
         (λ line why. own-first 7)
         (λ file line why. absurd (model-alone command model file is why.is_verilog)) (λ file condition why. absurd (model-alone command model file is why.is_verilog))
         (λ line why. own-first 7)
+        (λ line why. own-first 7)
+
+    broken_ports-due : (model bytes text : List ℕ) (plan : PlanWord) → command ≡ StreamOf model plan → Tells files (first_of command) bytes → TellsPlan files plan text → IsWithoutStream bytes text
+        → (answer : Answer) → HasCause files command answer → HasWritten files out command answer → Yields 7 (3 ∷ 9 ∷ []) (status_of answer)
+    broken_ports-due model bytes text plan same tells told refused =
+        let is = ap model_of same in
+        let fit = accepted-fit command model bytes is refused.accepted in
+        by-answer 7 command (λ own output. unstreamed files command own bytes text model plan same output tells told refused)
+        (λ file line why. absurd (not-none command bytes tells fit file line why)) (λ file line cause why. absurd (plan-lines command plan bytes text (ap plan_of same) tells told refused.good file line cause why))
+        (λ line why. own-first 7)
+        (λ file line why. absurd (model-alone command model file is why.is_verilog)) (λ file condition why. absurd (model-alone command model file is why.is_verilog))
+        (λ line why. own-first 7)
+        (λ line why. own-first 7)
 
     not_verilog-due : (verilog bytes : List ℕ) → verilog_of command ≡ Some verilog → Tells files (first_of command) bytes → IsNoVerilog bytes → (answer : Answer) → HasCause files command answer → HasWritten files out command answer → Yields 8 (3 ∷ 9 ∷ []) (status_of answer)
     not_verilog-due verilog bytes is tells none =
@@ -282,6 +283,7 @@ module _ (files : Files) (out : Stream) (unique : (bytes : List ℕ) (one other 
         (λ line why. absurd (model-alone command why.file verilog why.is_model is))
         (λ file line why. own-first 8) (λ file fault why. own-first 8)
         (λ line why. absurd (model-alone command why.file verilog why.is_model is))
+        (λ line why. absurd (model-alone command why.model verilog (ports-model files command line why) is))
 
     broken-due : (verilog bytes : List ℕ) (condition : Fault) → verilog_of command ≡ Some verilog → Tells files (first_of command) bytes → HasFault bytes condition → (answer : Answer) → HasCause files command answer → HasWritten files out command answer → Yields 8 (3 ∷ 9 ∷ []) (status_of answer)
     broken-due verilog bytes condition is tells has =
@@ -290,6 +292,7 @@ module _ (files : Files) (out : Stream) (unique : (bytes : List ℕ) (one other 
         (λ line why. absurd (model-alone command why.file verilog why.is_model is))
         (λ file line why. own-first 8) (λ file fault why. own-first 8)
         (λ line why. absurd (model-alone command why.file verilog why.is_model is))
+        (λ line why. absurd (model-alone command why.model verilog (ports-model files command line why) is))
 
     bad_table-due : (bytes stimulus numbers : List ℕ) → table_of command ≡ Some stimulus → Tells files (first_of command) bytes → Tells files stimulus numbers → IsBadFor command bytes numbers
         → (answer : Answer) → HasCause files command answer → HasWritten files out command answer → Yields 6 (3 ∷ 9 ∷ []) (status_of answer)
@@ -300,6 +303,7 @@ module _ (files : Files) (out : Stream) (unique : (bytes : List ℕ) (one other 
         (λ at why. absurd (not-rule command bytes tells fit at why))
         (λ file at why. absurd (not-no_verilog command bytes tells fit file at why)) (λ file fault why. absurd (not-fault command bytes tells fit file fault why))
         (λ at why. absurd (plan-none command stimulus bytes numbers is told bad at why))
+        (λ at why. absurd (ports-planned files command at why stimulus bytes numbers is tells told bad))
 
     -- told under the file's own name
     told-model : (model bytes : List ℕ) → model_of command ≡ Some model → Tells files model bytes → Tells files (first_of command) bytes
@@ -315,6 +319,7 @@ module _ (files : Files) (out : Stream) (unique : (bytes : List ℕ) (one other 
       syntax = λ model bytes is tells none. syntax-due model bytes is (told-model model bytes is tells) none answer why wrote;
       broken_rule = λ model bytes is tells refused. broken_rule-due model bytes is (told-model model bytes is tells) refused answer why wrote;
       broken_plan = λ model bytes text plan is of tells told refused. broken_plan-due model bytes text plan is of (told-model model bytes is tells) told refused answer why wrote;
+      broken_ports = λ model bytes text plan same tells told refused. broken_ports-due model bytes text plan same (told-model model bytes (ap model_of same) tells) told refused answer why wrote;
       not_verilog = λ verilog bytes is tells none. not_verilog-due verilog bytes is (told-verilog verilog bytes is tells) none answer why wrote;
       broken = λ verilog bytes condition is tells has. broken-due verilog bytes condition is (told-verilog verilog bytes is tells) has answer why wrote;
       bad_table = λ first stimulus bytes is tells told bad. bad_table-due first stimulus bytes is tells told bad answer why wrote;
@@ -328,6 +333,7 @@ module _ (files : Files) (out : Stream) (unique : (bytes : List ℕ) (one other 
   can-bytes (Simulate model stimulus) can = (can.model_bytes, (can.model_told, can.can.accepted))
   can-bytes (Explore model range) can = (can.0, (can.1.0, can.1.1))
   can-bytes (Check model plan) can = (can.model_bytes, (can.model_told, can.can.accepted))
+  can-bytes (StreamOf model plan) can = (can.model_bytes, (can.model_told, can.can.designed.accepted))
 
   -- the stimulus is good
   stimulus-good : (command : Command) → CanBeDone files command → (file : List ℕ) (line : ℕ) (cause : TableCause) → HasBadLine files command file line cause → ⊥
@@ -352,6 +358,8 @@ module _ (files : Files) (out : Stream) (unique : (bytes : List ℕ) (one other 
   stimulus-good (Explore model range) can file line cause why = why.bad
   stimulus-good (Check model plan) can file line cause why =
       lines-kept files (Check model plan) model plan (checks model plan) can.model_bytes can.plan_bytes can.model_told can.plan_told can.can.good file line cause why
+  stimulus-good (StreamOf model plan) can file line cause why =
+      lines-kept files (StreamOf model plan) model plan (streams model plan) can.model_bytes can.plan_bytes can.model_told can.plan_told can.can.designed.good file line cause why
 
   is-complete : (command : Command) (answer : Answer) → HasCause files command answer → HasWritten files out command answer → IsComplete files out command (status_of answer)
   is-complete command Done why wrote can gives writes = (0, omega arith, refl)
@@ -362,7 +370,7 @@ module _ (files : Files) (out : Stream) (unique : (bytes : List ℕ) (one other 
   is-complete command CannotWrite why wrote can gives writes = absurd (writes wrote.rise)
   is-complete command (NotMdl file line) why wrote can gives writes = let told = can-bytes command can in absurd (not-none command told.0 told.1.0 told.1.1 file.now line why.1)
   is-complete command (BadTable file line cause) why wrote can gives writes = absurd (stimulus-good command can file.now line cause why.1)
-  is-complete command (BreaksRule line) why wrote can gives writes = let told = can-bytes command can in absurd (⊎_elim (not-rule command told.0 told.1.0 told.1.1 line) (plan-kept command can line) why.1)
+  is-complete command (BreaksRule line) why wrote can gives writes = let told = can-bytes command can in absurd (⊎_elim (not-rule command told.0 told.1.0 told.1.1 line) (⊎_elim (plan-kept command can line) (λ ports. ports-kept files command line ports can)) why.1)
   is-complete command (NotVerilog file line) why wrote can gives writes = let told = can-bytes command can in absurd (not-no_verilog command told.0 told.1.0 told.1.1 file.now line why.1)
   is-complete command (Broken file fault) why wrote can gives writes = let told = can-bytes command can in absurd (not-fault command told.0 told.1.0 told.1.1 file.now fault why.1)
   is-complete command (TooLong file length) why wrote can (inl steady) writes = let first = why.first steady.0 in let none = steady.1 in absurd (cc (first, none))

@@ -1,5 +1,5 @@
--- Bytes said in two steps.
-use Rattle.std.proofs.Common.{◌≡◌, ◌<◌, ◌≤◌, ◌+◌, ℕ, zero, suc, codes, List, ◌∷◌, get_or, ◌++◌, length, length-append, take, Option, None, Some, refl, ap, [], append_assoc, append-nil, ◌∙◌, subst, sym, arith}
+-- Bytes said in two steps or more.
+use Rattle.std.proofs.Common.{◌≡◌, ◌<◌, ◌≤◌, ◌+◌, ℕ, zero, suc, codes, List, ◌∷◌, get_or, ◌++◌, length, length-append, take, Option, None, Some, refl, ap, [], append_assoc, append-nil, ◌∙◌, subst, sym, arith, Vec, Global}
 use Rattle.std.proofs.lemmas.List.{take-append-le}
 use Rattle.std.proofs.Math.Seq.{take-append-add}
 use Rattle.fx_io.specs.Sink.{TookProperPrefix, also_took}
@@ -58,3 +58,12 @@ names-split (x ∷ names) zero name below is =
 names-split (x ∷ names) (suc k) name below is =
     let more = names-split names k name (omega (arith, below)) is in
     (more.0, append_assoc (32 ∷ x) (flat_map (λ name. 32 ∷ name) names) (codes "\n") ∙ ap (λ bytes. (32 ∷ x) ++ bytes) more.1 ∙ sym (append_assoc (32 ∷ x) (flat_map (λ name. 32 ∷ name) (take k names)) ((32 ∷ name) ++ more.0)))
+
+-- a part of a text, between those before it and what follows
+pub parts-split : (parts : List (Vec ℕ Global)) (k : ℕ) (part : Vec ℕ Global) → k < length parts → part ≡ get_or parts k part
+    → (rest : List ℕ) × (flat_map (λ part. part.items) parts ≡ flat_map (λ part. part.items) (take k parts) ++ (part.items ++ rest))
+parts-split [] k part below is = absurd (omega (arith, below))
+parts-split (x ∷ parts) zero part below is = (flat_map (λ part. part.items) parts, ap (λ own. own.items ++ flat_map (λ part. part.items) parts) (sym is))
+parts-split (x ∷ parts) (suc k) part below is =
+    let more = parts-split parts k part (omega (arith, below)) is in
+    (more.0, ap (λ bytes. x.items ++ bytes) more.1 ∙ sym (append_assoc x.items (flat_map (λ part. part.items) (take k parts)) (part.items ++ more.0)))

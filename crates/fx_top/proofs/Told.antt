@@ -12,10 +12,10 @@ use Rattle.fx_designed.specs.Design.{IsBadPlan, IsDesignOf, TellsPlanRule}
 use Rattle.fx_model.specs.Model.{IsModelOf}
 use Rattle.fx_top.specs.Call.{Files, Trouble, trouble_or, first_trouble, file_limit}
 use Rattle.fx_top.specs.Cause.{IsFetched, HasBadLine, HasBrokenPlan}
-use Rattle.fx_top.specs.Command.{Command, PlanWord, EmptyPlan, Named, Generate, Check, model_of, plan_of, plan_file, plan_files, table_of, first_of, files_of}
+use Rattle.fx_top.specs.Command.{Command, PlanWord, EmptyPlan, Named, Generate, Check, Stream, model_of, plan_of, plan_file, plan_files, table_of, first_of, files_of}
 use Rattle.fx_top.specs.Generated.{HasNoPlan, IsWithoutDesign}
 use Rattle.fx_top.specs.Outcome.{CanDesign, Tells, TellsPlan}
-use Rattle.fx_top.specs.Output.{IsBadTable, IsPlanText}
+use Rattle.fx_top.specs.Output.{IsBadTable, IsCheckOfFiles, IsPlanText, IsStreamOfFiles, IsVerilogOfFiles}
 
 -- a file that was fetched is in no trouble
 pub untroubled : (file : List ℕ) (told : Told) (bytes : List ℕ) → Fetched told file_limit bytes → (later : Option Trouble) → trouble_or file told later ≡ later
@@ -69,6 +69,17 @@ checks model plan = record {
   only = λ first table line cause bad. bad;
 }
 
+pub streams : (model : List ℕ) (plan : PlanWord) → ReadsPlan (Stream model plan) model plan
+streams model plan = record {
+  is_model = refl;
+  is_plan = refl;
+  is_table = refl;
+  is_first = refl;
+  are_files = refl;
+  bad = λ first table line cause bad. bad;
+  only = λ first table line cause bad. bad;
+}
+
 -- what was fetched of a model and a plan makes a design
 pub record HasDesign (held : List ℕ → Told) (model : List ℕ) (plan : PlanWord) : Type 0 where
   pub model_bytes : List ℕ
@@ -80,6 +91,44 @@ pub record HasDesign (held : List ℕ → Told) (model : List ℕ) (plan : PlanW
   pub timing : Timing
   pub design : IsDesignOf model_bytes plan_bytes diagram resolved timing
 
+-- the design that a written text is of
+pub verilog-design : {held : List ℕ → Told} {model : List ℕ} {plan : PlanWord} {text : List ℕ} → IsVerilogOfFiles held model plan text → HasDesign held model plan
+verilog-design output = record {
+  model_bytes = output.model_bytes;
+  plan_bytes = output.plan_bytes;
+  model_fetched = output.model_fetched;
+  plan_says = output.plan_says;
+  diagram = output.verilog.diagram;
+  resolved = output.verilog.resolved;
+  timing = output.verilog.timing;
+  design = output.verilog.design;
+}
+
+pub check-design : {held : List ℕ → Told} {model : List ℕ} {plan : PlanWord} {text : List ℕ} → IsCheckOfFiles held model plan text → HasDesign held model plan
+check-design output = record {
+  model_bytes = output.model_bytes;
+  plan_bytes = output.plan_bytes;
+  model_fetched = output.model_fetched;
+  plan_says = output.plan_says;
+  diagram = output.check.diagram;
+  resolved = output.check.resolved;
+  timing = output.check.timing;
+  design = output.check.design;
+}
+
+-- the design that a text with valid and ready is of
+pub stream-design : {held : List ℕ → Told} {model : List ℕ} {plan : PlanWord} {text : List ℕ} → IsStreamOfFiles held model plan text → HasDesign held model plan
+stream-design output = record {
+  model_bytes = output.model_bytes;
+  plan_bytes = output.plan_bytes;
+  model_fetched = output.model_fetched;
+  plan_says = output.plan_says;
+  diagram = output.stream.diagram;
+  resolved = output.stream.resolved;
+  timing = output.stream.timing;
+  design = output.stream.design;
+}
+
 module _ (files : Files) where
   pub told-is : (file told bytes : List ℕ) → IsFetched files file bytes → Tells files file told → told ≡ bytes
   told-is file told bytes fetched tells = let same : Some told ≡ Some bytes = fetched.held (Some told) tells in cc same
@@ -89,7 +138,7 @@ module _ (files : Files) where
   fetched-told name file told bytes same fetched tells = told-is file told bytes fetched (subst (λ (n : List ℕ). Tells files n told) same tells)
 
   -- of a plan
-  told-plan : (plan : PlanWord) (told text : List ℕ) → IsPlanText files.held plan text → TellsPlan files plan told → told ≡ text
+  pub told-plan : (plan : PlanWord) (told text : List ℕ) → IsPlanText files.held plan text → TellsPlan files plan told → told ≡ text
   told-plan EmptyPlan told text says tells = tells ∙ sym says
   told-plan (Named file) told text says tells = told-is file told text says tells
 
@@ -114,13 +163,16 @@ module _ (files : Files) where
     design-planned file text is told bad =
         bad.none has.design.plan (subst (λ (own : List ℕ). IsPlan own has.design.plan) (sym (plan-told plan file text has.plan_bytes is has.plan_says told)) has.design.says)
 
-    pub design-told : (text : List ℕ) → TellsPlan files plan text → IsWithoutDesign bytes text → ⊥
-    design-told text told refused =
+    -- it is that of what is told
+    pub design-is : (text : List ℕ) → TellsPlan files plan text → IsDesignOf bytes text has.diagram has.resolved has.timing
+    design-is text told =
         let first = told-is model bytes has.model_bytes has.model_fetched tells in
         let second = told-plan plan text has.plan_bytes has.plan_says told in
-        refused.none has.diagram has.resolved has.timing
-        (subst (λ (b : List ℕ). IsDesignOf b text has.diagram has.resolved has.timing) (sym first)
-        (subst (λ (t : List ℕ). IsDesignOf has.model_bytes t has.diagram has.resolved has.timing) (sym second) has.design))
+        subst (λ (b : List ℕ). IsDesignOf b text has.diagram has.resolved has.timing) (sym first)
+        (subst (λ (t : List ℕ). IsDesignOf has.model_bytes t has.diagram has.resolved has.timing) (sym second) has.design)
+
+    pub design-told : (text : List ℕ) → TellsPlan files plan text → IsWithoutDesign bytes text → ⊥
+    design-told text told refused = refused.none has.diagram has.resolved has.timing (design-is text told)
 
   -- ---- faults of a plan
 

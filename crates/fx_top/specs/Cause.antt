@@ -3,12 +3,13 @@ use Rattle.std.specs.Prelude.{◌≡◌, ℕ, ◌⊎◌, List, Contains, All, So
 use Rattle.fx_io.specs.Shelf.{Fetched, IsOverlong}
 use Rattle.fx_io.specs.Sink.{also_took, TookProperPrefix}
 use Rattle.fx_top.specs.Call.{Files, Stream, Absent, Overlong, first_trouble, file_limit}
-use Rattle.fx_top.specs.Command.{Command, PlanWord, model_of, verilog_of, plan_of, table_of, first_of, files_of}
+use Rattle.fx_top.specs.Command.{Command, PlanWord, Stream as StreamOf, model_of, verilog_of, plan_of, table_of, first_of, files_of}
 use Rattle.fx_designed.specs.Design.{TellsPlanRule}
 use Rattle.fx_model.specs.Model.{IsNotMdl}
 use Rattle.fx_model.specs.RuleLine.{TellsRule}
 use Rattle.fx_top.specs.Output.{IsBadTable, IsOutput, IsPlanText}
 use Rattle.fx_top.specs.Replayed.{IsBroken, IsNotVerilog}
+use Rattle.fx_top.specs.Streamed.{TellsStreamRule}
 use Rattle.fx_tables.specs.declared.table.TableCause.{TableCause}
 use Rattle.vl_check.specs.declared.fault.VlFault.{VlFault}
 
@@ -61,9 +62,20 @@ pub record HasBrokenPlan (files : Files) (command : Command) (line : List ℕ) :
   pub says : IsPlanText files.held plan text
   pub told : TellsPlanRule bytes text line
 
--- a rule of models or of plans is broken, the first of them told by this line
+-- the command is to write with valid and ready, what was fetched of the model and the plan makes a design, and its ports break the rule, which this line tells
+pub record HasBrokenPorts (files : Files) (command : Command) (line : List ℕ) : Type 0 where
+  pub model : List ℕ
+  pub plan : PlanWord
+  pub streams : command ≡ StreamOf model plan
+  pub bytes : List ℕ
+  pub fetched : IsFetched files model bytes
+  pub text : List ℕ
+  pub says : IsPlanText files.held plan text
+  pub told : TellsStreamRule bytes text line
+
+-- a rule of models, of plans or of ports is broken, the first of them told by this line
 abbrev pub BreaksSomeRule : Files → Command → List ℕ → Type 0
-BreaksSomeRule files command line = HasBrokenRule files command line ⊎ HasBrokenPlan files command line
+BreaksSomeRule files command line = HasBrokenRule files command line ⊎ (HasBrokenPlan files command line ⊎ HasBrokenPorts files command line)
 
 -- the file is the stimulus or the plan, and what was fetched of it has its first bad line there, of a stimulus
 -- by the columns that the command has of what was fetched of its first file

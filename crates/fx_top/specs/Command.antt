@@ -8,7 +8,7 @@ pub data PlanWord : Type 0 where
   EmptyPlan : PlanWord
   Named : (file : List ℕ) → PlanWord
 
--- the commands over files: `Generate` of a model and a plan, `Replay` of a Verilog text and a stimulus, `Simulate` of a model and a stimulus, `Explore` of a model and a range of plans, `Check` of a model and a plan
+-- the commands over files: `Generate` of a model and a plan, `Replay` of a Verilog text and a stimulus, `Simulate` of a model and a stimulus, `Explore` of a model and a range of plans, `Check` and `Stream` of a model and a plan
 pub data Command : Type 0 where
   -- writes the Verilog text of a model under a plan
   Generate : (model : List ℕ) → (plan : PlanWord) → Command
@@ -20,6 +20,8 @@ pub data Command : Type 0 where
   Explore : (model : List ℕ) → (range : Range) → Command
   -- writes what is worked out of a model by a plan
   Check : (model : List ℕ) → (plan : PlanWord) → Command
+  -- writes the Verilog text of a model under a plan, with valid and ready on both sides
+  Stream : (model : List ℕ) → (plan : PlanWord) → Command
 
 -- the plan that a word names
 abbrev pub plan_word : List ℕ → PlanWord
@@ -56,7 +58,8 @@ asked_of (verb ∷ first ∷ second ∷ []) =
     else (if bytes_eq verb (codes "replay") then Some (OfFiles (Replay first second))
     else (if bytes_eq verb (codes "simulate") then Some (OfFiles (Simulate first second))
     else (if bytes_eq verb (codes "explore") then explored first (range_of second)
-    else (if bytes_eq verb (codes "check") then Some (OfFiles (Check first (plan_word second))) else None))))
+    else (if bytes_eq verb (codes "check") then Some (OfFiles (Check first (plan_word second)))
+    else (if bytes_eq verb (codes "stream") then Some (OfFiles (Stream first (plan_word second))) else None)))))
 asked_of (verb ∷ number ∷ []) = if bytes_eq verb (codes "sample") then sampled (number_of number) else None
 asked_of words = None
 
@@ -67,6 +70,7 @@ model_of (Replay verilog stimulus) = None
 model_of (Simulate model stimulus) = Some model
 model_of (Explore model range) = Some model
 model_of (Check model plan) = Some model
+model_of (Stream model plan) = Some model
 
 -- the word that names the Verilog text, of a command that reads one
 abbrev pub verilog_of : Command → Option (List ℕ)
@@ -75,6 +79,7 @@ verilog_of (Replay verilog stimulus) = Some verilog
 verilog_of (Simulate model stimulus) = None
 verilog_of (Explore model range) = None
 verilog_of (Check model plan) = None
+verilog_of (Stream model plan) = None
 
 -- the word that names the plan, of a command that reads one
 abbrev pub plan_of : Command → Option PlanWord
@@ -83,6 +88,7 @@ plan_of (Replay verilog stimulus) = None
 plan_of (Simulate model stimulus) = None
 plan_of (Explore model range) = None
 plan_of (Check model plan) = Some plan
+plan_of (Stream model plan) = Some plan
 
 -- the file of a plan, where there is one
 abbrev pub plan_file : PlanWord → Option (List ℕ)
@@ -96,6 +102,7 @@ table_of (Replay verilog stimulus) = Some stimulus
 table_of (Simulate model stimulus) = Some stimulus
 table_of (Explore model range) = None
 table_of (Check model plan) = plan_file plan
+table_of (Stream model plan) = plan_file plan
 
 -- the word that names the file that is fetched first
 abbrev pub first_of : Command → List ℕ
@@ -104,6 +111,7 @@ first_of (Replay verilog stimulus) = verilog
 first_of (Simulate model stimulus) = model
 first_of (Explore model range) = model
 first_of (Check model plan) = model
+first_of (Stream model plan) = model
 
 -- the word of a plan, where it names a file
 abbrev pub plan_files : PlanWord → List (List ℕ)
@@ -117,3 +125,4 @@ files_of (Replay verilog stimulus) = verilog ∷ stimulus ∷ []
 files_of (Simulate model stimulus) = model ∷ stimulus ∷ []
 files_of (Explore model range) = model ∷ []
 files_of (Check model plan) = model ∷ plan_files plan
+files_of (Stream model plan) = model ∷ plan_files plan

@@ -13,5 +13,6 @@ pub mod Output
 pub mod Replayed
 pub mod Sampled
 pub mod Simulated
+pub mod Streamed
 pub mod Summarized
 pub mod inner

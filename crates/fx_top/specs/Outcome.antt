@@ -1,11 +1,12 @@
 -- Which status a command owes, where the shelf tells what it holds (own).
 use Rattle.std.specs.Prelude.{◌≡◌, ℕ, ◌⊎◌, List, [], ◌∷◌, Contains, Some, None}
 use Rattle.fx_top.specs.Call.{Files, Stream, Absent, Overlong, first_trouble}
-use Rattle.fx_top.specs.Command.{Command, PlanWord, EmptyPlan, Named, Generate, Replay, Simulate, Explore, Check, OfFiles, asked_of, model_of, verilog_of, plan_of, table_of, first_of, files_of}
+use Rattle.fx_top.specs.Command.{Command, PlanWord, EmptyPlan, Named, Generate, Replay, Simulate, Explore, Check, Stream as StreamOf, OfFiles, asked_of, model_of, verilog_of, plan_of, table_of, first_of, files_of}
 use Rattle.fx_model.specs.Model.{IsAccepted, IsNoText, IsWithoutDiagram}
 use Rattle.fx_top.specs.Generated.{CanBeDesigned, HasNoPlan, IsWithoutDesign}
 use Rattle.fx_top.specs.Replayed.{CanBeReplayed, HasFault, IsBadStimulus, IsNoVerilog}
 use Rattle.fx_top.specs.Simulated.{CanBeSimulated, IsSpoilt}
+use Rattle.fx_top.specs.Streamed.{CanBeStreamed, IsWithoutStream}
 use Rattle.fx_tables.specs.declared.table.TableCause.{TableCause}
 use Rattle.vl_ast.specs.Conditions.{Fault}
 
@@ -33,6 +34,7 @@ IsBadFor (Replay verilog text) first table = (line : ℕ) × ((cause : TableCaus
 IsBadFor (Simulate model text) first table = IsSpoilt first table
 IsBadFor (Explore model range) first table = ⊥
 IsBadFor (Check model plan) first table = HasNoPlan first table
+IsBadFor (StreamOf model plan) first table = HasNoPlan first table
 
 -- what the files ask of the status
 pub record IsDue (files : Files) (command : Command) (status : ℕ) : Type 0 where
@@ -51,6 +53,9 @@ pub record IsDue (files : Files) (command : Command) (status : ℕ) : Type 0 whe
   -- where those of the plan are told too: 7 where the model keeps the rules, and the plan breaks one on its diagram
   pub broken_plan : (model bytes text : List ℕ) (plan : PlanWord) → model_of command ≡ Some model → plan_of command ≡ Some plan
       → Tells files model bytes → TellsPlan files plan text → IsWithoutDesign bytes text → Yields 7 (3 ∷ 9 ∷ []) status
+  -- 7 too where the command is to write with valid and ready, and they make no design whose ports keep the rule
+  pub broken_ports : (model bytes text : List ℕ) (plan : PlanWord) → command ≡ StreamOf model plan
+      → Tells files model bytes → TellsPlan files plan text → IsWithoutStream bytes text → Yields 7 (3 ∷ 9 ∷ []) status
   -- where the bytes of the Verilog text are told: 8 where they aren't in the subset
   pub not_verilog : (verilog bytes : List ℕ) → verilog_of command ≡ Some verilog → Tells files verilog bytes
       → IsNoVerilog bytes → Yields 8 (3 ∷ 9 ∷ []) status
@@ -69,6 +74,14 @@ pub record CanDesign (files : Files) (model : List ℕ) (plan : PlanWord) : Type
   pub model_told : Tells files model model_bytes
   pub plan_told : TellsPlan files plan plan_bytes
   pub can : CanBeDesigned model_bytes plan_bytes
+
+-- the shelf tells those of which no rule of ports is broken either
+pub record CanStream (files : Files) (model : List ℕ) (plan : PlanWord) : Type 0 where
+  pub model_bytes : List ℕ
+  pub plan_bytes : List ℕ
+  pub model_told : Tells files model model_bytes
+  pub plan_told : TellsPlan files plan plan_bytes
+  pub can : CanBeStreamed model_bytes plan_bytes
 
 -- the shelf tells the bytes of two files, whose module has its columns' numbers in the stimulus
 pub record CanReplay (files : Files) (verilog stimulus : List ℕ) : Type 0 where
@@ -93,6 +106,7 @@ CanBeDone files (Replay verilog stimulus) = CanReplay files verilog stimulus
 CanBeDone files (Simulate model stimulus) = CanSimulate files model stimulus
 CanBeDone files (Explore model range) = (bytes : List ℕ) × (Tells files model bytes × IsAccepted bytes)
 CanBeDone files (Check model plan) = CanDesign files model plan
+CanBeDone files (StreamOf model plan) = CanStream files model plan
 
 -- the shelf is steady and no file is in trouble, or neither of its counts rose
 abbrev pub GivesAll : Files → Command → Type 0

@@ -5,3 +5,5 @@ pub mod Named
 pub mod Responding
 pub mod Sampling
 pub mod Simulating
+pub mod Steady
+pub mod Streaming

@@ -19,6 +19,8 @@ pub enum Command<'a> {
     Explore { model: &'a str, range: Range },
     /// To write what is worked out of a model by a plan, which `-` names where it is the empty one.
     Check { model: &'a str, plan: &'a str },
+    /// To write the Verilog text of a model under a plan, with valid and ready on both sides.
+    Stream { model: &'a str, plan: &'a str },
     /// To write the summary of the sample of this number.
     Sample { number: u32 },
 }
@@ -52,6 +54,10 @@ impl<'a> Command<'a> {
                 }
             }
             [verb, model, plan] if verb.as_str() == "check" => Some(Command::Check {
+                model: model.as_str(),
+                plan: plan.as_str(),
+            }),
+            [verb, model, plan] if verb.as_str() == "stream" => Some(Command::Stream {
                 model: model.as_str(),
                 plan: plan.as_str(),
             }),

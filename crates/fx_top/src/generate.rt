@@ -4,9 +4,10 @@ ghost use Rattle.fx_top.specs.Command.{Generate, plan_word};
 
 use crate::answer::Answer;
 use crate::fetch::{fetch_file, fetch_plan};
+use crate::parts::put_parts;
 use crate::verilog::verilog_of;
 use fx_designed::DesignFault;
-use fx_io::{Shelf, Sink, put_all};
+use fx_io::{Shelf, Sink};
 use std::alloc::Global;
 use std::thread::Threads;
 
@@ -46,7 +47,7 @@ pub fn generate<'a, R: Threads + Sync, S: Shelf, K: Sink>(
         }
         Err(DesignFault::OutOfMemory) => return Answer::OutOfMemory,
     };
-    match put_all(out, verilog.bytes()) {
+    match put_parts(out, verilog.as_slice()) {
         Ok(()) => Answer::Done,
         Err(_) => Answer::CannotWrite,
     }

@@ -12,7 +12,8 @@
 //!
 //! `replay` writes a response that is `IsReplayOf` (`specs/Replayed.antt`) the two texts, and `simulate`
 //! one that is `IsSimulationOf` (`specs/Simulated.antt`). `check` writes a text that is `IsCheckOf`
-//! (`specs/CheckedText.antt`) the model and the plan. `sample` writes one that is `IsSummaryOf`
+//! (`specs/CheckedText.antt`) the model and the plan, and `stream` one that is `IsStreamedOf`
+//! (`specs/Streamed.antt`) these. `sample` writes one that is `IsSummaryOf`
 //! (`specs/Summarized.antt`) a number; `sample_with` does its work by a bench of the caller's, and
 //! `TrueBench` (`specs/Benched.antt`) is that of `run`.
 //!
@@ -28,11 +29,15 @@ mod command;
 mod explore;
 mod fetch;
 mod generate;
+mod parts;
 mod replay;
 mod response;
 mod sample;
 mod simulate;
 mod simulated;
+mod steady;
+mod stream;
+mod streamed;
 mod top;
 mod verilog;
 

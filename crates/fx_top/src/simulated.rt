@@ -1,4 +1,4 @@
-ghost use Rattle.std.specs.Prelude.{◌≡◌, ◌<◌, ◌^◌, ℕ, List, All, IfErr, IfOk, OnErr, OnOk, length, true};
+ghost use Rattle.std.specs.Prelude.{◌≡◌, ◌<◌, ◌^◌, ℕ, List, All, IfErr, IfOk, OnErr, OnOk, length};
 ghost use Rattle.fx_io.specs.Cause.{Rose};
 ghost use Rattle.fx_io.specs.Sink.{TookProperPrefix, also_took};
 ghost use Rattle.fx_tables.specs.Response.{response};
@@ -8,11 +8,12 @@ ghost use Rattle.dg_response.specs.Responded.{HasRoom, lines_of, table_of};
 ghost use Rattle.fx_designed.specs.Refused.{IsRefusedModel};
 ghost use Rattle.fx_top.specs.inner.Simulating.{HasColumns, IsFaultOf, IsReadyFor, IsRespondedTo, IsRowsFault, IsSimulationTo, Refuses, Simulates};
 
-use dg_model::Checked;
+use dg_model::{Checked, root_elements_are_listed};
 use dg_response::{Responded, RootColumns, columns, respond};
 use fx_designed::{ModelRefusal, checked_of};
 use fx_io::{OutOfMemory, PutFault, Sink, Text, put_all};
 use fx_tables::{Column, RowText, Rows, TableCause, TableFault, read_rows};
+use hw_sched::periods_are_above;
 use std::alloc::Global;
 
 /// No table has so many columns.
@@ -61,6 +62,9 @@ fn columns_of(alloc: Global, checked: &Checked) -> Result<RootColumns, OutOfMemo
         (λ columns. All (λ column. 0 < column.period) columns.outputs) }
     ensures few_outputs { IfOk result (λ columns. length columns.outputs < 2 ^ 32) }
 {
+    checked.keeps_rules();
+    root_elements_are_listed();
+    periods_are_above();
     let columns = columns(alloc, checked)?;
     fit(columns.inputs.as_slice())?;
     fit(columns.outputs.as_slice())?;
@@ -163,26 +167,15 @@ pub fn simulation_of(
     simulation_in(alloc, &checked, stimulus)
 }
 
-/// That columns are few enough to be numbered by 32 bits, and that each has a period above 0.
+/// That columns are few enough to be numbered by 32 bits.
 fn fit(columns: &[Column]) -> Result<(), OutOfMemory>
-    ensures periods { OnOk result (All (λ column. 0 < column.period) columns.now) }
-    ensures few { OnOk result (length columns.now < 2 ^ 32) }
+    ensures { OnOk result (length columns.now < 2 ^ 32) }
 {
     if columns.len() >= MOST_COLUMNS {
+        // word: columns are numbered in 32 bits
         return Err(OutOfMemory);
     }
-    if have_periods(columns) {
-        Ok(())
-    } else {
-        Err(OutOfMemory)
-    }
-}
-
-/// Whether each column has a period above 0.
-fn have_periods(columns: &[Column]) -> bool
-    ensures { result ≡ true → All (λ column. 0 < column.period) columns.now }
-{
-    columns.iter().all(|column| column.period > 0)
+    Ok(())
 }
 
 /// The fault of a simulation whose model is refused so.

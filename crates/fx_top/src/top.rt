@@ -16,6 +16,7 @@ use crate::generate::generate;
 use crate::replay::replay;
 use crate::sample::sample;
 use crate::simulate::simulate;
+use crate::stream::stream;
 use fx_io::{Shelf, Sink};
 use std::alloc::Global;
 use std::thread::Threads;
@@ -27,8 +28,10 @@ use std::thread::Threads;
 /// `generate MODEL PLAN` writes the Verilog text of a model under a plan, spelled by workers of `rt`.
 /// `replay VERILOG STIM` writes what the module of a Verilog text of the subset shows under a stimulus.
 /// `explore MODEL RANGE` writes what each plan of a range is worth on a model, found by workers of
-/// `rt`. `sample NUMBER` writes the summary of the sample of this number. The files come from `shelf`,
-/// the text goes to `out`, and each status but 0 puts one line to `err`, whose failure changes nothing.
+/// `rt`. `sample NUMBER` writes the summary of the sample of this number. `stream MODEL PLAN` writes the
+/// Verilog text of a model under a plan in a module with valid and ready on both sides. The files come
+/// from `shelf`, the text goes to `out`, and each status but 0 puts one line to `err`, whose failure
+/// changes nothing.
 pub fn run<R: Threads + Sync, S: Shelf, K: Sink, E: Sink>(
     rt: &R,
     alloc: Global,
@@ -81,6 +84,7 @@ fn carry_out<'a, R: Threads + Sync, S: Shelf, K: Sink>(
         }
         Some(Command::Explore { model, range }) => explore(rt, alloc, model, range, shelf, out),
         Some(Command::Check { model, plan }) => check(alloc, model, plan, shelf, out),
+        Some(Command::Stream { model, plan }) => stream(rt, alloc, model, plan, shelf, out),
         Some(Command::Sample { number }) => { replayed_sample(rt, alloc, number, out) }
     }
 }

@@ -1,10 +1,13 @@
-ghost use Rattle.std.specs.Prelude.{IfErr, IfOk};
+ghost use Rattle.std.specs.Prelude.{IfErr, IfOk, flat_map};
 ghost use Rattle.dg_model.specs.PlanOf.{IsPlanOf};
 ghost use Rattle.fx_designed.specs.Refused.{IsRefusedDesign};
 ghost use Rattle.fx_top.specs.Generated.{IsVerilogOf};
 ghost use Rattle.fx_top.specs.inner.Generating.{IsWrittenOf};
 ghost use Rattle.hw_build.specs.Built.{IsBuiltBy};
-ghost use Rattle.hw_rules.specs.Times.{AreTimes};
+ghost use Rattle.hw_module.specs.Design.{IsModuleOf};
+ghost use Rattle.hw_rules.specs.Times.{AreTimes, timing_in};
+ghost use Rattle.vl_ast.specs.Grammar.{Spells};
+ghost use Rattle.vl_ast.specs.Spelling.{spelling};
 
 use dg_model::{Checked, Resolved};
 use fx_designed::{DesignFault, Designed, designed_of};
@@ -16,9 +19,10 @@ use hw_rules::Times;
 use hw_sched::SizeFault;
 use std::alloc::Global;
 use std::thread::Threads;
+use vl_ast::Module;
 
 /// The netlist of a diagram by a plan with its times.
-fn netlist_of(
+pub fn netlist_of(
     alloc: Global,
     checked: &Checked,
     plan: &Resolved,
@@ -36,6 +40,30 @@ fn netlist_of(
     }
 }
 
+/// The module of a diagram by a plan with its times.
+fn made_of(
+    alloc: Global,
+    checked: &Checked,
+    plan: &Resolved,
+    times: &Times,
+) -> Result<Module, OutOfMemory>
+    requires plan { IsPlanOf checked.now.diagram plan.now }
+    requires times { AreTimes checked.now.diagram plan.now times.now }
+    ensures owed { IfOk result (λ made. IsModuleOf made checked.now.diagram plan.now
+        (timing_in times.now)) }
+    ensures spelled { IfOk result (λ made. Spells (spelling made) made) }
+{
+    let netlist = netlist_of(alloc, checked, plan, times)?;
+    module_of(
+        alloc,
+        checked,
+        plan,
+        &times.latencies,
+        &times.slots,
+        &netlist,
+    )
+}
+
 /// The Verilog text of a diagram by a plan with its times.
 pub fn text_of<R: Threads + Sync>(
     rt: &R,
@@ -49,34 +77,45 @@ pub fn text_of<R: Threads + Sync>(
     ensures { IfOk result (IsWrittenOf checked.now.diagram plan.now times.now) }
 {
     vl_read::unique();
-    let netlist = netlist_of(alloc, checked, plan, times)?;
-    let module = module_of(
-        alloc,
-        checked,
-        plan,
-        &times.latencies,
-        &times.slots,
-        &netlist,
-    )?;
-    vl_write::write(rt, alloc, &module, &OpenGate)
+    let made = made_of(alloc, checked, plan, times)?;
+    vl_write::write(rt, alloc, &made, &OpenGate)
 }
 
-/// The Verilog text of the bytes of a model and of a plan; no bytes are the empty plan.
+/// The same text in parts, to be put one after another.
+fn parts_of<R: Threads + Sync>(
+    rt: &R,
+    alloc: Global,
+    checked: &Checked,
+    plan: &Resolved,
+    times: &Times,
+) -> Result<Vec<Vec<u8>>, OutOfMemory>
+    requires plan { IsPlanOf checked.now.diagram plan.now }
+    requires times { AreTimes checked.now.diagram plan.now times.now }
+    ensures { IfOk result (λ parts. IsWrittenOf checked.now.diagram plan.now times.now
+        (flat_map (λ part. part.items) parts.items)) }
+{
+    vl_read::unique();
+    let made = made_of(alloc, checked, plan, times)?;
+    vl_write::spelled(rt, alloc, &made, &OpenGate)
+}
+
+/// The Verilog text of the bytes of a model and of a plan, in parts; no bytes are the empty plan.
 pub fn verilog_of<R: Threads + Sync>(
     rt: &R,
     alloc: Global,
     model: &[u8],
     plan: &[u8],
-) -> Result<Text, DesignFault>
-    ensures made { IfOk result (IsVerilogOf model.now plan.now) }
+) -> Result<Vec<Vec<u8>>, DesignFault>
+    ensures made { IfOk result (λ parts. IsVerilogOf model.now plan.now
+        (flat_map (λ part. part.items) parts.items)) }
     ensures refused { IfErr result (IsRefusedDesign model.now plan.now) }
 {
     let Designed { checked, planned } = match designed_of(alloc, model, plan) {
         Ok(designed) => designed,
         Err(fault) => return Err(fault),
     };
-    match text_of(rt, alloc, &checked, &planned.resolved, &planned.times) {
-        Ok(text) => Ok(text),
+    match parts_of(rt, alloc, &checked, &planned.resolved, &planned.times) {
+        Ok(parts) => Ok(parts),
         Err(OutOfMemory) => Err(DesignFault::OutOfMemory),
     }
 }

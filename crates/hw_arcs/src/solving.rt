@@ -39,7 +39,7 @@ fn note(rows: &mut Vec<Sizes>, block: u32, number: u32) -> Result<(), OutOfMemor
 /// By block, the numbers of the arcs that lead from it and count.
 fn rows_of(alloc: Global, arcs: &[Arc], count: usize) -> Result<Vec<Sizes>, OutOfMemory>
     requires known { AreKnown arcs.now count }
-    requires few { length arcs.now ≤ 2 ^ 31 }
+    requires few { length arcs.now ≤ 2 ^ 32 }
     ensures { IfOk result (λ rows. AreRows arcs.now count rows.items) }
 {
     let mut rows = empty_rows(alloc, count)?;
@@ -174,7 +174,7 @@ pub fn latencies(
     count: usize,
 ) -> Result<Found, OutOfMemory>
     requires known { AreKnown arcs.now count }
-    requires few { length arcs.now ≤ 2 ^ 31 }
+    requires few { length arcs.now ≤ 2 ^ 32 }
     requires small { count ≤ 20000 }
     requires whole { IsWhole order.now count }
     ensures { IfOk result (IsFound arcs.now count) }

@@ -64,7 +64,7 @@ mod Making
 mod Marking
 mod Marks
 mod Multiplying
-mod Named
+pub mod Named
 pub mod Naming
 mod Nets
 mod Numbering

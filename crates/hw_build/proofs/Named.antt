@@ -1,4 +1,4 @@
--- The names of all ports are such as emission asks for.
+-- The names of all ports are such as emission asks for. Crates above may cite `want_is`.
 use Rattle.std.proofs.Common.{◌≡◌, ◌≢◌, ℕ, zero, suc, ◌^◌, ◌<◌, false, List, [], ◌∷◌, ◌++◌, length, map, take, Contains, Some, ap, sym, ◌∙◌, subst, refl, arith}
 use Rattle.std.specs.Prelude.{slice_get, slice_index_or}
 use Rattle.std.proofs.lemmas.List.{length-map, map-append, take_all}

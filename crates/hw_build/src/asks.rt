@@ -39,6 +39,7 @@ fn ask_later(asks: &mut Asks, want: Want) -> Result<(), OutOfMemory>
         asks.old.wants.items asks.new.wants.items want.feed.hub (Some want)) }
 {
     let Ok(number) = u32::try_from(asks.wants.len()) else {
+        // word: the number of a want, of 32 bits
         return Err(OutOfMemory);
     };
     asks.list.push(Ask {

@@ -119,6 +119,7 @@ fn begins_of(
             begins.push(total)?;
             let width = shown_width(checked, block, one, port + 1);
             let Some(next) = total.checked_add(width) else {
+                // word: how many elements a Demux shows, of 32 bits
                 return Err(OutOfMemory);
             };
             total = next;

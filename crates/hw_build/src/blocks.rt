@@ -210,6 +210,7 @@ pub fn put_blocks<'a>(
     let blocks = setting.design.checked.diagram().blocks.as_slice();
     for block in 0..blocks.len() {
         let Ok(number) = u32::try_from(block) else {
+            // word: the number of a block, of 32 bits
             return Err(OutOfMemory);
         };
         put_block(alloc, net, spots, setting, number, &blocks[block])?;
@@ -224,6 +225,7 @@ fn input_spots(alloc: Global, inputs: usize) -> Result<Spots, OutOfMemory>
     let mut spots = Spots::new(alloc);
     for input in 0..inputs {
         let Ok(number) = u32::try_from(input) else {
+            // word: the number of a root input element, of 32 bits
             return Err(OutOfMemory);
         };
         spots.put(number, number, number)?;

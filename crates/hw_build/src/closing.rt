@@ -33,6 +33,7 @@ pub fn close<'a>(
 {
     periods_are_above();
     let Ok(hub) = u32::try_from(spots.entries.as_slice().len()) else {
+        // word: the number of an element, of 32 bits
         return Err(OutOfMemory);
     };
     let piped = put_pipeline(alloc, net, design, block, element, entry)?;

@@ -104,9 +104,11 @@ fn span_between(first: usize, end: usize) -> Result<Span, OutOfMemory>
     ensures { IfOk result (IsSpan first end) }
 {
     let Ok(start) = u32::try_from(first) else {
+        // word: the number of an ask, of 32 bits
         return Err(OutOfMemory);
     };
     let Ok(count) = u32::try_from(end - first) else {
+        // word: how many asks an end has, of 32 bits
         return Err(OutOfMemory);
     };
     Ok(Span {
@@ -162,6 +164,7 @@ pub fn gather_controls<'a>(
     let count = design.checked.diagram().blocks.as_slice().len();
     for block in 0..count {
         let Ok(number) = u32::try_from(block) else {
+            // word: the number of a block, of 32 bits
             return Err(OutOfMemory);
         };
         let first = asks.list.len();

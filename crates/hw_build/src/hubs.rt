@@ -129,6 +129,7 @@ fn put_port(alloc: Global, net: &mut Netlist, kind: FxType, width: u32) -> Resul
     ensures adds { OnOk result (AddsFresh net.old net.new width kind) }
 {
     let Ok(first) = u32::try_from(net.nets().len()) else {
+        // word: the number of a net, of 32 bits
         return Err(OutOfMemory);
     };
     for element in 0..width {
@@ -200,6 +201,7 @@ fn put_blocks(
 {
     let blocks = checked.diagram().blocks.as_slice();
     let Ok(count) = u32::try_from(blocks.len()) else {
+        // word: how many blocks there are, of 32 bits
         return Err(OutOfMemory);
     };
     let mut firsts = PortSizes::new(alloc);
@@ -225,6 +227,7 @@ fn put_inputs(
 {
     for column in 0..inputs.len() {
         let Ok(number) = u32::try_from(column) else {
+            // word: the number of a root input element, of 32 bits
             return Err(OutOfMemory);
         };
         let kind = checked.result(inputs[column]);

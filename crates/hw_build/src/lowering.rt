@@ -50,12 +50,14 @@ pub fn multiply_behind(net: &Netlist, op: Op) -> Result<Option<u32>, OutOfMemory
         found ≡ number_behind (length net.now.nets) (multiply_of op)) }
 {
     let Ok(first) = u32::try_from(net.nets().len()) else {
+        // word: the number of a net, of 32 bits
         return Err(OutOfMemory);
     };
     match op {
         Op::Product => Ok(Some(first)),
         Op::Gain { .. } => match first.checked_add(1) {
             Some(number) => Ok(Some(number)),
+            // word: the number of a net, of 32 bits
             None => Err(OutOfMemory),
         },
         Op::Sum

@@ -129,6 +129,7 @@ fn from_whole<'a>(
     let checked = setting.design.checked;
     let begin = begins[place.port as usize - 1];
     let Some(element) = begin.checked_add(place.element) else {
+        // word: the number of an element, of 32 bits
         return Err(OutOfMemory);
     };
     let net = setting.operands.at(checked, place.block, 1, element);

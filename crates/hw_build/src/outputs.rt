@@ -81,6 +81,7 @@ pub fn put_outputs<'a>(
     let columns = columns_of(alloc, checked.diagram().blocks.as_slice().len(), outputs)?;
     for column in 0..outputs.len() {
         let Ok(number) = u32::try_from(column) else {
+            // word: the number of a root output element, of 32 bits
             return Err(OutOfMemory);
         };
         let block = outputs[column];

@@ -34,8 +34,8 @@ pub fn port_of(
     ensures { IfOk result (IsPortOf checked.now.diagram names.old names.new block width element
         showing.net showing.latency) }
 {
-    let path = block_at(checked, block).path.bytes();
-    let name = names.port(alloc, path, width, element)?;
+    let path = block_at(checked, block).path.text(alloc)?;
+    let name = names.port(alloc, path.bytes(), width, element)?;
     let period = samples(checked.period(block));
     let Showing { net, latency } = showing;
     Ok(NetPort {
@@ -67,6 +67,7 @@ pub fn put_inputs(
     dg_model::root_elements_are_listed();
     for column in 0..inputs.len() {
         let Ok(number) = u32::try_from(column) else {
+            // word: the number of a root input element, of 32 bits
             return Err(OutOfMemory);
         };
         let block = inputs[column];

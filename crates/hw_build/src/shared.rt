@@ -109,6 +109,7 @@ fn gather_block<'a>(
         return Ok(None);
     }
     let Ok(first) = u32::try_from(operations.len()) else {
+        // word: the number of a shared operation, of 32 bits
         return Err(OutOfMemory);
     };
     let one = block_at(design.checked, block);

@@ -38,6 +38,7 @@ pub fn put_series(
     let counter = net.counter(frame)?;
     let _ = counter;
     let Ok(begin) = u32::try_from(net.nets().len()) else {
+        // word: the number of a net, of 32 bits
         return Err(OutOfMemory);
     };
     let mut last = from;
@@ -80,6 +81,7 @@ pub fn put_enabled_series(
     let counter = net.counter(frame)?;
     let _ = counter;
     let Ok(begin) = u32::try_from(net.nets().len()) else {
+        // word: the number of a net, of 32 bits
         return Err(OutOfMemory);
     };
     let mut last = from;

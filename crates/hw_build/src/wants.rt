@@ -58,6 +58,7 @@ fn class_for(alloc: Global, classes: &mut Classes, feed: Feed) -> Result<u32, Ou
         return Ok(found);
     }
     let Ok(number) = u32::try_from(classes.list.len()) else {
+        // word: the number of a class, of 32 bits
         return Err(OutOfMemory);
     };
     classes.list.push(Class {
@@ -77,6 +78,7 @@ fn seat_for(alloc: Global, classes: &mut Classes, want: Want) -> Result<Seat, Ou
 {
     let class = class_for(alloc, classes, want.feed)?;
     let Ok(place) = u32::try_from(classes.list[class as usize].uses.len()) else {
+        // word: a place in a class, of 32 bits
         return Err(OutOfMemory);
     };
     classes.list[class as usize].uses.push(want.to)?;

@@ -42,10 +42,10 @@ impl From<OutOfMemory> for LatencyFault {
 }
 
 /// The most edges that are numbered.
-const MOST_EDGES: usize = 2_147_483_648;
+const MOST_EDGES: usize = 4_294_967_296;
 
 /// The least latencies that the edges of a checked diagram leave by a plan, or a cycle of edges
-/// that leaves none. Its time is linear in the edges without feedback; more than 2^31 edges are
+/// that leaves none. Its time is linear in the edges without feedback; more than 2^32 edges are
 /// want of memory.
 pub fn latencies_of(
     alloc: Global,
@@ -61,6 +61,7 @@ pub fn latencies_of(
     let fed = fed_of(alloc, checked, plan)?;
     let arcs = arcs_of(alloc, checked, plan, fed.as_slice())?;
     if arcs.len() > MOST_EDGES {
+        // word: the number of an edge, of 32 bits
         return Err(LatencyFault::OutOfMemory);
     }
     match hw_arcs::latencies(alloc, arcs.as_slice(), checked.order(), count)? {

@@ -54,6 +54,7 @@ fn put(plan: &mut Plan, step: Step) -> Result<Operand, OutOfMemory>
     ensures { IfOk result (λ made. IsPut plan.old plan.new step made) }
 {
     let Ok(place) = u32::try_from(plan.as_slice().len()) else {
+        // word: the place of a step, of 32 bits
         return Err(OutOfMemory);
     };
     let word = step.word;

@@ -15,6 +15,7 @@ pub fn columns_of(alloc: Global, count: usize, inputs: &[u32]) -> Result<Vec<u32
     while left > 0 {
         left -= 1;
         let Ok(number) = u32::try_from(left) else {
+            // word: a place in the list, of 32 bits
             return Err(OutOfMemory);
         };
         columns[inputs[left] as usize] = number;

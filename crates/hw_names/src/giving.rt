@@ -50,13 +50,14 @@ fn put_names(
     let firsts = columns.as_slice();
     for column in 0..blocks.len() {
         let Ok(number) = u32::try_from(column) else {
+            // word: the place of a root element, of 32 bits
             return Err(OutOfMemory);
         };
         let block = blocks[column];
         let element = number - firsts[block as usize];
         let width = width_of(checked, side, block);
-        let path = block_at(checked, block).path.bytes();
-        let name: Text = names.port(alloc, path, width, element)?;
+        let path = block_at(checked, block).path.text(alloc)?;
+        let name: Text = names.port(alloc, path.bytes(), width, element)?;
         texts.push(name)?;
     }
     Ok(())

@@ -173,6 +173,7 @@ impl Names {
                 return Ok(number);
             }
         }
+        // word: the number behind a name, and one more, of 32 bits
         Err(OutOfMemory)
     }
 

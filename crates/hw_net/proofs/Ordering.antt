@@ -1,8 +1,11 @@
 -- An order that grows by one net.
-use Rattle.std.proofs.Common.{◌≡◌, ◌≢◌, ℕ, zero, suc, ◌+◌, ◌<◌, ◌≤◌, ◌⊎◌, inl, inr, List, [], ◌∷◌, ◌++◌, length, Option, None, Some, IsSome, is_some, true, false, slice_get, slice_index, slice_index_or, get_or, set, All, ap, sym, ◌∙◌, subst, arith, refl, length-append, length-set}
-use Rattle.std.proofs.lemmas.Bool.{cases_lt, cases_eq}
+use Rattle.std.proofs.Common.{map, eqb, ◌≡◌, ◌≢◌, ℕ, zero, suc, ◌+◌, ◌<◌, ◌≤◌, ◌⊎◌, inl, inr, List, [], ◌∷◌, ◌++◌, length, Option, None, Some, IsSome, is_some, true, false, slice_get, slice_index, slice_index_or, get_or, set, All, ap, sym, ◌∙◌, subst, arith, refl, length-append, length-set}
+use Rattle.std.specs.List.{list_any}
+use Rattle.std.proofs.lemmas.Bool.{cases_lt, cases_eq, eq-eqb}
 use Rattle.std.proofs.lemmas.List.Elements.{All-cons, All-tail}
-use Rattle.std.proofs.lemmas.List.{get_or-set_same, get_or-set_other, get_or_append_left, get_or_default}
+use Rattle.std.proofs.lemmas.List.{get_or-set_same, get_or-set_other, get_or_append_left, get_or_default, get_or-map, length-map}
+use Rattle.std.proofs.lemmas.List.Folds.{list_any_at}
+use Rattle.std.proofs.lemmas.Map.Steps.{le-length_from_below}
 use Rattle.std.proofs.Math.Seq.{get_or-append_seam}
 use Rattle.std.proofs.lemmas.Option.{slice_get_read, slice_get_within, get_or_from_slice_get}
 use Rattle.hw_net.specs.declared.netlist.Net.{Net}
@@ -87,6 +90,18 @@ module _ (nets : List Net) (order : List ℕ) (ranks : List (Option ℕ)) (k : �
             (old.0, other (slice_index_or (reads_now net.kind) n d) (another (slice_index_or (reads_now net.kind) n d) old.0 old.1) ∙ old.1, old.2)
       ];
     }
+
+-- no net stands twice in an order
+pub order-within : (nets : List Net) (order : List ℕ) (ranks : List (Option ℕ)) → IsGrowing nets order ranks → length order ≤ length nets
+order-within nets order ranks growing = omega (arith, le-length_from_below (map rank_or ranks) (length order) found, length-map ranks rank_or, growing.size)
+  where
+    found : (rank : ℕ) → rank < length order → list_any (eqb rank) (map rank_or ranks) ≡ true
+    found rank h =
+        let net : ℕ = slice_index order rank in
+        let inside : net < length ranks = omega (arith, growing.there rank h, growing.size) in
+        let read : get_or (map rank_or ranks) net 0 ≡ rank = get_or-map rank_or ranks net None 0 inside ∙ ap rank_or (growing.at rank h) in
+        let within : net < length (map rank_or ranks) = omega (arith, inside, length-map ranks rank_or) in
+        list_any_at (eqb rank) (map rank_or ranks) net 0 within (eq-eqb rank (get_or (map rank_or ranks) net 0) (sym read))
 
 -- the net at a place is one
 pub one-net : (nets : List Net) (k : ℕ) (one net : Net) (P : Net → Type 0) → k < length nets → one ≡ get_or nets k one → slice_get nets k ≡ Some net → P net → P one

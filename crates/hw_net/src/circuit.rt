@@ -226,6 +226,7 @@ fn append(nets: &mut Nets, counters: &mut FrameIndex, net: Net) -> Result<u32, O
     ensures kept { OnErr result (nets.new ≡ nets.old) }
 {
     let Ok(number) = u32::try_from(nets.as_slice().len()) else {
+        // word: the number of a net, of 32 bits
         return Err(OutOfMemory);
     };
     let Some(frame) = counted(&net.kind) else {

@@ -117,6 +117,7 @@ fn visit(
         return Ok(());
     }
     let Ok(rank) = u32::try_from(order.len()) else {
+        // word: a place in the order, of 32 bits
         return Err(OutOfMemory);
     };
     order.push(k)?;
@@ -133,6 +134,7 @@ fn link_nets(readers: &mut [Sizes], nets: &[Net]) -> Result<(), OutOfMemory>
 {
     for k in 0..nets.len() {
         let Ok(reader) = u32::try_from(k) else {
+            // word: the number of a net, of 32 bits
             return Err(OutOfMemory);
         };
         link_net(readers, &nets[k], reader)?;
@@ -182,6 +184,7 @@ fn begin(nets: &[Net], order: &mut Vec<u32>, ranks: &mut [Option<u32>]) -> Resul
 {
     for k in 0..nets.len() {
         let Ok(number) = u32::try_from(k) else {
+            // word: the number of a net, of 32 bits
             return Err(OutOfMemory);
         };
         visit(nets, order, ranks, number)?;
@@ -206,14 +209,13 @@ fn spread(
     ensures closed { OnOk result
         (IsClosed nets.now ranks.new (length order.new.items) (length nets.now)) }
 {
-    for done in 0..usize::MAX {
-        if done >= order.len() {
-            return Ok(());
-        }
+    let mut done = 0;
+    while done < order.len() {
         let list = readers[order[done] as usize].as_slice();
         visit_all(nets, order, ranks, list)?;
+        done += 1;
     }
-    Err(OutOfMemory)
+    Ok(())
 }
 
 /// The nets in an order in which each stands after those that it reads in the same clock, as far as

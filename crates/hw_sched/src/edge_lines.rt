@@ -28,6 +28,7 @@ pub fn times(number: u64, other: u64) -> Result<u64, OutOfMemory>
 {
     match number.checked_mul(other) {
         Some(product) => Ok(product),
+        // word: a product of two counts, of 64 bits
         None => Err(OutOfMemory),
     }
 }

@@ -93,6 +93,7 @@ impl KindNumbers {
         }
         let number = self.count;
         let Some(count) = number.checked_add(1) else {
+            // word: how many kinds there are, of 64 bits
             return Err(OutOfMemory);
         };
         self.index.put(key, number)?;

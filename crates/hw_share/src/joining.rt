@@ -75,6 +75,7 @@ pub fn count_of(operations: &[Operation]) -> Result<u64, OutOfMemory>
     let mut count = 0;
     for one in operations {
         let Some(behind) = one.unit.checked_add(1) else {
+            // word: one more than the number of a multiplier, of 64 bits
             return Err(OutOfMemory);
         };
         count = behind.max(count);

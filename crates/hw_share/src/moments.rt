@@ -62,6 +62,7 @@ fn put_test(moments: &mut Moments, moment: Moment, number: u32) -> Result<(), Ou
         ≡ moments.old.list.items ++ record { moment = moment; number = number } ∷ []) }
 {
     let Ok(place) = u32::try_from(moments.list.len()) else {
+        // word: a place in the list of clocks, of 32 bits
         return Err(OutOfMemory);
     };
     moments.list.push(Known { moment, number })?;

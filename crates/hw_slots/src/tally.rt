@@ -78,6 +78,7 @@ pub fn total(number: u64, other: u64) -> Result<u64, OutOfMemory>
 {
     match number.checked_add(other) {
         Some(sum) => Ok(sum),
+        // word: a sum of two counts, of 64 bits
         None => Err(OutOfMemory),
     }
 }

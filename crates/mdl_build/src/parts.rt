@@ -5,7 +5,7 @@ ghost use Rattle.mdl_build.specs.Parts.{block_with, open_sizes, in_part, out_par
 
 use crate::library::BlockType;
 use crate::settings::{Said, Settings};
-use dg_model::{Block, Criterion, Decimals, Gate, Kind, Part, Relation};
+use dg_model::{Block, Criterion, Decimals, Gate, Kind, Part, Path, Relation};
 use fx_io::{OutOfMemory, Sizes, Text};
 use fx_type::{Decimal, TypeSpec};
 use std::alloc::Global;
@@ -26,7 +26,7 @@ fn block_with(said: Said, kind: Kind, inputs: u32, outputs: u32) -> Block
     ensures { result ≡ block_with said kind inputs outputs }
 {
     Block {
-        path: Text::new(),
+        path: Path::root(Text::new()),
         kind,
         inputs,
         outputs,

@@ -127,7 +127,7 @@ fn systems_in(alloc: Global, layout: &Layout, roles: &[Role]) -> Result<Vec<usiz
 }
 
 /// Whether the first block that has the name of this one in its System is this one.
-fn has_own_name(layout: &Layout, blocks: &Blocks, number: usize, place: usize) -> bool
+fn has_own_name<'a>(layout: &Layout<'a>, blocks: &Blocks<'a>, number: usize, place: usize) -> bool
     requires within { place < length layout.now.items.now }
     requires known { AreBlocks layout.now.items.now blocks.now }
     requires number { number_at layout.now.items.now place ≡ number }
@@ -164,9 +164,9 @@ fn has_one_system(role: Role, systems: usize) -> bool
 }
 
 /// Whether a block has a type, a name of its own, and one System if it is a subsystem.
-fn keeps_structure(
-    layout: &Layout,
-    blocks: &Blocks,
+fn keeps_structure<'a>(
+    layout: &Layout<'a>,
+    blocks: &Blocks<'a>,
     number: usize,
     place: usize,
     role: Role,
@@ -186,11 +186,11 @@ fn keeps_structure(
 }
 
 /// The first block without a type or a name, with another's name, or with other than one System.
-pub fn first_misshapen(
+pub fn first_misshapen<'a>(
     alloc: Global,
-    layout: &Layout,
+    layout: &Layout<'a>,
     roles: &[Role],
-    blocks: &Blocks,
+    blocks: &Blocks<'a>,
 ) -> Result<Option<usize>, OutOfMemory>
     requires roles { roles.now ≡ roles_of layout.now.items.now }
     requires known { AreBlocks layout.now.items.now blocks.now }

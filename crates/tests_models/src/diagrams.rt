@@ -32,7 +32,7 @@ pub fn diagram<W: Write>(alloc: Global, found: &str, text: &[u8], out: &mut W) -
         Err(fault) => return put_fault(alloc, fault, &[], out),
     };
     match found.as_bytes() {
-        b"flat" => put_flat(&diagram, out),
+        b"flat" => put_flat(alloc, &diagram, out),
         b"widths" => put_widths(alloc, &diagram, out),
         b"types" => put_types(alloc, &diagram, out),
         b"rates" => put_rates(alloc, &diagram, out),
@@ -40,9 +40,10 @@ pub fn diagram<W: Write>(alloc: Global, found: &str, text: &[u8], out: &mut W) -
     }
 }
 
-fn put_flat<W: Write>(diagram: &Diagram, out: &mut W) -> Result<()> {
+fn put_flat<W: Write>(alloc: Global, diagram: &Diagram, out: &mut W) -> Result<()> {
     for block in diagram.blocks.as_slice() {
-        out.write_all(block.path.bytes())?;
+        let path = block.path.text(alloc)?;
+        out.write_all(path.bytes())?;
         match block.enable {
             Some(enable) => writeln!(out, " enable {enable}")?,
             None => out.write_all(b"\n")?,

@@ -80,7 +80,29 @@ impl Case {
             };
             return put_cuts(rt, alloc, self, name, words, out);
         }
+        if let Some(words) = line.strip_prefix("makes ") {
+            writeln!(out, "{line}")?;
+            let Some((name, words)) = words.split_once(" ") else {
+                return Err(anyhow!("no words"));
+            };
+            return self.make(rt, alloc, name, words, out);
+        }
         self.set(alloc, texts.row(alloc, line)?)
+    }
+
+    /// Puts in what the call of these words writes, and writes the status.
+    fn make<R: Threads + Sync, W: Write>(
+        &mut self,
+        rt: &R,
+        alloc: Global,
+        name: &str,
+        words: &str,
+        out: &mut W,
+    ) -> Result<()> {
+        let answer = answered(rt, alloc, self, words)?;
+        let status = answer.status;
+        writeln!(out, "status {status}")?;
+        self.put(alloc, name, answer.out)
     }
 
     /// What a file holds.

@@ -13,6 +13,7 @@
 //! | `piece = N` | at the next call standard output takes at most so many bytes a put |
 //! | `stuck =` | at the next call standard output takes none, and standard error fails |
 //! | `run WORD ..` | the call of these words |
+//! | `makes NAME WORD ..` | the call of these words, whose status alone is printed; what standard output took is the file of that name from here on |
 //! | `bench:BYTES` | `sample 1`, by a bench that tells these bytes |
 //! | `cuts NAME WORD ..` | the calls of these words with only a beginning of that file, one byte longer at each |
 //! | `ends WORD ..` | the calls of these words in which a put to standard output fails, and in which one takes nothing, another at each until all is written |

@@ -5,7 +5,7 @@ use std::alloc::Global;
 use std::fmt::Write;
 use std::thread::Threads;
 use vl_ast::{Attrs, ModItem, ModItems, Module, Ports};
-use vl_write::write;
+use vl_write::{spelled, write};
 
 /// How often a module is written.
 const TEXTS: u32 = 20;
@@ -48,13 +48,25 @@ pub fn meet<R: Threads + Sync>(rt: &R, alloc: Global, count: u32) -> Result<u64>
     Ok(meeting.met())
 }
 
-/// How many texts of a module of so many wires, one after another, are the expected one: up to 20.
+/// The bytes of parts, one after another.
+fn joined(alloc: Global, parts: &[Vec<u8>]) -> Result<Vec<u8>> {
+    let mut text = Vec::new(alloc);
+    for part in parts {
+        text.extend_from_slice(part.as_slice())?;
+    }
+    Ok(text)
+}
+
+/// How many texts of a module of so many wires, one after another, are the expected one, whole and in
+/// parts: up to 20.
 pub fn texts_as_expected<R: Threads + Sync>(rt: &R, alloc: Global, count: u32) -> Result<u32> {
     let module = module_of(alloc, count)?;
     let expected = expected_text(alloc, count)?;
     for texts in 0..TEXTS {
         let text = write(rt, alloc, &module, &OpenGate)?;
-        if text.bytes() != expected.as_bytes() {
+        let parts = spelled(rt, alloc, &module, &OpenGate)?;
+        let parted = joined(alloc, parts.as_slice())?;
+        if text.bytes() != expected.as_bytes() || parted.as_slice() != expected.as_bytes() {
             return Ok(texts);
         }
     }

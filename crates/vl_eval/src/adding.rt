@@ -10,6 +10,7 @@ pub fn push(ops: &mut Vec<Op>, base: usize, op: Op) -> Result<usize, OutOfMemory
     ensures { IfOk result (λ slot. Pushed base ops.old.items ops.new.items slot op) }
 {
     let Some(slot) = base.checked_add(ops.len()) else {
+        // word: words and operations are counted in 64 bits
         return Err(OutOfMemory);
     };
     ops.push(op)?;

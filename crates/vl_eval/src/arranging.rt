@@ -274,6 +274,7 @@ pub fn arrange(
         });
     }
     let Some(_end) = base.checked_add(ops.len()) else {
+        // word: words and operations are counted in 64 bits
         return Err(OutOfMemory);
     };
     let mut entries = entries(alloc, ops.as_slice(), base)?;

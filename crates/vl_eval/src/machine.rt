@@ -100,6 +100,7 @@ impl Machine {
         meaning_by_layer();
         let plan = plan_of(alloc, &source)?;
         let Some(room) = plan.base.checked_add(plan.ops.len()) else {
+            // word: words and operations are counted in 64 bits
             return Err(VlFault::OutOfMemory);
         };
         let mut values = zeros(alloc, room)?;

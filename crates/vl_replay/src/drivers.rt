@@ -44,8 +44,10 @@ fn own_driver(port: &Port) -> Driver
     }
 }
 
-/// How the input ports of a module but `clk` are driven, in order. `None` where there are more than
-/// 2^32 - 1 columns.
+/// How the input ports of a module but `clk` are driven, in order.
+///
+/// # Errors
+/// Want of memory, also of numbers for the columns where these are 2^32 and more.
 pub fn drivers_of(alloc: Global, source: &Module) -> Result<Vec<Driver>, OutOfMemory>
     ensures { IfOk result (λ drivers. drivers.items
         ≡ drivers_from (is_stallable source.now) 0 (driven_ports source.now)) }
@@ -59,6 +61,7 @@ pub fn drivers_of(alloc: Global, source: &Module) -> Result<Vec<Driver>, OutOfMe
                 drivers.push(own_driver(port))?;
             } else {
                 let Some(next) = place.checked_add(1) else {
+                    // word: columns are numbered in 32 bits
                     return Err(OutOfMemory);
                 };
                 drivers.push(Driver::Column {

@@ -125,6 +125,7 @@ pub fn columns(alloc: Global, machine: &Machine) -> Result<PortColumns, OutOfMem
     let inputs = input_columns(alloc, ports, stalls)?;
     let outputs = output_columns(alloc, ports, stalls)?;
     if inputs.as_slice().len() >= MOST_COLUMNS || outputs.as_slice().len() >= MOST_COLUMNS {
+        // word: columns are numbered in 32 bits
         return Err(OutOfMemory);
     }
     Ok(PortColumns { inputs, outputs })

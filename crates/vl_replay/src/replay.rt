@@ -43,6 +43,7 @@ impl Replay {
         let score = score_of(alloc, machine.module(), stimulus)?;
         let samples = score.stimulus.count() as usize;
         let Some(room) = samples.checked_mul(score.samplers.len()) else {
+            // word: the numbers of all samples are counted in 64 bits
             return Err(OutOfMemory);
         };
         let bits = vec![in alloc; 0u128; score.drivers.len()]?;

@@ -10,7 +10,7 @@ use Rattle.rayon.specs.Numbers.{nat_range}
 use Rattle.fx_io.specs.declared.fault.OutOfMemory.{OutOfMemory}
 use Rattle.vl_ast.specs.Spelling.{item_text}
 use Rattle.vl_ast.specs.declared.modules.ModItem.{ModItem}
-use Rattle.vl_write.specs.inner.Pieces.{piece_of, piece_text, pieces_text, Adds}
+use Rattle.vl_write.specs.inner.Pieces.{piece_of, piece_text, Adds}
 
 -- as many items as are left of a piece's are the piece
 pub piece_is : (items : List ModItem) (piece : ℕ) → take (min 32 (length items - piece * 32)) (drop (piece * 32) items) ≡ piece_of items piece
@@ -58,34 +58,16 @@ stretches_have items (own ∷ pieces) (stretch ∷ stretches) all =
     let rest = stretches_have items pieces stretches all.1 in
     (λ i. has i ++ rest i) ∙ sym (flat_map-append (piece_text items) own (flat_map (λ (own : List ℕ). own) pieces))
 
--- where no worker was without memory, the stretches have the lines of their pieces
-pub lines_found : (items : List ModItem) (from to : ℕ) (pieces : List (List ℕ)) (found : List (Result (Vec ℕ Global) OutOfMemory)) (all : Result (Vec (Vec ℕ Global) Global) OutOfMemory) →
-    flat_map (λ (own : List ℕ). own) pieces ≡ nat_range from to → AllZip (IsStretch items) pieces found →
+-- where no worker was without memory, the stretches of all pieces have the lines of all items
+pub lines_found : (items : List ModItem) (count : ℕ) (pieces : List (List ℕ)) (found : List (Result (Vec ℕ Global) OutOfMemory)) (all : Result (Vec (Vec ℕ Global) Global) OutOfMemory) →
+    length items ≤ count * 32 → flat_map (λ (own : List ℕ). own) pieces ≡ nat_range 0 count → AllZip (IsStretch items) pieces found →
     MatchResult all (λ v. (ys : List (Vec ℕ Global)) × (found ≡ map Ok ys) × (v.items ≡ ys)) (λ e. Contains found (Err e)) →
-    IfOk all (λ stretches. flat_map (λ lines. lines.items) stretches.items ≡ pieces_text items from to)
-lines_found items from to pieces found (Err refused) numbered each all = tt
-lines_found items from to pieces found (Ok stretches) numbered each all =
+    IfOk all (λ stretches. flat_map (λ lines. lines.items) stretches.items ≡ flat_map item_text items)
+lines_found items count pieces found (Err refused) enough numbered each all = tt
+lines_found items count pieces found (Ok stretches) enough numbered each all =
+    let more : length items ≤ (count - 0) * 32 = omega (arith, enough) in
     ap (flat_map (λ lines. lines.items)) all.2
     ∙ stretches_have items pieces all.0 (subst (λ (rs : List (Result (Vec ℕ Global) OutOfMemory)). AllZip (IsStretch items) pieces rs) all.1 each)
     ∙ ap (flat_map (piece_text items)) numbered
-    ∙ pieces_from items from (to - from)
-
--- lines of further pieces after those of the first ones
-pub more_joined : (items : List ModItem) (done end : ℕ) (begun text spelled joined next : List ℕ) → done ≤ end →
-    text ++ spelled ≡ begun ++ flat_map item_text (take (done * 32) items) → joined ≡ text ++ spelled → next ≡ pieces_text items done end →
-    joined ++ next ≡ begun ++ flat_map item_text (take (end * 32) items)
-more_joined items done end begun text spelled joined next below is added found =
-    let sum : done * 32 + (end - done) * 32 ≡ end * 32 = omega arith in
-    let cut : flat_map item_text (take (end * 32) items) ≡ flat_map item_text (take (done * 32) items) ++ pieces_text items done end =
-    ap (λ (n : ℕ). flat_map item_text (take n items)) (sym sum)
-    ∙ ap (flat_map item_text) (take-add (done * 32) ((end - done) * 32) items)
-    ∙ flat_map-append item_text (take (done * 32) items) (take ((end - done) * 32) (drop (done * 32) items)) in
-    (λ i. (added ∙ is) i ++ found i)
-    ∙ append_assoc begun (flat_map item_text (take (done * 32) items)) (pieces_text items done end)
-    ∙ ap (λ lines. begun ++ lines) (sym cut)
-
--- the lines of all pieces are those of all items
-pub all_joined : (items : List ModItem) (done count : ℕ) (begun text spelled all : List ℕ) → count ≤ done → length items ≤ count * 32 →
-    text ++ spelled ≡ begun ++ flat_map item_text (take (done * 32) items) → all ≡ text ++ spelled → all ≡ begun ++ flat_map item_text items
-all_joined items done count begun text spelled all over enough is added =
-    added ∙ is ∙ ap (λ own. begun ++ flat_map item_text own) (take_all (done * 32) items (omega (arith, over, enough)))
+    ∙ pieces_from items 0 (count - 0)
+    ∙ ap (flat_map item_text) (take_all ((count - 0) * 32) items more)

@@ -1,8 +1,9 @@
 //! Writes a module of the Verilog subset as text.
 //!
-//! `write` gives `spelling` of the module, which `vl_ast` defines in `specs/Spelling.antt`; it spells the
-//! module by `Spells` of `specs/Grammar.antt`, where some text does. Of many items workers spell pieces,
-//! which are joined in order (`src/pieces.rt`): the text is the same whichever worker spelled which.
+//! `spelled` gives `spelling` of the module, which `vl_ast` defines in `specs/Spelling.antt`, in parts that
+//! are to stand one after another, and `write` as one text; it spells the module by `Spells` of
+//! `specs/Grammar.antt`, where some text does. Of many items workers spell pieces, each worker a part
+//! (`src/pieces.rt`): the text is the same whichever worker spelled which.
 #![tactic(auto)]
 
 mod attributes;
@@ -13,4 +14,4 @@ mod pieces;
 mod ports;
 mod writing;
 
-pub use writing::write;
+pub use writing::{spelled, write};

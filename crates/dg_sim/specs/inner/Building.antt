@@ -1,8 +1,10 @@
 -- What the steps that build a program keep (own).
-use Rattle.std.specs.Prelude.{◌≡◌, ℕ, suc, ◌<◌, ◌≤◌, ◌++◌, ℤ, Bool, List, [], length, Option, Some, slice_get}
+use Rattle.std.specs.Prelude.{◌≡◌, ℕ, suc, ◌<◌, ◌≤◌, ◌++◌, ℤ, Bool, true, false, List, [], length, Option, Some, slice_get}
 use Rattle.fx_type.specs.declared.kind.FxType.{FxType}
 use Rattle.dg_model.specs.declared.diagram.Diagram.{Diagram}
 use Rattle.dg_model.specs.declared.diagram.Block.{Block}
+use Rattle.dg_model.specs.declared.kind.Kind.{Kind}
+use Rattle.dg_model.specs.declared.kind.Kind.TheVariants.{Inport, Outport, Constant, Ground, Sum, Gain, Product, Switch, Relational, Logic, Convert, Delay, Mux, Demux, RateTransition, Pass, EnableTest, EnOut, Terminator}
 use Rattle.dg_model.specs.Signals.{Attributes, Stimulus, Table}
 use Rattle.dg_model.specs.Hits.{Hits, is_hit}
 use Rattle.dg_model.specs.Wires.{value_into, type_into}
@@ -66,6 +68,7 @@ pub record Grows (old new : Program) : Type 0 where
   pub cells : new.cells ≡ old.cells
   pub args : (more : List ℕ) × (new.args ≡ old.args ++ more)
   pub types : (more : List FxType) × (new.types ≡ old.types ++ more)
+  pub paired : length old.types ≡ length old.args → length new.types ≡ length new.args
   pub signs : (more : List Bool) × (new.signs ≡ old.signs ++ more)
   pub memories : (more : List Memory) × (new.memories ≡ old.memories ++ more)
 
@@ -115,6 +118,7 @@ pub record IsRemembered (diagram : Diagram) (attributes : Attributes) (old new :
 pub record IsFilled (diagram : Diagram) (attributes : Attributes) (program : Program) (k : ℕ) : Type 0 where
   pub entries : AreEntries diagram attributes program.places
   pub memories : AreMemories diagram attributes program
+  pub paired : length program.types ≡ length program.args
   pub size : length program.cells ≡ k
   pub cells : (j : ℕ) (place : Place) (cell : Cell) → slice_get program.places j ≡ Some place → slice_get program.cells j ≡ Some cell → IsCell diagram attributes program j place cell
 
@@ -136,3 +140,47 @@ IsControlCell places enable cell = (control : ℕ) × (enable ≡ Some control) 
 abbrev pub AreElements : Diagram → Attributes → List Place → ℕ → ℕ → List ℕ → Type 0
 AreElements diagram attributes places block k numbers =
     (i j : ℕ) → slice_get numbers i ≡ Some j → (j < k) × Reads diagram attributes places block 1 i j
+
+-- a kind whose rule is an operation
+abbrev pub is_worked : Kind → Bool
+is_worked (Inport number width) = false
+is_worked (Outport number) = false
+is_worked (Constant value) = false
+is_worked Ground = false
+is_worked (Sum negative) = true
+is_worked (Gain value param) = true
+is_worked Product = true
+is_worked (Switch criterion threshold) = true
+is_worked (Relational operator) = true
+is_worked (Logic operator) = true
+is_worked (Convert stored) = true
+is_worked (Delay length initial reset) = false
+is_worked (Mux sizes) = false
+is_worked (Demux sizes) = false
+is_worked (RateTransition period initial) = false
+is_worked (Pass width) = false
+is_worked EnableTest = false
+is_worked (EnOut reset initial) = false
+is_worked Terminator = false
+
+-- a kind whose rule is made of what its block keeps from hit to hit, whatever the periods are
+abbrev pub is_kept : Kind → Bool
+is_kept (Inport number width) = false
+is_kept (Outport number) = false
+is_kept (Constant value) = false
+is_kept Ground = false
+is_kept (Sum negative) = false
+is_kept (Gain value param) = false
+is_kept Product = false
+is_kept (Switch criterion threshold) = false
+is_kept (Relational operator) = false
+is_kept (Logic operator) = false
+is_kept (Convert stored) = false
+is_kept (Delay length initial reset) = true
+is_kept (Mux sizes) = false
+is_kept (Demux sizes) = false
+is_kept (RateTransition period initial) = false
+is_kept (Pass width) = false
+is_kept EnableTest = false
+is_kept (EnOut reset initial) = true
+is_kept Terminator = false

@@ -1,5 +1,5 @@
 -- The pieces of items that are spelled apart (own).
-use Rattle.std.specs.Prelude.{◌≡◌, ℕ, ◌-◌, ◌*◌, List, ◌++◌, take, drop, IfOk, Result, Vec}
+use Rattle.std.specs.Prelude.{◌≡◌, ℕ, ◌*◌, List, ◌++◌, take, drop, IfOk, Result, Vec}
 use Rattle.std.specs.Global.{Global}
 use Rattle.std.specs.List.{flat_map}
 use Rattle.fx_io.specs.declared.fault.OutOfMemory.{OutOfMemory}
@@ -13,10 +13,6 @@ piece_of items piece = take 32 (drop (piece * 32) items)
 -- the lines of the piece with this number
 abbrev pub piece_text : List ModItem → ℕ → List ℕ
 piece_text items piece = flat_map item_text (piece_of items piece)
-
--- the lines of the pieces from one on and before another
-abbrev pub pieces_text : List ModItem → ℕ → ℕ → List ℕ
-pieces_text items from to = flat_map item_text (take ((to - from) * 32) (drop (from * 32) items))
 
 -- the text stands at the end of what was there, unless memory was wanting
 abbrev pub Adds : List ℕ → Result (Vec ℕ Global) OutOfMemory → Result (Vec ℕ Global) OutOfMemory → Type 0

@@ -12,4 +12,4 @@ returns c =
     let block = c.index-blocks-place.result in
     let at : get_or blocks c.args.place block ≡ block = sym c.index-blocks-place.is in
     let reaches : slot_of block.parent ≤ length blocks = omega (arith, slot_within blocks c.args.place block c.requires.parents c.requires.there at, c.requires.there) in
-    ap (λ path. fault_of c.args.rule path Nothing) (c.in_ok-place.ensures ∙ path_is blocks (length blocks) c.args.place block c.args.paths.now c.requires.parents c.requires.paths reaches c.requires.there at)
+    ap (λ path. fault_of c.args.rule path Nothing) (c.in_ok-place.ensures ∙ c.in_ok-path.ensures ∙ path_is blocks (length blocks) c.args.place block c.args.paths.now c.requires.parents c.requires.paths reaches c.requires.there at)

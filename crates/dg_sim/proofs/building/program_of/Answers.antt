@@ -19,4 +19,4 @@ pub shown_of-requires-clause-entries : goal.shown_of-requires-clause-entries
 shown_of-requires-clause-entries c =
     let diagram = c.args.checked.now.diagram in
     λ i root at. output_entry diagram (attributes_of diagram) (c.root_elements_are_listed.ensures.outputs diagram (attributes_of diagram) c.keeps_rules.ensures.checked.wired) i root
-        (ap (λ (xs : List Root). slice_get xs i) (sym (c.as_slice-3.ensures ∙ c.in_ok-outputs.ensures)) ∙ at)
+    (ap (λ (xs : List Root). slice_get xs i) (sym (c.as_slice-3.ensures ∙ c.in_ok-outputs.ensures)) ∙ at)

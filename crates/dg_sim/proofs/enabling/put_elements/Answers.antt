@@ -18,6 +18,7 @@ loop-element-preserved c =
       elements_more diagram (attributes_of diagram) c.args.places.now c.args.block c.args.k inv.0 new.0 c.loop-element.element inv.1 new.2 new.3 inv.3,
       inv.4 ++ Logical ∷ [],
       new.4 ∙ ap (λ (xs : List FxType). xs ++ Logical ∷ []) inv.5 ∙ append_assoc c.args.types.now inv.4 (Logical ∷ []),
+      length-append inv.4 (Logical ∷ []) ∙ omega (arith, inv.6),
     )
 
 pub put_element-requires-clause-read : goal.put_element-requires-clause-read
@@ -26,4 +27,4 @@ put_element-requires-clause-read c =
     below_read diagram (attributes_of diagram) c.args.block 1 c.loop-element.element (subst (λ (n : ℕ). c.loop-element.element < n) c.requires.width c.loop-element-test.true)
 
 pub loop-element-init : goal.loop-element-init
-loop-element-init c = ([], refl, sym (append-nil c.args.args.now), (λ i j at. absurd (none-some j at)), [], sym (append-nil c.args.types.now))
+loop-element-init c = ([], refl, sym (append-nil c.args.args.now), (λ i j at. absurd (none-some j at)), [], sym (append-nil c.args.types.now), refl)

@@ -6,4 +6,4 @@ use Rattle.dg_sim.proofs.enabling.put_elements.Given as goal
 
 abbrev pub invariant-loop-element : goal.invariant-loop-element
 invariant-loop-element l = (numbers : List ℕ) × (length numbers ≡ l.element) × (l.args ≡ l.initial.args ++ numbers) × AreElements l.checked.diagram (attributes_of l.checked.diagram) l.places l.block l.k numbers
-    × (more : List FxType) × (l.types ≡ l.initial.types ++ more)
+    × (more : List FxType) × (l.types ≡ l.initial.types ++ more) × (length more ≡ l.element)

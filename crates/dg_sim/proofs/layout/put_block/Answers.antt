@@ -2,7 +2,7 @@ use Rattle.std.proofs.Common.{◌≡◌, ◌≤◌, ◌+◌, ℕ, List, length, 
 use Rattle.std.specs.Prelude.{slice_set}
 use Rattle.dg_model.specs.Attributes.{attributes_of}
 use Rattle.dg_model.specs.Solves.{shown_ports}
-use Rattle.dg_sim.proofs.Laid.{put_none, put_more}
+use Rattle.dg_sim.proofs.Laid.{put_more}
 use Rattle.dg_sim.proofs.layout.put_block.Goals as goal
 
 pub loop-i-preserved : goal.loop-i-preserved

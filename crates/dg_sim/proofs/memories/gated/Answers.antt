@@ -1,4 +1,4 @@
-use Rattle.std.proofs.Common.{◌∙◌, List, Bool, ap, sym, subst, ◌<◌, FitsSigned, rules, arith, refl}
+use Rattle.std.proofs.Common.{◌∙◌, List, Bool, ap, sym, subst, ◌<◌, FitsSigned, rules, refl}
 use Rattle.std.specs.Int.{w128}
 use Rattle.std.proofs.lemmas.Int.{to_z-of_z}
 use Rattle.std.proofs.lemmas.Option.{slice_get_within}

@@ -1,4 +1,4 @@
-use Rattle.std.proofs.Common.{◌≡◌, Some, slice_get, subst, ap, sym, ◌∙◌}
+use Rattle.std.proofs.Common.{Some, subst, ap, sym, ◌∙◌}
 use Rattle.dg_model.specs.Attributes.{attributes_of}
 use Rattle.dg_sim.specs.declared.program.Place.{Place}
 use Rattle.dg_sim.specs.inner.Building.{IsEntry}

@@ -92,8 +92,18 @@ parted-requires c =
     let turn = turn_of c.args.checked.now c.args.starts.now c.args.program.now.places c.args.k place one c.requires.finds c.requires.at c.requires.entry here in
     record { block = here; kind = (c.in-Demux.sizes, c.in-Demux.is); turn = turn; cursors = c.requires.cursors }
 
-pub kept_rule-requires : goal.kept_rule-requires
-kept_rule-requires c =
+pub kept_rule-requires-clause-block : goal.kept_rule-requires-clause-block
+kept_rule-requires-clause-block c =
+    let diagram = c.args.checked.now.diagram in
+    let attributes = attributes_of diagram in
+    let place = c.args.place in
+    let one : Block = c.index-as_slice-place.result in
+    let list = c.as_slice.ensures ∙ ap (λ (d : Diagram). d.blocks) c.diagram.ensures in
+    let here : slice_get diagram.blocks place.block ≡ Some one = block_there diagram attributes place c.as_slice.result.now one list c.requires.entry c.index-as_slice-place.is in
+    here
+
+pub kept_rule-requires-clause-turn : goal.kept_rule-requires-clause-turn
+kept_rule-requires-clause-turn c =
     let diagram = c.args.checked.now.diagram in
     let attributes = attributes_of diagram in
     let place = c.args.place in
@@ -101,7 +111,39 @@ kept_rule-requires c =
     let list = c.as_slice.ensures ∙ ap (λ (d : Diagram). d.blocks) c.diagram.ensures in
     let here : slice_get diagram.blocks place.block ≡ Some one = block_there diagram attributes place c.as_slice.result.now one list c.requires.entry c.index-as_slice-place.is in
     let turn = turn_of c.args.checked.now c.args.starts.now c.args.program.now.places c.args.k place one c.requires.finds c.requires.at c.requires.entry here in
-    record { block = here; turn = turn; entries = c.requires.entries }
+    turn
+
+pub worked-requires-clause-block : goal.worked-requires-clause-block
+worked-requires-clause-block c =
+    let diagram = c.args.checked.now.diagram in
+    let attributes = attributes_of diagram in
+    let place = c.args.place in
+    let one : Block = c.index-as_slice-place.result in
+    let list = c.as_slice.ensures ∙ ap (λ (d : Diagram). d.blocks) c.diagram.ensures in
+    let here : slice_get diagram.blocks place.block ≡ Some one = block_there diagram attributes place c.as_slice.result.now one list c.requires.entry c.index-as_slice-place.is in
+    here
+
+pub worked-requires-clause-turn : goal.worked-requires-clause-turn
+worked-requires-clause-turn c =
+    let diagram = c.args.checked.now.diagram in
+    let attributes = attributes_of diagram in
+    let place = c.args.place in
+    let one : Block = c.index-as_slice-place.result in
+    let list = c.as_slice.ensures ∙ ap (λ (d : Diagram). d.blocks) c.diagram.ensures in
+    let here : slice_get diagram.blocks place.block ≡ Some one = block_there diagram attributes place c.as_slice.result.now one list c.requires.entry c.index-as_slice-place.is in
+    let turn = turn_of c.args.checked.now c.args.starts.now c.args.program.now.places c.args.k place one c.requires.finds c.requires.at c.requires.entry here in
+    turn
+
+pub from_row-requires-clause-shown : goal.from_row-requires-clause-shown
+from_row-requires-clause-shown c =
+    let diagram = c.args.checked.now.diagram in
+    let attributes = attributes_of diagram in
+    let place = c.args.place in
+    let one : Block = c.index-as_slice-place.result in
+    let list = c.as_slice.ensures ∙ ap (λ (d : Diagram). d.blocks) c.diagram.ensures in
+    let here : slice_get diagram.blocks place.block ≡ Some one = block_there diagram attributes place c.as_slice.result.now one list c.requires.entry c.index-as_slice-place.is in
+    let turn = turn_of c.args.checked.now c.args.starts.now c.args.program.now.places c.args.k place one c.requires.finds c.requires.at c.requires.entry here in
+    turn.shown
 
 pub constant-requires-clause-shown : goal.constant-requires-clause-shown
 constant-requires-clause-shown c =

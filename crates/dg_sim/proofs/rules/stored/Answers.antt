@@ -1,10 +1,9 @@
-use Rattle.std.proofs.Common.{◌≡◌, ◌<◌, ℕ, Option, Some, length, slice_get, MatchOption, ap, sym, ◌∙◌, subst}
+use Rattle.std.proofs.Common.{◌<◌, ℕ, Option, Some, length, slice_get, MatchOption, ap, sym, ◌∙◌, subst}
 use Rattle.std.specs.Int.{w128}
 use Rattle.std.proofs.lemmas.Int.{to_z-of_z}
 use Rattle.std.proofs.lemmas.Option.{slice_get-get_or}
 use Rattle.fx_type.specs.declared.decimal.Decimal.{Decimal}
 use Rattle.fx_type.specs.Conversion.{Stores}
-use Rattle.dg_model.specs.Wires.{entry_of}
 use Rattle.dg_sim.proofs.rules.stored.Goals as goal
 
 pub returns : goal.returns

@@ -1,4 +1,4 @@
-use Rattle.std.proofs.Common.{◌∙◌, List, sym, subst}
+use Rattle.std.proofs.Common.{List, sym, subst}
 use Rattle.dg_model.specs.Attributes.{attributes_of}
 use Rattle.fx_type.specs.declared.kind.FxType.{FxType}
 use Rattle.std.specs.Prelude.{◌≡◌, ◌++◌, ◌∷◌, []}

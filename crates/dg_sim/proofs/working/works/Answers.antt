@@ -1,7 +1,7 @@
-use Rattle.std.proofs.Common.{◌≡◌, ◌∙◌, ap, length, arith}
+use Rattle.std.proofs.Common.{◌∙◌, ◌≤◌, Bool, List, ap, sym, subst, refl, length, arith}
 use Rattle.dg_model.specs.Attributes.{attributes_of}
 use Rattle.dg_sim.proofs.ByKind.{op_elementwise}
-use Rattle.dg_sim.proofs.Turns.{op_now, op_reads}
+use Rattle.dg_sim.proofs.Turns.{op_inputs, op_now, op_reads, op_signs}
 use Rattle.dg_sim.proofs.Worked.{works_made}
 use Rattle.dg_sim.proofs.working.works.Goals as goal
 
@@ -13,10 +13,11 @@ returns c =
     let b = c.args.block.now in
     let read = c.in_ok-put_inputs.ensures in
     let prepared = c.operations_prepare.ensures.operations diagram c.args.checked.now.order place.block b place.element c.args.op (record { checked = c.keeps_rules.ensures.checked; ordered = c.keeps_rules.ensures.ordered }) c.requires.block c.requires.op in
-    let types : length c.as_slice-3.result.now ≡ length c.args.program.now.types = ap length c.as_slice-3.ensures in
-    works_made diagram attributes c.args.program.now c.args.k place b c.args.op c.in-Ok.first c.in-Ok-try_from.first_sign c.in-Ok-try_from-2.signs c.result.result read.0 c.put_inputs.new.args c.put_inputs.new.types c.negative_of-negative.result.now c.put_signs.new.signs
-    (op_elementwise diagram attributes place b c.requires.block c.args.op c.requires.op) c.requires.entries c.requires.op prepared (omega arith) (c.result.ensures 1) (c.in-Ok.ensures.1 ∙ ap length c.as_slice.ensures) (omega (arith, types))
-    (c.in-Ok-try_from.ensures.1 ∙ ap length c.as_slice-2.ensures) c.in-Ok-try_from-2.ensures.1 c.negative_of-negative.ensures read.1 read.2 read.3 read.4 c.in_ok-put_signs.ensures
+    let first = c.in-Ok.ensures.1 ∙ ap length c.as_slice.ensures in
+    let few = op_inputs c.args.checked.now c.args.starts.now c.args.program.now.places c.args.k place b c.requires.turn c.keeps_rules.ensures.checked _ _ c.args.op c.requires.op in
+    works_made diagram attributes c.args.program.now c.args.k place b c.args.op c.in-Ok.first c.in-Ok-try_from.first_sign (length c.negative_of-negative.result.now) c.result.result read.0 c.put_inputs.new.args c.put_inputs.new.types c.negative_of-negative.result.now c.put_signs.new.signs
+    (op_elementwise diagram attributes place b c.requires.block c.args.op c.requires.op) c.requires.entries c.requires.op prepared few (c.result.ensures 1) first (first ∙ sym c.requires.paired)
+    (c.in-Ok-try_from.ensures.1 ∙ ap length c.as_slice-2.ensures) refl c.negative_of-negative.ensures read.1 read.2 read.3 read.4 c.in_ok-put_signs.ensures
 
 pub put_inputs-requires-clause-now : goal.put_inputs-requires-clause-now
 put_inputs-requires-clause-now c =
@@ -25,3 +26,9 @@ put_inputs-requires-clause-now c =
 pub put_inputs-requires-clause-read : goal.put_inputs-requires-clause-read
 put_inputs-requires-clause-read c =
     op_reads c.args.checked.now c.args.starts.now c.args.program.now.places c.args.k c.args.place c.args.block.now c.requires.turn c.keeps_rules.ensures.checked _ _ c.args.op c.requires.op
+
+pub overflow_cast-signs : goal.overflow_cast-signs
+overflow_cast-signs c =
+    let few = op_signs c.args.checked.now c.args.starts.now c.args.program.now.places c.args.k c.args.place c.args.block.now c.requires.turn c.keeps_rules.ensures.checked in
+    let many : length c.negative_of-negative.result.now ≤ 32 = subst (λ (signs : List Bool). length signs ≤ 32) (sym c.negative_of-negative.ensures) few in
+    record { fits = omega (arith, many) }

@@ -12,8 +12,8 @@ returns-in-Some-clause-refused c =
     let place = c.in-Some.place in
     let block = c.index-as_slice-place.result in
     let at : slice_get diagram.blocks place ≡ Some block = slice_get-get_or diagram.blocks place block c.in-Some.ensures.there ∙ ap Some (sym (rw c.as_slice.ensures at c.index-as_slice-place.is)) in
-    let path : c.bytes.result.now ≡ block.path = c.bytes.ensures ∙ ap (λ (b : Block). b.path) (sym c.index-as_slice-place.is) in
-    breaks_at diagram place block c.bytes.result.now c.in_ok-fault.fault at (c.in-Some.ensures.broken block at) c.in-Some.ensures.before path c.in_ok-fault.ensures
+    let path : c.in_ok-path.path ≡ block.path = c.in_ok-path.ensures ∙ ap (λ (b : Block). b.path) (sym c.index-as_slice-place.is) in
+    breaks_at diagram place block c.in_ok-path.path c.fault_at.result at (c.in-Some.ensures.broken block at) c.in-Some.ensures.before path c.fault_at.ensures
 
 pub is_bounded-requires-clause-from : goal.is_bounded-requires-clause-from
 is_bounded-requires-clause-from c =
@@ -22,8 +22,8 @@ is_bounded-requires-clause-from c =
 pub returns-then-not-is_bounded-clause-refused : goal.returns-then-not-is_bounded-clause-refused
 returns-then-not-is_bounded-clause-refused c =
     let no : c.is_bounded.result ≡ false = grind arith in
-    breaks_bounds c.args.diagram.now c.as_slice-2.result.now c.in_ok-fault-2.fault (c.in_default.ensures.none refl) (c.as_slice-2.ensures ∙ c.in_ok-scan.ensures.widths)
-    (λ bounded. let yes = c.is_bounded.ensures.1 bounded in cc) c.in_ok-fault-2.ensures
+    breaks_bounds c.args.diagram.now c.as_slice-2.result.now c.fault_at-then-not-is_bounded.result (c.in_default.ensures.none refl) (c.as_slice-2.ensures ∙ c.in_ok-scan.ensures.widths)
+    (λ bounded. let yes = c.is_bounded.ensures.1 bounded in cc) (rw c.new.ensures at c.fault_at-then-not-is_bounded.ensures)
 
 pub returns-clause-kept : goal.returns-clause-kept
 returns-clause-kept c =

@@ -1,8 +1,10 @@
-use Rattle.std.proofs.Common.{ℕ, List, refl, subst, arith}
+use Rattle.std.proofs.Common.{ℕ, List, Vec, Global, refl, subst, ap, ◌∙◌, arith}
+use Rattle.std.specs.List.{flat_map}
 use Rattle.fx_designed.specs.declared.designing.DesignFault.{DesignFault}
 use Rattle.fx_designed.specs.Refused.{IsRefusedDesign}
 use Rattle.fx_io.specs.Cause.{Rose}
 use Rattle.fx_io.specs.Shelf.{Told}
+use Rattle.fx_io.specs.Sink.{also_took}
 use Rattle.fx_top.specs.Call.{files_in, stream_in}
 use Rattle.fx_top.specs.Command.{Generate, plan_word}
 use Rattle.fx_top.specs.Output.{IsPlanText}
@@ -52,10 +54,25 @@ returns-in-Err-BadPlan-clause-cause g c =
       plan-bad (files_in g.S.Shelf.held g.S.Shelf.steady g.S.Shelf.faults g.S.Shelf.overlong c.args.shelf.now c.fetch_plan.new.shelf) (Generate c.args.model.now (plan_word c.args.plan.now)) c.args.model.now c.args.plan.now (generates c.args.model.now (plan_word c.args.plan.now)) c.in-Ok.source c.in-Ok-fetch_plan.lines c.in-Err-BadPlan.line c.in-Err-BadPlan.cause c.in-Ok.ensures.found says bad,
     )
 
-pub returns-in-Ok-put_all-clause-cause : goal.returns-in-Ok-put_all-clause-cause
-returns-in-Ok-put_all-clause-cause g c =
+pub returns-in-Ok-put_parts-clause-cause : goal.returns-in-Ok-put_parts-clause-cause
+returns-in-Ok-put_parts-clause-cause g c =
     let says = subst (λ (held : List ℕ → Told). IsPlanText held (plan_word c.args.plan.now) c.in-Ok-fetch_plan.lines) c.in-Ok.ensures.kept c.in-Ok-fetch_plan.ensures.says in
     fetched-planned (g.S.Shelf.held c.args.shelf.now) c.args.model.now (plan_word c.args.plan.now) c.in-Ok.source c.in-Ok-fetch_plan.lines c.in-Ok.ensures.found says
+
+pub returns-in-Ok-put_parts-clause-written : goal.returns-in-Ok-put_parts-clause-written
+returns-in-Ok-put_parts-clause-written g c =
+    let says = subst (λ (held : List ℕ → Told). IsPlanText held (plan_word c.args.plan.now) c.in-Ok-fetch_plan.lines) c.in-Ok.ensures.kept c.in-Ok-fetch_plan.ensures.says in
+    record {
+      text = flat_map (λ part. part.items) c.in-Ok-verilog_of.verilog.items;
+      output = record {
+        model_bytes = c.in-Ok.source;
+        plan_bytes = c.in-Ok-fetch_plan.lines;
+        model_fetched = c.in-Ok.ensures.found;
+        plan_says = says;
+        verilog = rw (c.bytes.ensures, c.bytes-2.ensures) at c.in-Ok-verilog_of.ensures.made;
+      };
+      taken = c.in-Ok-put_parts.ensures.whole ∙ ap (λ (parts : List (Vec ℕ Global)). also_took (g.K.Sink.taken c.args.out.now) (flat_map (λ part. part.items) parts)) c.as_slice.ensures.value;
+    }
 
 pub returns-clause-cause : goal.returns-clause-cause
 returns-clause-cause g c =

@@ -13,5 +13,5 @@ returns c = record {
   latency_is = refl;
   named = λ list are.
       subst (λ (path : List ℕ). IsGiven list (port_name (element_name (undoubled false path) c.args.width c.args.element)) c.in_ok-name.name × AreTaken c.port.new.self (c.in_ok-name.name ∷ list))
-      (c.bytes-path.ensures ∙ path_is c.args.checked.now.diagram c.args.block c.block_at.result.now c.block_at.ensures) (c.in_ok-name.ensures list are);
+      (c.bytes.ensures ∙ c.in_ok-path.ensures ∙ path_is c.args.checked.now.diagram c.args.block c.block_at.result.now c.block_at.ensures) (c.in_ok-name.ensures list are);
 }

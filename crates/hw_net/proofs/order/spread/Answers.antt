@@ -1,7 +1,7 @@
 use Rattle.std.proofs.Common.{◌≡◌, ◌<◌, ℕ, List, [], length, Contains, slice_index, slice_index_or, arith, subst, ap, ◌∙◌, sym}
 use Rattle.std.proofs.lemmas.List.Elements.{All-contains}
 use Rattle.hw_net.specs.inner.Ordering.{Serves, IsReader}
-use Rattle.hw_net.proofs.Ordering.{closed-next, read-at}
+use Rattle.hw_net.proofs.Ordering.{closed-next, order-within, read-at}
 use Rattle.hw_net.proofs.order.spread.Goals as goal
 
 pub loop-done-preserved : goal.loop-done-preserved
@@ -10,7 +10,7 @@ loop-done-preserved c =
     let inv = c.loop-done.invariant in
     let order : List ℕ = c.loop-done.order.items in
     let done : ℕ = c.loop-done.done in
-    let early : done < length order = omega (arith, c.if-done-len.false, c.len.ensures) in
+    let early : done < length order = omega (arith, c.loop-done-test.true, c.len.ensures) in
     let place : ℕ = slice_index order done in
     let known : place < length c.args.nets.now = inv.growing.there done early in
     let at : c.index.result.now ≡ place = read-at order done c.index.result.now 0 early c.index.ensures in
@@ -23,3 +23,10 @@ loop-done-preserved c =
       closed = closed-next c.args.nets.now order c.visit_all.new.order.items c.loop-done.ranks c.visit_all.new.ranks inv.growing ens.growing ens.longer ens.kept c.args.readers.now done early c.requires.linked inv.closed served;
       within = omega (arith, ens.longer.size, early);
     }
+
+pub loop-done-smaller : goal.loop-done-smaller
+loop-done-smaller c =
+    let order : List ℕ = c.loop-done.order.items in
+    let within = order-within c.args.nets.now order c.loop-done.ranks c.loop-done.invariant.growing in
+    let early : c.loop-done.done < length order = omega (arith, c.loop-done-test.true, c.len.ensures) in
+    omega (arith, within, early)

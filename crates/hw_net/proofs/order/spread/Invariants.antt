@@ -1,4 +1,4 @@
-use Rattle.std.proofs.Common.{length, ◌≤◌}
+use Rattle.std.proofs.Common.{length, ◌≤◌, ◌-◌}
 use Rattle.hw_net.specs.inner.Ordering.{IsGrowing, IsClosed}
 use Rattle.hw_net.proofs.order.spread.Given as goal
 
@@ -8,3 +8,6 @@ invariant-loop-done l = record {
   closed : IsClosed l.nets l.ranks l.done (length l.nets);
   within : l.done ≤ length l.order.items;
 }
+
+abbrev pub decreases-loop-done : goal.decreases-loop-done
+decreases-loop-done l = length l.nets - l.done

@@ -1,4 +1,5 @@
-use Rattle.std.proofs.Common.{◌≡◌, ◌∙◌, List, length, ap, sym, subst}
+use Rattle.std.proofs.Common.{◌≡◌, ◌∙◌, List, length, slice_get, ap, sym, subst}
+use Rattle.std.proofs.lemmas.Option.{slice_get-get_or}
 use Rattle.dg_sim.specs.declared.program.Memory.{Memory}
 use Rattle.dg_sim.specs.inner.Building.{AreRooms}
 use Rattle.dg_sim.proofs.Begun.{begun_sim, begun_stands}
@@ -16,3 +17,6 @@ returns-clause-stands c =
     let memories : c.as_slice.result.now ≡ c.in_ok-program.program.memories = c.as_slice.ensures in
     let rooms = subst (λ (xs : List Memory). AreRooms xs c.in_ok-pasts.pasts.items (length xs)) memories c.in_ok-pasts.ensures in
     begun_stands c.args.checked.now c.in_ok-program.program c.in_ok-row.row.items c.in_ok-pasts.pasts.items c.in_ok-prepared.prepared.items c.in_ok-program.ensures rooms
+
+pub pasts_of-requires : goal.pasts_of-requires
+pasts_of-requires c = λ k d below. (c.in_ok-program.ensures.memories k _ (ap (λ (xs : List Memory). slice_get xs k) (sym c.as_slice.ensures) ∙ slice_get-get_or c.as_slice.result.now k d below)).1.some

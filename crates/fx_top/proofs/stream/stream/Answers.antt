@@ -1,0 +1,63 @@
+use Rattle.std.proofs.Common.{ℕ, List, refl, subst, arith}
+use Rattle.fx_designed.specs.declared.designing.DesignFault.{DesignFault}
+use Rattle.fx_io.specs.Cause.{Rose}
+use Rattle.fx_io.specs.Shelf.{Told}
+use Rattle.fx_top.specs.Call.{files_in, stream_in}
+use Rattle.fx_top.specs.Command.{Stream, plan_word}
+use Rattle.fx_top.specs.Output.{IsPlanText}
+use Rattle.fx_top.specs.inner.Streaming.{IsRefusedStream}
+use Rattle.fx_top.proofs.Planning.{fetched-planned, plan-bad, plan-moved, plan-unfetched, plan-unwritten, stream-rule}
+use Rattle.fx_top.proofs.Told.{streams}
+use Rattle.fx_top.proofs.stream.stream.Goals as goal
+
+pub returns-in-Err-fetch_plan-clause-cause : goal.returns-in-Err-fetch_plan-clause-cause
+returns-in-Err-fetch_plan-clause-cause g c =
+    let files = (files_in g.S.Shelf.held g.S.Shelf.steady g.S.Shelf.faults g.S.Shelf.overlong c.args.shelf.now c.fetch_plan.new.shelf) in
+    let old = c.args.shelf.now in
+    let mid = c.fetch_file.new.shelf in
+    let new = c.fetch_plan.new.shelf in
+    let failed : Rose (g.S.Shelf.faults mid) (g.S.Shelf.faults new) → Rose (g.S.Shelf.faults old) (g.S.Shelf.faults new) = λ r. (let l = c.in-Ok.ensures.later in omega (arith, r, l)) in
+    let overlong : Rose (g.S.Shelf.overlong mid) (g.S.Shelf.overlong new) → Rose (g.S.Shelf.overlong old) (g.S.Shelf.overlong new) = λ r. (let l = c.in-Ok.ensures.overlong_later in omega (arith, r, l)) in
+    plan-unfetched files (Stream c.args.model.now (plan_word c.args.plan.now)) c.args.model.now (plan_word c.args.plan.now) (streams c.args.model.now (plan_word c.args.plan.now)) c.in-Ok.source c.in-Err-fetch_plan.answer c.in-Ok.ensures.found
+    (plan-moved files (files_in g.S.Shelf.held g.S.Shelf.steady g.S.Shelf.faults g.S.Shelf.overlong mid new) (plan_word c.args.plan.now) c.in-Err-fetch_plan.answer c.in-Ok.ensures.kept c.in-Ok.ensures.stays_steady failed overlong c.in-Err-fetch_plan.ensures.refused)
+
+pub returns-in-Err-fetch_plan-clause-written : goal.returns-in-Err-fetch_plan-clause-written
+returns-in-Err-fetch_plan-clause-written g c = plan-unwritten
+    (files_in g.S.Shelf.held g.S.Shelf.steady g.S.Shelf.faults g.S.Shelf.overlong c.fetch_file.new.shelf c.fetch_plan.new.shelf)
+    (files_in g.S.Shelf.held g.S.Shelf.steady g.S.Shelf.faults g.S.Shelf.overlong c.args.shelf.now c.fetch_plan.new.shelf)
+    (stream_in g.K.Sink.taken g.K.Sink.faults c.args.out.now c.args.out.now)
+    (Stream c.args.model.now (plan_word c.args.plan.now)) (plan_word c.args.plan.now) c.in-Err-fetch_plan.answer refl c.in-Err-fetch_plan.ensures.refused
+
+pub returns-in-Err-NotMdl-clause-cause : goal.returns-in-Err-NotMdl-clause-cause
+returns-in-Err-NotMdl-clause-cause g c =
+    let says = subst (λ (held : List ℕ → Told). IsPlanText held (plan_word c.args.plan.now) c.in-Ok-fetch_plan.lines) c.in-Ok.ensures.kept c.in-Ok-fetch_plan.ensures.says in
+    let not_mdl = subst (λ (fault : DesignFault). IsRefusedStream c.in-Ok.source c.in-Ok-fetch_plan.lines fault) c.in-Err-NotMdl.field-0-is (rw (c.bytes.ensures, c.bytes-2.ensures) at c.in-Err-NotMdl.ensures.refused) in (
+      fetched-planned (g.S.Shelf.held c.args.shelf.now) c.args.model.now (plan_word c.args.plan.now) c.in-Ok.source c.in-Ok-fetch_plan.lines c.in-Ok.ensures.found says,
+      record { is_model = refl; bytes = c.in-Ok.source; fetched = c.in-Ok.ensures.found; not_mdl = not_mdl },
+    )
+
+pub returns-in-Err-BreaksRule-clause-cause : goal.returns-in-Err-BreaksRule-clause-cause
+returns-in-Err-BreaksRule-clause-cause g c =
+    let says = subst (λ (held : List ℕ → Told). IsPlanText held (plan_word c.args.plan.now) c.in-Ok-fetch_plan.lines) c.in-Ok.ensures.kept c.in-Ok-fetch_plan.ensures.says in
+    let told = subst (λ (fault : DesignFault). IsRefusedStream c.in-Ok.source c.in-Ok-fetch_plan.lines fault) c.in-Err-BreaksRule.field-0-is (rw (c.bytes.ensures, c.bytes-2.ensures) at c.in-Err-BreaksRule.ensures.refused) in (
+      fetched-planned (g.S.Shelf.held c.args.shelf.now) c.args.model.now (plan_word c.args.plan.now) c.in-Ok.source c.in-Ok-fetch_plan.lines c.in-Ok.ensures.found says,
+      stream-rule (files_in g.S.Shelf.held g.S.Shelf.steady g.S.Shelf.faults g.S.Shelf.overlong c.args.shelf.now c.fetch_plan.new.shelf) c.args.model.now (plan_word c.args.plan.now) c.in-Ok.source c.in-Ok-fetch_plan.lines c.in-Err-BreaksRule.line c.in-Ok.ensures.found says told,
+    )
+
+pub returns-in-Err-BadPlan-clause-cause : goal.returns-in-Err-BadPlan-clause-cause
+returns-in-Err-BadPlan-clause-cause g c =
+    let says = subst (λ (held : List ℕ → Told). IsPlanText held (plan_word c.args.plan.now) c.in-Ok-fetch_plan.lines) c.in-Ok.ensures.kept c.in-Ok-fetch_plan.ensures.says in
+    let bad = subst (λ (fault : DesignFault). IsRefusedStream c.in-Ok.source c.in-Ok-fetch_plan.lines fault) c.in-Err-BadPlan.field-0-is (rw (c.bytes.ensures, c.bytes-2.ensures) at c.in-Err-BadPlan.ensures.refused) in (
+      fetched-planned (g.S.Shelf.held c.args.shelf.now) c.args.model.now (plan_word c.args.plan.now) c.in-Ok.source c.in-Ok-fetch_plan.lines c.in-Ok.ensures.found says,
+      plan-bad (files_in g.S.Shelf.held g.S.Shelf.steady g.S.Shelf.faults g.S.Shelf.overlong c.args.shelf.now c.fetch_plan.new.shelf) (Stream c.args.model.now (plan_word c.args.plan.now)) c.args.model.now c.args.plan.now (streams c.args.model.now (plan_word c.args.plan.now)) c.in-Ok.source c.in-Ok-fetch_plan.lines c.in-Err-BadPlan.line c.in-Err-BadPlan.cause c.in-Ok.ensures.found says bad,
+    )
+
+pub returns-in-Ok-put_all-clause-cause : goal.returns-in-Ok-put_all-clause-cause
+returns-in-Ok-put_all-clause-cause g c =
+    let says = subst (λ (held : List ℕ → Told). IsPlanText held (plan_word c.args.plan.now) c.in-Ok-fetch_plan.lines) c.in-Ok.ensures.kept c.in-Ok-fetch_plan.ensures.says in
+    fetched-planned (g.S.Shelf.held c.args.shelf.now) c.args.model.now (plan_word c.args.plan.now) c.in-Ok.source c.in-Ok-fetch_plan.lines c.in-Ok.ensures.found says
+
+pub returns-clause-cause : goal.returns-clause-cause
+returns-clause-cause g c =
+    let says = subst (λ (held : List ℕ → Told). IsPlanText held (plan_word c.args.plan.now) c.in-Ok-fetch_plan.lines) c.in-Ok.ensures.kept c.in-Ok-fetch_plan.ensures.says in
+    fetched-planned (g.S.Shelf.held c.args.shelf.now) c.args.model.now (plan_word c.args.plan.now) c.in-Ok.source c.in-Ok-fetch_plan.lines c.in-Ok.ensures.found says

@@ -1,0 +1,130 @@
+//! The Verilog text with valid and ready of a model under a plan.
+ghost use Rattle.std.specs.Prelude.{IfErr, IfOk};
+ghost use Rattle.dg_model.specs.Faults.{AllKeep};
+ghost use Rattle.dg_model.specs.PlanOf.{IsPlanOf};
+ghost use Rattle.fx_top.specs.Streamed.{IsStreamOf, IsStreamedOf, KeepsStream};
+ghost use Rattle.fx_top.specs.inner.Streaming.{IsCoreOf, IsRefusedOnPorts, IsRefusedStream, IsStreamWritten};
+ghost use Rattle.hw_rules.specs.Times.{AreTimes, timing_in};
+ghost use Rattle.vl_ast.specs.Grammar.{Spells};
+ghost use Rattle.vl_ast.specs.Spelling.{spelling};
+
+use crate::steady::check_ports;
+use crate::verilog::netlist_of;
+use dg_model::{CheckFault, Checked, Resolved, root_elements_are_listed};
+use fx_designed::{DesignFault, Designed, designed_of};
+use fx_io::{OpenGate, OutOfMemory, Text};
+use fx_model::rule_text;
+use hw_build::slots_are_scheduled;
+use hw_module::module_of;
+use hw_names::stream_names;
+use hw_rules::Times;
+use hw_sched::ready_fits;
+use st_wrap::wrap;
+use std::alloc::Global;
+use std::thread::Threads;
+use vl_ast::Module;
+
+/// The module that takes and gives the samples.
+fn core_of(
+    alloc: Global,
+    checked: &Checked,
+    plan: &Resolved,
+    times: &Times,
+) -> Result<Module, OutOfMemory>
+    requires plan { IsPlanOf checked.now.diagram plan.now }
+    requires times { AreTimes checked.now.diagram plan.now times.now }
+    ensures { IfOk result (IsCoreOf checked.now.diagram plan.now times.now) }
+{
+    let netlist = netlist_of(alloc, checked, plan, times)?;
+    module_of(
+        alloc,
+        checked,
+        plan,
+        &times.latencies,
+        &times.slots,
+        &netlist,
+    )
+}
+
+/// The module with valid and ready round it.
+fn stream_of(
+    alloc: Global,
+    checked: &Checked,
+    plan: &Resolved,
+    times: &Times,
+) -> Result<Module, OutOfMemory>
+    requires plan { IsPlanOf checked.now.diagram plan.now }
+    requires times { AreTimes checked.now.diagram plan.now times.now }
+    requires steady { AllKeep checked.now.diagram (KeepsStream checked.now.diagram) }
+    ensures streams { IfOk result (λ made. IsStreamOf made checked.now.diagram plan.now
+        (timing_in times.now)) }
+    ensures spelled { IfOk result (λ made. Spells (spelling made) made) }
+{
+    checked.keeps_rules();
+    root_elements_are_listed();
+    ready_fits();
+    slots_are_scheduled();
+    let core = core_of(alloc, checked, plan, times)?;
+    let names = stream_names(alloc, checked)?;
+    wrap(alloc, &core, names.as_slice())
+}
+
+/// The text of that module.
+fn text_of<R: Threads + Sync>(
+    rt: &R,
+    alloc: Global,
+    checked: &Checked,
+    plan: &Resolved,
+    times: &Times,
+) -> Result<Text, OutOfMemory>
+    requires plan { IsPlanOf checked.now.diagram plan.now }
+    requires times { AreTimes checked.now.diagram plan.now times.now }
+    requires steady { AllKeep checked.now.diagram (KeepsStream checked.now.diagram) }
+    ensures { IfOk result (IsStreamWritten checked.now.diagram plan.now times.now) }
+{
+    vl_read::unique();
+    let module = stream_of(alloc, checked, plan, times)?;
+    vl_write::write(rt, alloc, &module, &OpenGate)
+}
+
+/// The fault of ports that break the rule, by its line.
+fn told_of(alloc: Global, checked: &Checked, fault: CheckFault) -> DesignFault
+    ensures { IsRefusedOnPorts checked.now.diagram fault result }
+{
+    let fault = match fault {
+        CheckFault::Broken(fault) => fault,
+        CheckFault::OutOfMemory => return DesignFault::OutOfMemory,
+    };
+    match rule_text(alloc, &fault, checked.diagram().blocks.as_slice()) {
+        Ok(line) => DesignFault::BreaksRule { line },
+        Err(OutOfMemory) => DesignFault::OutOfMemory,
+    }
+}
+
+/// The Verilog text with valid and ready of the bytes of a model and of a plan; no bytes are the empty
+/// plan.
+///
+/// # Errors
+/// Those of `designed_of`, and then `BreaksRule` by rule 14 of the diagram's ports. Or want of memory.
+pub fn streamed_of<R: Threads + Sync>(
+    rt: &R,
+    alloc: Global,
+    model: &[u8],
+    plan: &[u8],
+) -> Result<Text, DesignFault>
+    ensures made { IfOk result (IsStreamedOf model.now plan.now) }
+    ensures refused { IfErr result (IsRefusedStream model.now plan.now) }
+{
+    let Designed { checked, planned } = match designed_of(alloc, model, plan) {
+        Ok(designed) => designed,
+        Err(fault) => return Err(fault),
+    };
+    match check_ports(alloc, &checked) {
+        Ok(()) => (),
+        Err(fault) => return Err(told_of(alloc, &checked, fault)),
+    }
+    match text_of(rt, alloc, &checked, &planned.resolved, &planned.times) {
+        Ok(text) => Ok(text),
+        Err(OutOfMemory) => Err(DesignFault::OutOfMemory),
+    }
+}

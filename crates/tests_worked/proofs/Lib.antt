@@ -1,0 +1,10 @@
+mod Comparisons
+mod Limits
+mod NetlistRows
+mod Netlists
+mod Paths
+mod Sizes
+mod Worked
+mod WorkedChecked
+mod WorkedPlan
+mod WorkedTimes

@@ -1,0 +1,2 @@
+//! Rows worked by hand.
+#![tactic(auto)]
