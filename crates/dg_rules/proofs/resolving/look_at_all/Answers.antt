@@ -27,7 +27,7 @@ loop-place-preserved c =
     c.in_ok-put.ensures ∙ ap (λ (b : Block). c.clear.new.self.items ++ b.path) (sym c.index-blocks-place.is)
     ∙ ap (λ (begun : List ℕ). begun ++ block.path) c.clear.ensures.items in
     let number : c.number-number.result ≡ position (has block.path) plan.pipelines =
-    c.number-number.ensures ∙ ap (number_of (paths_in c.args.lines.now)) (c.deref.ensures ∙ path)
+    c.number-number.ensures ∙ ap (number_of (paths_in c.args.lines.now)) (c.deref.ensures.value ∙ path)
     ∙ number_is (paths_in c.args.lines.now) plan.pipelines block.path c.requires.lines in
     let more : suc place ≡ place + 1 = omega arith in
     let standings : AreStandings diagram (attributes_of diagram) (suc place) plan.pipelines (looked_at (position (has block.path) plan.pipelines) c.may_be_pipelined-may.result c.loop-place.standings.items) =
