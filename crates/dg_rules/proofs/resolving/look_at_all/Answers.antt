@@ -23,10 +23,11 @@ loop-place-preserved c =
     let below : place < length diagram.blocks = subst (λ (bs : List Block). place < length bs) blocks c.loop-place-test.true in
     let at : slice_get diagram.blocks place ≡ Some block =
     subst (λ (bs : List Block). slice_get bs place ≡ Some block) blocks (slice_get-get_or c.as_slice-blocks.result.now place _ c.loop-place-test.true ∙ ap Some (sym c.index-blocks-place.is)) in
-    let path : c.in_ok-put.new.path.items ≡ c.index-blocks-place.result.path = c.in_ok-put.ensures ∙ ap (λ (begun : List ℕ). begun ++ block.path) c.clear.ensures in
+    let path : c.put.new.out.items ≡ block.path =
+    c.in_ok-put.ensures ∙ ap (λ (b : Block). c.clear.new.self.items ++ b.path) (sym c.index-blocks-place.is)
+    ∙ ap (λ (begun : List ℕ). begun ++ block.path) c.clear.ensures.items in
     let number : c.number-number.result ≡ position (has block.path) plan.pipelines =
-    c.number-number.ensures ∙ ap (number_of (paths_in c.args.lines.now)) path
-    ∙ ap (λ (b : Block). number_of (paths_in c.args.lines.now) b.path) (sym c.index-blocks-place.is)
+    c.number-number.ensures ∙ ap (number_of (paths_in c.args.lines.now)) (c.deref.ensures.value ∙ path)
     ∙ number_is (paths_in c.args.lines.now) plan.pipelines block.path c.requires.lines in
     let more : suc place ≡ place + 1 = omega arith in
     let standings : AreStandings diagram (attributes_of diagram) (suc place) plan.pipelines (looked_at (position (has block.path) plan.pipelines) c.may_be_pipelined-may.result c.loop-place.standings.items) =
