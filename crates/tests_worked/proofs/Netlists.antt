@@ -76,12 +76,36 @@ IsKindOf net = IsKind nets 2 2 net.width net.signed net.kind
 
 kinds : All IsKindOf nets
 kinds = all_of IsKindOf nets (
-  (refl, lit< tt), ((refl, lit< tt), ((lit< tt, record { low = le_z_yes tt; high = le_z_yes tt }), ((refl, tt), (holds, (
-  (lit< tt, record { net = net true 4 (Unit 3 0); is = refl; wide = refl; sign = refl }, record { low = le_z_yes tt; high = le_z_yes tt }), (
-  (lit< tt, lit< tt, record { net = net true 4 (Reg each_sample 0 (pos 7) 4); is = refl; wide = refl; sign = refl }), (
-  (lit< tt, record { net = net true 2 (Comb (Input 0) []); is = refl; wide = refl; sign = refl }, record { low = le_z_yes tt; high = le_z_yes tt }), (
-  (lit< tt, record { net = net true 2 (Comb (Input 0) []); is = refl; wide = refl; sign = refl }, record { low = le_z_yes tt; high = le_z_yes tt }), (
-  (refl, tt), ((lit< tt, record { low = le_z_yes tt; high = le_z_yes tt }), ((refl, tt), tt))))))))))))
+  (refl, lit< tt),
+  (
+    (refl, lit< tt),
+    (
+      (lit< tt, record { low = le_z_yes tt; high = le_z_yes tt }),
+      (
+        (refl, tt),
+        (
+          holds,
+          (
+            (lit< tt, record { net = net true 4 (Unit 3 0); is = refl; wide = refl; sign = refl }, record { low = le_z_yes tt; high = le_z_yes tt }),
+            (
+              (lit< tt, lit< tt, record { net = net true 4 (Reg each_sample 0 (pos 7) 4); is = refl; wide = refl; sign = refl }),
+              (
+                (lit< tt, record { net = net true 2 (Comb (Input 0) []); is = refl; wide = refl; sign = refl }, record { low = le_z_yes tt; high = le_z_yes tt }),
+                (
+                  (lit< tt, record { net = net true 2 (Comb (Input 0) []); is = refl; wide = refl; sign = refl }, record { low = le_z_yes tt; high = le_z_yes tt }),
+                  (
+                    (refl, tt),
+                    ((lit< tt, record { low = le_z_yes tt; high = le_z_yes tt }), ((refl, tt), tt)),
+                  ),
+                ),
+              ),
+            ),
+          ),
+        ),
+      ),
+    ),
+  ),
+)
 
 abbrev AreThere : Net → Type 0
 AreThere net = All (λ read. read < 12) (reads net.kind)
@@ -96,9 +120,37 @@ one_there : (one : ℕ) → one < 12 → All (λ (read : ℕ). read < 12) (one �
 one_there one low = all_of (λ (read : ℕ). read < 12) (one ∷ []) (low, tt)
 
 there : All AreThere nets
-there = all_of AreThere nets (none_there, (none_there, (none_there, (all_of (λ (read : ℕ). read < 12) (2 ∷ 0 ∷ 1 ∷ []) (lit< tt, (lit< tt, (lit< tt, tt))), (
-  two_there 3 0 (lit< tt) (lit< tt), (one_there 4 (lit< tt), (one_there 5 (lit< tt), (two_there 1 0 (lit< tt) (lit< tt), (two_there 1 0 (lit< tt) (lit< tt), (
-  two_there 0 1 (lit< tt) (lit< tt), (none_there, (two_there 0 0 (lit< tt) (lit< tt), tt))))))))))))
+there = all_of AreThere nets (
+  none_there,
+  (
+    none_there,
+    (
+      none_there,
+      (
+        all_of (λ (read : ℕ). read < 12) (2 ∷ 0 ∷ 1 ∷ []) (lit< tt, (lit< tt, (lit< tt, tt))),
+        (
+          two_there 3 0 (lit< tt) (lit< tt),
+          (
+            one_there 4 (lit< tt),
+            (
+              one_there 5 (lit< tt),
+              (
+                two_there 1 0 (lit< tt) (lit< tt),
+                (
+                  two_there 1 0 (lit< tt) (lit< tt),
+                  (
+                    two_there 0 1 (lit< tt) (lit< tt),
+                    (none_there, (two_there 0 0 (lit< tt) (lit< tt), tt)),
+                  ),
+                ),
+              ),
+            ),
+          ),
+        ),
+      ),
+    ),
+  ),
+)
 
 -- each stands behind those that it reads in its clock
 abbrev Falls : ℕ → Net → Type 0

@@ -103,24 +103,66 @@ wired : IsWired diagram
 wired = record {
   size = lit≤ tt;
   edges = all_of (Joins blocks) edges (
-    record { source = (lit≤ tt, lit≤ tt); target = (lit≤ tt, lit≤ tt) }, (
-    record { source = (lit≤ tt, lit≤ tt); target = (lit≤ tt, lit≤ tt) }, (
-    record { source = (lit≤ tt, lit≤ tt); target = (lit≤ tt, lit≤ tt) }, (
-    record { source = (lit≤ tt, lit≤ tt); target = (lit≤ tt, lit≤ tt) }, (
-    record { source = (lit≤ tt, lit≤ tt); target = (lit≤ tt, lit≤ tt) }, (
-    record { source = (lit≤ tt, lit≤ tt); target = (lit≤ tt, lit≤ tt) }, (
-    record { source = (lit≤ tt, lit≤ tt); target = (lit≤ tt, lit≤ tt) }, (
-    record { source = (lit≤ tt, lit≤ tt); target = (lit≤ tt, lit≤ tt) }, (
-    record { source = (lit≤ tt, lit≤ tt); target = (lit≤ tt, lit≤ tt) }, (
-    record { source = (lit≤ tt, lit≤ tt); target = (lit≤ tt, lit≤ tt) }, tt))))))))));
+    record { source = (lit≤ tt, lit≤ tt); target = (lit≤ tt, lit≤ tt) },
+    (
+      record { source = (lit≤ tt, lit≤ tt); target = (lit≤ tt, lit≤ tt) },
+      (
+        record { source = (lit≤ tt, lit≤ tt); target = (lit≤ tt, lit≤ tt) },
+        (
+          record { source = (lit≤ tt, lit≤ tt); target = (lit≤ tt, lit≤ tt) },
+          (
+            record { source = (lit≤ tt, lit≤ tt); target = (lit≤ tt, lit≤ tt) },
+            (
+              record { source = (lit≤ tt, lit≤ tt); target = (lit≤ tt, lit≤ tt) },
+              (
+                record { source = (lit≤ tt, lit≤ tt); target = (lit≤ tt, lit≤ tt) },
+                (
+                  record { source = (lit≤ tt, lit≤ tt); target = (lit≤ tt, lit≤ tt) },
+                  (
+                    record { source = (lit≤ tt, lit≤ tt); target = (lit≤ tt, lit≤ tt) },
+                    (
+                      record { source = (lit≤ tt, lit≤ tt); target = (lit≤ tt, lit≤ tt) },
+                      tt,
+                    ),
+                  ),
+                ),
+              ),
+            ),
+          ),
+        ),
+      ),
+    ),
+  );
   driven = λ block port b at. driven block b at port;
   ordered = pairs_of StandsBefore edges (ordered_by edges in_order);
   blocks = all_of IsReadable blocks (
-    input_readable (codes "a") 1 (lit≤ tt) (lit≤ tt), (
-    input_readable (codes "b") 2 (lit≤ tt) (lit≤ tt), (
-    product_readable (codes "P"), (product_readable (codes "Q"), (transition_readable, (delay_readable, (product_readable (codes "S"), (
-    output_readable (codes "y") 1 (lit≤ tt) (lit≤ tt), (
-    output_readable (codes "z") 2 (lit≤ tt) (lit≤ tt), tt)))))))));
+    input_readable (codes "a") 1 (lit≤ tt) (lit≤ tt),
+    (
+      input_readable (codes "b") 2 (lit≤ tt) (lit≤ tt),
+      (
+        product_readable (codes "P"),
+        (
+          product_readable (codes "Q"),
+          (
+            transition_readable,
+            (
+              delay_readable,
+              (
+                product_readable (codes "S"),
+                (
+                  output_readable (codes "y") 1 (lit≤ tt) (lit≤ tt),
+                  (
+                    output_readable (codes "z") 2 (lit≤ tt) (lit≤ tt),
+                    tt,
+                  ),
+                ),
+              ),
+            ),
+          ),
+        ),
+      ),
+    ),
+  );
   controls = all_of (λ (block : Block). NamesControl blocks block.enable) blocks (tt, (tt, (tt, (tt, (tt, (tt, (tt, (tt, (tt, tt)))))))));
   enables = all_of (λ (block : Block). MayStand (row_of block.kind).place.stands block.enable) blocks (tt, (tt, (tt, (tt, (refl, (tt, (tt, (tt, (tt, tt)))))))));
   inports = one_and_two;
