@@ -117,7 +117,7 @@ check-design output = record {
 }
 
 -- the design that a text with valid and ready is of
-pub stream-design : {held : List ℕ → Told} {model : List ℕ} {plan : PlanWord} {text : List ℕ} → IsStreamOfFiles held model plan text → HasDesign held model plan
+unfoldable pub stream-design : {held : List ℕ → Told} {model : List ℕ} {plan : PlanWord} {text : List ℕ} → IsStreamOfFiles held model plan text → HasDesign held model plan
 stream-design output = record {
   model_bytes = output.model_bytes;
   plan_bytes = output.plan_bytes;

@@ -1,4 +1,4 @@
-ghost use Rattle.std.specs.Prelude.{◌≡◌, IfSome, map, string_bytes};
+ghost use Rattle.std.specs.Prelude.{◌≡◌, ◌∷◌, [], IfSome, map, string_bytes};
 ghost use Rattle.std.specs.Option.{option_map};
 ghost use Rattle.fx_top.specs.Command.{asked_of, number_of as number_of_word};
 ghost use Rattle.fx_top.specs.inner.Named.{HasRange, named};
@@ -32,35 +32,7 @@ impl<'a> Command<'a> {
         ensures range { IfSome result HasRange }
     {
         match words {
-            [verb, model, plan] if verb.as_str() == "generate" => Some(Command::Generate {
-                model: model.as_str(),
-                plan: plan.as_str(),
-            }),
-            [verb, verilog, stimulus] if verb.as_str() == "replay" => Some(Command::Replay {
-                verilog: verilog.as_str(),
-                stimulus: stimulus.as_str(),
-            }),
-            [verb, model, stimulus] if verb.as_str() == "simulate" => Some(Command::Simulate {
-                model: model.as_str(),
-                stimulus: stimulus.as_str(),
-            }),
-            [verb, model, range] if verb.as_str() == "explore" => {
-                match read_range(range.as_str().as_bytes()) {
-                    Some(range) => Some(Command::Explore {
-                        model: model.as_str(),
-                        range,
-                    }),
-                    None => None,
-                }
-            }
-            [verb, model, plan] if verb.as_str() == "check" => Some(Command::Check {
-                model: model.as_str(),
-                plan: plan.as_str(),
-            }),
-            [verb, model, plan] if verb.as_str() == "stream" => Some(Command::Stream {
-                model: model.as_str(),
-                plan: plan.as_str(),
-            }),
+            [verb, first, second] => { over_two(verb.as_str(), first.as_str(), second.as_str()) }
             [verb, word] if verb.as_str() == "sample" => {
                 match number_of(word.as_str().as_bytes()) {
                     Some(number) => Some(Command::Sample { number }),
@@ -70,6 +42,53 @@ impl<'a> Command<'a> {
             _ => None,
         }
     }
+}
+
+/// The command that a word names over two others, where it names one.
+fn over_two<'a>(verb: &str, first: &'a str, second: &'a str) -> Option<Command<'a>>
+    ensures is { option_map named result ≡ asked_of (verb.now ∷ first.now ∷ second.now ∷ []) }
+    ensures range { IfSome result HasRange }
+{
+    if verb == "generate" {
+        return Some(Command::Generate {
+            model: first,
+            plan: second,
+        });
+    }
+    if verb == "replay" {
+        return Some(Command::Replay {
+            verilog: first,
+            stimulus: second,
+        });
+    }
+    if verb == "simulate" {
+        return Some(Command::Simulate {
+            model: first,
+            stimulus: second,
+        });
+    }
+    if verb == "explore" {
+        return match read_range(second.as_bytes()) {
+            Some(range) => Some(Command::Explore {
+                model: first,
+                range,
+            }),
+            None => None,
+        };
+    }
+    if verb == "check" {
+        return Some(Command::Check {
+            model: first,
+            plan: second,
+        });
+    }
+    if verb == "stream" {
+        return Some(Command::Stream {
+            model: first,
+            plan: second,
+        });
+    }
+    None
 }
 
 /// The number of a sample that a word names: 1 to 5000, without zeros in front.

@@ -61,3 +61,34 @@ pub returns-clause-cause : goal.returns-clause-cause
 returns-clause-cause g c =
     let says = subst (λ (held : List ℕ → Told). IsPlanText held (plan_word c.args.plan.now) c.in-Ok-fetch_plan.lines) c.in-Ok.ensures.kept c.in-Ok-fetch_plan.ensures.says in
     fetched-planned (g.S.Shelf.held c.args.shelf.now) c.args.model.now (plan_word c.args.plan.now) c.in-Ok.source c.in-Ok-fetch_plan.lines c.in-Ok.ensures.found says
+
+pub returns-in-Ok-put_all-clause-written : goal.returns-in-Ok-put_all-clause-written
+returns-in-Ok-put_all-clause-written g c =
+    let says = subst (λ (held : List ℕ → Told). IsPlanText held (plan_word c.args.plan.now) c.in-Ok-fetch_plan.lines) c.in-Ok.ensures.kept c.in-Ok-fetch_plan.ensures.says in
+    record {
+      text = c.in-Ok-streamed_of.text;
+      output = record {
+        model_bytes = c.in-Ok.source;
+        plan_bytes = c.in-Ok-fetch_plan.lines;
+        model_fetched = c.in-Ok.ensures.found;
+        plan_says = says;
+        stream = rw (c.bytes.ensures, c.bytes-2.ensures) at c.in-Ok-streamed_of.ensures.made;
+      };
+      taken = rw c.bytes-3.ensures at c.in-Ok-put_all.ensures.whole;
+    }
+
+pub returns-clause-written : goal.returns-clause-written
+returns-clause-written g c =
+    let says = subst (λ (held : List ℕ → Told). IsPlanText held (plan_word c.args.plan.now) c.in-Ok-fetch_plan.lines) c.in-Ok.ensures.kept c.in-Ok-fetch_plan.ensures.says in
+    record {
+      rise = c.in-Err-put_all.ensures.cause;
+      text = c.in-Ok-streamed_of.text;
+      output = record {
+        model_bytes = c.in-Ok.source;
+        plan_bytes = c.in-Ok-fetch_plan.lines;
+        model_fetched = c.in-Ok.ensures.found;
+        plan_says = says;
+        stream = rw (c.bytes.ensures, c.bytes-2.ensures) at c.in-Ok-streamed_of.ensures.made;
+      };
+      taken = rw c.bytes-3.ensures at c.in-Err-put_all.ensures.cut;
+    }
