@@ -13,7 +13,6 @@ mod Outcomes
 pub mod Placing
 mod Periods
 pub mod Planning
-pub mod Ported
 pub mod Replayed
 mod ReplayedDelay
 pub mod Responses
