@@ -1,5 +1,5 @@
 -- What the words of a command say, and what its causes say of the bytes of its first file.
-use Rattle.std.proofs.Common.{◌≡◌, ℕ, List, [], ◌∷◌, Some, refl, sym, arith}
+use Rattle.std.proofs.Common.{◌≡◌, ℕ, List, [], ◌∷◌, length, map, None, Some, refl, sym, arith}
 use Rattle.dg_model.specs.declared.diagram.Diagram.{Diagram}
 use Rattle.dg_model.specs.declared.fault.RuleFault.{RuleFault}
 use Rattle.mdl_text.specs.declared.tree.Tree.{Tree}
@@ -7,11 +7,19 @@ use Rattle.mdl_text.specs.Stands.{Stands}
 use Rattle.fx_tables.specs.declared.table.TableCause.{TableCause}
 use Rattle.vl_ast.specs.declared.modules.Module.{Module}
 use Rattle.vl_ast.specs.Conditions.{BreaksNone, Fault, IsFirstFault}
-use Rattle.fx_top.specs.Command.{Command, PlanWord, Generate, Replay, Simulate, Explore, Check, Stream, model_of, verilog_of, plan_of, first_of}
+use Rattle.fx_top.specs.Command.{Command, PlanWord, Generate, Replay, Simulate, Explore, Check, Stream, asked_of, model_of, verilog_of, plan_of, first_of}
 use Rattle.fx_model.specs.Model.{IsModelOf, IsBrokenModel, IsAccepted}
 use Rattle.fx_top.specs.Outcome.{Yields, IsBadFor}
 use Rattle.fx_top.specs.Output.{IsBadTable}
 use Rattle.fx_top.specs.Replayed.{IsSoundText}
+
+-- so many words ask for nothing
+pub none_asked : {W : Type 0} (bytes : W → List ℕ) (words : List W) → (length words ≡ 2 → ⊥) → (length words ≡ 3 → ⊥) → None ≡ asked_of (map bytes words)
+none_asked bytes [] two three = refl
+none_asked bytes (one ∷ []) two three = refl
+none_asked bytes (one ∷ other ∷ []) two three = absurd (two refl)
+none_asked bytes (one ∷ other ∷ more ∷ []) two three = absurd (three refl)
+none_asked bytes (one ∷ other ∷ more ∷ most ∷ words) two three = refl
 
 pub first-model : (command : Command) (file : List ℕ) → model_of command ≡ Some file → file ≡ first_of command
 first-model (Generate model plan) file is = sym (cc is)

@@ -27,20 +27,18 @@ pub enum Command<'a> {
 
 impl<'a> Command<'a> {
     /// The command that the words name, where they have a listed shape.
+    #[tactic(auto, using(crate::proofs::Commands::none_asked))]
     pub fn of_words(words: &'a [String]) -> Option<Command<'a>>
         ensures is { option_map named result ≡ asked_of (map string_bytes words.now) }
         ensures range { IfSome result HasRange }
     {
-        match words {
-            [verb, first, second] => { over_two(verb.as_str(), first.as_str(), second.as_str()) }
-            [verb, word] if verb.as_str() == "sample" => {
-                match number_of(word.as_str().as_bytes()) {
-                    Some(number) => Some(Command::Sample { number }),
-                    None => None,
-                }
-            }
-            _ => None,
+        if let [verb, first, second] = words {
+            return over_two(verb.as_str(), first.as_str(), second.as_str());
         }
+        if let [verb, word] = words {
+            return over_one(verb.as_str(), word.as_str());
+        }
+        None
     }
 }
 
@@ -89,6 +87,20 @@ fn over_two<'a>(verb: &str, first: &'a str, second: &'a str) -> Option<Command<'
         });
     }
     None
+}
+
+/// The command that a word names over one other, where it names one.
+fn over_one<'a>(verb: &str, word: &str) -> Option<Command<'a>>
+    ensures is { option_map named result ≡ asked_of (verb.now ∷ word.now ∷ []) }
+    ensures range { IfSome result HasRange }
+{
+    if verb != "sample" {
+        return None;
+    }
+    match number_of(word.as_bytes()) {
+        Some(number) => Some(Command::Sample { number }),
+        None => None,
+    }
 }
 
 /// The number of a sample that a word names: 1 to 5000, without zeros in front.
