@@ -32,13 +32,19 @@ impl<'a> Command<'a> {
         ensures is { option_map named result ≡ asked_of (map string_bytes words.now) }
         ensures range { IfSome result HasRange }
     {
-        if let [verb, first, second] = words {
-            return over_two(verb.as_str(), first.as_str(), second.as_str());
+        let Some((verb, more)) = words.split_first() else {
+            return None;
+        };
+        let Some((first, others)) = more.split_first() else {
+            return None;
+        };
+        let Some((second, rest)) = others.split_first() else {
+            return over_one(verb.as_str(), first.as_str());
+        };
+        if !rest.is_empty() {
+            return None;
         }
-        if let [verb, word] = words {
-            return over_one(verb.as_str(), word.as_str());
-        }
-        None
+        over_two(verb.as_str(), first.as_str(), second.as_str())
     }
 }
 
