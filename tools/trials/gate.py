@@ -128,7 +128,7 @@ class Wanting(unittest.TestCase):
 
 class Gate(unittest.TestCase):
     CHECKS = (
-        "examples/run", "tools/glossary", "tools/cites", "tools/memory", "tools/try", "tools/cross_check",
+        "examples/run", "tools/streams", "tools/glossary", "tools/cites", "tools/memory", "tools/try", "tools/cross_check",
         "tools/cross_values", "tools/cross_nets",
     )
 
