@@ -2,12 +2,11 @@
 `run` over files in memory (`crates/tests_top`), so that no process starts for a call."""
 
 import os
-import re
 import subprocess
 import time
 
 from .calls import Answer
-from .texts import TOP, Seeds, Tally, case_of, keep
+from .texts import TOP, Seeds, Tally, case_of, keep, tried
 
 # So many cases are answered by one process, which has so long.
 TOGETHER = 200
@@ -38,13 +37,17 @@ def answers_of(path, asked):
     for number, (_, calls) in enumerate(asked):
         answers.append([])
         for place, words in enumerate(calls):
-            opening = re.compile(rb"run %d %d\nstatus 2\nusage: [^\n]*\nrun %s\nstatus ([0-9]+)\n" % (number, place, b" ".join(word.encode() for word in words)))
-            begun = opening.match(ran.stdout, at)
-            if begun is None:
+            # a row that is no call, with its line of usage, tells which call's answer follows
+            marked = b"run %d %d\nstatus 2\nusage: " % (number, place)
+            asked_for = b"\nrun " + " ".join(words).encode() + b"\nstatus "
+            begun = ran.stdout.find(asked_for, at)
+            if not ran.stdout.startswith(marked, at) or b"\n" in ran.stdout[at + len(marked) : begun]:
                 return None
+            end = ran.stdout.index(b"\n", begun + len(asked_for))
+            status = int(ran.stdout[begun + len(asked_for) : end])
             following = b"run %d %d\n" % ((number, place + 1) if place + 1 < len(calls) else (number + 1, 0))
-            at = ran.stdout.find(following if (number, place) != (len(asked) - 1, len(calls) - 1) else b"run end\n", begun.end())
-            answers[-1].append(answer(int(begun[1]), ran.stdout[begun.end() : at]))
+            at = ran.stdout.find(following if (number, place) != (len(asked) - 1, len(calls) - 1) else b"run end\n", end)
+            answers[-1].append(answer(status, ran.stdout[end + 1 : at]))
     return answers
 
 
@@ -58,8 +61,8 @@ def answer(status, told):
 class Batch:
     """Trials that are under way, by their numbers."""
 
-    def __init__(self, path, tally):
-        self.path, self.tally = path, tally
+    def __init__(self, path, tally, cases, program):
+        self.path, self.tally, self.cases, self.program = path, tally, cases, program
         self.faults = {}
 
     def step(self, asked):
@@ -73,6 +76,11 @@ class Batch:
             return self.step(asked[:half]) + self.step(asked[half:])
         more = []
         for (number, trial, (_, calls)), found in zip(asked, answers):
+            # an output with more bytes than those files have room for is tried by processes
+            if any(one.status == 4 for one in found):
+                texts, _, trial_of = self.cases[number]
+                self.faults[number] = tried(self.program, self.tally, f"case {number}", trial_of(texts))
+                continue
             for words, one in zip(calls, found):
                 self.faults.setdefault(number, []).extend(self.tally.take(f"case {number}", words, one))
             try:
@@ -91,7 +99,7 @@ def run(program, options, say):
     while done < options.cases and time.monotonic() - start < options.seconds:
         numbers = range(done, min(options.cases, done + TOGETHER))
         cases = {number: case_of(seeds, options.seed, number) for number in numbers}
-        batch = Batch(path, tally)
+        batch = Batch(path, tally, cases, program)
         trials = {number: trial(texts) for number, (texts, _, trial) in cases.items()}
         asked = [(number, trial, next(trial)) for number, trial in trials.items()]
         while asked:

@@ -12,6 +12,8 @@ from .calls import fault_of
 from .mutants import MOST_BYTES, mutant, shrunk
 
 MOST_SECONDS = 2.0
+MOST_CLOCKS = 200_000
+MOST_OF_FILE = 16_777_216
 TOP = os.path.dirname(os.path.dirname(os.path.dirname(os.path.abspath(__file__))))
 
 
@@ -85,6 +87,14 @@ class Tally:
 # returns what is wrong with all of them together.
 
 
+def shortened(verilog, stimulus):
+    """The stimulus with as many rows as a replay has time for: it takes as long as its clocks."""
+    cycles = re.search(rb"fx_cycles = ([0-9]{1,4})", verilog)
+    rows = MOST_CLOCKS // max(1, int(cycles[1] if cycles else 1))
+    lines = stimulus.split(b"\n", rows)
+    return stimulus if len(lines) <= rows else b"".join(line + b"\n" for line in lines[:rows])
+
+
 def models(texts):
     """The calls over a model, a plan and a stimulus."""
     faults = []
@@ -99,7 +109,9 @@ def models(texts):
     refused = checked.status == 5 or re.match(rb"rule [1-9] ", checked.err)
     if refused and (checked.status, checked.err) != (simulated.status, simulated.err):
         faults.append(f"check: {checked.status} {checked.err!r}, simulate: {simulated.status} {simulated.err!r}")
-    if made.status == simulated.status == 0:
+    # delays of many elements may make a text that is too long for a file
+    is_short = len(made.out) <= MOST_OF_FILE and shortened(made.out, texts["s"]) == texts["s"]
+    if made.status == simulated.status == 0 and is_short:
         (replayed,) = yield {"g": made.out, "s": texts["s"]}, [("replay", "g", "s")]
         if (replayed.status, replayed.out) != (0, simulated.out):
             faults.append(f"replay of what generate wrote: {replayed.status} {replayed.err!r}, another response than simulate's")
@@ -108,7 +120,7 @@ def models(texts):
 
 def verilogs(texts):
     """The call over a Verilog text and a stimulus."""
-    yield texts, [("replay", "v", "s")]
+    yield {**texts, "s": shortened(texts["v"], texts["s"])}, [("replay", "v", "s")]
     return []
 
 

@@ -54,7 +54,7 @@ def run(program, _options, say):
         for place in range(FILES[command]):
             # words that aren't all UTF-8 are no command, whether or not a file has such a name
             tried("no text", [command, *words[:place], "\udcff\udcfe", *words[place + 1 :]], {2}, command)
-        for some in ([command], [command, words[0]], [command, *words, "x"], [command.upper(), *words], ["", command, *words], [command + " ", *words], [command + "\n", *words], ["\udcff", *words]):
+        for some in ([command], [command, *words[:-1]], [command, *words, "x"], [command.upper(), *words], ["", command, *words], [command + " ", *words], [command + "\n", *words], ["\udcff", *words]):
             tried("no command", some, {2}, command)
     tried("no words", [], {2})
     for word in RANGES:
