@@ -2,4 +2,4 @@ mod Exactly
 mod Fracs
 mod Products
 mod Ranges
-mod Sums
+pub mod Sums

@@ -1,4 +1,4 @@
--- Every part of a sum, and every term, is a possible sum, so it fits 128 bits where the full type is valid.
+-- Every part of a sum, and every term, is a possible sum, so it fits 128 bits where the full type is valid. Crates above may cite this file.
 use Rattle.std.proofs.Common.{Any, ◌≡◌, ℕ, zero, suc, ◌<◌, Bool, true, false, List, [], ◌∷◌, length, get_or, take, ℤ, pos, ◌+ℤ◌, ◌≤ℤ◌, All, FitsSigned, refl, subst, sym, ap, ◌∙◌, arith}
 use Rattle.std.specs.Prelude.{zip}
 use Rattle.std.specs.Int.{w128}
@@ -30,7 +30,7 @@ AreTypes types = (k : ℕ) (d : FxType) → k < length types → IsType (get_or 
 
 module _ (frac : ℤ) where
   -- the sum of the first k terms is possible
-  part_possible : (signs : List Bool) (types : List FxType) (inputs : List ℤ) → AreTypes types → EachInRange types inputs → length inputs ≡ length types → (k : ℕ)
+  pub part_possible : (signs : List Bool) (types : List FxType) (inputs : List ℤ) → AreTypes types → EachInRange types inputs → length inputs ≡ length types → (k : ℕ)
       → IsPossibleSum frac (zip signs types) (signed_sum frac (take k (zip signs types)) (take k inputs))
   part_possible [] types inputs valid range same zero = refl
   part_possible [] types inputs valid range same (suc k) = refl
@@ -53,7 +53,7 @@ module _ (frac : ℤ) where
   }
 
   -- each term is possible
-  term_possible : (signs : List Bool) (types : List FxType) (inputs : List ℤ) → AreTypes types → EachInRange types inputs → length signs ≡ length types → length inputs ≡ length types → (k : ℕ) → k < length types
+  pub term_possible : (signs : List Bool) (types : List FxType) (inputs : List ℤ) → AreTypes types → EachInRange types inputs → length signs ≡ length types → length inputs ≡ length types → (k : ℕ) → k < length types
       → IsPossibleSum frac (zip signs types) (term_of frac (get_or signs k false) (type_of types k) (value_of inputs k))
   term_possible [] [] inputs valid range same_signs same k h = absurd (omega arith)
   term_possible [] (t ∷ types) inputs valid range same_signs same k h = absurd (omega arith)

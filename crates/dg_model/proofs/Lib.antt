@@ -22,6 +22,7 @@ mod Roots
 mod Roundings
 mod SlowToFast
 mod SoundRows
+mod SumTerms
 mod SumTypes
 mod TypeFaults
 mod TypeOfSmall

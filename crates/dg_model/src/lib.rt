@@ -25,6 +25,7 @@ mod plan;
 mod port_widths;
 mod propagated;
 mod resolved;
+mod sums;
 
 pub use checked::Checked;
 pub use diagram::{Block, Blocks, Diagram, Edge, Edges, PeriodSpec};
@@ -39,3 +40,4 @@ pub use plan::{Pipeline, Pipelines, Plan};
 pub use port_widths::PortWidths;
 pub use propagated::{FxTypes, Propagated};
 pub use resolved::Resolved;
+pub use sums::sum_type;

@@ -11,7 +11,7 @@ use Rattle.fx_type.specs.FullType.{negated_if, IsPossibleSum}
 use Rattle.dg_model.specs.Operation.{signed_sum, type_of, value_of}
 use Rattle.dg_prepared.specs.Narrow.{IsSmall, IsWithin}
 use Rattle.dg_prepared.specs.Prepared.{IsSummable}
-use Rattle.dg_prepared.proofs.Possible.{term_of, part_possible, term_possible, sum_more}
+use Rattle.dg_blocks.proofs.Sums.{term_of, part_possible, term_possible, sum_more}
 use Rattle.dg_prepared.proofs.Narrowed.{range_within, whole_fits}
 
 -- a number is as large as its negative

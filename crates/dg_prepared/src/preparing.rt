@@ -10,8 +10,8 @@ ghost use Rattle.dg_prepared.specs.Prepared.{IsReady, IsPrepared};
 
 use crate::narrow::{Narrow, short};
 use crate::prepared::Prepared;
-use crate::sums::{are_short, full_type};
-use dg_model::OpCall;
+use crate::sums::are_short;
+use dg_model::{OpCall, sum_type};
 use fx_type::FxType;
 
 /// The conversion of a product of stored integers of two types.
@@ -34,7 +34,7 @@ pub fn summed(call: &OpCall) -> Prepared
     requires is_sum { call.now.op ≡ Sum }
     ensures { IsPrepared result (operation_of call.now) }
 {
-    let full = full_type(call.signs, call.types);
+    let full = sum_type(call.signs, call.types);
     let bits = u32::from(full.width());
     let frac = full.frac();
     if !are_short(frac, call.types) {

@@ -1,42 +1,15 @@
 //! Sums in 64 bits.
-ghost use Rattle.std.specs.Prelude.{◌≡◌, ◌^◌, ◌≤◌, pos, negsuc, ◌*ℤ◌, ◌≤ℤ◌, All, length, true, zip, FitsSigned};
+ghost use Rattle.std.specs.Prelude.{◌≡◌, ◌^◌, ◌≤◌, pos, negsuc, ◌*ℤ◌, ◌≤ℤ◌, All, true, zip, FitsSigned};
 ghost use Rattle.std.specs.Int.{int_gap, w64};
 ghost use Rattle.fx_type.specs.declared.kind.FxType.{FxType};
 ghost use Rattle.fx_type.specs.FxType.{IsType, frac_of, aligned as aligned_of};
-ghost use Rattle.fx_type.specs.FullType.{negated_if, IsFullSum};
+ghost use Rattle.fx_type.specs.FullType.{negated_if};
 ghost use Rattle.dg_model.specs.Operation.{signed_sum as signed_sum_of};
 ghost use Rattle.dg_prepared.specs.Narrow.{IsSmall};
 ghost use Rattle.dg_prepared.specs.Prepared.{IsShort, IsSummable};
 
 use crate::narrow::{gap, short};
-use fx_type::{FxType, full_sum};
-
-/// The type of a sum that has one.
-fn full_of(terms: &[(bool, FxType)]) -> FxType
-    requires valid { All (λ term. IsType term.1) terms.now }
-    requires some { 1 ≤ length terms.now }
-    requires few { length terms.now ≤ 32 }
-    requires full { (full : FxType) × IsFullSum terms.now full }
-    ensures { IsFullSum terms.now result }
-{
-    full_sum(terms).unwrap()
-}
-
-/// The type of a Sum before it is converted.
-pub fn full_type(signs: &[bool], types: &[FxType]) -> FxType
-    requires signs { length signs.now ≡ length types.now }
-    requires some { 1 ≤ length types.now }
-    requires few { length types.now ≤ 32 }
-    requires types { All IsType types.now }
-    requires full { (full : FxType) × IsFullSum (zip signs.now types.now) full }
-    ensures { IsFullSum (zip signs.now types.now) result }
-{
-    let mut terms = [(false, FxType::Logical); 32];
-    for (input, kind) in types.iter().enumerate() {
-        terms[input] = (signs[input], *kind);
-    }
-    full_of(&terms[..types.len()])
-}
+use fx_type::FxType;
 
 /// Whether 62 bits hold the stored integers of the type, also with `frac` bits behind the point.
 fn is_short(frac: i16, kind: FxType) -> bool

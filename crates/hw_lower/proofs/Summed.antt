@@ -1,5 +1,5 @@
 -- Sums, term after term, in the word of their full type.
-use Rattle.std.proofs.Common.{◌≡◌, ℕ, zero, suc, ◌+◌, ◌^◌, ◌<◌, ◌≤◌, Bool, false, List, [], ◌∷◌, length, get_or, set, take, ℤ, pos, neg_ℤ, ◌+ℤ◌, ◌-ℤ◌, ◌≤ℤ◌, All, refl, subst, sym, ap, ◌∙◌, arith}
+use Rattle.std.proofs.Common.{◌≡◌, ℕ, zero, suc, ◌+◌, ◌^◌, ◌<◌, ◌≤◌, Bool, false, List, [], ◌∷◌, length, get_or, take, ℤ, pos, neg_ℤ, ◌+ℤ◌, ◌-ℤ◌, ◌≤ℤ◌, All, refl, subst, sym, ap, ◌∙◌, arith}
 use Rattle.std.specs.Prelude.{zip}
 use Rattle.std.proofs.lemmas.Int.{ints}
 use Rattle.std.proofs.lemmas.List.{take_all}
@@ -8,7 +8,7 @@ use Rattle.std.proofs.Math.IntN.{+ℤ_idl, +ℤ_assoc}
 use Rattle.fx_num.specs.Word.{IsCongruent, IsWrapped}
 use Rattle.fx_num.proofs.Arithmetic.{add-scaled, scaled-neg}
 use Rattle.fx_type.specs.declared.kind.FxType.{FxType}
-use Rattle.fx_type.specs.FxType.{IsType, InRange, is_signed, width_of, frac_of, aligned}
+use Rattle.fx_type.specs.FxType.{InRange, is_signed, width_of, frac_of, aligned}
 use Rattle.fx_type.specs.FullType.{Terms, negated_if, IsPossibleSum, IsFullSum}
 use Rattle.dg_model.specs.Operation.{signed_sum, type_of, value_of}
 use Rattle.hw_lower.specs.inner.Planned.{Numbers}
@@ -134,26 +134,3 @@ total-is signs types full numbers k total same is_full past is values are =
     let whole : IsWrapped (signed_sum (frac_of full) terms values) (width_of full) (is_signed full) total = rw (take_all k terms count, take_all k values few) at (is values are) in
     let range : InRange full (signed_sum (frac_of full) terms values) = is_full.holds (signed_sum (frac_of full) terms values) (possible (frac_of full) signs types values are.in_range.in_range are.in_range.count) in
     wrapped-is (signed_sum (frac_of full) terms values) (width_of full) (is_signed full) total (type-word full is_full.valid) (range-word full (signed_sum (frac_of full) terms values) range) whole
-
--- the terms of a sum, one after another
-pub terms-more : (signs : List Bool) (types : List FxType) (terms : Terms) (i : ℕ) (x : Bool × FxType) → i < length terms → i < length signs → i < length types → x ≡ (get_or signs i false, type_of types i)
-    → take i terms ≡ take i (zip signs types) → take (suc i) (set terms i x) ≡ take (suc i) (zip signs types)
-terms-more signs types [] i x room h k is are = absurd (omega arith)
-terms-more [] types (u ∷ terms) i x room h k is are = absurd (omega arith)
-terms-more (s ∷ signs) [] (u ∷ terms) i x room h k is are = absurd (omega arith)
-terms-more (s ∷ signs) (t ∷ types) (u ∷ terms) zero x room h k is are = ap (λ (y : Bool × FxType). y ∷ []) is
-terms-more (s ∷ signs) (t ∷ types) (u ∷ terms) (suc i) x room h k is are =
-    let first : u ≡ (s, t) = cc in
-    let rest : take i terms ≡ take i (zip signs types) = cc in
-    let more = terms-more signs types terms i x (omega arith) (omega arith) (omega arith) is rest in
-    ap (λ (y : Bool × FxType). y ∷ take (suc i) (set terms i x)) first ∙ ap (λ (ys : Terms). (s, t) ∷ ys) more
-
-pub terms-whole : (signs : List Bool) (types : List FxType) (terms : Terms) (i n : ℕ) → length signs ≡ length types → n ≡ i → length types ≤ i → take i terms ≡ take i (zip signs types) → take n terms ≡ zip signs types
-terms-whole signs types terms i n same e past are =
-    ap (λ (k : ℕ). take k terms) e ∙ are ∙ take_all i (zip signs types) (omega (arith, length-zip signs types, same))
-
-pub terms-valid : (signs : List Bool) (types : List FxType) → All IsType types → All (λ (term : Bool × FxType). IsType term.1) (zip signs types)
-terms-valid [] types valid i d h = absurd (omega arith)
-terms-valid (s ∷ signs) [] valid i d h = absurd (omega arith)
-terms-valid (s ∷ signs) (t ∷ types) valid zero d h = valid 0 t (omega arith)
-terms-valid (s ∷ signs) (t ∷ types) valid (suc i) d h = terms-valid signs types (λ k e below. valid (suc k) e (omega arith)) i d (omega arith)

@@ -19,9 +19,9 @@ use crate::plan::{Operand, Plan, Word, factor, multiply, word_of};
 use crate::relating::compared;
 use crate::settling::converted;
 use crate::sums::summed;
-use dg_model::{Criterion, Op, OpCall};
+use dg_model::{Criterion, Op, OpCall, sum_type};
 use fx_io::OutOfMemory;
-use fx_type::{FxType, full_sum};
+use fx_type::FxType;
 
 /// A number with `frac` bits behind the point, converted to the result type of the call.
 fn settled(plan: &mut Plan, call: &OpCall, from: Operand, frac: i16) -> Result<Operand, OutOfMemory>
@@ -52,33 +52,6 @@ fn argument_settled(plan: &mut Plan, call: &OpCall, input: usize) -> Result<Oper
     settled(plan, call, from, frac)
 }
 
-/// The type of a Sum before it is converted.
-fn full_type(signs: &[bool], types: &[FxType]) -> FxType
-    requires signs { length signs.now ≡ length types.now }
-    requires some { 1 ≤ length types.now }
-    requires few { length types.now ≤ 32 }
-    requires types { All IsType types.now }
-    requires full { (full : FxType) × IsFullSum (zip signs.now types.now) full }
-    ensures { IsFullSum (zip signs.now types.now) result }
-{
-    let mut terms = [(false, FxType::Logical); 32];
-    for (input, kind) in types.iter().enumerate() {
-        terms[input] = (signs[input], *kind);
-    }
-    full_of(&terms[..types.len()])
-}
-
-/// The type of a sum that has one.
-fn full_of(terms: &[(bool, FxType)]) -> FxType
-    requires valid { All (λ term. IsType term.1) terms.now }
-    requires some { 1 ≤ length terms.now }
-    requires few { length terms.now ≤ 32 }
-    requires full { (full : FxType) × IsFullSum terms.now full }
-    ensures { IsFullSum terms.now result }
-{
-    full_sum(terms).unwrap()
-}
-
 /// A Sum.
 fn planned_sum(plan: &mut Plan, call: &OpCall) -> Result<Operand, OutOfMemory>
     requires arguments { HasArguments plan.old call.now.types.now }
@@ -96,7 +69,7 @@ fn planned_sum(plan: &mut Plan, call: &OpCall) -> Result<Operand, OutOfMemory>
         (signed_sum (frac_of full) (zip call.now.signs.now call.now.types.now) values) full
         (numbers made.place))) made) }
 {
-    let full = full_type(call.signs, call.types);
+    let full = sum_type(call.signs, call.types);
     let exact = summed(plan, call.signs, call.types, full)?;
     settled(plan, call, exact, full.frac())
 }
