@@ -10,7 +10,8 @@ use Rattle.dg_model.specs.declared.nested.Nested.{Nested}
 use Rattle.dg_model.specs.declared.nested.NestedBlock.{NestedBlock}
 use Rattle.dg_model.specs.declared.nested.Part.{Part}
 use Rattle.dg_model.specs.declared.nested.Part.TheVariants.{Plain, In, Out, SubSystem, Enable}
-use Rattle.dg_model.specs.KindRow.{Role, Row}
+use Rattle.dg_model.specs.declared.row.Role.{Role}
+use Rattle.dg_model.specs.KindRow.{Row}
 use Rattle.dg_model.specs.Library.{row_of}
 use Rattle.dg_model.specs.Sound.{IsSound, HasPlainRole}
 use Rattle.dg_model.specs.Wired.{AreNumbered, root_input, root_output}

@@ -12,7 +12,8 @@ use Rattle.dg_model.specs.declared.nested.Nested.{Nested}
 use Rattle.dg_model.specs.declared.nested.NestedBlock.{NestedBlock}
 use Rattle.dg_model.specs.declared.nested.Part.{Part}
 use Rattle.dg_model.specs.declared.nested.Part.TheVariants.{Plain, In, Out, SubSystem, Enable}
-use Rattle.dg_model.specs.KindRow.{Standing, Row}
+use Rattle.dg_model.specs.declared.row.Standing.{Standing}
+use Rattle.dg_model.specs.KindRow.{Row}
 use Rattle.dg_model.specs.Library.{row_of}
 use Rattle.dg_model.specs.Sound.{IsSound, IsEnable, HasEnablePort}
 use Rattle.dg_model.specs.Wired.{MayStand as MayStandFlat}

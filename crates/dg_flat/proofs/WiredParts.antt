@@ -11,7 +11,7 @@ use Rattle.dg_model.specs.declared.nested.Nested.{Nested}
 use Rattle.dg_model.specs.declared.nested.NestedBlock.{NestedBlock}
 use Rattle.dg_model.specs.declared.nested.Part.{Part}
 use Rattle.dg_model.specs.declared.nested.Part.TheVariants.{Plain, In, Out, SubSystem, Enable}
-use Rattle.dg_model.specs.KindRow.{Role}
+use Rattle.dg_model.specs.declared.row.Role.{Role}
 use Rattle.dg_model.specs.Library.{row_of, IsReadable}
 use Rattle.dg_model.specs.Sound.{IsSound, HasReadable}
 use Rattle.dg_model.specs.Wired.{NamesControl}

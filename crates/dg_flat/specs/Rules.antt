@@ -11,7 +11,7 @@ use Rattle.dg_model.specs.declared.nested.Part.TheVariants.{Plain, In, Out, SubS
 use Rattle.dg_model.specs.declared.nested.Target.{Target}
 use Rattle.dg_model.specs.declared.nested.Target.TheVariants.{Port, Enable as ToEnable}
 use Rattle.dg_model.specs.Faults.{fault_of}
-use Rattle.dg_model.specs.KindRow.{Standing}
+use Rattle.dg_model.specs.declared.row.Standing.{Standing}
 use Rattle.dg_model.specs.Library.{row_of}
 use Rattle.dg_flat.specs.Parts.{nested_path, in_number, out_number, count_in, outputs_of, inputs_of, enable_port, system_around, control_of}
 

@@ -3,7 +3,7 @@ ghost use Rattle.dg_flat.specs.Flat.{resetting};
 ghost use Rattle.dg_flat.specs.Rules.{MayStand};
 ghost use Rattle.dg_model.specs.Library.{row_of};
 
-use dg_model::Kind;
+use dg_model::{Kind, Standing};
 use fx_io::{OutOfMemory, Sequence};
 use std::alloc::Global;
 
@@ -18,25 +18,10 @@ fn copied<E: Copy>(alloc: Global, list: &Sequence<E>) -> Result<Sequence<E>, Out
 pub fn may_stand(kind: &Kind, control: Option<u32>) -> bool
     ensures { IsTrue result ↔ MayStand (row_of kind.now).place.stands control }
 {
-    match kind {
-        Kind::RateTransition { .. } | Kind::EnableTest => control.is_none(),
-        Kind::EnOut { .. } => control.is_some(),
-        Kind::Inport { .. }
-        | Kind::Outport { .. }
-        | Kind::Constant { .. }
-        | Kind::Ground
-        | Kind::Sum { .. }
-        | Kind::Gain { .. }
-        | Kind::Product
-        | Kind::Switch { .. }
-        | Kind::Relational { .. }
-        | Kind::Logic { .. }
-        | Kind::Convert { .. }
-        | Kind::Delay { .. }
-        | Kind::Mux { .. }
-        | Kind::Demux { .. }
-        | Kind::Pass { .. }
-        | Kind::Terminator => true,
+    match kind.row().stands {
+        Standing::Anywhere => true,
+        Standing::Outside => control.is_none(),
+        Standing::Inside => control.is_some(),
     }
 }
 

@@ -8,7 +8,13 @@ use Rattle.dg_model.specs.declared.kind.Relation.TheVariants.{Lt}
 use Rattle.dg_model.specs.declared.kind.Gate.TheVariants.{And}
 use Rattle.dg_model.specs.declared.kind.Kind.{Kind}
 use Rattle.dg_model.specs.declared.kind.Kind.TheVariants.{Inport, Outport, Constant, Ground, Sum, Gain, Product, Switch, Relational, Logic, Convert, Delay, Mux, Demux, RateTransition, Pass, EnableTest, EnOut, Terminator}
-use Rattle.dg_model.specs.KindRow.{Role, Standing, Shape, OwnType, Inherited, Reading, Asking}
+use Rattle.dg_model.specs.declared.row.Role.{Role}
+use Rattle.dg_model.specs.declared.row.Standing.{Standing}
+use Rattle.dg_model.specs.declared.row.OwnType.{OwnType}
+use Rattle.dg_model.specs.declared.row.Inherited.{Inherited}
+use Rattle.dg_model.specs.declared.row.Reading.{Reading}
+use Rattle.dg_model.specs.declared.row.Asking.{Asking}
+use Rattle.dg_model.specs.KindRow.{Shape}
 use Rattle.dg_model.specs.Library.{row_of}
 use Rattle.dg_model.specs.Types.{names_full_type, needed_inputs}
 use Rattle.dg_model.proofs.Examples.{int8, decimal_of}

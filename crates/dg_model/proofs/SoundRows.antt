@@ -15,7 +15,7 @@ use Rattle.dg_model.specs.declared.nested.Part.{Part}
 use Rattle.dg_model.specs.declared.nested.Part.TheVariants.{Plain, In, Out, SubSystem, Enable}
 use Rattle.dg_model.specs.declared.nested.Target.{Target}
 use Rattle.dg_model.specs.declared.nested.Target.TheVariants.{Port, Enable as EnableTarget}
-use Rattle.dg_model.specs.KindRow.{Role}
+use Rattle.dg_model.specs.declared.row.Role.{Role}
 use Rattle.dg_model.specs.Sound.{IsSound, IsSubSystem, IsEnable, HasEnablePort, AreLevels, HasParent, HaveNames, JoinsWithin, HasReadable, HasInRole, HasOutRole, HasPlainRole}
 use Rattle.dg_model.proofs.Examples.{block_of, decimal_of, all_of, each_of, pairs_of}
 

@@ -13,7 +13,8 @@ use Rattle.dg_model.specs.declared.diagram.Edge.{Edge}
 use Rattle.dg_model.specs.declared.diagram.PeriodSpec.TheVariants.{Every}
 use Rattle.dg_model.specs.declared.kind.Kind.TheVariants.{Inport, Outport, EnableTest, EnOut, Gain, RateTransition}
 use lib.Signed.{le_z_yes}
-use Rattle.dg_model.specs.KindRow.{Role, IsSpec}
+use Rattle.dg_model.specs.declared.row.Role.{Role}
+use Rattle.dg_model.specs.KindRow.{IsSpec}
 use Rattle.dg_model.specs.Library.{row_of, IsReadable}
 use Rattle.dg_model.specs.Wires.{enters}
 use Rattle.dg_model.specs.Wired.{IsWired, Joins, StandsBefore, NamesControl, MayStand}

@@ -5,7 +5,8 @@ use Rattle.dg_model.specs.declared.diagram.Block.{Block}
 use Rattle.dg_model.specs.declared.kind.Kind.{Kind}
 use Rattle.dg_model.specs.declared.nested.Target.{Target}
 use Rattle.dg_model.specs.declared.nested.Target.TheVariants.{Port, Enable}
-use Rattle.dg_model.specs.KindRow.{Reading, Asking}
+use Rattle.dg_model.specs.declared.row.Reading.{Reading}
+use Rattle.dg_model.specs.declared.row.Asking.{Asking}
 use Rattle.dg_model.specs.Library.{row_of}
 use Rattle.dg_model.specs.Signals.{Attributes}
 use Rattle.dg_model.specs.Hits.{is_slow_to_fast}

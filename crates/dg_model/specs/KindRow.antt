@@ -1,12 +1,17 @@
 -- What is told of each kind of block: the columns of its row (Simulink reference, each block's page; the limits are own).
 use Rattle.std.specs.Prelude.{◌≡◌, ℕ, ◌≤◌, ◌<◌, Bool, IsFalse, List, length, ⊤}
-use Rattle.fx_type.specs.declared.kind.FxType.{FxType}
 use Rattle.fx_type.specs.declared.spec.TypeSpec.{TypeSpec}
 use Rattle.fx_type.specs.declared.spec.TypeSpec.TheVariants.{Fixed, Internal, SameFirst, Auto}
 use Rattle.fx_type.specs.declared.decimal.Decimal.{Decimal}
 use Rattle.fx_type.specs.FxType.{IsType}
 use Rattle.dg_model.specs.declared.diagram.PeriodSpec.{PeriodSpec}
 use Rattle.dg_model.specs.declared.diagram.PeriodSpec.TheVariants.{Inherit, Constant as ConstantPeriod, Every}
+pub use Rattle.dg_model.specs.declared.row.Role.{Role}
+pub use Rattle.dg_model.specs.declared.row.Standing.{Standing}
+pub use Rattle.dg_model.specs.declared.row.OwnType.{OwnType}
+pub use Rattle.dg_model.specs.declared.row.Inherited.{Inherited}
+pub use Rattle.dg_model.specs.declared.row.Reading.{Reading}
+pub use Rattle.dg_model.specs.declared.row.Asking.{Asking}
 
 -- ---- what a parameter, a specification of a type and one of a period may be
 
@@ -69,19 +74,6 @@ IsConstantPeriod (Every period) = IsPeriod period
 
 -- ---- the choices of a row
 
--- what a block is in its System
-pub data Role : Type 0 where
-  -- the root input or output port of this number
-  RootInput : (number : ℕ) → Role
-  RootOutput : (number : ℕ) → Role
-  -- an inner port of this declared width, 0 where it declares none
-  InnerPort : (width : ℕ) → Role
-  -- an output port of an enabled subsystem, and the control of one
-  EnabledOutput : Role
-  Control : Role
-  -- a block that is no port
-  Plain : Role
-
 -- how its signals come from those of its inputs
 pub data Shape : Type 0 where
   -- element by element, where one of a single element is repeated
@@ -92,15 +84,6 @@ pub data Shape : Type 0 where
   Parted : (sizes : List ℕ) → Shape
   -- one element from all of its input
   Single : Shape
-
--- the type of its outputs where its specification chooses none
-pub data OwnType : Type 0 where
-  -- none
-  Untyped : OwnType
-  -- always this one
-  Always : (type : FxType) → OwnType
-  -- that of input 1
-  OfInput : OwnType
 
 -- the full type or union of its inputs that its equation names, and that the internal rule gives
 pub data FullRule : Type 0 where
@@ -116,41 +99,6 @@ pub data FullRule : Type 0 where
   UnionOfTwo : FullRule
   -- the union of inputs 1 and 3, which is named only where the internal rule takes it
   UnionOfEnds : FullRule
-
--- which period it takes where it inherits one
-pub data Inherited : Type 0 where
-  -- that of its sources, and none where no source's value ever changes
-  OfSources : Inherited
-  -- the same, but always a period: it moves on though its sources don't change
-  Moving : Inherited
-  -- one base sample
-  Base : Inherited
-  -- none: its value never changes
-  Unchanging : Inherited
-
--- when it reads its inputs for its value at a base sample
-pub data Reading : Type 0 where
-  -- in that sample
-  Now : Reading
-  -- in samples before
-  Before : Reading
-  -- before where its input is slower, else in that sample
-  BeforeIfSlower : Reading
-
--- when it asks whether the enabled subsystem that holds it is enabled
-pub data Asking : Type 0 where
-  Never : Asking
-  -- for its value at a base sample in that sample
-  Now : Asking
-  -- for its values in samples after
-  Before : Asking
-
--- where it may stand
-pub data Standing : Type 0 where
-  Anywhere : Standing
-  -- outside of enabled subsystems, or only in one
-  Outside : Standing
-  Inside : Standing
 
 -- ---- the columns
 

@@ -5,7 +5,7 @@ use Rattle.dg_model.specs.declared.diagram.Block.{Block}
 use Rattle.dg_model.specs.declared.diagram.Edge.{Edge}
 use Rattle.dg_model.specs.declared.nested.Target.{Target}
 use Rattle.dg_model.specs.declared.nested.Target.TheVariants.{Port, Enable}
-use Rattle.dg_model.specs.KindRow.{Asking}
+use Rattle.dg_model.specs.declared.row.Asking.{Asking}
 use Rattle.dg_model.specs.Library.{row_of}
 
 -- a line from an output port of a block to an input port of another, or from a control to a block that it enables

@@ -9,6 +9,7 @@ pub mod Instant
 pub mod KindRow
 pub mod LatencyEdges
 pub mod Laws
+pub mod Lent
 pub mod Library
 pub mod Loop
 pub mod Operation

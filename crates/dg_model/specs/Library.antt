@@ -10,7 +10,13 @@ use Rattle.dg_model.specs.declared.kind.Gate.{Gate}
 use Rattle.dg_model.specs.declared.kind.Gate.TheVariants.{And, Or, Nand, Nor, Xor, Nxor, Not}
 use Rattle.dg_model.specs.declared.kind.Kind.{Kind}
 use Rattle.dg_model.specs.declared.kind.Kind.TheVariants.{Inport, Outport, Constant, Ground, Sum, Gain, Product, Switch, Relational, Logic, Convert, Delay, Mux, Demux, RateTransition, Pass, EnableTest, EnOut, Terminator}
-use Rattle.dg_model.specs.KindRow.{Row, Role, Standing, Shape, OwnType, FullRule, Inherited, Reading, Asking, Only, IsBetween, IsList, IsPeriod, IsSpec, MayBeFixed, IsChoice, IsFixed, MayDeclare, IsConstantPeriod}
+use Rattle.dg_model.specs.declared.row.Role.{Role}
+use Rattle.dg_model.specs.declared.row.Standing.{Standing}
+use Rattle.dg_model.specs.declared.row.OwnType.{OwnType}
+use Rattle.dg_model.specs.declared.row.Inherited.{Inherited}
+use Rattle.dg_model.specs.declared.row.Reading.{Reading}
+use Rattle.dg_model.specs.declared.row.Asking.{Asking}
+use Rattle.dg_model.specs.KindRow.{Row, Shape, FullRule, Only, IsBetween, IsList, IsPeriod, IsSpec, MayBeFixed, IsChoice, IsFixed, MayDeclare, IsConstantPeriod}
 
 -- a gate has 2 to 32 inputs, and NOT one
 abbrev pub HasOperands : Gate → ℕ → Type 0

@@ -4,7 +4,7 @@ use Rattle.fx_type.specs.FxType.{InRange}
 use Rattle.dg_model.specs.declared.diagram.Diagram.{Diagram}
 use Rattle.dg_model.specs.declared.diagram.Block.{Block}
 use Rattle.dg_model.specs.declared.kind.Kind.{Kind}
-use Rattle.dg_model.specs.KindRow.{Role}
+use Rattle.dg_model.specs.declared.row.Role.{Role}
 use Rattle.dg_model.specs.Library.{row_of}
 use Rattle.dg_model.specs.Signals.{Attributes, Stimulus, Table}
 use Rattle.dg_model.specs.Hits.{Hits, last_hit}

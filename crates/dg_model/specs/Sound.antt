@@ -7,7 +7,8 @@ use Rattle.dg_model.specs.declared.nested.Part.{Part}
 use Rattle.dg_model.specs.declared.nested.Part.TheVariants.{Plain, In, Out, SubSystem, Enable}
 use Rattle.dg_model.specs.declared.nested.Target.{Target}
 use Rattle.dg_model.specs.declared.nested.Target.TheVariants.{Port, Enable as EnableTarget}
-use Rattle.dg_model.specs.KindRow.{Role, IsBetween}
+use Rattle.dg_model.specs.declared.row.Role.{Role}
+use Rattle.dg_model.specs.KindRow.{IsBetween}
 use Rattle.dg_model.specs.Library.{row_of, IsReadable}
 
 -- the part is a subsystem

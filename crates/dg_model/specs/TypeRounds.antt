@@ -8,7 +8,8 @@ use Rattle.fx_type.specs.FullTypeOf.{full_sum_of, full_product_of, union_of}
 use Rattle.dg_model.specs.declared.diagram.Diagram.{Diagram}
 use Rattle.dg_model.specs.declared.diagram.Block.{Block}
 use Rattle.dg_model.specs.declared.kind.Kind.{Kind}
-use Rattle.dg_model.specs.KindRow.{OwnType, FullRule}
+use Rattle.dg_model.specs.declared.row.OwnType.{OwnType}
+use Rattle.dg_model.specs.KindRow.{FullRule}
 use Rattle.dg_model.specs.Library.{row_of}
 use Rattle.dg_model.specs.GainParam.{param_type_of}
 use Rattle.dg_model.specs.Wires.{edges_into}

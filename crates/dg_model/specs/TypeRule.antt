@@ -6,7 +6,8 @@ use Rattle.dg_model.specs.declared.diagram.Diagram.{Diagram}
 use Rattle.dg_model.specs.declared.diagram.Block.{Block}
 use Rattle.dg_model.specs.declared.fault.RuleFault.{RuleFault}
 use Rattle.dg_model.specs.declared.fault.Shown.TheVariants.{Word}
-use Rattle.dg_model.specs.KindRow.{Role, Shape}
+use Rattle.dg_model.specs.declared.row.Role.{Role}
+use Rattle.dg_model.specs.KindRow.{Shape}
 use Rattle.dg_model.specs.Library.{row_of}
 use Rattle.dg_model.specs.Faults.{AllKeep, BreaksAt}
 use Rattle.dg_model.specs.Periods.{known_at}

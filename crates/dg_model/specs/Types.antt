@@ -5,7 +5,8 @@ use Rattle.fx_type.specs.declared.spec.TypeSpec.{TypeSpec}
 use Rattle.fx_type.specs.declared.spec.TypeSpec.TheVariants.{Fixed, Internal, SameFirst, Auto}
 use Rattle.fx_type.specs.FullType.{IsFullSum, IsFullProduct, IsUnion}
 use Rattle.dg_model.specs.declared.kind.Kind.{Kind}
-use Rattle.dg_model.specs.KindRow.{OwnType, FullRule}
+use Rattle.dg_model.specs.declared.row.OwnType.{OwnType}
+use Rattle.dg_model.specs.KindRow.{FullRule}
 use Rattle.dg_model.specs.Library.{row_of}
 use Rattle.dg_model.specs.Operation.{type_of}
 use Rattle.dg_waves.specs.Rounds.{numbers_from}

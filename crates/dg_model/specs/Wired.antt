@@ -4,7 +4,8 @@ use Rattle.dg_model.specs.declared.diagram.Diagram.{Diagram}
 use Rattle.dg_model.specs.declared.diagram.Block.{Block}
 use Rattle.dg_model.specs.declared.diagram.Edge.{Edge}
 use Rattle.dg_model.specs.Wires.{enters}
-use Rattle.dg_model.specs.KindRow.{Role, Standing}
+use Rattle.dg_model.specs.declared.row.Role.{Role}
+use Rattle.dg_model.specs.declared.row.Standing.{Standing}
 use Rattle.dg_model.specs.Library.{row_of, IsReadable}
 
 -- the edge joins an output port and an input port that are there

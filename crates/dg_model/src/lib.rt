@@ -6,10 +6,11 @@
 //! operation gives, `Types` and `GainParam` which types a block's row names, `Equation` what each kind
 //! of block gives at a hit, and `Solves` which table of values is the meaning of a diagram. `Library`
 //! has one row for each kind of block, with the columns of `KindRow`: what it may carry, and how its
-//! widths, its type and its period come from its inputs. `Wired` says which diagrams are well formed,
-//! and `Sound` which nested ones. `RootElements` and `LatencyEdges` number what files, ports and
-//! latencies are told by, and `Instant` says which values a block needs in its own sample. `Checked` is
-//! a diagram that keeps the rules, with what propagation gives its blocks.
+//! widths, its type and its period come from its inputs; the code reads them by `Kind::row` and what
+//! stands in `lent`. `Wired` says which diagrams are well formed, and `Sound` which nested ones.
+//! `RootElements` and `LatencyEdges` number what files, ports and latencies are told by, and `Instant`
+//! says which values a block needs in its own sample. `Checked` is a diagram that keeps the rules, with
+//! what propagation gives its blocks.
 #![tactic(auto)]
 
 mod checked;
@@ -18,6 +19,7 @@ mod fault;
 mod gain_param;
 mod kind;
 mod laws;
+mod lent;
 mod nested;
 mod op;
 mod path;
@@ -25,6 +27,7 @@ mod plan;
 mod port_widths;
 mod propagated;
 mod resolved;
+mod row;
 mod sums;
 
 pub use checked::Checked;
@@ -33,6 +36,7 @@ pub use fault::{CheckFault, RuleFault, Shown};
 pub use gain_param::param_type_is_one;
 pub use kind::{Criterion, Decimals, Gate, Kind, Relation};
 pub use laws::{columns_are_a_stimulus, edges_stand_by_port, root_elements_are_listed};
+pub use lent::{FullRule, Shape};
 pub use nested::{Nested, NestedBlock, NestedBlocks, NestedLine, NestedLines, Part, Target};
 pub use op::{Op, OpCall};
 pub use path::{Path, SystemPath};
@@ -40,4 +44,5 @@ pub use plan::{Pipeline, Pipelines, Plan};
 pub use port_widths::PortWidths;
 pub use propagated::{FxTypes, Propagated};
 pub use resolved::Resolved;
+pub use row::{Asking, Inherited, OwnType, Reading, Role, Row, Standing};
 pub use sums::sum_type;

@@ -7,7 +7,7 @@ use Rattle.dg_waves.specs.Rounds.{after_rounds}
 use Rattle.dg_waves.proofs.Waved.{length_after, rounds_agree}
 use Rattle.dg_model.specs.declared.diagram.Diagram.{Diagram}
 use Rattle.dg_model.specs.declared.diagram.Block.{Block}
-use Rattle.dg_model.specs.KindRow.{Inherited}
+use Rattle.dg_model.specs.declared.row.Inherited.{Inherited}
 use Rattle.dg_model.specs.Library.{row_of}
 use Rattle.dg_model.specs.Periods.{Periods, first_period, first_periods, known_at, known_or, least_finite, next_periods, or_one, period_of_next, periods_after, periods_of, sources_of, taken_period}
 use Rattle.dg_rates.specs.inner.Links.{row_at, AreSources}

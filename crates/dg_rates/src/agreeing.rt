@@ -8,7 +8,7 @@ ghost use Rattle.dg_rates.specs.inner.Agreeing.{asked_among, without_control as 
 ghost use Rattle.dg_rates.specs.inner.Links.{AreSources};
 
 use crate::links::Links;
-use dg_model::{Block, CheckFault, Diagram, Kind, RuleFault, Shown};
+use dg_model::{Block, CheckFault, Diagram, Kind, Reading, RuleFault, Shown};
 use fx_io::OutOfMemory;
 use std::alloc::Global;
 
@@ -16,26 +16,9 @@ use std::alloc::Global;
 pub fn joins_periods(kind: &Kind) -> bool
     ensures { result ≡ joins_periods_of (row_of kind.now).timing.reads }
 {
-    match kind {
-        Kind::RateTransition { .. } => true,
-        Kind::Inport { .. }
-        | Kind::Outport { .. }
-        | Kind::Constant { .. }
-        | Kind::Ground
-        | Kind::Sum { .. }
-        | Kind::Gain { .. }
-        | Kind::Product
-        | Kind::Switch { .. }
-        | Kind::Relational { .. }
-        | Kind::Logic { .. }
-        | Kind::Convert { .. }
-        | Kind::Delay { .. }
-        | Kind::Mux { .. }
-        | Kind::Demux { .. }
-        | Kind::Pass { .. }
-        | Kind::EnableTest
-        | Kind::EnOut { .. }
-        | Kind::Terminator => false,
+    match kind.row().reads {
+        Reading::BeforeIfSlower => true,
+        Reading::Now | Reading::Before => false,
     }
 }
 

@@ -11,7 +11,7 @@ ghost use Rattle.dg_rates.specs.inner.Declared.{IsAbove, KeepsIn, first_in, leas
 
 use crate::rounds::Known;
 use crate::units::{is_less, times_of};
-use dg_model::{Block, CheckFault, Diagram, Kind, PeriodSpec, RuleFault, Shown};
+use dg_model::{Block, CheckFault, Diagram, Inherited, Kind, PeriodSpec, RuleFault, Shown};
 use fx_io::{OutOfMemory, Sequence, Text};
 use fx_type::Decimal;
 use std::alloc::Global;
@@ -76,25 +76,10 @@ pub fn base_period(diagram: &Diagram) -> Decimal
 fn inherited(kind: &Kind) -> Known
     ensures { result ≡ first_inherited (row_of kind.now).timing.inherits }
 {
-    match kind {
-        Kind::Inport { .. } => Some(Some(1)),
-        Kind::Constant { .. } | Kind::Ground => Some(None),
-        Kind::Outport { .. }
-        | Kind::Sum { .. }
-        | Kind::Gain { .. }
-        | Kind::Product
-        | Kind::Switch { .. }
-        | Kind::Relational { .. }
-        | Kind::Logic { .. }
-        | Kind::Convert { .. }
-        | Kind::Delay { .. }
-        | Kind::Mux { .. }
-        | Kind::Demux { .. }
-        | Kind::RateTransition { .. }
-        | Kind::Pass { .. }
-        | Kind::EnableTest
-        | Kind::EnOut { .. }
-        | Kind::Terminator => None,
+    match kind.row().inherits {
+        Inherited::OfSources | Inherited::Moving => None,
+        Inherited::Base => Some(Some(1)),
+        Inherited::Unchanging => Some(None),
     }
 }
 

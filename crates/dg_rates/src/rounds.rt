@@ -9,7 +9,7 @@ ghost use Rattle.dg_rates.specs.inner.Steps.{all_rests, is_of_sources, known_of,
 ghost use Rattle.dg_rates.specs.inner.StepLaws.{step_is_local};
 
 use crate::links::Links;
-use dg_model::{Block, Diagram, Kind};
+use dg_model::{Block, Diagram, Inherited, Kind};
 use dg_waves::Round;
 use fx_io::{Flags, OutOfMemory, Periods};
 use std::alloc::Global;
@@ -30,26 +30,9 @@ pub struct PeriodRound {
 fn may_rest(kind: &Kind) -> bool
     ensures { result ≡ is_of_sources (row_of kind.now).timing.inherits }
 {
-    match kind {
-        Kind::Sum { .. }
-        | Kind::Gain { .. }
-        | Kind::Product
-        | Kind::Switch { .. }
-        | Kind::Relational { .. }
-        | Kind::Logic { .. }
-        | Kind::Convert { .. }
-        | Kind::Mux { .. }
-        | Kind::Demux { .. }
-        | Kind::RateTransition { .. }
-        | Kind::Pass { .. }
-        | Kind::EnableTest
-        | Kind::Terminator => true,
-        Kind::Inport { .. }
-        | Kind::Outport { .. }
-        | Kind::Constant { .. }
-        | Kind::Ground
-        | Kind::Delay { .. }
-        | Kind::EnOut { .. } => false,
+    match kind.row().inherits {
+        Inherited::OfSources => true,
+        Inherited::Moving | Inherited::Base | Inherited::Unchanging => false,
     }
 }
 

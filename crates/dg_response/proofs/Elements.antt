@@ -3,7 +3,7 @@ use Rattle.std.proofs.Common.{◌≡◌, ◌<◌, ℕ, suc, Option, List, [], �
 use Rattle.fx_tables.specs.declared.table.Column.{Column}
 use Rattle.dg_model.specs.declared.diagram.Diagram.{Diagram}
 use Rattle.dg_model.specs.Laws.{AreRootElements}
-use Rattle.dg_model.specs.KindRow.{Role}
+use Rattle.dg_model.specs.declared.row.Role.{Role}
 use Rattle.dg_model.specs.RootElements.{RootElement, root_element}
 use Rattle.dg_model.specs.Signals.{Attributes}
 use Rattle.dg_response.specs.Response.{column_of}

@@ -5,7 +5,7 @@ use Rattle.fx_tables.specs.declared.table.Rows.{Rows}
 use Rattle.dg_model.specs.declared.diagram.Diagram.{Diagram}
 use Rattle.dg_model.specs.declared.diagram.Block.{Block}
 use Rattle.dg_model.specs.Attributes.{attributes_of}
-use Rattle.dg_model.specs.KindRow.{Role}
+use Rattle.dg_model.specs.declared.row.Role.{Role}
 use Rattle.dg_model.specs.Library.{row_of}
 use Rattle.dg_model.specs.Laws.{OutputsAreListed}
 use Rattle.dg_model.specs.RootElements.{RootElement, root_outputs}

@@ -21,27 +21,7 @@ use std::alloc::Global;
 fn may_stand_behind(kind: &Kind) -> bool
     ensures { result ≡ (row_of kind.now).hardware.pipelines }
 {
-    match kind {
-        Kind::Sum { .. }
-        | Kind::Gain { .. }
-        | Kind::Product
-        | Kind::Switch { .. }
-        | Kind::Relational { .. }
-        | Kind::Logic { .. }
-        | Kind::Convert { .. } => true,
-        Kind::Inport { .. }
-        | Kind::Outport { .. }
-        | Kind::Constant { .. }
-        | Kind::Ground
-        | Kind::Delay { .. }
-        | Kind::Mux { .. }
-        | Kind::Demux { .. }
-        | Kind::RateTransition { .. }
-        | Kind::Pass { .. }
-        | Kind::EnableTest
-        | Kind::EnOut { .. }
-        | Kind::Terminator => false,
-    }
+    kind.row().pipelines
 }
 
 /// Whether registers may stand behind the block at a place.

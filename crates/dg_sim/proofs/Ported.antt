@@ -11,7 +11,7 @@ use Rattle.std.proofs.lemmas.Map.Steps.{length-le_from_distinct_below}
 use Rattle.std.proofs.lemmas.Option.{none-some, same_Some, get_or_from_slice_get, slice_get_within}
 use Rattle.dg_waves.proofs.Waved.{set_same, set_other}
 use Rattle.dg_model.specs.declared.diagram.Block.{Block}
-use Rattle.dg_model.specs.KindRow.{Role}
+use Rattle.dg_model.specs.declared.row.Role.{Role}
 use Rattle.dg_model.specs.Wired.{AreNumbered}
 use Rattle.dg_model.specs.RootElements.{has_number, number_in}
 use Rattle.dg_sim.specs.inner.Roots.{ArePortsTo, IsNumberOf, IsPortNumber, port_put}

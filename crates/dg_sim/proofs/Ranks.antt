@@ -5,7 +5,7 @@ use Rattle.dg_model.specs.declared.diagram.Diagram.{Diagram}
 use Rattle.dg_model.specs.declared.diagram.Block.{Block}
 use Rattle.dg_model.specs.declared.diagram.Edge.{Edge}
 use Rattle.dg_model.specs.declared.nested.Target.TheVariants.{Enable}
-use Rattle.dg_model.specs.KindRow.{Asking}
+use Rattle.dg_model.specs.declared.row.Asking.{Asking}
 use Rattle.dg_model.specs.Library.{row_of}
 use Rattle.dg_model.specs.Signals.{Attributes}
 use Rattle.dg_model.specs.Wires.{enters, driver_of}

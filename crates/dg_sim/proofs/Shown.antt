@@ -4,7 +4,7 @@ use Rattle.std.proofs.lemmas.Option.{none-some}
 use Rattle.dg_model.specs.declared.diagram.Diagram.{Diagram}
 use Rattle.dg_model.specs.declared.kind.Kind.{Kind}
 use Rattle.dg_model.specs.Signals.{Attributes}
-use Rattle.dg_model.specs.KindRow.{Role}
+use Rattle.dg_model.specs.declared.row.Role.{Role}
 use Rattle.dg_model.specs.Library.{row_of}
 use Rattle.dg_model.specs.Wired.{root_output}
 use Rattle.dg_model.specs.Laws.{AreRootElements}

@@ -8,7 +8,7 @@ use Rattle.dg_model.specs.declared.diagram.Edge.{Edge}
 use Rattle.dg_model.specs.declared.kind.Kind.{Kind}
 use Rattle.dg_model.specs.declared.kind.Kind.TheVariants.{Outport, EnableTest}
 use Rattle.dg_model.specs.Signals.{Attributes, Table}
-use Rattle.dg_model.specs.KindRow.{Role}
+use Rattle.dg_model.specs.declared.row.Role.{Role}
 use Rattle.dg_model.specs.Library.{row_of, HasPorts, IsReadable}
 use Rattle.dg_model.specs.Solves.{IsShown, shown_ports, shown_width, AgreeAt}
 use Rattle.dg_model.specs.Wired.{IsWired, Joins, NamesControl}

@@ -18,7 +18,8 @@ use Rattle.fx_type.specs.FullTypeOf.{full_sum_of, full_product_of, union_of, sam
 use Rattle.fx_type.specs.Laws.{FullSumIsOne, FullProductIsOne, UnionIsOne}
 use Rattle.dg_model.specs.declared.kind.Kind.{Kind}
 use Rattle.dg_model.specs.declared.kind.Kind.TheVariants.{Ground}
-use Rattle.dg_model.specs.KindRow.{OwnType, FullRule, IsSpec}
+use Rattle.dg_model.specs.declared.row.OwnType.{OwnType}
+use Rattle.dg_model.specs.KindRow.{FullRule, IsSpec}
 use Rattle.dg_model.specs.Library.{row_of}
 use Rattle.dg_model.specs.GainParam.{ParamTypeIsOne, IsInternalParam, IsGreatestFit, is_negative, is_zero, is_param_signed, param_width, param_type_of}
 use Rattle.dg_model.specs.Periods.{known_at}

@@ -28,54 +28,14 @@ pub type Roots = Sequence<Root>;
 fn input_number(kind: &Kind) -> Option<u32>
     ensures { result ≡ root_input (row_of kind.now).place.role }
 {
-    match kind {
-        Kind::Inport { number, .. } => Some(*number),
-        Kind::Outport { .. }
-        | Kind::Constant { .. }
-        | Kind::Ground
-        | Kind::Sum { .. }
-        | Kind::Gain { .. }
-        | Kind::Product
-        | Kind::Switch { .. }
-        | Kind::Relational { .. }
-        | Kind::Logic { .. }
-        | Kind::Convert { .. }
-        | Kind::Delay { .. }
-        | Kind::Mux { .. }
-        | Kind::Demux { .. }
-        | Kind::RateTransition { .. }
-        | Kind::Pass { .. }
-        | Kind::EnableTest
-        | Kind::EnOut { .. }
-        | Kind::Terminator => None,
-    }
+    kind.row().role.input_number()
 }
 
 /// The number of a root output port.
 pub fn output_number(kind: &Kind) -> Option<u32>
     ensures { result ≡ root_output (row_of kind.now).place.role }
 {
-    match kind {
-        Kind::Outport { number } => Some(*number),
-        Kind::Inport { .. }
-        | Kind::Constant { .. }
-        | Kind::Ground
-        | Kind::Sum { .. }
-        | Kind::Gain { .. }
-        | Kind::Product
-        | Kind::Switch { .. }
-        | Kind::Relational { .. }
-        | Kind::Logic { .. }
-        | Kind::Convert { .. }
-        | Kind::Delay { .. }
-        | Kind::Mux { .. }
-        | Kind::Demux { .. }
-        | Kind::RateTransition { .. }
-        | Kind::Pass { .. }
-        | Kind::EnableTest
-        | Kind::EnOut { .. }
-        | Kind::Terminator => None,
-    }
+    kind.row().role.output_number()
 }
 
 /// Whether a block is a root input port.

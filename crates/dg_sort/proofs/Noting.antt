@@ -11,7 +11,8 @@ use Rattle.dg_model.specs.declared.diagram.Edge.{Edge}
 use Rattle.dg_model.specs.declared.kind.Kind.{Kind}
 use Rattle.dg_model.specs.declared.kind.Kind.TheVariants.{Inport, Outport, Constant, Ground, Sum, Gain, Product, Switch, Relational, Logic, Convert, Delay, Mux, Demux, RateTransition, Pass, EnableTest, EnOut, Terminator}
 use Rattle.dg_model.specs.declared.nested.Target.TheVariants.{Enable}
-use Rattle.dg_model.specs.KindRow.{Reading, Asking}
+use Rattle.dg_model.specs.declared.row.Reading.{Reading}
+use Rattle.dg_model.specs.declared.row.Asking.{Asking}
 use Rattle.dg_model.specs.Library.{row_of}
 use Rattle.dg_model.specs.Attributes.{attributes_of}
 use Rattle.dg_model.specs.Hits.{is_slow_to_fast}

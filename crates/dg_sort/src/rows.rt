@@ -8,7 +8,7 @@ ghost use Rattle.dg_sort.specs.Control.{control_now as control_now_of};
 ghost use Rattle.dg_sort.specs.Rows.{AreRows};
 ghost use Rattle.dg_sort.specs.inner.Rows.{is_line_instant, noted};
 
-use dg_model::{Block, Diagram, Edge, Kind};
+use dg_model::{Asking, Block, Diagram, Edge, Kind, Reading};
 use fx_io::{OutOfMemory, Sizes};
 use std::alloc::Global;
 
@@ -16,26 +16,10 @@ use std::alloc::Global;
 pub fn reads_now(kind: &Kind, slower: bool) -> bool
     ensures { result ≡ is_now (row_of kind.now).timing.reads slower }
 {
-    match kind {
-        Kind::Delay { .. } => false,
-        Kind::RateTransition { .. } => !slower,
-        Kind::Inport { .. }
-        | Kind::Outport { .. }
-        | Kind::Constant { .. }
-        | Kind::Ground
-        | Kind::Sum { .. }
-        | Kind::Gain { .. }
-        | Kind::Product
-        | Kind::Switch { .. }
-        | Kind::Relational { .. }
-        | Kind::Logic { .. }
-        | Kind::Convert { .. }
-        | Kind::Mux { .. }
-        | Kind::Demux { .. }
-        | Kind::Pass { .. }
-        | Kind::EnableTest
-        | Kind::EnOut { .. }
-        | Kind::Terminator => true,
+    match kind.row().reads {
+        Reading::Now => true,
+        Reading::Before => false,
+        Reading::BeforeIfSlower => !slower,
     }
 }
 
@@ -43,26 +27,9 @@ pub fn reads_now(kind: &Kind, slower: bool) -> bool
 fn asks_now(kind: &Kind) -> bool
     ensures { result ≡ asks_now_of kind.now }
 {
-    match kind {
-        Kind::EnOut { .. } => true,
-        Kind::Inport { .. }
-        | Kind::Outport { .. }
-        | Kind::Constant { .. }
-        | Kind::Ground
-        | Kind::Sum { .. }
-        | Kind::Gain { .. }
-        | Kind::Product
-        | Kind::Switch { .. }
-        | Kind::Relational { .. }
-        | Kind::Logic { .. }
-        | Kind::Convert { .. }
-        | Kind::Delay { .. }
-        | Kind::Mux { .. }
-        | Kind::Demux { .. }
-        | Kind::RateTransition { .. }
-        | Kind::Pass { .. }
-        | Kind::EnableTest
-        | Kind::Terminator => false,
+    match kind.row().asks {
+        Asking::Now => true,
+        Asking::Never | Asking::Before => false,
     }
 }
 

@@ -6,7 +6,7 @@ ghost use Rattle.dg_model.specs.Widths.{are_open as are_open_of, list_length as 
 
 use crate::kinds::list_length;
 use crate::linked::{Form, Share, Source, WidthRound};
-use dg_model::{Block, Diagram, Edge, Kind};
+use dg_model::{Block, Diagram, Edge, Kind, Shape};
 use fx_io::{OutOfMemory, Sequence, Sizes};
 use std::alloc::Global;
 
@@ -24,28 +24,13 @@ fn form_of(kind: &Kind) -> Form
     requires { list_length_of kind.now ≤ 1024 }
     ensures { result ≡ form_of_shape (shape_of kind.now) (list_length_of kind.now) }
 {
-    match kind {
-        Kind::Mux { .. } => Form::Joined,
-        Kind::Demux { .. } => Form::Divided,
-        Kind::EnableTest => Form::Single,
-        Kind::Inport { .. }
-        | Kind::Outport { .. }
-        | Kind::Constant { .. }
-        | Kind::Ground
-        | Kind::Sum { .. }
-        | Kind::Gain { .. }
-        | Kind::Product
-        | Kind::Switch { .. }
-        | Kind::Relational { .. }
-        | Kind::Logic { .. }
-        | Kind::Convert { .. }
-        | Kind::Delay { .. }
-        | Kind::RateTransition { .. }
-        | Kind::Pass { .. }
-        | Kind::EnOut { .. }
-        | Kind::Terminator => Form::Elementwise {
+    match kind.shape() {
+        Shape::Elementwise => Form::Elementwise {
             least: list_length(kind) as u32,
         },
+        Shape::Joined { .. } => Form::Joined,
+        Shape::Parted { .. } => Form::Divided,
+        Shape::Single => Form::Single,
     }
 }
 
@@ -55,26 +40,9 @@ fn share_at(kind: &Kind, port: u32) -> Share
     requires fits { IsPortOf (shape_of kind.now) port }
     ensures { result ≡ share_at_shape (shape_of kind.now) port }
 {
-    match kind {
-        Kind::Demux { sizes } => part_at(sizes.as_slice(), port - 1),
-        Kind::Inport { .. }
-        | Kind::Outport { .. }
-        | Kind::Constant { .. }
-        | Kind::Ground
-        | Kind::Sum { .. }
-        | Kind::Gain { .. }
-        | Kind::Product
-        | Kind::Switch { .. }
-        | Kind::Relational { .. }
-        | Kind::Logic { .. }
-        | Kind::Convert { .. }
-        | Kind::Delay { .. }
-        | Kind::Mux { .. }
-        | Kind::RateTransition { .. }
-        | Kind::Pass { .. }
-        | Kind::EnableTest
-        | Kind::EnOut { .. }
-        | Kind::Terminator => Share::Whole,
+    match kind.shape() {
+        Shape::Parted { sizes } => part_at(sizes, port - 1),
+        Shape::Elementwise | Shape::Joined { .. } | Shape::Single => Share::Whole,
     }
 }
 

@@ -3,8 +3,8 @@ ghost use Rattle.dg_model.specs.Library.{row_of};
 ghost use Rattle.dg_types.specs.inner.Shown.{shape_of};
 ghost use Rattle.dg_types.specs.inner.Tests as test;
 
-use crate::kinds::{are_open, declared_width, list_of};
-use dg_model::{Block, Kind};
+use crate::kinds::are_open;
+use dg_model::{Block, Kind, Shape};
 
 /// Whether something so wide or so long serves each of so many elements: one is repeated.
 fn is_repeated(own: u32, width: usize) -> bool
@@ -59,26 +59,11 @@ fn is_divided(sizes: &[u32], outputs: &[u32], inputs: &[u32]) -> bool
 fn agrees(kind: &Kind, outputs: &[u32], inputs: &[u32]) -> bool
     ensures { result ≡ test.agrees (shape_of kind.now) outputs.now inputs.now }
 {
-    match kind {
-        Kind::Mux { sizes } => has_sizes(sizes.as_slice(), inputs),
-        Kind::Demux { sizes } => is_divided(sizes.as_slice(), outputs, inputs),
-        Kind::EnableTest => true,
-        Kind::Inport { .. }
-        | Kind::Outport { .. }
-        | Kind::Constant { .. }
-        | Kind::Ground
-        | Kind::Sum { .. }
-        | Kind::Gain { .. }
-        | Kind::Product
-        | Kind::Switch { .. }
-        | Kind::Relational { .. }
-        | Kind::Logic { .. }
-        | Kind::Convert { .. }
-        | Kind::Delay { .. }
-        | Kind::RateTransition { .. }
-        | Kind::Pass { .. }
-        | Kind::EnOut { .. }
-        | Kind::Terminator => are_repeated(first_of(outputs), inputs),
+    match kind.shape() {
+        Shape::Elementwise => are_repeated(first_of(outputs), inputs),
+        Shape::Joined { sizes } => has_sizes(sizes, inputs),
+        Shape::Parted { sizes } => is_divided(sizes, outputs, inputs),
+        Shape::Single => true,
     }
 }
 
@@ -86,7 +71,7 @@ fn agrees(kind: &Kind, outputs: &[u32], inputs: &[u32]) -> bool
 fn lists_fit(kind: &Kind, own: u32) -> bool
     ensures { result ≡ test.lists_fit own (row_of kind.now).signal.lists }
 {
-    match list_of(kind) {
+    match kind.list() {
         Some(list) => is_repeated(own, list.len()),
         None => true,
     }
@@ -119,7 +104,7 @@ fn fits(kind: &Kind, outputs: &[u32], inputs: &[u32]) -> bool
 {
     let own = first_of(outputs);
     agrees(kind, outputs, inputs)
-        && (lists_fit(kind, own) && is_declared(declared_width(kind), own))
+        && (lists_fit(kind, own) && is_declared(kind.declared_width(), own))
 }
 
 /// Whether a block of these widths, after one more round and at its inputs, keeps the rule.

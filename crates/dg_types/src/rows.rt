@@ -1,6 +1,6 @@
 ghost use Rattle.std.specs.Prelude.{◌≡◌, ℕ, ◌<◌, ◌≤◌, ◌∷◌, [], All, length, map, IfOk};
 ghost use Rattle.dg_waves.specs.Rounds.{numbers_from};
-ghost use Rattle.dg_model.specs.KindRow.{Shape};
+ghost use Rattle.dg_model.specs.KindRow.{Shape as ShapeOf};
 ghost use Rattle.dg_model.specs.Widths.{share};
 ghost use Rattle.dg_types.specs.inner.Build.{Gathered};
 ghost use Rattle.dg_types.specs.inner.Shown.{shape_of, outputs_of, shown};
@@ -9,7 +9,7 @@ ghost use Rattle.dg_types.specs.inner.Rows.{HasRow, width_of_edge};
 use crate::build::{empty_rows, push_at};
 use crate::kinds::are_open;
 use crate::linked::part;
-use dg_model::{Block, Edge, Kind};
+use dg_model::{Block, Edge, Kind, Shape};
 use fx_io::{OutOfMemory, PortSizes, Sizes};
 use std::alloc::Global;
 
@@ -48,7 +48,7 @@ fn copy_of(alloc: Global, row: &[u32]) -> Result<Sizes, OutOfMemory>
 fn parts_of(alloc: Global, sizes: &[u32], held: u32) -> Result<Sizes, OutOfMemory>
     requires few { length sizes.now ≤ 1024 }
     requires small { held ≤ 1026 }
-    ensures { IfOk result (λ row. row ≡ outputs_of (Shape.Parted sizes.now) held) }
+    ensures { IfOk result (λ row. row ≡ outputs_of (ShapeOf.Parted sizes.now) held) }
 {
     if held == 0 {
         ones(alloc, sizes)
@@ -74,26 +74,9 @@ fn outputs(alloc: Global, kind: &Kind, held: u32) -> Result<Sizes, OutOfMemory>
     requires small { held ≤ 1026 }
     ensures { IfOk result (λ row. row ≡ outputs_of (shape_of kind.now) held) }
 {
-    match kind {
-        Kind::Demux { sizes } => parts_of(alloc, sizes.as_slice(), held),
-        Kind::Inport { .. }
-        | Kind::Outport { .. }
-        | Kind::Constant { .. }
-        | Kind::Ground
-        | Kind::Sum { .. }
-        | Kind::Gain { .. }
-        | Kind::Product
-        | Kind::Switch { .. }
-        | Kind::Relational { .. }
-        | Kind::Logic { .. }
-        | Kind::Convert { .. }
-        | Kind::Delay { .. }
-        | Kind::Mux { .. }
-        | Kind::RateTransition { .. }
-        | Kind::Pass { .. }
-        | Kind::EnableTest
-        | Kind::EnOut { .. }
-        | Kind::Terminator => one(alloc, held),
+    match kind.shape() {
+        Shape::Parted { sizes } => parts_of(alloc, sizes, held),
+        Shape::Elementwise | Shape::Joined { .. } | Shape::Single => one(alloc, held),
     }
 }
 

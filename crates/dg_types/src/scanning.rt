@@ -5,9 +5,8 @@ ghost use Rattle.dg_types.specs.inner.Shown.{shape_of, declared_width as declare
 ghost use Rattle.dg_types.specs.inner.Scanned.{IsScan};
 
 use crate::build::linked;
-use crate::kinds::declared_width;
 use crate::rows::{input_rows, rows_of};
-use dg_model::{Block, Diagram, Kind};
+use dg_model::{Block, Diagram, Kind, Shape};
 use fx_io::{OutOfMemory, PortSizes};
 use std::alloc::Global;
 
@@ -16,25 +15,10 @@ fn first_held(kind: &Kind) -> u32
     requires { declared_width_of kind.now < 2 ^ 32 }
     ensures { result ≡ first_held_of (shape_of kind.now) (declared_width_of kind.now) }
 {
-    match kind {
-        Kind::Demux { .. } => 0,
-        Kind::Mux { .. } | Kind::EnableTest => 1,
-        Kind::Inport { .. }
-        | Kind::Outport { .. }
-        | Kind::Constant { .. }
-        | Kind::Ground
-        | Kind::Sum { .. }
-        | Kind::Gain { .. }
-        | Kind::Product
-        | Kind::Switch { .. }
-        | Kind::Relational { .. }
-        | Kind::Logic { .. }
-        | Kind::Convert { .. }
-        | Kind::Delay { .. }
-        | Kind::RateTransition { .. }
-        | Kind::Pass { .. }
-        | Kind::EnOut { .. }
-        | Kind::Terminator => declared_width(kind).max(1) as u32,
+    match kind.shape() {
+        Shape::Elementwise => kind.declared_width().max(1) as u32,
+        Shape::Joined { .. } | Shape::Single => 1,
+        Shape::Parted { .. } => 0,
     }
 }
 

@@ -2,7 +2,6 @@
 //! one block.
 ghost use Rattle.std.specs.Prelude.{◌≡◌, ◌↔◌, ◌≤◌, true, All, Some, IsSome, length, slice_get, MatchOption};
 ghost use Rattle.dg_model.specs.declared.diagram.Block.{Block};
-ghost use Rattle.dg_model.specs.KindRow.{FullRule};
 ghost use Rattle.dg_model.specs.Library.{row_of};
 ghost use Rattle.dg_model.specs.Types.{names_full_type as names_full_type_of};
 ghost use Rattle.dg_model.specs.TypeRounds.{full_type as full_type_of};
@@ -11,30 +10,20 @@ ghost use Rattle.dg_types.specs.inner.TypedInputs.{source_types, CanRead, is_rea
 
 use crate::linked::Source;
 use crate::typed_step::{full_type, input_at};
-use dg_model::{Block, Kind};
+use dg_model::{Block, FullRule, Kind, Role, Shape};
 use fx_type::{FxType, TypeSpec};
 
 /// Whether the equation of a block names a full type or union.
 fn names_full_type(block: &Block) -> bool
     ensures { result ≡ names_full_type_of block.now.kind block.now.result }
 {
-    match &block.kind {
-        Kind::Sum { .. } | Kind::Gain { .. } | Kind::Product | Kind::Relational { .. } => true,
-        Kind::Switch { .. } => matches!(block.result, TypeSpec::Internal),
-        Kind::Inport { .. }
-        | Kind::Outport { .. }
-        | Kind::Constant { .. }
-        | Kind::Ground
-        | Kind::Logic { .. }
-        | Kind::Convert { .. }
-        | Kind::Delay { .. }
-        | Kind::Mux { .. }
-        | Kind::Demux { .. }
-        | Kind::RateTransition { .. }
-        | Kind::Pass { .. }
-        | Kind::EnableTest
-        | Kind::EnOut { .. }
-        | Kind::Terminator => false,
+    match block.kind.full() {
+        FullRule::NoFull => false,
+        FullRule::FullSum { .. }
+        | FullRule::FullScaled { .. }
+        | FullRule::FullProduct
+        | FullRule::UnionOfTwo => true,
+        FullRule::UnionOfEnds => matches!(block.result, TypeSpec::Internal),
     }
 }
 
@@ -137,28 +126,13 @@ fn agrees_with(block: &Block, values: &[Option<FxType>], sources: &[Source]) -> 
     ensures { (result ≡ true) ↔ AgreesWith (row_of block.now.kind).place.role block.now.result
         (source_types values.now sources.now) }
 {
-    match &block.kind {
-        Kind::Outport { .. } | Kind::Pass { .. } | Kind::EnOut { .. } => is_drivers(
+    match block.kind.row().role {
+        Role::RootOutput { .. } | Role::InnerPort { .. } | Role::EnabledOutput => is_drivers(
             block.result,
             values,
             sources,
         ),
-        Kind::Inport { .. }
-        | Kind::Constant { .. }
-        | Kind::Ground
-        | Kind::Sum { .. }
-        | Kind::Gain { .. }
-        | Kind::Product
-        | Kind::Switch { .. }
-        | Kind::Relational { .. }
-        | Kind::Logic { .. }
-        | Kind::Convert { .. }
-        | Kind::Delay { .. }
-        | Kind::Mux { .. }
-        | Kind::Demux { .. }
-        | Kind::RateTransition { .. }
-        | Kind::EnableTest
-        | Kind::Terminator => true,
+        Role::RootInput { .. } | Role::Control | Role::Plain => true,
     }
 }
 
@@ -168,26 +142,9 @@ fn agree_inside(kind: &Kind, values: &[Option<FxType>], sources: &[Source]) -> b
     ensures { (result ≡ true) ↔ AgreeInside (row_of kind.now).signal.shape
         (source_types values.now sources.now) }
 {
-    match kind {
-        Kind::Mux { .. } => are_one(values, sources),
-        Kind::Inport { .. }
-        | Kind::Outport { .. }
-        | Kind::Constant { .. }
-        | Kind::Ground
-        | Kind::Sum { .. }
-        | Kind::Gain { .. }
-        | Kind::Product
-        | Kind::Switch { .. }
-        | Kind::Relational { .. }
-        | Kind::Logic { .. }
-        | Kind::Convert { .. }
-        | Kind::Delay { .. }
-        | Kind::Demux { .. }
-        | Kind::RateTransition { .. }
-        | Kind::Pass { .. }
-        | Kind::EnableTest
-        | Kind::EnOut { .. }
-        | Kind::Terminator => true,
+    match kind.shape() {
+        Shape::Joined { .. } => are_one(values, sources),
+        Shape::Elementwise | Shape::Parted { .. } | Shape::Single => true,
     }
 }
 

@@ -5,7 +5,7 @@ ghost use Rattle.fx_type.specs.FullTypeOf.{full_sum_of, full_product_of, union_o
 ghost use Rattle.fx_type.specs.FxType.{IsType};
 ghost use Rattle.dg_model.specs.Attributes.{coefficient_type as coefficient_type_of};
 ghost use Rattle.dg_model.specs.GainParam.{param_type_of};
-ghost use Rattle.dg_model.specs.KindRow.{FullRule, IsSpec};
+ghost use Rattle.dg_model.specs.KindRow.{FullRule as FullRuleOf, IsSpec};
 ghost use Rattle.dg_model.specs.Library.{row_of};
 ghost use Rattle.dg_model.specs.Periods.{known_at};
 ghost use Rattle.dg_model.specs.TypeRounds.{with_known, full_type as full_type_of, own_type as own_type_of, taken_type as taken_type_of};
@@ -13,7 +13,7 @@ ghost use Rattle.dg_types.specs.inner.TypedInputs.{source_types, IsKnownValid, C
 
 use crate::linked::Source;
 use crate::typed_param::param_type;
-use dg_model::{Block, Kind};
+use dg_model::{Block, FullRule, Kind, OwnType};
 use fx_type::{Decimal, FxType, TypeSpec, full_product, full_sum, union};
 
 /// The type that an input reads, from 0; none where it isn't known or there is no such input.
@@ -74,7 +74,7 @@ fn sum_at(negative: &[bool], values: &[Option<FxType>], sources: &[Source]) -> O
     requires all { length negative.now ≡ length sources.now }
     requires some { 1 ≤ length negative.now }
     requires few { length negative.now ≤ 32 }
-    ensures { result ≡ full_type_of (FullRule.FullSum negative.now)
+    ensures { result ≡ full_type_of (FullRuleOf.FullSum negative.now)
         (source_types values.now sources.now) }
 {
     let mut terms = [(false, FxType::Logical); 32];
@@ -96,7 +96,7 @@ fn scaled_at(
 ) -> Option<FxType>
     requires read { CanRead values.now sources.now }
     requires param { IsSpec param }
-    ensures { result ≡ full_type_of (FullRule.FullScaled value.now param)
+    ensures { result ≡ full_type_of (FullRuleOf.FullScaled value.now param)
         (source_types values.now sources.now) }
 {
     let Some(input) = input_at(values, sources, 0) else {
@@ -111,7 +111,7 @@ fn scaled_at(
 /// The full product of inputs 1 and 2.
 fn product_at(values: &[Option<FxType>], sources: &[Source]) -> Option<FxType>
     requires { CanRead values.now sources.now }
-    ensures { result ≡ full_type_of FullRule.FullProduct (source_types values.now sources.now) }
+    ensures { result ≡ full_type_of FullRuleOf.FullProduct (source_types values.now sources.now) }
 {
     let Some(left) = input_at(values, sources, 0) else {
         return None;
@@ -146,26 +146,13 @@ pub fn full_type(kind: &Kind, values: &[Option<FxType>], sources: &[Source]) -> 
     ensures { result ≡ full_type_of (row_of kind.now).types.full
         (source_types values.now sources.now) }
 {
-    match kind {
-        Kind::Sum { negative } => sum_at(negative.as_slice(), values, sources),
-        Kind::Gain { value, param } => scaled_at(value.as_slice(), *param, values, sources),
-        Kind::Product => product_at(values, sources),
-        Kind::Relational { .. } => union_at(values, sources, 1),
-        Kind::Switch { .. } => union_at(values, sources, 2),
-        Kind::Inport { .. }
-        | Kind::Outport { .. }
-        | Kind::Constant { .. }
-        | Kind::Ground
-        | Kind::Logic { .. }
-        | Kind::Convert { .. }
-        | Kind::Delay { .. }
-        | Kind::Mux { .. }
-        | Kind::Demux { .. }
-        | Kind::RateTransition { .. }
-        | Kind::Pass { .. }
-        | Kind::EnableTest
-        | Kind::EnOut { .. }
-        | Kind::Terminator => None,
+    match kind.full() {
+        FullRule::NoFull => None,
+        FullRule::FullSum { negative } => sum_at(negative, values, sources),
+        FullRule::FullScaled { value, param } => scaled_at(value, param, values, sources),
+        FullRule::FullProduct => product_at(values, sources),
+        FullRule::UnionOfTwo => union_at(values, sources, 1),
+        FullRule::UnionOfEnds => union_at(values, sources, 2),
     }
 }
 
@@ -175,28 +162,10 @@ fn own_type(kind: &Kind, values: &[Option<FxType>], sources: &[Source]) -> Optio
     ensures { result ≡ own_type_of (row_of kind.now).types.own
         (source_types values.now sources.now) }
 {
-    match kind {
-        Kind::Ground => Some(FxType::Num {
-            signed: false,
-            width: 1,
-            frac: 0,
-        }),
-        Kind::Relational { .. } | Kind::Logic { .. } | Kind::EnableTest => Some(FxType::Logical),
-        Kind::Outport { .. }
-        | Kind::Delay { .. }
-        | Kind::Mux { .. }
-        | Kind::Demux { .. }
-        | Kind::RateTransition { .. }
-        | Kind::Pass { .. }
-        | Kind::EnOut { .. } => input_at(values, sources, 0),
-        Kind::Inport { .. }
-        | Kind::Constant { .. }
-        | Kind::Sum { .. }
-        | Kind::Gain { .. }
-        | Kind::Product
-        | Kind::Switch { .. }
-        | Kind::Convert { .. }
-        | Kind::Terminator => None,
+    match kind.row().own {
+        OwnType::Untyped => None,
+        OwnType::Always { kind: own } => Some(own),
+        OwnType::OfInput => input_at(values, sources, 0),
     }
 }
 
@@ -226,26 +195,13 @@ pub fn coefficient_type(
     ensures { result ≡ coefficient_type_of (row_of kind.now).types.full
         (known_at (source_types values.now sources.now) 0) }
 {
-    match kind {
-        Kind::Gain { value, param } => param_at(value.as_slice(), *param, values, sources),
-        Kind::Inport { .. }
-        | Kind::Outport { .. }
-        | Kind::Constant { .. }
-        | Kind::Ground
-        | Kind::Sum { .. }
-        | Kind::Product
-        | Kind::Switch { .. }
-        | Kind::Relational { .. }
-        | Kind::Logic { .. }
-        | Kind::Convert { .. }
-        | Kind::Delay { .. }
-        | Kind::Mux { .. }
-        | Kind::Demux { .. }
-        | Kind::RateTransition { .. }
-        | Kind::Pass { .. }
-        | Kind::EnableTest
-        | Kind::EnOut { .. }
-        | Kind::Terminator => None,
+    match kind.full() {
+        FullRule::FullScaled { value, param } => param_at(value, param, values, sources),
+        FullRule::NoFull
+        | FullRule::FullSum { .. }
+        | FullRule::FullProduct
+        | FullRule::UnionOfTwo
+        | FullRule::UnionOfEnds => None,
     }
 }
 

@@ -112,27 +112,7 @@ fn put_outputs<W: Write>(
 
 /// Whether a block is a root output.
 fn is_output(kind: &Kind) -> bool {
-    match kind {
-        Kind::Outport { .. } => true,
-        Kind::Inport { .. }
-        | Kind::Constant { .. }
-        | Kind::Ground
-        | Kind::Sum { .. }
-        | Kind::Gain { .. }
-        | Kind::Product
-        | Kind::Switch { .. }
-        | Kind::Relational { .. }
-        | Kind::Logic { .. }
-        | Kind::Convert { .. }
-        | Kind::Delay { .. }
-        | Kind::Mux { .. }
-        | Kind::Demux { .. }
-        | Kind::RateTransition { .. }
-        | Kind::Pass { .. }
-        | Kind::EnableTest
-        | Kind::EnOut { .. }
-        | Kind::Terminator => false,
-    }
+    kind.row().role.output_number().is_some()
 }
 
 /// A latency in clocks.

@@ -9,7 +9,7 @@ use Rattle.dg_model.specs.declared.kind.Kind.{Kind}
 use Rattle.dg_model.specs.declared.kind.Kind.TheVariants as kind
 use Rattle.dg_model.specs.Attributes.{attributes_of}
 use Rattle.dg_model.specs.Checked.{IsChecked}
-use Rattle.dg_model.specs.KindRow.{Role}
+use Rattle.dg_model.specs.declared.row.Role.{Role}
 use Rattle.dg_model.specs.Laws.{InputsAreListed, IsElementOfPort, OutputsAreListed}
 use Rattle.dg_model.specs.Library.{IsReadable, row_of}
 use Rattle.dg_model.specs.RootElements.{RootElement, number_in, root_inputs, root_outputs}

@@ -4,7 +4,7 @@ ghost use Rattle.dg_model.specs.Faults.{AllKeep, IsRefusal};
 ghost use Rattle.fx_top.specs.Streamed.{BreaksStream, KeepsStream, is_root_port};
 ghost use Rattle.fx_top.specs.inner.Steady.{is_base, is_slow, slow_fault};
 
-use dg_model::{Block, CheckFault, Checked, Kind, RuleFault, Shown};
+use dg_model::{Block, CheckFault, Checked, RuleFault, Shown};
 use fx_io::OutOfMemory;
 use hw_latency::block_at;
 use std::alloc::Global;
@@ -12,26 +12,8 @@ use std::alloc::Global;
 fn is_root_port(block: &Block) -> bool
     ensures { result ≡ is_root_port block.now }
 {
-    match &block.kind {
-        Kind::Inport { .. } | Kind::Outport { .. } => true,
-        Kind::Constant { .. }
-        | Kind::Ground
-        | Kind::Sum { .. }
-        | Kind::Gain { .. }
-        | Kind::Product
-        | Kind::Switch { .. }
-        | Kind::Relational { .. }
-        | Kind::Logic { .. }
-        | Kind::Convert { .. }
-        | Kind::Delay { .. }
-        | Kind::Mux { .. }
-        | Kind::Demux { .. }
-        | Kind::RateTransition { .. }
-        | Kind::Pass { .. }
-        | Kind::EnableTest
-        | Kind::EnOut { .. }
-        | Kind::Terminator => false,
-    }
+    let role = block.kind.row().role;
+    role.input_number().is_some() || role.output_number().is_some()
 }
 
 /// Whether a period is that of the base sample.

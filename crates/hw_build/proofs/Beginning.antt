@@ -11,7 +11,7 @@ use Rattle.dg_model.specs.Library.{row_of}
 use Rattle.dg_model.specs.Attributes.{attributes_of}
 use Rattle.dg_model.specs.RootElements.{RootElement, root_element, root_inputs}
 use Rattle.dg_model.specs.Solves.{IsShown, shown_ports, shown_width, width_of_role}
-use Rattle.dg_model.specs.KindRow.{Role}
+use Rattle.dg_model.specs.declared.row.Role.{Role}
 use Rattle.dg_model.specs.Signals.{Attributes}
 use Rattle.dg_model.specs.Laws.{InputsAreListed}
 use Rattle.dg_model.specs.Wired.{root_input}

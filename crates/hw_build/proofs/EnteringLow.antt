@@ -13,7 +13,7 @@ use Rattle.dg_model.specs.Attributes.{attributes_of}
 use Rattle.dg_model.specs.Checked.{IsChecked}
 use Rattle.dg_model.specs.Hits.{is_slow_to_fast}
 use Rattle.dg_model.specs.Instant.{asks_now, is_now, reads_now, takes_now_at, IsInstant}
-use Rattle.dg_model.specs.KindRow.{Reading}
+use Rattle.dg_model.specs.declared.row.Reading.{Reading}
 use Rattle.dg_model.specs.LatencyEdges.{asks_ever, latency_edges, LatencyEdge}
 use Rattle.dg_model.specs.Library.{row_of, HasPorts}
 use Rattle.dg_model.specs.Loop.{LeadsNow}

@@ -6,7 +6,7 @@ use Rattle.std.proofs.lemmas.Option.{get_or_from_slice_get, slice_get-get_or, sa
 use Rattle.fx_type.specs.declared.kind.FxType.{FxType}
 use Rattle.dg_model.specs.declared.diagram.Diagram.{Diagram}
 use Rattle.dg_model.specs.declared.diagram.Block.{Block}
-use Rattle.dg_model.specs.KindRow.{Role}
+use Rattle.dg_model.specs.declared.row.Role.{Role}
 use Rattle.dg_model.specs.Library.{row_of}
 use Rattle.dg_model.specs.Attributes.{attributes_of}
 use Rattle.dg_model.specs.Checked.{IsChecked}

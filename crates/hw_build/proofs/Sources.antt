@@ -11,7 +11,8 @@ use Rattle.dg_model.specs.declared.kind.Kind.TheVariants.{Outport, Delay, Enable
 use Rattle.dg_model.specs.declared.nested.Target.TheVariants.{Port}
 use Rattle.dg_model.specs.Attributes.{attributes_of}
 use Rattle.dg_model.specs.Checked.{IsChecked}
-use Rattle.dg_model.specs.KindRow.{Role, Shape}
+use Rattle.dg_model.specs.declared.row.Role.{Role}
+use Rattle.dg_model.specs.KindRow.{Shape}
 use Rattle.dg_model.specs.LatencyEdges.{asks_ever}
 use Rattle.dg_model.specs.Library.{row_of, HasPorts}
 use Rattle.dg_model.specs.Signals.{Attributes}

@@ -15,7 +15,8 @@ use Rattle.dg_model.specs.declared.resolved.Resolved.{Resolved}
 use Rattle.dg_model.specs.Attributes.{attributes_of}
 use Rattle.dg_model.specs.Hits.{is_slow_to_fast}
 use Rattle.dg_model.specs.Instant.{is_now, takes_now_at}
-use Rattle.dg_model.specs.KindRow.{Reading, Standing}
+use Rattle.dg_model.specs.declared.row.Reading.{Reading}
+use Rattle.dg_model.specs.declared.row.Standing.{Standing}
 use Rattle.dg_model.specs.LatencyEdges.{LatencyEdge}
 use Rattle.dg_model.specs.Library.{row_of}
 use Rattle.dg_model.specs.Rate.{joins_periods}

@@ -11,7 +11,7 @@ use Rattle.dg_model.specs.declared.nested.Target.TheVariants.{Port, Enable}
 use Rattle.dg_model.specs.declared.resolved.Resolved.{Resolved}
 use Rattle.dg_model.specs.Attributes.{attributes_of}
 use Rattle.dg_model.specs.Hits.{is_slow_to_fast}
-use Rattle.dg_model.specs.KindRow.{Reading}
+use Rattle.dg_model.specs.declared.row.Reading.{Reading}
 use Rattle.dg_model.specs.Library.{row_of}
 use Rattle.dg_model.specs.Solves.{shown_ports}
 use Rattle.dg_model.specs.Wires.{period_into}

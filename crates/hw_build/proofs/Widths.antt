@@ -13,7 +13,8 @@ use Rattle.dg_model.specs.declared.kind.Kind.TheVariants.{Delay, RateTransition}
 use Rattle.dg_model.specs.Attributes.{attributes_of}
 use Rattle.dg_model.specs.Checked.{IsChecked}
 use Rattle.dg_model.specs.Dimension.{IsRepeated, Agrees}
-use Rattle.dg_model.specs.KindRow.{Reading, Shape}
+use Rattle.dg_model.specs.declared.row.Reading.{Reading}
+use Rattle.dg_model.specs.KindRow.{Shape}
 use Rattle.dg_model.specs.Laws.{WidthsAreOfEdges}
 use Rattle.dg_model.specs.Library.{row_of, IsReadable}
 use Rattle.dg_model.specs.Widths.{width_at, widths_of, input_widths, greatest, list_length, most_width, taken, next_of}

@@ -22,26 +22,9 @@ pub fn place_in(width: usize, element: u32) -> usize
 fn list_of(kind: &Kind) -> &[Decimal]
     ensures { result.now ≡ first_list (row_of kind.now).signal.lists }
 {
-    match kind {
-        Kind::Constant { value } => value.as_slice(),
-        Kind::Gain { value, .. } => value.as_slice(),
-        Kind::Switch { threshold, .. } => threshold.as_slice(),
-        Kind::Delay { initial, .. } => initial.as_slice(),
-        Kind::RateTransition { initial, .. } => initial.as_slice(),
-        Kind::EnOut { initial, .. } => initial.as_slice(),
-        Kind::Inport { .. }
-        | Kind::Outport { .. }
-        | Kind::Ground
-        | Kind::Sum { .. }
-        | Kind::Product
-        | Kind::Relational { .. }
-        | Kind::Logic { .. }
-        | Kind::Convert { .. }
-        | Kind::Mux { .. }
-        | Kind::Demux { .. }
-        | Kind::Pass { .. }
-        | Kind::EnableTest
-        | Kind::Terminator => &[],
+    match kind.list() {
+        Some(list) => list,
+        None => &[],
     }
 }
 

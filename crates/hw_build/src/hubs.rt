@@ -7,7 +7,7 @@ ghost use Rattle.dg_model.specs.Solves.{shown_ports as shown_ports_of, shown_wid
 ghost use Rattle.dg_sim.specs.Listing.{AreBlocksOf};
 ghost use Rattle.hw_build.specs.inner.HubPlaces.{before, hub_of, input_net as input_net_of, is_input_role, is_output_role, port_size, hub_start, hub_at as hub_at_of, AddsFresh, AddsPorts, AddsBlock, AddsBlocks, AddsInputs, HasHubs};
 
-use dg_model::{Block, Checked, Kind, PortWidths};
+use dg_model::{Block, Checked, Kind, PortWidths, Role};
 use fx_io::{OutOfMemory, PortSizes, Sizes};
 use fx_type::FxType;
 use hw_names::columns_of;
@@ -19,26 +19,13 @@ use std::alloc::Global;
 pub fn is_input(kind: &Kind) -> bool
     ensures { result ≡ is_input_role (row_of kind.now).place.role }
 {
-    match kind {
-        Kind::Inport { .. } => true,
-        Kind::Outport { .. }
-        | Kind::Constant { .. }
-        | Kind::Ground
-        | Kind::Sum { .. }
-        | Kind::Gain { .. }
-        | Kind::Product
-        | Kind::Switch { .. }
-        | Kind::Relational { .. }
-        | Kind::Logic { .. }
-        | Kind::Convert { .. }
-        | Kind::Delay { .. }
-        | Kind::Mux { .. }
-        | Kind::Demux { .. }
-        | Kind::RateTransition { .. }
-        | Kind::Pass { .. }
-        | Kind::EnableTest
-        | Kind::EnOut { .. }
-        | Kind::Terminator => false,
+    match kind.row().role {
+        Role::RootInput { .. } => true,
+        Role::RootOutput { .. }
+        | Role::InnerPort { .. }
+        | Role::EnabledOutput
+        | Role::Control
+        | Role::Plain => false,
     }
 }
 
@@ -46,26 +33,13 @@ pub fn is_input(kind: &Kind) -> bool
 fn is_output(kind: &Kind) -> bool
     ensures { result ≡ is_output_role (row_of kind.now).place.role }
 {
-    match kind {
-        Kind::Outport { .. } => true,
-        Kind::Inport { .. }
-        | Kind::Constant { .. }
-        | Kind::Ground
-        | Kind::Sum { .. }
-        | Kind::Gain { .. }
-        | Kind::Product
-        | Kind::Switch { .. }
-        | Kind::Relational { .. }
-        | Kind::Logic { .. }
-        | Kind::Convert { .. }
-        | Kind::Delay { .. }
-        | Kind::Mux { .. }
-        | Kind::Demux { .. }
-        | Kind::RateTransition { .. }
-        | Kind::Pass { .. }
-        | Kind::EnableTest
-        | Kind::EnOut { .. }
-        | Kind::Terminator => false,
+    match kind.row().role {
+        Role::RootOutput { .. } => true,
+        Role::RootInput { .. }
+        | Role::InnerPort { .. }
+        | Role::EnabledOutput
+        | Role::Control
+        | Role::Plain => false,
     }
 }
 

@@ -2,7 +2,7 @@
 ghost use Rattle.std.specs.Prelude.{◌≡◌, ◌*◌, ◌-◌, ◌≤◌, true, false, None, Some, IfOk, IsSome, slice_get};
 ghost use Rattle.dg_model.specs.declared.kind.Kind.{Kind};
 ghost use Rattle.dg_model.specs.Attributes.{attributes_of};
-ghost use Rattle.dg_model.specs.KindRow.{Inherited};
+ghost use Rattle.dg_model.specs.declared.row.Inherited.{Inherited};
 ghost use Rattle.dg_model.specs.Library.{row_of};
 ghost use Rattle.dg_model.specs.Solves.{IsShown};
 ghost use Rattle.dg_model.specs.Wires.{period_into};

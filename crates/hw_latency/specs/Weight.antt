@@ -4,7 +4,7 @@ use Rattle.std.specs.Prelude.{ℕ, ◌+◌, ◌*◌, ◌&&◌, not, nat_lt, ℤ,
 use Rattle.dg_model.specs.declared.diagram.Diagram.{Diagram}
 use Rattle.dg_model.specs.declared.diagram.Block.{Block}
 use Rattle.dg_model.specs.declared.resolved.Resolved.{Resolved}
-use Rattle.dg_model.specs.KindRow.{Reading}
+use Rattle.dg_model.specs.declared.row.Reading.{Reading}
 use Rattle.dg_model.specs.Instant.{is_now}
 use Rattle.dg_model.specs.PlanOf.{stages_at}
 use Rattle.dg_model.specs.LatencyEdges.{LatencyEdge, latency_edges}

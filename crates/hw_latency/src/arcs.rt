@@ -9,7 +9,7 @@ ghost use Rattle.hw_latency.specs.inner.Asked.{IsArcPut, IsControlPut};
 
 use crate::block::block_at;
 use crate::weight::arc_between;
-use dg_model::{Block, Checked, Kind, Resolved};
+use dg_model::{Asking, Block, Checked, Kind, Resolved};
 use fx_io::OutOfMemory;
 use hw_arcs::Arc;
 use std::alloc::Global;
@@ -18,25 +18,9 @@ use std::alloc::Global;
 fn asks_ever(kind: &Kind) -> bool
     ensures { result ≡ asks_ever_of (row_of kind.now).timing.asks }
 {
-    match kind {
-        Kind::Delay { .. } | Kind::EnOut { .. } => true,
-        Kind::Inport { .. }
-        | Kind::Outport { .. }
-        | Kind::Constant { .. }
-        | Kind::Ground
-        | Kind::Sum { .. }
-        | Kind::Gain { .. }
-        | Kind::Product
-        | Kind::Switch { .. }
-        | Kind::Relational { .. }
-        | Kind::Logic { .. }
-        | Kind::Convert { .. }
-        | Kind::Mux { .. }
-        | Kind::Demux { .. }
-        | Kind::RateTransition { .. }
-        | Kind::Pass { .. }
-        | Kind::EnableTest
-        | Kind::Terminator => false,
+    match kind.row().asks {
+        Asking::Never => false,
+        Asking::Now | Asking::Before => true,
     }
 }
 

@@ -11,26 +11,7 @@ use dg_model::{Checked, Kind, Resolved};
 pub fn multiplies(kind: &Kind) -> bool
     ensures { result ≡ (row_of kind.now).hardware.multiplies }
 {
-    match kind {
-        Kind::Gain { .. } | Kind::Product => true,
-        Kind::Inport { .. }
-        | Kind::Outport { .. }
-        | Kind::Constant { .. }
-        | Kind::Ground
-        | Kind::Sum { .. }
-        | Kind::Switch { .. }
-        | Kind::Relational { .. }
-        | Kind::Logic { .. }
-        | Kind::Convert { .. }
-        | Kind::Delay { .. }
-        | Kind::Mux { .. }
-        | Kind::Demux { .. }
-        | Kind::RateTransition { .. }
-        | Kind::Pass { .. }
-        | Kind::EnableTest
-        | Kind::EnOut { .. }
-        | Kind::Terminator => false,
-    }
+    kind.row().multiplies
 }
 
 /// Whether multiplications of this period are shared.

@@ -9,7 +9,7 @@ ghost use Rattle.hw_latency.specs.Weight.{is_registered as is_registered_of};
 ghost use Rattle.hw_latency.specs.Weight.{samples as samples_of, slack_into as slack_into_of};
 
 use crate::block::block_at;
-use dg_model::{Block, Checked, Kind, Resolved};
+use dg_model::{Block, Checked, Kind, Reading, Resolved};
 use dg_sort::reads_now;
 use hw_arcs::Arc;
 
@@ -46,26 +46,11 @@ fn samples_behind(kind: &Kind, own: u32, driver: u32) -> u64
     ensures { result
         ≡ behind (row_of kind.now).timing.reads (row_of kind.now).timing.delay own driver }
 {
-    match kind {
-        Kind::Delay { length, .. } => u64::from(*length) * u64::from(own),
-        Kind::RateTransition { .. } => { if own < driver { u64::from(driver) } else { 0 } }
-        Kind::Inport { .. }
-        | Kind::Outport { .. }
-        | Kind::Constant { .. }
-        | Kind::Ground
-        | Kind::Sum { .. }
-        | Kind::Gain { .. }
-        | Kind::Product
-        | Kind::Switch { .. }
-        | Kind::Relational { .. }
-        | Kind::Logic { .. }
-        | Kind::Convert { .. }
-        | Kind::Mux { .. }
-        | Kind::Demux { .. }
-        | Kind::Pass { .. }
-        | Kind::EnableTest
-        | Kind::EnOut { .. }
-        | Kind::Terminator => 0,
+    let row = kind.row();
+    match row.reads {
+        Reading::Now => 0,
+        Reading::Before => u64::from(row.delay) * u64::from(own),
+        Reading::BeforeIfSlower => { if own < driver { u64::from(driver) } else { 0 } }
     }
 }
 

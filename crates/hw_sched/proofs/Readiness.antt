@@ -14,7 +14,7 @@ use Rattle.dg_model.specs.declared.nested.Target.TheVariants.{Port}
 use Rattle.dg_model.specs.declared.resolved.Resolved.{Resolved}
 use Rattle.dg_model.specs.Attributes.{attributes_of}
 use Rattle.dg_model.specs.Instant.{takes_now, takes_now_at, IsInstant, is_now, reads_now}
-use Rattle.dg_model.specs.KindRow.{Reading}
+use Rattle.dg_model.specs.declared.row.Reading.{Reading}
 use Rattle.dg_model.specs.LatencyEdges.{LatencyEdge, asks_ever}
 use Rattle.dg_model.specs.Library.{row_of}
 use Rattle.dg_model.specs.Loop.{LeadsNow}

@@ -14,7 +14,9 @@ use Rattle.dg_model.specs.Attributes.{attributes_of}
 use Rattle.dg_model.specs.Checked.{IsChecked}
 use Rattle.dg_model.specs.Hits.{is_slow_to_fast}
 use Rattle.dg_model.specs.Instant.{is_now, reads_now, is_asked_now, asks_now, takes_now, takes_now_at, IsInstant}
-use Rattle.dg_model.specs.KindRow.{Reading, Asking, Role}
+use Rattle.dg_model.specs.declared.row.Reading.{Reading}
+use Rattle.dg_model.specs.declared.row.Asking.{Asking}
+use Rattle.dg_model.specs.declared.row.Role.{Role}
 use Rattle.dg_model.specs.LatencyEdges.{LatencyEdge, signal_edge, latency_edges, asks_ever}
 use Rattle.dg_model.specs.Library.{row_of}
 use Rattle.dg_model.specs.Loop.{LeadsNow, IsOrder}

@@ -8,7 +8,7 @@ use Rattle.dg_model.specs.declared.resolved.Resolved.{Resolved}
 use Rattle.dg_model.specs.Attributes.{attributes_of}
 use Rattle.dg_model.specs.Checked.{IsChecked}
 use Rattle.dg_model.specs.Instant.{is_now, reads_now, IsInstant}
-use Rattle.dg_model.specs.KindRow.{Inherited}
+use Rattle.dg_model.specs.declared.row.Inherited.{Inherited}
 use Rattle.dg_model.specs.LatencyEdges.{LatencyEdge, latency_edges, asks_ever}
 use Rattle.dg_model.specs.Library.{row_of}
 use Rattle.dg_model.specs.Rate.{joins_periods}

@@ -1,15 +1,15 @@
 //! The registers of blocks beside lines.
-ghost use Rattle.std.specs.Prelude.{◌≡◌, ◌<◌, IfOk, length, slice_get};
+ghost use Rattle.std.specs.Prelude.{◌≡◌, ◌<◌, ◌≤◌, ◌^◌, IfOk, length, slice_get};
 ghost use Rattle.dg_model.specs.Attributes.{attributes_of};
 ghost use Rattle.dg_model.specs.PlanOf.{IsPlanOf};
 ghost use Rattle.hw_sched.specs.Slots.{shared_operations};
-ghost use Rattle.hw_sched.specs.Storage.{keeps_own as keeps_own_of, registers_at as registers_at_of};
+ghost use Rattle.hw_sched.specs.Storage.{kept_by_role as kept_by_role_of, keeps_own as keeps_own_of, registers_at as registers_at_of};
 ghost use Rattle.hw_sched.specs.Storage.{registers_in_all as registers_in_all_of};
 ghost use Rattle.hw_sched.specs.inner.Counted.{results_at as results_at_of, values_kept as values_kept_of};
 
 use crate::drivers::{own_width, period_into};
 use crate::edge_lines::times;
-use dg_model::{Checked, Kind, Resolved};
+use dg_model::{Checked, Kind, Resolved, Role};
 use fx_io::OutOfMemory;
 use hw_latency::{block_at, is_shared};
 use hw_slots::total;
@@ -21,30 +21,32 @@ fn keeps_own(enable: Option<u32>, driver: Option<u32>) -> bool
     enable.is_some() || driver.is_none()
 }
 
-/// How many values of each element a block of this kind keeps beside lines and its pipeline.
-fn values_kept(kind: &Kind, keeps_own: bool) -> u32
-    ensures { result ≡ values_kept_of kind.now keeps_own }
+/// How many values of each element a block keeps by its role.
+fn kept_by_role(role: Role) -> u64
+    ensures is { result ≡ kept_by_role_of role }
+    ensures few { result ≤ 1 }
 {
-    match kind {
-        Kind::Delay { length, .. } => { if keeps_own { *length } else { 0 } }
-        Kind::EnOut { .. } => 1,
-        Kind::Inport { .. }
-        | Kind::Outport { .. }
-        | Kind::Constant { .. }
-        | Kind::Ground
-        | Kind::Sum { .. }
-        | Kind::Gain { .. }
-        | Kind::Product
-        | Kind::Switch { .. }
-        | Kind::Relational { .. }
-        | Kind::Logic { .. }
-        | Kind::Convert { .. }
-        | Kind::Mux { .. }
-        | Kind::Demux { .. }
-        | Kind::RateTransition { .. }
-        | Kind::Pass { .. }
-        | Kind::EnableTest
-        | Kind::Terminator => 0,
+    match role {
+        Role::EnabledOutput => 1,
+        Role::RootInput { .. }
+        | Role::RootOutput { .. }
+        | Role::InnerPort { .. }
+        | Role::Control
+        | Role::Plain => 0,
+    }
+}
+
+/// How many values of each element a block of this kind keeps beside lines and its pipeline.
+fn values_kept(kind: &Kind, keeps_own: bool) -> u64
+    ensures is { result ≡ values_kept_of kind.now keeps_own }
+    ensures few { result ≤ 2 ^ 32 }
+{
+    let row = kind.row();
+    let kept = kept_by_role(row.role);
+    if keeps_own {
+        u64::from(row.delay) + kept
+    } else {
+        kept
     }
 }
 
@@ -60,7 +62,7 @@ fn registers_at(checked: &Checked, plan: &Resolved, place: u32) -> Result<u64, O
     let keeps = keeps_own(block.enable, period_into(checked, place));
     let kept = values_kept(&block.kind, keeps);
     let stages = plan.stages.as_slice()[place as usize];
-    let each = u64::from(stages) + u64::from(kept);
+    let each = u64::from(stages) + kept;
     times(u64::from(own_width(checked, place)), each)
 }
 

@@ -4,7 +4,7 @@ ghost use Rattle.dg_model.specs.Library.{row_of};
 ghost use Rattle.hw_sched.specs.Slots.{right_of as right_of_block, right_type};
 
 use crate::drivers::type_into;
-use dg_model::{Checked, Kind};
+use dg_model::{Checked, FullRule, Kind};
 use fx_type::FxType;
 use hw_latency::block_at;
 
@@ -15,26 +15,13 @@ fn right_by(checked: &Checked, place: u32, kind: &Kind) -> FxType
     ensures { result ≡ right_type checked.now.diagram (attributes_of checked.now.diagram) place
         (row_of kind.now).types.full }
 {
-    match kind {
-        Kind::Gain { .. } => checked.param(place),
-        Kind::Product => type_into(checked, place, 2),
-        Kind::Inport { .. }
-        | Kind::Outport { .. }
-        | Kind::Constant { .. }
-        | Kind::Ground
-        | Kind::Sum { .. }
-        | Kind::Switch { .. }
-        | Kind::Relational { .. }
-        | Kind::Logic { .. }
-        | Kind::Convert { .. }
-        | Kind::Delay { .. }
-        | Kind::Mux { .. }
-        | Kind::Demux { .. }
-        | Kind::RateTransition { .. }
-        | Kind::Pass { .. }
-        | Kind::EnableTest
-        | Kind::EnOut { .. }
-        | Kind::Terminator => FxType::Logical,
+    match kind.full() {
+        FullRule::FullScaled { .. } => checked.param(place),
+        FullRule::FullProduct => type_into(checked, place, 2),
+        FullRule::NoFull
+        | FullRule::FullSum { .. }
+        | FullRule::UnionOfTwo
+        | FullRule::UnionOfEnds => FxType::Logical,
     }
 }
 

@@ -8,7 +8,7 @@ ghost use Rattle.hw_sched.specs.inner.Counted.{is_output as is_output_of, is_roo
 
 use crate::drivers::width_into;
 use crate::edge_lines::times;
-use dg_model::{Block, Checked, Kind, Resolved};
+use dg_model::{Block, Checked, Resolved};
 use fx_io::OutOfMemory;
 use hw_latency::{Latencies, block_at};
 use hw_slots::total;
@@ -17,27 +17,7 @@ use hw_slots::total;
 fn is_root_output(block: &Block) -> bool
     ensures { result ≡ is_root_output_of (Some block.now) }
 {
-    match block.kind {
-        Kind::Outport { .. } => true,
-        Kind::Inport { .. }
-        | Kind::Constant { .. }
-        | Kind::Ground
-        | Kind::Sum { .. }
-        | Kind::Gain { .. }
-        | Kind::Product
-        | Kind::Switch { .. }
-        | Kind::Relational { .. }
-        | Kind::Logic { .. }
-        | Kind::Convert { .. }
-        | Kind::Delay { .. }
-        | Kind::Mux { .. }
-        | Kind::Demux { .. }
-        | Kind::RateTransition { .. }
-        | Kind::Pass { .. }
-        | Kind::EnableTest
-        | Kind::EnOut { .. }
-        | Kind::Terminator => false,
-    }
+    block.kind.row().role.output_number().is_some()
 }
 
 /// Whether a block is a root output of some elements.

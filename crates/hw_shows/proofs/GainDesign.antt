@@ -13,7 +13,7 @@ use Rattle.dg_model.specs.declared.nested.Target.TheVariants.{Port, Enable}
 use Rattle.dg_model.specs.declared.op.Op.TheVariants.{Pass, Gain as OpGain}
 use Rattle.dg_model.specs.Equation.{Equation}
 use Rattle.dg_model.specs.Hits.{Hits, last_hit}
-use Rattle.dg_model.specs.KindRow.{Inherited}
+use Rattle.dg_model.specs.declared.row.Inherited.{Inherited}
 use Rattle.dg_model.specs.Library.{row_of}
 use Rattle.dg_model.specs.Operation.{stored_truth}
 use Rattle.dg_model.specs.Signals.{Attributes, Stimulus, Table}

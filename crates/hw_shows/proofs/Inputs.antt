@@ -8,7 +8,7 @@ use Rattle.dg_model.specs.declared.diagram.Block.{Block}
 use Rattle.dg_model.specs.declared.diagram.Edge.{Edge}
 use Rattle.dg_model.specs.declared.nested.Target.{Target}
 use Rattle.dg_model.specs.declared.nested.Target.TheVariants.{Port, Enable}
-use Rattle.dg_model.specs.KindRow.{Reading}
+use Rattle.dg_model.specs.declared.row.Reading.{Reading}
 use Rattle.dg_model.specs.Library.{row_of}
 use Rattle.dg_model.specs.Signals.{Attributes, Stimulus, Table}
 use Rattle.dg_model.specs.Hits.{Hits, last_hit, is_slow_to_fast}

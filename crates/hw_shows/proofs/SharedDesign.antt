@@ -11,7 +11,7 @@ use Rattle.dg_model.specs.declared.nested.Target.TheVariants.{Port}
 use Rattle.dg_model.specs.declared.op.Op.TheVariants.{Pass, Product as OpProduct}
 use Rattle.dg_model.specs.Equation.{Equation}
 use Rattle.dg_model.specs.Hits.{Hits, last_hit}
-use Rattle.dg_model.specs.KindRow.{Inherited}
+use Rattle.dg_model.specs.declared.row.Inherited.{Inherited}
 use Rattle.dg_model.specs.Library.{row_of}
 use Rattle.dg_model.specs.Signals.{Attributes, Stimulus, Table}
 use Rattle.dg_model.specs.Solves.{IsShown, IsStimulus, Solves}

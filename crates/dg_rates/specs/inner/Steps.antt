@@ -1,7 +1,7 @@
 -- What the code of the rounds of periods holds (own).
 use Rattle.std.specs.Prelude.{ℕ, ◌&&◌, Bool, true, false, if◌then◌else◌, List, map, Option, Some, None, slice_index_or}
 use Rattle.dg_model.specs.declared.diagram.Block.{Block}
-use Rattle.dg_model.specs.KindRow.{Inherited}
+use Rattle.dg_model.specs.declared.row.Inherited.{Inherited}
 use Rattle.dg_model.specs.Library.{row_of}
 use Rattle.dg_model.specs.Periods.{Period, Periods, are_unchanging, known_at, known_or, least_finite}
 use Rattle.dg_rates.specs.inner.Links.{row_at}

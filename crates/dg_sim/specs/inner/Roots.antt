@@ -1,7 +1,7 @@
 -- Elements of root ports as the program lists them (own).
 use Rattle.std.specs.Prelude.{◌≡◌, ℕ, ◌<◌, ◌≤◌, ◌-◌, ◌==◌, ◌&&◌, ◌||◌, nat_lt, Bool, true, List, length, map, filter_map, AllPairs, Option, Some, None, ⊤, slice_get, slice_set}
 use Rattle.dg_model.specs.declared.diagram.Block.{Block}
-use Rattle.dg_model.specs.KindRow.{Role}
+use Rattle.dg_model.specs.declared.row.Role.{Role}
 use Rattle.dg_model.specs.RootElements.{RootElement, number_in}
 use Rattle.dg_sim.specs.declared.roots.Root.{Root}
 

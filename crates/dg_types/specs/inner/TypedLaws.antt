@@ -14,7 +14,8 @@ use Rattle.fx_type.specs.FxType.{IsType, is_signed, width_of, frac_of}
 use Rattle.fx_type.specs.FullTypeOf.{is_word, full_sum_of, full_product_of, union_of}
 use Rattle.dg_model.specs.declared.kind.Kind.{Kind}
 use Rattle.dg_model.specs.declared.kind.Kind.TheVariants.{Inport, Outport, Constant, Ground, Sum, Gain, Product, Switch, Relational, Logic, Convert, Delay, Mux, Demux, RateTransition, Pass, EnableTest, EnOut, Terminator}
-use Rattle.dg_model.specs.KindRow.{FullRule, OwnType}
+use Rattle.dg_model.specs.declared.row.OwnType.{OwnType}
+use Rattle.dg_model.specs.KindRow.{FullRule}
 use Rattle.dg_model.specs.Library.{row_of}
 use Rattle.dg_model.specs.GainParam.{param_type_of}
 use Rattle.std.proofs.lemmas.Option.{unwrap_or-slice_get}
