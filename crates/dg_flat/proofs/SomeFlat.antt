@@ -14,6 +14,7 @@ use Rattle.dg_model.specs.declared.fault.RuleFault.{RuleFault}
 use Rattle.dg_model.specs.declared.fault.Shown.TheVariants.{Nothing}
 use Rattle.dg_model.specs.declared.nested.Nested.{Nested}
 use Rattle.dg_model.specs.declared.nested.NestedBlock.{NestedBlock}
+use Rattle.dg_model.specs.declared.rule.Rule.{Rule}
 use Rattle.dg_model.specs.Faults.{fault_of}
 use Rattle.dg_model.specs.Wired.{StandsBefore}
 use Rattle.dg_flat.specs.Flat.{IsFlatOf, flat_blocks, edge_of}
@@ -90,7 +91,7 @@ one_more nested Keeps count kept here place block less there = elim (cases_lt pl
       subst (λ (p : ℕ). Keeps nested p block) same (here block (ap (slice_get nested.blocks) same ∙ there))
 ]
 
-kept_below : (nested : Nested) (rule : ℕ) (Keeps : Nested → ℕ → NestedBlock → Type 0) → ((fault : RuleFault) → BreaksNested nested rule Keeps fault → ⊥) → (count : ℕ) → (KeepTo nested Keeps count → ⊥) → ⊥
+kept_below : (nested : Nested) (rule : Rule) (Keeps : Nested → ℕ → NestedBlock → Type 0) → ((fault : RuleFault) → BreaksNested nested rule Keeps fault → ⊥) → (count : ℕ) → (KeepTo nested Keeps count → ⊥) → ⊥
 kept_below nested rule Keeps none zero never = never (λ place block less there. absurd (omega (arith, less)))
 kept_below nested rule Keeps none (suc count) never = kept_below nested rule Keeps none count (λ kept. by (slice_get nested.blocks count) refl kept)
   where
@@ -105,7 +106,7 @@ kept_below nested rule Keeps none (suc count) never = kept_below nested rule Kee
       fault_is = refl;
     })
 
-kept_or_first : (nested : Nested) (rule : ℕ) (Keeps : Nested → ℕ → NestedBlock → Type 0) → ((fault : RuleFault) → BreaksNested nested rule Keeps fault → ⊥) → (AllNestedKeep nested Keeps → ⊥) → ⊥
+kept_or_first : (nested : Nested) (rule : Rule) (Keeps : Nested → ℕ → NestedBlock → Type 0) → ((fault : RuleFault) → BreaksNested nested rule Keeps fault → ⊥) → (AllNestedKeep nested Keeps → ⊥) → ⊥
 kept_or_first nested rule Keeps none never = kept_below nested rule Keeps none (length nested.blocks) (λ kept. never (λ place block there. kept place block (inside place block there) there))
   where
     inside : (place : ℕ) (block : NestedBlock) → slice_get nested.blocks place ≡ Some block → place < length nested.blocks
@@ -116,8 +117,8 @@ kept_or_first nested rule Keeps none never = kept_below nested rule Keeps none (
 
 pub some_flat : FlatIsThere
 some_flat nested sound not none =
-    kept_or_first nested 4 KeepsWiring (λ fault broken. none fault (inl broken)) (λ wiring.
-    kept_or_first nested 5 KeepsEnable (λ fault broken. none fault (inr (record { wired = wiring; enables = broken }))) (λ enables.
+    kept_or_first nested Rule.Wiring KeepsWiring (λ fault broken. none fault (inl broken)) (λ wiring.
+    kept_or_first nested Rule.Enable KeepsEnable (λ fault broken. none fault (inr (record { wired = wiring; enables = broken }))) (λ enables.
     let edges = in_order (filter_map (edge_of nested.blocks) nested.lines) in
     let diagram : Diagram = record { blocks = flat_blocks nested.blocks; edges = edges.list } in
     let flat : IsFlatOf nested diagram = record { blocks = refl; edges = edges.same; ordered = edges.ordered } in

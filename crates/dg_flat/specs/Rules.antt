@@ -10,6 +10,7 @@ use Rattle.dg_model.specs.declared.nested.Part.{Part}
 use Rattle.dg_model.specs.declared.nested.Part.TheVariants.{Plain, In, Out, SubSystem, Enable}
 use Rattle.dg_model.specs.declared.nested.Target.{Target}
 use Rattle.dg_model.specs.declared.nested.Target.TheVariants.{Port, Enable as ToEnable}
+use Rattle.dg_model.specs.declared.rule.Rule.{Rule}
 use Rattle.dg_model.specs.Faults.{fault_of}
 use Rattle.dg_model.specs.declared.row.Standing.{Standing}
 use Rattle.dg_model.specs.Library.{row_of}
@@ -88,7 +89,7 @@ abbrev pub AllNestedKeep : Nested → (Nested → ℕ → NestedBlock → Type 0
 AllNestedKeep nested Keeps = (place : ℕ) (block : NestedBlock) → slice_get nested.blocks place ≡ Some block → Keeps nested place block
 
 -- a rule is broken, with this fault: at the first block that doesn't keep it
-pub record BreaksNested (nested : Nested) (rule : ℕ) (Keeps : Nested → ℕ → NestedBlock → Type 0) (fault : RuleFault) : Type 0 where
+pub record BreaksNested (nested : Nested) (rule : Rule) (Keeps : Nested → ℕ → NestedBlock → Type 0) (fault : RuleFault) : Type 0 where
   pub place : ℕ
   pub block : NestedBlock
   pub there : slice_get nested.blocks place ≡ Some block
@@ -97,12 +98,12 @@ pub record BreaksNested (nested : Nested) (rule : ℕ) (Keeps : Nested → ℕ �
   pub fault_is : fault ≡ fault_of rule (nested_path nested.blocks place) Nothing
 
 abbrev pub BreaksWiring : Nested → RuleFault → Type 0
-BreaksWiring nested fault = BreaksNested nested 4 KeepsWiring fault
+BreaksWiring nested fault = BreaksNested nested Rule.Wiring KeepsWiring fault
 
 -- every line and port is right, and the rule of enabled subsystems is broken
 pub record BreaksEnable (nested : Nested) (fault : RuleFault) : Type 0 where
   pub wired : AllNestedKeep nested KeepsWiring
-  pub enables : BreaksNested nested 5 KeepsEnable fault
+  pub enables : BreaksNested nested Rule.Enable KeepsEnable fault
 
 -- a rule of the two is broken, the first one at its first place
 abbrev pub BreaksWiringOrEnable : Nested → RuleFault → Type 0

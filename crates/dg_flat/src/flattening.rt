@@ -15,14 +15,14 @@ use crate::enables::first_misplaced;
 use crate::paths::{path_in, system_paths};
 use crate::systems::Systems;
 use crate::wiring::first_unwired;
-use dg_model::{CheckFault, Diagram, Nested, NestedBlock, RuleFault, Shown, SystemPath};
+use dg_model::{CheckFault, Diagram, Nested, NestedBlock, Rule, RuleFault, Shown, SystemPath};
 use fx_io::OutOfMemory;
 use std::alloc::Global;
 
 /// A rule is broken at a block.
 fn broken(
     alloc: Global,
-    rule: u8,
+    rule: Rule,
     blocks: &[NestedBlock],
     paths: &[SystemPath],
     place: u32,
@@ -42,8 +42,8 @@ fn broken(
     })
 }
 
-/// The flat diagram of nested blocks and lines, or the first broken rule of wiring (4) and of enabled
-/// subsystems (5), at its first block in file order.
+/// The flat diagram of nested blocks and lines, or the first broken rule of wiring and of enabled
+/// subsystems, at its first block in file order.
 ///
 /// Blocks stand in file order, each with its path; subsystems are left out, and an EnablePort becomes
 /// the test of its System's enable line. A line into or out of a subsystem ends at the block of its
@@ -62,11 +62,11 @@ pub fn flatten(alloc: Global, nested: &Nested) -> Result<Diagram, CheckFault>
     let systems = Systems::of(alloc, blocks)?;
     let paths = system_paths(alloc, blocks)?;
     if let Some(place) = first_unwired(alloc, &systems, nested)? {
-        let fault = broken(alloc, 4, blocks, paths.as_slice(), place)?;
+        let fault = broken(alloc, Rule::Wiring, blocks, paths.as_slice(), place)?;
         return Err(CheckFault::Broken(fault));
     }
     if let Some(place) = first_misplaced(&systems, nested) {
-        let fault = broken(alloc, 5, blocks, paths.as_slice(), place)?;
+        let fault = broken(alloc, Rule::Enable, blocks, paths.as_slice(), place)?;
         return Err(CheckFault::Broken(fault));
     }
     let places = flat_places(alloc, blocks)?;

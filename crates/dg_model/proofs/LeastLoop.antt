@@ -10,6 +10,7 @@ use Rattle.dg_model.specs.declared.fault.RuleFault.{RuleFault}
 use Rattle.dg_model.specs.declared.fault.Shown.{Shown}
 use Rattle.dg_model.specs.declared.fault.Shown.TheVariants.{Nothing, Word, Periods, Cycle, Latency, Budget, Size}
 use Rattle.dg_model.specs.declared.kind.Kind.TheVariants.{Inport, Sum, Gain}
+use Rattle.dg_model.specs.declared.rule.Rule.{Rule}
 use Rattle.dg_model.specs.Faults.{fault_of}
 use Rattle.dg_model.specs.LatencyEdges.{LatencyEdge, signal_edge}
 use Rattle.dg_model.specs.Attributes.{attributes_of}
@@ -78,7 +79,7 @@ gain_and_sum = record { some = omega arith; different = pairs_of (λ block other
   leads (suc (suc k)) below = absurd (omega (arith, below))
 
 -- the gain is the least block on any cycle
-gain_breaks : BreaksLoop two_loops (attributes_of two_loops) (fault_of 9 (codes "m/g") (Cycle (1 ∷ 2 ∷ [])))
+gain_breaks : BreaksLoop two_loops (attributes_of two_loops) (fault_of Rule.Loop (codes "m/g") (Cycle (1 ∷ 2 ∷ [])))
 gain_breaks = record { first = 1; more = 2 ∷ []; is_cycle = gain_and_sum; least = no_input; fault_is = refl }
 
 abbrev first_shown : Shown → ℕ
@@ -94,7 +95,7 @@ abbrev first_of_fault : RuleFault → ℕ
 first_of_fault fault = first_shown fault.shown
 
 -- so no fault tells a cycle from a later block on, as the same one from the sum
-not_later : (path more : List ℕ) (first : ℕ) → BreaksLoop two_loops (attributes_of two_loops) (fault_of 9 path (Cycle (first ∷ more))) → first ≤ 1
+not_later : (path more : List ℕ) (first : ℕ) → BreaksLoop two_loops (attributes_of two_loops) (fault_of Rule.Loop path (Cycle (first ∷ more))) → first ≤ 1
 not_later path more first breaks =
     let same : first ≡ breaks.first = ap first_of_fault breaks.fault_is in
     omega (arith, same, breaks.least (1 ∷ 2 ∷ []) gain_and_sum 0 0 (omega arith))

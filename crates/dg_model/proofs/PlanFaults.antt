@@ -9,6 +9,7 @@ use Rattle.dg_model.specs.declared.kind.Kind.{Kind}
 use Rattle.dg_model.specs.declared.kind.Kind.TheVariants.{Inport, Ground, Sum}
 use Rattle.dg_model.specs.declared.plan.Plan.{Plan}
 use Rattle.dg_model.specs.declared.plan.Pipeline.{Pipeline}
+use Rattle.dg_model.specs.declared.rule.Rule.{Rule}
 use Rattle.dg_model.specs.Attributes.{attributes_of}
 use Rattle.dg_model.specs.Faults.{fault_of}
 use Rattle.dg_model.specs.PlanNames.{MayBePipelined, IsFound, KeepsPlan, BreaksPlan, IsResolved}
@@ -82,16 +83,16 @@ absent_missing count found = at (found.some.0) (found.some.1) (found.some.2) (fo
     at (suc (suc (suc (suc k)))) block below is same = absurd (omega (arith, below))
 
 -- the first path that isn't found is told, behind one that is
-input_breaks : BreaksPlan sums (attributes_of sums) (plan_of (line_of (codes "m/s") 3 ∷ line_of (codes "m/u") 1 ∷ line_of (codes "m/x") 1 ∷ [])) (fault_of 10 (codes "m/u") Nothing)
+input_breaks : BreaksPlan sums (attributes_of sums) (plan_of (line_of (codes "m/s") 3 ∷ line_of (codes "m/u") 1 ∷ line_of (codes "m/x") 1 ∷ [])) (fault_of Rule.Plan (codes "m/u") Nothing)
 input_breaks = record { number = 1; line = line_of (codes "m/u") 1; line_is = refl; missing = input_missing 1; before = before; fault_is = refl } where
   before : (k : ℕ) (other : Pipeline) → k < 1 → slice_get (line_of (codes "m/s") 3 ∷ line_of (codes "m/u") 1 ∷ line_of (codes "m/x") 1 ∷ []) k ≡ Some other → Found other
   before zero other below is = let same : other ≡ line_of (codes "m/s") 3 = cc is in subst Found (sym same) (moving_found 3)
   before (suc k) other below is = absurd (omega (arith, below))
 
-still_breaks : BreaksPlan sums (attributes_of sums) (plan_of (line_of (codes "m/t") 2 ∷ line_of (codes "m/s") 1 ∷ [])) (fault_of 10 (codes "m/t") Nothing)
+still_breaks : BreaksPlan sums (attributes_of sums) (plan_of (line_of (codes "m/t") 2 ∷ line_of (codes "m/s") 1 ∷ [])) (fault_of Rule.Plan (codes "m/t") Nothing)
 still_breaks = record { number = 0; line = line_of (codes "m/t") 2; line_is = refl; missing = still_missing 2; before = λ k other below is. absurd (omega (arith, below)); fault_is = refl }
 
-absent_breaks : BreaksPlan sums (attributes_of sums) (plan_of (line_of (codes "m/x") 64 ∷ [])) (fault_of 10 (codes "m/x") Nothing)
+absent_breaks : BreaksPlan sums (attributes_of sums) (plan_of (line_of (codes "m/x") 64 ∷ [])) (fault_of Rule.Plan (codes "m/x") Nothing)
 absent_breaks = record { number = 0; line = line_of (codes "m/x") 64; line_is = refl; missing = absent_missing 64; before = λ k other below is. absurd (omega (arith, below)); fault_is = refl }
 
 -- a plan that is found, and what it gives each block

@@ -8,6 +8,7 @@ use Rattle.dg_model.specs.declared.diagram.Block.{Block}
 use Rattle.dg_model.specs.declared.diagram.PeriodSpec.TheVariants.{Every}
 use Rattle.dg_model.specs.declared.fault.Shown.TheVariants.{Word, Periods as ShownPeriods}
 use Rattle.dg_model.specs.declared.kind.Kind.TheVariants.{Inport, Outport, Sum, Gain}
+use Rattle.dg_model.specs.declared.rule.Rule.{Rule}
 use Rattle.dg_model.specs.Faults.{fault_of}
 use Rattle.dg_model.specs.LatencyEdges.{LatencyEdge, signal_edge}
 use Rattle.dg_model.specs.Periods.{periods_of}
@@ -26,7 +27,7 @@ declared_three = record {
   edges = edge_of 0 1 1 1 ∷ [];
 }
 
-three_breaks : BreaksRate declared_three (fault_of 8 [] (Word (codes "declared")))
+three_breaks : BreaksRate declared_three (fault_of Rule.Rate [] (Word (codes "declared")))
 three_breaks = inl (record {
   place = 1;
   block = timed (Gain [] Internal) (Every (small 3 (lit< tt))) 1 1;
@@ -48,7 +49,7 @@ declared_four = record {
   edges = edge_of 0 1 1 1 ∷ [];
 }
 
-four_breaks : BreaksRate declared_four (fault_of 8 [] (ShownPeriods 2 1))
+four_breaks : BreaksRate declared_four (fault_of Rule.Rate [] (ShownPeriods 2 1))
 four_breaks = inr (record {
   declared = declared;
   periods = record {

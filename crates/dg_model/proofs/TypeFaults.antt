@@ -13,6 +13,7 @@ use Rattle.dg_model.specs.declared.fault.Shown.TheVariants.{Word}
 use Rattle.dg_model.specs.declared.kind.Kind.{Kind}
 use Rattle.dg_model.specs.declared.kind.Kind.TheVariants.{Inport, Outport, Product, Relational, Delay, Mux}
 use Rattle.dg_model.specs.declared.kind.Relation.TheVariants.{Lt}
+use Rattle.dg_model.specs.declared.rule.Rule.{Rule}
 use Rattle.dg_model.specs.Faults.{AllKeep, fault_of}
 use Rattle.dg_model.specs.TypeRounds.{input_types, types_of}
 use Rattle.dg_model.specs.TypeRule.{IsNotWide, HasTypes, HasAgreeing, BreaksType}
@@ -42,7 +43,7 @@ wide = record {
 }
 
 -- it is told before the Delay that never has a type
-wide_breaks : BreaksType wide (fault_of 7 (codes "m/p") (Word (codes "wide")))
+wide_breaks : BreaksType wide (fault_of Rule.Type (codes "m/p") (Word (codes "wide")))
 wide_breaks = inl (record {
   place = 2;
   block = named (codes "m/p") Product (Fixed int8) 2 1;
@@ -74,7 +75,7 @@ missing_types = refl
 missing_input : All IsSome (input_types missing (types_of missing) 1) → ⊥
 missing_input known = false≢true (known 1 None (omega arith))
 
-missing_breaks : BreaksType missing (fault_of 7 (codes "m/r") (Word (codes "missing")))
+missing_breaks : BreaksType missing (fault_of Rule.Type (codes "m/r") (Word (codes "missing")))
 missing_breaks = inr (inl (record {
   narrow = each_of (IsNotWide missing (types_of missing)) missing.blocks
       (λ names known. absurd (false≢true names), (λ names known. absurd (missing_input known), (λ names known. absurd (false≢true names), tt)));
@@ -136,7 +137,7 @@ differing_inputs type (suc zero) b below is = let same : b ≡ input_of 2 int16 
     subst (λ b. HasAgreeing (differing type) (types_of (differing type)) 1 b) (sym same) (record { written = tt; inside = tt })
 differing_inputs type (suc (suc other)) b below is = absurd (omega (arith, below))
 
-outport_breaks : BreaksType (differing int8) (fault_of 7 (codes "m/y") (Word (codes "differs")))
+outport_breaks : BreaksType (differing int8) (fault_of Rule.Type (codes "m/y") (Word (codes "differs")))
 outport_breaks = inr (inr (record {
   narrow = differing_narrow int8;
   known = differing_known int8;
@@ -149,7 +150,7 @@ outport_breaks = inr (inr (record {
 }))
 
 -- where the Outport's type is its driver's, the Mux is the first
-mux_breaks : BreaksType (differing int16) (fault_of 7 (codes "m/m") (Word (codes "differs")))
+mux_breaks : BreaksType (differing int16) (fault_of Rule.Type (codes "m/m") (Word (codes "differs")))
 mux_breaks = inr (inr (record {
   narrow = differing_narrow int16;
   known = differing_known int16;

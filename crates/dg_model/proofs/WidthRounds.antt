@@ -11,6 +11,7 @@ use Rattle.dg_model.specs.declared.diagram.Edge.{Edge}
 use Rattle.dg_model.specs.declared.diagram.PeriodSpec.TheVariants.{Inherit}
 use Rattle.dg_model.specs.declared.kind.Kind.{Kind}
 use Rattle.dg_model.specs.declared.kind.Kind.TheVariants.{Inport, Outport, Ground, Mux, Demux, Sum, Delay, Terminator}
+use Rattle.dg_model.specs.declared.rule.Rule.{Rule}
 use Rattle.dg_model.specs.Widths.{widths_of, widths_after}
 
 abbrev pub block_of : Kind → ℕ → ℕ → Block
@@ -65,7 +66,7 @@ doubling_cut = refl
 -- ---- the rule
 
 -- the Mux that grows breaks the rule: one more round changes it
-growing_breaks : BreaksDimension growing (fault_of 6 [] Nothing)
+growing_breaks : BreaksDimension growing (fault_of Rule.Dimension [] Nothing)
 growing_breaks = inl (record {
   place = 0;
   block = block_of (Mux []) 2 1;
@@ -103,7 +104,7 @@ exit_first = record {
 exit_widths : widths_of exit_first ≡ (3 ∷ []) ∷ (4 ∷ []) ∷ (1 ∷ []) ∷ []
 exit_widths = refl
 
-exit_breaks : BreaksDimension exit_first (fault_of 6 [] Nothing)
+exit_breaks : BreaksDimension exit_first (fault_of Rule.Dimension [] Nothing)
 exit_breaks = inl (record {
   place = 0;
   block = block_of (Outport 1) 1 0;

@@ -5,6 +5,7 @@ use Rattle.dg_model.specs.declared.diagram.Diagram.{Diagram}
 use Rattle.dg_model.specs.declared.diagram.Block.{Block}
 use Rattle.dg_model.specs.declared.fault.RuleFault.{RuleFault}
 use Rattle.dg_model.specs.declared.fault.Shown.TheVariants.{Nothing}
+use Rattle.dg_model.specs.declared.rule.Rule.{Rule}
 use Rattle.dg_model.specs.Faults.{fault_of, AllKeep, BreaksAt}
 use Rattle.dg_model.specs.KindRow.{Shape}
 use Rattle.dg_model.specs.Library.{row_of}
@@ -62,9 +63,9 @@ pub record KeepsDimensions (diagram : Diagram) : Type 0 where
 pub record BreaksBounds (diagram : Diagram) (fault : RuleFault) : Type 0 where
   pub blocks : AllKeep diagram (KeepsDimension diagram (widths_of diagram))
   pub unbounded : ¬ IsBounded diagram (widths_of diagram)
-  pub fault_is : fault ≡ fault_of 6 [] Nothing
+  pub fault_is : fault ≡ fault_of Rule.Dimension [] Nothing
 
 -- the rule is broken, with this fault
 abbrev pub BreaksDimension : Diagram → RuleFault → Type 0
 BreaksDimension diagram fault =
-    BreaksAt diagram 6 (KeepsDimension diagram (widths_of diagram)) (λ place block. Nothing) fault ⊎ BreaksBounds diagram fault
+    BreaksAt diagram Rule.Dimension (KeepsDimension diagram (widths_of diagram)) (λ place block. Nothing) fault ⊎ BreaksBounds diagram fault

@@ -6,6 +6,7 @@ use Rattle.dg_model.specs.declared.fault.CheckFault.{CheckFault}
 use Rattle.dg_model.specs.declared.fault.CheckFault.TheVariants.{Broken, OutOfMemory}
 use Rattle.dg_model.specs.declared.fault.RuleFault.{RuleFault}
 use Rattle.dg_model.specs.declared.fault.Shown.{Shown}
+use Rattle.dg_model.specs.declared.rule.Rule.{Rule}
 
 -- the path of the block at a place
 abbrev pub path_of : Diagram → ℕ → List ℕ
@@ -15,7 +16,7 @@ path_of diagram place = path_if (slice_get diagram.blocks place) where
   path_if (Some block) = block.path
 
 -- a rule is broken there, and this is shown beside
-abbrev pub fault_of : ℕ → List ℕ → Shown → RuleFault
+abbrev pub fault_of : Rule → List ℕ → Shown → RuleFault
 fault_of rule place shown = record { rule = rule; place = place; shown = shown }
 
 -- each block keeps a part of a rule
@@ -29,7 +30,7 @@ pub record IsFirstBroken (diagram : Diagram) (Keeps : ℕ → Block → Type 0) 
   pub before : (other : ℕ) (b : Block) → other < place → slice_get diagram.blocks other ≡ Some b → Keeps other b
 
 -- the first block that breaks a part of a rule is told, and this is shown beside
-pub record BreaksAt (diagram : Diagram) (rule : ℕ) (Keeps : ℕ → Block → Type 0) (shown : ℕ → Block → Shown) (fault : RuleFault) : Type 0 where
+pub record BreaksAt (diagram : Diagram) (rule : Rule) (Keeps : ℕ → Block → Type 0) (shown : ℕ → Block → Shown) (fault : RuleFault) : Type 0 where
   pub place : ℕ
   pub block : Block
   pub first : IsFirstBroken diagram Keeps place block

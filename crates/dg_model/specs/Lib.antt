@@ -19,6 +19,7 @@ pub mod PlanOf
 pub mod PlanRange
 pub mod Rate
 pub mod RootElements
+pub mod RuleTable
 pub mod Signals
 pub mod Solves
 pub mod Sound

@@ -3,6 +3,7 @@ use Rattle.std.specs.Prelude.{◌≡◌, ℕ, suc, ◌<◌, ◌≤◌, ◌≢◌
 use Rattle.dg_model.specs.declared.diagram.Diagram.{Diagram}
 use Rattle.dg_model.specs.declared.fault.RuleFault.{RuleFault}
 use Rattle.dg_model.specs.declared.fault.Shown.TheVariants.{Cycle}
+use Rattle.dg_model.specs.declared.rule.Rule.{Rule}
 use Rattle.dg_model.specs.Faults.{path_of, fault_of}
 use Rattle.dg_model.specs.Instant.{IsInstant}
 use Rattle.dg_model.specs.LatencyEdges.{latency_edges}
@@ -49,4 +50,4 @@ pub record BreaksLoop (diagram : Diagram) (attributes : Attributes) (fault : Rul
   pub more : List ℕ
   pub is_cycle : IsInstantCycle diagram attributes (first ∷ more)
   pub least : (other : List ℕ) → IsInstantCycle diagram attributes other → All (λ block. first ≤ block) other
-  pub fault_is : fault ≡ fault_of 9 (path_of diagram first) (Cycle (first ∷ more))
+  pub fault_is : fault ≡ fault_of Rule.Loop (path_of diagram first) (Cycle (first ∷ more))

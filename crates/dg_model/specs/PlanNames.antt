@@ -8,6 +8,7 @@ use Rattle.dg_model.specs.declared.fault.Shown.TheVariants.{Nothing}
 use Rattle.dg_model.specs.declared.plan.Plan.{Plan}
 use Rattle.dg_model.specs.declared.plan.Pipeline.{Pipeline}
 use Rattle.dg_model.specs.declared.resolved.Resolved.{Resolved}
+use Rattle.dg_model.specs.declared.rule.Rule.{Rule}
 use Rattle.dg_model.specs.Faults.{fault_of}
 use Rattle.dg_model.specs.Library.{row_of}
 use Rattle.dg_model.specs.Signals.{Attributes}
@@ -33,7 +34,7 @@ pub record BreaksPlan (diagram : Diagram) (attributes : Attributes) (plan : Plan
   pub line_is : slice_get plan.pipelines number ≡ Some line
   pub missing : ¬ IsFound diagram attributes line
   pub before : (k : ℕ) (other : Pipeline) → k < number → slice_get plan.pipelines k ≡ Some other → IsFound diagram attributes other
-  pub fault_is : fault ≡ fault_of 10 line.path Nothing
+  pub fault_is : fault ≡ fault_of Rule.Plan line.path Nothing
 
 -- how many registers a plan sets behind the blocks of a path
 abbrev pub count_of : Plan → List ℕ → ℕ

@@ -6,6 +6,7 @@ use Rattle.dg_model.specs.declared.fault.RuleFault.{RuleFault}
 use Rattle.dg_model.specs.declared.fault.Shown.{Shown}
 use Rattle.dg_model.specs.declared.fault.Shown.TheVariants.{Word, Periods as ShownPeriods}
 use Rattle.dg_model.specs.declared.row.Reading.{Reading}
+use Rattle.dg_model.specs.declared.rule.Rule.{Rule}
 use Rattle.dg_model.specs.Library.{row_of}
 use Rattle.dg_model.specs.Faults.{AllKeep, BreaksAt}
 use Rattle.dg_model.specs.Periods.{units_of, declared_period, base_units, Period, drivers_of, sources_of, periods_of, period_at}
@@ -63,9 +64,9 @@ pub record KeepsRates (diagram : Diagram) : Type 0 where
 -- every declared period is one that can be, and the periods of two blocks disagree
 pub record BreaksPeriods (diagram : Diagram) (fault : RuleFault) : Type 0 where
   pub declared : AllKeep diagram (KeepsDeclared diagram)
-  pub periods : BreaksAt diagram 8 (KeepsPeriods diagram (periods_of diagram)) (shown_periods diagram (periods_of diagram)) fault
+  pub periods : BreaksAt diagram Rule.Rate (KeepsPeriods diagram (periods_of diagram)) (shown_periods diagram (periods_of diagram)) fault
 
 -- the rule is broken, with this fault
 abbrev pub BreaksRate : Diagram → RuleFault → Type 0
 BreaksRate diagram fault =
-    BreaksAt diagram 8 (KeepsDeclared diagram) (λ place block. Word (codes "declared")) fault ⊎ BreaksPeriods diagram fault
+    BreaksAt diagram Rule.Rate (KeepsDeclared diagram) (λ place block. Word (codes "declared")) fault ⊎ BreaksPeriods diagram fault

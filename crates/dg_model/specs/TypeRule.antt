@@ -7,6 +7,7 @@ use Rattle.dg_model.specs.declared.diagram.Block.{Block}
 use Rattle.dg_model.specs.declared.fault.RuleFault.{RuleFault}
 use Rattle.dg_model.specs.declared.fault.Shown.TheVariants.{Word}
 use Rattle.dg_model.specs.declared.row.Role.{Role}
+use Rattle.dg_model.specs.declared.rule.Rule.{Rule}
 use Rattle.dg_model.specs.KindRow.{Shape}
 use Rattle.dg_model.specs.Library.{row_of}
 use Rattle.dg_model.specs.Faults.{AllKeep, BreaksAt}
@@ -67,15 +68,15 @@ pub record KeepsTypes (diagram : Diagram) : Type 0 where
 -- nothing is too wide, and a type isn't known
 pub record BreaksKnown (diagram : Diagram) (fault : RuleFault) : Type 0 where
   pub narrow : AllKeep diagram (IsNotWide diagram (types_of diagram))
-  pub unknown : BreaksAt diagram 7 (HasTypes diagram (types_of diagram)) (λ place block. Word (codes "missing")) fault
+  pub unknown : BreaksAt diagram Rule.Type (HasTypes diagram (types_of diagram)) (λ place block. Word (codes "missing")) fault
 
 -- every type is known, and two don't agree
 pub record BreaksAgreeing (diagram : Diagram) (fault : RuleFault) : Type 0 where
   pub narrow : AllKeep diagram (IsNotWide diagram (types_of diagram))
   pub known : AllKeep diagram (HasTypes diagram (types_of diagram))
-  pub differ : BreaksAt diagram 7 (HasAgreeing diagram (types_of diagram)) (λ place block. Word (codes "differs")) fault
+  pub differ : BreaksAt diagram Rule.Type (HasAgreeing diagram (types_of diagram)) (λ place block. Word (codes "differs")) fault
 
 -- the rule is broken, with this fault
 abbrev pub BreaksType : Diagram → RuleFault → Type 0
 BreaksType diagram fault =
-    BreaksAt diagram 7 (IsNotWide diagram (types_of diagram)) (λ place block. Word (codes "wide")) fault ⊎ (BreaksKnown diagram fault ⊎ BreaksAgreeing diagram fault)
+    BreaksAt diagram Rule.Type (IsNotWide diagram (types_of diagram)) (λ place block. Word (codes "wide")) fault ⊎ (BreaksKnown diagram fault ⊎ BreaksAgreeing diagram fault)

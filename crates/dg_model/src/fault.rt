@@ -1,3 +1,4 @@
+use crate::rule::Rule;
 use fx_io::{OutOfMemory, Sizes, Text};
 
 /// Why a check answers no (own).
@@ -12,8 +13,8 @@ pub enum CheckFault {
 /// The first broken rule with its first place (own).
 #[derive(Debug, Drop)]
 pub struct RuleFault {
-    /// The rule's number, 1 to 13.
-    pub rule: u8,
+    /// The rule.
+    pub rule: Rule,
     /// The path of the block that breaks it; the empty path is the whole model.
     pub place: Text,
     /// What is told beside the place.

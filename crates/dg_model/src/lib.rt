@@ -10,7 +10,7 @@
 //! stands in `lent`. `Wired` says which diagrams are well formed, and `Sound` which nested ones.
 //! `RootElements` and `LatencyEdges` number what files, ports and latencies are told by, and `Instant`
 //! says which values a block needs in its own sample. `Checked` is a diagram that keeps the rules, with
-//! what propagation gives its blocks.
+//! what propagation gives its blocks, and `RuleTable` says how each rule is told.
 #![tactic(auto)]
 
 mod checked;
@@ -28,6 +28,7 @@ mod port_widths;
 mod propagated;
 mod resolved;
 mod row;
+mod rule;
 mod sums;
 
 pub use checked::Checked;
@@ -45,4 +46,5 @@ pub use port_widths::PortWidths;
 pub use propagated::{FxTypes, Propagated};
 pub use resolved::Resolved;
 pub use row::{Asking, Inherited, OwnType, Reading, Role, Row, Standing};
+pub use rule::Rule;
 pub use sums::sum_type;

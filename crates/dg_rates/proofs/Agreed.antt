@@ -9,6 +9,7 @@ use Rattle.dg_model.specs.declared.diagram.Diagram.{Diagram}
 use Rattle.dg_model.specs.declared.diagram.Block.{Block}
 use Rattle.dg_model.specs.declared.fault.RuleFault.{RuleFault}
 use Rattle.dg_model.specs.declared.fault.Shown.TheVariants.{Periods as ShownPeriods}
+use Rattle.dg_model.specs.declared.rule.Rule.{Rule}
 use Rattle.dg_model.specs.Faults.{BreaksAt, fault_of}
 use Rattle.dg_model.specs.Library.{row_of}
 use Rattle.dg_model.specs.Periods.{Period, drivers_of, period_at, sources_of}
@@ -50,10 +51,10 @@ all_asked P (Some own) enable sources all = all
 
 pub breaks_periods : (diagram : Diagram) (periods : List Period) (place : ℕ) (block : Block) (source : ℕ) (fault : RuleFault) → slice_get diagram.blocks place ≡ Some block
     → disagreeing diagram periods place block ≡ Some source → KeepBefore diagram (KeepsPeriods diagram periods) place
-    → fault ≡ fault_of 8 block.path (ShownPeriods (shown_period (period_at periods place)) (shown_period (period_at periods source)))
-    → BreaksAt diagram 8 (KeepsPeriods diagram periods) (shown_periods diagram periods) fault
+    → fault ≡ fault_of Rule.Rate block.path (ShownPeriods (shown_period (period_at periods place)) (shown_period (period_at periods source)))
+    → BreaksAt diagram Rule.Rate (KeepsPeriods diagram periods) (shown_periods diagram periods) fault
 breaks_periods diagram periods place block source fault at found before is =
     breaks_at diagram (KeepsPeriods diagram periods) (shown_periods diagram periods) place block fault at (λ keeps. absurd (cc (sym keeps ∙ found))) before (is ∙ shown)
   where
-    shown : fault_of 8 block.path (ShownPeriods (shown_period (period_at periods place)) (shown_period (period_at periods source))) ≡ fault_of 8 block.path (shown_periods diagram periods place block)
+    shown : fault_of Rule.Rate block.path (ShownPeriods (shown_period (period_at periods place)) (shown_period (period_at periods source))) ≡ fault_of Rule.Rate block.path (shown_periods diagram periods place block)
     shown = rw found refl

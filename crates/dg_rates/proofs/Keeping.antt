@@ -7,6 +7,7 @@ use Rattle.dg_model.specs.declared.diagram.Diagram.{Diagram}
 use Rattle.dg_model.specs.declared.diagram.Block.{Block}
 use Rattle.dg_model.specs.declared.fault.RuleFault.{RuleFault}
 use Rattle.dg_model.specs.declared.fault.Shown.{Shown}
+use Rattle.dg_model.specs.declared.rule.Rule.{Rule}
 use Rattle.dg_model.specs.Faults.{AllKeep, BreaksAt, fault_of, path_of}
 
 -- the blocks before a place keep the part
@@ -25,12 +26,12 @@ pub keep_all : (diagram : Diagram) (Keeps : ℕ → Block → Type 0) (place : �
 keep_all diagram Keeps place all before other b is = before other b (omega (arith, all, slice_get_within diagram.blocks other b is)) is
 
 pub breaks_at : (diagram : Diagram) (Keeps : ℕ → Block → Type 0) (shown : ℕ → Block → Shown) (place : ℕ) (block : Block) (fault : RuleFault) → slice_get diagram.blocks place ≡ Some block → ¬ Keeps place block
-    → KeepBefore diagram Keeps place → fault ≡ fault_of 8 block.path (shown place block) → BreaksAt diagram 8 Keeps shown fault
+    → KeepBefore diagram Keeps place → fault ≡ fault_of Rule.Rate block.path (shown place block) → BreaksAt diagram Rule.Rate Keeps shown fault
 breaks_at diagram Keeps shown place block fault at broken before is = record {
   place = place;
   block = block;
   first = record { there = at; broken = broken; before = before };
-  fault_is = is ∙ ap (λ (path : List ℕ). fault_of 8 path (shown place block)) (sym (path_at at));
+  fault_is = is ∙ ap (λ (path : List ℕ). fault_of Rule.Rate path (shown place block)) (sym (path_at at));
 }
   where
     path_at : slice_get diagram.blocks place ≡ Some block → path_of diagram place ≡ block.path

@@ -1,5 +1,6 @@
 ghost use Rattle.std.specs.Prelude.{◌≡◌, ◌<◌, ◌≤◌, ℕ, All, IfErr, IfOk, IfSome, IsSome, OnOk, find, length, not, true};
 ghost use Rattle.dg_model.specs.declared.fault.Shown.TheVariants.{Periods as ShownPeriods};
+ghost use Rattle.dg_model.specs.declared.rule.Rule.{Rule};
 ghost use Rattle.dg_model.specs.Faults.{AllKeep, BreaksAt, IsRefusal, fault_of};
 ghost use Rattle.dg_model.specs.Library.{row_of};
 ghost use Rattle.dg_model.specs.Periods.{period_at};
@@ -8,7 +9,7 @@ ghost use Rattle.dg_rates.specs.inner.Agreeing.{asked_among, without_control as 
 ghost use Rattle.dg_rates.specs.inner.Links.{AreSources};
 
 use crate::links::Links;
-use dg_model::{Block, CheckFault, Diagram, Kind, Reading, RuleFault, Shown};
+use dg_model::{Block, CheckFault, Diagram, Kind, Reading, Rule, RuleFault, Shown};
 use fx_io::OutOfMemory;
 use std::alloc::Global;
 
@@ -93,10 +94,10 @@ fn periods_fault(
     other: Option<u32>,
 ) -> Result<RuleFault, OutOfMemory>
     ensures { IfOk result (λ fault. fault ≡
-        fault_of 8 block.now.path (ShownPeriods (shown_period own) (shown_period other))) }
+        fault_of Rule.Rate block.now.path (ShownPeriods (shown_period own) (shown_period other))) }
 {
     Ok(RuleFault {
-        rule: 8,
+        rule: Rule::Rate,
         place: block.path.text(alloc)?,
         shown: Shown::Periods {
             own: own.unwrap_or(0),
@@ -117,7 +118,7 @@ pub fn check_periods(
     requires sources { AreSources diagram.now links.now.sources }
     requires periods { length periods.now ≡ length diagram.now.blocks }
     ensures kept { OnOk result (AllKeep diagram.now (KeepsPeriods diagram.now periods.now)) }
-    ensures refused { IfErr result (IsRefusal (BreaksAt diagram.now 8
+    ensures refused { IfErr result (IsRefusal (BreaksAt diagram.now Rule.Rate
         (KeepsPeriods diagram.now periods.now) (shown_periods diagram.now periods.now))) }
 {
     for (place, block) in diagram.blocks.as_slice().iter().enumerate() {

@@ -2,6 +2,7 @@ ghost use Rattle.std.specs.Prelude.{◌≡◌, ◌<◌, ◌≤◌, ◌∷◌, �
 ghost use Rattle.std.specs.Option.{option_map};
 ghost use Rattle.dg_model.specs.declared.diagram.Block.{Block};
 ghost use Rattle.dg_model.specs.declared.fault.Shown.TheVariants.{Word};
+ghost use Rattle.dg_model.specs.declared.rule.Rule.{Rule};
 ghost use Rattle.dg_model.specs.Faults.{AllKeep, BreaksAt, IsRefusal, fault_of};
 ghost use Rattle.dg_model.specs.Library.{row_of};
 ghost use Rattle.dg_model.specs.Periods.{base_units, first_inherited, first_periods as first_periods_of, least_of, units_of};
@@ -11,7 +12,7 @@ ghost use Rattle.dg_rates.specs.inner.Declared.{IsAbove, KeepsIn, first_in, leas
 
 use crate::rounds::Known;
 use crate::units::{is_less, times_of};
-use dg_model::{Block, CheckFault, Diagram, Inherited, Kind, PeriodSpec, RuleFault, Shown};
+use dg_model::{Block, CheckFault, Diagram, Inherited, Kind, PeriodSpec, Rule, RuleFault, Shown};
 use fx_io::{OutOfMemory, Sequence, Text};
 use fx_type::Decimal;
 use std::alloc::Global;
@@ -104,10 +105,11 @@ fn first_period(block: &Block, base: Decimal) -> Result<Known, NotWhole>
 
 /// The fault of a declared period that can't be.
 fn declared_fault(alloc: Global, block: &Block) -> Result<RuleFault, OutOfMemory>
-    ensures { IfOk result (λ fault. fault ≡ fault_of 8 block.now.path (Word (codes "declared"))) }
+    ensures { IfOk result (λ fault. fault
+        ≡ fault_of Rule.Rate block.now.path (Word (codes "declared"))) }
 {
     Ok(RuleFault {
-        rule: 8,
+        rule: Rule::Rate,
         place: block.path.text(alloc)?,
         shown: Shown::Word(Text::copy(alloc, b"declared")?),
     })
@@ -125,7 +127,7 @@ pub fn first_periods(
     requires base_is { units_of base ≡ base_units diagram.now }
     ensures known { IfOk result (λ first. first.items ≡ first_periods_of diagram.now) }
     ensures kept { OnOk result (AllKeep diagram.now (KeepsDeclared diagram.now)) }
-    ensures refused { IfErr result (IsRefusal (BreaksAt diagram.now 8
+    ensures refused { IfErr result (IsRefusal (BreaksAt diagram.now Rule.Rate
         (KeepsDeclared diagram.now) (λ place block. Word (codes "declared")))) }
 {
     let mut first: Sequence<Known> = Sequence::new(alloc);

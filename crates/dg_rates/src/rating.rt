@@ -19,7 +19,7 @@ use std::alloc::Global;
 /// enabled subsystem that holds it.
 ///
 /// # Errors
-/// Broken exactly where the rule of rates is broken, rule 8: at the first block whose declared
+/// Broken exactly where the rule of rates is broken: at the first block whose declared
 /// period is no whole multiple of the base period or more than 4096 times that, shown as
 /// `declared`; or where there is none, at the first block with a source of another period, which at
 /// a RateTransition neither divides nor is divided by its own, shown as the two periods. Or want of

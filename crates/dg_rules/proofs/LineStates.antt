@@ -14,6 +14,7 @@ use Rattle.dg_model.specs.declared.plan.Plan.{Plan}
 use Rattle.dg_model.specs.Faults.{fault_of}
 use Rattle.dg_model.specs.declared.fault.Shown.TheVariants.{Nothing}
 use Rattle.dg_model.specs.declared.fault.RuleFault.{RuleFault}
+use Rattle.dg_model.specs.declared.rule.Rule.{Rule}
 use Rattle.dg_model.specs.PlanNames.{MayBePipelined, IsFound, KeepsPlan, BreaksPlan}
 use Rattle.dg_model.specs.PlanRange.{AreDifferent}
 use Rattle.dg_model.specs.Signals.{Attributes}
@@ -179,7 +180,7 @@ module _ (diagram : Diagram) (attributes : Attributes) where
 
     pub plan_broken : (number : ℕ) (line : Pipeline) (fault : RuleFault) → slice_get plan.pipelines number ≡ Some line
         → (slice_index_or standings number Unseen ≡ Found → ⊥) → ((k : ℕ) → k < number → slice_index_or standings k Unseen ≡ Found)
-        → fault ≡ fault_of 10 line.path Nothing → BreaksPlan diagram attributes plan fault
+        → fault ≡ fault_of Rule.Plan line.path Nothing → BreaksPlan diagram attributes plan fault
     plan_broken number line fault there ne before is = record {
       number = number;
       line = line;

@@ -4,6 +4,7 @@ use Rattle.std.proofs.lemmas.List.{reverse-reverse, length-reverse}
 use Rattle.dg_model.specs.declared.diagram.Diagram.{Diagram}
 use Rattle.dg_model.specs.declared.fault.RuleFault.{RuleFault}
 use Rattle.dg_model.specs.declared.fault.Shown.TheVariants.{Cycle}
+use Rattle.dg_model.specs.declared.rule.Rule.{Rule}
 use Rattle.dg_model.specs.Faults.{path_of, fault_of}
 use Rattle.dg_model.specs.Loop.{IsInstantCycle, BreaksLoop}
 use Rattle.dg_model.specs.Signals.{Attributes}
@@ -39,4 +40,4 @@ one_cycle diagram attributes one other is too =
     let back : reverse own.more ≡ reverse its.more =
     none_later (first_edge diagram attributes) own.first (reverse own.more) (reverse its.more) (length-reverse own.more ∙ long ∙ sym (length-reverse its.more)) here there in
     let more : own.more ≡ its.more = sym (reverse-reverse own.more) ∙ ap reverse back ∙ reverse-reverse its.more in
-    own.fault_is ∙ ap₂ (λ (first : ℕ) (blocks : List ℕ). fault_of 9 (path_of diagram first) (Cycle (first ∷ blocks))) same more ∙ sym its.fault_is
+    own.fault_is ∙ ap₂ (λ (first : ℕ) (blocks : List ℕ). fault_of Rule.Loop (path_of diagram first) (Cycle (first ∷ blocks))) same more ∙ sym its.fault_is

@@ -1,4 +1,4 @@
--- A diagram keeps the rules 6 to 9, or one is broken first.
+-- A diagram keeps the rules of dimensions, types, rates and loops, or one is broken first.
 use Rattle.std.proofs.Common.{◌≡◌, ◌≢◌, ℕ, zero, suc, ◌<◌, inl, inr, List, [], ◌∷◌, ◌++◌, length, Option, None, Some, refl, sym, ◌∙◌, ap, subst, arith}
 use Rattle.std.specs.Prelude.{◌%◌, slice_get, slice_index, AllPairs, codes}
 use Rattle.std.proofs.Math.Nat.{mod_self, mod-eq_of_lt, mod-lt}
@@ -11,6 +11,7 @@ use Rattle.dg_model.specs.declared.diagram.Diagram.{Diagram}
 use Rattle.dg_model.specs.declared.fault.RuleFault.{RuleFault}
 use Rattle.dg_model.specs.declared.fault.Shown.{Shown}
 use Rattle.dg_model.specs.declared.fault.Shown.TheVariants.{Nothing, Word, Cycle}
+use Rattle.dg_model.specs.declared.rule.Rule.{Rule}
 use Rattle.dg_model.specs.Attributes.{attributes_of}
 use Rattle.dg_model.specs.Checked.{IsChecked, BreaksRule}
 use Rattle.dg_model.specs.Dimension.{KeepsDimension, KeepsDimensions}
@@ -62,7 +63,7 @@ kept_or_first diagram Keeps none never = kept_below diagram Keeps none (length d
       | inr past ↦ absurd (none-some block (sym past.1 ∙ there))
     ]
 
-broken_at : (diagram : Diagram) (rule : ℕ) (Keeps : ℕ → Block → Type 0) (shown : ℕ → Block → Shown) (place : ℕ) (block : Block) → IsFirstBroken diagram Keeps place block → BreaksAt diagram rule Keeps shown (fault_of rule (path_of diagram place) (shown place block))
+broken_at : (diagram : Diagram) (rule : Rule) (Keeps : ℕ → Block → Type 0) (shown : ℕ → Block → Shown) (place : ℕ) (block : Block) → IsFirstBroken diagram Keeps place block → BreaksAt diagram rule Keeps shown (fault_of rule (path_of diagram place) (shown place block))
 broken_at diagram rule Keeps shown place block first = record { place = place; block = block; first = first; fault_is = refl }
 
 -- ---- cycles
@@ -123,7 +124,7 @@ begun_at diagram attributes (suc k) (x ∷ xs) is below =
 no_cycle : (diagram : Diagram) (attributes : Attributes) → ((fault : RuleFault) → BreaksLoop diagram attributes fault → ⊥) → (count first : ℕ) (more : List ℕ) → first < count → IsInstantCycle diagram attributes (first ∷ more) → ⊥
 no_cycle diagram attributes none zero first more below is = omega (arith, below)
 no_cycle diagram attributes none (suc count) first more below is =
-    none (fault_of 9 (path_of diagram first) (Cycle (first ∷ more))) (record {
+    none (fault_of Rule.Loop (path_of diagram first) (Cycle (first ∷ more))) (record {
       first = first;
       more = more;
       is_cycle = is;
@@ -144,25 +145,25 @@ kept_loop diagram attributes none (first ∷ more) is = no_cycle diagram attribu
 
 kept_dimensions : (diagram : Diagram) → ((fault : RuleFault) → BreaksRule diagram fault → ⊥) → (KeepsDimensions diagram → ⊥) → ⊥
 kept_dimensions diagram none never =
-    kept_or_first diagram (KeepsDimension diagram (widths_of diagram)) (λ place block first. none _ (inl (inl (broken_at diagram 6 _ (λ p b. Nothing) place block first))))
-    (λ blocks. none (fault_of 6 [] Nothing) (inl (inr (record { blocks = blocks; unbounded = λ bounded. never (record { blocks = blocks; bounded = bounded }); fault_is = refl }))))
+    kept_or_first diagram (KeepsDimension diagram (widths_of diagram)) (λ place block first. none _ (inl (inl (broken_at diagram Rule.Dimension _ (λ p b. Nothing) place block first))))
+    (λ blocks. none (fault_of Rule.Dimension [] Nothing) (inl (inr (record { blocks = blocks; unbounded = λ bounded. never (record { blocks = blocks; bounded = bounded }); fault_is = refl }))))
 
 kept_types : (diagram : Diagram) → KeepsDimensions diagram → ((fault : RuleFault) → BreaksRule diagram fault → ⊥) → (KeepsTypes diagram → ⊥) → ⊥
 kept_types diagram dimensions none never =
     kept_or_first diagram (IsNotWide diagram (types_of diagram))
-    (λ place block first. none _ (inr (inl (record { dimensions = dimensions; types = inl (broken_at diagram 7 _ (λ p b. Word (codes "wide")) place block first) }))))
+    (λ place block first. none _ (inr (inl (record { dimensions = dimensions; types = inl (broken_at diagram Rule.Type _ (λ p b. Word (codes "wide")) place block first) }))))
     (λ narrow. kept_or_first diagram (HasTypes diagram (types_of diagram))
-    (λ place block first. none _ (inr (inl (record { dimensions = dimensions; types = inr (inl (record { narrow = narrow; unknown = broken_at diagram 7 _ (λ p b. Word (codes "missing")) place block first })) }))))
+    (λ place block first. none _ (inr (inl (record { dimensions = dimensions; types = inr (inl (record { narrow = narrow; unknown = broken_at diagram Rule.Type _ (λ p b. Word (codes "missing")) place block first })) }))))
     (λ known. kept_or_first diagram (HasAgreeing diagram (types_of diagram))
-    (λ place block first. none _ (inr (inl (record { dimensions = dimensions; types = inr (inr (record { narrow = narrow; known = known; differ = broken_at diagram 7 _ (λ p b. Word (codes "differs")) place block first })) }))))
+    (λ place block first. none _ (inr (inl (record { dimensions = dimensions; types = inr (inr (record { narrow = narrow; known = known; differ = broken_at diagram Rule.Type _ (λ p b. Word (codes "differs")) place block first })) }))))
     (λ agree. never (record { narrow = narrow; known = known; agree = agree }))))
 
 kept_rates : (diagram : Diagram) → KeepsDimensions diagram → KeepsTypes diagram → ((fault : RuleFault) → BreaksRule diagram fault → ⊥) → (KeepsRates diagram → ⊥) → ⊥
 kept_rates diagram dimensions types none never =
     kept_or_first diagram (KeepsDeclared diagram)
-    (λ place block first. none _ (inr (inr (inl (record { dimensions = dimensions; types = types; rates = inl (broken_at diagram 8 _ (λ p b. Word (codes "declared")) place block first) })))))
+    (λ place block first. none _ (inr (inr (inl (record { dimensions = dimensions; types = types; rates = inl (broken_at diagram Rule.Rate _ (λ p b. Word (codes "declared")) place block first) })))))
     (λ declared. kept_or_first diagram (KeepsPeriods diagram (periods_of diagram))
-    (λ place block first. none _ (inr (inr (inl (record { dimensions = dimensions; types = types; rates = inr (record { declared = declared; periods = broken_at diagram 8 _ (shown_periods diagram (periods_of diagram)) place block first }) })))))
+    (λ place block first. none _ (inr (inr (inl (record { dimensions = dimensions; types = types; rates = inr (record { declared = declared; periods = broken_at diagram Rule.Rate _ (shown_periods diagram (periods_of diagram)) place block first }) })))))
     (λ periods. never (record { declared = declared; periods = periods })))
 
 pub some_rule : (diagram : Diagram) → IsWired diagram → (IsChecked diagram → ⊥) → ((fault : RuleFault) → BreaksRule diagram fault → ⊥) → ⊥

@@ -13,6 +13,7 @@ use Rattle.dg_model.specs.declared.fault.Shown.{Shown}
 use Rattle.dg_model.specs.declared.fault.Shown.TheVariants.{Nothing, Word, Periods, Cycle, Latency, Budget, Size}
 use Rattle.dg_model.specs.declared.kind.Kind.{Kind}
 use Rattle.dg_model.specs.declared.kind.Kind.TheVariants.{Sum, Gain}
+use Rattle.dg_model.specs.declared.rule.Rule.{Rule}
 use Rattle.dg_model.specs.Attributes.{attributes_of}
 use Rattle.dg_model.specs.Faults.{fault_of}
 use Rattle.dg_model.specs.LatencyEdges.{signal_edge}
@@ -62,7 +63,7 @@ cycle_of gain above there back = record { some = omega arith; different = two_di
   leads (suc (suc k)) below = absurd (omega (arith, below))
 
 abbrev told : ℕ → RuleFault
-told gain = fault_of 9 (codes "m/s") (Cycle (0 ∷ gain ∷ []))
+told gain = fault_of Rule.Loop (codes "m/s") (Cycle (0 ∷ gain ∷ []))
 
 breaks : (gain : ℕ) → 0 < gain → Leads 0 gain → Leads gain 0 → BreaksLoop crossed (attributes_of crossed) (told gain)
 breaks gain above there back = record { first = 0; more = gain ∷ []; is_cycle = cycle_of gain above there back; least = λ other is k d below. omega arith; fault_is = refl }

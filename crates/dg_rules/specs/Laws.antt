@@ -1,9 +1,10 @@
--- What the definitions of the rules 6 to 9 say together (own).
+-- What the definitions of the rules of dimensions, types, rates and loops say together (own).
 use Rattle.std.specs.Prelude.{◌≡◌, ◌≢◌, [], ◌∷◌}
 use Rattle.dg_model.specs.declared.diagram.Diagram.{Diagram}
 use Rattle.dg_model.specs.declared.fault.RuleFault.{RuleFault}
 use Rattle.dg_model.specs.declared.fault.Shown.{Shown}
 use Rattle.dg_model.specs.declared.fault.Shown.TheVariants.{Nothing, Word, Periods, Cycle, Latency, Budget, Size}
+use Rattle.dg_model.specs.declared.rule.Rule.{Rule}
 use Rattle.dg_model.specs.Attributes.{attributes_of}
 use Rattle.dg_model.specs.Checked.{IsChecked, BreaksRule}
 use Rattle.dg_model.specs.Loop.{BreaksLoop}
@@ -26,11 +27,11 @@ shown_first (Size storage latency) = Size storage latency
 abbrev pub told_first : RuleFault → RuleFault
 told_first fault = record { rule = fault.rule; place = fault.place; shown = shown_first fault.shown }
 
--- a fault of the rules 6 to 8 is the only one of its diagram
+-- a fault of the rules of dimensions, types and rates is the only one of its diagram
 abbrev pub FaultIsOne : Type 0
-FaultIsOne = (diagram : Diagram) (one other : RuleFault) → BreaksRule diagram one → BreaksRule diagram other → one.rule ≢ 9 → one ≡ other
+FaultIsOne = (diagram : Diagram) (one other : RuleFault) → BreaksRule diagram one → BreaksRule diagram other → one.rule ≢ Rule.Loop → one ≡ other
 
--- and one of rule 9 but for its cycle
+-- and one of the rule of loops but for its cycle
 abbrev pub ToldIsOne : Type 0
 ToldIsOne = (diagram : Diagram) (one other : RuleFault) → BreaksRule diagram one → BreaksRule diagram other → told_first one ≡ told_first other
 
@@ -38,7 +39,7 @@ ToldIsOne = (diagram : Diagram) (one other : RuleFault) → BreaksRule diagram o
 abbrev pub CheckedIsNotBroken : Type 0
 CheckedIsNotBroken = (diagram : Diagram) (fault : RuleFault) → IsChecked diagram → BreaksRule diagram fault → ⊥
 
--- of one diagram rule 9 can be told with two cycles
+-- of one diagram the rule of loops can be told with two cycles
 pub record CyclesDiffer : Type 0 where
   pub diagram : Diagram
   pub one : RuleFault

@@ -22,7 +22,7 @@ pub struct Refused {
 /// rates and loops (Simulink reference, signal attributes, sample times and sorted order).
 ///
 /// # Errors
-/// Broken exactly where one of these rules is broken: the first one, rule 6 to 9, at its first block.
+/// Broken exactly where one of these rules is broken: the first one, at its first block.
 /// Or want of memory. The diagram comes back with the fault.
 pub fn check(alloc: Global, diagram: Diagram) -> Result<Checked, Refused>
     requires { IsWired diagram }

@@ -1,8 +1,8 @@
 //! What the definitions together say. Each law is a function that does nothing.
 ghost use Rattle.dg_rules.specs.Laws.{CheckedIsNotBroken, CyclesDiffer, FaultIsOne, RuleIsThere, ShownCycleIsOne, ToldIsOne};
 
-/// The first of the rules 6 to 9 that is broken is told as one fault, but for which cycle through its
-/// first block is told.
+/// The first rule of dimensions, types, rates and loops that is broken is told as one fault, but for
+/// which cycle through its first block is told.
 pub fn fault_is_one()
     ensures one { FaultIsOne }
     ensures told { ToldIsOne }
@@ -23,7 +23,7 @@ pub fn shown_cycle_is_one()
     ensures { ShownCycleIsOne }
 {}
 
-/// A wired diagram can't both not keep the rules 6 to 9 and break none of them.
+/// A wired diagram can't both not keep these rules and break none of them.
 pub fn rule_is_there()
     ensures { RuleIsThere }
 {}

@@ -3,6 +3,7 @@ ghost use Rattle.dg_model.specs.declared.diagram.Block.{Block};
 ghost use Rattle.dg_model.specs.Attributes.{attributes_of};
 ghost use Rattle.dg_model.specs.Faults.{IsRefusal, fault_of};
 ghost use Rattle.dg_model.specs.declared.fault.Shown.TheVariants.{Nothing};
+ghost use Rattle.dg_model.specs.declared.rule.Rule.{Rule};
 ghost use Rattle.dg_model.specs.Library.{row_of};
 ghost use Rattle.dg_model.specs.PlanNames.{MayBePipelined, KeepsPlan, BreaksPlan, IsResolved};
 ghost use Rattle.dg_model.specs.PlanOf.{IsPlanOf};
@@ -13,7 +14,7 @@ ghost use Rattle.dg_rules.specs.declared.standing.Standing.TheVariants.{Unseen, 
 
 use crate::lines::Lines;
 use crate::standing::{Standing, next, unseen};
-use dg_model::{CheckFault, Checked, Kind, Pipeline, Plan, Resolved, RuleFault, Shown};
+use dg_model::{CheckFault, Checked, Kind, Pipeline, Plan, Resolved, Rule, RuleFault, Shown};
 use fx_io::{OutOfMemory, Sizes, Text};
 use std::alloc::Global;
 
@@ -105,10 +106,10 @@ fn first_missing(standings: &[Standing]) -> Option<usize>
 
 /// The fault of a line that isn't found.
 fn fault_at(alloc: Global, pipeline: &Pipeline) -> Result<RuleFault, OutOfMemory>
-    ensures { IfOk result (λ fault. fault ≡ fault_of 10 pipeline.now.path Nothing) }
+    ensures { IfOk result (λ fault. fault ≡ fault_of Rule.Plan pipeline.now.path Nothing) }
 {
     Ok(RuleFault {
-        rule: 10,
+        rule: Rule::Plan,
         place: Text::copy(alloc, pipeline.path.bytes())?,
         shown: Shown::Nothing,
     })
@@ -119,7 +120,7 @@ fn fault_at(alloc: Global, pipeline: &Pipeline) -> Result<RuleFault, OutOfMemory
 ///
 /// # Errors
 /// Broken exactly where a path of the plan is that of no block, or that of one behind which no register
-/// may stand: rule 10, at the first such path. Or want of memory.
+/// may stand: the rule of plans, at the first such path. Or want of memory.
 pub fn resolve(alloc: Global, checked: &Checked, plan: &Plan) -> Result<Resolved, CheckFault>
     requires { IsPlanInRange plan.now }
     ensures kept { OnOk result (KeepsPlan checked.now.diagram

@@ -8,6 +8,7 @@ use Rattle.dg_model.specs.declared.diagram.Diagram.{Diagram}
 use Rattle.dg_model.specs.declared.diagram.Block.{Block}
 use Rattle.dg_model.specs.declared.fault.RuleFault.{RuleFault}
 use Rattle.dg_model.specs.declared.fault.Shown.TheVariants.{Cycle}
+use Rattle.dg_model.specs.declared.rule.Rule.{Rule}
 use Rattle.dg_model.specs.Attributes.{attributes_of}
 use Rattle.dg_model.specs.Faults.{path_of, fault_of}
 use Rattle.dg_model.specs.Loop.{LeadsNow, IsInstantCycle, IsOrder, KeepsLoop, BreaksLoop}
@@ -110,7 +111,7 @@ begins_with : (cycle : List ℕ) (first : ℕ) → slice_get cycle 0 ≡ Some fi
 begins_with [] first at = absurd (none-some first at)
 begins_with (x ∷ more) first at = (more, ap (λ u. u ∷ more) (same_Some x first at))
 
-pub loop_breaks : (diagram : Diagram) (rows : List (List ℕ)) (first : ℕ) (cycle : List ℕ) (fault : RuleFault) → AreRows diagram rows → IsFirst rows first → IsReadCycle rows first cycle → fault ≡ fault_of 9 (path_of diagram first) (Cycle cycle) → BreaksLoop diagram (attributes_of diagram) fault
+pub loop_breaks : (diagram : Diagram) (rows : List (List ℕ)) (first : ℕ) (cycle : List ℕ) (fault : RuleFault) → AreRows diagram rows → IsFirst rows first → IsReadCycle rows first cycle → fault ≡ fault_of Rule.Loop (path_of diagram first) (Cycle cycle) → BreaksLoop diagram (attributes_of diagram) fault
 loop_breaks diagram rows first cycle fault are is read told =
     let shape = begins_with cycle first read.begins in
     record {
@@ -119,7 +120,7 @@ loop_breaks diagram rows first cycle fault are is read told =
       is_cycle = subst (λ c. IsInstantCycle diagram (attributes_of diagram) c) (shape.1) (read_cycle diagram rows first cycle are read);
       least = λ other other_is k d below.
           is.least (get_or other k d) (subst (λ b. IsOnCycle rows b) (get_or_from_slice_get other k (get_or other k d) 0 (slice_get-get_or other k d below)) (is_on diagram rows other are other_is k below));
-      fault_is = told ∙ ap (λ c. fault_of 9 (path_of diagram first) (Cycle c)) (shape.1);
+      fault_is = told ∙ ap (λ c. fault_of Rule.Loop (path_of diagram first) (Cycle c)) (shape.1);
     }
 
 -- where a rule is broken at a block, its path is told

@@ -1,5 +1,6 @@
 ghost use Rattle.std.specs.Prelude.{◌≡◌, ◌<◌, IfErr, IfOk, OnOk, length};
 ghost use Rattle.dg_model.specs.declared.fault.Shown.TheVariants.{Cycle};
+ghost use Rattle.dg_model.specs.declared.rule.Rule.{Rule};
 ghost use Rattle.dg_model.specs.Attributes.{attributes_of};
 ghost use Rattle.dg_model.specs.Faults.{IsRefusal, fault_of, path_of};
 ghost use Rattle.dg_model.specs.Loop.{BreaksLoop, IsOrder, KeepsLoop};
@@ -9,12 +10,9 @@ ghost use Rattle.dg_model.specs.Wired.{IsWired};
 use crate::cycle::cycle_from;
 use crate::rows::rows_of;
 use crate::search::search_all;
-use dg_model::{CheckFault, Diagram, RuleFault, Shown};
+use dg_model::{CheckFault, Diagram, Rule, RuleFault, Shown};
 use fx_io::{OutOfMemory, Sizes};
 use std::alloc::Global;
-
-/// The number of the rule of loops.
-const RULE: u8 = 9;
 
 /// The fault that tells a cycle begun with its first block.
 fn loop_fault(
@@ -24,12 +22,13 @@ fn loop_fault(
     blocks: Sizes,
 ) -> Result<RuleFault, OutOfMemory>
     requires { first < length diagram.now.blocks }
-    ensures { IfOk result (λ fault. fault ≡ fault_of 9 (path_of diagram.now first) (Cycle blocks)) }
+    ensures { IfOk result (λ fault. fault
+        ≡ fault_of Rule.Loop (path_of diagram.now first) (Cycle blocks)) }
 {
     let block = &diagram.blocks.as_slice()[first as usize];
     let place = block.path.text(alloc)?;
     Ok(RuleFault {
-        rule: RULE,
+        rule: Rule::Loop,
         place,
         shown: Shown::Cycle { blocks },
     })

@@ -1,6 +1,7 @@
 ghost use Rattle.std.specs.Prelude.{◌≡◌, ◌<◌, ◌↔◌, true, length, [], None, Some, slice_get, slice_index_or, IfOk, IfErr, IfSome, OnOk};
 ghost use Rattle.dg_model.specs.declared.diagram.Block.{Block};
 ghost use Rattle.dg_model.specs.declared.fault.Shown.TheVariants.{Nothing};
+ghost use Rattle.dg_model.specs.declared.rule.Rule.{Rule};
 ghost use Rattle.dg_model.specs.Faults.{IsRefusal, fault_of};
 ghost use Rattle.dg_model.specs.Dimension.{KeepsDimension, KeepsDimensions, BreaksDimension};
 ghost use Rattle.dg_model.specs.Widths.{widths_of};
@@ -10,7 +11,7 @@ ghost use Rattle.dg_types.specs.inner.Scanned.{IsScan, KeepAllBelow};
 use crate::elements::is_bounded;
 use crate::fitting::keeps;
 use crate::scanning::{Scan, scan_of};
-use dg_model::{CheckFault, Diagram, PortWidths, RuleFault, Shown};
+use dg_model::{CheckFault, Diagram, PortWidths, Rule, RuleFault, Shown};
 use fx_io::{PortSizes, Text};
 use std::alloc::Global;
 
@@ -55,10 +56,10 @@ fn first_broken(diagram: &Diagram, scan: &Scan) -> Option<usize>
 
 /// The fault of a path, where the empty one is the whole model.
 fn fault_at(place: Text) -> RuleFault
-    ensures { result ≡ fault_of 6 place Nothing }
+    ensures { result ≡ fault_of Rule.Dimension place Nothing }
 {
     RuleFault {
-        rule: 6,
+        rule: Rule::Dimension,
         place,
         shown: Shown::Nothing,
     }

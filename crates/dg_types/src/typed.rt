@@ -2,6 +2,7 @@
 ghost use Rattle.std.specs.Prelude.{◌≡◌, ◌<◌, ◌↔◌, true, map, length, None, Some, slice_get, slice_index_or, IfOk, IfErr, IfSome, OnOk, codes};
 ghost use Rattle.dg_model.specs.declared.diagram.Block.{Block};
 ghost use Rattle.dg_model.specs.declared.fault.Shown.TheVariants.{Word};
+ghost use Rattle.dg_model.specs.declared.rule.Rule.{Rule};
 ghost use Rattle.dg_model.specs.Attributes.{or_logical, param_type_at};
 ghost use Rattle.dg_model.specs.Checked.{params_of};
 ghost use Rattle.dg_model.specs.Faults.{AllKeep, BreaksAt, IsRefusal, fault_of};
@@ -13,7 +14,7 @@ ghost use Rattle.dg_types.specs.inner.TypedScan.{IsTyped, keeps_part, word_of as
 use crate::typed_round::{TypeRound, known_types, round_of};
 use crate::typed_rule::{agrees, has_types, is_narrow};
 use crate::typed_step::coefficient_type;
-use dg_model::{CheckFault, Diagram, FxTypes, Path, PortWidths, RuleFault, Shown};
+use dg_model::{CheckFault, Diagram, FxTypes, Path, PortWidths, Rule, RuleFault, Shown};
 use fx_io::{OutOfMemory, Text};
 use fx_type::FxType;
 use std::alloc::Global;
@@ -100,10 +101,11 @@ fn first_broken(
 
 /// The fault of a path and a part.
 fn fault_at(alloc: Global, path: &Path, part: Part) -> Result<RuleFault, OutOfMemory>
-    ensures { IfOk result (λ fault. fault ≡ fault_of 7 path.now (Word (word_of_part part))) }
+    ensures { IfOk result (λ fault. fault
+        ≡ fault_of Rule.Type path.now (Word (word_of_part part))) }
 {
     Ok(RuleFault {
-        rule: 7,
+        rule: Rule::Type,
         place: path.text(alloc)?,
         shown: Shown::Word(Text::copy(alloc, word_of(part))?),
     })
@@ -122,7 +124,7 @@ fn check(
         round.now.links.sources types.now }
     ensures kept { OnOk result
         (AllKeep diagram.now (keeps_part part diagram.now (types_of diagram.now))) }
-    ensures refused { IfErr result (IsRefusal (BreaksAt diagram.now 7
+    ensures refused { IfErr result (IsRefusal (BreaksAt diagram.now Rule.Type
         (keeps_part part diagram.now (types_of diagram.now))
         (λ place block. Word (word_of_part part)))) }
 {

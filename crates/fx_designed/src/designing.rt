@@ -87,8 +87,8 @@ fn of_model(refusal: ModelRefusal) -> DesignFault
 /// The design of the bytes of a model and of a plan; no bytes are the empty plan.
 ///
 /// # Errors
-/// The first of these: `NotMdl`, `BreaksRule` by the rules 1 to 9 of the model, `BadPlan`,
-/// `BreaksRule` by the rules 10 to 13 of the plan on the model's diagram. Or want of memory.
+/// The first of these: `NotMdl`, `BreaksRule` by the rules of the model, `BadPlan`,
+/// `BreaksRule` by the rules of the plan on the model's diagram. Or want of memory.
 pub fn designed_of(alloc: Global, model: &[u8], plan: &[u8]) -> Result<Designed, DesignFault>
     ensures designed { IfOk result (IsDesigned model.now plan.now) }
     ensures plan { IfOk result (λ designed. IsPlanOf designed.checked.diagram

@@ -22,7 +22,7 @@ pub enum ModelRefusal {
 /// The checked diagram of a model's bytes.
 ///
 /// # Errors
-/// `NotMdl` where the bytes stand for no tree, `BreaksRule` where they break one of the rules 1 to 9,
+/// `NotMdl` where the bytes stand for no tree, `BreaksRule` where they break one of the rules of models,
 /// which are tried in their order, or want of memory.
 pub fn checked_of(alloc: Global, model: &[u8]) -> Result<Checked, ModelRefusal>
     ensures made { IfOk result (λ checked. IsModelOf model.now checked.diagram) }

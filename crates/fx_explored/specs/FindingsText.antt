@@ -2,7 +2,8 @@
 use Rattle.std.specs.Prelude.{ℕ, List, ◌++◌, codes, Option, Some, None, slice_get}
 use Rattle.std.specs.Fmt.{decimal}
 use Rattle.std.specs.List.{flat_map}
-use Rattle.fx_model.specs.RuleLine.{rule_word, shown_text}
+use Rattle.dg_model.specs.RuleTable.{rule_number, rule_word}
+use Rattle.fx_model.specs.RuleLine.{shown_text}
 use Rattle.hw_explore.specs.declared.finding.Finding.{Finding}
 use Rattle.hw_explore.specs.declared.finding.Judged.{Judged}
 use Rattle.hw_explore.specs.declared.finding.Judged.TheVariants.{Good, Bad}
@@ -23,7 +24,7 @@ worth_text owed latency = named (codes " multiplications ") owed ++ named (codes
 -- what it is worth: the paths are those of the diagram's blocks
 abbrev pub verdict_text : List (List ℕ) → Judged → List ℕ
 verdict_text paths (Good owed latency) = worth_text owed latency
-verdict_text paths (Bad rule shown) = named (codes ": rule ") rule ++ codes " (" ++ rule_word rule ++ codes ")" ++ shown_text paths shown
+verdict_text paths (Bad rule shown) = named (codes ": rule ") (rule_number rule) ++ codes " (" ++ rule_word rule ++ codes ")" ++ shown_text paths shown
 
 unfoldable pub finding_line : List (List ℕ) → Finding → List ℕ
 finding_line paths finding = pair_text finding ++ verdict_text paths finding.verdict ++ codes "\n"

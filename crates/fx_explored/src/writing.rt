@@ -4,7 +4,7 @@ ghost use Rattle.fx_explored.specs.FindingsText.{finding_line, findings_text as 
 
 use dg_model::Block;
 use fx_io::{OutOfMemory, Text};
-use fx_model::{push_shown, word_of};
+use fx_model::push_shown;
 use hw_explore::{Finding, Findings, Judged};
 use itoa::Buffer;
 use std::alloc::Global;
@@ -51,9 +51,9 @@ fn push_verdict(text: &mut Vec<u8>, verdict: &Judged, blocks: &[Block]) -> Resul
     match verdict {
         Judged::Good { owed, latency } => push_worth(text, *owed, *latency),
         Judged::Bad { rule, shown } => {
-            push_named(text, b": rule ", u64::from(*rule))?;
+            push_named(text, b": rule ", u64::from(rule.number()))?;
             push(text, b" (")?;
-            push(text, word_of(*rule))?;
+            push(text, rule.word())?;
             push(text, b")")?;
             push_shown(text, shown, blocks)
         }

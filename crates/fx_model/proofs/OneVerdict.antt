@@ -13,6 +13,7 @@ use Rattle.dg_model.specs.declared.diagram.Block.{Block}
 use Rattle.dg_model.specs.declared.diagram.Diagram.{Diagram}
 use Rattle.dg_model.specs.declared.fault.RuleFault.{RuleFault}
 use Rattle.dg_model.specs.declared.nested.Nested.{Nested}
+use Rattle.dg_model.specs.declared.rule.Rule.{Rule}
 use Rattle.dg_model.specs.Checked.{IsChecked, BreaksRule}
 use Rattle.dg_rules.specs.Laws.{FaultIsOne, ToldIsOne, CheckedIsNotBroken, told_first}
 use Rattle.fx_model.specs.Laws.{DiagramIsOne, VerdictIsOne, BrokenIsOne, LineIsOne}
@@ -50,10 +51,10 @@ one_model one_tree one_nested one_flat bytes one other is too =
 -- ---- faults
 
 module _ (known : Known) where
-  -- one fault, or two of rule 9 that differ in their cycles at most
+  -- one fault, or two of the rule of loops that differ in their cycles at most
   record AreSame (one other : RuleFault) (paths others : List (List ℕ)) : Type 0 where
     told_same : told_first one ≡ told_first other
-    fault_same : one.rule ≢ 9 → one ≡ other
+    fault_same : one.rule ≢ Rule.Loop → one ≡ other
     paths_same : paths ≡ others
 
   same : (one other : RuleFault) (paths others : List (List ℕ)) → one ≡ other → paths ≡ others → AreSame one other paths others

@@ -1,4 +1,4 @@
--- The diagram that a model's text describes, and the first of the rules 1 to 9 that the text breaks (own; the rules are those of the Simulink reference, model files, signal attributes, sample times and algebraic loops).
+-- The diagram that a model's text describes, and the first of the rules of models that the text breaks (own; the rules are those of the Simulink reference, model files, signal attributes, sample times and algebraic loops).
 use Rattle.std.specs.Prelude.{◌≡◌, ℕ, ◌⊎◌, List, [], map}
 use Rattle.mdl_text.specs.declared.tree.Tree.{Tree}
 use Rattle.mdl_text.specs.Stands.{Stands}
@@ -22,7 +22,7 @@ pub record IsNotMdl (bytes : List ℕ) (line : ℕ) : Type 0 where
   pub no_tree : IsNoText bytes
   pub fault : IsMdlFaultLine bytes line
 
--- the tree keeps the rules 1 to 5, and this is its flat diagram
+-- the tree keeps the rules up to that of enabled subsystems, and this is its flat diagram
 pub record IsDiagramOf (tree : Tree) (diagram : Diagram) : Type 0 where
   pub nested : Nested
   pub built : IsNestedOf tree nested
@@ -31,33 +31,33 @@ pub record IsDiagramOf (tree : Tree) (diagram : Diagram) : Type 0 where
   pub flat : IsFlatOf nested diagram
   pub wired : IsWired diagram
 
--- the bytes are a model that keeps the rules 1 to 9, and this is its diagram
+-- the bytes are a model that keeps the rules of models, and this is its diagram
 pub record IsModelOf (bytes : List ℕ) (diagram : Diagram) : Type 0 where
   pub tree : Tree
   pub stands : Stands bytes tree
   pub flat : IsDiagramOf tree diagram
   pub checked : IsChecked diagram
 
--- rule 1, 2 or 3 is broken, where no block of a diagram is shown
+-- the rule of structure, library or parameter is broken, where no block of a diagram is shown
 pub record BreaksText (tree : Tree) (fault : RuleFault) (paths : List (List ℕ)) : Type 0 where
   pub broken : Breaks tree fault
   pub none : paths ≡ []
 
--- the rules 1 to 3 are kept, and rule 4 or 5 is broken
+-- these three are kept, and the rule of wiring or of enabled subsystems is broken
 pub record BreaksLines (tree : Tree) (fault : RuleFault) (paths : List (List ℕ)) : Type 0 where
   pub nested : Nested
   pub built : IsNestedOf tree nested
   pub broken : BreaksWiringOrEnable nested fault
   pub none : paths ≡ []
 
--- the rules 1 to 5 are kept, and one of 6 to 9 is broken; these are the paths of the diagram's blocks
+-- these five are kept, and the rule of dimensions, types, rates or loops is broken; these are the paths of the diagram's blocks
 pub record BreaksDiagram (tree : Tree) (fault : RuleFault) (paths : List (List ℕ)) : Type 0 where
   pub diagram : Diagram
   pub flat : IsDiagramOf tree diagram
   pub broken : BreaksRule diagram fault
   pub paths_are : paths ≡ map (λ block. block.path) diagram.blocks
 
--- the first rule that is broken is one of 1 to 9, with this fault
+-- the first rule that is broken is one of models, with this fault
 abbrev pub BreaksModel : Tree → RuleFault → List (List ℕ) → Type 0
 BreaksModel tree fault paths = BreaksText tree fault paths ⊎ (BreaksLines tree fault paths ⊎ BreaksDiagram tree fault paths)
 
@@ -67,7 +67,7 @@ pub record IsBrokenModel (bytes : List ℕ) (fault : RuleFault) (paths : List (L
   pub stands : Stands bytes tree
   pub broken : BreaksModel tree fault paths
 
--- the bytes stand for a tree that breaks none of the rules 1 to 9
+-- the bytes stand for a tree that breaks none of the rules of models
 pub record IsAccepted (bytes : List ℕ) : Type 0 where
   pub tree : Tree
   pub stands : Stands bytes tree

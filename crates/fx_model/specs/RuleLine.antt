@@ -6,16 +6,8 @@ use Rattle.std.specs.List.{flat_map}
 use Rattle.dg_model.specs.declared.fault.RuleFault.{RuleFault}
 use Rattle.dg_model.specs.declared.fault.Shown.{Shown}
 use Rattle.dg_model.specs.declared.fault.Shown.TheVariants.{Nothing, Word, Periods, Cycle, Latency, Budget, Size}
+use Rattle.dg_model.specs.RuleTable.{rule_number, rule_word}
 use Rattle.fx_model.specs.Model.{IsBrokenModel}
-
--- what a rule is about, by its number
-abbrev pub rule_word : ℕ → List ℕ
-rule_word rule =
-    if rule == 1 then codes "structure" else (if rule == 2 then codes "library" else (if rule == 3 then codes "parameter"
-    else (if rule == 4 then codes "wiring" else (if rule == 5 then codes "enable" else (if rule == 6 then codes "dimension"
-    else (if rule == 7 then codes "type" else (if rule == 8 then codes "rate" else (if rule == 9 then codes "loop"
-    else (if rule == 10 then codes "plan" else (if rule == 11 then codes "latency" else (if rule == 12 then codes "budget"
-    else (if rule == 13 then codes "size" else codes "stream"))))))))))))
 
 -- a digit of a number in base sixteen
 abbrev pub hex_digit : ℕ → ℕ
@@ -65,7 +57,7 @@ shown_text paths (Size storage latency) = codes ": storage " ++ decimal storage 
 -- the line; the paths are those of the diagram's blocks
 abbrev pub rule_line : List (List ℕ) → RuleFault → List ℕ
 rule_line paths fault =
-    codes "rule " ++ decimal fault.rule ++ codes " (" ++ rule_word fault.rule ++ codes "): " ++ place_text fault.place
+    codes "rule " ++ decimal (rule_number fault.rule) ++ codes " (" ++ rule_word fault.rule ++ codes "): " ++ place_text fault.place
     ++ shown_text paths fault.shown ++ codes "\n"
 
 -- the line tells the first rule that the model of these bytes breaks

@@ -17,8 +17,8 @@ use std::alloc::Global;
 pub enum ModelFault {
     /// The bytes are no MDL text; they stop being the beginning of one at this line, from 1.
     NotMdl { line: u64 },
-    /// The first rule that is broken, 1 to 9. The blocks are those of the flat diagram, whose numbers
-    /// the fault may show; where there is no diagram there are none.
+    /// The first rule that is broken. The blocks are those of the flat diagram, whose numbers the fault
+    /// may show; where there is no diagram there are none.
     Broken { fault: RuleFault, blocks: Blocks },
     /// Memory is wanting.
     OutOfMemory,

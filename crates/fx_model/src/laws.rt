@@ -10,8 +10,9 @@ pub fn diagram_is_one()
     dg_flat::flat_is_one();
 }
 
-/// A text has at most one verdict, but for which cycle a fault of rule 9 tells: it is no MDL text, from
-/// this line on, or breaks this rule first, at this place and with this shown, or has this diagram.
+/// A text has at most one verdict, but for which cycle a fault of the rule of loops tells: it is no MDL
+/// text, from this line on, or breaks this rule first, at this place and with this shown, or has this
+/// diagram.
 pub fn verdict_is_one()
     ensures one { VerdictIsOne }
     ensures broken { BrokenIsOne }

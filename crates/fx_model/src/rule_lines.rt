@@ -2,7 +2,7 @@
 ghost use Rattle.std.specs.Prelude.{◌≡◌, ◌++◌, [], IfOk, OnOk, map, slice_index_or};
 ghost use Rattle.std.specs.Fmt.{decimal, signed_decimal};
 ghost use Rattle.std.specs.List.{flat_map};
-ghost use Rattle.fx_model.specs.RuleLine.{control_byte, cycle_text, period_text, place_text, quoted_byte, quoted_path, rule_line, rule_word, shown_text};
+ghost use Rattle.fx_model.specs.RuleLine.{control_byte, cycle_text, period_text, place_text, quoted_byte, quoted_path, rule_line, shown_text};
 
 use dg_model::{Block, Path, RuleFault, Shown};
 use fx_io::{OutOfMemory, Text};
@@ -16,36 +16,14 @@ pub fn rule_text(alloc: Global, fault: &RuleFault, blocks: &[Block]) -> Result<T
 {
     let mut line = Vec::new(alloc);
     push(&mut line, b"rule ")?;
-    push_number(&mut line, u64::from(fault.rule))?;
+    push_number(&mut line, u64::from(fault.rule.number()))?;
     push(&mut line, b" (")?;
-    push(&mut line, word_of(fault.rule))?;
+    push(&mut line, fault.rule.word())?;
     push(&mut line, b"): ")?;
     push_place(&mut line, fault.place.bytes())?;
     push_shown(&mut line, &fault.shown, blocks)?;
     push(&mut line, b"\n")?;
     Text::from_vec(alloc, line)
-}
-
-/// What a rule is about.
-pub fn word_of(rule: u8) -> &'static [u8]
-    ensures { result.now ≡ rule_word rule }
-{
-    match rule {
-        1 => b"structure",
-        2 => b"library",
-        3 => b"parameter",
-        4 => b"wiring",
-        5 => b"enable",
-        6 => b"dimension",
-        7 => b"type",
-        8 => b"rate",
-        9 => b"loop",
-        10 => b"plan",
-        11 => b"latency",
-        12 => b"budget",
-        13 => b"size",
-        _ => b"stream",
-    }
 }
 
 /// Adds bytes.

@@ -6,7 +6,7 @@ ghost use Rattle.dg_model.specs.PlanOf.{IsPlanOf};
 use crate::faults::{put_fault, put_model_fault};
 use crate::schedules::put_schedule;
 use anyhow::{Result, anyhow};
-use dg_model::{Block, CheckFault, Checked, Plan, Resolved, Shown};
+use dg_model::{Block, CheckFault, Checked, Plan, Resolved, Rule, Shown};
 use dg_rules::resolve;
 use fx_io::Longs;
 use fx_model::{ModelFault, accept};
@@ -67,7 +67,7 @@ fn scheduled<W: Write>(alloc: Global, checked: &Checked, plan: &Resolved, out: &
             put_schedule(alloc, checked, plan, &latencies, out)
         }
         Err(LatencyFault::Cycle { blocks, total }) => {
-            put_model_fault(alloc, 11, Shown::Latency { blocks, total }, checked, out)
+            put_model_fault(alloc, Rule::Latency, Shown::Latency { blocks, total }, checked, out)
         }
         Err(LatencyFault::OutOfMemory) => Err(anyhow!("out of memory")),
     }

@@ -5,7 +5,7 @@ ghost use Rattle.dg_model.specs.PlanOf.{IsPlanOf};
 
 use crate::faults::put_model_fault;
 use anyhow::{Result, anyhow};
-use dg_model::{Block, Checked, Kind, Resolved, Shown};
+use dg_model::{Block, Checked, Kind, Resolved, Rule, Shown};
 use hw_latency::{Latencies, is_shared};
 use hw_sched::{BudgetFault, SizeFault, Slots, check_size, own_width, slots_of};
 use std::alloc::Global;
@@ -30,7 +30,7 @@ pub fn put_schedule<W: Write>(
         }
         Err(BudgetFault::Budget { period, need, have }) => {
             let shown = Shown::Budget { period, need, have };
-            put_model_fault(alloc, 12, shown, checked, out)
+            put_model_fault(alloc, Rule::Budget, shown, checked, out)
         }
         Err(BudgetFault::OutOfMemory) => Err(anyhow!("out of memory")),
     }
@@ -147,7 +147,7 @@ fn put_size<W: Write>(
             Ok(())
         }
         Err(SizeFault::Size { storage, latency }) => {
-            put_model_fault(alloc, 13, Shown::Size { storage, latency }, checked, out)
+            put_model_fault(alloc, Rule::Size, Shown::Size { storage, latency }, checked, out)
         }
         Err(SizeFault::OutOfMemory) => Err(anyhow!("out of memory")),
     }

@@ -6,6 +6,7 @@ use Rattle.dg_model.specs.declared.diagram.Diagram.{Diagram}
 use Rattle.dg_model.specs.declared.fault.RuleFault.{RuleFault}
 use Rattle.dg_model.specs.declared.fault.Shown.TheVariants.{Periods}
 use Rattle.dg_model.specs.declared.resolved.Resolved.{Resolved}
+use Rattle.dg_model.specs.declared.rule.Rule.{Rule}
 use Rattle.dg_model.specs.Attributes.{attributes_of}
 use Rattle.dg_model.specs.Faults.{AllKeep, BreaksAt}
 use Rattle.dg_model.specs.Library.{row_of}
@@ -47,7 +48,7 @@ KeepsStream diagram place block = is_root_port block ≡ true → (attributes_of
 -- the first root port that hasn't is told with its period
 abbrev pub BreaksStream : Diagram → RuleFault → Type 0
 BreaksStream diagram fault =
-    BreaksAt diagram 14 (KeepsStream diagram) (λ place block. Periods (unwrap_or ((attributes_of diagram).period_at place) 0) 1) fault
+    BreaksAt diagram Rule.Stream (KeepsStream diagram) (λ place block. Periods (unwrap_or ((attributes_of diagram).period_at place) 0) 1) fault
 
 -- the texts make a design whose ports break the rule, and this line tells it
 pub record TellsStreamRule (model plan line : List ℕ) : Type 0 where

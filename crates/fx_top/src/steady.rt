@@ -4,7 +4,7 @@ ghost use Rattle.dg_model.specs.Faults.{AllKeep, IsRefusal};
 ghost use Rattle.fx_top.specs.Streamed.{BreaksStream, KeepsStream, is_root_port};
 ghost use Rattle.fx_top.specs.inner.Steady.{is_base, is_slow, slow_fault};
 
-use dg_model::{Block, CheckFault, Checked, RuleFault, Shown};
+use dg_model::{Block, CheckFault, Checked, Rule, RuleFault, Shown};
 use fx_io::OutOfMemory;
 use hw_latency::block_at;
 use std::alloc::Global;
@@ -41,7 +41,7 @@ fn fault_at(alloc: Global, checked: &Checked, place: u32) -> Result<RuleFault, O
 {
     let own = checked.period(place).unwrap_or(0);
     Ok(RuleFault {
-        rule: 14,
+        rule: Rule::Stream,
         place: block_at(checked, place).path.text(alloc)?,
         shown: Shown::Periods { own, other: 1 },
     })
@@ -50,7 +50,7 @@ fn fault_at(alloc: Global, checked: &Checked, place: u32) -> Result<RuleFault, O
 /// Whether each root port has a number in every base sample.
 ///
 /// # Errors
-/// Broken exactly where one hasn't, rule 14: at the first, shown with its period. Or want of memory.
+/// Broken exactly where one hasn't: at the first, shown with its period. Or want of memory.
 pub fn check_ports(alloc: Global, checked: &Checked) -> Result<(), CheckFault>
     ensures kept { OnOk result (AllKeep checked.now.diagram (KeepsStream checked.now.diagram)) }
     ensures refused { IfErr result (IsRefusal (BreaksStream checked.now.diagram)) }

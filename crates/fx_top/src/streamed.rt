@@ -105,7 +105,8 @@ fn told_of(alloc: Global, checked: &Checked, fault: CheckFault) -> DesignFault
 /// plan.
 ///
 /// # Errors
-/// Those of `designed_of`, and then `BreaksRule` by rule 14 of the diagram's ports. Or want of memory.
+/// Those of `designed_of`, and then `BreaksRule` by the rule of the diagram's ports. Or want of
+/// memory.
 pub fn streamed_of<R: Threads + Sync>(
     rt: &R,
     alloc: Global,

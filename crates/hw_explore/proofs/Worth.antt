@@ -3,6 +3,7 @@ use Rattle.std.proofs.Common.{◌≡◌, ℕ, List, [], inr, sym, subst}
 use Rattle.dg_model.specs.declared.diagram.Diagram.{Diagram}
 use Rattle.dg_model.specs.declared.fault.Shown.TheVariants.{Size as SizeShown}
 use Rattle.dg_model.specs.declared.resolved.Resolved.{Resolved}
+use Rattle.dg_model.specs.declared.rule.Rule.{Rule}
 use Rattle.dg_model.specs.Attributes.{attributes_of}
 use Rattle.dg_model.specs.Faults.{fault_of}
 use Rattle.hw_latency.specs.declared.latencies.Latencies.{Latencies}
@@ -35,7 +36,7 @@ module _ (diagram : Diagram) (plan : Resolved) (latencies : Latencies) (slots : 
     latency_is = kept.size.latency_is;
   }
 
-  pub is_too_large : (storage latency : ℕ) → BreaksSize diagram plan (timing_of latencies slots.depths) (fault_of 13 [] (SizeShown storage latency)) → BreaksTimes diagram plan (fault_of 13 [] (SizeShown storage latency))
+  pub is_too_large : (storage latency : ℕ) → BreaksSize diagram plan (timing_of latencies slots.depths) (fault_of Rule.Size [] (SizeShown storage latency)) → BreaksTimes diagram plan (fault_of Rule.Size [] (SizeShown storage latency))
   is_too_large storage latency broken = inr (inr (record {
     timing = timing_of latencies slots.depths;
     timed = are.timed;

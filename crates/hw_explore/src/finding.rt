@@ -1,4 +1,4 @@
-use dg_model::Shown;
+use dg_model::{Rule, Shown};
 
 /// What a plan is worth (own).
 #[derive(Debug, Drop)]
@@ -7,7 +7,7 @@ pub enum Judged {
     /// greatest latency that it declares of an output.
     Good { owed: u64, latency: u64 },
     /// It breaks this rule first.
-    Bad { rule: u8, shown: Shown },
+    Bad { rule: Rule, shown: Shown },
 }
 
 /// A plan of so many clocks and multipliers without pipelines, and what it is worth (own).

@@ -1,6 +1,7 @@
 ghost use Rattle.std.specs.Prelude.{◌≡◌, ◌<◌, IfOk};
 ghost use Rattle.dg_model.specs.PlanOf.{IsPlanOf};
 ghost use Rattle.dg_model.specs.declared.fault.Shown.TheVariants.{Size as SizeShown};
+ghost use Rattle.dg_model.specs.declared.rule.Rule.{Rule};
 ghost use Rattle.hw_explore.specs.Candidates.{IsFinding, IsJudged};
 ghost use Rattle.hw_explore.specs.declared.finding.Judged.TheVariants.{Bad};
 ghost use Rattle.hw_explore.specs.Range.{IsRange, pairs_of};
@@ -13,7 +14,7 @@ use crate::finding::{Finding, Judged};
 use crate::plain::without_pipelines;
 use crate::range::Range;
 use crate::timed::{BySharing, Timed};
-use dg_model::{Checked, Resolved, Shown};
+use dg_model::{Checked, Resolved, Rule, Shown};
 use fx_io::{Flags, Longs, OutOfMemory, Periods, Sizes};
 use hw_latency::Latencies;
 use hw_rules::{Times, multiplications};
@@ -62,10 +63,10 @@ fn judge_good(
 
 /// What a plan is worth that breaks the rule of size.
 fn too_large(storage: u64, latency: u64) -> Judged
-    ensures { result ≡ Bad 13 (SizeShown storage latency) }
+    ensures { result ≡ Bad Rule.Size (SizeShown storage latency) }
 {
     Judged::Bad {
-        rule: 13,
+        rule: Rule::Size,
         shown: Shown::Size { storage, latency },
     }
 }
@@ -104,7 +105,7 @@ fn judge_slots(
     match slots_of(alloc, checked, latencies, plan) {
         Ok(slots) => judge_size(alloc, checked, plan, latencies, slots),
         Err(BudgetFault::Budget { period, need, have }) => Ok(Judged::Bad {
-            rule: 12,
+            rule: Rule::Budget,
             shown: Shown::Budget { period, need, have },
         }),
         Err(BudgetFault::OutOfMemory) => Err(OutOfMemory),
@@ -125,7 +126,7 @@ fn judge(
     match timed {
         Timed::Kept(latencies) => judge_slots(alloc, checked, plan, latencies),
         Timed::Gaining { blocks, total } => Ok(Judged::Bad {
-            rule: 11,
+            rule: Rule::Latency,
             shown: Shown::Latency {
                 blocks: Sizes::from_vec(blocks.as_slice().to_vec(alloc)?),
                 total: *total,

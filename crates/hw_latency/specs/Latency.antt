@@ -4,6 +4,7 @@ use Rattle.dg_model.specs.declared.diagram.Diagram.{Diagram}
 use Rattle.dg_model.specs.declared.fault.RuleFault.{RuleFault}
 use Rattle.dg_model.specs.declared.fault.Shown.TheVariants.{Latency}
 use Rattle.dg_model.specs.declared.resolved.Resolved.{Resolved}
+use Rattle.dg_model.specs.declared.rule.Rule.{Rule}
 use Rattle.dg_model.specs.Attributes.{attributes_of}
 use Rattle.dg_model.specs.Faults.{fault_of}
 use Rattle.hw_arcs.specs.Latencies.{IsFeasible, IsLeast, AreTight, IsGainingCycle, BeginsAtLeast}
@@ -50,7 +51,7 @@ pub record BreaksLatency (diagram : Diagram) (plan : Resolved) (fault : RuleFaul
   pub cycle : List ℕ
   pub total : ℕ
   pub is_cycle : IsLatencyCycle diagram plan cycle total
-  pub fault_is : fault ≡ fault_of 11 [] (Latency cycle (pos total))
+  pub fault_is : fault ≡ fault_of Rule.Latency [] (Latency cycle (pos total))
 
 -- what is answered where there are no latencies: such a cycle with its sum, or want of memory
 pub record IsCycleTold (diagram : Diagram) (plan : Resolved) (blocks : List ℕ) (total : ℤ) : Type 0 where

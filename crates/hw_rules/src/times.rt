@@ -7,7 +7,7 @@ ghost use Rattle.hw_rules.specs.Times.{AreTimes};
 ghost use Rattle.hw_sched.specs.Answer.{AreSlots, timing_of};
 ghost use Rattle.hw_sched.specs.Sizing.{IsKeptSize};
 
-use dg_model::{CheckFault, Checked, Resolved, RuleFault, Shown};
+use dg_model::{CheckFault, Checked, Resolved, Rule, RuleFault, Shown};
 use fx_io::Text;
 use hw_latency::{Latencies, LatencyFault, latencies_of};
 use hw_sched::{BudgetFault, SizeFault, Sizing, Slots, check_size, slots_of};
@@ -25,7 +25,7 @@ pub struct Times {
 }
 
 /// A fault of a rule that the whole model breaks.
-fn of_model(rule: u8, shown: Shown) -> RuleFault
+fn of_model(rule: Rule, shown: Shown) -> RuleFault
     ensures { result ≡ fault_of rule [] shown }
 {
     RuleFault {
@@ -44,7 +44,7 @@ fn latencies_in(alloc: Global, checked: &Checked, plan: &Resolved) -> Result<Lat
     match latencies_of(alloc, checked, plan) {
         Ok(latencies) => Ok(latencies),
         Err(LatencyFault::Cycle { blocks, total }) => Err(CheckFault::Broken(of_model(
-            11,
+            Rule::Latency,
             Shown::Latency { blocks, total },
         ))),
         Err(LatencyFault::OutOfMemory) => Err(CheckFault::OutOfMemory),
@@ -67,7 +67,7 @@ fn slots_in(
     match slots_of(alloc, checked, latencies, plan) {
         Ok(slots) => Ok(slots),
         Err(BudgetFault::Budget { period, need, have }) => Err(CheckFault::Broken(of_model(
-            12,
+            Rule::Budget,
             Shown::Budget { period, need, have },
         ))),
         Err(BudgetFault::OutOfMemory) => Err(CheckFault::OutOfMemory),
@@ -91,7 +91,7 @@ fn size_in(
     match check_size(checked, plan, latencies, slots.ready.as_slice()) {
         Ok(sizing) => Ok(sizing),
         Err(SizeFault::Size { storage, latency }) => Err(CheckFault::Broken(of_model(
-            13,
+            Rule::Size,
             Shown::Size { storage, latency },
         ))),
         Err(SizeFault::OutOfMemory) => Err(CheckFault::OutOfMemory),

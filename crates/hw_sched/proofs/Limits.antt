@@ -5,6 +5,7 @@ use Rattle.std.proofs.lemmas.Bool.{and_parts, and_cases, leb-true, leb-false}
 use Rattle.dg_model.specs.declared.diagram.Diagram.{Diagram}
 use Rattle.dg_model.specs.declared.fault.Shown.TheVariants.{Size}
 use Rattle.dg_model.specs.declared.resolved.Resolved.{Resolved}
+use Rattle.dg_model.specs.declared.rule.Rule.{Rule}
 use Rattle.dg_model.specs.Attributes.{attributes_of}
 use Rattle.dg_model.specs.Faults.{fault_of}
 use Rattle.hw_sched.specs.declared.sizing.Sizing.{Sizing}
@@ -23,13 +24,13 @@ module _ (diagram : Diagram) (plan : Resolved) (sizing : Sizing) (timing : Timin
       let late = size.latency_is in
       record { size = size; keeps = record { few = omega (arith, few, stored); short = omega (arith, short, late) } }
 
-  pub broken_as : within ≡ false → BreaksSize diagram plan timing (fault_of 13 [] (Size sizing.storage sizing.latency))
+  pub broken_as : within ≡ false → BreaksSize diagram plan timing (fault_of Rule.Size [] (Size sizing.storage sizing.latency))
   broken_as off = record {
     broken = elim (and_cases (nat_le sizing.storage 400000) (nat_le sizing.latency 16777216) (sym within_is ∙ off)) [
       | inl many ↦ let high = leb-false sizing.storage 400000 many in let stored = size.storage_is in inl (omega (arith, high, stored))
       | inr late ↦ let high = leb-false sizing.latency 16777216 late in let shown = size.latency_is in inr (omega (arith, high, shown))
     ];
     fault_is =
-        ap (λ (n : ℕ). fault_of 13 [] (Size n sizing.latency)) size.storage_is
-        ∙ ap (λ (n : ℕ). fault_of 13 [] (Size (storage diagram (attributes_of diagram) plan timing) n)) size.latency_is;
+        ap (λ (n : ℕ). fault_of Rule.Size [] (Size n sizing.latency)) size.storage_is
+        ∙ ap (λ (n : ℕ). fault_of Rule.Size [] (Size (storage diagram (attributes_of diagram) plan timing) n)) size.latency_is;
   }

@@ -8,6 +8,7 @@ use Rattle.dg_model.specs.declared.diagram.Diagram.{Diagram}
 use Rattle.dg_model.specs.declared.diagram.Edge.{Edge}
 use Rattle.dg_model.specs.declared.fault.Shown.TheVariants.{Budget}
 use Rattle.dg_model.specs.declared.resolved.Resolved.{Resolved}
+use Rattle.dg_model.specs.declared.rule.Rule.{Rule}
 use Rattle.dg_model.specs.Attributes.{attributes_of}
 use Rattle.dg_model.specs.Signals.{Attributes}
 use Rattle.dg_model.specs.Faults.{fault_of}
@@ -188,7 +189,7 @@ module _ (diagram : Diagram) (plan : Resolved) (timing : Timing) where
 
       -- ---- the first period that has too few slots
 
-      breaks_by : (p need have : ℕ) → IsShort cells multipliers spans p need have → BreaksBudget diagram plan timing (fault_of 12 [] (Budget p need have))
+      breaks_by : (p need have : ℕ) → IsShort cells multipliers spans p need have → BreaksBudget diagram plan timing (fault_of Rule.Budget [] (Budget p need have))
       breaks_by p need have short =
           let low : p < length spans = slice_get_within spans p short.span short.at in
           let span : short.span ≡ span_of diagram plan p = same_Some short.span (span_of diagram plan p) (sym short.at ∙ span_at p low) in
@@ -203,10 +204,10 @@ module _ (diagram : Diagram) (plan : Resolved) (timing : Timing) where
                 let fits = short.first other less (span_of diagram plan other) (span_at other (omega (arith, less, low))) in
                 let same = need_is other in
                 omega (arith, fits, same);
-            fault_is = ap (λ (n : ℕ). fault_of 12 [] (Budget p n have)) needs ∙ ap (λ (n : ℕ). fault_of 12 [] (Budget p (need_of diagram attributes plan timing p) n)) has;
+            fault_is = ap (λ (n : ℕ). fault_of Rule.Budget [] (Budget p n have)) needs ∙ ap (λ (n : ℕ). fault_of Rule.Budget [] (Budget p (need_of diagram attributes plan timing p) n)) has;
           }
 
-      pub breaks : (p need have : ℕ) → IsShort made_cells.operations.items multipliers spans p need have → BreaksBudget diagram plan timing (fault_of 12 [] (Budget p need have))
+      pub breaks : (p need have : ℕ) → IsShort made_cells.operations.items multipliers spans p need have → BreaksBudget diagram plan timing (fault_of Rule.Budget [] (Budget p need have))
       breaks p need have short = breaks_by p need have (subst (λ (cs : List Cell). IsShort cs multipliers spans p need have) are.listed short)
 
 -- a fault of these operations is one of the diagram

@@ -3,6 +3,7 @@ use Rattle.std.specs.Prelude.{◌≡◌, ℕ, List, [], length, Some, slice_get,
 use Rattle.dg_model.specs.declared.diagram.Diagram.{Diagram}
 use Rattle.dg_model.specs.declared.fault.Shown.TheVariants.{Budget as ShownBudget}
 use Rattle.dg_model.specs.declared.resolved.Resolved.{Resolved}
+use Rattle.dg_model.specs.declared.rule.Rule.{Rule}
 use Rattle.dg_model.specs.Attributes.{attributes_of}
 use Rattle.dg_model.specs.Faults.{fault_of}
 use Rattle.hw_latency.specs.declared.latencies.Latencies.{Latencies}
@@ -41,7 +42,7 @@ pub record AreSlots (diagram : Diagram) (plan : Resolved) (latencies : Latencies
 pub record IsBudgetTold (diagram : Diagram) (plan : Resolved) (latencies : Latencies) (period need have : ℕ) : Type 0 where
   pub depths : List ℕ
   pub timed : IsTimingOf diagram plan (timing_of latencies depths)
-  pub breaks : BreaksBudget diagram plan (timing_of latencies depths) (fault_of 12 [] (ShownBudget period need have))
+  pub breaks : BreaksBudget diagram plan (timing_of latencies depths) (fault_of Rule.Budget [] (ShownBudget period need have))
 
 -- what is answered where there are no slots: that, or want of memory
 abbrev pub IsBudgetFault : Diagram → Resolved → Latencies → BudgetFault → Type 0

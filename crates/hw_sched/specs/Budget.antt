@@ -4,6 +4,7 @@ use Rattle.dg_model.specs.declared.diagram.Diagram.{Diagram}
 use Rattle.dg_model.specs.declared.fault.RuleFault.{RuleFault}
 use Rattle.dg_model.specs.declared.fault.Shown.TheVariants.{Budget}
 use Rattle.dg_model.specs.declared.resolved.Resolved.{Resolved}
+use Rattle.dg_model.specs.declared.rule.Rule.{Rule}
 use Rattle.dg_model.specs.Attributes.{attributes_of}
 use Rattle.dg_model.specs.Faults.{fault_of}
 use Rattle.hw_sched.specs.Slots.{Timing, need_of, have_of}
@@ -27,4 +28,4 @@ pub record BreaksBudget (diagram : Diagram) (plan : Resolved) (timing : Timing) 
   pub there : IsPeriodOf diagram period
   pub broken : have_of plan period < need_of diagram (attributes_of diagram) plan timing period
   pub least : (other : ℕ) → other < period → IsPeriodOf diagram other → KeepsBudgetAt diagram plan timing other
-  pub fault_is : fault ≡ fault_of 12 [] (Budget period (need_of diagram (attributes_of diagram) plan timing period) (have_of plan period))
+  pub fault_is : fault ≡ fault_of Rule.Budget [] (Budget period (need_of diagram (attributes_of diagram) plan timing period) (have_of plan period))

@@ -3,6 +3,7 @@ use Rattle.std.specs.Prelude.{◌≡◌, ℕ, List, [], ⊤}
 use Rattle.dg_model.specs.declared.diagram.Diagram.{Diagram}
 use Rattle.dg_model.specs.declared.fault.Shown.TheVariants.{Size as SizeShown}
 use Rattle.dg_model.specs.declared.resolved.Resolved.{Resolved}
+use Rattle.dg_model.specs.declared.rule.Rule.{Rule}
 use Rattle.dg_model.specs.Attributes.{attributes_of}
 use Rattle.dg_model.specs.Faults.{fault_of}
 use Rattle.hw_latency.specs.declared.latencies.Latencies.{Latencies}
@@ -30,5 +31,5 @@ pub record IsKeptSize (diagram : Diagram) (plan : Resolved) (sizing : Sizing) (t
 
 -- what is answered where they don't: the fault of the rule, or want of memory
 abbrev pub IsSizeFault : Diagram → Resolved → SizeFault → Timing → Type 0
-IsSizeFault diagram plan (Size storage latency) timing = BreaksSize diagram plan timing (fault_of 13 [] (SizeShown storage latency))
+IsSizeFault diagram plan (Size storage latency) timing = BreaksSize diagram plan timing (fault_of Rule.Size [] (SizeShown storage latency))
 IsSizeFault diagram plan OutOfMemory timing = ⊤

@@ -8,6 +8,7 @@ use Rattle.dg_model.specs.declared.fault.RuleFault.{RuleFault}
 use Rattle.dg_model.specs.declared.fault.Shown.TheVariants.{Size}
 use Rattle.dg_model.specs.declared.resolved.Resolved.{Resolved}
 use Rattle.dg_model.specs.declared.row.Role.{Role}
+use Rattle.dg_model.specs.declared.rule.Rule.{Rule}
 use Rattle.dg_model.specs.Attributes.{attributes_of}
 use Rattle.dg_model.specs.Faults.{fault_of}
 use Rattle.dg_model.specs.LatencyEdges.{LatencyEdge, latency_edges}
@@ -86,4 +87,4 @@ pub record KeepsSize (diagram : Diagram) (plan : Resolved) (timing : Timing) : T
 -- the rule is broken, with this fault
 pub record BreaksSize (diagram : Diagram) (plan : Resolved) (timing : Timing) (fault : RuleFault) : Type 0 where
   pub broken : (400000 < storage diagram (attributes_of diagram) plan timing) ⊎ (16777216 < greatest_latency diagram (attributes_of diagram) plan timing)
-  pub fault_is : fault ≡ fault_of 13 [] (Size (storage diagram (attributes_of diagram) plan timing) (greatest_latency diagram (attributes_of diagram) plan timing))
+  pub fault_is : fault ≡ fault_of Rule.Size [] (Size (storage diagram (attributes_of diagram) plan timing) (greatest_latency diagram (attributes_of diagram) plan timing))

@@ -4,6 +4,7 @@ use Rattle.std.specs.Prelude.{codes}
 use Rattle.dg_model.specs.declared.fault.Shown.TheVariants.{Nothing, Word}
 use Rattle.dg_model.specs.declared.nested.NestedLine.{NestedLine}
 use Rattle.dg_model.specs.declared.nested.Target.{Target}
+use Rattle.dg_model.specs.declared.rule.Rule.{Rule}
 use Rattle.dg_model.specs.Faults.{fault_of}
 use Rattle.mdl_text.specs.declared.tree.Item.{Item}
 use Rattle.mdl_text.specs.declared.tree.Value.TheVariants.{Section, Bare, Quoted}
@@ -53,28 +54,28 @@ one_is_known : library_fault one ≡ None
 one_is_known = refl
 
 -- an empty tree has no Model
-none_breaks : structure_fault [] ≡ Some (fault_of 1 [] Nothing)
+none_breaks : structure_fault [] ≡ Some (fault_of Rule.Structure [] Nothing)
 none_breaks = refl
 
 -- two Models, and two Systems in one
-two_models : structure_fault (one ++ (section 0 (codes "Model") ∷ [])) ≡ Some (fault_of 1 [] Nothing)
+two_models : structure_fault (one ++ (section 0 (codes "Model") ∷ [])) ≡ Some (fault_of Rule.Structure [] Nothing)
 two_models = refl
 
-two_systems : structure_fault (one ++ (section 1 (codes "System") ∷ [])) ≡ Some (fault_of 1 [] Nothing)
+two_systems : structure_fault (one ++ (section 1 (codes "System") ∷ [])) ≡ Some (fault_of Rule.Structure [] Nothing)
 two_systems = refl
 
 -- a block without a type is told by its name; so is the second of two with one name
-no_type : structure_fault (one ++ (section 2 (codes "Block") ∷ quoted 3 (codes "Name") (codes "a/b") ∷ [])) ≡ Some (fault_of 1 (codes "a//b") Nothing)
+no_type : structure_fault (one ++ (section 2 (codes "Block") ∷ quoted 3 (codes "Name") (codes "a/b") ∷ [])) ≡ Some (fault_of Rule.Structure (codes "a//b") Nothing)
 no_type = refl
 
-no_name : structure_fault (one ++ (section 2 (codes "Block") ∷ bare 3 (codes "BlockType") (codes "Ground") ∷ [])) ≡ Some (fault_of 1 [] Nothing)
+no_name : structure_fault (one ++ (section 2 (codes "Block") ∷ bare 3 (codes "BlockType") (codes "Ground") ∷ [])) ≡ Some (fault_of Rule.Structure [] Nothing)
 no_name = refl
 
-equal_names : structure_fault (one ++ block 2 (codes "Ground") (codes "D") []) ≡ Some (fault_of 1 (codes "D") Nothing)
+equal_names : structure_fault (one ++ block 2 (codes "Ground") (codes "D") []) ≡ Some (fault_of Rule.Structure (codes "D") Nothing)
 equal_names = refl
 
 -- a line to a name that isn't there
-lost_line : structure_fault (one ++ line 2 (codes "u") (codes "x")) ≡ Some (fault_of 1 [] Nothing)
+lost_line : structure_fault (one ++ line 2 (codes "u") (codes "x")) ≡ Some (fault_of Rule.Structure [] Nothing)
 lost_line = refl
 
 -- a line without an end, and one without a source, break nothing and are no lines
@@ -85,9 +86,9 @@ open_line_none : lines_of (one ++ (section 2 (codes "Line") ∷ quoted 3 (codes 
 open_line_none = refl
 
 -- a block of an unknown type inside a subsystem
-scope : library_fault (one ++ (block 2 (codes "SubSystem") (codes "S") (section 3 (codes "System") ∷ block 4 (codes "Scope") (codes "P") []))) ≡ Some (fault_of 2 (codes "S/P") (Word (codes "Scope")))
+scope : library_fault (one ++ (block 2 (codes "SubSystem") (codes "S") (section 3 (codes "System") ∷ block 4 (codes "Scope") (codes "P") []))) ≡ Some (fault_of Rule.Library (codes "S/P") (Word (codes "Scope")))
 scope = refl
 
 -- a subsystem without a System
-no_system : structure_fault (one ++ block 2 (codes "SubSystem") (codes "S") []) ≡ Some (fault_of 1 (codes "S") Nothing)
+no_system : structure_fault (one ++ block 2 (codes "SubSystem") (codes "S") []) ≡ Some (fault_of Rule.Structure (codes "S") Nothing)
 no_system = refl

@@ -6,6 +6,7 @@ use Rattle.std.specs.List.{position_or_len}
 use Rattle.std.proofs.lemmas.List.Folds.{find_at}
 use Rattle.dg_model.specs.declared.fault.RuleFault.{RuleFault}
 use Rattle.dg_model.specs.declared.fault.Shown.TheVariants.{Nothing}
+use Rattle.dg_model.specs.declared.rule.Rule.{Rule}
 use Rattle.dg_model.specs.Faults.{fault_of}
 use Rattle.mdl_text.specs.declared.tree.Item.{Item}
 use Rattle.mdl_build.specs.Blocks.{at, path_of}
@@ -18,17 +19,17 @@ use Rattle.mdl_build.proofs.BlockPlaces.{IsBlockOf, block_of}
 
 -- what is told where the blocks are looked at
 abbrev pub block_fault : List Item → Option RuleFault
-block_fault items = option_map (λ place. fault_of 1 (path_of items place) Nothing) (find (λ place. not (keeps_structure items place)) (blocks_of items))
+block_fault items = option_map (λ place. fault_of Rule.Structure (path_of items place) Nothing) (find (λ place. not (keeps_structure items place)) (blocks_of items))
 
 module _ (items : List Item) where
   choice : Bool → Option RuleFault
-  choice keeps = cond keeps (block_fault items) (Some (fault_of 1 [] Nothing))
+  choice keeps = cond keeps (block_fault items) (Some (fault_of Rule.Structure [] Nothing))
 
-  pub model_sizes : keeps_sizes items ≡ false → structure_fault items ≡ Some (fault_of 1 [] Nothing)
+  pub model_sizes : keeps_sizes items ≡ false → structure_fault items ≡ Some (fault_of Rule.Structure [] Nothing)
   unfolding choice
   model_sizes e = ap (λ (b : Bool). choice (b && are_joined_before items (length items))) e
 
-  pub model_lines : keeps_sizes items ≡ true → are_joined_before items (length items) ≡ false → structure_fault items ≡ Some (fault_of 1 [] Nothing)
+  pub model_lines : keeps_sizes items ≡ true → are_joined_before items (length items) ≡ false → structure_fault items ≡ Some (fault_of Rule.Structure [] Nothing)
   unfolding choice
   model_lines e f = ap (λ (b : Bool). choice (b && are_joined_before items (length items))) e ∙ ap choice f
 
@@ -69,10 +70,10 @@ not_false false e = absurd (true≢false e)
 pub structure_kept : (items : List Item) → structure_fault items ≡ None → (k place : ℕ) → slice_get (blocks_of items) k ≡ Some place → keeps_structure items place ≡ true
 structure_kept items none k place at = by (keeps_model items) none
   where
-    by : (b : Bool) → cond b (block_fault items) (Some (fault_of 1 [] Nothing)) ≡ None → keeps_structure items place ≡ true
+    by : (b : Bool) → cond b (block_fault items) (Some (fault_of Rule.Structure [] Nothing)) ≡ None → keeps_structure items place ≡ true
     by true e = not_false (keeps_structure items place) (none_found (λ (p : ℕ). not (keeps_structure items p)) (blocks_of items) k place
-        (mapped_none (λ (p : ℕ). fault_of 1 (path_of items p) Nothing) (find (λ (p : ℕ). not (keeps_structure items p)) (blocks_of items)) e) at)
-    by false e = absurd (none-some (fault_of 1 [] Nothing) (sym e))
+        (mapped_none (λ (p : ℕ). fault_of Rule.Structure (path_of items p) Nothing) (find (λ (p : ℕ). not (keeps_structure items p)) (blocks_of items)) e) at)
+    by false e = absurd (none-some (fault_of Rule.Structure [] Nothing) (sym e))
 
 -- and each block has a name
 pub name_kept : (items : List Item) (place : ℕ) → keeps_structure items place ≡ true → is_some (value_of items place (codes "Name")) ≡ true

@@ -7,6 +7,7 @@ use Rattle.std.proofs.lemmas.Option.{none-some}
 use Rattle.dg_model.specs.declared.fault.RuleFault.{RuleFault}
 use Rattle.dg_model.specs.declared.fault.Shown.TheVariants.{Word}
 use Rattle.dg_model.specs.declared.nested.Nested.{Nested}
+use Rattle.dg_model.specs.declared.rule.Rule.{Rule}
 use Rattle.dg_model.specs.Faults.{fault_of}
 use Rattle.mdl_text.specs.declared.tree.Item.{Item}
 use Rattle.mdl_text.specs.declared.tree.Tree.{Tree}
@@ -41,7 +42,7 @@ one_first items one other is too = elim (cases_order is.number too.number) [
       let here : IsFirstWrong items is.block_type too.place (parameters_of is.block_type) is.name = subst (λ (p : ℕ). IsFirstWrong items is.block_type p (parameters_of is.block_type) is.name) place is.wrong in
       let wrong : IsFirstWrong items too.block_type too.place (parameters_of too.block_type) is.name = subst (λ (t : BlockType). IsFirstWrong items t too.place (parameters_of t) is.name) type here in
       is.fault_is
-      ∙ ap₂ (λ (p : ℕ) (name : List ℕ). fault_of 3 (path_of items p) (Word name)) place (one_wrong items too.block_type too.place (parameters_of too.block_type) is.name too.name wrong too.wrong)
+      ∙ ap₂ (λ (p : ℕ) (name : List ℕ). fault_of Rule.Parameter (path_of items p) (Word name)) place (one_wrong items too.block_type too.place (parameters_of too.block_type) is.name too.name wrong too.wrong)
       ∙ sym too.fault_is
   | inr differ ↦ elim differ [
     | inl less ↦ absurd (is.wrong.wrong (too.before is.number is.place is.block_type less is.there is.type_is is.wrong.number is.wrong.parameter is.wrong.there))

@@ -8,6 +8,7 @@ use Rattle.dg_model.specs.declared.fault.RuleFault.{RuleFault}
 use Rattle.dg_model.specs.declared.fault.Shown.TheVariants.{Word}
 use Rattle.dg_model.specs.declared.nested.Nested.{Nested}
 use Rattle.dg_model.specs.declared.nested.NestedBlock.{NestedBlock}
+use Rattle.dg_model.specs.declared.rule.Rule.{Rule}
 use Rattle.dg_model.specs.Faults.{fault_of}
 use Rattle.mdl_text.specs.declared.tree.Item.{Item}
 use Rattle.mdl_build.specs.declared.library.BlockType.{BlockType}
@@ -84,7 +85,7 @@ module _ (items : List Item) (structured : structure_fault items ≡ None) (know
       let type = type_of (type_at items place) (λ untyped. type_kept items known number place there untyped) in
       let name = some_of (value_of items place (codes "Name")) (name_kept items place (structure_kept items structured number place there)) in
       rows_read items type.0 place (parameters_of type.0) unset
-      (λ wrong is. none (fault_of 3 (path_of items place) (Word wrong)) (record {
+      (λ wrong is. none (fault_of Rule.Parameter (path_of items place) (Word wrong)) (record {
         number = number;
         place = place;
         there = there;

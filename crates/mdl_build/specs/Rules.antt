@@ -4,6 +4,7 @@ use Rattle.std.specs.List.{list_all}
 use Rattle.std.specs.Option.{unwrap_or}
 use Rattle.dg_model.specs.declared.fault.RuleFault.{RuleFault}
 use Rattle.dg_model.specs.declared.fault.Shown.TheVariants.{Nothing, Word}
+use Rattle.dg_model.specs.declared.rule.Rule.{Rule}
 use Rattle.dg_model.specs.Faults.{fault_of}
 use Rattle.mdl_text.specs.declared.tree.Item.{Item}
 use Rattle.mdl_text.specs.declared.tree.Tree.{Tree}
@@ -91,8 +92,8 @@ keeps_structure items place =
 -- the rule's first fault: the model stands before all blocks
 abbrev pub structure_fault : List Item → Option RuleFault
 structure_fault items =
-    if keeps_model items then option_map (λ place. fault_of 1 (path_of items place) Nothing) (find (λ place. not (keeps_structure items place)) (blocks_of items))
-    else Some (fault_of 1 [] Nothing)
+    if keeps_model items then option_map (λ place. fault_of Rule.Structure (path_of items place) Nothing) (find (λ place. not (keeps_structure items place)) (blocks_of items))
+    else Some (fault_of Rule.Structure [] Nothing)
 
 -- ---- library
 
@@ -108,7 +109,7 @@ type_at items place = type_named (value_of items place (codes "BlockType"))
 -- the first block of an unknown type, which is shown
 abbrev pub library_fault : List Item → Option RuleFault
 library_fault items =
-    option_map (λ place. fault_of 2 (path_of items place) (Word (unwrap_or (value_of items place (codes "BlockType")) [])))
+    option_map (λ place. fault_of Rule.Library (path_of items place) (Word (unwrap_or (value_of items place (codes "BlockType")) [])))
     (find (λ place. is_none (type_at items place)) (blocks_of items))
 
 -- ---- parameter
@@ -137,7 +138,7 @@ pub record IsWrongFirst (items : List Item) (fault : RuleFault) : Type 0 where
   pub type_is : type_at items place ≡ Some block_type
   pub name : List ℕ
   pub wrong : IsFirstWrong items block_type place (parameters_of block_type) name
-  pub fault_is : fault ≡ fault_of 3 (path_of items place) (Word name)
+  pub fault_is : fault ≡ fault_of Rule.Parameter (path_of items place) (Word name)
 
 -- ---- the first broken rule
 

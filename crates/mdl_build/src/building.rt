@@ -12,7 +12,7 @@ ghost use Rattle.mdl_build.specs.inner.Makers.{IsMaker, items_of};
 use crate::known::{Known, structure_of};
 use crate::making::{Maker, text_or_empty};
 use crate::structure::{first_unknown, type_at};
-use dg_model::{CheckFault, Nested, NestedBlocks, RuleFault};
+use dg_model::{CheckFault, Nested, NestedBlocks, Rule, RuleFault};
 use fx_io::OutOfMemory;
 use mdl_text::Tree;
 use std::alloc::Global;
@@ -26,7 +26,7 @@ fn library_fault(alloc: Global, known: &Known) -> Result<Option<RuleFault>, OutO
         return Ok(None);
     };
     let word = text_or_empty(&known.layout, place, b"BlockType");
-    let fault = known.broken_at(alloc, 2, place, word)?;
+    let fault = known.broken_at(alloc, Rule::Library, place, word)?;
     Ok(Some(fault))
 }
 

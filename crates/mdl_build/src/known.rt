@@ -3,6 +3,7 @@ ghost use Rattle.std.specs.Prelude.{◌≡◌, ◌<◌, true, false, [], length,
 ghost use Rattle.dg_model.specs.declared.fault.RuleFault.{RuleFault};
 ghost use Rattle.dg_model.specs.declared.fault.CheckFault.TheVariants.{Broken};
 ghost use Rattle.dg_model.specs.declared.fault.Shown.TheVariants.{Nothing, Word};
+ghost use Rattle.dg_model.specs.declared.rule.Rule.{Rule};
 ghost use Rattle.dg_model.specs.Faults.{fault_of, IsRefusal};
 ghost use Rattle.mdl_build.specs.Blocks.{path_of};
 ghost use Rattle.mdl_build.specs.Roles.{role_of, is_block, blocks_of};
@@ -15,7 +16,7 @@ use crate::names::Blocks;
 use crate::paths::path_of;
 use crate::roles::{Role, roles};
 use crate::structure::{are_shallow, first_misshapen, has_root};
-use dg_model::{CheckFault, NestedLines, RuleFault, Shown};
+use dg_model::{CheckFault, NestedLines, Rule, RuleFault, Shown};
 use fx_io::{OutOfMemory, Text};
 use mdl_text::Item;
 use std::alloc::Global;
@@ -41,7 +42,7 @@ pub struct Structured<'a> {
 }
 
 /// A broken rule.
-fn broken(rule: u8, place: Text, shown: Shown) -> RuleFault
+fn broken(rule: Rule, place: Text, shown: Shown) -> RuleFault
     ensures { result ≡ fault_of rule place shown }
 {
     RuleFault { rule, place, shown }
@@ -49,9 +50,9 @@ fn broken(rule: u8, place: Text, shown: Shown) -> RuleFault
 
 /// The rule of structure, broken by the model.
 fn broken_model() -> CheckFault
-    ensures { result ≡ Broken (fault_of 1 [] Nothing) }
+    ensures { result ≡ Broken (fault_of Rule.Structure [] Nothing) }
 {
-    CheckFault::Broken(broken(1, Text::new(), Shown::Nothing))
+    CheckFault::Broken(broken(Rule::Structure, Text::new(), Shown::Nothing))
 }
 
 /// What is known of the items of a tree. None where it has no root, is too deep, or has more blocks
@@ -96,7 +97,7 @@ impl<'a> Known<'a> {
     pub fn broken_at(
         &self,
         alloc: Global,
-        rule: u8,
+        rule: Rule,
         place: usize,
         word: &[u8],
     ) -> Result<RuleFault, OutOfMemory>
@@ -115,7 +116,7 @@ impl<'a> Known<'a> {
     fn misshapen(&self, alloc: Global) -> Result<Option<RuleFault>, OutOfMemory>
         requires { IsKnown self.now }
         ensures { IfOk result (λ found. found ≡ option_map
-            (λ place. fault_of 1 (path_of self.now.layout.items.now place) Nothing)
+            (λ place. fault_of Rule.Structure (path_of self.now.layout.items.now place) Nothing)
             (find (λ place. not (keeps_structure self.now.layout.items.now place))
             (blocks_of self.now.layout.items.now))) }
     {
@@ -123,7 +124,7 @@ impl<'a> Known<'a> {
             None => Ok(None),
             Some(place) => {
                 let path = self.path(alloc, place)?;
-                Ok(Some(broken(1, path, Shown::Nothing)))
+                Ok(Some(broken(Rule::Structure, path, Shown::Nothing)))
             }
         }
     }

@@ -17,7 +17,7 @@ use crate::lookup::{Defaults, defaults};
 use crate::parts::{Standing, part_of};
 use crate::paths::parent;
 use crate::settings::Settings;
-use dg_model::{CheckFault, NestedBlock};
+use dg_model::{CheckFault, NestedBlock, Rule};
 use fx_io::{OutOfMemory, Text};
 use std::alloc::Global;
 
@@ -203,7 +203,7 @@ impl<'a> Maker<'a> {
                 Ok(block)
             }
             Reading::Wrong(name) => {
-                let fault = self.known.broken_at(alloc, 3, place, name.as_bytes())?;
+                let fault = self.known.broken_at(alloc, Rule::Parameter, place, name.as_bytes())?;
                 Err(CheckFault::Broken(fault))
             }
         }

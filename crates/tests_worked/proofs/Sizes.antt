@@ -10,6 +10,7 @@ use Rattle.dg_model.specs.declared.diagram.PeriodSpec.TheVariants.{Every}
 use Rattle.dg_model.specs.declared.fault.Shown.TheVariants.{Size}
 use Rattle.dg_model.specs.declared.kind.Kind.TheVariants.{Constant, Delay, EnableTest, Inport, Outport, Product}
 use Rattle.dg_model.specs.declared.resolved.Resolved.{Resolved}
+use Rattle.dg_model.specs.declared.rule.Rule.{Rule}
 use Rattle.dg_model.specs.Attributes.{attributes_of}
 use Rattle.dg_model.specs.Faults.{fault_of}
 use Rattle.dg_model.specs.Signals.{Attributes}
@@ -54,10 +55,10 @@ short_enough = record {
   short = subst (λ (a : Attributes). greatest_latency slow a (slow_plan 0) unshared ≤ 16777216) (sym slow_known) (lit≤ tt);
 }
 
-too_long : BreaksSize slow (slow_plan 1) shared (fault_of 13 [] (Size 68 16777217))
+too_long : BreaksSize slow (slow_plan 1) shared (fault_of Rule.Size [] (Size 68 16777217))
 too_long = record {
   broken = inr (subst (λ (a : Attributes). 16777216 < greatest_latency slow a (slow_plan 1) shared) (sym slow_known) (lit< tt));
-  fault_is = subst (λ (a : Attributes). fault_of 13 [] (Size 68 16777217) ≡ fault_of 13 [] (Size (storage slow a (slow_plan 1) shared) (greatest_latency slow a (slow_plan 1) shared))) (sym slow_known) refl;
+  fault_is = subst (λ (a : Attributes). fault_of Rule.Size [] (Size 68 16777217) ≡ fault_of Rule.Size [] (Size (storage slow a (slow_plan 1) shared) (greatest_latency slow a (slow_plan 1) shared))) (sym slow_known) refl;
 }
 
 -- ---- storage: 400 elements through a Delay by 998 are 399600 registers and 400 behind it; one more line is one too many
@@ -104,10 +105,10 @@ few_enough = record {
   short = subst (λ (a : Attributes). greatest_latency wide a no_registers none_late ≤ 16777216) (sym wide_known) (lit≤ tt);
 }
 
-too_many : BreaksSize wider no_registers none_late (fault_of 13 [] (Size 400001 0))
+too_many : BreaksSize wider no_registers none_late (fault_of Rule.Size [] (Size 400001 0))
 too_many = record {
   broken = inl (subst (λ (a : Attributes). 400000 < storage wider a no_registers none_late) (sym wider_known) (lit< tt));
-  fault_is = subst (λ (a : Attributes). fault_of 13 [] (Size 400001 0) ≡ fault_of 13 [] (Size (storage wider a no_registers none_late) (greatest_latency wider a no_registers none_late))) (sym wider_known) refl;
+  fault_is = subst (λ (a : Attributes). fault_of Rule.Size [] (Size 400001 0) ≡ fault_of Rule.Size [] (Size (storage wider a no_registers none_late) (greatest_latency wider a no_registers none_late))) (sym wider_known) refl;
 }
 
 -- ---- what a block keeps: a Delay by 5 of a value that never changes its own 5, one of an input none, and one in an enabled subsystem its own 5

@@ -6,6 +6,7 @@ use Rattle.std.proofs.lemmas.Option.{none-some, same_Some}
 use Rattle.dg_model.specs.declared.diagram.Block.{Block}
 use Rattle.dg_model.specs.declared.fault.Shown.TheVariants.{Budget, Latency}
 use Rattle.dg_model.specs.declared.resolved.Resolved.{Resolved}
+use Rattle.dg_model.specs.declared.rule.Rule.{Rule}
 use Rattle.dg_model.specs.Attributes.{attributes_of}
 use Rattle.dg_model.specs.Faults.{fault_of}
 use Rattle.dg_model.specs.PlanNames.{MayBePipelined}
@@ -56,20 +57,20 @@ keeps_in_five = record {
   keeps = λ period there. subst (λ (a : Attributes). Suffices (plan_in 5) timing a period) (sym known) (of_period (Suffices (plan_in 5) timing attributes) (lit≤ tt) (lit≤ tt) period there);
 }
 
-breaks_in_four : BreaksBudget diagram (plan_in 4) timing (fault_of 12 [] (Budget 1 4 3))
+breaks_in_four : BreaksBudget diagram (plan_in 4) timing (fault_of Rule.Budget [] (Budget 1 4 3))
 breaks_in_four = record {
   period = 1;
   there = record { place = 0; is = subst (λ (a : Attributes). a.period_at 0 ≡ Some 1) (sym known) refl };
   broken = subst (λ (a : Attributes). have_of (plan_in 4) 1 < need_of diagram a (plan_in 4) timing 1) (sym known) (lit< tt);
   least = λ other less there. let some : 1 ≤ other = of_period (λ period. 1 ≤ period) (lit≤ tt) (lit≤ tt) other there in absurd (omega (arith, less, some));
-  fault_is = subst (λ (a : Attributes). fault_of 12 [] (Budget 1 4 3) ≡ fault_of 12 [] (Budget 1 (need_of diagram a (plan_in 4) timing 1) (have_of (plan_in 4) 1))) (sym known) refl;
+  fault_is = subst (λ (a : Attributes). fault_of Rule.Budget [] (Budget 1 4 3) ≡ fault_of Rule.Budget [] (Budget 1 (need_of diagram a (plan_in 4) timing 1) (have_of (plan_in 4) 1))) (sym known) refl;
 }
 
 -- by one clock the products of period 1 share nothing, and those of period 2 break the rule first
 abbrev plain : Timing
 plain = record { lat = timing.lat; fed = false ∷ false ∷ false ∷ false ∷ false ∷ false ∷ true ∷ true ∷ false ∷ []; depths = 0 ∷ 0 ∷ 0 ∷ 0 ∷ 0 ∷ 0 ∷ 1 ∷ 1 ∷ 0 ∷ [] }
 
-breaks_in_one : BreaksBudget diagram (plan_in 1) plain (fault_of 12 [] (Budget 2 3 1))
+breaks_in_one : BreaksBudget diagram (plan_in 1) plain (fault_of Rule.Budget [] (Budget 2 3 1))
 breaks_in_one = record {
   period = 2;
   there = record { place = 4; is = subst (λ (a : Attributes). a.period_at 4 ≡ Some 2) (sym known) refl };
@@ -77,7 +78,7 @@ breaks_in_one = record {
   least = λ other less there.
       subst (λ (a : Attributes). Suffices (plan_in 1) plain a other) (sym known)
       (of_period (λ period. period < 2 → Suffices (plan_in 1) plain attributes period) (λ below. lit≤ tt) (λ below. absurd (omega (arith, below))) other there less);
-  fault_is = subst (λ (a : Attributes). fault_of 12 [] (Budget 2 3 1) ≡ fault_of 12 [] (Budget 2 (need_of diagram a (plan_in 1) plain 2) (have_of (plan_in 1) 2))) (sym known) refl;
+  fault_is = subst (λ (a : Attributes). fault_of Rule.Budget [] (Budget 2 3 1) ≡ fault_of Rule.Budget [] (Budget 2 (need_of diagram a (plan_in 1) plain 2) (have_of (plan_in 1) 2))) (sym known) refl;
 }
 
 -- ---- slots and multipliers: of P, of Q a level later, and of S where R is there
@@ -173,7 +174,7 @@ gains_by = record {
   different = pairs_of (λ (block other : ℕ). block ≢ other) (5 ∷ 6 ∷ []) ((λ e. absurd (omega (arith, e)), tt), (tt, tt));
 }
 
-breaks_latency : BreaksLatency diagram looping (fault_of 11 [] (Latency (5 ∷ 6 ∷ []) (pos 2)))
+breaks_latency : BreaksLatency diagram looping (fault_of Rule.Latency [] (Latency (5 ∷ 6 ∷ []) (pos 2)))
 breaks_latency = record {
   cycle = 5 ∷ 6 ∷ [];
   total = 2;

@@ -4,6 +4,7 @@ use Rattle.dg_model.specs.declared.diagram.Block.{Block}
 use Rattle.dg_model.specs.declared.diagram.Diagram.{Diagram}
 use Rattle.dg_model.specs.declared.fault.RuleFault.{RuleFault}
 use Rattle.dg_model.specs.declared.fault.Shown.TheVariants.{Periods}
+use Rattle.dg_model.specs.declared.rule.Rule.{Rule}
 use Rattle.dg_model.specs.Attributes.{attributes_of}
 use Rattle.dg_model.specs.Faults.{fault_of, path_of}
 use Rattle.fx_top.specs.Streamed.{is_root_port}
@@ -21,4 +22,4 @@ abbrev pub is_slow : Diagram → ℕ → Bool
 is_slow diagram place = is_port_at (slice_get diagram.blocks place) && not (is_base ((attributes_of diagram).period_at place))
 
 abbrev pub slow_fault : Diagram → ℕ → RuleFault
-slow_fault diagram place = fault_of 14 (path_of diagram place) (Periods (unwrap_or ((attributes_of diagram).period_at place) 0) 1)
+slow_fault diagram place = fault_of Rule.Stream (path_of diagram place) (Periods (unwrap_or ((attributes_of diagram).period_at place) 0) 1)

@@ -3,6 +3,7 @@ use Rattle.std.specs.Prelude.{◌≡◌, ℕ, ◌<◌, ◌≤◌, ◌==◌, ◌&
 use Rattle.std.specs.List.{list_any}
 use Rattle.dg_model.specs.declared.fault.RuleFault.{RuleFault}
 use Rattle.dg_model.specs.declared.fault.Shown.TheVariants.{Word}
+use Rattle.dg_model.specs.declared.rule.Rule.{Rule}
 use Rattle.dg_model.specs.Faults.{fault_of}
 use Rattle.mdl_text.specs.declared.tree.Item.{Item}
 use Rattle.mdl_build.specs.declared.known.Known.{Known}
@@ -57,4 +58,4 @@ pub record AreNumbers (items : List Item) (numbers : List ℕ) : Type 0 where
 pub record IsWrongAt (items : List Item) (block_type : BlockType) (place : ℕ) (fault : RuleFault) : Type 0 where
   pub name : List ℕ
   pub wrong : IsFirstWrong items block_type place (parameters_of block_type) name
-  pub fault_is : fault ≡ fault_of 3 (path_of items place) (Word name)
+  pub fault_is : fault ≡ fault_of Rule.Parameter (path_of items place) (Word name)

@@ -1,5 +1,6 @@
 use Rattle.std.proofs.Common.{◌≡◌, sym, subst}
 use Rattle.dg_model.specs.declared.fault.Shown.TheVariants.{Size as SizeShown}
+use Rattle.dg_model.specs.declared.rule.Rule.{Rule}
 use Rattle.hw_sched.specs.declared.sizing.SizeFault.{SizeFault}
 use Rattle.hw_sched.specs.Answer.{timing_of}
 use Rattle.hw_sched.specs.Sizing.{IsSizeFault}
@@ -21,6 +22,6 @@ returns-in-Err-Size c =
     let made = c.too_large.ensures in
     let storage = c.in-Err-Size.storage-is in
     let latency = c.in-Err-Size.latency-is in
-    let same : c.too_large.result ≡ Bad 13 (SizeShown c.in-Err-Size.storage c.in-Err-Size.latency) = cc in
+    let same : c.too_large.result ≡ Bad Rule.Size (SizeShown c.in-Err-Size.storage c.in-Err-Size.latency) = cc in
     subst (λ (judged : Judged). IsJudged c.args.checked.now.diagram c.args.plan.now judged) (sym same)
     (is_too_large c.args.checked.now.diagram c.args.plan.now c.args.latencies.now c.args.slots c.requires.latencies c.requires.slots c.in-Err-Size.storage c.in-Err-Size.latency broken)
