@@ -23,20 +23,20 @@ pub fn hand_on(
     place: Place,
     port: u32,
     element: u32,
-) -> Result<Rule, OutOfMemory>
+) -> Rule
     requires hands { HandsOn checked.now.diagram (attributes_of checked.now.diagram) place port
         element }
     requires finds { Finds checked.now starts.now program.now.places }
     requires now { ReadsNow checked.now program.now.places k place.block }
     requires read { IsRead checked.now.diagram (attributes_of checked.now.diagram) place.block port
         element }
-    ensures { IfOk result (λ rule. IsMade checked.now.diagram (attributes_of checked.now.diagram)
-        program.now program.now k place rule) }
+    ensures { IsMade checked.now.diagram (attributes_of checked.now.diagram) program.now
+        program.now k place result }
 {
     let _ = k;
     let places = program.places.as_slice();
     let from = input(checked, starts, places, place.block, port, element);
-    Ok(Rule::Same { from })
+    Rule::Same { from }
 }
 
 /// The rule of a rate transition.
@@ -61,6 +61,6 @@ pub fn transition(
     if is_slower(slow, own) {
         slowed(checked, starts, program, k, place, block, initial, slow)
     } else {
-        hand_on(checked, starts, program, k, place, 1, place.element)
+        Ok(hand_on(checked, starts, program, k, place, 1, place.element))
     }
 }

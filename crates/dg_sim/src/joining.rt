@@ -1,5 +1,5 @@
 //! The rules of a Mux and of a Demux: which element of an input they hand on.
-ghost use Rattle.std.specs.Prelude.{◌≡◌, ◌≤◌, ◌<◌, ◌-◌, ◌^◌, ℕ, suc, map, sum, List, Some, slice_get, IfOk};
+ghost use Rattle.std.specs.Prelude.{◌≡◌, ◌≤◌, ◌<◌, ◌-◌, ◌^◌, ℕ, suc, map, sum, List, Some, slice_get};
 ghost use Rattle.dg_waves.specs.Rounds.{numbers_from};
 ghost use Rattle.dg_model.specs.Attributes.{attributes_of};
 ghost use Rattle.dg_model.specs.Signals.{Attributes};
@@ -16,7 +16,6 @@ use crate::handing::hand_on;
 use crate::program::{Place, Program, Rule};
 use crate::reading::{Starts, width_of_input, width_of_output};
 use dg_model::{Block, Checked};
-use fx_io::OutOfMemory;
 
 /// How many elements the first ports of a block have together.
 #[derive(Clone, Copy, Debug)]
@@ -142,15 +141,14 @@ pub fn joined(
     k: u32,
     place: Place,
     block: &Block,
-) -> Result<Rule, OutOfMemory>
+) -> Rule
     requires block { slice_get checked.now.diagram.blocks place.block ≡ Some block.now }
     requires kind { (sizes : List ℕ) × (block.now.kind ≡ Kind.Mux sizes) }
     requires turn { IsTurn checked.now starts.now program.now.places k place block.now }
     requires cursors { AreCursors checked.now.diagram
         (attributes_of checked.now.diagram) cursors.old }
-    ensures made { IfOk result (λ rule. IsMade checked.now.diagram
-        (attributes_of checked.now.diagram)
-        program.now program.now k place rule) }
+    ensures made { IsMade checked.now.diagram (attributes_of checked.now.diagram) program.now
+        program.now k place result }
     ensures cursors { AreCursors checked.now.diagram
         (attributes_of checked.now.diagram) cursors.new }
 {
@@ -181,15 +179,14 @@ pub fn parted(
     k: u32,
     place: Place,
     block: &Block,
-) -> Result<Rule, OutOfMemory>
+) -> Rule
     requires block { slice_get checked.now.diagram.blocks place.block ≡ Some block.now }
     requires kind { (sizes : List ℕ) × (block.now.kind ≡ Kind.Demux sizes) }
     requires turn { IsTurn checked.now starts.now program.now.places k place block.now }
     requires cursors { AreCursors checked.now.diagram
         (attributes_of checked.now.diagram) cursors.old }
-    ensures made { IfOk result (λ rule. IsMade checked.now.diagram
-        (attributes_of checked.now.diagram)
-        program.now program.now k place rule) }
+    ensures made { IsMade checked.now.diagram (attributes_of checked.now.diagram) program.now
+        program.now k place result }
     ensures cursors { AreCursors checked.now.diagram
         (attributes_of checked.now.diagram) cursors.new }
 {

@@ -38,20 +38,14 @@ pub fn stored(list: &[Decimal], element: u32, kind: FxType) -> i128
 }
 
 /// The rule of a block whose value never changes.
-fn fixed(
-    checked: &Checked,
-    program: &Program,
-    k: u32,
-    place: Place,
-    value: i128,
-) -> Result<Rule, OutOfMemory>
+fn fixed(checked: &Checked, program: &Program, k: u32, place: Place, value: i128) -> Rule
     requires { IsAlways checked.now.diagram (attributes_of checked.now.diagram) place value }
-    ensures { IfOk result (λ rule. IsMade checked.now.diagram (attributes_of checked.now.diagram)
-        program.now program.now k place rule) }
+    ensures { IsMade checked.now.diagram (attributes_of checked.now.diagram) program.now
+        program.now k place result }
 {
     let _ = (checked.order().len(), program.cells.as_slice().len(), k);
     let _ = place;
-    Ok(Rule::Fixed { value })
+    Rule::Fixed { value }
 }
 
 /// The rule of a Constant.
@@ -62,13 +56,13 @@ fn constant(
     place: Place,
     block: &Block,
     value: &[Decimal],
-) -> Result<Rule, OutOfMemory>
+) -> Rule
     requires block { slice_get checked.now.diagram.blocks place.block ≡ Some block.now }
     requires kind { block.now.kind ≡ Kind.Constant value.now }
     requires shown { IsShown checked.now.diagram (attributes_of checked.now.diagram) place.block
         block.now place.port place.element }
-    ensures { IfOk result (λ rule. IsMade checked.now.diagram (attributes_of checked.now.diagram)
-        program.now program.now k place rule) }
+    ensures { IsMade checked.now.diagram (attributes_of checked.now.diagram) program.now
+        program.now k place result }
 {
     operations_prepare();
     checked.keeps_rules();
@@ -86,15 +80,15 @@ fn from_row(
     place: Place,
     block: &Block,
     number: u32,
-) -> Result<Rule, OutOfMemory>
+) -> Rule
     requires roots { roots.now
         ≡ roots_of (root_inputs checked.now.diagram (attributes_of checked.now.diagram)) }
     requires block { slice_get checked.now.diagram.blocks place.block ≡ Some block.now }
     requires shown { IsShown checked.now.diagram (attributes_of checked.now.diagram) place.block
         block.now place.port place.element }
     requires kind { (width : ℕ) × (block.now.kind ≡ Kind.Inport number width) }
-    ensures { IfOk result (λ rule. IsMade checked.now.diagram (attributes_of checked.now.diagram)
-        program.now program.now k place rule) }
+    ensures { IsMade checked.now.diagram (attributes_of checked.now.diagram) program.now
+        program.now k place result }
 {
     checked.keeps_rules();
     dg_model::root_elements_are_listed();
@@ -106,7 +100,7 @@ fn from_row(
         element: place.element,
     };
     let column = find_root(roots, root);
-    Ok(Rule::Input { column })
+    Rule::Input { column }
 }
 
 /// The rule for an entry, with what the program needs for it.
@@ -139,14 +133,16 @@ pub fn rule_of(
     let block = &checked.diagram().blocks.as_slice()[place.block as usize];
     match &block.kind {
         Kind::Inport { number, .. } => {
-            from_row(checked, roots, program, k, place, block, *number)
+            Ok(from_row(checked, roots, program, k, place, block, *number))
         }
-        Kind::Outport { .. } => hand_on(checked, starts, program, k, place, 1, place.element),
-        Kind::Pass { .. } => hand_on(checked, starts, program, k, place, 1, place.element),
-        Kind::Constant { value } => constant(checked, program, k, place, block, value.as_slice()),
-        Kind::Ground => fixed(checked, program, k, place, 0),
-        Kind::Mux { .. } => joined(checked, starts, cursors, program, k, place, block),
-        Kind::Demux { .. } => parted(checked, starts, cursors, program, k, place, block),
+        Kind::Outport { .. } => Ok(hand_on(checked, starts, program, k, place, 1, place.element)),
+        Kind::Pass { .. } => Ok(hand_on(checked, starts, program, k, place, 1, place.element)),
+        Kind::Constant { value } => {
+            Ok(constant(checked, program, k, place, block, value.as_slice()))
+        }
+        Kind::Ground => Ok(fixed(checked, program, k, place, 0)),
+        Kind::Mux { .. } => Ok(joined(checked, starts, cursors, program, k, place, block)),
+        Kind::Demux { .. } => Ok(parted(checked, starts, cursors, program, k, place, block)),
         Kind::RateTransition { initial, .. } => {
             transition(
                 checked,
