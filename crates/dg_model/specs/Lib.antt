@@ -6,6 +6,7 @@ pub mod Faults
 pub mod GainParam
 pub mod Hits
 pub mod Instant
+pub mod Joined
 pub mod KindRow
 pub mod LatencyEdges
 pub mod Laws

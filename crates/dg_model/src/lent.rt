@@ -12,13 +12,9 @@ pub enum Shape<'a> {
     /// Element by element, where one of a single element is repeated.
     Elementwise,
     /// Its inputs end to end, of these sizes where the list isn't empty.
-    Joined {
-        sizes: &'a [u32],
-    },
+    Joined { sizes: &'a [u32] },
     /// The parts of its input, of these sizes; of zeros alone, as even as can be.
-    Parted {
-        sizes: &'a [u32],
-    },
+    Parted { sizes: &'a [u32] },
     /// One element from all of its input.
     Single,
 }

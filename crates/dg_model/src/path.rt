@@ -1,5 +1,7 @@
 ghost use Rattle.std.specs.Prelude.{◌≡◌, ◌++◌, codes, IfOk, OnOk};
 ghost use Rattle.std.specs.Arc.{arc_value};
+ghost use Rattle.std.specs.Option.{option_copied};
+ghost use Rattle.dg_model.specs.Joined.{joined};
 
 use fx_io::{OutOfMemory, Text};
 use std::alloc::Global;
@@ -60,6 +62,19 @@ impl Path {
     {
         let around = Some(Arc::try_clone(&system.path)?);
         Ok(Path { around, name })
+    }
+
+    /// The path of the System around it, where it has one, and its name in there.
+    pub fn split(&self) -> (Option<&Path>, &[u8])
+        ensures { self.now ≡ joined (option_copied result.0) result.1.now }
+    {
+        match &self.around {
+            Some(around) => {
+                let around: &Path = around;
+                (Some(around), self.name.bytes())
+            }
+            None => (None, self.name.bytes()),
+        }
     }
 
     /// Appends the bytes of the whole path.

@@ -9,17 +9,11 @@ use fx_type::FxType;
 #[derive(Clone, Copy, Debug, PartialEq, Eq)]
 pub enum Role {
     /// The root input port of this number.
-    RootInput {
-        number: u32,
-    },
+    RootInput { number: u32 },
     /// The root output port of this number.
-    RootOutput {
-        number: u32,
-    },
+    RootOutput { number: u32 },
     /// An inner port of this declared width, 0 where it declares none.
-    InnerPort {
-        width: u32,
-    },
+    InnerPort { width: u32 },
     /// An output port of an enabled subsystem.
     EnabledOutput,
     /// The control of an enabled subsystem.
@@ -76,9 +70,7 @@ pub enum OwnType {
     /// None.
     Untyped,
     /// Always this one.
-    Always {
-        kind: FxType,
-    },
+    Always { kind: FxType },
     /// That of input 1.
     OfInput,
 }

@@ -1,5 +1,5 @@
 -- The tight edges of a diagram's latencies are followed back.
-use Rattle.std.proofs.Common.{◌≡◌, ℕ, ◌+◌, ◌<◌, List, [], ◌∷◌, length, None, Some, subst, arith}
+use Rattle.std.proofs.Common.{◌≡◌, ℕ, ◌+◌, ◌<◌, List, [], ◌∷◌, length, drop, None, Some, subst, arith, length-drop}
 use Rattle.std.specs.Prelude.{All, slice_get, slice_index_or}
 use Rattle.std.proofs.lemmas.Option.{slice_get-get_or}
 use Rattle.dg_model.specs.declared.diagram.Diagram.{Diagram}
@@ -45,3 +45,10 @@ module _ (diagram : Diagram) (plan : Resolved) (latencies : Latencies) (end : �
 
   pub follow_there : (block : ℕ) (path : List ℕ) → Follows diagram plan latencies end block path → All (λ other. other < length diagram.blocks) path
   follow_there block path way = λ k d below. let is = way are.tight in is.there k (slice_index_or path k d) (slice_get-get_or path k d below)
+
+  -- where a way fills a room from its end, there is room for one more
+  pub follow_room : (block start : ℕ) (room : List ℕ) → Follows diagram plan latencies end block (block ∷ drop start room) → length room ≡ length diagram.blocks → start < length room → 0 < start
+  follow_room block start room way size within =
+      let short = follow_short block (block ∷ drop start room) way in
+      let left = length-drop start room in
+      omega (arith, short, size, within, left)

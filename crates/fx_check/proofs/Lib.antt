@@ -1,8 +1,10 @@
 mod Fewer
 mod Followed
+mod Handing
 mod Lines
 mod Listing
-mod Ports
+mod Rooms
 mod Sources
+mod Spelling
 mod Ways
 mod Whole

@@ -4,21 +4,14 @@ use Rattle.std.specs.List.{flat_map}
 use Rattle.std.proofs.lemmas.List.{append_assoc, append-nil}
 use Rattle.dg_waves.specs.Rounds.{numbers_from}
 
-number_more : (f : ℕ → List ℕ) (from n : ℕ) → flat_map f (numbers_from from (suc n)) ≡ flat_map f (numbers_from from n) ++ f (from + n)
+pub number_more : (f : ℕ → List ℕ) (from n : ℕ) → flat_map f (numbers_from from (suc n)) ≡ flat_map f (numbers_from from n) ++ f (from + n)
 number_more f from zero = let e : from ≡ from + 0 = omega arith in append-nil (f from) ∙ ap f e
 number_more f from (suc n) =
     let e : suc from + n ≡ from + suc n = omega arith in
     ap (λ (rest : List ℕ). f from ++ rest) (number_more f (suc from) n ∙ ap (λ (k : ℕ). flat_map f (numbers_from (suc from) n) ++ f k) e)
     ∙ sym (append_assoc (f from) (flat_map f (numbers_from (suc from) n)) (f (from + suc n)))
 
--- the next of numbered lines
-pub numbered_more : (f : ℕ → List ℕ) (from n next : ℕ) (old text new : List ℕ) → text ≡ old ++ flat_map f (numbers_from from n) → next ≡ from + n → new ≡ text ++ f next → new ≡ old ++ flat_map f (numbers_from from (n + 1))
-numbered_more f from n next old text new is next_is more =
-    let one : n + 1 ≡ suc n = omega arith in
-    more ∙ ap (λ (front : List ℕ). front ++ f next) is ∙ append_assoc old (flat_map f (numbers_from from n)) (f next)
-    ∙ ap (λ (rest : List ℕ). old ++ rest) (ap (λ (k : ℕ). flat_map f (numbers_from from n) ++ f k) next_is ∙ sym (number_more f from n) ∙ sym (ap (λ (k : ℕ). flat_map f (numbers_from from k)) one))
-
-append_map : {A : Type 0} (f : A → List ℕ) (xs : List A) (x : A) → flat_map f (xs ++ x ∷ []) ≡ flat_map f xs ++ f x
+pub append_map : {A : Type 0} (f : A → List ℕ) (xs : List A) (x : A) → flat_map f (xs ++ x ∷ []) ≡ flat_map f xs ++ f x
 append_map f [] x = append-nil (f x)
 append_map f (y ∷ xs) x = ap (λ (rest : List ℕ). f y ++ rest) (append_map f xs x) ∙ sym (append_assoc (f y) (flat_map f xs) (f x))
 
@@ -26,10 +19,3 @@ append_map f (y ∷ xs) x = ap (λ (rest : List ℕ). f y ++ rest) (append_map f
 pub line_more : {A : Type 0} (f : A → List ℕ) (xs : List A) (x : A) (old text new : List ℕ) → text ≡ old ++ flat_map f xs → new ≡ text ++ f x → new ≡ old ++ flat_map f (xs ++ x ∷ [])
 line_more f xs x old text new is more =
     more ∙ ap (λ (front : List ℕ). front ++ f x) is ∙ append_assoc old (flat_map f xs) (f x) ∙ ap (λ (rest : List ℕ). old ++ rest) (sym (append_map f xs x))
-
--- two pieces are added, and three
-pub two_added : (a b old one new : List ℕ) → one ≡ old ++ a → new ≡ one ++ b → new ≡ old ++ (a ++ b)
-two_added a b old one new one_is new_is = new_is ∙ ap (λ (text : List ℕ). text ++ b) one_is ∙ append_assoc old a b
-
-pub three_added : (a b c old one two new : List ℕ) → one ≡ old ++ a → two ≡ one ++ b → new ≡ two ++ c → new ≡ old ++ ((a ++ b) ++ c)
-three_added a b c old one two new one_is two_is new_is = two_added (a ++ b) c old two new (two_added a b old one two one_is two_is) new_is

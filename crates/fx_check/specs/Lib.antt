@@ -1,3 +1,5 @@
 pub mod CheckText
+pub mod Gathered
+pub mod Handed
 pub mod Paths
 pub mod inner

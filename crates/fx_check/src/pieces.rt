@@ -1,62 +1,63 @@
 //! Pieces of lines.
-ghost use Rattle.std.specs.Prelude.{◌≡◌, ◌++◌, OnOk};
-ghost use Rattle.fx_check.specs.CheckText.{named, num_text, period_text, type_text};
+ghost use Rattle.std.specs.Prelude.{◌≡◌};
+ghost use Rattle.fx_check.specs.CheckText.{named, num_front, num_text, period_text, type_text};
+ghost use Rattle.fx_check.specs.Handed.{Adds};
 
-use fx_io::OutOfMemory;
+use crate::pending::{Pending, put};
+use fx_io::Sink;
 use fx_type::FxType;
 use itoa::Buffer;
 
-/// Adds bytes.
-pub fn push(text: &mut Vec<u8>, bytes: &[u8]) -> Result<(), OutOfMemory>
-    ensures { OnOk result (text.new.items ≡ text.old.items ++ bytes.now) }
-{
-    text.extend_from_slice(bytes)?;
-    Ok(())
-}
-
-/// Adds a number in decimal behind its word.
-#[tactic(auto, unfolding(crate::specs::CheckText::named))]
-pub fn push_named(text: &mut Vec<u8>, word: &[u8], number: u64) -> Result<(), OutOfMemory>
-    ensures { OnOk result (text.new.items ≡ text.old.items ++ named word.now number) }
+/// Puts a number in decimal behind its word.
+pub fn put_named<K: Sink>(out: &mut K, pending: &mut Pending, word: &[u8], number: u64)
+    ensures { Adds K.taken K.faults out.old pending.old out.new pending.new
+        (named word.now number) }
 {
     let mut digits = Buffer::new();
-    push(text, word)?;
-    push(text, digits.format(number).as_bytes())
+    put(out, pending, word);
+    put(out, pending, digits.format(number).as_bytes());
 }
 
-/// Adds a period.
-#[tactic(auto, unfolding(crate::specs::CheckText::period_text))]
-pub fn push_period(text: &mut Vec<u8>, period: Option<u32>) -> Result<(), OutOfMemory>
-    ensures { OnOk result (text.new.items ≡ text.old.items ++ period_text period) }
+/// Puts a period.
+pub fn put_period<K: Sink>(out: &mut K, pending: &mut Pending, period: Option<u32>)
+    ensures { Adds K.taken K.faults out.old pending.old out.new pending.new
+        (period_text period) }
 {
     match period {
-        Some(period) => push_named(text, b" period ", u64::from(period)),
-        None => push(text, b" period inf"),
+        Some(period) => put_named(out, pending, b" period ", u64::from(period)),
+        None => put(out, pending, b" period inf"),
     }
 }
 
-/// Adds the type of a number.
-fn push_num(text: &mut Vec<u8>, signed: bool, width: u8, frac: i16) -> Result<(), OutOfMemory>
-    ensures { OnOk result (text.new.items ≡ text.old.items ++ num_text signed width frac) }
+/// What the type of a number begins with.
+fn front_of(signed: bool) -> &'static [u8]
+    ensures { result.now ≡ num_front signed }
 {
-    let mut digits = Buffer::new();
-    let front: &[u8] = if signed { b" fixdt(1," } else { b" fixdt(0," };
-    push_named(text, front, u64::from(width))?;
-    push(text, b",")?;
-    push(text, digits.format(frac).as_bytes())?;
-    push(text, b")")
+    if signed { b" fixdt(1," } else { b" fixdt(0," }
 }
 
-/// Adds a type.
-pub fn push_type(text: &mut Vec<u8>, own: FxType) -> Result<(), OutOfMemory>
-    ensures { OnOk result (text.new.items ≡ text.old.items ++ type_text own) }
+/// Puts the type of a number.
+fn put_num<K: Sink>(out: &mut K, pending: &mut Pending, signed: bool, width: u8, frac: i16)
+    ensures { Adds K.taken K.faults out.old pending.old out.new pending.new
+        (num_text signed width frac) }
+{
+    let mut digits = Buffer::new();
+    put_named(out, pending, front_of(signed), u64::from(width));
+    put(out, pending, b",");
+    put(out, pending, digits.format(frac).as_bytes());
+    put(out, pending, b")");
+}
+
+/// Puts a type.
+pub fn put_type<K: Sink>(out: &mut K, pending: &mut Pending, own: FxType)
+    ensures { Adds K.taken K.faults out.old pending.old out.new pending.new (type_text own) }
 {
     match own {
         FxType::Num {
             signed,
             width,
             frac,
-        } => push_num(text, signed, width, frac),
-        FxType::Logical => push(text, b" boolean"),
+        } => put_num(out, pending, signed, width, frac),
+        FxType::Logical => put(out, pending, b" boolean"),
     }
 }

@@ -1,142 +1,149 @@
-//! The text.
-ghost use Rattle.std.specs.Prelude.{◌≡◌, ◌++◌, ◌+◌, ◌<◌, IfOk, OnOk, Some, length, slice_get};
+//! The lines of blocks, and the whole text.
+ghost use Rattle.std.specs.Prelude.{◌≡◌, ◌+◌, ◌<◌, Some, length, slice_get};
 ghost use Rattle.hw_rules.specs.Times.{AreTimes, timing_in};
-ghost use Rattle.fx_check.specs.CheckText.{IsCheckText, begun_block, block_line, blocks_text, front_text, port_text, ports_text};
+ghost use Rattle.fx_check.specs.CheckText.{begun_block, block_line, blocks_text, front_text, port_text, ports_text};
+ghost use Rattle.fx_check.specs.Handed.{Adds};
+ghost use Rattle.fx_check.specs.Gathered.{IsGathered, WritesCheck};
 
-use crate::outputs::push_outputs;
-use crate::pieces::{push, push_named, push_period, push_type};
+use crate::gathering::Gathered;
+use crate::outputs::put_outputs;
+use crate::pending::{Pending, none_pending, put, put_last};
+use crate::pieces::{put_named, put_period, put_type};
+use crate::quoting::put_path;
 use dg_model::{Block, Checked, Path, Resolved};
-use dg_sim::output_blocks;
-use fx_io::{OutOfMemory, Text};
-use fx_model::push_path;
+use fx_io::{PutFault, Sink};
 use hw_latency::block_at;
-use hw_names::port_names;
 use hw_rules::Planned;
-use std::alloc::Global;
 
-/// Adds the type and the width of an output port of a block.
-fn push_port(
-    text: &mut Vec<u8>,
+/// Puts the type and the width of an output port of a block.
+fn put_port<K: Sink>(
+    out: &mut K,
+    pending: &mut Pending,
     checked: &Checked,
     place: u32,
     block: &Block,
     port: u32,
-) -> Result<(), OutOfMemory>
+)
     requires is { slice_get checked.now.diagram.blocks place ≡ Some block.now }
     requires there { port < block.now.outputs }
-    ensures { OnOk result (text.new.items
-        ≡ text.old.items ++ port_text checked.now.diagram place (port + 1)) }
+    ensures { Adds K.taken K.faults out.old pending.old out.new pending.new
+        (port_text checked.now.diagram place (port + 1)) }
 {
     checked.keeps_rules();
     let width = checked.width(place, port + 1);
-    push_type(text, checked.result(place))?;
-    push_named(text, b" ", u64::from(width))?;
-    Ok(())
+    put_type(out, pending, checked.result(place));
+    put_named(out, pending, b" ", u64::from(width));
 }
 
-/// Adds those of all output ports of a block.
-fn push_ports(
-    text: &mut Vec<u8>,
+/// Puts those of all output ports of a block.
+fn put_ports<K: Sink>(
+    out: &mut K,
+    pending: &mut Pending,
     checked: &Checked,
     place: u32,
     block: &Block,
-) -> Result<(), OutOfMemory>
+)
     requires is { slice_get checked.now.diagram.blocks place ≡ Some block.now }
-    ensures { OnOk result (text.new.items
-        ≡ text.old.items ++ ports_text checked.now.diagram place block.now.outputs) }
+    ensures { Adds K.taken K.faults out.old pending.old out.new pending.new
+        (ports_text checked.now.diagram place block.now.outputs) }
 {
     for port in 0..block.outputs {
-        push_port(text, checked, place, block, port)?;
+        put_port(out, pending, checked, place, block, port);
     }
-    Ok(())
 }
 
-/// Adds the path, the period and the latency of a block.
-#[tactic(auto, unfolding(crate::specs::CheckText::begun_block))]
-fn push_begun(
-    text: &mut Vec<u8>,
+/// Puts the path, the period and the latency of a block.
+fn put_begun<K: Sink>(
+    out: &mut K,
+    pending: &mut Pending,
     path: &Path,
     period: Option<u32>,
     latency: u64,
-) -> Result<(), OutOfMemory>
-    ensures { OnOk result (text.new.items
-        ≡ text.old.items ++ begun_block path.now period latency) }
+)
+    ensures { Adds K.taken K.faults out.old pending.old out.new pending.new
+        (begun_block path.now period latency) }
 {
-    push(text, b"block ")?;
-    push_path(text, path)?;
-    push_period(text, period)?;
-    push_named(text, b" latency ", latency)
+    put(out, pending, b"block ");
+    put_path(out, pending, path);
+    put_period(out, pending, period);
+    put_named(out, pending, b" latency ", latency);
 }
 
-/// Adds the line of a block.
-#[tactic(auto, unfolding(crate::specs::CheckText::block_line))]
-fn push_block(
-    text: &mut Vec<u8>,
+/// Puts the line of a block.
+fn put_block<K: Sink>(
+    out: &mut K,
+    pending: &mut Pending,
     checked: &Checked,
     planned: &Planned,
     place: u32,
-) -> Result<(), OutOfMemory>
+)
     requires size { length planned.now.times.latencies.lat ≡ length checked.now.diagram.blocks }
     requires there { place < length checked.now.diagram.blocks }
-    ensures { OnOk result (text.new.items
-        ≡ text.old.items ++ block_line checked.now.diagram (timing_in planned.now.times) place) }
+    ensures { Adds K.taken K.faults out.old pending.old out.new pending.new
+        (block_line checked.now.diagram (timing_in planned.now.times) place) }
 {
     let block = block_at(checked, place);
     let latency = planned.times.latencies.lat.as_slice()[place as usize];
-    push_begun(text, &block.path, checked.period(place), latency)?;
-    push_ports(text, checked, place, block)?;
-    push(text, b"\n")
+    put_begun(out, pending, &block.path, checked.period(place), latency);
+    put_ports(out, pending, checked, place, block);
+    put(out, pending, b"\n");
 }
 
-/// Adds the lines of all blocks.
-fn push_blocks(text: &mut Vec<u8>, checked: &Checked, planned: &Planned) -> Result<(), OutOfMemory>
+/// Puts the lines of all blocks.
+fn put_blocks<K: Sink>(out: &mut K, pending: &mut Pending, checked: &Checked, planned: &Planned)
     requires size { length planned.now.times.latencies.lat ≡ length checked.now.diagram.blocks }
-    ensures { OnOk result (text.new.items
-        ≡ text.old.items ++ blocks_text checked.now.diagram (timing_in planned.now.times)) }
+    ensures { Adds K.taken K.faults out.old pending.old out.new pending.new
+        (blocks_text checked.now.diagram (timing_in planned.now.times)) }
 {
     checked.keeps_rules();
     for place in 0..checked.diagram().blocks.as_slice().len() {
-        push_block(text, checked, planned, place as u32)?;
+        put_block(out, pending, checked, planned, place as u32);
     }
-    Ok(())
 }
 
-/// Adds the line of the plan.
-fn push_front(text: &mut Vec<u8>, plan: &Resolved) -> Result<(), OutOfMemory>
-    ensures { OnOk result (text.new.items ≡ text.old.items ++ front_text plan.now) }
+/// Puts the line of the plan.
+fn put_head<K: Sink>(out: &mut K, pending: &mut Pending, plan: &Resolved)
+    ensures { Adds K.taken K.faults out.old pending.old out.new pending.new
+        (front_text plan.now) }
 {
-    push_named(text, b"accepted cycles ", u64::from(plan.cycles))?;
-    push_named(text, b" multipliers ", u64::from(plan.multipliers))?;
-    push(text, b"\n")?;
-    Ok(())
+    put_named(out, pending, b"accepted cycles ", u64::from(plan.cycles));
+    put_named(out, pending, b" multipliers ", u64::from(plan.multipliers));
+    put(out, pending, b"\n");
 }
 
-/// What is worked out of a checked diagram by a plan that keeps the rules: a line for each block, and
-/// a line for each element of the root outputs with a path that makes it so late.
+/// Puts what is worked out of a checked diagram by a plan that keeps the rules: a line for each
+/// block, and a line for each element of the root outputs with a path that makes it so late. It
+/// takes no memory, so that what was put is the whole text, or a part of it after a fault.
 ///
 /// # Errors
-/// Want of memory.
-pub fn check_text(alloc: Global, checked: &Checked, planned: &Planned) -> Result<Text, OutOfMemory>
+/// A fault of the sink.
+pub fn put_check<K: Sink>(
+    out: &mut K,
+    checked: &Checked,
+    planned: &Planned,
+    mut gathered: Gathered,
+) -> Result<(), PutFault>
     requires times { AreTimes checked.now.diagram planned.now.resolved planned.now.times }
-    ensures { IfOk result (IsCheckText checked.now.diagram planned.now.resolved
-        (timing_in planned.now.times)) }
+    requires gathered { IsGathered checked.now.diagram planned.now.resolved
+        (timing_in planned.now.times) gathered }
+    ensures { WritesCheck checked.now.diagram planned.now.resolved
+        (timing_in planned.now.times) K.taken K.faults out.old out.new result }
 {
     checked.keeps_rules();
     dg_model::root_elements_are_listed();
-    let names = port_names(alloc, checked)?;
-    let outputs = output_blocks(alloc, checked)?;
-    let first = names.as_slice().len() - outputs.as_slice().len();
-    let mut text = Vec::new(alloc);
-    push_front(&mut text, &planned.resolved)?;
-    push_blocks(&mut text, checked, planned)?;
-    push_outputs(
-        alloc,
-        &mut text,
+    let mut pending = none_pending();
+    put_head(out, &mut pending, &planned.resolved);
+    put_blocks(out, &mut pending, checked, planned);
+    let first = gathered.names.as_slice().len() - gathered.outputs.as_slice().len();
+    put_outputs(
+        out,
+        &mut pending,
         checked,
         planned,
-        &names.as_slice()[first..],
-        outputs.as_slice(),
-    )?;
-    let text = Text::from_vec(alloc, text)?;
-    Ok(text)
+        &gathered.names.as_slice()[first..],
+        gathered.outputs.as_slice(),
+        gathered.clocks.as_slice(),
+        &mut gathered.room,
+    );
+    put_last(out, &mut pending)
 }

@@ -1,3 +1,4 @@
+mod Plain
 pub mod Refused
 mod OneVerdict
 mod SomeVerdict

@@ -1,8 +1,8 @@
 //! The line that tells a broken rule.
-ghost use Rattle.std.specs.Prelude.{◌≡◌, ◌++◌, [], IfOk, OnOk, map, slice_index_or};
+ghost use Rattle.std.specs.Prelude.{◌≡◌, ◌≤◌, [], ◌∷◌, ◌++◌, IfOk, IsTrue, OnOk, length, map, slice_index_or, take};
 ghost use Rattle.std.specs.Fmt.{decimal, signed_decimal};
 ghost use Rattle.std.specs.List.{flat_map};
-ghost use Rattle.fx_model.specs.RuleLine.{control_byte, cycle_text, period_text, place_text, quoted_byte, quoted_path, rule_line, shown_text};
+ghost use Rattle.fx_model.specs.RuleLine.{cycle_text, period_text, place_text, quoted_byte, quoted_path, rule_line, shown_text};
 
 use dg_model::{Block, Path, RuleFault, Shown};
 use fx_io::{OutOfMemory, Text};
@@ -80,27 +80,50 @@ fn push_escaped(line: &mut Vec<u8>, path: &[u8]) -> Result<(), OutOfMemory>
 /// The digits of numbers in base sixteen.
 const HEX_DIGITS: &[u8; 16] = b"0123456789abcdef";
 
-/// Adds a control byte by its number.
-fn push_control(line: &mut Vec<u8>, byte: u8) -> Result<(), OutOfMemory>
-    ensures { OnOk result (line.new.items ≡ line.old.items ++ control_byte byte) }
+/// Whether a byte of a name stands between quotes as it is.
+fn is_plain(byte: u8) -> bool
+    ensures { IsTrue result → quoted_byte byte ≡ byte ∷ [] }
 {
-    let high = HEX_DIGITS[usize::from(byte / 16)];
-    let low = HEX_DIGITS[usize::from(byte % 16)];
-    push(line, &[b'\\', b'x', high, low])
+    byte >= 32 && byte != 127 && byte != b'"' && byte != b'\\'
+}
+
+/// How many bytes of a name, from the first on, stand between quotes as they are.
+#[tactic(auto, using(crate::proofs::Plain::plain_more))]
+pub fn plain_front(name: &[u8]) -> usize
+    ensures within { result ≤ length name.now }
+    ensures plain { flat_map quoted_byte (take result name.now) ≡ take result name.now }
+{
+    let mut count = 0;
+    while count < name.len() && is_plain(name[count]) {
+        count += 1;
+    }
+    count
+}
+
+/// A byte of a name as it stands between quotes: the first bytes of these, and how many.
+pub fn quoted(byte: u8) -> ([u8; 4], usize)
+    ensures within { result.1 ≤ 4 }
+    ensures is { take result.1 result.0 ≡ quoted_byte byte }
+{
+    match byte {
+        b'\n' => ([b'\\', b'n', 0, 0], 2),
+        b'\t' => ([b'\\', b't', 0, 0], 2),
+        b'"' | b'\\' => ([b'\\', byte, 0, 0], 2),
+        0..=31 | 127 => {
+            let high = HEX_DIGITS[usize::from(byte / 16)];
+            let low = HEX_DIGITS[usize::from(byte % 16)];
+            ([b'\\', b'x', high, low], 4)
+        }
+        _ => ([byte, 0, 0, 0], 1),
+    }
 }
 
 /// Adds a byte of a name as it stands between quotes.
 fn push_byte(line: &mut Vec<u8>, byte: u8) -> Result<(), OutOfMemory>
     ensures { OnOk result (line.new.items ≡ line.old.items ++ quoted_byte byte) }
 {
-    match byte {
-        b'\n' => push(line, b"\\n"),
-        b'\t' => push(line, b"\\t"),
-        b'"' => push(line, b"\\\""),
-        b'\\' => push(line, b"\\\\"),
-        0..=31 | 127 => push_control(line, byte),
-        _ => push(line, &[byte]),
-    }
+    let (bytes, count) = quoted(byte);
+    push(line, &bytes[..count])
 }
 
 /// Adds the place of a broken rule.

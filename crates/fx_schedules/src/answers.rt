@@ -67,7 +67,13 @@ fn scheduled<W: Write>(alloc: Global, checked: &Checked, plan: &Resolved, out: &
             put_schedule(alloc, checked, plan, &latencies, out)
         }
         Err(LatencyFault::Cycle { blocks, total }) => {
-            put_model_fault(alloc, Rule::Latency, Shown::Latency { blocks, total }, checked, out)
+            put_model_fault(
+                alloc,
+                Rule::Latency,
+                Shown::Latency { blocks, total },
+                checked,
+                out,
+            )
         }
         Err(LatencyFault::OutOfMemory) => Err(anyhow!("out of memory")),
     }

@@ -147,7 +147,13 @@ fn put_size<W: Write>(
             Ok(())
         }
         Err(SizeFault::Size { storage, latency }) => {
-            put_model_fault(alloc, Rule::Size, Shown::Size { storage, latency }, checked, out)
+            put_model_fault(
+                alloc,
+                Rule::Size,
+                Shown::Size { storage, latency },
+                checked,
+                out,
+            )
         }
         Err(SizeFault::OutOfMemory) => Err(anyhow!("out of memory")),
     }

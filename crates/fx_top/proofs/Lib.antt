@@ -5,6 +5,7 @@ mod DelayDiagram
 mod DelayModel
 mod DelayModule
 pub mod Elements
+pub mod Found
 pub mod Header
 pub mod Lines
 pub mod Loop

@@ -1,30 +1,47 @@
-ghost use Rattle.std.specs.Prelude.{IfErr, IfOk};
+ghost use Rattle.std.specs.Prelude.{◌≡◌, IfErr, IfOk, OnErr, OnOk};
 ghost use Rattle.fx_designed.specs.Refused.{IsRefusedDesign};
 ghost use Rattle.fx_top.specs.Call.{files_in, stream_in};
 ghost use Rattle.fx_top.specs.Caused.{HasCause, HasWritten};
-ghost use Rattle.fx_top.specs.CheckedText.{IsCheckOf};
+ghost use Rattle.fx_top.specs.CheckedText.{IsFoundOf, IsReady, TookCheck, TookPartOfCheck};
 ghost use Rattle.fx_top.specs.Command.{Check, plan_word};
 
 use crate::answer::Answer;
 use crate::fetch::{fetch_file, fetch_plan};
-use fx_check::check_text;
-use fx_designed::{DesignFault, designed_of};
-use fx_io::{OutOfMemory, Shelf, Sink, Text, put_all};
+use fx_check::{Gathered, gather, put_check};
+use fx_designed::{DesignFault, Designed, designed_of};
+use fx_io::{OutOfMemory, PutFault, Shelf, Sink};
 use std::alloc::Global;
 
-/// The text of what is worked out of the bytes of a model and of a plan; no bytes are the empty plan.
-fn checked_text_of(alloc: Global, model: &[u8], plan: &[u8]) -> Result<Text, DesignFault>
-    ensures made { IfOk result (IsCheckOf model.now plan.now) }
+/// The design of a model by a plan, with all that its text needs memory for (own).
+#[derive(Drop)]
+pub struct Found {
+    designed: Designed,
+    gathered: Gathered,
+}
+
+/// What is found of the bytes of a model and of a plan; no bytes are the empty plan.
+fn found_of(alloc: Global, model: &[u8], plan: &[u8]) -> Result<Found, DesignFault>
+    ensures found { IfOk result (IsFoundOf model.now plan.now) }
     ensures refused { IfErr result (IsRefusedDesign model.now plan.now) }
 {
     let designed = match designed_of(alloc, model, plan) {
         Ok(designed) => designed,
         Err(fault) => return Err(fault),
     };
-    match check_text(alloc, &designed.checked, &designed.planned) {
-        Ok(text) => Ok(text),
+    match gather(alloc, &designed.checked, &designed.planned) {
+        Ok(gathered) => Ok(Found { designed, gathered }),
         Err(OutOfMemory) => Err(DesignFault::OutOfMemory),
     }
+}
+
+/// Puts the text of what is found, which takes no memory.
+fn put_found<K: Sink>(out: &mut K, found: Found) -> Result<(), PutFault>
+    requires { IsReady found }
+    ensures whole { OnOk result (TookCheck found K.taken out.old out.new) }
+    ensures cut { OnErr result (TookPartOfCheck found K.taken K.faults out.old out.new) }
+{
+    let Found { designed, gathered } = found;
+    put_check(out, &designed.checked, &designed.planned, gathered)
 }
 
 /// Writes what is worked out of a model by a plan.
@@ -48,8 +65,8 @@ pub fn check<'a, S: Shelf, K: Sink>(
         Ok(lines) => lines,
         Err(answer) => return answer,
     };
-    let text = match checked_text_of(alloc, source.bytes(), lines.bytes()) {
-        Ok(text) => text,
+    let found = match found_of(alloc, source.bytes(), lines.bytes()) {
+        Ok(found) => found,
         Err(DesignFault::NotMdl { line }) => return Answer::NotMdl { file: model, line },
         Err(DesignFault::BreaksRule { line }) => return Answer::BreaksRule { line },
         Err(DesignFault::BadPlan { line, cause }) => {
@@ -61,7 +78,7 @@ pub fn check<'a, S: Shelf, K: Sink>(
         }
         Err(DesignFault::OutOfMemory) => return Answer::OutOfMemory,
     };
-    match put_all(out, text.bytes()) {
+    match put_found(out, found) {
         Ok(()) => Answer::Done,
         Err(_) => Answer::CannotWrite,
     }

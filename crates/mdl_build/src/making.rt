@@ -203,7 +203,9 @@ impl<'a> Maker<'a> {
                 Ok(block)
             }
             Reading::Wrong(name) => {
-                let fault = self.known.broken_at(alloc, Rule::Parameter, place, name.as_bytes())?;
+                let fault = self
+                    .known
+                    .broken_at(alloc, Rule::Parameter, place, name.as_bytes())?;
                 Err(CheckFault::Broken(fault))
             }
         }

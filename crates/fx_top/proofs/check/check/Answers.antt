@@ -7,6 +7,7 @@ use Rattle.fx_top.specs.Call.{files_in, stream_in}
 use Rattle.fx_top.specs.Command.{Check, plan_word}
 use Rattle.fx_top.specs.Output.{IsPlanText}
 use Rattle.fx_top.proofs.Planning.{fetched-planned, plan-bad, plan-moved, plan-rule, plan-unfetched, plan-unwritten}
+use Rattle.fx_top.proofs.Found.{check-of}
 use Rattle.fx_top.proofs.Told.{checks}
 use Rattle.fx_top.proofs.check.check.Goals as goal
 
@@ -52,12 +53,47 @@ returns-in-Err-BadPlan-clause-cause g c =
       plan-bad (files_in g.S.Shelf.held g.S.Shelf.steady g.S.Shelf.faults g.S.Shelf.overlong c.args.shelf.now c.fetch_plan.new.shelf) (Check c.args.model.now (plan_word c.args.plan.now)) c.args.model.now c.args.plan.now (checks c.args.model.now (plan_word c.args.plan.now)) c.in-Ok.source c.in-Ok-fetch_plan.lines c.in-Err-BadPlan.line c.in-Err-BadPlan.cause c.in-Ok.ensures.found says bad,
     )
 
-pub returns-in-Ok-put_all-clause-cause : goal.returns-in-Ok-put_all-clause-cause
-returns-in-Ok-put_all-clause-cause g c =
+pub returns-in-Ok-put_found-clause-cause : goal.returns-in-Ok-put_found-clause-cause
+returns-in-Ok-put_found-clause-cause g c =
     let says = subst (λ (held : List ℕ → Told). IsPlanText held (plan_word c.args.plan.now) c.in-Ok-fetch_plan.lines) c.in-Ok.ensures.kept c.in-Ok-fetch_plan.ensures.says in
     fetched-planned (g.S.Shelf.held c.args.shelf.now) c.args.model.now (plan_word c.args.plan.now) c.in-Ok.source c.in-Ok-fetch_plan.lines c.in-Ok.ensures.found says
+
+pub returns-in-Ok-put_found-clause-written : goal.returns-in-Ok-put_found-clause-written
+returns-in-Ok-put_found-clause-written g c =
+    let says = subst (λ (held : List ℕ → Told). IsPlanText held (plan_word c.args.plan.now) c.in-Ok-fetch_plan.lines) c.in-Ok.ensures.kept c.in-Ok-fetch_plan.ensures.says in
+    let found = rw (c.bytes.ensures, c.bytes-2.ensures) at c.in-Ok-found_of.ensures.found in
+    let took = c.in-Ok-put_found.ensures.whole in
+    record {
+      text = took.text;
+      output = record {
+        model_bytes = c.in-Ok.source;
+        plan_bytes = c.in-Ok-fetch_plan.lines;
+        model_fetched = c.in-Ok.ensures.found;
+        plan_says = says;
+        check = check-of c.in-Ok.source c.in-Ok-fetch_plan.lines c.in-Ok-found_of.found took.text found.design took.tells;
+      };
+      taken = took.all;
+    }
 
 pub returns-clause-cause : goal.returns-clause-cause
 returns-clause-cause g c =
     let says = subst (λ (held : List ℕ → Told). IsPlanText held (plan_word c.args.plan.now) c.in-Ok-fetch_plan.lines) c.in-Ok.ensures.kept c.in-Ok-fetch_plan.ensures.says in
     fetched-planned (g.S.Shelf.held c.args.shelf.now) c.args.model.now (plan_word c.args.plan.now) c.in-Ok.source c.in-Ok-fetch_plan.lines c.in-Ok.ensures.found says
+
+pub returns-clause-written : goal.returns-clause-written
+returns-clause-written g c =
+    let says = subst (λ (held : List ℕ → Told). IsPlanText held (plan_word c.args.plan.now) c.in-Ok-fetch_plan.lines) c.in-Ok.ensures.kept c.in-Ok-fetch_plan.ensures.says in
+    let found = rw (c.bytes.ensures, c.bytes-2.ensures) at c.in-Ok-found_of.ensures.found in
+    let took = c.in-Err-put_found.ensures.cut in
+    record {
+      rise = took.rise;
+      text = took.text;
+      output = record {
+        model_bytes = c.in-Ok.source;
+        plan_bytes = c.in-Ok-fetch_plan.lines;
+        model_fetched = c.in-Ok.ensures.found;
+        plan_says = says;
+        check = check-of c.in-Ok.source c.in-Ok-fetch_plan.lines c.in-Ok-found_of.found took.text found.design took.tells;
+      };
+      taken = took.part;
+    }

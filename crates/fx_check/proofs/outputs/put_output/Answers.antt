@@ -1,0 +1,23 @@
+use Rattle.std.proofs.Common.{◌++◌, ◌-◌, ℕ, List, codes, drop, length, ap}
+use Rattle.hw_rules.specs.Times.{timing_in}
+use Rattle.fx_io.proofs.Taken.{rest-whole}
+use Rattle.fx_check.specs.CheckText.{head_text, steps_text}
+use Rattle.fx_check.proofs.Handing.{adds_as, both}
+use Rattle.fx_check.proofs.Listing.{one_output, output_is}
+use Rattle.fx_check.proofs.outputs.put_output.Goals as goal
+
+pub returns-clause-puts : goal.returns-clause-puts
+returns-clause-puts g c =
+    let diagram = c.args.checked.now.diagram in
+    let plan = c.args.planned.now.resolved in
+    let timing = timing_in c.args.planned.now.times in
+    let path : List ℕ = drop c.path_to-start.result c.path_to-start.new.room in
+    let bytes : List ℕ = (head_text c.args.name.now c.args.clocks ++ steps_text diagram path) ++ codes "\n" in
+    let whole = rest-whole c.path_to-start.new.room c.path_to-start.result in
+    record {
+      bytes = bytes;
+      line = λ earlier.
+          one_output diagram plan timing c.args.name.now c.args.block path earlier (earlier ++ bytes) c.path_to-start.ensures.tight
+          (ap (λ (line : List ℕ). earlier ++ line) (output_is diagram plan timing c.args.name.now path c.args.block c.args.clocks c.requires.clocks));
+      puts = both (both c.put_front.ensures (adds_as (ap (λ (blocks : List ℕ). steps_text diagram blocks) whole) c.put_steps.ensures)) c.put.ensures;
+    }
