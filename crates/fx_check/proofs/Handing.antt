@@ -8,7 +8,7 @@ use Rattle.fx_io.specs.Sink.{TookProperPrefix, also_took}
 use Rattle.fx_io.specs.declared.sink.PutFault.{PutFault}
 use Rattle.fx_io.proofs.Taken.{also_took-append}
 use Rattle.fx_check.specs.declared.pending.Pending.{Pending}
-use Rattle.fx_check.specs.Handed.{Adds, HasEnded, HasTaken, IsEnd, Waits}
+use Rattle.fx_check.specs.Handed.{Adds, HasEnded, HasTaken, IsEnd}
 
 -- a part of a text is one of a longer text
 took_longer : (before now : Option (List ℕ)) (bytes more : List ℕ) → TookProperPrefix before now bytes → TookProperPrefix before now (bytes ++ more)

@@ -1,5 +1,5 @@
 -- Signals have few elements, so that what each root element wants is the name of a plain one.
-use Rattle.std.proofs.Common.{◌≡◌, ℕ, zero, suc, ◌+◌, ◌-◌, ◌^◌, ◌<◌, ◌≤◌, List, [], ◌∷◌, ◌++◌, map, find, All, Contains, Option, Some, None, MatchOption, slice_get, sym, subst, refl, arith}
+use Rattle.std.proofs.Common.{◌≡◌, ℕ, zero, suc, ◌-◌, ◌≤◌, List, [], ◌∷◌, map, All, Contains, Option, Some, None, MatchOption, slice_get, refl, arith}
 use Rattle.std.specs.Prelude.{slice_index_or}
 use Rattle.std.proofs.lemmas.List.Elements.{All-append, All-contains_itself, All-head, All-map, All-tail}
 use Rattle.dg_model.specs.declared.diagram.Block.{Block}

@@ -7,7 +7,6 @@ use Rattle.vl_ast.specs.declared.modules.Module.{Module}
 use Rattle.vl_ast.specs.Conditions.{Fault, IsFirstFault}
 use Rattle.vl_ast.specs.Grammar.{Spells}
 use Rattle.vl_check.specs.declared.fault.VlFault.{VlFault}
-use Rattle.fx_io.specs.Shelf.{Told}
 use Rattle.fx_top.specs.declared.answer.Answer.{Answer}
 use Rattle.fx_top.specs.declared.answer.Answer.TheVariants.{Done, OutOfMemory, Usage, CannotRead, CannotWrite, NotMdl, BadTable, BreaksRule, NotVerilog, Broken, TooLong}
 use Rattle.fx_top.specs.Answer.{status_of}

@@ -1,5 +1,5 @@
 -- When the outputs of a sample show their first numbers, and what its module says of itself.
-use Rattle.std.proofs.Common.{◌≡◌, ◌<◌, ℕ, zero, suc, List, [], ◌∷◌, All, Option, None, Some, length, map, refl, ap, sym, subst, ◌∙◌}
+use Rattle.std.proofs.Common.{◌≡◌, ◌<◌, ℕ, zero, suc, List, [], ◌∷◌, All, None, Some, length, map, refl, ap, sym, subst, ◌∙◌}
 use Rattle.std.specs.Prelude.{slice_get, slice_index_or}
 use Rattle.std.proofs.lemmas.Option.{slice_get-get_or, slice_get_within}
 use Rattle.dg_model.specs.declared.diagram.Diagram.{Diagram}
@@ -23,7 +23,6 @@ use Rattle.hw_rules.specs.Times.{timing_in}
 use Rattle.hw_sched.specs.Ready.{declared_latency}
 use Rattle.hw_sched.specs.Slots.{Timing}
 use Rattle.vl_ast.specs.declared.modules.Module.{Module}
-use Rattle.vl_ast.specs.Spelling.{spelling}
 
 same_some : (x y : ℕ) → Some x ≡ Some y → x ≡ y
 same_some x y same = cc same

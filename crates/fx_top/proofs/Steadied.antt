@@ -1,6 +1,6 @@
 -- A diagram whose root ports have a number in every base sample: the periods of its root elements, and when
 -- its outputs are ready.
-use Rattle.std.proofs.Common.{◌≡◌, ℕ, ◌*◌, ◌<◌, Bool, true, false, ◌||◌, List, Contains, Option, Some, None, refl, ap, ◌∙◌, arith}
+use Rattle.std.proofs.Common.{◌≡◌, ℕ, ◌<◌, Bool, true, false, ◌||◌, List, Contains, Option, Some, refl, ap, ◌∙◌, arith}
 use Rattle.std.specs.Prelude.{is_some, slice_get}
 use Rattle.std.proofs.lemmas.Option.{slice_get-get_or}
 use Rattle.dg_model.specs.declared.diagram.Block.{Block}
@@ -9,7 +9,7 @@ use Rattle.dg_model.specs.declared.resolved.Resolved.{Resolved}
 use Rattle.dg_model.specs.Attributes.{attributes_of}
 use Rattle.dg_model.specs.Faults.{AllKeep}
 use Rattle.dg_model.specs.declared.row.Role.{Role}
-use Rattle.dg_model.specs.Laws.{AreRootElements, InputsAreListed, IsElementOfPort, OutputsAreListed}
+use Rattle.dg_model.specs.Laws.{InputsAreListed, IsElementOfPort, OutputsAreListed}
 use Rattle.dg_model.specs.Library.{row_of}
 use Rattle.dg_model.specs.RootElements.{RootElement, number_in, root_inputs, root_outputs}
 use Rattle.dg_model.specs.Signals.{Attributes}

@@ -13,7 +13,7 @@ use Rattle.fx_designed.specs.declared.designing.DesignFault.TheVariants as desig
 use Rattle.fx_designed.specs.Design.{IsDesignOf}
 use Rattle.fx_top.specs.Streamed.{BreaksStream, IsStreamOf, KeepsStream}
 use Rattle.fx_top.specs.inner.Streaming.{IsCoreOf, IsRefusedOnPorts, IsRefusedStream, IsStreamWritten}
-use Rattle.fx_top.proofs.Answering.{answers, columns-many, stalls}
+use Rattle.fx_top.proofs.Answering.{answers, columns-many}
 use Rattle.fx_top.proofs.Elements.{wanted-are}
 use Rattle.fx_top.proofs.Steadied.{in-steady, out-ready, out-steady}
 use Rattle.fx_top.proofs.Titled.{names-apart, names-each, taken_names}

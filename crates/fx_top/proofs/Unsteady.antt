@@ -1,5 +1,5 @@
 -- What a fault of the ports of a design excludes, and what excludes it.
-use Rattle.std.proofs.Common.{◌≡◌, ℕ, List, Option, Some, ap, sym, subst}
+use Rattle.std.proofs.Common.{◌≡◌, ℕ, List, Some, ap, sym, subst}
 use Rattle.fx_top.specs.Call.{Files}
 use Rattle.fx_top.specs.Cause.{HasBrokenPorts}
 use Rattle.fx_top.specs.Command.{Command, PlanWord, Stream as StreamOf, first_of, model_of, table_of}

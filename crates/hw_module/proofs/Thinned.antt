@@ -1,5 +1,5 @@
 -- The counted rows of a driven run are a driven run in which every row counts.
-use Rattle.std.proofs.Common.{◌≡◌, ◌+◌, ◌-◌, ◌<◌, ℕ, suc, List, ℤ, sym, ap, ◌∙◌, arith}
+use Rattle.std.proofs.Common.{◌≡◌, ◌+◌, ◌-◌, ◌<◌, ℕ, suc, List, ℤ, ap, ◌∙◌, arith}
 use Rattle.dg_model.specs.declared.diagram.Diagram.{Diagram}
 use Rattle.dg_model.specs.Signals.{Stimulus, Table}
 use Rattle.vl_ast.specs.declared.modules.Module.{Module}

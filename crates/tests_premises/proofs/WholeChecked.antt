@@ -1,5 +1,5 @@
 -- The diagram of the whole model keeps the rules.
-use Rattle.std.proofs.Common.{◌≡◌, ◌≢◌, ℕ, zero, suc, ◌≤◌, true≢false, List, [], ◌∷◌, length, All, Option, Some, slice_get, inl, inr, codes, sym, subst, refl, arith}
+use Rattle.std.proofs.Common.{◌≡◌, ◌≢◌, ℕ, ◌≤◌, true≢false, List, [], ◌∷◌, length, All, Option, Some, slice_get, inl, inr, codes, sym, subst, refl, arith}
 use Rattle.std.specs.Prelude.{IsSome}
 use Rattle.std.proofs.Math.Dec.{lit<, lit≤}
 use lib.Signed.{le_z_yes}
@@ -21,7 +21,7 @@ use Rattle.dg_model.specs.TypeRule.{IsNotWide, HasTypes, HasAgreeing, KeepsTypes
 use Rattle.dg_model.specs.Widths.{Widths, widths_of}
 use Rattle.dg_model.specs.Wired.{AreNumbered, IsWired, Joins, StandsBefore, NamesControl, MayStand}
 use Rattle.hw_shows.proofs.Small.{int8_valid, all_of, pairs_of, each_by, none_driven, one_driven, none_known, no_loop, attributes_by, attributes_are, AreDrivenOnce}
-use Rattle.tests_premises.specs.Whole.{diagram, input, gain, output, edge_of, int8, int16, coefficients}
+use Rattle.tests_premises.specs.Whole.{diagram, input, gain, output, int8, int16, coefficients}
 
 -- ---- its widths, types and periods
 abbrev widths : Widths

@@ -1,5 +1,5 @@
 -- The text of the whole model's plan says the plan, and both texts are those of the design.
-use Rattle.std.proofs.Common.{◌≡◌, refl}
+use Rattle.std.proofs.Common.{refl}
 use Rattle.fx_tables.specs.Plan.{IsPlan}
 use Rattle.fx_tables.proofs.PlanText.{plan_said}
 use Rattle.fx_designed.specs.Design.{IsDesignOf}

@@ -8,7 +8,7 @@ use Rattle.dg_model.specs.LatencyEdges.{LatencyEdge, signal_edge}
 use Rattle.dg_model.specs.Loop.{LeadsNow, IsInstantPath}
 use Rattle.hw_latency.specs.Cone.{AreFed, IsFed, is_marked}
 use Rattle.hw_latency.specs.Shared.{is_shared}
-use Rattle.hw_sched.specs.Level.{AreDepths, EndsWith, IsDepth, depth_at, is_same_period}
+use Rattle.hw_sched.specs.Level.{AreDepths, IsDepth, depth_at, is_same_period}
 use Rattle.tests_premises.specs.Whole.{diagram, edge_of, resolved, timing}
 use Rattle.tests_premises.proofs.WholeChecked.{attributes}
 

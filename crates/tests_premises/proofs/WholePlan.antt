@@ -1,5 +1,5 @@
 -- The plan of the whole model keeps its rules on the diagram, and gives these numbers and times.
-use Rattle.std.proofs.Common.{◌≡◌, ℕ, zero, suc, ◌+◌, ◌≤◌, ◌<◌, true, List, [], ◌∷◌, Some, All, slice_get, codes, refl, sym, ap, subst, arith}
+use Rattle.std.proofs.Common.{◌≡◌, ℕ, zero, suc, ◌+◌, ◌≤◌, ◌<◌, true, List, [], ◌∷◌, Some, refl, sym, ap, subst, arith}
 use Rattle.std.specs.Prelude.{slice_index}
 use Rattle.std.proofs.Math.Dec.{lit<, lit≤}
 use Rattle.std.proofs.lemmas.Option.{none-some, same_Some}
@@ -12,7 +12,7 @@ use Rattle.hw_arcs.specs.declared.arc.Arc.{Arc}
 use Rattle.hw_arcs.specs.Latencies.{IsFeasible, IsLeast, KeepsArc, latency_at}
 use Rattle.hw_latency.specs.Cone.{AreFed}
 use Rattle.hw_latency.specs.Weight.{arcs_with}
-use Rattle.hw_rules.specs.Rules.{IsFoundIn, IsPlanned, KeepsTimes}
+use Rattle.hw_rules.specs.Rules.{IsPlanned}
 use Rattle.hw_sched.specs.Budget.{KeepsBudget}
 use Rattle.hw_sched.specs.Level.{AreDepths}
 use Rattle.hw_sched.specs.Scheduled.{IsScheduled, IsTimingOf}

@@ -1,5 +1,5 @@
 -- Each module of the whole model has a run that the stimulus drives, in which every row counts.
-use Rattle.std.proofs.Common.{◌≡◌, ℕ, zero, suc, ◌+◌, ◌-◌, ◌*◌, ◌/◌, ◌%◌, ◌^◌, ◌<◌, ◌≤◌, ℤ, pos, negsuc, true, true≢false, if◌then◌else◌, List, [], ◌∷◌, Some, slice_get, Contains, bytes_eq, codes, refl, sym, ap, subst, ◌∙◌, arith}
+use Rattle.std.proofs.Common.{◌≡◌, ℕ, zero, suc, ◌+◌, ◌-◌, ◌*◌, ◌/◌, ◌^◌, ◌<◌, ◌≤◌, ℤ, pos, negsuc, true, true≢false, if◌then◌else◌, List, [], ◌∷◌, Some, slice_get, Contains, bytes_eq, codes, refl, sym, ap, subst, ◌∙◌, arith}
 use Rattle.std.proofs.Math.Dec.{lit<}
 use Rattle.std.proofs.Math.Nat.{div-lt_iff_lt-mul, le-div_iff_mul-le}
 use Rattle.std.proofs.lemmas.Nat.{mod_below, pow_pos}

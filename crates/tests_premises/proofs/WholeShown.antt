@@ -1,5 +1,5 @@
 -- Each module of the whole model's design shows the numbers of the table in a run, by what is owed of it.
-use Rattle.std.proofs.Common.{◌≡◌, ℕ, zero, suc, ◌+◌, ◌-◌, ◌*◌, ◌%◌, ◌<◌, ◌≤◌, ℤ, List, [], ◌∷◌, Some, map, slice_get, codes, refl, sym, subst, ◌∙◌, arith}
+use Rattle.std.proofs.Common.{◌≡◌, ℕ, ◌+◌, ◌-◌, ◌*◌, ◌<◌, ◌≤◌, List, [], ◌∷◌, Some, map, slice_get, codes, refl, sym, subst, ◌∙◌, arith}
 use Rattle.std.proofs.Math.Dec.{lit≤}
 use Rattle.dg_model.specs.Attributes.{attributes_of}
 use Rattle.dg_model.specs.Hits.{Hits}
@@ -7,7 +7,7 @@ use Rattle.dg_model.specs.Signals.{Attributes}
 use Rattle.dg_model.specs.Solves.{IsShown}
 use Rattle.hw_build.specs.Pipelined.{stage_name}
 use Rattle.hw_build.specs.Serving.{clock_of}
-use Rattle.hw_module.specs.Carries.{Carries, IsDrivenRun, OutputShows}
+use Rattle.hw_module.specs.Carries.{IsDrivenRun, OutputShows}
 use Rattle.hw_module.specs.Design.{IsModuleOf}
 use Rattle.hw_module.specs.Interface.{NamedElement, input_data, input_elements, output_data, output_elements}
 use Rattle.hw_module.specs.Serves.{IsServed}
@@ -20,13 +20,13 @@ use Rattle.vl_ast.specs.Header.{HasHeader, input_port, output_port}
 use Rattle.vl_ast.specs.Room.{HasRoom, HasRows, StartFits}
 use Rattle.vl_ast.specs.Runs.{Row, Rows}
 use Rattle.vl_ast.specs.Value.{bits_of}
-use Rattle.vl_ast.specs.Windows.{IsClock, Shows, row_at}
+use Rattle.vl_ast.specs.Windows.{IsClock, row_at}
 use Rattle.vl_ast.proofs.Unstalled.{enabled-count, place-clock}
 use Rattle.dg_model.specs.RootElements.{root_element}
 use Rattle.tests_premises.specs.Running.{RunsWhole, input_ports, output_ports, window}
 use Rattle.tests_premises.specs.Shown.{ShowsWhole, WholeModulesShow, gain_block}
-use Rattle.tests_premises.specs.Whole.{diagram, fives, resolved, shown, stimulus, table, timing, triples}
-use Rattle.tests_premises.proofs.WholeChecked.{attributes, attributes_known}
+use Rattle.tests_premises.specs.Whole.{diagram, resolved, shown, stimulus, table, timing}
+use Rattle.tests_premises.proofs.WholeChecked.{attributes_known}
 use Rattle.tests_premises.proofs.WholeNames.{names_are, whole_names}
 use Rattle.tests_premises.proofs.WholePlan.{shared}
 use Rattle.tests_premises.proofs.WholeRuns.{whole_modules_run}

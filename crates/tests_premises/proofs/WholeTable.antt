@@ -1,12 +1,12 @@
 -- The table of the whole model solves its diagram, and the stimulus is in range.
-use Rattle.std.proofs.Common.{◌≡◌, ℕ, zero, suc, ℤ, pos, negsuc, ◌<◌, true, false, [], ◌∷◌, Some, None, slice_get, sym, subst, refl, arith}
+use Rattle.std.proofs.Common.{◌≡◌, ℕ, zero, suc, ℤ, pos, negsuc, ◌<◌, true, false, Some, slice_get, sym, subst, refl, arith}
 use Rattle.std.proofs.Math.Dec.{lit<}
 use Rattle.std.proofs.lemmas.Int.{ints}
 use Rattle.std.proofs.lemmas.Option.{none-some, same_Some}
 use lib.Signed.{le_z_yes}
-use Rattle.fx_num.specs.Word.{InWord, IsCongruent}
+use Rattle.fx_num.specs.Word.{InWord}
 use Rattle.fx_type.specs.declared.rounding.Rounding.TheVariants.{Floor}
-use Rattle.fx_type.specs.Conversion.{Converts, Stores}
+use Rattle.fx_type.specs.Conversion.{Converts}
 use Rattle.fx_type.specs.FxType.{InRange}
 use Rattle.dg_model.specs.declared.diagram.Block.{Block}
 use Rattle.dg_model.specs.declared.op.Op.TheVariants.{Gain, Pass}
@@ -18,7 +18,7 @@ use Rattle.dg_model.specs.Signals.{Attributes}
 use Rattle.dg_model.specs.Solves.{IsShown, IsStimulus, Solves}
 use Rattle.dg_model.specs.Wired.{root_input}
 use Rattle.hw_shows.proofs.Small.{int16_full, stored, each_by}
-use Rattle.tests_premises.specs.Whole.{diagram, int8, int16, three, five, given, shown, stimulus, table}
+use Rattle.tests_premises.specs.Whole.{diagram, int8, int16, given, stimulus, table}
 use Rattle.tests_premises.proofs.WholeChecked.{attributes, attributes_known, gain_block}
 
 -- a number of an int16 stays what it is

@@ -1,9 +1,8 @@
 -- The text of the whole model: the tree that it stands for, its blocks and lines, and its diagram.
-use Rattle.std.proofs.Common.{◌≡◌, ◌<◌, ◌≤◌, ℕ, zero, suc, pos, true, false, List, [], ◌∷◌, ◌++◌, All, None, Some, slice_get, inl, inr, codes, refl, sym, subst, arith}
+use Rattle.std.proofs.Common.{◌≡◌, ◌<◌, ◌≤◌, ℕ, zero, suc, pos, false, List, [], ◌∷◌, ◌++◌, All, None, Some, slice_get, inl, inr, codes, refl, sym, subst, arith}
 use Rattle.std.proofs.Math.Dec.{lit<, lit≤}
 use Rattle.std.proofs.lemmas.Option.{none-some, same_Some}
 use lib.Signed.{le_z_yes}
-use Rattle.fx_type.specs.declared.decimal.Decimal.{Decimal}
 use Rattle.fx_type.specs.declared.rounding.Rounding.TheVariants.{Floor}
 use Rattle.fx_type.specs.declared.spec.TypeSpec.TheVariants.{Fixed, Auto}
 use Rattle.fx_round.specs.DecimalText.{IsDecimal}

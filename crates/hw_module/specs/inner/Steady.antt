@@ -1,5 +1,5 @@
 -- A driven run in which `clk_enable` is 1 in every row.
-use Rattle.std.specs.Prelude.{◌≡◌, ℕ, ◌+◌, ◌<◌, ◌≤◌, List, ℤ}
+use Rattle.std.specs.Prelude.{◌≡◌, ℕ, ◌<◌, ◌≤◌, List, ℤ}
 use Rattle.dg_model.specs.declared.diagram.Diagram.{Diagram}
 use Rattle.dg_model.specs.Signals.{Stimulus, Table}
 use Rattle.hw_module.specs.Carries.{IsDrivenRun}

@@ -1,4 +1,4 @@
-use Rattle.std.proofs.Common.{◌++◌, ◌-◌, ℕ, List, codes, drop, length, ap}
+use Rattle.std.proofs.Common.{◌++◌, ◌-◌, ℕ, List, codes, drop, ap}
 use Rattle.hw_rules.specs.Times.{timing_in}
 use Rattle.fx_io.proofs.Taken.{rest-whole}
 use Rattle.fx_check.specs.CheckText.{head_text, steps_text}

@@ -1,5 +1,5 @@
-use Rattle.std.proofs.Common.{None, Some, Option, ap, refl, ◌++◌, List, ℕ}
-use Rattle.fx_check.proofs.Handing.{all_put, none_of, part_put}
+use Rattle.std.proofs.Common.{Some, ap, refl, ◌++◌, List, ℕ}
+use Rattle.fx_check.proofs.Handing.{all_put, part_put}
 use Rattle.fx_check.proofs.pending.put_directly.Goals as goal
 
 pub returns-in-Err : goal.returns-in-Err

@@ -1,4 +1,4 @@
-use Rattle.std.proofs.Common.{[], Some, ap, refl, append-nil, subst, List, ℕ}
+use Rattle.std.proofs.Common.{[], Some, refl, append-nil, subst, List, ℕ}
 use Rattle.fx_io.specs.Sink.{TookProperPrefix}
 use Rattle.fx_check.proofs.Handing.{part_put}
 use Rattle.fx_check.proofs.pending.put_waiting.Goals as goal
