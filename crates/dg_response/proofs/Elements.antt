@@ -9,8 +9,8 @@ use Rattle.dg_model.specs.Signals.{Attributes}
 use Rattle.dg_response.specs.Response.{column_of}
 use Rattle.dg_response.specs.inner.Columns.{column_at}
 use Rattle.dg_response.proofs.Lists.{has-place, item-at, unmapped}
-use Rattle.dg_sim.specs.Laws.{TypesAreValid}
-use Rattle.dg_sim.specs.Listing.{AreBlocksOf}
+use Rattle.dg_tables.specs.Laws.{TypesAreValid}
+use Rattle.dg_tables.specs.Listing.{AreBlocksOf}
 use Rattle.dg_model.specs.Attributes.{attributes_of}
 use Rattle.dg_model.specs.Checked.{CheckedDiagram, IsChecked}
 use Rattle.dg_model.specs.Loop.{IsOrder}

@@ -13,7 +13,7 @@ use Rattle.dg_model.specs.Signals.{Attributes}
 use Rattle.dg_model.specs.Solves.{IsShown, ports_of_role, width_of_role}
 use Rattle.dg_model.specs.Wired.{root_output}
 use Rattle.dg_model.specs.Wires.{width_into}
-use Rattle.dg_sim.specs.Laws.{IsOrdered, TablesAreOne}
+use Rattle.dg_tables.specs.Laws.{IsOrdered, TablesAreOne}
 use Rattle.dg_response.specs.Response.{IsResponse, shown, stimulus_of}
 use Rattle.dg_response.proofs.Lists.{same-map}
 

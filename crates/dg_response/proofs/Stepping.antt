@@ -12,7 +12,7 @@ use Rattle.dg_model.specs.Laws.{ColumnsMakeStimulus, ColumnsComeBack}
 use Rattle.dg_model.specs.RootElements.{RootElement, root_inputs, root_outputs}
 use Rattle.dg_model.specs.Signals.{Attributes, Table}
 use Rattle.dg_model.specs.Solves.{IsStimulus}
-use Rattle.dg_sim.specs.Laws.{IsOrdered, SomeTableSolves}
+use Rattle.dg_tables.specs.Laws.{IsOrdered, SomeTableSolves}
 use Rattle.dg_sim.specs.Sim.{Simulation, IsSimOf, IsAt, IsRowOf, IsStepped, Stands}
 use Rattle.dg_response.specs.Response.{IsResponse, column_of, input_columns, output_columns, number_in, stimulus_of, shown}
 use Rattle.dg_response.specs.inner.Responding.{IsFilledTo, SolvesRows, line_at}

@@ -2,7 +2,7 @@
 use Rattle.std.specs.Prelude.{◌≡◌, ℕ, ℤ, ◌<◌, List}
 use Rattle.fx_tables.specs.declared.table.Rows.{Rows}
 use Rattle.dg_model.specs.declared.diagram.Diagram.{Diagram}
-use Rattle.dg_sim.specs.Laws.{IsOrdered}
+use Rattle.dg_tables.specs.Laws.{IsOrdered}
 use Rattle.dg_response.specs.Response.{IsResponse}
 
 -- there is one response to rows of numbers; the order is any one of the diagram's blocks along the instant edges

@@ -6,5 +6,5 @@ pub fn one_response()
     ensures { ResponsesAreOne }
 {
     dg_model::root_elements_are_listed();
-    dg_sim::tables_are_one();
+    dg_tables::tables_are_one();
 }

@@ -37,7 +37,7 @@ fn respond_once(
 {
     checked.keeps_rules();
     dg_model::columns_are_a_stimulus();
-    dg_sim::some_table_solves();
+    dg_tables::some_table_solves();
     let numbers = rows.cells.as_slice();
     let columns = rows.columns as usize;
     let first = sample as usize * columns;
@@ -73,7 +73,7 @@ pub fn respond(
 {
     checked.keeps_rules();
     dg_model::columns_are_a_stimulus();
-    dg_sim::some_table_solves();
+    dg_tables::some_table_solves();
     let samples = rows.count();
     if samples > 1 << 62 {
         // word: samples are counted in 62 bits

@@ -4,7 +4,7 @@ ghost use Rattle.dg_response.specs.Response.{input_columns, output_columns};
 ghost use Rattle.dg_response.specs.inner.Columns.{column_at};
 
 use dg_model::Checked;
-use dg_sim::{input_blocks, operations_prepare, output_blocks};
+use dg_tables::{input_blocks, operations_prepare, output_blocks};
 use fx_io::OutOfMemory;
 use fx_tables::{Column, Columns};
 use std::alloc::Global;

@@ -15,10 +15,10 @@ use Rattle.dg_sim.specs.declared.program.Memory.{Memory}
 use Rattle.dg_sim.specs.declared.program.Program.{Program}
 use Rattle.dg_sim.specs.Ready.{AreReady}
 use Rattle.dg_sim.specs.Ring.{PastValues}
-use Rattle.dg_sim.specs.State.{kept_count, kept_hits}
+use Rattle.dg_tables.specs.State.{kept_count, kept_hits}
 use Rattle.dg_sim.specs.Sim.{values_of, IsProgram, IsSimOf, Stands}
 use Rattle.dg_sim.specs.inner.Building.{AreRooms}
-use Rattle.dg_sim.proofs.Lists.{get_some}
+use Rattle.dg_tables.proofs.Lists.{get_some}
 
 take_none : (n : ℕ) → let none : List ℤ = [] in take n none ≡ none
 take_none zero = refl

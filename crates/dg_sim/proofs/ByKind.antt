@@ -10,9 +10,9 @@ use Rattle.dg_model.specs.declared.op.Op.TheVariants.{Pass as OpPass}
 use Rattle.dg_model.specs.Signals.{Attributes, Stimulus, Table}
 use Rattle.dg_model.specs.Equation.{Equation, KindEquation, ElementEquation, StoresEntry, IsOpOf}
 use Rattle.dg_model.specs.Wires.{type_into, value_into}
-use Rattle.dg_sim.specs.declared.program.Place.{Place}
+use Rattle.dg_tables.specs.declared.entries.Place.{Place}
 use Rattle.dg_sim.specs.inner.Building.{HandsOn, IsAlways, IsElementwise}
-use Rattle.dg_sim.proofs.Lists.{get_mapped}
+use Rattle.dg_tables.proofs.Lists.{get_mapped}
 
 module _ (diagram : Diagram) (attributes : Attributes) (place : Place) (b : Block) (block_is : slice_get diagram.blocks place.block ≡ Some b) where
   pub of_kind : (kind : Kind) → b.kind ≡ kind → (stimulus : Stimulus) (table : Table) (t : ℕ) (v : ℤ) → KindEquation diagram attributes stimulus table kind b place.block place.port place.element t v

@@ -7,11 +7,12 @@ use Rattle.dg_model.specs.declared.kind.Kind.{Kind}
 use Rattle.dg_model.specs.declared.kind.Kind.TheVariants.{Delay}
 use Rattle.dg_model.specs.Library.{row_of, HasPorts, IsReadable}
 use Rattle.dg_model.specs.Wired.{IsWired}
-use Rattle.dg_sim.proofs.Lists.{get_holds}
+use Rattle.dg_tables.proofs.Lists.{get_holds}
 use Rattle.dg_model.specs.declared.diagram.Diagram.{Diagram}
 use Rattle.dg_model.specs.Signals.{Attributes}
-use Rattle.dg_sim.specs.declared.program.Place.{Place}
-use Rattle.dg_sim.specs.inner.Building.{AreEntries, IsEntry, IsShownPort}
+use Rattle.dg_tables.specs.declared.entries.Place.{Place}
+use Rattle.dg_tables.specs.Entries.{AreEntries, IsEntry}
+use Rattle.dg_sim.specs.inner.Building.{IsShownPort}
 use Rattle.dg_sim.proofs.Serving.{get_last}
 
 pub entries_more : (diagram : Diagram) (attributes : Attributes) (old new : List Place) (block port width element : ℕ) → new ≡ old ++ record { block = block; port = port; element = element } ∷ []

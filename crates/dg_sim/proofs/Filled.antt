@@ -4,19 +4,20 @@ use Rattle.std.proofs.lemmas.Option.{same_Some, slice_get_within}
 use Rattle.dg_model.specs.declared.diagram.Diagram.{Diagram}
 use Rattle.dg_model.specs.Signals.{Attributes}
 use Rattle.dg_model.specs.Hits.{Hits}
-use Rattle.dg_sim.specs.declared.program.Place.{Place}
+use Rattle.dg_tables.specs.declared.entries.Place.{Place}
 use Rattle.dg_sim.specs.declared.program.Cell.{Cell}
 use Rattle.dg_sim.specs.declared.program.Program.{Program}
 use Rattle.dg_sim.specs.declared.program.Rule.{Rule}
 use Rattle.dg_sim.specs.declared.program.Rule.TheVariants.{Input}
-use Rattle.dg_sim.specs.declared.roots.Root.{Root}
+use Rattle.dg_tables.specs.declared.roots.Root.{Root}
 use Rattle.dg_model.specs.RootElements.{RootElement, root_outputs}
 use Rattle.dg_sim.specs.Sim.{IsCell, IsProgram}
-use Rattle.dg_sim.specs.inner.Roots.{root_at, roots_of}
-use Rattle.dg_sim.proofs.Lists.{get_some}
-use Rattle.dg_sim.proofs.Edges.{length_map}
-use Rattle.dg_sim.proofs.Ranks.{there_map}
-use Rattle.dg_sim.specs.inner.Building.{IsMade, IsRule, IsEntry, IsFilled, AreShown}
+use Rattle.dg_tables.specs.Roots.{root_at, roots_of}
+use Rattle.dg_tables.proofs.Lists.{get_some}
+use Rattle.dg_tables.proofs.Edges.{length_map}
+use Rattle.dg_tables.proofs.Ranks.{there_map}
+use Rattle.dg_sim.specs.inner.Building.{IsMade, IsRule, IsFilled, AreShown}
+use Rattle.dg_tables.specs.Entries.{IsEntry}
 use Rattle.dg_sim.proofs.Grown.{rule_grows}
 use Rattle.dg_sim.proofs.Serving.{get_last}
 

@@ -5,7 +5,7 @@ use Rattle.fx_type.specs.declared.kind.FxType.{FxType}
 use Rattle.dg_model.specs.declared.diagram.Diagram.{Diagram}
 use Rattle.dg_model.specs.Signals.{Attributes}
 use Rattle.dg_model.specs.Operation.{Operation, OpGives, CanCarryOut, stored_truth}
-use Rattle.dg_sim.specs.declared.program.Place.{Place}
+use Rattle.dg_tables.specs.declared.entries.Place.{Place}
 use Rattle.dg_sim.specs.declared.program.Work.{Work}
 use Rattle.dg_sim.specs.declared.program.Program.{Program}
 use Rattle.dg_sim.specs.declared.program.Memory.{Memory}
@@ -14,7 +14,7 @@ use Rattle.dg_sim.specs.declared.program.Rule.TheVariants.{Input, Fixed, Same, W
 use Rattle.dg_sim.specs.Program.{part, operation_at, Gives, CanGive, IsWithin}
 use Rattle.dg_sim.specs.Sim.{Agrees}
 use Rattle.dg_sim.specs.inner.Building.{Grows, IsRule}
-use Rattle.dg_sim.proofs.Ranks.{there_left}
+use Rattle.dg_tables.proofs.Ranks.{there_left}
 use Rattle.dg_sim.proofs.Serving.{part_more}
 
 pub grows_same : (program : Program) → Grows program program

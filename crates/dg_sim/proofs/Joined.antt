@@ -9,11 +9,10 @@ use Rattle.dg_model.specs.declared.kind.Kind.TheVariants.{Mux, Demux}
 use Rattle.dg_model.specs.Signals.{Attributes}
 use Rattle.dg_model.specs.Wires.{widths_into, value_into}
 use Rattle.dg_model.specs.Equation.{IsPart}
-use Rattle.dg_sim.specs.declared.program.Place.{Place}
+use Rattle.dg_tables.specs.declared.entries.Place.{Place}
 use Rattle.dg_sim.specs.inner.Building.{HandsOn}
 use Rattle.dg_sim.proofs.ByKind.{of_kind}
-use Rattle.dg_sim.proofs.Lists.{get_number, length_numbers}
-use Rattle.dg_sim.proofs.Serving.{map_last}
+use Rattle.dg_tables.proofs.Lists.{get_number, length_numbers, map_last}
 
 take_numbers : (f : ℕ → ℕ) (from n i : ℕ) → i ≤ n → take i (map f (numbers_from from n)) ≡ map f (numbers_from from i)
 take_numbers f from zero zero h = refl

@@ -10,15 +10,16 @@ use Rattle.dg_model.specs.Signals.{Attributes, Stimulus, Table}
 use Rattle.dg_model.specs.Hits.{Hits, is_hit, hits_before, is_slow_to_fast}
 use Rattle.dg_model.specs.Wires.{value_into, period_into}
 use Rattle.dg_model.specs.Equation.{StoresEntry, is_enabled, IsInputAt}
-use Rattle.dg_sim.specs.declared.program.Place.{Place}
+use Rattle.dg_tables.specs.declared.entries.Place.{Place}
 use Rattle.dg_sim.specs.declared.program.Memory.{Memory}
 use Rattle.dg_sim.specs.declared.program.Program.{Program}
 use Rattle.dg_sim.specs.declared.program.Rule.TheVariants.{Past, Slower, Held, Reset}
-use Rattle.dg_sim.specs.State.{count_if, count_or_forget, delay_move, move_at, kept_count, kept_values}
-use Rattle.dg_sim.specs.Steps.{KeptIsRead}
+use Rattle.dg_tables.specs.State.{count_if, count_or_forget, delay_move, move_at, kept_count, kept_values}
+use Rattle.dg_tables.specs.Steps.{KeptIsRead}
 use Rattle.dg_sim.specs.Program.{kept_or, is_on, move_of}
 use Rattle.dg_sim.specs.Sim.{Agrees, Keep, IsMemory}
-use Rattle.dg_sim.specs.inner.Building.{IsControl, Moves, IsRemembered, IsMade, IsRule, IsControlCell, HandsOn, Reads, AreMemories}
+use Rattle.dg_sim.specs.inner.Building.{IsControl, Moves, IsRemembered, IsMade, IsRule, IsControlCell, HandsOn, AreMemories}
+use Rattle.dg_tables.specs.Entries.{Reads}
 use Rattle.std.specs.Ordering.{int_eq}
 use Rattle.dg_sim.proofs.Swept.{hit_false}
 use Rattle.dg_sim.proofs.ByKind.{of_kind}

@@ -1,5 +1,5 @@
 -- Rules serve the equations of their blocks.
-use Rattle.std.proofs.Common.{◌≡◌, ℕ, suc, ◌<◌, ◌≤◌, ◌+◌, ◌++◌, ℤ, pos, List, [], ◌∷◌, length, map, take, Some, slice_get, sym, ◌∙◌, subst, ap, refl, arith, zero, ◌⊎◌, inl, inr, ap₂, subst₂, add-one, false}
+use Rattle.std.proofs.Common.{◌≡◌, ℕ, suc, ◌<◌, ◌≤◌, ◌+◌, ◌++◌, ℤ, pos, List, [], ◌∷◌, length, map, take, Some, slice_get, sym, ◌∙◌, subst, ap, refl, arith, zero, ◌⊎◌, inl, inr, ap₂, subst₂, false}
 use Rattle.dg_model.specs.declared.diagram.Diagram.{Diagram}
 use Rattle.dg_model.specs.Signals.{Attributes, Stimulus, Table}
 use Rattle.std.proofs.lemmas.Option.{none-some, same_Some}
@@ -11,15 +11,16 @@ use Rattle.dg_model.specs.declared.op.Op.{Op}
 use Rattle.dg_model.specs.Operation.{Operation, OpGives, CanPrepare, CanCarryOut, type_of, value_of}
 use Rattle.dg_model.specs.Wires.{type_into, types_into, value_into, values_into}
 use Rattle.dg_model.specs.Equation.{Equation, IsOpOf, signs_of}
-use Rattle.dg_sim.specs.declared.program.Place.{Place}
+use Rattle.dg_tables.specs.declared.entries.Place.{Place}
 use Rattle.dg_sim.specs.declared.program.Program.{Program}
 use Rattle.dg_sim.specs.declared.program.Rule.TheVariants.{Fixed, Same, Works}
 use Rattle.dg_sim.specs.declared.program.Work.{Work}
-use Rattle.dg_sim.specs.Laws.{EntriesAreInRange}
-use Rattle.dg_sim.specs.Program.{entry, part, operation_at, looked_at}
+use Rattle.dg_tables.specs.Laws.{EntriesAreInRange}
+use Rattle.dg_tables.specs.Entries.{entry, IsEntry, Reads}
+use Rattle.dg_sim.specs.Program.{part, operation_at, looked_at}
 use Rattle.dg_sim.specs.Sim.{Agrees}
-use Rattle.dg_sim.specs.inner.Building.{IsRule, IsEntry, HandsOn, IsAlways, Reads, AreRead, IsElementwise}
-use Rattle.dg_sim.proofs.Lists.{get_some, get_mapped, length_mapped}
+use Rattle.dg_sim.specs.inner.Building.{IsRule, HandsOn, IsAlways, AreRead, IsElementwise}
+use Rattle.dg_tables.proofs.Lists.{get_some, get_mapped, length_mapped}
 
 -- ---- parts of a list that grows
 pub part_more : {A : Type 0} (xs ys : List A) (first count : ℕ) → first + count ≤ length xs → part (xs ++ ys) first count ≡ part xs first count
@@ -44,20 +45,6 @@ get_last [] x zero y at = inr (refl, same_Some x y at)
 get_last [] x (suc i) y at = absurd (none-some y at)
 get_last (z ∷ xs) x zero y at = inl at
 get_last (z ∷ xs) x (suc i) y at = elim (get_last xs x i y at) [ inl h ↦ inl h | inr h ↦ inr (ap suc h.0, h.1) ]
-
-pub map_end : {A : Type 0} (f : ℕ → A) (from n : ℕ) → map f (numbers_from from (suc n)) ≡ map f (numbers_from from n) ++ f (from + n) ∷ []
-map_end f from zero = let e : from ≡ from + 0 = omega arith in ap (λ (m : ℕ). f m ∷ []) e
-map_end f from (suc n) = let e : suc from + n ≡ from + suc n = omega arith in ap (λ xs. f from ∷ xs) (map_end f (suc from) n ∙ ap (λ (m : ℕ). map f (numbers_from (suc from) n) ++ f m ∷ []) e)
-
-pub map_end_zero : {A : Type 0} (f : ℕ → A) (n : ℕ) → map f (numbers_from 0 (suc n)) ≡ map f (numbers_from 0 n) ++ f n ∷ []
-map_end_zero f n = let e : 0 + n ≡ n = omega arith in map_end f 0 n ∙ ap (λ (m : ℕ). map f (numbers_from 0 n) ++ f m ∷ []) e
-
-pub map_last : {A : Type 0} (f : ℕ → A) (n : ℕ) → map f (numbers_from 1 (n + 1)) ≡ map f (numbers_from 1 n) ++ f (n + 1) ∷ []
-map_last f n = rw add-one (go 1 n ∙ (let e : 1 + n ≡ suc n = omega arith in ap (λ (m : ℕ). map f (numbers_from 1 n) ++ f m ∷ []) e))
-  where
-    go : (from n : ℕ) → map f (numbers_from from (suc n)) ≡ map f (numbers_from from n) ++ f (from + n) ∷ []
-    go from zero = let e : from ≡ from + 0 = omega arith in ap (λ (m : ℕ). f m ∷ []) e
-    go from (suc n) = let e : suc from + n ≡ from + suc n = omega arith in ap (λ xs. f from ∷ xs) (go (suc from) n ∙ ap (λ (m : ℕ). map f (numbers_from (suc from) n) ++ f m ∷ []) e)
 
 -- entries by place give the values of a block's input ports
 pub values_same : (look : ℕ → ℤ) (f : ℕ → ℤ) (numbers : List ℕ) (n from : ℕ) → length numbers ≡ n → ((i j : ℕ) → slice_get numbers i ≡ Some j → look j ≡ f (from + i)) → map look numbers ≡ map f (numbers_from from n)

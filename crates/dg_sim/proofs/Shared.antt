@@ -12,12 +12,12 @@ use Rattle.dg_model.specs.Equation.{IsPart}
 use Rattle.dg_model.specs.Solves.{IsShown, shown_ports, shown_width}
 use Rattle.dg_model.specs.Wired.{Joins}
 use Rattle.dg_model.specs.Wires.{driver_of, enters, at_source, width_into, widths_into}
-use Rattle.dg_sim.specs.Fit.{HasWidths}
-use Rattle.dg_sim.specs.inner.Finding.{IsRead}
-use Rattle.dg_sim.proofs.Drivers.{source_there}
+use Rattle.dg_tables.specs.Fit.{HasWidths}
+use Rattle.dg_tables.specs.Finding.{IsRead}
+use Rattle.dg_tables.proofs.Drivers.{source_there}
 use Rattle.dg_sim.proofs.Entries.{ports_are}
-use Rattle.dg_sim.proofs.Fitting.{widths_fit}
-use Rattle.dg_sim.proofs.Lists.{below_repeated, find_holds, get_number, length_numbers, sum_before}
+use Rattle.dg_tables.proofs.Fitting.{widths_fit}
+use Rattle.dg_tables.proofs.Lists.{below_repeated, find_holds, get_number, length_numbers, sum_before}
 
 module _ (diagram : Diagram) (is : IsChecked diagram) (block : ℕ) where
   abbrev into : ℕ → ℕ

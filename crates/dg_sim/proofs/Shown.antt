@@ -10,11 +10,10 @@ use Rattle.dg_model.specs.Wired.{root_output}
 use Rattle.dg_model.specs.Laws.{AreRootElements}
 use Rattle.dg_model.specs.RootElements.{RootElement, root_outputs}
 use Rattle.dg_model.specs.Wires.{width_into}
-use Rattle.dg_sim.specs.declared.roots.Root.{Root}
-use Rattle.dg_sim.specs.inner.Building.{IsEntry}
-use Rattle.dg_sim.specs.inner.Laying.{place_at}
-use Rattle.dg_sim.specs.inner.Roots.{root_at, roots_of}
-use Rattle.dg_sim.proofs.Edges.{map_there}
+use Rattle.dg_tables.specs.declared.roots.Root.{Root}
+use Rattle.dg_tables.specs.Entries.{IsEntry, place_at}
+use Rattle.dg_tables.specs.Roots.{root_at, roots_of}
+use Rattle.dg_tables.proofs.Edges.{map_there}
 use Rattle.dg_model.specs.Solves.{shown_ports, shown_width, ports_of_role, width_of_role}
 
 pub shown_none : (diagram : Diagram) (attributes : Attributes) (kind : Kind) (outputs block port : ℕ) → None ≡ root_output (row_of kind).place.role

@@ -12,9 +12,10 @@ use Rattle.dg_model.specs.declared.diagram.Diagram.{Diagram}
 use Rattle.dg_model.specs.declared.row.Role.{Role}
 use Rattle.dg_model.specs.Signals.{Attributes}
 use Rattle.dg_model.specs.RootElements.{RootElement, elements_of_port, has_number, root_elements}
-use Rattle.dg_sim.specs.declared.roots.Root.{Root}
-use Rattle.dg_sim.specs.inner.Roots.{AreSorted, is_root_before, root_at, roots_of}
-use Rattle.dg_sim.proofs.Rooted.{roots_port}
+use Rattle.dg_tables.specs.declared.roots.Root.{Root}
+use Rattle.dg_sim.specs.inner.Columns.{AreSorted, is_root_before}
+use Rattle.dg_tables.specs.Roots.{root_at, roots_of}
+use Rattle.dg_tables.proofs.Rooted.{roots_port}
 
 -- ---- what it means to stand before
 

@@ -11,11 +11,12 @@ use Rattle.dg_prepared.specs.declared.prepared.Prepared.{Prepared}
 use Rattle.dg_sim.specs.declared.program.Memory.{Memory}
 use Rattle.dg_sim.specs.declared.program.Program.{Program}
 use Rattle.dg_sim.specs.Ring.{PastValues}
-use Rattle.dg_sim.specs.State.{Move, moved, move_at, kept_count, kept_values}
-use Rattle.dg_sim.specs.Steps.{KeptMoves}
-use Rattle.dg_sim.specs.Program.{entry, value_at, is_on, move_of}
+use Rattle.dg_tables.specs.State.{Move, moved, move_at, kept_count, kept_values}
+use Rattle.dg_tables.specs.Steps.{KeptMoves}
+use Rattle.dg_tables.specs.Entries.{entry}
+use Rattle.dg_sim.specs.Program.{value_at, is_on, move_of}
 use Rattle.dg_sim.specs.Sim.{values_of, kept_at, Agrees, IsSimOf, IsAt, IsStepped, Keep, Shows}
-use Rattle.dg_sim.proofs.Ranks.{there_map}
+use Rattle.dg_tables.proofs.Ranks.{there_map}
 use Rattle.dg_sim.proofs.Moves.{after}
 
 module _ (checked : CheckedDiagram) (program : Program) (t : ℕ) (row later_row : List ℤ) (pasts later : List PastValues) (prepared : List Prepared)

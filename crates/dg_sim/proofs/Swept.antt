@@ -7,11 +7,12 @@ use Rattle.dg_model.specs.Checked.{CheckedDiagram}
 use Rattle.dg_model.specs.Hits.{Hits, is_hit}
 use Rattle.dg_prepared.specs.declared.prepared.Prepared.{Prepared}
 use Rattle.dg_sim.specs.declared.program.Cell.{Cell}
-use Rattle.dg_sim.specs.declared.program.Place.{Place}
+use Rattle.dg_tables.specs.declared.entries.Place.{Place}
 use Rattle.dg_sim.specs.declared.program.Program.{Program}
-use Rattle.dg_sim.specs.Laws.{IsOrdered, EntriesAreInRange, SolvedIsInRange, EntriesStay, EntryIsOne}
+use Rattle.dg_tables.specs.Laws.{IsOrdered, EntriesAreInRange, SolvedIsInRange, EntriesStay, EntryIsOne}
 use Rattle.dg_sim.specs.Ring.{PastValues}
-use Rattle.dg_sim.specs.Program.{entry, value_at, Gives, CanGive}
+use Rattle.dg_tables.specs.Entries.{entry}
+use Rattle.dg_sim.specs.Program.{value_at, Gives, CanGive}
 use Rattle.dg_sim.specs.Sim.{Simulation, kept_at, IsProgram, IsAt, Agrees}
 
 -- the hits of a period, as a test

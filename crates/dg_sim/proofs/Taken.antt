@@ -11,16 +11,16 @@ use Rattle.dg_model.specs.Library.{row_of}
 use Rattle.dg_model.specs.RootElements.{RootElement, number_in, root_inputs}
 use Rattle.dg_model.specs.Solves.{IsShown, shown_ports, shown_width}
 use Rattle.dg_model.specs.Wired.{IsWired, root_input}
-use Rattle.dg_sim.specs.declared.program.Place.{Place}
+use Rattle.dg_tables.specs.declared.entries.Place.{Place}
 use Rattle.dg_sim.specs.declared.program.Program.{Program}
 use Rattle.dg_sim.specs.declared.program.Rule.TheVariants.{Input}
-use Rattle.dg_sim.specs.declared.roots.Root.{Root}
+use Rattle.dg_tables.specs.declared.roots.Root.{Root}
 use Rattle.dg_sim.specs.inner.Building.{IsRule}
-use Rattle.dg_sim.specs.inner.Roots.{root_at, roots_of}
+use Rattle.dg_tables.specs.Roots.{root_at, roots_of}
 use Rattle.dg_sim.proofs.ByKind.{of_kind}
-use Rattle.dg_sim.proofs.Edges.{map_there}
+use Rattle.dg_tables.proofs.Edges.{map_there}
 use Rattle.dg_sim.proofs.Entries.{ports_are}
-use Rattle.dg_sim.proofs.Ranks.{there_map}
+use Rattle.dg_tables.proofs.Ranks.{there_map}
 
 pub input_rule : (diagram : Diagram) (program : Program) (k : ℕ) (place : Place) (b : Block) → slice_get diagram.blocks place.block ≡ Some b → IsWired diagram → InputsAreListed
     → (number width column : ℕ) → b.kind ≡ Inport number width → slice_get (roots_of (root_inputs diagram (attributes_of diagram))) column ≡ Some (root_at number place.block place.element)

@@ -9,11 +9,12 @@ use Rattle.dg_model.specs.declared.kind.Kind.TheVariants.{EnableTest}
 use Rattle.dg_model.specs.Signals.{Attributes}
 use Rattle.dg_model.specs.Operation.{stored_truth}
 use Rattle.dg_model.specs.Wires.{width_into, value_into}
-use Rattle.dg_sim.specs.declared.program.Place.{Place}
+use Rattle.dg_tables.specs.declared.entries.Place.{Place}
 use Rattle.dg_sim.specs.declared.program.Program.{Program}
 use Rattle.dg_sim.specs.declared.program.Rule.TheVariants.{Above}
 use Rattle.dg_sim.specs.Program.{part}
-use Rattle.dg_sim.specs.inner.Building.{AreElements, IsMade, Reads}
+use Rattle.dg_sim.specs.inner.Building.{AreElements, IsMade}
+use Rattle.dg_tables.specs.Entries.{Reads}
 use Rattle.dg_sim.proofs.ByKind.{of_kind}
 use Rattle.dg_sim.proofs.Serving.{get_last, values_same}
 use Rattle.dg_sim.proofs.Worked.{part_there, end_there}

@@ -1,10 +1,8 @@
 -- What the rule of an entry reads: each input is there, and stands before the entry where it is read in the same sample.
-use Rattle.std.proofs.Common.{◌≡◌, ℕ, ◌<◌, ◌≤◌, inr, List, length, Option, Some, None, pos, Bool, true, slice_get, ap, sym, ◌∙◌, subst, refl, arith}
+use Rattle.std.proofs.Common.{◌≡◌, ℕ, ◌<◌, ◌≤◌, inr, List, length, Some, Bool, true, slice_get, ap, sym, ◌∙◌, subst, refl, arith}
 use Rattle.std.proofs.lemmas.Option.{same_Some}
-use Rattle.fx_type.specs.declared.kind.FxType.TheVariants.{Logical}
 use Rattle.dg_model.specs.declared.diagram.Diagram.{Diagram}
 use Rattle.dg_model.specs.declared.diagram.Block.{Block}
-use Rattle.dg_model.specs.declared.diagram.Edge.{Edge}
 use Rattle.dg_model.specs.declared.kind.Kind.{Kind}
 use Rattle.dg_model.specs.declared.kind.Kind.TheVariants.{Inport, Outport, Constant, Ground, Sum, Gain, Product, Switch, Relational, Logic, Convert, Delay, Mux, Demux, RateTransition, Pass, EnableTest, EnOut, Terminator}
 use Rattle.dg_model.specs.declared.kind.Gate.{Gate}
@@ -18,49 +16,24 @@ use Rattle.dg_model.specs.Checked.{IsChecked, CheckedDiagram}
 use Rattle.dg_model.specs.Instant.{reads_now, asks_now}
 use Rattle.dg_model.specs.KindRow.{Shape}
 use Rattle.dg_model.specs.Library.{row_of, HasOperands, HasPorts, IsReadable}
-use Rattle.dg_model.specs.Loop.{LeadsNow}
 use Rattle.dg_model.specs.Signals.{Attributes}
 use Rattle.dg_model.specs.Solves.{IsShown}
-use Rattle.dg_model.specs.Wired.{IsWired}
-use Rattle.dg_model.specs.Wires.{driver_of, at_source, repeated, width_into}
-use Rattle.dg_sim.specs.Fit.{FitShape}
-use Rattle.dg_sim.specs.declared.program.Place.{Place}
-use Rattle.dg_sim.specs.declared.reading.Starts.{Starts}
-use Rattle.dg_sim.specs.inner.Building.{IsSource, IsEntry}
-use Rattle.dg_sim.specs.inner.Finding.{Finds, IsRead, IsTurn, ReadsNow, IsBeforeReader, source_of}
-use Rattle.dg_sim.specs.inner.Laying.{place_at}
-use Rattle.dg_sim.proofs.Fitting.{widths_fit}
-use Rattle.dg_sim.proofs.Lists.{below_repeated}
-use Rattle.dg_sim.proofs.Ranks.{driver_leads, control_leads}
-use Rattle.dg_sim.proofs.Sources.{source_shown, elements_read, is_readable}
+use Rattle.dg_model.specs.Wires.{width_into}
+use Rattle.dg_tables.specs.Fit.{FitShape}
+use Rattle.dg_tables.specs.declared.entries.Place.{Place}
+use Rattle.dg_tables.specs.declared.reading.Starts.{Starts}
+use Rattle.dg_tables.specs.Entries.{IsEntry, place_at}
+use Rattle.dg_tables.specs.Finding.{Finds, IsRead, ReadsNow}
+use Rattle.dg_sim.specs.inner.Turns.{IsTurn}
+use Rattle.dg_tables.proofs.Fitting.{widths_fit}
+use Rattle.dg_tables.proofs.Lists.{below_repeated}
+use Rattle.dg_tables.proofs.Ranks.{control_leads}
+use Rattle.dg_tables.proofs.Sources.{elements_read, is_readable}
 
 -- ---- the entry at the source of a line
 module _ (diagram : Diagram) (attributes : Attributes) (block port element : ℕ) where
-  pub none_read : driver_of diagram block port ≡ None → IsRead diagram attributes block port element → ⊥
-  none_read none read =
-      let h : repeated 0 element < 0 = subst (λ (o : Option Edge). repeated (at_source o 0 attributes.width_at) element < at_source o 0 attributes.width_at) none read in
-      omega (arith, h)
-
-  pub source_is : (edge : Edge) → driver_of diagram block port ≡ Some edge → IsSource diagram attributes block port element (source_of attributes edge element)
-  source_is edge e = record {
-    value = λ table t. ap (λ (o : Option Edge). at_source o (pos 0) (λ from from_port. table from from_port (repeated (attributes.width_at from from_port) element) t)) e;
-    type = ap (λ (o : Option Edge). at_source o Logical attributes.type_at) e;
-  }
-
-  pub source_entry : (edge : Edge) → IsWired diagram → driver_of diagram block port ≡ Some edge → IsRead diagram attributes block port element → IsEntry diagram attributes (source_of attributes edge element)
-  source_entry edge wired e read =
-      source_shown diagram attributes wired block port edge (repeated (attributes.width_at edge.from edge.from_port) element) e
-      (subst (λ (o : Option Edge). repeated (at_source o 0 attributes.width_at) element < at_source o 0 attributes.width_at) e read)
-
   pub below_read : element < width_into diagram attributes block port → IsRead diagram attributes block port element
   below_read below = below_repeated (width_into diagram attributes block port) element (inr below)
-
-pub source_before : (checked : CheckedDiagram) (starts : Starts) (places : List Place) (block port element number : ℕ) (edge : Edge) → Finds checked starts places → driver_of checked.diagram block port ≡ Some edge
-    → slice_get places number ≡ Some (source_of (attributes_of checked.diagram) edge element) → IsBeforeReader checked places block number
-source_before checked starts places block port element number edge finds e there k now =
-    let attributes : Attributes = attributes_of checked.diagram in
-    finds.ranked number k (source_of attributes edge element) now.0 there now.2
-    (subst (λ (n : ℕ). LeadsNow checked.diagram attributes edge.from n) (sym now.3) (driver_leads checked.diagram attributes block now.1 port edge now.4 now.5 e))
 
 -- ---- the entry whose rule is to be made
 module _ (checked : CheckedDiagram) (starts : Starts) (places : List Place) (k : ℕ) (place : Place) (b : Block) where

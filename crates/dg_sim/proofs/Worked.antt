@@ -8,13 +8,14 @@ use Rattle.dg_model.specs.Signals.{Attributes}
 use Rattle.dg_model.specs.Equation.{IsOpOf, signs_of}
 use Rattle.dg_model.specs.Operation.{CanPrepare}
 use Rattle.dg_model.specs.Wires.{type_into, types_into}
-use Rattle.dg_sim.specs.declared.program.Place.{Place}
+use Rattle.dg_tables.specs.declared.entries.Place.{Place}
 use Rattle.dg_sim.specs.declared.program.Work.{Work}
 use Rattle.dg_sim.specs.declared.program.Program.{Program}
 use Rattle.dg_sim.specs.declared.program.Rule.TheVariants.{Works}
 use Rattle.dg_sim.specs.Program.{part, operation_at}
-use Rattle.dg_sim.specs.inner.Building.{AreRead, AreEntries, IsMade, IsElementwise}
-use Rattle.dg_sim.proofs.Lists.{length_mapped}
+use Rattle.dg_sim.specs.inner.Building.{AreRead, IsMade, IsElementwise}
+use Rattle.dg_tables.specs.Entries.{AreEntries}
+use Rattle.dg_tables.proofs.Lists.{length_mapped}
 use Rattle.dg_sim.proofs.Serving.{part_last, operation_of_block, work_rule}
 
 pub part_there : {A : Type 0} (old more all : List A) (first count : ℕ) → all ≡ old ++ more → first ≡ length old → count ≡ length more → part all first count ≡ more

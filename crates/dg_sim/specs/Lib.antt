@@ -1,10 +1,5 @@
-pub mod Fit
-pub mod Laws
-pub mod Listing
 pub mod Program
 pub mod Ready
 pub mod Ring
 pub mod Sim
-pub mod State
-pub mod Steps
 pub mod inner

@@ -4,17 +4,11 @@ use Rattle.std.specs.List.{list_any}
 use Rattle.std.specs.Ordering.{int_eq}
 use Rattle.dg_model.specs.Operation.{Operation, OpGives, CanCarryOut, stored_truth}
 use Rattle.dg_model.specs.Hits.{is_hit}
-use Rattle.dg_model.specs.Signals.{Table}
-use Rattle.dg_sim.specs.declared.program.Place.{Place}
 use Rattle.dg_sim.specs.declared.program.Work.{Work}
 use Rattle.dg_sim.specs.declared.program.Rule.{Rule}
 use Rattle.dg_sim.specs.declared.program.Rule.TheVariants.{Input, Fixed, Same, Works, Above, Past, Slower, Held, Reset}
 use Rattle.dg_sim.specs.declared.program.Program.{Program}
-use Rattle.dg_sim.specs.State.{Move, Stay, Count, Forget}
-
--- the table's entry at a place
-abbrev pub entry : Table → Place → ℕ → ℤ
-entry table place t = table place.block place.port place.element t
+use Rattle.dg_tables.specs.State.{Move, Stay, Count, Forget}
 
 -- the value of a cell in a row; past the end 0
 abbrev pub value_at : List ℤ → ℕ → ℤ

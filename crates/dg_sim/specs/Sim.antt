@@ -10,16 +10,17 @@ use Rattle.dg_model.specs.Wires.{value_into}
 use Rattle.dg_model.specs.Equation.{Equation}
 use Rattle.dg_model.specs.Solves.{IsStimulus, IsShown, Solves}
 use Rattle.dg_model.specs.RootElements.{RootElement, root_inputs, root_outputs}
-use Rattle.dg_sim.specs.declared.program.Place.{Place}
+use Rattle.dg_tables.specs.declared.entries.Place.{Place}
 use Rattle.dg_sim.specs.declared.program.Cell.{Cell}
 use Rattle.dg_sim.specs.declared.program.Memory.{Memory}
 use Rattle.dg_sim.specs.declared.program.Program.{Program}
 use Rattle.dg_prepared.specs.declared.prepared.Prepared.{Prepared}
-use Rattle.dg_sim.specs.Laws.{EntriesAreInRange}
+use Rattle.dg_tables.specs.Laws.{EntriesAreInRange}
 use Rattle.dg_sim.specs.Ready.{AreReady}
 use Rattle.dg_sim.specs.Ring.{PastValues}
-use Rattle.dg_sim.specs.State.{Move, moved, move_at, kept_count, kept_values}
-use Rattle.dg_sim.specs.Program.{entry, value_at, Gives, CanGive, IsWithin, is_on, move_of}
+use Rattle.dg_tables.specs.State.{Move, moved, move_at, kept_count, kept_values}
+use Rattle.dg_tables.specs.Entries.{entry}
+use Rattle.dg_sim.specs.Program.{value_at, Gives, CanGive, IsWithin, is_on, move_of}
 
 -- a simulator: its program, how many samples were made, the value of each cell in the last of them, what each memory keeps, and what is prepared for each cell
 pub record Simulation : Type 0 where

@@ -1,5 +1,4 @@
 pub mod Building
+pub mod Columns
 pub mod Cursors
-pub mod Finding
-pub mod Laying
-pub mod Roots
+pub mod Turns

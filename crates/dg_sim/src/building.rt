@@ -1,22 +1,20 @@
 //! The program of a checked diagram.
 ghost use Rattle.std.specs.Prelude.{◌≡◌, ◌<◌, ◌+◌, ℕ, Some, length, slice_get, IfOk, OnOk};
 ghost use Rattle.dg_model.specs.Attributes.{attributes_of};
-ghost use Rattle.dg_model.specs.RootElements.{root_inputs, root_outputs};
+ghost use Rattle.dg_model.specs.RootElements.{root_inputs};
 ghost use Rattle.dg_sim.specs.Sim.{IsProgram};
-ghost use Rattle.dg_sim.specs.inner.Building.{AreShown, IsEntry, IsFilled};
-ghost use Rattle.dg_sim.specs.inner.Finding.{Finds};
-ghost use Rattle.dg_sim.specs.inner.Laying.{place_at};
-ghost use Rattle.dg_sim.specs.declared.roots.Root.{Root};
+ghost use Rattle.dg_sim.specs.inner.Building.{AreShown, IsFilled};
+ghost use Rattle.dg_tables.specs.Entries.{IsEntry, place_at};
+ghost use Rattle.dg_tables.specs.Finding.{Finds};
+ghost use Rattle.dg_tables.specs.declared.roots.Root.{Root};
 ghost use Rattle.dg_sim.specs.inner.Cursors.{AreCursors};
-ghost use Rattle.dg_sim.specs.inner.Roots.{roots_of};
+ghost use Rattle.dg_tables.specs.Roots.{roots_of};
 
 use crate::joining::Cursors;
-use crate::layout::lay_out;
-use crate::program::{Cell, Cells, Memories, Place, Program};
-use crate::reading::{Starts, look_up};
-use crate::roots::{Root, input_roots, output_roots};
+use crate::program::{Cell, Cells, Memories, Program};
 use crate::rules::rule_of;
 use dg_model::{Checked, FxTypes};
+use dg_tables::{Place, Root, Starts, input_roots, lay_out, look_up, output_roots};
 use fx_io::{Flags, OutOfMemory, Sizes};
 use std::alloc::Global;
 

@@ -4,13 +4,15 @@ ghost use Rattle.fx_type.specs.declared.kind.FxType.{FxType};
 ghost use Rattle.dg_model.specs.Attributes.{attributes_of};
 ghost use Rattle.dg_model.specs.declared.diagram.Block.{Block};
 ghost use Rattle.dg_model.specs.Wires.{width_into};
-ghost use Rattle.dg_sim.specs.inner.Building.{Reads, AreElements, IsMade};
-ghost use Rattle.dg_sim.specs.inner.Finding.{Finds, IsRead, IsTurn, ReadsNow};
+ghost use Rattle.dg_tables.specs.Entries.{Reads};
+ghost use Rattle.dg_sim.specs.inner.Building.{AreElements, IsMade};
+ghost use Rattle.dg_tables.specs.Finding.{Finds, IsRead, ReadsNow};
+ghost use Rattle.dg_sim.specs.inner.Turns.{IsTurn};
 ghost use Rattle.dg_model.specs.declared.kind.Kind.{Kind};
 
-use crate::program::{Place, Places, Program, Rule};
-use crate::reading::{Starts, input, width_of_input};
+use crate::program::{Program, Rule};
 use dg_model::{Block, Checked, FxTypes};
+use dg_tables::{Place, Places, Starts, input, width_of_input};
 use fx_io::{OutOfMemory, Sizes};
 use fx_type::FxType;
 

@@ -1,9 +1,9 @@
 //! What the rule of a cell gives.
-ghost use Rattle.std.specs.Prelude.{◌≡◌, ◌≤◌, ◌+◌, ℕ, ℤ, pos, int_lt, length, map, take, slice_get, Some, if◌then◌else◌};
+ghost use Rattle.std.specs.Prelude.{◌≡◌, ◌≤◌, ◌+◌, pos, int_lt, length, map, take, Some, if◌then◌else◌};
 ghost use Rattle.std.specs.List.{list_any};
 ghost use Rattle.dg_model.specs.Hits.{is_hit};
 ghost use Rattle.dg_model.specs.Operation.{CanCarryOut, OpGives};
-ghost use Rattle.dg_sim.specs.Program.{value_at, part, operation_at, looked_at, kept_or, is_on, Gives, CanGive};
+ghost use Rattle.dg_sim.specs.Program.{value_at, operation_at, looked_at, kept_or, is_on, Gives, CanGive};
 ghost use Rattle.dg_prepared.specs.Prepared.{IsPrepared};
 ghost use Rattle.dg_sim.specs.Ready.{IsReadyFor};
 ghost use Rattle.dg_sim.specs.Sim.{kept_at};

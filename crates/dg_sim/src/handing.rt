@@ -2,17 +2,29 @@
 ghost use Rattle.std.specs.Prelude.{◌≡◌, ◌<◌, Some, slice_get, IfOk};
 ghost use Rattle.fx_type.specs.declared.decimal.Decimal.{Decimal};
 ghost use Rattle.dg_model.specs.Attributes.{attributes_of};
+ghost use Rattle.dg_model.specs.Hits.{is_slow_to_fast};
 ghost use Rattle.dg_model.specs.declared.diagram.Block.{Block};
 ghost use Rattle.dg_sim.specs.inner.Building.{HandsOn, IsMade};
-ghost use Rattle.dg_sim.specs.inner.Finding.{Finds, IsRead, IsTurn, ReadsNow};
+ghost use Rattle.dg_tables.specs.Finding.{Finds, IsRead, ReadsNow};
+ghost use Rattle.dg_sim.specs.inner.Turns.{IsTurn};
 ghost use Rattle.dg_model.specs.declared.kind.Kind.{Kind};
 
 use crate::memories::slowed;
-use crate::program::{Place, Program, Rule};
-use crate::reading::{Starts, input, is_slower, period_of_input};
+use crate::program::{Program, Rule};
 use dg_model::{Block, Checked};
+use dg_tables::{Place, Starts, input, period_of_input};
 use fx_io::OutOfMemory;
 use fx_type::Decimal;
+
+/// Whether a rate transition leads from slow to fast.
+fn is_slower(driver: Option<u32>, own: Option<u32>) -> bool
+    ensures { result ≡ is_slow_to_fast driver own }
+{
+    match (driver, own) {
+        (Some(slow), Some(fast)) => fast < slow,
+        _ => false,
+    }
+}
 
 /// The rule of a block that hands on what an input port offers to an element.
 pub fn hand_on(

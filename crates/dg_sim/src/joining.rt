@@ -10,12 +10,13 @@ ghost use Rattle.dg_model.specs.Equation.{IsPart};
 ghost use Rattle.dg_model.specs.Wires.{width_into, widths_into};
 ghost use Rattle.dg_sim.specs.inner.Building.{IsMade};
 ghost use Rattle.dg_sim.specs.inner.Cursors.{AreCursors, IsInto, IsOut};
-ghost use Rattle.dg_sim.specs.inner.Finding.{AreLines, IsTurn};
+ghost use Rattle.dg_tables.specs.Finding.{AreLines};
+ghost use Rattle.dg_sim.specs.inner.Turns.{IsTurn};
 
 use crate::handing::hand_on;
-use crate::program::{Place, Program, Rule};
-use crate::reading::{Starts, width_of_input, width_of_output};
+use crate::program::{Program, Rule};
 use dg_model::{Block, Checked};
+use dg_tables::{Place, Starts, width_of_input, width_of_output};
 
 /// How many elements the first ports of a block have together.
 #[derive(Clone, Copy, Debug)]

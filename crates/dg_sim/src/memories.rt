@@ -1,20 +1,20 @@
 //! What is kept for the rules that look back.
-ghost use Rattle.std.specs.Prelude.{◌≡◌, ◌≤◌, ℕ, Some, slice_get, true, IfOk, IfSome};
+ghost use Rattle.std.specs.Prelude.{◌≡◌, ◌≤◌, ℕ, Some, slice_get, true, IfOk};
 ghost use Rattle.dg_model.specs.Attributes.{attributes_of};
 ghost use Rattle.fx_type.specs.declared.decimal.Decimal.{Decimal};
 ghost use Rattle.dg_model.specs.declared.kind.Kind.{Kind};
 ghost use Rattle.dg_model.specs.Hits.{is_slow_to_fast};
 ghost use Rattle.dg_model.specs.Wires.{period_into};
-ghost use Rattle.dg_sim.specs.State.{kept_count};
+ghost use Rattle.dg_tables.specs.State.{kept_count};
 ghost use Rattle.dg_sim.specs.inner.Building.{IsControl, Moves, IsRemembered, IsMade};
-ghost use Rattle.dg_sim.specs.inner.Finding.{Finds, IsRead, IsTurn};
-ghost use Rattle.dg_sim.specs.inner.Laying.{place_at};
+ghost use Rattle.dg_tables.specs.Finding.{Finds, IsRead};
+ghost use Rattle.dg_sim.specs.inner.Turns.{IsTurn};
+ghost use Rattle.dg_tables.specs.Entries.{place_at};
 
-use crate::laws::{kept_moves, operations_prepare};
-use crate::program::{Memory, Place, Program, Rule};
-use crate::reading::{Starts, input, look_up};
+use crate::program::{Memory, Program, Rule};
 use crate::rules::stored;
 use dg_model::{Block, Checked};
+use dg_tables::{Place, Starts, input, kept_moves, look_up, operations_prepare};
 use fx_io::OutOfMemory;
 use fx_type::Decimal;
 

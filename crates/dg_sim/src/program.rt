@@ -1,15 +1,8 @@
 //! A checked diagram as a list of cells in its order, one for each entry that a sample has.
 use dg_model::{FxTypes, Op};
+use dg_tables::{Place, Places};
 use fx_io::{Flags, Sequence, Sizes};
 use fx_type::{FxType, Rounding};
-
-/// Where entries of a table stand: a block by its place, an output port from 1 and an element from 0.
-#[derive(Clone, Copy, Debug, PartialEq, Eq)]
-pub struct Place {
-    pub block: u32,
-    pub port: u32,
-    pub element: u32,
-}
 
 /// An operation with the cells of its inputs: where they begin among the arguments of the program, and
 /// how many there are. Its signs stand likewise.
@@ -114,8 +107,6 @@ pub struct Program {
     /// The cells of the root output elements.
     pub outputs: Sizes,
 }
-
-pub type Places = Sequence<Place>;
 
 pub type Cells = Sequence<Cell>;
 

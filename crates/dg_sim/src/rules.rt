@@ -6,26 +6,35 @@ ghost use Rattle.fx_type.specs.declared.decimal.Decimal.{Decimal};
 ghost use Rattle.dg_model.specs.Attributes.{attributes_of};
 ghost use Rattle.dg_model.specs.declared.diagram.Block.{Block};
 ghost use Rattle.dg_model.specs.Equation.{StoresEntry};
-ghost use Rattle.dg_sim.specs.inner.Building.{IsAlways, AreEntries, IsEntry, IsMade, is_kept, is_worked};
+ghost use Rattle.dg_model.specs.Wires.{repeated};
+ghost use Rattle.dg_sim.specs.inner.Building.{IsAlways, IsMade, is_kept, is_worked};
+ghost use Rattle.dg_tables.specs.Entries.{AreEntries, IsEntry};
 ghost use Rattle.dg_sim.specs.inner.Cursors.{AreCursors};
-ghost use Rattle.dg_sim.specs.inner.Finding.{Finds, HasEntry, IsTurn};
+ghost use Rattle.dg_tables.specs.Finding.{Finds};
+ghost use Rattle.dg_sim.specs.inner.Turns.{HasEntry, IsTurn};
 ghost use Rattle.dg_model.specs.Solves.{IsShown};
-ghost use Rattle.dg_sim.specs.inner.Roots.{roots_of};
+ghost use Rattle.dg_tables.specs.Roots.{roots_of};
 ghost use Rattle.dg_model.specs.RootElements.{root_inputs};
 ghost use Rattle.dg_model.specs.declared.kind.Kind.{Kind};
 
+use crate::columns::find_root;
 use crate::enabling::above;
 use crate::handing::{hand_on, transition};
 use crate::joining::{Cursors, joined, parted};
-use crate::laws::operations_prepare;
 use crate::memories::{delayed, gated};
-use crate::program::{Place, Program, Rule};
-use crate::reading::{Starts, place_in};
-use crate::roots::{Root, find_root};
+use crate::program::{Program, Rule};
 use crate::working::{op_of, works};
 use dg_model::{Block, Checked, Kind};
+use dg_tables::{Place, Root, Starts, operations_prepare};
 use fx_io::OutOfMemory;
 use fx_type::{Decimal, FxType};
+
+/// Where an element stands in a signal or list of this width.
+fn place_in(width: usize, element: u32) -> usize
+    ensures { result ≡ repeated width element }
+{
+    if width == 1 { 0 } else { element as usize }
+}
 
 /// The entry of a list parameter for an element, stored in a type.
 pub fn stored(list: &[Decimal], element: u32, kind: FxType) -> i128

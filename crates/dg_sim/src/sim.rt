@@ -7,13 +7,13 @@ ghost use Rattle.dg_sim.specs.Sim.{Simulation, IsSimOf, IsAt, IsStepped, Stands}
 ghost use Rattle.dg_sim.specs.inner.Building.{AreRooms};
 
 use crate::building::program_of;
-use crate::laws::kept_moves;
 use crate::past::Past;
 use crate::program::{Memory, Program};
 use crate::readying::prepare;
 use crate::sweeping::{keep, show, sweep};
 use dg_model::Checked;
 use dg_prepared::Prepared;
+use dg_tables::kept_moves;
 use fx_io::OutOfMemory;
 use std::alloc::Global;
 use std::marker::Model;

@@ -1,21 +1,20 @@
 //! The passes of a sample: the values of the cells, what memories keep, and the outputs.
-ghost use Rattle.std.specs.Prelude.{◌≡◌, ◌<◌, ℕ, suc, length, map, Some, slice_get};
+ghost use Rattle.std.specs.Prelude.{◌≡◌, ℕ, length, map, Some, slice_get};
 ghost use Rattle.dg_model.specs.Attributes.{attributes_of};
 ghost use Rattle.dg_model.specs.Signals.{Stimulus, Table};
 ghost use Rattle.dg_model.specs.Hits.{is_hit};
 ghost use Rattle.dg_sim.specs.declared.program.Memory.{Memory};
 ghost use Rattle.dg_sim.specs.Ready.{AreReady};
 ghost use Rattle.dg_sim.specs.Ring.{PastValues};
-ghost use Rattle.dg_sim.specs.State.{moved};
 ghost use Rattle.dg_sim.specs.Program.{value_at, is_on, move_of};
 ghost use Rattle.dg_sim.specs.Sim.{IsProgram, IsAt, Agrees, past_moved};
 
 use crate::giving::{give, hits, on, read};
-use crate::laws::{entries_stay, entry_is_one, solved_is_in_range};
 use crate::past::Past;
 use crate::program::{Memory, Program};
 use dg_model::Checked;
 use dg_prepared::Prepared;
+use dg_tables::{entries_stay, entry_is_one, solved_is_in_range};
 
 /// The value of every cell at a sample: of those that hit by their rules, of the others what it was.
 pub fn sweep(

@@ -5,15 +5,16 @@ ghost use Rattle.dg_model.specs.declared.diagram.Block.{Block};
 ghost use Rattle.dg_model.specs.Equation.{IsOpOf, signs_of};
 ghost use Rattle.dg_model.specs.Wires.{type_into, types_into};
 ghost use Rattle.dg_model.specs.Solves.{IsShown};
-ghost use Rattle.dg_sim.specs.inner.Building.{Reads, AreRead, AreEntries, IsMade, is_worked};
-ghost use Rattle.dg_sim.specs.inner.Finding.{AreLines, Finds, IsRead, IsTurn, ReadsNow};
+ghost use Rattle.dg_tables.specs.Entries.{Reads, AreEntries};
+ghost use Rattle.dg_sim.specs.inner.Building.{AreRead, IsMade, is_worked};
+ghost use Rattle.dg_tables.specs.Finding.{AreLines, Finds, IsRead, ReadsNow};
+ghost use Rattle.dg_sim.specs.inner.Turns.{IsTurn};
 ghost use Rattle.dg_model.specs.declared.kind.Kind.{Kind};
 
-use crate::laws::operations_prepare;
-use crate::program::{Place, Places, Program, Rule, Work};
-use crate::reading::{Starts, input, type_of_input};
+use crate::program::{Program, Rule, Work};
 use crate::rules::stored;
 use dg_model::{Block, Checked, FxTypes, Kind, Op};
+use dg_tables::{Place, Places, Starts, input, operations_prepare, type_of_input};
 use fx_io::{Flags, OutOfMemory, Sizes};
 
 /// Puts what the input ports of a block offer to an element behind the arguments, with their types.

@@ -11,7 +11,7 @@ use Rattle.dg_model.specs.RootElements.{RootElement, root_inputs, root_outputs}
 use Rattle.dg_model.specs.Laws.{AreRootElements}
 use Rattle.dg_model.specs.Wired.{root_output}
 use Rattle.dg_model.specs.Wires.{width_into}
-use Rattle.dg_sim.specs.Listing.{AreBlocksOf}
+use Rattle.dg_tables.specs.Listing.{AreBlocksOf}
 use Rattle.hw_names.specs.Names.{AreNames, wanted_names, wanted_of}
 use Rattle.hw_sched.specs.Slots.{Timing}
 use Rattle.fx_check.specs.CheckText.{IsCheckText, blocks_text, front_text, output_line}

@@ -4,7 +4,7 @@ use Rattle.dg_model.specs.declared.diagram.Diagram.{Diagram}
 use Rattle.dg_model.specs.declared.resolved.Resolved.{Resolved}
 use Rattle.dg_model.specs.Attributes.{attributes_of}
 use Rattle.dg_model.specs.RootElements.{root_outputs}
-use Rattle.dg_sim.specs.Listing.{AreBlocksOf}
+use Rattle.dg_tables.specs.Listing.{AreBlocksOf}
 use Rattle.fx_io.specs.declared.sink.PutFault.{PutFault}
 use Rattle.hw_names.specs.Names.{AreNames, wanted_names}
 use Rattle.hw_sched.specs.Ready.{declared_latency}

@@ -6,7 +6,7 @@ ghost use Rattle.hw_sched.specs.Ready.{declared_latency};
 ghost use Rattle.fx_check.specs.Gathered.{IsGathered, clocks_at};
 
 use dg_model::Checked;
-use dg_sim::output_blocks;
+use dg_tables::output_blocks;
 use fx_io::{OutOfMemory, Sizes, Texts};
 use hw_names::port_names;
 use hw_rules::Planned;

@@ -17,7 +17,7 @@ use Rattle.dg_model.specs.Signals.{Attributes}
 use Rattle.dg_model.specs.Widths.{widths_of}
 use Rattle.dg_model.specs.Wired.{Joins, root_input, root_output}
 use Rattle.dg_model.specs.Wires.{at_source, driver_of, enters, width_into}
-use Rattle.dg_sim.proofs.Lists.{find_holds, get_holds}
+use Rattle.dg_tables.proofs.Lists.{find_holds, get_holds}
 use Rattle.fx_top.proofs.Steadied.{placed}
 use Rattle.hw_build.proofs.Named.{want_is}
 use Rattle.hw_build.proofs.Naming.{IsWanted}

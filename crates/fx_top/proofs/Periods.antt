@@ -9,8 +9,8 @@ use Rattle.dg_model.specs.declared.row.Role.{Role}
 use Rattle.dg_model.specs.Laws.{AreRootElements}
 use Rattle.dg_model.specs.RootElements.{RootElement}
 use Rattle.dg_response.specs.Response.{column_of}
-use Rattle.dg_sim.proofs.Edges.{length_map}
-use Rattle.dg_sim.proofs.Lists.{get_some}
+use Rattle.dg_tables.proofs.Edges.{length_map}
+use Rattle.dg_tables.proofs.Lists.{get_some}
 use Rattle.fx_tables.specs.declared.table.Column.{Column}
 use Rattle.hw_sched.specs.Laws.{PeriodsAreAbove}
 

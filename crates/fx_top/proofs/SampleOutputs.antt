@@ -8,7 +8,7 @@ use Rattle.dg_model.specs.Attributes.{attributes_of}
 use Rattle.dg_model.specs.Laws.{OutputsAreListed}
 use Rattle.dg_model.specs.RootElements.{RootElement, root_outputs}
 use Rattle.dg_model.specs.Wired.{IsWired}
-use Rattle.dg_sim.specs.Listing.{AreBlocksOf}
+use Rattle.dg_tables.specs.Listing.{AreBlocksOf}
 use Rattle.fx_sample.specs.declared.summing.Made.{Made}
 use Rattle.fx_sample.specs.Summary.{equal_count, summary_text}
 use Rattle.fx_sample.specs.ModelText.{sample_model}

@@ -2,7 +2,7 @@ ghost use Rattle.std.specs.Prelude.{◌≡◌, ◌≤◌, ◌<◌, All, IfErr, I
 ghost use Rattle.dg_model.specs.Attributes.{attributes_of};
 ghost use Rattle.dg_model.specs.PlanOf.{IsPlanOf};
 ghost use Rattle.dg_model.specs.RootElements.{root_outputs};
-ghost use Rattle.dg_sim.specs.Listing.{AreBlocksOf};
+ghost use Rattle.dg_tables.specs.Listing.{AreBlocksOf};
 ghost use Rattle.fx_designed.specs.Design.{IsDesignOf};
 ghost use Rattle.fx_designed.specs.Refused.{IsDesigned, IsRefusedDesign};
 ghost use Rattle.fx_model.specs.Model.{IsModelOf};
@@ -19,7 +19,7 @@ use crate::answer::Answer;
 use crate::simulated::{Simulation, SimulationFault, simulation_in, simulation_text};
 use crate::verilog::text_of;
 use dg_model::Checked;
-use dg_sim::output_blocks;
+use dg_tables::output_blocks;
 use fx_check::clocks_of;
 use fx_designed::{DesignFault, Designed, designed_of};
 use fx_io::{OutOfMemory, Sink, Text, put_all};

@@ -9,7 +9,7 @@ use Rattle.dg_model.specs.Attributes.{attributes_of}
 use Rattle.dg_model.specs.Laws.{InputsAreListed}
 use Rattle.dg_model.specs.RootElements.{root_inputs}
 use Rattle.dg_model.specs.Solves.{IsShown, shown_ports, shown_width}
-use Rattle.dg_sim.specs.Laws.{IsOrdered, TypesAreValid}
+use Rattle.dg_tables.specs.Laws.{IsOrdered, TypesAreValid}
 use Rattle.hw_net.specs.Circuit.{Circuit}
 use Rattle.hw_build.specs.inner.HubPlaces.{before, is_input_role, own_hubs, port_size, owner_in, hub_at, HasHubs}
 use Rattle.hw_build.proofs.Beginning.{owner_is, place_other, place_input}

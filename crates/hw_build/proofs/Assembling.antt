@@ -10,7 +10,7 @@ use Rattle.dg_model.specs.Loop.{IsOrder}
 use Rattle.dg_model.specs.RootElements.{RootElement, root_inputs, root_outputs}
 use Rattle.dg_model.specs.Wires.{width_into}
 use Rattle.hw_net.specs.Circuit.{Circuit}
-use Rattle.dg_sim.specs.Laws.{IsOrdered}
+use Rattle.dg_tables.specs.Laws.{IsOrdered}
 use Rattle.hw_sched.specs.Laws.{MovingHavePeriods, PeriodsAreAbove, PeriodsAreShort}
 use Rattle.hw_sched.specs.Ready.{declared_latency}
 use Rattle.hw_sched.specs.Slots.{Timing as Times}

@@ -15,7 +15,7 @@ use Rattle.dg_model.specs.declared.row.Role.{Role}
 use Rattle.dg_model.specs.Signals.{Attributes}
 use Rattle.dg_model.specs.Laws.{InputsAreListed}
 use Rattle.dg_model.specs.Wired.{root_input}
-use Rattle.dg_sim.specs.Laws.{IsOrdered, TypesAreValid}
+use Rattle.dg_tables.specs.Laws.{IsOrdered, TypesAreValid}
 use Rattle.hw_net.specs.declared.netlist.Net.{Net}
 use Rattle.hw_net.specs.declared.netlist.NetKind.{NetKind}
 use Rattle.hw_net.specs.declared.netlist.NetKind.TheVariants.{Comb}

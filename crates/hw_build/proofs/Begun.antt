@@ -13,7 +13,7 @@ use Rattle.dg_model.specs.Laws.{InputsAreListed}
 use Rattle.dg_model.specs.RootElements.{RootElement, root_element, root_inputs}
 use Rattle.dg_model.specs.Solves.{IsShown, shown_width}
 use Rattle.dg_model.specs.Wired.{root_input}
-use Rattle.dg_sim.specs.Laws.{IsOrdered, TypesAreValid}
+use Rattle.dg_tables.specs.Laws.{IsOrdered, TypesAreValid}
 use Rattle.hw_latency.specs.Shared.{multiplies, multiplies_if, is_shared}
 use Rattle.hw_net.specs.declared.netlist.NetLabel.{NetLabel}
 use Rattle.hw_net.specs.Circuit.{Circuit}

@@ -17,7 +17,7 @@ use Rattle.dg_model.specs.Attributes.{attributes_of}
 use Rattle.dg_model.specs.Laws.{InputsAreListed}
 use Rattle.dg_model.specs.RootElements.{root_inputs}
 use Rattle.dg_model.specs.Solves.{IsShown, shown_ports}
-use Rattle.dg_sim.specs.Laws.{IsOrdered, TypesAreValid}
+use Rattle.dg_tables.specs.Laws.{IsOrdered, TypesAreValid}
 use Rattle.hw_net.specs.declared.netlist.Net.{Net}
 use Rattle.hw_net.specs.declared.netlist.NetKind.{NetKind}
 use Rattle.hw_net.specs.declared.netlist.NetLabel.{NetLabel}

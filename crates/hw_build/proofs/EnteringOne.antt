@@ -14,8 +14,8 @@ use Rattle.dg_model.specs.Laws.{InputsAreListed, WidthsAreOfEdges}
 use Rattle.dg_model.specs.Library.{row_of, HasPorts}
 use Rattle.dg_model.specs.Solves.{IsShown, shown_ports, shown_width}
 use Rattle.dg_model.specs.Wires.{period_into}
-use Rattle.dg_sim.specs.Fit.{HasLists}
-use Rattle.dg_sim.specs.Laws.{IsOrdered, SignalsFit, TypesAreValid}
+use Rattle.dg_tables.specs.Fit.{HasLists}
+use Rattle.dg_tables.specs.Laws.{IsOrdered, SignalsFit, TypesAreValid}
 use Rattle.hw_latency.specs.Shared.{is_shared}
 use Rattle.hw_net.specs.Circuit.{Circuit}
 use Rattle.hw_lower.specs.Lowered.{AreArgs}

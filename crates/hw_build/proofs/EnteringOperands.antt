@@ -20,7 +20,7 @@ use Rattle.dg_model.specs.LatencyEdges.{asks_ever}
 use Rattle.dg_model.specs.Library.{row_of, HasPorts}
 use Rattle.dg_model.specs.Solves.{shown_ports, shown_width}
 use Rattle.dg_model.specs.Wires.{at_source, type_into, types_into, width_into, widths_into}
-use Rattle.dg_sim.specs.Fit.{AreRepeated, HasWidths, KeepsType}
+use Rattle.dg_tables.specs.Fit.{AreRepeated, HasWidths, KeepsType}
 use Rattle.hw_net.specs.Circuit.{Circuit}
 use Rattle.hw_net.specs.Netlist.{HasWord}
 use Rattle.hw_lower.specs.Lowered.{AreArgs}

@@ -12,7 +12,7 @@ use Rattle.dg_model.specs.Equation.{IsPart}
 use Rattle.dg_model.specs.Library.{HasPorts}
 use Rattle.dg_model.specs.Solves.{IsShown, shown_ports, shown_width}
 use Rattle.dg_model.specs.Wires.{width_into}
-use Rattle.dg_sim.specs.Fit.{HasWidths}
+use Rattle.dg_tables.specs.Fit.{HasWidths}
 use Rattle.hw_build.specs.Places.{Places}
 use Rattle.hw_build.specs.inner.Entries.{AreOffered}
 

@@ -15,7 +15,7 @@ use Rattle.dg_model.specs.Checked.{IsChecked}
 use Rattle.dg_model.specs.KindRow.{FullRule}
 use Rattle.dg_model.specs.Library.{row_of, HasPorts, IsReadable}
 use Rattle.dg_model.specs.Wires.{type_into}
-use Rattle.dg_sim.specs.Laws.{IsOrdered, OperationsPrepare, TypesAreValid}
+use Rattle.dg_tables.specs.Laws.{IsOrdered, OperationsPrepare, TypesAreValid}
 use Rattle.hw_latency.specs.Shared.{is_shared, multiplies, multiplies_if, shares}
 use Rattle.hw_net.specs.Circuit.{Circuit}
 use Rattle.hw_net.specs.Growing.{Extends}

@@ -20,7 +20,7 @@ use Rattle.dg_model.specs.Library.{row_of, IsReadable}
 use Rattle.dg_model.specs.Operation.{type_of}
 use Rattle.dg_model.specs.Signals.{Attributes}
 use Rattle.dg_model.specs.Wires.{entry_of, repeated, type_into, types_into}
-use Rattle.dg_sim.specs.Laws.{IsOrdered, OperationsPrepare, TypesAreValid}
+use Rattle.dg_tables.specs.Laws.{IsOrdered, OperationsPrepare, TypesAreValid}
 use Rattle.hw_sched.specs.Slots.{right_type, right_of}
 use Rattle.hw_build.proofs.Assembly.{repeated_one, repeated_more}
 use Rattle.hw_build.proofs.Serving.{is_product, multiplies_input, product_inputs}

@@ -9,7 +9,7 @@ use Rattle.dg_model.specs.Laws.{InputsAreListed}
 use Rattle.dg_model.specs.Library.{row_of}
 use Rattle.dg_model.specs.RootElements.{RootElement, root_element, root_inputs}
 use Rattle.dg_model.specs.Solves.{shown_ports, shown_width, IsShown}
-use Rattle.dg_sim.specs.Laws.{IsOrdered}
+use Rattle.dg_tables.specs.Laws.{IsOrdered}
 use Rattle.hw_net.specs.Circuit.{Circuit}
 use Rattle.hw_sched.proofs.Periods.{readable_at}
 use Rattle.hw_build.specs.inner.HubPlaces.{before, is_input_role, port_size, own_hubs, owner_in, owner_of, hub_start, hub_at, HasHubs}

@@ -16,7 +16,7 @@ use Rattle.dg_model.specs.LatencyEdges.{LatencyEdge, signal_edge, latency_edges}
 use Rattle.dg_model.specs.RootElements.{root_inputs}
 use Rattle.dg_model.specs.Solves.{shown_ports}
 use Rattle.dg_model.specs.Wires.{driver_of, repeated}
-use Rattle.dg_sim.specs.Laws.{IsOrdered, TypesAreValid}
+use Rattle.dg_tables.specs.Laws.{IsOrdered, TypesAreValid}
 use Rattle.hw_net.specs.Circuit.{Circuit}
 use Rattle.hw_sched.specs.Chained.{initial_at, uses_from, uses_in_all}
 use Rattle.hw_sched.specs.Slots.{Timing as Times}

@@ -14,7 +14,7 @@ use Rattle.dg_model.specs.Laws.{InputsAreListed}
 use Rattle.dg_model.specs.PlanOf.{stages_at}
 use Rattle.dg_model.specs.RootElements.{RootElement, root_inputs}
 use Rattle.dg_model.specs.Solves.{IsShown, shown_ports}
-use Rattle.dg_sim.specs.Laws.{IsOrdered, TypesAreValid}
+use Rattle.dg_tables.specs.Laws.{IsOrdered, TypesAreValid}
 use Rattle.hw_net.specs.Circuit.{Circuit}
 use Rattle.hw_net.specs.Growing.{IsResize}
 use Rattle.hw_sched.specs.Laws.{PeriodsAreAbove}

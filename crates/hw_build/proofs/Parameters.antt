@@ -18,7 +18,7 @@ use Rattle.dg_model.specs.Library.{row_of, HasPorts, IsReadable}
 use Rattle.dg_model.specs.Solves.{IsShown, shown_ports, shown_width}
 use Rattle.dg_model.specs.Wired.{Joins}
 use Rattle.dg_model.specs.Wires.{repeated, type_into, types_into}
-use Rattle.dg_sim.specs.Fit.{HasLists}
+use Rattle.dg_tables.specs.Fit.{HasLists}
 use Rattle.hw_net.specs.Circuit.{Circuit}
 use Rattle.hw_net.proofs.Places.{at-place}
 use Rattle.hw_lower.specs.Lowered.{AreArgs}

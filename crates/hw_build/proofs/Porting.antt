@@ -23,7 +23,7 @@ use Rattle.hw_build.specs.inner.HubPlaces.{hub_at}
 use Rattle.hw_build.specs.inner.Porting.{IsPortOf, IsPortFor, ArePortsFor, AddsInputPorts, AddsOutputPorts}
 use Rattle.dg_model.specs.Checked.{IsChecked}
 use Rattle.dg_model.specs.Laws.{InputsAreListed, OutputsAreListed, AreRootElements}
-use Rattle.dg_sim.specs.Listing.{AreBlocksOf}
+use Rattle.dg_tables.specs.Listing.{AreBlocksOf}
 use Rattle.hw_names.proofs.Places.{map_from, place_is}
 use Rattle.hw_names.proofs.Taking.{given_more, taken_more}
 

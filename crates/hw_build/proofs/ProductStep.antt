@@ -11,7 +11,7 @@ use Rattle.dg_model.specs.KindRow.{FullRule}
 use Rattle.dg_model.specs.Laws.{WidthsAreOfEdges}
 use Rattle.dg_model.specs.Library.{row_of, HasPorts, IsReadable}
 use Rattle.dg_model.specs.RootElements.{root_inputs}
-use Rattle.dg_sim.specs.Laws.{IsOrdered, OperationsPrepare, TypesAreValid}
+use Rattle.dg_tables.specs.Laws.{IsOrdered, OperationsPrepare, TypesAreValid}
 use Rattle.hw_arcs.specs.Latencies.{latency_at}
 use Rattle.hw_latency.specs.Shared.{is_shared}
 use Rattle.hw_latency.specs.Weight.{samples}

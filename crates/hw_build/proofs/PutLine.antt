@@ -23,7 +23,7 @@ use Rattle.dg_model.specs.Library.{row_of, HasPorts}
 use Rattle.dg_model.specs.Solves.{shown_ports}
 use Rattle.dg_model.specs.Widths.{width_at}
 use Rattle.dg_model.specs.Wires.{at_source, repeated, driver_of, type_into}
-use Rattle.dg_sim.specs.Fit.{HasLists, KeepsType}
+use Rattle.dg_tables.specs.Fit.{HasLists, KeepsType}
 use Rattle.hw_latency.specs.Weight.{is_free, is_registered, samples}
 use Rattle.hw_lines.specs.declared.source.Use.{Use as Asked}
 use Rattle.hw_net.specs.Circuit.{Circuit}

@@ -17,7 +17,7 @@ use Rattle.dg_model.specs.Attributes.{attributes_of}
 use Rattle.dg_model.specs.Equation.{IsOpOf}
 use Rattle.dg_model.specs.Library.{row_of}
 use Rattle.dg_model.specs.Wires.{type_into}
-use Rattle.dg_sim.specs.Laws.{IsOrdered, OperationsPrepare, TypesAreValid}
+use Rattle.dg_tables.specs.Laws.{IsOrdered, OperationsPrepare, TypesAreValid}
 use Rattle.hw_arcs.specs.Latencies.{latency_at}
 use Rattle.hw_latency.specs.Shared.{is_shared}
 use Rattle.hw_latency.specs.Weight.{samples}

@@ -4,7 +4,7 @@ use Rattle.dg_model.specs.declared.diagram.Diagram.{Diagram}
 use Rattle.dg_model.specs.Attributes.{attributes_of}
 use Rattle.dg_model.specs.Laws.{InputsAreListed}
 use Rattle.dg_model.specs.Signals.{Stimulus, Table}
-use Rattle.dg_sim.specs.Laws.{IsOrdered, TypesAreValid}
+use Rattle.dg_tables.specs.Laws.{IsOrdered, TypesAreValid}
 use Rattle.hw_net.specs.Circuit.{Circuit}
 use Rattle.hw_net.specs.NetRows.{Inputs, Rows}
 use Rattle.hw_shows.specs.Timing.{Timing}

@@ -15,7 +15,7 @@ use Rattle.dg_model.specs.Laws.{InputsAreListed}
 use Rattle.dg_model.specs.RootElements.{RootElement, root_inputs}
 use Rattle.dg_model.specs.Solves.{shown_ports}
 use Rattle.dg_model.specs.Wired.{root_input}
-use Rattle.dg_sim.specs.Listing.{AreBlocksOf}
+use Rattle.dg_tables.specs.Listing.{AreBlocksOf}
 use Rattle.hw_net.specs.Circuit.{Circuit}
 use Rattle.hw_net.proofs.Growing.{extends-trans, still-there}
 use Rattle.hw_sched.proofs.Periods.{readable_at}

@@ -17,7 +17,7 @@ use Rattle.dg_model.specs.RootElements.{root_inputs}
 use Rattle.dg_model.specs.Signals.{Attributes}
 use Rattle.dg_model.specs.Solves.{shown_ports, shown_width}
 use Rattle.dg_model.specs.Wires.{period_into}
-use Rattle.dg_sim.specs.Laws.{IsOrdered}
+use Rattle.dg_tables.specs.Laws.{IsOrdered}
 use Rattle.hw_latency.specs.Shared.{multiplies, multiplies_if, is_shared}
 use Rattle.hw_sched.specs.Ready.{unshared}
 use Rattle.hw_sched.specs.Storage.{keeps_own, kept_by_role, registers_at, registers_each, registers_in_all}

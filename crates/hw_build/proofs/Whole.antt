@@ -1,6 +1,6 @@
 -- What the steps give is all that a netlist owes.
 use Rattle.dg_model.specs.Laws.{InputsAreListed, WidthsAreOfEdges}
-use Rattle.dg_sim.specs.Laws.{TypesAreValid}
+use Rattle.dg_tables.specs.Laws.{TypesAreValid}
 use Rattle.hw_sched.specs.Laws.{OperationsAreServed, ReadyFits}
 use Rattle.hw_shows.specs.Laws.{BuiltIsShown, StagesAreShown, OperandsAreServed}
 use Rattle.hw_build.specs.Laws.{SchedulesAreTimed}

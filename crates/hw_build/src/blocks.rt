@@ -21,7 +21,7 @@ use crate::products::Products;
 use crate::spots::Spots;
 use crate::worked::put_shared;
 use dg_model::{Block, PortWidths};
-use dg_sim::{Place, operations_prepare};
+use dg_tables::{Place, operations_prepare};
 use fx_io::OutOfMemory;
 use hw_net::Netlist;
 use hw_sched::{lines_are_edges, periods_are_above};

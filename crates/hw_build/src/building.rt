@@ -18,7 +18,7 @@ use crate::outputs::put_outputs;
 use crate::ports::put_inputs;
 use crate::products::products_of;
 use dg_model::{Checked, PortWidths, Resolved};
-use dg_sim::{input_blocks, output_blocks};
+use dg_tables::{input_blocks, output_blocks};
 use fx_io::OutOfMemory;
 use hw_latency::Latencies;
 use hw_names::Names;

@@ -91,7 +91,7 @@ pub fn second_of(
     ensures adds { OnOk result (AddsConstants net.old net.new) }
 {
     checked.keeps_rules();
-    dg_sim::operations_prepare();
+    dg_tables::operations_prepare();
     match &one.kind {
         Kind::Gain { value, .. } => {
             let kind = checked.param(block);

@@ -14,7 +14,7 @@ use crate::lowering::stored;
 use crate::parts::{put_const, word_of};
 use crate::worked::{put_worked, scaled, switched, tested};
 use dg_model::{Block, Kind};
-use dg_sim::{Place, operations_prepare};
+use dg_tables::{Place, operations_prepare};
 use fx_io::OutOfMemory;
 use fx_type::{Decimal, FxType};
 use hw_net::Netlist;

@@ -47,7 +47,7 @@ pub fn first_entry(checked: &Checked, block: u32, one: &Block, element: u32) -> 
     ensures { result ≡ first_at checked.now.diagram block element }
 {
     checked.keeps_rules();
-    dg_sim::operations_prepare();
+    dg_tables::operations_prepare();
     let last = own_width(checked, block).saturating_sub(1);
     stored_entry(list_of(&one.kind), element.min(last), checked.result(block))
 }

@@ -74,7 +74,7 @@ pub fn full_type(checked: &Checked, block: u32, one: &Block) -> FxType
         (Some one.now)) result }
 {
     checked.keeps_rules();
-    dg_sim::operations_prepare();
+    dg_tables::operations_prepare();
     fx_round::storing_gives_one();
     let left = type_into(checked, block, 1, one);
     let right = second_type(checked, block, one);

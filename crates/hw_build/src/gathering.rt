@@ -26,7 +26,7 @@ pub fn ends_are_lawful<'a>(design: Design<'a>, hubs: &PortWidths)
 {
     design.checked.keeps_rules();
     dg_model::edges_stand_by_port();
-    dg_sim::operations_prepare();
+    dg_tables::operations_prepare();
     fx_round::storing_gives_one();
     fx_type::stored_is_one();
     latencies_are_small();

@@ -4,7 +4,7 @@ ghost use Rattle.dg_model.specs.Attributes.{attributes_of};
 ghost use Rattle.dg_model.specs.Library.{row_of};
 ghost use Rattle.dg_model.specs.RootElements.{root_inputs};
 ghost use Rattle.dg_model.specs.Solves.{shown_ports as shown_ports_of, shown_width as shown_width_of};
-ghost use Rattle.dg_sim.specs.Listing.{AreBlocksOf};
+ghost use Rattle.dg_tables.specs.Listing.{AreBlocksOf};
 ghost use Rattle.hw_build.specs.inner.HubPlaces.{before, hub_of, input_net as input_net_of, is_input_role, is_output_role, port_size, hub_start, hub_at as hub_at_of, AddsFresh, AddsPorts, AddsBlock, AddsBlocks, AddsInputs, HasHubs};
 
 use dg_model::{Block, Checked, Kind, PortWidths, Role};

@@ -18,7 +18,7 @@ use crate::operands::line_into;
 use crate::parts::{put_comb, put_const, word_of};
 use crate::states::{put_enabled_series, put_series};
 use dg_model::{Block, Checked};
-use dg_sim::{Place, operations_prepare};
+use dg_tables::{Place, operations_prepare};
 use fx_io::OutOfMemory;
 use fx_type::Decimal;
 use hw_net::{Frame, NetOp, Netlist};

@@ -32,7 +32,7 @@ pub fn done_is_built()
 {
     dg_model::edges_stand_by_port();
     dg_model::root_elements_are_listed();
-    dg_sim::operations_prepare();
+    dg_tables::operations_prepare();
     hw_sched::operations_are_served();
     hw_sched::ready_fits();
     hw_shows::built_is_shown();

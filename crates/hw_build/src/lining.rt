@@ -35,7 +35,7 @@ pub fn put_lines<'a>(
 {
     design.checked.keeps_rules();
     dg_model::root_elements_are_listed();
-    dg_sim::operations_prepare();
+    dg_tables::operations_prepare();
     let Ok(_count) = u32::try_from(net.nets().len()) else {
         // word: how many nets there are, of 32 bits
         return Err(OutOfMemory);

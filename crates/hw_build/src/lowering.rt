@@ -12,7 +12,7 @@ ghost use Rattle.hw_build.specs.inner.Entries.{number_behind};
 ghost use Rattle.hw_build.specs.inner.Lowering.{conversion_of, operation_at};
 
 use dg_model::{Block, Checked, Op, OpCall};
-use dg_sim::{Place, operations_prepare};
+use dg_tables::{Place, operations_prepare};
 use fx_io::OutOfMemory;
 use fx_type::{Decimal, FxType};
 use hw_lower::lower;

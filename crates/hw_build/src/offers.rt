@@ -10,7 +10,7 @@ ghost use Rattle.hw_build.specs.inner.Offers.{AreBegins, ArePartsTo, AreReadBy, 
 use crate::block_inputs::BlockInputs;
 use crate::blocks::Setting;
 use dg_model::{Block, Kind};
-use dg_sim::{Place, operations_prepare};
+use dg_tables::{Place, operations_prepare};
 use fx_io::{OutOfMemory, Sizes};
 use hw_sched::width_into;
 use std::alloc::Global;

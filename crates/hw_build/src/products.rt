@@ -57,7 +57,7 @@ pub fn products_of<'a>(
         (offered_at design.entry.checked.now.diagram operands.now) net.old net.new) }
 {
     design.checked.keeps_rules();
-    dg_sim::operations_prepare();
+    dg_tables::operations_prepare();
     fx_round::storing_gives_one();
     dg_model::edges_stand_by_port();
     hw_sched::operations_are_served();

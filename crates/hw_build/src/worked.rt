@@ -20,7 +20,7 @@ use crate::design::Design;
 use crate::entries::{Entry, plain};
 use crate::lowering::{converted, multiply_behind, stored, worked};
 use dg_model::{Block, Criterion, Kind, Op};
-use dg_sim::{Place, operations_prepare};
+use dg_tables::{Place, operations_prepare};
 use fx_io::OutOfMemory;
 use fx_type::{Decimal, FxType};
 use hw_net::Netlist;

@@ -10,7 +10,7 @@ use Rattle.dg_model.specs.Checked.{IsChecked}
 use Rattle.dg_model.specs.Faults.{path_of}
 use Rattle.dg_model.specs.Laws.{AreRootElements, InputsAreListed, OutputsAreListed}
 use Rattle.dg_model.specs.RootElements.{RootElement}
-use Rattle.dg_sim.specs.Listing.{AreBlocksOf}
+use Rattle.dg_tables.specs.Listing.{AreBlocksOf}
 use Rattle.hw_names.specs.declared.giving.Side.{Side}
 use Rattle.hw_names.specs.declared.giving.Side.TheVariants.{Inputs, Outputs}
 use Rattle.hw_names.specs.declared.names.Names.{Names}

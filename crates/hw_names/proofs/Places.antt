@@ -13,7 +13,7 @@ use Rattle.dg_model.specs.Attributes.{attributes_of}
 use Rattle.dg_model.specs.Signals.{Attributes}
 use Rattle.dg_model.specs.Laws.{AreRootElements}
 use Rattle.dg_model.specs.RootElements.{RootElement, root_element, elements_of_port, has_number, number_in, root_elements}
-use Rattle.dg_sim.specs.Listing.{AreBlocksOf}
+use Rattle.dg_tables.specs.Listing.{AreBlocksOf}
 use Rattle.hw_names.specs.Columns.{AreColumnsFrom}
 
 front-of : {A : Type 0} (xs ys : List A) (k : ℕ) → k < length xs → slice_get (xs ++ ys) k ≡ slice_get xs k

@@ -1,5 +1,5 @@
 ghost use Rattle.std.specs.Prelude.{◌≡◌, ◌<◌, ℕ, List, IfOk, OnOk, length};
-ghost use Rattle.dg_sim.specs.Listing.{AreBlocksOf};
+ghost use Rattle.dg_tables.specs.Listing.{AreBlocksOf};
 ghost use Rattle.hw_names.specs.Names.{AreNames, AreStreamNames, Given, wanted_names};
 ghost use Rattle.hw_names.specs.Taken.{AreTaken};
 ghost use Rattle.hw_names.specs.inner.Sides.{AddsNames, elements_on, width_on};
@@ -7,7 +7,7 @@ ghost use Rattle.hw_names.specs.inner.Sides.{AddsNames, elements_on, width_on};
 use crate::columns::columns_of;
 use crate::names::Names;
 use dg_model::Checked;
-use dg_sim::{input_blocks, output_blocks};
+use dg_tables::{input_blocks, output_blocks};
 use fx_io::{OutOfMemory, Text, Texts};
 use hw_latency::block_at;
 use hw_sched::{own_width, width_into};

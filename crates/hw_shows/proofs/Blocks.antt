@@ -21,14 +21,14 @@ use Rattle.dg_model.specs.Instant.{reads_now, asks_now}
 use Rattle.dg_model.specs.LatencyEdges.{asks_ever}
 use Rattle.dg_model.specs.Equation.{StoresEntry, IsInputAt, is_enabled, ElementEquation, DelayEquation, RateEquation, EnOutEquation, KindEquation}
 use Rattle.dg_model.specs.Solves.{IsShown, shown_ports, shown_width}
-use Rattle.dg_sim.proofs.Ground.{HasWidths}
+use Rattle.dg_tables.proofs.Ground.{HasWidths}
 use Rattle.hw_shows.specs.Shows.{IsSeenAt, IsSeen}
 use Rattle.hw_shows.specs.Timing.{Timing}
 use Rattle.hw_shows.specs.Timed.{lag_of, lag_into}
 use Rattle.hw_shows.specs.Series.{steady, AreSame}
 use Rattle.hw_shows.specs.Waves.{Waves, IsMadeAs, IsScaled, IsMultiplied, IsDelayed, IsPassedOut}
-use Rattle.dg_sim.proofs.Lists.{get_holds}
-use Rattle.dg_sim.proofs.Sources.{IsRead, elements_read}
+use Rattle.dg_tables.proofs.Lists.{get_holds}
+use Rattle.dg_tables.proofs.Sources.{IsRead, elements_read}
 use Rattle.hw_shows.proofs.Inputs.{Setting, BlockShows, AreOffered, driver_there, in_time, enabled_now}
 use Rattle.hw_shows.proofs.Elements.{carried_out, multiplied, scaled, joined, parted, tested}
 use Rattle.hw_shows.proofs.Delays.{period_is, delayed, slowed, still_delayed, enabled_delayed, truth, some_own}

@@ -2,7 +2,7 @@
 use Rattle.std.proofs.Common.{◌≡◌, ℕ, zero, suc, ◌+◌, ◌-◌, ◌*◌, ◌/◌, ◌<◌, ◌≤◌, ℤ, List, [], ◌∷◌, slice_get, Option, Some, MatchOption, ap, sym, ◌∙◌, subst, refl, arith}
 use Rattle.hw_net.specs.Registers.{Wave, Span}
 use Rattle.hw_net.specs.Closed.{frame_start, RegShows}
-use Rattle.dg_sim.specs.State.{Move}
+use Rattle.dg_tables.specs.State.{Move}
 use Rattle.hw_shows.specs.Shows.{Shows}
 use Rattle.hw_shows.proofs.Hits.{frame_number, moved_hits}
 

@@ -16,14 +16,14 @@ use Rattle.dg_model.specs.Library.{row_of}
 use Rattle.dg_model.specs.Signals.{Attributes, Stimulus, Table}
 use Rattle.dg_model.specs.Hits.{Hits, hits_before, counted_hits}
 use Rattle.dg_model.specs.LatencyEdges.{asks_ever}
-use Rattle.dg_sim.specs.State.{Move}
+use Rattle.dg_tables.specs.State.{Move}
 use Rattle.dg_model.specs.Wires.{driver_of, at_source, period_into, value_into}
 use Rattle.dg_model.specs.Wired.{NamesControl}
 use Rattle.dg_model.specs.Operation.{stored_truth}
 use Rattle.dg_model.specs.Equation.{StoresEntry, IsInputAt, KindEquation}
 use Rattle.dg_model.specs.Solves.{IsShown, shown_ports}
-use Rattle.dg_sim.proofs.Lists.{get_holds}
-use Rattle.dg_sim.proofs.Sources.{IsRead}
+use Rattle.dg_tables.proofs.Lists.{get_holds}
+use Rattle.dg_tables.proofs.Sources.{IsRead}
 use Rattle.hw_net.specs.Registers.{Span}
 use Rattle.hw_lines.specs.Line.{IsRegistered}
 use Rattle.hw_shows.specs.Shows.{IsSeenAt, IsSeen, Shows}

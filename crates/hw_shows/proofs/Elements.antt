@@ -16,8 +16,8 @@ use Rattle.dg_model.specs.Operation.{OpGives, stored_truth, value_of, type_of}
 use Rattle.dg_model.specs.Wires.{width_into, type_into, types_into, value_into, values_into}
 use Rattle.dg_model.specs.Equation.{StoresEntry, IsOpOf, ElementEquation, MuxEquation, DemuxEquation, EnableEquation}
 use Rattle.dg_model.specs.Solves.{shown_ports}
-use Rattle.dg_sim.proofs.Lists.{map_same, any_same, get_number, length_numbers, sum_before, below_repeated}
-use Rattle.dg_sim.proofs.Sources.{IsRead}
+use Rattle.dg_tables.proofs.Lists.{map_same, any_same, get_number, length_numbers, sum_before, below_repeated}
+use Rattle.dg_tables.proofs.Sources.{IsRead}
 use Rattle.hw_net.specs.Registers.{Wave}
 use Rattle.hw_net.specs.Closed.{frame_start}
 use Rattle.hw_shows.specs.Shows.{IsSeenAt, IsSeen}

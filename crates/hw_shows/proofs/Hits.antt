@@ -5,7 +5,7 @@ use Rattle.std.proofs.lemmas.Nat.{div-add-mod', mod-mul-add}
 use Rattle.std.proofs.lemmas.Bool.{cases_lt}
 use Rattle.dg_model.specs.Signals.{Table}
 use Rattle.dg_model.specs.Hits.{is_hit, hits_before, is_enabled_at, hits_since_enabled, counted_hits}
-use Rattle.dg_sim.specs.State.{Move}
+use Rattle.dg_tables.specs.State.{Move}
 
 -- a multiple of a period, by the number of its frame
 pub frame_number : (t p : ℕ) → t % p ≡ 0 → t ≡ t / p * p

@@ -13,8 +13,8 @@ use Rattle.hw_shows.specs.Timing.{Timing, latency_behind, ready_behind, ready_af
 use Rattle.hw_shows.specs.Series.{span_at, AreSame, IsSeries}
 use Rattle.hw_shows.specs.Waves.{Waves, IsPiped}
 use Rattle.hw_shows.specs.Laws.{AreShown}
-use Rattle.dg_sim.proofs.Sources.{is_readable}
-use Rattle.dg_sim.proofs.Single.{kind_one}
+use Rattle.dg_tables.proofs.Sources.{is_readable}
+use Rattle.dg_tables.proofs.Single.{kind_one}
 use Rattle.hw_shows.proofs.Chains.{stage_shows}
 use Rattle.hw_shows.proofs.Inputs.{Setting, BlockShows, all_offered, early_ready, early_slot}
 use Rattle.hw_shows.proofs.Blocks.{by_kind}

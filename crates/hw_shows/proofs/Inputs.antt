@@ -16,9 +16,9 @@ use Rattle.dg_model.specs.Wires.{driver_of, at_source, repeated, period_into, va
 use Rattle.dg_model.specs.Instant.{is_now, reads_now, asks_now}
 use Rattle.dg_model.specs.LatencyEdges.{asks_ever}
 use Rattle.dg_model.specs.Solves.{IsShown, Solves, shown_ports}
-use Rattle.dg_sim.proofs.Ground.{IsRanked}
-use Rattle.dg_sim.proofs.Edges.{edge_at}
-use Rattle.dg_sim.proofs.Sources.{IsRead, source_shown, control_shown}
+use Rattle.dg_tables.proofs.Ground.{IsRanked}
+use Rattle.dg_tables.proofs.Edges.{edge_at}
+use Rattle.dg_tables.proofs.Sources.{IsRead, source_shown, control_shown}
 use Rattle.hw_net.specs.Closed.{RegisterIsClosed, EnRegIsClosed}
 use Rattle.hw_shows.specs.Shows.{Shows}
 use Rattle.hw_shows.specs.Timing.{Timing, IsPlainEdge, IsEdgeInTime}

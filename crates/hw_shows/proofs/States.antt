@@ -4,7 +4,7 @@ use Rattle.std.specs.Ordering.{int_eq}
 use Rattle.std.proofs.lemmas.Int.{ints}
 use Rattle.hw_net.specs.Registers.{Wave, Span}
 use Rattle.hw_net.specs.Closed.{frame_start, RegShows, EnRegShows, RegisterIsClosed, EnRegIsClosed}
-use Rattle.dg_sim.specs.State.{Move}
+use Rattle.dg_tables.specs.State.{Move}
 use Rattle.hw_shows.specs.Series.{IsSeries, IsEnabledSeries}
 use Rattle.hw_shows.proofs.Hits.{move_of}
 use Rattle.hw_shows.proofs.Chains.{frame_end, IsMoved, AreMoved}

@@ -7,7 +7,7 @@ use Rattle.dg_model.specs.Attributes.{attributes_of}
 use Rattle.dg_model.specs.Wires.{repeated, width_into, value_into}
 use Rattle.dg_model.specs.Instant.{reads_now}
 use Rattle.dg_model.specs.Solves.{IsShown, Solves, shown_ports}
-use Rattle.dg_sim.specs.Laws.{IsOrdered}
+use Rattle.dg_tables.specs.Laws.{IsOrdered}
 use Rattle.hw_shows.specs.Shows.{Shows}
 use Rattle.hw_shows.specs.Timing.{Timing, ready_after, latency_behind}
 use Rattle.hw_shows.specs.Timed.{IsTimed}

@@ -1,7 +1,7 @@
 //! The clocks in which outputs show their numbers.
 
 use anyhow::{Result, anyhow};
-use dg_sim::output_blocks;
+use dg_tables::output_blocks;
 use fx_designed::Designed;
 use hw_net::Netlist;
 use std::alloc::Global;

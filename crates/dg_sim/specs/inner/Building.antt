@@ -7,35 +7,21 @@ use Rattle.dg_model.specs.declared.kind.Kind.{Kind}
 use Rattle.dg_model.specs.declared.kind.Kind.TheVariants.{Inport, Outport, Constant, Ground, Sum, Gain, Product, Switch, Relational, Logic, Convert, Delay, Mux, Demux, RateTransition, Pass, EnableTest, EnOut, Terminator}
 use Rattle.dg_model.specs.Signals.{Attributes, Stimulus, Table}
 use Rattle.dg_model.specs.Hits.{Hits, is_hit}
-use Rattle.dg_model.specs.Wires.{value_into, type_into}
+use Rattle.dg_model.specs.Wires.{value_into}
 use Rattle.dg_model.specs.Equation.{Equation, ElementEquation, is_enabled}
-use Rattle.dg_model.specs.Solves.{IsShown, shown_ports, shown_width}
-use Rattle.dg_sim.specs.declared.program.Place.{Place}
+use Rattle.dg_model.specs.Solves.{shown_ports, shown_width}
+use Rattle.dg_tables.specs.declared.entries.Place.{Place}
+use Rattle.dg_tables.specs.Entries.{Reads, AreEntries}
 use Rattle.dg_sim.specs.declared.program.Cell.{Cell}
-use Rattle.dg_sim.specs.declared.roots.Root.{Root}
+use Rattle.dg_tables.specs.declared.roots.Root.{Root}
 use Rattle.dg_sim.specs.declared.program.Rule.{Rule}
 use Rattle.dg_sim.specs.declared.program.Memory.{Memory}
 use Rattle.dg_sim.specs.declared.program.Program.{Program}
-use Rattle.dg_sim.specs.Laws.{EntriesAreInRange}
+use Rattle.dg_tables.specs.Laws.{EntriesAreInRange}
 use Rattle.dg_sim.specs.Ring.{PastValues}
-use Rattle.dg_sim.specs.Program.{entry, Gives, CanGive, IsWithin, is_on, move_of}
-use Rattle.dg_sim.specs.State.{move_at}
+use Rattle.dg_sim.specs.Program.{Gives, CanGive, IsWithin, is_on, move_of}
+use Rattle.dg_tables.specs.State.{move_at}
 use Rattle.dg_sim.specs.Sim.{Agrees, Keep, IsRowOf, IsMemory, IsCell}
-
--- what an input port offers to an element is the entry at this place
-pub record IsSource (diagram : Diagram) (attributes : Attributes) (block port element : ℕ) (place : Place) : Type 0 where
-  pub value : (table : Table) (t : ℕ) → value_into diagram attributes table block port element t ≡ entry table place t
-  pub type : type_into diagram attributes block port ≡ attributes.type_at place.block place.port
-
--- the table shows an entry at the place
-abbrev pub IsEntry : Diagram → Attributes → Place → Type 0
-IsEntry diagram attributes place = (b : Block) × IsShown diagram attributes place.block b place.port place.element
-
--- it is the entry that stands at j in the list
-pub record Reads (diagram : Diagram) (attributes : Attributes) (places : List Place) (block port element j : ℕ) : Type 0 where
-  pub place : Place
-  pub there : slice_get places j ≡ Some place
-  pub is_source : IsSource diagram attributes block port element place
 
 -- a rule for the entry at a place, which stands at k in the program's list
 pub record IsRule (diagram : Diagram) (attributes : Attributes) (program : Program) (k : ℕ) (place : Place) (rule : Rule) : Type 0 where
@@ -81,10 +67,6 @@ AreRead diagram attributes places block element k numbers =
 abbrev pub IsElementwise : Diagram → Attributes → Block → Place → Type 0
 IsElementwise diagram attributes b place = (stimulus : Stimulus) (table : Table) (t : ℕ) (v : ℤ)
     → ElementEquation diagram attributes stimulus table b place.block place.element t v → Equation diagram attributes stimulus table place.block place.port place.element t v
-
--- all places are entries
-abbrev pub AreEntries : Diagram → Attributes → List Place → Type 0
-AreEntries diagram attributes places = (j : ℕ) (place : Place) → slice_get places j ≡ Some place → IsEntry diagram attributes place
 
 -- all memories of a program keep what their blocks ask for
 abbrev pub AreMemories : Diagram → Attributes → Program → Type 0

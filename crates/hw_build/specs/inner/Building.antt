@@ -2,7 +2,7 @@
 use Rattle.std.specs.Prelude.{◌≡◌, ℕ, List, []}
 use Rattle.dg_model.specs.Attributes.{attributes_of}
 use Rattle.dg_model.specs.RootElements.{root_inputs}
-use Rattle.dg_sim.specs.Listing.{AreBlocksOf}
+use Rattle.dg_tables.specs.Listing.{AreBlocksOf}
 use Rattle.hw_net.specs.Circuit.{Circuit}
 use Rattle.hw_build.specs.declared.design.Design.{Design}
 use Rattle.hw_build.specs.Built.{IsBuilt}

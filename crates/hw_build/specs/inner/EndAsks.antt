@@ -3,7 +3,7 @@ use Rattle.std.specs.Prelude.{◌≡◌, ℕ, ◌+◌, ◌-◌, ◌⊎◌, ◌<�
 use Rattle.std.specs.List.{flat_map}
 use Rattle.fx_round.specs.Laws.{StoringGivesOne}
 use Rattle.fx_type.specs.Laws.{StoredIsOne}
-use Rattle.dg_sim.specs.Laws.{IsOrdered, TypesAreValid, SignalsFit}
+use Rattle.dg_tables.specs.Laws.{IsOrdered, TypesAreValid, SignalsFit}
 use Rattle.hw_latency.specs.Laws.{LatenciesAreSmall}
 use Rattle.hw_sched.specs.Laws.{LinesAreEdges, EdgesJoinPeriods, PeriodsAreShort}
 use Rattle.hw_sched.specs.Scheduled.{IsScheduled}

@@ -1,7 +1,7 @@
 use Rattle.std.proofs.Common.{refl, List, length, ap, sym, subst, arith}
 use Rattle.dg_model.specs.Attributes.{attributes_of}
-use Rattle.dg_sim.specs.declared.program.Place.{Place}
-use Rattle.dg_sim.specs.inner.Finding.{Finds}
+use Rattle.dg_tables.specs.declared.entries.Place.{Place}
+use Rattle.dg_tables.specs.Finding.{Finds}
 use Rattle.dg_sim.proofs.building.fill.Goals as goal
 
 pub loop-k-init : goal.loop-k-init

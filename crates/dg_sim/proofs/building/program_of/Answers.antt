@@ -1,7 +1,7 @@
 use Rattle.std.proofs.Common.{◌≡◌, ◌∙◌, List, length, slice_get, ap, sym, subst₂}
 use Rattle.dg_model.specs.Attributes.{attributes_of}
-use Rattle.dg_sim.specs.declared.program.Place.{Place}
-use Rattle.dg_sim.specs.declared.roots.Root.{Root}
+use Rattle.dg_tables.specs.declared.entries.Place.{Place}
+use Rattle.dg_tables.specs.declared.roots.Root.{Root}
 use Rattle.dg_sim.specs.inner.Building.{AreShown}
 use Rattle.dg_sim.proofs.Filled.{finished}
 use Rattle.dg_sim.proofs.Shown.{output_entry}

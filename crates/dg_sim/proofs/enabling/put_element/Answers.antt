@@ -1,8 +1,8 @@
 use Rattle.std.proofs.Common.{List, sym, subst}
 use Rattle.dg_model.specs.Attributes.{attributes_of}
-use Rattle.dg_sim.specs.declared.program.Place.{Place}
-use Rattle.dg_sim.specs.inner.Building.{Reads}
-use Rattle.dg_sim.specs.inner.Finding.{ReadsNow}
+use Rattle.dg_tables.specs.declared.entries.Place.{Place}
+use Rattle.dg_tables.specs.Entries.{Reads}
+use Rattle.dg_tables.specs.Finding.{ReadsNow}
 use Rattle.dg_sim.proofs.enabling.put_element.Goals as goal
 
 pub returns : goal.returns

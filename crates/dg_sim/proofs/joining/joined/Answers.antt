@@ -3,7 +3,7 @@ use Rattle.dg_waves.specs.Rounds.{numbers_from}
 use Rattle.dg_model.specs.Attributes.{attributes_of}
 use Rattle.dg_model.specs.Wires.{width_into}
 use Rattle.dg_model.specs.declared.kind.Kind.TheVariants.{Mux}
-use Rattle.dg_sim.specs.inner.Finding.{IsRead}
+use Rattle.dg_tables.specs.Finding.{IsRead}
 use Rattle.dg_sim.proofs.Joined.{mux_hands}
 use Rattle.dg_sim.proofs.Shared.{mux_below, part_read}
 use Rattle.dg_sim.proofs.Turns.{turn_now}

@@ -7,9 +7,10 @@ use Rattle.fx_type.specs.declared.kind.FxType.{FxType}
 use Rattle.dg_model.specs.declared.kind.Kind.TheVariants.{EnOut}
 use Rattle.dg_model.specs.Attributes.{attributes_of}
 use Rattle.dg_model.specs.Equation.{StoresEntry}
-use Rattle.dg_sim.specs.declared.program.Place.{Place}
-use Rattle.dg_sim.specs.inner.Building.{Reads, IsControlCell}
-use Rattle.dg_sim.specs.inner.Finding.{ReadsNow}
+use Rattle.dg_tables.specs.declared.entries.Place.{Place}
+use Rattle.dg_tables.specs.Entries.{Reads}
+use Rattle.dg_sim.specs.inner.Building.{IsControlCell}
+use Rattle.dg_tables.specs.Finding.{ReadsNow}
 use Rattle.dg_sim.proofs.Grown.{grows_same}
 use Rattle.dg_sim.proofs.Turns.{control_before, output_reads, turn_now}
 use Rattle.dg_sim.proofs.Kept.{gated_moves, reset_rule, held_rule}

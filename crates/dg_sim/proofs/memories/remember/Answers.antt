@@ -1,8 +1,8 @@
 use Rattle.std.proofs.Common.{◌∙◌, List, length, ap, subst, refl}
 use Rattle.dg_model.specs.Attributes.{attributes_of}
-use Rattle.dg_sim.specs.declared.program.Place.{Place}
+use Rattle.dg_tables.specs.declared.entries.Place.{Place}
 use Rattle.dg_sim.specs.declared.program.Memory.{Memory}
-use Rattle.dg_sim.specs.inner.Building.{Reads}
+use Rattle.dg_tables.specs.Entries.{Reads}
 use Rattle.dg_sim.proofs.Kept.{remembered}
 use Rattle.dg_sim.proofs.memories.remember.Goals as goal
 

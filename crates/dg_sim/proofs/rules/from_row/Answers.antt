@@ -1,8 +1,8 @@
 use Rattle.std.proofs.Common.{◌∙◌, ℕ, List, slice_get, ap, sym, subst}
 use Rattle.dg_model.specs.Attributes.{attributes_of}
 use Rattle.dg_model.specs.Wired.{root_input}
-use Rattle.dg_sim.specs.declared.roots.Root.{Root}
-use Rattle.dg_sim.specs.inner.Roots.{AreSorted}
+use Rattle.dg_tables.specs.declared.roots.Root.{Root}
+use Rattle.dg_sim.specs.inner.Columns.{AreSorted}
 use Rattle.dg_sim.proofs.Grown.{grows_same}
 use Rattle.dg_sim.proofs.Sorted.{roots_sorted}
 use Rattle.dg_sim.proofs.Taken.{input_rule, input_there}

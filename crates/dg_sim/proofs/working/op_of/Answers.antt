@@ -1,7 +1,7 @@
 use Rattle.std.proofs.Common.{List, sym, subst}
 use Rattle.fx_type.specs.FxType.{IsType}
 use Rattle.fx_type.specs.declared.decimal.Decimal.{Decimal}
-use Rattle.dg_sim.specs.inner.Finding.{HasEntry}
+use Rattle.dg_sim.specs.inner.Turns.{HasEntry}
 use Rattle.dg_sim.proofs.ListEntries.{gain_entry, switch_entry}
 use Rattle.dg_sim.proofs.working.op_of.Goals as goal
 

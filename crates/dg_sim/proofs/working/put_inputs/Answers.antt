@@ -2,8 +2,9 @@ use Rattle.std.proofs.Common.{ℕ, ◌+◌, ◌++◌, List, [], ◌∷◌, ap, s
 use Rattle.fx_type.specs.declared.kind.FxType.{FxType}
 use Rattle.dg_model.specs.Attributes.{attributes_of}
 use Rattle.dg_model.specs.Wires.{type_into}
-use Rattle.dg_sim.specs.inner.Building.{Reads}
-use Rattle.dg_sim.proofs.Serving.{read_more, map_last}
+use Rattle.dg_tables.specs.Entries.{Reads}
+use Rattle.dg_sim.proofs.Serving.{read_more}
+use Rattle.dg_tables.proofs.Lists.{map_last}
 use Rattle.dg_sim.proofs.working.put_inputs.Goals as goal
 
 pub loop-i-preserved : goal.loop-i-preserved

@@ -3,7 +3,7 @@ use Rattle.fx_type.specs.FxType.{IsType}
 use Rattle.dg_model.specs.declared.kind.Kind.{Kind}
 use Rattle.dg_model.specs.Attributes.{attributes_of}
 use Rattle.dg_model.specs.Wires.{repeated}
-use Rattle.dg_sim.specs.Fit.{HasLists}
+use Rattle.dg_tables.specs.Fit.{HasLists}
 use Rattle.fx_type.specs.declared.decimal.Decimal.{Decimal}
 use Rattle.hw_build.proofs.Constants.{adds_none}
 use Rattle.hw_build.proofs.Serving.{reads_there}

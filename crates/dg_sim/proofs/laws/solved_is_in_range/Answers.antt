@@ -1,7 +1,0 @@
-use Rattle.dg_sim.proofs.Grounded.{checked_in_range}
-use Rattle.dg_sim.proofs.laws.solved_is_in_range.Goals as goal
-
-pub returns : goal.returns
-returns c =
-    checked_in_range c.storing_gives_one.ensures c.operation_gives_one.ensures.at_most c.operation_gives_one.ensures.exactly
-    c.full_sum_is_one.ensures c.full_product_is_one.ensures c.union_is_one.ensures c.param_type_is_one.ensures

@@ -1,5 +1,0 @@
-use Rattle.dg_sim.specs.inner.Laying.{AreLaid}
-use Rattle.dg_sim.proofs.layout.lay_out.Given as goal
-
-abbrev pub invariant-loop-block : goal.invariant-loop-block
-invariant-loop-block l = AreLaid l.checked l.block-index l.starts l.places

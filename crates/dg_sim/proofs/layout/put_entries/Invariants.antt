@@ -1,7 +1,0 @@
-use Rattle.std.proofs.Common.{◌≡◌, ◌++◌, map}
-use Rattle.dg_waves.specs.Rounds.{numbers_from}
-use Rattle.dg_sim.specs.inner.Laying.{place_at}
-use Rattle.dg_sim.proofs.layout.put_entries.Given as goal
-
-abbrev pub invariant-loop-element : goal.invariant-loop-element
-invariant-loop-element l = l.places ≡ l.initial.places ++ map (place_at l.block l.port) (numbers_from 0 l.element)

@@ -1,0 +1,21 @@
+-- The entry whose rule is to be made (own).
+use Rattle.std.specs.Prelude.{◌≡◌, ℕ, ◌<◌, List, length, Some, slice_get}
+use Rattle.fx_type.specs.declared.decimal.Decimal.{Decimal}
+use Rattle.dg_model.specs.declared.diagram.Block.{Block}
+use Rattle.dg_model.specs.Attributes.{attributes_of}
+use Rattle.dg_model.specs.Checked.{CheckedDiagram}
+use Rattle.dg_model.specs.Solves.{IsShown}
+use Rattle.dg_model.specs.Wires.{repeated}
+use Rattle.dg_tables.specs.Finding.{Finds}
+use Rattle.dg_tables.specs.declared.entries.Place.{Place}
+use Rattle.dg_tables.specs.declared.reading.Starts.{Starts}
+
+-- a rule is to be made for the entry that stands at k
+pub record IsTurn (checked : CheckedDiagram) (starts : Starts) (places : List Place) (k : ℕ) (place : Place) (b : Block) : Type 0 where
+  pub finds : Finds checked starts places
+  pub at : slice_get places k ≡ Some place
+  pub shown : IsShown checked.diagram (attributes_of checked.diagram) place.block b place.port place.element
+
+-- a list parameter has an entry for an element
+abbrev pub HasEntry : List Decimal → ℕ → Type 0
+HasEntry list element = repeated (length list) element < length list

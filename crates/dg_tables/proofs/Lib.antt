@@ -1,0 +1,26 @@
+mod Built
+mod Carried
+pub mod Drivers
+pub mod Edges
+pub mod Fitting
+mod Given
+pub mod Ground
+pub mod Grounded
+mod Growing
+mod Known
+mod Laid
+mod Lines
+mod Listed
+pub mod Lists
+mod Moved
+mod Numbered
+mod Offered
+mod Ported
+pub mod Ranks
+pub mod Rooted
+pub mod Single
+pub mod Sources
+mod Staying
+mod TypeRules
+mod Typed
+mod Unique

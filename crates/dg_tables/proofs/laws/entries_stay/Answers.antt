@@ -1,0 +1,5 @@
+use Rattle.dg_tables.proofs.Staying.{entries_stay}
+use Rattle.dg_tables.proofs.laws.entries_stay.Goals as goal
+
+pub returns : goal.returns
+returns c = entries_stay

@@ -1,0 +1,9 @@
+pub mod Entries
+pub mod Finding
+pub mod Fit
+pub mod Laws
+pub mod Listing
+pub mod Roots
+pub mod State
+pub mod Steps
+pub mod inner
