@@ -4,7 +4,6 @@ pub mod Lines
 pub mod Meeting
 pub mod Noting
 pub mod Passing
-pub mod Places
 pub mod Placing
 pub mod Stepping
 pub mod Telling

@@ -11,7 +11,7 @@ use Rattle.dg_sort.specs.Rows.{Reads, row_at}
 use Rattle.dg_sort.specs.inner.Back.{LeadsBack, IsOnCycle}
 use Rattle.dg_sort.specs.inner.State.{IsLooked, IsPlaced, IsSettled, IsHeldFrom, IsLeft, IsRead, NoneBetween, BeginsAfter, floor_of, ArePlaced, AreGroups, AreLooked}
 use Rattle.dg_waves.proofs.Waved.{set_same, set_other}
-use Rattle.dg_sort.proofs.Places.{get_left, get_right, get_cases, last_at, push_cases}
+use Rattle.fx_io.proofs.Places.{get_left, get_right, get_cases, last_at, push_cases}
 use Rattle.dg_sort.proofs.Ways.{way_stays}
 use Rattle.dg_sort.proofs.Passing.{Popped}
 

@@ -26,7 +26,7 @@ use Rattle.dg_sort.specs.Rows.{Reads, AreRows, row_at}
 use Rattle.dg_sort.specs.Control.{control_now}
 use Rattle.dg_sort.specs.inner.Rows.{noted, is_read_now, is_line_instant}
 use Rattle.dg_sort.proofs.Lines.{joins_at, from_there, to_there, lines_from, control_there, controls_from}
-use Rattle.dg_sort.proofs.Places.{get_left, get_right, push_cases, last_at}
+use Rattle.fx_io.proofs.Places.{get_left, get_right, push_cases, last_at}
 
 -- ---- a source put at the end of a row
 

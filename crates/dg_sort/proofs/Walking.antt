@@ -9,7 +9,7 @@ use Rattle.dg_sort.specs.Rows.{Reads, AreKnown, row_at}
 use Rattle.dg_sort.specs.inner.Back.{LeadsBackIn, IsOnCycle}
 use Rattle.dg_sort.specs.inner.Cycle.{IsReadBy, IsMet, met_count, AreSteps, IsPassed, AreClosed, IsFoundAt, IsLooking, IsReadCycle, IsWalked}
 use Rattle.dg_waves.proofs.Waved.{set_same, set_other}
-use Rattle.dg_sort.proofs.Places.{get_left, last_at, push_cases}
+use Rattle.fx_io.proofs.Places.{get_left, last_at, push_cases}
 
 -- ---- marks
 

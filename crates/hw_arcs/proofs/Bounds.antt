@@ -7,7 +7,7 @@ use Rattle.std.proofs.lemmas.List.Sums.{sum_by-cons, count_by-le-length}
 use Rattle.hw_arcs.specs.declared.arc.Arc.{Arc}
 use Rattle.hw_arcs.specs.Latencies.{latency_at, IsFeasible, IsLeast}
 use Rattle.hw_arcs.specs.Laws.{AskAtMost}
-use Rattle.hw_arcs.proofs.Places.{one_if}
+use Rattle.hw_arcs.proofs.Counts.{one_if}
 
 -- ---- latencies above a level, one less
 

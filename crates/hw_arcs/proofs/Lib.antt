@@ -1,4 +1,4 @@
-mod Places
+mod Counts
 mod Moving
 mod Taking
 mod Chains

@@ -8,7 +8,7 @@ use Rattle.hw_arcs.specs.declared.arc.Arc.{Arc}
 use Rattle.hw_arcs.specs.Latencies.{latency_at, IsFeasible}
 use Rattle.hw_arcs.specs.Found.{IsIn, IsWhole, AreKnown, AreLeast}
 use Rattle.hw_arcs.specs.inner.State.{State, label_of, taken, relaxed, begun, popped, noted, row_at, IsState, AreSettled, AreWithin, work_of, AreCounted, AreRows, AreRowsOf, IsRowEnd, IsStepOn}
-use Rattle.hw_arcs.proofs.Places.{get_left, last_at, push_cases}
+use Rattle.fx_io.proofs.Places.{get_left, last_at, push_cases}
 use Rattle.hw_arcs.proofs.Moving.{set_moves}
 use Rattle.hw_arcs.proofs.Taking.{IsRest, state_taken, settled_taken, settled_passed, work_taken, within_taken}
 

@@ -1,5 +1,5 @@
--- Elements of lists by their places, after an append, `take` and `drop`.
-use Rattle.std.proofs.Common.{◌≡◌, ℕ, zero, suc, ◌+◌, ◌-◌, ◌<◌, ◌≤◌, Bool, cond, List, [], ◌∷◌, ◌++◌, length, take, drop, inl, inr, ⊎_elim, refl, ap, ◌∙◌, arith}
+-- Elements of lists by their places, after an append, `take` and `drop`. Crates above may cite this file.
+use Rattle.std.proofs.Common.{◌≡◌, ℕ, zero, suc, ◌+◌, ◌-◌, ◌<◌, ◌≤◌, List, [], ◌∷◌, ◌++◌, length, take, drop, inl, inr, ⊎_elim, refl, ap, ◌∙◌, arith}
 use Rattle.std.specs.Prelude.{slice_get, Some, ◌⊎◌}
 use Rattle.std.proofs.lemmas.Option.{none-some}
 
@@ -7,6 +7,11 @@ pub get_left : {A : Type 0} (xs ys : List A) (k : ℕ) (x : A) → slice_get xs 
 get_left [] ys k x at = absurd (none-some x at)
 get_left (y ∷ xs) ys zero x at = at
 get_left (y ∷ xs) ys (suc k) x at = get_left xs ys k x at
+
+pub get_front : {A : Type 0} (xs ys : List A) (k : ℕ) → k < length xs → slice_get (xs ++ ys) k ≡ slice_get xs k
+get_front [] ys k below = absurd (omega arith)
+get_front (x ∷ xs) ys zero below = refl
+get_front (x ∷ xs) ys (suc k) below = get_front xs ys k (omega arith)
 
 pub get_right : {A : Type 0} (xs ys : List A) (j : ℕ) → slice_get (xs ++ ys) (length xs + j) ≡ slice_get ys j
 get_right [] ys j = let e : 0 + j ≡ j = omega arith in ap (slice_get ys) e
@@ -49,7 +54,3 @@ pub get_drop : {A : Type 0} (n : ℕ) (xs : List A) (k : ℕ) → slice_get (dro
 get_drop zero xs k = let e : k ≡ 0 + k = omega arith in ap (slice_get xs) e
 get_drop (suc n) [] k = refl
 get_drop (suc n) (x ∷ xs) k = let e : suc (n + k) ≡ suc n + k = omega arith in get_drop n xs k ∙ ap (slice_get (x ∷ xs)) e
-
--- a test as a count
-abbrev pub one_if : Bool → ℕ
-one_if b = cond b 1 0
