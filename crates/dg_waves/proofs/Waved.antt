@@ -38,7 +38,7 @@ pub length_written : {A : Type 0} (changes : List (Change A)) (values : List A) 
 length_written [] values = refl
 length_written (x ∷ xs) values = length_written xs (set values x.block x.value) ∙ length_set values x.block x.value
 
-length_numbers : (k n : ℕ) → length (numbers_from k n) ≡ n
+pub length_numbers : (k n : ℕ) → length (numbers_from k n) ≡ n
 length_numbers k zero = refl
 length_numbers k (suc n) = ap suc (length_numbers (suc k) n)
 

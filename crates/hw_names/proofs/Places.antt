@@ -5,8 +5,9 @@ use Rattle.std.specs.List.{flat_map, position}
 use Rattle.std.proofs.lemmas.Bool.{cases_lt}
 use Rattle.std.proofs.lemmas.List.{length-map, get_or-set_same, get_or-set_other}
 use Rattle.std.proofs.lemmas.Option.{none-some, same_Some, slice_get_within, slice_get-get_or}
+use Rattle.fx_io.proofs.Places.{get_front}
 use Rattle.dg_waves.specs.Rounds.{numbers_from}
-use Rattle.dg_waves.proofs.Waved.{mapped_at}
+use Rattle.dg_waves.proofs.Waved.{length_numbers, mapped_at}
 use Rattle.dg_model.specs.declared.diagram.Diagram.{Diagram}
 use Rattle.dg_model.specs.declared.row.Role.{Role}
 use Rattle.dg_model.specs.Attributes.{attributes_of}
@@ -15,11 +16,6 @@ use Rattle.dg_model.specs.Laws.{AreRootElements}
 use Rattle.dg_model.specs.RootElements.{RootElement, root_element, elements_of_port, has_number, number_in, root_elements}
 use Rattle.dg_tables.specs.Listing.{AreBlocksOf}
 use Rattle.hw_names.specs.Columns.{AreColumnsFrom}
-
-front-of : {A : Type 0} (xs ys : List A) (k : ℕ) → k < length xs → slice_get (xs ++ ys) k ≡ slice_get xs k
-front-of [] ys k below = absurd (omega (arith, below))
-front-of (x ∷ xs) ys zero below = refl
-front-of (x ∷ xs) ys (suc k) below = front-of xs ys k (omega (arith, below))
 
 pub columns_more : (inputs columns : List ℕ) (left block : ℕ) → AreColumnsFrom inputs columns (suc left) → slice_get inputs left ≡ Some block → block < length columns → AreColumnsFrom inputs (slice_set columns block left) left
 columns_more inputs columns left block are at inside = record {
@@ -46,10 +42,6 @@ columns_more inputs columns left block are at inside = record {
               absurd (differ (same_Some other block (sym k_at ∙ ap (slice_get inputs) same ∙ at)))
         ]
 
-numbers_length : (from n : ℕ) → length (numbers_from from n) ≡ n
-numbers_length from zero = refl
-numbers_length from (suc n) = ap suc (numbers_length (suc from) n)
-
 pub get_behind : {A : Type 0} (xs ys : List A) (k : ℕ) → slice_get (xs ++ ys) (length xs + k) ≡ slice_get ys k
 get_behind [] ys k = let e : 0 + k ≡ k = omega arith in ap (slice_get ys) e
 get_behind (x ∷ xs) ys k = let e : suc (length xs) + k ≡ suc (length xs + k) = omega arith in ap (slice_get (x ∷ (xs ++ ys))) e ∙ get_behind xs ys k
@@ -75,17 +67,17 @@ module _ (a : Attributes) (width_of : ℕ → ℕ) where
   run_by None n rest k number block m at below next = next k at
   run_by (Some own) n rest k number block m at below next =
       let part : List RootElement = map (root_element a n own) (numbers_from 0 (width_of own)) in
-      let size : length part ≡ width_of own = length-map (numbers_from 0 (width_of own)) (root_element a n own) ∙ numbers_length 0 (width_of own) in
+      let size : length part ≡ width_of own = length-map (numbers_from 0 (width_of own)) (root_element a n own) ∙ length_numbers 0 (width_of own) in
       elim (cases_lt k (length part)) [
         | inl less ↦
             let here : slice_get part k ≡ Some (root_element a n own k) = element_at a n own (width_of own) k (omega (arith, less, size)) in
-            let same : root_element a n own k ≡ root_element a number block 0 = same_Some (root_element a n own k) (root_element a number block 0) (sym here ∙ sym (front-of part rest k less) ∙ at) in
+            let same : root_element a n own k ≡ root_element a number block 0 = same_Some (root_element a n own k) (root_element a number block 0) (sym here ∙ sym (get_front part rest k less) ∙ at) in
             let number_is : n ≡ number = ap (λ (e : RootElement). e.number) same in
             let block_is : own ≡ block = ap (λ (e : RootElement). e.block) same in
             let first : k ≡ 0 = ap (λ (e : RootElement). e.element) same in
             let wide : width_of own ≡ width_of block = ap width_of block_is in
             let place : k + m ≡ m = omega (arith, first) in
-            ap (slice_get (part ++ rest)) place ∙ front-of part rest m (omega (arith, below, wide, size)) ∙ element_at a n own (width_of own) m (omega (arith, below, wide))
+            ap (slice_get (part ++ rest)) place ∙ get_front part rest m (omega (arith, below, wide, size)) ∙ element_at a n own (width_of own) m (omega (arith, below, wide))
             ∙ ap (λ (x : ℕ). Some (root_element a x own m)) number_is ∙ ap (λ (x : ℕ). Some (root_element a number x m)) block_is
         | inr past ↦
             let j : ℕ = k - length part in

@@ -7,6 +7,7 @@ use Rattle.std.proofs.lemmas.List.{length-append, length-map, map-append, drop_a
 use Rattle.std.proofs.lemmas.List.Sums.{sum_by-append}
 use Rattle.std.proofs.lemmas.Option.{none-some, slice_get_within, get_or_from_slice_get}
 use Rattle.dg_waves.specs.Rounds.{numbers_from}
+use Rattle.dg_waves.proofs.Waved.{length_numbers}
 use Rattle.dg_model.specs.declared.diagram.Diagram.{Diagram}
 use Rattle.dg_model.specs.declared.diagram.Block.{Block}
 use Rattle.dg_model.specs.declared.diagram.Edge.{Edge}
@@ -120,14 +121,10 @@ filtered_length {A} {B} f p (x ∷ xs) = go (p x) (filtered_length f p xs) ∙ s
     go true more = let parts = length-append (f x) (flat_map f (filter p xs)) in omega (arith, parts, more)
     go false more = omega (arith, more)
 
-numbers_length : (from n : ℕ) → length (numbers_from from n) ≡ n
-numbers_length from zero = refl
-numbers_length from (suc n) = ap suc (numbers_length (suc from) n)
-
 pub results_are : (diagram : Diagram) (attributes : Attributes) (plan : Resolved) → sum_below (results_at diagram attributes plan) (length diagram.blocks) ≡ length (shared_operations diagram attributes plan)
 results_are diagram attributes plan =
     sums_same (results_at diagram attributes plan) (λ place. cond (is_shared diagram attributes plan place) (length (operations_of attributes place)) 0) (numbers_from 0 (length diagram.blocks))
-    (λ place. ap (λ (n : ℕ). cond (is_shared diagram attributes plan place) n 0) (sym (length-map (numbers_from 0 (attributes.width_at place 1)) (operation place) ∙ numbers_length 0 (attributes.width_at place 1))))
+    (λ place. ap (λ (n : ℕ). cond (is_shared diagram attributes plan place) n 0) (sym (length-map (numbers_from 0 (attributes.width_at place 1)) (operation place) ∙ length_numbers 0 (attributes.width_at place 1))))
     ∙ sym (filtered_length (operations_of attributes) (is_shared diagram attributes plan) (numbers_from 0 (length diagram.blocks)))
 
 -- ---- greatest numbers

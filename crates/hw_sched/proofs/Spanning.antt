@@ -1,9 +1,8 @@
 -- The slots of periods, line by line and period by period.
-use Rattle.std.proofs.Common.{◌≡◌, ℕ, zero, suc, ◌+◌, ◌-◌, ◌*◌, ◌<◌, ◌≤◌, max, Bool, true, false, cond, Option, Some, None, List, [], ◌∷◌, ◌++◌, length, map, take, refl, sym, ap, subst, ◌∙◌, inl, inr, length-append, arith, mul-le-mul_right}
+use Rattle.std.proofs.Common.{◌≡◌, ℕ, zero, suc, ◌+◌, ◌-◌, ◌*◌, ◌<◌, ◌≤◌, max, Bool, true, false, cond, Option, Some, None, List, [], ◌∷◌, ◌++◌, length, refl, sym, ap, subst, ◌∙◌, inl, inr, length-append, arith, mul-le-mul_right}
 use Rattle.std.specs.Prelude.{slice_get, slice_index, nat_lt, ◌&&◌, ◌==◌}
 use Rattle.std.proofs.lemmas.Bool.{cases_lt, cases_eq, cond-true, cond-false, and_left, and_right, eqb-true, eq-eqb, ne_eqb, ltb-true}
 use Rattle.std.proofs.lemmas.List.{take_all, get_or_past}
-use Rattle.std.proofs.lemmas.Option.{none-some, same_Some}
 use Rattle.dg_model.specs.declared.diagram.Diagram.{Diagram}
 use Rattle.dg_model.specs.declared.diagram.Block.{Block}
 use Rattle.dg_model.specs.declared.diagram.Edge.{Edge}
@@ -13,10 +12,10 @@ use Rattle.dg_model.specs.Checked.{IsChecked}
 use Rattle.dg_model.specs.Library.{row_of}
 use Rattle.dg_model.specs.Periods.{periods_of}
 use Rattle.dg_model.specs.Rate.{joins_periods}
-use Rattle.dg_model.specs.Widths.{greatest}
 use Rattle.dg_model.proofs.Propagation.{length_periods}
 use Rattle.hw_latency.specs.Weight.{samples}
 use Rattle.hw_slots.specs.declared.operation.Span.{Span}
+use Rattle.hw_slots.proofs.Sums.{greatest_next}
 use Rattle.hw_sched.specs.Slots.{shorter_into, start_of}
 use Rattle.hw_sched.specs.inner.Spans.{AreCounted, AreLongestTo, AreLongest, AreSpansTo, AreSpans, longest_of, span_of}
 use Rattle.hw_sched.proofs.Lists.{greatest_within}
@@ -132,14 +131,6 @@ module _ (diagram : Diagram) (edge : Edge) where
   ]
 
 -- ---- all lines
-
-greatest_next : {A : Type 0} (f : A → ℕ) (xs : List A) (i : ℕ) (x : A) → slice_get xs i ≡ Some x → greatest (map f (take (i + 1) xs)) ≡ max (greatest (map f (take i xs))) (f x)
-greatest_next {A} f xs i x at = let e : suc i ≡ i + 1 = omega arith in ap (λ (n : ℕ). greatest (map f (take n xs))) (sym e) ∙ go xs i at
-  where
-    go : (ys : List A) (k : ℕ) → slice_get ys k ≡ Some x → greatest (map f (take (suc k) ys)) ≡ max (greatest (map f (take k ys))) (f x)
-    go [] k at = absurd (none-some x at)
-    go (y ∷ ys) zero at = let e : f y ≡ f x = ap f (same_Some y x at) in omega (arith, e)
-    go (y ∷ ys) (suc k) at = let more = go ys k at in omega (arith, more)
 
 module _ (diagram : Diagram) where
   pub longest_none : (longest : List ℕ) → AreCounted diagram (length longest) → ((period : ℕ) → slice_index longest period ≡ 0) → AreLongestTo diagram 0 longest

@@ -4,6 +4,7 @@ use Rattle.std.specs.Prelude.{slice_get, slice_index_or, [], ◌∷◌, Option, 
 use Rattle.std.proofs.lemmas.List.{length-map}
 use Rattle.std.proofs.lemmas.Option.{slice_get_within}
 use Rattle.dg_waves.specs.Rounds.{numbers_from}
+use Rattle.dg_waves.proofs.Waved.{length_numbers}
 use Rattle.dg_model.specs.declared.diagram.Diagram.{Diagram}
 use Rattle.dg_model.specs.declared.diagram.Block.{Block}
 use Rattle.dg_model.specs.declared.diagram.Edge.{Edge}
@@ -18,14 +19,10 @@ use Rattle.hw_sched.specs.inner.Counted.{IsThere}
 use Rattle.hw_sched.proofs.Edges.{found_there}
 use Rattle.hw_sched.proofs.Periods.{readable_at}
 
-numbers_length : (from n : ℕ) → length (numbers_from from n) ≡ n
-numbers_length from zero = refl
-numbers_length from (suc n) = ap suc (numbers_length (suc from) n)
-
 parts_length : (sizes : List ℕ) (width : ℕ) (are_even : Bool) → length (map (min most_width) (cond are_even (map (share width (length sizes)) (numbers_from 0 (length sizes))) sizes)) ≡ length sizes
 parts_length sizes width true =
     length-map (map (share width (length sizes)) (numbers_from 0 (length sizes))) (min most_width)
-    ∙ length-map (numbers_from 0 (length sizes)) (share width (length sizes)) ∙ numbers_length 0 (length sizes)
+    ∙ length-map (numbers_from 0 (length sizes)) (share width (length sizes)) ∙ length_numbers 0 (length sizes)
 parts_length sizes width false = length-map sizes (min most_width)
 
 widths_by : (kind : Kind) (inputs outputs lists width : ℕ) (sources own : List ℕ) → HasPorts kind inputs outputs → (row_of kind).parameters → map (min most_width) (taken (row_of kind).signal.shape lists width sources) ≡ own

@@ -10,7 +10,7 @@ use Rattle.hw_slots.specs.declared.tally.Rung.{Rung}
 use Rattle.hw_slots.specs.Slots.{shared_out, needed, level_after, turn_of, beside}
 use Rattle.hw_slots.specs.inner.Tally.{tally_at}
 use Rattle.hw_slots.specs.inner.Made.{AreCounts, AreTurns, AreWidths, AreLevels, AreMost}
-use Rattle.hw_slots.proofs.Sums.{counted}
+use Rattle.hw_slots.proofs.Sums.{counted, greatest_next}
 
 -- ---- lists
 
@@ -20,11 +20,6 @@ count_next {A} p (y ∷ xs) zero x at = let e : cond {A = ℕ} (p y) 1 0 ≡ con
 count_next p (y ∷ xs) (suc i) x at =
     let more = count_next p xs i x at in
     omega (arith, counted p y (take (suc i) xs), counted p y (take i xs), more)
-
-greatest_next : {A : Type 0} (f : A → ℕ) (xs : List A) (i : ℕ) (x : A) → slice_get xs i ≡ Some x → greatest (map f (take (suc i) xs)) ≡ max (greatest (map f (take i xs))) (f x)
-greatest_next f [] i x at = absurd (none-some x at)
-greatest_next f (y ∷ xs) zero x at = let e : f y ≡ f x = ap f (same_Some y x at) in omega (arith, e)
-greatest_next f (y ∷ xs) (suc i) x at = let more = greatest_next f xs i x at in omega (arith, more)
 
 next : (i : ℕ) → suc i ≡ i + 1
 next i = omega arith
@@ -127,13 +122,13 @@ greatest_none operations f tally none = subst (AreGreatest (take 0 operations) f
 
 pub greatest_more : (operations : List Operation) (f : ℕ → ℕ → Operation → ℕ) (i : ℕ) (o : Operation) (owner level number : ℕ) (old new : List (Rung × ℕ)) → slice_get operations i ≡ Some o
     → ((other later : ℕ) → f other later o ≡ cond ((owner == other) && (level == later)) number 0) → Raises old new owner level number → AreGreatest (take i operations) f old → AreGreatest (take (i + 1) operations) f new
-greatest_more operations f i o owner level number old new at gives raises before = subst (λ (n : ℕ). AreGreatest (take n operations) f new) (next i) (record {
+greatest_more operations f i o owner level number old new at gives raises before = record {
   are = λ other later.
       raises other later ∙ raise_one old owner level other later number ((owner == other) && (level == later)) refl
       ∙ ap (λ (n : ℕ). max n (cond ((owner == other) && (level == later)) number 0)) (before.are other later)
       ∙ ap (max (greatest (map (f other later) (take i operations)))) (sym (gives other later))
       ∙ sym (greatest_next (f other later) operations i o at);
-})
+}
 
 pub greatest_end : (operations : List Operation) (f : ℕ → ℕ → Operation → ℕ) (i : ℕ) (tally : List (Rung × ℕ)) → length operations ≤ i → AreGreatest (take i operations) f tally → AreGreatest operations f tally
 greatest_end operations f i tally end made = subst (λ (os : List Operation). AreGreatest os f tally) (take_all i operations end) made

@@ -1,5 +1,5 @@
 -- Sums, counts and greatest numbers of lists, and when the order of numbers holds two for one. Crates above may cite this file.
-use Rattle.std.proofs.Common.{◌≡◌, ℕ, zero, suc, ◌+◌, ◌≤◌, Bool, true, false, cond, ◌==◌, nat_lt, List, [], ◌∷◌, map, refl, ap, arith}
+use Rattle.std.proofs.Common.{◌≡◌, ℕ, zero, suc, ◌+◌, ◌≤◌, Bool, true, false, cond, ◌==◌, nat_lt, max, List, [], ◌∷◌, map, take, refl, sym, ap, ◌∙◌, arith}
 use Rattle.std.specs.Prelude.{slice_get, Some, count_by}
 use Rattle.std.specs.List.{sum}
 use Rattle.std.specs.declared.cmp.Ordering.TheVariants.{Less, Equal, Greater}
@@ -16,6 +16,15 @@ pub greatest_at : {A : Type 0} (f : A → ℕ) (xs : List A) (k : ℕ) (x : A) �
 greatest_at f [] k x at = absurd (none-some x at)
 greatest_at f (y ∷ xs) zero x at = let e : f y ≡ f x = ap f (same_Some y x at) in omega (arith, e)
 greatest_at f (y ∷ xs) (suc k) x at = let more = greatest_at f xs k x at in omega (arith, more)
+
+-- of one element more
+pub greatest_next : {A : Type 0} (f : A → ℕ) (xs : List A) (i : ℕ) (x : A) → slice_get xs i ≡ Some x → greatest (map f (take (i + 1) xs)) ≡ max (greatest (map f (take i xs))) (f x)
+greatest_next {A} f xs i x at = let e : suc i ≡ i + 1 = omega arith in ap (λ (n : ℕ). greatest (map f (take n xs))) (sym e) ∙ go xs i at
+  where
+    go : (ys : List A) (k : ℕ) → slice_get ys k ≡ Some x → greatest (map f (take (suc k) ys)) ≡ max (greatest (map f (take k ys))) (f x)
+    go [] k at = absurd (none-some x at)
+    go (y ∷ ys) zero at = let e : f y ≡ f x = ap f (same_Some y x at) in omega (arith, e)
+    go (y ∷ ys) (suc k) at = let more = go ys k at in omega (arith, more)
 
 pub counted : {A : Type 0} (p : A → Bool) (x : A) (xs : List A) → count_by p (x ∷ xs) ≡ cond (p x) 1 0 + count_by p xs
 counted p x xs = sum_by-cons (λ x. cond (p x) 1 0) x xs
