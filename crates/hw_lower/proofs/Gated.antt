@@ -1,7 +1,6 @@
 -- Gates, one argument after another.
 use Rattle.std.proofs.Common.{◌≡◌, ◌≢◌, ℕ, ◌+◌, ◌<◌, ◌≤◌, ◌%◌, Bool, true, false, not, ◌&&◌, ◌||◌, true≢false, if◌then◌else◌, List, length, take, ℤ, pos, ◌-ℤ◌, ap, sym, ◌∙◌, subst, arith, refl, inl, inr}
 use Rattle.std.specs.Prelude.{count_by, ◌==◌}
-use Rattle.std.specs.List.{list_all, list_any}
 use Rattle.std.specs.Ordering.{int_eq}
 use Rattle.std.proofs.lemmas.Int.{ints}
 use Rattle.std.proofs.lemmas.List.{take_all}
@@ -14,7 +13,9 @@ use Rattle.fx_type.specs.Conversion.{IsTruthOf}
 use Rattle.dg_model.specs.Operation.{is_true, stored_truth, value_of, gate_of}
 use Rattle.dg_model.specs.declared.kind.Gate.TheVariants.{Nxor}
 use Rattle.hw_lower.specs.inner.Planned.{Numbers, IsChosen}
-use Rattle.hw_lower.specs.inner.Spread.{AreArguments, OfArguments, is_odd}
+use Rattle.hw_lower.specs.inner.Spread.{AreArguments, OfArguments, IsJoined, is_odd, truth_of}
+use Rattle.hw_lower.specs.declared.gates.Joining.{Joining}
+use Rattle.hw_lower.specs.declared.gates.Joining.TheVariants.{Every, Any, Odd}
 use Rattle.hw_net.proofs.Numbers.{is-same}
 
 -- a number is 0 or true
@@ -29,14 +30,14 @@ by-truth v = by (int_eq v (pos 0)) refl
     by true e = record { none = λ h. (Decides-int_eq v (pos 0)).0 e; some = λ h. absurd (true≢false (sym h)) }
     by false e = record { none = λ h. absurd (true≢false h); some = λ h z. true≢false (sym (is-same v (pos 0) z) ∙ e) }
 
-pub truth-stored : (v r : ℤ) → IsTruthOf v r → r ≡ stored_truth (is_true v)
+truth-stored : (v r : ℤ) → IsTruthOf v r → r ≡ stored_truth (is_true v)
 truth-stored v r is = by (is_true v) (by-truth v)
   where
     by : (t : Bool) → ByTruth v t → r ≡ stored_truth t
     by true of = is.one (of.some refl)
     by false of = is.zero (of.none refl)
 
-pub all-chosen : (b : Bool) (test bit r : ℤ) → bit ≡ stored_truth b → IsChosen test bit (pos 0) r → r ≡ stored_truth (b && is_true test)
+all-chosen : (b : Bool) (test bit r : ℤ) → bit ≡ stored_truth b → IsChosen test bit (pos 0) r → r ≡ stored_truth (b && is_true test)
 all-chosen b test bit r e is = by b (is_true test) e (by-truth test)
   where
     by : (b t : Bool) → bit ≡ stored_truth b → ByTruth test t → r ≡ stored_truth (b && t)
@@ -45,7 +46,7 @@ all-chosen b test bit r e is = by b (is_true test) e (by-truth test)
     by false true e of = is.any (of.some refl) ∙ e
     by false false e of = is.zero (of.none refl)
 
-pub some-chosen : (b : Bool) (test bit r : ℤ) → bit ≡ stored_truth b → IsChosen test (pos 1) bit r → r ≡ stored_truth (b || is_true test)
+some-chosen : (b : Bool) (test bit r : ℤ) → bit ≡ stored_truth b → IsChosen test (pos 1) bit r → r ≡ stored_truth (b || is_true test)
 some-chosen b test bit r e is = by b (is_true test) e (by-truth test)
   where
     by : (b t : Bool) → bit ≡ stored_truth b → ByTruth test t → r ≡ stored_truth (b || t)
@@ -107,47 +108,44 @@ odd-first values some = odd-more values 0 some ∙ by (is_true (value_of values 
     by true = refl
     by false = refl
 
+-- a truth with one more, by how they are joined
+abbrev one-more : Joining → Bool → Bool → Bool
+one-more Every b test = b && test
+one-more Any b test = b || test
+one-more Odd b test = differs b test
+
+joined-bit : (joining : Joining) (b : Bool) (test bit r : ℤ) → bit ≡ stored_truth b → IsJoined joining test bit r → r ≡ stored_truth (one-more joining b (is_true test))
+joined-bit Every b test bit r e is = all-chosen b test bit r e is
+joined-bit Any b test bit r e is = some-chosen b test bit r e is
+joined-bit Odd b test bit r e is = odd-chosen b test bit r e is
+
+more-truth : (joining : Joining) (values : List ℤ) (k : ℕ) → k < length values → truth_of joining (take (k + 1) values) ≡ one-more joining (truth_of joining (take k values)) (is_true (value_of values k))
+more-truth Every values k within = list_all_more is_true values k (pos 0) within
+more-truth Any values k within = list_any_more is_true values k (pos 0) within
+more-truth Odd values k within = odd-more values k within
+
+first-truth : (joining : Joining) (values : List ℤ) → 0 < length values → truth_of joining (take 1 values) ≡ is_true (value_of values 0)
+first-truth Every values some = list_all_more is_true values 0 (pos 0) some
+first-truth Any values some = list_any_more is_true values 0 (pos 0) some
+first-truth Odd values some = odd-first values some
+
 module _ (types : List FxType) (numbers : Numbers) where
   count-of : (values : List ℤ) → AreArguments types numbers values → length values ≡ length types
   count-of values are = are.in_range.count
 
   -- the first argument
-  pub all-first : (r : ℤ) → 1 ≤ length types → IsTruthOf (numbers 0) r → OfArguments types numbers (λ values. r ≡ stored_truth (list_all is_true (take 1 values)))
-  all-first r some is values are =
+  pub joined-first : (joining : Joining) (r : ℤ) → 1 ≤ length types → IsTruthOf (numbers 0) r → OfArguments types numbers (λ values. r ≡ stored_truth (truth_of joining (take 1 values)))
+  joined-first joining r some is values are =
       truth-stored (numbers 0) r is ∙ ap (λ (v : ℤ). stored_truth (is_true v)) (are.each 0 (omega (arith, some)))
-      ∙ ap stored_truth (sym (list_all_more is_true values 0 (pos 0) (omega (arith, count-of values are))))
-
-  pub some-first : (r : ℤ) → 1 ≤ length types → IsTruthOf (numbers 0) r → OfArguments types numbers (λ values. r ≡ stored_truth (list_any is_true (take 1 values)))
-  some-first r some is values are =
-      truth-stored (numbers 0) r is ∙ ap (λ (v : ℤ). stored_truth (is_true v)) (are.each 0 (omega (arith, some)))
-      ∙ ap stored_truth (sym (list_any_more is_true values 0 (pos 0) (omega (arith, count-of values are))))
-
-  pub odd-begun : (r : ℤ) → 1 ≤ length types → IsTruthOf (numbers 0) r → OfArguments types numbers (λ values. r ≡ stored_truth (is_odd (take 1 values)))
-  odd-begun r some is values are =
-      truth-stored (numbers 0) r is ∙ ap (λ (v : ℤ). stored_truth (is_true v)) (are.each 0 (omega (arith, some)))
-      ∙ ap stored_truth (sym (odd-first values (omega (arith, count-of values are))))
+      ∙ ap stored_truth (sym (first-truth joining values (omega (arith, count-of values are))))
 
   -- one argument more
-  pub all-more : (k : ℕ) (bit r : ℤ) → k < length types → OfArguments types numbers (λ values. bit ≡ stored_truth (list_all is_true (take k values)))
-      → IsChosen (numbers k) bit (pos 0) r → OfArguments types numbers (λ values. r ≡ stored_truth (list_all is_true (take (k + 1) values)))
-  all-more k bit r within before is values are =
-      all-chosen (list_all is_true (take k values)) (numbers k) bit r (before values are) is
-      ∙ ap (λ (v : ℤ). stored_truth (list_all is_true (take k values) && is_true v)) (are.each k within)
-      ∙ ap stored_truth (sym (list_all_more is_true values k (pos 0) (omega (arith, count-of values are))))
-
-  pub some-more : (k : ℕ) (bit r : ℤ) → k < length types → OfArguments types numbers (λ values. bit ≡ stored_truth (list_any is_true (take k values)))
-      → IsChosen (numbers k) (pos 1) bit r → OfArguments types numbers (λ values. r ≡ stored_truth (list_any is_true (take (k + 1) values)))
-  some-more k bit r within before is values are =
-      some-chosen (list_any is_true (take k values)) (numbers k) bit r (before values are) is
-      ∙ ap (λ (v : ℤ). stored_truth (list_any is_true (take k values) || is_true v)) (are.each k within)
-      ∙ ap stored_truth (sym (list_any_more is_true values k (pos 0) (omega (arith, count-of values are))))
-
-  pub odd-next : (k : ℕ) (bit r : ℤ) → k < length types → OfArguments types numbers (λ values. bit ≡ stored_truth (is_odd (take k values)))
-      → IsChosen (numbers k) (pos 1 -ℤ bit) bit r → OfArguments types numbers (λ values. r ≡ stored_truth (is_odd (take (k + 1) values)))
-  odd-next k bit r within before is values are =
-      odd-chosen (is_odd (take k values)) (numbers k) bit r (before values are) is
-      ∙ ap (λ (v : ℤ). stored_truth (differs (is_odd (take k values)) (is_true v))) (are.each k within)
-      ∙ ap stored_truth (sym (odd-more values k (omega (arith, count-of values are))))
+  pub joined-more : (joining : Joining) (k : ℕ) (bit r : ℤ) → k < length types → OfArguments types numbers (λ values. bit ≡ stored_truth (truth_of joining (take k values)))
+      → IsJoined joining (numbers k) bit r → OfArguments types numbers (λ values. r ≡ stored_truth (truth_of joining (take (k + 1) values)))
+  joined-more joining k bit r within before is values are =
+      joined-bit joining (truth_of joining (take k values)) (numbers k) bit r (before values are) is
+      ∙ ap (λ (v : ℤ). stored_truth (one-more joining (truth_of joining (take k values)) (is_true v))) (are.each k within)
+      ∙ ap stored_truth (sym (more-truth joining values k (omega (arith, count-of values are))))
 
   -- all arguments
   pub of-all : (P : List ℤ → Type 0) (k : ℕ) → length types ≤ k → OfArguments types numbers (λ values. P (take k values)) → OfArguments types numbers P

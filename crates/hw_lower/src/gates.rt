@@ -1,10 +1,9 @@
 //! Gates over the truth of the arguments.
 ghost use Rattle.std.specs.Prelude.{◌≡◌, ◌≤◌, pos, ◌-ℤ◌, not, length, IfOk};
-ghost use Rattle.std.specs.List.{list_all, list_any};
-ghost use Rattle.dg_model.specs.Operation.{gate_of, is_true, stored_truth};
+ghost use Rattle.dg_model.specs.Operation.{gate_of, stored_truth};
 ghost use Rattle.dg_model.specs.declared.kind.Gate.TheVariants.{Nxor};
 ghost use Rattle.hw_lower.specs.inner.Planned.{IsAt, IsMade, IsChosen, bit_word};
-ghost use Rattle.hw_lower.specs.inner.Spread.{HasArguments, OfArguments, is_odd};
+ghost use Rattle.hw_lower.specs.inner.Spread.{HasArguments, OfArguments, IsJoined, truth_of};
 
 use crate::aligning::argument_of;
 use crate::bits::{bit_word, both, inverse, truth};
@@ -12,6 +11,17 @@ use crate::plan::{Operand, Plan, choose, constant};
 use dg_model::Gate;
 use fx_io::OutOfMemory;
 use fx_type::FxType;
+
+/// How the truths of arguments are joined (own).
+#[derive(Clone, Copy)]
+pub enum Joining {
+    /// Whether all are other than 0.
+    Every,
+    /// Whether some is other than 0.
+    Any,
+    /// Whether an odd count is other than 0.
+    Odd,
+}
 
 /// 1 where the number isn't 0, else the bit.
 fn either(plan: &mut Plan, test: Operand, bit: Operand) -> Result<Operand, OutOfMemory>
@@ -38,87 +48,56 @@ fn differing(plan: &mut Plan, test: Operand, bit: Operand) -> Result<Operand, Ou
     choose(plan, test, other, bit, bit_word())
 }
 
-/// Whether all arguments are other than 0.
-fn all_true(plan: &mut Plan, types: &[FxType]) -> Result<Operand, OutOfMemory>
+/// One number more.
+fn joined(
+    plan: &mut Plan,
+    joining: Joining,
+    test: Operand,
+    bit: Operand,
+) -> Result<Operand, OutOfMemory>
+    requires test { IsAt plan.old test }
+    requires bit { IsAt plan.old bit }
+    requires word { bit.word ≡ bit_word }
+    ensures { IfOk result (λ made. IsMade plan.old plan.new bit_word (λ numbers.
+        IsJoined joining (numbers test.place) (numbers bit.place) (numbers made.place)) made) }
+{
+    match joining {
+        Joining::Every => both(plan, test, bit),
+        Joining::Any => either(plan, test, bit),
+        Joining::Odd => differing(plan, test, bit),
+    }
+}
+
+/// The truths of all arguments, joined.
+fn joined_all(plan: &mut Plan, joining: Joining, types: &[FxType]) -> Result<Operand, OutOfMemory>
     requires arguments { HasArguments plan.old types.now }
     requires some { 1 ≤ length types.now }
     requires few { length types.now ≤ 32 }
     ensures { IfOk result (λ made. IsMade plan.old plan.new bit_word (λ numbers.
         OfArguments types.now numbers (λ values.
-        numbers made.place ≡ stored_truth (list_all is_true values))) made) }
+        numbers made.place ≡ stored_truth (truth_of joining values))) made) }
 {
     let from = argument_of(types, 0);
     let first = truth(plan, from)?;
-    let mut all = first;
+    let mut bit = first;
     for input in 1..types.len() {
         let one = argument_of(types, input);
-        all = both(plan, one, all)?;
+        bit = joined(plan, joining, one, bit)?;
     }
-    Ok(all)
+    Ok(bit)
 }
 
-/// Whether some argument is other than 0.
-fn some_true(plan: &mut Plan, types: &[FxType]) -> Result<Operand, OutOfMemory>
+/// The inverse of the same.
+fn joined_not(plan: &mut Plan, joining: Joining, types: &[FxType]) -> Result<Operand, OutOfMemory>
     requires arguments { HasArguments plan.old types.now }
     requires some { 1 ≤ length types.now }
     requires few { length types.now ≤ 32 }
     ensures { IfOk result (λ made. IsMade plan.old plan.new bit_word (λ numbers.
         OfArguments types.now numbers (λ values.
-        numbers made.place ≡ stored_truth (list_any is_true values))) made) }
+        numbers made.place ≡ stored_truth (not (truth_of joining values)))) made) }
 {
-    let from = argument_of(types, 0);
-    let first = truth(plan, from)?;
-    let mut some = first;
-    for input in 1..types.len() {
-        let one = argument_of(types, input);
-        some = either(plan, one, some)?;
-    }
-    Ok(some)
-}
-
-/// Whether an odd count of the arguments is other than 0.
-fn odd_true(plan: &mut Plan, types: &[FxType]) -> Result<Operand, OutOfMemory>
-    requires arguments { HasArguments plan.old types.now }
-    requires some { 1 ≤ length types.now }
-    requires few { length types.now ≤ 32 }
-    ensures { IfOk result (λ made. IsMade plan.old plan.new bit_word (λ numbers.
-        OfArguments types.now numbers (λ values.
-        numbers made.place ≡ stored_truth (is_odd values))) made) }
-{
-    let from = argument_of(types, 0);
-    let first = truth(plan, from)?;
-    let mut odd = first;
-    for input in 1..types.len() {
-        let one = argument_of(types, input);
-        odd = differing(plan, one, odd)?;
-    }
-    Ok(odd)
-}
-
-/// Whether not all arguments are other than 0.
-fn not_all(plan: &mut Plan, types: &[FxType]) -> Result<Operand, OutOfMemory>
-    requires arguments { HasArguments plan.old types.now }
-    requires some { 1 ≤ length types.now }
-    requires few { length types.now ≤ 32 }
-    ensures { IfOk result (λ made. IsMade plan.old plan.new bit_word (λ numbers.
-        OfArguments types.now numbers (λ values.
-        numbers made.place ≡ stored_truth (not (list_all is_true values)))) made) }
-{
-    let all = all_true(plan, types)?;
-    inverse(plan, all)
-}
-
-/// Whether no argument is other than 0.
-fn none_true(plan: &mut Plan, types: &[FxType]) -> Result<Operand, OutOfMemory>
-    requires arguments { HasArguments plan.old types.now }
-    requires some { 1 ≤ length types.now }
-    requires few { length types.now ≤ 32 }
-    ensures { IfOk result (λ made. IsMade plan.old plan.new bit_word (λ numbers.
-        OfArguments types.now numbers (λ values.
-        numbers made.place ≡ stored_truth (not (list_any is_true values)))) made) }
-{
-    let some = some_true(plan, types)?;
-    inverse(plan, some)
+    let bit = joined_all(plan, joining, types)?;
+    inverse(plan, bit)
 }
 
 /// Whether an even count of the arguments is other than 0.
@@ -130,7 +109,7 @@ fn even_true(plan: &mut Plan, types: &[FxType]) -> Result<Operand, OutOfMemory>
         OfArguments types.now numbers (λ values.
         numbers made.place ≡ stored_truth (gate_of Nxor values))) made) }
 {
-    let odd = odd_true(plan, types)?;
+    let odd = joined_all(plan, Joining::Odd, types)?;
     inverse(plan, odd)
 }
 
@@ -144,12 +123,12 @@ pub fn gate(plan: &mut Plan, operator: Gate, types: &[FxType]) -> Result<Operand
         numbers made.place ≡ stored_truth (gate_of operator values))) made) }
 {
     match operator {
-        Gate::And => all_true(plan, types),
-        Gate::Or => some_true(plan, types),
-        Gate::Nand => not_all(plan, types),
-        Gate::Nor => none_true(plan, types),
-        Gate::Not => none_true(plan, types),
-        Gate::Xor => odd_true(plan, types),
+        Gate::And => joined_all(plan, Joining::Every, types),
+        Gate::Or => joined_all(plan, Joining::Any, types),
+        Gate::Nand => joined_not(plan, Joining::Every, types),
+        Gate::Nor => joined_not(plan, Joining::Any, types),
+        Gate::Not => joined_not(plan, Joining::Any, types),
+        Gate::Xor => joined_all(plan, Joining::Odd, types),
         Gate::Nxor => even_true(plan, types),
     }
 }

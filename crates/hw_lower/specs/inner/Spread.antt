@@ -1,6 +1,7 @@
 -- Plans of whole operations: their arguments, their one Multiply, and what they give.
 use Rattle.std.specs.Prelude.{◌≡◌, ℕ, ◌+◌, ◌<◌, ◌≤◌, ℤ, List, ◌++◌, length, slice_get, Option}
-use Rattle.std.specs.Prelude.{Some, ⊤, count_by, ◌%◌, ◌==◌, ◌*ℤ◌, Bool}
+use Rattle.std.specs.Prelude.{Some, ⊤, count_by, ◌%◌, ◌==◌, ◌*ℤ◌, ◌-ℤ◌, pos, Bool}
+use Rattle.std.specs.List.{list_all, list_any}
 use Rattle.fx_type.specs.declared.kind.FxType.{FxType}
 use Rattle.fx_type.specs.FullType.{IsFullProduct}
 use Rattle.dg_model.specs.Operation.{Operation, AreInRange, IsConverted, is_true, type_of, value_of}
@@ -9,10 +10,12 @@ use Rattle.hw_net.specs.declared.netlist.NetOp.TheVariants.{Input, Const, Resize
 use Rattle.hw_net.specs.declared.netlist.NetOp.TheVariants.{ShiftDown, Add, Subtract, Negate}
 use Rattle.hw_net.specs.declared.netlist.NetOp.TheVariants.{Multiply, And, Or, Xor, Not, Less}
 use Rattle.hw_net.specs.declared.netlist.NetOp.TheVariants.{Equal, Choose, Slice}
+use Rattle.hw_lower.specs.declared.gates.Joining.{Joining}
+use Rattle.hw_lower.specs.declared.gates.Joining.TheVariants.{Every, Any, Odd}
 use Rattle.hw_lower.specs.declared.plan.Word.{Word}
 use Rattle.hw_lower.specs.declared.plan.Step.{Step}
 use Rattle.hw_lower.specs.declared.plan.Operand.{Operand}
-use Rattle.hw_lower.specs.inner.Planned.{Numbers, IsAt, IsSound, Gives, word_of, step_of}
+use Rattle.hw_lower.specs.inner.Planned.{Numbers, IsAt, IsSound, Gives, IsChosen, word_of, step_of}
 
 -- argument k of an operation, as a step of its plan
 abbrev pub argument_of : List FxType → ℕ → Operand
@@ -91,3 +94,15 @@ pub record IsScaled (operation : Operation) (one other : FxType) (x y r : ℤ) :
 -- whether an odd count of numbers is true
 abbrev pub is_odd : List ℤ → Bool
 is_odd values = (count_by is_true values % 2) == 1
+
+-- the truths of numbers, joined
+abbrev pub truth_of : Joining → List ℤ → Bool
+truth_of Every values = list_all is_true values
+truth_of Any values = list_any is_true values
+truth_of Odd values = is_odd values
+
+-- r is the bit after one number more
+abbrev pub IsJoined : Joining → ℤ → ℤ → ℤ → Type 0
+IsJoined Every test bit r = IsChosen test bit (pos 0) r
+IsJoined Any test bit r = IsChosen test (pos 1) bit r
+IsJoined Odd test bit r = IsChosen test (pos 1 -ℤ bit) bit r
