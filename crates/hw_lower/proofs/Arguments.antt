@@ -18,7 +18,8 @@ use Rattle.hw_lower.specs.declared.plan.Operand.{Operand}
 use Rattle.hw_lower.specs.Lowered.{multiply_of}
 use Rattle.hw_lower.specs.inner.Planned.{Numbers, IsSwitched, word_of, step_of}
 use Rattle.hw_lower.specs.inner.Spread.{AreArguments, AreInputs, HasArguments, OfArguments, IsPlanned, IsScaled}
-use Rattle.hw_lower.proofs.Made.{last-of, one-longer, still-at}
+use Rattle.fx_io.proofs.Places.{last_at}
+use Rattle.hw_lower.proofs.Made.{one-longer, still-at}
 use Rattle.hw_lower.proofs.Products.{type-word}
 
 -- the range of an argument
@@ -111,7 +112,7 @@ inputs-more old new types k are is = record {
         | inr more ↦
             let last : input ≡ length old = omega (arith, are.size) in
             let same : k ≡ input = omega arith in
-            ap (slice_get new) last ∙ ap (λ (xs : List Step). slice_get xs (length old)) is ∙ last-of old (step_of (Input k) 0 0 0 (word_of (type_of types k)))
+            ap (slice_get new) last ∙ ap (λ (xs : List Step). slice_get xs (length old)) is ∙ last_at old (step_of (Input k) 0 0 0 (word_of (type_of types k)))
             ∙ ap (λ (i : ℕ). Some (step_of (Input i) 0 0 0 (word_of (type_of types i)))) same
       ];
 }

@@ -1,11 +1,12 @@
 -- A plan that grows by one step, and what its numbers are then.
 use Rattle.std.proofs.Common.{◌≡◌, inl, inr, ℕ, zero, suc, ◌+◌, ◌<◌, ◌≤◌, ℤ, List, [], ◌∷◌, ◌++◌, take, length, All, slice_get, Some, ap, sym, ◌∙◌, subst, arith, refl, length-append, append_assoc, append-nil, Result, Ok, Err, IfOk}
 use Rattle.std.proofs.lemmas.Bool.{cases_lt}
-use Rattle.std.proofs.lemmas.Option.{slice_get_within}
+use Rattle.std.proofs.lemmas.Option.{same_Some, slice_get_within}
 use Rattle.fx_num.specs.Word.{IsWord, InWord, IsWrapped}
 use Rattle.hw_net.specs.declared.netlist.NetOp.{NetOp}
 use Rattle.hw_net.specs.declared.netlist.NetOp.TheVariants.{Input, Const, Resize, ShiftUp, ShiftDown, Add, Subtract, Negate, Multiply, And, Or, Xor, Not, Less, Equal, Choose, Slice}
 use Rattle.hw_net.specs.Operation.{Operands, arity, given_by}
+use Rattle.fx_io.proofs.Places.{get_front, last_at}
 use Rattle.hw_net.proofs.Numbers.{wrapped-is}
 use Rattle.hw_lower.specs.declared.plan.Word.{Word}
 use Rattle.hw_lower.specs.declared.plan.Step.{Step}
@@ -14,25 +15,13 @@ use Rattle.hw_lower.specs.inner.Planned.{Numbers, Obeys, IsAt, HasParts, CanRead
 
 -- Lists.
 
-pub last-of : {A : Type 0} (xs : List A) (x : A) → slice_get (xs ++ x ∷ []) (length xs) ≡ Some x
-last-of [] x = refl
-last-of (y ∷ xs) x = last-of xs x
-
-pub front-of : {A : Type 0} (xs ys : List A) (k : ℕ) → k < length xs → slice_get (xs ++ ys) k ≡ slice_get xs k
-front-of [] ys k h = absurd (omega arith)
-front-of (x ∷ xs) ys zero h = refl
-front-of (x ∷ xs) ys (suc k) h = front-of xs ys k (omega arith)
-
-pub same-some : {A : Type 0} (x y : A) → Some x ≡ Some y → x ≡ y
-same-some x y e = cc
-
 -- Plans that grow.
 
 pub still-at : (old added new : List Step) (k : ℕ) (step : Step) → new ≡ old ++ added → slice_get old k ≡ Some step → slice_get new k ≡ Some step
-still-at old added new k step is there = ap (λ (xs : List Step). slice_get xs k) is ∙ front-of old added k (slice_get_within old k step there) ∙ there
+still-at old added new k step is there = ap (λ (xs : List Step). slice_get xs k) is ∙ get_front old added k (slice_get_within old k step there) ∙ there
 
 pub stood-at : (old added new : List Step) (k : ℕ) (step : Step) → new ≡ old ++ added → k < length old → slice_get new k ≡ Some step → slice_get old k ≡ Some step
-stood-at old added new k step is inside there = sym (front-of old added k inside) ∙ ap (λ (xs : List Step). slice_get xs k) (sym is) ∙ there
+stood-at old added new k step is inside there = sym (get_front old added k inside) ∙ ap (λ (xs : List Step). slice_get xs k) (sym is) ∙ there
 
 pub grown-size : (old new : List Step) → Grows old new → length old ≤ length new
 grown-size old new g = omega (arith, ap length g.is, length-append old g.added)
@@ -108,8 +97,8 @@ last-is old new step other k is past there =
     let within = slice_get_within new k other there in
     let size = one-longer old new step is in
     let last : k ≡ length old = omega arith in
-    let found : slice_get new k ≡ Some step = ap (λ (xs : List Step). slice_get xs k) is ∙ ap (slice_get (old ++ step ∷ [])) last ∙ last-of old step in
-    (last, same-some step other (sym found ∙ there))
+    let found : slice_get new k ≡ Some step = ap (λ (xs : List Step). slice_get xs k) is ∙ ap (slice_get (old ++ step ∷ [])) last ∙ last_at old step in
+    (last, same_Some step other (sym found ∙ there))
 
 pub grows-one : (old new : List Step) (step : Step) → new ≡ old ++ step ∷ [] → IsSound new (length old) step → IsPlain step.op → Grows old new
 grows-one old new step is sound plain = record {
@@ -127,7 +116,7 @@ pub put-made : (old new : List Step) (step : Step) (made : Operand) (P : Numbers
     → ((inputs numbers : Numbers) → IsWrapped (given_by step.op inputs (operands_of numbers step)) step.word.width step.word.signed (numbers made.place) → P numbers)
     → IsMade old new step.word P made
 put-made old new step made P put sound plain gives =
-    let there : slice_get new made.place ≡ Some step = ap (slice_get new) put.place ∙ ap (λ (xs : List Step). slice_get xs (length old)) put.is ∙ last-of old step in
+    let there : slice_get new made.place ≡ Some step = ap (slice_get new) put.place ∙ ap (λ (xs : List Step). slice_get xs (length old)) put.is ∙ last_at old step in
     record {
       grows = grows-one old new step put.is sound plain;
       at = record { step = step; is = there; word = sym put.word; valid = subst (λ (w : Word). IsWord w.width w.signed) (sym put.word) sound.word };
@@ -175,7 +164,7 @@ parts-are plan Choose one at can = tt
 parts-are plan (Slice high low) one at can = (
   can.0,
   λ step there.
-      let same : at.step ≡ step = same-some at.step step (sym at.is ∙ there) in
+      let same : at.step ≡ step = same_Some at.step step (sym at.is ∙ there) in
       let wide : one.word.width ≡ step.word.width = ap (λ (w : Word). w.width) (sym at.word) ∙ ap (λ (s : Step). s.word.width) same in
       omega (arith, can.1, wide),
 )

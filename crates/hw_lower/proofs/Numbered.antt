@@ -1,9 +1,9 @@
 -- The nets of a plan, one after another.
-use Rattle.std.proofs.Common.{◌≡◌, ℕ, zero, suc, ◌+◌, ◌-◌, ◌<◌, ◌≤◌, ◌⊎◌, inl, inr, false, List, [], ◌∷◌, ◌++◌, take, map, length, All, Contains, slice_get, slice_index_or, None, Some, ap, sym, ◌∙◌, subst, arith, refl, length-append}
+use Rattle.std.proofs.Common.{◌≡◌, ℕ, zero, suc, ◌+◌, ◌-◌, ◌<◌, ◌≤◌, ◌⊎◌, inl, inr, false, List, [], ◌∷◌, ◌++◌, take, map, length, All, Contains, slice_get, slice_index_or, Some, ap, sym, ◌∙◌, subst, arith, refl, length-append}
 use Rattle.std.proofs.lemmas.Bool.{cases_lt}
 use Rattle.std.proofs.lemmas.List.{length-map}
 use Rattle.std.proofs.lemmas.List.Elements.{All-map, Contains-get_or}
-use Rattle.std.proofs.lemmas.Option.{slice_get_within, slice_get-get_or, get_or_from_slice_get}
+use Rattle.std.proofs.lemmas.Option.{none-some, same_Some, slice_get_within, slice_get-get_or, get_or_from_slice_get}
 use Rattle.hw_net.specs.declared.netlist.Net.{Net}
 use Rattle.hw_net.specs.declared.netlist.NetKind.TheVariants.{Comb}
 use Rattle.hw_net.specs.declared.netlist.NetOp.{NetOp}
@@ -17,12 +17,6 @@ use Rattle.hw_lower.specs.declared.plan.Step.{Step}
 use Rattle.hw_lower.specs.inner.Planned.{IsSound, HasParts, reads_of}
 use Rattle.hw_lower.specs.inner.Spread.{IsInner}
 use Rattle.hw_lower.specs.inner.Placed.{number_of, net_of, net_by, AreNumbers, AreNets, CanPut}
-
-none-some : {A : Type 0} (x : A) → None ≡ Some x → ⊥
-none-some x e = cc
-
-same-some : {A : Type 0} (x y : A) → Some x ≡ Some y → x ≡ y
-same-some x y e = cc
 
 -- what stands past the end of a plan
 abbrev pub none-step : Step
@@ -117,7 +111,7 @@ slice-bits nets number high low order wide = record {
 }
   where
     by : (k read : ℕ) (net : Net) → slice_get (number ∷ []) k ≡ Some read → slice_get nets read ≡ Some net → high < net.width
-    by zero read net at there = wide net (ap (slice_get nets) (same-some number read at) ∙ there)
+    by zero read net at there = wide net (ap (slice_get nets) (same_Some number read at) ∙ there)
     by (suc k) read net at there = absurd (none-some read at)
 
 -- where every step before the place has a net of its word
@@ -149,7 +143,7 @@ parts-there steps nets inputs place (Slice high low) f a b c inner has earlier w
     let at : slice_get steps a ≡ Some step = slice_get-get_or steps a default (omega (arith, first, inside)) in
     let own = words a step first at in
     slice-bits nets (f a) high low has.0 (λ net there.
-    let same : own.net ≡ net = same-some own.net net (sym own.is ∙ there) in
+    let same : own.net ≡ net = same_Some own.net net (sym own.is ∙ there) in
     let wide : net.width ≡ step.word.width = ap (λ (n : Net). n.width) (sym same) ∙ own.wide in
     let below = has.1 step at in
     omega (arith, below, wide))
@@ -243,7 +237,7 @@ module _ (before now new : Circuit) (steps : List Step) (args : List ℕ) (place
           | inl less ↦ still-there now new (length before.nets + k) (net_of args (length before.nets) other) grows (are.each k other less at)
           | inr more ↦
               let last : length args + k ≡ place = omega arith in
-              let same : step ≡ other = same-some step other (sym there ∙ ap (slice_get steps) (sym last) ∙ at) in
+              let same : step ≡ other = same_Some step other (sym there ∙ ap (slice_get steps) (sym last) ∙ at) in
               let end : length before.nets + k ≡ length now.nets = omega (arith, are.size) in
               ap (slice_get new.nets) end ∙ ap (λ (x : Circuit). slice_get x.nets (length now.nets)) grown ∙ last-of now.nets (net_of args (length before.nets) step)
               ∙ ap (λ (s : Step). Some (net_of args (length before.nets) s)) same

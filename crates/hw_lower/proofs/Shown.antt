@@ -1,7 +1,7 @@
 -- What the nets of a plan show.
-use Rattle.std.proofs.Common.{◌≡◌, ℕ, zero, suc, ◌+◌, ◌-◌, ◌^◌, ◌<◌, ◌≤◌, ◌⊎◌, inl, inr, Contains, false, List, [], ◌∷◌, take, map, length, slice_get, slice_index_or, Option, None, Some, ℤ, pos, ap, sym, ◌∙◌, subst, arith, refl, length-append}
+use Rattle.std.proofs.Common.{◌≡◌, ℕ, zero, suc, ◌+◌, ◌-◌, ◌^◌, ◌<◌, ◌≤◌, ◌⊎◌, inl, inr, Contains, false, List, [], ◌∷◌, take, map, length, slice_get, slice_index_or, Option, Some, ℤ, pos, ap, sym, ◌∙◌, subst, arith, refl, length-append}
 use Rattle.std.proofs.lemmas.Bool.{cases_lt}
-use Rattle.std.proofs.lemmas.Option.{slice_get_within, slice_get-get_or}
+use Rattle.std.proofs.lemmas.Option.{none-some, same_Some, slice_get_within, slice_get-get_or}
 use Rattle.fx_num.specs.Word.{IsWrapped}
 use Rattle.fx_num.proofs.Arithmetic.{IsCongruent-refl}
 use Rattle.fx_type.specs.declared.kind.FxType.{FxType}
@@ -27,12 +27,6 @@ use Rattle.hw_lower.specs.inner.Placed.{number_of, net_of, AreNets, CanPut}
 use Rattle.hw_lower.proofs.Made.{stood-at}
 use Rattle.hw_lower.proofs.Products.{range-word}
 use Rattle.hw_lower.proofs.Numbered.{number-given, number-later, word-at}
-
-none-some : {A : Type 0} (x : A) → None ≡ Some x → ⊥
-none-some x e = cc
-
-same-some : {A : Type 0} (x y : A) → Some x ≡ Some y → x ≡ y
-same-some x y e = cc
 
 -- a step and its net are given the same
 given-same : (op : NetOp) (inputs other row : ℕ → ℤ) (f : ℕ → ℕ) (a b c : ℕ) → IsInner op
@@ -65,7 +59,7 @@ pub record IsPutDown (before after : Circuit) (types : List FxType) (args : List
 input-at : (types : List FxType) (start steps : List Step) (multiply : Option ℕ) → AreInputs start types (length types) → Spreads start steps multiply
     → (k : ℕ) (step : Step) → k < length types → slice_get steps k ≡ Some step → step_of (Input k) 0 0 0 (word_of (type_of types k)) ≡ step
 input-at types start steps multiply inputs spreads k step inside there =
-    same-some (step_of (Input k) 0 0 0 (word_of (type_of types k))) step
+    same_Some (step_of (Input k) 0 0 0 (word_of (type_of types k))) step
     (sym (inputs.each k inside) ∙ stood-at start spreads.added steps k step spreads.is (omega (arith, inputs.size, inside)) there)
 
 pub can-put : (before : Circuit) (types : List FxType) (args : List ℕ) (start steps : List Step) (multiply : Option ℕ) → AreArgs before types args → AreInputs start types (length types) → Spreads start steps multiply
@@ -109,7 +103,7 @@ shown before after later args steps nets keeps n given rows is clock below k ste
 -- an argument's number
 value-in : (rows : Rows) (clock : ℕ) (args : List ℕ) (k number : ℕ) → slice_get args k ≡ Some number → rows number clock ≡ value_of (values_at rows args clock) k
 value-in rows clock [] k number at = absurd (none-some number at)
-value-in rows clock (arg ∷ args) zero number at = ap (λ (x : ℕ). rows x clock) (sym (same-some arg number at))
+value-in rows clock (arg ∷ args) zero number at = ap (λ (x : ℕ). rows x clock) (sym (same_Some arg number at))
 value-in rows clock (arg ∷ args) (suc k) number at = value-in rows clock args k number at
 
 arguments-are : (types : List FxType) (args : List ℕ) (base : ℕ) (rows : Rows) (clock : ℕ) → length args ≡ length types → AreInRange types (values_at rows args clock)
@@ -213,7 +207,7 @@ lowers before after args start steps operation made down at = record {
       let inside : length args + place < length steps = omega (arith, down.nets.size, within) in
       let there : slice_get steps (length args + place) ≡ Some step = slice_get-get_or steps (length args + place) at.step inside in
       let net : slice_get after.nets (length before.nets + place) ≡ Some (net_of args (length before.nets) step) = down.nets.each place step inside there in
-      let one : comb.net ≡ net_of args (length before.nets) step = same-some comb.net (net_of args (length before.nets) step) (sym comb.is ∙ net) in
+      let one : comb.net ≡ net_of args (length before.nets) step = same_Some comb.net (net_of args (length before.nets) step) (sym comb.is ∙ net) in
       let op : step.op ≡ Multiply = comb-step comb.net args (length before.nets) step Multiply comb.reads one comb.kind in
       let size : length start + place ≡ length args + place = omega (arith, down.are_args.count, down.inputs.size) in
       down.spreads.only place (record { step = step; is = ap (slice_get steps) size ∙ there; multiplies = op });

@@ -1,7 +1,7 @@
 -- Plans that may have the one Multiply.
 use Rattle.std.proofs.Common.{◌≡◌, ℕ, ◌+◌, ◌-◌, ◌≤◌, ◌*ℤ◌, List, [], ◌∷◌, ◌++◌, length, slice_get, Option, None, Some, inl, inr, append_assoc, ap, sym, ◌∙◌, subst, arith, refl, Result, Ok, Err, IfOk}
 use Rattle.std.proofs.lemmas.Bool.{cases_lt}
-use Rattle.std.proofs.lemmas.Option.{slice_get_within}
+use Rattle.std.proofs.lemmas.Option.{none-some, same_Some, slice_get_within}
 use Rattle.fx_num.specs.Word.{IsWord, IsWrapped}
 use Rattle.hw_net.specs.declared.netlist.NetOp.{NetOp}
 use Rattle.hw_net.specs.declared.netlist.NetOp.TheVariants.{Input, Const, Resize, ShiftUp, ShiftDown, Add, Subtract, Negate, Multiply, And, Or, Xor, Not, Less, Equal, Choose, Slice}
@@ -10,11 +10,9 @@ use Rattle.hw_lower.specs.declared.plan.Step.{Step}
 use Rattle.hw_lower.specs.declared.plan.Operand.{Operand}
 use Rattle.hw_lower.specs.inner.Planned.{Numbers, IsAt, IsPlain, IsSound, Grows, Gives, IsMade, IsPut, step_of, Obeys}
 use Rattle.hw_lower.specs.inner.Spread.{IsInner, IsMultiplyAt, Spreads, IsPlanned}
-use Rattle.hw_lower.proofs.Made.{same-some, last-of, last-is, still-at, stood-at, sound-later, obeys-before, below-taken}
+use Rattle.fx_io.proofs.Places.{last_at}
+use Rattle.hw_lower.proofs.Made.{last-is, still-at, stood-at, sound-later, obeys-before, below-taken}
 use Rattle.hw_lower.proofs.Chained.{InWords, in-words}
-
-none-some : {A : Type 0} (x : A) → None ≡ Some x → ⊥
-none-some x e = cc
 
 plain-inner : (op : NetOp) → IsPlain op → IsInner op
 plain-inner (Input number) plain = plain
@@ -61,11 +59,11 @@ spreads-multiply old new step is sound multiplies = record {
       let op : other.op ≡ Multiply = ap (λ (s : Step). s.op) (sym last.1) ∙ multiplies in
       subst IsInner (sym op) tt;
   multiplies = λ place e.
-      let none : place ≡ 0 = sym (same-some 0 place e) in
+      let none : place ≡ 0 = sym (same_Some 0 place e) in
       let at : length old + place ≡ length old = omega arith in
       record {
         step = step;
-        is = ap (λ (xs : List Step). slice_get xs (length old + place)) is ∙ ap (slice_get (old ++ step ∷ [])) at ∙ last-of old step;
+        is = ap (λ (xs : List Step). slice_get xs (length old + place)) is ∙ ap (slice_get (old ++ step ∷ [])) at ∙ last_at old step;
         multiplies = multiplies;
       };
   only = λ place at.
@@ -114,7 +112,7 @@ spreads-after a b c p size q = record {
         | inr more ↦ q.inner k step more there
       ];
   multiplies = λ place e.
-      let one : place ≡ 1 = sym (same-some 1 place e) in
+      let one : place ≡ 1 = sym (same_Some 1 place e) in
       let at = q.multiplies 0 refl in
       let same : length b + 0 ≡ length a + place = omega arith in
       record { step = at.step; is = ap (slice_get c) (sym same) ∙ at.is; multiplies = at.multiplies };
@@ -123,7 +121,7 @@ spreads-after a b c p size q = record {
         | inl less ↦ absurd (plain-none a b (length a + place) p (omega arith) (record { step = at.step; is = stood-at b q.added c (length a + place) at.step q.is less at.is; multiplies = at.multiplies }))
         | inr more ↦
             let same : length a + place ≡ length b + (place - 1) = omega arith in
-            let none : 0 ≡ place - 1 = same-some 0 (place - 1) (q.only (place - 1) (subst (IsMultiplyAt c) same at)) in
+            let none : 0 ≡ place - 1 = same_Some 0 (place - 1) (q.only (place - 1) (subst (IsMultiplyAt c) same at)) in
             let one : 1 ≡ place = omega arith in
             ap Some one
       ];
@@ -172,7 +170,7 @@ pub multiplied-put : (old new : List Step) (one other : Operand) (word : Word) (
     → IsPut old new (step_of Multiply one.place other.place other.place word) made → IsMultiplied old new one other word made
 multiplied-put old new one other word made at also valid put =
     let step : Step = step_of Multiply one.place other.place other.place word in
-    let there : slice_get new made.place ≡ Some step = ap (slice_get new) put.place ∙ ap (λ (xs : List Step). slice_get xs (length old)) put.is ∙ last-of old step in
+    let there : slice_get new made.place ≡ Some step = ap (slice_get new) put.place ∙ ap (λ (xs : List Step). slice_get xs (length old)) put.is ∙ last_at old step in
     let p = slice_get_within old one.place at.step at.is in
     let q = slice_get_within old other.place also.step also.is in
     let sound : IsSound new (length old) step = record {

@@ -1,6 +1,5 @@
 //! The nets of a plan.
 ghost use Rattle.std.specs.Prelude.{◌≡◌, ◌≤◌, ◌<◌, length, All, IfOk, OnOk};
-ghost use Rattle.hw_net.specs.Operation.{arity};
 ghost use Rattle.dg_model.specs.Operation.{operation_of, CanPrepare};
 ghost use Rattle.hw_lower.specs.Lowered.{AreArgs, IsLowered, Lowers};
 ghost use Rattle.hw_lower.specs.inner.Planned.{reads_of};
@@ -12,33 +11,8 @@ use crate::planning::planned;
 use dg_model::OpCall;
 use fx_io::{OutOfMemory, Sequence, Sizes};
 use fx_type::FxType;
-use hw_net::{Net, NetKind, NetOp, Netlist};
+use hw_net::{Net, NetKind, Netlist, arity};
 use std::alloc::Global;
-
-/// How many arguments an operation has.
-fn arity(op: NetOp) -> usize
-    ensures { result ≡ arity op }
-{
-    match op {
-        NetOp::Input(_) => 0,
-        NetOp::Const(_) => 0,
-        NetOp::Resize => 1,
-        NetOp::ShiftUp(_) => 1,
-        NetOp::ShiftDown(_) => 1,
-        NetOp::Add => 2,
-        NetOp::Subtract => 2,
-        NetOp::Negate => 1,
-        NetOp::Multiply => 2,
-        NetOp::And => 2,
-        NetOp::Or => 2,
-        NetOp::Xor => 2,
-        NetOp::Not => 1,
-        NetOp::Less => 2,
-        NetOp::Equal => 2,
-        NetOp::Choose => 3,
-        NetOp::Slice { .. } => 1,
-    }
-}
 
 /// The net of a step, where the numbers of the steps before are known.
 fn net_of(alloc: Global, step: Step, numbers: &[u32]) -> Result<Net, OutOfMemory>

@@ -1,7 +1,8 @@
 -- Netlists with nets behind their own: what stood stands, and no frame gets a second Counter.
 use Rattle.std.proofs.Common.{◌≡◌, ℕ, zero, suc, append-nil, append_assoc, ◌+◌, ◌<◌, ◌≤◌, ◌⊎◌, inl, inr, List, [], ◌∷◌, ◌++◌, length, Option, None, Some, IsSome, slice_get, Result, Ok, Err, IfOk, Bool, true, false, if◌then◌else◌, ap, sym, ◌∙◌, arith, refl, length-append}
 use Rattle.std.proofs.lemmas.Bool.{cases_lt}
-use Rattle.std.proofs.lemmas.Option.{slice_get_within}
+use Rattle.std.proofs.lemmas.Option.{none-some, same_Some, slice_get_within}
+pub use Rattle.fx_io.proofs.Places.{last_at as last-of, get_front as front-of}
 use Rattle.hw_net.specs.declared.netlist.Frame.{Frame}
 use Rattle.hw_net.specs.declared.netlist.Net.{Net}
 use Rattle.hw_net.specs.Circuit.{Circuit}
@@ -12,20 +13,8 @@ use Rattle.hw_net.proofs.Index.{same-self}
 
 -- Lists.
 
-pub last-of : {A : Type 0} (xs : List A) (x : A) → slice_get (xs ++ x ∷ []) (length xs) ≡ Some x
-last-of [] x = refl
-last-of (y ∷ xs) x = last-of xs x
-
-pub front-of : {A : Type 0} (xs ys : List A) (k : ℕ) → k < length xs → slice_get (xs ++ ys) k ≡ slice_get xs k
-front-of [] ys k h = absurd (omega arith)
-front-of (x ∷ xs) ys zero h = refl
-front-of (x ∷ xs) ys (suc k) h = front-of xs ys k (omega arith)
-
 pub front-some : {A : Type 0} (xs ys : List A) (k : ℕ) (x : A) → slice_get xs k ≡ Some x → slice_get (xs ++ ys) k ≡ Some x
 front-some xs ys k x there = front-of xs ys k (slice_get_within xs k x there) ∙ there
-
-same-some : {A : Type 0} (x y : A) → Some x ≡ Some y → x ≡ y
-same-some x y e = cc
 
 -- an element of a list with one more is one of the list or the last
 pub split-last : {A : Type 0} (xs : List A) (x y : A) (k : ℕ) → slice_get (xs ++ x ∷ []) k ≡ Some y → ((k < length xs) × (slice_get xs k ≡ Some y)) ⊎ ((k ≡ length xs) × (x ≡ y))
@@ -35,7 +24,7 @@ split-last xs x y k there =
       | inr more ↦
           let within = slice_get_within (xs ++ x ∷ []) k y there in
           let last : k ≡ length xs = omega (arith, within, length-append xs (x ∷ [])) in
-          inr (last, same-some x y (sym (last-of xs x) ∙ ap (slice_get (xs ++ x ∷ [])) (sym last) ∙ there))
+          inr (last, same_Some x y (sym (last-of xs x) ∙ ap (slice_get (xs ++ x ∷ [])) (sym last) ∙ there))
     ]
 
 pub if-both : {A E : Type 0} (P Q R : A → Type 0) (result : Result A E) → IfOk result P → IfOk result Q → ((x : A) → P x → Q x → R x) → IfOk result R
@@ -90,9 +79,6 @@ word-stays a b k width signed p has = record { net = has.net; is = still-there a
 
 -- Counters.
 
-pub none-some : {A : Type 0} (x : A) → None ≡ Some x → ⊥
-none-some x e = cc
-
 pub counter-front : (xs ys : List Net) (start k : ℕ) (frame : Frame) → counter_from xs start frame ≡ Some k → counter_from (xs ++ ys) start frame ≡ Some k
 counter-front [] ys start k frame e = absurd (none-some k e)
 counter-front (x ∷ xs) ys start k frame e = by (is_frame frame (counted_frame x.kind)) (counter-front xs ys (start + 1) k frame) e
@@ -119,7 +105,7 @@ is-counter-stays a b k p is = record { frame = is.frame; at = counter-at-stays a
 counter-absent : (nets : List Net) (start k : ℕ) (net : Net) (frame : Frame) → counter_from nets start frame ≡ None → slice_get nets k ≡ Some net → counted_frame net.kind ≡ Some frame → ⊥
 counter-absent [] start k net frame none there counts = none-some net there
 counter-absent (one ∷ nets) start zero net frame none there counts =
-    let same : one ≡ net = same-some one net there in
+    let same : one ≡ net = same_Some one net there in
     let is : is_frame frame (counted_frame one.kind) ≡ true = ap (λ (x : Net). is_frame frame (counted_frame x.kind)) same ∙ ap (is_frame frame) counts ∙ same-self frame in
     none-some start (sym none ∙ ap (λ (found : Bool). if found then Some start else counter_from nets (start + 1) frame) is)
 counter-absent (one ∷ nets) start (suc k) net frame none there counts = by (λ e. counter-absent nets (start + 1) k net frame e there counts) (is_frame frame (counted_frame one.kind)) none
@@ -159,5 +145,5 @@ differ-other nets net none differ = differ-more nets net differ (λ k frame at c
 pub differ-counter : (nets : List Net) (net : Net) (frame : Frame) → counted_frame net.kind ≡ Some frame → counter_of nets frame ≡ None → CountersDiffer nets → CountersDiffer (nets ++ net ∷ [])
 differ-counter nets net frame counts absent differ =
     differ-more nets net differ (λ k other at also.
-    let same : frame ≡ other = same-some frame other (sym counts ∙ also) in
+    let same : frame ≡ other = same_Some frame other (sym counts ∙ also) in
     counter-absent nets 0 k at.net other (ap (counter_of nets) (sym same) ∙ absent) at.is at.counts)

@@ -1,9 +1,8 @@
 -- What is said of a netlist is carried along as it grows. Crates above may cite these lemmas.
 pub use Rattle.hw_net.proofs.Extending.{last-of, front-of, front-some, split-last, if-both, count-append, extends-self, extends-trans, extends-one, longer, one-longer, still-there, stood-there, word-stays, counter-front, counter-stays, is-counter-stays, differ-more, differ-other, differ-counter}
-use Rattle.hw_net.proofs.Extending.{none-some}
 use Rattle.std.proofs.Common.{◌≡◌, ℕ, ◌+◌, ◌<◌, ◌≤◌, ◌⊎◌, inl, inr, List, [], ◌∷◌, ◌++◌, length, All, Contains, Option, None, Some, slice_get, slice_index_or, Bool, ap, sym, ◌∙◌, subst, arith, refl}
 use Rattle.std.proofs.lemmas.Bool.{cases_lt}
-use Rattle.std.proofs.lemmas.Option.{slice_get_within}
+use Rattle.std.proofs.lemmas.Option.{none-some, slice_get_within}
 use Rattle.hw_net.specs.declared.netlist.Frame.{Frame}
 use Rattle.hw_net.specs.declared.netlist.Net.{Net}
 use Rattle.hw_net.specs.declared.netlist.NetOp.{NetOp}

@@ -7,7 +7,7 @@ use Rattle.std.specs.Cmp.{tied_then}
 use Rattle.hw_net.specs.declared.netlist.Frame.{Frame}
 use Rattle.std.specs.List.{refill}
 use Rattle.std.proofs.Math.Seq.{take-append_seam}
-use Rattle.std.proofs.lemmas.Option.{get_or_from_slice_get}
+use Rattle.std.proofs.lemmas.Option.{same_Some, get_or_from_slice_get}
 use Rattle.hw_net.specs.declared.netlist.NetKind.{NetKind}
 use Rattle.hw_net.specs.Circuit.{Circuit}
 use Rattle.hw_net.specs.Growing.{with_net}
@@ -31,9 +31,6 @@ same-frame one other =
     let p = tied one.period other.period (nat_lt one.period other.period) (one.period == other.period) refl refl in
     let q = tied one.latency other.latency (nat_lt one.latency other.latency) (one.latency == other.latency) refl refl in
     sym (tied_then (nat_cmp one.period other.period) (nat_cmp one.latency other.latency)) ∙ rw (p, q) refl
-
-same-some : {A : Type 0} (x y : A) → Some x ≡ Some y → x ≡ y
-same-some x y e = cc
 
 pub same-is : (one other : Frame) → is_same_frame one other ≡ true → one ≡ other
 same-is one other h =
@@ -118,7 +115,7 @@ module _ (nets : List Net) (entries : List (Frame × ℕ)) (net : Net) (index : 
 pub counter-set : (nets : List Net) (k start : ℕ) (was is : Net) (frame : Frame) → slice_get nets k ≡ Some was → counted_frame is.kind ≡ counted_frame was.kind → counter_from (set nets k is) start frame ≡ counter_from nets start frame
 counter-set [] k start was is frame there same = refl
 counter-set (net ∷ nets) zero start was is frame there same =
-    let e : net ≡ was = same-some net was there in
+    let e : net ≡ was = same_Some net was there in
     let f : counted_frame is.kind ≡ counted_frame net.kind = same ∙ ap (λ (one : Net). counted_frame one.kind) (sym e) in
     ap (λ (found : Option Frame). if is_frame frame found then Some start else counter_from nets (start + 1) frame) f
 counter-set (net ∷ nets) (suc k) start was is frame there same =

@@ -7,7 +7,7 @@ use Rattle.std.proofs.lemmas.List.{get_or-set_same, get_or-set_other, get_or_app
 use Rattle.std.proofs.lemmas.List.Folds.{list_any_at}
 use Rattle.std.proofs.lemmas.Map.Steps.{le-length_from_below}
 use Rattle.std.proofs.Math.Seq.{get_or-append_seam}
-use Rattle.std.proofs.lemmas.Option.{slice_get_read, slice_get_within, get_or_from_slice_get}
+use Rattle.std.proofs.lemmas.Option.{same_Some, slice_get_read, slice_get_within, get_or_from_slice_get}
 use Rattle.hw_net.specs.declared.netlist.Net.{Net}
 use Rattle.hw_net.specs.declared.netlist.NetKind.{NetKind}
 use Rattle.hw_net.specs.declared.netlist.NetKind.TheVariants.{Comb, Reg, EnReg, Bridge, Unit, Counter}
@@ -22,9 +22,6 @@ rank_or (Some rank) = rank
 
 some-apart : {A : Type 0} (found : Option A) (x : A) → found ≡ None → found ≡ Some x → ⊥
 some-apart found x p q = let e : None ≡ Some x = sym p ∙ q in cc
-
-same-some : (a b : ℕ) → Some a ≡ Some b → a ≡ b
-same-some a b e = cc
 
 none-of : (ranks : List (Option ℕ)) (k : ℕ) (found : Option ℕ) → place_of ranks k ≡ found → ¬ IsPlaced ranks k → place_of ranks k ≡ None
 none-of ranks k None e h = e
@@ -78,11 +75,11 @@ module _ (nets : List Net) (order : List ℕ) (ranks : List (Option ℕ)) (k : �
         | inr more ↦ (let e : i ≡ length order = omega (arith, longer) in rw (last i e) (own ∙ ap Some (sym e)))
       ];
       each = λ j rank is. elim (cases_eq j k) [
-        | inl same ↦ (let e : length order ≡ rank = same-some (length order) rank (sym own ∙ ap (place_of later) (sym same) ∙ is) in (omega (arith, longer), last rank (sym e) ∙ sym same))
+        | inl same ↦ (let e : length order ≡ rank = same_Some (length order) rank (sym own ∙ ap (place_of later) (sym same) ∙ is) in (omega (arith, longer), last rank (sym e) ∙ sym same))
         | inr apart ↦ (let old = growing.each j rank (sym (other j apart) ∙ is) in (omega (arith, longer, old.0), front rank old.0 ∙ old.1))
       ];
       after = λ j rank net there is. elim (cases_eq j k) [
-        | inl same ↦ (let e : length order ≡ rank = same-some (length order) rank (sym own ∙ ap (place_of later) (sym same) ∙ is) in
+        | inl same ↦ (let e : length order ≡ rank = same_Some (length order) rank (sym own ∙ ap (place_of later) (sym same) ∙ is) in
             λ n d within. subst (λ (r : ℕ). (before : ℕ) × (place_of later (slice_index_or (reads_now net.kind) n d) ≡ Some before) × (before < r)) e
             (earlier (slice_index_or (reads_now net.kind) n d) (ready net (ap (slice_get nets) (sym same) ∙ there) n d within)))
         | inr apart ↦ λ n d within.

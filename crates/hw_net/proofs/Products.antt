@@ -3,6 +3,7 @@ use Rattle.std.proofs.Common.{◌≡◌, ℕ, suc, ◌+◌, ◌*◌, ◌≤◌, 
 use Rattle.std.specs.Int.{w128}
 use Rattle.std.proofs.lemmas.Int.{ints}
 use Rattle.std.proofs.Math.IntN.{*ℤ_comm, *ℤ-negsuc}
+use Rattle.std.proofs.lemmas.Option.{same_Some}
 use borrow.Author.Differences.{up, down, le_out}
 use Rattle.fx_num.specs.Word.{IsWord, InWord, word_lowest, word_highest}
 use Rattle.hw_net.specs.declared.netlist.Net.{Net}
@@ -37,17 +38,14 @@ module _ (width : ℕ) (signed : Bool) (a b c d : ℤ) (low_low : InWord width s
       let high = product-between width signed a b x d p q low_high high_high in
       swapped width signed y x (product-between width signed c d y x r s (swapped width signed x c low) (swapped width signed x d high))
 
-same-some : (x y : Net) → Some x ≡ Some y → x ≡ y
-same-some x y e = cc
-
 pub products-hold : (nets : List Net) (left right width : ℕ) (signed : Bool) (one other : Net) → slice_get nets left ≡ Some one → slice_get nets right ≡ Some other
     → InWord width signed (word_lowest one.width one.signed *ℤ word_lowest other.width other.signed) → InWord width signed (word_lowest one.width one.signed *ℤ word_highest other.width other.signed)
     → InWord width signed (word_highest one.width one.signed *ℤ word_lowest other.width other.signed) → InWord width signed (word_highest one.width one.signed *ℤ word_highest other.width other.signed)
     → HoldsProducts nets left right width signed
 products-hold nets left right width signed one other there also p q r s = record {
   holds = λ a b e f x y in_one in_other.
-      let same : a ≡ one = same-some a one (sym e ∙ there) in
-      let alike : b ≡ other = same-some b other (sym f ∙ also) in
+      let same : a ≡ one = same_Some a one (sym e ∙ there) in
+      let alike : b ≡ other = same_Some b other (sym f ∙ also) in
       let first : InWord one.width one.signed x = subst (λ (net : Net). InWord net.width net.signed x) same in_one in
       let second : InWord other.width other.signed y = subst (λ (net : Net). InWord net.width net.signed y) alike in_other in
       product-in-word width signed (word_lowest one.width one.signed) (word_highest one.width one.signed) (word_lowest other.width other.signed) (word_highest other.width other.signed)

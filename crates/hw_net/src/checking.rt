@@ -55,7 +55,7 @@ fn are_there(nets: &[Net]) -> bool
 }
 
 /// How many arguments an operation has.
-fn arity(op: NetOp) -> usize
+pub fn arity(op: NetOp) -> usize
     ensures { result ≡ arity op }
 {
     match op {

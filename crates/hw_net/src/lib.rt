@@ -17,7 +17,7 @@ mod state;
 mod stepping;
 mod timing;
 
-pub use checking::is_netlist;
+pub use checking::{arity, is_netlist};
 pub use circuit::Netlist;
 pub use frame_index::FrameIndex;
 pub use laws::{
