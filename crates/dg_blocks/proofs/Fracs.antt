@@ -5,7 +5,8 @@ use Rattle.std.proofs.lemmas.Int.{ints}
 use Rattle.std.proofs.lemmas.List.{get_or_default}
 use Rattle.fx_type.specs.declared.kind.FxType.{FxType}
 use Rattle.fx_type.specs.FxType.{frac_of}
-use Rattle.fx_type.proofs.Ranges.{int_max_cases}
+use Rattle.fx_type.specs.FullType.{IsFullProduct}
+use Rattle.fx_type.proofs.Ranges.{int_max_cases, frac_bounds}
 
 module _ (types : List FxType) (i : ℕ) (d : FxType) (inside : i < length types) (old f new : ℤ) (is_frac : f ≡ frac_of (get_or types i d)) where
   pub bound_more : ((k : ℕ) (e : FxType) → k < i → frac_of (get_or types k e) ≤ℤ old) → old ≤ℤ new → f ≤ℤ new → (k : ℕ) (e : FxType) → k < i + 1 → frac_of (get_or types k e) ≤ℤ new
@@ -22,8 +23,14 @@ module _ (types : List FxType) (i : ℕ) (d : FxType) (inside : i < length types
   ]
 
 -- a sum of two fracs, as 16 bits have it
-pub frac_sum : (f g h : ℤ) → FitsSigned w16 f → FitsSigned w16 g → h ≡ f +ℤ g → negsuc 63 ≤ℤ h → h ≤ℤ pos 128 → to_z w16 (of_z w16 (to_z w16 (of_z w16 f) +ℤ to_z w16 (of_z w16 g))) ≡ h
+frac_sum : (f g h : ℤ) → FitsSigned w16 f → FitsSigned w16 g → h ≡ f +ℤ g → negsuc 63 ≤ℤ h → h ≤ℤ pos 128 → to_z w16 (of_z w16 (to_z w16 (of_z w16 f) +ℤ to_z w16 (of_z w16 g))) ≡ h
 frac_sum f g h fits_f fits_g e low high = omega (arith, ints)
+
+-- the sum of the fracs of two factors is that of their full product
+pub product_frac : (a b full : FxType) (f g : ℤ) → IsFullProduct a b full → f ≡ frac_of a → g ≡ frac_of b → FitsSigned w16 f → FitsSigned w16 g → to_z w16 (of_z w16 (to_z w16 (of_z w16 f) +ℤ to_z w16 (of_z w16 g))) ≡ frac_of full
+product_frac a b full f g is_full is_f is_g fits_f fits_g =
+    let e : frac_of full ≡ f +ℤ g = rw (is_f, is_g) is_full.frac in
+    frac_sum f g (frac_of full) fits_f fits_g e (frac_bounds full is_full.valid).0 (frac_bounds full is_full.valid).1
 
 pub max_high : (f g high : ℤ) → f ≤ℤ high → g ≤ℤ high → int_max f g ≤ℤ high
 max_high f g high p q = elim (int_max_cases f g) [

@@ -1,5 +1,10 @@
 mod Exactly
 mod Fracs
+mod Listed
+mod Narrowed
+mod Outputs
 mod Products
 mod Ranges
-pub mod Sums
+mod Shifts
+mod Sums
+mod Weighted

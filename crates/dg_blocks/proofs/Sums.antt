@@ -1,4 +1,4 @@
--- Every part of a sum, and every term, is a possible sum, so it fits 128 bits where the full type is valid. Crates above may cite this file.
+-- Every part of a sum, and every term, is a possible sum, so it fits 128 bits where the full type is valid.
 use Rattle.std.proofs.Common.{Any, ◌≡◌, ℕ, zero, suc, ◌<◌, Bool, true, false, List, [], ◌∷◌, length, get_or, take, ℤ, pos, ◌+ℤ◌, ◌≤ℤ◌, All, FitsSigned, refl, subst, sym, ap, ◌∙◌, arith}
 use Rattle.std.specs.Prelude.{zip}
 use Rattle.std.specs.Int.{w128}

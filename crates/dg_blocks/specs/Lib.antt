@@ -1,1 +1,3 @@
 pub mod Laws
+pub mod Narrow
+pub mod Prepared

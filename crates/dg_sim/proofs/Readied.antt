@@ -1,7 +1,7 @@
 -- The cells of a program that simulates a diagram can be prepared: a table of zeros is in range.
 use Rattle.std.proofs.Common.{◌≡◌, ℕ, zero, suc, ◌+◌, ◌<◌, ◌++◌, ◌⊎◌, inl, inr, pos, List, [], ◌∷◌, length, Some, slice_get, ap, sym, ◌∙◌, refl, subst, subst₂, arith, length-append}
 use Rattle.std.proofs.lemmas.Option.{none-some, same_Some, slice_get_within}
-use Rattle.dg_prepared.specs.declared.prepared.Prepared.{Prepared}
+use Rattle.dg_blocks.specs.declared.prepared.Prepared.{Prepared}
 use Rattle.fx_type.proofs.Ranges.{InRange-zero}
 use Rattle.dg_model.specs.declared.diagram.Diagram.{Diagram}
 use Rattle.dg_model.specs.Signals.{Attributes}

@@ -7,7 +7,7 @@ use Rattle.dg_model.specs.Checked.{CheckedDiagram}
 use Rattle.dg_model.specs.Hits.{is_hit}
 use Rattle.dg_model.specs.Signals.{Stimulus, Table}
 use Rattle.dg_model.specs.Wires.{value_into}
-use Rattle.dg_prepared.specs.declared.prepared.Prepared.{Prepared}
+use Rattle.dg_blocks.specs.declared.prepared.Prepared.{Prepared}
 use Rattle.dg_sim.specs.declared.program.Memory.{Memory}
 use Rattle.dg_sim.specs.declared.program.Program.{Program}
 use Rattle.dg_sim.specs.Ring.{PastValues}

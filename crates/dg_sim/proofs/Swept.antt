@@ -5,7 +5,7 @@ use Rattle.dg_model.specs.Signals.{Stimulus, Table}
 use Rattle.dg_model.specs.Attributes.{attributes_of}
 use Rattle.dg_model.specs.Checked.{CheckedDiagram}
 use Rattle.dg_model.specs.Hits.{Hits, is_hit}
-use Rattle.dg_prepared.specs.declared.prepared.Prepared.{Prepared}
+use Rattle.dg_blocks.specs.declared.prepared.Prepared.{Prepared}
 use Rattle.dg_sim.specs.declared.program.Cell.{Cell}
 use Rattle.dg_tables.specs.declared.entries.Place.{Place}
 use Rattle.dg_sim.specs.declared.program.Program.{Program}

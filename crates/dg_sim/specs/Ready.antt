@@ -1,7 +1,7 @@
 -- What is prepared for the cells of a program (own).
 use Rattle.std.specs.Prelude.{◌≡◌, ℕ, List, length, slice_get, Some, ⊤}
-use Rattle.dg_prepared.specs.declared.prepared.Prepared.{Prepared}
-use Rattle.dg_prepared.specs.Prepared.{IsPrepared}
+use Rattle.dg_blocks.specs.declared.prepared.Prepared.{Prepared}
+use Rattle.dg_blocks.specs.Prepared.{IsPrepared}
 use Rattle.dg_sim.specs.declared.program.Cell.{Cell}
 use Rattle.dg_sim.specs.declared.program.Rule.{Rule}
 use Rattle.dg_sim.specs.declared.program.Rule.TheVariants.{Input, Fixed, Same, Works, Above, Past, Slower, Held, Reset}

@@ -14,8 +14,8 @@ use Rattle.dg_tables.specs.declared.entries.Place.{Place}
 use Rattle.dg_sim.specs.declared.program.Cell.{Cell}
 use Rattle.dg_sim.specs.declared.program.Memory.{Memory}
 use Rattle.dg_sim.specs.declared.program.Program.{Program}
-use Rattle.dg_prepared.specs.declared.prepared.Prepared.{Prepared}
 use Rattle.dg_tables.specs.Laws.{EntriesAreInRange}
+use Rattle.dg_blocks.specs.declared.prepared.Prepared.{Prepared}
 use Rattle.dg_sim.specs.Ready.{AreReady}
 use Rattle.dg_sim.specs.Ring.{PastValues}
 use Rattle.dg_tables.specs.State.{Move, moved, move_at, kept_count, kept_values}

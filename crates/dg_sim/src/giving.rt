@@ -4,14 +4,14 @@ ghost use Rattle.std.specs.List.{list_any};
 ghost use Rattle.dg_model.specs.Hits.{is_hit};
 ghost use Rattle.dg_model.specs.Operation.{CanCarryOut, OpGives};
 ghost use Rattle.dg_sim.specs.Program.{value_at, operation_at, looked_at, kept_or, is_on, Gives, CanGive};
-ghost use Rattle.dg_prepared.specs.Prepared.{IsPrepared};
+ghost use Rattle.dg_blocks.specs.Prepared.{IsPrepared};
 ghost use Rattle.dg_sim.specs.Ready.{IsReadyFor};
 ghost use Rattle.dg_sim.specs.Sim.{kept_at};
 
 use crate::past::Past;
 use crate::program::{Program, Rule, Work};
 use crate::readying::call_of;
-use dg_prepared::Prepared;
+use dg_blocks::Prepared;
 
 /// Whether a block of this period hits at a base sample.
 pub fn hits(period: Option<u32>, t: u64) -> bool

@@ -7,8 +7,8 @@ ghost use Rattle.dg_sim.specs.Ready.{IsReadyFor, AreReady};
 ghost use Rattle.dg_sim.specs.Sim.{IsProgram};
 
 use crate::program::{Program, Rule, Work};
+use dg_blocks::Prepared;
 use dg_model::{Checked, OpCall};
-use dg_prepared::Prepared;
 use fx_io::OutOfMemory;
 use std::alloc::Global;
 

@@ -12,8 +12,8 @@ ghost use Rattle.dg_sim.specs.Sim.{IsProgram, IsAt, Agrees, past_moved};
 use crate::giving::{give, hits, on, read};
 use crate::past::Past;
 use crate::program::{Memory, Program};
+use dg_blocks::Prepared;
 use dg_model::Checked;
-use dg_prepared::Prepared;
 use dg_tables::{entries_stay, entry_is_one, solved_is_in_range};
 
 /// The value of every cell at a sample: of those that hit by their rules, of the others what it was.

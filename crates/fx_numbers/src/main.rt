@@ -21,7 +21,7 @@
 //! | `convert TYPE V END`, `stored TYPE V END`, `pass TYPE V` | the same |
 //!
 //! The result of an operation is four numbers: what it gives (`dg_blocks::output`), what it gives
-//! prepared (`dg_prepared`), what its nets show of the same inputs (`hw_lower::lower`), and how many
+//! prepared (`dg_blocks::Prepared`), what its nets show of the same inputs (`hw_lower::lower`), and how many
 //! these nets are. Behind the word `output` only the first two of an operation are printed.
 #![tactic(auto)]
 

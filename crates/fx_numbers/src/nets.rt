@@ -7,9 +7,8 @@ ghost use Rattle.hw_net.specs.Netlist.{HasWord};
 ghost use Rattle.hw_lower.specs.Lowered.{AreArgs};
 
 use anyhow::{Result, anyhow};
-use dg_blocks::output;
+use dg_blocks::{Prepared, output};
 use dg_model::OpCall;
-use dg_prepared::Prepared;
 use fx_io::{Sizes, Text};
 use fx_type::FxType;
 use hw_lower::lower;

@@ -3,17 +3,13 @@ use Rattle.std.specs.Int.{w16, w128}
 use Rattle.std.proofs.lemmas.Int.{to_z-of_z}
 use Rattle.fx_type.specs.FxType.{frac_of}
 use Rattle.fx_type.proofs.Ranges.{frac_bounds}
-use Rattle.dg_blocks.proofs.Fracs.{frac_sum}
+use Rattle.dg_blocks.proofs.Fracs.{product_frac}
 use Rattle.dg_blocks.proofs.operation.times.Goals as goal
 use Rattle.dg_blocks.proofs.operation.times.Goals.{After-frac-2}
 
 -- the sum of the fracs is that of the full type
 full_frac : (c : After-frac-2) → to_z w16 (of_z w16 (to_z w16 (of_z w16 c.frac.result) +ℤ to_z w16 (of_z w16 c.frac-2.result))) ≡ frac_of c.requires.full.0
-full_frac c =
-    let full = c.requires.full.0 in
-    let is_full = c.requires.full.1 in
-    let e : frac_of full ≡ c.frac.result +ℤ c.frac-2.result = rw (c.frac.ensures, c.frac-2.ensures) is_full.frac in
-    frac_sum c.frac.result c.frac-2.result (frac_of full) (record { sfits = c.frac.type_inv }) (record { sfits = c.frac-2.type_inv }) e (frac_bounds full is_full.valid).0 (frac_bounds full is_full.valid).1
+full_frac c = product_frac c.args.a c.args.b c.requires.full.0 c.frac.result c.frac-2.result c.requires.full.1 c.frac.ensures c.frac-2.ensures (record { sfits = c.frac.type_inv }) (record { sfits = c.frac-2.type_inv })
 
 pub settled-requires-clause-low : goal.settled-requires-clause-low
 settled-requires-clause-low c = rw (full_frac (goal.at.settled-requires-clause-low c).After-frac-2) (frac_bounds c.requires.full.0 c.requires.full.1.valid).0

@@ -1,0 +1,46 @@
+use Rattle.std.proofs.Common.{◌≡◌, ◌-ℤ◌, ℤ, pos, neg_ℤ, FitsSigned, ◌∙◌, arith}
+use Rattle.std.specs.Int.{w16, w64}
+use Rattle.std.proofs.lemmas.Int.{ints, to_z-of_z}
+use Rattle.fx_type.specs.FxType.{aligned}
+use Rattle.dg_blocks.specs.Narrow.{IsSmall}
+use Rattle.dg_blocks.proofs.short_sums.term.Goals as goal
+
+small_fits : (z : ℤ) → IsSmall z → FitsSigned w64 z
+small_fits z s = omega (arith, ints, s.low, s.high)
+
+minus_fits : (z : ℤ) → IsSmall z → FitsSigned w64 (pos 0 -ℤ z)
+minus_fits z s = omega (arith, ints, s.low, s.high)
+
+minus_is : (z : ℤ) → pos 0 -ℤ z ≡ neg_ℤ z
+minus_is z = omega (arith, ints)
+
+pub aligned-value-requires-clause-fits : goal.aligned-value-requires-clause-fits
+aligned-value-requires-clause-fits c =
+    let f = to_z-of_z w16 c.args.frac c.ranges.frac in
+    let v = to_z-of_z w64 c.args.v c.ranges.v in
+    rw (f, v) (small_fits (aligned c.args.frac c.args.kind c.args.v) c.requires.small)
+
+pub overflow_sub-result : goal.overflow_sub-result
+overflow_sub-result c =
+    let f = to_z-of_z w16 c.args.frac c.ranges.frac in
+    let v = to_z-of_z w64 c.args.v c.ranges.v in
+    let r = to_z-of_z w64 c.aligned-value.result (record { sfits = c.aligned-value.type_inv }) in
+    let given : c.aligned-value.result ≡ aligned c.args.frac c.args.kind c.args.v = rw (f, v) at c.aligned-value.ensures in
+    rw (r, given) (minus_fits (aligned c.args.frac c.args.kind c.args.v) c.requires.small)
+
+pub returns-then-negative : goal.returns-then-negative
+returns-then-negative c =
+    let f = to_z-of_z w16 c.args.frac c.ranges.frac in
+    let v = to_z-of_z w64 c.args.v c.ranges.v in
+    let r = to_z-of_z w64 c.aligned-value.result (record { sfits = c.aligned-value.type_inv }) in
+    let given : c.aligned-value.result ≡ aligned c.args.frac c.args.kind c.args.v = rw (f, v) at c.aligned-value.ensures in
+    let own = aligned c.args.frac c.args.kind c.args.v in
+    rw (c.if-negative.true, r, given) (to_z-of_z w64 (pos 0 -ℤ own) (minus_fits own c.requires.small) ∙ minus_is own)
+
+pub returns-else-negative : goal.returns-else-negative
+returns-else-negative c =
+    let f = to_z-of_z w16 c.args.frac c.ranges.frac in
+    let v = to_z-of_z w64 c.args.v c.ranges.v in
+    let r = to_z-of_z w64 c.aligned-value.result (record { sfits = c.aligned-value.type_inv }) in
+    let given : c.aligned-value.result ≡ aligned c.args.frac c.args.kind c.args.v = rw (f, v) at c.aligned-value.ensures in
+    rw c.if-negative.false (r ∙ given)

@@ -1,0 +1,249 @@
+//! Conversion in 64 bits.
+ghost use Rattle.std.specs.Prelude.{◌≡◌, Bool, true, IfSome, ℤ, pos, negsuc, ◌*ℤ◌, ◌≤ℤ◌, ◌^◌, ◌≤◌, FitsSigned};
+ghost use Rattle.std.specs.Int.{int_gap, w64};
+ghost use Rattle.fx_type.specs.declared.kind.FxType.{FxType};
+ghost use Rattle.fx_type.specs.declared.rounding.Rounding.{Rounding};
+ghost use Rattle.fx_type.specs.FxType.{IsType, frac_of};
+ghost use Rattle.fx_type.specs.Conversion.{twice, Converts, Settles};
+ghost use Rattle.dg_blocks.specs.Narrow.{IsSmall, IsBias, bias_for, IsTie, IsShifted, HasEnds, HasShifts, HasRoom, IsNarrow};
+
+use fx_type::{FxType, Rounding};
+
+/// What a conversion needs of its types.
+#[derive(Clone, Copy)]
+pub struct Narrow {
+    scale: i64,
+    down: u32,
+    bias: i64,
+    below: i64,
+    even: bool,
+    low: i64,
+    high: i64,
+    width: u8,
+    signed: bool,
+    saturate: bool,
+}
+
+/// The same number in 64 bits.
+pub fn short(v: i128) -> i64
+    requires { FitsSigned w64 v }
+    ensures { result ≡ v }
+{
+    v as i64
+}
+
+/// How far `high` is above `low`, where that is 0 to 60.
+pub fn gap(low: i16, high: i16) -> Option<u32>
+    requires bounds { (negsuc 63 ≤ℤ low) × (low ≤ℤ pos 128) × (negsuc 63 ≤ℤ high)
+        × (high ≤ℤ pos 128) }
+    ensures { IfSome result (λ gap. (gap ≤ 60) × (gap ≡ int_gap low high)
+        × (int_gap high low ≡ 0)) }
+{
+    let gap = high - low;
+    if gap < 0 {
+        return None;
+    }
+    if gap > 60 {
+        return None;
+    }
+    Some(gap as u32)
+}
+
+/// What is added before a shift down.
+#[derive(Clone, Copy)]
+struct Bias {
+    /// To a number from 0 on.
+    bias: i64,
+    /// To a number below 0.
+    below: i64,
+    /// Whether an odd number below the result has one more.
+    even: bool,
+}
+
+/// The bias of a mode before a shift down by `down` bits.
+fn bias_of(mode: Rounding, down: u32) -> Bias
+    requires low { 1 ≤ down }
+    requires high { down ≤ 60 }
+    ensures is { IsBias mode (2 ^ down) result.bias result.below result.even }
+    ensures bias { (pos 0 ≤ℤ result.bias) × (result.bias ≤ℤ pos (2 ^ 60)) }
+    ensures below { (pos 0 ≤ℤ result.below) × (result.below ≤ℤ pos (2 ^ 60)) }
+{
+    let half = half_of(down);
+    match mode {
+        Rounding::Floor => Bias {
+            bias: 0,
+            below: 0,
+            even: false,
+        },
+        Rounding::Ceiling => Bias {
+            bias: half + (half - 1),
+            below: half + (half - 1),
+            even: false,
+        },
+        Rounding::Zero => Bias {
+            bias: 0,
+            below: half + (half - 1),
+            even: false,
+        },
+        Rounding::Nearest => Bias {
+            bias: half,
+            below: half,
+            even: false,
+        },
+        Rounding::Round => Bias {
+            bias: half,
+            below: half - 1,
+            even: false,
+        },
+        Rounding::Convergent => Bias {
+            bias: half - 1,
+            below: half - 1,
+            even: true,
+        },
+    }
+}
+
+/// Half of 2 to the power `down`.
+fn half_of(down: u32) -> i64
+    requires low { 1 ≤ down }
+    requires high { down ≤ 60 }
+    ensures twice { twice result ≡ pos (2 ^ down) }
+    ensures low { pos 1 ≤ℤ result }
+    ensures high { result ≤ℤ pos (2 ^ 59) }
+{
+    1 << (down - 1)
+}
+
+/// One where `even` is set and `lower` is odd.
+fn tie(even: bool, lower: i64) -> i64
+    ensures { IsTie even lower result }
+{
+    let odd = lower & 1;
+    if even { odd } else { 0 }
+}
+
+/// The whole number below `v`, with the bias added, over 2 to the power `down`.
+fn shifted(v: i64, down: u32, bias: i64, even: bool) -> i64
+    requires small { IsSmall v }
+    requires down { down ≤ 60 }
+    requires bias_low { pos 0 ≤ℤ bias }
+    requires bias_high { bias ≤ℤ pos (2 ^ 60) }
+    ensures { IsShifted v bias even (2 ^ down) result }
+{
+    let above = v + bias + tie(even, v >> down);
+    above >> down
+}
+
+impl Narrow {
+    /// The conversion to a type of a number of up to so many bits, in units of 2 to the `-frac`, where
+    /// 64 bits are enough.
+    pub fn new(bits: u32, frac: i16, to: FxType, mode: Rounding, saturate: bool) -> Option<Narrow>
+        requires bits { bits ≤ 256 }
+        requires low { negsuc 63 ≤ℤ frac }
+        requires high { frac ≤ℤ pos 128 }
+        requires to { IsType to }
+        ensures is { IfSome result (λ narrow. IsNarrow narrow frac to mode saturate) }
+        ensures room { IfSome result (λ narrow. HasRoom narrow bits) }
+    {
+        let FxType::Num {
+            signed,
+            width,
+            frac: to_frac,
+        } = to
+        else {
+            return None;
+        };
+        if width > 60 {
+            return None;
+        }
+        let low = fx_num::lowest(width, signed) as i64;
+        let high = fx_num::highest(width, signed) as i64;
+        if let Some(up) = gap(frac, to_frac) {
+            if bits + up > 61 {
+                return None;
+            }
+            return Some(Narrow {
+                scale: 1 << up,
+                down: 0,
+                bias: 0,
+                below: 0,
+                even: false,
+                low,
+                high,
+                width,
+                signed,
+                saturate,
+            });
+        }
+        let Some(down) = gap(to_frac, frac) else {
+            return None;
+        };
+        if down == 0 {
+            return None;
+        }
+        if bits > 61 {
+            return None;
+        }
+        let Bias { bias, below, even } = bias_of(mode, down);
+        Some(Narrow {
+            scale: 1,
+            down,
+            bias,
+            below,
+            even,
+            low,
+            high,
+            width,
+            signed,
+            saturate,
+        })
+    }
+
+    /// The conversion of `v`, a number in the units that this was prepared for.
+    pub fn convert(self, v: i64) -> i64
+        requires narrow { (frac : ℤ) × (to : FxType) × (mode : Rounding) × (saturate : Bool)
+            × IsNarrow self frac to mode saturate }
+        requires small { IsSmall (v *ℤ self.scale) }
+        ensures { (from to : FxType) (mode : Rounding) (saturate : Bool)
+            → IsNarrow self (frac_of from) to mode saturate
+            → Converts v from to mode saturate result }
+    {
+        let scaled = v * self.scale;
+        self.settled(shifted(scaled, self.down, self.bias_for(scaled), self.even))
+    }
+
+    /// The bias of a number.
+    fn bias_for(self, v: i64) -> i64
+        ensures { result ≡ bias_for v self.bias self.below }
+    {
+        if v < 0 { self.below } else { self.bias }
+    }
+
+    /// What the result type stores for a whole number.
+    fn settled(self, r: i64) -> i64
+        requires { (to : FxType) × (saturate : Bool) × HasEnds self to saturate }
+        ensures { (to : FxType) (saturate : Bool) → HasEnds self to saturate
+            → Settles to saturate r result }
+    {
+        if r < self.low {
+            self.outside(r, self.low)
+        } else if r > self.high {
+            self.outside(r, self.high)
+        } else {
+            r
+        }
+    }
+
+    /// The same, of a number that is out of range: the end that is nearest, or the congruent number.
+    fn outside(self, r: i64, end: i64) -> i64
+        requires ends { (to : FxType) × (saturate : Bool) × HasEnds self to saturate }
+        ensures { (to : FxType) (saturate : Bool) → HasEnds self to saturate
+            → Settles to true r end → Settles to saturate r result }
+    {
+        if self.saturate {
+            end
+        } else {
+            fx_num::wrap(i128::from(r), self.width, self.signed) as i64
+        }
+    }
+}

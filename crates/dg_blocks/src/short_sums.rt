@@ -1,0 +1,86 @@
+//! Sums in 64 bits.
+ghost use Rattle.std.specs.Prelude.{◌≡◌, ◌^◌, ◌≤◌, pos, negsuc, ◌*ℤ◌, ◌≤ℤ◌, All, true, zip, FitsSigned};
+ghost use Rattle.std.specs.Int.{int_gap, w64};
+ghost use Rattle.fx_type.specs.declared.kind.FxType.{FxType};
+ghost use Rattle.fx_type.specs.FxType.{IsType, frac_of, aligned as aligned_of};
+ghost use Rattle.fx_type.specs.FullType.{negated_if};
+ghost use Rattle.dg_model.specs.Operation.{signed_sum as signed_sum_of};
+ghost use Rattle.dg_blocks.specs.Narrow.{IsSmall};
+ghost use Rattle.dg_blocks.specs.Prepared.{IsShort, IsSummable};
+
+use crate::narrow::{gap, short};
+use fx_type::FxType;
+
+/// Whether 62 bits hold the stored integers of the type, also with `frac` bits behind the point.
+fn is_short(frac: i16, kind: FxType) -> bool
+    requires low { negsuc 63 ≤ℤ frac }
+    requires high { frac ≤ℤ pos 128 }
+    requires kind { IsType kind }
+    ensures { result ≡ true → IsShort frac kind }
+{
+    match gap(kind.frac(), frac) {
+        Some(_) => kind.width() <= 61,
+        None => false,
+    }
+}
+
+/// Whether that holds of all types.
+pub fn are_short(frac: i16, types: &[FxType]) -> bool
+    requires low { negsuc 63 ≤ℤ frac }
+    requires high { frac ≤ℤ pos 128 }
+    requires types { All IsType types.now }
+    ensures { result ≡ true → All (IsShort frac) types.now }
+{
+    for kind in types {
+        if !is_short(frac, *kind) {
+            return false;
+        }
+    }
+    true
+}
+
+/// `v` with `gap` more bits behind the point.
+fn shifted(v: i64, gap: u32) -> i64
+    requires gap { gap ≤ 60 }
+    requires fits { FitsSigned w64 (v *ℤ pos (2 ^ gap)) }
+    ensures { result ≡ v *ℤ pos (2 ^ gap) }
+{
+    v * (1 << gap)
+}
+
+/// The stored integer `v` of the type, written with `frac` bits behind the point.
+fn aligned(frac: i16, kind: FxType, v: i64) -> i64
+    requires valid { IsType kind }
+    requires above { frac_of kind ≤ℤ frac }
+    requires high { frac ≤ℤ pos 128 }
+    requires shift { int_gap (frac_of kind) frac ≤ 60 }
+    requires fits { FitsSigned w64 (aligned_of frac kind v) }
+    ensures { result ≡ aligned_of frac kind v }
+{
+    shifted(v, (frac - kind.frac()) as u32)
+}
+
+/// A term of a sum: the stored integer with its sign, written with `frac` bits behind the point.
+fn term(negative: bool, frac: i16, kind: FxType, v: i64) -> i64
+    requires valid { IsType kind }
+    requires high { frac ≤ℤ pos 128 }
+    requires short { IsShort frac kind }
+    requires small { IsSmall (aligned_of frac kind v) }
+    ensures { result ≡ negated_if negative (aligned_of frac kind v) }
+{
+    let value = aligned(frac, kind, v);
+    if negative { -value } else { value }
+}
+
+/// The sum of the inputs with their signs, in units of 2 to the `-frac`.
+pub fn signed_sum(signs: &[bool], types: &[FxType], inputs: &[i128], frac: i16) -> i64
+    requires high { frac ≤ℤ pos 128 }
+    requires sum { IsSummable frac signs.now types.now inputs.now }
+    ensures { result ≡ signed_sum_of frac (zip signs.now types.now) inputs.now }
+{
+    let mut total = 0;
+    for (input, v) in inputs.iter().enumerate() {
+        total += term(signs[input], frac, types[input], short(*v));
+    }
+    total
+}

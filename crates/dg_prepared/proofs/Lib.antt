@@ -1,6 +1,0 @@
-mod Fracs
-mod Listed
-mod Narrowed
-mod Outputs
-mod Shifts
-mod Weighted
