@@ -1,29 +1,14 @@
 -- Paths by the table of the subsystems' paths.
-use Rattle.std.proofs.Common.{◌≡◌, ℕ, zero, suc, ◌<◌, ◌≤◌, ◌+◌, true, List, [], ◌∷◌, ◌++◌, length, take, codes, get_or, Option, Some, None, refl, sym, ap, subst, ◌∙◌, inl, inr, arith}
-use Rattle.std.specs.Prelude.{slice_get, if◌then◌else◌}
-use Rattle.std.specs.Str.{bytes_eq}
+use Rattle.std.proofs.Common.{◌≡◌, ℕ, zero, suc, ◌<◌, ◌≤◌, ◌+◌, true, List, [], ◌∷◌, ◌++◌, length, codes, get_or, Option, Some, None, refl, sym, ap, subst, ◌∙◌, inl, inr, arith}
+use Rattle.std.specs.Prelude.{slice_get}
 use Rattle.std.proofs.lemmas.Bool.{cases_eq}
-use Rattle.std.proofs.lemmas.List.{take_more, length_push, get_or_push, get_or_append_left}
-use Rattle.std.proofs.lemmas.List.Concat.{flat_map-append}
+use Rattle.std.proofs.lemmas.List.{length_push, get_or_push, get_or_append_left}
 use Rattle.std.proofs.lemmas.Option.{slice_get-get_or, same_Some}
 use Rattle.dg_model.specs.declared.nested.NestedBlock.{NestedBlock}
-use Rattle.dg_flat.specs.Parts.{escaped, below, path_by, path_within, nested_path, is_subsystem}
+use Rattle.dg_model.specs.Naming.{escaped}
+use Rattle.dg_flat.specs.Parts.{below, path_by, path_within, nested_path, is_subsystem}
 use Rattle.dg_flat.specs.inner.Paths.{ArePaths}
 use Rattle.dg_flat.specs.inner.Slots.{slot_of, HaveParents}
-use Rattle.dg_flat.proofs.Numbers.{eqb_apart}
-
--- ---- a name in a path
-
-pub escaped_more : (name : List ℕ) (place byte : ℕ) → place < length name → byte ≡ get_or name place byte → escaped (take (place + 1) name) ≡ escaped (take place name) ++ escaped (byte ∷ [])
-escaped_more name place byte inside at =
-    ap escaped (take_more name place byte inside ∙ ap (λ (b : ℕ). take place name ++ b ∷ []) (sym at))
-    ∙ flat_map-append (λ b. if bytes_eq (b ∷ []) (codes "/") then codes "//" else b ∷ []) (take place name) (byte ∷ [])
-
-pub escaped_slash : (byte : ℕ) → byte ≡ 47 → escaped (byte ∷ []) ≡ codes "//"
-escaped_slash byte is = subst (λ (b : ℕ). escaped (b ∷ []) ≡ codes "//") (sym is) refl
-
-pub escaped_other : (byte : ℕ) → (byte ≡ 47 → ⊥) → escaped (byte ∷ []) ≡ byte ∷ []
-escaped_other byte other = rw (eqb_apart byte 47 other) refl
 
 -- ---- levels
 

@@ -1,17 +1,13 @@
 -- The blocks of Systems: their paths, their ports, and the enabled subsystem that holds each (Simulink reference, subsystems; paths are own).
-use Rattle.std.specs.Prelude.{ℕ, zero, suc, ◌==◌, ◌&&◌, Bool, true, false, if◌then◌else◌, List, [], ◌∷◌, ◌++◌, length, codes, count_by, Option, Some, None, slice_get}
-use Rattle.std.specs.List.{flat_map, position}
-use Rattle.std.specs.Str.{bytes_eq}
+use Rattle.std.specs.Prelude.{ℕ, zero, suc, ◌==◌, ◌&&◌, Bool, true, false, List, [], ◌++◌, length, codes, count_by, Option, Some, None, slice_get}
+use Rattle.std.specs.List.{position}
 use Rattle.std.specs.Option.{is_some}
 use Rattle.dg_model.specs.declared.nested.NestedBlock.{NestedBlock}
 use Rattle.dg_model.specs.declared.nested.Part.{Part}
 use Rattle.dg_model.specs.declared.nested.Part.TheVariants.{Plain, In, Out, SubSystem, Enable}
+use Rattle.dg_model.specs.Naming.{escaped}
 
 -- ---- paths
-
--- a name in a path: a `/` inside it stands twice
-abbrev pub escaped : List ℕ → List ℕ
-escaped name = flat_map (λ byte. if bytes_eq (byte ∷ []) (codes "/") then codes "//" else byte ∷ []) name
 
 -- a name in a System, behind the path of the subsystem that holds it
 abbrev pub below : (ℕ → List ℕ) → List ℕ → Option ℕ → List ℕ

@@ -1,29 +1,16 @@
-ghost use Rattle.std.specs.Prelude.{◌≡◌, ◌≤◌, ◌++◌, true, [], length, slice_index_or, IfOk, OnOk};
-ghost use Rattle.dg_flat.specs.Parts.{escaped, below, is_subsystem as is_subsystem_of};
+ghost use Rattle.std.specs.Prelude.{◌≡◌, ◌≤◌, true, [], length, slice_index_or, IfOk};
+ghost use Rattle.dg_model.specs.Naming.{escaped};
+ghost use Rattle.dg_flat.specs.Parts.{below, is_subsystem as is_subsystem_of};
 ghost use Rattle.dg_flat.specs.inner.Paths.{ArePaths};
 ghost use Rattle.dg_flat.specs.inner.Slots.{slot_of, HaveParents};
 
 use crate::systems::is_subsystem;
-use dg_model::{NestedBlock, Path, SystemPath};
+use dg_model::{NestedBlock, Path, SystemPath, put_escaped};
 use fx_io::{OutOfMemory, Sequence, Text};
 use std::alloc::Global;
 
 /// A path for each nested block.
 pub type SystemPaths = Sequence<SystemPath>;
-
-/// Puts a name at the end of a path, each `/` in it twice.
-fn put_escaped(path: &mut Vec<u8>, name: &[u8]) -> Result<(), OutOfMemory>
-    ensures { OnOk result (path.new.items ≡ path.old.items ++ escaped name.now) }
-{
-    for byte in name {
-        if *byte == b'/' {
-            path.extend_from_slice(b"//")?;
-        } else {
-            path.push(*byte)?;
-        }
-    }
-    Ok(())
-}
 
 /// A name as it stands in a path.
 fn escaped_name(alloc: Global, name: &Text) -> Result<Text, OutOfMemory>

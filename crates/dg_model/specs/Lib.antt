@@ -13,6 +13,7 @@ pub mod Laws
 pub mod Lent
 pub mod Library
 pub mod Loop
+pub mod Naming
 pub mod Operation
 pub mod Periods
 pub mod PlanNames

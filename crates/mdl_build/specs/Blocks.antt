@@ -1,8 +1,8 @@
 -- The blocks of a tree: their names, where they stand, and what their parameters say (Simulink reference, model files).
-use Prim.Native.Char.{code}
 use Rattle.std.specs.Prelude.{◌≡◌, ℕ, zero, suc, ◌++◌, ◌==◌, ◌&&◌, Bool, false, List, [], ◌∷◌, Option, Some, None, position, codes, bytes_eq, if◌then◌else◌}
-use Rattle.std.specs.List.{flat_map, list_any}
+use Rattle.std.specs.List.{list_any}
 use Rattle.std.specs.Option.{unwrap_or}
+use Rattle.dg_model.specs.Naming.{escaped}
 use Rattle.mdl_text.specs.declared.tree.Item.{Item}
 use Rattle.mdl_build.specs.declared.library.BlockType.{BlockType}
 use Rattle.mdl_build.specs.declared.library.BlockType.TheVariants.{Logic, EnablePort}
@@ -75,10 +75,6 @@ abbrev pub standing_of : List Item → ℕ → Standing
 standing_of items place = standing_in items (parent_of items place) (holder_of items place)
 
 -- ---- paths
-
--- a name in a path: a `/` inside it stands twice
-abbrev pub escaped : List ℕ → List ℕ
-escaped name = flat_map (λ byte. if byte == code "/" then code "/" ∷ code "/" ∷ [] else byte ∷ []) name
 
 -- the name of a block in a path; one that it lacks is empty
 abbrev pub path_name : Option (List ℕ) → List ℕ

@@ -1,11 +1,12 @@
 //! The path of a block.
-ghost use Rattle.std.specs.Prelude.{◌≡◌, ◌<◌, ◌++◌, true, length, IfOk, OnOk, codes};
-ghost use Rattle.mdl_build.specs.Blocks.{parent_of, escaped, path_name, path_of, if_subsystem};
+ghost use Rattle.std.specs.Prelude.{◌≡◌, ◌<◌, ◌++◌, true, length, IfOk, codes};
+ghost use Rattle.mdl_build.specs.Blocks.{parent_of, path_name, path_of, if_subsystem};
 ghost use Rattle.mdl_build.specs.Roles.{roles_of, role_of, is_block};
 ghost use Rattle.mdl_build.specs.Sections.{value_of};
 
 use crate::layout::Layout;
 use crate::roles::Role;
+use dg_model::put_escaped;
 use fx_io::{OutOfMemory, Text};
 use std::alloc::Global;
 
@@ -40,19 +41,6 @@ pub fn parent(layout: &Layout, roles: &[Role], place: usize) -> Option<usize>
     if_subsystem(holder, roles[holder])
 }
 
-/// Puts a name of a path at the end: a `/` inside it stands twice.
-fn push_escaped(path: &mut Vec<u8>, name: &[u8]) -> Result<(), OutOfMemory>
-    ensures { OnOk result (path.new.items ≡ path.old.items ++ escaped name.now) }
-{
-    for byte in name {
-        path.push(*byte)?;
-        if *byte == b'/' {
-            path.push(b'/')?;
-        }
-    }
-    Ok(())
-}
-
 /// The name of a block as it stands in a path, with what follows it.
 fn name_before(
     alloc: Global,
@@ -66,7 +54,7 @@ fn name_before(
 {
     let mut path = Vec::new(alloc);
     if let Some(name) = layout.value(place, b"Name") {
-        push_escaped(&mut path, name)?;
+        put_escaped(&mut path, name)?;
     }
     path.extend_from_slice(rest)?;
     Ok(path)

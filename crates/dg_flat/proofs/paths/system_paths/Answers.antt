@@ -1,5 +1,6 @@
 use Rattle.std.proofs.Common.{◌≡◌, ◌<◌, ℕ, List, [], length, get_or, sym, ap, ◌∙◌}
-use Rattle.dg_flat.specs.Parts.{escaped, below}
+use Rattle.dg_model.specs.Naming.{escaped}
+use Rattle.dg_flat.specs.Parts.{below}
 use Rattle.dg_flat.proofs.PathTable.{path_is, paths_more}
 use Rattle.dg_flat.proofs.Firsts.{slot_within}
 use Rattle.dg_flat.proofs.paths.system_paths.Goals as goal
