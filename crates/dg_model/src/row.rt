@@ -155,6 +155,18 @@ const END: Row = Row {
     ..PLAIN
 };
 
+/// An input port of the root.
+const ROOT_INPUT: Row = Row {
+    inherits: Inherited::Base,
+    ..END
+};
+
+/// An output port of the root.
+const ROOT_OUTPUT: Row = Row {
+    inherits: Inherited::Moving,
+    ..PLAIN
+};
+
 /// A value that never changes.
 const CONSTANT: Row = Row {
     own: OwnType::Untyped,
@@ -193,6 +205,14 @@ const DECISION: Row = Row {
         kind: FxType::Logical,
     },
     ..OPERATION
+};
+
+/// A delay.
+const DELAY: Row = Row {
+    inherits: Inherited::Moving,
+    reads: Reading::Before,
+    asks: Asking::Before,
+    ..PLAIN
 };
 
 /// A change of the period.
@@ -237,13 +257,11 @@ impl Kind {
         match self {
             Kind::Inport { number, .. } => Row {
                 role: Role::RootInput { number: *number },
-                inherits: Inherited::Base,
-                ..END
+                ..ROOT_INPUT
             },
             Kind::Outport { number } => Row {
                 role: Role::RootOutput { number: *number },
-                inherits: Inherited::Moving,
-                ..PLAIN
+                ..ROOT_OUTPUT
             },
             Kind::Constant { .. } => CONSTANT,
             Kind::Ground => GROUND,
@@ -251,11 +269,8 @@ impl Kind {
             Kind::Gain { .. } | Kind::Product => MULTIPLICATION,
             Kind::Relational { .. } | Kind::Logic { .. } => DECISION,
             Kind::Delay { length, .. } => Row {
-                inherits: Inherited::Moving,
-                reads: Reading::Before,
-                asks: Asking::Before,
                 delay: *length,
-                ..PLAIN
+                ..DELAY
             },
             Kind::Mux { .. } | Kind::Demux { .. } => PLAIN,
             Kind::RateTransition { .. } => TRANSITION,
