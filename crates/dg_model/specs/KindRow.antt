@@ -6,12 +6,12 @@ use Rattle.fx_type.specs.declared.decimal.Decimal.{Decimal}
 use Rattle.fx_type.specs.FxType.{IsType}
 use Rattle.dg_model.specs.declared.diagram.PeriodSpec.{PeriodSpec}
 use Rattle.dg_model.specs.declared.diagram.PeriodSpec.TheVariants.{Inherit, Constant as ConstantPeriod, Every}
-pub use Rattle.dg_model.specs.declared.row.Role.{Role}
-pub use Rattle.dg_model.specs.declared.row.Standing.{Standing}
-pub use Rattle.dg_model.specs.declared.row.OwnType.{OwnType}
-pub use Rattle.dg_model.specs.declared.row.Inherited.{Inherited}
-pub use Rattle.dg_model.specs.declared.row.Reading.{Reading}
-pub use Rattle.dg_model.specs.declared.row.Asking.{Asking}
+use Rattle.dg_model.specs.declared.row.Role.{Role}
+use Rattle.dg_model.specs.declared.row.Standing.{Standing}
+use Rattle.dg_model.specs.declared.row.OwnType.{OwnType}
+use Rattle.dg_model.specs.declared.row.Inherited.{Inherited}
+use Rattle.dg_model.specs.declared.row.Reading.{Reading}
+use Rattle.dg_model.specs.declared.row.Asking.{Asking}
 
 -- ---- what a parameter, a specification of a type and one of a period may be
 
