@@ -1,6 +1,6 @@
 -- Which cycle the rule of loops tells, worked by hand: one through two blocks, and behind it a sum that reads itself.
-use Rattle.std.proofs.Common.{◌≡◌, ℕ, zero, suc, ◌<◌, ◌≤◌, ◌≢◌, List, [], ◌∷◌, length, codes, false, refl, sym, subst, ap, ◌∙◌, arith}
-use Rattle.std.specs.Prelude.{◌-◌, ◌%◌, slice_index, get_or, All, AllPairs}
+use Rattle.std.proofs.Common.{◌≡◌, ℕ, zero, suc, ◌<◌, ◌≤◌, ◌≢◌, List, [], ◌∷◌, length, codes, false, refl, subst, ap, ◌∙◌, arith}
+use Rattle.std.specs.Prelude.{◌-◌, ◌%◌, slice_index, get_or, All}
 use Rattle.std.proofs.Math.Nat.{mod_self, mod-eq_of_lt}
 use Rattle.std.proofs.lemmas.List.{get_or_default}
 use Rattle.fx_type.specs.declared.spec.TypeSpec.TheVariants.{Internal}
@@ -16,7 +16,7 @@ use Rattle.dg_model.specs.LatencyEdges.{LatencyEdge, signal_edge}
 use Rattle.dg_model.specs.Attributes.{attributes_of}
 use Rattle.dg_model.specs.Loop.{LeadsNow, IsInstantCycle, BreaksLoop}
 use Rattle.dg_model.proofs.WidthRounds.{block_of, edge_of}
-use Rattle.dg_model.proofs.Examples.{PairsByRecursion, pairs_of}
+use Rattle.dg_model.proofs.Examples.{pairs_of}
 
 abbrev gain : Block
 gain = record (block_of (Gain [] Internal) 1 1) { path = codes "m/g" }
