@@ -1,10 +1,5 @@
 -- Parts of small diagrams whose tables are written out by hand, to check the definitions against.
-use Rattle.std.proofs.Common.{◌≡◌, sym, ◌∙◌, subst, ℕ, ◌<◌, ◌^◌, Bool, true, false, List, [], ◌∷◌, zero, suc, Option, None, Some, ℤ, pos, negsuc, get_or, refl, arith}
-use Rattle.std.specs.Prelude.{slice_get, All, AllPairs, ⊤}
-use Rattle.std.proofs.lemmas.Option.{none-some, same_Some}
-use Rattle.std.specs.List.{AllByRecursion}
-use Rattle.std.proofs.lemmas.List.Elements.{All-nil, All-cons}
-use Rattle.std.proofs.lemmas.List.Kept.{AllPairs-cons}
+use Rattle.std.proofs.Common.{◌≡◌, sym, ◌∙◌, subst, ℕ, ◌<◌, ◌^◌, Bool, true, false, List, [], Option, None, ℤ, pos, negsuc, get_or, refl, arith}
 use lib.Signed.{le_z, le_z_yes}
 use Rattle.std.proofs.Math.Dec.{T}
 use Rattle.fx_type.specs.Conversion.{Converts, Stores}
@@ -66,30 +61,6 @@ kept v low high = record {
   rounds = record { at_most = omega (arith, ints); next_above = omega (arith, ints) };
   settles = record { in_word = record { low = le_z_yes low; high = le_z_yes high }; congruent = record { turns = pos 0; equal = omega (arith, ints) } };
 }
-
--- what holds of each element of a list written out
-pub all_of : {A : Type 0} (P : A → Type 0) (xs : List A) → AllByRecursion P xs → All P xs
-all_of P [] each = All-nil P
-all_of P (x ∷ xs) each = All-cons P x xs (each.0) (all_of P xs (each.1))
-
--- what holds between each element and those after it
-abbrev pub PairsByRecursion : {A : Type 0} → (A → A → Type 0) → List A → Type 0
-PairsByRecursion R [] = ⊤
-PairsByRecursion R (x ∷ xs) = AllByRecursion (R x) xs × PairsByRecursion R xs
-
-pub pairs_of : {A : Type 0} (R : A → A → Type 0) (xs : List A) → PairsByRecursion R xs → AllPairs R xs
-pairs_of R [] each = λ i j d before inside. absurd (omega (arith, inside))
-pairs_of R (x ∷ xs) each = AllPairs-cons R x xs (all_of (R x) xs (each.0)) (pairs_of R xs (each.1))
-
--- what holds of each place and element of a list written out
-abbrev pub EachByRecursion : {A : Type 0} → (ℕ → A → Type 0) → List A → Type 0
-EachByRecursion P [] = ⊤
-EachByRecursion P (x ∷ xs) = P 0 x × EachByRecursion (λ k. P (suc k)) xs
-
-pub each_of : {A : Type 0} (P : ℕ → A → Type 0) (xs : List A) → EachByRecursion P xs → (k : ℕ) (x : A) → slice_get xs k ≡ Some x → P k x
-each_of P [] each k x at = absurd (none-some x at)
-each_of P (y ∷ xs) each zero x at = subst (P 0) (same_Some y x at) (each.0)
-each_of P (y ∷ xs) each (suc k) x at = each_of (λ k. P (suc k)) xs (each.1) k x at
 
 -- the table with a list of elements at each block and base sample, the same at each port
 abbrev pub table_of_vectors : List (List (List ℤ)) → Table

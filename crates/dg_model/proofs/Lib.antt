@@ -32,3 +32,4 @@ mod WidthRounds
 mod WiredRows
 pub mod Ports
 pub mod Propagation
+pub mod Written

@@ -17,7 +17,8 @@ use Rattle.dg_model.specs.declared.nested.Target.{Target}
 use Rattle.dg_model.specs.declared.nested.Target.TheVariants.{Port, Enable as EnableTarget}
 use Rattle.dg_model.specs.declared.row.Role.{Role}
 use Rattle.dg_model.specs.Sound.{IsSound, IsSubSystem, IsEnable, HasEnablePort, AreLevels, HasParent, HaveNames, JoinsWithin, HasReadable, HasInRole, HasOutRole, HasPlainRole}
-use Rattle.dg_model.proofs.Examples.{block_of, decimal_of, all_of, each_of, pairs_of}
+use Rattle.dg_model.proofs.Examples.{block_of, decimal_of}
+use Rattle.dg_model.proofs.Written.{all_of, each_of, pairs_of}
 
 abbrev one : List Decimal
 one = decimal_of 1 (lit< tt) ∷ []

@@ -36,7 +36,7 @@ use Rattle.mdl_build.specs.Settings.{unset, unsaid, zero_decimal}
 use Rattle.dg_flat.specs.Flat.{IsFlatOf}
 use Rattle.dg_flat.specs.Parts.{in_number, out_number}
 use Rattle.dg_flat.specs.Rules.{AllNestedKeep, KeepsWiring, KeepsEnable, IsNumbered, HasEnd, drivers, is_port}
-use Rattle.fx_top.proofs.Written.{all_of, each_of, pairs_of}
+use Rattle.dg_model.proofs.Written.{all_of, each_of, pairs_of}
 
 -- ---- the text, and the tree that it stands for
 

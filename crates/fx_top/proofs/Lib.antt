@@ -33,4 +33,3 @@ mod UnitDelay
 pub mod Unreplayed
 pub mod Unsteady
 pub mod Verilogs
-mod Written
