@@ -1,7 +1,6 @@
 -- What the lines drive, as one more line comes.
-use Rattle.std.proofs.Common.{◌≡◌, ℕ, ◌<◌, ◌+◌, Bool, true, false, cond, ◌&&◌, ◌||◌, eqb, List, [], ◌∷◌, ◌++◌, length, take, min, set, get_or, add-zero, refl, sym, ap, subst, ◌∙◌, inl, inr, arith}
+use Rattle.std.proofs.Common.{◌≡◌, ℕ, ◌<◌, ◌+◌, Bool, true, false, cond, ◌&&◌, ◌||◌, eqb, List, [], ◌∷◌, ◌++◌, min, set, get_or, add-zero, refl, sym, ap, subst, ◌∙◌, inl, inr, arith}
 use Rattle.std.proofs.lemmas.Bool.{cases_eq, eq-eqb}
-use Rattle.std.proofs.lemmas.List.{take_more}
 use Rattle.std.proofs.lemmas.List.Folds.{list_any-append}
 use Rattle.dg_model.specs.declared.nested.NestedBlock.{NestedBlock}
 use Rattle.dg_model.specs.declared.nested.NestedLine.{NestedLine}
@@ -14,9 +13,6 @@ use Rattle.dg_flat.proofs.Tables.{table_set, table_same}
 use Rattle.dg_flat.proofs.Cells.{rows_set, rows_same}
 use Rattle.dg_flat.proofs.Firsts.{count_push, and_false}
 use Rattle.dg_flat.proofs.Numbers.{eqb_apart}
-
-pub take_line : (lines : List NestedLine) (place : ℕ) (line : NestedLine) → place < length lines → get_or lines place line ≡ line → take (place + 1) lines ≡ take place lines ++ line ∷ []
-take_line lines place line inside at = take_more lines place line inside ∙ ap (λ (l : NestedLine). take place lines ++ l ∷ []) at
 
 -- ---- drivers
 

@@ -1,14 +1,8 @@
 -- What a table by place keeps as it is written and as it grows.
-use Rattle.std.proofs.Common.{◌≡◌, ℕ, ◌<◌, ◌+◌, List, [], ◌∷◌, ◌++◌, set, get_or, replicate, sym, ap, subst, ◌∙◌, inl, inr, arith}
+use Rattle.std.proofs.Common.{◌≡◌, ℕ, ◌<◌, ◌+◌, List, [], ◌∷◌, ◌++◌, set, get_or, sym, ap, subst, ◌∙◌, inl, inr, arith}
 use Rattle.std.proofs.lemmas.Bool.{cases_eq}
-use Rattle.std.proofs.lemmas.List.{length-set, length-replicate, get_or-replicate, get_or-set_same, get_or-set_other, get_or_append_left, get_or_push, length_push}
+use Rattle.std.proofs.lemmas.List.{length-set, get_or-set_same, get_or-set_other, get_or_append_left, get_or_push, length_push}
 use Rattle.dg_flat.specs.inner.Tables.{IsTable}
-
-pub table_filled : {X : Type 0} (count : ℕ) (value : ℕ → X) (x : X) → ((k : ℕ) → k < count → x ≡ value k) → IsTable count value (replicate count x)
-table_filled count value x same = record {
-  size = length-replicate count x;
-  at = λ k d below. get_or-replicate count k x d below ∙ same k below;
-}
 
 pub table_same : {X : Type 0} (count : ℕ) (value other : ℕ → X) (table : List X) → ((k : ℕ) → k < count → value k ≡ other k) → IsTable count value table → IsTable count other table
 table_same count value other table same is = record {

@@ -8,13 +8,8 @@ use Rattle.dg_model.specs.RootElements.{RootElement, root_element}
 use Rattle.dg_model.specs.Signals.{Attributes}
 use Rattle.dg_response.specs.Response.{column_of}
 use Rattle.dg_response.specs.inner.Columns.{column_at}
-use Rattle.dg_response.proofs.Lists.{has-place, item-at, unmapped}
-use Rattle.dg_tables.specs.Laws.{TypesAreValid}
+use Rattle.dg_response.proofs.Lists.{has-place, unmapped}
 use Rattle.dg_tables.specs.Listing.{AreBlocksOf}
-use Rattle.dg_model.specs.Attributes.{attributes_of}
-use Rattle.dg_model.specs.Checked.{CheckedDiagram, IsChecked}
-use Rattle.dg_model.specs.Loop.{IsOrder}
-use Rattle.fx_type.specs.FxType.{IsType}
 
 column-is : (attributes : Attributes) (e : RootElement) → e ≡ root_element attributes e.number e.block e.element → column_at attributes e.block ≡ column_of e
 column-is attributes e is = sym (ap column_of is)
@@ -34,13 +29,6 @@ module _ (number_of : Role → Option ℕ) (width_of : ℕ → ℕ) (diagram : D
       let e = unmapped (λ (e : RootElement). e.block) es place block at in
       let of = are.elements_of place e.0 e.1 in
       subst (λ (n : ℕ). n < length diagram.blocks) (sym e.2) (has-place diagram.blocks e.0.block of.0 of.1)
-
--- the type of a block's result is valid
-pub type-is-valid : TypesAreValid → (checked : CheckedDiagram) → IsChecked checked.diagram → IsOrder checked.diagram (attributes_of checked.diagram) checked.order
-    → (block : ℕ) → block < length checked.diagram.blocks → IsType ((attributes_of checked.diagram).type_at block 1)
-type-is-valid types checked is order block below =
-    let b = item-at checked.diagram.blocks block below in
-    (types checked.diagram checked.order block b.0 (record { checked = is; ordered = order }) b.1).0
 
 module _ (number_of : Role → Option ℕ) (width_of : ℕ → ℕ) (diagram : Diagram) (attributes : Attributes) (es : List RootElement) (are : AreRootElements number_of width_of diagram attributes es)
     (blocks : List ℕ) (of : AreBlocksOf es blocks) where

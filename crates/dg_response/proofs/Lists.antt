@@ -47,12 +47,6 @@ index-there [] k below = absurd (omega (arith, below))
 index-there (x ∷ xs) zero below = refl
 index-there (x ∷ xs) (suc k) below = index-there xs k (omega (arith, below))
 
--- an item is there
-pub item-at : {A : Type 0} (xs : List A) (k : ℕ) → k < length xs → (x : A) × (slice_get xs k ≡ Some x)
-item-at [] k below = absurd (omega (arith, below))
-item-at (x ∷ xs) zero below = (x, refl)
-item-at (x ∷ xs) (suc k) below = item-at xs k (omega (arith, below))
-
 -- functions that agree on each item
 pub same-map : {A : Type 0} (f g : A → ℤ) (es : List A) → ((place : ℕ) (e : A) → slice_get es place ≡ Some e → f e ≡ g e) → map f es ≡ map g es
 same-map f g [] each = refl

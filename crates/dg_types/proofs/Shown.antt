@@ -29,10 +29,6 @@ ones_at [] k inside = absurd (omega arith)
 ones_at (x ∷ xs) zero inside = refl
 ones_at (x ∷ xs) (suc k) inside = ones_at xs k (omega arith)
 
-if_of : {A B : Type 0} (f : A → B) (b : Bool) (x y : A) → f (if b then x else y) ≡ (if b then f x else f y)
-if_of f true x y = refl
-if_of f false x y = refl
-
 through : (shape : Shape) (held port : ℕ) → IsPort shape port → width_through (share_at shape port) held ≡ get_or (outputs_of shape held) (port - 1) 0
 through Shape.Elementwise held port is = rw is refl
 through (Shape.Joined sizes) held port is = rw is refl

@@ -56,10 +56,6 @@ front_fails p xs i e = elim (cases_Bool (list_all p xs)) [
 
 -- ---- the steps of a list
 
--- all fit after no steps
-pub lowered_none : (signed : Bool) (w : ℕ) → IsLowered [] signed w 0
-lowered_none signed w = record { few = omega arith; fits = refl; before = λ k h. absurd (omega arith) }
-
 all_mono : (value : List Decimal) (signed : Bool) (w k j : ℕ) → IsWord w signed → All (HasSign signed) value → k ≤ j → list_all (λ d. at_step d signed w k) value ≡ true → list_all (λ d. at_step d signed w j) value ≡ true
 all_mono [] signed w k j word signs more e = refl
 all_mono (x ∷ xs) signed w k j word signs more e =

@@ -2,7 +2,7 @@
 use Rattle.std.proofs.Common.{◌≡◌, ◌⊎◌, inl, inr, ℕ, zero, suc, ◌+◌, ◌-◌, ◌<◌, ◌≤◌, Bool, true, false, List, [], ◌∷◌, ◌++◌, length, map, Option, None, Some, ap, sym, ◌∙◌, refl, arith}
 use Rattle.std.specs.Prelude.{slice_get}
 use Rattle.std.proofs.lemmas.Bool.{cases_lt}
-use Rattle.std.proofs.lemmas.Option.{none-some, same_Some, slice_get_within, slice_get_past}
+use Rattle.std.proofs.lemmas.Option.{none-some, same_Some, slice_get_past}
 use Rattle.dg_model.specs.declared.diagram.Diagram.{Diagram}
 use Rattle.dg_model.specs.declared.diagram.Block.{Block}
 use Rattle.dg_model.specs.declared.diagram.Edge.{Edge}
@@ -11,7 +11,7 @@ use Rattle.dg_model.specs.LatencyEdges.{LatencyEdge, asks_ever, enable_edge, ena
 use Rattle.dg_model.specs.Library.{row_of}
 use Rattle.dg_model.specs.Attributes.{attributes_of}
 use Rattle.dg_model.specs.Checked.{IsChecked}
-use Rattle.dg_sort.proofs.Lines.{control_there, from_there}
+use Rattle.dg_sort.proofs.Lines.{control_there}
 use Rattle.hw_arcs.specs.declared.arc.Arc.{Arc}
 use Rattle.hw_latency.specs.Weight.{arc_from, arc_into, arc_of, latency_arcs}
 use Rattle.fx_check.specs.inner.Way.{IsSource}
@@ -57,23 +57,10 @@ get_behind [] ys k past = let e : k ≡ k - 0 = omega arith in ap (slice_get ys)
 get_behind (x ∷ xs) ys zero past = absurd (omega (arith, past))
 get_behind (x ∷ xs) ys (suc k) past = let e : k - length xs ≡ suc k - suc (length xs) = omega arith in get_behind xs ys k (omega (arith, past)) ∙ ap (slice_get ys) e
 
-map_at : {A B : Type 0} (f : A → B) (xs : List A) (k : ℕ) (x : A) → slice_get xs k ≡ Some x → slice_get (map f xs) k ≡ Some (f x)
-map_at f [] k x at = absurd (none-some x at)
-map_at f (y ∷ xs) zero x at = ap (λ z. Some (f z)) (same_Some y x at)
-map_at f (y ∷ xs) (suc k) x at = map_at f xs k x at
-
 pub map_from : {A B : Type 0} (f : A → B) (xs : List A) (k : ℕ) (y : B) → slice_get (map f xs) k ≡ Some y → (x : A) × (slice_get xs k ≡ Some x) × (f x ≡ y)
 map_from f [] k y at = absurd (none-some y at)
 map_from f (x ∷ xs) zero y at = (x, refl, same_Some (f x) y at)
 map_from f (x ∷ xs) (suc k) y at = map_from f xs k y at
-
-pub line_source : (diagram : Diagram) (block number : ℕ) (line : Edge) → slice_get diagram.edges number ≡ Some line → IsSource diagram block number line.from
-line_source diagram block number line at = record {
-  is = λ edge edge_at to.
-      let there = map_at signal_edge diagram.edges number line at in
-      let front = get_front (map signal_edge diagram.edges) (enable_edges_from 0 diagram.blocks) number (slice_get_within (map signal_edge diagram.edges) number (signal_edge line) there) in
-      ap (λ (e : LatencyEdge). e.from) (same_Some (signal_edge line) edge (sym there ∙ sym front ∙ edge_at));
-}
 
 pub control_source : (diagram : Diagram) (block number source : ℕ) (b : Block) → slice_get diagram.blocks block ≡ Some b → slice_get diagram.edges number ≡ None → ((control : ℕ) → b.enable ≡ Some control → source ≡ control) → IsSource diagram block number source
 control_source diagram block number source b b_at none enables = record {
@@ -114,9 +101,6 @@ arc_source diagram plan fed block number source arc is at to =
 -- past the lines there is none
 pub no_line : (diagram own : Diagram) (edges : List Edge) (number : ℕ) → edges ≡ own.edges → own ≡ diagram → length edges ≤ number → slice_get diagram.edges number ≡ None
 no_line diagram own edges number edges_are own_is past = ap (λ (es : List Edge). slice_get es number) (sym (edges_are ∙ ap (λ (d : Diagram). d.edges) own_is)) ∙ slice_get_past edges number past
-
-pub line_there : (diagram : Diagram) (block number : ℕ) (line : Edge) → IsChecked diagram → slice_get diagram.edges number ≡ Some line → IsSource diagram block number line.from × (line.from < length diagram.blocks)
-line_there diagram block number line checked at = (line_source diagram block number line at, from_there diagram number line checked.wired at)
 
 pub control_found : (diagram : Diagram) (block number control : ℕ) (b : Block) → IsChecked diagram → slice_get diagram.blocks block ≡ Some b → slice_get diagram.edges number ≡ None → b.enable ≡ Some control → IsSource diagram block number control × (control < length diagram.blocks)
 control_found diagram block number control b checked b_at none is = (

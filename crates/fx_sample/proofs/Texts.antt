@@ -11,9 +11,6 @@ use Rattle.fx_sample.specs.declared.summing.Made.{Made}
 pub three_appended : (old a b c one two three : List ℕ) → one ≡ old ++ a → two ≡ one ++ b → three ≡ two ++ c → three ≡ old ++ (a ++ b ++ c)
 three_appended old a b c one two three p q r = rw (r, q, p) (simp append_assoc)
 
-pub four_appended : (old a b c d one two three four : List ℕ) → one ≡ old ++ a → two ≡ one ++ b → three ≡ two ++ c → four ≡ three ++ d → four ≡ old ++ (a ++ b ++ c ++ d)
-four_appended old a b c d one two three four p q r s = rw (s, r, q, p) (simp append_assoc)
-
 pub five_appended : (old a b c d e one two three four five : List ℕ) → one ≡ old ++ a → two ≡ one ++ b → three ≡ two ++ c → four ≡ three ++ d → five ≡ four ++ e → five ≡ old ++ (a ++ b ++ c ++ d ++ e)
 five_appended old a b c d e one two three four five p q r s t = rw (t, s, r, q, p) (simp append_assoc)
 

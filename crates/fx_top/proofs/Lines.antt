@@ -3,7 +3,7 @@ use Rattle.std.proofs.Common.{◌≡◌, ◌<◌, ◌≤◌, ⊎_elim, ℕ, ℤ,
 use Rattle.std.proofs.lemmas.Bool.{cases_lt}
 use Rattle.fx_io.specs.Sink.{TookProperPrefix, also_took}
 use Rattle.fx_tables.specs.Response.{response, response_line}
-use Rattle.fx_top.proofs.Sayings.{took-both, took-more}
+use Rattle.fx_top.proofs.Sayings.{took-more}
 
 module _ (periods : List ℕ) (row : ℕ → List ℤ) where
   -- the lines of the first samples stand first
@@ -20,10 +20,6 @@ module _ (periods : List ℕ) (row : ℕ → List ℤ) where
       })
       (λ same. let e : t ≡ suc k = omega (arith, below, same) in record { rest = []; whole = ap (response periods row) (sym e) ∙ sym (append-nil (response periods row t)) })
       (cases_lt t (suc k))
-
-  -- one line more
-  pub took-line : (t : ℕ) (before mid now : Option (List ℕ)) → mid ≡ also_took before (response periods row t) → now ≡ also_took mid (response_line periods t (row t)) → now ≡ also_took before (response periods row (suc t))
-  took-line t before mid now is line = line ∙ ap (λ state. also_took state (response_line periods t (row t))) is ∙ took-both before (response periods row t) (response_line periods t (row t))
 
   -- a part of a line more
   pub took-part : (t samples : ℕ) (before mid now : Option (List ℕ)) → t < samples → mid ≡ also_took before (response periods row t) → TookProperPrefix mid now (response_line periods t (row t)) → TookProperPrefix before now (response periods row samples)

@@ -42,14 +42,6 @@ number_of_some f [] place block at = absurd (none_some block at)
 number_of_some f (e ∷ elements) zero block at = ap f (sym (same_some e.block block at))
 number_of_some f (e ∷ elements) (suc place) block at = number_of_some f elements place block at
 
-some_none : (y : ℕ) → Some y ≡ None → ⊥
-some_none y same = absurd (cc same)
-
-number_of_none : (f : ℕ → ℕ) (elements : List RootElement) (place : ℕ) → slice_get (map (λ (e : RootElement). e.block) elements) place ≡ None → 0 ≡ slice_index_or (map (λ (e : RootElement). f e.block) elements) place 0
-number_of_none f [] place at = refl
-number_of_none f (e ∷ elements) zero at = absurd (some_none e.block at)
-number_of_none f (e ∷ elements) (suc place) at = number_of_none f elements place at
-
 module _ (diagram : Diagram) where
   -- the blocks of the outputs are there
   pub outputs_there : OutputsAreListed → IsWired diagram → (blocks : List ℕ) → AreBlocksOf (root_outputs diagram (attributes_of diagram)) blocks → All (λ block. block < length diagram.blocks) blocks
@@ -64,10 +56,6 @@ module _ (diagram : Diagram) where
     pub latency_there : (block clocks : ℕ) → slice_get blocks place ≡ Some block → clocks ≡ declared_latency diagram (attributes_of diagram) plan timing block → clocks ≡ latency_of_output diagram plan timing place
     latency_there block clocks at is =
         is ∙ number_of_some (declared_latency diagram (attributes_of diagram) plan timing) (root_outputs diagram (attributes_of diagram)) place block (ap (λ (xs : List ℕ). slice_get xs place) (sym are) ∙ at)
-
-    -- and where there is none
-    pub latency_nowhere : slice_get blocks place ≡ None → 0 ≡ latency_of_output diagram plan timing place
-    latency_nowhere at = number_of_none (declared_latency diagram (attributes_of diagram) plan timing) (root_outputs diagram (attributes_of diagram)) place (ap (λ (xs : List ℕ). slice_get xs place) (sym are) ∙ at)
 
   -- what a module says of itself is what is owed
   is_made : (plan : Resolved) (timing : Timing) (own : Module) (made : Made) → IsModuleOf own diagram plan timing → IsOwed diagram plan timing made → IsMade own diagram plan timing made

@@ -1,12 +1,12 @@
 -- Where what an item holds ends, found by leaps, and what is passed over on the way.
-use Rattle.std.proofs.Common.{◌≡◌, ℕ, suc, ◌+◌, ◌<◌, ◌≤◌, Bool, true, false, cond, List, [], ◌∷◌, length, get_or, drop, Option, Some, None, sym, ◌∙◌, ap, refl, arith, one-add, length-drop, drop-cons}
+use Rattle.std.proofs.Common.{◌≡◌, ℕ, suc, ◌+◌, ◌<◌, ◌≤◌, Bool, true, false, cond, List, [], ◌∷◌, length, get_or, drop, Option, None, sym, ◌∙◌, ap, refl, arith, one-add, length-drop, drop-cons}
 use Rattle.std.specs.Prelude.{nat_lt, ◌==◌}
 use Rattle.std.specs.List.{prefix_len}
 use Rattle.std.proofs.lemmas.Bool.{ltb-true, lt-ltb}
 use Rattle.std.proofs.lemmas.Bool.Decides.{nat_tests}
-use Rattle.std.proofs.lemmas.List.{drop-drop, drop_all, get_or_default}
+use Rattle.std.proofs.lemmas.List.{drop-drop, get_or_default}
 use Rattle.std.proofs.lemmas.List.FromFn.{get_or-map-range_with_len, length-map-range_with_len}
-use Rattle.std.proofs.lemmas.List.Sums.{prefix_len-le-length, prefix_len-drop_all, prefix_len-drop_no}
+use Rattle.std.proofs.lemmas.List.Sums.{prefix_len-le-length}
 use Rattle.mdl_text.specs.declared.tree.Item.{Item}
 use Rattle.mdl_build.specs.Sections.{item_at, depth_at, first_of, said_at, value_within}
 use Rattle.mdl_build.specs.inner.Layout.{end_behind, end_of, ends_of}
@@ -38,16 +38,6 @@ end_over items depth place within below =
     let behind = ap (prefix_len (λ (item : Item). nat_lt depth item.depth)) (drop-drop (prefix_len (λ (item : Item). nat_lt (depth_at items place) item.depth) (drop (suc place) items)) (suc place) items) in
     let counted = ap (prefix_len (λ (item : Item). nat_lt depth item.depth)) here ∙ first in
     omega (arith, counted, over, behind)
-
--- at the end nothing more is deeper
-pub end_at_length : (items : List Item) (depth place : ℕ) → length items ≤ place → end_behind items depth place ≡ place
-end_at_length items depth place past = let none = prefix_len-drop_all (λ (item : Item). nat_lt depth item.depth) items place past in omega (arith, none)
-
--- nor where an item isn't deeper
-pub end_at_item : (items : List Item) (depth place : ℕ) → place < length items → depth_at items place ≤ depth → end_behind items depth place ≡ place
-end_at_item items depth place within above =
-    let no : nat_lt depth (depth_at items place) ≡ false = grind (arith, nat_tests) in
-    let none = prefix_len-drop_no (λ (item : Item). nat_lt depth item.depth) items place _ within no in omega (arith, none)
 
 -- the end stands behind the item, and not past all of them
 pub end_within : (items : List Item) (place : ℕ) → place < length items → end_of items place ≤ length items
@@ -106,26 +96,12 @@ value_first items above place name within below =
     let yes : nat_lt above (depth_at items place) ≡ true = lt-ltb _ _ below in
     ap (value_within above name) here ∙ ap (λ (b : Bool). cond b (first_of (said_at (suc above) name (item_at items place)) (value_within above name (drop (suc place) items))) None) yes
 
-pub value_here : (items : List Item) (above place : ℕ) (name : List ℕ) (said : Option (List ℕ)) (text : List ℕ) → place < length items → above < depth_at items place → said ≡ said_at (suc above) name (item_at items place) → said ≡ Some text → value_within above name (drop place items) ≡ Some text
-value_here items above place name said text within below is there =
-    value_first items above place name within below ∙ ap (λ (s : Option (List ℕ)). first_of s (value_within above name (drop (suc place) items))) (sym is ∙ there)
-
 pub value_behind : (items : List Item) (above place : ℕ) (name : List ℕ) (said : Option (List ℕ)) → place < length items → above < depth_at items place → said ≡ said_at (suc above) name (item_at items place) → said ≡ None → value_within above name (drop place items) ≡ value_within above name (drop (end_of items place) items)
 value_behind items above place name said within below is none =
     value_first items above place name within below
     ∙ ap (λ (s : Option (List ℕ)). first_of s (value_within above name (drop (suc place) items))) (sym is ∙ none)
     ∙ value_over above (depth_at items place) name (drop (suc place) items) below
     ∙ ap (value_within above name) (drop-drop (prefix_len (λ (item : Item). nat_lt (depth_at items place) item.depth) (drop (suc place) items)) (suc place) items)
-
--- where the section ends
-pub value_at_length : (items : List Item) (above place : ℕ) (name : List ℕ) → length items ≤ place → value_within above name (drop place items) ≡ None
-value_at_length items above place name past = ap (value_within above name) (drop_all place items past)
-
-pub value_at_item : (items : List Item) (above place : ℕ) (name : List ℕ) → place < length items → depth_at items place ≤ above → value_within above name (drop place items) ≡ None
-value_at_item items above place name within over =
-    let here : drop place items ≡ item_at items place ∷ drop (suc place) items = drop-cons items place _ within in
-    let no : nat_lt above (depth_at items place) ≡ false = grind (arith, nat_tests) in
-    ap (value_within above name) here ∙ ap (λ (b : Bool). cond b (first_of (said_at (suc above) name (item_at items place)) (value_within above name (drop (suc place) items))) None) no
 
 -- ---- what the code reads
 

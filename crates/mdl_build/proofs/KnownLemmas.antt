@@ -25,14 +25,6 @@ module _ (items : List Item) where
   choice : Bool → Option RuleFault
   choice keeps = cond keeps (block_fault items) (Some (fault_of Rule.Structure [] Nothing))
 
-  pub model_sizes : keeps_sizes items ≡ false → structure_fault items ≡ Some (fault_of Rule.Structure [] Nothing)
-  unfolding choice
-  model_sizes e = ap (λ (b : Bool). choice (b && are_joined_before items (length items))) e
-
-  pub model_lines : keeps_sizes items ≡ true → are_joined_before items (length items) ≡ false → structure_fault items ≡ Some (fault_of Rule.Structure [] Nothing)
-  unfolding choice
-  model_lines e f = ap (λ (b : Bool). choice (b && are_joined_before items (length items))) e ∙ ap choice f
-
   pub model_keeps : keeps_sizes items ≡ true → are_joined_before items (length items) ≡ true → structure_fault items ≡ block_fault items
   unfolding choice
   model_keeps e f = ap (λ (b : Bool). choice (b && are_joined_before items (length items))) e ∙ ap choice f

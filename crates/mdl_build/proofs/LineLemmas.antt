@@ -29,27 +29,6 @@ branch_is (Branch other) line e = ap Branch (same_Some other line e)
 branch_is Defaults line e = absurd (none-some line e)
 branch_is (TypeDefaults section) line e = absurd (none-some line e)
 
-module _ (items : List Item) (place : ℕ) where
-  pub keeps_none : (role : Role) → branch_of role ≡ None → keeps_line items place role ≡ true
-  keeps_none Other e = refl
-  keeps_none Model e = refl
-  keeps_none (System level) e = refl
-  keeps_none (Block level) e = refl
-  keeps_none (SubSystem level) e = refl
-  keeps_none (Branch line) e = absurd (none-some line (sym e))
-  keeps_none Defaults e = refl
-  keeps_none (TypeDefaults section) e = refl
-
-  pub line_none : (role : Role) → branch_of role ≡ None → line_list (line_at items place role) ≡ []
-  line_none Other e = refl
-  line_none Model e = refl
-  line_none (System level) e = refl
-  line_none (Block level) e = refl
-  line_none (SubSystem level) e = refl
-  line_none (Branch line) e = absurd (none-some line (sym e))
-  line_none Defaults e = refl
-  line_none (TypeDefaults section) e = refl
-
 -- ---- the source of a line that stands
 
 pub sources_long : (items : List Item) → length (sources_before items (length items)) ≡ length items

@@ -176,16 +176,6 @@ pub record IsGoalOf (items : List Item) (line to : ℕ) (target : Target) : Type
   pub block : IsNamedBlock items system to
   pub port : IsTarget target
 
-goal_to_of : Goal → Option ℕ
-goal_to_of Goal.Nowhere = None
-goal_to_of (Goal.To to target) = Some to
-goal_to_of Goal.Wrong = None
-
-goal_target_of : Goal → Option Target
-goal_target_of Goal.Nowhere = None
-goal_target_of (Goal.To to target) = Some target
-goal_target_of Goal.Wrong = None
-
 goal_parts : (items : List Item) (line place to : ℕ) (target : Target) → goal_of items line place ≡ Goal.To to target → IsGoalOf items line to target
 goal_parts items line place to target e = by (value_of items place (codes "DstBlock")) e
   where

@@ -1,6 +1,6 @@
 -- What is found in lists.
 use Rattle.std.proofs.Common.{◌≡◌, ℕ, zero, suc, ◌+◌, ◌-◌, ◌<◌, ◌≤◌, Bool, true, false, cond, List, [], ◌∷◌, Option, Some, None, refl, sym, ◌∙◌, ap, arith, true≢false}
-use Rattle.std.specs.Prelude.{◌||◌, All, count_by, filter_map, slice_get}
+use Rattle.std.specs.Prelude.{◌||◌, count_by, slice_get}
 use Rattle.std.specs.List.{list_any, range_with_len, position_from}
 use Rattle.mdl_build.proofs.BlockNumbers.{count_cons}
 
@@ -67,16 +67,3 @@ first_from {A} P start (y ∷ ys) k found = by_test (first_from P (start + 1) ys
             let head : ◌≡◌ {A = Option A} (Some y) (Some z) = there in
             let same : y ≡ z = cc in absurd (true≢false (sym passes ∙ ap P (sym same) ∙ e))
         later each (suc i) z there passes = let bound = each i z there passes in omega arith
-
--- what a map that skips gives
-pub all_mapped : {A B : Type 0} (P : B → Type 0) (h : A → Option B) (xs : List A) → ((x : A) (y : B) → h x ≡ Some y → P y) → All P (filter_map h xs)
-all_mapped P h [] each = λ k d below. absurd (omega arith)
-all_mapped {A} {B} P h (x ∷ xs) each = by_value (all_mapped P h xs each) (h x) refl
-  where
-    by_value : All P (filter_map h xs) → (found : Option B) → h x ≡ found → All P (filter_map h (x ∷ xs))
-    by_value rest None e = rw e rest
-    by_value rest (Some y) e = rw e (both rest (each x y e))
-      where
-        both : All P (filter_map h xs) → P y → All P (y ∷ filter_map h xs)
-        both rest here zero d below = here
-        both rest here (suc k) d below = rest k d (omega arith)

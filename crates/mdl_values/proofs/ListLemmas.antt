@@ -9,10 +9,6 @@ use Rattle.mdl_values.proofs.ZipLemmas.{zip_at, zip_length}
 pub some_same : (xs ys : List (List ℕ)) → Some xs ≡ Some ys → xs ≡ ys
 some_same xs ys e = cc
 
--- without elements there is no list
-pub no_elements : {A : Type 0} (R : List ℕ → A → Type 0) (elements : Option (List (List ℕ))) (list : List A) → elements ≡ None → ¬ IsListOf elements R list
-no_elements R elements list none is = let e : None ≡ Some is.texts = sym none ∙ is.are_elements in cc
-
 -- nor with too few or too many
 pub no_size : {A : Type 0} (R : List ℕ → A → Type 0) (elements : Option (List (List ℕ))) (texts : List (List ℕ)) (list : List A) → elements ≡ Some texts → ((1 ≤ length texts) → (length texts ≤ 1024) → ⊥) → ¬ IsListOf elements R list
 no_size R elements texts list are bad is =
