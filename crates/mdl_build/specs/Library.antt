@@ -20,18 +20,38 @@ row_of parameter = record { name = parameter.0.now; default = parameter.1.now; r
 abbrev pub row : List ℕ → List ℕ → Reader → ParameterRow
 row name default reader = record { name = name; default = default; reader = reader }
 
+-- parameters of several block types
+abbrev pub type_or_auto : ParameterRow
+type_or_auto = row (codes "OutDataTypeStr") (codes "Inherit: auto") Reader.TypeOrAuto
+
+abbrev pub type_or_first : ParameterRow
+type_or_first = row (codes "OutDataTypeStr") (codes "Inherit: Inherit via internal rule") Reader.TypeOrFirst
+
+abbrev pub truth : ParameterRow
+truth = row (codes "OutDataTypeStr") (codes "boolean") Reader.Truth
+
+abbrev pub initial_condition : ParameterRow
+initial_condition = row (codes "InitialCondition") (codes "0") Reader.List
+
+abbrev pub rounding : ParameterRow
+rounding = row (codes "RndMeth") (codes "Floor") Reader.Rounding
+
+abbrev pub saturation : ParameterRow
+saturation = row (codes "SaturateOnIntegerOverflow") (codes "off") Reader.Saturation
+
+abbrev pub sample_time : ParameterRow
+sample_time = row (codes "SampleTime") (codes "-1") Reader.SampleTime
+
 -- the parameters of a block type, in the order in which they are tried
 abbrev pub parameters_of : BlockType → List ParameterRow
 parameters_of Inport =
     row (codes "Port") (codes "1") Reader.Port ∷
-    row (codes "OutDataTypeStr") (codes "Inherit: auto") Reader.TypeOrAuto ∷
-    row (codes "SampleTime") (codes "-1") Reader.SampleTime ∷
+    type_or_auto ∷ sample_time ∷
     row (codes "PortDimensions") (codes "-1") Reader.Width ∷
     []
 parameters_of Outport =
     row (codes "Port") (codes "1") Reader.Port ∷
-    row (codes "OutDataTypeStr") (codes "Inherit: auto") Reader.TypeOrAuto ∷
-    row (codes "SampleTime") (codes "-1") Reader.SampleTime ∷
+    type_or_auto ∷ sample_time ∷
     row (codes "OutputWhenDisabled") (codes "held") Reader.Reset ∷
     row (codes "InitialOutput") (codes "[]") Reader.ListOrEmpty ∷
     []
@@ -45,36 +65,26 @@ parameters_of Terminator = []
 parameters_of Sum =
     row (codes "Inputs") (codes "++") Reader.Signs ∷
     row (codes "AccumDataTypeStr") (codes "Inherit: Inherit via internal rule") Reader.Default ∷
-    row (codes "OutDataTypeStr") (codes "Inherit: Inherit via internal rule") Reader.TypeOrFirst ∷
-    row (codes "RndMeth") (codes "Floor") Reader.Rounding ∷
-    row (codes "SaturateOnIntegerOverflow") (codes "off") Reader.Saturation ∷
-    row (codes "SampleTime") (codes "-1") Reader.SampleTime ∷
+    type_or_first ∷ rounding ∷ saturation ∷ sample_time ∷
     []
 parameters_of Gain =
     row (codes "Gain") (codes "1") Reader.List ∷
     row (codes "ParamDataTypeStr") (codes "Inherit: Inherit via internal rule") Reader.CoefficientType ∷
     row (codes "Multiplication") (codes "Element-wise(K.*u)") Reader.Default ∷
     row (codes "OutDataTypeStr") (codes "Inherit: Inherit via internal rule") Reader.TypeOrInput ∷
-    row (codes "RndMeth") (codes "Floor") Reader.Rounding ∷
-    row (codes "SaturateOnIntegerOverflow") (codes "off") Reader.Saturation ∷
-    row (codes "SampleTime") (codes "-1") Reader.SampleTime ∷
+    rounding ∷ saturation ∷ sample_time ∷
     []
 parameters_of Product =
     row (codes "Inputs") (codes "2") Reader.Factors ∷
     row (codes "Multiplication") (codes "Element-wise(.*)") Reader.Default ∷
-    row (codes "OutDataTypeStr") (codes "Inherit: Inherit via internal rule") Reader.TypeOrFirst ∷
-    row (codes "RndMeth") (codes "Floor") Reader.Rounding ∷
-    row (codes "SaturateOnIntegerOverflow") (codes "off") Reader.Saturation ∷
-    row (codes "SampleTime") (codes "-1") Reader.SampleTime ∷
+    type_or_first ∷ rounding ∷ saturation ∷ sample_time ∷
     []
 parameters_of UnitDelay =
-    row (codes "InitialCondition") (codes "0") Reader.List ∷
-    row (codes "SampleTime") (codes "-1") Reader.SampleTime ∷
+    initial_condition ∷ sample_time ∷
     []
 parameters_of Delay =
     row (codes "DelayLength") (codes "2") Reader.Length ∷
-    row (codes "InitialCondition") (codes "0") Reader.List ∷
-    row (codes "SampleTime") (codes "-1") Reader.SampleTime ∷
+    initial_condition ∷ sample_time ∷
     row (codes "DelayLengthSource") (codes "Dialog") Reader.Default ∷
     row (codes "InitialConditionSource") (codes "Dialog") Reader.Default ∷
     row (codes "ExternalReset") (codes "None") Reader.Default ∷
@@ -83,28 +93,21 @@ parameters_of Delay =
 parameters_of Switch =
     row (codes "Criteria") (codes "u2 >= Threshold") Reader.Criterion ∷
     row (codes "Threshold") (codes "0") Reader.List ∷
-    row (codes "OutDataTypeStr") (codes "Inherit: Inherit via internal rule") Reader.TypeOrFirst ∷
-    row (codes "RndMeth") (codes "Floor") Reader.Rounding ∷
-    row (codes "SaturateOnIntegerOverflow") (codes "off") Reader.Saturation ∷
-    row (codes "SampleTime") (codes "-1") Reader.SampleTime ∷
+    type_or_first ∷ rounding ∷ saturation ∷ sample_time ∷
     []
 parameters_of RelationalOperator =
     row (codes "Operator") (codes "<=") Reader.Relation ∷
-    row (codes "OutDataTypeStr") (codes "boolean") Reader.Truth ∷
-    row (codes "SampleTime") (codes "-1") Reader.SampleTime ∷
+    truth ∷ sample_time ∷
     []
 parameters_of Logic =
     row (codes "Operator") (codes "AND") Reader.Gate ∷
     row (codes "Inputs") (codes "2") Reader.Operands ∷
-    row (codes "OutDataTypeStr") (codes "boolean") Reader.Truth ∷
-    row (codes "SampleTime") (codes "-1") Reader.SampleTime ∷
+    truth ∷ sample_time ∷
     []
 parameters_of DataTypeConversion =
     row (codes "OutDataTypeStr") (codes "Inherit: Inherit via back propagation") Reader.Type ∷
     row (codes "ConvertRealWorld") (codes "Real World Value (RWV)") Reader.Conversion ∷
-    row (codes "RndMeth") (codes "Floor") Reader.Rounding ∷
-    row (codes "SaturateOnIntegerOverflow") (codes "off") Reader.Saturation ∷
-    row (codes "SampleTime") (codes "-1") Reader.SampleTime ∷
+    rounding ∷ saturation ∷ sample_time ∷
     []
 parameters_of Mux =
     row (codes "Inputs") (codes "4") Reader.Parts ∷
@@ -117,7 +120,7 @@ parameters_of RateTransition =
     row (codes "OutPortSampleTime") (codes "-1") Reader.Period ∷
     row (codes "OutPortSampleTimeOpt") (codes "Specify") Reader.Default ∷
     row (codes "Deterministic") (codes "on") Reader.Default ∷
-    row (codes "InitialCondition") (codes "0") Reader.List ∷
+    initial_condition ∷
     []
 parameters_of SubSystem =
     row (codes "SystemSampleTime") (codes "-1") Reader.Default ∷

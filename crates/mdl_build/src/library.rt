@@ -113,17 +113,36 @@ impl Parameter {
     }
 }
 
+// Parameters of several block types.
+const TYPE_OR_AUTO: Parameter = Parameter("OutDataTypeStr", "Inherit: auto", Reader::TypeOrAuto);
+
+const TYPE_OR_FIRST: Parameter = Parameter(
+    "OutDataTypeStr",
+    "Inherit: Inherit via internal rule",
+    Reader::TypeOrFirst,
+);
+
+const TRUTH: Parameter = Parameter("OutDataTypeStr", "boolean", Reader::Truth);
+
+const INITIAL_CONDITION: Parameter = Parameter("InitialCondition", "0", Reader::List);
+
+const ROUNDING: Parameter = Parameter("RndMeth", "Floor", Reader::Rounding);
+
+const SATURATION: Parameter = Parameter("SaturateOnIntegerOverflow", "off", Reader::Saturation);
+
+const SAMPLE_TIME: Parameter = Parameter("SampleTime", "-1", Reader::SampleTime);
+
 const INPORT: &[Parameter] = &[
     Parameter("Port", "1", Reader::Port),
-    Parameter("OutDataTypeStr", "Inherit: auto", Reader::TypeOrAuto),
-    Parameter("SampleTime", "-1", Reader::SampleTime),
+    TYPE_OR_AUTO,
+    SAMPLE_TIME,
     Parameter("PortDimensions", "-1", Reader::Width),
 ];
 
 const OUTPORT: &[Parameter] = &[
     Parameter("Port", "1", Reader::Port),
-    Parameter("OutDataTypeStr", "Inherit: auto", Reader::TypeOrAuto),
-    Parameter("SampleTime", "-1", Reader::SampleTime),
+    TYPE_OR_AUTO,
+    SAMPLE_TIME,
     Parameter("OutputWhenDisabled", "held", Reader::Reset),
     Parameter("InitialOutput", "[]", Reader::ListOrEmpty),
 ];
@@ -145,14 +164,10 @@ const SUM: &[Parameter] = &[
         "Inherit: Inherit via internal rule",
         Reader::Default,
     ),
-    Parameter(
-        "OutDataTypeStr",
-        "Inherit: Inherit via internal rule",
-        Reader::TypeOrFirst,
-    ),
-    Parameter("RndMeth", "Floor", Reader::Rounding),
-    Parameter("SaturateOnIntegerOverflow", "off", Reader::Saturation),
-    Parameter("SampleTime", "-1", Reader::SampleTime),
+    TYPE_OR_FIRST,
+    ROUNDING,
+    SATURATION,
+    SAMPLE_TIME,
 ];
 
 const GAIN: &[Parameter] = &[
@@ -168,33 +183,26 @@ const GAIN: &[Parameter] = &[
         "Inherit: Inherit via internal rule",
         Reader::TypeOrInput,
     ),
-    Parameter("RndMeth", "Floor", Reader::Rounding),
-    Parameter("SaturateOnIntegerOverflow", "off", Reader::Saturation),
-    Parameter("SampleTime", "-1", Reader::SampleTime),
+    ROUNDING,
+    SATURATION,
+    SAMPLE_TIME,
 ];
 
 const PRODUCT: &[Parameter] = &[
     Parameter("Inputs", "2", Reader::Factors),
     Parameter("Multiplication", "Element-wise(.*)", Reader::Default),
-    Parameter(
-        "OutDataTypeStr",
-        "Inherit: Inherit via internal rule",
-        Reader::TypeOrFirst,
-    ),
-    Parameter("RndMeth", "Floor", Reader::Rounding),
-    Parameter("SaturateOnIntegerOverflow", "off", Reader::Saturation),
-    Parameter("SampleTime", "-1", Reader::SampleTime),
+    TYPE_OR_FIRST,
+    ROUNDING,
+    SATURATION,
+    SAMPLE_TIME,
 ];
 
-const UNIT_DELAY: &[Parameter] = &[
-    Parameter("InitialCondition", "0", Reader::List),
-    Parameter("SampleTime", "-1", Reader::SampleTime),
-];
+const UNIT_DELAY: &[Parameter] = &[INITIAL_CONDITION, SAMPLE_TIME];
 
 const DELAY: &[Parameter] = &[
     Parameter("DelayLength", "2", Reader::Length),
-    Parameter("InitialCondition", "0", Reader::List),
-    Parameter("SampleTime", "-1", Reader::SampleTime),
+    INITIAL_CONDITION,
+    SAMPLE_TIME,
     Parameter("DelayLengthSource", "Dialog", Reader::Default),
     Parameter("InitialConditionSource", "Dialog", Reader::Default),
     Parameter("ExternalReset", "None", Reader::Default),
@@ -204,27 +212,23 @@ const DELAY: &[Parameter] = &[
 const SWITCH: &[Parameter] = &[
     Parameter("Criteria", "u2 >= Threshold", Reader::Criterion),
     Parameter("Threshold", "0", Reader::List),
-    Parameter(
-        "OutDataTypeStr",
-        "Inherit: Inherit via internal rule",
-        Reader::TypeOrFirst,
-    ),
-    Parameter("RndMeth", "Floor", Reader::Rounding),
-    Parameter("SaturateOnIntegerOverflow", "off", Reader::Saturation),
-    Parameter("SampleTime", "-1", Reader::SampleTime),
+    TYPE_OR_FIRST,
+    ROUNDING,
+    SATURATION,
+    SAMPLE_TIME,
 ];
 
 const RELATIONAL_OPERATOR: &[Parameter] = &[
     Parameter("Operator", "<=", Reader::Relation),
-    Parameter("OutDataTypeStr", "boolean", Reader::Truth),
-    Parameter("SampleTime", "-1", Reader::SampleTime),
+    TRUTH,
+    SAMPLE_TIME,
 ];
 
 const LOGIC: &[Parameter] = &[
     Parameter("Operator", "AND", Reader::Gate),
     Parameter("Inputs", "2", Reader::Operands),
-    Parameter("OutDataTypeStr", "boolean", Reader::Truth),
-    Parameter("SampleTime", "-1", Reader::SampleTime),
+    TRUTH,
+    SAMPLE_TIME,
 ];
 
 const DATA_TYPE_CONVERSION: &[Parameter] = &[
@@ -238,9 +242,9 @@ const DATA_TYPE_CONVERSION: &[Parameter] = &[
         "Real World Value (RWV)",
         Reader::Conversion,
     ),
-    Parameter("RndMeth", "Floor", Reader::Rounding),
-    Parameter("SaturateOnIntegerOverflow", "off", Reader::Saturation),
-    Parameter("SampleTime", "-1", Reader::SampleTime),
+    ROUNDING,
+    SATURATION,
+    SAMPLE_TIME,
 ];
 
 const MUX: &[Parameter] = &[Parameter("Inputs", "4", Reader::Parts)];
@@ -254,7 +258,7 @@ const RATE_TRANSITION: &[Parameter] = &[
     Parameter("OutPortSampleTime", "-1", Reader::Period),
     Parameter("OutPortSampleTimeOpt", "Specify", Reader::Default),
     Parameter("Deterministic", "on", Reader::Default),
-    Parameter("InitialCondition", "0", Reader::List),
+    INITIAL_CONDITION,
 ];
 
 const SUB_SYSTEM: &[Parameter] = &[Parameter("SystemSampleTime", "-1", Reader::Default)];
