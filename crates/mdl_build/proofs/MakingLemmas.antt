@@ -4,7 +4,7 @@ use Rattle.std.specs.Prelude.{slice_get, option_map, is_some}
 use Rattle.std.specs.List.{range_with_len, AllZip}
 use Rattle.std.specs.Option.{unwrap_or}
 use Rattle.std.proofs.lemmas.Bool.{cases_lt, cases_eq}
-use Rattle.std.proofs.lemmas.List.{get_or-set_same, get_or-set_other, length-set, length-append, length-map}
+use Rattle.std.proofs.lemmas.List.{get_or-set_same, get_or-set_other, get_or_default, length-set, length-append, length-map}
 use Rattle.std.proofs.lemmas.Option.{none-some, same_Some, slice_get-map, slice_get-get_or, slice_get_within}
 use Rattle.dg_model.specs.declared.fault.CheckFault.{CheckFault}
 use Rattle.dg_model.specs.declared.fault.CheckFault.TheVariants.{Broken, OutOfMemory}
@@ -20,11 +20,13 @@ use Rattle.mdl_build.specs.Library.{number_of, block_types}
 use Rattle.mdl_build.specs.Nested.{IsBlockAt}
 use Rattle.mdl_build.specs.Roles.{role_of, is_block, blocks_of}
 use Rattle.mdl_build.specs.Rules.{IsWrongFirst, AllRead, type_at}
-use Rattle.mdl_build.specs.inner.Known.{AreNumbersTo, AreNumbers, IsWrongAt}
+use Rattle.mdl_build.specs.Sections.{holder_of}
+use Rattle.mdl_build.specs.inner.Known.{AreEnabled, AreNumbersTo, AreNumbers, IsWrongAt}
 use Rattle.mdl_build.specs.inner.Makers.{AreMade}
 use Rattle.mdl_build.specs.inner.Texts.{fallbacks_of}
 use Rattle.mdl_build.proofs.BlockPlaces.{block_of}
 use Rattle.mdl_build.proofs.ReadingLemmas.{read_each}
+use Rattle.mdl_build.proofs.RoleLemmas.{holder_before}
 
 -- ---- numbers by place
 
@@ -74,10 +76,18 @@ module _ (items : List Item) where
 
 -- ---- where a block stands
 
-pub standing_is : (items : List Item) (parent found : Option ℕ) (system : ℕ) (b : Bool) → is_some parent ≡ true → found ≡ Some system → has_enable items system ≡ b → standing_in items parent found ≡ cond b Standing.Enabled Standing.Plain
+standing_is : (items : List Item) (parent found : Option ℕ) (system : ℕ) (b : Bool) → is_some parent ≡ true → found ≡ Some system → has_enable items system ≡ b → standing_in items parent found ≡ cond b Standing.Enabled Standing.Plain
 standing_is items None found system b e there is = absurd (true≢false (sym e))
 standing_is items (Some parent) found system b e there is =
     ap (standing_in items (Some parent)) there ∙ ap (λ (c : Bool). cond c Standing.Enabled Standing.Plain) is
+
+-- by what is read of the System that holds it
+pub standing_read : (items : List Item) (place : ℕ) (parent : Option ℕ) (system : ℕ) (enabled : List Bool) (own b : Bool) → is_some parent ≡ true → holder_of items place ≡ Some system → place < length items → AreEnabled items (blocks_of items) enabled → own ≡ get_or enabled system own → own ≡ b → standing_in items parent (holder_of items place) ≡ cond b Standing.Enabled Standing.Plain
+standing_read items place parent system enabled own b inner there within are read is =
+    let before = holder_before items place system there in
+    let below : system < length items = omega (arith, before, within) in
+    let inside : system < length enabled = omega (arith, below, are.long) in
+    standing_is items parent (holder_of items place) system b inner there (sym (read ∙ get_or_default enabled system own false inside ∙ are.each system below) ∙ is)
 
 -- ---- the defaults of a type
 
@@ -135,9 +145,6 @@ push_last [] y = refl
 push_last (z ∷ zs) y = push_last zs y
 
 module _ (items : List Item) where
-  pub made_none : AreMade items 0 []
-  made_none = record { long = refl; each = λ k place less at. absurd (omega (arith, less)) }
-
   pub made_next : (count place : ℕ) (blocks : List NestedBlock) (block : NestedBlock) → slice_get (blocks_of items) count ≡ Some place → AreMade items count blocks → IsBlockAt items place block → AreMade items (count + 1) (blocks ++ block ∷ [])
   made_next count place blocks block at before is = record {
     long = length-append blocks (block ∷ []) ∙ ap (λ (n : ℕ). n + 1) before.long;

@@ -1,8 +1,9 @@
 -- What a block's type and place say of its part.
-use Rattle.std.proofs.Common.{◌≡◌, ℕ, Bool, true, false, List, Option, Some, None, refl, sym, ◌∙◌, ap}
+use Rattle.std.proofs.Common.{◌≡◌, ℕ, true, false, List, Option, Some, None, refl, sym, ◌∙◌, ap}
 use Rattle.std.specs.Prelude.{bytes_eq, codes}
 use Rattle.std.proofs.lemmas.Slice.Eq.{bytes_eq-Decides}
 use Rattle.dg_model.specs.Sound.{IsSubSystem, IsEnable, HasPlainRole}
+use Rattle.dg_model.specs.declared.nested.Part.{Part}
 use Rattle.mdl_text.specs.declared.tree.Item.{Item}
 use Rattle.mdl_build.specs.declared.library.BlockType.{BlockType}
 use Rattle.mdl_build.specs.declared.library.BlockType.TheVariants.{Inport, Outport, Constant, Ground, Terminator, SubSystem, EnablePort, Sum, Gain, Product, UnitDelay, Delay, Switch, RelationalOperator, Logic, DataTypeConversion, Mux, Demux, RateTransition}
@@ -24,10 +25,6 @@ name_of_type name block_type found =
 
 same_type : (a b : BlockType) → ◌≡◌ {A = Option BlockType} (Some a) (Some b) → a ≡ b
 same_type a b e = cc
-
-says_by : (found : Option (List ℕ)) (text : List ℕ) → Bool
-says_by None text = false
-says_by (Some value) text = bytes_eq value text
 
 -- a block that says a type's name has this type
 pub says_type : (items : List Item) (place : ℕ) (block_type named : BlockType) → type_at items place ≡ Some block_type → says items place (codes "BlockType") (type_name named) ≡ true → type_of_name (type_name named) ≡ Some named → block_type ≡ named
@@ -54,80 +51,40 @@ type_says items place block_type is = by_value (value_of items place (codes "Blo
 
 -- ---- parts
 
--- a plain block is no port
+-- a plain block is no port, and a subsystem and an EnablePort come of one type alone
+abbrev ByType : Part → BlockType → Type 0
+ByType part block_type = HasPlainRole part × (IsSubSystem part → block_type ≡ SubSystem) × (IsEnable part → block_type ≡ EnablePort)
+
+by_type : (standing : Standing) (block_type : BlockType) (settings : Settings) → ByType (part_of standing block_type settings) block_type
+by_type Standing.Root Inport settings = (tt, (λ is. absurd is), (λ is. absurd is))
+by_type Standing.Plain Inport settings = (tt, (λ is. absurd is), (λ is. absurd is))
+by_type Standing.Enabled Inport settings = (tt, (λ is. absurd is), (λ is. absurd is))
+by_type Standing.Root Outport settings = (tt, (λ is. absurd is), (λ is. absurd is))
+by_type Standing.Plain Outport settings = (tt, (λ is. absurd is), (λ is. absurd is))
+by_type Standing.Enabled Outport settings = (tt, (λ is. absurd is), (λ is. absurd is))
+by_type standing Constant settings = (refl, (λ is. absurd is), (λ is. absurd is))
+by_type standing Ground settings = (refl, (λ is. absurd is), (λ is. absurd is))
+by_type standing Terminator settings = (refl, (λ is. absurd is), (λ is. absurd is))
+by_type standing Sum settings = (refl, (λ is. absurd is), (λ is. absurd is))
+by_type standing Gain settings = (refl, (λ is. absurd is), (λ is. absurd is))
+by_type standing Product settings = (refl, (λ is. absurd is), (λ is. absurd is))
+by_type standing UnitDelay settings = (refl, (λ is. absurd is), (λ is. absurd is))
+by_type standing Delay settings = (refl, (λ is. absurd is), (λ is. absurd is))
+by_type standing Switch settings = (refl, (λ is. absurd is), (λ is. absurd is))
+by_type standing RelationalOperator settings = (refl, (λ is. absurd is), (λ is. absurd is))
+by_type standing Logic settings = (refl, (λ is. absurd is), (λ is. absurd is))
+by_type standing DataTypeConversion settings = (refl, (λ is. absurd is), (λ is. absurd is))
+by_type standing Mux settings = (refl, (λ is. absurd is), (λ is. absurd is))
+by_type standing Demux settings = (refl, (λ is. absurd is), (λ is. absurd is))
+by_type standing RateTransition settings = (refl, (λ is. absurd is), (λ is. absurd is))
+by_type standing SubSystem settings = (tt, (λ is. refl), (λ is. absurd is))
+by_type standing EnablePort settings = (tt, (λ is. absurd is), (λ is. refl))
+
 pub plain_role : (standing : Standing) (block_type : BlockType) (settings : Settings) → HasPlainRole (part_of standing block_type settings)
-plain_role Standing.Root Inport settings = tt
-plain_role Standing.Plain Inport settings = tt
-plain_role Standing.Enabled Inport settings = tt
-plain_role Standing.Root Outport settings = tt
-plain_role Standing.Plain Outport settings = tt
-plain_role Standing.Enabled Outport settings = tt
-plain_role standing Constant settings = refl
-plain_role standing Ground settings = refl
-plain_role standing Terminator settings = refl
-plain_role standing Sum settings = refl
-plain_role standing Gain settings = refl
-plain_role standing Product settings = refl
-plain_role standing UnitDelay settings = refl
-plain_role standing Delay settings = refl
-plain_role standing Switch settings = refl
-plain_role standing RelationalOperator settings = refl
-plain_role standing Logic settings = refl
-plain_role standing DataTypeConversion settings = refl
-plain_role standing Mux settings = refl
-plain_role standing Demux settings = refl
-plain_role standing RateTransition settings = refl
-plain_role standing SubSystem settings = tt
-plain_role standing EnablePort settings = tt
+plain_role standing block_type settings = (by_type standing block_type settings).0
 
--- a part of this kind comes of this type alone
 pub sub_system_type : (standing : Standing) (block_type : BlockType) (settings : Settings) → IsSubSystem (part_of standing block_type settings) → block_type ≡ SubSystem
-sub_system_type Standing.Root Inport settings is = absurd is
-sub_system_type Standing.Plain Inport settings is = absurd is
-sub_system_type Standing.Enabled Inport settings is = absurd is
-sub_system_type Standing.Root Outport settings is = absurd is
-sub_system_type Standing.Plain Outport settings is = absurd is
-sub_system_type Standing.Enabled Outport settings is = absurd is
-sub_system_type standing Constant settings is = absurd is
-sub_system_type standing Ground settings is = absurd is
-sub_system_type standing Terminator settings is = absurd is
-sub_system_type standing Sum settings is = absurd is
-sub_system_type standing Gain settings is = absurd is
-sub_system_type standing Product settings is = absurd is
-sub_system_type standing UnitDelay settings is = absurd is
-sub_system_type standing Delay settings is = absurd is
-sub_system_type standing Switch settings is = absurd is
-sub_system_type standing RelationalOperator settings is = absurd is
-sub_system_type standing Logic settings is = absurd is
-sub_system_type standing DataTypeConversion settings is = absurd is
-sub_system_type standing Mux settings is = absurd is
-sub_system_type standing Demux settings is = absurd is
-sub_system_type standing RateTransition settings is = absurd is
-sub_system_type standing SubSystem settings is = refl
-sub_system_type standing EnablePort settings is = absurd is
+sub_system_type standing block_type settings = (by_type standing block_type settings).1
 
--- a part of this kind comes of this type alone
 pub enable_type : (standing : Standing) (block_type : BlockType) (settings : Settings) → IsEnable (part_of standing block_type settings) → block_type ≡ EnablePort
-enable_type Standing.Root Inport settings is = absurd is
-enable_type Standing.Plain Inport settings is = absurd is
-enable_type Standing.Enabled Inport settings is = absurd is
-enable_type Standing.Root Outport settings is = absurd is
-enable_type Standing.Plain Outport settings is = absurd is
-enable_type Standing.Enabled Outport settings is = absurd is
-enable_type standing Constant settings is = absurd is
-enable_type standing Ground settings is = absurd is
-enable_type standing Terminator settings is = absurd is
-enable_type standing Sum settings is = absurd is
-enable_type standing Gain settings is = absurd is
-enable_type standing Product settings is = absurd is
-enable_type standing UnitDelay settings is = absurd is
-enable_type standing Delay settings is = absurd is
-enable_type standing Switch settings is = absurd is
-enable_type standing RelationalOperator settings is = absurd is
-enable_type standing Logic settings is = absurd is
-enable_type standing DataTypeConversion settings is = absurd is
-enable_type standing Mux settings is = absurd is
-enable_type standing Demux settings is = absurd is
-enable_type standing RateTransition settings is = absurd is
-enable_type standing SubSystem settings is = absurd is
-enable_type standing EnablePort settings is = refl
+enable_type standing block_type settings = (by_type standing block_type settings).2
