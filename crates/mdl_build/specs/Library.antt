@@ -20,27 +20,37 @@ row_of parameter = record { name = parameter.0.now; default = parameter.1.now; r
 abbrev pub row : List ℕ → List ℕ → Reader → ParameterRow
 row name default reader = record { name = name; default = default; reader = reader }
 
--- parameters of several block types
+-- ---- parameters of several block types
+
+-- a type, which need not be said
 abbrev pub type_or_auto : ParameterRow
 type_or_auto = row (codes "OutDataTypeStr") (codes "Inherit: auto") Reader.TypeOrAuto
 
+-- a type, the internal rule, or the first input's type
 abbrev pub type_or_first : ParameterRow
 type_or_first = row (codes "OutDataTypeStr") (codes "Inherit: Inherit via internal rule") Reader.TypeOrFirst
 
+-- the type of what is true or false
 abbrev pub truth : ParameterRow
 truth = row (codes "OutDataTypeStr") (codes "boolean") Reader.Truth
 
+-- what an element has before its first value
 abbrev pub initial_condition : ParameterRow
 initial_condition = row (codes "InitialCondition") (codes "0") Reader.List
 
+-- how a result is rounded
 abbrev pub rounding : ParameterRow
 rounding = row (codes "RndMeth") (codes "Floor") Reader.Rounding
 
+-- whether a result that is too large is held at the end of its type
 abbrev pub saturation : ParameterRow
 saturation = row (codes "SaturateOnIntegerOverflow") (codes "off") Reader.Saturation
 
+-- a period, or an inherited one
 abbrev pub sample_time : ParameterRow
 sample_time = row (codes "SampleTime") (codes "-1") Reader.SampleTime
+
+-- ---- block types
 
 -- the parameters of a block type, in the order in which they are tried
 abbrev pub parameters_of : BlockType → List ParameterRow
