@@ -97,15 +97,16 @@ pub fn switched(
         (numbers other.place) (numbers made.place)) made) }
 {
     match criterion {
-        Criterion::AtLeast => from_threshold(plan, threshold, control, first, other),
-        Criterion::Above => above_threshold(plan, threshold, control, first, other),
+        Criterion::AtLeast => against(plan, Relation::Ge, threshold, control, first, other),
+        Criterion::Above => against(plan, Relation::Gt, threshold, control, first, other),
         Criterion::NotZero => choose(plan, control, first, other, first.word),
     }
 }
 
-/// The first number where the control is at least the threshold, else the other.
-fn from_threshold(
+/// The first number where the control is so related to the threshold, else the other.
+fn against(
     plan: &mut Plan,
+    operator: Relation,
     threshold: i128,
     control: Operand,
     first: Operand,
@@ -117,32 +118,10 @@ fn from_threshold(
     requires word { first.word ≡ other.word }
     requires threshold { InWord control.word.width control.word.signed threshold }
     ensures { IfOk result (λ made. IsMade plan.old plan.new first.word (λ numbers.
-        IsSwitched (int_le threshold (numbers control.place)) (numbers first.place)
+        IsSwitched (compares operator (numbers control.place) threshold) (numbers first.place)
         (numbers other.place) (numbers made.place)) made) }
 {
     let bound = constant(plan, threshold, control.word)?;
-    let test = at_least(plan, control, bound)?;
-    choose(plan, test, first, other, first.word)
-}
-
-/// The first number where the control is above the threshold, else the other.
-fn above_threshold(
-    plan: &mut Plan,
-    threshold: i128,
-    control: Operand,
-    first: Operand,
-    other: Operand,
-) -> Result<Operand, OutOfMemory>
-    requires control { IsAt plan.old control }
-    requires first { IsAt plan.old first }
-    requires other { IsAt plan.old other }
-    requires word { first.word ≡ other.word }
-    requires threshold { InWord control.word.width control.word.signed threshold }
-    ensures { IfOk result (λ made. IsMade plan.old plan.new first.word (λ numbers.
-        IsSwitched (int_lt threshold (numbers control.place)) (numbers first.place)
-        (numbers other.place) (numbers made.place)) made) }
-{
-    let bound = constant(plan, threshold, control.word)?;
-    let test = less(plan, bound, control)?;
+    let test = related(plan, operator, control, bound)?;
     choose(plan, test, first, other, first.word)
 }
