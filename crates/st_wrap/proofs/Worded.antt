@@ -1,13 +1,10 @@
 -- The names that the wrapper declares are identifiers, where the core's are.
-use Rattle.std.proofs.Common.{◌≡◌, ℕ, ◌+◌, ◌^◌, ◌<◌, ◌≤◌, ◌==◌, nat_le, ⊎_elim, Bool, true, false, not, ◌&&◌, ◌||◌, List, [], ◌∷◌, ◌++◌, map, flat_map, Contains, bytes_eq, codes, decimal, refl, sym, ap, subst, ◌∙◌, arith}
+use Rattle.std.proofs.Common.{◌≡◌, ℕ, ◌+◌, ◌^◌, ◌<◌, ◌==◌, nat_le, ⊎_elim, Bool, true, false, not, ◌&&◌, ◌||◌, List, [], ◌∷◌, ◌++◌, map, flat_map, Contains, bytes_eq, codes, decimal, refl, sym, ap, subst, ◌∙◌, arith}
 use Prim.Native.Char.{code}
 use Rattle.std.specs.List.{list_all, list_any, range_with_len}
-use Rattle.std.specs.Str.Parse.{AllDigits}
-use Rattle.std.proofs.lemmas.Bool.{and_from, and_parts, le-leb, or_left}
-use Rattle.std.proofs.lemmas.Fmt.{decimal_is_IsNumeral}
+use Rattle.std.proofs.lemmas.Bool.{and_from, and_parts}
 use Rattle.std.proofs.lemmas.List.{append-nil}
 use Rattle.std.proofs.lemmas.List.Elements.{Contains-append_left, Contains-append_right, Contains-append_cases}
-use Rattle.std.proofs.lemmas.Str.Parse.{digit_from_value}
 use Rattle.vl_ast.specs.declared.modules.Port.{Port}
 use Rattle.vl_ast.specs.declared.modules.Module.{Module}
 use Rattle.vl_ast.specs.Conditions.{BreaksNone}
@@ -16,6 +13,7 @@ use Rattle.vl_ast.specs.Nets.{Declared, Mention, Declares, Drives, Reads, Clocks
 use Rattle.vl_ast.proofs.Places.{cons-cases, flat-in, from-flat, from-map, head-in, map-in, none-in}
 use Rattle.vl_names.specs.Identifiers.{begins_name, continues_name, is_identifier}
 use Rattle.vl_names.specs.Reserved.{reserved}
+use Rattle.vl_names.proofs.Digits.{number_plain}
 use Rattle.st_wrap.specs.declared.columns.Column.{Column}
 use Rattle.st_wrap.specs.declared.pace.Counters.{Counters}
 use Rattle.st_wrap.specs.Names.{AreColumnNames}
@@ -27,21 +25,6 @@ use Rattle.st_wrap.proofs.Named.{declared_in, in-range, input-name, late-small, 
 use Rattle.st_wrap.proofs.Once.{declared-list, in-control, in-wire, late_names, wire_names}
 
 -- ---- bytes of names
-
-digit_plain : (byte : ℕ) → 48 ≤ byte → byte ≤ 57 → continues_name byte ≡ true
-digit_plain byte low high =
-    or_left (((nat_le 48 byte && nat_le byte 57) || (nat_le 65 byte && nat_le byte 90)) || (nat_le 97 byte && nat_le byte 122)) (byte == code "_")
-    (or_left ((nat_le 48 byte && nat_le byte 57) || (nat_le 65 byte && nat_le byte 90)) (nat_le 97 byte && nat_le byte 122)
-    (or_left (nat_le 48 byte && nat_le byte 57) (nat_le 65 byte && nat_le byte 90) (and_from (nat_le 48 byte) (nat_le byte 57) (le-leb 48 byte low) (le-leb byte 57 high))))
-
-digits_plain : (digits : List ℕ) → AllDigits 10 digits → list_all continues_name digits ≡ true
-digits_plain [] all = refl
-digits_plain (digit ∷ digits) all =
-    let range = digit_from_value digit all.0
-    in and_from (continues_name digit) (list_all continues_name digits) (digit_plain digit range.0 range.1) (digits_plain digits all.1)
-
-number_plain : (k : ℕ) → k < 2 ^ 64 → list_all continues_name (decimal k) ≡ true
-number_plain k small = digits_plain (decimal k) (decimal_is_IsNumeral k small).0.1
 
 -- what begins a name may also stand within it
 begins-plain : (byte : ℕ) → begins_name byte ≡ true → continues_name byte ≡ true

@@ -19,7 +19,8 @@ use Rattle.hw_net.specs.declared.netlist.NetKind.TheVariants.{Comb}
 use Rattle.hw_net.specs.Circuit.{Circuit}
 use Rattle.hw_net.specs.Netlist.{IsNetlist}
 use Rattle.hw_net.specs.Emittable.{IsPeriod, IsEmittable}
-use Rattle.vl_emit.specs.Header.{bit_input, input_port, output_port}
+use Rattle.vl_ast.specs.Header.{bit_input}
+use Rattle.vl_emit.specs.Header.{input_port, output_port}
 use Rattle.vl_emit.specs.Names.{name_of, hold_name, port_at, input_wire}
 use Rattle.hw_net.specs.Products.{net_at}
 use Rattle.vl_emit.specs.Reads.{item_reads}

@@ -1,14 +1,8 @@
 -- Some text spells the module of a netlist.
-use Rattle.std.proofs.Common.{◌≡◌, ◌⊎◌, inl, inr, ℕ, ◌-◌, ◌*◌, ◌^◌, ◌<◌, ◌≤◌, ◌==◌, nat_le, if◌then◌else◌, get_or, Bool, true, false, ◌&&◌, ◌||◌, List, [], ◌∷◌, ◌++◌, length, Contains, Some, None, codes, refl, ap, sym, ◌∙◌, subst, arith}
-use Prim.Native.Char.{code}
+use Rattle.std.proofs.Common.{◌≡◌, ◌⊎◌, inl, inr, ℕ, ◌-◌, ◌*◌, ◌^◌, ◌<◌, ◌≤◌, ◌==◌, if◌then◌else◌, get_or, Bool, true, false, ◌&&◌, List, [], ◌∷◌, ◌++◌, length, Contains, Some, None, codes, refl, ap, sym, ◌∙◌, subst, arith}
 use Rattle.std.specs.Prelude.{⊤}
-use Rattle.std.specs.Fmt.{decimal}
 use Rattle.std.specs.List.{list_all}
-use Rattle.std.specs.Str.Parse.{AllDigits}
-use Rattle.std.proofs.lemmas.Bool.{and_from, or_left, le-leb}
-use Rattle.std.proofs.lemmas.Fmt.{decimal_is_IsNumeral}
 use Rattle.std.proofs.lemmas.List.Elements.{Contains-append_left, Contains-append_right, Contains-append_cases}
-use Rattle.std.proofs.lemmas.Str.Parse.{digit_from_value}
 use Rattle.vl_ast.specs.declared.expressions.BinOp.TheVariants as binary
 use Rattle.vl_ast.specs.declared.expressions.Expr.{Expr}
 use Rattle.vl_ast.specs.declared.expressions.Expr.TheVariants as expression
@@ -34,7 +28,9 @@ use Rattle.hw_net.specs.declared.netlist.NetKind.TheVariants.{Comb, Reg, EnReg, 
 use Rattle.hw_net.specs.Circuit.{Circuit}
 use Rattle.hw_net.specs.Netlist.{IsNetlist}
 use Rattle.hw_net.specs.Emittable.{IsEmittable}
-use Rattle.vl_emit.specs.Header.{attribute_of, bit_input, bit_output, input_port, input_ports, output_port, output_ports, ports_of}
+use Rattle.vl_ast.specs.Header.{attribute_of, bit_input, bit_output}
+use Rattle.vl_names.proofs.Digits.{number_plain}
+use Rattle.vl_emit.specs.Header.{input_port, input_ports, output_port, output_ports, ports_of}
 use Rattle.vl_emit.specs.Names.{Wire, name_by, net_name, hold_name}
 use Rattle.hw_net.specs.Products.{net_at}
 use Rattle.vl_emit.specs.inner.Emitted.{wire_of, declarers, drivers, items_of, module_of, naming_of, opened_module}
@@ -48,21 +44,6 @@ use Rattle.vl_emit.proofs.Short.{IsShort, deeper, short-at, short-binary, short-
 
 abbrev IsPlain : List ℕ → Type 0
 IsPlain bytes = list_all continues_name bytes ≡ true
-
-digit_plain : (byte : ℕ) → 48 ≤ byte → byte ≤ 57 → continues_name byte ≡ true
-digit_plain byte low high =
-    or_left (((nat_le 48 byte && nat_le byte 57) || (nat_le 65 byte && nat_le byte 90)) || (nat_le 97 byte && nat_le byte 122)) (byte == code "_")
-    (or_left ((nat_le 48 byte && nat_le byte 57) || (nat_le 65 byte && nat_le byte 90)) (nat_le 97 byte && nat_le byte 122)
-    (or_left (nat_le 48 byte && nat_le byte 57) (nat_le 65 byte && nat_le byte 90) (and_from (nat_le 48 byte) (nat_le byte 57) (le-leb 48 byte low) (le-leb byte 57 high))))
-
-digits_plain : (digits : List ℕ) → AllDigits 10 digits → list_all continues_name digits ≡ true
-digits_plain [] all = refl
-digits_plain (digit ∷ digits) all =
-    let range = digit_from_value digit all.0
-    in and_from (continues_name digit) (list_all continues_name digits) (digit_plain digit range.0 range.1) (digits_plain digits all.1)
-
-number_plain : (k : ℕ) → k < 2 ^ 64 → list_all continues_name (decimal k) ≡ true
-number_plain k small = digits_plain (decimal k) (decimal_is_IsNumeral k small).0.1
 
 net-identifier : (k : ℕ) → k < 2 ^ 64 → is_identifier (net_name k) ≡ true
 net-identifier k small = ap (λ all. all && true) (number_plain k small)

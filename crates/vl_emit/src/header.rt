@@ -1,6 +1,6 @@
 //! The header of a netlist's module.
 ghost use Rattle.std.specs.Prelude.{◌≡◌, ◌++◌, ◌<◌, length, IfOk, OnOk};
-ghost use Rattle.vl_emit.specs.Header.{attribute_of, bit_input, bit_output};
+ghost use Rattle.vl_ast.specs.Header.{attribute_of, bit_input, bit_output};
 ghost use Rattle.vl_emit.specs.Header.{input_port, output_port};
 ghost use Rattle.vl_emit.specs.Header.{input_ports, output_ports, ports_of};
 ghost use Rattle.vl_emit.specs.inner.Ready.{AreReady};

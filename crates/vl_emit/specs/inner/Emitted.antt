@@ -20,7 +20,8 @@ use Rattle.vl_emit.specs.inner.Spelled.{zeros, at_width}
 use Rattle.vl_emit.specs.inner.Operators.{test_of, expression_of}
 use Rattle.vl_emit.specs.Names.{name_of, hold_name, net_wire, input_wire}
 use Rattle.hw_net.specs.Products.{places, net_at}
-use Rattle.vl_emit.specs.Header.{attribute_of, bit_input, input_ports, output_ports, ports_of}
+use Rattle.vl_ast.specs.Header.{attribute_of, bit_input}
+use Rattle.vl_emit.specs.Header.{input_ports, output_ports, ports_of}
 use Rattle.hw_net.specs.Circuit.{Circuit}
 use Rattle.hw_net.specs.Frames.{counter_of}
 use Rattle.vl_ast.specs.declared.modules.Module.{Module}
