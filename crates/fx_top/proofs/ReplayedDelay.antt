@@ -7,7 +7,7 @@ use Rattle.vl_ast.specs.declared.expressions.Expr.TheOpen.{Expr-F}
 use Rattle.vl_ast.specs.declared.expressions.Expr.TheFolds.{fold-roll-Expr}
 use Rattle.vl_ast.specs.declared.expressions.Expr.TheVariants.{Name, rolls-Name}
 use Rattle.vl_ast.specs.declared.modules.Port.{Port}
-use Rattle.vl_ast.specs.Attributes.{cycles_of, latency_of, period_of}
+use Rattle.vl_ast.specs.Attributes.{cycles_of, latency_of, period_of, step_of}
 use Rattle.vl_ast.specs.Driven.{Driven, output_ports, port_number, stimulus_ports}
 use Rattle.vl_ast.specs.Grammar.{Spells}
 use Rattle.vl_ast.specs.Spelling.{expr_step, expr_text, spelling}
@@ -18,7 +18,6 @@ use Rattle.vl_ast.proofs.Unstalled.{shows-clocks}
 use Rattle.vl_ast.proofs.Written.{number-writable, based-writable}
 use Rattle.fx_tables.specs.declared.table.Rows.{Rows as Table}
 use Rattle.fx_tables.specs.Response.{response}
-use Rattle.vl_replay.specs.Columns.{step_of}
 use Rattle.vl_replay.specs.Sampled.{AreReplayed, Sampled, hit_at, numbers_of, window_of}
 use Rattle.vl_ast.specs.Header.{output_port}
 use Rattle.fx_top.proofs.DelayModule.{byte_port}

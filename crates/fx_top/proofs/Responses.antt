@@ -10,8 +10,9 @@ use Rattle.fx_tables.specs.Stimulus.{IsRows}
 use Rattle.vl_ast.specs.declared.modules.Port.{Port}
 use Rattle.vl_ast.specs.declared.modules.Module.{Module}
 use Rattle.vl_ast.specs.Driven.{output_ports, stimulus_ports}
+use Rattle.vl_ast.specs.Attributes.{step_of}
 use Rattle.vl_replay.specs.declared.replay.Replay.{Replay}
-use Rattle.vl_replay.specs.Columns.{columns_of, step_of}
+use Rattle.vl_replay.specs.Columns.{columns_of}
 use Rattle.vl_replay.specs.Replays.{HasRoom, stimulus_of, table_of}
 use Rattle.vl_replay.specs.Sampled.{Sampled, numbers_of}
 use Rattle.fx_top.specs.Replayed.{IsSoundText}

@@ -11,10 +11,11 @@ use Rattle.vl_ast.specs.Conditions.{BreaksNone, Fault, IsFirstFault}
 use Rattle.vl_ast.specs.Driven.{output_ports, stimulus_ports}
 use Rattle.vl_ast.specs.Grammar.{Spells, most_items}
 use Rattle.vl_ast.specs.Windows.{Sample}
+use Rattle.vl_ast.specs.Attributes.{step_of}
 use Rattle.vl_check.specs.declared.fault.VlFault.{VlFault}
 use Rattle.vl_check.specs.declared.fault.VlFault.TheVariants.{Undriven, Doubly, CombLoop, TooWide, NoReset, NoAttribute, OutOfMemory}
 use Rattle.vl_read.specs.Prefix.{IsRefused, IsVerilogFaultLine}
-use Rattle.vl_replay.specs.Columns.{columns_of, step_of}
+use Rattle.vl_replay.specs.Columns.{columns_of}
 use Rattle.vl_replay.specs.Sampled.{Sampled, numbers_of}
 
 -- the text spells this module, which can be read and breaks no condition

@@ -3,8 +3,8 @@ ghost use Rattle.std.specs.Prelude.{◌≡◌, ◌<◌, ◌≤◌, ◌^◌};
 ghost use Rattle.st_wrap.specs.Pace.{cycles_in, latest_in, samples_late};
 ghost use Rattle.st_wrap.specs.inner.Control.{CountFor, HasRoom};
 
-use vl_ast::{Module, Port};
-use vl_check::{cycles_of, is_number_output, is_stallable, latency_of};
+use vl_ast::{Module, Port, cycles_of, latency_of};
+use vl_check::{is_number_output, is_stallable};
 
 /// A counter's greatest number, and how many bits it has.
 #[derive(Clone, Copy, Debug)]

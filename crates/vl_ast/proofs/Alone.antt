@@ -45,7 +45,7 @@ module _ (by_layer : ByLayer) (m : Module) (driven : undriven m ≡ None) (once 
   all = mentions m
 
   -- a wire or an output has an assignment
-  wired : (d : Declared) → Contains all (Declares d) → needs_driver d.kind ≡ true → may_drive true d.kind ≡ false → (value : Expr) × Contains m.items (Assign d.name value)
+  pub wired : (d : Declared) → Contains all (Declares d) → needs_driver d.kind ≡ true → may_drive true d.kind ≡ false → (value : Expr) × Contains m.items (Assign d.name value)
   wired d h needs only = by (has-driver m driven once d h needs) where
     of : (c : Bool) → Driver m driven once d.name c → Contains all (Drives c d.name) → (value : Expr) × Contains m.items (Assign d.name value)
     of false (ByAssign value i) dr = (value, i)
@@ -54,14 +54,14 @@ module _ (by_layer : ByLayer) (m : Module) (driven : undriven m ≡ None) (once 
     by : (c : Bool) × Contains all (Drives c d.name) → (value : Expr) × Contains m.items (Assign d.name value)
     by (c, dr) = of c (driver-of m driven once c d.name dr) dr
 
-  record Always' (name : List ℕ) : Type 0 where
-    first : Sized
-    condition : Option Expr
-    value : Expr
-    item : Contains m.items (Always name first condition value)
+  pub record Always' (name : List ℕ) : Type 0 where
+    pub first : Sized
+    pub condition : Option Expr
+    pub value : Expr
+    pub item : Contains m.items (Always name first condition value)
 
   -- a register has a clocked item
-  stored : (signed : Bool) (width : ℕ) (name : List ℕ) → Contains m.items (Reg signed width name) → Always' name
+  pub stored : (signed : Bool) (width : ℕ) (name : List ℕ) → Contains m.items (Reg signed width name) → Always' name
   stored signed width name h =
       let d : Declared = record { name = name; kind = Register; net = record { width = width; signed = signed } } in
       let there = reg-declared m driven once signed width name h in

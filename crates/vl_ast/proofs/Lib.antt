@@ -19,6 +19,8 @@ pub mod OpenedClocked
 pub mod OpenedSound
 pub mod Parts
 pub mod Places
+pub mod PortLists
+pub mod Ranges
 mod Rows
 pub mod Settled
 pub mod SoundAgree

@@ -1,6 +1,5 @@
--- For every stimulus and every count of rows there are inputs that it drives.
-use Rattle.std.proofs.Common.{◌≡◌, ◌≢◌, ◌<◌, ◌≤◌, ◌+◌, ◌-◌, ◌*◌, ◌/◌, ◌%◌, ◌^◌, ⊎_elim, ℕ, zero, suc, Bool, true, false, not, ◌&&◌, ◌||◌, ◌==◌, if◌then◌else◌, nat_le, List, [], ◌∷◌, ◌++◌, map, flat_map, filter, slice_get, Contains, bytes_eq, codes, Option, Some, None, ℤ, pos, negsuc, refl, sym, ap, subst, ◌∙◌, arith}
-use Rattle.std.proofs.lemmas.List.{append_assoc, map-append}
+-- For every stimulus and every count of rows there are inputs that it drives. Crates above may cite this file.
+use Rattle.std.proofs.Common.{◌≡◌, ◌<◌, ◌≤◌, ◌+◌, ◌-◌, ◌*◌, ◌/◌, ◌%◌, ◌^◌, ⊎_elim, ℕ, zero, suc, Bool, true, false, not, ◌&&◌, ◌||◌, ◌==◌, if◌then◌else◌, nat_le, List, [], ◌∷◌, filter, slice_get, Contains, bytes_eq, codes, Option, Some, None, ℤ, pos, negsuc, refl, sym, ap, subst, ◌∙◌, arith}
 use Rattle.std.proofs.lemmas.Bool.{cond-true, cond-false, eq-eqb, cases_Bool, or_parts, and_parts, not-true, le-leb, lt-leb}
 use Rattle.std.proofs.lemmas.Nat.{mod_below, pow_pos, mod-mul-add, div-add-mod'}
 use Rattle.std.proofs.Math.Nat.{mod-eq_of_lt, div-lt_iff_lt-mul, le-div_iff_mul-le}
@@ -8,7 +7,7 @@ use Rattle.std.proofs.lemmas.Slice.Eq.{bytes_eq-Decides}
 use Rattle.vl_ast.specs.declared.modules.Port.{Port}
 use Rattle.vl_ast.specs.declared.modules.Module.{Module}
 use Rattle.vl_ast.specs.Context.{Net}
-use Rattle.vl_ast.specs.Nets.{port_declared, Mention, Declares, mentions, item_mentions, nets_of}
+use Rattle.vl_ast.specs.Nets.{port_declared, nets_of}
 use Rattle.vl_ast.specs.Attributes.{cycles_of, period_of}
 use Rattle.vl_ast.specs.Conditions.{undriven, doubly, no_reset, IsLoop}
 use Rattle.vl_ast.specs.Control.{is_clock_or_reset, is_control_input, is_number_input, is_stallable}
@@ -17,8 +16,8 @@ use Rattle.vl_ast.specs.Windows.{PortNumbers, Window}
 use Rattle.vl_ast.specs.Value.{bits_of}
 use Rattle.vl_ast.specs.Room.{CanBeDriven}
 use Rattle.vl_ast.proofs.Agree.{ByLayer}
-use Rattle.vl_ast.proofs.Places.{cons-cases, head-in, tail-in, none-in, cut-at, in-cut}
-use Rattle.vl_ast.proofs.Facts.{in-port, no-earlier-declaration}
+use Rattle.vl_ast.proofs.Facts.{in-port}
+use Rattle.vl_ast.proofs.PortLists.{Apart, apart-tail, filter-in, ports-apart, slice-in}
 use Rattle.vl_ast.proofs.Settled.{net-is}
 use Rattle.vl_ast.proofs.Alone.{reset-port}
 use Rattle.vl_ast.proofs.Thinned.{bit-port}
@@ -28,14 +27,10 @@ bits-fit : (width : ℕ) (number : ℤ) → bits_of width number < 2 ^ width
 bits-fit width (pos n) = mod_below n (2 ^ width) (pow_pos width)
 bits-fit width (negsuc n) = let p = pow_pos width in omega (arith, p)
 
--- the hit of a period whose samples have this clock
-hit : ℕ → ℕ → ℕ → ℕ
-hit cycles period clock = clock / cycles - clock / cycles % period
-
-hit-is : (cycles period t clock : ℕ) → t % period ≡ 0 → t * cycles ≤ clock → clock < (t + period) * cycles → hit cycles period clock ≡ t
-unfolding hit
-hit-is zero period t clock at from below = absurd (omega arith)
-hit-is (suc f) period t clock at from below =
+-- within the samples of a hit that is the last
+pub last-hit : (cycles period t clock : ℕ) → t % period ≡ 0 → t * cycles ≤ clock → clock < (t + period) * cycles → clock / cycles - clock / cycles % period ≡ t
+last-hit zero period t clock at from below = absurd (omega arith)
+last-hit (suc f) period t clock at from below =
     let low : t ≤ clock / suc f = (le-div_iff_mul-le {k = suc f} {x = t} {y = clock} (omega arith)).1 from in
     let high : clock / suc f < t + period = (div-lt_iff_lt-mul {k = suc f} {x = clock} {y = t + period} (omega arith)).1 below in
     let whole : t / period * period ≡ t = let e = div-add-mod' t period in omega (arith, e, at) in
@@ -44,6 +39,14 @@ hit-is (suc f) period t clock at from below =
     let less : r < period = omega (arith, low, high) in
     let m : clock / suc f % period ≡ r = ap (λ n. n % period) rest ∙ mod-mul-add (t / period) period r less in
     omega (arith, m, low)
+
+-- the hit of a period whose samples have this clock
+hit : ℕ → ℕ → ℕ → ℕ
+hit cycles period clock = clock / cycles - clock / cycles % period
+
+hit-is : (cycles period t clock : ℕ) → t % period ≡ 0 → t * cycles ≤ clock → clock < (t + period) * cycles → hit cycles period clock ≡ t
+unfolding hit
+hit-is cycles period t clock at from below = last-hit cycles period t clock at from below
 
 abbrev timed : Port → (ℕ → ℤ) → ℕ → Option ℕ → Option ℕ → ℕ
 timed port numbers clock None period = 0
@@ -55,28 +58,6 @@ shown : Option ℕ → (ℕ → ℕ → ℤ) → List Port → ℕ → ℕ → L
 shown cycles stimulus [] place clock name = 0
 shown cycles stimulus (port ∷ ports) place clock name =
     if bytes_eq port.name name then timed port (stimulus place) clock cycles (period_of port) else shown cycles stimulus ports (suc place) clock name
-
--- no two ports have one name
-record Apart (ports : List Port) : Type 0 where
-  at : (before : List Port) (port : Port) (after : List Port) → ports ≡ before ++ port ∷ after → (other : Port) → Contains after other → port.name ≢ other.name
-
-apart-tail : (port : Port) (ports : List Port) → Apart (port ∷ ports) → Apart ports
-apart-tail port ports a = record { at = λ before here after e other h. a.at (port ∷ before) here after (ap (λ xs. port ∷ xs) e) other h }
-
-filter-in : (test : Port → Bool) (ports : List Port) (x : Port) → Contains (filter test ports) x → Contains ports x × (test x ≡ true)
-filter-in test [] x h = absurd (none-in x h)
-filter-in test (port ∷ ports) x h = by (filter-in test ports x) (test port) refl where
-  by : (Contains (filter test ports) x → Contains ports x × (test x ≡ true)) → (t : Bool) → test port ≡ t → Contains (port ∷ ports) x × (test x ≡ true)
-  by rest true e = ⊎_elim
-      (λ s. (subst (λ p. Contains (port ∷ ports) p) s (head-in port ports), ap test (sym s) ∙ e))
-      (λ t. let r = rest t in (tail-in port x ports r.0, r.1))
-      (cons-cases port x (filter test ports) (subst (λ xs. Contains xs x) (cond-true (test port) (port ∷ filter test ports) (filter test ports) e) h))
-  by rest false e = let r = rest (subst (λ xs. Contains xs x) (cond-false (test port) (port ∷ filter test ports) (filter test ports) e) h) in (tail-in port x ports r.0, r.1)
-
-slice-in : (xs : List Port) (k : ℕ) (x : Port) → slice_get xs k ≡ Some x → Contains xs x
-slice-in [] k x e = absurd (cc e)
-slice-in (y ∷ xs) zero x e = let same : y ≡ x = cc e in subst (λ z. Contains (y ∷ xs) z) same (head-in y xs)
-slice-in (y ∷ xs) (suc k) x e = tail-in y x xs (slice-in xs k x e)
 
 -- the port at a place of those that pass a test shows its own number
 shown-at : (cycles : Option ℕ) (stimulus : ℕ → ℕ → ℤ) (test : Port → Bool) (ports : List Port) → Apart ports → (offset place clock : ℕ) (port : Port)
@@ -112,24 +93,6 @@ shown-at cycles stimulus test (first ∷ ports) apart offset place clock port e 
 
 module _ (by_layer : ByLayer) (m : Module) (driven : undriven m ≡ None) (once : doubly m ≡ None) (none : (first : List ℕ) (others : List (List ℕ)) → ¬ IsLoop m first others)
     (clocked : no_reset m ≡ None) where
-  abbrev declares : Port → Mention
-  declares port = Declares (port_declared port)
-
-  ports-apart : Apart m.ports
-  ports-apart = record {
-    at = λ before port after e other h same.
-        let cut = cut-at after other h in
-        let items = flat_map item_mentions m.items in
-        let passed = map declares before ++ (declares port ∷ map declares cut.before) in
-        let whole : mentions m ≡ passed ++ declares other ∷ (map declares cut.after ++ items) =
-        ap (λ ports. map declares ports ++ items) (e ∙ ap (λ ps. before ++ port ∷ ps) cut.whole)
-        ∙ ap (λ xs. xs ++ items) (map-append declares before (port ∷ cut.before ++ other ∷ cut.after)
-        ∙ ap (λ xs. map declares before ++ declares port ∷ xs) (map-append declares cut.before (other ∷ cut.after)))
-        ∙ simp append_assoc refl in
-        no-earlier-declaration m driven once (port_declared other) (port_declared port) (record { before = passed; after = map declares cut.after ++ items; whole = whole })
-        (in-cut (map declares before) (map declares cut.before) (declares port)) same;
-  }
-
   module _ (stimulus : PortNumbers) (samples : ℕ) (window : Window) (within : window.last_reset < window.rows) where
     abbrev last : ℕ
     last = window.last_reset
@@ -198,7 +161,7 @@ module _ (by_layer : ByLayer) (m : Module) (driven : undriven m ≡ None) (once 
             cond-false (bytes_eq port.name (codes "reset")) (if nat_le (last + 1 + clock) last then 1 else 0) _ known.1
             ∙ cond-false (is_stallable m && bytes_eq port.name (codes "clk_enable")) 1 _ known.2
             ∙ ap (λ c. shown (cycles_of m) stimulus (stimulus_ports m) 0 c port.name) since in
-            let found = shown-at (cycles_of m) stimulus (is_number_input (is_stallable m)) m.ports ports-apart 0 place clock port es in
+            let found = shown-at (cycles_of m) stimulus (is_number_input (is_stallable m)) m.ports (ports-apart m driven once) 0 place clock port es in
             let begin : 0 + place ≡ place = omega arith in
             let gives : timed port (stimulus (0 + place)) clock (cycles_of m) (period_of port) ≡ bits_of port.width (stimulus place t) =
             ap (λ o. timed port (stimulus o) clock (cycles_of m) (period_of port)) begin

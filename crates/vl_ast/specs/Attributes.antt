@@ -1,5 +1,5 @@
 -- The numbers that a module and its ports carry as attributes (IEEE 1364-2005, 3.8; the names are own).
-use Rattle.std.specs.Prelude.{ℕ, nat_le, ◌&&◌, if◌then◌else◌, List, find, bytes_eq, codes, Option, Some, None}
+use Rattle.std.specs.Prelude.{ℕ, nat_le, ◌&&◌, if◌then◌else◌, List, find, bytes_eq, codes, Option, Some, None, unwrap_or}
 use Rattle.vl_ast.specs.declared.modules.Attr.{Attr}
 use Rattle.vl_ast.specs.declared.modules.Port.{Port}
 use Rattle.vl_ast.specs.declared.modules.Module.{Module}
@@ -24,3 +24,15 @@ period_of port = attribute port.attrs (codes "fx_period") 1 4096
 -- how many clocks an output comes after its sample
 abbrev pub latency_of : Port → Option ℕ
 latency_of port = attribute port.attrs (codes "fx_latency") 0 16777216
+
+-- how many clocks a base sample takes, 1 where the module doesn't say
+abbrev pub clocks_of : Module → ℕ
+clocks_of m = unwrap_or (cycles_of m) 1
+
+-- the base samples from one number of a port to the next, 1 where it doesn't say
+abbrev pub step_of : Port → ℕ
+step_of port = unwrap_or (period_of port) 1
+
+-- how many clocks an output comes after its sample, 0 where it doesn't say
+abbrev pub lateness_of : Port → ℕ
+lateness_of port = unwrap_or (latency_of port) 0

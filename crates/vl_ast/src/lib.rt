@@ -1,6 +1,7 @@
 //! The Verilog subset: modules as data, and what they mean.
 //!
-//! The crate holds types, definitions, and laws as functions that do nothing.
+//! The crate holds types, definitions, what a module and its ports say as attributes, and laws as
+//! functions that do nothing.
 //! The definitions are in `specs/`, by subject: `Operators` (how they are written), `Spelling` (the one
 //! written text of a module), `Tokens` and `Grammar` (which bytes spell a module), `Spellable` (what some
 //! text spells), `Context` (length and sign of an expression), `Value` (its value), `Nets` (what is
@@ -11,11 +12,13 @@
 //! `Multiplications`.
 #![tactic(auto)]
 
+mod attributes;
 mod expressions;
 mod laws;
 mod modules;
 mod operators;
 
+pub use attributes::{clocks_of, cycles_of, latency_of, lateness_of, period_of, step_of};
 pub use expressions::{BinOp, Expr, Exprs, ShiftOp, Sized, UnOp};
 pub use laws::{
     agreement, can_be_driven, counted_rows_run, counted_rows_show, gated_modules, gated_rows_run,

@@ -1,55 +1,10 @@
-ghost use Rattle.std.specs.Prelude.{◌≡◌, bytes_eq, find, option_map};
-ghost use Rattle.vl_ast.specs.Attributes.{attribute, cycles_of, latency_of, period_of};
+ghost use Rattle.std.specs.Prelude.{◌≡◌, find, option_map};
 ghost use Rattle.vl_ast.specs.Conditions.{lacks_attribute, no_attribute};
 ghost use Rattle.vl_ast.specs.Control.{is_clock_or_reset, is_control_input, is_control_output};
 ghost use Rattle.vl_ast.specs.Control.{is_number_input, is_number_output, is_stallable};
 
 use crate::clocking::has_bit_input;
-use vl_ast::{Attr, Module, Port};
-
-fn find<'a>(attrs: &'a [Attr], name: &[u8]) -> Option<&'a Attr>
-    ensures { option_map (λ attr. attr.now) result
-        ≡ find (λ attr. bytes_eq attr.name name.now) attrs.now }
-{
-    attrs.iter().find(|attr| attr.name.bytes() == name)
-}
-
-/// The number of the first attribute of a name. `None` where there is none or it is out of the range.
-fn attribute(attrs: &[Attr], name: &[u8], low: u64, high: u64) -> Option<u64>
-    ensures { result ≡ attribute attrs.now name.now low high }
-{
-    let Some(attr) = find(attrs, name) else {
-        return None;
-    };
-    if attr.value < low {
-        return None;
-    }
-    if attr.value > high {
-        return None;
-    }
-    Some(attr.value)
-}
-
-/// How many clocks a base sample of the module takes (own).
-pub fn cycles_of(source: &Module) -> Option<u64>
-    ensures { result ≡ cycles_of source.now }
-{
-    attribute(source.attrs.as_slice(), b"fx_cycles", 1, 1024)
-}
-
-/// The period of a port in base samples (own).
-pub fn period_of(port: &Port) -> Option<u64>
-    ensures { result ≡ period_of port.now }
-{
-    attribute(port.attrs.as_slice(), b"fx_period", 1, 4096)
-}
-
-/// How many clocks an output comes after its sample (own).
-pub fn latency_of(port: &Port) -> Option<u64>
-    ensures { result ≡ latency_of port.now }
-{
-    attribute(port.attrs.as_slice(), b"fx_latency", 0, 16_777_216)
-}
+use vl_ast::{Module, Port, cycles_of, latency_of, period_of};
 
 fn is_clock_or_reset(port: &Port) -> bool
     ensures { result ≡ is_clock_or_reset port.now }

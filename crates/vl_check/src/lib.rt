@@ -26,9 +26,7 @@ mod shapes;
 mod sorting;
 mod widths;
 
-pub use attributes::{
-    cycles_of, is_number_input, is_number_output, is_stallable, latency_of, period_of,
-};
+pub use attributes::{is_number_input, is_number_output, is_stallable};
 pub use checking::{Checked, check};
 pub use fault::VlFault;
 pub use mentions::{Declared, Kind};

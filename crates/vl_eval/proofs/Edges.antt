@@ -18,9 +18,9 @@ use Rattle.vl_ast.specs.Runs.{takes_value}
 use Rattle.vl_ast.specs.Steps.{IsEdge, IsFirstRow}
 use Rattle.vl_ast.specs.Value.{assigned, assigned_number}
 use Rattle.vl_ast.proofs.Agree.{ByLayer}
-use Rattle.vl_eval.proofs.Drivers.{stored}
 use Rattle.vl_ast.proofs.Facts.{in-port, mention-listed, one-always}
-use Rattle.vl_eval.proofs.PortLists.{filtered-apart, ports-apart}
+use Rattle.vl_ast.proofs.Alone.{stored}
+use Rattle.vl_ast.proofs.PortLists.{filtered-apart, ports-apart}
 use Rattle.vl_check.specs.declared.scope.Scope.{Scope}
 use Rattle.vl_check.specs.Scope.{IsScopeOf, nets_in}
 use Rattle.vl_eval.specs.Given.{driven_ports, given}

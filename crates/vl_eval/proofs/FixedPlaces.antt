@@ -14,10 +14,10 @@ use Rattle.vl_ast.specs.Nets.{Kind, InputPort, OutputPort, Declared, Declares, D
 use Rattle.vl_ast.specs.Steps.{IsRow}
 use Rattle.vl_ast.specs.Value.{assigned}
 use Rattle.vl_ast.proofs.Agree.{ByLayer}
-use Rattle.vl_eval.proofs.Drivers.{stored, wired}
 use Rattle.vl_ast.proofs.Facts.{Declaration, OfPort, OfReg, OfWire, always-drives, assign-drives, declaration-by, driven-declared, in-port, listed-mention, mention-listed, not-both}
-use Rattle.vl_eval.proofs.PortLists.{filter-in, filtered-apart, ports-apart, slice-in}
 use Rattle.vl_ast.proofs.Settled.{may-not, net-is}
+use Rattle.vl_ast.proofs.Alone.{stored, wired}
+use Rattle.vl_ast.proofs.PortLists.{filter-in, filtered-apart, ports-apart, slice-in}
 use Rattle.vl_check.proofs.Scoped.{at-number}
 use Rattle.vl_check.specs.declared.scope.Scope.{Scope}
 use Rattle.vl_check.specs.Scope.{IsScopeOf, names_in, nets_in, number_in}

@@ -6,7 +6,7 @@ use Rattle.std.proofs.lemmas.Option.{slice_get_within, slice_get-get_or}
 use Rattle.std.proofs.lemmas.Slice.Eq.{bytes_eq-Decides}
 use Rattle.vl_ast.specs.declared.modules.Port.{Port}
 use Rattle.vl_ast.proofs.Places.{cons-cases, head-in, none-in, tail-in}
-use Rattle.vl_eval.proofs.PortLists.{ApartAt}
+use Rattle.vl_ast.proofs.PortLists.{ApartAt}
 use Rattle.vl_eval.specs.Given.{given}
 use Rattle.vl_eval.specs.Machine.{AreFit}
 

@@ -10,8 +10,6 @@ pub mod Builds
 pub mod SideBySide
 pub mod Results
 pub mod Rooms
-pub mod PortLists
-pub mod Drivers
 pub mod Assigns
 pub mod Sounds
 pub mod Wiring

@@ -14,7 +14,7 @@ use Rattle.vl_ast.specs.Nets.{Declared, declarations, port_declared}
 use Rattle.vl_ast.specs.Value.{number_of}
 use Rattle.vl_ast.proofs.Agree.{ByLayer}
 use Rattle.vl_ast.proofs.Facts.{in-port, mention-listed}
-use Rattle.vl_eval.proofs.PortLists.{filter-in, slice-in}
+use Rattle.vl_ast.proofs.PortLists.{filter-in, slice-in}
 use Rattle.vl_check.proofs.Scoped.{at-number}
 use Rattle.vl_check.specs.declared.scope.Scope.{Scope}
 use Rattle.vl_check.specs.Scope.{IsScopeOf, names_in, nets_in}

@@ -10,11 +10,11 @@ use Rattle.vl_ast.specs.Control.{is_number_input}
 use Rattle.vl_ast.specs.Windows.{PortNumbers}
 use Rattle.vl_ast.specs.Value.{bits_of}
 use Rattle.vl_ast.proofs.Places.{cons-cases, head-in, none-in, tail-in}
+use Rattle.vl_ast.specs.Attributes.{step_of}
 use Rattle.vl_eval.specs.Given.{given}
 use Rattle.vl_eval.specs.Machine.{AreFit}
 use Rattle.vl_replay.specs.declared.drivers.Driver.{Driver}
 use Rattle.vl_replay.specs.declared.drivers.Driver.TheVariants.{Reset, Enable, Column}
-use Rattle.vl_replay.specs.Columns.{step_of}
 use Rattle.vl_replay.specs.Sampled.{hit_at}
 use Rattle.vl_replay.specs.inner.Driving.{driver_bits, driver_of, drivers_from, is_own, own_driver, place_after, reset_bits}
 

@@ -8,12 +8,11 @@ use Rattle.vl_ast.specs.declared.modules.Module.{Module}
 use Rattle.vl_ast.specs.Driven.{output_ports, port_number}
 use Rattle.vl_ast.specs.Runs.{Row, Rows}
 use Rattle.vl_replay.specs.declared.samplers.Sampler.{Sampler}
-use Rattle.vl_replay.specs.Columns.{step_of}
 use Rattle.vl_replay.specs.Sampled.{hit_at}
-use Rattle.vl_replay.specs.inner.Driving.{clocks_of}
-use Rattle.vl_replay.specs.inner.Sampling.{ArePut, cell_after, lateness_of, number_at, number_or_zero, sampler_of}
+use Rattle.vl_replay.specs.inner.Sampling.{ArePut, cell_after, number_at, number_or_zero, sampler_of}
 use Rattle.vl_replay.specs.inner.Played.{HaveCells}
-use Rattle.vl_replay.proofs.Ranges.{clocks-some, step-some}
+use Rattle.vl_ast.proofs.Ranges.{clocks-some, step-some}
+use Rattle.vl_ast.specs.Attributes.{clocks_of, lateness_of, step_of}
 use Rattle.vl_replay.proofs.Times.{hit-below, hit-twice, same-told}
 
 pub mapped : {A B : Type 0} (f : A → B) (xs : List A) (k : ℕ) (x : A) → slice_get xs k ≡ Some x → slice_get (map f xs) k ≡ Some (f x)

@@ -4,12 +4,13 @@ use Rattle.vl_ast.specs.Control.{is_stallable}
 use Rattle.vl_ast.specs.declared.modules.Module.{Module}
 use Rattle.vl_ast.specs.Runs.{Row, Rows}
 use Rattle.vl_ast.specs.Steps.{AreSteps, IsEdge, IsFirstRow}
+use Rattle.vl_ast.specs.Attributes.{clocks_of}
 use Rattle.vl_eval.specs.Given.{driven_ports, given}
 use Rattle.vl_eval.specs.Machine.{IsReady, row_of, source_of}
 use Rattle.vl_eval.specs.declared.machine.Machine.{Machine}
 use Rattle.vl_replay.specs.declared.playing.Score.{Score}
 use Rattle.vl_replay.specs.Sampled.{numbers_of}
-use Rattle.vl_replay.specs.inner.Driving.{AreBits, clocks_of, driver_bits, drivers_from, inputs_of, reset_bits}
+use Rattle.vl_replay.specs.inner.Driving.{AreBits, driver_bits, drivers_from, inputs_of, reset_bits}
 use Rattle.vl_replay.specs.inner.Sampling.{ArePut, number_at}
 use Rattle.vl_replay.specs.inner.Played.{HaveCells, IsPlayed, IsScoreOf}
 use Rattle.vl_replay.proofs.Cells.{cells-more}

@@ -12,13 +12,13 @@ use Rattle.vl_ast.specs.Windows.{row_at}
 use Rattle.vl_ast.specs.Runs.{Rows, Runs}
 use Rattle.vl_ast.specs.Steps.{AreSteps}
 use Rattle.vl_replay.specs.declared.playing.Score.{Score}
-use Rattle.vl_replay.specs.Columns.{step_of}
 use Rattle.vl_replay.specs.Sampled.{Sampled, hit_at, numbers_of, window_of}
-use Rattle.vl_replay.specs.inner.Driving.{clocks_of, inputs_of}
-use Rattle.vl_replay.specs.inner.Sampling.{lateness_of, sampler_of}
+use Rattle.vl_replay.specs.inner.Driving.{inputs_of}
+use Rattle.vl_replay.specs.inner.Sampling.{sampler_of}
 use Rattle.vl_replay.specs.inner.Played.{HaveCells, IsScoreOf, IsSpan}
 use Rattle.vl_replay.proofs.Cells.{has-place, mapped}
-use Rattle.vl_replay.proofs.Ranges.{clocks-some}
+use Rattle.vl_ast.proofs.Ranges.{clocks-some}
+use Rattle.vl_ast.specs.Attributes.{clocks_of, lateness_of, step_of}
 use Rattle.vl_replay.proofs.Rows.{zeros}
 use Rattle.vl_replay.proofs.Scores.{samplers-many}
 use Rattle.vl_replay.proofs.Stimulated.{replayed}

@@ -4,7 +4,6 @@ pub mod Clocks
 pub mod Filled
 pub mod OneResponse
 pub mod Putting
-pub mod Ranges
 pub mod Rows
 pub mod Scores
 pub mod Stimulated

@@ -20,10 +20,10 @@ use Rattle.vl_ast.specs.Runs.{Rows, Runs}
 use Rattle.vl_ast.proofs.Unstalled.{place-clock}
 use Rattle.vl_ast.proofs.Places.{cons-cases, flat-in, head-in, map-in, none-in}
 use Rattle.vl_eval.proofs.Given.{filter-has}
-use Rattle.vl_eval.proofs.PortLists.{filter-in, slice-in}
 use Rattle.vl_replay.specs.Sampled.{AreReplayed, Sampled, hit_at, window_of}
 use Rattle.vl_replay.proofs.Cells.{port-at}
-use Rattle.vl_replay.proofs.Ranges.{clocks-some, step-some}
+use Rattle.vl_ast.proofs.Ranges.{clocks-some, step-some}
+use Rattle.vl_ast.proofs.PortLists.{filter-in, slice-in}
 use Rattle.vl_replay.proofs.Rows.{zeros}
 use Rattle.vl_replay.proofs.Stimulated.{all-count}
 use Rattle.vl_replay.proofs.Times.{hit-below, last-is-hit}

@@ -11,18 +11,18 @@ use Rattle.vl_ast.specs.Driven.{output_ports}
 use Rattle.vl_ast.proofs.Places.{head-in, tail-in}
 use Rattle.vl_eval.specs.Given.{driven_ports}
 use Rattle.vl_eval.specs.Machine.{AreFit}
-use Rattle.vl_eval.proofs.PortLists.{filter-in}
 use Rattle.vl_eval.proofs.Sounds.{port-narrow}
 use Rattle.vl_replay.specs.declared.drivers.Driver.{Driver}
 use Rattle.vl_replay.specs.declared.drivers.Driver.TheVariants.{Reset, Enable, Column}
 use Rattle.vl_replay.specs.declared.playing.Score.{Score}
 use Rattle.vl_replay.specs.declared.samplers.Sampler.{Sampler}
-use Rattle.vl_replay.specs.Columns.{step_of}
-use Rattle.vl_replay.specs.inner.Driving.{AreBits, AreWithin, IsWithin, clocks_of, driver_of, drivers_from, is_own, own_driver, place_after}
-use Rattle.vl_replay.specs.inner.Sampling.{lateness_of, sampler_of}
+use Rattle.vl_replay.specs.inner.Driving.{AreBits, AreWithin, IsWithin, driver_of, drivers_from, is_own, own_driver, place_after}
+use Rattle.vl_replay.specs.inner.Sampling.{sampler_of}
 use Rattle.vl_replay.specs.inner.Played.{AreNear, IsScoreOf}
 use Rattle.vl_replay.proofs.Bits.{bits-are, fit-from, is_driven, is_reset, not-stimulus, stimulus-of}
-use Rattle.vl_replay.proofs.Ranges.{late-few, step-some}
+use Rattle.vl_ast.proofs.Ranges.{late-few, step-some}
+use Rattle.vl_ast.specs.Attributes.{clocks_of, lateness_of, step_of}
+use Rattle.vl_ast.proofs.PortLists.{filter-in}
 
 abbrev Narrow : List Port → Type 0
 Narrow ports = (port : Port) → Contains ports port → is_width port.width ≡ true

@@ -4,26 +4,25 @@ use Rattle.std.proofs.lemmas.Bool.{cond-true, cond-false, and_parts, eq-eqb, not
 use Rattle.std.proofs.lemmas.List.{length-map}
 use Rattle.vl_ast.specs.declared.modules.Port.{Port}
 use Rattle.vl_ast.specs.declared.modules.Module.{Module}
-use Rattle.vl_ast.specs.Attributes.{cycles_of, period_of}
+use Rattle.vl_ast.specs.Attributes.{cycles_of, period_of, clocks_of, step_of}
 use Rattle.vl_ast.specs.Conditions.{BreaksNone}
 use Rattle.vl_ast.specs.Control.{is_stallable}
 use Rattle.vl_ast.specs.Driven.{stimulus_ports}
 use Rattle.vl_ast.specs.Windows.{PortNumbers}
 use Rattle.vl_ast.specs.Value.{bits_of}
 use Rattle.vl_ast.proofs.Alone.{reset-port}
+use Rattle.vl_ast.proofs.Stimulated.{last-hit}
 use Rattle.vl_ast.proofs.Thinned.{bit-port}
 use Rattle.vl_ast.proofs.Unstalled.{AllCount, shows-clocks}
+use Rattle.vl_ast.proofs.PortLists.{ApartAt, filter-in, filtered-apart, ports-apart, slice-in}
 use Rattle.vl_eval.specs.Given.{driven_ports, given}
 use Rattle.vl_eval.proofs.Given.{filter-has, given-at, given-none}
-use Rattle.vl_eval.proofs.PortLists.{ApartAt, filter-in, filtered-apart, ports-apart, slice-in}
 use Rattle.vl_replay.specs.declared.drivers.Driver.{Driver}
 use Rattle.vl_replay.specs.declared.drivers.Driver.TheVariants.{Column}
-use Rattle.vl_replay.specs.Columns.{step_of}
 use Rattle.vl_replay.specs.Sampled.{AreReplayed, hit_at, window_of}
-use Rattle.vl_replay.specs.inner.Driving.{clocks_of, driver_bits, drivers_from, inputs_of}
+use Rattle.vl_replay.specs.inner.Driving.{driver_bits, drivers_from, inputs_of}
 use Rattle.vl_replay.proofs.Bits.{drivers-long, enabled, is_driven, released, reset-one, reset-others, stimulus-driver}
 use Rattle.vl_replay.proofs.Cells.{has-place, mapped}
-use Rattle.vl_replay.proofs.Times.{hit-is}
 
 indexed : (xs : List ℕ) (k x : ℕ) → slice_get xs k ≡ Some x → slice_index xs k ≡ x
 indexed [] k x e = absurd (cc e)
@@ -128,6 +127,6 @@ module _ (m : Module) (sound : BreaksNone m) (numbers : PortNumbers) (samples : 
       driven-at : (place period cycles t clock width : ℕ) → t < samples → t % period ≡ 0 → t * cycles ≤ clock → clock < (t + period) * cycles
           → driver_bits numbers samples (clock / cycles) (Column place period width) ≡ bits_of width (numbers place t)
       driven-at place period cycles t clock width below hit from until =
-          let is = hit-is cycles period t clock hit from until in
+          let is = last-hit cycles period t clock hit from until in
           ap (λ h. if nat_lt h samples then bits_of width (numbers place h) else 0) is
           ∙ cond-true (nat_lt t samples) (bits_of width (numbers place t)) 0 (lt-ltb t samples below)

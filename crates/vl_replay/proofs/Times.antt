@@ -1,5 +1,5 @@
 -- Hits, and clocks of samples.
-use Rattle.std.proofs.Common.{◌≡◌, ◌<◌, ◌≤◌, ◌+◌, ◌-◌, ◌*◌, ◌/◌, ◌%◌, ℕ, zero, suc, sym, ap, ◌∙◌, arith}
+use Rattle.std.proofs.Common.{◌≡◌, ◌<◌, ◌≤◌, ◌+◌, ◌-◌, ◌*◌, ◌/◌, ◌%◌, ℕ, sym, ap, ◌∙◌, arith}
 use Rattle.std.proofs.lemmas.Nat.{mod-mul-add, div-add-mod'}
 use Rattle.std.proofs.Math.Nat.{div-lt_iff_lt-mul, le-div_iff_mul-le}
 use Rattle.vl_replay.specs.Sampled.{hit_at}
@@ -37,16 +37,3 @@ last-is-hit period t some =
 
 pub hit-twice : (period t : ℕ) → 0 < period → hit_at period (hit_at period t) ≡ hit_at period t
 hit-twice period t some = own-hit period (hit_at period t) (last-is-hit period t some)
-
--- within the samples of a hit that is the last
-pub hit-is : (cycles period t clock : ℕ) → t % period ≡ 0 → t * cycles ≤ clock → clock < (t + period) * cycles → hit_at period (clock / cycles) ≡ t
-hit-is zero period t clock at from below = absurd (omega arith)
-hit-is (suc f) period t clock at from below =
-    let low : t ≤ clock / suc f = (le-div_iff_mul-le {k = suc f} {x = t} {y = clock} (omega arith)).1 from in
-    let high : clock / suc f < t + period = (div-lt_iff_lt-mul {k = suc f} {x = clock} {y = t + period} (omega arith)).1 below in
-    let whole : t / period * period ≡ t = let e = div-add-mod' t period in omega (arith, e, at) in
-    let rest : clock / suc f ≡ t / period * period + (clock / suc f - t) = omega (arith, low, whole) in
-    let r = clock / suc f - t in
-    let less : r < period = omega (arith, low, high) in
-    let m : clock / suc f % period ≡ r = ap (λ n. n % period) rest ∙ mod-mul-add (t / period) period r less in
-    omega (arith, m, low)

@@ -4,8 +4,9 @@ use Rattle.std.proofs.lemmas.Bool.{eqb-true}
 use Rattle.std.proofs.lemmas.List.Elements.{All-cons, All-nil}
 use Rattle.fx_tables.specs.declared.table.Column.{Column}
 use Rattle.vl_ast.specs.declared.modules.Port.{Port}
-use Rattle.vl_replay.specs.Columns.{column_of, columns_of, step_of}
-use Rattle.vl_replay.proofs.Ranges.{step-some}
+use Rattle.vl_replay.specs.Columns.{column_of, columns_of}
+use Rattle.vl_ast.proofs.Ranges.{step-some}
+use Rattle.vl_ast.specs.Attributes.{step_of}
 
 -- of a port without sign and of another width than 128
 pub plain-column : (port : Port) → port.signed ≡ false → (port.width ≡ 128 → ⊥) → column_of port ≡ record { low = pos 0; high = pos (2 ^ port.width - 1); period = step_of port }

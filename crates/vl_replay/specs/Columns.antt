@@ -1,7 +1,7 @@
 -- The columns of a module's stimulus and response: a port's period and the range of its numbers (own).
-use Rattle.std.specs.Prelude.{ℕ, ℤ, pos, ◌-◌, ◌^◌, ◌==◌, neg_ℤ, Bool, ◌||◌, if◌then◌else◌, List, map, unwrap_or}
+use Rattle.std.specs.Prelude.{ℤ, pos, ◌-◌, ◌^◌, ◌==◌, neg_ℤ, Bool, ◌||◌, if◌then◌else◌, List, map}
 use Rattle.vl_ast.specs.declared.modules.Port.{Port}
-use Rattle.vl_ast.specs.Attributes.{period_of}
+use Rattle.vl_ast.specs.Attributes.{step_of}
 use Rattle.fx_tables.specs.declared.table.Column.{Column}
 
 -- a port is read by two's complement where it is signed, or 128 bits wide
@@ -15,10 +15,6 @@ lowest port = if has_sign port then neg_ℤ (pos (2 ^ (port.width - 1))) else po
 -- the greatest
 abbrev pub highest : Port → ℤ
 highest port = if has_sign port then pos (2 ^ (port.width - 1) - 1) else pos (2 ^ port.width - 1)
-
--- the base samples from one number of a port to the next, 1 where it doesn't say
-abbrev pub step_of : Port → ℕ
-step_of port = unwrap_or (period_of port) 1
 
 -- the column of a port
 abbrev pub column_of : Port → Column

@@ -12,8 +12,7 @@ use crate::samplers::{Sampler, put_numbers, samplers_of};
 use fx_io::OutOfMemory;
 use fx_tables::Rows;
 use std::alloc::Global;
-use vl_ast::Module;
-use vl_check::cycles_of;
+use vl_ast::{Module, clocks_of};
 use vl_eval::Machine;
 
 /// What stays the same while a module is driven.
@@ -35,10 +34,7 @@ pub fn score_of(alloc: Global, source: &Module, stimulus: Rows) -> Result<Score,
     ensures score { IfOk result (IsScoreOf source.now) }
     ensures stimulus { IfOk result (λ score. score.stimulus ≡ stimulus) }
 {
-    let cycles = match cycles_of(source) {
-        None => 1,
-        Some(cycles) => cycles,
-    };
+    let cycles = clocks_of(source);
     let drivers = drivers_of(alloc, source)?;
     let samplers = samplers_of(alloc, source, cycles)?;
     Ok(Score {

@@ -4,13 +4,13 @@ ghost use Rattle.vl_ast.specs.Conditions.{BreaksNone, is_width};
 ghost use Rattle.vl_ast.specs.Control.{is_number_input, is_number_output};
 ghost use Rattle.vl_ast.specs.Driven.{output_ports, stimulus_ports};
 ghost use Rattle.vl_eval.specs.Machine.{source_of};
-ghost use Rattle.vl_replay.specs.Columns.{column_of, columns_of, step_of};
+ghost use Rattle.vl_replay.specs.Columns.{column_of, columns_of};
 
 use fx_io::{OutOfMemory, Sequence};
 use fx_tables::{Column, Columns};
 use std::alloc::Global;
-use vl_ast::Port;
-use vl_check::{is_number_input, is_number_output, is_stallable, period_of};
+use vl_ast::{Port, step_of};
+use vl_check::{is_number_input, is_number_output, is_stallable};
 use vl_eval::Machine;
 
 /// The columns of a stimulus and of its response (own).
@@ -24,17 +24,6 @@ pub struct PortColumns {
 
 /// No table has so many columns.
 const MOST_COLUMNS: usize = 4_294_967_296;
-
-/// The base samples from one number of a port to the next.
-pub fn step_of(port: &Port) -> u32
-    ensures step { result ≡ step_of port.now }
-    ensures some { 0 < result }
-{
-    match period_of(port) {
-        None => 1,
-        Some(period) => period as u32,
-    }
-}
 
 /// The number whose lowest `width` bits are set.
 pub fn mask_of(width: u32) -> u128

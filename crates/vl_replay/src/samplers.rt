@@ -5,11 +5,10 @@ ghost use Rattle.vl_replay.specs.Sampled.{hit_at};
 ghost use Rattle.vl_replay.specs.declared.samplers.Sampler.{Sampler};
 ghost use Rattle.vl_replay.specs.inner.Sampling.{ArePut, number_at, sampler_of};
 
-use crate::port_columns::step_of;
 use fx_io::OutOfMemory;
 use std::alloc::Global;
-use vl_ast::Module;
-use vl_check::{is_number_output, is_stallable, latency_of};
+use vl_ast::{Module, lateness_of, step_of};
+use vl_check::{is_number_output, is_stallable};
 use vl_eval::Machine;
 
 /// When an output is sampled: at a clock of `phase` in its sample, so many samples late.
@@ -43,10 +42,7 @@ pub fn samplers_of(alloc: Global, source: &Module, cycles: u64) -> Result<Vec<Sa
     let stalls = is_stallable(source);
     for port in source.ports.as_slice() {
         if is_number_output(port, stalls) {
-            let latency = match latency_of(port) {
-                None => 0,
-                Some(latency) => latency,
-            };
+            let latency = lateness_of(port);
             samplers.push(Sampler {
                 period: step_of(port),
                 delay: latency / cycles,

@@ -1,8 +1,8 @@
 -- How the input ports of a module but `clk` are driven, in order, and the bits that they show.
-use Rattle.std.specs.Prelude.{◌≡◌, ℕ, zero, suc, ◌+◌, ◌/◌, ◌<◌, nat_lt, Bool, true, ◌&&◌, ◌||◌, ⊤, if◌then◌else◌, List, [], ◌∷◌, length, map, slice_get, slice_index, Some, unwrap_or, bytes_eq, codes}
+use Rattle.std.specs.Prelude.{◌≡◌, ℕ, zero, suc, ◌+◌, ◌/◌, ◌<◌, nat_lt, Bool, true, ◌&&◌, ◌||◌, ⊤, if◌then◌else◌, List, [], ◌∷◌, length, map, slice_get, slice_index, Some, bytes_eq, codes}
 use Rattle.vl_ast.specs.declared.modules.Port.{Port}
 use Rattle.vl_ast.specs.declared.modules.Module.{Module}
-use Rattle.vl_ast.specs.Attributes.{cycles_of}
+use Rattle.vl_ast.specs.Attributes.{clocks_of, step_of}
 use Rattle.vl_ast.specs.Conditions.{is_width}
 use Rattle.vl_ast.specs.Control.{is_stallable}
 use Rattle.vl_ast.specs.Windows.{PortNumbers, Sample}
@@ -11,7 +11,6 @@ use Rattle.vl_ast.specs.Value.{bits_of}
 use Rattle.vl_eval.specs.Given.{driven_ports, given}
 use Rattle.vl_replay.specs.declared.drivers.Driver.{Driver}
 use Rattle.vl_replay.specs.declared.drivers.Driver.TheVariants.{Reset, Enable, Column}
-use Rattle.vl_replay.specs.Columns.{step_of}
 use Rattle.vl_replay.specs.Sampled.{hit_at}
 
 -- the port is `reset`, or `clk_enable` of a module that stalls
@@ -62,10 +61,6 @@ IsWithin columns (Column place period width) = (place < columns) × (0 < period)
 -- so is each
 pub record AreWithin (columns : ℕ) (drivers : List Driver) : Type 0 where
   pub at : (k : ℕ) (driver : Driver) → slice_get drivers k ≡ Some driver → IsWithin columns driver
-
--- the clocks of a sample, 1 where the module doesn't say
-abbrev pub clocks_of : Module → ℕ
-clocks_of m = unwrap_or (cycles_of m) 1
 
 -- the bits of the input ports in each row
 abbrev pub inputs_of : Module → PortNumbers → ℕ → Rows

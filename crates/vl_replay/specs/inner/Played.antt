@@ -7,15 +7,15 @@ use Rattle.vl_ast.specs.Driven.{output_ports, port_number, stimulus_ports}
 use Rattle.vl_ast.specs.Windows.{Each, Sample}
 use Rattle.vl_ast.specs.Runs.{Rows}
 use Rattle.vl_ast.specs.Steps.{AreSteps}
+use Rattle.vl_ast.specs.Attributes.{clocks_of, lateness_of, step_of}
 use Rattle.vl_eval.specs.Given.{driven_ports}
 use Rattle.vl_eval.specs.Machine.{IsReady, row_of, source_of}
 use Rattle.vl_eval.specs.declared.machine.Machine.{Machine}
 use Rattle.vl_replay.specs.declared.playing.Score.{Score}
 use Rattle.vl_replay.specs.declared.samplers.Sampler.{Sampler}
-use Rattle.vl_replay.specs.Columns.{step_of}
 use Rattle.vl_replay.specs.Sampled.{hit_at, numbers_of}
-use Rattle.vl_replay.specs.inner.Driving.{clocks_of, drivers_from, inputs_of}
-use Rattle.vl_replay.specs.inner.Sampling.{lateness_of, sampler_of}
+use Rattle.vl_replay.specs.inner.Driving.{drivers_from, inputs_of}
+use Rattle.vl_replay.specs.inner.Sampling.{sampler_of}
 
 -- a score of a module that breaks no condition
 pub record IsScoreOf (m : Module) (score : Score) : Type 0 where

@@ -1,18 +1,13 @@
 -- When the outputs are sampled, and the cells of a table in which their numbers stand.
-use Rattle.std.specs.Prelude.{◌≡◌, ℕ, ◌+◌, ◌*◌, ◌/◌, ◌%◌, ◌<◌, ◌≤◌, ◌==◌, ◌&&◌, if◌then◌else◌, List, length, slice_get, slice_index_or, Option, None, Some, unwrap_or, ℤ, pos}
+use Rattle.std.specs.Prelude.{◌≡◌, ℕ, ◌+◌, ◌*◌, ◌/◌, ◌%◌, ◌<◌, ◌≤◌, ◌==◌, ◌&&◌, if◌then◌else◌, List, length, slice_get, slice_index_or, Option, None, Some, ℤ, pos}
 use Rattle.vl_ast.specs.declared.modules.Port.{Port}
 use Rattle.vl_ast.specs.declared.modules.Module.{Module}
-use Rattle.vl_ast.specs.Attributes.{latency_of}
+use Rattle.vl_ast.specs.Attributes.{lateness_of, step_of}
 use Rattle.vl_ast.specs.Driven.{output_ports, port_number}
 use Rattle.vl_ast.specs.Windows.{Sample}
 use Rattle.vl_ast.specs.Runs.{Row}
 use Rattle.vl_replay.specs.declared.samplers.Sampler.{Sampler}
-use Rattle.vl_replay.specs.Columns.{step_of}
 use Rattle.vl_replay.specs.Sampled.{hit_at}
-
--- how many clocks an output comes after its sample, 0 where it doesn't say
-abbrev pub lateness_of : Port → ℕ
-lateness_of port = unwrap_or (latency_of port) 0
 
 -- when an output is sampled, with so many clocks per sample
 abbrev pub sampler_of : ℕ → Port → Sampler

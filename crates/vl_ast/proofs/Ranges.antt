@@ -1,13 +1,10 @@
--- The ranges of what ports and modules say, or of what holds where they don't.
+-- The ranges of what ports and modules say, or of what holds where they don't. Crates above may cite this file.
 use Rattle.std.proofs.Common.{◌≡◌, ◌≤◌, ℕ, Bool, true, false, ◌&&◌, if◌then◌else◌, nat_le, Option, None, Some, unwrap_or, refl, arith, find, codes, bytes_eq}
 use Rattle.std.proofs.lemmas.Bool.{and_parts, leb-true}
 use Rattle.vl_ast.specs.declared.modules.Attr.{Attr}
 use Rattle.vl_ast.specs.declared.modules.Port.{Port}
 use Rattle.vl_ast.specs.declared.modules.Module.{Module}
-use Rattle.vl_ast.specs.Attributes.{value_between}
-use Rattle.vl_replay.specs.Columns.{step_of}
-use Rattle.vl_replay.specs.inner.Driving.{clocks_of}
-use Rattle.vl_replay.specs.inner.Sampling.{lateness_of}
+use Rattle.vl_ast.specs.Attributes.{value_between, clocks_of, step_of, lateness_of}
 
 between : (low high other : ℕ) → low ≤ other → other ≤ high → (o : Option Attr) → (low ≤ unwrap_or (value_between low high o) other) × (unwrap_or (value_between low high o) other ≤ high)
 between low high other above below None = (above, below)
