@@ -175,14 +175,15 @@ sound_input now inputs k type is below = record {
   counted = λ frame names. absurd (none-some frame names);
 }
 
-module _ (diagram : Diagram) (order : List ℕ) (earlier later : Circuit) (firsts : List (List ℕ)) (has : HasHubs diagram earlier later firsts) (listed : InputsAreListed) (valid : TypesAreValid) (ordered : IsOrdered diagram order) where
-  abbrev all_roots : List RootElement
-  all_roots = root_inputs diagram (attributes_of diagram)
+-- the hub of an element of a root input is one of the inputs, which tells the element
+pub record IsRootHub (diagram : Diagram) (firsts : List (List ℕ)) (block port element : ℕ) : Type 0 where
+  pub number : ℕ
+  pub at : slice_get (root_inputs diagram (attributes_of diagram)) (hub_at firsts block port element) ≡ Some (root_element (attributes_of diagram) number block element)
+  pub first : port ≡ 1
 
-  -- the net of an element of a root input is the input's
-  pub place_input : (block : ℕ) (b : Block) (port element : ℕ) → IsShown diagram (attributes_of diagram) block b port element → is_input_role (row_of b.kind).place.role ≡ true
-      → (k : ℕ) × (e : RootElement) × (slice_get all_roots k ≡ Some e) × (hub_at firsts block port element ≡ k) × (e.type ≡ (attributes_of diagram).type_at block 1)
-  place_input block b port element shown input =
+module _ (diagram : Diagram) (order : List ℕ) (earlier later : Circuit) (firsts : List (List ℕ)) (has : HasHubs diagram earlier later firsts) (listed : InputsAreListed) (ordered : IsOrdered diagram order) where
+  pub root_hub : (block : ℕ) (b : Block) (port element : ℕ) → IsShown diagram (attributes_of diagram) block b port element → is_input_role (row_of b.kind).place.role ≡ true → IsRootHub diagram firsts block port element
+  root_hub block b port element shown input =
       let one = one_port b.kind b.inputs b.outputs (readable_at diagram ordered.checked.wired block b shown.block_is).ports input in
       let from = shown.port_from in
       let to = shown.port_to in
@@ -194,7 +195,19 @@ module _ (diagram : Diagram) (order : List ℕ) (earlier later : Circuit) (first
       let below = shown.element_below in
       let found = (listed diagram (attributes_of diagram) ordered.checked.wired).has_each block b number.0 element shown.block_is number.1 (omega (arith, below, wide)) in
       let e : RootElement = root_element (attributes_of diagram) number.0 block element in
-      (found.0, e, found.1, ap (λ (p : ℕ). hub_at firsts block p element) first ∙ has.of_inputs found.0 e found.1, refl)
+      let here : hub_at firsts block port element ≡ found.0 = ap (λ (p : ℕ). hub_at firsts block p element) first ∙ has.of_inputs found.0 e found.1 in
+      record { number = number.0; at = ap (slice_get (root_inputs diagram (attributes_of diagram))) here ∙ found.1; first = first }
+
+module _ (diagram : Diagram) (order : List ℕ) (earlier later : Circuit) (firsts : List (List ℕ)) (has : HasHubs diagram earlier later firsts) (listed : InputsAreListed) (valid : TypesAreValid) (ordered : IsOrdered diagram order) where
+  abbrev all_roots : List RootElement
+  all_roots = root_inputs diagram (attributes_of diagram)
+
+  -- the net of an element of a root input is the input's
+  pub place_input : (block : ℕ) (b : Block) (port element : ℕ) → IsShown diagram (attributes_of diagram) block b port element → is_input_role (row_of b.kind).place.role ≡ true
+      → (k : ℕ) × (e : RootElement) × (slice_get all_roots k ≡ Some e) × (hub_at firsts block port element ≡ k) × (e.type ≡ (attributes_of diagram).type_at block 1)
+  place_input block b port element shown input =
+      let hub = root_hub diagram order earlier later firsts has listed ordered block b port element shown input in
+      (hub_at firsts block port element, root_element (attributes_of diagram) hub.number block element, hub.at, refl, refl)
 
   pub facts_of : (place_of : ℕ → ℕ) (block : ℕ) (b : Block) (port element : ℕ) → IsShown diagram (attributes_of diagram) block b port element
       → (hub_at firsts block port element < hubs_in_all diagram)

@@ -1,5 +1,5 @@
 -- Elements that blocks show have hubs of their own.
-use Rattle.std.proofs.Common.{◌≡◌, ℕ, suc, ◌-◌, inl, inr, List, length, true, false, Some, ap, sym, ◌∙◌, subst, arith}
+use Rattle.std.proofs.Common.{◌≡◌, ℕ, suc, ◌-◌, inl, inr, List, length, false, ap, sym, ◌∙◌, subst, arith}
 use Rattle.std.specs.Prelude.{slice_get}
 use Rattle.std.proofs.lemmas.Option.{same_Some, slice_get_within}
 use Rattle.dg_model.specs.declared.diagram.Diagram.{Diagram}
@@ -11,36 +11,13 @@ use Rattle.dg_model.specs.RootElements.{RootElement, root_element, root_inputs}
 use Rattle.dg_model.specs.Solves.{shown_ports, shown_width, IsShown}
 use Rattle.dg_tables.specs.Laws.{IsOrdered}
 use Rattle.hw_net.specs.Circuit.{Circuit}
-use Rattle.hw_sched.proofs.Periods.{readable_at}
 use Rattle.hw_build.specs.inner.HubPlaces.{before, is_input_role, port_size, own_hubs, owner_in, owner_of, hub_start, hub_at, HasHubs}
-use Rattle.hw_build.proofs.Beginning.{owner_is, input_number, input_width, place_other}
-use Rattle.hw_build.proofs.Started.{both, one_port}
+use Rattle.hw_build.proofs.Beginning.{owner_is, place_other, root_hub}
+use Rattle.hw_build.proofs.Started.{both}
 
 module _ (diagram : Diagram) (order : List ℕ) (earlier later : Circuit) (firsts : List (List ℕ)) (has : HasHubs diagram earlier later firsts) (listed : InputsAreListed) (ordered : IsOrdered diagram order) where
   abbrev roots : List RootElement
   roots = root_inputs diagram (attributes_of diagram)
-
-  -- the hub of an element of a root input is one of the inputs, which tells the element
-  pub record IsRootHub (block port element : ℕ) : Type 0 where
-    pub number : ℕ
-    pub at : slice_get roots (hub_at firsts block port element) ≡ Some (root_element (attributes_of diagram) number block element)
-    pub first : port ≡ 1
-
-  root_hub : (block : ℕ) (b : Block) (port element : ℕ) → IsShown diagram (attributes_of diagram) block b port element → is_input_role (row_of b.kind).place.role ≡ true → IsRootHub block port element
-  root_hub block b port element shown input =
-      let one = one_port b.kind b.inputs b.outputs (readable_at diagram ordered.checked.wired block b shown.block_is).ports input in
-      let from = shown.port_from in
-      let to = shown.port_to in
-      let first : port ≡ 1 = omega (arith, one, from, to) in
-      let number = input_number (row_of b.kind).place.role input in
-      let wide : shown_width diagram (attributes_of diagram) b.kind block port ≡ (attributes_of diagram).width_at block 1 =
-      input_width diagram (attributes_of diagram) (row_of b.kind).place.role block port input ∙ ap (λ (p : ℕ). (attributes_of diagram).width_at block p) first
-      in
-      let below = shown.element_below in
-      let found = (listed diagram (attributes_of diagram) ordered.checked.wired).has_each block b number.0 element shown.block_is number.1 (omega (arith, below, wide)) in
-      let e : RootElement = root_element (attributes_of diagram) number.0 block element in
-      let here : hub_at firsts block port element ≡ found.0 = ap (λ (p : ℕ). hub_at firsts block p element) first ∙ has.of_inputs found.0 e found.1 in
-      record { number = number.0; at = ap (slice_get roots) here ∙ found.1; first = first }
 
   -- that of another element tells its block
   owner_other : (block : ℕ) (b : Block) (port element : ℕ) → IsShown diagram (attributes_of diagram) block b port element → is_input_role (row_of b.kind).place.role ≡ false → owner_of diagram (hub_at firsts block port element) ≡ block
@@ -86,10 +63,10 @@ module _ (diagram : Diagram) (order : List ℕ) (earlier later : Circuit) (first
       → hub_at firsts block port element ≡ hub_at firsts other_block other_port other_element → IsSameElement block port element other_block other_port other_element
   hubs_differ block b port element other_block o other_port other_element one two equal = elim (both (is_input_role (row_of b.kind).place.role)) [
     | inl input ↦
-        let root = root_hub block b port element one input in
+        let root = root_hub diagram order earlier later firsts has listed ordered block b port element one input in
         elim (both (is_input_role (row_of o.kind).place.role)) [
           | inl other_input ↦
-              let other_root = root_hub other_block o other_port other_element two other_input in
+              let other_root = root_hub diagram order earlier later firsts has listed ordered other_block o other_port other_element two other_input in
               let same : ◌≡◌ {A = RootElement} (root_element (attributes_of diagram) root.number block element) (root_element (attributes_of diagram) other_root.number other_block other_element) =
               same_Some (root_element (attributes_of diagram) root.number block element) (root_element (attributes_of diagram) other_root.number other_block other_element) (sym root.at ∙ ap (slice_get roots) equal ∙ other_root.at)
               in
@@ -101,7 +78,7 @@ module _ (diagram : Diagram) (order : List ℕ) (earlier later : Circuit) (first
         ]
     | inr plain ↦ elim (both (is_input_role (row_of o.kind).place.role)) [
       | inl other_input ↦
-          let root = root_hub other_block o other_port other_element two other_input in
+          let root = root_hub diagram order earlier later firsts has listed ordered other_block o other_port other_element two other_input in
           let low = slice_get_within roots (hub_at firsts other_block other_port other_element) (root_element (attributes_of diagram) root.number other_block other_element) root.at in
           let high = (place_other diagram earlier later firsts has block b port element one plain).0 in
           absurd (omega (arith, low, high, equal))
