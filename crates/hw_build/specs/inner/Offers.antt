@@ -2,6 +2,8 @@
 use Rattle.std.specs.Prelude.{◌≡◌, ◌<◌, ◌+◌, ◌∷◌, [], ℕ, Bool, true, false, List, length, map, sum, slice_index_or}
 use Rattle.dg_waves.specs.Rounds.{numbers_from}
 use Rattle.dg_model.specs.Attributes.{attributes_of}
+use Rattle.dg_model.specs.LatencyEdges.{asks_ever}
+use Rattle.dg_model.specs.Library.{row_of}
 use Rattle.dg_model.specs.Solves.{shown_ports, shown_width}
 use Rattle.dg_model.specs.Wires.{types_into, width_into}
 use Rattle.hw_build.specs.declared.block_inputs.BlockInputs.{BlockInputs}
@@ -57,22 +59,4 @@ reads_each Terminator = false
 
 -- whether it reads the element of its one input, and what enables it
 abbrev pub reads_enable : Kind → Bool
-reads_enable (Inport number width) = false
-reads_enable (Outport number) = false
-reads_enable (Constant value) = false
-reads_enable Ground = false
-reads_enable (Sum negative) = false
-reads_enable (Gain value param) = false
-reads_enable Product = false
-reads_enable (Switch criterion threshold) = false
-reads_enable (Relational operator) = false
-reads_enable (Logic operator) = false
-reads_enable (Convert stored) = false
-reads_enable (Delay delay initial reset) = true
-reads_enable (Mux sizes) = false
-reads_enable (Demux sizes) = false
-reads_enable (RateTransition period initial) = false
-reads_enable (Pass width) = false
-reads_enable EnableTest = false
-reads_enable (EnOut reset initial) = true
-reads_enable Terminator = false
+reads_enable kind = asks_ever (row_of kind).timing.asks
