@@ -9,7 +9,7 @@ ghost use Rattle.dg_model.specs.Wires.{type_into as type_into_of};
 ghost use Rattle.hw_sched.specs.Slots.{right_of};
 
 use crate::operands::line_into;
-use dg_model::{Block, Checked, Kind};
+use dg_model::{Block, Checked, FullRule};
 use fx_type::{FxType, full_product};
 
 /// The type of what a block reads at an input port, from 1.
@@ -32,26 +32,13 @@ fn second_type(checked: &Checked, block: u32, one: &Block) -> FxType
         (Some one.now) }
 {
     checked.keeps_rules();
-    match &one.kind {
-        Kind::Gain { .. } => checked.param(block),
-        Kind::Product => type_into(checked, block, 2, one),
-        Kind::Inport { .. }
-        | Kind::Outport { .. }
-        | Kind::Constant { .. }
-        | Kind::Ground
-        | Kind::Sum { .. }
-        | Kind::Switch { .. }
-        | Kind::Relational { .. }
-        | Kind::Logic { .. }
-        | Kind::Convert { .. }
-        | Kind::Delay { .. }
-        | Kind::Mux { .. }
-        | Kind::Demux { .. }
-        | Kind::RateTransition { .. }
-        | Kind::Pass { .. }
-        | Kind::EnableTest
-        | Kind::EnOut { .. }
-        | Kind::Terminator => FxType::Logical,
+    match one.kind.full() {
+        FullRule::FullScaled { .. } => checked.param(block),
+        FullRule::FullProduct => type_into(checked, block, 2, one),
+        FullRule::NoFull
+        | FullRule::FullSum { .. }
+        | FullRule::UnionOfTwo
+        | FullRule::UnionOfEnds => FxType::Logical,
     }
 }
 
