@@ -8,9 +8,11 @@
 #![tactic(auto)]
 
 mod escapes;
+mod lines;
 mod row;
 mod texts;
 
 pub use escapes::{put_escaped, unescaped};
+pub use lines::{Answers, answer_lines};
 pub use row::Row;
 pub use texts::Texts;
