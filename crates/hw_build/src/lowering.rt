@@ -5,12 +5,13 @@ ghost use Rattle.dg_model.specs.Attributes.{attributes_of};
 ghost use Rattle.dg_model.specs.Equation.{IsOpOf, StoresEntry, signs_of};
 ghost use Rattle.dg_model.specs.Library.{row_of};
 ghost use Rattle.dg_model.specs.Solves.{IsShown};
-ghost use Rattle.dg_model.specs.Wires.{repeated, type_into, types_into};
+ghost use Rattle.dg_model.specs.Wires.{type_into, types_into};
 ghost use Rattle.hw_lower.specs.Lowered.{AreArgs, IsLowered, Lowers, multiply_of};
 ghost use Rattle.hw_net.specs.Netlist.{HasWord};
 ghost use Rattle.hw_build.specs.inner.Entries.{number_behind};
 ghost use Rattle.hw_build.specs.inner.Lowering.{conversion_of, operation_at};
 
+use crate::firsts::place_in;
 use dg_model::{Block, Checked, Op, OpCall};
 use dg_tables::{Place, operations_prepare};
 use fx_io::OutOfMemory;
@@ -18,13 +19,6 @@ use fx_type::{Decimal, FxType};
 use hw_lower::lower;
 use hw_net::Netlist;
 use std::alloc::Global;
-
-/// Where an element stands in a signal or list of this width.
-fn place_in(width: usize, element: u32) -> usize
-    ensures { result ≡ repeated width element }
-{
-    if width == 1 { 0 } else { element as usize }
-}
 
 /// The entry of a list of a block for an element, stored in a type.
 pub fn stored(checked: &Checked, place: Place, one: &Block, list: &[Decimal], kind: FxType) -> i128
