@@ -1,12 +1,14 @@
 -- The multiplier of a shared operation has in its slot what the table says of its operands.
-use Rattle.std.proofs.Common.{◌≡◌, ℕ, ◌+◌, ◌*◌, ◌/◌, ◌%◌, ◌<◌, ◌≤◌, ◌⊎◌, inl, inr, eqb, Bool, true, false, ℤ, List, length, Option, Some, None, ap, sym, ◌∙◌, subst, refl, arith}
-use Rattle.std.specs.Prelude.{slice_get, get_or, ◌==◌}
+use Rattle.std.proofs.Common.{◌≡◌, ℕ, ◌+◌, ◌*◌, ◌/◌, ◌%◌, ◌<◌, ◌≤◌, ◌⊎◌, inl, inr, eqb, Bool, true, false, ℤ, List, [], ◌∷◌, length, Option, Some, None, ap, sym, ◌∙◌, subst, refl, arith}
+use Rattle.std.specs.Prelude.{slice_get, slice_index_or, get_or, ◌==◌}
 use Rattle.std.specs.List.{position, position_or_len}
 use Rattle.std.proofs.lemmas.Bool.{false≢true, and_from, and_parts, cases_Bool, cases_lt, eqb-true, eq-eqb}
 use Rattle.std.proofs.lemmas.Option.{none-some, slice_get_within, get_or_from_slice_get}
 use Rattle.std.proofs.lemmas.Grind.{common_steps}
 use Rattle.std.proofs.lemmas.List.Sums.{fails_before_first}
 use Rattle.std.proofs.lemmas.Nat.{div-add-mod'}
+use Rattle.fx_type.specs.declared.decimal.Decimal.{Decimal}
+use Rattle.fx_type.specs.declared.spec.TypeSpec.{TypeSpec}
 use Rattle.dg_model.specs.declared.diagram.Diagram.{Diagram}
 use Rattle.dg_model.specs.declared.diagram.Block.{Block}
 use Rattle.dg_model.specs.declared.kind.Kind.{Kind}
@@ -74,6 +76,18 @@ is_product FullRule.UnionOfEnds = false
 pub product_inputs : (kind : Kind) (inputs outputs : ℕ) → HasPorts kind inputs outputs → is_product (row_of kind).types.full ≡ true → 2 ≤ inputs
 product_inputs Product inputs outputs has e = let two = has.0 in omega (arith, two)
 product_inputs _ inputs outputs has e = absurd (false≢true e)
+
+-- one with a list is scaled by it
+pub scaled_by : (kind : Kind) (list : List Decimal) → (row_of kind).hardware.multiplies ≡ true → (row_of kind).signal.lists ≡ list ∷ [] → (param : TypeSpec) × ((row_of kind).types.full ≡ FullRule.FullScaled list param)
+scaled_by (Gain value param) list e has = (param, ap (λ (own : List Decimal). FullRule.FullScaled own param) (ap (λ (lists : List (List Decimal)). slice_index_or lists 0 []) has))
+scaled_by Product list e has = let none = ap (λ (lists : List (List Decimal)). length lists) has in absurd (omega (arith, none))
+scaled_by _ list e has = absurd (false≢true e)
+
+-- and one without has the product of its inputs
+pub product_by : (kind : Kind) → (row_of kind).hardware.multiplies ≡ true → (row_of kind).signal.lists ≡ [] → (row_of kind).types.full ≡ FullRule.FullProduct
+product_by (Gain value param) e none = let some = ap (λ (lists : List (List Decimal)). length lists) none in absurd (omega (arith, some))
+product_by Product e none = refl
+product_by _ e none = absurd (false≢true e)
 
 -- ---- elements
 

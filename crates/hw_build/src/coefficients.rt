@@ -9,19 +9,13 @@ ghost use Rattle.hw_net.specs.Growing.{with_net};
 ghost use Rattle.hw_build.specs.inner.Factors.{AddsConstants, IsCoefficient, IsSecond, constant_net};
 ghost use Rattle.hw_build.specs.inner.Operands.{offered_at};
 
+use crate::firsts::place_in;
 use crate::operands::Operands;
-use dg_model::{Block, Checked, Kind};
+use dg_model::{Block, Checked};
 use fx_io::{OutOfMemory, Sizes};
 use fx_type::{Decimal, FxType};
 use hw_net::{Net, NetKind, NetOp, Netlist};
 use std::alloc::Global;
-
-/// Where an element stands in a list of this length.
-fn place_in(length: usize, element: u32) -> usize
-    ensures { result ≡ repeated length element }
-{
-    if length == 1 { 0 } else { element as usize }
-}
 
 /// The entry of a list parameter for an element, stored in a type.
 pub fn stored(list: &[Decimal], element: u32, kind: FxType) -> i128
@@ -92,28 +86,12 @@ pub fn second_of(
 {
     checked.keeps_rules();
     dg_tables::operations_prepare();
-    match &one.kind {
-        Kind::Gain { value, .. } => {
+    match one.kind.list() {
+        Some(coefficients) => {
             let kind = checked.param(block);
-            put_coefficient(alloc, net, value.as_slice(), element, kind)
+            let number = put_coefficient(alloc, net, coefficients, element, kind)?;
+            Ok(number)
         }
-        Kind::Product
-        | Kind::Inport { .. }
-        | Kind::Outport { .. }
-        | Kind::Constant { .. }
-        | Kind::Ground
-        | Kind::Sum { .. }
-        | Kind::Switch { .. }
-        | Kind::Relational { .. }
-        | Kind::Logic { .. }
-        | Kind::Convert { .. }
-        | Kind::Delay { .. }
-        | Kind::Mux { .. }
-        | Kind::Demux { .. }
-        | Kind::RateTransition { .. }
-        | Kind::Pass { .. }
-        | Kind::EnableTest
-        | Kind::EnOut { .. }
-        | Kind::Terminator => Ok(operands.at(checked, block, 2, element)),
+        None => Ok(operands.at(checked, block, 2, element)),
     }
 }
