@@ -9,9 +9,14 @@ use Rattle.vl_ast.specs.declared.expressions.Expr.{Expr}
 use Rattle.vl_ast.specs.declared.expressions.Expr.TheVariants.{Unary, Binary}
 use Rattle.vl_ast.specs.Context.{Net, Place, InWhole, Together, Alone, own_length, is_signed, length_at, unary_place, binary_place}
 use Rattle.vl_ast.specs.Conditions.{is_number, is_sound, is_width}
+use Rattle.vl_check.specs.declared.shapes.Shape.{Shape}
 use Rattle.vl_check.specs.Shape.{shape_of}
 use Rattle.vl_eval.specs.inner.Contexts.{context_at, context_of, left_context, unary_context}
 use Rattle.vl_eval.proofs.Operands.{few-of, length-binary, length-unary, sound-binary, sound-unary}
+
+-- a shape that is a context has room for what the context has room for
+pub room-in : (own : ℕ) (shape context : Shape) → shape ≡ context → (own ≤ context.length) × (context.length ≤ 128) → (own ≤ shape.length) × (shape.length ≤ 128)
+room-in own shape context is room = (subst (λ (s : Shape). own ≤ s.length) (sym is) room.0, subst (λ (s : Shape). s.length ≤ 128) (sym is) room.1)
 
 pub number-few : (n : Sized) → is_number n ≡ true → (1 ≤ n.width) × (n.width ≤ 128) × (n.bits < 2 ^ n.width)
 number-few n h =

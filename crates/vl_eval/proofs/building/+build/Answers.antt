@@ -1,9 +1,8 @@
-use Rattle.std.proofs.Common.{◌≡◌, ◌≤◌, ◌+◌, [], ◌++◌, ℕ, List, take, refl, sym, ap, subst, ◌∙◌, arith}
+use Rattle.std.proofs.Common.{◌≡◌, ◌+◌, [], ◌++◌, ℕ, List, take, refl, sym, ap, subst, ◌∙◌, arith}
 use Rattle.vl_ast.specs.declared.expressions.Expr.{Expr}
 use Rattle.vl_ast.specs.declared.expressions.Expr.TheVariants.{Concat, Repeat}
 use Rattle.vl_ast.specs.Context.{own_length}
 use Rattle.vl_ast.specs.Nets.{names_read}
-use Rattle.vl_check.specs.declared.shapes.Shape.{Shape}
 use Rattle.vl_check.specs.Scope.{nets_in}
 use Rattle.vl_eval.specs.declared.ops.Op.{Op}
 use Rattle.vl_eval.specs.declared.site.Site.{Site}
@@ -11,7 +10,7 @@ use Rattle.vl_eval.specs.inner.Shown.{Pushed}
 use Rattle.vl_eval.specs.inner.Site.{ArePlaced, Built}
 use Rattle.vl_eval.proofs.Results.{if-ok}
 use Rattle.vl_eval.proofs.Operands.{sound-unary, names-unary, sound-as-signed, names-as-signed, sound-as-unsigned, names-as-unsigned, sound-binary, names-binary, sound-shift, length-shift, names-shift, sound-choose, length-choose, names-choose, sound-repeat, length-repeat, sign-repeat, names-repeat, sound-concat, length-concat, sign-concat, names-concat}
-use Rattle.vl_eval.proofs.Rooms.{unary-room, left-context-room, right-context-room}
+use Rattle.vl_eval.proofs.Rooms.{room-in, unary-room, left-context-room, right-context-room}
 use Rattle.std.proofs.lemmas.List.{take_all}
 use Rattle.vl_eval.proofs.SideBySide.{Copied, Joined, beside-grows, built-copies, built-no-parts, built-parts, copied-more, copied-one, copies-few, joined-more, lengths-more, one-copy, part-in, part-placed, part-size, part-sound, parts-few, parts-more, shows-alone-too, value-at}
 use Rattle.vl_eval.proofs.Grown.{grows-more, grows-none, placed-left, placed-right, placed-later}
@@ -29,20 +28,9 @@ pub build_unary-build-requires : goal.build_unary-build-requires
 build_unary-build-requires t c =
     let site = c.args.site.now in
     let nets = nets_in site.scope.now in
-    let room = unary-room nets c.args.op c.args.part.now c.args.width c.args.signed c.requires.sound c.requires.longer c.requires.most in
-    let context = c.unary_context-context.ensures in (
-      omega arith,
-      (
-        sound-unary nets c.args.op c.args.part.now c.requires.sound,
-        (
-          subst (λ (s : Shape). own_length nets c.args.part.now ≤ s.length) (sym context) room.0,
-          (
-            subst (λ (s : Shape). s.length ≤ 128) (sym context) room.1,
-            placed site c.args.ops.now.items _ _ (names-unary nets c.args.op c.args.part.now) c.requires.placed,
-          ),
-        ),
-      ),
-    )
+    let room = room-in (own_length nets c.args.part.now) _ _ c.unary_context-context.ensures (unary-room nets c.args.op c.args.part.now c.args.width c.args.signed c.requires.sound c.requires.longer c.requires.most) in
+    let names = placed site c.args.ops.now.items _ _ (names-unary nets c.args.op c.args.part.now) c.requires.placed in
+    (omega arith, (sound-unary nets c.args.op c.args.part.now c.requires.sound, (room.0, (room.1, names))))
 
 pub build_unary-returns : goal.build_unary-returns
 build_unary-returns t c =
@@ -103,49 +91,27 @@ pub build_binary-build-requires : goal.build_binary-build-requires
 build_binary-build-requires t c =
     let site = c.args.site.now in
     let nets = nets_in site.scope.now in
-    let room = left-context-room nets c.args.op c.args.left.now c.args.right.now c.args.width c.args.signed c.requires.sound c.requires.longer c.requires.most in
-    let context = c.left_context-on_left.ensures in
-    let all = placed site c.args.ops.now.items _ _ (names-binary nets c.args.op c.args.left.now c.args.right.now) c.requires.placed in (
-      omega arith,
-      (
-        (sound-binary nets c.args.op c.args.left.now c.args.right.now c.requires.sound).0,
-        (
-          subst (λ (s : Shape). own_length nets c.args.left.now ≤ s.length) (sym context) room.0,
-          (
-            subst (λ (s : Shape). s.length ≤ 128) (sym context) room.1,
-            placed-left c.meaning_by_layer.ensures.value site.base site.scope.now site.slots.now c.args.ops.now.items (names_read c.args.left.now) (names_read c.args.right.now) all,
-          ),
-        ),
-      ),
-    )
+    let room = room-in (own_length nets c.args.left.now) _ _ c.left_context-on_left.ensures (left-context-room nets c.args.op c.args.left.now c.args.right.now c.args.width c.args.signed c.requires.sound c.requires.longer c.requires.most) in
+    let all = placed site c.args.ops.now.items _ _ (names-binary nets c.args.op c.args.left.now c.args.right.now) c.requires.placed in
+    let names = placed-left c.meaning_by_layer.ensures.value site.base site.scope.now site.slots.now c.args.ops.now.items (names_read c.args.left.now) (names_read c.args.right.now) all in
+    (omega arith, ((sound-binary nets c.args.op c.args.left.now c.args.right.now c.requires.sound).0, (room.0, (room.1, names))))
 
 pub build_binary-build-requires-2 : goal.build_binary-build-requires-2
 build_binary-build-requires-2 t c =
     let site = c.args.site.now in
     let nets = nets_in site.scope.now in
-    let room = right-context-room nets c.args.op c.args.left.now c.args.right.now c.args.width c.args.signed c.requires.sound c.requires.longer c.requires.most in
-    let context = c.left_context-on_right.ensures in
+    let room = room-in (own_length nets c.args.right.now) _ _ c.left_context-on_right.ensures (right-context-room nets c.args.op c.args.left.now c.args.right.now c.args.width c.args.signed c.requires.sound c.requires.longer c.requires.most) in
     let all = placed site c.args.ops.now.items _ _ (names-binary nets c.args.op c.args.left.now c.args.right.now) c.requires.placed in
-    let right = placed-right c.meaning_by_layer.ensures.value site.base site.scope.now site.slots.now c.args.ops.now.items (names_read c.args.left.now) (names_read c.args.right.now) all in (
-      omega arith,
-      (
-        (sound-binary nets c.args.op c.args.left.now c.args.right.now c.requires.sound).1,
-        (
-          subst (λ (s : Shape). own_length nets c.args.right.now ≤ s.length) (sym context) room.0,
-          (
-            subst (λ (s : Shape). s.length ≤ 128) (sym context) room.1,
-            placed-later c.meaning_by_layer.ensures.value site.base site.scope.now site.slots.now c.args.ops.now.items c.build.new.ops.items (names_read c.args.right.now) c.in_ok-first.ensures.grows right,
-          ),
-        ),
-      ),
-    )
+    let right = placed-right c.meaning_by_layer.ensures.value site.base site.scope.now site.slots.now c.args.ops.now.items (names_read c.args.left.now) (names_read c.args.right.now) all in
+    let names = placed-later c.meaning_by_layer.ensures.value site.base site.scope.now site.slots.now c.args.ops.now.items c.build.new.ops.items (names_read c.args.right.now) c.in_ok-first.ensures.grows right in
+    (omega arith, ((sound-binary nets c.args.op c.args.left.now c.args.right.now c.requires.sound).1, (room.0, (room.1, names))))
 
 pub build_binary-half_in-requires : goal.build_binary-half_in-requires
 build_binary-half_in-requires t c =
     let site = c.args.site.now in
     let nets = nets_in site.scope.now in
     let room = left-context-room nets c.args.op c.args.left.now c.args.right.now c.args.width c.args.signed c.requires.sound c.requires.longer c.requires.most in
-    subst (λ (s : Shape). s.length ≤ 128) (sym c.left_context-on_left.ensures) room.1
+    (room-in (own_length nets c.args.left.now) _ _ c.left_context-on_left.ensures room).1
 
 pub build_binary-returns : goal.build_binary-returns
 build_binary-returns t c =
