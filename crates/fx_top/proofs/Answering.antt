@@ -23,13 +23,13 @@ use Rattle.hw_sched.specs.Ready.{declared_latency, ready_of}
 use Rattle.hw_sched.specs.Slots.{Timing}
 use Rattle.st_wrap.specs.Carried.{CarriesTransfers, FollowsCore, IsCarried, IsFollowed, shown_at, taken_by}
 use Rattle.st_wrap.specs.Header.{named_outputs}
-use Rattle.st_wrap.specs.Pace.{cycles_in, number_or, samples_late}
+use Rattle.st_wrap.specs.Pace.{samples_late}
 use Rattle.st_wrap.specs.Transfers.{IsTransfer, in_side, out_side, transfers}
 use Rattle.fx_top.specs.Streamed.{Answers, IsTaken}
 use Rattle.vl_ast.specs.declared.modules.Attr.{Attr}
 use Rattle.vl_ast.specs.declared.modules.Module.{Module}
 use Rattle.vl_ast.specs.declared.modules.Port.{Port}
-use Rattle.vl_ast.specs.Attributes.{attribute, cycles_of, latency_of, period_of, value_between}
+use Rattle.vl_ast.specs.Attributes.{attribute, clocks_of, cycles_of, lateness_of, latency_of, period_of, value_between}
 use Rattle.vl_ast.specs.Conditions.{lacks_attribute}
 use Rattle.vl_ast.specs.Control.{is_bit_input, is_control_output, is_number_input, is_number_output, is_stallable}
 use Rattle.vl_ast.specs.Driven.{Driven, output_ports, stimulus_ports}
@@ -129,10 +129,10 @@ module _ {core : Module} {diagram : Diagram} {plan : Resolved} {timing : Timing}
   attributed : (is_none (cycles_of core) ≡ false) × (option_map (λ (port : Port). port.name) (find (lacks_attribute (is_stallable core)) core.ports) ≡ None)
   attributed = first-part (is_none (cycles_of core)) core.name (option_map (λ (port : Port). port.name) (find (lacks_attribute (is_stallable core)) core.ports)) c.sound.attributed
 
-  cycles-are : cycles_in core ≡ plan.cycles
+  cycles-are : clocks_of core ≡ plan.cycles
   cycles-are =
       let e : cycles_of core ≡ (if nat_le 1 plan.cycles && nat_le plan.cycles 1024 then Some plan.cycles else None) = ap (λ (attrs : List Attr). attribute attrs (codes "fx_cycles") 1 1024) c.header.attrs in
-      ap (number_or 1) e ∙ kept 1 plan.cycles (nat_le 1 plan.cycles && nat_le plan.cycles 1024) (sym (ap is_none e) ∙ attributed.0)
+      ap (λ (o : Option ℕ). unwrap_or o 1) e ∙ kept 1 plan.cycles (nat_le 1 plan.cycles && nat_le plan.cycles 1024) (sym (ap is_none e) ∙ attributed.0)
 
   lacks-none : (port : Port) → Contains core.ports port → lacks_attribute true port ≡ false
   lacks-none port h = ap (λ s. lacks_attribute s port) (sym stalls) ∙ none-found (lacks_attribute (is_stallable core)) core.ports (not-mapped (find (lacks_attribute (is_stallable core)) core.ports) attributed.1) port h
@@ -146,7 +146,7 @@ module _ {core : Module} {diagram : Diagram} {plan : Resolved} {timing : Timing}
   abbrev declared : NamedElement → ℕ
   declared e = declared_latency diagram A plan timing e.root.block
 
-  latency-is : (e : NamedElement) → Contains outs e → number_or 0 (latency_of (out_port e)) ≡ declared e
+  latency-is : (e : NamedElement) → Contains outs e → lateness_of (out_port e) ≡ declared e
   latency-is e h =
       let lacks : (not (is_control_output true (out_port e)) && (is_none (period_of (out_port e)) || is_none (latency_of (out_port e)))) ≡ false = lacks-none (out_port e) (out-there e h) in
       let both = or-parts (is_none (period_of (out_port e))) (is_none (latency_of (out_port e)))
@@ -158,7 +158,7 @@ module _ {core : Module} {diagram : Diagram} {plan : Resolved} {timing : Timing}
   module _ (in_steady : (e : RootElement) → Contains (root_inputs diagram A) e → e.period ≡ Some 1) (out_steady : (e : RootElement) → Contains (root_outputs diagram A) e → e.period ≡ Some 1)
       (ready : (e : RootElement) → Contains (root_outputs diagram A) e → ready_of diagram A plan timing e.block < plan.cycles)
       (names : List (List ℕ)) (many : length names ≡ length (wanted_names diagram)) where
-    late-is : (e : NamedElement) → Contains outs e → samples_late (cycles_in core) (out_port e) ≡ latency_at timing.lat e.root.block
+    late-is : (e : NamedElement) → Contains outs e → samples_late (clocks_of core) (out_port e) ≡ latency_at timing.lat e.root.block
     late-is e h =
         let l = latency-is e h in
         (λ i. l i / cycles-are i)
@@ -222,14 +222,14 @@ module _ {core : Module} {diagram : Diagram} {plan : Resolved} {timing : Timing}
               let e = from-map-at in_port ins index port (sym (ap (λ (ports : List Port). slice_get ports index) stimulus-are) ∙ at) in
               let root = (named-at c.names (root_inputs diagram A) index e.0 e.1).1 in
               let one : period ≡ 1 = (let s : Some period ≡ Some 1 = sym period_is ∙ ap period_of (sym e.2) ∙ in-period e.0 (got ins index e.0 e.1) in cc s) in
-              let clocks : cycles_in core ≡ cycles = ap (number_or 1) cycles_is in
+              let clocks : clocks_of core ≡ cycles = ap (λ (o : Option ℕ). unwrap_or o 1) cycles_is in
               let enough : index < length names = (let x = within (root_inputs diagram A) index e.0.root root in let y = wanted-size in omega (arith, x, y, many)) in
               let n = there names index enough in
               let q = in-at t less in
               let here = clock-is clock p tick in
               let inside : row_at f.core_window clock < f.core_window.rows = subst (λ k. row_at f.core_window k < f.core_window.rows) here tick.within in
-              let from : t * cycles_in core ≤ clock = subst (λ k. t * k ≤ clock) (sym clocks) low in
-              let until : clock < (t + 1) * cycles_in core = subst (λ k. clock < (t + 1) * k) (sym clocks) (subst (λ k. clock < (t + k) * cycles) one high) in
+              let from : t * clocks_of core ≤ clock = subst (λ k. t * k ≤ clock) (sym clocks) low in
+              let until : clock < (t + 1) * clocks_of core = subst (λ k. clock < (t + 1) * k) (sym clocks) (subst (λ k. clock < (t + k) * cycles) one high) in
               ap (λ k. f.core_inputs (row_at f.core_window k) port.name) here
               ∙ f.fed.at t q.0 clock q.1 from until inside index (port, n.0) (zip-at (stimulus_ports core) names index port n.0 at n.1)
               ∙ taken.at t q.0 less q.1 index (element n.0 e.0.root) (to-named names (root_inputs diagram A) index n.0 e.0.root n.1 root)

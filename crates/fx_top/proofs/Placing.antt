@@ -1,13 +1,12 @@
 -- Lists by their places, counts up to a place, names that are given, and numbers that attributes have.
 use Rattle.std.proofs.Common.{◌≡◌, ◌≢◌, ℕ, zero, suc, ◌-◌, ◌<◌, ◌≤◌, ◌⊎◌, ⊎_elim, Bool, true, false, not, ◌||◌, if◌then◌else◌, List, [], ◌∷◌, map, filter, find, length, Contains, bytes_eq, Option, Some, None, refl, sym, ap, subst, ◌∙◌, arith}
-use Rattle.std.specs.Prelude.{slice_get, is_none, option_map}
+use Rattle.std.specs.Prelude.{slice_get, is_none, option_map, unwrap_or}
 use Rattle.std.specs.List.{zip}
 use Rattle.std.proofs.lemmas.Bool.{cases_Bool, cases_eq, cond-false, cond-true}
 use Rattle.std.proofs.lemmas.Slice.Eq.{bytes_eq-Decides}
 use Rattle.dg_model.specs.RootElements.{RootElement}
 use Rattle.hw_module.specs.Interface.{NamedElement, named}
 use Rattle.hw_names.specs.Names.{Given}
-use Rattle.st_wrap.specs.Pace.{number_or}
 use Rattle.vl_ast.specs.declared.modules.Port.{Port}
 use Rattle.vl_ast.specs.Windows.{counted}
 use Rattle.vl_ast.proofs.Places.{cons-cases, head-in, none-in, tail-in}
@@ -143,7 +142,7 @@ unequal a b other = ⊎_elim (λ t. absurd (other ((bytes_eq-Decides a b).0 t)))
 
 -- ---- numbers of attributes
 
-pub kept : (other v : ℕ) (b : Bool) → is_none (if b then Some v else None) ≡ false → number_or other (if b then Some v else None) ≡ v
+pub kept : (other v : ℕ) (b : Bool) → is_none (if b then Some v else None) ≡ false → unwrap_or (if b then Some v else None) other ≡ v
 kept other v true h = refl
 kept other v false h = absurd (cc h)
 

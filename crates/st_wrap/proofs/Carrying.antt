@@ -17,12 +17,13 @@ use Rattle.vl_ast.proofs.Alone.{reset-port}
 use Rattle.vl_ast.proofs.Facts.{in-port, is-declared}
 use Rattle.vl_ast.proofs.Places.{map-in}
 use Rattle.vl_ast.proofs.Thin.{counted-above}
+use Rattle.vl_ast.specs.Attributes.{clocks_of}
 use Rattle.st_wrap.specs.declared.columns.Column.{Column}
 use Rattle.st_wrap.specs.declared.pace.Counters.{Counters}
 use Rattle.st_wrap.specs.Carried.{IsCarried, IsFed, IsFollowed, IsSteadyRun, shown_at, taken_by}
 use Rattle.st_wrap.specs.Header.{named_inputs, named_outputs}
 use Rattle.st_wrap.specs.Names.{AreColumnNames}
-use Rattle.st_wrap.specs.Pace.{cycles_in, latest_in, samples_late}
+use Rattle.st_wrap.specs.Pace.{latest_in, samples_late}
 use Rattle.st_wrap.specs.Transfers.{IsTransfer, in_side, transfers}
 use Rattle.st_wrap.specs.inner.Columns.{input_column, output_column}
 use Rattle.st_wrap.specs.inner.Control.{CountFor}
@@ -53,7 +54,7 @@ module _ (one : OneRun) (thins : CountedRun) (core : Module) (sound : BreaksNone
   m = wrapped core names counters
 
   abbrev F : ℕ
-  F = cycles_in core
+  F = clocks_of core
 
   abbrev ins : List Column
   ins = inputs_of core names
@@ -182,7 +183,7 @@ module _ (one : OneRun) (thins : CountedRun) (core : Module) (sound : BreaksNone
       (cases_eq p q)
 
   -- the sample of a clock
-  sample-of : (number clock : ℕ) → number * cycles_in core ≤ clock → clock < (number + 1) * cycles_in core → clock / cycles_in core ≡ number
+  sample-of : (number clock : ℕ) → number * clocks_of core ≤ clock → clock < (number + 1) * clocks_of core → clock / clocks_of core ≡ number
   sample-of number clock low high =
       let split : (number + 1) * F ≡ number * F + F = omega arith in
       let whole : clock ≡ number * F + (clock - number * F) = omega (arith, low) in
@@ -203,7 +204,7 @@ module _ (one : OneRun) (thins : CountedRun) (core : Module) (sound : BreaksNone
         ∙ ap (λ k. rows (row_at window k) pair.1) same;
   }
 
-  out-clock-is : (number place : ℕ) → IsOut setting number place → counted test place ≡ (number + latest_in core + 1) * cycles_in core - 1
+  out-clock-is : (number place : ℕ) → IsOut setting number place → counted test place ≡ (number + latest_in core + 1) * clocks_of core - 1
   out-clock-is number place is =
       let whole = div-add-mod' (counted test place) F in
       let last-clock = is.last-clock in

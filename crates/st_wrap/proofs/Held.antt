@@ -14,9 +14,10 @@ use Rattle.vl_ast.specs.Value.{assigned, extended, value_in}
 use Rattle.vl_ast.specs.Windows.{Window, counted, row_at}
 use Rattle.vl_ast.proofs.Alone.{reset-port}
 use Rattle.vl_ast.proofs.Facts.{in-port, is-declared, mention-listed, reg-declared, wire-declared}
+use Rattle.vl_ast.specs.Attributes.{clocks_of}
 use Rattle.st_wrap.specs.declared.columns.Column.{Column}
 use Rattle.st_wrap.specs.declared.pace.Counters.{Counters}
-use Rattle.st_wrap.specs.Pace.{cycles_in, latest_in}
+use Rattle.st_wrap.specs.Pace.{latest_in}
 use Rattle.st_wrap.specs.Transfers.{IsTransfer, in_side}
 use Rattle.st_wrap.specs.inner.Columns.{column_port, moving, plain}
 use Rattle.st_wrap.specs.inner.Names.{begin_name, held_name, inner_name}
@@ -81,7 +82,7 @@ module _ {core m : Module} {counters : Counters} {window : Window} {start : Row}
   test place = moves counters (rows (row_at window place))
 
   abbrev F : ℕ
-  F = cycles_in core
+  F = clocks_of core
 
   abbrev word : Net
   word = record { width = column.width; signed = column.signed }
@@ -206,7 +207,7 @@ module _ {core m : Module} {counters : Counters} {window : Window} {start : Row}
 
   -- at each clock of a sample the core's input is what its transfer in showed
   pub input-shown : (place : ℕ) → row_at window place < window.rows → moves counters (rows (row_at window place)) ≡ true
-      → Shown (counted (λ place. moves counters (rows (row_at window place))) place / cycles_in core) (rows (row_at window place) (inner_name column.inner))
+      → Shown (counted (λ place. moves counters (rows (row_at window place))) place / clocks_of core) (rows (row_at window place) (inner_name column.inner))
   input-shown place below on = ⊎_elim
       (λ t.
       let first = eqb-true (counted test place % F) 0 t in

@@ -13,9 +13,10 @@ use Rattle.vl_ast.specs.Value.{assigned}
 use Rattle.vl_ast.specs.Windows.{Window, counted, row_at}
 use Rattle.vl_ast.proofs.Alone.{reset-port}
 use Rattle.vl_ast.proofs.Facts.{in-port, is-declared, mention-listed, reg-declared, wire-declared}
+use Rattle.vl_ast.specs.Attributes.{clocks_of}
 use Rattle.st_wrap.specs.declared.columns.Column.{Column}
 use Rattle.st_wrap.specs.declared.pace.Counters.{Counters}
-use Rattle.st_wrap.specs.Pace.{cycles_in, latest_in}
+use Rattle.st_wrap.specs.Pace.{latest_in}
 use Rattle.st_wrap.specs.Transfers.{IsTransfer, out_side}
 use Rattle.st_wrap.specs.inner.Columns.{column_port, moving, plain, stage_declared, stage_driven, stage_name}
 use Rattle.st_wrap.specs.inner.Names.{end_name, inner_name, late_name}
@@ -38,7 +39,7 @@ module _ {core m : Module} {counters : Counters} {window : Window} {start : Row}
   test place = moves counters (rows (row_at window place))
 
   abbrev F : ℕ
-  F = cycles_in core
+  F = clocks_of core
 
   abbrev word : Net
   word = record { width = column.width; signed = column.signed }
@@ -187,7 +188,7 @@ module _ {core m : Module} {counters : Counters} {window : Window} {start : Row}
 
   -- at a transfer out the port shows what the core showed so many samples ago
   pub output-shown : (number place : ℕ) → IsTransfer out_side window rows number place → column.late ≤ latest_in core
-      → Came ((number + (latest_in core - column.late) + 1) * cycles_in core - 1) (rows (row_at window place) column.name)
+      → Came ((number + (latest_in core - column.late) + 1) * clocks_of core - 1) (rows (row_at window place) column.name)
   output-shown number place is few =
       let out = out-clock s number place is in
       let whole = div-add-mod' (counted test place) F in

@@ -1,24 +1,23 @@
 -- The wrapper's names differ: each kind has a letter of its own, and within a kind the core's or the columns' names
 -- tell them apart.
-use Rattle.std.proofs.Common.{◌≡◌, ◌≢◌, ℕ, ◌*◌, ◌/◌, ◌^◌, ◌<◌, ◌≤◌, ◌==◌, max, fold, nat_le, nat_eq, ⊎_elim, Bool, true, false, ◌&&◌, ◌||◌, if◌then◌else◌, List, [], ◌∷◌, ◌++◌, map, Contains, bytes_eq, slice_index_or, codes, decimal, find, Option, Some, None, refl, sym, ap, subst, ◌∙◌, arith}
+use Rattle.std.proofs.Common.{◌≡◌, ◌≢◌, ℕ, ◌*◌, ◌/◌, ◌^◌, ◌<◌, ◌≤◌, ◌==◌, max, fold, nat_eq, ⊎_elim, Bool, true, false, ◌||◌, if◌then◌else◌, List, [], ◌∷◌, ◌++◌, map, Contains, bytes_eq, slice_index_or, codes, decimal, refl, sym, ap, subst, ◌∙◌, arith}
 use Rattle.std.specs.List.{starts_with}
 use Rattle.std.specs.Str.Parse.{AllDigits}
-use Rattle.std.proofs.lemmas.Bool.{and_parts, cases_Bool, cond_both, cond-false, cond-true, eqb-false, leb-true}
+use Rattle.std.proofs.lemmas.Bool.{cases_Bool, cond-false, cond-true, eqb-false}
 use Rattle.std.proofs.lemmas.Fmt.{decimal_injective, decimal_is_IsNumeral}
 use Rattle.std.proofs.lemmas.List.{append_assoc}
 use Rattle.std.proofs.lemmas.Nat.{div-add-mod', mul-le}
 use Rattle.std.proofs.lemmas.Slice.Eq.{bytes_eq-Decides}
 use Rattle.std.proofs.lemmas.Str.Parse.{digit_from_value}
-use Rattle.vl_ast.specs.declared.modules.Attr.{Attr}
 use Rattle.vl_ast.specs.declared.modules.Port.{Port}
 use Rattle.vl_ast.specs.declared.modules.Module.{Module}
-use Rattle.vl_ast.specs.Attributes.{value_between}
+use Rattle.vl_ast.specs.Attributes.{clocks_of, lateness_of}
 use Rattle.vl_ast.specs.Driven.{output_ports}
 use Rattle.vl_ast.proofs.Places.{from-map, head-in, tail-in}
+use Rattle.vl_ast.proofs.Ranges.{clocks-some, late-few}
 use Rattle.st_wrap.specs.Names.{IsColumnName}
-use Rattle.st_wrap.specs.Pace.{cycles_in, latest_in, number_or, samples_late}
+use Rattle.st_wrap.specs.Pace.{latest_in, samples_late}
 use Rattle.st_wrap.specs.inner.Names.{held_name, inner_name, is_shared, late_name}
-use Rattle.st_wrap.proofs.Shaking.{some-cycles}
 
 -- the letter behind `fx_`, and 0 where a name doesn't begin so
 abbrev pub letter : List ℕ → ℕ
@@ -117,30 +116,18 @@ late-same a b j k p q e =
 
 -- ---- the latest output comes not too late for a number
 
-at-most : (low high : ℕ) (o : Option Attr) → low ≤ high → number_or low (value_between low high o) ≤ high
-at-most low high None h = h
-at-most low high (Some attr) h =
-    cond_both (nat_le low attr.value && nat_le attr.value high) (Some attr.value) None (λ x. number_or low x ≤ high)
-    (λ t. leb-true attr.value high (and_parts (nat_le low attr.value) (nat_le attr.value high) t).1)
-    (λ f. h)
-
 fold-bound : (ns : List ℕ) (a most : ℕ) → a ≤ most → ((n : ℕ) → Contains ns n → n ≤ most) → fold max a ns ≤ most
 fold-bound [] a most h each = h
 fold-bound (n ∷ ns) a most h each = fold-bound ns (max a n) most (let e = each n (head-in n ns) in omega (arith, h, e)) (λ m c. each m (tail-in n m ns c))
 
-late-bound : (core : Module) (port : Port) → samples_late (cycles_in core) port ≤ 16777216
-late-bound core port =
-    let l : ℕ = number_or 0 (value_between 0 16777216 (find (λ attr. bytes_eq attr.name (codes "fx_latency")) port.attrs)) in
-    let low = at-most 0 16777216 (find (λ attr. bytes_eq attr.name (codes "fx_latency")) port.attrs) (omega arith) in
-    let some = some-cycles core in
-    quotient l (cycles_in core) some low
-  where
-    quotient : (n d : ℕ) → 1 ≤ d → n ≤ 16777216 → n / d ≤ 16777216
-    quotient n d some low =
-        let w = div-add-mod' n d in
-        let m : (n / d) * 1 ≤ (n / d) * d = mul-le (n / d) 1 (n / d) d (omega arith) some in
-        omega (arith, w, m, low)
+late-bound : (core : Module) (port : Port) → samples_late (clocks_of core) port ≤ 16777216
+late-bound core port = quotient (lateness_of port) (clocks_of core) (clocks-some core).0 (late-few port) where
+  quotient : (n d : ℕ) → 1 ≤ d → n ≤ 16777216 → n / d ≤ 16777216
+  quotient n d some low =
+      let w = div-add-mod' n d in
+      let m : (n / d) * 1 ≤ (n / d) * d = mul-le (n / d) 1 (n / d) d (omega arith) some in
+      omega (arith, w, m, low)
 
 pub latest-bound : (core : Module) → latest_in core ≤ 16777216
-latest-bound core = fold-bound (map (samples_late (cycles_in core)) (output_ports core)) 0 16777216 (omega arith)
-    (λ n c. let r = from-map (samples_late (cycles_in core)) (output_ports core) n c in subst (λ k. k ≤ 16777216) r.2 (late-bound core r.0))
+latest-bound core = fold-bound (map (samples_late (clocks_of core)) (output_ports core)) 0 16777216 (omega arith)
+    (λ n c. let r = from-map (samples_late (clocks_of core)) (output_ports core) n c in subst (λ k. k ≤ 16777216) r.2 (late-bound core r.0))

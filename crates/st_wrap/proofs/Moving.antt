@@ -6,8 +6,9 @@ use Rattle.vl_ast.specs.Conditions.{IsAcyclic, no_reset}
 use Rattle.vl_ast.specs.Driven.{IsResetLast}
 use Rattle.vl_ast.specs.Runs.{Row, Rows, Runs}
 use Rattle.vl_ast.specs.Windows.{Window, counted, row_at}
+use Rattle.vl_ast.specs.Attributes.{clocks_of}
 use Rattle.st_wrap.specs.declared.pace.Counters.{Counters}
-use Rattle.st_wrap.specs.Pace.{cycles_in, latest_in}
+use Rattle.st_wrap.specs.Pace.{latest_in}
 use Rattle.st_wrap.specs.Transfers.{IsTransfer, in_side, out_side, transfers}
 use Rattle.st_wrap.specs.inner.Control.{CountFor}
 use Rattle.st_wrap.proofs.Controlled.{HasControl, begins, due, ends, fed, moves, opens, ready-is, valid-is}
@@ -128,7 +129,7 @@ module _ {core m : Module} {counters : Counters} {window : Window} {start : Row}
   at-place place below = counters-at core m counters s.acyclic s.clocked s.has s.counts window start inputs rows s.last s.runs place below
 
   abbrev F : ℕ
-  F = cycles_in core
+  F = clocks_of core
 
   abbrev K : ℕ
   K = latest_in core
@@ -147,16 +148,16 @@ module _ {core m : Module} {counters : Counters} {window : Window} {start : Row}
       let valid = ap (λ n. n == 1) (valid-is m counters s.acyclic s.has window.rows start inputs rows s.runs (row_at window place) below) ∙ truth-one (due counters row && fed counters row) in
       ap (λ b. b && row (codes "out_ready") == 1) valid ∙ out-both (due counters row) (fed counters row) (row (codes "out_ready") == 1)
 
-  pub begins-is : (place : ℕ) → row_at window place < window.rows → begins counters (rows (row_at window place)) ≡ (counted (λ place. moves counters (rows (row_at window place))) place % cycles_in core == 0)
+  pub begins-is : (place : ℕ) → row_at window place < window.rows → begins counters (rows (row_at window place)) ≡ (counted (λ place. moves counters (rows (row_at window place))) place % clocks_of core == 0)
   begins-is place below = ap (λ n. n == 0) (at-place place below).phase
 
-  pub ends-is : (place : ℕ) → row_at window place < window.rows → ends counters (rows (row_at window place)) ≡ (counted (λ place. moves counters (rows (row_at window place))) place % cycles_in core == cycles_in core - 1)
+  pub ends-is : (place : ℕ) → row_at window place < window.rows → ends counters (rows (row_at window place)) ≡ (counted (λ place. moves counters (rows (row_at window place))) place % clocks_of core == clocks_of core - 1)
   ends-is place below = let at = at-place place below in (λ i. at.phase i == s.counts.phase i)
 
   due-here : (place : ℕ) → row_at window place < window.rows → due counters (rows (row_at window place)) ≡ (counted test place % F == F - 1 && K - counted test place / F == 0)
   due-here place below = let at = at-place place below in (λ i. ends-is place below i && at.wait i == 0)
 
-  pub ins-are : (place : ℕ) → row_at window place < window.rows → counted (transfers in_side window rows) place ≡ begun (cycles_in core) (latest_in core) (some-cycles core) (counted (λ place. moves counters (rows (row_at window place))) place)
+  pub ins-are : (place : ℕ) → row_at window place < window.rows → counted (transfers in_side window rows) place ≡ begun (clocks_of core) (latest_in core) (some-cycles core) (counted (λ place. moves counters (rows (row_at window place))) place)
   ins-are zero below = sym (begun-zero F K (some-cycles core))
   ins-are (suc place) below =
       let inside : row_at window place < window.rows = omega (arith, below) in
@@ -165,7 +166,7 @@ module _ {core m : Module} {counters : Counters} {window : Window} {start : Row}
       (λ i. if here i then suc (before i) else before i)
       ∙ begun-step F K (some-cycles core) (counted test place) (test place)
 
-  pub outs-are : (place : ℕ) → row_at window place < window.rows → counted (transfers out_side window rows) place ≡ given (cycles_in core) (latest_in core) (some-cycles core) (counted (λ place. moves counters (rows (row_at window place))) place)
+  pub outs-are : (place : ℕ) → row_at window place < window.rows → counted (transfers out_side window rows) place ≡ given (clocks_of core) (latest_in core) (some-cycles core) (counted (λ place. moves counters (rows (row_at window place))) place)
   outs-are zero below = sym (given-zero F K (some-cycles core))
   outs-are (suc place) below =
       let inside : row_at window place < window.rows = omega (arith, below) in
@@ -177,8 +178,8 @@ module _ {core m : Module} {counters : Counters} {window : Window} {start : Row}
   -- the clock of a transfer out
   pub record IsOut (number place : ℕ) : Type 0 where
     pub moves-now : moves counters (rows (row_at window place)) ≡ true
-    pub last-clock : counted (λ place. moves counters (rows (row_at window place))) place % cycles_in core ≡ cycles_in core - 1
-    pub sample : counted (λ place. moves counters (rows (row_at window place))) place / cycles_in core ≡ number + latest_in core
+    pub last-clock : counted (λ place. moves counters (rows (row_at window place))) place % clocks_of core ≡ clocks_of core - 1
+    pub sample : counted (λ place. moves counters (rows (row_at window place))) place / clocks_of core ≡ number + latest_in core
 
   pub out-clock : (number place : ℕ) → IsTransfer out_side window rows number place → IsOut number place
   out-clock number place is =

@@ -11,10 +11,11 @@ use Rattle.vl_ast.specs.declared.modules.Module.{Module}
 use Rattle.vl_ast.specs.Driven.{output_ports, stimulus_ports}
 use Rattle.vl_ast.specs.Nets.{Mention, Declares, Drives, Reads, Clocks, item_mentions}
 use Rattle.vl_ast.proofs.Places.{cons-cases, from-map, map-in, none-in}
+use Rattle.vl_ast.specs.Attributes.{clocks_of}
 use Rattle.st_wrap.specs.declared.columns.Column.{Column}
 use Rattle.st_wrap.specs.Header.{named_inputs, named_outputs}
 use Rattle.st_wrap.specs.Names.{AreColumnNames, IsColumnName}
-use Rattle.st_wrap.specs.Pace.{cycles_in, latest_in}
+use Rattle.st_wrap.specs.Pace.{latest_in}
 use Rattle.st_wrap.specs.inner.Columns.{input_column, output_column}
 use Rattle.st_wrap.specs.inner.Names.{inner_name}
 use Rattle.st_wrap.specs.inner.Renamed.{renamed_item}
@@ -144,7 +145,7 @@ module _ (core : Module) (names : List (List ℕ)) (named : AreColumnNames core 
       let count = named.count in
       let cut : length (drop (length (stimulus_ports core)) names) ≡ length names - length (stimulus_ports core) = length-drop (length (stimulus_ports core)) names in
       let ins = map-twice column_name input_column (named_inputs core names) ∙ seconds (stimulus_ports core) names (omega (arith, count)) in
-      let outs = map-twice column_name (output_column (cycles_in core) (latest_in core)) (named_outputs core names)
+      let outs = map-twice column_name (output_column (clocks_of core) (latest_in core)) (named_outputs core names)
       ∙ all-seconds (output_ports core) (drop (length (stimulus_ports core)) names) (omega (arith, count, cut)) in
       (λ i. ins i ++ outs i) ∙ take-append-drop (length (stimulus_ports core)) names
 
@@ -164,6 +165,6 @@ module _ (core : Module) (names : List (List ℕ)) (named : AreColumnNames core 
 
   pub late-small : (column : Column) → Contains (outputs_of core names) column → column.late ≤ 16777216
   late-small column c =
-      let r = from-map (output_column (cycles_in core) (latest_in core)) (named_outputs core names) column c in
+      let r = from-map (output_column (clocks_of core) (latest_in core)) (named_outputs core names) column c in
       let b = latest-bound core in
       subst (λ (x : Column). x.late ≤ 16777216) r.2 (omega (arith, b))

@@ -19,11 +19,12 @@ use Rattle.vl_ast.specs.Header.{bit_input, input_port, output_port}
 use Rattle.vl_ast.specs.Nets.{Declared, Declares, Reads, mentions, net_or_none, nets_of}
 use Rattle.vl_ast.proofs.Facts.{in-port, is-declared, reads-of-always, reads-of-assign, reg-declared, wire-declared}
 use Rattle.vl_ast.proofs.Places.{cons-cases, from-map, head-in, map-in, none-in, tail-in}
+use Rattle.vl_ast.specs.Attributes.{clocks_of}
 use Rattle.st_wrap.specs.declared.columns.Column.{Column}
 use Rattle.st_wrap.specs.declared.pace.Counters.{Counters}
 use Rattle.st_wrap.specs.Header.{flag, named_inputs, named_outputs}
 use Rattle.st_wrap.specs.Names.{AreColumnNames}
-use Rattle.st_wrap.specs.Pace.{cycles_in, latest_in}
+use Rattle.st_wrap.specs.Pace.{latest_in}
 use Rattle.st_wrap.specs.inner.Columns.{column_port, held_declared, held_driven, input_column, late_declared, late_driven, moving, output_column, stage_declared, stage_driven, stage_name}
 use Rattle.st_wrap.specs.inner.Control.{CountFor, both, control_declared, control_driven, is_due_now, is_last, is_zero, next_phase, next_wait, number, unless}
 use Rattle.st_wrap.specs.inner.Names.{begin_name, end_name, due_name, fed_name, open_name, enable_name, held_name, inner_name, is_shared, late_name, phase_name, wait_name}
@@ -145,7 +146,7 @@ module _ (core : Module) (sound : BreaksNone core) (stallable : is_stallable cor
 
   output-width : (column : Column) → Contains (outputs_of core names) column → is_width column.width ≡ true
   output-width column c =
-      let r = from-map (output_column (cycles_in core) (latest_in core)) (named_outputs core names) column c in
+      let r = from-map (output_column (clocks_of core) (latest_in core)) (named_outputs core names) column c in
       let f = from-filter (is_number_output (is_stallable core)) core.ports r.0.0 (zip-left (output_ports core) (drop (length (stimulus_ports core)) names) r.0 r.1) in
       subst (λ (x : Column). is_width x.width ≡ true) r.2 (port-width core sound.narrow r.0.0 f.0)
 
@@ -331,7 +332,7 @@ module _ (core : Module) (sound : BreaksNone core) (stallable : is_stallable cor
   stage-fine column c k low = fine-Name nets (stage_name column k) column.width width (width-parts column.width (output-width column c)).1 where
     inner : (nets_of (wrapped core names counters) (inner_name column.inner)).width ≡ column.width
     inner =
-        let r = from-map (output_column (cycles_in core) (latest_in core)) (named_outputs core names) column c in
+        let r = from-map (output_column (clocks_of core) (latest_in core)) (named_outputs core names) column c in
         let p = output-of core sound stallable names named counters column c in
         let f = from-filter (is_number_output (is_stallable core)) core.ports r.0.0 (zip-left (output_ports core) (drop (length (stimulus_ports core)) names) r.0 r.1) in
         let off : is_shared r.0.0.name ≡ false = ap is_shared (ap (λ (x : Column). x.inner) r.2 ∙ sym p.3) ∙ p.2 in

@@ -21,11 +21,12 @@ use Rattle.vl_ast.proofs.Alone.{reset-port}
 use Rattle.vl_ast.proofs.Facts.{in-port, is-declared}
 use Rattle.vl_ast.proofs.Places.{cons-cases, flat-in, from-map, head-in, map-in, none-in, tail-in}
 use Rattle.vl_ast.proofs.Thinned.{bit-port}
+use Rattle.vl_ast.specs.Attributes.{clocks_of}
 use Rattle.st_wrap.specs.declared.columns.Column.{Column}
 use Rattle.st_wrap.specs.declared.pace.Counters.{Counters}
 use Rattle.st_wrap.specs.Header.{flag, named_outputs}
 use Rattle.st_wrap.specs.Names.{AreColumnNames}
-use Rattle.st_wrap.specs.Pace.{cycles_in, latest_in}
+use Rattle.st_wrap.specs.Pace.{latest_in}
 use Rattle.st_wrap.specs.inner.Columns.{column_port, held_declared, held_driven, late_declared, late_driven, output_column, stage_declared, stage_driven, stage_name}
 use Rattle.st_wrap.specs.inner.Control.{control_declared, control_driven}
 use Rattle.st_wrap.specs.inner.Names.{begin_name, end_name, due_name, fed_name, open_name, enable_name, held_name, inner_name, is_shared, late_name, phase_name, wait_name}
@@ -297,7 +298,7 @@ module _ (core : Module) (sound : BreaksNone core) (stallable : is_stallable cor
   -- the core's port of a column of outputs
   pub output-of : (column : Column) → Contains (outputs_of core names) column → (port : Port) × Contains core.ports port × (is_shared port.name ≡ false) × (port.name ≡ column.inner)
   output-of column c =
-      let r = from-map (output_column (cycles_in core) (latest_in core)) (named_outputs core names) column c in
+      let r = from-map (output_column (clocks_of core) (latest_in core)) (named_outputs core names) column c in
       let f = from-filter (is_number_output (is_stallable core)) core.ports r.0.0 (zip-left (output_ports core) (drop (length (stimulus_ports core)) names) r.0 r.1) in
       let off = number-output core r.0.0 f.1 in
       (r.0.0, f.0, output-unshared r.0.0 f.0 off, ap (λ (x : Column). x.inner) r.2)

@@ -1,12 +1,11 @@
 -- The counters of the wrapper count the rows that move, so its four signals shake hands.
-use Rattle.std.proofs.Common.{◌≡◌, ℕ, zero, suc, ◌+◌, ◌-◌, ◌*◌, ◌/◌, ◌%◌, ◌^◌, ◌<◌, ◌≤◌, ◌==◌, nat_le, ⊎_elim, Bool, true, false, not, ◌&&◌, ◌||◌, if◌then◌else◌, find, bytes_eq, codes, Option, Some, None, refl, sym, ap, subst, ◌∙◌, arith, pow_pos}
+use Rattle.std.proofs.Common.{◌≡◌, ℕ, zero, suc, ◌+◌, ◌-◌, ◌*◌, ◌/◌, ◌%◌, ◌^◌, ◌<◌, ◌≤◌, ◌==◌, ⊎_elim, Bool, true, false, not, ◌&&◌, ◌||◌, if◌then◌else◌, codes, Some, None, refl, sym, ap, subst, ◌∙◌, arith, pow_pos}
 use Rattle.std.proofs.Math.Nat.{mod-eq_of_lt}
-use Rattle.std.proofs.lemmas.Bool.{and_parts, cases_Bool, cond_both, cond-true, cond-false, eq-eqb, eqb-true, eqb-false, leb-true}
+use Rattle.std.proofs.lemmas.Bool.{cases_Bool, cond-true, cond-false, eq-eqb, eqb-true, eqb-false}
 use Rattle.std.proofs.lemmas.Nat.{mod-mul-add, mod_below}
-use Rattle.vl_ast.specs.declared.modules.Attr.{Attr}
 use Rattle.vl_ast.specs.declared.expressions.Expr.TheVariants.{Name}
 use Rattle.vl_ast.specs.declared.modules.Module.{Module}
-use Rattle.vl_ast.specs.Attributes.{value_between}
+use Rattle.vl_ast.specs.Attributes.{clocks_of}
 use Rattle.vl_ast.specs.Conditions.{IsAcyclic, no_reset}
 use Rattle.vl_ast.specs.Context.{Net}
 use Rattle.vl_ast.specs.Driven.{IsResetLast}
@@ -15,10 +14,11 @@ use Rattle.vl_ast.specs.Runs.{Row, Rows, Runs}
 use Rattle.vl_ast.specs.Value.{assigned, assigned_number, truth}
 use Rattle.vl_ast.specs.Windows.{Window, counted, row_at}
 use Rattle.vl_ast.proofs.Alone.{reset-port}
+use Rattle.vl_ast.proofs.Ranges.{clocks-some}
 use Rattle.st_wrap.specs.declared.pace.Counters.{Counters}
 use Rattle.st_wrap.specs.Carried.{pace_of}
 use Rattle.st_wrap.specs.Handshake.{Handshakes, is_begin, is_due, is_fed, is_open}
-use Rattle.st_wrap.specs.Pace.{cycles_in, latest_in, number_or}
+use Rattle.st_wrap.specs.Pace.{latest_in}
 use Rattle.st_wrap.specs.inner.Columns.{moving, plain}
 use Rattle.st_wrap.specs.inner.Control.{CountFor, next_phase, next_wait}
 use Rattle.st_wrap.specs.inner.Names.{end_name, enable_name, phase_name, wait_name}
@@ -28,16 +28,9 @@ use Rattle.st_wrap.proofs.Signals.{assigned-plain, down-value, truth-zero, up-va
 
 -- ---- numbers
 
-at-least : (low high : ℕ) (o : Option Attr) → low ≤ number_or low (value_between low high o)
-at-least low high None = omega arith
-at-least low high (Some attr) =
-    cond_both (nat_le low attr.value && nat_le attr.value high) (Some attr.value) None (λ x. low ≤ number_or low x)
-    (λ t. leb-true low attr.value (and_parts (nat_le low attr.value) (nat_le attr.value high) t).0)
-    (λ f. omega arith)
-
 -- a sample takes a clock or more
-pub some-cycles : (core : Module) → 1 ≤ cycles_in core
-some-cycles core = at-least 1 1024 (find (λ attr. bytes_eq attr.name (codes "fx_cycles")) core.attrs)
+pub some-cycles : (core : Module) → 1 ≤ clocks_of core
+some-cycles core = (clocks-some core).0
 
 cut-up : (w p most : ℕ) → p ≤ most → most < 2 ^ w → (if not (p == most) then (p + 1) % 2 ^ w else 0) % 2 ^ w ≡ (if p == most then 0 else p + 1)
 cut-up w p most low room = by (p == most) refl where
@@ -60,12 +53,12 @@ cut-down w n room = by (n == 0) refl where
 
 module _ (core : Module) where
   abbrev F : ℕ
-  F = cycles_in core
+  F = clocks_of core
 
   abbrev K : ℕ
   K = latest_in core
 
-  some : 1 ≤ cycles_in core
+  some : 1 ≤ clocks_of core
   some = some-cycles core
 
   step-phase : (c : ℕ) (b : Bool) → (if b then (if c % F == F - 1 then 0 else c % F + 1) else c % F) ≡ (if b then suc c else c) % F
@@ -91,8 +84,8 @@ module _ (core : Module) where
 
   -- the counters after so many rows that moved
   pub record At (row : Row) (moved : ℕ) : Type 0 where
-    pub phase : row phase_name ≡ moved % cycles_in core
-    pub wait : row wait_name ≡ latest_in core - moved / cycles_in core
+    pub phase : row phase_name ≡ moved % clocks_of core
+    pub wait : row wait_name ≡ latest_in core - moved / clocks_of core
 
   module _ (m : Module) (counters : Counters) (acyclic : IsAcyclic m) (clocked : no_reset m ≡ None) (has : HasControl m counters) (counts : CountFor core counters)
       (window : Window) (start : Row) (inputs rows : Rows) (last : IsResetLast window inputs) (runs : Runs m window.rows start inputs rows) where

@@ -6,14 +6,15 @@ use Rattle.vl_ast.specs.declared.modules.Module.{Module}
 use Rattle.vl_ast.specs.Driven.{IsResetLast, output_ports}
 use Rattle.vl_ast.specs.Runs.{Row, Rows, Runs}
 use Rattle.vl_ast.specs.Windows.{Each, Window, counted, row_at}
+use Rattle.vl_ast.specs.Attributes.{clocks_of}
 use Rattle.st_wrap.specs.Handshake.{Handshakes, Pace}
 use Rattle.st_wrap.specs.Header.{named_inputs, named_outputs}
-use Rattle.st_wrap.specs.Pace.{cycles_in, latest_in, samples_late}
+use Rattle.st_wrap.specs.Pace.{latest_in, samples_late}
 use Rattle.st_wrap.specs.Transfers.{IsTransfer, in_side, out_side, transfers}
 
 -- the pace of a module
 abbrev pub pace_of : Module → Pace
-pace_of core = record { cycles = cycles_in core; latest = latest_in core }
+pace_of core = record { cycles = clocks_of core; latest = latest_in core }
 
 -- a run of the core that is reset, and then has `clk_enable` 1 in every row
 pub record IsSteadyRun (core : Module) (window : Window) (start : Row) (inputs rows : Rows) : Type 0 where
@@ -24,12 +25,12 @@ pub record IsSteadyRun (core : Module) (window : Window) (start : Row) (inputs r
 -- at the clocks of each sample the core's inputs are those of the transfer in of the sample's number
 pub record IsFed (core : Module) (names : List (List ℕ)) (window : Window) (rows : Rows) (core_window : Window) (core_inputs : Rows) : Type 0 where
   pub at : (number place clock : ℕ) → IsTransfer in_side window rows number place
-      → number * cycles_in core ≤ clock → clock < (number + 1) * cycles_in core → row_at core_window clock < core_window.rows
+      → number * clocks_of core ≤ clock → clock < (number + 1) * clocks_of core → row_at core_window clock < core_window.rows
       → Each (named_inputs core names) (λ column named. core_inputs (row_at core_window clock) named.0.name ≡ rows (row_at window place) named.1)
 
 -- the last clock of the sample in which an output shows what a sample makes of it
 abbrev pub shown_at : Module → ℕ → Port → ℕ
-shown_at core number port = (number + samples_late (cycles_in core) port + 1) * cycles_in core - 1
+shown_at core number port = (number + samples_late (clocks_of core) port + 1) * clocks_of core - 1
 
 -- at each transfer out each output has the bits that the core's has at that clock
 pub record IsCarried (core : Module) (names : List (List ℕ)) (window : Window) (rows : Rows) (core_window : Window) (core_rows : Rows) : Type 0 where

@@ -2,13 +2,14 @@
 ghost use Rattle.std.specs.Prelude.{◌≡◌, drop, length, map, IfOk};
 ghost use Rattle.std.specs.List.{zip};
 ghost use Rattle.vl_ast.specs.Driven.{output_ports, stimulus_ports};
-ghost use Rattle.st_wrap.specs.Pace.{cycles_in, latest_in};
+ghost use Rattle.vl_ast.specs.Attributes.{clocks_of};
+ghost use Rattle.st_wrap.specs.Pace.{latest_in};
 ghost use Rattle.st_wrap.specs.inner.Columns.{column_of, input_column, output_column};
 
-use crate::pace::{cycles_in, latest_in, samples_late};
+use crate::pace::{latest_in, samples_late};
 use fx_io::{OutOfMemory, Sequence, Text};
 use std::alloc::Global;
-use vl_ast::{Module, Port};
+use vl_ast::{Module, Port, clocks_of};
 use vl_check::{is_number_input, is_number_output, is_stallable};
 
 /// A port of the core that carries numbers.
@@ -79,10 +80,10 @@ pub fn output_names<'a>(core: &Module, names: &'a [Text]) -> &'a [Text]
 /// The outputs, in order, with these names.
 pub fn output_columns(alloc: Global, core: &Module, names: &[Text]) -> Result<Columns, OutOfMemory>
     ensures { IfOk result (λ columns. columns
-        ≡ map (output_column (cycles_in core.now) (latest_in core.now)) (zip (output_ports core.now) names.now)) }
+        ≡ map (output_column (clocks_of core.now) (latest_in core.now)) (zip (output_ports core.now) names.now)) }
 {
     let stalls = is_stallable(core);
-    let cycles = cycles_in(core);
+    let cycles = clocks_of(core);
     let latest = latest_in(core);
     let mut columns = Columns::new(alloc);
     let mut left = names;

@@ -1,9 +1,9 @@
 //! How many clocks a sample of the core takes, how late its outputs are, and the counters for both.
 ghost use Rattle.std.specs.Prelude.{◌≡◌, ◌<◌, ◌≤◌, ◌^◌};
-ghost use Rattle.st_wrap.specs.Pace.{cycles_in, latest_in, samples_late};
+ghost use Rattle.st_wrap.specs.Pace.{latest_in, samples_late};
 ghost use Rattle.st_wrap.specs.inner.Control.{CountFor, HasRoom};
 
-use vl_ast::{Module, Port, cycles_of, latency_of};
+use vl_ast::{Module, Port, clocks_of, lateness_of};
 use vl_check::{is_number_output, is_stallable};
 
 /// A counter's greatest number, and how many bits it has.
@@ -22,33 +22,19 @@ pub struct Counters {
     pub wait: Counter,
 }
 
-/// How many clocks a sample takes.
-pub fn cycles_in(core: &Module) -> u64
-    ensures is { result ≡ cycles_in core.now }
-    ensures some { 1 ≤ result }
-{
-    match cycles_of(core) {
-        None => 1,
-        Some(cycles) => cycles,
-    }
-}
-
 /// How many whole samples an output comes late.
 pub fn samples_late(cycles: u64, port: &Port) -> u64
     requires { 1 ≤ cycles }
     ensures { result ≡ samples_late cycles port.now }
 {
-    match latency_of(port) {
-        None => 0,
-        Some(latency) => latency / cycles,
-    }
+    lateness_of(port) / cycles
 }
 
 /// How many whole samples the latest output comes late.
 pub fn latest_in(core: &Module) -> u64
     ensures { result ≡ latest_in core.now }
 {
-    let cycles = cycles_in(core);
+    let cycles = clocks_of(core);
     let stalls = is_stallable(core);
     let mut latest = 0;
     for port in core.ports.as_slice() {
@@ -76,7 +62,7 @@ pub fn counters_for(core: &Module) -> Counters
     ensures { CountFor core.now result }
 {
     Counters {
-        phase: counter_to(cycles_in(core) - 1),
+        phase: counter_to(clocks_of(core) - 1),
         wait: counter_to(latest_in(core)),
     }
 }

@@ -7,9 +7,10 @@ use Rattle.vl_ast.specs.declared.expressions.Expr.TheVariants.{Name, Literal, Un
 use Rattle.vl_ast.specs.declared.modules.ModItem.{ModItem}
 use Rattle.vl_ast.specs.declared.modules.ModItem.TheVariants.{Wire, Reg, Assign, Always}
 use Rattle.vl_ast.specs.declared.modules.Module.{Module}
+use Rattle.vl_ast.specs.Attributes.{clocks_of}
 use Rattle.st_wrap.specs.declared.pace.Counter.{Counter}
 use Rattle.st_wrap.specs.declared.pace.Counters.{Counters}
-use Rattle.st_wrap.specs.Pace.{cycles_in, latest_in}
+use Rattle.st_wrap.specs.Pace.{latest_in}
 use Rattle.st_wrap.specs.inner.Columns.{moving, plain}
 use Rattle.st_wrap.specs.inner.Names.{begin_name, end_name, due_name, fed_name, open_name, enable_name, phase_name, wait_name}
 
@@ -21,7 +22,7 @@ pub record HasRoom (counter : Counter) : Type 0 where
 
 -- the counters count the clocks of a sample, and the samples that the latest output comes late
 pub record CountFor (core : Module) (counters : Counters) : Type 0 where
-  pub phase : counters.phase.most ≡ cycles_in core - 1
+  pub phase : counters.phase.most ≡ clocks_of core - 1
   pub wait : counters.wait.most ≡ latest_in core
   pub phase_room : HasRoom counters.phase
   pub wait_room : HasRoom counters.wait

@@ -4,10 +4,11 @@ use Rattle.vl_ast.specs.declared.modules.ModItem.{ModItem}
 use Rattle.vl_ast.specs.declared.modules.Port.{Port}
 use Rattle.vl_ast.specs.declared.modules.Module.{Module}
 use Rattle.vl_ast.specs.Header.{attribute_of, bit_input, input_port, output_port}
+use Rattle.vl_ast.specs.Attributes.{clocks_of}
 use Rattle.st_wrap.specs.declared.columns.Column.{Column}
 use Rattle.st_wrap.specs.declared.pace.Counters.{Counters}
 use Rattle.st_wrap.specs.Header.{flag, named_inputs, named_outputs}
-use Rattle.st_wrap.specs.Pace.{cycles_in, latest_in}
+use Rattle.st_wrap.specs.Pace.{latest_in}
 use Rattle.st_wrap.specs.inner.Columns.{column_port, held_declared, held_driven, input_column, late_declared, late_driven, output_column}
 use Rattle.st_wrap.specs.inner.Control.{CountFor, control_declared, control_driven}
 use Rattle.st_wrap.specs.inner.Renamed.{core_items, wires_of}
@@ -38,7 +39,7 @@ abbrev pub inputs_of : Module → List (List ℕ) → List Column
 inputs_of core names = map input_column (named_inputs core names)
 
 abbrev pub outputs_of : Module → List (List ℕ) → List Column
-outputs_of core names = map (output_column (cycles_in core) (latest_in core)) (named_outputs core names)
+outputs_of core names = map (output_column (clocks_of core) (latest_in core)) (named_outputs core names)
 
 abbrev pub made_of : Module → Counters → List Column → List Column → Module
 made_of core counters inputs outputs = record {
