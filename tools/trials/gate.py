@@ -126,10 +126,31 @@ class Wanting(unittest.TestCase):
         self.assertEqual(self.ends(line, "| `low/src/lib.rt` | a count | 32 |"), 0)
 
 
+class Editing(unittest.TestCase):
+    """An edit that the gate leaves out stands in a folder of its own, and can be applied."""
+
+    EDIT = "file: src/lib.rt\nold: a < b\nnew: a <= b\n"
+
+    def ends(self, edit, *words):
+        with tempfile.TemporaryDirectory() as room:
+            write(os.path.join(room, "crates/low/src/lib.rt"), "fn f() {\n    a < b;\n    c + c;\n}\n")
+            write(os.path.join(room, "crates/low/edits/takes_the_last.edit"), edit)
+            write(os.path.join(room, "tools/edits"), "")
+            shutil.copy(os.path.join(TOOLS, "edits"), os.path.join(room, "tools/edits"))
+            return subprocess.run([sys.executable, os.path.join(room, "tools/edits"), *words], capture_output=True, text=True).returncode
+
+    def test_texts(self):
+        self.assertEqual(self.ends(self.EDIT, "--texts"), 0)
+        self.assertEqual(self.ends(self.EDIT, "--texts", "low"), 0)
+        for odd in ("", self.EDIT.replace("a < b", "a > b"), self.EDIT.replace("a < b", "c"), self.EDIT.partition("\n")[2], self.EDIT + "and more\n"):
+            self.assertEqual(self.ends(odd, "--texts"), 1, odd)
+        self.assertEqual(self.ends(self.EDIT, "--texts", "high"), 2)
+
+
 class Gate(unittest.TestCase):
     CHECKS = (
-        "examples/run", "tools/streams", "tools/glossary", "tools/cites", "tools/memory", "tools/try", "tools/cross_check",
-        "tools/cross_values", "tools/cross_nets",
+        "examples/run", "tools/streams", "tools/glossary", "tools/cites", "tools/memory", "tools/edits", "tools/try",
+        "tools/cross_check", "tools/cross_values", "tools/cross_nets",
     )
 
     def gate(self, status, last, statuses):
