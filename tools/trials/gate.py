@@ -142,7 +142,18 @@ class Editing(unittest.TestCase):
     def test_texts(self):
         self.assertEqual(self.ends(self.EDIT, "--texts"), 0)
         self.assertEqual(self.ends(self.EDIT, "--texts", "low"), 0)
-        for odd in ("", self.EDIT.replace("a < b", "a > b"), self.EDIT.replace("a < b", "c"), self.EDIT.partition("\n")[2], self.EDIT + "and more\n"):
+        old, new = "old: a < b\n", "new: a <= b\n"
+        for odd in (
+            "",
+            self.EDIT.replace("a < b", "a > b"),
+            self.EDIT.replace("a < b", "c"),
+            self.EDIT.replace("lib.rt", "other.rt"),
+            self.EDIT.partition("\n")[2],
+            self.EDIT + "and more\n",
+            self.EDIT.replace(new, ""),
+            self.EDIT.replace(new, "new: a < b\n"),
+            self.EDIT.replace(old, ""),
+        ):
             self.assertEqual(self.ends(odd, "--texts"), 1, odd)
         self.assertEqual(self.ends(self.EDIT, "--texts", "high"), 2)
 
