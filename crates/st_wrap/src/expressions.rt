@@ -6,7 +6,7 @@ ghost use Rattle.st_wrap.specs.inner.Control.{is_zero, number};
 
 use fx_io::{Boxed, OutOfMemory, Text};
 use std::alloc::Global;
-use vl_ast::{BinOp, Expr, Sized, UnOp};
+use vl_ast::{BinOp, Bits128, Expr, Sized, UnOp};
 
 /// A name.
 pub fn named(alloc: Global, name: &[u8]) -> Result<Expr, OutOfMemory>
@@ -22,7 +22,7 @@ pub fn plain(width: u32, bits: u64) -> Sized
     Sized {
         width,
         signed: false,
-        bits: u128::from(bits),
+        bits: Bits128::new(u128::from(bits)),
     }
 }
 

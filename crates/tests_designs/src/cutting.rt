@@ -4,7 +4,7 @@ use anyhow::{Result, anyhow};
 use fx_io::{Boxed, OpenGate, Text};
 use std::alloc::Global;
 use std::thread::Threads;
-use vl_ast::{BinOp, Expr, ModItem, Module, Sized};
+use vl_ast::{BinOp, Bits128, Expr, ModItem, Module, Sized};
 use vl_read::read;
 use vl_write::write;
 
@@ -42,7 +42,7 @@ fn cut_taken(alloc: Global, module: &mut Module, register: &[u8]) -> Result<()> 
     let value = Expr::Literal(Sized {
         width,
         signed: false,
-        bits: 0,
+        bits: Bits128::new(0),
     });
     let items = module.items.as_mut_slice();
     if place < items.len() {
@@ -57,7 +57,7 @@ fn cut_factor(alloc: Global, module: &mut Module) -> Result<()> {
     let zero = Expr::Literal(Sized {
         width: 1,
         signed: true,
-        bits: 0,
+        bits: Bits128::new(0),
     });
     let zero = Boxed::new(alloc, zero)?;
     let items = module.items.as_mut_slice();

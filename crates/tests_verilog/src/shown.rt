@@ -20,6 +20,7 @@ fn put_sized(out: &mut String, number: &Sized) -> Result<()> {
         signed,
         bits,
     } = *number;
+    let bits = bits.get();
     let sign = sign(signed);
     write!(out, "{width}{sign}{bits}")?;
     Ok(())

@@ -17,6 +17,7 @@ mod expressions;
 mod laws;
 mod modules;
 mod operators;
+mod words;
 
 pub use attributes::{clocks_of, cycles_of, latency_of, lateness_of, period_of, step_of};
 pub use expressions::{BinOp, Expr, Exprs, ShiftOp, Sized, UnOp};
@@ -26,3 +27,4 @@ pub use laws::{
     sound_modules_spell, spelling_spells, steps_run, tokens_spell,
 };
 pub use modules::{Attr, Attrs, ModItem, ModItems, Module, Port, Ports};
+pub use words::Bits128;

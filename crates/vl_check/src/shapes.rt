@@ -60,7 +60,7 @@ pub fn is_number(number: &Sized) -> bool
         signed: _,
         bits,
     } = *number;
-    is_width(width) && fits_width(bits, width)
+    is_width(width) && fits_width(bits.get(), width)
 }
 
 fn unary_shape(op: UnOp, part: Option<Shape>) -> Option<Shape>

@@ -8,7 +8,7 @@ ghost use Rattle.vl_emit.specs.inner.Spoken.{called_text, wire_at};
 use fx_io::{Boxed, OutOfMemory, Text};
 use itoa::Buffer;
 use std::alloc::Global;
-use vl_ast::{Expr, Exprs, Sized};
+use vl_ast::{Bits128, Expr, Exprs, Sized};
 
 /// How a net or a port is called in the module.
 #[derive(Clone, Copy)]
@@ -68,7 +68,7 @@ pub fn zeros(width: u32) -> Expr
     Expr::Literal(Sized {
         width,
         signed: false,
-        bits: 0,
+        bits: Bits128::new(0),
     })
 }
 

@@ -12,7 +12,7 @@ use crate::operands::{Operand, at_width, beside, named, piece, zeros};
 use fx_io::{Boxed, OutOfMemory};
 use hw_net::NetOp;
 use std::alloc::Global;
-use vl_ast::{BinOp, Expr, ShiftOp, Sized, UnOp};
+use vl_ast::{BinOp, Bits128, Expr, ShiftOp, Sized, UnOp};
 
 /// So many bits without sign.
 pub fn plain(width: u32, bits: u128) -> Sized
@@ -21,7 +21,7 @@ pub fn plain(width: u32, bits: u128) -> Sized
     Sized {
         width,
         signed: false,
-        bits,
+        bits: Bits128::new(bits),
     }
 }
 
@@ -33,7 +33,7 @@ pub fn constant(width: u8, signed: bool, number: i128) -> Sized
     Sized {
         width: width as u32,
         signed: false,
-        bits: fx_num::to_bits(number, width, signed),
+        bits: Bits128::new(fx_num::to_bits(number, width, signed)),
     }
 }
 
@@ -190,7 +190,7 @@ fn shifted_up(alloc: Global, operand: Operand, places: u8, width: u32) -> Result
     let amount = Sized {
         width: 8,
         signed: false,
-        bits: places as u128,
+        bits: Bits128::new(u128::from(places)),
     };
     Ok(Expr::Shift(ShiftOp::Left, Boxed::new(alloc, part)?, amount))
 }

@@ -93,7 +93,7 @@ fn build_shift(
     push(
         ops,
         site.base,
-        shift_op(op, slot, amount.bits, width, signed),
+        shift_op(op, slot, amount.bits.get(), width, signed),
     )
 }
 

@@ -42,6 +42,7 @@ pub fn literal(number: &Sized, width: u32, signed: bool) -> u128
         signed: _,
         bits,
     } = *number;
+    let bits = bits.get();
     if signed && bits >= half_of(from) {
         bits + (mask_of(width) - mask_of(from))
     } else {

@@ -5,7 +5,7 @@ ghost use Rattle.vl_read.specs.inner.Plain.{is_name, count_of, constant_of};
 
 use crate::scan::Kind;
 use fx_text::{SHORT_DIGITS, read_short};
-use vl_ast::Sized;
+use vl_ast::{Bits128, Sized};
 use vl_names::is_identifier;
 
 /// How many digits a number without base has at most (own).
@@ -115,7 +115,7 @@ fn sized_by(width: u32, signed: bool, base: u32, digits: &[u8]) -> Option<Sized>
         Some(bits) => Some(Sized {
             width,
             signed,
-            bits,
+            bits: Bits128::new(bits),
         }),
     }
 }

@@ -1,4 +1,4 @@
-ghost use Rattle.std.specs.Prelude.{◌≡◌, [], ◌∷◌, ◌++◌, IfOk};
+ghost use Rattle.std.specs.Prelude.{◌≡◌, false, [], ◌∷◌, ◌++◌, IfOk};
 ghost use Rattle.vl_read.specs.inner.Places.{Items};
 ghost use Rattle.vl_read.specs.inner.Plain.{expect, start, finish, goes};
 ghost use Rattle.vl_read.specs.inner.Seen.{seen, place_seen, nothing};
@@ -9,14 +9,18 @@ use crate::scan::is;
 use fx_io::{OutOfMemory, Text};
 use std::alloc::Global;
 use std::mem;
-use vl_ast::{Attrs, Expr, ModItem, ModItems, Module, Ports, Sized};
+use vl_ast::{Attrs, Bits128, Expr, ModItem, ModItems, Module, Ports, Sized};
 
-/// What the reader holds where no operand was read.
-const NOTHING: Sized = Sized {
-    width: 1,
-    signed: false,
-    bits: 0,
-};
+/// The number that the reader holds where none was read.
+fn unread() -> Sized
+    ensures { result ≡ record { width = 1; signed = false; bits = 0 } }
+{
+    Sized {
+        width: 1,
+        signed: false,
+        bits: Bits128::new(0),
+    }
+}
 
 impl Reader {
     /// Before the first lexeme of a module of at most so many items.
@@ -35,11 +39,11 @@ impl Reader {
             held: Held {
                 attrs: Attrs::new(alloc),
                 name: Text::new(),
-                first: NOTHING,
+                first: unread(),
                 condition: None,
                 frames: Vec::new(alloc),
                 operand: Text::new(),
-                value: Expr::Literal(NOTHING),
+                value: Expr::Literal(unread()),
             },
         }
     }
@@ -114,7 +118,7 @@ impl Reader {
           held = record self.old.held { value = nothing };
         } }
     {
-        mem::replace(&mut self.held.value, Expr::Literal(NOTHING))
+        mem::replace(&mut self.held.value, Expr::Literal(unread()))
     }
 
     /// One more item, if the lexeme is this word.

@@ -32,7 +32,7 @@ pub fn put_sized(out: &mut Vec<u8>, number: &Sized) -> Result<(), OutOfMemory>
         put(out, b"s")?;
     }
     put(out, b"d")?;
-    put_number(out, number.bits)
+    put_number(out, number.bits.get())
 }
 
 /// Puts the word of a signed net.

@@ -6,6 +6,7 @@ use Rattle.vl_ast.specs.Nets.{names_read}
 use Rattle.vl_check.specs.Scope.{nets_in}
 use Rattle.vl_eval.specs.declared.ops.Op.{Op}
 use Rattle.vl_eval.specs.declared.site.Site.{Site}
+use Rattle.vl_eval.specs.inner.Built.{shift_op}
 use Rattle.vl_eval.specs.inner.Shown.{Pushed}
 use Rattle.vl_eval.specs.inner.Site.{ArePlaced, Built}
 use Rattle.vl_eval.proofs.Results.{if-ok}
@@ -203,7 +204,7 @@ pub build_shift-returns : goal.build_shift-returns
 build_shift-returns t c =
     let site = c.args.site.now in
     if-ok c.push.result (λ slot p. built-shift c.meaning_by_layer.ensures.value site.base site.scope.now site.slots.now c.args.op c.args.part.now c.args.amount.now c.args.ops.now.items c.build.new.ops.items c.push.new.ops.items c.in_ok-slot.slot slot c.args.width c.args.signed
-    c.requires.sound c.requires.longer c.requires.most c.in_ok-slot.ensures (subst (λ o. Pushed site.base c.build.new.ops.items c.push.new.ops.items slot o) c.shift_op.ensures p)) c.push.ensures
+    c.requires.sound c.requires.longer c.requires.most c.in_ok-slot.ensures (subst (λ o. Pushed site.base c.build.new.ops.items c.push.new.ops.items slot o) (c.shift_op.ensures ∙ ap (λ (places : ℕ). shift_op c.args.op c.in_ok-slot.slot places c.args.width c.args.signed) c.get.ensures) p)) c.push.ensures
 
 pub build_copies-build_alone-requires : goal.build_copies-build_alone-requires
 build_copies-build_alone-requires t c =
