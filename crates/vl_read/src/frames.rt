@@ -9,7 +9,9 @@ ghost use Rattle.vl_read.specs.inner.Seen.{seen, goal_of, frames_of, spot_of};
 ghost use Rattle.vl_read.specs.inner.Turns.{stepped};
 
 use crate::numbers::{constant_of, count_of, kind_of};
-use crate::pieces::{binary, bit, cast, choose, concat, innermost, part, repeat, shift, unary};
+use crate::pieces::{
+    binary, bit, cast, choose, concat, innermost, part, repeat, shift, unary, with_operand,
+};
 use crate::places::{Closing, Frame, Goal, Place, Reader, Spot};
 use crate::scan::is;
 use fx_io::{Boxed, OutOfMemory};
@@ -54,7 +56,7 @@ impl Reader {
     fn concat_step(
         &mut self,
         goal: Goal,
-        mut parts: Exprs,
+        parts: Exprs,
         value: Expr,
         lexeme: &[u8],
     ) -> Result<bool, OutOfMemory>
@@ -62,7 +64,7 @@ impl Reader {
             ≡ frame_step self.old.draft (goal_of self.old goal) (frames_of self.old)
             (InConcat parts) value lexeme.now) }
     {
-        parts.push(value)?;
+        let parts = with_operand(parts, value)?;
         if is(lexeme, ",") {
             return self.inside(goal, Frame::InConcat(parts), Spot::Operand);
         }
