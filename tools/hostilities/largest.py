@@ -101,6 +101,19 @@ def trees(length):
     return "".join([*text, "endmodule\n"]).encode()
 
 
+def braces(length):
+    """A Verilog text of concatenations of one operand, each in another, and of wires that have them."""
+    depth = 250
+    link = lambda one, other: f"wire w{other}; assign w{one} = {'{' * depth}w{other}{'}' * depth};\n"
+    return linked(length - 2 * depth, "wire w0; assign y = w0;\n", link, lambda one: f"assign w{one} = a;\n")
+
+
+def shown(outputs):
+    """A Verilog text without inputs, whose outputs are numbers."""
+    ports = "".join(f", (* fx_period = 1, fx_latency = 0 *) output wire y{one}" for one in range(outputs))
+    return ("(* fx_cycles = 1 *) module m (input wire clk, input wire reset" + ports + ");\n" + "".join(f"assign y{one} = 1'd1;\n" for one in range(outputs)) + "endmodule\n").encode()
+
+
 def items(length):
     """One-bit wires that nothing drives but a constant."""
     count = (length - len(HEAD) - 40) // 29
@@ -116,9 +129,12 @@ def cases():
             yield what, (command, "m", second), {"m": text, "s": lambda: b"5\n" * 10}
     yield "19,998 gains in a chain, 256 plans", ("explore", "m", "1..16,0..15"), {"m": gains}
     yield "a name of 16,777,116 bytes", ("check", "m", "-"), {"m": lambda: long_name(MOST - 100)}
-    for what, text in (("wires in a chain", wires), ("registers in a chain", registers), ("wires from the input", items), ("long expressions", trees)):
+    for what, text in (("wires in a chain", wires), ("registers in a chain", registers), ("wires from the input", items), ("long expressions", trees), ("nested concatenations", braces)):
         yield f"Verilog of {what}", ("replay", "m", "s"), {"m": lambda text=text: text(MOST), "s": lambda: b"1\n"}
     yield "16,666,666 rows without inputs, 3 outputs", ("simulate", "m", "s"), {"m": lambda: fan(0, 3), "s": lambda: b"\n" * (50000000 // 3)}
+    yield "50,000 rows without inputs, 1,000 outputs", ("simulate", "m", "s"), {"m": lambda: fan(0, 1000), "s": lambda: b"\n" * 50000}
+    yield "16,666,666 rows without inputs, 3 outputs", ("replay", "m", "s"), {"m": lambda: shown(3), "s": lambda: b"\n" * (50000000 // 3)}
+    yield "50,000 rows without inputs, 1,000 outputs", ("replay", "m", "s"), {"m": lambda: shown(1000), "s": lambda: b"\n" * 50000}
     yield "8,333,333 rows of an input, 5 outputs", ("simulate", "m", "s"), {"m": lambda: fan(1, 5), "s": lambda: b"7\n" * (50000000 // 6)}
     yield "8,388 rows of 1,000 inputs", ("simulate", "m", "s"), {"m": lambda: fan(1000, 1), "s": lambda: (b"7 " * 999 + b"7\n") * (MOST // 2000)}
     yield "8,388,608 rows of an input", ("replay", "m", "s"), {"m": lambda: held(os.path.join(TOP, "examples", "unit_delay.v")), "s": lambda: b"7\n" * (MOST // 2)}
