@@ -93,7 +93,7 @@ module _ (bytes rest : List ℕ) (parser : Parser) (mode : Mode) (lexeme : List 
   pub line_within : line + length rest ≤ 1 + length bytes
   line_within = omega (arith, reached.number, count_by-le-length newline reached.before, ap length reached.whole, length-append (reached.before ++ reached.here) rest, length-append reached.before reached.here)
 
-  reads_all : reading most_items bytes ≡ ahead parser mode lexeme rest
+  pub reads_all : reading most_items bytes ≡ ahead parser mode lexeme rest
   reads_all = ap (reading most_items) reached.whole ∙ reached.reads rest (alike_itself rest)
 
   pub found : (m : Module) → ahead parser mode lexeme rest ≡ Some m → Spells bytes m × (length m.items ≤ most_items)

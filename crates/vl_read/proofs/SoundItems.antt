@@ -1,5 +1,5 @@
 -- What each lexeme adds to an item.
-use Rattle.std.proofs.Common.{◌≡◌, ℕ, ◌+◌, ◌<◌, true, cond, List, [], ◌∷◌, ◌++◌, take, length, Some, None, ⊎_elim, refl, sym, ◌∙◌, ap, subst, codes, arith, append_assoc, append-nil, length-append, bytes_eq}
+use Rattle.std.proofs.Common.{◌≡◌, ℕ, ◌<◌, true, cond, List, [], ◌∷◌, ◌++◌, take, length, Some, None, ⊎_elim, refl, sym, ◌∙◌, ap, subst, codes, arith, append_assoc, append-nil, length-append, bytes_eq}
 use Rattle.std.specs.List.{flat_map}
 use Rattle.std.proofs.lemmas.Grind.{flat_map-append}
 use Rattle.vl_ast.specs.declared.modules.ModItem.{ModItem}

@@ -19,8 +19,8 @@ abbrev pub IsVerilogFaultLine : List ℕ → ℕ → Type 0
 IsVerilogFaultLine bytes line = IsFaultLine IsVerilog bytes line
 
 -- P holds of the line, where the answer is a fault in the text
-abbrev pub IfSyntax : Result Module VlSyntax → (ℕ → Type 0) → Type 0
-IfSyntax (Ok m) P = Unit {0}
+abbrev pub IfSyntax : {A : Type 0} → Result A VlSyntax → (ℕ → Type 0) → Type 0
+IfSyntax (Ok read) P = Unit {0}
 IfSyntax (Err (Syntax line)) P = P line
 IfSyntax (Err OutOfMemory) P = Unit {0}
 

@@ -43,7 +43,7 @@ impl Reader {
             }
             None => match ShiftOp::of_text(lexeme) {
                 Some(op) => {
-                    self.held.value = value;
+                    self.hold(value);
                     Ok(self.spot(goal, Spot::Amount(op)))
                 }
                 None => Ok(false),
@@ -68,7 +68,7 @@ impl Reader {
         if is(lexeme, ",") {
             return self.inside(goal, Frame::InConcat(parts), Spot::Operand);
         }
-        self.held.value = concat(parts);
+        self.hold(concat(parts));
         Ok(self.expect_spot(b'}', lexeme, goal, Spot::Value))
     }
 
@@ -110,23 +110,23 @@ impl Reader {
             Frame::InLeft => self.left_step(alloc, goal, value, lexeme),
             Frame::InChosen(test) => self.chosen_step(alloc, goal, test, value, lexeme),
             Frame::InRepeat(count) => {
-                self.held.value = repeat(alloc, count, value)?;
+                self.hold(repeat(alloc, count, value)?);
                 Ok(self.expect_spot(b'}', lexeme, goal, Spot::Ends(Closing::CloseBrace)))
             }
             Frame::InCast(signed) => {
-                self.held.value = cast(alloc, signed, value)?;
+                self.hold(cast(alloc, signed, value)?);
                 Ok(self.expect_spot(b')', lexeme, goal, Spot::Value))
             }
             Frame::InUnary(op) => {
-                self.held.value = unary(alloc, op, value)?;
+                self.hold(unary(alloc, op, value)?);
                 Ok(self.expect_spot(b')', lexeme, goal, Spot::Value))
             }
             Frame::InRight(op, left) => {
-                self.held.value = binary(alloc, op, left, value)?;
+                self.hold(binary(alloc, op, left, value)?);
                 Ok(self.expect_spot(b')', lexeme, goal, Spot::Value))
             }
             Frame::InOther(test, chosen) => {
-                self.held.value = choose(alloc, test, chosen, value)?;
+                self.hold(choose(alloc, test, chosen, value)?);
                 Ok(self.expect_spot(b')', lexeme, goal, Spot::Value))
             }
         }
@@ -197,7 +197,8 @@ impl Reader {
             (High self.old.held.operand place) Fixed lexeme.now }
     {
         if is(lexeme, "]") {
-            self.held.value = bit(self.take_operand(), place);
+            let name = self.take_operand();
+            self.hold(bit(name, place));
             self.spot(goal, Spot::Value)
         } else {
             self.expect_spot(b':', lexeme, goal, Spot::Low(place))
@@ -221,7 +222,7 @@ impl Reader {
             None => Ok(false),
             Some(amount) => {
                 let value = self.take_value();
-                self.held.value = shift(alloc, op, value, amount)?;
+                self.hold(shift(alloc, op, value, amount)?);
                 Ok(self.spot(goal, Spot::Ends(Closing::CloseParenthesis)))
             }
         }
@@ -237,7 +238,8 @@ impl Reader {
         match count_of(lexeme) {
             None => false,
             Some(low) => {
-                self.held.value = part(self.take_operand(), high, low);
+                let name = self.take_operand();
+                self.hold(part(name, high, low));
                 self.spot(goal, Spot::Ends(Closing::CloseBracket))
             }
         }

@@ -64,7 +64,7 @@ impl Reader {
         if !is_name(lexeme) {
             return Ok(false);
         }
-        self.held.name = Text::copy(alloc, lexeme)?;
+        self.hold_name(Text::copy(alloc, lexeme)?);
         let at = AttrSpot::AttrSign;
         Ok(self.goes(Place::Attributes { of_port, at }))
     }
@@ -112,6 +112,32 @@ impl Reader {
         }
     }
 
+    /// The declaration of a port is read to its name.
+    #[tactic(auto, unfolding(crate::specs::inner::Plain::declared))]
+    fn port_declared(
+        &mut self,
+        alloc: Global,
+        input: bool,
+        signed: bool,
+        width: u32,
+        name: &[u8],
+    ) -> Result<bool, OutOfMemory>
+        ensures { IfOk result (λ said. stepped said (seen self.new)
+            ≡ declared self.old.draft (net_seen self.old.held.attrs (NetKind.OfPort input))
+            signed width name.now) }
+    {
+        let name = Text::copy(alloc, name)?;
+        let attrs = mem::replace(&mut self.held.attrs, Attrs::new(alloc));
+        self.draft.ports.push(Port {
+            attrs,
+            input,
+            signed,
+            width,
+            name,
+        })?;
+        Ok(self.goes(Place::AfterPort))
+    }
+
     /// A declaration is read to its name (IEEE 1364-2005, 4.2.1, 4.2.2 and 12.3.3).
     #[tactic(auto, unfolding(crate::specs::inner::Plain::declared))]
     fn declared(
@@ -125,25 +151,14 @@ impl Reader {
         ensures { IfOk result (λ said. stepped said (seen self.new)
             ≡ declared self.old.draft (net_seen self.old.held.attrs net) signed width name.now) }
     {
-        let name = Text::copy(alloc, name)?;
         match net {
-            NetKind::OfPort { input } => {
-                let attrs = mem::replace(&mut self.held.attrs, Attrs::new(alloc));
-                self.draft.ports.push(Port {
-                    attrs,
-                    input,
-                    signed,
-                    width,
-                    name,
-                })?;
-                Ok(self.goes(Place::AfterPort))
-            }
+            NetKind::OfPort { input } => self.port_declared(alloc, input, signed, width, name),
             NetKind::OfWire => {
-                self.held.name = name;
+                self.hold_name(Text::copy(alloc, name)?);
                 Ok(self.goes(Place::AfterWire { signed, width }))
             }
             NetKind::OfReg => {
-                self.held.name = name;
+                self.hold_name(Text::copy(alloc, name)?);
                 Ok(self.goes(Place::AfterReg { signed, width }))
             }
         }

@@ -95,11 +95,11 @@ impl Reader {
     {
         match kind {
             Kind::Name => {
-                self.held.value = named(Text::copy(alloc, lexeme)?);
+                self.hold(named(Text::copy(alloc, lexeme)?));
                 Ok(self.spot(goal, Spot::Value))
             }
             Kind::Constant(number) => {
-                self.held.value = literal(number);
+                self.hold(literal(number));
                 Ok(self.spot(goal, Spot::Value))
             }
             Kind::Count(_) => Ok(false),

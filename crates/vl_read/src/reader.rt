@@ -22,6 +22,32 @@ fn unread() -> Sized
     }
 }
 
+impl Draft {
+    /// The module, whose items are all read.
+    fn module(self) -> Module
+        ensures { result ≡ record {
+          name = self.name;
+          attrs = self.attrs;
+          ports = self.ports;
+          items = self.items;
+        } }
+    {
+        let Draft {
+            name,
+            attrs,
+            ports,
+            items,
+            most: _,
+        } = self;
+        Module {
+            name,
+            attrs,
+            ports,
+            items,
+        }
+    }
+}
+
 impl Reader {
     /// Before the first lexeme of a module of at most so many items.
     pub fn new(alloc: Global, most: usize) -> Reader
@@ -52,27 +78,13 @@ impl Reader {
     pub fn finish(self) -> Option<Module>
         ensures { result ≡ finish (seen self) }
     {
-        let Reader {
-            draft,
-            place,
-            held: _,
-        } = self;
-        if !matches!(place, Place::Done) {
-            return None;
+        let Reader { draft, place, held } = self;
+        drop(held);
+        if matches!(place, Place::Done) {
+            Some(draft.module())
+        } else {
+            None
         }
-        let Draft {
-            name,
-            attrs,
-            ports,
-            items,
-            most: _,
-        } = draft;
-        Some(Module {
-            name,
-            attrs,
-            ports,
-            items,
-        })
     }
 
     /// The reading goes on at a place.
@@ -119,6 +131,27 @@ impl Reader {
         } }
     {
         mem::replace(&mut self.held.value, Expr::Literal(unread()))
+    }
+
+    /// Holds the operand that was read last.
+    pub fn hold(&mut self, value: Expr)
+        ensures { self.new ≡ record self.old { held = record self.old.held { value = value } } }
+    {
+        self.held.value = value;
+    }
+
+    /// Holds a name.
+    pub fn hold_name(&mut self, name: Text)
+        ensures { self.new ≡ record self.old { held = record self.old.held { name = name } } }
+    {
+        self.held.name = name;
+    }
+
+    /// Holds the attributes that stand before what is read next.
+    pub fn hold_attrs(&mut self, attrs: Attrs)
+        ensures { self.new ≡ record self.old { held = record self.old.held { attrs = attrs } } }
+    {
+        self.held.attrs = attrs;
     }
 
     /// One more item, if the lexeme is this word.

@@ -1,10 +1,10 @@
 ghost use Rattle.std.specs.Prelude.{◌≡◌, ◌≤◌, [], true, false, length, IfOk, option_and_then};
 ghost use Rattle.vl_ast.specs.Grammar.{Spells, most_items};
 ghost use Rattle.vl_read.specs.inner.Lexemes.{last_lexemes};
-ghost use Rattle.vl_read.specs.inner.Plain.{parse};
+ghost use Rattle.vl_read.specs.inner.Plain.{parse, reading, start};
 ghost use Rattle.vl_read.specs.Prefix.{IsRefused, IsVerilogFaultLine, IfSyntax};
 ghost use Rattle.vl_read.specs.inner.Seen.{seen};
-ghost use Rattle.vl_read.specs.inner.Turns.{IsBeyond, IsWithin, line_at};
+ghost use Rattle.vl_read.specs.inner.Turns.{IsBeyond, IsWithin, ahead, line_at};
 
 use crate::fault::VlSyntax;
 use crate::places::Reader;
@@ -42,26 +42,24 @@ fn last(reader: Reader, mode: Mode) -> Option<Module>
     requires { IsBeyond mode }
     ensures { result ≡ option_and_then (parse (seen reader)) (last_lexemes mode []) }
 {
+    let module = reader.finish();
     match mode {
-        Mode::Between | Mode::LineComment => reader.finish(),
+        Mode::Between | Mode::LineComment => module,
         Mode::Word | Mode::Mark | Mode::Slash | Mode::BlockComment | Mode::Star => None,
     }
 }
 
-/// Reads a Verilog text of the subset into its module (IEEE 1364-2005, of which the subset keeps the
-/// forms of `vl_ast`'s grammar).
-///
-/// `VlSyntax::Syntax` has the line at which the bytes stop being the beginning of such a text, counted
-/// from 1.
-pub fn read(alloc: Global, bytes: &[u8]) -> Result<Module, VlSyntax>
-    // The bytes spell the module, which has at most 4,000,000 items.
-    ensures found { IfOk result (λ m. Spells bytes.now m) }
-    ensures few { IfOk result (λ m. length m.items ≤ most_items) }
-    // A fault in the text comes only where they spell no such module.
+/// Reads the lexemes of the bytes, and tells where the reading is behind them.
+fn read_lexemes(alloc: Global, bytes: &[u8], reader: &mut Reader) -> Result<Mode, VlSyntax>
+    requires first { seen reader.old ≡ start most_items }
+    ensures beyond { IfOk result IsBeyond }
+    ensures ahead { IfOk result (λ mode. reading most_items bytes.now
+        ≡ ahead (seen reader.new) mode [] []) }
+    ensures stops { IfOk result (λ mode. ahead (seen reader.new) mode [] [] ≡ None
+        → IsVerilogFaultLine bytes.now (line_at bytes.now)) }
     ensures refused { IfSyntax result (λ _. IsRefused bytes.now) }
     ensures line { IfSyntax result (λ line. IsVerilogFaultLine bytes.now line) }
 {
-    let mut reader = Reader::new(alloc, MOST_ITEMS);
     let mut mode = Mode::Between;
     let mut at = 0;
     while at < bytes.len() {
@@ -84,6 +82,24 @@ pub fn read(alloc: Global, bytes: &[u8]) -> Result<Module, VlSyntax>
         mode = Mode::Between;
         at = end;
     }
+    Ok(mode)
+}
+
+/// Reads a Verilog text of the subset into its module (IEEE 1364-2005, of which the subset keeps the
+/// forms of `vl_ast`'s grammar).
+///
+/// `VlSyntax::Syntax` has the line at which the bytes stop being the beginning of such a text, counted
+/// from 1.
+pub fn read(alloc: Global, bytes: &[u8]) -> Result<Module, VlSyntax>
+    // The bytes spell the module, which has at most 4,000,000 items.
+    ensures found { IfOk result (λ m. Spells bytes.now m) }
+    ensures few { IfOk result (λ m. length m.items ≤ most_items) }
+    // A fault in the text comes only where they spell no such module.
+    ensures refused { IfSyntax result (λ _. IsRefused bytes.now) }
+    ensures line { IfSyntax result (λ line. IsVerilogFaultLine bytes.now line) }
+{
+    let mut reader = Reader::new(alloc, MOST_ITEMS);
+    let mode = read_lexemes(alloc, bytes, &mut reader)?;
     match last(reader, mode) {
         None => Err(VlSyntax::Syntax {
             line: line_at(bytes),

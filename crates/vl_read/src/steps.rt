@@ -55,7 +55,7 @@ impl Reader {
         ensures { stepped result (seen self.new) ≡ step_at self.old.draft Start Fixed lexeme.now }
     {
         if is(lexeme, "(*") && has_none(&self.draft.attrs) {
-            self.held.attrs = Attrs::new(alloc);
+            self.hold_attrs(Attrs::new(alloc));
             self.goes(Place::Attributes {
                 of_port: false,
                 at: AttrSpot::AttrName,
@@ -73,7 +73,7 @@ impl Reader {
     {
         let at = NetSpot::Word;
         if is(lexeme, "(*") && has_none(&self.held.attrs) {
-            self.held.attrs = Attrs::new(alloc);
+            self.hold_attrs(Attrs::new(alloc));
             self.goes(Place::Attributes {
                 of_port: true,
                 at: AttrSpot::AttrName,
@@ -92,7 +92,7 @@ impl Reader {
         ensures { stepped result (seen self.new)
             ≡ expect word.now lexeme.now self.old.draft (Port []) }
     {
-        self.held.attrs = Attrs::new(alloc);
+        self.hold_attrs(Attrs::new(alloc));
         self.expect(word, lexeme, Place::Port)
     }
 
@@ -143,7 +143,7 @@ impl Reader {
         if !is_name(lexeme) {
             return Ok(false);
         }
-        self.held.name = Text::copy(alloc, lexeme)?;
+        self.hold_name(Text::copy(alloc, lexeme)?);
         Ok(self.goes(place))
     }
 
