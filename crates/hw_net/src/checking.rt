@@ -59,23 +59,22 @@ pub fn arity(op: NetOp) -> usize
     ensures { result ≡ arity op }
 {
     match op {
-        NetOp::Input(_) => 0,
-        NetOp::Const(_) => 0,
-        NetOp::Resize => 1,
-        NetOp::ShiftUp(_) => 1,
-        NetOp::ShiftDown(_) => 1,
-        NetOp::Add => 2,
-        NetOp::Subtract => 2,
-        NetOp::Negate => 1,
-        NetOp::Multiply => 2,
-        NetOp::And => 2,
-        NetOp::Or => 2,
-        NetOp::Xor => 2,
-        NetOp::Not => 1,
-        NetOp::Less => 2,
-        NetOp::Equal => 2,
+        NetOp::Input(_) | NetOp::Const(_) => 0,
+        NetOp::Resize
+        | NetOp::ShiftUp(_)
+        | NetOp::ShiftDown(_)
+        | NetOp::Negate
+        | NetOp::Not
+        | NetOp::Slice { .. } => 1,
+        NetOp::Add
+        | NetOp::Subtract
+        | NetOp::Multiply
+        | NetOp::And
+        | NetOp::Or
+        | NetOp::Xor
+        | NetOp::Less
+        | NetOp::Equal => 2,
         NetOp::Choose => 3,
-        NetOp::Slice { .. } => 1,
     }
 }
 
@@ -94,21 +93,21 @@ fn has_parts(nets: &[Net], inputs: usize, args: &[u32], op: NetOp) -> bool
 {
     match op {
         NetOp::Input(number) => (number as usize) < inputs,
-        NetOp::Const(_) => true,
-        NetOp::Resize => true,
-        NetOp::ShiftUp(_) => true,
-        NetOp::ShiftDown(_) => true,
-        NetOp::Add => true,
-        NetOp::Subtract => true,
-        NetOp::Negate => true,
-        NetOp::Multiply => true,
-        NetOp::And => true,
-        NetOp::Or => true,
-        NetOp::Xor => true,
-        NetOp::Not => true,
-        NetOp::Less => true,
-        NetOp::Equal => true,
-        NetOp::Choose => true,
+        NetOp::Const(_)
+        | NetOp::Resize
+        | NetOp::ShiftUp(_)
+        | NetOp::ShiftDown(_)
+        | NetOp::Add
+        | NetOp::Subtract
+        | NetOp::Negate
+        | NetOp::Multiply
+        | NetOp::And
+        | NetOp::Or
+        | NetOp::Xor
+        | NetOp::Not
+        | NetOp::Less
+        | NetOp::Equal
+        | NetOp::Choose => true,
         NetOp::Slice { high, low } => has_bits(nets, args, high, low),
     }
 }
@@ -252,12 +251,12 @@ fn shows_input(net: &Net, place: usize) -> bool
             op: NetOp::Input(input),
             args,
         } => *input as usize == place && args.as_slice().is_empty(),
-        NetKind::Comb { .. } => false,
-        NetKind::Reg { .. } => false,
-        NetKind::EnReg { .. } => false,
-        NetKind::Bridge { .. } => false,
-        NetKind::Unit { .. } => false,
-        NetKind::Counter { .. } => false,
+        NetKind::Comb { .. }
+        | NetKind::Reg { .. }
+        | NetKind::EnReg { .. }
+        | NetKind::Bridge { .. }
+        | NetKind::Unit { .. }
+        | NetKind::Counter { .. } => false,
     }
 }
 

@@ -194,12 +194,12 @@ fn counted(kind: &NetKind) -> Option<Frame>
     ensures { result ≡ counted_frame kind.now }
 {
     match kind {
-        NetKind::Comb { .. } => None,
-        NetKind::Reg { .. } => None,
-        NetKind::EnReg { .. } => None,
-        NetKind::Bridge { .. } => None,
-        NetKind::Unit { .. } => None,
         NetKind::Counter { frame } => Some(*frame),
+        NetKind::Comb { .. }
+        | NetKind::Reg { .. }
+        | NetKind::EnReg { .. }
+        | NetKind::Bridge { .. }
+        | NetKind::Unit { .. } => None,
     }
 }
 
@@ -208,12 +208,16 @@ fn resizes(kind: &NetKind) -> bool
     ensures { IsTrue result ↔ ((args : List ℕ) × (kind.now ≡ Comb Resize args)) }
 {
     match kind {
-        NetKind::Comb { op, args: _ } => *op == NetOp::Resize,
-        NetKind::Reg { .. } => false,
-        NetKind::EnReg { .. } => false,
-        NetKind::Bridge { .. } => false,
-        NetKind::Unit { .. } => false,
-        NetKind::Counter { .. } => false,
+        NetKind::Comb {
+            op: NetOp::Resize,
+            args: _,
+        } => true,
+        NetKind::Comb { .. }
+        | NetKind::Reg { .. }
+        | NetKind::EnReg { .. }
+        | NetKind::Bridge { .. }
+        | NetKind::Unit { .. }
+        | NetKind::Counter { .. } => false,
     }
 }
 

@@ -70,7 +70,7 @@ pub enum NetKind {
 }
 
 /// An operation on numbers, cut to the word of its net (own).
-#[derive(Clone, Copy, Debug, PartialEq, Eq)]
+#[derive(Clone, Copy)]
 pub enum NetOp {
     /// The input of this number.
     Input(u32),

@@ -42,11 +42,9 @@ fn link_net(readers: &mut [Sizes], one: &Net, reader: u32) -> Result<(), OutOfMe
 {
     match &one.kind {
         NetKind::Comb { op: _, args } => link_all(readers, args.as_slice(), reader),
-        NetKind::Reg { .. } => Ok(()),
-        NetKind::EnReg { .. } => Ok(()),
         NetKind::Bridge { from, .. } => link_all(readers, &[*from], reader),
         NetKind::Unit { left, right } => link_all(readers, &[*left, *right], reader),
-        NetKind::Counter { .. } => Ok(()),
+        NetKind::Reg { .. } | NetKind::EnReg { .. } | NetKind::Counter { .. } => Ok(()),
     }
 }
 
@@ -84,11 +82,9 @@ fn is_ready(ranks: &[Option<u32>], one: &Net) -> bool
 {
     match &one.kind {
         NetKind::Comb { op: _, args } => all_placed(ranks, args.as_slice()),
-        NetKind::Reg { .. } => true,
-        NetKind::EnReg { .. } => true,
         NetKind::Bridge { from, .. } => all_placed(ranks, &[*from]),
         NetKind::Unit { left, right } => all_placed(ranks, &[*left, *right]),
-        NetKind::Counter { .. } => true,
+        NetKind::Reg { .. } | NetKind::EnReg { .. } | NetKind::Counter { .. } => true,
     }
 }
 

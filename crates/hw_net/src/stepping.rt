@@ -99,7 +99,7 @@ fn counted(frame: Frame, cycles: u32, old: i128) -> i128
     if old > 0 {
         old - 1
     } else {
-        i128::from(length_of(frame, cycles)) - 1
+        i128::from(length_of(frame, cycles) - 1)
     }
 }
 
