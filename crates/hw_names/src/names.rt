@@ -1,5 +1,5 @@
 //! The names of ports.
-ghost use Rattle.std.specs.Prelude.{◌≡◌, ◌++◌, ◌∷◌, ◌↔◌, ℕ, List, false, map, Contains, IsTrue, IfOk, OnOk, decimal, ◌+◌, ◌<◌, ◌^◌};
+ghost use Rattle.std.specs.Prelude.{◌≡◌, [], ◌++◌, ◌∷◌, ◌↔◌, ℕ, List, false, map, Contains, IsTrue, IfOk, OnOk, decimal, ◌+◌, ◌<◌, ◌^◌};
 ghost use Rattle.hw_names.specs.Names.{plain_byte as plain_byte_of, undoubled, element_name as element_name_of, port_name as port_name_of, numbered as numbered_of, own_names, handshake_names, IsGiven, IsNumbered};
 ghost use Rattle.hw_names.specs.Taken.{AreTaken, AreTried};
 
@@ -95,18 +95,22 @@ pub struct Names {
 }
 
 impl Names {
+    /// No names.
+    fn empty(alloc: Global) -> Names
+        ensures { AreTaken result [] }
+    {
+        Names {
+            taken: BTreeSet::new(alloc),
+            numbers: BTreeMap::new(alloc),
+        }
+    }
+
     /// The names that every module has.
     pub fn new(alloc: Global) -> Result<Names, OutOfMemory>
         ensures { IfOk result (λ names. AreTaken names own_names) }
     {
-        let mut names = Names {
-            taken: BTreeSet::new(alloc),
-            numbers: BTreeMap::new(alloc),
-        };
-        names.take(Vec::from_slice(alloc, b"ce_out")?)?;
-        names.take(Vec::from_slice(alloc, b"clk_enable")?)?;
-        names.take(Vec::from_slice(alloc, b"reset")?)?;
-        names.take(Vec::from_slice(alloc, b"clk")?)?;
+        let mut names = Names::empty(alloc);
+        names.take_own(alloc)?;
         Ok(names)
     }
 
@@ -115,11 +119,41 @@ impl Names {
         ensures { IfOk result (λ names. AreTaken names (handshake_names ++ own_names)) }
     {
         let mut names = Names::new(alloc)?;
-        names.take(Vec::from_slice(alloc, b"out_valid")?)?;
-        names.take(Vec::from_slice(alloc, b"in_ready")?)?;
-        names.take(Vec::from_slice(alloc, b"out_ready")?)?;
-        names.take(Vec::from_slice(alloc, b"in_valid")?)?;
+        names.take_handshake(alloc)?;
         Ok(names)
+    }
+
+    /// Takes the names that every module has.
+    fn take_own(&mut self, alloc: Global) -> Result<(), OutOfMemory>
+        ensures { OnOk result (AreTaken self.old [] → AreTaken self.new own_names) }
+    {
+        self.take_bytes(alloc, b"ce_out")?;
+        self.take_bytes(alloc, b"clk_enable")?;
+        self.take_bytes(alloc, b"reset")?;
+        self.take_bytes(alloc, b"clk")?;
+        Ok(())
+    }
+
+    /// Takes those that a module has beside them with valid and ready.
+    fn take_handshake(&mut self, alloc: Global) -> Result<(), OutOfMemory>
+        ensures { OnOk result (AreTaken self.old own_names
+            → AreTaken self.new (handshake_names ++ own_names)) }
+    {
+        self.take_bytes(alloc, b"out_valid")?;
+        self.take_bytes(alloc, b"in_ready")?;
+        self.take_bytes(alloc, b"out_ready")?;
+        self.take_bytes(alloc, b"in_valid")?;
+        Ok(())
+    }
+
+    /// Takes the name of these bytes.
+    fn take_bytes(&mut self, alloc: Global, name: &[u8]) -> Result<(), OutOfMemory>
+        ensures { OnOk result ((list : List (List ℕ)) → AreTaken self.old list →
+            AreTaken self.new (name.now ∷ list)) }
+    {
+        let own = Vec::from_slice(alloc, name)?;
+        self.take(own)?;
+        Ok(())
     }
 
     /// Takes a name.

@@ -1,0 +1,6 @@
+use Rattle.std.proofs.Common.{codes, ◌∷◌}
+use Rattle.hw_names.specs.Names.{own_names}
+use Rattle.hw_names.proofs.names.Names.take_handshake.Goals as goal
+
+pub returns : goal.returns
+returns c are = c.in_ok-take_bytes-4.ensures (codes "out_ready" ∷ codes "in_ready" ∷ codes "out_valid" ∷ own_names) (c.in_ok-take_bytes-3.ensures (codes "in_ready" ∷ codes "out_valid" ∷ own_names) (c.in_ok-take_bytes-2.ensures (codes "out_valid" ∷ own_names) (c.in_ok-take_bytes.ensures own_names are)))
