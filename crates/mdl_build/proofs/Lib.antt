@@ -4,6 +4,7 @@ pub mod BlockPlaces
 pub mod CountLemmas
 pub mod Ends
 mod Examples
+pub mod FindSteps
 pub mod FirstDefaults
 pub mod Found
 pub mod KnownLemmas

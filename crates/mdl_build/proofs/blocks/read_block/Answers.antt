@@ -1,6 +1,7 @@
-use Rattle.std.proofs.Common.{length, subst, sym, ap, arith}
+use Rattle.std.proofs.Common.{ℕ, List, Bor, length, subst, sym, ap, ◌∙◌, arith}
 use Rattle.std.proofs.lemmas.List.{length-map}
-use Rattle.mdl_build.specs.Library.{row_of}
+use Rattle.mdl_build.specs.Library.{row_of, parameters_of}
+use Rattle.mdl_build.specs.Lookup.{fallback}
 use Rattle.mdl_build.specs.inner.Readings.{AreReadTo}
 use Rattle.mdl_build.proofs.ReadingLemmas.{none_read, one_read, all_read, first_wrong, row_here, read_some, read_none}
 use Rattle.mdl_build.proofs.blocks.read_block.Goals as goal
@@ -28,3 +29,13 @@ pub returns : goal.returns
 returns c =
     all_read c.args.layout.now.items.now c.args.block_type c.args.place c.loop-number.number c.loop-number.settings c.loop-number.invariant
     (omega (arith, c.loop-number-test.false, ap length c.parameters-parameter-items.ensures, length-map c.parameters-parameter-items.result.now row_of))
+
+pub read_parameter-requires : goal.read_parameter-requires
+read_parameter-requires c = c.requires.within
+
+pub bounds-defaults-number : goal.bounds-defaults-number
+bounds-defaults-number c =
+    let items = c.args.layout.now.items.now in
+    let long = sym (length-map c.args.defaults.now (λ (text : Bor (List ℕ)). text.now)) ∙ ap length c.requires.texts ∙ length-map (parameters_of c.args.block_type) (fallback items c.args.block_type) in
+    let rows = sym (ap length c.parameters-parameter-items.ensures) ∙ length-map c.parameters-parameter-items.result.now row_of in
+    omega (arith, c.loop-number-test.true, long, rows)

@@ -17,3 +17,9 @@ returns c =
     let items = c.args.layout.now.items.now in
     let all : c.loop-place.place ≡ length items = omega (arith, c.loop-place-test.false, c.loop-place.auto.place-end, roles_long items c.args.roles.now c.requires) in
     subst (AreCounts items c.loop-place.counts.items) all c.loop-place.invariant
+
+pub add_system-requires-clause-counted : goal.add_system-requires-clause-counted
+add_system-requires-clause-counted c = c.loop-place.invariant
+
+pub loop-place-preserved : goal.loop-place-preserved
+loop-place-preserved c = c.add_system.ensures
