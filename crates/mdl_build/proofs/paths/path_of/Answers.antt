@@ -38,3 +38,17 @@ loop-outer-preserved c =
           ∙ assoc
           ∙ ap (λ (rest : List ℕ). path_above items outer ++ rest) (sym (c.in_ok-path-2.ensures ∙ ap (λ (rest : List ℕ). name ++ rest) (c.deref.ensures.value ∙ c.in_ok-insert.ensures.items)));
     }
+
+pub name_before-requires : goal.name_before-requires
+name_before-requires c = c.requires.within
+
+pub parent-requires-clause-within : goal.parent-requires-clause-within
+parent-requires-clause-within c = c.loop-outer.invariant.within
+
+pub parent-requires-clause-known : goal.parent-requires-clause-known
+parent-requires-clause-known c = c.requires.known
+
+pub name_before-requires-in-Some : goal.name_before-requires-in-Some
+name_before-requires-in-Some c =
+    let before = (parent_before c.args.layout.now.items.now c.loop-outer.inner c.in-Some.outer (sym c.parent.ensures ∙ c.in-Some.is)).0 in
+    omega (arith, before, c.loop-outer.invariant.within)
