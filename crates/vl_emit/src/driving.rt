@@ -10,10 +10,10 @@ ghost use Rattle.vl_emit.specs.inner.Ready.{net_count, input_count, cycles_in, v
 ghost use Rattle.vl_emit.specs.inner.Ready.{argument_in, input_in, counter_in, slot_in, live_in};
 ghost use Rattle.vl_emit.specs.inner.Spoken.{wire_at, CanBeWritten};
 
-use crate::operands::{Operand, at_width, hold_text, named, text_of, zeros};
-use crate::operators::{binary, choose, constant, expression, plain, test_of};
+use crate::operands::{Operand, hold_text, named, text_of, zeros};
+use crate::operators::{binary, choose, constant, expression, in_width, plain, test_of};
 use crate::source::{Source, input_operand, operand};
-use fx_io::{OutOfMemory, Text};
+use fx_io::{Boxed, OutOfMemory, Text};
 use hw_net::{Frame, NetOp};
 use std::alloc::Global;
 use vl_ast::{BinOp, Expr, ModItem, ModItems, Sized};
@@ -103,9 +103,9 @@ pub fn unit_item(
 {
     let net = operand(source, own);
     let name = text_of(alloc, net.called)?;
-    let left = at_width(alloc, operand(source, left as usize), net.width)?;
-    let right = at_width(alloc, operand(source, right as usize), net.width)?;
-    let value = binary(alloc, BinOp::Multiply, left, right)?;
+    let left = operand(source, left as usize);
+    let right = operand(source, right as usize);
+    let value = in_width(alloc, BinOp::Multiply, left, right, net.width)?;
     Ok(ModItem::Assign { name, value })
 }
 
@@ -168,7 +168,9 @@ pub fn enable(alloc: Global) -> Result<Expr, OutOfMemory>
 fn enabled(alloc: Global, condition: Expr) -> Result<Expr, OutOfMemory>
     ensures { IfOk result (λ e. e ≡ gated_condition (Some condition)) }
 {
-    binary(alloc, BinOp::Both, enable(alloc)?, condition)
+    let condition = Boxed::new(alloc, condition)?;
+    let enable = Boxed::new(alloc, enable(alloc)?)?;
+    Ok(Expr::Binary(BinOp::Both, enable, condition))
 }
 
 /// The item of a Counter.

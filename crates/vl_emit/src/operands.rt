@@ -100,8 +100,10 @@ pub fn beside(alloc: Global, left: Expr, right: Expr) -> Result<Expr, OutOfMemor
     ensures { IfOk result (λ e. e ≡ Concat (left ∷ right ∷ [])) }
 {
     let mut parts = Exprs::new(alloc);
-    parts.push(left)?;
-    parts.push(right)?;
+    let first = parts.push(left);
+    let second = parts.push(right);
+    first?;
+    second?;
     Ok(Expr::Concat(parts))
 }
 
@@ -119,9 +121,10 @@ pub fn piece(alloc: Global, operand: Operand, low: u32, width: u32) -> Result<Ex
     if low + width <= operand.width {
         return inside(alloc, operand, low, width);
     }
-    let filled = fill(alloc, operand, low + width - operand.width)?;
-    let kept = inside(alloc, operand, low, operand.width - low)?;
-    beside(alloc, filled, kept)
+    let mut parts = Exprs::new(alloc);
+    parts.push(fill(alloc, operand, low + width - operand.width)?)?;
+    parts.push(inside(alloc, operand, low, operand.width - low)?)?;
+    Ok(Expr::Concat(parts))
 }
 
 /// An operand at the width at which it is used.

@@ -47,8 +47,9 @@ fn unary(alloc: Global, op: UnOp, part: Expr) -> Result<Expr, OutOfMemory>
 pub fn binary(alloc: Global, op: BinOp, left: Expr, right: Expr) -> Result<Expr, OutOfMemory>
     ensures { IfOk result (λ e. e ≡ Binary op left right) }
 {
-    let left = Boxed::new(alloc, left)?;
-    Ok(Expr::Binary(op, left, Boxed::new(alloc, right)?))
+    let left = Boxed::new(alloc, left);
+    let right = Boxed::new(alloc, right);
+    Ok(Expr::Binary(op, left?, right?))
 }
 
 fn compared(alloc: Global, signed: bool, part: Expr) -> Result<Expr, OutOfMemory>
@@ -60,7 +61,8 @@ fn compared(alloc: Global, signed: bool, part: Expr) -> Result<Expr, OutOfMemory
     Ok(Expr::AsSigned(Boxed::new(alloc, part)?))
 }
 
-fn in_width(
+/// `left op right`, each at the width.
+pub fn in_width(
     alloc: Global,
     op: BinOp,
     left: Operand,
@@ -72,9 +74,9 @@ fn in_width(
     requires width { HasRoom width }
     ensures { IfOk result (λ e. e ≡ both_at op width left.entry right.entry) }
 {
-    let left = at_width(alloc, left, width)?;
-    let right = at_width(alloc, right, width)?;
-    binary(alloc, op, left, right)
+    let left = Boxed::new(alloc, at_width(alloc, left, width)?)?;
+    let right = Boxed::new(alloc, at_width(alloc, right, width)?)?;
+    Ok(Expr::Binary(op, left, right))
 }
 
 fn widened(alloc: Global, width: u32, bit: Expr) -> Result<Expr, OutOfMemory>
@@ -133,11 +135,10 @@ fn less(alloc: Global, left: Operand, right: Operand, width: u32) -> Result<Expr
     let common = common_width(left, right);
     let signed = left.signed || right.signed;
     let one = at_width(alloc, left, common)?;
-    let one = compared(alloc, signed, one)?;
+    let one = Boxed::new(alloc, compared(alloc, signed, one)?)?;
     let other = at_width(alloc, right, common)?;
-    let other = compared(alloc, signed, other)?;
-    let bit = binary(alloc, BinOp::Less, one, other)?;
-    widened(alloc, width, bit)
+    let other = Boxed::new(alloc, compared(alloc, signed, other)?)?;
+    widened(alloc, width, Expr::Binary(BinOp::Less, one, other))
 }
 
 fn equal(alloc: Global, left: Operand, right: Operand, width: u32) -> Result<Expr, OutOfMemory>
@@ -172,10 +173,10 @@ fn choice(
     requires width { HasRoom width }
     ensures { IfOk result (λ e. e ≡ choice_at width test.entry chosen.entry other.entry) }
 {
-    let test = test_of(alloc, test)?;
-    let chosen = at_width(alloc, chosen, width)?;
-    let other = at_width(alloc, other, width)?;
-    choose(alloc, test, chosen, other)
+    let test = Boxed::new(alloc, test_of(alloc, test)?)?;
+    let chosen = Boxed::new(alloc, at_width(alloc, chosen, width)?)?;
+    let other = Boxed::new(alloc, at_width(alloc, other, width)?)?;
+    Ok(Expr::Choose(test, chosen, other))
 }
 
 fn shifted_up(alloc: Global, operand: Operand, places: u8, width: u32) -> Result<Expr, OutOfMemory>
