@@ -67,7 +67,7 @@ module _ (by_layer : ByLayer) (m : Module) (b : BreaksNone m) (scope : Scope) (s
   slots = plan.slots.items
 
   abbrev ops : List Op
-  ops = plan.ops.items
+  ops = plan.ops
 
   abbrev row : List ℕ → List ℕ → ℕ
   row values name = slice_index values (slot_in scope slots name)

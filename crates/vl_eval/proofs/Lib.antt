@@ -3,6 +3,7 @@ pub mod Fits
 pub mod Forms
 pub mod Halves
 pub mod Swept
+pub mod Holding
 pub mod Words
 pub mod Operands
 pub mod Grown

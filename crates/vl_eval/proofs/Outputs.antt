@@ -46,7 +46,7 @@ module _ (by_layer : ByLayer) (m : Module) (b : BreaksNone m) (scope : Scope) (s
   count = length (names_in scope)
 
   abbrev ops : List Op
-  ops = plan.ops.items
+  ops = plan.ops
 
   abbrev Known : List ℕ → Type 0
   Known name = (d : Declared) × Contains (declarations m) d × (d.name ≡ name)

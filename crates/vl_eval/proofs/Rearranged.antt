@@ -45,18 +45,18 @@ module _ (by_layer : ByLayer) (m : Module) (scope : Scope) (some : 0 < length (n
   old-fit : (values : ℕ → ℕ) → FixedFit m scope (row_in scope (map a.move slots) values) → FixedFit m scope (row_in scope slots (back values))
   old-fit values f = subst (λ (r : List ℕ → ℕ). FixedFit m scope r) (sym (row-moved values)) f
 
-  old-wires : (values : ℕ → ℕ) → IsSettled count arranged.ops.items values → IsSettled count wires (back values)
+  old-wires : (values : ℕ → ℕ) → IsSettled count arranged.ops values → IsSettled count wires (back values)
   old-wires values st = settled-later by_layer count scope slots wires ops c.grows (back values) (a.settled values st)
 
-  move-below : (k : ℕ) → k < count + length ops → a.move k < count + length arranged.ops.items
+  move-below : (k : ℕ) → k < count + length ops → a.move k < count + length arranged.ops
   move-below k low = ⊎_elim
       (λ (less : k < count). let e = a.fixed k less in omega (arith, e, less))
       (λ (high : count ≤ k). let b = (a.within k high low).1 in let l = a.long in omega (arith, b, l))
       (cases_lt k count)
 
-  new-wired : AreWired m scope (map a.move slots) arranged.ops.items
+  new-wired : AreWired m scope (map a.move slots) arranged.ops
   new-wired = record {
-    grows = record { more = arranged.ops.items; grown = refl; ordered = λ none. a.ordered };
+    grows = record { more = arranged.ops; grown = refl; ordered = λ none. a.ordered };
     long = length-map slots a.move ∙ w.long;
     below = λ k low.
         let e = at-slot k low in
@@ -76,7 +76,7 @@ module _ (by_layer : ByLayer) (m : Module) (scope : Scope) (some : 0 < length (n
   }
 
   moved-captured : (capture : Capture) (name : List ℕ) (first : Sized) (condition : Option Expr) (value : Expr) → IsCaptured m scope slots ops capture name first condition value
-      → IsCaptured m scope (map a.move slots) arranged.ops.items (moved_capture a.move capture) name first condition value
+      → IsCaptured m scope (map a.move slots) arranged.ops (moved_capture a.move capture) name first condition value
   moved-captured capture name first condition value k =
       let within = a.within capture.from k.above k.below in
       let l = a.long in
@@ -89,22 +89,22 @@ module _ (by_layer : ByLayer) (m : Module) (scope : Scope) (some : 0 < length (n
             (k.is (back values) (a.settled values st) (old-fit values f));
       }
 
-  new-captured : AreCaptured m scope (map a.move slots) m.items arranged.ops.items arranged.ops.items (map (moved_capture a.move) captures)
+  new-captured : AreCaptured m scope (map a.move slots) m.items arranged.ops arranged.ops (map (moved_capture a.move) captures)
   new-captured = record {
-    grows = grows-none count arranged.ops.items;
+    grows = grows-none count arranged.ops;
     each = λ name first condition value h.
         let r = c.each name first condition value h in
         (moved_capture a.move r.0, map-in (moved_capture a.move) captures r.0 r.1, moved-captured r.0 name first condition value r.2);
     only = λ capture h.
         let from = from-map (moved_capture a.move) captures capture h in
         let r = c.only from.0 from.1 in
-        (r.0, r.1, r.2, r.3, r.4, subst (λ x. IsCaptured m scope (map a.move slots) arranged.ops.items x r.0 r.1 r.2 r.3) from.2 (moved-captured from.0 r.0 r.1 r.2 r.3 r.5));
+        (r.0, r.1, r.2, r.3, r.4, subst (λ x. IsCaptured m scope (map a.move slots) arranged.ops x r.0 r.1 r.2 r.3) from.2 (moved-captured from.0 r.0 r.1 r.2 r.3 r.5));
   }
 
-  pub arranged-wired : AreWired m scope arranged.slots.items arranged.ops.items
-  arranged-wired = subst (λ xs. AreWired m scope xs arranged.ops.items) (sym a.slots_are) new-wired
+  pub arranged-wired : AreWired m scope arranged.slots.items arranged.ops
+  arranged-wired = subst (λ xs. AreWired m scope xs arranged.ops) (sym a.slots_are) new-wired
 
-  pub arranged-captured : AreCaptured m scope arranged.slots.items m.items arranged.ops.items arranged.ops.items arranged.captures.items
+  pub arranged-captured : AreCaptured m scope arranged.slots.items m.items arranged.ops arranged.ops arranged.captures.items
   arranged-captured =
-      subst (λ xs. AreCaptured m scope xs m.items arranged.ops.items arranged.ops.items arranged.captures.items) (sym a.slots_are)
-      (subst (λ xs. AreCaptured m scope (map a.move slots) m.items arranged.ops.items arranged.ops.items xs) (sym a.captures_are) new-captured)
+      subst (λ xs. AreCaptured m scope xs m.items arranged.ops arranged.ops arranged.captures.items) (sym a.slots_are)
+      (subst (λ xs. AreCaptured m scope (map a.move slots) m.items arranged.ops arranged.ops xs) (sym a.captures_are) new-captured)

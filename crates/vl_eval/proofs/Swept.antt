@@ -1,12 +1,11 @@
 -- An operation's value hangs on the places that it reads, so a sweep in order settles them all.
-use Rattle.std.proofs.Common.{true, subst, [], ◌∷◌, ◌++◌, ◌≡◌, ◌<◌, ◌≤◌, ◌+◌, ⊎_elim, ℕ, List, length, set, slice_index, slice_index_or, refl, sym, ap, ◌∙◌, arith}
-use Rattle.std.proofs.Math.Seq.{get_or-append_seam}
-use Rattle.std.proofs.lemmas.List.{get_or_append_left, get_or-set_same, get_or-set_other, get_or_default, length-append}
+use Rattle.std.proofs.Common.{true, subst, ◌≡◌, ◌<◌, ◌≤◌, ◌+◌, ⊎_elim, ℕ, List, length, set, slice_index, slice_index_or, refl, sym, ap, ◌∙◌, arith}
+use Rattle.std.proofs.lemmas.List.{get_or-map, get_or-set_same, get_or-set_other, get_or_default, length-map}
 use Rattle.std.proofs.lemmas.Bool.{cases_lt, false≢true}
 use Rattle.vl_eval.specs.declared.ops.Op.{Op}
 use Rattle.vl_eval.specs.declared.ops.Op.TheVariants.{Constant, Extended, Select, Add, Subtract, Multiply, And, Or, Xor, Equal, NotEqual, Less, LessEqual, Both, Either, Negate, Invert, IsZero, Up, SignedDown, Choose, Beside, Next}
 use Rattle.vl_eval.specs.inner.Ops.{op_value, reads_below, AreSettled, IsOrdered, IsSettled}
-use Rattle.vl_eval.specs.inner.Steps.{AreConstants, AreSteps, is_constant, op_of}
+use Rattle.vl_eval.specs.inner.Steps.{AreConstants, is_constant, op_in, ops_of}
 use Rattle.vl_eval.specs.declared.steps.Step.{Step}
 
 pub op-agrees : (op : Op) (end : ℕ) → reads_below op end → (f g : ℕ → ℕ) → ((i : ℕ) → i < end → f i ≡ g i) → op_value op f ≡ op_value op g
@@ -128,26 +127,18 @@ reads-longer (Beside left right places) end more le r = (omega (arith, (r.0), le
 reads-longer (Next reset first test value kept) end more le r = (omega (arith, (r.0), le), omega (arith, (r.1), le), omega (arith, (r.2), le), omega (arith, (r.3), le))
 
 -- a step reads what its operation reads
-pub step-reads : (base k end : ℕ) (ops : List Op) (steps : List Step) (s : Step) (d : Op) → IsOrdered base ops → AreSteps ops steps → k < length ops → base + k ≤ end
-    → reads_below (op_of (slice_index_or steps k s) (slice_index_or ops k d)) end
-step-reads base k end ops steps s d ordered are low le =
-    subst (λ op. reads_below op end) (sym (are.at k s d low)) (reads-longer (slice_index_or ops k d) (base + k) end le (ordered.at k d low))
+pub step-reads : (base k end : ℕ) (wide : List Op) (steps : List Step) (s : Step) → IsOrdered base (ops_of wide steps) → k < length steps → base + k ≤ end
+    → reads_below (op_in wide (slice_index_or steps k s)) end
+step-reads base k end wide steps s ordered low le =
+    let long = length-map steps (op_in wide) in
+    let is = get_or-map (op_in wide) steps k s (Constant 0) low in
+    reads-longer (op_in wide (slice_index_or steps k s)) (base + k) end le (subst (λ op. reads_below op (base + k)) is (ordered.at k (Constant 0) (omega (arith, long, low))))
 
-pub step-of-more : (ops : List Op) (op : Op) (steps : List Step) (step : Step) → op_of step op ≡ op → AreSteps ops steps → AreSteps (ops ++ op ∷ []) (steps ++ step ∷ [])
-step-of-more ops op steps step is are = record {
-  long = length-append steps (step ∷ []) ∙ ap (λ n. n + 1) are.long ∙ sym (length-append ops (op ∷ []));
-  at = λ k s d low. ⊎_elim (old k s d) (new k s d (let n = length-append ops (op ∷ []) in omega (arith, low, n))) (cases_lt k (length ops));
-} where
-  old : (k : ℕ) (s : Step) (d : Op) → k < length ops → op_of (slice_index_or (steps ++ step ∷ []) k s) (slice_index_or (ops ++ op ∷ []) k d) ≡ slice_index_or (ops ++ op ∷ []) k d
-  old k s d low =
-      let e = get_or_append_left steps (step ∷ []) s k (let n = are.long in omega (arith, n, low)) in
-      let e' = get_or_append_left ops (op ∷ []) d k low in
-      (λ i. op_of (e i) (e' i)) ∙ are.at k s d low ∙ sym e'
-
-  new : (k : ℕ) (s : Step) (d : Op) → k < length ops + 1 → length ops ≤ k → op_of (slice_index_or (steps ++ step ∷ []) k s) (slice_index_or (ops ++ op ∷ []) k d) ≡ slice_index_or (ops ++ op ∷ []) k d
-  new k s d below above =
-      let here : k ≡ length ops = omega arith in
-      let there : k ≡ length steps = here ∙ sym are.long in
-      let e = ap (λ j. slice_index_or (steps ++ step ∷ []) j s) there ∙ get_or-append_seam steps step [] s in
-      let e' = ap (λ j. slice_index_or (ops ++ op ∷ []) j d) here ∙ get_or-append_seam ops op [] d in
-      (λ i. op_of (e i) (e' i)) ∙ is ∙ sym e'
+-- the value of the next step goes to its place
+pub swept-step : (base count value : ℕ) (wide : List Op) (steps : List Step) (s : Step) (values : List ℕ) → IsOrdered base (ops_of wide steps) → count < length steps
+    → base + length steps ≤ length values → value ≡ op_value (op_in wide (slice_index_or steps count s)) (λ i. slice_index values i)
+    → AreSettled base count (ops_of wide steps) values → AreSettled base (count + 1) (ops_of wide steps) (set values (base + count) value)
+swept-step base count value wide steps s values ordered low room is settled =
+    let long = length-map steps (op_in wide) in
+    let this = get_or-map (op_in wide) steps count s (Constant 0) low in
+    settled-step base count value (ops_of wide steps) values ordered (omega (arith, long, low)) (omega (arith, long, room)) (is ∙ ap (λ op. op_value op (λ i. slice_index values i)) (sym this)) settled

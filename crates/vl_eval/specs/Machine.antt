@@ -30,7 +30,7 @@ pub record AreFit (ports : List Port) (bits : List ℕ) : Type 0 where
 -- it is made of a module that breaks no condition, and each of its values is worked out
 pub record IsReady (machine : Machine) : Type 0 where
   pub plan_is : IsPlanOf machine.source machine.plan
-  pub room : length machine.values.items ≡ machine.plan.base + length machine.plan.ops.items
-  pub settled : IsSettled machine.plan.base machine.plan.ops.items (λ k. slice_index machine.values.items k)
+  pub room : length machine.values.items ≡ machine.plan.base + length machine.plan.ops
+  pub settled : IsSettled machine.plan.base machine.plan.ops (λ k. slice_index machine.values.items k)
   pub fits : (declared : Declared) → Contains (declarations machine.source) declared → row_of machine declared.name < 2 ^ declared.net.width
   pub still : (port : Port) → Contains machine.source.ports port → port.input ≡ true → bytes_eq port.name (codes "clk") ≡ true → row_of machine port.name ≡ 0

@@ -1,13 +1,14 @@
 ghost use Rattle.std.specs.Prelude.{◌≤◌, IfOk};
 ghost use Rattle.vl_eval.specs.inner.Shown.{IsBeside, IsExtended, Pushed};
 
+use crate::code::Code;
 use crate::operators::{half_of, mask_of};
 use crate::ops::Op;
 use fx_io::OutOfMemory;
 
 /// Adds an operation, and gives its place.
-pub fn push(ops: &mut Vec<Op>, base: usize, op: Op) -> Result<usize, OutOfMemory>
-    ensures { IfOk result (λ slot. Pushed base ops.old.items ops.new.items slot op) }
+pub fn push(ops: &mut Code, base: usize, op: Op) -> Result<usize, OutOfMemory>
+    ensures { IfOk result (λ slot. Pushed base ops.old ops.new slot op) }
 {
     let Some(slot) = base.checked_add(ops.len()) else {
         // word: words and operations are counted in 64 bits
@@ -19,7 +20,7 @@ pub fn push(ops: &mut Vec<Op>, base: usize, op: Op) -> Result<usize, OutOfMemory
 
 /// The place of a word, extended by its sign bit to a context with sign.
 pub fn extend(
-    ops: &mut Vec<Op>,
+    ops: &mut Code,
     base: usize,
     part: usize,
     from: u32,
@@ -27,7 +28,7 @@ pub fn extend(
 ) -> Result<usize, OutOfMemory>
     requires longer { from ≤ to }
     requires most { to ≤ 128 }
-    ensures { IfOk result (λ slot. IsExtended base ops.old.items ops.new.items slot part from to) }
+    ensures { IfOk result (λ slot. IsExtended base ops.old ops.new slot part from to) }
 {
     if from == to {
         return Ok(part);
@@ -39,14 +40,14 @@ pub fn extend(
 
 /// One operand with so many bits on the right of another; where that has none, the operand itself.
 pub fn beside(
-    ops: &mut Vec<Op>,
+    ops: &mut Code,
     base: usize,
     left: usize,
     left_length: u32,
     right: usize,
     right_length: u32,
 ) -> Result<usize, OutOfMemory>
-    ensures { IfOk result (λ slot. IsBeside base ops.old.items ops.new.items slot left left_length
+    ensures { IfOk result (λ slot. IsBeside base ops.old ops.new slot left left_length
         right right_length) }
 {
     if left_length == 0 {

@@ -2,36 +2,40 @@ ghost use Rattle.std.specs.Prelude.{◌≡◌, ◌<◌, ◌≤◌, ◌+◌, ◌^
 ghost use Rattle.vl_eval.specs.inner.Arranged.{AreEntries, ArePlaces, IsArranged, moved, moved_capture, number_of, op_at, renamed};
 ghost use Rattle.vl_eval.specs.inner.Ops.{IsOrdered};
 
+use crate::code::Code;
 use crate::leveling::{kind_of, level_of};
 use crate::ops::Op;
 use crate::plan::Capture;
 use fx_io::OutOfMemory;
 use std::alloc::Global;
 
-/// The most operations that are arranged: an entry has 29 bits for the number.
-const MOST: usize = 1 << 29;
+/// The most operations that are arranged. While that is done they stand twice, with a level, an entry
+/// and a place for each. More keep the order in which they were built: an edge over so many waits for
+/// memory anyway, and the order only makes it faster.
+const MOST: usize = 1 << 20;
 
 /// Operations in an order in which each stands behind those that it reads, with the places of names and
 /// of captures.
 #[derive(Drop)]
 pub struct Arranged {
-    pub ops: Vec<Op>,
+    pub ops: Code,
     pub slots: Vec<usize>,
     pub captures: Vec<Capture>,
 }
 
 /// The level, the kind and the number of each operation, in one number that is sorted by them in turn.
-fn entries(alloc: Global, ops: &[Op], base: usize) -> Result<Vec<u64>, OutOfMemory>
+fn entries(alloc: Global, ops: &Code, base: usize) -> Result<Vec<u64>, OutOfMemory>
     requires ordered { IsOrdered base ops.now }
     requires few { length ops.now ≤ 2 ^ 29 }
     ensures { IfOk result (λ entries. AreEntries base ops.now entries.items) }
 {
     let mut levels = Vec::new(alloc);
     let mut entries = Vec::new(alloc);
-    for (number, op) in ops.iter().enumerate() {
-        let level = level_of(*op, base, levels.as_slice());
+    for number in 0..ops.len() {
+        let op = ops.get(number);
+        let level = level_of(op, base, levels.as_slice());
         levels.push(level)?;
-        entries.push((level as u64 * 32 + kind_of(*op)) * (1 << 29) + number as u64)?;
+        entries.push((level as u64 * 32 + kind_of(op)) * (1 << 29) + number as u64)?;
     }
     Ok(entries)
 }
@@ -202,19 +206,19 @@ fn renamed(op: Op, base: usize, moves: &[usize]) -> Op
 /// The operations in the order of their entries.
 fn in_order(
     alloc: Global,
-    ops: &[Op],
+    ops: &Code,
     entries: &[u64],
     base: usize,
     places: &[usize],
-) -> Result<Vec<Op>, OutOfMemory>
+) -> Result<Code, OutOfMemory>
     requires { (i : ℕ) → i < length entries.now
         → number_of (slice_index entries.now i) < length ops.now }
-    ensures { IfOk result (λ arranged. arranged.items
+    ensures { IfOk result (λ arranged. arranged
         ≡ map (op_at base places.now ops.now) entries.now) }
 {
-    let mut arranged = Vec::new(alloc);
+    let mut arranged = Code::new(alloc);
     for entry in entries {
-        arranged.push(renamed(ops[number_of(*entry)], base, places))?;
+        arranged.push(renamed(ops.get(number_of(*entry)), base, places))?;
     }
     Ok(arranged)
 }
@@ -259,12 +263,12 @@ fn moved_captures(
 pub fn arrange(
     alloc: Global,
     base: usize,
-    ops: Vec<Op>,
+    ops: Code,
     slots: Vec<usize>,
     captures: Vec<Capture>,
 ) -> Result<Arranged, OutOfMemory>
-    requires ordered { IsOrdered base ops.items }
-    ensures { IfOk result (IsArranged base ops.items slots.items captures.items) }
+    requires ordered { IsOrdered base ops }
+    ensures { IfOk result (IsArranged base ops slots.items captures.items) }
 {
     if ops.len() > MOST {
         return Ok(Arranged {
@@ -277,16 +281,10 @@ pub fn arrange(
         // word: words and operations are counted in 64 bits
         return Err(OutOfMemory);
     };
-    let mut entries = entries(alloc, ops.as_slice(), base)?;
+    let mut entries = entries(alloc, &ops, base)?;
     entries.sort_unstable();
     let places = places_of(alloc, entries.as_slice(), base)?;
-    let arranged = in_order(
-        alloc,
-        ops.as_slice(),
-        entries.as_slice(),
-        base,
-        places.as_slice(),
-    )?;
+    let arranged = in_order(alloc, &ops, entries.as_slice(), base, places.as_slice())?;
     let slots = moved_slots(alloc, slots.as_slice(), base, places.as_slice())?;
     let captures = moved_captures(alloc, captures.as_slice(), base, places.as_slice())?;
     Ok(Arranged {

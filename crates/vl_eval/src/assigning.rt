@@ -8,6 +8,7 @@ ghost use Rattle.vl_eval.specs.inner.Assigning.{Assigns, Captures, Tests, next_n
 
 use crate::adding::push;
 use crate::building::build;
+use crate::code::Code;
 use crate::operators::{literal, mask_of};
 use crate::ops::Op;
 use crate::site::{Site, shape_of, slot};
@@ -18,17 +19,17 @@ use vl_check::net;
 
 /// Adds the operations of an assignment to a net of this width, and gives the place of its bits.
 pub fn build_assigned(
-    ops: &mut Vec<Op>,
+    ops: &mut Code,
     site: &Site<'_, '_>,
     e: &Expr,
     width: u32,
 ) -> Result<usize, OutOfMemory>
     requires sound { is_sound (nets_in site.now.scope.now) e.now ≡ true }
     requires most { width ≤ 128 }
-    requires placed { ArePlaced site.now.base site.now.scope.now site.now.slots.now ops.old.items
+    requires placed { ArePlaced site.now.base site.now.scope.now site.now.slots.now ops.old
         (names_read e.now) }
     ensures { IfOk result (λ slot. Assigns site.now.base site.now.scope.now site.now.slots.now
-        ops.old.items ops.new.items slot width e.now) }
+        ops.old ops.new slot width e.now) }
 {
     meaning_by_layer();
     let shape = shape_of(site, e);
@@ -50,15 +51,15 @@ pub fn build_assigned(
 
 /// Adds the operations of a condition, and gives the place of bits that aren't 0 where it is true.
 fn build_condition(
-    ops: &mut Vec<Op>,
+    ops: &mut Code,
     site: &Site<'_, '_>,
     condition: &Option<Expr>,
 ) -> Result<usize, OutOfMemory>
     requires sound { is_sound_condition (nets_in site.now.scope.now) condition.now ≡ true }
-    requires placed { ArePlaced site.now.base site.now.scope.now site.now.slots.now ops.old.items
+    requires placed { ArePlaced site.now.base site.now.scope.now site.now.slots.now ops.old
         (condition_names condition.now) }
     ensures { IfOk result (λ slot. Tests site.now.base site.now.scope.now site.now.slots.now
-        ops.old.items ops.new.items slot condition.now) }
+        ops.old ops.new slot condition.now) }
 {
     match condition {
         None => push(ops, site.base, Op::Constant(1)),
@@ -81,7 +82,7 @@ fn first_bits(number: &Sized, width: u32) -> u128
 
 /// Adds the operations of what a register takes at an edge, and gives the place of its bits.
 pub fn build_next(
-    ops: &mut Vec<Op>,
+    ops: &mut Code,
     site: &Site<'_, '_>,
     name: &[u8],
     first: &Sized,
@@ -91,10 +92,10 @@ pub fn build_next(
     requires number { is_number first.now ≡ true }
     requires condition { is_sound_condition (nets_in site.now.scope.now) condition.now ≡ true }
     requires value { is_sound (nets_in site.now.scope.now) value.now ≡ true }
-    requires placed { ArePlaced site.now.base site.now.scope.now site.now.slots.now ops.old.items
+    requires placed { ArePlaced site.now.base site.now.scope.now site.now.slots.now ops.old
         (next_names name.now condition.now value.now) }
     ensures { IfOk result (λ slot. Captures site.now.base site.now.scope.now site.now.slots.now
-        ops.old.items ops.new.items slot name.now first.now condition.now value.now) }
+        ops.old ops.new slot name.now first.now condition.now value.now) }
 {
     meaning_by_layer();
     let width = net(site.scope, name).length;

@@ -7,6 +7,7 @@ ghost use Rattle.vl_check.specs.Scope.{nets_in};
 ghost use Rattle.vl_eval.specs.inner.Site.{ArePlaced, Built, BuiltAlone};
 
 use crate::adding::{beside, extend, push};
+use crate::code::Code;
 use crate::contexts::{half_in, left_context, unary_context};
 use crate::leaves::{build_bit, build_literal, build_name, build_part};
 use crate::operators::{binary_op, mask_of, shift_op, unary_op};
@@ -17,7 +18,7 @@ use vl_ast::{BinOp, Expr, ShiftOp, Sized, UnOp, meaning_by_layer};
 
 #[cycle(build)]
 fn build_unary(
-    ops: &mut Vec<Op>,
+    ops: &mut Code,
     site: &Site<'_, '_>,
     op: UnOp,
     part: &Expr,
@@ -27,10 +28,10 @@ fn build_unary(
     requires sound { is_sound (nets_in site.now.scope.now) (Unary op part.now) ≡ true }
     requires longer { own_length (nets_in site.now.scope.now) (Unary op part.now) ≤ width }
     requires most { width ≤ 128 }
-    requires placed { ArePlaced site.now.base site.now.scope.now site.now.slots.now ops.old.items
+    requires placed { ArePlaced site.now.base site.now.scope.now site.now.slots.now ops.old
         (names_read (Unary op part.now)) }
     ensures { IfOk result (λ slot. Built site.now.base site.now.scope.now site.now.slots.now
-        ops.old.items ops.new.items slot width signed (Unary op part.now)) }
+        ops.old ops.new slot width signed (Unary op part.now)) }
 {
     meaning_by_layer();
     let context = unary_context(site, op, part, width, signed);
@@ -40,7 +41,7 @@ fn build_unary(
 
 #[cycle(build)]
 fn build_binary(
-    ops: &mut Vec<Op>,
+    ops: &mut Code,
     site: &Site<'_, '_>,
     op: BinOp,
     left: &Expr,
@@ -52,10 +53,10 @@ fn build_binary(
     requires longer { own_length (nets_in site.now.scope.now) (Binary op left.now right.now)
         ≤ width }
     requires most { width ≤ 128 }
-    requires placed { ArePlaced site.now.base site.now.scope.now site.now.slots.now ops.old.items
+    requires placed { ArePlaced site.now.base site.now.scope.now site.now.slots.now ops.old
         (names_read (Binary op left.now right.now)) }
     ensures { IfOk result (λ slot. Built site.now.base site.now.scope.now site.now.slots.now
-        ops.old.items ops.new.items slot width signed (Binary op left.now right.now)) }
+        ops.old ops.new slot width signed (Binary op left.now right.now)) }
 {
     meaning_by_layer();
     let on_left = left_context(site, op, left, right, width, signed);
@@ -71,7 +72,7 @@ fn build_binary(
 
 #[cycle(build)]
 fn build_shift(
-    ops: &mut Vec<Op>,
+    ops: &mut Code,
     site: &Site<'_, '_>,
     op: ShiftOp,
     part: &Expr,
@@ -83,10 +84,10 @@ fn build_shift(
     requires longer { own_length (nets_in site.now.scope.now) (Shift op part.now amount.now)
         ≤ width }
     requires most { width ≤ 128 }
-    requires placed { ArePlaced site.now.base site.now.scope.now site.now.slots.now ops.old.items
+    requires placed { ArePlaced site.now.base site.now.scope.now site.now.slots.now ops.old
         (names_read (Shift op part.now amount.now)) }
     ensures { IfOk result (λ slot. Built site.now.base site.now.scope.now site.now.slots.now
-        ops.old.items ops.new.items slot width signed (Shift op part.now amount.now)) }
+        ops.old ops.new slot width signed (Shift op part.now amount.now)) }
 {
     meaning_by_layer();
     let slot = build(ops, site, part, width, signed)?;
@@ -99,7 +100,7 @@ fn build_shift(
 
 #[cycle(build)]
 fn build_choice(
-    ops: &mut Vec<Op>,
+    ops: &mut Code,
     site: &Site<'_, '_>,
     test: &Expr,
     chosen: &Expr,
@@ -112,10 +113,10 @@ fn build_choice(
     requires longer { own_length (nets_in site.now.scope.now) (Choose test.now chosen.now other.now)
         ≤ width }
     requires most { width ≤ 128 }
-    requires placed { ArePlaced site.now.base site.now.scope.now site.now.slots.now ops.old.items
+    requires placed { ArePlaced site.now.base site.now.scope.now site.now.slots.now ops.old
         (names_read (Choose test.now chosen.now other.now)) }
     ensures { IfOk result (λ slot. Built site.now.base site.now.scope.now site.now.slots.now
-        ops.old.items ops.new.items slot width signed (Choose test.now chosen.now other.now)) }
+        ops.old ops.new slot width signed (Choose test.now chosen.now other.now)) }
 {
     meaning_by_layer();
     let context = shape_of(site, test);
@@ -135,7 +136,7 @@ fn build_choice(
 
 #[cycle(build)]
 fn build_as_signed(
-    ops: &mut Vec<Op>,
+    ops: &mut Code,
     site: &Site<'_, '_>,
     part: &Expr,
     width: u32,
@@ -144,10 +145,10 @@ fn build_as_signed(
     requires sound { is_sound (nets_in site.now.scope.now) (AsSigned part.now) ≡ true }
     requires longer { own_length (nets_in site.now.scope.now) (AsSigned part.now) ≤ width }
     requires most { width ≤ 128 }
-    requires placed { ArePlaced site.now.base site.now.scope.now site.now.slots.now ops.old.items
+    requires placed { ArePlaced site.now.base site.now.scope.now site.now.slots.now ops.old
         (names_read (AsSigned part.now)) }
     ensures { IfOk result (λ slot. Built site.now.base site.now.scope.now site.now.slots.now
-        ops.old.items ops.new.items slot width signed (AsSigned part.now)) }
+        ops.old ops.new slot width signed (AsSigned part.now)) }
 {
     meaning_by_layer();
     let context = shape_of(site, part);
@@ -160,7 +161,7 @@ fn build_as_signed(
 
 #[cycle(build)]
 fn build_as_unsigned(
-    ops: &mut Vec<Op>,
+    ops: &mut Code,
     site: &Site<'_, '_>,
     part: &Expr,
     width: u32,
@@ -169,10 +170,10 @@ fn build_as_unsigned(
     requires sound { is_sound (nets_in site.now.scope.now) (AsUnsigned part.now) ≡ true }
     requires longer { own_length (nets_in site.now.scope.now) (AsUnsigned part.now) ≤ width }
     requires most { width ≤ 128 }
-    requires placed { ArePlaced site.now.base site.now.scope.now site.now.slots.now ops.old.items
+    requires placed { ArePlaced site.now.base site.now.scope.now site.now.slots.now ops.old
         (names_read (AsUnsigned part.now)) }
     ensures { IfOk result (λ slot. Built site.now.base site.now.scope.now site.now.slots.now
-        ops.old.items ops.new.items slot width signed (AsUnsigned part.now)) }
+        ops.old ops.new slot width signed (AsUnsigned part.now)) }
 {
     meaning_by_layer();
     let context = shape_of(site, part);
@@ -180,14 +181,14 @@ fn build_as_unsigned(
 }
 
 #[cycle(build)]
-fn build_parts(ops: &mut Vec<Op>, site: &Site<'_, '_>, parts: &[Expr]) -> Result<Alone, OutOfMemory>
+fn build_parts(ops: &mut Code, site: &Site<'_, '_>, parts: &[Expr]) -> Result<Alone, OutOfMemory>
     requires sound { is_sound (nets_in site.now.scope.now) (Concat parts.now) ≡ true }
-    requires placed { ArePlaced site.now.base site.now.scope.now site.now.slots.now ops.old.items
+    requires placed { ArePlaced site.now.base site.now.scope.now site.now.slots.now ops.old
         (names_read (Concat parts.now)) }
     ensures own { IfOk result (λ alone. BuiltAlone site.now.base site.now.scope.now
-        site.now.slots.now ops.old.items ops.new.items alone (Concat parts.now)) }
+        site.now.slots.now ops.old ops.new alone (Concat parts.now)) }
     ensures built { IfOk result (λ alone. (width : ℕ) → (signed : Bool) → Built site.now.base
-        site.now.scope.now site.now.slots.now ops.old.items ops.new.items alone.slot width signed
+        site.now.scope.now site.now.slots.now ops.old ops.new alone.slot width signed
         (Concat parts.now)) }
 {
     meaning_by_layer();
@@ -207,18 +208,18 @@ fn build_parts(ops: &mut Vec<Op>, site: &Site<'_, '_>, parts: &[Expr]) -> Result
 
 #[cycle(build)]
 fn build_copies(
-    ops: &mut Vec<Op>,
+    ops: &mut Code,
     site: &Site<'_, '_>,
     count: u32,
     part: &Expr,
 ) -> Result<Alone, OutOfMemory>
     requires sound { is_sound (nets_in site.now.scope.now) (Repeat count part.now) ≡ true }
-    requires placed { ArePlaced site.now.base site.now.scope.now site.now.slots.now ops.old.items
+    requires placed { ArePlaced site.now.base site.now.scope.now site.now.slots.now ops.old
         (names_read (Repeat count part.now)) }
     ensures own { IfOk result (λ alone. BuiltAlone site.now.base site.now.scope.now
-        site.now.slots.now ops.old.items ops.new.items alone (Repeat count part.now)) }
+        site.now.slots.now ops.old ops.new alone (Repeat count part.now)) }
     ensures built { IfOk result (λ alone. (width : ℕ) → (signed : Bool) → Built site.now.base
-        site.now.scope.now site.now.slots.now ops.old.items ops.new.items alone.slot width signed
+        site.now.scope.now site.now.slots.now ops.old ops.new alone.slot width signed
         (Repeat count part.now)) }
 {
     meaning_by_layer();
@@ -235,12 +236,12 @@ fn build_copies(
 /// Adds the operations of an expression in the context that it makes by itself. Those of parts that
 /// stand side by side say how long they are, so that nested ones are gone through once.
 #[cycle(build)]
-fn build_alone(ops: &mut Vec<Op>, site: &Site<'_, '_>, e: &Expr) -> Result<Alone, OutOfMemory>
+fn build_alone(ops: &mut Code, site: &Site<'_, '_>, e: &Expr) -> Result<Alone, OutOfMemory>
     requires sound { is_sound (nets_in site.now.scope.now) e.now ≡ true }
-    requires placed { ArePlaced site.now.base site.now.scope.now site.now.slots.now ops.old.items
+    requires placed { ArePlaced site.now.base site.now.scope.now site.now.slots.now ops.old
         (names_read e.now) }
     ensures { IfOk result (λ alone. BuiltAlone site.now.base site.now.scope.now site.now.slots.now
-        ops.old.items ops.new.items alone e.now) }
+        ops.old ops.new alone e.now) }
 {
     match e {
         Expr::Concat(parts) => build_parts(ops, site, parts.as_slice()),
@@ -260,12 +261,12 @@ fn build_alone(ops: &mut Vec<Op>, site: &Site<'_, '_>, e: &Expr) -> Result<Alone
 
 /// The same, where the context is worked out first.
 #[cycle(build)]
-fn build_shaped(ops: &mut Vec<Op>, site: &Site<'_, '_>, e: &Expr) -> Result<Alone, OutOfMemory>
+fn build_shaped(ops: &mut Code, site: &Site<'_, '_>, e: &Expr) -> Result<Alone, OutOfMemory>
     requires sound { is_sound (nets_in site.now.scope.now) e.now ≡ true }
-    requires placed { ArePlaced site.now.base site.now.scope.now site.now.slots.now ops.old.items
+    requires placed { ArePlaced site.now.base site.now.scope.now site.now.slots.now ops.old
         (names_read e.now) }
     ensures { IfOk result (λ alone. BuiltAlone site.now.base site.now.scope.now site.now.slots.now
-        ops.old.items ops.new.items alone e.now) }
+        ops.old ops.new alone e.now) }
 {
     let shape = shape_of(site, e);
     let slot = build(ops, site, e, shape.length, shape.signed)?;
@@ -276,7 +277,7 @@ fn build_shaped(ops: &mut Vec<Op>, site: &Site<'_, '_>, e: &Expr) -> Result<Alon
 /// is as deep as the expression nests.
 #[cycle(build)]
 pub fn build(
-    ops: &mut Vec<Op>,
+    ops: &mut Code,
     site: &Site<'_, '_>,
     e: &Expr,
     width: u32,
@@ -285,10 +286,10 @@ pub fn build(
     requires sound { is_sound (nets_in site.now.scope.now) e.now ≡ true }
     requires longer { own_length (nets_in site.now.scope.now) e.now ≤ width }
     requires most { width ≤ 128 }
-    requires placed { ArePlaced site.now.base site.now.scope.now site.now.slots.now ops.old.items
+    requires placed { ArePlaced site.now.base site.now.scope.now site.now.slots.now ops.old
         (names_read e.now) }
     ensures { IfOk result (λ slot. Built site.now.base site.now.scope.now site.now.slots.now
-        ops.old.items ops.new.items slot width signed e.now) }
+        ops.old ops.new slot width signed e.now) }
 {
     match e {
         Expr::Name(name) => build_name(ops, site, name.bytes(), width, signed),

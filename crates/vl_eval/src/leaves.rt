@@ -7,6 +7,7 @@ ghost use Rattle.vl_check.specs.Scope.{nets_in};
 ghost use Rattle.vl_eval.specs.inner.Site.{ArePlaced, Built};
 
 use crate::adding::{extend, push};
+use crate::code::Code;
 use crate::operators::{literal, mask_of};
 use crate::ops::Op;
 use crate::site::{Site, slot};
@@ -16,7 +17,7 @@ use vl_check::net;
 
 /// Adds what extends a name, where it is signed, and gives the place of its value.
 pub fn build_name(
-    ops: &mut Vec<Op>,
+    ops: &mut Code,
     site: &Site<'_, '_>,
     name: &[u8],
     width: u32,
@@ -25,10 +26,10 @@ pub fn build_name(
     requires sound { is_sound (nets_in site.now.scope.now) (Name name.now) ≡ true }
     requires longer { own_length (nets_in site.now.scope.now) (Name name.now) ≤ width }
     requires most { width ≤ 128 }
-    requires placed { ArePlaced site.now.base site.now.scope.now site.now.slots.now ops.old.items
+    requires placed { ArePlaced site.now.base site.now.scope.now site.now.slots.now ops.old
         (names_read (Name name.now)) }
     ensures { IfOk result (λ slot. Built site.now.base site.now.scope.now site.now.slots.now
-        ops.old.items ops.new.items slot width signed (Name name.now)) }
+        ops.old ops.new slot width signed (Name name.now)) }
 {
     meaning_by_layer();
     let part = slot(site, name);
@@ -40,7 +41,7 @@ pub fn build_name(
 
 /// Adds the operation of a bit, and gives the place of its value.
 pub fn build_bit(
-    ops: &mut Vec<Op>,
+    ops: &mut Code,
     site: &Site<'_, '_>,
     name: &[u8],
     low: u32,
@@ -50,10 +51,10 @@ pub fn build_bit(
     requires sound { is_sound (nets_in site.now.scope.now) (Bit name.now low) ≡ true }
     requires longer { own_length (nets_in site.now.scope.now) (Bit name.now low) ≤ width }
     requires most { width ≤ 128 }
-    requires placed { ArePlaced site.now.base site.now.scope.now site.now.slots.now ops.old.items
+    requires placed { ArePlaced site.now.base site.now.scope.now site.now.slots.now ops.old
         (names_read (Bit name.now low)) }
     ensures { IfOk result (λ slot. Built site.now.base site.now.scope.now site.now.slots.now
-        ops.old.items ops.new.items slot width signed (Bit name.now low)) }
+        ops.old ops.new slot width signed (Bit name.now low)) }
 {
     meaning_by_layer();
     let part = slot(site, name);
@@ -62,7 +63,7 @@ pub fn build_bit(
 
 /// Adds the operation of a part, and gives the place of its value.
 pub fn build_part(
-    ops: &mut Vec<Op>,
+    ops: &mut Code,
     site: &Site<'_, '_>,
     name: &[u8],
     high: u32,
@@ -73,10 +74,10 @@ pub fn build_part(
     requires sound { is_sound (nets_in site.now.scope.now) (Part name.now high low) ≡ true }
     requires longer { own_length (nets_in site.now.scope.now) (Part name.now high low) ≤ width }
     requires most { width ≤ 128 }
-    requires placed { ArePlaced site.now.base site.now.scope.now site.now.slots.now ops.old.items
+    requires placed { ArePlaced site.now.base site.now.scope.now site.now.slots.now ops.old
         (names_read (Part name.now high low)) }
     ensures { IfOk result (λ slot. Built site.now.base site.now.scope.now site.now.slots.now
-        ops.old.items ops.new.items slot width signed (Part name.now high low)) }
+        ops.old ops.new slot width signed (Part name.now high low)) }
 {
     meaning_by_layer();
     let part = slot(site, name);
@@ -86,7 +87,7 @@ pub fn build_part(
 
 /// Adds a number, and gives the place of its value.
 pub fn build_literal(
-    ops: &mut Vec<Op>,
+    ops: &mut Code,
     site: &Site<'_, '_>,
     number: &Sized,
     width: u32,
@@ -95,10 +96,10 @@ pub fn build_literal(
     requires sound { is_sound (nets_in site.now.scope.now) (Literal number.now) ≡ true }
     requires longer { own_length (nets_in site.now.scope.now) (Literal number.now) ≤ width }
     requires most { width ≤ 128 }
-    requires placed { ArePlaced site.now.base site.now.scope.now site.now.slots.now ops.old.items
+    requires placed { ArePlaced site.now.base site.now.scope.now site.now.slots.now ops.old
         (names_read (Literal number.now)) }
     ensures { IfOk result (λ slot. Built site.now.base site.now.scope.now site.now.slots.now
-        ops.old.items ops.new.items slot width signed (Literal number.now)) }
+        ops.old ops.new slot width signed (Literal number.now)) }
 {
     meaning_by_layer();
     push(ops, site.base, Op::Constant(literal(number, width, signed)))

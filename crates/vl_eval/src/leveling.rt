@@ -13,7 +13,8 @@ pub enum Reads {
     Four(usize, usize, usize, usize),
 }
 
-fn reads_of(op: Op) -> Reads
+/// Which places those are.
+pub fn reads_of(op: Op) -> Reads
     ensures { result ≡ reads_of op }
 {
     match op {

@@ -2,11 +2,11 @@
 //!
 //! `Machine::new` has the module checked (`vl_check`) and makes a plan of it: each assignment and what
 //! each register takes become operations over places of values (`plan`, `assigning`, `building`,
-//! `leaves`, `ops`).
-//! Widths, signs and contexts are worked out then (`contexts`, `operators`), and the operations are
-//! sorted by level and kind (`leveling`, `arranging`), so that the jump on the kind of an operation is
-//! foreseen. Those whose numbers have at most 64 bits get a step half as long, whose sums and products
-//! are of 64 bits (`steps`, `sweeping`). At run time no name is looked up: `Machine::edge` captures what
+//! `leaves`, `ops`). Those whose numbers have at most 64 bits are held as steps alone, which are less
+//! than half as long, and whose sums and products are of 64 bits (`code`, `steps`, `sweeping`).
+//! Widths, signs and contexts are worked out then (`contexts`, `operators`), and the operations, if
+//! they aren't too many, are sorted by level and kind (`leveling`, `arranging`), so that the jump on
+//! the kind of an operation is foreseen. At run time no name is looked up: `Machine::edge` captures what
 //! the registers take, puts the inputs in and works out all operations but constants in one sweep. Its
 //! contract: the machine's row is first the first row of the module with all registers and inputs 0, and
 //! each edge leads from a row to the next (`row`); a fault comes only where its condition is the first
@@ -23,6 +23,7 @@ mod adding;
 mod arranging;
 mod assigning;
 mod building;
+mod code;
 mod contexts;
 mod leaves;
 mod leveling;

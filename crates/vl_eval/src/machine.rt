@@ -11,7 +11,6 @@ ghost use Rattle.vl_eval.specs.inner.Edges.{AreZeros, IsPut, IsTaken};
 
 use crate::operators::{half_of, mask_of};
 use crate::plan::{Capture, Output, Plan, plan_of};
-use crate::sweeping::sweep;
 use fx_io::OutOfMemory;
 use std::alloc::Global;
 use vl_ast::{Module, meaning_by_layer};
@@ -104,13 +103,7 @@ impl Machine {
             return Err(VlFault::OutOfMemory);
         };
         let mut values = zeros(alloc, room)?;
-        sweep(
-            plan.steps.as_slice(),
-            plan.ops.as_slice(),
-            plan.base,
-            0,
-            values.as_mut_slice(),
-        );
+        plan.ops.sweep(plan.base, 0, values.as_mut_slice());
         Ok(Machine {
             source,
             plan,
@@ -132,13 +125,9 @@ impl Machine {
         let values = self.values.as_mut_slice();
         capture(self.plan.captures.as_slice(), values);
         put(self.plan.inputs.as_slice(), inputs, values);
-        sweep(
-            self.plan.steps.as_slice(),
-            self.plan.ops.as_slice(),
-            self.plan.base,
-            self.plan.constants,
-            values,
-        );
+        self.plan
+            .ops
+            .sweep(self.plan.base, self.plan.constants, values);
     }
 
     /// The number that an output port shows, by its place among those that carry numbers.

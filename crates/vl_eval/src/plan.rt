@@ -9,9 +9,8 @@ ghost use Rattle.vl_eval.specs.inner.Planned.{AreCaptured, AreNumbers, AreOperat
 
 use crate::arranging::{Arranged, arrange};
 use crate::assigning::{build_assigned, build_next};
-use crate::ops::Op;
+use crate::code::{Code, constants};
 use crate::site::{Site, slot};
-use crate::steps::{Step, constants, steps_of};
 use fx_io::OutOfMemory;
 use std::alloc::Global;
 use vl_ast::{Expr, ModItem, Module, meaning_by_layer};
@@ -38,9 +37,7 @@ pub struct Output {
 #[derive(Drop)]
 pub struct Plan {
     pub base: usize,
-    pub ops: Vec<Op>,
-    /// The operations as an edge carries them out.
-    pub steps: Vec<Step>,
+    pub ops: Code,
     /// How many constants stand first among them.
     pub constants: usize,
     /// By the number of each name in the order of first places.
@@ -95,7 +92,7 @@ fn assignment_of<'a>(
 /// Adds the operations of the assignments, each behind those whose names it reads, and notes where the
 /// names then have their values.
 fn wires(
-    ops: &mut Vec<Op>,
+    ops: &mut Code,
     slots: &mut Vec<usize>,
     scope: &Scope<'_>,
     source: &Module,
@@ -106,8 +103,8 @@ fn wires(
     requires scope { IsScopeOf source.now scope.now }
     requires order { IsOrdering source.now scope.now order.now places.now }
     requires numbers { AreNumbers (length (names_in scope.now)) slots.old.items }
-    requires none { ops.old.items ≡ [] }
-    ensures { OnOk result (AreWired source.now scope.now slots.new.items ops.new.items) }
+    requires none { ops.old ≡ [] }
+    ensures { OnOk result (AreWired source.now scope.now slots.new.items ops.new) }
 {
     meaning_by_layer();
     for number in order {
@@ -129,16 +126,16 @@ fn wires(
 /// Adds the operations of what the registers take at an edge.
 fn captures(
     alloc: Global,
-    ops: &mut Vec<Op>,
+    ops: &mut Code,
     site: &Site<'_, '_>,
     source: &Module,
 ) -> Result<Vec<Capture>, OutOfMemory>
     requires sound { BreaksNone source.now }
     requires scope { IsScopeOf source.now site.now.scope.now }
     requires base { site.now.base ≡ length (names_in site.now.scope.now) }
-    requires wired { AreWired source.now site.now.scope.now site.now.slots.now ops.old.items }
+    requires wired { AreWired source.now site.now.scope.now site.now.slots.now ops.old }
     ensures { IfOk result (λ captures. AreCaptured source.now site.now.scope.now site.now.slots.now
-        source.now.items ops.old.items ops.new.items captures.items) }
+        source.now.items ops.old ops.new captures.items) }
 {
     meaning_by_layer();
     let mut captures = Vec::new(alloc);
@@ -207,7 +204,7 @@ fn arranged_in(
     meaning_by_layer();
     let base = scope.count();
     let mut slots = numbers(alloc, base)?;
-    let mut ops = Vec::new(alloc);
+    let mut ops = Code::new(alloc);
     wires(&mut ops, &mut slots, scope, source, order, places)?;
     let site = Site {
         scope,
@@ -242,14 +239,12 @@ fn plan_in(
         slots: slots.as_slice(),
         base,
     };
-    let steps = steps_of(alloc, ops.as_slice(), base)?;
-    let constants = constants(ops.as_slice());
+    let constants = constants(&ops);
     let inputs = inputs(alloc, &site, source)?;
     let outputs = outputs(alloc, &site, source)?;
     Ok(Plan {
         base,
         ops,
-        steps,
         constants,
         slots,
         captures,

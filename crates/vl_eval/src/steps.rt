@@ -1,19 +1,24 @@
-ghost use Rattle.std.specs.Prelude.{◌≡◌, ◌≤◌, ◌+◌, ◌^◌, IsTrue, IfOk};
-ghost use Rattle.vl_eval.specs.inner.Ops.{IsOrdered, reads_below};
-ghost use Rattle.vl_eval.specs.inner.Steps.{AreConstants, AreSteps, is_constant, op_of};
+ghost use Rattle.std.specs.Prelude.{◌≡◌, ◌<◌, ◌^◌, ℕ, List, IsTrue, IfSome};
+ghost use Rattle.vl_eval.specs.declared.ops.Op.{Op};
+ghost use Rattle.vl_eval.specs.inner.Arranged.{each_of, reads_of};
+ghost use Rattle.vl_eval.specs.inner.Steps.{IsWithin, op_in};
 
+use crate::leveling::{Reads, reads_of};
 use crate::ops::Op;
-use fx_io::OutOfMemory;
-use std::alloc::Global;
 
 /// The greatest number of 64 bits.
 pub const LONGEST: u128 = 0xffff_ffff_ffff_ffff;
 
+/// The greatest number of 32 bits.
+const SHORT: u128 = 0xffff_ffff;
+
 /// The places that a step can name.
 const PLACES: usize = 1 << 32;
 
-/// An operation as an edge carries it out. Places have 32 bits and numbers 64, which makes it half as
-/// long, and sums, differences and products of words of up to 64 bits are worked out in 64 bits.
+/// An operation as it is kept and carried out. Places have 32 bits and numbers 64, a register's first
+/// number 32, and fields stand in the order in which they leave no room: so it has 24 bytes, of which
+/// an operation has 64. Sums, differences and products of words of up to 64 bits are worked out in 64
+/// bits.
 #[derive(Clone, Copy, Debug)]
 pub enum Step {
     Constant(u64),
@@ -97,8 +102,8 @@ pub enum Step {
         mask: u64,
     },
     SignedDown {
+        places: u8,
         part: u32,
-        places: u32,
         half: u64,
         mask: u64,
     },
@@ -114,21 +119,25 @@ pub enum Step {
     },
     Next {
         reset: u32,
-        first: u64,
+        first: u32,
         test: u32,
         value: u32,
         kept: u32,
     },
-    /// As its operation says, which has longer numbers.
-    Whole,
+    /// The operation of this number among those that no other step can be.
+    Whole(usize),
 }
 
-/// The step of an operation.
-fn step_of(op: Op) -> Step
-    requires { reads_below op (2 ^ 32) }
-    ensures { op_of result op ≡ op }
+// Five places and numbers of 32 bits, or one and two numbers of 64 bits.
+const _: () = prove!(size_of::<Step>() == 24);
+
+/// The step of an operation whose places it can name, if it can hold its numbers.
+fn step_of(op: Op) -> Option<Step>
+    requires { each_of (λ place. place < 2 ^ 32) (reads_of op) }
+    ensures within { IfSome result (λ step. (count : ℕ) → IsWithin count step) }
+    ensures held { IfSome result (λ step. (wide : List Op) → op_in wide step ≡ op) }
 {
-    match op {
+    let step = match op {
         Op::Constant(bits) if bits <= LONGEST => Step::Constant(bits as u64),
         Op::Extended { part, half, fill } if half <= LONGEST && fill <= LONGEST => Step::Extended {
             part: part as u32,
@@ -212,9 +221,9 @@ fn step_of(op: Op) -> Step
             places,
             half,
             mask,
-        } if half <= LONGEST && mask <= LONGEST => Step::SignedDown {
+        } if places < 128 && half <= LONGEST && mask <= LONGEST => Step::SignedDown {
+            places: places as u8,
             part: part as u32,
-            places,
             half: half as u64,
             mask: mask as u64,
         },
@@ -242,59 +251,39 @@ fn step_of(op: Op) -> Step
             test,
             value,
             kept,
-        } if first <= LONGEST => Step::Next {
+        } if first <= SHORT => Step::Next {
             reset: reset as u32,
-            first: first as u64,
+            first: first as u32,
             test: test as u32,
             value: value as u32,
             kept: kept as u32,
         },
-        _ => Step::Whole,
-    }
+        _ => return None,
+    };
+    Some(step)
 }
 
-/// Whether a step can name each of the places.
-fn are_few(base: usize, count: usize) -> bool
-    ensures { IsTrue result → base + count ≤ 2 ^ 32 }
+/// Whether a step can name each place that an operation reads.
+fn are_few(op: Op) -> bool
+    ensures { IsTrue result → each_of (λ place. place < 2 ^ 32) (reads_of op) }
 {
-    base <= PLACES && count <= PLACES - base
-}
-
-/// The step of an operation, if steps can name its places.
-fn step_or_whole(few: bool, op: Op) -> Step
-    requires { IsTrue few → reads_below op (2 ^ 32) }
-    ensures { op_of result op ≡ op }
-{
-    if few { step_of(op) } else { Step::Whole }
-}
-
-/// The steps of operations in order.
-pub fn steps_of(alloc: Global, ops: &[Op], base: usize) -> Result<Vec<Step>, OutOfMemory>
-    requires ordered { IsOrdered base ops.now }
-    ensures { IfOk result (λ steps. AreSteps ops.now steps.items) }
-{
-    let few = are_few(base, ops.len());
-    let mut steps = Vec::new(alloc);
-    for op in ops {
-        steps.push(step_or_whole(few, *op))?;
-    }
-    Ok(steps)
-}
-
-fn is_constant(op: Op) -> bool
-    ensures { result ≡ is_constant op }
-{
-    matches!(op, Op::Constant(_))
-}
-
-/// How many constants stand first. An edge leaves them as they are.
-pub fn constants(ops: &[Op]) -> usize
-    ensures { AreConstants result ops.now }
-{
-    for (number, op) in ops.iter().enumerate() {
-        if !is_constant(*op) {
-            return number;
+    match reads_of(op) {
+        Reads::Nothing => true,
+        Reads::One(part) => part < PLACES,
+        Reads::Two(left, right) => left < PLACES && right < PLACES,
+        Reads::Three(first, second, third) => {
+            first < PLACES && second < PLACES && third < PLACES
+        }
+        Reads::Four(first, second, third, fourth) => {
+            first < PLACES && second < PLACES && third < PLACES && fourth < PLACES
         }
     }
-    ops.len()
+}
+
+/// The step of an operation, if it can hold it.
+pub fn narrow(op: Op) -> Option<Step>
+    ensures within { IfSome result (λ step. (count : ℕ) → IsWithin count step) }
+    ensures held { IfSome result (λ step. (wide : List Op) → op_in wide step ≡ op) }
+{
+    if are_few(op) { step_of(op) } else { None }
 }

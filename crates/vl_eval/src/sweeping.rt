@@ -1,7 +1,6 @@
-ghost use Rattle.std.specs.Prelude.{◌≡◌, ◌<◌, ◌+◌, ◌-◌, ◌*◌, ◌%◌, ◌^◌, ◌==◌, nat_le, bit_and, length, take, slice_index, slice_index_or, if◌then◌else◌};
-ghost use Rattle.vl_eval.specs.declared.ops.Op.{Op};
+ghost use Rattle.std.specs.Prelude.{◌≡◌, ◌<◌, ◌+◌, ◌-◌, ◌*◌, ◌%◌, ◌^◌, ◌==◌, nat_le, bit_and, length, take, slice_index, if◌then◌else◌};
 ghost use Rattle.vl_eval.specs.inner.Ops.{AreSettled, IsOrdered, IsSettled, op_value, reads_below};
-ghost use Rattle.vl_eval.specs.inner.Steps.{AreSteps, op_of};
+ghost use Rattle.vl_eval.specs.inner.Steps.{AreWithin, IsWithin, op_in, ops_of};
 
 use crate::ops::{Op, truth, value_of};
 use crate::steps::{LONGEST, Step};
@@ -59,12 +58,10 @@ fn product(left: u128, right: u128, mask: u64) -> u128
 }
 
 /// What an operation gives, by its step.
-fn value_by(step: Step, ops: &[Op], number: usize, values: &[u128]) -> u128
-    requires within { number < length ops.now }
-    requires reads { reads_below (op_of step (slice_index_or ops.now number (Op.Constant 0)))
-        (length values.now) }
-    ensures { result ≡ op_value (op_of step (slice_index_or ops.now number (Op.Constant 0)))
-        (λ k. slice_index values.now k) }
+fn value_by(step: Step, wide: &[Op], values: &[u128]) -> u128
+    requires within { IsWithin (length wide.now) step }
+    requires reads { reads_below (op_in wide.now step) (length values.now) }
+    ensures { result ≡ op_value (op_in wide.now step) (λ k. slice_index values.now k) }
 {
     match step {
         Step::Constant(bits) => u128::from(bits),
@@ -105,11 +102,12 @@ fn value_by(step: Step, ops: &[Op], number: usize, values: &[u128]) -> u128
         Step::IsZero { part } => truth(values[part as usize] == 0),
         Step::Up { part, places, mask } => (values[part as usize] << places) & u128::from(mask),
         Step::SignedDown {
-            part,
             places,
+            part,
             half,
             mask,
         } => {
+            let places = u32::from(places);
             let bits = values[part as usize];
             let mask = u128::from(mask);
             if bits >= u128::from(half) {
@@ -141,23 +139,23 @@ fn value_by(step: Step, ops: &[Op], number: usize, values: &[u128]) -> u128
                 chosen(values, test, value, kept)
             }
         }
-        Step::Whole => value_of(ops[number], values),
+        Step::Whole(number) => value_of(wide[number], values),
     }
 }
 
 /// Works out the operations from the number `from` on in one sweep, each into its place after the first
 /// `base` values. Those before have their values.
-pub fn sweep(steps: &[Step], ops: &[Op], base: usize, from: usize, values: &mut [u128])
-    requires room { length values.now ≡ base + length ops.now }
-    requires ordered { IsOrdered base ops.now }
-    requires steps { AreSteps ops.now steps.now }
-    requires begun { AreSettled base from ops.now values.now }
-    ensures settled { IsSettled base ops.now (λ k. slice_index values.new k) }
+pub fn sweep(steps: &[Step], wide: &[Op], base: usize, from: usize, values: &mut [u128])
+    requires within { AreWithin (length wide.now) steps.now }
+    requires room { length values.now ≡ base + length steps.now }
+    requires ordered { IsOrdered base (ops_of wide.now steps.now) }
+    requires begun { AreSettled base from (ops_of wide.now steps.now) values.now }
+    ensures settled { IsSettled base (ops_of wide.now steps.now) (λ k. slice_index values.new k) }
     ensures kept { take base values.new ≡ take base values.old }
     ensures long { length values.new ≡ length values.old }
 {
-    for number in from..ops.len() {
-        let value = value_by(steps[number], ops, number, values);
+    for number in from..steps.len() {
+        let value = value_by(steps[number], wide, values);
         values[base + number] = value;
     }
 }

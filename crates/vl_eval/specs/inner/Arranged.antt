@@ -117,8 +117,8 @@ pub record IsArranged (base : ℕ) (ops : List Op) (slots : List ℕ) (captures 
   pub move : ℕ → ℕ
   pub fixed : (k : ℕ) → k < base → move k ≡ k
   pub within : (k : ℕ) → base ≤ k → k < base + length ops → (base ≤ move k) × (move k < base + length ops)
-  pub long : length arranged.ops.items ≡ length ops
-  pub ordered : IsOrdered base arranged.ops.items
-  pub settled : (values : ℕ → ℕ) → IsSettled base arranged.ops.items values → IsSettled base ops (λ place. values (move place))
+  pub long : length arranged.ops ≡ length ops
+  pub ordered : IsOrdered base arranged.ops
+  pub settled : (values : ℕ → ℕ) → IsSettled base arranged.ops values → IsSettled base ops (λ place. values (move place))
   pub slots_are : arranged.slots.items ≡ map move slots
   pub captures_are : arranged.captures.items ≡ map (moved_capture move) captures

@@ -21,7 +21,7 @@ use Rattle.vl_eval.specs.declared.plan.Output.{Output}
 use Rattle.vl_eval.specs.declared.plan.Plan.{Plan}
 use Rattle.vl_eval.specs.inner.Assigning.{next_in}
 use Rattle.vl_eval.specs.inner.Ops.{IsSettled}
-use Rattle.vl_eval.specs.inner.Steps.{AreConstants, AreSteps}
+use Rattle.vl_eval.specs.inner.Steps.{AreConstants}
 use Rattle.vl_eval.specs.inner.Shown.{Grows, row_of}
 use Rattle.vl_eval.specs.inner.Site.{slot_in}
 
@@ -110,16 +110,15 @@ output_of scope slots port = record { slot = slot_of_port scope slots port; widt
 pub record AreOperations (m : Module) (scope : Scope) (arranged : Arranged) : Type 0 where
   pub wires : List Op
   pub wired : AreWired m scope arranged.slots.items wires
-  pub captured : AreCaptured m scope arranged.slots.items m.items wires arranged.ops.items arranged.captures.items
+  pub captured : AreCaptured m scope arranged.slots.items m.items wires arranged.ops arranged.captures.items
 
 -- the operations of a module, and where its names have their values
 pub record IsPlan (m : Module) (scope : Scope) (plan : Plan) : Type 0 where
   pub base : plan.base ≡ length (names_in scope)
   pub wires : List Op
   pub wired : AreWired m scope plan.slots.items wires
-  pub captured : AreCaptured m scope plan.slots.items m.items wires plan.ops.items plan.captures.items
-  pub steps : AreSteps plan.ops.items plan.steps.items
-  pub constants : AreConstants plan.constants plan.ops.items
+  pub captured : AreCaptured m scope plan.slots.items m.items wires plan.ops plan.captures.items
+  pub constants : AreConstants plan.constants plan.ops
   pub inputs : plan.inputs.items ≡ map (slot_of_port scope plan.slots.items) (driven_ports m)
   pub outputs : plan.outputs.items ≡ map (output_of scope plan.slots.items) (output_ports m)
 

@@ -1,41 +1,70 @@
--- The operation that a step stands for.
-use Rattle.std.specs.Prelude.{◌≡◌, ℕ, ◌<◌, ◌≤◌, Bool, true, false, List, length, slice_index_or}
+-- The operations that steps stand for, of which a list apart has those that no step holds.
+use Rattle.std.specs.Prelude.{◌≡◌, ℕ, ◌<◌, ◌≤◌, Bool, true, false, List, length, map, slice_index_or, ⊤}
 use Rattle.vl_eval.specs.declared.ops.Op.{Op}
 use Rattle.vl_eval.specs.declared.ops.Op.TheVariants.{Constant, Extended, Select, Add, Subtract, Multiply, And, Or, Xor, Equal, NotEqual, Less, LessEqual, Both, Either, Negate, Invert, IsZero, Up, SignedDown, Choose, Beside, Next}
 use Rattle.vl_eval.specs.declared.steps.Step.{Step}
 use Rattle.vl_eval.specs.declared.steps.Step.TheVariants.{Constant as ConstantStep, Extended as ExtendedStep, Select as SelectStep, Add as AddStep, Subtract as SubtractStep, Multiply as MultiplyStep, And as AndStep, Or as OrStep, Xor as XorStep, Equal as EqualStep, NotEqual as NotEqualStep, Less as LessStep, LessEqual as LessEqualStep, Both as BothStep, Either as EitherStep, Negate as NegateStep, Invert as InvertStep, IsZero as IsZeroStep, Up as UpStep, SignedDown as SignedDownStep, Choose as ChooseStep, Beside as BesideStep, Next as NextStep, Whole}
 
--- the operation of a step, which `Whole` leaves as it is
-abbrev pub op_of : Step → Op → Op
-op_of (ConstantStep bits) op = Constant bits
-op_of (ExtendedStep part half fill) op = Extended part half fill
-op_of (SelectStep part low mask) op = Select part low mask
-op_of (AddStep left right mask) op = Add left right mask
-op_of (SubtractStep left right mask) op = Subtract left right mask
-op_of (MultiplyStep left right mask) op = Multiply left right mask
-op_of (AndStep left right) op = And left right
-op_of (OrStep left right) op = Or left right
-op_of (XorStep left right) op = Xor left right
-op_of (EqualStep left right) op = Equal left right
-op_of (NotEqualStep left right) op = NotEqual left right
-op_of (LessStep left right half) op = Less left right half
-op_of (LessEqualStep left right half) op = LessEqual left right half
-op_of (BothStep left right) op = Both left right
-op_of (EitherStep left right) op = Either left right
-op_of (NegateStep part mask) op = Negate part mask
-op_of (InvertStep part mask) op = Invert part mask
-op_of (IsZeroStep part) op = IsZero part
-op_of (UpStep part places mask) op = Up part places mask
-op_of (SignedDownStep part places half mask) op = SignedDown part places half mask
-op_of (ChooseStep test chosen other) op = Choose test chosen other
-op_of (BesideStep left right places) op = Beside left right places
-op_of (NextStep reset first test value kept) op = Next reset first test value kept
-op_of Whole op = op
+-- the operation of a step; `Whole` has its number in the list
+abbrev pub op_in : List Op → Step → Op
+op_in wide (ConstantStep bits) = Constant bits
+op_in wide (ExtendedStep part half fill) = Extended part half fill
+op_in wide (SelectStep part low mask) = Select part low mask
+op_in wide (AddStep left right mask) = Add left right mask
+op_in wide (SubtractStep left right mask) = Subtract left right mask
+op_in wide (MultiplyStep left right mask) = Multiply left right mask
+op_in wide (AndStep left right) = And left right
+op_in wide (OrStep left right) = Or left right
+op_in wide (XorStep left right) = Xor left right
+op_in wide (EqualStep left right) = Equal left right
+op_in wide (NotEqualStep left right) = NotEqual left right
+op_in wide (LessStep left right half) = Less left right half
+op_in wide (LessEqualStep left right half) = LessEqual left right half
+op_in wide (BothStep left right) = Both left right
+op_in wide (EitherStep left right) = Either left right
+op_in wide (NegateStep part mask) = Negate part mask
+op_in wide (InvertStep part mask) = Invert part mask
+op_in wide (IsZeroStep part) = IsZero part
+op_in wide (UpStep part places mask) = Up part places mask
+op_in wide (SignedDownStep places part half mask) = SignedDown part places half mask
+op_in wide (ChooseStep test chosen other) = Choose test chosen other
+op_in wide (BesideStep left right places) = Beside left right places
+op_in wide (NextStep reset first test value kept) = Next reset first test value kept
+op_in wide (Whole number) = slice_index_or wide number (Constant 0)
 
--- each step stands for its operation
-pub record AreSteps (ops : List Op) (steps : List Step) : Type 0 where
-  pub long : length steps ≡ length ops
-  pub at : (k : ℕ) (s : Step) (d : Op) → k < length ops → op_of (slice_index_or steps k s) (slice_index_or ops k d) ≡ slice_index_or ops k d
+-- the number of a step is one of so many
+abbrev pub IsWithin : ℕ → Step → Type 0
+IsWithin count (ConstantStep bits) = ⊤
+IsWithin count (ExtendedStep part half fill) = ⊤
+IsWithin count (SelectStep part low mask) = ⊤
+IsWithin count (AddStep left right mask) = ⊤
+IsWithin count (SubtractStep left right mask) = ⊤
+IsWithin count (MultiplyStep left right mask) = ⊤
+IsWithin count (AndStep left right) = ⊤
+IsWithin count (OrStep left right) = ⊤
+IsWithin count (XorStep left right) = ⊤
+IsWithin count (EqualStep left right) = ⊤
+IsWithin count (NotEqualStep left right) = ⊤
+IsWithin count (LessStep left right half) = ⊤
+IsWithin count (LessEqualStep left right half) = ⊤
+IsWithin count (BothStep left right) = ⊤
+IsWithin count (EitherStep left right) = ⊤
+IsWithin count (NegateStep part mask) = ⊤
+IsWithin count (InvertStep part mask) = ⊤
+IsWithin count (IsZeroStep part) = ⊤
+IsWithin count (UpStep part places mask) = ⊤
+IsWithin count (SignedDownStep places part half mask) = ⊤
+IsWithin count (ChooseStep test chosen other) = ⊤
+IsWithin count (BesideStep left right places) = ⊤
+IsWithin count (NextStep reset first test value kept) = ⊤
+IsWithin count (Whole number) = number < count
+
+pub record AreWithin (count : ℕ) (steps : List Step) : Type 0 where
+  pub at : (k : ℕ) (d : Step) → k < length steps → IsWithin count (slice_index_or steps k d)
+
+-- the operations of steps in order
+abbrev pub ops_of : List Op → List Step → List Op
+ops_of wide steps = map (op_in wide) steps
 
 abbrev pub is_constant : Op → Bool
 is_constant (Constant bits) = true

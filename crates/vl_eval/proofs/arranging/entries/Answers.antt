@@ -1,4 +1,4 @@
-use Rattle.std.proofs.Common.{◌≡◌, ◌+◌, ◌*◌, ◌^◌, ◌++◌, ◌∷◌, [], length, take, slice_index_or, sym, ap, subst, ◌∙◌, arith}
+use Rattle.std.proofs.Common.{◌≡◌, ◌<◌, ◌+◌, ◌*◌, ◌^◌, ◌++◌, ◌∷◌, [], length, take, sym, ap, subst, ◌∙◌, arith}
 use Rattle.std.proofs.lemmas.List.{get_or_default, length-take-le, take_more}
 use Rattle.vl_eval.specs.declared.ops.Op.TheVariants.{Constant}
 use Rattle.vl_eval.specs.inner.Arranged.{AreEntered, AreLow, IsAbove, each_of, reads_of}
@@ -9,10 +9,10 @@ pub level_of-level-requires-clause-within : goal.level_of-level-requires-clause-
 level_of-level-requires-clause-within c =
     let ops = c.args.ops.now in
     let k = c.loop-number.number in
-    let below = c.loop-number-test.true in
-    let op = slice_index_or ops k (Constant 0) in
+    let below : k < length ops = omega (arith, c.loop-number-test.true, c.len-number-end.ensures) in
+    let op = c.get-op.result in
     reads-levelled c.args.base ops c.as_slice.result.now k op c.requires.ordered below (ap length c.as_slice.ensures.value ∙ c.loop-number.invariant.levels_long ∙ length-take-le k ops (omega (arith, below)))
-    (get_or_default ops k (Constant 0) op below)
+    (c.get-op.ensures ∙ get_or_default ops k (Constant 0) op below)
 
 pub level_of-level-requires-clause-low : goal.level_of-level-requires-clause-low
 level_of-level-requires-clause-low c = subst (λ xs. AreLow xs) (sym c.as_slice.ensures.value) c.loop-number.invariant.low
@@ -27,14 +27,15 @@ loop-number-preserved c =
     let base = c.args.base in
     let ops = c.args.ops.now in
     let k = c.loop-number.number in
-    let below = c.loop-number-test.true in
-    let op = slice_index_or ops k (Constant 0) in
+    let below : k < length ops = omega (arith, c.loop-number-test.true, c.len-number-end.ensures) in
+    let op = c.get-op.result in
+    let more : take (k + 1) ops ≡ take k ops ++ op ∷ [] = take_more ops k (Constant 0) below ∙ ap (λ o. take k ops ++ o ∷ []) (sym c.get-op.ensures) in
     let level = c.level_of-level.result in
     let long : length (take k ops) ≡ k = length-take-le k ops (omega (arith, below)) in
     let small = c.level_of-level.ensures.low in
     let levels = ap length c.as_slice.ensures.value in
     let above = subst (λ xs. each_of (IsAbove base xs level) (reads_of op)) c.as_slice.ensures.value c.level_of-level.ensures.above in
-    subst (λ os. AreEntered base os c.push.new.self.items c.push-in-loop-number.new.self.items) (sym (take_more ops k (Constant 0) below))
+    subst (λ os. AreEntered base os c.push.new.self.items c.push-in-loop-number.new.self.items) (sym more)
     (subst (λ ls. AreEntered base (take k ops ++ op ∷ []) ls c.push-in-loop-number.new.self.items) (sym c.in_ok-push.ensures.items)
     (subst (λ es. AreEntered base (take k ops ++ op ∷ []) (c.loop-number.levels.items ++ level ∷ []) es) (sym c.in_ok-push-2.ensures.items)
     (entered-more base (take k ops) op c.loop-number.levels.items c.loop-number.entries.items level c.kind_of.result ((level * 32 + c.kind_of.result) * 2 ^ 29 + k) c.kind_of.ensures

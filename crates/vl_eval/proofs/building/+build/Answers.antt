@@ -30,15 +30,15 @@ build_unary-build-requires t c =
     let site = c.args.site.now in
     let nets = nets_in site.scope.now in
     let room = room-in (own_length nets c.args.part.now) _ _ c.unary_context-context.ensures (unary-room nets c.args.op c.args.part.now c.args.width c.args.signed c.requires.sound c.requires.longer c.requires.most) in
-    let names = placed site c.args.ops.now.items _ _ (names-unary nets c.args.op c.args.part.now) c.requires.placed in
+    let names = placed site c.args.ops.now _ _ (names-unary nets c.args.op c.args.part.now) c.requires.placed in
     (omega arith, (sound-unary nets c.args.op c.args.part.now c.requires.sound, (room.0, (room.1, names))))
 
 pub build_unary-returns : goal.build_unary-returns
 build_unary-returns t c =
     let site = c.args.site.now in
-    if-ok c.push.result (λ slot p. built-unary c.meaning_by_layer.ensures.value site.base site.scope.now site.slots.now c.args.op c.args.part.now c.args.ops.now.items c.build.new.ops.items c.push.new.ops.items c.in_ok-slot.slot slot c.args.width c.mask_of.result c.args.signed c.unary_context-context.result
+    if-ok c.push.result (λ slot p. built-unary c.meaning_by_layer.ensures.value site.base site.scope.now site.slots.now c.args.op c.args.part.now c.args.ops.now c.build.new.ops c.push.new.ops c.in_ok-slot.slot slot c.args.width c.mask_of.result c.args.signed c.unary_context-context.result
     c.requires.sound c.requires.longer c.requires.most c.mask_of.ensures c.unary_context-context.ensures c.in_ok-slot.ensures
-    (subst (λ o. Pushed site.base c.build.new.ops.items c.push.new.ops.items slot o) c.unary_op.ensures p)) c.push.ensures
+    (subst (λ o. Pushed site.base c.build.new.ops c.push.new.ops slot o) c.unary_op.ensures p)) c.push.ensures
 
 pub build_as_signed-shape_of-context-requires : goal.build_as_signed-shape_of-context-requires
 build_as_signed-shape_of-context-requires t c = sound-as-signed (nets_in c.args.site.now.scope.now) c.args.part.now c.requires.sound
@@ -47,18 +47,18 @@ pub build_as_signed-build-requires : goal.build_as_signed-build-requires
 build_as_signed-build-requires t c =
     let site = c.args.site.now in
     let nets = nets_in site.scope.now in
-    let names = placed site c.args.ops.now.items _ _ (names-as-signed nets c.args.part.now) c.requires.placed in
+    let names = placed site c.args.ops.now _ _ (names-as-signed nets c.args.part.now) c.requires.placed in
     (omega arith, (sound-as-signed nets c.args.part.now c.requires.sound, (omega (arith, c.shape_of-context.ensures.length), (c.shape_of-context.ensures.few, names))))
 
 pub build_as_signed-returns-then-not-signed : goal.build_as_signed-returns-then-not-signed
 build_as_signed-returns-then-not-signed t c =
     let site = c.args.site.now in
-    built-as-signed-plain c.meaning_by_layer.ensures.value site.base site.scope.now site.slots.now c.args.part.now c.args.ops.now.items c.build.new.ops.items c.in_ok-slot.slot c.args.width c.args.signed c.shape_of-context.result c.shape_of-context.ensures.length c.shape_of-context.ensures.sign c.if-not-signed.true c.in_ok-slot.ensures
+    built-as-signed-plain c.meaning_by_layer.ensures.value site.base site.scope.now site.slots.now c.args.part.now c.args.ops.now c.build.new.ops c.in_ok-slot.slot c.args.width c.args.signed c.shape_of-context.result c.shape_of-context.ensures.length c.shape_of-context.ensures.sign c.if-not-signed.true c.in_ok-slot.ensures
 
 pub build_as_signed-returns : goal.build_as_signed-returns
 build_as_signed-returns t c =
     let site = c.args.site.now in
-    if-ok c.extend.result (λ slot x. built-as-signed c.meaning_by_layer.ensures.value site.base site.scope.now site.slots.now c.args.part.now c.args.ops.now.items c.build.new.ops.items c.extend.new.ops.items c.in_ok-slot.slot slot c.args.width c.args.signed c.shape_of-context.result
+    if-ok c.extend.result (λ slot x. built-as-signed c.meaning_by_layer.ensures.value site.base site.scope.now site.slots.now c.args.part.now c.args.ops.now c.build.new.ops c.extend.new.ops c.in_ok-slot.slot slot c.args.width c.args.signed c.shape_of-context.result
     c.requires.sound c.requires.longer c.requires.most c.shape_of-context.ensures.length c.shape_of-context.ensures.sign c.if-not-signed.false c.in_ok-slot.ensures x) c.extend.ensures
 
 pub build_as_unsigned-shape_of-context-requires : goal.build_as_unsigned-shape_of-context-requires
@@ -68,13 +68,13 @@ pub build_as_unsigned-build-requires : goal.build_as_unsigned-build-requires
 build_as_unsigned-build-requires t c =
     let site = c.args.site.now in
     let nets = nets_in site.scope.now in
-    let names = placed site c.args.ops.now.items _ _ (names-as-unsigned nets c.args.part.now) c.requires.placed in
+    let names = placed site c.args.ops.now _ _ (names-as-unsigned nets c.args.part.now) c.requires.placed in
     (omega arith, (sound-as-unsigned nets c.args.part.now c.requires.sound, (omega (arith, c.shape_of-context.ensures.length), (c.shape_of-context.ensures.few, names))))
 
 pub build_as_unsigned-returns : goal.build_as_unsigned-returns
 build_as_unsigned-returns t c =
     let site = c.args.site.now in
-    if-ok c.build.result (λ slot b. built-as-unsigned c.meaning_by_layer.ensures.value site.base site.scope.now site.slots.now c.args.part.now c.args.ops.now.items c.build.new.ops.items slot c.args.width c.args.signed c.shape_of-context.result c.shape_of-context.ensures.length c.shape_of-context.ensures.sign b) c.build.ensures
+    if-ok c.build.result (λ slot b. built-as-unsigned c.meaning_by_layer.ensures.value site.base site.scope.now site.slots.now c.args.part.now c.args.ops.now c.build.new.ops slot c.args.width c.args.signed c.shape_of-context.result c.shape_of-context.ensures.length c.shape_of-context.ensures.sign b) c.build.ensures
 
 pub build_binary-left_context-on_left-requires-clause-left : goal.build_binary-left_context-on_left-requires-clause-left
 build_binary-left_context-on_left-requires-clause-left t c = (sound-binary (nets_in c.args.site.now.scope.now) c.args.op c.args.left.now c.args.right.now c.requires.sound).0
@@ -93,8 +93,8 @@ build_binary-build-requires t c =
     let site = c.args.site.now in
     let nets = nets_in site.scope.now in
     let room = room-in (own_length nets c.args.left.now) _ _ c.left_context-on_left.ensures (left-context-room nets c.args.op c.args.left.now c.args.right.now c.args.width c.args.signed c.requires.sound c.requires.longer c.requires.most) in
-    let all = placed site c.args.ops.now.items _ _ (names-binary nets c.args.op c.args.left.now c.args.right.now) c.requires.placed in
-    let names = placed-left c.meaning_by_layer.ensures.value site.base site.scope.now site.slots.now c.args.ops.now.items (names_read c.args.left.now) (names_read c.args.right.now) all in
+    let all = placed site c.args.ops.now _ _ (names-binary nets c.args.op c.args.left.now c.args.right.now) c.requires.placed in
+    let names = placed-left c.meaning_by_layer.ensures.value site.base site.scope.now site.slots.now c.args.ops.now (names_read c.args.left.now) (names_read c.args.right.now) all in
     (omega arith, ((sound-binary nets c.args.op c.args.left.now c.args.right.now c.requires.sound).0, (room.0, (room.1, names))))
 
 pub build_binary-build-requires-2 : goal.build_binary-build-requires-2
@@ -102,9 +102,9 @@ build_binary-build-requires-2 t c =
     let site = c.args.site.now in
     let nets = nets_in site.scope.now in
     let room = room-in (own_length nets c.args.right.now) _ _ c.left_context-on_right.ensures (right-context-room nets c.args.op c.args.left.now c.args.right.now c.args.width c.args.signed c.requires.sound c.requires.longer c.requires.most) in
-    let all = placed site c.args.ops.now.items _ _ (names-binary nets c.args.op c.args.left.now c.args.right.now) c.requires.placed in
-    let right = placed-right c.meaning_by_layer.ensures.value site.base site.scope.now site.slots.now c.args.ops.now.items (names_read c.args.left.now) (names_read c.args.right.now) all in
-    let names = placed-later c.meaning_by_layer.ensures.value site.base site.scope.now site.slots.now c.args.ops.now.items c.build.new.ops.items (names_read c.args.right.now) c.in_ok-first.ensures.grows right in
+    let all = placed site c.args.ops.now _ _ (names-binary nets c.args.op c.args.left.now c.args.right.now) c.requires.placed in
+    let right = placed-right c.meaning_by_layer.ensures.value site.base site.scope.now site.slots.now c.args.ops.now (names_read c.args.left.now) (names_read c.args.right.now) all in
+    let names = placed-later c.meaning_by_layer.ensures.value site.base site.scope.now site.slots.now c.args.ops.now c.build.new.ops (names_read c.args.right.now) c.in_ok-first.ensures.grows right in
     (omega arith, ((sound-binary nets c.args.op c.args.left.now c.args.right.now c.requires.sound).1, (room.0, (room.1, names))))
 
 pub build_binary-half_in-requires : goal.build_binary-half_in-requires
@@ -117,9 +117,9 @@ build_binary-half_in-requires t c =
 pub build_binary-returns : goal.build_binary-returns
 build_binary-returns t c =
     let site = c.args.site.now in
-    if-ok c.push.result (λ slot p. built-binary c.meaning_by_layer.ensures.value site.base site.scope.now site.slots.now c.args.op c.args.left.now c.args.right.now c.args.ops.now.items c.build.new.ops.items c.build-2.new.ops.items c.push.new.ops.items c.in_ok-first.first c.in_ok-second.second slot c.args.width c.mask_of.result c.half_in.result c.args.signed
+    if-ok c.push.result (λ slot p. built-binary c.meaning_by_layer.ensures.value site.base site.scope.now site.slots.now c.args.op c.args.left.now c.args.right.now c.args.ops.now c.build.new.ops c.build-2.new.ops c.push.new.ops c.in_ok-first.first c.in_ok-second.second slot c.args.width c.mask_of.result c.half_in.result c.args.signed
     c.left_context-on_left.result c.left_context-on_right.result c.requires.sound c.requires.longer c.requires.most c.mask_of.ensures c.left_context-on_left.ensures c.left_context-on_right.ensures c.half_in.ensures c.in_ok-first.ensures c.in_ok-second.ensures
-    (subst (λ o. Pushed site.base c.build-2.new.ops.items c.push.new.ops.items slot o) c.binary_op.ensures p)) c.push.ensures
+    (subst (λ o. Pushed site.base c.build-2.new.ops c.push.new.ops slot o) c.binary_op.ensures p)) c.push.ensures
 
 pub build_choice-shape_of-context-requires : goal.build_choice-shape_of-context-requires
 build_choice-shape_of-context-requires t c = (sound-choose (nets_in c.args.site.now.scope.now) c.args.test.now c.args.chosen.now c.args.other.now c.requires.sound).0
@@ -128,7 +128,7 @@ pub build_choice-build-requires : goal.build_choice-build-requires
 build_choice-build-requires t c =
     let site = c.args.site.now in
     let nets = nets_in site.scope.now in
-    let all = placed site c.args.ops.now.items _ _ (names-choose nets c.args.test.now c.args.chosen.now c.args.other.now) c.requires.placed in (
+    let all = placed site c.args.ops.now _ _ (names-choose nets c.args.test.now c.args.chosen.now c.args.other.now) c.requires.placed in (
       omega arith,
       (
         (sound-choose nets c.args.test.now c.args.chosen.now c.args.other.now c.requires.sound).0,
@@ -136,7 +136,7 @@ build_choice-build-requires t c =
           omega (arith, c.shape_of-context.ensures.length),
           (
             c.shape_of-context.ensures.few,
-            placed-left c.meaning_by_layer.ensures.value site.base site.scope.now site.slots.now c.args.ops.now.items (names_read c.args.test.now) (names_read c.args.chosen.now ++ names_read c.args.other.now) all,
+            placed-left c.meaning_by_layer.ensures.value site.base site.scope.now site.slots.now c.args.ops.now (names_read c.args.test.now) (names_read c.args.chosen.now ++ names_read c.args.other.now) all,
           ),
         ),
       ),
@@ -146,9 +146,9 @@ pub build_choice-build-requires-2 : goal.build_choice-build-requires-2
 build_choice-build-requires-2 t c =
     let site = c.args.site.now in
     let nets = nets_in site.scope.now in
-    let all = placed site c.args.ops.now.items _ _ (names-choose nets c.args.test.now c.args.chosen.now c.args.other.now) c.requires.placed in
-    let rest = placed-right c.meaning_by_layer.ensures.value site.base site.scope.now site.slots.now c.args.ops.now.items (names_read c.args.test.now) (names_read c.args.chosen.now ++ names_read c.args.other.now) all in
-    let mine = placed-left c.meaning_by_layer.ensures.value site.base site.scope.now site.slots.now c.args.ops.now.items (names_read c.args.chosen.now) (names_read c.args.other.now) rest in
+    let all = placed site c.args.ops.now _ _ (names-choose nets c.args.test.now c.args.chosen.now c.args.other.now) c.requires.placed in
+    let rest = placed-right c.meaning_by_layer.ensures.value site.base site.scope.now site.slots.now c.args.ops.now (names_read c.args.test.now) (names_read c.args.chosen.now ++ names_read c.args.other.now) all in
+    let mine = placed-left c.meaning_by_layer.ensures.value site.base site.scope.now site.slots.now c.args.ops.now (names_read c.args.chosen.now) (names_read c.args.other.now) rest in
     let l = length-choose nets c.args.test.now c.args.chosen.now c.args.other.now in (
       omega arith,
       (
@@ -157,7 +157,7 @@ build_choice-build-requires-2 t c =
           omega (arith, l, c.requires.longer),
           (
             c.requires.most,
-            placed-later c.meaning_by_layer.ensures.value site.base site.scope.now site.slots.now c.args.ops.now.items c.build.new.ops.items (names_read c.args.chosen.now) c.in_ok-tested.ensures.grows mine,
+            placed-later c.meaning_by_layer.ensures.value site.base site.scope.now site.slots.now c.args.ops.now c.build.new.ops (names_read c.args.chosen.now) c.in_ok-tested.ensures.grows mine,
           ),
         ),
       ),
@@ -167,9 +167,9 @@ pub build_choice-build-requires-3 : goal.build_choice-build-requires-3
 build_choice-build-requires-3 t c =
     let site = c.args.site.now in
     let nets = nets_in site.scope.now in
-    let all = placed site c.args.ops.now.items _ _ (names-choose nets c.args.test.now c.args.chosen.now c.args.other.now) c.requires.placed in
-    let rest = placed-right c.meaning_by_layer.ensures.value site.base site.scope.now site.slots.now c.args.ops.now.items (names_read c.args.test.now) (names_read c.args.chosen.now ++ names_read c.args.other.now) all in
-    let mine = placed-right c.meaning_by_layer.ensures.value site.base site.scope.now site.slots.now c.args.ops.now.items (names_read c.args.chosen.now) (names_read c.args.other.now) rest in
+    let all = placed site c.args.ops.now _ _ (names-choose nets c.args.test.now c.args.chosen.now c.args.other.now) c.requires.placed in
+    let rest = placed-right c.meaning_by_layer.ensures.value site.base site.scope.now site.slots.now c.args.ops.now (names_read c.args.test.now) (names_read c.args.chosen.now ++ names_read c.args.other.now) all in
+    let mine = placed-right c.meaning_by_layer.ensures.value site.base site.scope.now site.slots.now c.args.ops.now (names_read c.args.chosen.now) (names_read c.args.other.now) rest in
     let l = length-choose nets c.args.test.now c.args.chosen.now c.args.other.now in (
       omega arith,
       (
@@ -178,8 +178,8 @@ build_choice-build-requires-3 t c =
           omega (arith, l, c.requires.longer),
           (
             c.requires.most,
-            placed-later c.meaning_by_layer.ensures.value site.base site.scope.now site.slots.now c.build.new.ops.items c.build-2.new.ops.items (names_read c.args.other.now) c.in_ok-first.ensures.grows
-                (placed-later c.meaning_by_layer.ensures.value site.base site.scope.now site.slots.now c.args.ops.now.items c.build.new.ops.items (names_read c.args.other.now) c.in_ok-tested.ensures.grows mine),
+            placed-later c.meaning_by_layer.ensures.value site.base site.scope.now site.slots.now c.build.new.ops c.build-2.new.ops (names_read c.args.other.now) c.in_ok-first.ensures.grows
+                (placed-later c.meaning_by_layer.ensures.value site.base site.scope.now site.slots.now c.args.ops.now c.build.new.ops (names_read c.args.other.now) c.in_ok-tested.ensures.grows mine),
           ),
         ),
       ),
@@ -188,7 +188,7 @@ build_choice-build-requires-3 t c =
 pub build_choice-returns : goal.build_choice-returns
 build_choice-returns t c =
     let site = c.args.site.now in
-    if-ok c.push.result (λ slot p. built-choice c.meaning_by_layer.ensures.value site.base site.scope.now site.slots.now c.args.test.now c.args.chosen.now c.args.other.now c.args.ops.now.items c.build.new.ops.items c.build-2.new.ops.items c.build-3.new.ops.items c.push.new.ops.items c.in_ok-tested.tested c.in_ok-first.first c.in_ok-second.second slot c.args.width c.args.signed c.shape_of-context.result
+    if-ok c.push.result (λ slot p. built-choice c.meaning_by_layer.ensures.value site.base site.scope.now site.slots.now c.args.test.now c.args.chosen.now c.args.other.now c.args.ops.now c.build.new.ops c.build-2.new.ops c.build-3.new.ops c.push.new.ops c.in_ok-tested.tested c.in_ok-first.first c.in_ok-second.second slot c.args.width c.args.signed c.shape_of-context.result
     c.shape_of-context.ensures.length c.shape_of-context.ensures.sign c.in_ok-tested.ensures c.in_ok-first.ensures c.in_ok-second.ensures p) c.push.ensures
 
 pub build_shift-build-requires : goal.build_shift-build-requires
@@ -197,21 +197,21 @@ build_shift-build-requires t c =
     let nets = nets_in site.scope.now in
     let l = length-shift nets c.args.op c.args.part.now c.args.amount.now in
     let ok = sound-shift nets c.args.op c.args.part.now c.args.amount.now c.requires.sound in
-    let names = placed site c.args.ops.now.items _ _ (names-shift nets c.args.op c.args.part.now c.args.amount.now) c.requires.placed in
+    let names = placed site c.args.ops.now _ _ (names-shift nets c.args.op c.args.part.now c.args.amount.now) c.requires.placed in
     (omega arith, (ok.0, (omega (arith, l, c.requires.longer), (c.requires.most, names))))
 
 pub build_shift-returns : goal.build_shift-returns
 build_shift-returns t c =
     let site = c.args.site.now in
-    if-ok c.push.result (λ slot p. built-shift c.meaning_by_layer.ensures.value site.base site.scope.now site.slots.now c.args.op c.args.part.now c.args.amount.now c.args.ops.now.items c.build.new.ops.items c.push.new.ops.items c.in_ok-slot.slot slot c.args.width c.args.signed
-    c.requires.sound c.requires.longer c.requires.most c.in_ok-slot.ensures (subst (λ o. Pushed site.base c.build.new.ops.items c.push.new.ops.items slot o) (c.shift_op.ensures ∙ ap (λ (places : ℕ). shift_op c.args.op c.in_ok-slot.slot places c.args.width c.args.signed) c.get.ensures) p)) c.push.ensures
+    if-ok c.push.result (λ slot p. built-shift c.meaning_by_layer.ensures.value site.base site.scope.now site.slots.now c.args.op c.args.part.now c.args.amount.now c.args.ops.now c.build.new.ops c.push.new.ops c.in_ok-slot.slot slot c.args.width c.args.signed
+    c.requires.sound c.requires.longer c.requires.most c.in_ok-slot.ensures (subst (λ o. Pushed site.base c.build.new.ops c.push.new.ops slot o) (c.shift_op.ensures ∙ ap (λ (places : ℕ). shift_op c.args.op c.in_ok-slot.slot places c.args.width c.args.signed) c.get.ensures) p)) c.push.ensures
 
 pub build_copies-build_alone-requires : goal.build_copies-build_alone-requires
 build_copies-build_alone-requires t c =
     let site = c.args.site.now in
     let nets = nets_in site.scope.now in
     let ok = sound-repeat nets c.args.count c.args.part.now c.requires.sound in
-    let names = placed site c.args.ops.now.items _ _ (names-repeat nets c.args.count c.args.part.now) c.requires.placed in
+    let names = placed site c.args.ops.now _ _ (names-repeat nets c.args.count c.args.part.now) c.requires.placed in
     (omega arith, (ok.1, names))
 
 pub build_copies-loop-copy-init : goal.build_copies-loop-copy-init
@@ -219,8 +219,8 @@ build_copies-loop-copy-init t c =
     let site = c.args.site.now in
     let ok = sound-repeat (nets_in site.scope.now) c.args.count c.args.part.now c.requires.sound in
     record {
-      later = grows-none site.base c.build_alone.new.ops.items;
-      copied = λ b. copied-one b site.base site.scope.now site.slots.now c.args.ops.now.items c.build_alone.new.ops.items c.in_ok-own.own.slot c.args.part.now c.in_ok-own.own.shape ok.1
+      later = grows-none site.base c.build_alone.new.ops;
+      copied = λ b. copied-one b site.base site.scope.now site.slots.now c.args.ops.now c.build_alone.new.ops c.in_ok-own.own.slot c.args.part.now c.in_ok-own.own.shape ok.1
           c.in_ok-own.ensures.length c.in_ok-own.ensures.sign c.in_ok-own.ensures.built;
     }
 
@@ -247,15 +247,15 @@ build_copies-loop-copy-preserved t c =
     let more = one-copy by_layer site.base site.scope.now site.slots.now c.loop-copy._copy own in
     let copied = c.loop-copy.invariant.copied by_layer in
     let now = copied.long in
-    let value = value-at by_layer site.base site.scope.now site.slots.now c.args.ops.now.items c.build_alone.new.ops.items c.loop-copy.ops.items c.in_ok-own.own.slot c.args.part.now c.in_ok-own.own.shape ok.1
+    let value = value-at by_layer site.base site.scope.now site.slots.now c.args.ops.now c.build_alone.new.ops c.loop-copy.ops c.in_ok-own.own.slot c.args.part.now c.in_ok-own.own.shape ok.1
     c.in_ok-own.ensures.length c.in_ok-own.ensures.sign c.in_ok-own.ensures.built c.loop-copy.invariant.later in
     record {
-      later = grows-more site.base c.build_alone.new.ops.items c.loop-copy.ops.items c.beside.new.ops.items c.loop-copy.invariant.later
-          (beside-grows by_layer site.base site.scope.now site.slots.now c.loop-copy.ops.items c.beside.new.ops.items c.loop-copy.joined c.in_ok-joined.joined c.in_ok-own.own.slot c.loop-copy.length c.in_ok-own.own.shape.length
+      later = grows-more site.base c.build_alone.new.ops c.loop-copy.ops c.beside.new.ops c.loop-copy.invariant.later
+          (beside-grows by_layer site.base site.scope.now site.slots.now c.loop-copy.ops c.beside.new.ops c.loop-copy.joined c.in_ok-joined.joined c.in_ok-own.own.slot c.loop-copy.length c.in_ok-own.own.shape.length
           copied.shows.below value.here.below (omega (arith, few, more, now, c.in_ok-own.ensures.length)) c.in_ok-joined.ensures);
-      copied = λ b. copied-more b site.base site.scope.now site.slots.now c.args.ops.now.items c.loop-copy.ops.items c.beside.new.ops.items c.loop-copy.joined c.in_ok-joined.joined c.in_ok-own.own.slot c.loop-copy.length c.loop-copy._copy
+      copied = λ b. copied-more b site.base site.scope.now site.slots.now c.args.ops.now c.loop-copy.ops c.beside.new.ops c.loop-copy.joined c.in_ok-joined.joined c.in_ok-own.own.slot c.loop-copy.length c.loop-copy._copy
           c.args.part.now c.in_ok-own.own.shape ok.1 few c.in_ok-own.ensures.length
-          (value-at b site.base site.scope.now site.slots.now c.args.ops.now.items c.build_alone.new.ops.items c.loop-copy.ops.items c.in_ok-own.own.slot c.args.part.now c.in_ok-own.own.shape ok.1
+          (value-at b site.base site.scope.now site.slots.now c.args.ops.now c.build_alone.new.ops c.loop-copy.ops c.in_ok-own.own.slot c.args.part.now c.in_ok-own.own.shape ok.1
           c.in_ok-own.ensures.length c.in_ok-own.ensures.sign c.in_ok-own.ensures.built c.loop-copy.invariant.later)
           (c.loop-copy.invariant.copied b) c.in_ok-joined.ensures;
     }
@@ -266,9 +266,9 @@ build_copies-returns-clause-built t c = λ width signed.
     let by_layer = c.meaning_by_layer.ensures.value in
     let ok = sound-repeat (nets_in site.scope.now) c.args.count c.args.part.now c.requires.sound in
     let all : c.loop-copy._copy ≡ c.args.count = omega (arith, ok.0) in
-    subst (λ slot. Built site.base site.scope.now site.slots.now c.args.ops.now.items c.loop-copy.ops.items slot width signed (Repeat c.args.count c.args.part.now)) (sym c.unsigned.ensures.slot)
-    (built-copies by_layer site.base site.scope.now site.slots.now c.args.count c.args.part.now c.args.ops.now.items c.loop-copy.ops.items c.loop-copy.joined c.loop-copy.length width signed
-    (subst (λ n. Copied by_layer site.base site.scope.now site.slots.now c.args.ops.now.items c.loop-copy.ops.items c.loop-copy.joined c.loop-copy.length n c.args.part.now) all (c.loop-copy.invariant.copied by_layer)))
+    subst (λ slot. Built site.base site.scope.now site.slots.now c.args.ops.now c.loop-copy.ops slot width signed (Repeat c.args.count c.args.part.now)) (sym c.unsigned.ensures.slot)
+    (built-copies by_layer site.base site.scope.now site.slots.now c.args.count c.args.part.now c.args.ops.now c.loop-copy.ops c.loop-copy.joined c.loop-copy.length width signed
+    (subst (λ n. Copied by_layer site.base site.scope.now site.slots.now c.args.ops.now c.loop-copy.ops c.loop-copy.joined c.loop-copy.length n c.args.part.now) all (c.loop-copy.invariant.copied by_layer)))
 
 pub build_copies-returns-clause-own : goal.build_copies-returns-clause-own
 build_copies-returns-clause-own t c =
@@ -277,9 +277,9 @@ build_copies-returns-clause-own t c =
     let nets = nets_in site.scope.now in
     let ok = sound-repeat nets c.args.count c.args.part.now c.requires.sound in
     let all : c.loop-copy._copy ≡ c.args.count = omega (arith, ok.0) in
-    let copied = subst (λ n. Copied by_layer site.base site.scope.now site.slots.now c.args.ops.now.items c.loop-copy.ops.items c.loop-copy.joined c.loop-copy.length n c.args.part.now) all (c.loop-copy.invariant.copied by_layer) in
+    let copied = subst (λ n. Copied by_layer site.base site.scope.now site.slots.now c.args.ops.now c.loop-copy.ops c.loop-copy.joined c.loop-copy.length n c.args.part.now) all (c.loop-copy.invariant.copied by_layer) in
     let l = length-repeat nets c.args.count c.args.part.now in
-    shows-alone-too by_layer site.base site.scope.now site.slots.now c.args.ops.now.items c.loop-copy.ops.items (Repeat c.args.count c.args.part.now) c.unsigned.result
+    shows-alone-too by_layer site.base site.scope.now site.slots.now c.args.ops.now c.loop-copy.ops (Repeat c.args.count c.args.part.now) c.unsigned.result
     (c.unsigned.ensures.length ∙ copied.long ∙ sym l) (sign-repeat nets c.args.count c.args.part.now) (omega (arith, l, ok.2)) c.unsigned.ensures.sign (build_copies-returns-clause-built t c)
 
 pub build_parts-build_alone-requires : goal.build_parts-build_alone-requires
@@ -290,7 +290,7 @@ build_parts-build_alone-requires t c =
     let parts = c.args.parts.now in
     let part = c.part-item.result in
     let there = part-in by_layer site.base site.scope.now site.slots.now parts c.loop-part.part-index part c.loop-part-test.true c.part-item.is in
-    let all = placed site c.args.ops.now.items _ _ (names-concat nets parts) c.requires.placed in
+    let all = placed site c.args.ops.now _ _ (names-concat nets parts) c.requires.placed in
     let sizes : List Expr → ℕ = (λ (ps : List Expr). given.size-build_parts (record {
       the-lifetimes = ([], ([], ([], ([], ([], tt)))));
       ops = c.args.ops;
@@ -300,8 +300,8 @@ build_parts-build_alone-requires t c =
       (let less = part-size sizes (λ x xs. refl) parts c.loop-part.part-index part c.loop-part-test.true c.part-item.is in omega (arith, less)),
       (
         part-sound by_layer site.base site.scope.now site.slots.now parts c.loop-part.part-index part (sound-concat nets parts c.requires.sound).0 c.loop-part-test.true c.part-item.is,
-        placed-later by_layer site.base site.scope.now site.slots.now c.args.ops.now.items c.loop-part.ops.items (names_read part) (c.loop-part.invariant by_layer).grows
-            (part-placed by_layer site.base site.scope.now site.slots.now c.args.ops.now.items parts part there all),
+        placed-later by_layer site.base site.scope.now site.slots.now c.args.ops.now c.loop-part.ops (names_read part) (c.loop-part.invariant by_layer).grows
+            (part-placed by_layer site.base site.scope.now site.slots.now c.args.ops.now parts part there all),
       ),
     )
 
@@ -325,9 +325,9 @@ build_parts-loop-part-preserved t c = λ b.
     let i = c.loop-part.part-index in
     let ok = sound-concat nets parts c.requires.sound in
     let there = part-in b site.base site.scope.now site.slots.now parts i part c.loop-part-test.true c.part-item.is in
-    subst (λ done. Joined b site.base site.scope.now site.slots.now c.args.ops.now.items c.beside.new.ops.items c.in_ok-joined.joined (c.loop-part.length + c.in_ok-own.own.shape.length) done parts)
+    subst (λ done. Joined b site.base site.scope.now site.slots.now c.args.ops.now c.beside.new.ops c.in_ok-joined.joined (c.loop-part.length + c.in_ok-own.own.shape.length) done parts)
     (sym (parts-more b site.base site.scope.now site.slots.now parts i part c.loop-part-test.true c.part-item.is))
-    (joined-more b site.base site.scope.now site.slots.now c.args.ops.now.items c.loop-part.ops.items c.build_alone.new.ops.items c.beside.new.ops.items c.loop-part.joined c.in_ok-joined.joined c.in_ok-own.own.slot c.loop-part.length
+    (joined-more b site.base site.scope.now site.slots.now c.args.ops.now c.loop-part.ops c.build_alone.new.ops c.beside.new.ops c.loop-part.joined c.in_ok-joined.joined c.in_ok-own.own.slot c.loop-part.length
     (take i parts) parts part c.in_ok-own.own.shape there (part-sound b site.base site.scope.now site.slots.now parts i part ok.0 c.loop-part-test.true c.part-item.is)
     (parts-few b site.base site.scope.now site.slots.now parts i part ok.1 c.loop-part-test.true c.part-item.is)
     c.in_ok-own.ensures.length c.in_ok-own.ensures.sign (c.loop-part.invariant b) c.in_ok-own.ensures.built c.in_ok-joined.ensures)
@@ -338,9 +338,9 @@ build_parts-returns-then-length-eq0-clause-built t c = λ width signed.
     let by_layer = c.meaning_by_layer.ensures.value in
     let parts = c.args.parts.now in
     let all = take_all c.loop-part.part-index parts (omega (arith, c.loop-part-test.false)) in
-    let joined = subst (λ done. Joined by_layer site.base site.scope.now site.slots.now c.args.ops.now.items c.loop-part.ops.items c.loop-part.joined c.loop-part.length done parts) all (c.loop-part.invariant by_layer) in
-    subst (λ slot. Built site.base site.scope.now site.slots.now c.args.ops.now.items c.push.new.ops.items slot width signed (Concat parts)) (sym c.unsigned.ensures.slot)
-    (built-no-parts by_layer site.base site.scope.now site.slots.now parts c.args.ops.now.items c.loop-part.ops.items c.push.new.ops.items c.in_ok-slot.slot c.loop-part.joined c.loop-part.length width signed
+    let joined = subst (λ done. Joined by_layer site.base site.scope.now site.slots.now c.args.ops.now c.loop-part.ops c.loop-part.joined c.loop-part.length done parts) all (c.loop-part.invariant by_layer) in
+    subst (λ slot. Built site.base site.scope.now site.slots.now c.args.ops.now c.push.new.ops slot width signed (Concat parts)) (sym c.unsigned.ensures.slot)
+    (built-no-parts by_layer site.base site.scope.now site.slots.now parts c.args.ops.now c.loop-part.ops c.push.new.ops c.in_ok-slot.slot c.loop-part.joined c.loop-part.length width signed
     joined c.if-length-eq0.true c.in_ok-slot.ensures)
 
 pub build_parts-returns-then-length-eq0-clause-own : goal.build_parts-returns-then-length-eq0-clause-own
@@ -350,9 +350,9 @@ build_parts-returns-then-length-eq0-clause-own t c =
     let nets = nets_in site.scope.now in
     let parts = c.args.parts.now in
     let all = take_all c.loop-part.part-index parts (omega (arith, c.loop-part-test.false)) in
-    let joined = subst (λ done. Joined by_layer site.base site.scope.now site.slots.now c.args.ops.now.items c.loop-part.ops.items c.loop-part.joined c.loop-part.length done parts) all (c.loop-part.invariant by_layer) in
+    let joined = subst (λ done. Joined by_layer site.base site.scope.now site.slots.now c.args.ops.now c.loop-part.ops c.loop-part.joined c.loop-part.length done parts) all (c.loop-part.invariant by_layer) in
     let l = length-concat nets parts in
-    shows-alone-too by_layer site.base site.scope.now site.slots.now c.args.ops.now.items c.push.new.ops.items (Concat parts) c.unsigned.result
+    shows-alone-too by_layer site.base site.scope.now site.slots.now c.args.ops.now c.push.new.ops (Concat parts) c.unsigned.result
     (c.unsigned.ensures.length ∙ joined.long ∙ sym l) (sign-concat nets parts) (let few = (sound-concat nets parts c.requires.sound).1 in omega (arith, l, few)) c.unsigned.ensures.sign
     (build_parts-returns-then-length-eq0-clause-built t c)
 
@@ -362,9 +362,9 @@ build_parts-returns-clause-built t c = λ width signed.
     let by_layer = c.meaning_by_layer.ensures.value in
     let parts = c.args.parts.now in
     let all = take_all c.loop-part.part-index parts (omega (arith, c.loop-part-test.false)) in
-    let joined = subst (λ done. Joined by_layer site.base site.scope.now site.slots.now c.args.ops.now.items c.loop-part.ops.items c.loop-part.joined c.loop-part.length done parts) all (c.loop-part.invariant by_layer) in
-    subst (λ slot. Built site.base site.scope.now site.slots.now c.args.ops.now.items c.loop-part.ops.items slot width signed (Concat parts)) (sym c.unsigned-2.ensures.slot)
-    (built-parts by_layer site.base site.scope.now site.slots.now parts c.args.ops.now.items c.loop-part.ops.items c.loop-part.joined c.loop-part.length width signed joined (omega (arith, c.if-length-eq0.false)))
+    let joined = subst (λ done. Joined by_layer site.base site.scope.now site.slots.now c.args.ops.now c.loop-part.ops c.loop-part.joined c.loop-part.length done parts) all (c.loop-part.invariant by_layer) in
+    subst (λ slot. Built site.base site.scope.now site.slots.now c.args.ops.now c.loop-part.ops slot width signed (Concat parts)) (sym c.unsigned-2.ensures.slot)
+    (built-parts by_layer site.base site.scope.now site.slots.now parts c.args.ops.now c.loop-part.ops c.loop-part.joined c.loop-part.length width signed joined (omega (arith, c.if-length-eq0.false)))
 
 pub build_parts-returns-clause-own : goal.build_parts-returns-clause-own
 build_parts-returns-clause-own t c =
@@ -373,20 +373,20 @@ build_parts-returns-clause-own t c =
     let nets = nets_in site.scope.now in
     let parts = c.args.parts.now in
     let all = take_all c.loop-part.part-index parts (omega (arith, c.loop-part-test.false)) in
-    let joined = subst (λ done. Joined by_layer site.base site.scope.now site.slots.now c.args.ops.now.items c.loop-part.ops.items c.loop-part.joined c.loop-part.length done parts) all (c.loop-part.invariant by_layer) in
+    let joined = subst (λ done. Joined by_layer site.base site.scope.now site.slots.now c.args.ops.now c.loop-part.ops c.loop-part.joined c.loop-part.length done parts) all (c.loop-part.invariant by_layer) in
     let l = length-concat nets parts in
-    shows-alone-too by_layer site.base site.scope.now site.slots.now c.args.ops.now.items c.loop-part.ops.items (Concat parts) c.unsigned-2.result
+    shows-alone-too by_layer site.base site.scope.now site.slots.now c.args.ops.now c.loop-part.ops (Concat parts) c.unsigned-2.result
     (c.unsigned-2.ensures.length ∙ joined.long ∙ sym l) (sign-concat nets parts) (let few = (sound-concat nets parts c.requires.sound).1 in omega (arith, l, few)) c.unsigned-2.ensures.sign
     (build_parts-returns-clause-built t c)
 
 pub build-returns-in_ok-alone-in-Concat : goal.build-returns-in_ok-alone-in-Concat
 build-returns-in_ok-alone-in-Concat t c =
     let site = c.args.site.now in
-    subst (λ e. Built site.base site.scope.now site.slots.now c.args.ops.now.items c.build_parts.new.ops.items c.in_ok-alone-in-Concat.alone.slot c.args.width c.args.signed e) (ap Concat c.as_slice.ensures ∙ sym c.in-Concat.is)
+    subst (λ e. Built site.base site.scope.now site.slots.now c.args.ops.now c.build_parts.new.ops c.in_ok-alone-in-Concat.alone.slot c.args.width c.args.signed e) (ap Concat c.as_slice.ensures ∙ sym c.in-Concat.is)
     (c.in_ok-alone-in-Concat.ensures.built c.args.width c.args.signed)
 
 pub build-returns-in_ok-alone-in-Repeat : goal.build-returns-in_ok-alone-in-Repeat
 build-returns-in_ok-alone-in-Repeat t c =
     let site = c.args.site.now in
-    subst (λ e. Built site.base site.scope.now site.slots.now c.args.ops.now.items c.build_copies.new.ops.items c.in_ok-alone-in-Repeat.alone.slot c.args.width c.args.signed e) (ap (Repeat c.in-Repeat.count) c.get.ensures ∙ sym c.in-Repeat.is)
+    subst (λ e. Built site.base site.scope.now site.slots.now c.args.ops.now c.build_copies.new.ops c.in_ok-alone-in-Repeat.alone.slot c.args.width c.args.signed e) (ap (Repeat c.in-Repeat.count) c.get.ensures ∙ sym c.in-Repeat.is)
     (c.in_ok-alone-in-Repeat.ensures.built c.args.width c.args.signed)

@@ -7,12 +7,12 @@ use Rattle.vl_eval.proofs.building.+build.Given as goal
 
 abbrev pub invariant-build_parts-loop-part : goal.invariant-build_parts-loop-part
 invariant-build_parts-loop-part l =
-    (b : ByLayer) → Joined b l.site.base l.site.scope.now l.site.slots.now l.fn.ops.items l.ops.items l.joined l.length (take l.part-index l.parts) l.parts
+    (b : ByLayer) → Joined b l.site.base l.site.scope.now l.site.slots.now l.fn.ops l.ops l.joined l.length (take l.part-index l.parts) l.parts
 
 abbrev pub invariant-build_copies-loop-copy : goal.invariant-build_copies-loop-copy
 invariant-build_copies-loop-copy l = record {
-  later : Grows l.site.base l.initial.ops.items l.ops.items;
-  copied : (b : ByLayer) → Copied b l.site.base l.site.scope.now l.site.slots.now l.fn.ops.items l.ops.items l.joined l.length l._copy l.part;
+  later : Grows l.site.base l.initial.ops l.ops;
+  copied : (b : ByLayer) → Copied b l.site.base l.site.scope.now l.site.slots.now l.fn.ops l.ops l.joined l.length l._copy l.part;
 }
 
 abbrev pub decreases-build : goal.decreases-build

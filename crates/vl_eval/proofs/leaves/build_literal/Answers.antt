@@ -14,5 +14,5 @@ literal-requires-clause-longer c = let l = length-literal (nets_in c.args.site.n
 pub returns : goal.returns
 returns c =
     let site = c.args.site.now in
-    if-ok c.push.result (λ slot p. built-literal c.meaning_by_layer.ensures.value site.base site.scope.now site.slots.now c.args.number.now c.args.ops.now.items c.push.new.ops.items c.literal.result slot c.args.width c.args.signed
+    if-ok c.push.result (λ slot p. built-literal c.meaning_by_layer.ensures.value site.base site.scope.now site.slots.now c.args.number.now c.args.ops.now c.push.new.ops c.literal.result slot c.args.width c.args.signed
     c.literal.ensures p) c.push.ensures

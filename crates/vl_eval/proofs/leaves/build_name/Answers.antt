@@ -12,7 +12,7 @@ pub returns-then-not-signed : goal.returns-then-not-signed
 returns-then-not-signed c =
     let site = c.args.site.now in
     let below = c.requires.placed.below c.args.name.now (subst (λ ns. Contains ns c.args.name.now) (sym (names-name (nets_in site.scope.now) c.args.name.now)) (head-in c.args.name.now [])) in
-    built-name c.meaning_by_layer.ensures.value site.base site.scope.now site.slots.now c.args.name.now c.args.ops.now.items c.slot-part.result c.args.width c.args.signed c.slot-part.ensures below c.if-not-signed.true
+    built-name c.meaning_by_layer.ensures.value site.base site.scope.now site.slots.now c.args.name.now c.args.ops.now c.slot-part.result c.args.width c.args.signed c.slot-part.ensures below c.if-not-signed.true
 
 pub extend-requires-clause-longer : goal.extend-requires-clause-longer
 extend-requires-clause-longer c =
@@ -28,5 +28,5 @@ returns c =
     let below = c.requires.placed.below c.args.name.now (subst (λ ns. Contains ns c.args.name.now) (sym (names-name nets c.args.name.now)) (head-in c.args.name.now [])) in
     let l = length-name nets c.args.name.now in
     let e = ap (λ (n : Net). n.width) c.net.ensures in
-    if-ok c.extend.result (λ slot x. built-signed-name c.meaning_by_layer.ensures.value site.base site.scope.now site.slots.now c.args.name.now c.args.ops.now.items c.extend.new.ops.items c.slot-part.result slot c.args.width c.net.result.length c.args.signed
+    if-ok c.extend.result (λ slot x. built-signed-name c.meaning_by_layer.ensures.value site.base site.scope.now site.slots.now c.args.name.now c.args.ops.now c.extend.new.ops c.slot-part.result slot c.args.width c.net.result.length c.args.signed
     c.slot-part.ensures e below (omega (arith, l, e, c.requires.longer)) c.requires.most c.if-not-signed.false x) c.extend.ensures

@@ -17,10 +17,10 @@ returns c =
     let by_layer = c.meaning_by_layer.ensures.value in
     let a = c.requires.sound.acyclic in
     let few = scope-few m c.requires.sound.narrow a.driven a.once scope c.requires.scope in
-    let wires = c.wires.new.ops.items in
+    let wires = c.wires.new.ops in
     let slots = c.wires.new.slots.items in
     let wired = c.in_ok-wires.ensures in
-    let ops = c.captures-2.new.ops.items in
+    let ops = c.captures-2.new.ops in
     let taken = c.in_ok-taken.taken.items in
     let captured = subst (λ xs. AreCaptured m scope xs m.items wires ops taken) c.as_slice.ensures.value c.in_ok-taken.ensures in
     let reset = number-of by_layer m scope c.requires.scope a.driven a.once few slots wires wired (codes "reset") (reset-known by_layer m scope c.requires.scope a.driven a.once few slots wires wired c.requires.sound.clocked) in
@@ -29,7 +29,7 @@ returns c =
     if-ok c.arrange.result (λ arranged sorted.
     let is = subst (λ n. IsArranged n ops slots taken arranged) c.count-base.ensures sorted in
     record {
-      wires = arranged.ops.items;
+      wires = arranged.ops;
       wired = arranged-wired by_layer m scope some wires ops slots taken wired captured arranged is;
       captured = arranged-captured by_layer m scope some wires ops slots taken wired captured arranged is;
     }) c.arrange.ensures

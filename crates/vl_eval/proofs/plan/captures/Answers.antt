@@ -1,4 +1,4 @@
-use Rattle.std.proofs.Common.{◌≡◌, ◌++◌, ◌∷◌, [], length, take, Vec, Global, refl, sym, subst, ap, ◌∙◌}
+use Rattle.std.proofs.Common.{◌≡◌, ◌++◌, ◌∷◌, [], List, length, take, Vec, Global, refl, sym, subst, ap, ◌∙◌}
 use Rattle.vl_ast.specs.declared.modules.ModItem.TheVariants.{Always}
 use Rattle.vl_check.specs.Scope.{names_in}
 use Rattle.vl_eval.specs.inner.Assigning.{Captures, next_names}
@@ -41,11 +41,11 @@ build_next-requires-clause-placed c =
     let w = c.requires.sound.acyclic in
     let few = scope-few m c.requires.sound.narrow w.driven w.once scope c.requires.scope in
     let there = item-there c.as_slice-item-items.result.now m.items c.loop-item.item-index c.item-item.result _ c.as_slice-item-items.ensures c.loop-item-test.true c.item-item.is a.is in
-    subst (λ n. ArePlaced n scope site.slots.now c.loop-item.ops.items (next_names c.bytes.result.now a.condition a.value)) (sym c.requires.base)
-    (subst (λ n. ArePlaced (length (names_in scope)) scope site.slots.now c.loop-item.ops.items (next_names n a.condition a.value)) (sym c.bytes.ensures)
-    (known-placed c.meaning_by_layer.ensures.value m scope c.requires.scope w.driven w.once few site.slots.now c.args.ops.now.items c.requires.wired c.loop-item.ops.items c.loop-item.invariant.grows (next_names a.name a.condition a.value)
-    (next-known c.meaning_by_layer.ensures.value m scope c.requires.scope w.driven w.once few site.slots.now c.args.ops.now.items c.requires.wired
-    (reset-known c.meaning_by_layer.ensures.value m scope c.requires.scope w.driven w.once few site.slots.now c.args.ops.now.items c.requires.wired c.requires.sound.clocked) a.name a.first a.condition a.value there)))
+    subst (λ n. ArePlaced n scope site.slots.now c.loop-item.ops (next_names c.bytes.result.now a.condition a.value)) (sym c.requires.base)
+    (subst (λ n. ArePlaced (length (names_in scope)) scope site.slots.now c.loop-item.ops (next_names n a.condition a.value)) (sym c.bytes.ensures)
+    (known-placed c.meaning_by_layer.ensures.value m scope c.requires.scope w.driven w.once few site.slots.now c.args.ops.now c.requires.wired c.loop-item.ops c.loop-item.invariant.grows (next_names a.name a.condition a.value)
+    (next-known c.meaning_by_layer.ensures.value m scope c.requires.scope w.driven w.once few site.slots.now c.args.ops.now c.requires.wired
+    (reset-known c.meaning_by_layer.ensures.value m scope c.requires.scope w.driven w.once few site.slots.now c.args.ops.now c.requires.wired c.requires.sound.clocked) a.name a.first a.condition a.value there)))
 
 pub loop-item-preserved : goal.loop-item-preserved
 loop-item-preserved c =
@@ -55,7 +55,7 @@ loop-item-preserved c =
     let slots = site.slots.now in
     let q = c.requires.sound.acyclic in
     let few = scope-few m c.requires.sound.narrow q.driven q.once scope c.requires.scope in
-    let wired = c.args.ops.now.items in
+    let wired = c.args.ops.now in
     let i = c.loop-item.item-index in
     let items = c.as_slice-item-items.result.now in
     let reset = reset-known c.meaning_by_layer.ensures.value m scope c.requires.scope q.driven q.once few slots wired c.requires.wired c.requires.sound.clocked in
@@ -63,20 +63,20 @@ loop-item-preserved c =
       | in-Always+in_ok-from+in_ok-push w ↦ (
           let a = w.in-Always in
           let there = item-there items m.items i c.item-item.result _ c.as_slice-item-items.ensures c.loop-item-test.true c.item-item.is a.is in
-          let ops : c.match-item.ops.items ≡ w.build_next.new.ops.items = ap (λ (v : Vec Op Global). v.items) w.ops-is in
+          let ops : c.match-item.ops ≡ w.build_next.new.ops = w.ops-is in
           let captures : c.match-item.captures.items ≡ c.loop-item.captures.items ++ record { from = w.in_ok-from.from; to = w.slot-to.result } ∷ [] = ap (λ (v : Vec Capture Global). v.items) w.captures-is ∙ w.in_ok-push.ensures.items in
           let takes =
-          subst (λ n. Captures n scope slots c.loop-item.ops.items w.build_next.new.ops.items w.in_ok-from.from a.name a.first a.condition a.value) c.requires.base
-          (subst (λ n. Captures site.base scope slots c.loop-item.ops.items w.build_next.new.ops.items w.in_ok-from.from n a.first a.condition a.value) w.bytes.ensures w.in_ok-from.ensures) in
-          subst (λ is. AreCaptured m scope slots is wired c.match-item.ops.items c.match-item.captures.items) (sym (items-more items m.items i c.item-item.result _ c.as_slice-item-items.ensures c.loop-item-test.true c.item-item.is a.is))
+          subst (λ n. Captures n scope slots c.loop-item.ops w.build_next.new.ops w.in_ok-from.from a.name a.first a.condition a.value) c.requires.base
+          (subst (λ n. Captures site.base scope slots c.loop-item.ops w.build_next.new.ops w.in_ok-from.from n a.first a.condition a.value) w.bytes.ensures w.in_ok-from.ensures) in
+          subst (λ is. AreCaptured m scope slots is wired c.match-item.ops c.match-item.captures.items) (sym (items-more items m.items i c.item-item.result _ c.as_slice-item-items.ensures c.loop-item-test.true c.item-item.is a.is))
           (subst (λ os. AreCaptured m scope slots (take i m.items ++ Always a.name a.first a.condition a.value ∷ []) wired os c.match-item.captures.items) (sym ops)
-          (subst (λ cs. AreCaptured m scope slots (take i m.items ++ Always a.name a.first a.condition a.value ∷ []) wired w.build_next.new.ops.items cs) (sym captures)
-          (captured-more c.meaning_by_layer.ensures.value m scope c.requires.scope q.driven q.once few slots wired c.requires.wired reset (take i m.items) c.loop-item.ops.items w.build_next.new.ops.items c.loop-item.captures.items
+          (subst (λ cs. AreCaptured m scope slots (take i m.items ++ Always a.name a.first a.condition a.value ∷ []) wired w.build_next.new.ops cs) (sym captures)
+          (captured-more c.meaning_by_layer.ensures.value m scope c.requires.scope q.driven q.once few slots wired c.requires.wired reset (take i m.items) c.loop-item.ops w.build_next.new.ops c.loop-item.captures.items
           w.in_ok-from.from w.slot-to.result a.name a.first a.condition a.value there (w.slot-to.ensures ∙ ap (slot_in scope slots) w.bytes-in-Always.ensures) takes c.loop-item.invariant))))
       | in_default w ↦ (
-          subst (λ is. AreCaptured m scope slots is wired c.match-item.ops.items c.match-item.captures.items) (sym (items-more items m.items i c.item-item.result c.item-item.result c.as_slice-item-items.ensures c.loop-item-test.true c.item-item.is refl))
-          (subst (λ (os : Vec Op Global). AreCaptured m scope slots (take i m.items ++ c.item-item.result ∷ []) wired os.items c.match-item.captures.items) (sym w.ops-is)
-          (subst (λ (cs : Vec Capture Global). AreCaptured m scope slots (take i m.items ++ c.item-item.result ∷ []) wired c.loop-item.ops.items cs.items) (sym w.captures-is)
-          (captured-same c.meaning_by_layer.ensures.value m scope c.requires.scope q.driven q.once few slots wired c.requires.wired reset (take i m.items) c.item-item.result c.loop-item.ops.items c.loop-item.captures.items
+          subst (λ is. AreCaptured m scope slots is wired c.match-item.ops c.match-item.captures.items) (sym (items-more items m.items i c.item-item.result c.item-item.result c.as_slice-item-items.ensures c.loop-item-test.true c.item-item.is refl))
+          (subst (λ (os : List Op). AreCaptured m scope slots (take i m.items ++ c.item-item.result ∷ []) wired os c.match-item.captures.items) (sym w.ops-is)
+          (subst (λ (cs : Vec Capture Global). AreCaptured m scope slots (take i m.items ++ c.item-item.result ∷ []) wired c.loop-item.ops cs.items) (sym w.captures-is)
+          (captured-same c.meaning_by_layer.ensures.value m scope c.requires.scope q.driven q.once few slots wired c.requires.wired reset (take i m.items) c.item-item.result c.loop-item.ops c.loop-item.captures.items
           (λ name first condition value e. w.in_default.not-Always name first condition value e) c.loop-item.invariant))))
     ]

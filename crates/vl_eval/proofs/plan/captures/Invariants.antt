@@ -3,4 +3,4 @@ use Rattle.vl_eval.specs.inner.Planned.{AreCaptured}
 use Rattle.vl_eval.proofs.plan.captures.Given as goal
 
 abbrev pub invariant-loop-item : goal.invariant-loop-item
-invariant-loop-item l = AreCaptured l.source l.site.scope.now l.site.slots.now (take l.item-index l.source.items) l.fn.ops.items l.ops.items l.captures.items
+invariant-loop-item l = AreCaptured l.source l.site.scope.now l.site.slots.now (take l.item-index l.source.items) l.fn.ops l.ops l.captures.items

@@ -1,7 +1,6 @@
 use Rattle.std.proofs.Common.{◌≡◌, map, subst}
 use Rattle.vl_ast.specs.Driven.{output_ports}
 use Rattle.vl_eval.specs.Given.{driven_ports}
-use Rattle.vl_eval.specs.inner.Steps.{AreConstants, AreSteps}
 use Rattle.vl_eval.specs.inner.Planned.{output_of, slot_of_port}
 use Rattle.vl_eval.proofs.plan.plan_in.Goals as goal
 
@@ -15,8 +14,7 @@ returns c =
       wires = operations.wires;
       wired = operations.wired;
       captured = operations.captured;
-      steps = subst (λ os. AreSteps os c.in_ok-steps.steps.items) c.as_slice-2.ensures.value c.in_ok-steps.ensures;
-      constants = subst (λ os. AreConstants c.constants-constants.result os) c.as_slice-3.ensures.value c.constants-constants.ensures;
+      constants = c.constants-constants.ensures;
       inputs = subst (λ xs. c.in_ok-inputs.inputs.items ≡ map (slot_of_port scope xs) (driven_ports m)) c.as_slice.ensures.value c.in_ok-inputs.ensures;
       outputs = subst (λ xs. c.in_ok-outputs.outputs.items ≡ map (output_of scope xs) (output_ports m)) c.as_slice.ensures.value c.in_ok-outputs.ensures;
     }

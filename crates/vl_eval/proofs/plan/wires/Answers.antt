@@ -17,7 +17,7 @@ loop-number-preserved-in_default c =
     let order = c.args.order.now in
     let p = c.loop-number.number-index in
     let none = no-assignment c.meaning_by_layer.ensures.value m c.args.scope.now order places c.requires.scope a.driven a.once c.requires.order (slice_index order p) (sym c.in_default.ensures) in
-    wired-same c.meaning_by_layer.ensures.value m c.args.scope.now order places c.requires.scope a.driven a.once c.requires.order p c.loop-number.slots.items c.loop-number.ops.items c.loop-number-test.true none c.loop-number.invariant
+    wired-same c.meaning_by_layer.ensures.value m c.args.scope.now order places c.requires.scope a.driven a.once c.requires.order p c.loop-number.slots.items c.loop-number.ops c.loop-number-test.true none c.loop-number.invariant
 
 pub build_assigned-requires-clause-sound : goal.build_assigned-requires-clause-sound
 build_assigned-requires-clause-sound c =
@@ -48,10 +48,10 @@ build_assigned-requires-clause-placed c =
     let p = c.loop-number.number-index in
     let here = c.in-Some.field-0 in
     let found = some-assignment c.meaning_by_layer.ensures.value m scope order places c.requires.scope a.driven a.once c.requires.order (slice_index order p) here.name.now here.value.now (sym c.in-Some.ensures) in
-    subst (λ n. ArePlaced n scope c.as_slice.result.now c.loop-number.ops.items (names_read here.value.now)) (sym c.count.ensures)
-    (subst (λ xs. ArePlaced (length (names_in scope)) scope xs c.loop-number.ops.items (names_read here.value.now)) (sym c.as_slice.ensures.value)
+    subst (λ n. ArePlaced n scope c.as_slice.result.now c.loop-number.ops (names_read here.value.now)) (sym c.count.ensures)
+    (subst (λ xs. ArePlaced (length (names_in scope)) scope xs c.loop-number.ops (names_read here.value.now)) (sym c.as_slice.ensures.value)
     (wired-placed c.meaning_by_layer.ensures.value m scope order places c.requires.scope a.driven a.once c.requires.order p found.j here.name.now here.value.now c.loop-number-test.true found.place found.item
-    c.loop-number.slots.items 0 c.loop-number.ops.items (scope-few m c.requires.sound.narrow a.driven a.once scope c.requires.scope) c.loop-number.invariant))
+    c.loop-number.slots.items 0 c.loop-number.ops (scope-few m c.requires.sound.narrow a.driven a.once scope c.requires.scope) c.loop-number.invariant))
 
 pub loop-number-preserved : goal.loop-number-preserved
 loop-number-preserved c =
@@ -64,10 +64,10 @@ loop-number-preserved c =
     let here = c.in-Some.field-0 in
     let found = some-assignment c.meaning_by_layer.ensures.value m scope order places c.requires.scope a.driven a.once c.requires.order (slice_index order p) here.name.now here.value.now (sym c.in-Some.ensures) in
     let assigns =
-    subst (λ xs. Assigns (length (names_in scope)) scope xs c.loop-number.ops.items c.build_assigned.new.ops.items c.in_ok-slot.slot c.net-width.result.length here.value.now) c.as_slice.ensures.value
-    (subst (λ n. Assigns n scope c.as_slice.result.now c.loop-number.ops.items c.build_assigned.new.ops.items c.in_ok-slot.slot c.net-width.result.length here.value.now) c.count.ensures c.in_ok-slot.ensures) in
+    subst (λ xs. Assigns (length (names_in scope)) scope xs c.loop-number.ops c.build_assigned.new.ops c.in_ok-slot.slot c.net-width.result.length here.value.now) c.as_slice.ensures.value
+    (subst (λ n. Assigns n scope c.as_slice.result.now c.loop-number.ops c.build_assigned.new.ops c.in_ok-slot.slot c.net-width.result.length here.value.now) c.count.ensures c.in_ok-slot.ensures) in
     wired-more c.meaning_by_layer.ensures.value m scope order places c.requires.scope a.driven a.once c.requires.order p found.j here.name.now here.value.now c.loop-number-test.true found.place found.item
-    c.loop-number.slots.items c.in_ok-slot.slot c.loop-number.ops.items c.build_assigned.new.ops.items c.net-width.result.length (ap (λ (n : Net). n.width) c.net-width.ensures) assigns c.loop-number.invariant
+    c.loop-number.slots.items c.in_ok-slot.slot c.loop-number.ops c.build_assigned.new.ops c.net-width.result.length (ap (λ (n : Net). n.width) c.net-width.ensures) assigns c.loop-number.invariant
 
 pub returns : goal.returns
 returns c =
@@ -75,5 +75,5 @@ returns c =
     let a = c.requires.sound.acyclic in
     let order = c.args.order.now in
     let all : c.loop-number.number-index ≡ length order = omega (arith, c.loop-number-test.false, c.loop-number.auto.number-index-end) in
-    wired-all c.meaning_by_layer.ensures.value m c.args.scope.now order c.args.places.now c.requires.scope a.driven a.once c.requires.order c.loop-number.slots.items c.loop-number.ops.items
-    (subst (λ n. IsWired m c.args.scope.now order c.args.places.now n c.loop-number.slots.items c.loop-number.ops.items) all c.loop-number.invariant)
+    wired-all c.meaning_by_layer.ensures.value m c.args.scope.now order c.args.places.now c.requires.scope a.driven a.once c.requires.order c.loop-number.slots.items c.loop-number.ops
+    (subst (λ n. IsWired m c.args.scope.now order c.args.places.now n c.loop-number.slots.items c.loop-number.ops) all c.loop-number.invariant)

@@ -2,8 +2,7 @@ use Rattle.std.proofs.Common.{◌≡◌, ◌<◌, ℕ, length, take, slice_index
 use Rattle.std.specs.Vec.{with_items}
 use Rattle.std.proofs.lemmas.List.{with_items_is}
 use Rattle.vl_eval.specs.inner.Edges.{IsPut, IsTaken}
-use Rattle.vl_eval.specs.inner.Ops.{AreSettled, IsSettled}
-use Rattle.vl_eval.specs.inner.Steps.{AreSteps}
+use Rattle.vl_eval.specs.inner.Ops.{IsSettled}
 use Rattle.vl_eval.proofs.Swept.{constants-settled}
 use Rattle.vl_eval.proofs.FixedPlaces.{captures-apart, captures-within, places-apart, places-within}
 use Rattle.vl_eval.proofs.Edges.{edge-fits-named, edge-named, edge-still-named, ops-stay}
@@ -37,12 +36,6 @@ put-requires-clause-apart c =
     subst (λ ps. (i j : ℕ) → i < j → j < length ps → slice_index ps i ≡ slice_index ps j → ⊥) (sym c.as_slice-2.ensures.value)
     (places-apart c.meaning_by_layer.ensures.value self.source of.sound of.scope of.scope_is self.plan of.plan_is)
 
-pub sweep-requires-clause-steps : goal.sweep-requires-clause-steps
-sweep-requires-clause-steps c =
-    let self = c.args.self.now in
-    subst (λ os. AreSteps os c.as_slice-3.result.now) (sym c.as_slice-4.ensures.value)
-    (subst (λ ss. AreSteps self.plan.ops.items ss) (sym c.as_slice-3.ensures.value) c.requires.ready.plan_is.plan_is.steps)
-
 pub sweep-requires-clause-begun : goal.sweep-requires-clause-begun
 sweep-requires-clause-begun c =
     let self = c.args.self.now in
@@ -50,9 +43,8 @@ sweep-requires-clause-begun c =
     let of = ready.plan_is in
     let taken = subst (λ v. IsTaken self.plan.captures.items v c.capture.new.values) c.as_mut_slice-values.ensures.value (subst (λ cs. IsTaken cs c.as_mut_slice-values.result.now c.capture.new.values) c.as_slice.ensures.value c.capture.ensures) in
     let put = subst (λ ps. IsPut ps c.args.inputs.now c.capture.new.values c.put.new.values) c.as_slice-2.ensures.value c.put.ensures in
-    subst (λ os. AreSettled self.plan.base self.plan.constants os c.put.new.values) (sym c.as_slice-4.ensures.value)
-    (constants-settled self.plan.base self.plan.constants self.plan.ops.items self.values.items c.put.new.values of.plan_is.constants ready.settled
-    (ops-stay c.meaning_by_layer.ensures.value self.source of.sound of.scope of.scope_is self.plan of.plan_is self.values.items c.capture.new.values c.put.new.values c.args.inputs.now taken put))
+    constants-settled self.plan.base self.plan.constants self.plan.ops self.values.items c.put.new.values of.plan_is.constants ready.settled
+    (ops-stay c.meaning_by_layer.ensures.value self.source of.sound of.scope of.scope_is self.plan of.plan_is self.values.items c.capture.new.values c.put.new.values c.args.inputs.now taken put)
 
 pub returns-clause-row : goal.returns-clause-row
 returns-clause-row c =
@@ -65,7 +57,7 @@ returns-clause-row c =
     let long = c.sweep.ensures.long ∙ c.put.ensures.long ∙ c.capture.ensures.long ∙ ap length c.as_mut_slice-values.ensures.value in
     let is : now ≡ c.sweep.new.values = with_items_is self.values c.sweep.new.values (long ∙ sym self.values.ok.0) in
     let kept = subst (λ v. take self.plan.base v ≡ take self.plan.base c.put.new.values) (sym is) c.sweep.ensures.kept in
-    let settled = subst (λ v. IsSettled self.plan.base self.plan.ops.items (λ k. slice_index v k)) (sym is) (subst (λ os. IsSettled self.plan.base os (λ k. slice_index c.sweep.new.values k)) c.as_slice-4.ensures.value c.sweep.ensures.settled) in
+    let settled = subst (λ v. IsSettled self.plan.base self.plan.ops (λ k. slice_index v k)) (sym is) c.sweep.ensures.settled in
     edge-named c.meaning_by_layer.ensures.value self.source of.sound of.scope of.scope_is self.plan of.plan_is self.values.items c.capture.new.values c.put.new.values c.args.inputs.now taken put c.requires.fit
     now ready.settled ready.fits ready.still kept settled
 
@@ -80,7 +72,7 @@ returns-clause-ready c =
     let long = c.sweep.ensures.long ∙ c.put.ensures.long ∙ c.capture.ensures.long ∙ ap length c.as_mut_slice-values.ensures.value in
     let is : now ≡ c.sweep.new.values = with_items_is self.values c.sweep.new.values (long ∙ sym self.values.ok.0) in
     let kept = subst (λ v. take self.plan.base v ≡ take self.plan.base c.put.new.values) (sym is) c.sweep.ensures.kept in
-    let settled = subst (λ v. IsSettled self.plan.base self.plan.ops.items (λ k. slice_index v k)) (sym is) (subst (λ os. IsSettled self.plan.base os (λ k. slice_index c.sweep.new.values k)) c.as_slice-4.ensures.value c.sweep.ensures.settled) in
+    let settled = subst (λ v. IsSettled self.plan.base self.plan.ops (λ k. slice_index v k)) (sym is) c.sweep.ensures.settled in
     record {
       plan_is = of;
       room = ap length is ∙ long ∙ ready.room;

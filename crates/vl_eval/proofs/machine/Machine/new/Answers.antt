@@ -2,19 +2,12 @@ use Rattle.std.proofs.Common.{◌≡◌, length, slice_index, take, sym, ap, sub
 use Rattle.std.specs.Vec.{with_items}
 use Rattle.std.proofs.lemmas.List.{with_items_is}
 use Rattle.vl_eval.specs.inner.Ops.{IsSettled}
-use Rattle.vl_eval.specs.inner.Steps.{AreSteps}
 use Rattle.vl_eval.proofs.Swept.{settled-none}
 use Rattle.vl_eval.proofs.Edges.{first-fits-named, first-named, first-still-named}
 use Rattle.vl_eval.proofs.machine.Machine.new.Goals as goal
 
-pub sweep-requires-clause-steps : goal.sweep-requires-clause-steps
-sweep-requires-clause-steps c =
-    let plan = c.in_ok-plan.plan in
-    subst (λ os. AreSteps os c.as_slice.result.now) (sym c.as_slice-2.ensures.value)
-    (subst (λ ss. AreSteps plan.ops.items ss) (sym c.as_slice.ensures.value) c.in_ok-plan.ensures.planned.plan_is.steps)
-
 pub sweep-requires-clause-begun : goal.sweep-requires-clause-begun
-sweep-requires-clause-begun c = settled-none c.in_ok-plan.plan.base c.as_slice-2.result.now c.as_mut_slice.result.now
+sweep-requires-clause-begun c = settled-none c.in_ok-plan.plan.base c.in_ok-plan.plan.ops c.as_mut_slice.result.now
 
 pub returns-clause-row : goal.returns-clause-row
 returns-clause-row c =
@@ -26,7 +19,7 @@ returns-clause-row c =
     let long = c.sweep.ensures.long ∙ ap length c.as_mut_slice.ensures.value in
     let is : now ≡ c.sweep.new.values = with_items_is values c.sweep.new.values (long ∙ sym values.ok.0) in
     let kept = subst (λ v. take plan.base v ≡ take plan.base values.items) (sym is) (c.sweep.ensures.kept ∙ ap (take plan.base) c.as_mut_slice.ensures.value) in
-    let settled = subst (λ v. IsSettled plan.base plan.ops.items (λ k. slice_index v k)) (sym is) (subst (λ os. IsSettled plan.base os (λ k. slice_index c.sweep.new.values k)) c.as_slice-2.ensures.value c.sweep.ensures.settled) in
+    let settled = subst (λ v. IsSettled plan.base plan.ops (λ k. slice_index v k)) (sym is) c.sweep.ensures.settled in
     first-named c.meaning_by_layer.ensures.value c.args.source of.sound of.scope of.scope_is plan of.plan_is values.items now zeros.at kept settled
 
 pub returns-clause-ready : goal.returns-clause-ready
@@ -39,10 +32,10 @@ returns-clause-ready c =
     let long = c.sweep.ensures.long ∙ ap length c.as_mut_slice.ensures.value in
     let is : now ≡ c.sweep.new.values = with_items_is values c.sweep.new.values (long ∙ sym values.ok.0) in
     let kept = subst (λ v. take plan.base v ≡ take plan.base values.items) (sym is) (c.sweep.ensures.kept ∙ ap (take plan.base) c.as_mut_slice.ensures.value) in
-    let settled = subst (λ v. IsSettled plan.base plan.ops.items (λ k. slice_index v k)) (sym is) (subst (λ os. IsSettled plan.base os (λ k. slice_index c.sweep.new.values k)) c.as_slice-2.ensures.value c.sweep.ensures.settled) in
+    let settled = subst (λ v. IsSettled plan.base plan.ops (λ k. slice_index v k)) (sym is) c.sweep.ensures.settled in
     record {
       plan_is = of;
-      room = (let z = zeros.long in let l = ap length is ∙ long in omega (arith, z, l, c.in-Some.ensures, c.len.ensures, plan.ops.ok.0));
+      room = (let z = zeros.long in let l = ap length is ∙ long in omega (arith, z, l, c.in-Some.ensures, c.len.ensures));
       settled = settled;
       fits = first-fits-named c.meaning_by_layer.ensures.value c.args.source of.sound of.scope of.scope_is plan of.plan_is values.items now zeros.at kept settled;
       still = first-still-named c.meaning_by_layer.ensures.value c.args.source of.sound of.scope of.scope_is plan of.plan_is values.items now zeros.at kept settled;

@@ -1,0 +1,252 @@
+ghost use Rattle.std.specs.Prelude.{◌≡◌, ◌<◌, ◌++◌, ◌∷◌, ◌+◌, [], OnOk, length, slice_index, slice_index_or, take};
+ghost use Rattle.vl_eval.specs.declared.ops.Op.{Op};
+ghost use Rattle.vl_eval.specs.inner.Ops.{AreSettled, IsOrdered, IsSettled};
+ghost use Rattle.vl_eval.specs.inner.Steps.{AreConstants, AreWithin, IsWithin, is_constant, op_in, ops_of};
+
+use crate::ops::Op;
+use crate::steps::{Step, narrow};
+use crate::sweeping::sweep;
+use fx_io::OutOfMemory;
+use std::alloc::Global;
+use std::marker::Model;
+
+/// Operations in order (own). Contracts see the list of them. Nearly all are held as steps, of 24 bytes
+/// each; one that no step can hold has 64 more.
+#[derive(Drop)]
+pub struct Code {
+    steps: Vec<Step>,
+    /// What no step can hold, by the numbers of `Step::Whole`.
+    wide: Vec<Op>,
+}
+
+impl Model for Code {
+    ghost use Rattle.std.specs.Prelude.{List, length};
+    ghost use Rattle.vl_eval.specs.declared.ops.Op.{Op};
+    ghost use Rattle.vl_eval.specs.inner.Steps.{AreWithin, ops_of};
+
+    ghost Value = { List Op };
+
+    ghost view = { λ code. ops_of code.wide.items code.steps.items };
+
+    ghost invariant = { λ code. AreWithin (length code.wide.items) code.steps.items };
+}
+
+/// The operation of a step.
+fn op_in(step: Step, wide: &[Op]) -> Op
+    requires { IsWithin (length wide.now) step }
+    ensures { result ≡ op_in wide.now step }
+{
+    match step {
+        Step::Constant(bits) => Op::Constant(u128::from(bits)),
+        Step::Extended { part, half, fill } => Op::Extended {
+            part: part as usize,
+            half: u128::from(half),
+            fill: u128::from(fill),
+        },
+        Step::Select { part, low, mask } => Op::Select {
+            part: part as usize,
+            low,
+            mask: u128::from(mask),
+        },
+        Step::Add { left, right, mask } => Op::Add {
+            left: left as usize,
+            right: right as usize,
+            mask: u128::from(mask),
+        },
+        Step::Subtract { left, right, mask } => Op::Subtract {
+            left: left as usize,
+            right: right as usize,
+            mask: u128::from(mask),
+        },
+        Step::Multiply { left, right, mask } => Op::Multiply {
+            left: left as usize,
+            right: right as usize,
+            mask: u128::from(mask),
+        },
+        Step::And { left, right } => Op::And {
+            left: left as usize,
+            right: right as usize,
+        },
+        Step::Or { left, right } => Op::Or {
+            left: left as usize,
+            right: right as usize,
+        },
+        Step::Xor { left, right } => Op::Xor {
+            left: left as usize,
+            right: right as usize,
+        },
+        Step::Equal { left, right } => Op::Equal {
+            left: left as usize,
+            right: right as usize,
+        },
+        Step::NotEqual { left, right } => Op::NotEqual {
+            left: left as usize,
+            right: right as usize,
+        },
+        Step::Less { left, right, half } => Op::Less {
+            left: left as usize,
+            right: right as usize,
+            half: u128::from(half),
+        },
+        Step::LessEqual { left, right, half } => Op::LessEqual {
+            left: left as usize,
+            right: right as usize,
+            half: u128::from(half),
+        },
+        Step::Both { left, right } => Op::Both {
+            left: left as usize,
+            right: right as usize,
+        },
+        Step::Either { left, right } => Op::Either {
+            left: left as usize,
+            right: right as usize,
+        },
+        Step::Negate { part, mask } => Op::Negate {
+            part: part as usize,
+            mask: u128::from(mask),
+        },
+        Step::Invert { part, mask } => Op::Invert {
+            part: part as usize,
+            mask: u128::from(mask),
+        },
+        Step::IsZero { part } => Op::IsZero {
+            part: part as usize,
+        },
+        Step::Up { part, places, mask } => Op::Up {
+            part: part as usize,
+            places,
+            mask: u128::from(mask),
+        },
+        Step::SignedDown {
+            places,
+            part,
+            half,
+            mask,
+        } => Op::SignedDown {
+            part: part as usize,
+            places: u32::from(places),
+            half: u128::from(half),
+            mask: u128::from(mask),
+        },
+        Step::Choose {
+            test,
+            chosen,
+            other,
+        } => Op::Choose {
+            test: test as usize,
+            chosen: chosen as usize,
+            other: other as usize,
+        },
+        Step::Beside {
+            left,
+            right,
+            places,
+        } => Op::Beside {
+            left: left as usize,
+            right: right as usize,
+            places,
+        },
+        Step::Next {
+            reset,
+            first,
+            test,
+            value,
+            kept,
+        } => Op::Next {
+            reset: reset as usize,
+            first: u128::from(first),
+            test: test as usize,
+            value: value as usize,
+            kept: kept as usize,
+        },
+        Step::Whole(number) => wide[number],
+    }
+}
+
+/// Adds the step of an operation, and the operation itself where no step can hold it.
+fn append(steps: &mut Vec<Step>, wide: &mut Vec<Op>, op: Op) -> Result<(), OutOfMemory>
+    requires { AreWithin (length wide.old.items) steps.old.items }
+    ensures within { AreWithin (length wide.new.items) steps.new.items }
+    ensures grown { OnOk result (ops_of wide.new.items steps.new.items
+        ≡ ops_of wide.old.items steps.old.items ++ op ∷ []) }
+{
+    if let Some(step) = narrow(op) {
+        steps.push(step)?;
+        return Ok(());
+    }
+    let number = wide.len();
+    wide.push(op)?;
+    steps.push(Step::Whole(number))?;
+    Ok(())
+}
+
+impl Code {
+    /// No operation. It takes no memory.
+    pub fn new(alloc: Global) -> Code
+        ensures { result ≡ [] }
+    {
+        Code {
+            steps: Vec::new(alloc),
+            wide: Vec::new(alloc),
+        }
+    }
+
+    /// How many operations there are.
+    pub fn len(&self) -> usize
+        ensures { result ≡ length self.now }
+    {
+        self.steps.len()
+    }
+
+    /// The operation at a place.
+    pub fn get(&self, place: usize) -> Op
+        requires { place < length self.now }
+        ensures { result ≡ slice_index_or self.now place (Op.Constant 0) }
+    {
+        op_in(self.steps[place], self.wide.as_slice())
+    }
+
+    /// Works out the operations from the number `from` on in one sweep, each into its place after the
+    /// first `base` values. Those before have their values.
+    pub fn sweep(&self, base: usize, from: usize, values: &mut [u128])
+        requires room { length values.now ≡ base + length self.now }
+        requires ordered { IsOrdered base self.now }
+        requires begun { AreSettled base from self.now values.now }
+        ensures settled { IsSettled base self.now (λ k. slice_index values.new k) }
+        ensures kept { take base values.new ≡ take base values.old }
+        ensures long { length values.new ≡ length values.old }
+    {
+        sweep(
+            self.steps.as_slice(),
+            self.wide.as_slice(),
+            base,
+            from,
+            values,
+        );
+    }
+
+    /// Puts an operation at the end.
+    pub fn push(&mut self, op: Op) -> Result<(), OutOfMemory>
+        ensures { OnOk result (self.new ≡ self.old ++ op ∷ []) }
+    {
+        append(&mut self.steps, &mut self.wide, op)
+    }
+}
+
+fn is_constant(op: Op) -> bool
+    ensures { result ≡ is_constant op }
+{
+    matches!(op, Op::Constant(_))
+}
+
+/// How many constants stand first. An edge leaves them as they are.
+pub fn constants(ops: &Code) -> usize
+    ensures { AreConstants result ops.now }
+{
+    for number in 0..ops.len() {
+        if !is_constant(ops.get(number)) {
+            return number;
+        }
+    }
+    ops.len()
+}
