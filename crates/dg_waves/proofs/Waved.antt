@@ -1,7 +1,8 @@
 -- A wave over all changes is a round. Crates above may cite this file.
-use Rattle.std.proofs.Common.{◌≡◌, ℕ, zero, suc, ◌+◌, ◌<◌, Bool, true, false, Some, inl, inr, List, [], ◌∷◌, ◌++◌, length, map, eqb, All, refl, sym, ap, subst, ◌∙◌, arith}
+use Rattle.std.proofs.Common.{◌≡◌, ℕ, zero, suc, ◌+◌, ◌<◌, Bool, true, false, Some, inl, inr, List, [], ◌∷◌, ◌++◌, length, map, take, drop, eqb, All, refl, sym, ap, subst, ◌∙◌, arith}
 use Rattle.std.specs.Prelude.{set, slice_get}
 use Rattle.std.proofs.lemmas.Bool.{true≢false, false≢true, eqb-true, eqb-false, eq-eqb, or_parts, or_cases, or_left, or_right, or_from, cases_Bool}
+use Rattle.std.proofs.Math.Seq.{take-append_seam}
 use Rattle.std.proofs.lemmas.Option.{none-some, same_Some, slice_get_within, get_or_from_slice_get}
 use Rattle.dg_waves.specs.declared.waves.Change.{Change}
 use Rattle.dg_waves.specs.Rounds.{numbers_from, round, after_rounds}
@@ -242,3 +243,7 @@ rounds_agree f g count same (suc n) start size =
     let there : block < length values = omega (arith, length_round f values) in
     round_at f values block there ∙ ap Some (same values block values_size (omega arith)) ∙ sym (round_at g values block there))
     ∙ ap (round g) (rounds_agree f g count same n start size)
+
+-- a slice that was borrowed and written over has what was written
+pub written_back : {A : Type 0} (count : ℕ) (new old : List A) → length new ≡ count → take count (new ++ drop (length new) old) ≡ new
+written_back count new old is = ap (λ n. take n (new ++ drop (length new) old)) (sym is) ∙ take-append_seam new (drop (length new) old)

@@ -1,6 +1,6 @@
 use Rattle.std.proofs.Common.{◌≡◌, ℕ, ◌<◌, false, List, ◌∷◌, length, ◌+◌, get_or, set, subst, drop, arith, ◌∙◌}
 use Rattle.std.proofs.lemmas.Grind.{common_steps}
-use Rattle.std.proofs.lemmas.List.{drop_more}
+use Rattle.std.proofs.lemmas.List.{drop_more, drop_all}
 use Rattle.dg_waves.specs.inner.Waves.{MarkedWait}
 use Rattle.dg_waves.proofs.Waved.{length_set, sought_kept, sought_found, unmarked}
 use Rattle.dg_waves.proofs.waves.changes.Goals as goal
@@ -31,3 +31,33 @@ loop-block-preserved g c =
         wait = wait;
       }
     ]
+
+pub loop-block-init : goal.loop-block-init
+loop-block-init g c = record {
+  marks_size = c.requires.between.marks_size;
+  sought = rw c.new-found.ensures.items c.requires.between.sought;
+  there = rw c.new-found.ensures.items (λ k d less. absurd (omega (arith, less)));
+  wait = c.requires.between.wait;
+}
+
+pub other_value-requires-clause-size : goal.other_value-requires-clause-size
+other_value-requires-clause-size g c = c.requires.between.size
+
+pub other_value-requires-clause-there : goal.other_value-requires-clause-there
+other_value-requires-clause-there g c = c.requires.between.there c.loop-block.block-index 0 c.loop-block-test.true
+
+pub other_value-requires-clause-fit : goal.other_value-requires-clause-fit
+other_value-requires-clause-fit g c = c.requires.between.fit
+
+pub returns-clause-sought : goal.returns-clause-sought
+returns-clause-sought g c =
+    let none = drop_all c.loop-block.block-index c.args.waiting.now (omega (arith, c.loop-block-test.false)) in
+    rw none at c.loop-block.invariant.sought
+
+pub returns-clause-there : goal.returns-clause-there
+returns-clause-there g c = c.loop-block.invariant.there
+
+pub returns-clause-none : goal.returns-clause-none
+returns-clause-none g c =
+    let none = drop_all c.loop-block.block-index c.args.waiting.now (omega (arith, c.loop-block-test.false)) in
+    rw none at c.loop-block.invariant.wait
