@@ -160,7 +160,7 @@ class Editing(unittest.TestCase):
 
 class Gate(unittest.TestCase):
     CHECKS = (
-        "examples/run", "tools/streams", "tools/glossary", "tools/cites", "tools/memory", "tools/edits", "tools/try",
+        "examples/run", "tests/calls", "tools/streams", "tools/glossary", "tools/cites", "tools/memory", "tools/edits", "tools/try",
         "tools/cross_check", "tools/cross_values", "tools/cross_nets",
     )
 

@@ -7,15 +7,11 @@
 //! |---|---|
 //! | `file TEXT NAME` | a text, with the parts of the line exchanged, is the file of that name from here on |
 //! | `zeros = NAME COUNT` | so many bytes 0 are |
-//! | `chain = NAME COUNT` | a module is that shows its input through so many wires |
-//! | `numbered TEXT NAME FROM TO` | the text is put behind the file of that name, for each number from one up to the other without that: `#` stands for the number and `@` for the next |
 //! | `fetch = N`, `put = N` | the fetch, or the put to standard output, of this number fails at the next call |
 //! | `piece = N` | at the next call standard output takes at most so many bytes a put |
 //! | `stuck =` | at the next call standard output takes none, and standard error fails |
 //! | `run WORD ..` | the call of these words |
-//! | `makes NAME WORD ..` | the call of these words, whose status alone is printed; what standard output took is the file of that name from here on |
 //! | `bench:BYTES` | `sample 1`, by a bench that tells these bytes |
-//! | `cuts NAME WORD ..` | the calls of these words with only a beginning of that file, one byte longer at each |
 //! | `ends WORD ..` | the calls of these words in which a put to standard output fails, and in which one takes nothing, another at each until all is written |
 //!
 //! Each `run` and `bench` is printed as it stands, and then the status, what standard error took, and what
@@ -26,8 +22,8 @@
 
 mod calls;
 mod cases;
+mod ends;
 mod fixed;
-mod many;
 mod stuck;
 
 use crate::cases::Case;

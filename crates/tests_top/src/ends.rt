@@ -1,7 +1,7 @@
-//! Calls that differ in a number.
+//! Calls whose standard output ends early.
 
 use crate::calls::{Answer, answered, stopped};
-use crate::cases::{Case, put_answer};
+use crate::cases::Case;
 use crate::stuck::PIECE;
 use anyhow::{Result, anyhow};
 use std::alloc::Global;
@@ -16,40 +16,6 @@ const MOST: usize = 1000;
 enum End {
     Fails,
     TakesNothing,
-}
-
-/// Calls over a file of which only a beginning is there, one byte longer at each: writes each
-/// answer that isn't the one before, behind the number of bytes.
-pub fn put_cuts<R: Threads + Sync, W: Write>(
-    rt: &R,
-    alloc: Global,
-    case: &mut Case,
-    name: &str,
-    words: &str,
-    out: &mut W,
-) -> Result<()> {
-    let whole = case.held(alloc, name)?;
-    let mut before = Answer {
-        status: u8::MAX,
-        out: Vec::new(alloc),
-        err: Vec::new(alloc),
-    };
-    for count in 0..=whole.len() {
-        case.put(alloc, name, whole[..count].to_vec(alloc)?)?;
-        let answer = answered(rt, alloc, case, words)?;
-        if !is_same(&answer, &before) {
-            writeln!(out, "{count} bytes")?;
-            put_answer(&answer, out)?;
-        }
-        before = answer;
-    }
-    Ok(())
-}
-
-fn is_same(one: &Answer, other: &Answer) -> bool {
-    one.status == other.status
-        && one.out.as_slice() == other.out.as_slice()
-        && one.err.as_slice() == other.err.as_slice()
 }
 
 /// Calls in which one put to standard output fails, or takes nothing, another at each, until none
