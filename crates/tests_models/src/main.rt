@@ -32,50 +32,63 @@ mod values;
 
 use anyhow::Result;
 use std::alloc::Global;
-use std::io::{self, BufRead, BufReader, BufWriter, Write};
-use tests_rows::{Row, Texts};
+use std::io::Write;
+use std::thread::Threads;
+use tests_rows::{Answers, Row, Texts, answer_lines};
 
-fn main(rt: HostRuntime) -> Result<()> {
-    let alloc = rt.alloc();
-    let mut out = BufWriter::new(alloc, io::writer(&rt))?;
-    let mut texts = Texts::new(alloc);
-    let mut plan = Vec::new(alloc);
-    for line in BufReader::new(alloc, rt.reader())?.lines(alloc) {
-        let line = line?;
-        if !texts.take(alloc, line.as_str())? {
-            let row = texts.row(alloc, line.as_str())?;
-            plan = answer(alloc, row, plan, &mut out)?;
-        }
-    }
-    out.flush()?;
-    Ok(())
+/// The last plan.
+#[derive(Drop)]
+struct Plan {
+    text: Vec<u8>,
 }
 
-/// Answers a row, and gives the last plan.
+fn main(rt: HostRuntime) -> Result<()> {
+    let mut plan = Plan {
+        text: Vec::new(rt.alloc()),
+    };
+    answer_lines(&rt, rt.alloc(), &mut plan)
+}
+
+impl Answers for Plan {
+    fn take<R: Threads + Sync, W: Write>(
+        &mut self,
+        _rt: &R,
+        alloc: Global,
+        texts: &Texts,
+        line: &str,
+        out: &mut W,
+    ) -> Result<()> {
+        let mut row = texts.row(alloc, line)?;
+        answer(alloc, &mut row, &mut self.text, out)
+    }
+}
+
+/// Answers a row, and keeps its text where this is a plan.
 fn answer<W: Write>(
     alloc: Global,
-    mut row: Row<'_>,
-    plan: Vec<u8>,
+    row: &mut Row<'_>,
+    plan: &mut Vec<u8>,
     out: &mut W,
-) -> Result<Vec<u8>> {
+) -> Result<()> {
+    let text = row.text.as_slice();
     match row.command.as_bytes() {
-        b"tree" => trees::tree(alloc, row.text.as_slice(), out)?,
-        b"syntax" => trees::syntax(alloc, row.text.as_slice(), out)?,
-        b"cuts" => trees::cuts(alloc, row.text.as_slice(), out)?,
-        b"build" => nested::build_of(alloc, row.text.as_slice(), out)?,
-        b"many" => nested::many(alloc, row.number()?, out)?,
-        b"nested" => nested::nested(alloc, row.text.as_slice(), out)?,
+        b"tree" => trees::tree(alloc, text, out),
+        b"syntax" => trees::syntax(alloc, text, out),
+        b"cuts" => trees::cuts(alloc, text, out),
+        b"build" => nested::build_of(alloc, text, out),
+        b"many" => nested::many(alloc, row.number()?, out),
+        b"nested" => nested::nested(alloc, text, out),
         b"plan" => {
-            tables::plan(alloc, row.text.as_slice(), out)?;
-            return Ok(row.text);
+            plan.clear();
+            plan.extend_from_slice(text)?;
+            tables::plan(alloc, text, out)
         }
-        b"stages" => tables::stages(alloc, row.text.as_slice(), plan.as_slice(), out)?,
-        b"rows" => tables::rows(alloc, &mut row, out)?,
-        b"accept" => tables::accepted(alloc, row.text.as_slice(), out)?,
+        b"stages" => tables::stages(alloc, text, plan.as_slice(), out),
+        b"rows" => tables::rows(alloc, row, out),
+        b"accept" => tables::accepted(alloc, text, out),
         b"flat" | b"widths" | b"types" | b"rates" | b"order" => {
-            diagrams::diagram(alloc, row.command, row.text.as_slice(), out)?
+            diagrams::diagram(alloc, row.command, text, out)
         }
-        _ => values::value(alloc, &mut row, out)?,
+        _ => values::value(alloc, row, out),
     }
-    Ok(plan)
 }

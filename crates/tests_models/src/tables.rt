@@ -100,10 +100,7 @@ pub fn stages<W: Write>(alloc: Global, text: &[u8], plan: &[u8], out: &mut W) ->
 /// What is read of a stimulus of columns that a word names.
 pub fn rows<W: Write>(alloc: Global, row: &mut Row<'_>, out: &mut W) -> Result<()> {
     let columns = row.next()?;
-    let outputs = match row.next()?.parse::<u64>() {
-        Ok(outputs) => outputs,
-        Err(_) => return Err(anyhow!("no number")),
-    };
+    let outputs = row.long()?;
     let text = row.text.as_slice();
     match columns.as_bytes() {
         b"byte" => put_rows(alloc, text, &[BYTE], outputs, out),
