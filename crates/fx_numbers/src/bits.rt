@@ -2,10 +2,10 @@
 ghost use Rattle.std.specs.Prelude.{◌≤◌, IfOk};
 ghost use Rattle.fx_num.specs.Word.{IsWord};
 
-use crate::words::Words;
 use anyhow::{Result, anyhow};
 use fx_num::{fits, from_bits, is_word, shift_up, to_bits, wrap};
 use std::io::Write;
+use tests_rows::Row;
 
 /// A width, and whether there is a sign.
 #[derive(Clone, Copy)]
@@ -14,7 +14,7 @@ struct Word {
     signed: bool,
 }
 
-fn word_of(words: &mut Words<'_>) -> Result<Word>
+fn word_of(words: &mut Row<'_>) -> Result<Word>
     ensures { IfOk result (λ word. IsWord word.width word.signed) }
 {
     let signed = match words.next()?.as_bytes() {
@@ -22,7 +22,7 @@ fn word_of(words: &mut Words<'_>) -> Result<Word>
         b"u" => false,
         _ => return Err(anyhow!("no sign")),
     };
-    let width = words.count()?;
+    let width = words.byte()?;
     if is_word(width, signed) {
         Ok(Word { width, signed })
     } else {
@@ -30,24 +30,24 @@ fn word_of(words: &mut Words<'_>) -> Result<Word>
     }
 }
 
-pub fn wrapped<W: Write>(words: &mut Words<'_>, out: &mut W) -> Result<()> {
-    let v = words.number()?;
+pub fn wrapped<W: Write>(words: &mut Row<'_>, out: &mut W) -> Result<()> {
+    let v = words.integer()?;
     let Word { width, signed } = word_of(words)?;
     let r = wrap(v, width, signed);
     writeln!(out, "{r}")?;
     Ok(())
 }
 
-pub fn fitted<W: Write>(words: &mut Words<'_>, out: &mut W) -> Result<()> {
-    let v = words.number()?;
+pub fn fitted<W: Write>(words: &mut Row<'_>, out: &mut W) -> Result<()> {
+    let v = words.integer()?;
     let Word { width, signed } = word_of(words)?;
     let r = fits(v, width, signed);
     writeln!(out, "{r}")?;
     Ok(())
 }
 
-pub fn in_bits<W: Write>(words: &mut Words<'_>, out: &mut W) -> Result<()> {
-    let v = words.number()?;
+pub fn in_bits<W: Write>(words: &mut Row<'_>, out: &mut W) -> Result<()> {
+    let v = words.integer()?;
     let Word { width, signed } = word_of(words)?;
     if !fits(v, width, signed) {
         return Err(anyhow!("the number leaves its word"));
@@ -65,10 +65,8 @@ fn of_byte(bits: u8, width: u8, signed: bool) -> i128
     from_bits(u128::from(bits), width, signed)
 }
 
-pub fn of_bits<W: Write>(words: &mut Words<'_>, out: &mut W) -> Result<()> {
-    let Ok(bits) = words.next()?.parse::<u8>() else {
-        return Err(anyhow!("no number"));
-    };
+pub fn of_bits<W: Write>(words: &mut Row<'_>, out: &mut W) -> Result<()> {
+    let bits = words.byte()?;
     let Word { width, signed } = word_of(words)?;
     if width < 8 {
         return Err(anyhow!("the bits may leave their word"));
@@ -78,11 +76,9 @@ pub fn of_bits<W: Write>(words: &mut Words<'_>, out: &mut W) -> Result<()> {
     Ok(())
 }
 
-pub fn shifted<W: Write>(words: &mut Words<'_>, out: &mut W) -> Result<()> {
-    let v = words.number()?;
-    let Ok(by) = words.next()?.parse::<u32>() else {
-        return Err(anyhow!("no number"));
-    };
+pub fn shifted<W: Write>(words: &mut Row<'_>, out: &mut W) -> Result<()> {
+    let v = words.integer()?;
+    let by = words.number()?;
     match shift_up(v, by) {
         Some(r) => writeln!(out, "{r}")?,
         None => writeln!(out, "None")?,

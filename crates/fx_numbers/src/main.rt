@@ -32,48 +32,58 @@ mod types;
 mod words;
 
 use crate::nets::Answer;
-use crate::words::Words;
 use anyhow::Result;
 use std::alloc::Global;
-use std::io::{self, BufRead, BufReader, BufWriter, Write};
+use std::io::Write;
+use std::thread::Threads;
+use tests_rows::{Answers, Row, Texts, answer_lines};
+
+/// Nothing stands between cases.
+#[derive(Drop)]
+struct Cases;
 
 fn main(rt: HostRuntime) -> Result<()> {
-    let alloc = rt.alloc();
-    let mut out = BufWriter::new(alloc, io::writer(&rt))?;
-    for line in BufReader::new(alloc, rt.reader())?.lines(alloc) {
-        let line = line?;
-        answer(alloc, line.as_str(), &mut out)?;
-    }
-    out.flush()?;
-    Ok(())
+    answer_lines(&rt, rt.alloc(), &mut Cases)
 }
 
-fn answer<W: Write>(alloc: Global, line: &str, out: &mut W) -> Result<()> {
-    let (front, text) = match line.split_once('|') {
-        Some((front, text)) => (front, text),
-        None => (line, ""),
-    };
-    let words = front.split_whitespace().collect(alloc)?;
-    let mut words = Words { words, at: 0 };
+impl Answers for Cases {
+    fn take<R: Threads + Sync, W: Write>(
+        &mut self,
+        _rt: &R,
+        alloc: Global,
+        _texts: &Texts,
+        line: &str,
+        out: &mut W,
+    ) -> Result<()> {
+        let (front, text) = match line.split_once('|') {
+            Some((front, text)) => (front, text),
+            None => (line, ""),
+        };
+        let mut words = Row::of(alloc, front)?;
+        answer(alloc, &mut words, text, out)
+    }
+}
+
+fn answer<W: Write>(alloc: Global, words: &mut Row<'_>, text: &str, out: &mut W) -> Result<()> {
     match words.next()?.as_bytes() {
-        b"wrap" => bits::wrapped(&mut words, out),
-        b"fits" => bits::fitted(&mut words, out),
-        b"to_bits" => bits::in_bits(&mut words, out),
-        b"from_bits" => bits::of_bits(&mut words, out),
-        b"shift_up" => bits::shifted(&mut words, out),
-        b"range" => types::range(&mut words, out),
-        b"conversion" => types::conversion(&mut words, out),
-        b"decimal" => types::decimal(&mut words, text, out),
-        b"sum_type" => types::sum_type(alloc, &mut words, out),
-        b"product_type" => types::product_type(&mut words, out),
-        b"union_type" => types::union_type(&mut words, out),
-        b"output" => put_output(alloc, &mut words, out),
-        operation => put_operation(alloc, operation, &mut words, out),
+        b"wrap" => bits::wrapped(words, out),
+        b"fits" => bits::fitted(words, out),
+        b"to_bits" => bits::in_bits(words, out),
+        b"from_bits" => bits::of_bits(words, out),
+        b"shift_up" => bits::shifted(words, out),
+        b"range" => types::range(words, out),
+        b"conversion" => types::conversion(words, out),
+        b"decimal" => types::decimal(words, text, out),
+        b"sum_type" => types::sum_type(alloc, words, out),
+        b"product_type" => types::product_type(words, out),
+        b"union_type" => types::union_type(words, out),
+        b"output" => put_output(alloc, words, out),
+        operation => put_operation(alloc, operation, words, out),
     }
 }
 
 /// What an operation gives, and what it gives prepared.
-fn put_output<W: Write>(alloc: Global, words: &mut Words<'_>, out: &mut W) -> Result<()> {
+fn put_output<W: Write>(alloc: Global, words: &mut Row<'_>, out: &mut W) -> Result<()> {
     let operation = words.next()?;
     let answer = operations::carried_out(alloc, operation.as_bytes(), words)?;
     let Answer {
@@ -89,7 +99,7 @@ fn put_output<W: Write>(alloc: Global, words: &mut Words<'_>, out: &mut W) -> Re
 fn put_operation<W: Write>(
     alloc: Global,
     operation: &[u8],
-    words: &mut Words<'_>,
+    words: &mut Row<'_>,
     out: &mut W,
 ) -> Result<()> {
     let answer = operations::carried_out(alloc, operation, words)?;

@@ -4,14 +4,15 @@ ghost use Rattle.fx_type.specs.FxType.{IsType, InRange};
 ghost use Rattle.dg_model.specs.Operation.{HasArity, HasSigns, HasParameters, HasResultType, HasFullType};
 
 use crate::nets::{Answer, answered};
-use crate::words::{End, Operand, Words};
+use crate::words::{End, Operand, criterion, gate, minus, read_end, read_operand, relation};
 use anyhow::{Result, anyhow};
 use dg_model::{Gate, Op, OpCall};
 use fx_type::{FxType, Rounding, TooWide, full_product, full_sum, union};
 use std::alloc::Global;
+use tests_rows::Row;
 
 /// What the operation of this name gives of the inputs that its line has.
-pub fn carried_out(alloc: Global, name: &[u8], words: &mut Words<'_>) -> Result<Answer> {
+pub fn carried_out(alloc: Global, name: &[u8], words: &mut Row<'_>) -> Result<Answer> {
     match name {
         b"sum" => sum(alloc, words),
         b"gain" => gain(alloc, words),
@@ -113,8 +114,8 @@ const TRUTH: End = End {
     saturate: false,
 };
 
-fn sum(alloc: Global, words: &mut Words<'_>) -> Result<Answer> {
-    match words.count()? {
+fn sum(alloc: Global, words: &mut Row<'_>) -> Result<Answer> {
+    match words.byte()? {
         1 => sum_of_one(alloc, words),
         2 => sum_of_two(alloc, words),
         3 => sum_of_three(alloc, words),
@@ -122,46 +123,46 @@ fn sum(alloc: Global, words: &mut Words<'_>) -> Result<Answer> {
     }
 }
 
-fn sum_of_one(alloc: Global, words: &mut Words<'_>) -> Result<Answer> {
-    let p = words.minus()?;
-    let a = words.operand()?;
-    let end = words.end()?;
+fn sum_of_one(alloc: Global, words: &mut Row<'_>) -> Result<Answer> {
+    let p = minus(words)?;
+    let a = read_operand(words)?;
+    let end = read_end(words)?;
     match full_sum(&[(p, a.kind)]) {
         Ok(_full) => of_one(alloc, Op::Sum, &[p], a, end),
         Err(TooWide) => Err(anyhow!("too wide")),
     }
 }
 
-fn sum_of_two(alloc: Global, words: &mut Words<'_>) -> Result<Answer> {
-    let p = words.minus()?;
-    let a = words.operand()?;
-    let q = words.minus()?;
-    let b = words.operand()?;
-    let end = words.end()?;
+fn sum_of_two(alloc: Global, words: &mut Row<'_>) -> Result<Answer> {
+    let p = minus(words)?;
+    let a = read_operand(words)?;
+    let q = minus(words)?;
+    let b = read_operand(words)?;
+    let end = read_end(words)?;
     match full_sum(&[(p, a.kind), (q, b.kind)]) {
         Ok(_full) => of_two(alloc, Op::Sum, &[p, q], a, b, end),
         Err(TooWide) => Err(anyhow!("too wide")),
     }
 }
 
-fn sum_of_three(alloc: Global, words: &mut Words<'_>) -> Result<Answer> {
-    let p = words.minus()?;
-    let a = words.operand()?;
-    let q = words.minus()?;
-    let b = words.operand()?;
-    let r = words.minus()?;
-    let c = words.operand()?;
-    let end = words.end()?;
+fn sum_of_three(alloc: Global, words: &mut Row<'_>) -> Result<Answer> {
+    let p = minus(words)?;
+    let a = read_operand(words)?;
+    let q = minus(words)?;
+    let b = read_operand(words)?;
+    let r = minus(words)?;
+    let c = read_operand(words)?;
+    let end = read_end(words)?;
     match full_sum(&[(p, a.kind), (q, b.kind), (r, c.kind)]) {
         Ok(_full) => of_three(alloc, Op::Sum, &[p, q, r], a, b, c, end),
         Err(TooWide) => Err(anyhow!("too wide")),
     }
 }
 
-fn gain(alloc: Global, words: &mut Words<'_>) -> Result<Answer> {
-    let a = words.operand()?;
-    let factor = words.operand()?;
-    let end = words.end()?;
+fn gain(alloc: Global, words: &mut Row<'_>) -> Result<Answer> {
+    let a = read_operand(words)?;
+    let factor = read_operand(words)?;
+    let end = read_end(words)?;
     match full_product(a.kind, factor.kind) {
         Ok(_full) => {
             let op = Op::Gain {
@@ -174,23 +175,23 @@ fn gain(alloc: Global, words: &mut Words<'_>) -> Result<Answer> {
     }
 }
 
-fn product(alloc: Global, words: &mut Words<'_>) -> Result<Answer> {
-    let a = words.operand()?;
-    let b = words.operand()?;
-    let end = words.end()?;
+fn product(alloc: Global, words: &mut Row<'_>) -> Result<Answer> {
+    let a = read_operand(words)?;
+    let b = read_operand(words)?;
+    let end = read_end(words)?;
     match full_product(a.kind, b.kind) {
         Ok(_full) => of_two(alloc, Op::Product, &[], a, b, end),
         Err(TooWide) => Err(anyhow!("too wide")),
     }
 }
 
-fn switch(alloc: Global, words: &mut Words<'_>) -> Result<Answer> {
-    let a = words.operand()?;
-    let control = words.operand()?;
-    let c = words.operand()?;
-    let criterion = words.criterion()?;
-    let threshold = words.number()?;
-    let end = words.end()?;
+fn switch(alloc: Global, words: &mut Row<'_>) -> Result<Answer> {
+    let a = read_operand(words)?;
+    let control = read_operand(words)?;
+    let c = read_operand(words)?;
+    let criterion = criterion(words)?;
+    let threshold = words.integer()?;
+    let end = read_end(words)?;
     if threshold < control.kind.lowest() || threshold > control.kind.highest() {
         return Err(anyhow!("threshold out of range"));
     }
@@ -201,19 +202,19 @@ fn switch(alloc: Global, words: &mut Words<'_>) -> Result<Answer> {
     of_three(alloc, op, &[], a, control, c, end)
 }
 
-fn relational(alloc: Global, words: &mut Words<'_>) -> Result<Answer> {
-    let a = words.operand()?;
-    let operator = words.relation()?;
-    let b = words.operand()?;
+fn relational(alloc: Global, words: &mut Row<'_>) -> Result<Answer> {
+    let a = read_operand(words)?;
+    let operator = relation(words)?;
+    let b = read_operand(words)?;
     match union(a.kind, b.kind) {
         Ok(_union) => of_two(alloc, Op::Relational { operator }, &[], a, b, TRUTH),
         Err(TooWide) => Err(anyhow!("too wide")),
     }
 }
 
-fn logic(alloc: Global, words: &mut Words<'_>) -> Result<Answer> {
-    let operator = words.gate()?;
-    match words.count()? {
+fn logic(alloc: Global, words: &mut Row<'_>) -> Result<Answer> {
+    let operator = gate(words)?;
+    match words.byte()? {
         1 => inverted(alloc, words, operator),
         2 => logic_of_two(alloc, words, operator),
         3 => logic_of_three(alloc, words, operator),
@@ -222,8 +223,8 @@ fn logic(alloc: Global, words: &mut Words<'_>) -> Result<Answer> {
 }
 
 /// A gate of one input, which is a Not.
-fn inverted(alloc: Global, words: &mut Words<'_>, operator: Gate) -> Result<Answer> {
-    let a = words.operand()?;
+fn inverted(alloc: Global, words: &mut Row<'_>, operator: Gate) -> Result<Answer> {
+    let a = read_operand(words)?;
     match operator {
         Gate::Not => of_one(
             alloc,
@@ -238,33 +239,33 @@ fn inverted(alloc: Global, words: &mut Words<'_>, operator: Gate) -> Result<Answ
     }
 }
 
-fn logic_of_two(alloc: Global, words: &mut Words<'_>, operator: Gate) -> Result<Answer> {
-    let a = words.operand()?;
-    let b = words.operand()?;
+fn logic_of_two(alloc: Global, words: &mut Row<'_>, operator: Gate) -> Result<Answer> {
+    let a = read_operand(words)?;
+    let b = read_operand(words)?;
     match operator {
         Gate::Not => Err(anyhow!("one input")),
         _ => of_two(alloc, Op::Logic { operator }, &[], a, b, TRUTH),
     }
 }
 
-fn logic_of_three(alloc: Global, words: &mut Words<'_>, operator: Gate) -> Result<Answer> {
-    let a = words.operand()?;
-    let b = words.operand()?;
-    let c = words.operand()?;
+fn logic_of_three(alloc: Global, words: &mut Row<'_>, operator: Gate) -> Result<Answer> {
+    let a = read_operand(words)?;
+    let b = read_operand(words)?;
+    let c = read_operand(words)?;
     match operator {
         Gate::Not => Err(anyhow!("one input")),
         _ => of_three(alloc, Op::Logic { operator }, &[], a, b, c, TRUTH),
     }
 }
 
-fn convert(alloc: Global, words: &mut Words<'_>, stored: bool) -> Result<Answer> {
-    let a = words.operand()?;
-    let end = words.end()?;
+fn convert(alloc: Global, words: &mut Row<'_>, stored: bool) -> Result<Answer> {
+    let a = read_operand(words)?;
+    let end = read_end(words)?;
     of_one(alloc, Op::Convert { stored }, &[], a, end)
 }
 
-fn pass(alloc: Global, words: &mut Words<'_>) -> Result<Answer> {
-    let a = words.operand()?;
+fn pass(alloc: Global, words: &mut Row<'_>) -> Result<Answer> {
+    let a = read_operand(words)?;
     let end = End {
         kind: a.kind,
         rounding: Rounding::Floor,
