@@ -6,6 +6,7 @@ use crate::nets::{connect, frame_of, put_label, put_net, put_output, put_port, p
 use crate::shared::{operations_of, put_operands, put_units};
 use crate::slots::put_slots;
 use crate::stepping::{numbers_of, put_shown, view_of};
+use crate::texts::{put_cuts, put_fault, put_read, put_written};
 use anyhow::{Result, anyhow};
 use hw_lines::Use;
 use hw_net::{Frame, FrameIndex, Net, NetKind, Netlist, is_netlist};
@@ -52,6 +53,10 @@ impl Bench {
             b"size" => put_size(&self.netlist, self.answers.len(), out),
             b"counter" => put_counter(&mut self.netlist, frame_of(row)?, out),
             b"find" => self.find(row, out),
+            b"read" => put_read(alloc, row.text.as_slice(), out),
+            b"write" => put_written(rt, alloc, row.text.as_slice(), out),
+            b"fault" => put_fault(alloc, row.text.as_slice(), out),
+            b"cuts" => put_cuts(alloc, row.text.as_slice(), out),
             _ => self.change(alloc, row),
         }
     }

@@ -1,5 +1,5 @@
 //! Makes netlists, steps them clock by clock, and writes their modules, so that the gate compares
-//! what each shows; and tells the slots and multipliers of shared operations.
+//! what each shows; tells the slots and multipliers of shared operations; and reads Verilog texts.
 //!
 //! Standard input has texts and rows (`tests_rows` says how they are written). There is one netlist
 //! at a time, whose nets are named by their numbers, or as `@K` by place K of the answers of the
@@ -25,6 +25,13 @@
 //! | `spelled = NET` | prints the lines of its module that give the net its value |
 //! | `slots NAME MULTIPLIERS KINDS PERIOD LEVELS START HAVE ..` | prints slots and multipliers, and the first slots of so many levels of the period, or the period that is short; the text has the kind, period and level of each operation |
 //! | `put = FRAME NUMBER`, `remove = FRAME`, `find = FRAME` | an index of frames |
+//! | `read NAME` | prints the module of a text: its name and attributes, then each port and each item on a line; or the line at which the text is none |
+//! | `write NAME` | prints the module's written text, or that line |
+//! | `fault NAME` | prints that line, 0 where the text is one |
+//! | `cuts NAME` | prints that line of each of the text's beginnings, the shortest first |
+//!
+//! An expression of a module that is read is told as `(Add a b.3)`, the name of its form before its
+//! parts, and a number as its width, `s` or `u`, and its bits.
 //!
 //! What the gate compares this with was worked out by hand.
 #![tactic(auto)]
@@ -34,8 +41,10 @@ mod lines;
 mod modules;
 mod nets;
 mod shared;
+mod shown;
 mod slots;
 mod stepping;
+mod texts;
 
 use crate::bench::Bench;
 use anyhow::Result;
