@@ -2,11 +2,15 @@
 
 use crate::calls::{Answer, answered, benched};
 use crate::ends::put_ends;
+use crate::plans::{FEW, WHOLE, put_explored};
+use crate::samples::{put_sample, put_summary};
+use crate::wires::{put_expected, put_met};
 use anyhow::{Result, anyhow};
+use fx_sample::plan_text;
 use std::alloc::Global;
 use std::io::Write;
 use std::thread::Threads;
-use tests_rows::{Row, Texts};
+use tests_rows::{Answers, Row, Texts};
 
 /// A file by its name.
 #[derive(Drop)]
@@ -39,35 +43,21 @@ impl Case {
         }
     }
 
-    /// Takes a line that is no text's.
-    pub fn take<R: Threads + Sync, W: Write>(
+    /// The call of these words, by what fails at it.
+    fn run<R: Threads + Sync, W: Write>(
         &mut self,
         rt: &R,
         alloc: Global,
-        texts: &Texts,
-        line: &str,
+        words: &str,
         out: &mut W,
     ) -> Result<()> {
-        if let Some(words) = line.strip_prefix("run ") {
-            writeln!(out, "{line}")?;
-            let answer = answered(rt, alloc, self, words)?;
-            put_answer(&answer, out)?;
-            self.fetches.clear();
-            self.puts.clear();
-            self.piece = ROOM;
-            self.stuck = false;
-            return Ok(());
-        }
-        if let Some(tells) = line.strip_prefix("bench:") {
-            writeln!(out, "{line}")?;
-            let answer = benched(rt, alloc, tells.as_bytes())?;
-            return put_answer(&answer, out);
-        }
-        if let Some(words) = line.strip_prefix("ends ") {
-            writeln!(out, "{line}")?;
-            return put_ends(rt, alloc, self, words, out);
-        }
-        self.set(alloc, texts.row(alloc, line)?)
+        let answer = answered(rt, alloc, self, words)?;
+        put_answer(&answer, out)?;
+        self.fetches.clear();
+        self.puts.clear();
+        self.piece = ROOM;
+        self.stuck = false;
+        Ok(())
     }
 
     /// Puts a file in, in the place of one of the same name.
@@ -80,24 +70,78 @@ impl Case {
     }
 
     /// Does what a row says.
-    fn set(&mut self, alloc: Global, mut row: Row<'_>) -> Result<()> {
+    fn set(&mut self, alloc: Global, row: &mut Row<'_>) -> Result<()> {
         match row.command.as_bytes() {
             b"file" => {
                 let name = row.next()?;
-                self.put(alloc, name, row.text)?;
+                self.put(alloc, name, row.text.to_vec(alloc)?)
             }
             b"zeros" => {
                 let name = row.next()?;
                 let count = row.number()? as usize;
-                self.put(alloc, name, std::vec![in alloc; 0u8; count]?)?;
+                self.put(alloc, name, std::vec![in alloc; 0u8; count]?)
             }
-            b"fetch" => self.fetches.push(u64::from(row.number()?))?,
-            b"put" => self.puts.push(u64::from(row.number()?))?,
+            _ => self.fail(row),
+        }
+    }
+
+    /// Says what fails at the next call.
+    fn fail(&mut self, row: &mut Row<'_>) -> Result<()> {
+        match row.command.as_bytes() {
+            b"fetch" => self.fetches.push(row.long()?)?,
+            b"put" => self.puts.push(row.long()?)?,
             b"piece" => self.piece = row.number()? as usize,
             b"stuck" => self.stuck = true,
             _ => return Err(anyhow!("no command")),
         }
         Ok(())
+    }
+}
+
+impl Answers for Case {
+    fn take<R: Threads + Sync, W: Write>(
+        &mut self,
+        rt: &R,
+        alloc: Global,
+        texts: &Texts,
+        line: &str,
+        out: &mut W,
+    ) -> Result<()> {
+        if let Some(tells) = line.strip_prefix("bench:") {
+            writeln!(out, "{line}")?;
+            let answer = benched(rt, alloc, tells.as_bytes())?;
+            return put_answer(&answer, out);
+        }
+        if let Some(words) = line.strip_prefix("run ") {
+            writeln!(out, "{line}")?;
+            return self.run(rt, alloc, words, out);
+        }
+        if let Some(words) = line.strip_prefix("ends ") {
+            writeln!(out, "{line}")?;
+            return put_ends(rt, alloc, self, words, out);
+        }
+        let mut row = texts.row(alloc, line)?;
+        put_row(rt, alloc, self, &mut row, out)
+    }
+}
+
+/// Writes what a row asks for, or does what it says.
+fn put_row<R: Threads + Sync, W: Write>(
+    rt: &R,
+    alloc: Global,
+    case: &mut Case,
+    row: &mut Row<'_>,
+    out: &mut W,
+) -> Result<()> {
+    match row.command.as_bytes() {
+        b"explored" => put_explored(rt, alloc, row.text.as_slice(), WHOLE, out),
+        b"explored_few" => put_explored(rt, alloc, row.text.as_slice(), FEW, out),
+        b"met" => put_met(rt, alloc, row.number()?, out),
+        b"wires" => put_expected(rt, alloc, row.number()?, out),
+        b"sample" => put_sample(alloc, row.number()?, out),
+        b"sample_plan" => Ok(out.write_all(plan_text())?),
+        b"summary" => put_summary(alloc, row.text.as_slice(), out),
+        _ => case.set(alloc, row),
     }
 }
 

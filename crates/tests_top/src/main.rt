@@ -14,34 +14,39 @@
 //! | `bench:BYTES` | `sample 1`, by a bench that tells these bytes |
 //! | `ends WORD ..` | the calls of these words in which a put to standard output fails, and in which one takes nothing, another at each until all is written |
 //!
-//! Each `run` and `bench` is printed as it stands, and then the status, what standard error took, and what
+//! | line | what it prints |
+//! |---|---|
+//! | `sample = COUNT`, `sample_plan =` | the model and the stimulus of a sample of so many blocks, and the plan of all |
+//! | `summary =` | the summary where a bench tells the text |
+//! | `explored TEXT`, `explored_few TEXT` | how many plans of the model were explored, while the worker of the first and that of the last waited for each other at a gate, and how many of these two met |
+//! | `met = COUNT` | how many workers met while a module of so many wires was written |
+//! | `wires = COUNT` | how many times of twenty such a module was written, whole and in parts, as the text that is found line by line |
+//!
+//! One thread alone, in whichever order it goes, runs out of turns at a gate. No contract says that
+//! two threads run, nor which text is the expected one.
+//!
+//! Each line that calls is printed as it stands, and then the status, what standard error took, and what
 //! standard output took with a bar behind it, where it took any.
 //!
-//! What the gate compares this with was worked out by hand.
+//! What the gate compares this with was worked out by hand, and the samples are those of a script that
+//! makes the same.
 #![tactic(auto)]
 
 mod calls;
 mod cases;
 mod ends;
 mod fixed;
+mod meeting;
+mod plans;
+mod samples;
 mod stuck;
+mod wires;
 
 use crate::cases::Case;
 use anyhow::Result;
-use std::io::{self, BufRead, BufReader, BufWriter, Write};
-use tests_rows::Texts;
+use tests_rows::answer_lines;
 
 fn main(rt: HostRuntime) -> Result<()> {
-    let alloc = rt.alloc();
-    let mut out = BufWriter::new(alloc, io::writer(&rt))?;
-    let mut texts = Texts::new(alloc);
-    let mut case = Case::new(alloc);
-    for line in BufReader::new(alloc, rt.reader())?.lines(alloc) {
-        let line = line?;
-        if !texts.take(alloc, line.as_str())? {
-            case.take(&rt, alloc, &texts, line.as_str(), &mut out)?;
-        }
-    }
-    out.flush()?;
-    Ok(())
+    let mut case = Case::new(rt.alloc());
+    answer_lines(&rt, rt.alloc(), &mut case)
 }

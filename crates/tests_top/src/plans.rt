@@ -1,3 +1,4 @@
+//! Plans that workers explore.
 ghost use Rattle.hw_explore.specs.Range.{IsRange};
 
 use crate::meeting::Meeting;
@@ -5,6 +6,7 @@ use anyhow::{Result, anyhow};
 use fx_model::accept;
 use hw_explore::{Range, explore};
 use std::alloc::Global;
+use std::io::Write;
 use std::thread::Threads;
 
 /// 64 clocks by 64 multipliers.
@@ -24,7 +26,7 @@ pub const FEW: Range = Range {
 };
 
 /// How many plans of a model are explored, and how many workers met meanwhile.
-pub fn meet<R: Threads + Sync>(
+fn meet<R: Threads + Sync>(
     rt: &R,
     alloc: Global,
     model: &[u8],
@@ -38,4 +40,19 @@ pub fn meet<R: Threads + Sync>(
     let meeting = Meeting::new(u64::from(range.pairs()).saturating_sub(1));
     let findings = explore(rt, alloc, &checked, range, &meeting)?;
     Ok((findings.rows.as_slice().len(), meeting.met()))
+}
+
+/// Writes these.
+pub fn put_explored<R: Threads + Sync, W: Write>(
+    rt: &R,
+    alloc: Global,
+    model: &[u8],
+    range: Range,
+    out: &mut W,
+) -> Result<()>
+    requires { IsRange range }
+{
+    let (explored, met) = meet(rt, alloc, model, range)?;
+    writeln!(out, "{explored} plans, {met} workers met")?;
+    Ok(())
 }

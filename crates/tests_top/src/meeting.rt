@@ -1,3 +1,5 @@
+//! Workers that wait for each other.
+
 use fx_io::Gate;
 use std::sync::atomic::{AtomicU64, Ordering};
 

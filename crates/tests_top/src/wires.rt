@@ -1,8 +1,11 @@
+//! Modules of wires that workers write.
+
 use crate::meeting::Meeting;
 use anyhow::Result;
 use fx_io::{OpenGate, Text};
 use std::alloc::Global;
 use std::fmt::Write;
+use std::io;
 use std::thread::Threads;
 use vl_ast::{Attrs, ModItem, ModItems, Module, Ports};
 use vl_write::{spelled, write};
@@ -41,7 +44,7 @@ fn expected_text(alloc: Global, count: u32) -> Result<String> {
 }
 
 /// How many workers meet while a module of so many wires is written.
-pub fn meet<R: Threads + Sync>(rt: &R, alloc: Global, count: u32) -> Result<u64> {
+fn meet<R: Threads + Sync>(rt: &R, alloc: Global, count: u32) -> Result<u64> {
     let module = module_of(alloc, count)?;
     let meeting = Meeting::new(u64::from(count.saturating_sub(1)));
     let _text = write(rt, alloc, &module, &meeting)?;
@@ -59,7 +62,7 @@ fn joined(alloc: Global, parts: &[Vec<u8>]) -> Result<Vec<u8>> {
 
 /// How many texts of a module of so many wires, one after another, are the expected one, whole and in
 /// parts: up to 20.
-pub fn texts_as_expected<R: Threads + Sync>(rt: &R, alloc: Global, count: u32) -> Result<u32> {
+fn texts_as_expected<R: Threads + Sync>(rt: &R, alloc: Global, count: u32) -> Result<u32> {
     let module = module_of(alloc, count)?;
     let expected = expected_text(alloc, count)?;
     for texts in 0..TEXTS {
@@ -71,4 +74,28 @@ pub fn texts_as_expected<R: Threads + Sync>(rt: &R, alloc: Global, count: u32) -
         }
     }
     Ok(TEXTS)
+}
+
+/// Writes how many workers meet.
+pub fn put_met<R: Threads + Sync, W: io::Write>(
+    rt: &R,
+    alloc: Global,
+    count: u32,
+    out: &mut W,
+) -> Result<()> {
+    let met = meet(rt, alloc, count)?;
+    writeln!(out, "{count} wires, {met} workers met")?;
+    Ok(())
+}
+
+/// Writes how many texts are the expected one.
+pub fn put_expected<R: Threads + Sync, W: io::Write>(
+    rt: &R,
+    alloc: Global,
+    count: u32,
+    out: &mut W,
+) -> Result<()> {
+    let texts = texts_as_expected(rt, alloc, count)?;
+    writeln!(out, "{count} wires, {texts} texts as expected")?;
+    Ok(())
 }
