@@ -1,9 +1,10 @@
 -- Rows that are filled edge by edge hold the readers of a diagram, and with the sources they are its links.
-use Rattle.std.proofs.Common.{◌≡◌, ℕ, zero, suc, ◌<◌, ◌≤◌, Bool, true, false, List, [], ◌∷◌, ◌++◌, length, map, filter, cond, set, All, Some, Option, get_or, eqb, refl, sym, ap, subst, ◌∙◌, inl, inr, arith}
+use Rattle.std.proofs.Common.{◌≡◌, ℕ, zero, suc, ◌<◌, ◌≤◌, Bool, true, false, List, [], ◌∷◌, ◌++◌, length, map, filter, cond, set, All, Some, Option, get_or, eqb, refl, sym, ap, subst, ◌∙◌, inl, inr, arith, append-nil}
 use Rattle.std.specs.Prelude.{slice_get, unwrap_or, ◌==◌}
 use Rattle.std.proofs.lemmas.Bool.{cases_lt, cases_Bool, eqb-true, eqb-false}
 use Rattle.std.proofs.lemmas.Bool.Decides.{Decides-by_and, Decides-eqb, nat_tests}
-use Rattle.std.proofs.lemmas.List.{length-set, get_or-set_same, get_or-set_other}
+use Rattle.std.proofs.lemmas.List.{length-set, get_or-set_same, get_or-set_other, map-append}
+use Rattle.std.proofs.lemmas.List.Elements.{filter-append}
 use Rattle.std.proofs.lemmas.Option.{unwrap_or-slice_get, slice_get_past, slice_get-get_or, none-some, same_Some}
 use Rattle.dg_model.specs.declared.diagram.Block.{Block}
 use Rattle.dg_model.specs.declared.diagram.Edge.{Edge}
@@ -43,6 +44,32 @@ known_more count done rows edge inside to_inside before =
           elim (cases_Bool (eqb edge.from k)) [
             | inl e ↦ subst (λ (j : ℕ). All (λ reader. reader < count) (get_or (set rows edge.from added) j [])) (eqb-true edge.from k e) (rw here (all_push (λ reader. reader < count) old edge.to (before.there edge.from) to_inside))
             | inr e ↦ rw (get_or-set_other rows edge.from k added [] (λ s. eqb-false edge.from k e (sym s))) (before.there k)
+          ];
+    }
+
+-- what a row holds of one edge more
+one_edge : {A : Type 0} (f : Edge → A) (done : List Edge) (edge : Edge) (k : ℕ) (b : Bool) → eqb edge.to k ≡ b →
+    map f (filter (λ e. e.to == k) (done ++ edge ∷ [])) ≡ map f (filter (λ e. e.to == k) done) ++ map f (cond b (edge ∷ []) [])
+one_edge f done edge k b is =
+    ap (map f) (filter-append (λ (e : Edge). e.to == k) done (edge ∷ []) ∙ ap (λ (c : Bool). filter (λ e. e.to == k) done ++ cond c (edge ∷ []) []) is)
+    ∙ map-append f (filter (λ e. e.to == k) done) (cond b (edge ∷ []) [])
+
+pub gathered_more : {A : Type 0} (count : ℕ) (f : Edge → A) (done : List Edge) (rows : List (List A)) (edge : Edge) → edge.to < count → Gathered count f done rows →
+    Gathered count f (done ++ edge ∷ []) (set rows edge.to (get_or rows edge.to [] ++ f edge ∷ []))
+gathered_more {A} count f done rows edge inside before =
+    let added = get_or rows edge.to [] ++ f edge ∷ [] in
+    let here : get_or (set rows edge.to added) edge.to [] ≡ added = get_or-set_same rows edge.to added [] (omega (arith, before.size, inside)) in
+    record {
+      size = length-set rows edge.to added ∙ before.size;
+      row = λ k there.
+          elim (cases_Bool (eqb edge.to k)) [
+            | inl e ↦
+                let same = eqb-true edge.to k e in
+                ap (λ (j : ℕ). get_or (set rows edge.to added) j []) (sym same) ∙ here
+                ∙ ap (λ (row : List A). row ++ f edge ∷ []) (ap (λ (j : ℕ). get_or rows j []) same ∙ before.row k there) ∙ sym (one_edge f done edge k true e)
+            | inr e ↦
+                get_or-set_other rows edge.to k added [] (λ s. eqb-false edge.to k e (sym s)) ∙ before.row k there
+                ∙ sym (append-nil (map f (filter (λ e. e.to == k) done))) ∙ sym (one_edge f done edge k false e)
           ];
     }
 

@@ -10,7 +10,7 @@ use fx_io::{Sequence, Sizes};
 const MOST: u32 = 1025;
 
 /// How an output port shows what its block has taken.
-#[derive(Clone, Copy, Debug)]
+#[derive(Clone, Copy)]
 pub enum Share {
     /// The block's width.
     Whole,
@@ -21,14 +21,14 @@ pub enum Share {
 }
 
 /// What an input reads: a block, and what of it.
-#[derive(Clone, Copy, Debug)]
+#[derive(Clone, Copy)]
 pub struct Source {
     pub block: u32,
     pub share: Share,
 }
 
 /// How a block takes its width.
-#[derive(Clone, Copy, Debug)]
+#[derive(Clone, Copy)]
 pub enum Form {
     /// The greatest of its own, its inputs' and the lengths of its lists.
     Elementwise { least: u32 },

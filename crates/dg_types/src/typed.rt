@@ -30,7 +30,7 @@ pub struct BlockTypes {
 }
 
 /// The parts of the rule of types, in their order.
-#[derive(Clone, Copy, Debug)]
+#[derive(Clone, Copy)]
 pub enum Part {
     /// What a block's equation names is valid.
     Narrow,
@@ -191,6 +191,30 @@ fn all_params(
     Ok(params)
 }
 
+/// The types of a diagram of which these are known, where it keeps all parts of the rule.
+fn types_by(
+    alloc: Global,
+    diagram: &Diagram,
+    round: &TypeRound<'_>,
+    known: &[Option<FxType>],
+) -> Result<BlockTypes, CheckFault>
+    requires wired { IsWired diagram.now }
+    requires typed { IsTyped diagram.now round.now.blocks.now round.now.links.forms
+        round.now.links.sources known.now }
+    ensures results { IfOk result (λ types.
+        types.results ≡ map or_logical (types_of diagram.now)) }
+    ensures params { IfOk result (λ types. types.params ≡ params_of diagram.now) }
+    ensures kept { OnOk result (KeepsTypes diagram.now) }
+    ensures refused { IfErr result (IsRefusal (BreaksType diagram.now)) }
+{
+    check(alloc, Part::Narrow, diagram, round, known)?;
+    check(alloc, Part::Known, diagram, round, known)?;
+    check(alloc, Part::Agree, diagram, round, known)?;
+    let results = results_of(alloc, known)?;
+    let params = all_params(alloc, diagram, round, known)?;
+    Ok(BlockTypes { results, params })
+}
+
 /// The types of a diagram: those after as many rounds as it has blocks, where in each round every
 /// block whose type isn't known takes it once the types that it needs are (Simulink reference,
 /// `OutDataTypeStr`; the rounds and the internal rule own). The rule of dimensions comes before that
@@ -216,11 +240,5 @@ pub fn types(
 {
     let round = round_of(alloc, diagram)?;
     let known = known_types(alloc, diagram, &round)?;
-    let known = known.as_slice();
-    check(alloc, Part::Narrow, diagram, &round, known)?;
-    check(alloc, Part::Known, diagram, &round, known)?;
-    check(alloc, Part::Agree, diagram, &round, known)?;
-    let results = results_of(alloc, known)?;
-    let params = all_params(alloc, diagram, &round, known)?;
-    Ok(BlockTypes { results, params })
+    types_by(alloc, diagram, &round, known.as_slice())
 }

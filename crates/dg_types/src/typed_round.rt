@@ -58,11 +58,10 @@ impl Round for TypeRound<'_> {
         round.links.readers old new block round.links.linked there same };
 
     fn next(&self, values: &[Option<FxType>], block: u32) -> Option<FxType> {
-        let own = values[block as usize];
-        if own.is_some() {
-            return own;
+        match values[block as usize] {
+            Some(kind) => Some(kind),
+            None => taken_type(&self.blocks[block as usize], values, self.sources_of(block)),
         }
-        taken_type(&self.blocks[block as usize], values, self.sources_of(block))
     }
 
     fn readers(&self, block: u32) -> &[u32] {

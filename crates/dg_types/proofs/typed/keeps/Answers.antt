@@ -1,5 +1,5 @@
-use Rattle.std.proofs.Common.{◌≡◌, List, [], get_or, ap, ◌∙◌}
-use Rattle.std.proofs.lemmas.Option.{get_or_from_slice_get}
+use Rattle.std.proofs.Common.{◌≡◌, ◌<◌, List, [], length, get_or, sym, subst, ap, ◌∙◌}
+use Rattle.std.proofs.lemmas.Option.{get_or_from_slice_get, slice_get-get_or}
 use Rattle.dg_model.specs.declared.diagram.Block.{Block}
 use Rattle.dg_model.specs.Periods.{known_at}
 use Rattle.dg_model.specs.TypeRounds.{Types, input_types, types_of}
@@ -8,6 +8,22 @@ use Rattle.dg_types.specs.inner.TypedInputs.{source_types}
 use Rattle.dg_types.proofs.TypedParts.{is_narrow_part, is_known_part, is_agree_part}
 use Rattle.dg_types.proofs.TypedWired.{inputs_are_typed}
 use Rattle.dg_types.proofs.typed.keeps.Goals as goal
+
+pub is_narrow-requires-clause-read : goal.is_narrow-requires-clause-read
+is_narrow-requires-clause-read c = record { there = rw (c.requires.typed.types_size ∙ sym c.requires.typed.size) c.sources_of-sources.ensures.there; valid = c.requires.typed.valid }
+
+pub is_narrow-requires-clause-ready : goal.is_narrow-requires-clause-ready
+is_narrow-requires-clause-ready c =
+    let place = c.args.place in
+    let round = c.args.round.now in
+    let inside : place < length round.blocks.now = subst (λ (bs : List Block). place < length bs) (sym c.requires.typed.blocks_are) c.requires.there in
+    rw c.sources_of-sources.ensures.value (round.ready.ready place _ (slice_get-get_or round.blocks.now place _ inside))
+
+pub has_types-requires : goal.has_types-requires
+has_types-requires c = record { there = rw (c.requires.typed.types_size ∙ sym c.requires.typed.size) c.sources_of-sources.ensures.there; valid = c.requires.typed.valid }
+
+pub agrees-requires : goal.agrees-requires
+agrees-requires c = record { there = rw (c.requires.typed.types_size ∙ sym c.requires.typed.size) c.sources_of-sources.ensures.there; valid = c.requires.typed.valid }
 
 pub returns-in-Narrow : goal.returns-in-Narrow
 returns-in-Narrow c block at =

@@ -1,5 +1,6 @@
-use Rattle.std.proofs.Common.{◌≡◌, List, [], get_or, Some, ap, sym, ◌∙◌}
+use Rattle.std.proofs.Common.{◌≡◌, ◌<◌, List, [], length, get_or, Some, subst, ap, sym, ◌∙◌}
 use Rattle.std.specs.Prelude.{slice_get}
+use Rattle.std.proofs.lemmas.Bool.{and_parts}
 use Rattle.std.proofs.lemmas.Option.{slice_get-get_or}
 use Rattle.dg_model.specs.declared.diagram.Block.{Block}
 use Rattle.dg_model.specs.Attributes.{or_logical, coefficient_type}
@@ -11,6 +12,16 @@ use Rattle.dg_types.specs.inner.TypedInputs.{source_types}
 use Rattle.dg_types.proofs.TypedSums.{known_step}
 use Rattle.dg_types.proofs.TypedWired.{inputs_are_typed}
 use Rattle.dg_types.proofs.typed.param_at.Goals as goal
+
+pub coefficient_type-requires-clause-read : goal.coefficient_type-requires-clause-read
+coefficient_type-requires-clause-read c = record { there = rw (c.requires.typed.types_size ∙ sym c.requires.typed.size) c.sources_of.ensures.there; valid = c.requires.typed.valid }
+
+pub coefficient_type-requires-clause-ready : goal.coefficient_type-requires-clause-ready
+coefficient_type-requires-clause-ready c =
+    let place = c.args.place in
+    let round = c.args.round.now in
+    let inside : place < length round.blocks.now = subst (λ (bs : List Block). place < length bs) (sym c.requires.typed.blocks_are) c.requires.there in
+    rw c.sources_of.ensures.value (and_parts _ _ (round.ready.ready place _ (slice_get-get_or round.blocks.now place _ inside))).1
 
 pub returns : goal.returns
 returns c =

@@ -15,3 +15,6 @@ returns-clause-types c =
     c.in_ok-types.ensures.values
     ∙ ap (λ (start : Types). after_rounds (next_typed blocks sources) (length blocks) start) c.in_ok-first.ensures
     ∙ types_agree c.args.diagram.now blocks c.args.round.now.links.forms sources c.requires.blocks c.requires.mirrors
+
+pub returns-clause-valid : goal.returns-clause-valid
+returns-clause-valid c = c.in_ok-types.ensures.fit
