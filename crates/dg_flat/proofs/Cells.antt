@@ -1,7 +1,7 @@
 -- Cells of rows that stand end to end.
-use Rattle.std.proofs.Common.{◌≡◌, ℕ, ◌<◌, ◌≤◌, ◌+◌, List, length, take, sum, set, get_or, sym, ap, ◌∙◌, inl, inr, arith}
+use Rattle.std.proofs.Common.{◌≡◌, ℕ, ◌<◌, ◌≤◌, ◌+◌, List, length, take, sum, set, get_or, replicate, sym, ap, ◌∙◌, inl, inr, arith}
 use Rattle.std.proofs.lemmas.Bool.{cases_eq, cases_lt}
-use Rattle.std.proofs.lemmas.List.{length-set, length-take, get_or-set_same, get_or-set_other, take-take, get_or-take}
+use Rattle.std.proofs.lemmas.List.{length-set, length-take, length-replicate, get_or-set_same, get_or-set_other, get_or-replicate, take-take, get_or-take}
 use Rattle.std.proofs.lemmas.List.Sums.{sum_by_more_le}
 use Rattle.dg_flat.specs.inner.Tables.{HasCell, IsRowTable, cell_at}
 
@@ -28,6 +28,13 @@ cells_apart lengths row number other n has its same =
             | inr after ↦ absurd (omega (arith, same, ends_before lengths other row (omega (arith, after, apart)) its.there, its.above, its.within, has.above))
           ]
     ]
+
+-- a table of one value
+pub rows_filled : {X : Type 0} (lengths : List ℕ) (value : ℕ → ℕ → X) (x : X) (count : ℕ) → count ≡ sum lengths → ((row number : ℕ) → x ≡ value row number) → IsRowTable lengths value (replicate count x)
+rows_filled lengths value x count all same = record {
+  size = length-replicate count x ∙ all;
+  at = λ row number d has. get_or-replicate count (cell_at lengths row number) x d (omega (arith, cell_below lengths row number has, all)) ∙ same row number;
+}
 
 pub rows_same : {X : Type 0} (lengths : List ℕ) (value other : ℕ → ℕ → X) (table : List X) → ((row number : ℕ) → HasCell lengths row number → value row number ≡ other row number) → IsRowTable lengths value table → IsRowTable lengths other table
 rows_same lengths value other table same is = record {

@@ -1,4 +1,4 @@
-ghost use Rattle.std.specs.Prelude.{◌≡◌, ◌<◌, length, slice_get, IfOk, IfErr, Some};
+ghost use Rattle.std.specs.Prelude.{◌≡◌, ◌<◌, length, slice_get, IfOk, IfErr, OnOk, Some};
 ghost use Rattle.dg_model.specs.Faults.{fault_of, IsRefusal};
 ghost use Rattle.dg_model.specs.Sound.{IsSound};
 ghost use Rattle.dg_model.specs.Wired.{IsWired};
@@ -8,6 +8,7 @@ ghost use Rattle.dg_flat.specs.Parts.{nested_path};
 ghost use Rattle.dg_flat.specs.Rules.{BreaksWiringOrEnable, AllNestedKeep, KeepsWiring, KeepsEnable};
 ghost use Rattle.dg_flat.specs.inner.Paths.{ArePaths};
 ghost use Rattle.dg_flat.specs.inner.Slots.{HaveParents};
+ghost use Rattle.dg_flat.specs.inner.Systems.{AreSystems};
 
 use crate::blocks::{flat_blocks, flat_places};
 use crate::edges::flat_edges;
@@ -42,6 +43,57 @@ fn broken(
     })
 }
 
+/// Refuses nested blocks and lines of which one breaks the rule of wiring, or else of enabled
+/// subsystems.
+fn check(
+    alloc: Global,
+    nested: &Nested,
+    systems: &Systems,
+    paths: &[SystemPath],
+) -> Result<(), CheckFault>
+    requires sound { IsSound nested.now }
+    requires systems { AreSystems nested.now.blocks systems.now }
+    requires paths { ArePaths nested.now.blocks (length nested.now.blocks) paths.now }
+    ensures wiring { OnOk result (AllNestedKeep nested.now KeepsWiring) }
+    ensures enables { OnOk result (AllNestedKeep nested.now KeepsEnable) }
+    ensures refused { IfErr result (IsRefusal (BreaksWiringOrEnable nested.now)) }
+{
+    let blocks = nested.blocks.as_slice();
+    if let Some(place) = first_unwired(alloc, systems, nested)? {
+        let fault = broken(alloc, Rule::Wiring, blocks, paths, place)?;
+        return Err(CheckFault::Broken(fault));
+    }
+    if let Some(place) = first_misplaced(systems, nested) {
+        let fault = broken(alloc, Rule::Enable, blocks, paths, place)?;
+        return Err(CheckFault::Broken(fault));
+    }
+    Ok(())
+}
+
+/// The flat diagram of nested blocks and lines that keep the rule of wiring.
+fn diagram_of(
+    alloc: Global,
+    nested: &Nested,
+    systems: &Systems,
+    paths: &[SystemPath],
+) -> Result<Diagram, OutOfMemory>
+    requires sound { IsSound nested.now }
+    requires wiring { AllNestedKeep nested.now KeepsWiring }
+    requires systems { AreSystems nested.now.blocks systems.now }
+    requires paths { ArePaths nested.now.blocks (length nested.now.blocks) paths.now }
+    ensures { IfOk result (IsFlatOf nested.now) }
+{
+    let blocks = nested.blocks.as_slice();
+    let lines = nested.lines.as_slice();
+    let places = flat_places(alloc, blocks)?;
+    let flat = flat_blocks(alloc, systems, blocks, &places, paths)?;
+    let edges = flat_edges(alloc, systems, blocks, &places, lines)?;
+    Ok(Diagram {
+        blocks: flat,
+        edges,
+    })
+}
+
 /// The flat diagram of nested blocks and lines, or the first broken rule of wiring and of enabled
 /// subsystems, at its first block in file order.
 ///
@@ -58,22 +110,9 @@ pub fn flatten(alloc: Global, nested: &Nested) -> Result<Diagram, CheckFault>
     ensures refused { IfErr result (IsRefusal (BreaksWiringOrEnable nested.now)) }
 {
     let blocks = nested.blocks.as_slice();
-    let lines = nested.lines.as_slice();
     let systems = Systems::of(alloc, blocks)?;
     let paths = system_paths(alloc, blocks)?;
-    if let Some(place) = first_unwired(alloc, &systems, nested)? {
-        let fault = broken(alloc, Rule::Wiring, blocks, paths.as_slice(), place)?;
-        return Err(CheckFault::Broken(fault));
-    }
-    if let Some(place) = first_misplaced(&systems, nested) {
-        let fault = broken(alloc, Rule::Enable, blocks, paths.as_slice(), place)?;
-        return Err(CheckFault::Broken(fault));
-    }
-    let places = flat_places(alloc, blocks)?;
-    let flat = flat_blocks(alloc, &systems, blocks, &places, paths.as_slice())?;
-    let edges = flat_edges(alloc, &systems, blocks, &places, lines)?;
-    Ok(Diagram {
-        blocks: flat,
-        edges,
-    })
+    check(alloc, nested, &systems, paths.as_slice())?;
+    let diagram = diagram_of(alloc, nested, &systems, paths.as_slice())?;
+    Ok(diagram)
 }

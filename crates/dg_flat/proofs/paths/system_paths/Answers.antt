@@ -1,4 +1,4 @@
-use Rattle.std.proofs.Common.{◌≡◌, ◌<◌, ℕ, List, [], length, get_or, sym, ap, ◌∙◌}
+use Rattle.std.proofs.Common.{◌≡◌, ◌<◌, ℕ, List, [], length, get_or, sym, ap, ◌∙◌, arith}
 use Rattle.dg_model.specs.Naming.{escaped}
 use Rattle.dg_flat.specs.Parts.{below}
 use Rattle.dg_flat.proofs.PathTable.{path_is, paths_more}
@@ -17,3 +17,9 @@ loop-block-preserved c =
     rw c.in_ok-push.ensures.appended
     (paths_more blocks i block c.loop-block.paths c.in_ok-path.path inside at
     (λ is. c.in_ok-path.ensures is ∙ ap (λ (paths : List (List ℕ)). below (λ k. get_or paths k []) (escaped block.name) block.parent) slice ∙ known) c.loop-block.invariant)
+
+pub system_path-requires : goal.system_path-requires
+system_path-requires c =
+    let within = slot_within c.args.blocks.now c.loop-block.block-index c.block-item.result c.requires c.loop-block-test.true (sym c.block-item.is) in
+    let size = ap length c.as_slice.ensures in
+    omega (arith, within, size, c.loop-block.invariant.size)

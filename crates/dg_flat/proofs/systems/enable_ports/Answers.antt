@@ -1,5 +1,9 @@
-use Rattle.std.proofs.Common.{◌≡◌, ◌<◌, true, suc, length, take, get_or, sym, ap}
-use Rattle.dg_flat.specs.Parts.{is_enable_port}
+use Rattle.std.proofs.Common.{◌≡◌, ◌<◌, true, suc, List, length, take, get_or, sym, ap, subst, arith}
+use Rattle.std.proofs.lemmas.List.{take_all}
+use Rattle.dg_model.specs.declared.nested.NestedBlock.{NestedBlock}
+use Rattle.dg_flat.specs.Parts.{first_in, is_enable_port}
+use Rattle.dg_flat.specs.inner.Slots.{system_of}
+use Rattle.dg_flat.specs.inner.Tables.{IsTable}
 use Rattle.dg_flat.proofs.Firsts.{noted_more, noted_same, take_block, slot_inside, length_done, not_enable_port}
 use Rattle.dg_flat.proofs.systems.enable_ports.Goals as goal
 use Rattle.dg_flat.proofs.systems.enable_ports.Goals.{in-Enable, in_default}
@@ -21,3 +25,14 @@ loop-place-preserved c =
       | in_default w ↦
           rw (more, w.ports-is) (noted_same (take i blocks) block is_enable_port (suc (length blocks)) c.loop-place.ports.items (not_enable_port block.part w.in_default.not-Enable) c.loop-place.invariant)
     ]
+
+pub note_first-requires : goal.note_first-requires
+note_first-requires c =
+    let block = c.index-blocks-place.result in
+    let slot = slot_inside c.args.blocks.now c.loop-place.place block c.requires.parents c.loop-place-test.true (sym c.index-blocks-place.is) in
+    omega (arith, slot, c.slot.ensures, c.loop-place.invariant.size)
+
+pub returns : goal.returns
+returns c =
+    subst (λ (blocks : List NestedBlock). IsTable (suc (length c.args.blocks.now)) (λ slot. first_in blocks (system_of slot) is_enable_port) c.loop-place.ports.items)
+    (take_all c.loop-place.place c.args.blocks.now c.loop-place-test.false) c.loop-place.invariant

@@ -1,7 +1,9 @@
-use Rattle.std.proofs.Common.{◌<◌, length, take, get_or}
-use Rattle.std.proofs.lemmas.List.{take_more}
+use Rattle.std.proofs.Common.{◌<◌, List, length, take, get_or, subst, arith}
+use Rattle.std.proofs.lemmas.List.{take_more, take_all}
 use Rattle.dg_model.specs.declared.nested.NestedLine.{NestedLine}
 use Rattle.dg_model.specs.declared.nested.Target.TheVariants.{Port}
+use Rattle.dg_flat.specs.inner.Ports.{control_drivers}
+use Rattle.dg_flat.specs.inner.Tables.{IsTable}
 use Rattle.dg_flat.proofs.Drivers.{control_more, control_same, not_to_control}
 use Rattle.dg_flat.proofs.tally.enable_drivers.Goals as goal
 use Rattle.dg_flat.proofs.tally.enable_drivers.Goals.{in-Enable, in_default}
@@ -23,3 +25,11 @@ loop-line-preserved c =
       | in_default w ↦
           rw (more, w.drivers-is) (control_same (take i lines) line c.args.count c.loop-line.drivers.items (not_to_control line.target w.in_default.not-Enable) c.loop-line.invariant)
     ]
+
+pub count_one-requires : goal.count_one-requires
+count_one-requires c = let there = c.requires c.loop-line.line-index none c.loop-line-test.true in omega (arith, there, c.loop-line.invariant.size)
+
+pub returns : goal.returns
+returns c =
+    subst (λ (lines : List NestedLine). IsTable c.args.count (control_drivers lines) c.loop-line.drivers.items)
+    (take_all c.loop-line.line-index c.args.lines.now c.loop-line-test.false) c.loop-line.invariant

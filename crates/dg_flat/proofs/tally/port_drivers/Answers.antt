@@ -1,13 +1,22 @@
-use Rattle.std.proofs.Common.{◌<◌, length, take, get_or}
-use Rattle.std.proofs.lemmas.List.{take_more}
+use Rattle.std.proofs.Common.{◌≡◌, ◌<◌, List, [], length, take, get_or, replicate, refl, subst, arith, rules}
+use Rattle.std.proofs.lemmas.List.{take_more, take_all}
 use Rattle.dg_model.specs.declared.nested.NestedLine.{NestedLine}
 use Rattle.dg_model.specs.declared.nested.Target.TheVariants.{Port}
+use Rattle.dg_flat.specs.inner.Ports.{port_drivers}
+use Rattle.dg_flat.specs.inner.Tables.{IsRowTable}
+use Rattle.dg_flat.proofs.Cells.{rows_filled}
 use Rattle.dg_flat.proofs.Drivers.{port_more, port_past, port_none, not_to_port}
 use Rattle.dg_flat.proofs.tally.port_drivers.Goals as goal
 use Rattle.dg_flat.proofs.tally.port_drivers.Goals.{in-Port+in-Some, in-Port+in_default-cell, in_default}
 
 abbrev none : NestedLine
 none = record { from = 0; from_port = 0; to = 0; target = Port 0 }
+
+pub loop-line-init : goal.loop-line-init
+loop-line-init c =
+    let rows = c.args.rows.now in
+    let is : c.in_ok-drivers.drivers.items ≡ replicate rows.cells 0 = c.in_ok-drivers.ensures.items_if_clones_equal (search rules) in
+    rw is (rows_filled rows.lengths.items (port_drivers []) 0 rows.cells c.requires.rows.cells (λ row number. refl))
 
 pub loop-line-preserved : goal.loop-line-preserved
 loop-line-preserved c =
@@ -27,3 +36,14 @@ loop-line-preserved c =
       | in_default w ↦
           rw (more, w.drivers-is) (port_none (take i lines) line lengths c.loop-line.drivers.items (not_to_port line.target w.in_default.not-Port) c.loop-line.invariant)
     ]
+
+pub cell-requires-clause-there : goal.cell-requires-clause-there
+cell-requires-clause-there c = c.requires.ends c.loop-line.line-index _ c.loop-line-test.true
+
+pub count_one-requires : goal.count_one-requires
+count_one-requires c = let cell = c.in-Some.ensures in omega (arith, cell.2, c.loop-line.invariant.size)
+
+pub returns : goal.returns
+returns c =
+    subst (λ (lines : List NestedLine). IsRowTable c.args.rows.now.lengths.items (port_drivers lines) c.loop-line.drivers.items)
+    (take_all c.loop-line.line-index c.args.lines.now c.loop-line-test.false) c.loop-line.invariant

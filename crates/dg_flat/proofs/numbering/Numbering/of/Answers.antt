@@ -1,8 +1,16 @@
-use Rattle.std.proofs.Common.{◌≡◌, ◌<◌, length, take, get_or, sym, ◌∙◌}
-use Rattle.dg_flat.proofs.Firsts.{take_block, length_done}
+use Rattle.std.proofs.Common.{◌≡◌, ◌<◌, [], length, take, get_or, replicate, None, refl, ap, sym, ◌∙◌, arith, rules}
+use Rattle.dg_flat.specs.inner.Numbering.{numbered_at}
+use Rattle.dg_flat.proofs.Cells.{rows_filled}
+use Rattle.dg_flat.proofs.Firsts.{take_block, length_done, slot_inside}
 use Rattle.dg_flat.proofs.Numbers.{numbered_more, numbered_past, numbered_none}
 use Rattle.dg_flat.proofs.numbering.Numbering.of.Goals as goal
 use Rattle.dg_flat.proofs.numbering.Numbering.of.Goals.{in-Some+in-Some-cell, in-Some+in_default-cell, in_default}
+
+pub loop-place-init : goal.loop-place-init
+loop-place-init c =
+    let rows = c.in_ok-rows.rows in
+    let is : c.in_ok-ports.ports.items ≡ replicate rows.cells None = c.in_ok-ports.ensures.items_if_clones_equal (search rules) in
+    rw is (rows_filled rows.lengths.items (numbered_at [] c.args.side) None rows.cells c.in_ok-rows.ensures.rows.cells (λ row number. refl))
 
 pub loop-place-preserved : goal.loop-place-preserved
 loop-place-preserved c =
@@ -25,3 +33,16 @@ loop-place-preserved c =
       | in_default w ↦
           rw (more, w.ports-is) (numbered_none (take i blocks) block c.args.side lengths c.loop-place.ports.items (sym c.number_of.ensures ∙ w.in_default.is) c.loop-place.invariant)
     ]
+
+pub cell-requires-clause-rows : goal.cell-requires-clause-rows
+cell-requires-clause-rows c = c.in_ok-rows.ensures.rows
+
+pub cell-requires-clause-there : goal.cell-requires-clause-there
+cell-requires-clause-there c =
+    let block = c.index-blocks-place.result in
+    let slot = slot_inside c.args.blocks.now c.loop-place.place block c.requires.parents c.loop-place-test.true (sym c.index-blocks-place.is) in
+    let long = ap length c.in_ok-rows.ensures.lengths ∙ c.in_ok-counts.ensures.size in
+    omega (arith, slot, c.slot.ensures, long)
+
+pub note_first-requires : goal.note_first-requires
+note_first-requires c = let cell = c.in-Some-cell.ensures in omega (arith, cell.2, c.loop-place.invariant.size)

@@ -1,4 +1,4 @@
-use Rattle.std.proofs.Common.{ap, ◌∙◌}
+use Rattle.std.proofs.Common.{ap, ◌∙◌, arith}
 use Rattle.dg_model.specs.declared.nested.NestedBlock.{NestedBlock}
 use Rattle.dg_model.specs.declared.nested.Part.TheVariants.{SubSystem}
 use Rattle.dg_flat.specs.declared.numbering.Side.TheVariants.{Out}
@@ -17,3 +17,14 @@ returns-in-Out c =
 pub returns-in-Enable : goal.returns-in-Enable
 returns-in-Enable c =
     outputs_read c.args.blocks.now c.args.place c.index-blocks-place.result _ c.requires.there c.index-blocks-place.is (ap (λ (b : NestedBlock). b.part) c.index-blocks-place.is ∙ c.in-Enable.is)
+
+pub returns-in-Plain : goal.returns-in-Plain
+returns-in-Plain c =
+    outputs_read c.args.blocks.now c.args.place c.index-blocks-place.result _ c.requires.there c.index-blocks-place.is (ap (λ (b : NestedBlock). b.part) c.index-blocks-place.is ∙ c.in-Plain.is)
+
+pub returns-in-In : goal.returns-in-In
+returns-in-In c =
+    outputs_read c.args.blocks.now c.args.place c.index-blocks-place.result _ c.requires.there c.index-blocks-place.is (ap (λ (b : NestedBlock). b.part) c.index-blocks-place.is ∙ c.in-In.is)
+
+pub count-requires : goal.count-requires
+count-requires c = omega (arith, c.requires.there, c.requires.systems.outs.counts.size)
