@@ -99,6 +99,35 @@ fn shown_of(
     Ok(shown)
 }
 
+/// The cells of all entries, and which of them are shown.
+fn put_all(
+    alloc: Global,
+    checked: &Checked,
+    starts: &Starts,
+    program: &mut Program,
+) -> Result<(), OutOfMemory>
+    requires filled { IsFilled checked.now.diagram (attributes_of checked.now.diagram)
+        program.old 0 }
+    requires finds { Finds checked.now starts.now program.old.places }
+    ensures { OnOk result
+        (IsProgram checked.now.diagram (attributes_of checked.now.diagram) program.new) }
+{
+    checked.keeps_rules();
+    dg_model::root_elements_are_listed();
+    let roots = input_roots(alloc, checked)?;
+    fill(checked, starts, roots.as_slice(), program)?;
+    let outputs = output_roots(alloc, checked, starts)?;
+    let shown = shown_of(
+        alloc,
+        checked,
+        starts,
+        program.places.as_slice(),
+        outputs.as_slice(),
+    )?;
+    program.outputs = shown;
+    Ok(())
+}
+
 /// The program of a checked diagram.
 ///
 /// # Errors
@@ -107,10 +136,7 @@ pub fn program_of(alloc: Global, checked: &Checked) -> Result<Program, OutOfMemo
     ensures { IfOk result (λ program.
         IsProgram checked.now.diagram (attributes_of checked.now.diagram) program) }
 {
-    checked.keeps_rules();
-    dg_model::root_elements_are_listed();
     let (starts, places) = lay_out(alloc, checked)?;
-    let roots = input_roots(alloc, checked)?;
     let mut program = Program {
         places,
         cells: Cells::new(alloc),
@@ -120,15 +146,6 @@ pub fn program_of(alloc: Global, checked: &Checked) -> Result<Program, OutOfMemo
         memories: Memories::new(alloc),
         outputs: Sizes::new(alloc),
     };
-    fill(checked, &starts, roots.as_slice(), &mut program)?;
-    let outputs = output_roots(alloc, checked, &starts)?;
-    let shown = shown_of(
-        alloc,
-        checked,
-        &starts,
-        program.places.as_slice(),
-        outputs.as_slice(),
-    )?;
-    program.outputs = shown;
+    put_all(alloc, checked, &starts, &mut program)?;
     Ok(program)
 }

@@ -19,7 +19,7 @@ use dg_model::{Block, Checked};
 use dg_tables::{Place, Starts, width_of_input, width_of_output};
 
 /// How many elements the first ports of a block have together.
-#[derive(Clone, Copy, Debug)]
+#[derive(Clone, Copy)]
 pub struct Cursor {
     pub block: u32,
     pub ports: u32,
@@ -27,7 +27,7 @@ pub struct Cursor {
 }
 
 /// Where the walks along the input ports of a Mux and along the output ports of a Demux stand.
-#[derive(Clone, Copy, Debug)]
+#[derive(Clone, Copy)]
 pub struct Cursors {
     pub into: Cursor,
     pub out: Cursor,
@@ -52,7 +52,7 @@ impl Cursors {
 }
 
 /// An element of what an input port offers, and how many elements the ports before it have.
-#[derive(Clone, Copy, Debug)]
+#[derive(Clone, Copy)]
 struct Part {
     port: u32,
     element: u32,

@@ -6,7 +6,7 @@ use fx_type::{FxType, Rounding};
 
 /// An operation with the cells of its inputs: where they begin among the arguments of the program, and
 /// how many there are. Its signs stand likewise.
-#[derive(Clone, Copy, Debug)]
+#[derive(Clone, Copy)]
 pub struct Work {
     pub op: Op,
     pub first: u32,
@@ -19,7 +19,7 @@ pub struct Work {
 }
 
 /// How the value of a cell comes about at a hit. Other cells are named by their places in the list.
-#[derive(Clone, Copy, Debug)]
+#[derive(Clone, Copy)]
 pub enum Rule {
     /// The number of the stimulus in a column.
     Input {
@@ -70,7 +70,7 @@ pub enum Rule {
 }
 
 /// How an entry of the table is worked out in each sample.
-#[derive(Clone, Copy, Debug)]
+#[derive(Clone, Copy)]
 pub struct Cell {
     pub period: Option<u32>,
     pub rule: Rule,
@@ -78,7 +78,7 @@ pub struct Cell {
 
 /// What keeps values of a cell: in each hit of the period, where the control is on. Where it is off, a
 /// memory with `reset` forgets all.
-#[derive(Clone, Copy, Debug)]
+#[derive(Clone, Copy)]
 pub struct Memory {
     /// The block and element for which it keeps them.
     pub place: Place,
@@ -91,7 +91,7 @@ pub struct Memory {
 }
 
 /// What a simulator does in each sample.
-#[derive(Debug, Drop)]
+#[derive(Drop)]
 pub struct Program {
     /// The entries that a sample has, each after those whose values it needs.
     pub places: Places,

@@ -1,4 +1,5 @@
 use Rattle.std.proofs.Common.{◌≡◌, ◌∙◌, sym, ap, false, true, Bool, not, refl, arith}
+use Rattle.std.proofs.lemmas.Option.{slice_get_within}
 use Rattle.dg_model.specs.Attributes.{attributes_of}
 use Rattle.dg_model.specs.Hits.{is_slow_to_fast}
 use Rattle.dg_model.specs.Instant.{reads_now}
@@ -29,3 +30,12 @@ hand_on-requires c =
       now = turn_now checked c.args.starts.now c.args.program.now.places c.args.k place b c.requires.turn kind c.requires.kind.1 now;
       read = turn_read checked c.args.starts.now c.args.program.now.places c.args.k place b c.requires.turn kind c.requires.kind.1 c.keeps_rules.ensures.checked refl 1 (omega arith) (omega (arith, ports));
     }
+
+pub period-own-requires : goal.period-own-requires
+period-own-requires c = slice_get_within c.args.checked.now.diagram.blocks c.args.place.block c.args.block.now c.requires.block
+
+pub slowed-requires-clause-slower : goal.slowed-requires-clause-slower
+slowed-requires-clause-slower c = ap (is_slow_to_fast c.period_of_input-slow.result) (sym c.period-own.ensures) ∙ (sym c.is_slower.ensures ∙ c.if-is_slower.true)
+
+pub returns-then-is_slower : goal.returns-then-is_slower
+returns-then-is_slower c = c.slowed.ensures

@@ -1,10 +1,12 @@
-use Rattle.std.proofs.Common.{sym, subst, FitsSigned, rules}
+use Rattle.std.proofs.Common.{ap, sym, subst, FitsSigned, rules}
 use Rattle.std.specs.Int.{w128}
 use Rattle.std.proofs.lemmas.Int.{to_z-of_z}
+use Rattle.std.proofs.lemmas.Option.{slice_get_within}
 use Rattle.fx_type.specs.FxType.{IsType}
 use Rattle.fx_type.specs.declared.kind.FxType.{FxType}
 use Rattle.dg_model.specs.Attributes.{attributes_of}
 use Rattle.dg_model.specs.Equation.{StoresEntry}
+use Rattle.dg_tables.specs.State.{kept_count}
 use Rattle.dg_sim.proofs.Kept.{delay_made, delay_move_is}
 use Rattle.dg_sim.proofs.Turns.{delay_reads}
 use Rattle.dg_sim.proofs.ListEntries.{delay_entry}
@@ -35,3 +37,21 @@ remember-requires-clause-read c = delay_reads c.args.checked.now c.args.starts.n
 
 pub stored-first-requires-clause-entry : goal.stored-first-requires-clause-entry
 stored-first-requires-clause-entry c = delay_entry c.args.checked.now.diagram c.keeps_rules.ensures.checked c.args.place.block c.args.place.port c.args.place.element c.args.block.now c.requires.turn.shown c.args.length c.args.initial.now c.args.reset c.requires.kind
+
+pub control_of-control-requires-clause-finds : goal.control_of-control-requires-clause-finds
+control_of-control-requires-clause-finds c = c.requires.turn.finds
+
+pub control_of-control-requires-clause-block : goal.control_of-control-requires-clause-block
+control_of-control-requires-clause-block c = (c.args.place.block, c.requires.block)
+
+pub result-requires : goal.result-requires
+result-requires c = slice_get_within c.args.checked.now.diagram.blocks c.args.place.block c.args.block.now c.requires.block
+
+pub period-period-requires : goal.period-period-requires
+period-period-requires c = slice_get_within c.args.checked.now.diagram.blocks c.args.place.block c.args.block.now c.requires.block
+
+pub remember-requires-clause-finds : goal.remember-requires-clause-finds
+remember-requires-clause-finds c = c.requires.turn.finds
+
+pub remember-requires-clause-room : goal.remember-requires-clause-room
+remember-requires-clause-room c = sym (ap kept_count c.requires.kind)

@@ -9,6 +9,7 @@ use Rattle.dg_model.specs.Attributes.{attributes_of}
 use Rattle.dg_model.specs.Equation.{StoresEntry}
 use Rattle.dg_tables.specs.declared.entries.Place.{Place}
 use Rattle.dg_tables.specs.Entries.{Reads}
+use Rattle.dg_tables.specs.State.{kept_count}
 use Rattle.dg_sim.specs.inner.Building.{IsControlCell}
 use Rattle.dg_tables.specs.Finding.{ReadsNow}
 use Rattle.dg_sim.proofs.Grown.{grows_same}
@@ -75,3 +76,24 @@ remember-requires-clause-read c = output_reads c.args.checked.now c.args.starts.
 
 pub stored-first-requires-clause-entry : goal.stored-first-requires-clause-entry
 stored-first-requires-clause-entry c = output_entry_there c.args.checked.now.diagram c.keeps_rules.ensures.checked c.args.place.block c.args.place.port c.args.place.element c.args.block.now c.requires.turn.shown c.args.reset c.args.initial.now c.requires.kind
+
+pub control_cell-cell-requires-clause-finds : goal.control_cell-cell-requires-clause-finds
+control_cell-cell-requires-clause-finds c = c.requires.turn.finds
+
+pub control_cell-cell-requires-clause-block : goal.control_cell-cell-requires-clause-block
+control_cell-cell-requires-clause-block c = (c.args.place.block, c.requires.block)
+
+pub control_cell-cell-requires-clause-enable : goal.control_cell-cell-requires-clause-enable
+control_cell-cell-requires-clause-enable c = c.in-Some.is
+
+pub input-from-requires-clause-finds : goal.input-from-requires-clause-finds
+input-from-requires-clause-finds c = rw c.as_slice.ensures c.requires.turn.finds
+
+pub result-requires : goal.result-requires
+result-requires c = slice_get_within c.args.checked.now.diagram.blocks c.args.place.block c.args.block.now c.requires.block
+
+pub remember-requires-clause-finds : goal.remember-requires-clause-finds
+remember-requires-clause-finds c = c.requires.turn.finds
+
+pub remember-requires-clause-room : goal.remember-requires-clause-room
+remember-requires-clause-room c = sym (ap kept_count c.requires.kind)

@@ -2,7 +2,7 @@ use Rattle.std.proofs.Common.{◌≡◌, ◌∙◌, List, Some, slice_get, ap, s
 use Rattle.fx_type.specs.declared.decimal.Decimal.{Decimal}
 use Rattle.dg_model.specs.declared.diagram.Block.{Block}
 use Rattle.dg_model.specs.declared.diagram.Diagram.{Diagram}
-use Rattle.dg_model.specs.declared.kind.Kind.TheVariants.{Outport, Pass, RateTransition}
+use Rattle.dg_model.specs.declared.kind.Kind.TheVariants.{Constant, Outport, Pass, RateTransition}
 use Rattle.dg_model.specs.Attributes.{attributes_of}
 use Rattle.dg_sim.proofs.ByKind.{outport_hands, pass_hands, ground_always}
 use Rattle.dg_sim.proofs.Entries.{block_there, ports_are}
@@ -177,3 +177,57 @@ above-requires-clause-turn c =
     let here : slice_get diagram.blocks place.block ≡ Some one = block_there diagram attributes place c.as_slice.result.now one list c.requires.entry c.index-as_slice-place.is in
     let turn = turn_of c.args.checked.now c.args.starts.now c.args.program.now.places c.args.k place one c.requires.finds c.requires.at c.requires.entry here in
     turn
+
+pub from_row-requires-clause-block : goal.from_row-requires-clause-block
+from_row-requires-clause-block c =
+    let diagram = c.args.checked.now.diagram in
+    let list = c.as_slice.ensures ∙ ap (λ (d : Diagram). d.blocks) c.diagram.ensures in
+    block_there diagram (attributes_of diagram) c.args.place c.as_slice.result.now c.index-as_slice-place.result list c.requires.entry c.index-as_slice-place.is
+
+pub transition-requires-clause-block : goal.transition-requires-clause-block
+transition-requires-clause-block c =
+    let diagram = c.args.checked.now.diagram in
+    let list = c.as_slice.ensures ∙ ap (λ (d : Diagram). d.blocks) c.diagram.ensures in
+    block_there diagram (attributes_of diagram) c.args.place c.as_slice.result.now c.index-as_slice-place.result list c.requires.entry c.index-as_slice-place.is
+
+pub above-requires-clause-block : goal.above-requires-clause-block
+above-requires-clause-block c =
+    let diagram = c.args.checked.now.diagram in
+    let list = c.as_slice.ensures ∙ ap (λ (d : Diagram). d.blocks) c.diagram.ensures in
+    block_there diagram (attributes_of diagram) c.args.place c.as_slice.result.now c.index-as_slice-place.result list c.requires.entry c.index-as_slice-place.is
+
+pub from_row-requires-clause-kind : goal.from_row-requires-clause-kind
+from_row-requires-clause-kind c = (c.in-Inport.width, c.in-Inport.is)
+
+pub constant-requires-clause-kind : goal.constant-requires-clause-kind
+constant-requires-clause-kind c = c.in-Constant.is ∙ ap (λ (value : List Decimal). Constant value) (sym c.as_slice-in-Constant.ensures)
+
+pub above-requires-clause-kind : goal.above-requires-clause-kind
+above-requires-clause-kind c = c.in-EnableTest.is
+
+pub returns-in-Inport-clause-made : goal.returns-in-Inport-clause-made
+returns-in-Inport-clause-made c = c.from_row.ensures
+
+pub returns-in-Constant-clause-made : goal.returns-in-Constant-clause-made
+returns-in-Constant-clause-made c = c.constant.ensures
+
+pub returns-in-Ground-clause-made : goal.returns-in-Ground-clause-made
+returns-in-Ground-clause-made c = c.fixed.ensures
+
+pub returns-in-Mux-clause-made : goal.returns-in-Mux-clause-made
+returns-in-Mux-clause-made c = c.joined.ensures.made
+
+pub returns-in-Demux-clause-made : goal.returns-in-Demux-clause-made
+returns-in-Demux-clause-made c = c.parted.ensures.made
+
+pub returns-in-RateTransition-clause-made : goal.returns-in-RateTransition-clause-made
+returns-in-RateTransition-clause-made c = c.transition.ensures
+
+pub returns-in-EnableTest-clause-made : goal.returns-in-EnableTest-clause-made
+returns-in-EnableTest-clause-made c = c.above.ensures
+
+pub returns-in-Sum-clause-made : goal.returns-in-Sum-clause-made
+returns-in-Sum-clause-made c = c.worked.ensures
+
+pub returns-in-Delay-clause-made : goal.returns-in-Delay-clause-made
+returns-in-Delay-clause-made c = c.kept_rule.ensures

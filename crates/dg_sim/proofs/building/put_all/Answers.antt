@@ -5,7 +5,7 @@ use Rattle.dg_tables.specs.declared.roots.Root.{Root}
 use Rattle.dg_sim.specs.inner.Building.{AreShown}
 use Rattle.dg_sim.proofs.Filled.{finished}
 use Rattle.dg_sim.proofs.Shown.{output_entry}
-use Rattle.dg_sim.proofs.building.program_of.Goals as goal
+use Rattle.dg_sim.proofs.building.put_all.Goals as goal
 
 pub returns : goal.returns
 returns c =
