@@ -112,12 +112,18 @@ type_here RateTransition = refl
 type_here SubSystem = refl
 type_here EnablePort = refl
 
+pub number_there : {V : Type 0} (view : V → List (List ℕ)) (items : List Item) (defaults : List V) (block_type : BlockType) (number : ℕ)
+    → map view defaults ≡ map (fallbacks_of items) block_types → number ≡ number_of block_type → number < length defaults
+number_there {V} view items defaults block_type number all is =
+    let there : slice_get block_types number ≡ Some block_type = ap (slice_get block_types) is ∙ type_here block_type in
+    let long : length defaults ≡ length block_types = sym (length-map defaults view) ∙ ap length all ∙ length-map block_types (fallbacks_of items) in
+    omega (arith, slice_get_within block_types number block_type there, long)
+
 pub defaults_here : {V : Type 0} (view : V → List (List ℕ)) (items : List Item) (defaults : List V) (block_type : BlockType) (number : ℕ) (d : V)
     → map view defaults ≡ map (fallbacks_of items) block_types → number ≡ number_of block_type → view (get_or defaults number d) ≡ fallbacks_of items block_type
 defaults_here {V} view items defaults block_type number d all is =
     let there : slice_get block_types number ≡ Some block_type = ap (slice_get block_types) is ∙ type_here block_type in
-    let long : length defaults ≡ length block_types = sym (length-map defaults view) ∙ ap length all ∙ length-map block_types (fallbacks_of items) in
-    let below : number < length defaults = omega (arith, slice_get_within block_types number block_type there, long) in
+    let below = number_there view items defaults block_type number all is in
     same_Some (view (get_or defaults number d)) (fallbacks_of items block_type)
     (sym (slice_get-map view defaults number ∙ ap (option_map view) (slice_get-get_or defaults number d below))
     ∙ ap (λ (list : List (List (List ℕ))). slice_get list number) all

@@ -6,7 +6,7 @@ ghost use Rattle.std.specs.Prelude.{◌≡◌, map};
 ghost use Rattle.mdl_build.specs.Library.{row_of, parameters_of, number_of, type_name, type_of_name};
 
 /// A block type (Simulink reference, block library).
-#[derive(Clone, Copy, Debug, PartialEq, Eq)]
+#[derive(Clone, Copy)]
 pub enum BlockType {
     Inport,
     Outport,
@@ -30,7 +30,7 @@ pub enum BlockType {
 }
 
 /// How the value of a parameter is read, and which setting it gives (own).
-#[derive(Clone, Copy, Debug, PartialEq, Eq)]
+#[derive(Clone, Copy)]
 pub enum Reader {
     /// The default alone; it gives no setting.
     Default,
@@ -87,7 +87,7 @@ pub enum Reader {
 }
 
 /// A parameter of a block type: its name, its value where the model gives none, and how it is read.
-#[derive(Clone, Copy, Debug)]
+#[derive(Clone, Copy)]
 pub struct Parameter(&'static str, &'static str, Reader);
 
 impl Parameter {

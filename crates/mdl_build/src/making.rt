@@ -172,9 +172,9 @@ impl<'a> Maker<'a> {
         ensures { IfOk result (IsBlockAt (items_of self.now) place) }
     {
         let layout = &self.known.layout;
+        let name = Text::copy(alloc, text_or_empty(layout, place, b"Name"))?;
         let parent = parent(layout, &self.known.roles, place);
         let part = part_of(alloc, self.standing(place, parent), block_type, settings)?;
-        let name = Text::copy(alloc, text_or_empty(layout, place, b"Name"))?;
         Ok(NestedBlock {
             name,
             parent: self.number(parent),

@@ -6,12 +6,12 @@ ghost use Rattle.mdl_build.specs.Parts.{block_with, open_sizes, in_part, out_par
 use crate::library::BlockType;
 use crate::settings::{Said, Settings};
 use dg_model::{Block, Criterion, Decimals, Gate, Kind, Part, Path, Relation};
-use fx_io::{OutOfMemory, Sizes, Text};
+use fx_io::{Flags, OutOfMemory, Sizes, Text};
 use fx_type::{Decimal, TypeSpec};
 use std::alloc::Global;
 
 /// Where a block stands (own).
-#[derive(Clone, Copy, Debug, PartialEq, Eq)]
+#[derive(Clone, Copy)]
 pub enum Standing {
     /// In the System of the Model.
     Root,
@@ -77,6 +77,34 @@ fn out_part(standing: Standing, said: Said, initial: Decimals) -> Part
     Part::Out(block, number)
 }
 
+/// A constant.
+fn constant(value: Decimals) -> Kind
+    ensures { result ≡ Kind.Constant value }
+{
+    Kind::Constant { value }
+}
+
+/// A sum, of which these inputs are subtracted.
+fn sum(negative: Flags) -> Kind
+    ensures { result ≡ Kind.Sum negative }
+{
+    Kind::Sum { negative }
+}
+
+/// A list of all inputs.
+fn mux(sizes: Sizes) -> Kind
+    ensures { result ≡ Kind.Mux sizes }
+{
+    Kind::Mux { sizes }
+}
+
+/// A conversion of the input, or of its stored integer.
+fn convert(stored: bool) -> Kind
+    ensures { result ≡ Kind.Convert stored }
+{
+    Kind::Convert { stored }
+}
+
 /// A product of the input and a coefficient.
 fn gain(value: Decimals, param: TypeSpec) -> Kind
     ensures { result ≡ Kind.Gain value param }
@@ -126,6 +154,13 @@ fn rate_transition(period: Decimal, initial: Decimals) -> Kind
     Kind::RateTransition { period, initial }
 }
 
+/// The part of a block that is no port of a subsystem.
+fn plain(said: Said, kind: Kind, inputs: u32, outputs: u32) -> Part
+    ensures { result ≡ Part.Plain (block_with said kind inputs outputs) }
+{
+    Part::Plain(block_with(said, kind, inputs, outputs))
+}
+
 /// The part of a block of a type, by what its parameters say.
 pub fn part_of(
     alloc: Global,
@@ -135,36 +170,40 @@ pub fn part_of(
 ) -> Result<Part, OutOfMemory>
     ensures { IfOk result (λ part. part ≡ part_of standing block_type settings) }
 {
-    let Settings {
-        said,
-        list,
-        signs,
-        sizes,
-    } = settings;
+    let said = settings.said;
     let number = said.number;
-    let (kind, inputs, outputs) = match block_type {
-        BlockType::Inport => return Ok(in_part(standing, said)),
-        BlockType::Outport => return Ok(out_part(standing, said, list)),
-        BlockType::SubSystem => return Ok(Part::SubSystem),
-        BlockType::EnablePort => return Ok(Part::Enable { reset: said.flag }),
-        BlockType::Constant => (Kind::Constant { value: list }, 0, 1),
-        BlockType::Ground => (Kind::Ground, 0, 1),
-        BlockType::Terminator => (Kind::Terminator, 1, 0),
-        BlockType::Sum => (Kind::Sum { negative: signs }, number, 1),
-        BlockType::Gain => (gain(list, said.coefficient), 1, 1),
-        BlockType::Product => (Kind::Product, 2, 1),
-        BlockType::UnitDelay => (delay(1, list), 1, 1),
-        BlockType::Delay => (delay(number, list), 1, 1),
-        BlockType::Switch => (switch(said.criterion, list), 3, 1),
-        BlockType::RelationalOperator => (relational(said.relation), 2, 1),
-        BlockType::Logic => (logic(said.gate), number, 1),
-        BlockType::DataTypeConversion => (Kind::Convert { stored: said.flag }, 1, 1),
-        BlockType::Mux => (Kind::Mux { sizes }, number, 1),
-        BlockType::Demux => {
-            let sizes = open_sizes(alloc, number, sizes)?;
-            (Kind::Demux { sizes }, 1, number)
+    let part = match block_type {
+        BlockType::Inport => in_part(standing, settings.into_said()),
+        BlockType::Outport => out_part(standing, said, settings.into_list()),
+        BlockType::SubSystem => {
+            drop(settings);
+            Part::SubSystem
         }
-        BlockType::RateTransition => (rate_transition(said.rate, list), 1, 1),
+        BlockType::EnablePort => Part::Enable {
+            reset: settings.into_said().flag,
+        },
+        BlockType::Constant => plain(said, constant(settings.into_list()), 0, 1),
+        BlockType::Ground => plain(settings.into_said(), Kind::Ground, 0, 1),
+        BlockType::Terminator => plain(settings.into_said(), Kind::Terminator, 1, 0),
+        BlockType::Sum => plain(said, sum(settings.into_signs()), number, 1),
+        BlockType::Gain => plain(said, gain(settings.into_list(), said.coefficient), 1, 1),
+        BlockType::Product => plain(settings.into_said(), Kind::Product, 2, 1),
+        BlockType::UnitDelay => plain(said, delay(1, settings.into_list()), 1, 1),
+        BlockType::Delay => plain(said, delay(number, settings.into_list()), 1, 1),
+        BlockType::Switch => plain(said, switch(said.criterion, settings.into_list()), 3, 1),
+        BlockType::RelationalOperator => {
+            plain(settings.into_said(), relational(said.relation), 2, 1)
+        }
+        BlockType::Logic => plain(settings.into_said(), logic(said.gate), number, 1),
+        BlockType::DataTypeConversion => { plain(settings.into_said(), convert(said.flag), 1, 1) }
+        BlockType::Mux => plain(said, mux(settings.into_sizes()), number, 1),
+        BlockType::Demux => {
+            let sizes = open_sizes(alloc, number, settings.into_sizes())?;
+            plain(said, Kind::Demux { sizes }, 1, number)
+        }
+        BlockType::RateTransition => {
+            plain(said, rate_transition(said.rate, settings.into_list()), 1, 1)
+        }
     };
-    Ok(Part::Plain(block_with(said, kind, inputs, outputs)))
+    Ok(part)
 }

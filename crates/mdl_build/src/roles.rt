@@ -8,7 +8,7 @@ use fx_io::OutOfMemory;
 use std::alloc::Global;
 
 /// What an item is (own).
-#[derive(Clone, Copy, Debug, PartialEq, Eq)]
+#[derive(Clone, Copy)]
 pub enum Role {
     /// Nothing that is looked at.
     Other,

@@ -7,7 +7,7 @@ use fx_type::{Decimal, Rounding, TypeSpec};
 use std::alloc::Global;
 
 /// What the value of a parameter says (own).
-#[derive(Debug, Drop)]
+#[derive(Drop)]
 pub enum Setting {
     /// Nothing that is kept.
     Unsaid,
@@ -45,7 +45,7 @@ pub enum Setting {
 
 /// What the parameters of a block say, but for its lists. One that its type doesn't have says nothing
 /// (own).
-#[derive(Clone, Copy, Debug)]
+#[derive(Clone, Copy)]
 pub struct Said {
     /// A port's number, a length, or a number of inputs or parts.
     pub number: u32,
@@ -74,7 +74,7 @@ pub struct Said {
 }
 
 /// What the parameters of a block say, with its lists (own).
-#[derive(Debug, Drop)]
+#[derive(Drop)]
 pub struct Settings {
     /// All but the lists.
     pub said: Said,
@@ -119,6 +119,67 @@ impl Settings {
             signs: Flags::new(alloc),
             sizes: Sizes::new(alloc),
         }
+    }
+
+    /// All but the lists.
+    pub fn into_said(self) -> Said
+        ensures { result ≡ self.said }
+    {
+        let Settings {
+            said,
+            list,
+            signs,
+            sizes,
+        } = self;
+        drop(list);
+        drop(signs);
+        drop(sizes);
+        said
+    }
+
+    /// The value of each element.
+    pub fn into_list(self) -> Decimals
+        ensures { result ≡ self.list }
+    {
+        let Settings {
+            said: _said,
+            list,
+            signs,
+            sizes,
+        } = self;
+        drop(signs);
+        drop(sizes);
+        list
+    }
+
+    /// Of each input, whether it is subtracted.
+    pub fn into_signs(self) -> Flags
+        ensures { result ≡ self.signs }
+    {
+        let Settings {
+            said: _said,
+            list,
+            signs,
+            sizes,
+        } = self;
+        drop(list);
+        drop(sizes);
+        signs
+    }
+
+    /// The sizes of the parts.
+    pub fn into_sizes(self) -> Sizes
+        ensures { result ≡ self.sizes }
+    {
+        let Settings {
+            said: _said,
+            list,
+            signs,
+            sizes,
+        } = self;
+        drop(list);
+        drop(signs);
+        sizes
     }
 
     /// Puts what one parameter says in its place.
