@@ -1,19 +1,23 @@
 //! What drives each net.
-ghost use Rattle.std.specs.Prelude.{◌≡◌, ◌++◌, ◌<◌, ◌-◌, ◌*◌, ℕ, true, false, length, get_or};
-ghost use Rattle.std.specs.Prelude.{IfOk, OnOk, Some, None};
-ghost use Rattle.vl_ast.specs.Gated.{gated_condition};
+ghost use Rattle.std.specs.Prelude.{◌≡◌, ◌++◌, ◌<◌, ℕ, true, false, length, get_or, IfOk, OnOk};
+ghost use Rattle.vl_ast.specs.declared.expressions.BinOp.TheVariants.{Subtract};
+ghost use Rattle.vl_ast.specs.declared.expressions.Expr.TheVariants.{Name, Literal, Binary, Choose};
 ghost use Rattle.hw_net.specs.declared.netlist.NetOp.TheVariants.{Input};
 ghost use Rattle.hw_net.specs.declared.netlist.NetKind.TheVariants.{Comb, Reg, EnReg, Bridge};
 ghost use Rattle.hw_net.specs.declared.netlist.NetKind.TheVariants.{Unit, Counter};
 ghost use Rattle.vl_emit.specs.inner.Ready.{IsSource, IsReady, IsTimed, IsDriver, circuit_of};
-ghost use Rattle.vl_emit.specs.inner.Ready.{net_count, input_count, cycles_in, value_in, bridge_in};
-ghost use Rattle.vl_emit.specs.inner.Ready.{argument_in, input_in, counter_in, slot_in, live_in};
+ghost use Rattle.vl_emit.specs.inner.Ready.{net_count, input_count, value_in, bridge_in};
+ghost use Rattle.vl_emit.specs.inner.Ready.{argument_in, input_in, wire_in, live_in};
+ghost use Rattle.vl_emit.specs.inner.Emitted.{plain_number};
+ghost use Rattle.vl_emit.specs.inner.Operators.{test_of};
+ghost use Rattle.vl_emit.specs.Names.{hold_name};
 ghost use Rattle.vl_emit.specs.inner.Spoken.{wire_at, CanBeWritten};
 
-use crate::operands::{Operand, hold_text, named, text_of, zeros};
-use crate::operators::{binary, choose, constant, expression, in_width, plain, test_of};
+use crate::conditions::{clocks, enable_text, enabled, last_slot, live_test, slot_test, taking};
+use crate::operands::{Operand, hold_text, named, text_of};
+use crate::operators::{binary, constant, expression, in_width, plain, test_of};
 use crate::source::{Source, input_operand, operand};
-use fx_io::{Boxed, OutOfMemory, Text};
+use fx_io::{Boxed, OutOfMemory};
 use hw_net::{Frame, NetOp};
 use std::alloc::Global;
 use vl_ast::{BinOp, Expr, ModItem, ModItems, Sized};
@@ -109,68 +113,23 @@ pub fn unit_item(
     Ok(ModItem::Assign { name, value })
 }
 
-/// How many clocks a frame has.
-fn clocks(source: Source, frame: Frame) -> u64
-    ensures { result ≡ frame.period * cycles_in source.entry }
+/// What a Counter takes: one less than it has, and the greatest after 0.
+fn counted(alloc: Global, net: Operand, greatest: Sized) -> Result<Expr, OutOfMemory>
+    requires { CanBeWritten net }
+    ensures { IfOk result (λ e. e ≡ Choose (test_of (wire_at net.entry))
+        (Binary Subtract (Name (wire_at net.entry).name) (Literal (plain_number net.entry.width 1)))
+        (Literal greatest)) }
 {
-    u64::from(frame.period) * u64::from(source.netlist.cycles())
-}
-
-/// The Counter of a frame.
-fn counter<'a>(source: Source<'a>, frame: Frame) -> Operand<'a>
-    requires source { IsSource source }
-    requires timed { IsTimed (circuit_of source) frame }
-    ensures wire { wire_at result ≡ counter_in source.entry frame }
-    ensures word { CanBeWritten result }
-{
-    let number = source.netlist.counter_of(frame).unwrap();
-    operand(source, number as usize)
-}
-
-/// Whether the clock is that of a slot of the frame.
-fn slot_test(alloc: Global, source: Source, frame: Frame, slot: u64) -> Result<Expr, OutOfMemory>
-    requires source { IsSource source }
-    requires timed { IsTimed (circuit_of source) frame }
-    ensures { IfOk result (λ e. e ≡ slot_in source.entry frame slot) }
-{
-    let clocks = clocks(source, frame);
-    if clocks <= slot {
-        return Ok(zeros(1));
-    }
-    let counter = counter(source, frame);
-    let name = named(alloc, counter)?;
-    let number = Expr::Literal(plain(counter.width, u128::from(clocks - 1 - slot)));
-    binary(alloc, BinOp::Equal, name, number)
-}
-
-/// Whether the clock is before a frame or among its first `live` base samples.
-fn live_test(alloc: Global, source: Source, frame: Frame, live: u32) -> Result<Expr, OutOfMemory>
-    requires source { IsSource source }
-    requires timed { IsTimed (circuit_of source) frame }
-    ensures { IfOk result (λ e. e ≡ live_in source.entry frame live) }
-{
-    let left = u64::from(frame.period.saturating_sub(live));
-    let bound = left * u64::from(source.netlist.cycles());
-    let counter = counter(source, frame);
-    let name = named(alloc, counter)?;
-    let number = Expr::Literal(plain(counter.width, u128::from(bound)));
-    binary(alloc, BinOp::GreaterEqual, name, number)
-}
-
-/// The name of the clock enable.
-pub fn enable(alloc: Global) -> Result<Expr, OutOfMemory>
-    ensures { IfOk result (λ e. e ≡ gated_condition None) }
-{
-    Ok(Expr::Name(Text::copy(alloc, b"clk_enable")?))
-}
-
-/// A condition of a register, with the clock enable before it.
-fn enabled(alloc: Global, condition: Expr) -> Result<Expr, OutOfMemory>
-    ensures { IfOk result (λ e. e ≡ gated_condition (Some condition)) }
-{
-    let condition = Boxed::new(alloc, condition)?;
-    let enable = Boxed::new(alloc, enable(alloc)?)?;
-    Ok(Expr::Binary(BinOp::Both, enable, condition))
+    let test = Boxed::new(alloc, test_of(alloc, net)?)?;
+    let name = named(alloc, net)?;
+    let less = binary(
+        alloc,
+        BinOp::Subtract,
+        name,
+        Expr::Literal(plain(net.width, 1)),
+    )?;
+    let less = Boxed::new(alloc, less)?;
+    Ok(Expr::Choose(test, less, Boxed::new(alloc, Expr::Literal(greatest))?))
 }
 
 /// The item of a Counter.
@@ -189,15 +148,13 @@ pub fn counter_item(
     let top = u128::from(clocks(source, frame) - 1);
     let start = u128::from(frame.latency) * u128::from(source.netlist.cycles());
     let name = text_of(alloc, net.called)?;
-    let test = test_of(alloc, net)?;
-    let one = Expr::Literal(plain(net.width, 1));
-    let less = binary(alloc, BinOp::Subtract, named(alloc, net)?, one)?;
-    let counting = enable(alloc)?;
+    let counting = enable_text(alloc)?;
+    let value = counted(alloc, net, plain(net.width, top))?;
     Ok(ModItem::Always {
         name,
         first: plain(net.width, start + top),
-        condition: Some(counting),
-        value: choose(alloc, test, less, Expr::Literal(plain(net.width, top)))?,
+        condition: Some(Expr::Name(counting)),
+        value,
     })
 }
 
@@ -218,13 +175,33 @@ pub fn reg_item(
 {
     let net = &source.netlist.nets()[own];
     let name = text_of(alloc, operand(source, own).called)?;
+    let taken = text_of(alloc, operand(source, from as usize).called)?;
     let test = slot_test(alloc, source, frame, u64::from(slot))?;
     Ok(ModItem::Always {
         name,
         first: constant(net.width, net.signed, first),
         condition: Some(enabled(alloc, test)?),
-        value: named(alloc, operand(source, from as usize))?,
+        value: Expr::Name(taken),
     })
+}
+
+/// What a register takes that begins anew: the value of a net where `enable` isn't 0, else `begun`.
+fn renewed(
+    alloc: Global,
+    source: Source,
+    enable: u32,
+    from: u32,
+    begun: Sized,
+) -> Result<Expr, OutOfMemory>
+    requires source { IsSource source }
+    requires enable { enable < net_count source }
+    requires from { from < net_count source }
+    ensures { IfOk result (λ e. e ≡ Choose (test_of (wire_in source.entry enable))
+        (Name (wire_in source.entry from).name) (Literal begun)) }
+{
+    let test = Boxed::new(alloc, test_of(alloc, operand(source, enable as usize))?)?;
+    let taken = Boxed::new(alloc, named(alloc, operand(source, from as usize))?)?;
+    Ok(Expr::Choose(test, taken, Boxed::new(alloc, Expr::Literal(begun))?))
 }
 
 /// The item of a register with enable that begins anew where `enable` is 0.
@@ -245,15 +222,15 @@ pub fn reset_item(
     let net = &source.netlist.nets()[own];
     let begun = constant(net.width, net.signed, first);
     let name = text_of(alloc, operand(source, own).called)?;
-    let slot = last_slot(source, frame);
-    let condition = slot_test(alloc, source, frame, slot)?;
-    let test = test_of(alloc, operand(source, enable as usize))?;
-    let taken = named(alloc, operand(source, from as usize))?;
+    let test = slot_test(alloc, source, frame, last_slot(source, frame))?;
+    let test = Boxed::new(alloc, test)?;
+    let counting = Boxed::new(alloc, Expr::Name(enable_text(alloc)?))?;
+    let value = renewed(alloc, source, enable, from, begun)?;
     Ok(ModItem::Always {
         name,
         first: begun,
-        condition: Some(enabled(alloc, condition)?),
-        value: choose(alloc, test, taken, Expr::Literal(begun))?,
+        condition: Some(Expr::Binary(BinOp::Both, counting, test)),
+        value,
     })
 }
 
@@ -274,25 +251,35 @@ pub fn held_item(
 {
     let net = &source.netlist.nets()[own];
     let name = text_of(alloc, operand(source, own).called)?;
-    let slot = last_slot(source, frame);
-    let taking = slot_test(alloc, source, frame, slot)?;
-    let test = test_of(alloc, operand(source, enable as usize))?;
-    let condition = binary(alloc, BinOp::Both, taking, test)?;
+    let taken = text_of(alloc, operand(source, from as usize).called)?;
+    let condition = taking(alloc, source, frame, enable)?;
     Ok(ModItem::Always {
         name,
         first: constant(net.width, net.signed, first),
         condition: Some(enabled(alloc, condition)?),
-        value: named(alloc, operand(source, from as usize))?,
+        value: Expr::Name(taken),
     })
 }
 
-/// The last slot of a frame.
-fn last_slot(source: Source, frame: Frame) -> u64
-    requires period { 0 < frame.period }
+/// What a bridge shows: another net where it is live, else what its register holds.
+fn bridged(
+    alloc: Global,
+    source: Source,
+    own: usize,
+    frame: Frame,
+    live: u32,
+    from: u32,
+) -> Result<Expr, OutOfMemory>
     requires source { IsSource source }
-    ensures { result ≡ frame.period * cycles_in source.entry - 1 }
+    requires timed { IsTimed (circuit_of source) frame }
+    requires from { from < net_count source }
+    ensures { IfOk result (λ e. e ≡ Choose (live_in source.entry frame live)
+        (Name (wire_in source.entry from).name) (Name (hold_name own))) }
 {
-    clocks(source, frame) - 1
+    let test = Boxed::new(alloc, live_test(alloc, source, frame, live)?)?;
+    let passed = Boxed::new(alloc, named(alloc, operand(source, from as usize))?)?;
+    let held = Expr::Name(hold_text(alloc, own)?);
+    Ok(Expr::Choose(test, passed, Boxed::new(alloc, held)?))
 }
 
 /// Puts the items of a bridge behind the others: its wire, and the register that holds its value.
@@ -311,17 +298,16 @@ pub fn put_bridge(
     ensures { OnOk result (items.new ≡ items.old ++ bridge_in source.entry own frame live from) }
 {
     let net = operand(source, own);
-    let test = live_test(alloc, source, frame, live)?;
-    let passed = named(alloc, operand(source, from as usize))?;
-    let held = Expr::Name(hold_text(alloc, own)?);
-    items.push(ModItem::Assign {
-        name: text_of(alloc, net.called)?,
-        value: choose(alloc, test, passed, held)?,
-    })?;
+    let name = text_of(alloc, net.called)?;
+    let value = bridged(alloc, source, own, frame, live, from)?;
+    items.push(ModItem::Assign { name, value })?;
+    let name = hold_text(alloc, own)?;
+    let shown = text_of(alloc, net.called)?;
+    let counting = enable_text(alloc)?;
     items.push(ModItem::Always {
-        name: hold_text(alloc, own)?,
+        name,
         first: plain(net.width, 0),
-        condition: Some(enable(alloc)?),
-        value: named(alloc, net)?,
+        condition: Some(Expr::Name(counting)),
+        value: Expr::Name(shown),
     })
 }

@@ -7,8 +7,9 @@ ghost use Rattle.vl_emit.specs.inner.Ready.{IsSource, circuit_of, net_count};
 ghost use Rattle.vl_emit.specs.inner.Ready.{declarers_in, units_in, others_in};
 ghost use Rattle.vl_emit.specs.inner.Ready.{all_declared, all_units, all_others, all_shown};
 
+use crate::conditions::enable;
 use crate::driving::{
-    comb_item, counter_item, enable, held_item, put_bridge, reg_item, reset_item, unit_item,
+    comb_item, counter_item, held_item, put_bridge, reg_item, reset_item, unit_item,
 };
 use crate::operands::{hold_text, named, text_of};
 use crate::source::{Source, operand};

@@ -8,6 +8,7 @@
 //! which items there are, and what becomes of labels. It breaks none of the conditions of `vl_ast`.
 #![tactic(auto)]
 
+mod conditions;
 mod driving;
 mod emission;
 mod header;

@@ -1,6 +1,6 @@
 ghost use Rattle.std.specs.Prelude.{◌≡◌, ◌+◌, ◌-◌, ◌*◌, ◌≤◌, ◌<◌, ◌^◌, false, IfOk};
 ghost use Rattle.fx_num.specs.Word.{IsWord};
-ghost use Rattle.vl_ast.specs.declared.expressions.Expr.TheVariants.{Unary, Binary, Choose};
+ghost use Rattle.vl_ast.specs.declared.expressions.Expr.TheVariants.{Unary, Binary};
 ghost use Rattle.hw_net.specs.declared.netlist.NetOp.TheVariants.{Less, Equal};
 ghost use Rattle.vl_emit.specs.inner.Operators.{compared, widened, signed_width, common_width};
 ghost use Rattle.vl_emit.specs.inner.Operators.{test_of, slice_at, shifted_up};
@@ -149,15 +149,6 @@ fn equal(alloc: Global, left: Operand, right: Operand, width: u32) -> Result<Exp
 {
     let bit = in_width(alloc, BinOp::Equal, left, right, common_width(left, right))?;
     widened(alloc, width, bit)
-}
-
-/// `test ? chosen : other`
-pub fn choose(alloc: Global, test: Expr, chosen: Expr, other: Expr) -> Result<Expr, OutOfMemory>
-    ensures { IfOk result (λ e. e ≡ Choose test chosen other) }
-{
-    let test = Boxed::new(alloc, test)?;
-    let chosen = Boxed::new(alloc, chosen)?;
-    Ok(Expr::Choose(test, chosen, Boxed::new(alloc, other)?))
 }
 
 fn choice(

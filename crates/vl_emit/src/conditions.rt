@@ -1,0 +1,122 @@
+//! When registers take their values.
+ghost use Rattle.std.specs.Prelude.{◌≡◌, ◌<◌, ◌-◌, ◌*◌, codes, IfOk, Some, None};
+ghost use Rattle.vl_ast.specs.Gated.{gated_condition};
+ghost use Rattle.vl_ast.specs.declared.expressions.BinOp.TheVariants.{Both};
+ghost use Rattle.vl_ast.specs.declared.expressions.Expr.TheVariants.{Binary};
+ghost use Rattle.vl_emit.specs.inner.Operators.{test_of};
+ghost use Rattle.vl_emit.specs.inner.Ready.{IsSource, IsTimed, circuit_of, net_count, cycles_in};
+ghost use Rattle.vl_emit.specs.inner.Ready.{wire_in, counter_in, slot_in, live_in};
+ghost use Rattle.vl_emit.specs.inner.Spoken.{wire_at, CanBeWritten};
+
+use crate::operands::{Operand, named, zeros};
+use crate::operators::{binary, plain, test_of};
+use crate::source::{Source, operand};
+use fx_io::{Boxed, OutOfMemory, Text};
+use hw_net::Frame;
+use std::alloc::Global;
+use vl_ast::{BinOp, Expr};
+
+/// How many clocks a frame has.
+pub fn clocks(source: Source, frame: Frame) -> u64
+    ensures { result ≡ frame.period * cycles_in source.entry }
+{
+    u64::from(frame.period) * u64::from(source.netlist.cycles())
+}
+
+/// The Counter of a frame.
+fn counter<'a>(source: Source<'a>, frame: Frame) -> Operand<'a>
+    requires source { IsSource source }
+    requires timed { IsTimed (circuit_of source) frame }
+    ensures wire { wire_at result ≡ counter_in source.entry frame }
+    ensures word { CanBeWritten result }
+{
+    let number = source.netlist.counter_of(frame).unwrap();
+    operand(source, number as usize)
+}
+
+/// Whether the clock is that of a slot of the frame.
+pub fn slot_test(
+    alloc: Global,
+    source: Source,
+    frame: Frame,
+    slot: u64,
+) -> Result<Expr, OutOfMemory>
+    requires source { IsSource source }
+    requires timed { IsTimed (circuit_of source) frame }
+    ensures { IfOk result (λ e. e ≡ slot_in source.entry frame slot) }
+{
+    let clocks = clocks(source, frame);
+    if clocks <= slot {
+        return Ok(zeros(1));
+    }
+    let counter = counter(source, frame);
+    let name = named(alloc, counter)?;
+    let number = Expr::Literal(plain(counter.width, u128::from(clocks - 1 - slot)));
+    binary(alloc, BinOp::Equal, name, number)
+}
+
+/// Whether the clock is before a frame or among its first `live` base samples.
+pub fn live_test(
+    alloc: Global,
+    source: Source,
+    frame: Frame,
+    live: u32,
+) -> Result<Expr, OutOfMemory>
+    requires source { IsSource source }
+    requires timed { IsTimed (circuit_of source) frame }
+    ensures { IfOk result (λ e. e ≡ live_in source.entry frame live) }
+{
+    let left = u64::from(frame.period.saturating_sub(live));
+    let bound = left * u64::from(source.netlist.cycles());
+    let counter = counter(source, frame);
+    let name = named(alloc, counter)?;
+    let number = Expr::Literal(plain(counter.width, u128::from(bound)));
+    binary(alloc, BinOp::GreaterEqual, name, number)
+}
+
+/// The name of the clock enable as a text.
+pub fn enable_text(alloc: Global) -> Result<Text, OutOfMemory>
+    ensures { IfOk result (λ text. text ≡ codes "clk_enable") }
+{
+    Text::copy(alloc, b"clk_enable")
+}
+
+/// The name of the clock enable.
+pub fn enable(alloc: Global) -> Result<Expr, OutOfMemory>
+    ensures { IfOk result (λ e. e ≡ gated_condition None) }
+{
+    Ok(Expr::Name(enable_text(alloc)?))
+}
+
+/// A condition of a register, with the clock enable before it.
+pub fn enabled(alloc: Global, condition: Expr) -> Result<Expr, OutOfMemory>
+    ensures { IfOk result (λ e. e ≡ gated_condition (Some condition)) }
+{
+    let condition = Boxed::new(alloc, condition)?;
+    let enable = Boxed::new(alloc, enable(alloc)?)?;
+    Ok(Expr::Binary(BinOp::Both, enable, condition))
+}
+
+/// The last slot of a frame.
+pub fn last_slot(source: Source, frame: Frame) -> u64
+    requires period { 0 < frame.period }
+    requires source { IsSource source }
+    ensures { result ≡ frame.period * cycles_in source.entry - 1 }
+{
+    clocks(source, frame) - 1
+}
+
+/// Whether the clock is that of the last slot of the frame, and `enable` isn't 0.
+pub fn taking(alloc: Global, source: Source, frame: Frame, enable: u32) -> Result<Expr, OutOfMemory>
+    requires source { IsSource source }
+    requires timed { IsTimed (circuit_of source) frame }
+    requires enable { enable < net_count source }
+    ensures { IfOk result (λ e. e ≡ Binary Both
+        (slot_in source.entry frame (frame.period * cycles_in source.entry - 1))
+        (test_of (wire_in source.entry enable))) }
+{
+    let last = slot_test(alloc, source, frame, last_slot(source, frame))?;
+    let last = Boxed::new(alloc, last)?;
+    let test = Boxed::new(alloc, test_of(alloc, operand(source, enable as usize))?)?;
+    Ok(Expr::Binary(BinOp::Both, last, test))
+}
