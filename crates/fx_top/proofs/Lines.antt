@@ -1,11 +1,15 @@
 -- A response that is put line by line.
-use Rattle.std.proofs.Common.{◌≡◌, ◌<◌, ◌≤◌, ⊎_elim, ℕ, ℤ, zero, suc, List, [], ◌++◌, Option, ap, sym, subst, ◌∙◌, append_assoc, append-nil, arith}
+use Rattle.std.proofs.Common.{◌≡◌, ◌<◌, ◌≤◌, ◌+◌, ⊎_elim, ℕ, ℤ, zero, suc, List, [], ◌++◌, Option, ap, sym, subst, ◌∙◌, append_assoc, append-nil, arith}
+use Rattle.std.proofs.Math.Numerals.{suc-eq-add-one}
 use Rattle.std.proofs.lemmas.Bool.{cases_lt}
 use Rattle.fx_io.specs.Sink.{TookProperPrefix, also_took}
 use Rattle.fx_tables.specs.Response.{response, response_line}
 use Rattle.fx_top.proofs.Sayings.{took-more}
 
 module _ (periods : List ℕ) (row : ℕ → List ℤ) where
+  pub one-line-more : (t : ℕ) → response periods row t ++ response_line periods t (row t) ≡ response periods row (t + 1)
+  one-line-more t = ap (response periods row) (suc-eq-add-one t)
+
   -- the lines of the first samples stand first
   pub record Front (t samples : ℕ) : Type 0 where
     pub rest : List ℕ

@@ -1,5 +1,5 @@
--- What a filled replay and the writer of its lines are.
-use Rattle.std.proofs.Common.{◌≡◌, ◌<◌, ℕ, List, [], ◌∷◌, length, map, refl, sym, ap, subst, ◌∙◌}
+-- What a replay before its first sample and the writer of its lines are.
+use Rattle.std.proofs.Common.{◌≡◌, ℕ, ℤ, List, [], ◌∷◌, length, map, refl, sym, ap, subst, ◌∙◌}
 use Rattle.std.proofs.lemmas.List.{length-map}
 use Rattle.fx_tables.specs.declared.row_text.RowText.{RowText}
 use Rattle.fx_tables.specs.declared.table.Column.{Column}
@@ -11,35 +11,45 @@ use Rattle.vl_ast.specs.declared.modules.Port.{Port}
 use Rattle.vl_ast.specs.declared.modules.Module.{Module}
 use Rattle.vl_ast.specs.Driven.{output_ports, stimulus_ports}
 use Rattle.vl_ast.specs.Attributes.{step_of}
+use Rattle.vl_ast.specs.Windows.{Sample}
 use Rattle.vl_replay.specs.declared.replay.Replay.{Replay}
 use Rattle.vl_replay.specs.Columns.{columns_of}
-use Rattle.vl_replay.specs.Replays.{HasRoom, stimulus_of, table_of}
+use Rattle.vl_replay.specs.Replays.{StandsBefore, module_of, stimulus_of}
 use Rattle.vl_replay.specs.Sampled.{Sampled, numbers_of}
 use Rattle.fx_top.specs.Replayed.{IsSoundText}
-use Rattle.fx_top.specs.inner.Responding.{IsResponseTo}
+use Rattle.fx_top.specs.inner.Responding.{IsResponseTo, IsTableOf}
 
 periods-are : (ports : List Port) → map (λ (column : Column). column.period) (columns_of ports) ≡ map step_of ports
 periods-are [] = refl
 periods-are (port ∷ ports) = ap (λ periods. step_of port ∷ periods) (periods-are ports)
 
-pub responds : (verilog stimulus : List ℕ) (m : Module) (rows : Table) (inputs outputs : List Column) (count samples : ℕ) (replay : Replay) (text : RowText)
+pub responds : (verilog stimulus : List ℕ) (m : Module) (rows : Table) (inputs outputs : List Column) (count samples : ℕ) (replay : Replay) (text : RowText) (table : Sample → List ℤ)
     → IsSoundText verilog m → inputs ≡ columns_of (stimulus_ports m) → outputs ≡ columns_of (output_ports m) → count ≡ length outputs → IsRows inputs count stimulus rows → samples ≡ rows.lines
-    → periods_of text ≡ map (λ (column : Column). column.period) outputs → HasRoom replay → stimulus_of replay ≡ rows → Sampled m (numbers_of rows) rows.lines (table_of replay)
+    → periods_of text ≡ map (λ (column : Column). column.period) outputs → StandsBefore replay 0 → module_of replay ≡ m → stimulus_of replay ≡ rows → Sampled m (numbers_of rows) rows.lines table
     → IsResponseTo verilog stimulus (record { samples = samples; replay = replay; text = text })
-responds verilog stimulus m rows inputs outputs count samples replay text sound ins outs many are lines periods room of sampled =
+responds verilog stimulus m rows inputs outputs count samples replay text table sound ins outs many are lines periods stands made of sampled =
     let number : count ≡ length (output_ports m) = many ∙ ap length outs ∙ length-map (output_ports m) _ in
     let steps : periods_of text ≡ map step_of (output_ports m) = periods ∙ ap (λ columns. map (λ (column : Column). column.period) columns) outs ∙ periods-are (output_ports m) in
     record {
-      room = room;
+      stands = stands;
       samples = lines ∙ ap (λ (table : Table). table.lines) (sym of);
-      wide = λ t below. sampled.long t (subst (λ n. t < n) lines below) ∙ sym (ap length steps ∙ length-map (output_ports m) step_of);
+      wide = ap (λ (n : Module). length (output_ports n)) made ∙ sym (ap length steps ∙ length-map (output_ports m) step_of);
+      table = table;
+      sampled = subst (λ (n : Module). Sampled n (numbers_of (stimulus_of replay)) (stimulus_of replay).lines table) (sym made)
+          (subst (λ (rows : Table). Sampled m (numbers_of rows) rows.lines table) (sym of) sampled);
       replay = record {
         made = m;
         spelled = sound;
         rows = rows;
         rows_are = subst (λ columns. IsRows columns (length (output_ports m)) stimulus rows) ins (subst (λ n. IsRows inputs n stimulus rows) number are);
-        table = table_of replay;
+        table = table;
         sampled = sampled;
-        text_is = ap (λ p. response p (table_of replay) samples) steps ∙ ap (response (map step_of (output_ports m)) (table_of replay)) lines;
+        text_is = ap (λ p. response p table samples) steps ∙ ap (response (map step_of (output_ports m)) table) lines;
       };
     }
+
+-- a replay of the same module under the same stimulus has the same table
+pub moved-table : (one other : Replay) (table : Sample → List ℤ) → module_of one ≡ module_of other → stimulus_of one ≡ stimulus_of other → IsTableOf other table → IsTableOf one table
+moved-table one other table made of is =
+    subst (λ (m : Module). Sampled m (numbers_of (stimulus_of one)) (stimulus_of one).lines table) (sym made)
+    (subst (λ (rows : Table). Sampled (module_of other) (numbers_of rows) rows.lines table) (sym of) is)

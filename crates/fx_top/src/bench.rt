@@ -83,9 +83,9 @@ fn replayed_text(
     };
     let Response {
         samples,
-        replay,
+        mut replay,
         mut text,
     } = response;
-    let lines = response_text(alloc, &replay, &mut text, samples)?;
+    let lines = response_text(alloc, &mut replay, &mut text, samples)?;
     Ok(Some(lines))
 }

@@ -56,10 +56,10 @@ pub fn replay<'a, S: Shelf, K: Sink>(
     };
     let Response {
         samples,
-        replay,
+        mut replay,
         mut text,
     } = response;
-    match write_lines(&replay, &mut text, samples, out) {
+    match write_lines(&mut replay, &mut text, samples, out) {
         Ok(()) => Answer::Done,
         Err(_) => Answer::CannotWrite,
     }

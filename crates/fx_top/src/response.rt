@@ -1,13 +1,15 @@
-ghost use Rattle.std.specs.Prelude.{◌≡◌, ◌<◌, ℕ, Err, IfOk, OnErr, OnOk, is_some, length};
+ghost use Rattle.std.specs.Prelude.{◌≡◌, ℕ, ℤ, Err, IfOk, List, OnErr, OnOk, is_some, length};
 ghost use Rattle.fx_io.specs.Cause.{Rose};
 ghost use Rattle.fx_io.specs.Sink.{TookProperPrefix, also_took};
 ghost use Rattle.fx_tables.specs.Response.{response};
 ghost use Rattle.fx_tables.specs.RowText.{periods_of};
 ghost use Rattle.fx_tables.specs.declared.table.TableCause.{TableCause as CauseOf};
+ghost use Rattle.vl_ast.specs.Driven.{output_ports};
+ghost use Rattle.vl_ast.specs.Windows.{Sample};
 ghost use Rattle.vl_check.specs.declared.fault.VlFault.{VlFault as FaultOf};
 ghost use Rattle.fx_top.specs.Replayed.{IsBadStimulus, IsBroken, IsNotVerilog, condition_of};
-ghost use Rattle.fx_top.specs.inner.Responding.{IsMachineOf, IsResponseTo};
-ghost use Rattle.vl_replay.specs.Replays.{HasRoom, stimulus_of, table_of};
+ghost use Rattle.fx_top.specs.inner.Responding.{IsMachineOf, IsResponseTo, IsTableOf};
+ghost use Rattle.vl_replay.specs.Replays.{StandsBefore, module_of, stimulus_of};
 
 use fx_io::{OutOfMemory, PutFault, Sink, Text, put_all};
 use fx_tables::{RowText, TableCause, TableFault, read_rows};
@@ -15,7 +17,7 @@ use std::alloc::Global;
 use vl_check::VlFault;
 use vl_eval::Machine;
 use vl_read::VlSyntax;
-use vl_replay::{PortColumns, Replay, columns};
+use vl_replay::{PortColumns, Replay, columns, some_response};
 
 /// Why a Verilog text has no response to a stimulus.
 #[derive(Drop)]
@@ -41,7 +43,7 @@ impl From<OutOfMemory> for ReplayFault {
     }
 }
 
-/// A replay that is filled, and the writer of its lines.
+/// A replay that stands before its first sample, and the writer of its lines.
 #[derive(Drop)]
 pub struct Response {
     pub samples: u64,
@@ -117,8 +119,8 @@ pub fn response_of(alloc: Global, verilog: &[u8], stimulus: &[u8]) -> Result<Res
     };
     let samples = rows.count();
     let text = RowText::new(alloc, outputs.as_slice())?;
-    let mut replay = Replay::new(alloc, machine, rows)?;
-    replay.fill();
+    some_response();
+    let replay = Replay::new(alloc, machine, rows)?;
     Ok(Response {
         samples,
         replay,
@@ -126,25 +128,27 @@ pub fn response_of(alloc: Global, verilog: &[u8], stimulus: &[u8]) -> Result<Res
     })
 }
 
-/// Puts the lines of so many samples, each by itself. It takes no memory.
+/// Puts the lines of so many samples, each by itself and as soon as its numbers are there. It takes
+/// no memory.
 pub fn write_lines<K: Sink>(
-    replay: &Replay,
+    replay: &mut Replay,
     text: &mut RowText,
     samples: u64,
     out: &mut K,
 ) -> Result<(), PutFault>
-    requires room { HasRoom replay.now }
-    requires samples { samples ≡ (stimulus_of replay.now).lines }
-    requires wide { (t : ℕ) → t < samples
-        → length (table_of replay.now t) ≡ length (periods_of text.old) }
-    ensures whole { OnOk result (K.taken out.new
-        ≡ also_took (K.taken out.old) (response (periods_of text.old)
-        (table_of replay.now) samples)) }
-    ensures cut { OnErr result (TookProperPrefix (K.taken out.old) (K.taken out.new)
-        (response (periods_of text.old) (table_of replay.now) samples)) }
+    requires stands { StandsBefore replay.old 0 }
+    requires samples { samples ≡ (stimulus_of replay.old).lines }
+    requires wide { length (output_ports (module_of replay.old)) ≡ length (periods_of text.old) }
+    ensures whole { (table : Sample → List ℤ) → IsTableOf replay.old table
+        → OnOk result (K.taken out.new
+        ≡ also_took (K.taken out.old) (response (periods_of text.old) table samples)) }
+    ensures cut { (table : Sample → List ℤ) → IsTableOf replay.old table
+        → OnErr result (TookProperPrefix (K.taken out.old) (K.taken out.new)
+        (response (periods_of text.old) table samples)) }
     ensures cause { OnErr result (Rose (K.faults out.old) (K.faults out.new)) }
 {
     for sample in 0..samples {
+        replay.advance(sample);
         if let Err(fault) = put_all(out, text.line(sample, replay.row(sample))) {
             return Err(fault);
         }
@@ -155,19 +159,19 @@ pub fn write_lines<K: Sink>(
 /// The lines of so many samples, one after another.
 pub fn response_text(
     alloc: Global,
-    replay: &Replay,
+    replay: &mut Replay,
     text: &mut RowText,
     samples: u64,
 ) -> Result<Text, OutOfMemory>
-    requires room { HasRoom replay.now }
-    requires samples { samples ≡ (stimulus_of replay.now).lines }
-    requires wide { (t : ℕ) → t < samples
-        → length (table_of replay.now t) ≡ length (periods_of text.old) }
-    ensures { IfOk result (λ lines. lines
-        ≡ response (periods_of text.old) (table_of replay.now) samples) }
+    requires stands { StandsBefore replay.old 0 }
+    requires samples { samples ≡ (stimulus_of replay.old).lines }
+    requires wide { length (output_ports (module_of replay.old)) ≡ length (periods_of text.old) }
+    ensures { (table : Sample → List ℤ) → IsTableOf replay.old table → IfOk result (λ lines. lines
+        ≡ response (periods_of text.old) table samples) }
 {
     let mut lines = Vec::new(alloc);
     for sample in 0..samples {
+        replay.advance(sample);
         lines.extend_from_slice(text.line(sample, replay.row(sample)))?;
     }
     Text::from_vec(alloc, lines)

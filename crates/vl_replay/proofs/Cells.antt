@@ -1,19 +1,20 @@
 -- The numbers that a clock puts into the cells.
-use Rattle.std.proofs.Common.{◌≡◌, ◌≢◌, ◌<◌, ◌≤◌, ◌+◌, ◌*◌, ◌/◌, ◌%◌, ◌==◌, ℕ, zero, suc, Bool, true, false, ◌&&◌, if◌then◌else◌, List, [], ◌∷◌, length, map, slice_get, slice_index_or, Some, ℤ, pos, refl, sym, ap, subst, ◌∙◌, arith}
-use Rattle.std.proofs.lemmas.Bool.{eqb-true, eqb-false, false≢true}
+use Rattle.std.proofs.Common.{◌≡◌, ◌≢◌, ◌<◌, ◌≤◌, ◌+◌, ◌-◌, ◌*◌, ◌/◌, ◌%◌, ◌==◌, ◌⊎◌, inl, inr, ℕ, zero, suc, Bool, true, false, if◌then◌else◌, List, [], ◌∷◌, length, map, slice_get, slice_index_or, Some, ℤ, pos, refl, sym, ap, subst, ◌∙◌, arith}
+use Rattle.std.proofs.lemmas.Bool.{cases_lt, eqb-true, eqb-false, false≢true}
 use Rattle.std.proofs.lemmas.Nat.{mod_below, div-add-mod'}
 use Rattle.std.proofs.lemmas.List.{length-map}
+use Rattle.std.proofs.Math.Nat.{mul-le-mul_right}
 use Rattle.vl_ast.specs.declared.modules.Port.{Port}
 use Rattle.vl_ast.specs.declared.modules.Module.{Module}
 use Rattle.vl_ast.specs.Driven.{output_ports, port_number}
 use Rattle.vl_ast.specs.Runs.{Row, Rows}
 use Rattle.vl_replay.specs.declared.samplers.Sampler.{Sampler}
 use Rattle.vl_replay.specs.Sampled.{hit_at}
-use Rattle.vl_replay.specs.inner.Sampling.{ArePut, cell_after, number_at, number_or_zero, sampler_of}
+use Rattle.vl_replay.specs.inner.Sampling.{ArePut, cell_of, number_at, number_or_zero, sampler_of}
 use Rattle.vl_replay.specs.inner.Played.{HaveCells}
 use Rattle.vl_ast.proofs.Ranges.{clocks-some, step-some}
 use Rattle.vl_ast.specs.Attributes.{clocks_of, lateness_of, step_of}
-use Rattle.vl_replay.proofs.Times.{hit-below, hit-twice, same-told}
+use Rattle.vl_replay.proofs.Times.{apart, below-of, hit-before, hit-below, next-times, same-told}
 
 pub mapped : {A B : Type 0} (f : A → B) (xs : List A) (k : ℕ) (x : A) → slice_get xs k ≡ Some x → slice_get (map f xs) k ≡ Some (f x)
 mapped f [] k x e = absurd (cc e)
@@ -45,17 +46,20 @@ clock-of f late t =
     let whole = div-add-mod' late f in
     ap (λ n. t * f + n) (sym whole) ∙ regroup t (late / f) f (late % f)
 
-module _ (m : Module) (samples sample phase : ℕ) (rows later : Rows) (row : Row) (samplers : List Sampler) (before after : List ℤ) (phase-below : phase < clocks_of m)
+module _ (m : Module) (samples window sample phase : ℕ) (rows later : Rows) (row : Row) (samplers : List Sampler) (before after : List ℤ) (phase-below : phase < clocks_of m) (some-window : 0 < window)
     (samplers-are : samplers ≡ map (sampler_of (clocks_of m)) (output_ports m))
-    (have : HaveCells m samples (sample * clocks_of m + phase) rows before)
+    (have : HaveCells m samples window (sample * clocks_of m + phase) rows before)
     (same : (k : ℕ) → k < 2 + (sample * clocks_of m + phase) → later k ≡ rows k)
     (next : later (2 + (sample * clocks_of m + phase)) ≡ row)
-    (put : ArePut (number_at m row) samplers samples sample phase (length samplers) before after) where
+    (put : ArePut (number_at m row) samplers samples window sample phase (length samplers) before after) where
   abbrev outputs : List Port
   outputs = output_ports m
 
   abbrev f : ℕ
   f = clocks_of m
+
+  abbrev now : ℕ
+  now = sample * f + phase
 
   many : length samplers ≡ length outputs
   many = ap length samplers-are ∙ length-map outputs (sampler_of (clocks_of m))
@@ -68,64 +72,81 @@ module _ (m : Module) (samples sample phase : ℕ) (rows later : Rows) (row : Ro
     late = lateness_of port
 
     abbrev cell : List ℤ → ℕ → ℤ
-    cell cells t = slice_index_or cells (t * length outputs + place) (pos 0)
+    cell cells t = slice_index_or cells (cell_of window (length outputs) place t) (pos 0)
 
     wanted : ℕ → ℤ
     wanted t = port_number port (later (2 + (hit_at period t * f + late)) port.name)
 
-    earlier : (t : ℕ) → t < samples → t * f + late < sample * f + phase → cell before t ≡ wanted t
+    sampled : slice_get samplers place ≡ Some (sampler_of f port)
+    sampled = ap (λ (xs : List Sampler). slice_get xs place) samplers-are ∙ mapped (sampler_of f) outputs place port there
+
+    earlier : (t : ℕ) → t < samples → t * f + late < now → (t + window < samples → now ≤ (t + window) * f + late) → cell before t ≡ wanted t
     unfolding wanted
-    earlier t below past =
+    earlier t below past held =
         let h = hit-below period t in
-        let le : hit_at period t * f ≤ t * f = grind (arith, h) in
-        have.at place port there t below past ∙ ap (λ (r : Row). port_number port (r port.name)) (sym (same (2 + (hit_at period t * f + late)) (omega (arith, le, past))))
+        let le : hit_at period t * f ≤ t * f = mul-le-mul_right f h in
+        have.at place port there t below past held ∙ ap (λ (r : Row). port_number port (r port.name)) (sym (same (2 + (hit_at period t * f + late)) (omega (arith, le, past))))
+
+    clock-due : (t : ℕ) → late % f ≡ phase → t + late / f ≡ sample → t * f + late ≡ now
+    clock-due t p q = clock-of f late t ∙ ap (λ n. n * f + late % f) q ∙ ap (λ n. sample * f + n) p
 
     due : (t : ℕ) → t < samples → late % f ≡ phase → t + late / f ≡ sample
-        → (hit : Bool) → (hit_at period t == t) ≡ hit → (if hit then number_at m row place else cell before (hit_at period t)) ≡ wanted t
+        → (hit : Bool) → (hit_at period t == t) ≡ hit → (if hit then number_at m row place else cell before (t - 1)) ≡ wanted t
     unfolding wanted
     due t below p q true e =
         let own = eqb-true (hit_at period t) t e in
-        let clock : t * f + late ≡ sample * f + phase = clock-of f late t ∙ ap (λ n. n * f + late % f) q ∙ ap (λ n. sample * f + n) p in
         ap (number_or_zero row) there
         ∙ ap (λ (r : Row). port_number port (r port.name)) (sym next)
-        ∙ ap (λ n. port_number port (later (2 + n) port.name)) (sym (ap (λ h. h * f + late) own ∙ clock))
+        ∙ ap (λ n. port_number port (later (2 + n) port.name)) (sym (ap (λ h. h * f + late) own ∙ clock-due t p q))
     due t below p q false e =
         let other : hit_at period t ≢ t = λ s. absurd (false≢true (sym e ∙ ap (λ h. h == t) s ∙ eqb-refl t)) in
-        let clock : t * f + late ≡ sample * f + phase = clock-of f late t ∙ ap (λ n. n * f + late % f) q ∙ ap (λ n. sample * f + n) p in
+        let clock = clock-due t p q in
         let h = hit-below period t in
-        let less : hit_at period t < t = omega (arith, h, other) in
-        let some = (clocks-some m).0 in
-        let past : hit_at period t * f + late < sample * f + phase = (let step : hit_at period t * f < t * f = fewer (hit_at period t) t f less some in omega (arith, step, clock)) in
-        earlier (hit_at period t) (omega (arith, less, below)) past
-        ∙ ap (λ h. port_number port (later (2 + (h * f + late)) port.name)) (hit-twice period t (step-some port).0)
+        let some : 0 < t = omega (arith, h, other) in
+        let clocks = (clocks-some m).0 in
+        let step : t * f ≡ (t - 1) * f + f = ap (λ n. n * f) (again t some) ∙ next-times (t - 1) f in
+        let wide : t * f ≤ (t - 1 + window) * f = mul-le-mul_right f (omega (arith, some, some-window)) in
+        earlier (t - 1) (omega (arith, below, some)) (omega (arith, step, clock, clocks)) (λ l. omega (arith, wide, clock))
+        ∙ ap (λ h. port_number port (later (2 + (h * f + late)) port.name)) (hit-before period t (step-some port).0 other)
       where
-        fewer : (a b c : ℕ) → a < b → 1 ≤ c → a * c < b * c
-        fewer a b c l s = grind arith
+        again : (t : ℕ) → 0 < t → t ≡ t - 1 + 1
+        again t some = omega (arith, some)
 
-    undue : (t : ℕ) → t < samples → t * f + late < sample * f + phase + 1 → ((late % f ≡ phase) → (t + late / f ≡ sample) → ⊥) → cell before t ≡ wanted t
-    undue t below past not-due = earlier t below (strictly (λ e.
-        let some = (clocks-some m).0 in
-        let told = same-told (t + late / f) f (late % f) sample phase (mod_below late f (omega (arith, some))) phase-below (sym (clock-of f late t) ∙ e) in
-        not-due told.1 told.0))
+    -- no other sample's number is put into its cell
+    undue : (t : ℕ) → t < samples → t * f + late < now → (t + window < samples → now + 1 ≤ (t + window) * f + late)
+        → (u : ℕ) → u < samples → late % f ≡ phase → u + late / f ≡ sample → u % window ≡ t % window → ⊥
+    undue t below past held u u-below p q same-row =
+        let clock = clock-due u p q in
+        apart window t u (below-of t u f (omega (arith, clock, past))) (near (cases_lt (t + window) samples)) (sym same-row)
       where
-        strictly : (t * f + late ≡ sample * f + phase → ⊥) → t * f + late < sample * f + phase
-        strictly ne = omega (arith, past, ne)
+        near : (t + window < samples) ⊎ (samples ≤ t + window) → u < t + window
+        near (inl l) = let clock = clock-due u p q in let h = held l in below-of u (t + window) f (omega (arith, clock, h))
+        near (inr g) = omega (arith, g, u-below)
 
-    after-is : (t : ℕ) → t < samples → t * f + late < sample * f + phase + 1 → cell after t ≡ wanted t
-    after-is t below past =
-        subst (λ (n : ℕ). slice_index_or after (t * n + place) (pos 0) ≡ wanted t) many
-        (put.put place (sampler_of f port) t (ap (λ (xs : List Sampler). slice_get xs place) samplers-are ∙ mapped (sampler_of f) outputs place port there) (subst (λ n. place < n) (sym many) (has-place outputs place port there)) below
-        ∙ subst (λ (n : ℕ). cell_after (number_at m row) n sample phase before (sampler_of f port) place t ≡ wanted t) (sym many) (by (late % f == phase) (t + late / f == sample) refl refl))
-      where
-        by : (p q : Bool) → (late % f == phase) ≡ p → (t + late / f == sample) ≡ q
-            → (if p && q then (if hit_at period t == t then number_at m row place else cell before (hit_at period t)) else cell before t) ≡ wanted t
-        by true true ep eq = due t below (eqb-true (late % f) phase ep) (eqb-true (t + late / f) sample eq) (hit_at period t == t) refl
-        by true false ep eq = undue t below past (λ x y. absurd (false≢true (sym eq ∙ ap (λ n. n == sample) y ∙ eqb-refl sample)))
-        by false q ep eq = undue t below past (λ x y. absurd (false≢true (sym ep ∙ ap (λ n. n == phase) x ∙ eqb-refl phase)))
+    kept-is : (t : ℕ) → t < samples → t * f + late < now → (t + window < samples → now + 1 ≤ (t + window) * f + late) → cell after t ≡ wanted t
+    kept-is t below past held =
+        subst (λ (n : ℕ). slice_index_or after (t % window * n + place) (pos 0) ≡ wanted t) many
+        (put.kept place (sampler_of f port) (t % window) sampled (λ u u-below low p q same-row. undue t below past held u u-below p q same-row)
+        ∙ subst (λ (n : ℕ). slice_index_or before (t % window * n + place) (pos 0) ≡ wanted t) (sym many) (earlier t below past (λ l. let h = held l in omega (arith, h))))
 
-  pub cells-more : HaveCells m samples (sample * clocks_of m + phase + 1) later after
+    now-is : (t : ℕ) → t < samples → late % f ≡ phase → t + late / f ≡ sample → cell after t ≡ wanted t
+    now-is t below p q =
+        subst (λ (n : ℕ). slice_index_or after (t % window * n + place) (pos 0) ≡ wanted t) many
+        (put.put place (sampler_of f port) t sampled (subst (λ n. place < n) (sym many) (has-place outputs place port there)) below p q
+        ∙ subst (λ (n : ℕ). (if hit_at period t == t then number_at m row place else slice_index_or before ((t - 1) % window * n + place) (pos 0)) ≡ wanted t) (sym many) (due t below p q (hit_at period t == t) refl))
+
+    after-is : (t : ℕ) → t < samples → t * f + late < now + 1 → (t + window < samples → now + 1 ≤ (t + window) * f + late) → cell after t ≡ wanted t
+    after-is t below past held = by (cases_lt (t * f + late) now) where
+      by : (t * f + late < now) ⊎ (now ≤ t * f + late) → cell after t ≡ wanted t
+      by (inl less) = kept-is t below less held
+      by (inr most) =
+          let some = (clocks-some m).0 in
+          let told = same-told (t + late / f) f (late % f) sample phase (mod_below late f (omega (arith, some))) phase-below (sym (clock-of f late t) ∙ omega (arith, most, past)) in
+          now-is t below told.1 told.0
+
+  pub cells-more : HaveCells m samples window (sample * clocks_of m + phase + 1) later after
   unfolding wanted
   cells-more = record {
     long = put.long ∙ have.long;
-    at = λ place port there t below past. after-is place port there t below past;
+    at = λ place port there t below past held. after-is place port there t below past held;
   }

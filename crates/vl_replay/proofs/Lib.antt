@@ -1,11 +1,12 @@
 pub mod Bits
 pub mod Cells
 pub mod Clocks
-pub mod Filled
 pub mod OneResponse
 pub mod Putting
 pub mod Rows
 pub mod Scores
+pub mod Shown
+pub mod SomeResponse
 pub mod Stimulated
 pub mod Times
 pub mod Widths

@@ -13,7 +13,7 @@ use Rattle.vl_ast.specs.Attributes.{cycles_of, latency_of, period_of}
 use Rattle.vl_ast.specs.Conditions.{BreaksNone, lacks_attribute}
 use Rattle.vl_ast.specs.Control.{is_control_input, is_control_output, is_number_input, is_number_output, is_stallable}
 use Rattle.vl_ast.specs.Driven.{output_ports, port_number, stimulus_ports}
-use Rattle.vl_ast.specs.Windows.{PortNumbers, Sample, row_at}
+use Rattle.vl_ast.specs.Windows.{Each, PortNumbers, Sample, row_at}
 use Rattle.vl_ast.specs.Nets.{Declares, declarations, declared_by, item_mentions, mentions, port_declared}
 use Rattle.vl_ast.specs.Room.{AreSame}
 use Rattle.vl_ast.specs.Runs.{Rows, Runs}
@@ -28,7 +28,7 @@ use Rattle.vl_replay.proofs.Rows.{zeros}
 use Rattle.vl_replay.proofs.Stimulated.{all-count}
 use Rattle.vl_replay.proofs.Times.{hit-below, last-is-hit}
 
-place-of : (xs : List Port) (x : Port) → Contains xs x → (place : ℕ) × (slice_get xs place ≡ Some x)
+pub place-of : (xs : List Port) (x : Port) → Contains xs x → (place : ℕ) × (slice_get xs place ≡ Some x)
 place-of [] x c = absurd (none-in x c)
 place-of (y ∷ xs) x c = ⊎_elim (λ same. (0, ap Some same)) (λ later. let p = place-of xs x later in (suc p.0, p.1)) (cons-cases y x xs c)
 
@@ -67,6 +67,12 @@ attributed : (o : Option ℕ) (f : Option Port) (name : List ℕ) → (if is_non
 attributed None f name e = absurd (cc e)
 attributed (Some n) None name e = (refl, refl)
 attributed (Some n) (Some port) name e = absurd (cc e)
+
+-- the numbers at a sample are those of the run's rows at the clocks of its hits
+abbrev pub ShowRow : Module → ℕ → Rows → Sample → List ℤ → Type 0
+ShowRow m count rows t numbers = (cycles : ℕ) → cycles_of m ≡ Some cycles → Each (output_ports m) (λ place port. (period latency : ℕ) → period_of port ≡ Some period → latency_of port ≡ Some latency
+    → (row_at (window_of count) (hit_at period t * cycles + latency) < count)
+    × (slice_get numbers place ≡ Some (port_number port (rows (row_at (window_of count) (hit_at period t * cycles + latency)) port.name))))
 
 module _ (one_run : (m : Module) (count : ℕ) (start : List ℕ → ℕ) (inputs rows other : ℕ → List ℕ → ℕ) → BreaksNone m → Runs m count start inputs rows → Runs m count start inputs other → AreSame m count rows other)
     (m : Module) (sound : BreaksNone m) (stimulus : PortNumbers) (samples : ℕ) where
@@ -165,18 +171,26 @@ module _ (one_run : (m : Module) (count : ℕ) (start : List ℕ → ℕ) (input
             (Contains-append_left (map (λ (p : Port). Declares (port_declared p)) m.ports) (flat_map item_mentions m.items) (Declares (port_declared port)) (map-in (λ (p : Port). Declares (port_declared p)) m.ports port c))
             (head-in (port_declared port) [])
 
-  pub one-table : (one other : Sample → List ℤ) → Sampled m stimulus samples one → Sampled m stimulus samples other → (t : Sample) → t < samples → one t ≡ other t
-  one-table one other a b t below = ext_get_or (pos 0) (one t) (other t) (a.long t below ∙ sym (b.long t below)) same where
-    same : (i : ℕ) → i < length (one t) → get_or (one t) i (pos 0) ≡ get_or (other t) i (pos 0)
+  -- two lists of numbers that show two runs at one sample are the same
+  pub one-row : (count other-count : ℕ) (inputs other rows later : Rows) → AreReplayed m stimulus samples count inputs → AreReplayed m stimulus samples other-count other
+      → Runs m count zeros inputs rows → Runs m other-count zeros other later → (one two : List ℤ) (t : Sample)
+      → length one ≡ length (output_ports m) → length two ≡ length (output_ports m) → ShowRow m count rows t one → ShowRow m other-count later t two → one ≡ two
+  one-row count other-count inputs other rows later a b runs runs' one two t long long' shows shows' = ext_get_or (pos 0) one two (long ∙ sym long') same where
+    same : (i : ℕ) → i < length one → get_or one i (pos 0) ≡ get_or two i (pos 0)
     same i low =
-        let port = port-at (output_ports m) i (let l = a.long t below in omega (arith, low, l)) in
+        let port = port-at (output_ports m) i (omega (arith, low, long)) in
         let kept = filter-in (is_number_output (is_stallable m)) m.ports port.0 (slice-in (output_ports m) i port.0 port.1) in
         let neither = or_parts (is_control_output (is_stallable m) port.0) port.0.input (not-true (is_control_output (is_stallable m) port.0 || port.0.input) kept.1) in
         let has = output-has port.0 kept.0 neither.1 neither.0 in
-        let mine = a.shows cycles.0 cycles.1 i port.0 port.1 has.0.0 has.1.0 has.0.1 has.1.1 t below in
-        let yours = b.shows cycles.0 cycles.1 i port.0 port.1 has.0.0 has.1.0 has.0.1 has.1.1 t below in
+        let mine = shows cycles.0 cycles.1 i port.0 port.1 has.0.0 has.1.0 has.0.1 has.1.1 in
+        let yours = shows' cycles.0 cycles.1 i port.0 port.1 has.0.0 has.1.0 has.0.1 has.1.1 in
         let row = hit_at has.0.0 t * cycles.0 + has.1.0 in
-        let agree = rows-agree a.count b.count a.inputs b.inputs a.driven b.driven a.rows b.rows a.runs b.runs (row_at (window_of a.count) row) mine.0 yours.0 port.0 kept.0 in
-        get_or_from_slice_get (one t) i _ (pos 0) mine.1
+        let agree = rows-agree count other-count inputs other a b rows later runs runs' (row_at (window_of count) row) mine.0 yours.0 port.0 kept.0 in
+        get_or_from_slice_get one i _ (pos 0) mine.1
         ∙ ap (port_number port.0) agree
-        ∙ sym (get_or_from_slice_get (other t) i _ (pos 0) yours.1)
+        ∙ sym (get_or_from_slice_get two i _ (pos 0) yours.1)
+
+  pub one-table : (one other : Sample → List ℤ) → Sampled m stimulus samples one → Sampled m stimulus samples other → (t : Sample) → t < samples → one t ≡ other t
+  one-table one other a b t below = one-row a.count b.count a.inputs b.inputs a.rows b.rows a.driven b.driven a.runs b.runs (one t) (other t) t (a.long t below) (b.long t below)
+      (λ cycles ec place port there period latency ep el. a.shows cycles ec place port there period latency ep el t below)
+      (λ cycles ec place port there period latency ep el. b.shows cycles ec place port there period latency ep el t below)

@@ -1,12 +1,11 @@
 -- What callers see of a replay.
-use Rattle.std.specs.Prelude.{◌≡◌, ◌*◌, List, length, take, drop, ℤ}
+use Rattle.std.specs.Prelude.{◌≡◌, ◌+◌, ◌*◌, ◌≤◌, length}
 use Rattle.fx_tables.specs.declared.table.Rows.{Rows as Table}
 use Rattle.vl_ast.specs.declared.modules.Module.{Module}
-use Rattle.vl_ast.specs.Steps.{IsFirstRow}
 use Rattle.vl_ast.specs.Windows.{Sample}
-use Rattle.vl_eval.specs.Machine.{IsReady, row_of, source_of}
+use Rattle.vl_eval.specs.Machine.{source_of}
 use Rattle.vl_replay.specs.declared.replay.Replay.{Replay}
-use Rattle.vl_replay.specs.inner.Played.{IsScoreOf, IsSpan}
+use Rattle.vl_replay.specs.inner.Played.{IsDelay, IsPlayed, IsWindow}
 
 -- the module of its machine
 abbrev pub module_of : Replay → Module
@@ -16,19 +15,10 @@ module_of replay = source_of replay.machine
 abbrev pub stimulus_of : Replay → Table
 stimulus_of replay = replay.score.stimulus
 
--- the numbers of a sample, one for each output
-abbrev pub table_of : Replay → Sample → List ℤ
-table_of replay t = take (length replay.score.samplers.items) (drop (t * length replay.score.samplers.items) replay.cells.items)
-
--- there is a cell for each number
-pub record HasRoom (replay : Replay) : Type 0 where
-  pub long : length replay.cells.items ≡ replay.score.stimulus.lines * length replay.score.samplers.items
-
--- its machine is in row 0 and nothing is sampled yet
-pub record IsUnfilled (replay : Replay) : Type 0 where
-  pub ready : IsReady replay.machine
-  pub score_is : IsScoreOf (source_of replay.machine) replay.score
-  pub row : IsFirstRow (source_of replay.machine) (λ name. 0) (λ name. 0) (row_of replay.machine)
-  pub room : HasRoom replay
+-- the numbers of all samples before this one are given, and the clocks of those that it waits for are passed
+pub record StandsBefore (replay : Replay) (t : Sample) : Type 0 where
+  pub few : replay.score.stimulus.lines ≤ 50000000
   pub wide : length replay.bits.items ≡ length replay.score.drivers.items
-  pub span : IsSpan replay.score replay.span
+  pub delay : IsDelay replay.score replay.delay
+  pub window : IsWindow replay.score.stimulus.lines replay.delay replay.window
+  pub played : IsPlayed replay.score replay.window ((t + replay.delay) * replay.score.cycles) replay.machine replay.cells.items

@@ -47,3 +47,8 @@ pub record Sampled (m : Module) (stimulus : PortNumbers) (samples : ℕ) (table 
       → (t : Sample) → t < samples
       → (row_at (window_of count) (hit_at period t * cycles + latency) < count)
       × (slice_get (table t) place ≡ Some (port_number port (rows (row_at (window_of count) (hit_at period t * cycles + latency)) port.name))))
+
+-- some table is sampled of a module under a stimulus
+pub record HasTable (m : Module) (stimulus : PortNumbers) (samples : ℕ) : Type 0 where
+  pub table : Sample → List ℤ
+  pub sampled : Sampled m stimulus samples table

@@ -4,8 +4,9 @@ ghost use Rattle.vl_ast.specs.Driven.{stimulus_ports};
 ghost use Rattle.vl_ast.specs.Steps.{IsFirstRow};
 ghost use Rattle.vl_eval.specs.Machine.{IsReady, row_of, source_of};
 ghost use Rattle.vl_replay.specs.Sampled.{numbers_of};
+ghost use Rattle.vl_replay.specs.inner.Sampling.{IsPower};
 ghost use Rattle.vl_replay.specs.inner.Driving.{AreBits, driver_bits};
-ghost use Rattle.vl_replay.specs.inner.Played.{AreNear, IsPlayed, IsScoreOf, IsSpan};
+ghost use Rattle.vl_replay.specs.inner.Played.{AreNear, IsDelay, IsPlayed, IsScoreOf, IsWindow};
 
 use crate::drivers::{Driver, drivers_of, put_bits, put_reset};
 use crate::samplers::{Sampler, put_numbers, samplers_of};
@@ -45,38 +46,51 @@ pub fn score_of(alloc: Global, source: &Module, stimulus: Rows) -> Result<Score,
     })
 }
 
-/// By the end of how many samples each number was sampled.
-pub fn span_of(score: &Score) -> u64
-    requires few { score.now.stimulus.lines ≤ 50000000 }
+/// No output is sampled more samples late: 0 of a stimulus without samples.
+pub fn delay_of(score: &Score) -> u64
     requires late { AreNear score.now.samplers.items }
-    ensures { IsSpan score.now result }
+    ensures { IsDelay score.now result }
 {
-    let samples = score.stimulus.count();
-    if samples == 0 {
+    if score.stimulus.count() == 0 {
         return 0;
     }
     let mut delay = 0;
     for sampler in score.samplers.as_slice() {
         delay = sampler.delay.max(delay);
     }
-    samples + delay
+    delay
+}
+
+/// For how many samples the numbers of so many are held while outputs are sampled so late: the least
+/// power of two that will do.
+pub fn window_of(samples: u64, delay: u64) -> u64
+    requires late { delay ≤ 16777216 }
+    ensures { IsWindow samples delay result }
+{
+    let least = samples.min(delay + 1);
+    let mut window = 1;
+    while window < least {
+        window *= 2;
+    }
+    window
 }
 
 /// Passes one clock of this phase of a sample, and samples what is due.
 fn step(
     machine: &mut Machine,
     score: &Score,
+    window: u64,
     bits: &[u128],
     sample: u64,
     phase: u64,
     cells: &mut [i128],
 )
-    requires played { IsPlayed score.now (sample * score.now.cycles + phase) machine.old cells.old }
+    requires played { IsPlayed score.now window (sample * score.now.cycles + phase) machine.old cells.old }
     requires phase { phase < score.now.cycles }
     requires bits { AreBits (driver_bits
         (numbers_of score.now.stimulus) score.now.stimulus.lines sample) score.now.drivers.items
         (length score.now.drivers.items) bits.now }
-    ensures played { IsPlayed score.now (sample * score.now.cycles + phase
+    ensures played { IsPlayed score.now window (sample * score.now.cycles + phase
         + 1) machine.new cells.new }
     ensures source { source_of machine.new ≡ source_of machine.old }
 {
@@ -85,61 +99,73 @@ fn step(
         machine,
         score.samplers.as_slice(),
         score.stimulus.count(),
+        window,
         sample,
         phase,
         cells,
     );
 }
 
-/// Passes the clocks of a sample.
-fn play_sample(
+/// Passes the clocks of a sample, with a ring of so many rows.
+pub fn play_sample(
     machine: &mut Machine,
     score: &Score,
+    window: u64,
     sample: u64,
     bits: &mut [u128],
     cells: &mut [i128],
 )
-    requires played { IsPlayed score.now (sample * score.now.cycles) machine.old cells.old }
+    requires played { IsPlayed score.now window (sample * score.now.cycles) machine.old cells.old }
     requires wide { length bits.old ≡ length score.now.drivers.items }
-    ensures played { IsPlayed score.now (sample * score.now.cycles
+    ensures played { IsPlayed score.now window (sample * score.now.cycles
         + score.now.cycles) machine.new cells.new }
     ensures wide { length bits.new ≡ length score.now.drivers.items }
     ensures source { source_of machine.new ≡ source_of machine.old }
 {
     put_bits(score.drivers.as_slice(), &score.stimulus, sample, bits);
     for phase in 0..score.cycles {
-        step(machine, score, bits, sample, phase, cells);
+        step(machine, score, window, bits, sample, phase, cells);
     }
 }
 
 /// Passes the row with `reset`.
-fn begin(machine: &mut Machine, score: &Score, bits: &mut [u128], cells: &[i128])
+fn begin(machine: &mut Machine, score: &Score, window: u64, bits: &mut [u128], cells: &[i128])
     requires ready { IsReady machine.old }
     requires score { IsScoreOf (source_of machine.old) score.now }
     requires row { IsFirstRow (source_of machine.old) (λ name. 0) (λ name. 0) (row_of machine.old) }
-    requires room { length cells.now ≡ score.now.stimulus.lines * length score.now.samplers.items }
+    requires power { IsPower window }
+    requires room { length cells.now ≡ window * length score.now.samplers.items }
     requires wide { length bits.old ≡ length score.now.drivers.items }
-    ensures played { IsPlayed score.now 0 machine.new cells.now }
+    ensures played { IsPlayed score.now window 0 machine.new cells.now }
     ensures wide { length bits.new ≡ length score.now.drivers.items }
     ensures source { source_of machine.new ≡ source_of machine.old }
 {
+    let _ = window;
     let _ = cells;
     put_reset(score.drivers.as_slice(), bits);
     machine.edge(bits);
 }
 
 /// Passes the row with `reset` and the clocks of so many samples.
-pub fn play(machine: &mut Machine, score: &Score, span: u64, bits: &mut [u128], cells: &mut [i128])
+pub fn play(
+    machine: &mut Machine,
+    score: &Score,
+    window: u64,
+    span: u64,
+    bits: &mut [u128],
+    cells: &mut [i128],
+)
     requires ready { IsReady machine.old }
     requires score { IsScoreOf (source_of machine.old) score.now }
     requires row { IsFirstRow (source_of machine.old) (λ name. 0) (λ name. 0) (row_of machine.old) }
-    requires room { length cells.old ≡ score.now.stimulus.lines * length score.now.samplers.items }
+    requires power { IsPower window }
+    requires room { length cells.old ≡ window * length score.now.samplers.items }
     requires wide { length bits.old ≡ length score.now.drivers.items }
-    ensures played { IsPlayed score.now (span * score.now.cycles) machine.new cells.new }
+    ensures played { IsPlayed score.now window (span * score.now.cycles) machine.new cells.new }
     ensures source { source_of machine.new ≡ source_of machine.old }
 {
-    begin(machine, score, bits, cells);
+    begin(machine, score, window, bits, cells);
     for sample in 0..span {
-        play_sample(machine, score, sample, bits, cells);
+        play_sample(machine, score, window, sample, bits, cells);
     }
 }

@@ -1,90 +1,104 @@
-ghost use Rattle.std.specs.Prelude.{◌≡◌, ◌≤◌, ◌<◌, IfOk, length};
+ghost use Rattle.std.specs.Prelude.{◌≡◌, ◌≤◌, ◌<◌, ◌+◌, ◌*◌, ◌^◌, ℤ, IfOk, List, length};
 ghost use Rattle.vl_ast.specs.Conditions.{BreaksNone};
-ghost use Rattle.vl_ast.specs.Driven.{stimulus_ports};
+ghost use Rattle.vl_ast.specs.Driven.{output_ports, stimulus_ports};
 ghost use Rattle.vl_ast.specs.Steps.{IsFirstRow};
+ghost use Rattle.vl_ast.specs.Windows.{Sample};
 ghost use Rattle.vl_eval.specs.Machine.{IsReady, row_of, source_of};
 ghost use Rattle.vl_replay.specs.Sampled.{Sampled, numbers_of};
 
-use crate::playing::{Score, play, score_of, span_of};
+use crate::playing::{Score, delay_of, play, play_sample, score_of, window_of};
+use crate::samplers::start_of;
 use fx_io::OutOfMemory;
 use fx_tables::Rows;
 use std::alloc::Global;
-use vl_ast::steps_run;
+use vl_ast::{one_run, steps_run};
 use vl_eval::Machine;
 
-/// A machine with its stimulus, and room for the numbers that are sampled of it (own).
+/// A machine with its stimulus, and room for the numbers that are sampled of it while others of
+/// their samples are to come (own). It stands before a sample, whose numbers are the next.
 #[derive(Drop)]
 pub struct Replay {
     machine: Machine,
     score: Score,
     /// The bits of the input ports but `clk` in the next row.
     bits: Vec<u128>,
-    /// The numbers of the outputs, sample after sample.
+    /// The numbers of the outputs: a ring of rows, in which a sample has the row of its remainder.
     cells: Vec<i128>,
-    /// The samples whose clocks are passed.
-    span: u64,
+    /// The rows of the ring.
+    window: u64,
+    /// By how many samples the last number of a sample comes late.
+    delay: u64,
 }
 
 impl Replay {
-    ghost use Rattle.vl_replay.specs.Replays.{HasRoom, IsUnfilled, module_of, stimulus_of, table_of};
+    ghost use Rattle.vl_replay.specs.Replays.{StandsBefore, module_of, stimulus_of};
 
-    /// Makes the room for a response. The machine is in row 0, as `Machine::new` leaves it, and the
-    /// stimulus has the columns of its module.
+    /// Takes all memory of a replay, and passes the clocks before the first that sample 0 waits for.
+    /// The machine is in row 0, as `Machine::new` leaves it, and the stimulus has the columns of its
+    /// module.
+    ///
+    /// # Errors
+    /// Want of memory.
     pub fn new(alloc: Global, machine: Machine, stimulus: Rows) -> Result<Replay, OutOfMemory>
         requires ready { IsReady machine }
         requires sound { BreaksNone (source_of machine) }
         requires row { IsFirstRow (source_of machine) (λ name. 0) (λ name. 0) (row_of machine) }
         requires columns { stimulus.columns ≡ length (stimulus_ports (source_of machine)) }
+        requires outputs { length (output_ports (source_of machine)) < 2 ^ 32 }
         requires few { stimulus.lines ≤ 50000000 }
-        ensures unfilled { IfOk result IsUnfilled }
+        ensures stands { IfOk result (λ replay. StandsBefore replay 0) }
         ensures source { IfOk result (λ replay. module_of replay ≡ source_of machine) }
         ensures stimulus { IfOk result (λ replay. stimulus_of replay ≡ stimulus) }
     {
+        let mut machine = machine;
         let score = score_of(alloc, machine.module(), stimulus)?;
-        let samples = score.stimulus.count() as usize;
-        let Some(room) = samples.checked_mul(score.samplers.len()) else {
-            // word: the numbers of all samples are counted in 64 bits
-            return Err(OutOfMemory);
-        };
-        let bits = vec![in alloc; 0u128; score.drivers.len()]?;
-        let cells = vec![in alloc; 0i128; room]?;
-        let span = span_of(&score);
+        let delay = delay_of(&score);
+        let window = window_of(score.stimulus.count(), delay);
+        let mut bits = vec![in alloc; 0u128; score.drivers.len()]?;
+        let mut cells = vec![in alloc; 0i128; window as usize * score.samplers.len()]?;
+        play(&mut machine, &score, window, delay, &mut bits, &mut cells);
         Ok(Replay {
             machine,
             score,
             bits,
             cells,
-            span,
+            window,
+            delay,
         })
     }
 
-    /// Runs the machine over its stimulus and samples its outputs. It takes no memory, and is
-    /// called once.
-    pub fn fill(&mut self)
-        requires unfilled { IsUnfilled self.old }
-        ensures sampled { Sampled (module_of self.old) (numbers_of (stimulus_of self.old))
-            (stimulus_of self.old).lines (table_of self.new) }
+    /// Goes on to the next sample. It takes no memory.
+    pub fn advance(&mut self, sample: u64)
+        requires stands { StandsBefore self.old sample }
+        requires within { sample < (stimulus_of self.old).lines }
+        ensures stands { StandsBefore self.new (sample + 1) }
+        ensures source { module_of self.new ≡ module_of self.old }
         ensures stimulus { stimulus_of self.new ≡ stimulus_of self.old }
-        ensures room { HasRoom self.new }
     {
-        steps_run();
-        play(
+        play_sample(
             &mut self.machine,
             &self.score,
-            self.span,
+            self.window,
+            sample + self.delay,
             &mut self.bits,
             &mut self.cells,
         );
     }
 
-    /// The numbers of a sample, one for each output that carries numbers. It takes no memory.
+    /// The numbers of the sample that was passed last, one for each output that carries numbers. It
+    /// takes no memory.
     pub fn row(&self, sample: u64) -> &[i128]
-        requires room { HasRoom self.now }
+        requires stands { StandsBefore self.now (sample + 1) }
         requires within { sample < (stimulus_of self.now).lines }
-        ensures { result.now ≡ table_of self.now sample }
+        ensures long { length result.now ≡ length (output_ports (module_of self.now)) }
+        ensures sampled { (table : Sample → List ℤ) → Sampled (module_of self.now)
+            (numbers_of (stimulus_of self.now)) (stimulus_of self.now).lines table
+            → result.now ≡ table sample }
     {
+        steps_run();
+        one_run();
         let outputs = self.score.samplers.len();
-        let start = sample as usize * outputs;
+        let start = start_of(self.window, outputs, sample);
         &self.cells[start..start + outputs]
     }
 }

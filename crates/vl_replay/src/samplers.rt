@@ -1,9 +1,9 @@
-ghost use Rattle.std.specs.Prelude.{◌≡◌, ◌≤◌, ◌<◌, ◌+◌, ◌*◌, ◌==◌, ℕ, ℤ, List, if◌then◌else◌, IfOk, Some, length, map, slice_get, slice_index_or, slice_set, pos};
+ghost use Rattle.std.specs.Prelude.{◌≡◌, ◌≤◌, ◌<◌, ◌+◌, ◌-◌, ◌*◌, ◌%◌, ◌^◌, ◌==◌, ℕ, ℤ, List, if◌then◌else◌, IfOk, Some, length, map, slice_get, slice_index_or, slice_set, pos};
 ghost use Rattle.vl_ast.specs.Driven.{output_ports};
 ghost use Rattle.vl_eval.specs.Machine.{IsReady, row_of, source_of};
 ghost use Rattle.vl_replay.specs.Sampled.{hit_at};
 ghost use Rattle.vl_replay.specs.declared.samplers.Sampler.{Sampler};
-ghost use Rattle.vl_replay.specs.inner.Sampling.{ArePut, number_at, sampler_of};
+ghost use Rattle.vl_replay.specs.inner.Sampling.{ArePut, IsPower, number_at, sampler_of};
 
 use fx_io::OutOfMemory;
 use std::alloc::Global;
@@ -53,12 +53,24 @@ pub fn samplers_of(alloc: Global, source: &Module, cycles: u64) -> Result<Vec<Sa
     Ok(samplers)
 }
 
+/// Where the cells of a sample begin in a ring of so many rows, a power of two.
+#[inline(always)]
+pub fn start_of(window: u64, outputs: usize, sample: u64) -> usize
+    requires power { IsPower window }
+    requires room { window * outputs < 2 ^ 64 }
+    ensures start { result ≡ sample % window * outputs }
+    ensures within { result + outputs ≤ window * outputs }
+{
+    (sample & (window - 1)) as usize * outputs
+}
+
 /// The number of an output at a sample: what it shows at a hit, and between hits the number of the
-/// last.
+/// sample before.
 fn number_for(
     machine: &Machine,
     period: u32,
     outputs: usize,
+    window: u64,
     place: usize,
     sample: u64,
     cells: &[i128],
@@ -67,16 +79,17 @@ fn number_for(
     requires period { 0 < period }
     requires within { place < outputs }
     requires outputs { outputs ≡ length (output_ports (source_of machine.now)) }
-    requires room { sample * outputs + outputs ≤ length cells.now }
+    requires power { IsPower window }
+    requires room { length cells.now ≡ window * outputs }
     ensures { result ≡ (if hit_at period sample == sample
         then number_at (source_of machine.now) (row_of machine.now) place
-        else slice_index_or cells.now (hit_at period sample * outputs + place) (pos 0)) }
+        else slice_index_or cells.now ((sample - 1) % window * outputs + place) (pos 0)) }
 {
     let hit = hit_at(period, sample);
     if hit == sample {
         return machine.port(place);
     }
-    cells[hit as usize * outputs + place]
+    cells[start_of(window, outputs, sample - 1) + place]
 }
 
 /// Puts the number of an output at a sample into its cell.
@@ -84,6 +97,7 @@ fn put_number(
     machine: &Machine,
     period: u32,
     outputs: usize,
+    window: u64,
     place: usize,
     sample: u64,
     cells: &mut [i128],
@@ -92,14 +106,15 @@ fn put_number(
     requires period { 0 < period }
     requires within { place < outputs }
     requires outputs { outputs ≡ length (output_ports (source_of machine.now)) }
-    requires room { sample * outputs + outputs ≤ length cells.old }
-    ensures { cells.new ≡ slice_set cells.old (sample * outputs + place)
+    requires power { IsPower window }
+    requires room { length cells.old ≡ window * outputs }
+    ensures { cells.new ≡ slice_set cells.old (sample % window * outputs + place)
         (if hit_at period sample == sample
         then number_at (source_of machine.now) (row_of machine.now) place
-        else slice_index_or cells.old (hit_at period sample * outputs + place) (pos 0)) }
+        else slice_index_or cells.old ((sample - 1) % window * outputs + place) (pos 0)) }
 {
-    let number = number_for(machine, period, outputs, place, sample, cells);
-    cells[sample as usize * outputs + place] = number;
+    let number = number_for(machine, period, outputs, window, place, sample, cells);
+    cells[start_of(window, outputs, sample) + place] = number;
 }
 
 /// Puts the number of the output at a place, if it is due at a clock of this phase of a sample.
@@ -107,6 +122,7 @@ fn put_if_due(
     machine: &Machine,
     samplers: &[Sampler],
     samples: u64,
+    window: u64,
     sample: u64,
     phase: u64,
     place: usize,
@@ -116,13 +132,14 @@ fn put_if_due(
     requires outputs { length samplers.now ≡ length (output_ports (source_of machine.now)) }
     requires periods { (place : ℕ) (sampler : Sampler) → slice_get samplers.now place ≡ Some sampler
         → 0 < sampler.period }
-    requires room { length cells.old ≡ samples * length samplers.now }
+    requires power { IsPower window }
+    requires room { length cells.old ≡ window * length samplers.now }
     requires within { place < length samplers.now }
     ensures { (before : List ℤ) → ArePut
-        (number_at (source_of machine.now) (row_of machine.now)) samplers.now samples sample phase
-        place before cells.old
+        (number_at (source_of machine.now) (row_of machine.now)) samplers.now samples window sample
+        phase place before cells.old
         → ArePut (number_at (source_of machine.now) (row_of machine.now)) samplers.now samples
-        sample phase (place + 1) before cells.new }
+        window sample phase (place + 1) before cells.new }
 {
     let Sampler {
         period,
@@ -136,15 +153,16 @@ fn put_if_due(
     if samples <= due {
         return;
     }
-    put_number(machine, period, samplers.len(), place, due, cells);
+    put_number(machine, period, samplers.len(), window, place, due, cells);
 }
 
 /// Puts the numbers that are due at a clock of this phase of a sample into their cells, of which
-/// there are so many for each output.
+/// there are so many rows, a power of two: the row of a sample is that of its remainder.
 pub fn put_numbers(
     machine: &Machine,
     samplers: &[Sampler],
     samples: u64,
+    window: u64,
     sample: u64,
     phase: u64,
     cells: &mut [i128],
@@ -153,11 +171,14 @@ pub fn put_numbers(
     requires outputs { length samplers.now ≡ length (output_ports (source_of machine.now)) }
     requires periods { (place : ℕ) (sampler : Sampler) → slice_get samplers.now place ≡ Some sampler
         → 0 < sampler.period }
-    requires room { length cells.old ≡ samples * length samplers.now }
+    requires power { IsPower window }
+    requires room { length cells.old ≡ window * length samplers.now }
     ensures { ArePut (number_at (source_of machine.now) (row_of machine.now)) samplers.now samples
-        sample phase (length samplers.now) cells.old cells.new }
+        window sample phase (length samplers.now) cells.old cells.new }
 {
     for place in 0..samplers.len() {
-        put_if_due(machine, samplers, samples, sample, phase, place, cells);
+        put_if_due(
+            machine, samplers, samples, window, sample, phase, place, cells,
+        );
     }
 }

@@ -1,5 +1,5 @@
 -- How far a machine is driven, and what was sampled on the way.
-use Rattle.std.specs.Prelude.{◌≡◌, ℕ, ◌+◌, ◌*◌, ◌^◌, ◌<◌, ◌≤◌, List, length, map, slice_get, slice_index_or, Some, ℤ, pos}
+use Rattle.std.specs.Prelude.{◌≡◌, ℕ, ◌+◌, ◌*◌, ◌<◌, ◌≤◌, List, length, map, slice_get, slice_index_or, Some, ℤ, pos}
 use Rattle.vl_ast.specs.declared.modules.Module.{Module}
 use Rattle.vl_ast.specs.Conditions.{BreaksNone}
 use Rattle.vl_ast.specs.Control.{is_stallable}
@@ -15,7 +15,7 @@ use Rattle.vl_replay.specs.declared.playing.Score.{Score}
 use Rattle.vl_replay.specs.declared.samplers.Sampler.{Sampler}
 use Rattle.vl_replay.specs.Sampled.{hit_at, numbers_of}
 use Rattle.vl_replay.specs.inner.Driving.{drivers_from, inputs_of}
-use Rattle.vl_replay.specs.inner.Sampling.{sampler_of}
+use Rattle.vl_replay.specs.inner.Sampling.{IsPower, cell_of, sampler_of}
 
 -- a score of a module that breaks no condition
 pub record IsScoreOf (m : Module) (score : Score) : Type 0 where
@@ -25,26 +25,35 @@ pub record IsScoreOf (m : Module) (score : Score) : Type 0 where
   pub drivers : score.drivers.items ≡ drivers_from (is_stallable m) 0 (driven_ports m)
   pub samplers : score.samplers.items ≡ map (sampler_of (clocks_of m)) (output_ports m)
 
--- the cells whose clocks are among so many have the numbers of their hits
-pub record HaveCells (m : Module) (samples clocks : ℕ) (rows : Rows) (cells : List ℤ) : Type 0 where
-  pub long : length cells ≡ samples * length (output_ports m)
+-- in a ring of so many rows the cells whose clocks are among so many have the numbers of their hits, until another
+-- sample's number is put there
+pub record HaveCells (m : Module) (samples window clocks : ℕ) (rows : Rows) (cells : List ℤ) : Type 0 where
+  pub long : length cells ≡ window * length (output_ports m)
   pub at : Each (output_ports m) (λ place port. (t : Sample) → t < samples → t * clocks_of m + lateness_of port < clocks
-      → slice_index_or cells (t * length (output_ports m) + place) (pos 0) ≡ port_number port (rows (2 + (hit_at (step_of port) t * clocks_of m + lateness_of port)) port.name))
+      → (t + window < samples → clocks ≤ (t + window) * clocks_of m + lateness_of port)
+      → slice_index_or cells (cell_of window (length (output_ports m)) place t) (pos 0) ≡ port_number port (rows (2 + (hit_at (step_of port) t * clocks_of m + lateness_of port)) port.name))
 
 -- so many clocks are passed: the rows up to the machine's run, and their numbers stand in the cells
-pub record IsPlayed (score : Score) (clocks : ℕ) (machine : Machine) (cells : List ℤ) : Type 0 where
+pub record IsPlayed (score : Score) (window clocks : ℕ) (machine : Machine) (cells : List ℤ) : Type 0 where
   pub ready : IsReady machine
   pub score_is : IsScoreOf (source_of machine) score
+  pub power : IsPower window
   pub rows : Rows
   pub steps : AreSteps (source_of machine) (2 + clocks) (λ name. 0) (inputs_of (source_of machine) (numbers_of score.stimulus) score.stimulus.lines) rows
   pub last : rows (1 + clocks) ≡ row_of machine
-  pub have : HaveCells (source_of machine) score.stimulus.lines clocks rows cells
+  pub have : HaveCells (source_of machine) score.stimulus.lines window clocks rows cells
 
 -- no output is sampled more than 16,777,216 samples late
 pub record AreNear (samplers : List Sampler) : Type 0 where
   pub delay : (place : ℕ) (sampler : Sampler) → slice_get samplers place ≡ Some sampler → sampler.delay ≤ 16777216
 
--- by the end of so many samples each number was sampled; with no samples there are none
-pub record IsSpan (score : Score) (span : ℕ) : Type 0 where
-  pub few : span < 2 ^ 32
-  pub enough : (place : ℕ) (sampler : Sampler) → slice_get score.samplers.items place ≡ Some sampler → 0 < score.stimulus.lines → score.stimulus.lines + sampler.delay ≤ span
+-- no number is sampled more samples late; with no samples there are none
+pub record IsDelay (score : Score) (delay : ℕ) : Type 0 where
+  pub few : delay ≤ 16777216
+  pub most : (place : ℕ) (sampler : Sampler) → slice_get score.samplers.items place ≡ Some sampler → 0 < score.stimulus.lines → sampler.delay ≤ delay
+
+-- a ring of so many rows holds the numbers of a sample until all of them are sampled
+pub record IsWindow (samples delay window : ℕ) : Type 0 where
+  pub power : IsPower window
+  pub few : window ≤ 33554434
+  pub wide : window < samples → delay < window

@@ -1,5 +1,5 @@
 -- When the outputs are sampled, and the cells of a table in which their numbers stand.
-use Rattle.std.specs.Prelude.{◌≡◌, ℕ, ◌+◌, ◌*◌, ◌/◌, ◌%◌, ◌<◌, ◌≤◌, ◌==◌, ◌&&◌, if◌then◌else◌, List, length, slice_get, slice_index_or, Option, None, Some, ℤ, pos}
+use Rattle.std.specs.Prelude.{◌≡◌, ℕ, ◌+◌, ◌-◌, ◌*◌, ◌/◌, ◌%◌, ◌^◌, ◌<◌, ◌==◌, if◌then◌else◌, List, length, slice_get, slice_index_or, Option, None, Some, ℤ, pos}
 use Rattle.vl_ast.specs.declared.modules.Port.{Port}
 use Rattle.vl_ast.specs.declared.modules.Module.{Module}
 use Rattle.vl_ast.specs.Attributes.{lateness_of, step_of}
@@ -22,17 +22,22 @@ number_or_zero row (Some port) = port_number port (row port.name)
 abbrev pub number_at : Module → Row → ℕ → ℤ
 number_at m row place = number_or_zero row (slice_get (output_ports m) place)
 
--- the number that stands in a cell after a clock: what the output shows at a hit, and between hits the last
-abbrev pub cell_after : (ℕ → ℤ) → ℕ → ℕ → ℕ → List ℤ → Sampler → ℕ → Sample → ℤ
-cell_after numbers outputs sample phase before sampler place t =
-    if sampler.phase == phase && t + sampler.delay == sample
-    then (if hit_at sampler.period t == t then numbers place else slice_index_or before (hit_at sampler.period t * outputs + place) (pos 0))
-    else slice_index_or before (t * outputs + place) (pos 0)
+-- a power of two
+pub record IsPower (number : ℕ) : Type 0 where
+  pub exponent : ℕ
+  pub is : number ≡ 2 ^ exponent
 
--- the numbers of the first `count` outputs that are due at a clock are put into their cells
-pub record ArePut (numbers : ℕ → ℤ) (samplers : List Sampler) (samples sample phase count : ℕ) (before after : List ℤ) : Type 0 where
+-- the place of an output's number in a ring of so many rows, in which the row of a sample is that of its remainder
+abbrev pub cell_of : ℕ → ℕ → ℕ → Sample → ℕ
+cell_of window outputs place t = t % window * outputs + place
+
+-- the numbers of the first `count` outputs that are due at a clock are put into their cells: what the output shows
+-- at a hit, and between hits the number of the sample before
+pub record ArePut (numbers : ℕ → ℤ) (samplers : List Sampler) (samples window sample phase count : ℕ) (before after : List ℤ) : Type 0 where
   pub long : length after ≡ length before
-  pub put : (place : ℕ) (sampler : Sampler) (t : Sample) → slice_get samplers place ≡ Some sampler → place < count → t < samples
-      → slice_index_or after (t * length samplers + place) (pos 0) ≡ cell_after numbers (length samplers) sample phase before sampler place t
-  pub kept : (place : ℕ) (t : Sample) → count ≤ place → place < length samplers → t < samples
-      → slice_index_or after (t * length samplers + place) (pos 0) ≡ slice_index_or before (t * length samplers + place) (pos 0)
+  pub put : (place : ℕ) (sampler : Sampler) (t : Sample) → slice_get samplers place ≡ Some sampler → place < count → t < samples → sampler.phase ≡ phase → t + sampler.delay ≡ sample
+      → slice_index_or after (cell_of window (length samplers) place t) (pos 0)
+      ≡ (if hit_at sampler.period t == t then numbers place else slice_index_or before (cell_of window (length samplers) place (t - 1)) (pos 0))
+  pub kept : (place : ℕ) (sampler : Sampler) (row : ℕ) → slice_get samplers place ≡ Some sampler
+      → ((t : Sample) → t < samples → place < count → sampler.phase ≡ phase → t + sampler.delay ≡ sample → t % window ≡ row → ⊥)
+      → slice_index_or after (row * length samplers + place) (pos 0) ≡ slice_index_or before (row * length samplers + place) (pos 0)

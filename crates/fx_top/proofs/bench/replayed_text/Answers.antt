@@ -1,4 +1,5 @@
-use Rattle.std.proofs.Common.{Err, ap}
+use Rattle.std.proofs.Common.{ℕ, List, Err, ap, sym, subst}
+use Rattle.fx_top.specs.Replayed.{IsReplayOf}
 use Rattle.fx_top.proofs.Unreplayed.{no-module, no-rows, no-sound}
 use Rattle.fx_top.proofs.bench.replayed_text.Goals as goal
 
@@ -13,3 +14,8 @@ returns-in-Err-Broken c =
 pub returns-in-Err-BadTable : goal.returns-in-Err-BadTable
 returns-in-Err-BadTable c =
     no-rows c.args.verilog.now c.args.stimulus.now c.unique.ensures c.in-Err-BadTable._line c.in-Err-BadTable._cause (c.in-Err-BadTable.ensures.bad c.in-Err-BadTable._line c.in-Err-BadTable._cause (ap Err c.in-Err-BadTable.field-0-is))
+
+pub returns : goal.returns
+returns c =
+    let made = c.in-Ok.ensures.made in
+    subst (λ (text : List ℕ). IsReplayOf c.args.verilog.now c.args.stimulus.now text) (sym (c.in_ok-lines.ensures made.table made.sampled)) made.replay

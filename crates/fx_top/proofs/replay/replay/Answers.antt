@@ -1,6 +1,8 @@
 use Rattle.std.proofs.Common.{ℕ, List, Err, None, refl, ap, subst, arith}
 use Rattle.fx_io.specs.Cause.{Rose}
 use Rattle.fx_io.specs.Shelf.{Fetched, Told}
+use Rattle.fx_tables.specs.Response.{response as response_lines}
+use Rattle.fx_tables.specs.RowText.{periods_of}
 use Rattle.fx_top.specs.Call.{files_in, file_limit}
 use Rattle.fx_top.specs.Command.{Replay}
 use Rattle.fx_top.proofs.Replayed.{fetched-both, second-first}
@@ -59,3 +61,40 @@ pub returns-clause-cause : goal.returns-clause-cause
 returns-clause-cause g c =
     let numbers = subst (λ (held : List ℕ → Told). Fetched (held c.args.stimulus.now) file_limit c.in-Ok-fetch_file.numbers) c.in-Ok.ensures.kept c.in-Ok-fetch_file.ensures.found in
     fetched-both (files_in g.S.Shelf.held g.S.Shelf.steady g.S.Shelf.faults g.S.Shelf.overlong c.args.shelf.now c.fetch_file-2.new.shelf) c.args.verilog.now c.args.stimulus.now c.in-Ok.source c.in-Ok-fetch_file.numbers c.in-Ok.ensures.found numbers
+
+pub returns-in-Ok-write_lines-clause-written : goal.returns-in-Ok-write_lines-clause-written
+returns-in-Ok-write_lines-clause-written g c =
+    let numbers = subst (λ (held : List ℕ → Told). Fetched (held c.args.stimulus.now) file_limit c.in-Ok-fetch_file.numbers) c.in-Ok.ensures.kept c.in-Ok-fetch_file.ensures.found in
+    let response = c.in-Ok-response_of.response in
+    let made = c.in-Ok-response_of.ensures.made in
+    let replay = rw (c.bytes.ensures, c.bytes-2.ensures) at made.replay in
+    record {
+      text = response_lines (periods_of response.text) made.table response.samples;
+      output = record {
+        verilog_bytes = c.in-Ok.source;
+        stimulus_bytes = c.in-Ok-fetch_file.numbers;
+        verilog_fetched = c.in-Ok.ensures.found;
+        stimulus_fetched = numbers;
+        replay = replay;
+      };
+      taken = c.in-Ok-write_lines.ensures.whole made.table made.sampled;
+    }
+
+pub returns-clause-written : goal.returns-clause-written
+returns-clause-written g c =
+    let numbers = subst (λ (held : List ℕ → Told). Fetched (held c.args.stimulus.now) file_limit c.in-Ok-fetch_file.numbers) c.in-Ok.ensures.kept c.in-Ok-fetch_file.ensures.found in
+    let response = c.in-Ok-response_of.response in
+    let made = c.in-Ok-response_of.ensures.made in
+    let replay = rw (c.bytes.ensures, c.bytes-2.ensures) at made.replay in
+    record {
+      rise = c.in-Err-write_lines.ensures.cause;
+      text = response_lines (periods_of response.text) made.table response.samples;
+      output = record {
+        verilog_bytes = c.in-Ok.source;
+        stimulus_bytes = c.in-Ok-fetch_file.numbers;
+        verilog_fetched = c.in-Ok.ensures.found;
+        stimulus_fetched = numbers;
+        replay = replay;
+      };
+      taken = c.in-Err-write_lines.ensures.cut made.table made.sampled;
+    }

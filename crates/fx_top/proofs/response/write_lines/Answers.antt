@@ -1,15 +1,46 @@
-use Rattle.std.proofs.Common.{ℕ, ℤ, List, ap, subst, ◌∙◌}
-use Rattle.fx_io.specs.Sink.{TookProperPrefix}
-use Rattle.fx_tables.specs.Response.{response_line}
+use Rattle.std.proofs.Common.{◌≡◌, ℕ, ℤ, List, Option, ap, subst, ◌∙◌, arith}
+use Rattle.fx_io.specs.Sink.{TookProperPrefix, also_took}
+use Rattle.fx_tables.specs.Response.{response, response_line}
 use Rattle.fx_tables.specs.RowText.{periods_of}
-use Rattle.vl_replay.specs.Replays.{table_of}
-use Rattle.fx_top.proofs.Lines.{took-part}
+use Rattle.fx_top.proofs.Lines.{one-line-more, took-part}
+use Rattle.fx_top.proofs.Responses.{moved-table}
+use Rattle.fx_top.proofs.Sayings.{took-both}
 use Rattle.fx_top.proofs.response.write_lines.Goals as goal
 
 pub returns-in-Err-clause-cut : goal.returns-in-Err-clause-cut
-returns-in-Err-clause-cut g c =
+returns-in-Err-clause-cut g c = λ table is.
     let periods = periods_of c.args.text.now in
     let t = c.loop-sample.sample in
-    let line = c.line.ensures.line ∙ ap (λ (p : List ℕ). response_line p t c.row.result.now) c.loop-sample.invariant.periods ∙ ap (λ (numbers : List ℤ). response_line periods t numbers) c.row.ensures in
-    took-part periods (table_of c.args.replay.now) t c.args.samples (g.K.Sink.taken c.args.out.now) (g.K.Sink.taken c.loop-sample.out) (g.K.Sink.taken c.put_all.new.sink) c.loop-sample-test.true c.loop-sample.invariant.taken
+    let here = moved-table c.advance.new.self c.args.replay.now table (c.advance.ensures.source ∙ c.loop-sample.invariant.source) (c.advance.ensures.stimulus ∙ c.loop-sample.invariant.stimulus) is in
+    let line = c.line.ensures.line ∙ ap (λ (p : List ℕ). response_line p t c.row.result.now) c.loop-sample.invariant.periods ∙ ap (λ (numbers : List ℤ). response_line periods t numbers) (c.row.ensures.sampled table here) in
+    took-part periods table t c.args.samples (g.K.Sink.taken c.args.out.now) (g.K.Sink.taken c.loop-sample.out) (g.K.Sink.taken c.put_all.new.sink) c.loop-sample-test.true (c.loop-sample.invariant.taken table is)
     (subst (λ (bytes : List ℕ). TookProperPrefix (g.K.Sink.taken c.loop-sample.out) (g.K.Sink.taken c.put_all.new.sink) bytes) line c.in-Err.ensures.cut)
+
+pub loop-sample-preserved : goal.loop-sample-preserved
+loop-sample-preserved g c =
+    let periods = periods_of c.args.text.now in
+    let t = c.loop-sample.sample in
+    let source = c.advance.ensures.source ∙ c.loop-sample.invariant.source in
+    let stimulus = c.advance.ensures.stimulus ∙ c.loop-sample.invariant.stimulus in
+    record {
+      stands = c.advance.ensures.stands;
+      source = source;
+      stimulus = stimulus;
+      periods = c.line.follows.holds-at-none ∙ c.loop-sample.invariant.periods;
+      taken = λ table is.
+          let here = moved-table c.advance.new.self c.args.replay.now table source stimulus is in
+          let line = c.line.ensures.line ∙ ap (λ (p : List ℕ). response_line p t c.row.result.now) c.loop-sample.invariant.periods ∙ ap (λ (numbers : List ℤ). response_line periods t numbers) (c.row.ensures.sampled table here) in
+          c.in_default.ensures.whole
+          ∙ ap (λ (told : Option (List ℕ)). also_took told c.line.result.now) (c.loop-sample.invariant.taken table is)
+          ∙ ap (also_took (also_took (g.K.Sink.taken c.args.out.now) (response periods table t))) line
+          ∙ took-both (g.K.Sink.taken c.args.out.now) (response periods table t) (response_line periods t (table t))
+          ∙ ap (also_took (g.K.Sink.taken c.args.out.now)) (one-line-more periods table t);
+      later = let now = c.put_all.ensures.later in let then = c.loop-sample.invariant.later in omega (arith, now, then);
+    }
+
+pub returns-clause-whole : goal.returns-clause-whole
+returns-clause-whole g c = λ table is.
+    let done = c.loop-sample-test.false in
+    let end = c.loop-sample.auto.sample-end in
+    let all : c.loop-sample.sample ≡ c.args.samples = omega (arith, done, end) in
+    c.loop-sample.invariant.taken table is ∙ ap (λ samples. also_took (g.K.Sink.taken c.args.out.now) (response (periods_of c.args.text.now) table samples)) all

@@ -16,4 +16,4 @@ edge-requires-clause-fit c =
 pub returns-clause-played : goal.returns-clause-played
 returns-clause-played c =
     let are = subst (λ (xs : List Driver). AreBits reset_bits xs (length xs) c.put_reset.new.bits) c.as_slice.ensures.value c.put_reset.ensures in
-    begun c.args.score.now c.args.machine.now c.edge.new.self c.put_reset.new.bits c.args.cells.now c.requires.score c.edge.ensures.source c.edge.ensures.ready c.requires.row are c.edge.ensures.row c.requires.room
+    begun c.args.score.now c.args.window c.args.machine.now c.edge.new.self c.put_reset.new.bits c.args.cells.now c.requires.power c.requires.score c.edge.ensures.source c.edge.ensures.ready c.requires.row are c.edge.ensures.row c.requires.room

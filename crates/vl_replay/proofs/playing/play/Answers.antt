@@ -10,7 +10,7 @@ loop-sample-preserved c =
     let cycles = c.args.score.now.cycles in
     let next = sym (suc-mul sample cycles) ∙ ap (λ n. n * cycles) (suc-eq-add-one sample) in
     record {
-      played = subst (λ clocks. IsPlayed c.args.score.now clocks c.play_sample.new.machine c.play_sample.new.cells) next c.play_sample.ensures.played;
+      played = subst (λ clocks. IsPlayed c.args.score.now c.args.window clocks c.play_sample.new.machine c.play_sample.new.cells) next c.play_sample.ensures.played;
       wide = c.play_sample.ensures.wide;
       source = c.play_sample.ensures.source ∙ c.loop-sample.invariant.source;
     }

@@ -1,4 +1,4 @@
-use Rattle.std.proofs.Common.{rules, ◌<◌, ◌*◌, ◌+◌, ◌==◌, ℕ, length, pos, ap, sym, ◌∙◌, arith}
+use Rattle.std.proofs.Common.{rules, ◌<◌, ◌-◌, ◌*◌, ◌%◌, ◌+◌, ◌==◌, ℕ, length, pos, ap, sym, ◌∙◌, arith}
 use Rattle.std.specs.Int.{w128}
 use Rattle.std.specs.Prelude.{slice_index_or}
 use Rattle.std.proofs.lemmas.Bool.{cond-false, cond-true}
@@ -19,12 +19,12 @@ returns-then-hit-sample c =
     let low : c.args.place < length (output_ports m) = omega (arith, within, outputs) in
     to_z-of_z w128 c.port.result (record { sfits = c.port.type_inv })
     ∙ number-shown m (row_of c.args.machine.now) c.args.place c.port.result low c.port.ensures
-    ∙ sym (cond-true (hit_at c.args.period c.args.sample == c.args.sample) (number_at m (row_of c.args.machine.now) c.args.place) (slice_index_or c.args.cells.now (hit_at c.args.period c.args.sample * c.args.outputs + c.args.place) (pos 0)) hit)
+    ∙ sym (cond-true (hit_at c.args.period c.args.sample == c.args.sample) (number_at m (row_of c.args.machine.now) c.args.place) (slice_index_or c.args.cells.now ((c.args.sample - 1) % c.args.window * c.args.outputs + c.args.place) (pos 0)) hit)
 
 pub returns : goal.returns
 returns c =
     let m = source_of c.args.machine.now in
     let miss = unequal-test (hit_at c.args.period c.args.sample) c.args.sample (λ same. c.if-hit-sample.false (c.hit_at-hit.ensures ∙ same)) in
-    to_z-of_z w128 (slice_index_or c.args.cells.now (c.hit_at-hit.result * c.args.outputs + c.args.place) (pos 0)) (search rules)
-    ∙ ap (λ (h : ℕ). slice_index_or c.args.cells.now (h * c.args.outputs + c.args.place) (pos 0)) c.hit_at-hit.ensures
-    ∙ sym (cond-false (hit_at c.args.period c.args.sample == c.args.sample) (number_at m (row_of c.args.machine.now) c.args.place) (slice_index_or c.args.cells.now (hit_at c.args.period c.args.sample * c.args.outputs + c.args.place) (pos 0)) miss)
+    to_z-of_z w128 (slice_index_or c.args.cells.now (c.start_of.result + c.args.place) (pos 0)) (search rules)
+    ∙ ap (λ (start : ℕ). slice_index_or c.args.cells.now (start + c.args.place) (pos 0)) c.start_of.ensures.start
+    ∙ sym (cond-false (hit_at c.args.period c.args.sample == c.args.sample) (number_at m (row_of c.args.machine.now) c.args.place) (slice_index_or c.args.cells.now ((c.args.sample - 1) % c.args.window * c.args.outputs + c.args.place) (pos 0)) miss)

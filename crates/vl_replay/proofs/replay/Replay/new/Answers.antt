@@ -1,10 +1,33 @@
-use Rattle.std.proofs.Common.{subst}
+use Rattle.std.proofs.Common.{◌≡◌, ◌+◌, ◌*◌, ℤ, ℕ, List, length, ap, sym, subst, ◌∙◌, arith}
+use Rattle.std.proofs.lemmas.List.{with_items_is}
+use Rattle.fx_tables.specs.declared.table.Rows.{Rows as Table}
 use Rattle.vl_ast.specs.declared.modules.Module.{Module}
 use Rattle.vl_eval.specs.Machine.{source_of}
-use Rattle.vl_replay.specs.inner.Played.{IsScoreOf}
+use Rattle.vl_replay.specs.inner.Played.{IsPlayed, IsScoreOf, IsWindow}
 use Rattle.vl_replay.proofs.Scores.{samplers-near}
 use Rattle.vl_replay.proofs.replay.Replay.new.Goals as goal
 
-pub span_of-span-requires-clause-late : goal.span_of-span-requires-clause-late
-span_of-span-requires-clause-late c =
-    samplers-near (source_of c.args.machine) c.in_ok-score.score (subst (λ (m : Module). IsScoreOf m c.in_ok-score.score) c.module.ensures c.in_ok-score.ensures.score)
+pub delay_of-delay-requires : goal.delay_of-delay-requires
+delay_of-delay-requires c = record {
+  late = samplers-near (source_of c.args.machine) c.in_ok-score.score (subst (λ (m : Module). IsScoreOf m c.in_ok-score.score) c.module.ensures c.in_ok-score.ensures.score);
+}
+
+pub returns-clause-stands : goal.returns-clause-stands
+returns-clause-stands c =
+    let score = c.in_ok-score.score in
+    let bits = c.in_ok-bits.bits in
+    let cells = c.in_ok-cells.cells in
+    let window = c.window_of-window.result in
+    let delay = c.delay_of-delay.result in
+    let many : length c.play.new.bits ≡ bits.len = c.play.auto.bits ∙ c.deref_mut.ensures.len in
+    let long : length c.play.new.cells ≡ cells.len = c.play.auto.cells ∙ c.deref_mut-2.ensures.len in
+    let lines : score.stimulus.lines ≡ c.args.stimulus.lines = ap (λ (table : Table). table.lines) c.in_ok-score.ensures.stimulus in
+    let first : delay ≡ 0 + delay = omega arith in
+    record {
+      few = let few = c.requires.few in omega (arith, few, lines);
+      wide = ap length (with_items_is bits c.play.new.bits many) ∙ many ∙ c.in_ok-bits.ensures.len ∙ c.len.ensures ∙ score.drivers.ok.0;
+      delay = c.delay_of-delay.ensures;
+      window = subst (λ samples. IsWindow samples delay window) c.count.ensures c.window_of-window.ensures;
+      played = subst (λ (items : List ℤ). IsPlayed score window ((0 + delay) * score.cycles) c.play.new.machine items) (sym (with_items_is cells c.play.new.cells long))
+          (subst (λ (n : ℕ). IsPlayed score window (n * score.cycles) c.play.new.machine c.play.new.cells) first c.play.ensures.played);
+    }
