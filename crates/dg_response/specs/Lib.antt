@@ -1,4 +1,4 @@
 pub mod Laws
-pub mod Responded
+pub mod Responding
 pub mod Response
 pub mod inner

@@ -14,10 +14,9 @@ use Rattle.fx_sample.specs.ModelText.{sample_model}
 use Rattle.fx_sample.specs.Stimulus.{sample_plan, sample_stimulus}
 use Rattle.fx_tables.specs.declared.table.TableCause.{TableCause}
 use Rattle.fx_tables.specs.declared.table.TableFault.TheVariants.{Bad}
-use Rattle.fx_top.specs.declared.simulated.Simulation.{Simulation}
 use Rattle.fx_top.specs.declared.simulated.SimulationFault.{SimulationFault}
 use Rattle.fx_top.specs.declared.simulated.SimulationFault.TheVariants as simulated
-use Rattle.fx_top.specs.inner.Simulating.{IsFaultOf, IsSimulationTo, Refuses, Simulates}
+use Rattle.fx_top.specs.inner.Simulating.{IsFaultOf, Refuses}
 use Rattle.mdl_text.specs.Prefix.{IsMdl}
 use Rattle.fx_top.specs.Answer.{status_of}
 use Rattle.fx_top.specs.Benched.{IsTold}
@@ -111,10 +110,6 @@ no-bad-plan number line cause fault good is why =
     good (Bad line cause) told.bad
 
 -- ---- a simulation of a sample's own stimulus
-
-pub simulates-sample : (diagram : Diagram) (source stimulus own : List ℕ) (ready : Simulation) → IsModelOf source diagram → own ≡ stimulus → Simulates diagram own ready → IsSimulationTo source stimulus ready
-unfolding Simulates
-simulates-sample diagram source stimulus own ready accepted same is = subst (λ (text : List ℕ). IsSimulationTo source text ready) same (is source accepted)
 
 pub refuses-sample : (diagram : Diagram) (source stimulus own : List ℕ) (fault : SimulationFault) → IsModelOf source diagram → own ≡ stimulus → Refuses diagram own fault → IsFaultOf source stimulus fault
 unfolding Refuses

@@ -1,55 +1,151 @@
 -- What a response and the writer of its lines are, and a model's fault as it is told.
-use Rattle.std.specs.Prelude.{Result, Ok, Err, IfOk, IfErr}
-use Rattle.std.proofs.Common.{◌≡◌, ◌<◌, ℕ, List, length, map, Some, sym, ap, subst, ◌∙◌}
+use Rattle.std.proofs.Common.{◌≡◌, ◌<◌, ◌+◌, ◌++◌, ℕ, suc, ℤ, List, [], length, map, Option, None, Some, append-nil, refl, sym, ap, subst, ◌∙◌, arith}
 use Rattle.std.proofs.lemmas.List.{length-map}
+use Rattle.dg_model.specs.Checked.{CheckedDiagram}
 use Rattle.dg_model.specs.declared.diagram.Diagram.{Diagram}
-use Rattle.dg_response.specs.declared.responding.Responded.{Responded}
 use Rattle.dg_response.specs.declared.root_columns.RootColumns.{RootColumns}
-use Rattle.dg_response.specs.Responded.{table_of}
-use Rattle.dg_response.specs.Response.{output_columns}
+use Rattle.dg_response.specs.Laws.{SomeResponds, SomeResponse}
+use Rattle.dg_response.specs.Responding.{IsRowAt}
+use Rattle.dg_response.specs.Response.{IsResponse, input_columns, output_columns}
+use Rattle.dg_tables.specs.Laws.{IsOrdered}
+use Rattle.fx_io.specs.Sink.{TookProperPrefix, also_took}
 use Rattle.fx_model.specs.Model.{IsModelOf}
-use Rattle.fx_tables.specs.declared.row_text.RowText.{RowText}
 use Rattle.fx_tables.specs.declared.table.Column.{Column}
 use Rattle.fx_tables.specs.declared.table.Rows.{Rows}
 use Rattle.fx_tables.specs.declared.table.TableCause.{TableCause}
-use Rattle.fx_tables.specs.Response.{response}
+use Rattle.fx_tables.specs.Response.{response, response_line}
 use Rattle.fx_tables.specs.RowText.{periods_of}
-use Rattle.fx_tables.specs.Stimulus.{IsRows, stimulus_fault}
+use Rattle.fx_tables.specs.Stimulus.{FitsColumns, IsRows, stimulus_fault}
 use Rattle.fx_tables.specs.declared.table.TableFault.TheVariants.{Bad}
+use Rattle.fx_top.specs.declared.simulated.ModelSimulation.{ModelSimulation}
 use Rattle.fx_top.specs.declared.simulated.Simulation.{Simulation}
 use Rattle.fx_top.specs.declared.simulated.SimulationFault.{SimulationFault}
 use Rattle.fx_top.specs.declared.simulated.SimulationFault.TheVariants.{NotMdl, BreaksRule, BadTable, OutOfMemory}
-use Rattle.fx_top.specs.Simulated.{IsBadSimulation, output_periods}
-use Rattle.fx_top.specs.inner.Simulating.{HasColumns, IsFaultOf, IsReadyFor, IsRespondedTo, IsRowsFault, IsSimulationTo, Refuses, Simulates}
+use Rattle.fx_top.specs.Call.{Files, Stream}
+use Rattle.fx_top.specs.Cause.{IsFetched, WroteAll, WrotePart}
+use Rattle.fx_top.specs.Command.{Simulate}
+use Rattle.fx_top.specs.Simulated.{IsBadSimulation, IsSimulationOf, output_periods}
+use Rattle.fx_top.specs.inner.Simulating.{AreLines, HasColumns, IsFaultOf, IsReadyFor, IsRowsFault, IsSimulationIn, IsSimulationTo, Refuses, TookLines, TookPartOfLines}
+use Rattle.fx_top.proofs.Lines.{took-part}
+use Rattle.fx_top.proofs.Sayings.{took-both}
 
-simulates : (source stimulus : List ℕ) (diagram : Diagram) (rows : Rows) (columns : RootColumns) (samples : ℕ) (responded : Responded) (text : RowText)
-    → IsModelOf source diagram → HasColumns diagram columns → IsRows columns.inputs (length columns.outputs) stimulus rows → samples ≡ rows.lines
-    → periods_of text ≡ map (λ (column : Column). column.period) columns.outputs → IsRespondedTo diagram rows responded
-    → IsSimulationTo source stimulus (record { samples = samples; responded = responded; text = text })
-unfolding HasColumns IsRespondedTo
-simulates source stimulus diagram rows columns samples responded text accepted has are lines periods done =
+-- ---- what is ready
+
+pub responds : SomeResponds → (diagram : Diagram) (order : List ℕ) → IsOrdered diagram order → (columns : RootColumns) (rows : Rows) → HasColumns diagram columns
+    → rows.columns ≡ length columns.inputs → FitsColumns columns.inputs rows → SomeResponse diagram rows
+unfolding HasColumns
+responds some diagram order ordered columns rows has count fits =
+    some diagram order rows ordered (count ∙ ap length has.0) (subst (λ (own : List Column). FitsColumns own rows) has.0 fits)
+
+pub made-ready : (checked : CheckedDiagram) (stimulus : List ℕ) (rows : Rows) (columns : RootColumns) (ready : Simulation)
+    → HasColumns checked.diagram columns → IsRows columns.inputs (length columns.outputs) stimulus rows → IsReadyFor checked columns rows ready → IsSimulationIn checked stimulus ready
+unfolding HasColumns
+made-ready checked stimulus rows columns ready has are is =
+    let diagram = checked.diagram in
     let number : length columns.outputs ≡ length (output_columns diagram) = ap length has.1 in
-    let steps : periods_of text ≡ output_periods diagram = periods ∙ ap (λ (own : List Column). map (λ (column : Column). column.period) own) has.1 in
+    let steps : periods_of ready.text ≡ output_periods diagram = is.periods ∙ ap (λ (own : List Column). map (λ (column : Column). column.period) own) has.1 in
     record {
-      room = done.room;
-      samples = lines ∙ sym done.samples;
-      wide = λ t below. done.wide t (subst (λ (n : ℕ). t < n) lines below) ∙ sym (ap length steps ∙ length-map (output_columns diagram) (λ (column : Column). column.period));
-      simulation = record {
-        diagram = diagram;
-        accepted = accepted;
-        rows = rows;
-        rows_are = subst (λ (own : List Column). IsRows own (length (output_columns diagram)) stimulus rows) has.0 (subst (λ (n : ℕ). IsRows columns.inputs n stimulus rows) number are);
-        lines = table_of responded;
-        shown = done.shown;
-        text_is = ap (λ (p : List ℕ). response p (table_of responded) samples) steps ∙ ap (response (output_periods diagram) (table_of responded)) lines;
-      };
+      rows_are = subst (λ (own : Rows). IsRows (input_columns diagram) (length (output_columns diagram)) stimulus own) (sym is.rows_are)
+          (subst (λ (own : List Column). IsRows own (length (output_columns diagram)) stimulus rows) has.0 (subst (λ (n : ℕ). IsRows columns.inputs n stimulus rows) number are));
+      response = is.response;
+      before = is.before;
+      periods = steps;
+      wide = is.before.wide ∙ sym (ap length steps ∙ length-map (output_columns diagram) (λ (column : Column). column.period));
     }
 
-pub made-ready : (diagram : Diagram) (stimulus : List ℕ) (rows : Rows) (columns : RootColumns) (ready : Simulation)
-    → HasColumns diagram columns → IsRows columns.inputs (length columns.outputs) stimulus rows → IsReadyFor diagram columns rows ready → Simulates diagram stimulus ready
-unfolding Simulates
-made-ready diagram stimulus rows columns ready has are is = λ source accepted.
-    simulates source stimulus diagram rows columns ready.samples ready.responded ready.text accepted has are is.samples is.periods is.responded
+-- the lines of its response are a text of the simulation
+pub is-simulation : (checked : CheckedDiagram) (model stimulus : List ℕ) (ready : Simulation) → IsModelOf model checked.diagram → (is : IsSimulationIn checked stimulus ready)
+    → (text : List ℕ) → text ≡ response (periods_of ready.text) is.response.lines ready.rows.lines → IsSimulationOf model stimulus text
+is-simulation checked model stimulus ready accepted is text same = record {
+  diagram = checked.diagram;
+  accepted = accepted;
+  rows = ready.rows;
+  rows_are = is.rows_are;
+  lines = is.response.lines;
+  shown = is.response.shown;
+  text_is = same ∙ ap (λ (p : List ℕ). response p is.response.lines ready.rows.lines) is.periods;
+}
+
+-- the lines that were taken are those of the simulation of what was fetched
+pub wrote-lines : (files : Files) (out : Stream) (model stimulus source numbers : List ℕ) (ready : ModelSimulation) → IsFetched files model source → IsFetched files stimulus numbers → IsSimulationTo source numbers ready
+    → TookLines ready.checked ready.simulation.rows (periods_of ready.simulation.text) ready.simulation.rows.lines out.before out.now → WroteAll files out (Simulate model stimulus)
+wrote-lines files out model stimulus source numbers ready one other is took =
+    let shows = is.simulation.response in
+    let text : List ℕ = response (periods_of ready.simulation.text) shows.lines ready.simulation.rows.lines in
+    record {
+      text = text;
+      output = record {
+        model_bytes = source;
+        stimulus_bytes = numbers;
+        model_fetched = one;
+        stimulus_fetched = other;
+        simulation = is-simulation ready.checked source numbers ready.simulation is.accepted is.simulation text refl;
+      };
+      taken = took.each shows.lines shows.shown;
+    }
+
+pub wrote-part : (files : Files) (out : Stream) (model stimulus source numbers : List ℕ) (ready : ModelSimulation) → IsFetched files model source → IsFetched files stimulus numbers → IsSimulationTo source numbers ready
+    → out.failed → TookPartOfLines ready.checked ready.simulation.rows (periods_of ready.simulation.text) out.before out.now → WrotePart files out (Simulate model stimulus)
+wrote-part files out model stimulus source numbers ready one other is rise took =
+    let shows = is.simulation.response in
+    let text : List ℕ = response (periods_of ready.simulation.text) shows.lines ready.simulation.rows.lines in
+    record {
+      rise = rise;
+      text = text;
+      output = record {
+        model_bytes = source;
+        stimulus_bytes = numbers;
+        model_fetched = one;
+        stimulus_fetched = other;
+        simulation = is-simulation ready.checked source numbers ready.simulation is.accepted is.simulation text refl;
+      };
+      taken = took.each shows.lines shows.shown;
+    }
+
+-- ---- lines
+
+module _ (checked : CheckedDiagram) (rows : Rows) (periods : List ℕ) (t : ℕ) where
+  -- a line by the periods that stay
+  line-of : (own : List ℕ) (numbers : List ℤ) (line : List ℕ) → own ≡ periods → IsRowAt checked rows t numbers → line ≡ response_line own t numbers
+      → (lines : ℕ → List ℤ) → IsResponse checked.diagram rows lines → line ≡ response_line periods t (lines t)
+  line-of own numbers line kept at is lines shown =
+      is ∙ ap (λ (p : List ℕ). response_line p t numbers) kept ∙ ap (λ (row : List ℤ). response_line periods t row) (at.each lines shown)
+
+  pub more_lines : (own : List ℕ) (numbers : List ℤ) (line text : List ℕ) → own ≡ periods → IsRowAt checked rows t numbers → line ≡ response_line own t numbers
+      → AreLines checked rows periods t text → AreLines checked rows periods (t + 1) (text ++ line)
+  more_lines own numbers line text kept at is are = record {
+    each = λ lines shown. ap (λ (xs : List ℕ). xs ++ line) (are.each lines shown) ∙ ap (λ (xs : List ℕ). response periods lines t ++ xs) (line-of own numbers line kept at is lines shown)
+        ∙ ap (response periods lines) (next t);
+  }
+    where
+      next : (n : ℕ) → suc n ≡ n + 1
+      next n = omega arith
+
+  pub took_line : (own : List ℕ) (numbers : List ℤ) (line : List ℕ) (before mid now : Option (List ℕ)) → own ≡ periods → IsRowAt checked rows t numbers → line ≡ response_line own t numbers
+      → TookLines checked rows periods t before mid → now ≡ also_took mid line → TookLines checked rows periods (t + 1) before now
+  took_line own numbers line before mid now kept at is took more = record {
+    each = λ lines shown. more ∙ ap (λ (state : Option (List ℕ)). also_took state line) (took.each lines shown) ∙ took-both before (response periods lines t) line
+        ∙ ap (λ (xs : List ℕ). also_took before (response periods lines t ++ xs)) (line-of own numbers line kept at is lines shown) ∙ ap (λ (n : ℕ). also_took before (response periods lines n)) (next t);
+  }
+    where
+      next : (n : ℕ) → suc n ≡ n + 1
+      next n = omega arith
+
+  pub took_part_of_line : (own : List ℕ) (numbers : List ℤ) (line : List ℕ) (before mid now : Option (List ℕ)) → own ≡ periods → IsRowAt checked rows t numbers → line ≡ response_line own t numbers
+      → t < rows.lines → TookLines checked rows periods t before mid → TookProperPrefix mid now line → TookPartOfLines checked rows periods before now
+  took_part_of_line own numbers line before mid now kept at is below took part = record {
+    each = λ lines shown. took-part periods lines t rows.lines before mid now below (took.each lines shown)
+        (subst (λ (bytes : List ℕ). TookProperPrefix mid now bytes) (line-of own numbers line kept at is lines shown) part);
+  }
+
+pub no_lines : (checked : CheckedDiagram) (rows : Rows) (periods : List ℕ) → AreLines checked rows periods 0 []
+no_lines checked rows periods = record { each = λ lines shown. refl }
+
+pub took_none : (checked : CheckedDiagram) (rows : Rows) (periods : List ℕ) (before : Option (List ℕ)) → TookLines checked rows periods 0 before before
+took_none checked rows periods None = record { each = λ lines shown. refl }
+took_none checked rows periods (Some told) = record { each = λ lines shown. ap Some (sym (append-nil told)) }
+
+-- ---- faults
 
 -- with no memory nothing is said
 pub no-memory : (diagram : Diagram) (stimulus : List ℕ) → Refuses diagram stimulus OutOfMemory
@@ -57,15 +153,9 @@ unfolding Refuses
 no-memory diagram stimulus = λ source accepted. tt
 
 -- of one model
-pub made-of : (diagram : Diagram) (source stimulus : List ℕ) → IsModelOf source diagram → (result : Result Simulation SimulationFault) → IfOk result (Simulates diagram stimulus) → IfOk result (IsSimulationTo source stimulus)
-unfolding Simulates
-made-of diagram source stimulus accepted (Ok ready) is = is source accepted
-made-of diagram source stimulus accepted (Err fault) is = tt
-
-pub refused-of : (diagram : Diagram) (source stimulus : List ℕ) → IsModelOf source diagram → (result : Result Simulation SimulationFault) → IfErr result (Refuses diagram stimulus) → IfErr result (IsFaultOf source stimulus)
+pub refused-of : (diagram : Diagram) (source stimulus : List ℕ) → IsModelOf source diagram → (fault : SimulationFault) → Refuses diagram stimulus fault → IsFaultOf source stimulus fault
 unfolding Refuses
-refused-of diagram source stimulus accepted (Ok ready) is = tt
-refused-of diagram source stimulus accepted (Err fault) is = is source accepted
+refused-of diagram source stimulus accepted fault is = is source accepted
 
 -- a bad line by the columns of the model's diagram
 bad-by : (source stimulus : List ℕ) (diagram : Diagram) (columns : RootColumns) (line : ℕ) (cause : TableCause) → IsModelOf source diagram → HasColumns diagram columns
@@ -76,8 +166,6 @@ bad-by source stimulus diagram columns line cause accepted has fault = record {
   accepted = accepted;
   bad = ap (λ (own : List Column). stimulus_fault own (length (output_columns diagram)) stimulus) (sym has.0) ∙ ap (λ (n : ℕ). stimulus_fault columns.inputs n stimulus) (sym (ap length has.1)) ∙ fault;
 }
-
--- ---- faults
 
 -- a fault of the stimulus, by the columns of the model's diagram
 of-rows : (source stimulus : List ℕ) (diagram : Diagram) (columns : RootColumns) → IsModelOf source diagram → HasColumns diagram columns

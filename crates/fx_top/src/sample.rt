@@ -1,4 +1,4 @@
-ghost use Rattle.std.specs.Prelude.{◌≡◌, ◌≤◌, ◌<◌, All, IfErr, IfOk, length};
+ghost use Rattle.std.specs.Prelude.{◌≡◌, ◌≤◌, ◌<◌, All, IfErr, IfOk, OnOk, length};
 ghost use Rattle.dg_model.specs.Attributes.{attributes_of};
 ghost use Rattle.dg_model.specs.PlanOf.{IsPlanOf};
 ghost use Rattle.dg_model.specs.RootElements.{root_outputs};
@@ -10,6 +10,7 @@ ghost use Rattle.fx_sample.specs.ModelText.{sample_model};
 ghost use Rattle.fx_sample.specs.Stimulus.{sample_plan, sample_stimulus};
 ghost use Rattle.fx_top.specs.Call.{stream_in};
 ghost use Rattle.fx_top.specs.Sampled.{EndsSample, HasSampleCause, HasSampleWritten};
+ghost use Rattle.fx_top.specs.Simulated.{CanBeSimulated};
 ghost use Rattle.fx_top.specs.Summarized.{IsSampleResponse, IsSummaryOf, latency_of_output};
 ghost use Rattle.fx_top.specs.inner.Sampling.{IsOwed, IsRespondedAs, IsSampleFault, IsSimulatedAs};
 ghost use Rattle.fx_top.specs.inner.Simulating.{IsFaultOf};
@@ -85,18 +86,20 @@ fn made_of(alloc: Global, checked: &Checked, planned: &Planned) -> Result<Made, 
     })
 }
 
-/// What a fault of the simulation of a sample says of the sample.
-fn unsimulated(number: u32, fault: SimulationFault) -> Result<Option<Simulation>, SampleFault>
+/// What a fault of the simulation of a sample says of the sample: nothing, where the stimulus doesn't
+/// fit the diagram's columns.
+fn unsimulated(number: u32, fault: SimulationFault) -> Result<(), SampleFault>
     requires few { number ≤ 5000 }
     requires cause { IsFaultOf (sample_model number) (sample_stimulus number) fault }
-    ensures made { IfOk result (IsSimulatedAs number) }
+    ensures unfit { OnOk result (CanBeSimulated (sample_model number) (sample_stimulus number)
+        → ⊥) }
     ensures refused { IfErr result (IsSampleFault number) }
 {
     fx_sample::models_stand();
     match fault {
         SimulationFault::NotMdl { .. } => unreachable!(),
         SimulationFault::BreaksRule { line } => Err(SampleFault::BreaksRule { line }),
-        SimulationFault::BadTable { .. } => Ok(None),
+        SimulationFault::BadTable { .. } => Ok(()),
         SimulationFault::OutOfMemory => Err(SampleFault::OutOfMemory),
     }
 }
@@ -110,13 +113,16 @@ fn sample_simulation(
 ) -> Result<Option<Simulation>, SampleFault>
     requires few { number ≤ 5000 }
     requires model { IsModelOf (sample_model number) checked.now.diagram }
-    ensures made { IfOk result (IsSimulatedAs number) }
+    ensures made { IfOk result (IsSimulatedAs checked.now number) }
     ensures refused { IfErr result (IsSampleFault number) }
 {
     let stimulus = stimulus_text(alloc, number)?;
     match simulation_in(alloc, checked, stimulus.bytes()) {
         Ok(simulation) => Ok(Some(simulation)),
-        Err(fault) => unsimulated(number, fault),
+        Err(fault) => match unsimulated(number, fault) {
+            Ok(()) => Ok(None),
+            Err(fault) => Err(fault),
+        },
     }
 }
 
@@ -128,15 +134,15 @@ fn sample_lines(alloc: Global, checked: &Checked, number: u32) -> Result<Option<
     ensures refused { IfErr result (IsSampleFault number) }
 {
     let Simulation {
-        samples,
-        responded,
+        rows,
+        mut responding,
         mut text,
     } = match sample_simulation(alloc, checked, number) {
         Ok(Some(simulation)) => simulation,
         Ok(None) => return Ok(None),
         Err(fault) => return Err(fault),
     };
-    let lines = simulation_text(alloc, &responded, &mut text, samples)?;
+    let lines = simulation_text(alloc, checked, &rows, &mut responding, &mut text)?;
     Ok(Some(lines))
 }
 

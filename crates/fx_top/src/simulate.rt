@@ -5,7 +5,7 @@ ghost use Rattle.fx_top.specs.Command.{Simulate as SimulateOf};
 
 use crate::answer::Answer;
 use crate::fetch::fetch_file;
-use crate::simulated::{Simulation, SimulationFault, simulation_of, write_simulation};
+use crate::simulated::{SimulationFault, simulation_of, write_simulation};
 use fx_io::{Shelf, Sink};
 use std::alloc::Global;
 
@@ -31,8 +31,8 @@ pub fn simulate<'a, S: Shelf, K: Sink>(
         Ok(numbers) => numbers,
         Err(answer) => return answer,
     };
-    let simulation = match simulation_of(alloc, source.bytes(), numbers.bytes()) {
-        Ok(simulation) => simulation,
+    let ready = match simulation_of(alloc, source.bytes(), numbers.bytes()) {
+        Ok(ready) => ready,
         Err(SimulationFault::NotMdl { line }) => return Answer::NotMdl { file: model, line },
         Err(SimulationFault::BreaksRule { line }) => return Answer::BreaksRule { line },
         Err(SimulationFault::BadTable { line, cause }) => {
@@ -44,12 +44,7 @@ pub fn simulate<'a, S: Shelf, K: Sink>(
         }
         Err(SimulationFault::OutOfMemory) => return Answer::OutOfMemory,
     };
-    let Simulation {
-        samples,
-        responded,
-        mut text,
-    } = simulation;
-    match write_simulation(&responded, &mut text, samples, out) {
+    match write_simulation(ready, out) {
         Ok(()) => Answer::Done,
         Err(_) => Answer::CannotWrite,
     }

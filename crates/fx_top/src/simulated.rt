@@ -1,15 +1,14 @@
-ghost use Rattle.std.specs.Prelude.{◌≡◌, ◌<◌, ◌^◌, ℕ, List, All, IfErr, IfOk, OnErr, OnOk, length};
+ghost use Rattle.std.specs.Prelude.{◌≡◌, ◌<◌, ◌≤◌, ◌^◌, ℕ, List, All, IfErr, IfOk, OnErr, OnOk, length};
 ghost use Rattle.fx_io.specs.Cause.{Rose};
-ghost use Rattle.fx_io.specs.Sink.{TookProperPrefix, also_took};
-ghost use Rattle.fx_tables.specs.Response.{response};
 ghost use Rattle.fx_tables.specs.RowText.{periods_of};
 ghost use Rattle.fx_tables.specs.Stimulus.{FitsColumns, IsRows};
-ghost use Rattle.dg_response.specs.Responded.{HasRoom, lines_of, table_of};
+ghost use Rattle.dg_response.specs.Laws.{SomeResponse};
+ghost use Rattle.dg_response.specs.Responding.{IsBefore, row_of};
 ghost use Rattle.fx_designed.specs.Refused.{IsRefusedModel};
-ghost use Rattle.fx_top.specs.inner.Simulating.{HasColumns, IsFaultOf, IsReadyFor, IsRespondedTo, IsRowsFault, IsSimulationTo, Refuses, Simulates};
+ghost use Rattle.fx_top.specs.inner.Simulating.{AreLines, HasColumns, IsFaultOf, IsReadyFor, IsRowsFault, IsSimulationIn, IsSimulationTo, Refuses, TookLines, TookPartOfLines};
 
 use dg_model::{Checked, root_elements_are_listed};
-use dg_response::{Responded, RootColumns, columns, respond};
+use dg_response::{Responding, RootColumns, columns, some_response};
 use fx_designed::{ModelRefusal, checked_of};
 use fx_io::{OutOfMemory, PutFault, Sink, Text, put_all};
 use fx_tables::{Column, RowText, Rows, TableCause, TableFault, read_rows};
@@ -43,12 +42,21 @@ impl From<OutOfMemory> for SimulationFault {
     }
 }
 
-/// A response that is ready, and the writer of its lines.
+/// The response of a diagram before its first sample, and the writer of its lines. All memory that
+/// the lines need is taken.
 #[derive(Drop)]
 pub struct Simulation {
-    pub samples: u64,
-    pub responded: Responded,
+    /// The numbers of the stimulus.
+    pub rows: Rows,
+    pub responding: Responding,
     pub text: RowText,
+}
+
+/// The diagram of a model with its simulation.
+#[derive(Drop)]
+pub struct ModelSimulation {
+    checked: Checked,
+    simulation: Simulation,
 }
 
 /// The columns of a diagram, where they can be numbered by 32 bits.
@@ -78,6 +86,7 @@ fn rows_of(alloc: Global, stimulus: &[u8], columns: &RootColumns) -> Result<Rows
     ensures rows { IfOk result (IsRows columns.now.inputs
         (length columns.now.outputs) stimulus.now) }
     ensures fits { IfOk result (FitsColumns columns.now.inputs) }
+    ensures few { IfOk result (λ rows. rows.lines ≤ 50000000) }
     ensures refused { IfErr result (IsRowsFault columns.now stimulus.now) }
 {
     let count = columns.outputs.as_slice().len() as u64;
@@ -88,20 +97,25 @@ fn rows_of(alloc: Global, stimulus: &[u8], columns: &RootColumns) -> Result<Rows
     }
 }
 
-/// The response of a diagram to the rows of its stimulus.
-#[tactic(auto, unfolding(crate::specs::inner::Simulating::HasColumns, crate::specs::inner::Simulating::IsRespondedTo))]
-fn responded_to(
+/// The response of a diagram to the rows of its stimulus, before its first sample.
+#[tactic(auto, unfolding(crate::specs::inner::Simulating::HasColumns))]
+fn responding_to(
     alloc: Global,
     checked: &Checked,
     columns: &RootColumns,
     rows: &Rows,
-) -> Result<Responded, OutOfMemory>
+) -> Result<Responding, OutOfMemory>
     requires columns { HasColumns checked.now.diagram columns.now }
     requires count { rows.now.columns ≡ length columns.now.inputs }
     requires fits { FitsColumns columns.now.inputs rows.now }
-    ensures { IfOk result (IsRespondedTo checked.now.diagram rows.now) }
+    requires few { rows.now.lines ≤ 50000000 }
+    ensures before { IfOk result (λ responding. IsBefore checked.now rows.now responding 0) }
+    ensures response { OnOk result (SomeResponse checked.now.diagram rows.now) }
 {
-    respond(alloc, checked, rows, columns.outputs.as_slice().len())
+    checked.keeps_rules();
+    some_response();
+    let responding = Responding::new(alloc, checked, rows, columns.outputs.as_slice().len())?;
+    Ok(responding)
 }
 
 /// The response of a diagram to the rows of its stimulus, and the writer of its lines.
@@ -109,21 +123,21 @@ fn simulation_with(
     alloc: Global,
     checked: &Checked,
     columns: &RootColumns,
-    rows: &Rows,
+    rows: Rows,
 ) -> Result<Simulation, OutOfMemory>
     requires columns { HasColumns checked.now.diagram columns.now }
     requires periods { All (λ column. 0 < column.period) columns.now.outputs }
-    requires few { length columns.now.outputs < 2 ^ 32 }
-    requires count { rows.now.columns ≡ length columns.now.inputs }
-    requires fits { FitsColumns columns.now.inputs rows.now }
-    ensures { IfOk result (IsReadyFor checked.now.diagram columns.now rows.now) }
+    requires few_outputs { length columns.now.outputs < 2 ^ 32 }
+    requires count { rows.columns ≡ length columns.now.inputs }
+    requires fits { FitsColumns columns.now.inputs rows }
+    requires few { rows.lines ≤ 50000000 }
+    ensures { IfOk result (IsReadyFor checked.now columns.now rows) }
 {
-    let samples = rows.count();
     let text = RowText::new(alloc, columns.outputs.as_slice())?;
-    let responded = responded_to(alloc, checked, columns, rows)?;
+    let responding = responding_to(alloc, checked, columns, &rows)?;
     Ok(Simulation {
-        samples,
-        responded,
+        rows,
+        responding,
         text,
     })
 }
@@ -134,7 +148,7 @@ pub fn simulation_in(
     checked: &Checked,
     stimulus: &[u8],
 ) -> Result<Simulation, SimulationFault>
-    ensures made { IfOk result (Simulates checked.now.diagram stimulus.now) }
+    ensures made { IfOk result (IsSimulationIn checked.now stimulus.now) }
     ensures refused { IfErr result (Refuses checked.now.diagram stimulus.now) }
 {
     let columns = match columns_of(alloc, checked) {
@@ -145,7 +159,7 @@ pub fn simulation_in(
         Ok(rows) => rows,
         Err(fault) => return Err(fault),
     };
-    match simulation_with(alloc, checked, &columns, &rows) {
+    match simulation_with(alloc, checked, &columns, rows) {
         Ok(simulation) => Ok(simulation),
         Err(OutOfMemory) => Err(SimulationFault::OutOfMemory),
     }
@@ -156,7 +170,7 @@ pub fn simulation_of(
     alloc: Global,
     model: &[u8],
     stimulus: &[u8],
-) -> Result<Simulation, SimulationFault>
+) -> Result<ModelSimulation, SimulationFault>
     ensures made { IfOk result (IsSimulationTo model.now stimulus.now) }
     ensures refused { IfErr result (IsFaultOf model.now stimulus.now) }
 {
@@ -164,7 +178,13 @@ pub fn simulation_of(
         Ok(checked) => checked,
         Err(refusal) => return Err(refused(refusal)),
     };
-    simulation_in(alloc, &checked, stimulus)
+    match simulation_in(alloc, &checked, stimulus) {
+        Ok(simulation) => Ok(ModelSimulation {
+            checked,
+            simulation,
+        }),
+        Err(fault) => Err(fault),
+    }
 }
 
 /// That columns are few enough to be numbered by 32 bits.
@@ -190,49 +210,73 @@ fn refused(refusal: ModelRefusal) -> SimulationFault
     }
 }
 
-/// Puts the lines of so many samples, each by itself. It takes no memory.
-pub fn write_simulation<K: Sink>(
-    responded: &Responded,
+/// Puts the line of each row by itself, as soon as its sample is made. It takes no memory.
+#[tactic(auto, using(crate::proofs::Simulations::took_none, crate::proofs::Simulations::took_line, crate::proofs::Simulations::took_part_of_line))]
+fn put_lines<K: Sink>(
+    checked: &Checked,
+    rows: &Rows,
+    responding: &mut Responding,
     text: &mut RowText,
-    samples: u64,
     out: &mut K,
 ) -> Result<(), PutFault>
-    requires room { HasRoom responded.now }
-    requires samples { samples ≡ lines_of responded.now }
-    requires wide { (t : ℕ) → t < samples
-        → length (table_of responded.now t) ≡ length (periods_of text.old) }
-    ensures whole { OnOk result (K.taken out.new
-        ≡ also_took (K.taken out.old) (response (periods_of text.old)
-        (table_of responded.now) samples)) }
-    ensures cut { OnErr result (TookProperPrefix (K.taken out.old) (K.taken out.new)
-        (response (periods_of text.old) (table_of responded.now) samples)) }
+    requires before { IsBefore checked.now rows.now responding.old 0 }
+    requires wide { length (row_of responding.old) ≡ length (periods_of text.old) }
+    ensures whole { OnOk result (TookLines checked.now rows.now (periods_of text.old) rows.now.lines
+        (K.taken out.old) (K.taken out.new)) }
+    ensures cut { OnErr result (TookPartOfLines checked.now rows.now (periods_of text.old)
+        (K.taken out.old) (K.taken out.new)) }
     ensures cause { OnErr result (Rose (K.faults out.old) (K.faults out.new)) }
 {
-    for sample in 0..samples {
-        if let Err(fault) = put_all(out, text.line(sample, responded.row(sample))) {
+    for sample in 0..rows.count() {
+        responding.step(checked, rows, sample);
+        if let Err(fault) = put_all(out, text.line(sample, responding.row())) {
             return Err(fault);
         }
     }
     Ok(())
 }
 
-/// The lines of so many samples, one after another.
+/// Writes the lines of a simulation, each by itself. It takes no memory.
+pub fn write_simulation<K: Sink>(ready: ModelSimulation, out: &mut K) -> Result<(), PutFault>
+    requires before { IsBefore ready.checked ready.simulation.rows ready.simulation.responding 0 }
+    requires wide { length (row_of ready.simulation.responding)
+        ≡ length (periods_of ready.simulation.text) }
+    ensures whole { OnOk result (TookLines ready.checked ready.simulation.rows
+        (periods_of ready.simulation.text) ready.simulation.rows.lines
+        (K.taken out.old) (K.taken out.new)) }
+    ensures cut { OnErr result (TookPartOfLines ready.checked ready.simulation.rows
+        (periods_of ready.simulation.text) (K.taken out.old) (K.taken out.new)) }
+    ensures cause { OnErr result (Rose (K.faults out.old) (K.faults out.new)) }
+{
+    let ModelSimulation {
+        checked,
+        simulation,
+    } = ready;
+    let Simulation {
+        rows,
+        mut responding,
+        mut text,
+    } = simulation;
+    put_lines(&checked, &rows, &mut responding, &mut text, out)
+}
+
+/// The lines of all rows, one after another.
+#[tactic(auto, using(crate::proofs::Simulations::no_lines, crate::proofs::Simulations::more_lines))]
 pub fn simulation_text(
     alloc: Global,
-    responded: &Responded,
+    checked: &Checked,
+    rows: &Rows,
+    responding: &mut Responding,
     text: &mut RowText,
-    samples: u64,
 ) -> Result<Text, OutOfMemory>
-    requires room { HasRoom responded.now }
-    requires samples { samples ≡ lines_of responded.now }
-    requires wide { (t : ℕ) → t < samples
-        → length (table_of responded.now t) ≡ length (periods_of text.old) }
-    ensures { IfOk result (λ lines. lines
-        ≡ response (periods_of text.old) (table_of responded.now) samples) }
+    requires before { IsBefore checked.now rows.now responding.old 0 }
+    requires wide { length (row_of responding.old) ≡ length (periods_of text.old) }
+    ensures { IfOk result (AreLines checked.now rows.now (periods_of text.old) rows.now.lines) }
 {
     let mut lines = Vec::new(alloc);
-    for sample in 0..samples {
-        lines.extend_from_slice(text.line(sample, responded.row(sample)))?;
+    for sample in 0..rows.count() {
+        responding.step(checked, rows, sample);
+        lines.extend_from_slice(text.line(sample, responding.row()))?;
     }
     Text::from_vec(alloc, lines)
 }

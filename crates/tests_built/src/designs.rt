@@ -1,5 +1,5 @@
 //! Designs: a model's diagram, the numbers of its simulation, and its netlist by a plan.
-ghost use Rattle.std.specs.Prelude.{◌≡◌, ◌<◌, ◌^◌, All, IfOk, length, true};
+ghost use Rattle.std.specs.Prelude.{◌≡◌, ◌<◌, ◌≤◌, ◌^◌, All, IfOk, length, true};
 ghost use Rattle.dg_model.specs.PlanOf.{IsPlanOf};
 ghost use Rattle.dg_response.specs.Response.{input_columns, output_columns};
 ghost use Rattle.fx_tables.specs.Stimulus.{FitsColumns};
@@ -8,7 +8,7 @@ ghost use Rattle.hw_rules.specs.Times.{AreTimes};
 
 use anyhow::{Result, anyhow};
 use dg_model::{Checked, Resolved};
-use dg_response::{RootColumns, columns, respond};
+use dg_response::{Responding, RootColumns, columns};
 use fx_tables::{Column, Rows, TableFault, read_rows};
 use hw_build::build;
 use hw_net::{Netlist, is_netlist};
@@ -62,6 +62,7 @@ fn rows_of(alloc: Global, stimulus: &[u8], columns: &RootColumns) -> Result<Rows
     requires few { length columns.now.inputs < 2 ^ 32 }
     ensures count { IfOk result (λ rows. rows.columns ≡ length columns.now.inputs) }
     ensures fits { IfOk result (FitsColumns columns.now.inputs) }
+    ensures few { IfOk result (λ rows. rows.lines ≤ 50000000) }
 {
     let outputs = columns.outputs.as_slice().len() as u64;
     match read_rows(alloc, stimulus, columns.inputs.as_slice(), outputs) {
@@ -75,12 +76,14 @@ fn rows_of(alloc: Global, stimulus: &[u8], columns: &RootColumns) -> Result<Rows
 fn shown_of(alloc: Global, checked: &Checked, rows: &Rows, outputs: usize) -> Result<Vec<i128>>
     requires columns { rows.now.columns ≡ length (input_columns checked.now.diagram) }
     requires fits { FitsColumns (input_columns checked.now.diagram) rows.now }
+    requires few { rows.now.lines ≤ 50000000 }
     requires outputs { outputs ≡ length (output_columns checked.now.diagram) }
 {
-    let responded = respond(alloc, checked, rows, outputs)?;
+    let mut responding = Responding::new(alloc, checked, rows, outputs)?;
     let mut shown = Vec::new(alloc);
     for sample in 0..rows.count() {
-        shown.extend_from_slice(responded.row(sample))?;
+        responding.step(checked, rows, sample);
+        shown.extend_from_slice(responding.row())?;
     }
     Ok(shown)
 }

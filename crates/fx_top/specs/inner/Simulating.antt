@@ -1,10 +1,12 @@
 -- A response of a model that is ready to be written, and a model's fault with its line.
-use Rattle.std.specs.Prelude.{◌≡◌, ⊤, ℕ, ◌<◌, List, length, map, Some}
+use Rattle.std.specs.Prelude.{◌≡◌, ⊤, ℕ, ℤ, List, length, map, Option, Some}
+use Rattle.dg_model.specs.Checked.{CheckedDiagram}
 use Rattle.dg_model.specs.declared.diagram.Diagram.{Diagram}
-use Rattle.dg_response.specs.declared.responding.Responded.{Responded}
 use Rattle.dg_response.specs.declared.root_columns.RootColumns.{RootColumns}
-use Rattle.dg_response.specs.Responded.{HasRoom, lines_of, table_of}
+use Rattle.dg_response.specs.Laws.{SomeResponse}
+use Rattle.dg_response.specs.Responding.{IsBefore, row_of}
 use Rattle.dg_response.specs.Response.{input_columns, output_columns, IsResponse}
+use Rattle.fx_io.specs.Sink.{TookProperPrefix, also_took}
 use Rattle.fx_model.specs.Model.{IsModelOf, IsNotMdl}
 use Rattle.fx_model.specs.RuleLine.{TellsRule}
 use Rattle.fx_tables.specs.declared.table.Column.{Column}
@@ -12,43 +14,48 @@ use Rattle.fx_tables.specs.declared.table.Rows.{Rows}
 use Rattle.fx_tables.specs.declared.table.TableFault.TheVariants.{Bad}
 use Rattle.fx_tables.specs.Response.{response}
 use Rattle.fx_tables.specs.RowText.{periods_of}
-use Rattle.fx_tables.specs.Stimulus.{stimulus_fault}
+use Rattle.fx_tables.specs.Stimulus.{IsRows, stimulus_fault}
+use Rattle.fx_top.specs.declared.simulated.ModelSimulation.{ModelSimulation}
 use Rattle.fx_top.specs.declared.simulated.Simulation.{Simulation}
 use Rattle.fx_top.specs.declared.simulated.SimulationFault.{SimulationFault}
 use Rattle.fx_top.specs.declared.simulated.SimulationFault.TheVariants.{NotMdl, BreaksRule, BadTable, OutOfMemory}
-use Rattle.fx_top.specs.Simulated.{IsBadSimulation, IsSimulationOf}
+use Rattle.fx_top.specs.Simulated.{IsBadSimulation, output_periods}
 
--- the lines of the response
-abbrev pub text_of : Simulation → List ℕ
-text_of ready = response (periods_of ready.text) (table_of ready.responded) ready.samples
+-- the response of a diagram to a stimulus is ready to be written
+pub record IsSimulationIn (checked : CheckedDiagram) (stimulus : List ℕ) (ready : Simulation) : Type 0 where
+  pub rows_are : IsRows (input_columns checked.diagram) (length (output_columns checked.diagram)) stimulus ready.rows
+  pub response : SomeResponse checked.diagram ready.rows
+  pub before : IsBefore checked ready.rows ready.responding 0
+  pub periods : periods_of ready.text ≡ output_periods checked.diagram
+  pub wide : length (row_of ready.responding) ≡ length (periods_of ready.text)
 
--- it has the numbers of each line, and its lines are the response of the model to the stimulus
-pub record IsSimulationTo (model stimulus : List ℕ) (ready : Simulation) : Type 0 where
-  pub room : HasRoom ready.responded
-  pub samples : ready.samples ≡ lines_of ready.responded
-  pub wide : (t : ℕ) → t < ready.samples → length (table_of ready.responded t) ≡ length (periods_of ready.text)
-  pub simulation : IsSimulationOf model stimulus (text_of ready)
+-- that of the diagram of a model
+pub record IsSimulationTo (model stimulus : List ℕ) (ready : ModelSimulation) : Type 0 where
+  pub accepted : IsModelOf model ready.checked.diagram
+  pub simulation : IsSimulationIn ready.checked stimulus ready.simulation
+
+-- the text is the first t lines of every response of the diagram to the rows
+pub record AreLines (checked : CheckedDiagram) (rows : Rows) (periods : List ℕ) (t : ℕ) (text : List ℕ) : Type 0 where
+  pub each : (lines : ℕ → List ℤ) → IsResponse checked.diagram rows lines → text ≡ response periods lines t
+
+-- the first t lines of every response were taken
+pub record TookLines (checked : CheckedDiagram) (rows : Rows) (periods : List ℕ) (t : ℕ) (before now : Option (List ℕ)) : Type 0 where
+  pub each : (lines : ℕ → List ℤ) → IsResponse checked.diagram rows lines → now ≡ also_took before (response periods lines t)
+
+-- a proper prefix of the lines of every response was taken
+pub record TookPartOfLines (checked : CheckedDiagram) (rows : Rows) (periods : List ℕ) (before now : Option (List ℕ)) : Type 0 where
+  pub each : (lines : ℕ → List ℤ) → IsResponse checked.diagram rows lines → TookProperPrefix before now (response periods lines rows.lines)
 
 -- these are the columns of a diagram
 unfoldable pub HasColumns : Diagram → RootColumns → Type 0
 HasColumns diagram columns = (columns.inputs ≡ input_columns diagram) × (columns.outputs ≡ output_columns diagram)
 
--- the response of a diagram to these rows, with room for each number
-pub record HasResponded (diagram : Diagram) (rows : Rows) (responded : Responded) : Type 0 where
-  pub shown : IsResponse diagram rows (table_of responded)
-  pub samples : lines_of responded ≡ rows.lines
-  pub room : HasRoom responded
-  pub wide : (t : ℕ) → t < rows.lines → length (table_of responded t) ≡ length (output_columns diagram)
-
--- that, as one fact
-unfoldable pub IsRespondedTo : Diagram → Rows → Responded → Type 0
-IsRespondedTo diagram rows responded = HasResponded diagram rows responded
-
 -- a response to these rows and the writer of its lines are ready
-pub record IsReadyFor (diagram : Diagram) (columns : RootColumns) (rows : Rows) (ready : Simulation) : Type 0 where
-  pub samples : ready.samples ≡ rows.lines
+pub record IsReadyFor (checked : CheckedDiagram) (columns : RootColumns) (rows : Rows) (ready : Simulation) : Type 0 where
+  pub rows_are : ready.rows ≡ rows
+  pub response : SomeResponse checked.diagram ready.rows
+  pub before : IsBefore checked ready.rows ready.responding 0
   pub periods : periods_of ready.text ≡ map (λ (column : Column). column.period) columns.outputs
-  pub responded : IsRespondedTo diagram rows ready.responded
 
 -- what a fault says of a stimulus of these columns
 abbrev pub IsRowsFault : RootColumns → List ℕ → SimulationFault → Type 0
@@ -63,10 +70,6 @@ IsFaultOf source stimulus (NotMdl line) = IsNotMdl source line
 IsFaultOf source stimulus (BreaksRule line) = TellsRule source line
 IsFaultOf source stimulus (BadTable line cause) = IsBadSimulation source stimulus line cause
 IsFaultOf source stimulus OutOfMemory = ⊤
-
--- it is the response of every model of this diagram
-unfoldable pub Simulates : Diagram → List ℕ → Simulation → Type 0
-Simulates diagram stimulus ready = (source : List ℕ) → IsModelOf source diagram → IsSimulationTo source stimulus ready
 
 -- it is a fault of every model of this diagram
 unfoldable pub Refuses : Diagram → List ℕ → SimulationFault → Type 0

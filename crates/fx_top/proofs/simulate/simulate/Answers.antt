@@ -1,11 +1,12 @@
 use Rattle.std.proofs.Common.{inl, ℕ, List, None, refl, subst, arith}
 use Rattle.fx_io.specs.Cause.{Rose}
 use Rattle.fx_io.specs.Shelf.{Fetched, Told}
-use Rattle.fx_top.specs.Call.{files_in, file_limit}
+use Rattle.fx_top.specs.Call.{files_in, stream_in, file_limit}
 use Rattle.fx_top.specs.Command.{Simulate}
 use Rattle.fx_top.specs.declared.simulated.SimulationFault.{SimulationFault}
-use Rattle.fx_top.specs.inner.Simulating.{IsFaultOf}
+use Rattle.fx_top.specs.inner.Simulating.{IsFaultOf, IsSimulationTo}
 use Rattle.fx_top.proofs.Replayed.{fetched-both, second-first}
+use Rattle.fx_top.proofs.Simulations.{wrote-lines, wrote-part}
 use Rattle.fx_top.proofs.Unfetched.{cause-unfetched, moved}
 use Rattle.fx_top.proofs.simulate.simulate.Goals as goal
 
@@ -61,3 +62,17 @@ pub returns-clause-cause : goal.returns-clause-cause
 returns-clause-cause g c =
     let numbers = subst (λ (held : List ℕ → Told). Fetched (held c.args.stimulus.now) file_limit c.in-Ok-fetch_file.numbers) c.in-Ok.ensures.kept c.in-Ok-fetch_file.ensures.found in
     fetched-both (files_in g.S.Shelf.held g.S.Shelf.steady g.S.Shelf.faults g.S.Shelf.overlong c.args.shelf.now c.fetch_file-2.new.shelf) c.args.model.now c.args.stimulus.now c.in-Ok.source c.in-Ok-fetch_file.numbers c.in-Ok.ensures.found numbers
+
+pub returns-in-Ok-write_simulation-clause-written : goal.returns-in-Ok-write_simulation-clause-written
+returns-in-Ok-write_simulation-clause-written g c =
+    let numbers = subst (λ (held : List ℕ → Told). Fetched (held c.args.stimulus.now) file_limit c.in-Ok-fetch_file.numbers) c.in-Ok.ensures.kept c.in-Ok-fetch_file.ensures.found in
+    let ready = subst (λ (source : List ℕ). IsSimulationTo source c.in-Ok-fetch_file.numbers c.in-Ok-simulation_of.ready) c.bytes.ensures (subst (λ (stimulus : List ℕ). IsSimulationTo c.bytes.result.now stimulus c.in-Ok-simulation_of.ready) c.bytes-2.ensures c.in-Ok-simulation_of.ensures.made) in
+    wrote-lines (files_in g.S.Shelf.held g.S.Shelf.steady g.S.Shelf.faults g.S.Shelf.overlong c.args.shelf.now c.fetch_file-2.new.shelf) (stream_in g.K.Sink.taken g.K.Sink.faults c.args.out.now c.write_simulation.new.out) c.args.model.now c.args.stimulus.now
+    c.in-Ok.source c.in-Ok-fetch_file.numbers c.in-Ok-simulation_of.ready c.in-Ok.ensures.found numbers ready c.in-Ok-write_simulation.ensures.whole
+
+pub returns-clause-written : goal.returns-clause-written
+returns-clause-written g c =
+    let numbers = subst (λ (held : List ℕ → Told). Fetched (held c.args.stimulus.now) file_limit c.in-Ok-fetch_file.numbers) c.in-Ok.ensures.kept c.in-Ok-fetch_file.ensures.found in
+    let ready = subst (λ (source : List ℕ). IsSimulationTo source c.in-Ok-fetch_file.numbers c.in-Ok-simulation_of.ready) c.bytes.ensures (subst (λ (stimulus : List ℕ). IsSimulationTo c.bytes.result.now stimulus c.in-Ok-simulation_of.ready) c.bytes-2.ensures c.in-Ok-simulation_of.ensures.made) in
+    wrote-part (files_in g.S.Shelf.held g.S.Shelf.steady g.S.Shelf.faults g.S.Shelf.overlong c.args.shelf.now c.fetch_file-2.new.shelf) (stream_in g.K.Sink.taken g.K.Sink.faults c.args.out.now c.write_simulation.new.out) c.args.model.now c.args.stimulus.now
+    c.in-Ok.source c.in-Ok-fetch_file.numbers c.in-Ok-simulation_of.ready c.in-Ok.ensures.found numbers ready c.in-Err-write_simulation.ensures.cause c.in-Err-write_simulation.ensures.cut

@@ -1,11 +1,13 @@
-use Rattle.std.proofs.Common.{◌≡◌}
-use Rattle.dg_response.specs.Responded.{table_of}
-use Rattle.fx_tables.specs.Response.{response}
+use Rattle.std.proofs.Common.{◌≡◌, length}
+use Rattle.dg_response.specs.Responding.{IsBefore, row_of}
 use Rattle.fx_tables.specs.RowText.{periods_of}
+use Rattle.fx_top.specs.inner.Simulating.{AreLines}
 use Rattle.fx_top.proofs.simulated.simulation_text.Given as goal
 
 abbrev pub invariant-loop-sample : goal.invariant-loop-sample
 invariant-loop-sample l = record {
+  before : IsBefore l.checked l.rows l.responding l.sample;
+  wide : length (row_of l.responding) ≡ length (periods_of l.text);
   periods : periods_of l.text ≡ periods_of l.initial.text;
-  lines : l.lines.items ≡ response (periods_of l.initial.text) (table_of l.responded) l.sample;
+  lines : AreLines l.checked l.rows (periods_of l.initial.text) l.sample l.lines.items;
 }
