@@ -6,7 +6,7 @@ use Rattle.hw_net.specs.Operation.{arity}
 use Rattle.vl_emit.specs.Names.{Wire}
 use Rattle.vl_emit.specs.inner.Operators.{expression_of}
 use Rattle.vl_emit.specs.inner.Spelled.{at_width}
-use Rattle.vl_emit.specs.inner.Spoken.{triple}
+use Rattle.vl_emit.specs.inner.Spoken.{IsWithin, triple}
 
 module _ (w : ℕ) (ports : ℕ → Wire) (own : Wire) (a : ℕ → Wire) (x y z : Wire) where
   abbrev Same : NetOp → Type 0
@@ -30,3 +30,23 @@ module _ (w : ℕ) (ports : ℕ → Wire) (own : Wire) (a : ℕ → Wire) (x y z
   same-expression Equal p f g h = (let e = f (omega arith) in let k = g (omega arith) in (λ i. expression_of Equal ports (triple (e i) (k i) z) w))
   same-expression Choose p f g h = (let e = f (omega arith) in let k = g (omega arith) in let l = h (omega arith) in (λ i. expression_of Choose ports (triple (e i) (k i) (l i)) w))
   same-expression (Slice high low) p f g h = (let e = f (omega arith) in (λ i. expression_of (Slice high low) ports (triple (e i) y z) w))
+
+-- a slice lies within its operand
+pub within-first : (op : NetOp) (width own : ℕ) → (0 < arity op → width ≡ own) → IsWithin op own → IsWithin op width
+within-first (Input port) width own e w = tt
+within-first (Const value) width own e w = tt
+within-first Resize width own e w = tt
+within-first (ShiftUp places) width own e w = tt
+within-first (ShiftDown places) width own e w = tt
+within-first Add width own e w = tt
+within-first Subtract width own e w = tt
+within-first Negate width own e w = tt
+within-first Multiply width own e w = tt
+within-first And width own e w = tt
+within-first Or width own e w = tt
+within-first Xor width own e w = tt
+within-first Not width own e w = tt
+within-first Less width own e w = tt
+within-first Equal width own e w = tt
+within-first Choose width own e w = tt
+within-first (Slice high low) width own e w = (let same = e (omega arith) in (w.0, omega (arith, same, w.1)))
