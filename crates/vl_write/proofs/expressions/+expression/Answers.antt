@@ -1,7 +1,57 @@
-use Rattle.std.proofs.Common.{codes, arith}
-use Rattle.vl_ast.specs.Spelling.{expr_text}
+use Rattle.std.proofs.Common.{◌++◌, map, codes, arith, ap, ◌∙◌}
+use Rattle.std.proofs.lemmas.Result.{on_ok_weaker}
+use Rattle.vl_ast.specs.Spelling.{joined, expr_text, sized_text}
 use Rattle.vl_write.proofs.Joined.{joined_text}
+use Rattle.vl_write.proofs.Written.{wrote-concat, wrote-repeat, wrote-unary, wrote-binary, wrote-shift, wrote-choose}
 use Rattle.vl_write.proofs.expressions.+expression.Goals as goal
+
+pub put_expr-returns-in_ok-put_parts-in-Concat : goal.put_expr-returns-in_ok-put_parts-in-Concat
+put_expr-returns-in_ok-put_parts-in-Concat t c =
+    let parts = ap (λ xs. c.put-in-Concat.new.out.items ++ joined (codes ", ") (map expr_text xs)) c.as_slice.ensures in
+    on_ok_weaker c.put-in-Concat-2.result
+    (λ ends. wrote-concat c.in-Concat.parts c.args.e.now c.args.out.now.items _ _ _ c.in-Concat.is c.in_ok-put-in-Concat.ensures (c.in_ok-put_parts-in-Concat.ensures ∙ parts) ends)
+    c.put-in-Concat-2.ensures
+
+pub put_expr-returns-in_ok-put_count-in-Repeat : goal.put_expr-returns-in_ok-put_count-in-Repeat
+put_expr-returns-in_ok-put_count-in-Repeat t c =
+    let part = ap (λ x. c.put_count.new.out.items ++ (expr_text x ++ codes "}}")) c.get.ensures in
+    on_ok_weaker c.put_within.result
+    (λ ends. wrote-repeat c.in-Repeat.count c.in-Repeat.part c.args.e.now c.args.out.now.items _ _ c.in-Repeat.is c.in_ok-put_count-in-Repeat.ensures (ends ∙ part))
+    c.put_within.ensures
+
+pub put_expr-returns-in_ok-put_opened-in-Unary : goal.put_expr-returns-in_ok-put_opened-in-Unary
+put_expr-returns-in_ok-put_opened-in-Unary t c =
+    let op = ap (λ xs. c.args.out.now.items ++ (codes "(" ++ xs)) c.text.ensures in
+    let part = ap (λ x. c.put_opened.new.out.items ++ (codes " " ++ (expr_text x ++ codes ")"))) c.get-in-Unary.ensures in
+    on_ok_weaker c.put_within-in-Unary.result
+    (λ ends. wrote-unary c.in-Unary.op c.in-Unary.part c.args.e.now c.args.out.now.items _ _ c.in-Unary.is (c.in_ok-put_opened-in-Unary.ensures ∙ op) (ends ∙ part))
+    c.put_within-in-Unary.ensures
+
+pub put_expr-returns-in_ok-put-in-Binary : goal.put_expr-returns-in_ok-put-in-Binary
+put_expr-returns-in_ok-put-in-Binary t c =
+    let left = ap (λ x. c.args.out.now.items ++ (codes "(" ++ (expr_text x ++ codes " "))) c.get-in-Binary.ensures in
+    let op = ap (λ xs. c.put_within-in-Binary.new.out.items ++ xs) c.text-in-Binary.ensures in
+    let right = ap (λ x. c.put-in-Binary.new.out.items ++ (codes " " ++ (expr_text x ++ codes ")"))) c.get-in-Binary-2.ensures in
+    on_ok_weaker c.put_within-in-Binary-2.result
+    (λ ends. wrote-binary c.in-Binary.op c.in-Binary.left c.in-Binary.right c.args.e.now c.args.out.now.items _ _ _ c.in-Binary.is (c.in_ok-put_within-in-Binary.ensures ∙ left) (c.in_ok-put-in-Binary.ensures ∙ op) (ends ∙ right))
+    c.put_within-in-Binary-2.ensures
+
+pub put_expr-returns-in_ok-put_within-in-Shift : goal.put_expr-returns-in_ok-put_within-in-Shift
+put_expr-returns-in_ok-put_within-in-Shift t c =
+    let part = ap (λ x. c.args.out.now.items ++ (codes "(" ++ (expr_text x ++ codes " "))) c.get-in-Shift.ensures in
+    let op = ap (λ xs. c.put_within-in-Shift.new.out.items ++ (xs ++ codes " " ++ sized_text c.in-Shift.amount ++ codes ")")) c.text-in-Shift.ensures in
+    on_ok_weaker c.put_amount.result
+    (λ ends. wrote-shift c.in-Shift.op c.in-Shift.part c.in-Shift.amount c.args.e.now c.args.out.now.items _ _ c.in-Shift.is (c.in_ok-put_within-in-Shift.ensures ∙ part) (ends ∙ op))
+    c.put_amount.ensures
+
+pub put_expr-returns-in_ok-put_within-in-Choose-2 : goal.put_expr-returns-in_ok-put_within-in-Choose-2
+put_expr-returns-in_ok-put_within-in-Choose-2 t c =
+    let test = ap (λ x. c.args.out.now.items ++ (codes "(" ++ (expr_text x ++ codes " ? "))) c.get-in-Choose.ensures in
+    let chosen = ap (λ x. c.put_within-in-Choose.new.out.items ++ (expr_text x ++ codes " : ")) c.get-in-Choose-2.ensures in
+    let other = ap (λ x. c.put_within-in-Choose-2.new.out.items ++ (expr_text x ++ codes ")")) c.get-in-Choose-3.ensures in
+    on_ok_weaker c.put_within-in-Choose-3.result
+    (λ ends. wrote-choose c.in-Choose.test c.in-Choose.chosen c.in-Choose.other c.args.e.now c.args.out.now.items _ _ _ c.in-Choose.is (c.in_ok-put_within-in-Choose.ensures ∙ test) (c.in_ok-put_within-in-Choose-2.ensures ∙ chosen) (ends ∙ other))
+    c.put_within-in-Choose-3.ensures
 
 pub put_parts-returns : goal.put_parts-returns
 put_parts-returns t c = joined_text (codes ", ") expr_text c.args.parts.now c.in-Some.first.now c.in-Some.others.now c.args.out.now.items _ _ c.loop-part.part-index c.in-Some.ensures.cases.0 c.in_ok-put_expr.ensures c.loop-part.invariant (omega arith)
