@@ -1,6 +1,7 @@
 //! Bytes that are written by a backslash.
 
-use anyhow::{Result, anyhow};
+use crate::lines::written;
+use anyhow::{Error, Result};
 use std::alloc::Global;
 use std::io::Write;
 
@@ -33,7 +34,7 @@ fn take(bytes: &mut Vec<u8>, begun: Begun, letter: u8) -> Result<Begun> {
         (Begun::Letter, b'r') => b'\r',
         (Begun::Letter, b'\\') => b'\\',
         (Begun::Letter, b'x') => return Ok(Begun::Digits),
-        (Begun::Letter, _) => return Err(anyhow!("no escape")),
+        (Begun::Letter, _) => return Err(Error::msg("no escape")),
         (Begun::Digits, high) => return Ok(Begun::Second(digit(high)?)),
         (Begun::Second(high), low) => high.wrapping_mul(16).wrapping_add(digit(low)?),
     };
@@ -46,7 +47,7 @@ fn digit(letter: u8) -> Result<u8> {
     match letter {
         b'0'..=b'9' => Ok(letter.wrapping_sub(b'0')),
         b'a'..=b'f' => Ok(letter.wrapping_sub(b'a').wrapping_add(10)),
-        _ => Err(anyhow!("no digit")),
+        _ => Err(Error::msg("no digit")),
     }
 }
 
@@ -54,14 +55,19 @@ fn digit(letter: u8) -> Result<u8> {
 /// numbers.
 pub fn put_escaped<W: Write>(out: &mut W, bytes: &[u8]) -> Result<()> {
     for byte in bytes {
-        match *byte {
-            b'\n' => out.write_all(b"\\n")?,
-            b'\t' => out.write_all(b"\\t")?,
-            b'\r' => out.write_all(b"\\r")?,
-            b'\\' => out.write_all(b"\\\\")?,
-            b' '..=b'~' => out.write_all(&[*byte])?,
-            other => write!(out, "\\x{other:02x}")?,
-        }
+        put_byte(out, *byte)?;
     }
     Ok(())
+}
+
+fn put_byte<W: Write>(out: &mut W, byte: u8) -> Result<()> {
+    let letter = match byte {
+        b'\n' => b'n',
+        b'\t' => b't',
+        b'\r' => b'r',
+        b'\\' => b'\\',
+        b' '..=b'~' => return written(out.write_all(&[byte])),
+        _ => return written(write!(out, "\\x{byte:02x}")),
+    };
+    written(out.write_all(&[b'\\', letter]))
 }

@@ -13,6 +13,6 @@ mod row;
 mod texts;
 
 pub use escapes::{put_escaped, unescaped};
-pub use lines::{Answers, answer_lines};
-pub use row::Row;
+pub use lines::{Answers, answer_lines, written};
+pub use row::{Row, found};
 pub use texts::Texts;

@@ -27,12 +27,39 @@ pub fn answer_lines<R: Input + Print + Threads + Sync, A: Answers>(
 ) -> Result<()> {
     let mut out = BufWriter::new(alloc, io::writer(rt))?;
     let mut texts = Texts::new(alloc);
+    answer_each(rt, alloc, answers, &mut texts, &mut out)
+}
+
+fn answer_each<R: Input + Threads + Sync, A: Answers, W: Write>(
+    rt: &R,
+    alloc: Global,
+    answers: &mut A,
+    texts: &mut Texts,
+    out: &mut W,
+) -> Result<()> {
     for line in rt.reader().lines(alloc) {
         let line = line?;
-        if !texts.take(alloc, line.as_str())? {
-            answers.take(rt, alloc, &texts, line.as_str(), &mut out)?;
-        }
+        answer(rt, alloc, answers, texts, line.as_str(), out)?;
     }
-    out.flush()?;
-    Ok(())
+    written(out.flush())
+}
+
+fn answer<R: Threads + Sync, A: Answers, W: Write>(
+    rt: &R,
+    alloc: Global,
+    answers: &mut A,
+    texts: &mut Texts,
+    line: &str,
+    out: &mut W,
+) -> Result<()> {
+    if texts.take(alloc, line)? {
+        Ok(())
+    } else {
+        answers.take(rt, alloc, texts, line, out)
+    }
+}
+
+/// What writing came to.
+pub fn written(put: io::Result<()>) -> Result<()> {
+    Ok(put?)
 }

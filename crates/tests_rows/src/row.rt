@@ -1,6 +1,6 @@
 //! A row, whose words are read in order.
 
-use anyhow::{Result, anyhow};
+use anyhow::{Error, Result};
 use std::alloc::Global;
 
 /// The words of a row behind its command and the name of its text, and that text.
@@ -31,7 +31,7 @@ impl<'a> Row<'a> {
     pub fn next(&mut self) -> Result<&'a str> {
         let word = match self.words.get(self.at) {
             Some(word) => *word,
-            None => return Err(anyhow!("too few words")),
+            None => return Err(Error::msg("too few words")),
         };
         self.at = self.at.wrapping_add(1);
         Ok(word)
@@ -40,28 +40,44 @@ impl<'a> Row<'a> {
     pub fn byte(&mut self) -> Result<u8> {
         match self.next()?.parse::<u8>() {
             Ok(v) => Ok(v),
-            Err(_) => Err(anyhow!("no byte")),
+            Err(_) => Err(Error::msg("no byte")),
         }
     }
 
     pub fn number(&mut self) -> Result<u32> {
         match self.next()?.parse::<u32>() {
             Ok(v) => Ok(v),
-            Err(_) => Err(anyhow!("no number")),
+            Err(_) => Err(Error::msg("no number")),
         }
     }
 
     pub fn long(&mut self) -> Result<u64> {
         match self.next()?.parse::<u64>() {
             Ok(v) => Ok(v),
-            Err(_) => Err(anyhow!("no long number")),
+            Err(_) => Err(Error::msg("no long number")),
         }
     }
 
     pub fn integer(&mut self) -> Result<i128> {
         match self.next()?.parse::<i128>() {
             Ok(v) => Ok(v),
-            Err(_) => Err(anyhow!("no integer")),
+            Err(_) => Err(Error::msg("no integer")),
         }
     }
+
+    /// What the next word stands for in a table.
+    pub fn one_of<T: Copy>(&mut self, table: &[(&str, T)]) -> Result<T> {
+        found(self.next()?, table)
+    }
+}
+
+/// What a word stands for in a table.
+pub fn found<T: Copy>(word: &str, table: &[(&str, T)]) -> Result<T> {
+    for entry in table {
+        let (name, value) = *entry;
+        if name == word {
+            return Ok(value);
+        }
+    }
+    Err(Error::msg("no such word"))
 }

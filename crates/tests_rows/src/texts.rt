@@ -2,7 +2,7 @@
 
 use crate::escapes::unescaped;
 use crate::row::Row;
-use anyhow::{Result, anyhow};
+use anyhow::{Error, Result};
 use std::alloc::Global;
 
 /// A text by its name.
@@ -30,9 +30,8 @@ impl Texts {
     /// Takes a line that begins, continues or ends a text; false of a row.
     pub fn take(&mut self, alloc: Global, line: &str) -> Result<bool> {
         if self.open {
-            if line.as_bytes() == b"end".as_slice() {
-                self.open = false;
-            } else {
+            self.open = line != "end";
+            if self.open {
                 self.put(line)?;
             }
             return Ok(true);
@@ -40,12 +39,17 @@ impl Texts {
         let Some(name) = line.strip_prefix("text ") else {
             return Ok(false);
         };
-        self.texts.push(Named {
-            name: String::from_str(alloc, name)?,
-            text: String::new(alloc),
-        })?;
-        self.open = true;
+        self.begin(alloc, name)?;
         Ok(true)
+    }
+
+    /// Begins the text of this name.
+    fn begin(&mut self, alloc: Global, name: &str) -> Result<()> {
+        let name = String::from_str(alloc, name)?;
+        let text = String::new(alloc);
+        self.texts.push(Named { name, text })?;
+        self.open = true;
+        Ok(())
     }
 
     /// Puts a line at the end of the last text.
@@ -60,50 +64,75 @@ impl Texts {
     /// The text of a name.
     pub fn named(&self, name: &str) -> Result<&str> {
         for one in self.texts.iter() {
-            if one.name.as_bytes() == name.as_bytes() {
+            if one.name.as_str() == name {
                 return Ok(one.text.as_str());
             }
         }
-        Err(anyhow!("no text of this name"))
+        Err(Error::msg("no text of this name"))
     }
 
     /// The row of a line.
     pub fn row<'a>(&self, alloc: Global, line: &'a str) -> Result<Row<'a>> {
-        let mut parts = line.split('`');
-        let front = parts.next().unwrap_or("");
+        let parts: Vec<&'a str> = line.split('`').collect(alloc)?;
+        match parts.split_first() {
+            Some((front, behind)) => self.row_of(alloc, front, behind),
+            None => Err(Error::msg("no row")),
+        }
+    }
+
+    /// The row of the words in front of these parts.
+    fn row_of<'a>(&self, alloc: Global, front: &'a str, parts: &[&str]) -> Result<Row<'a>> {
         let mut row = Row::of(alloc, front)?;
+        self.fill(alloc, &mut row, parts)?;
+        Ok(row)
+    }
+
+    fn fill(&self, alloc: Global, row: &mut Row<'_>, parts: &[&str]) -> Result<()> {
         row.command = row.next()?;
         let name = row.next()?;
-        let parts: Vec<&str> = parts.collect(alloc)?;
-        row.text = self.text_of(alloc, name, parts.as_slice())?;
-        Ok(row)
+        row.text = self.text_of(alloc, name, parts)?;
+        Ok(())
     }
 
     /// The text of a name with these parts.
     fn text_of(&self, alloc: Global, name: &str, parts: &[&str]) -> Result<Vec<u8>> {
-        if name.as_bytes() == b"=".as_slice() {
-            return match parts.first() {
-                Some(part) => unescaped(alloc, part),
-                None => Ok(Vec::new(alloc)),
-            };
+        if name != "=" {
+            let mut text = String::from_str(alloc, self.named(name)?)?;
+            exchange(alloc, &mut text, parts)?;
+            return Ok(text.into_bytes());
         }
-        let mut text = String::from_str(alloc, self.named(name)?)?;
-        if parts.len() % 2 == 1 {
-            return Err(anyhow!("a part lacks its other"));
+        match parts.first() {
+            Some(part) => unescaped(alloc, part),
+            None => Ok(Vec::new(alloc)),
         }
-        for pair in 0..parts.len() / 2 {
-            text = exchanged(alloc, text.as_str(), parts[2 * pair], parts[2 * pair + 1])?;
-        }
-        Ok(text.into_bytes())
     }
+}
+
+/// Exchanges the first of these parts for the second, the third for the fourth, and so on.
+fn exchange(alloc: Global, text: &mut String, parts: &[&str]) -> Result<()> {
+    if parts.len() % 2 == 1 {
+        return Err(Error::msg("a part lacks its other"));
+    }
+    for pair in 0..parts.len() / 2 {
+        *text = exchanged(alloc, text.as_str(), parts[2 * pair], parts[2 * pair + 1])?;
+    }
+    Ok(())
 }
 
 /// The text with the first of one part as another.
 fn exchanged(alloc: Global, text: &str, old: &str, new: &str) -> Result<String> {
-    let old = String::from_utf8(unescaped(alloc, old)?)?;
-    let new = String::from_utf8(unescaped(alloc, new)?)?;
-    let Some((before, after)) = text.split_once(old.as_str()) else {
-        return Err(anyhow!("the text lacks a part"));
-    };
-    Ok(format!(in alloc; "{before}{new}{after}")?)
+    let old = part_of(alloc, old)?;
+    let new = part_of(alloc, new)?;
+    joined(alloc, text, old.as_str(), new.as_str())
+}
+
+fn part_of(alloc: Global, part: &str) -> Result<String> {
+    Ok(String::from_utf8(unescaped(alloc, part)?)?)
+}
+
+fn joined(alloc: Global, text: &str, old: &str, new: &str) -> Result<String> {
+    match text.split_once(old) {
+        Some((before, after)) => Ok(format!(in alloc; "{before}{new}{after}")?),
+        None => Err(Error::msg("the text lacks a part")),
+    }
 }
