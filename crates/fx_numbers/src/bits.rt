@@ -2,10 +2,10 @@
 ghost use Rattle.std.specs.Prelude.{◌≤◌, IfOk};
 ghost use Rattle.fx_num.specs.Word.{IsWord};
 
-use anyhow::{Result, anyhow};
+use anyhow::{Error, Result};
 use fx_num::{fits, from_bits, is_word, shift_up, to_bits, wrap};
 use std::io::Write;
-use tests_rows::Row;
+use tests_rows::{Row, written};
 
 /// A width, and whether there is a sign.
 #[derive(Clone, Copy)]
@@ -17,44 +17,48 @@ struct Word {
 fn word_of(words: &mut Row<'_>) -> Result<Word>
     ensures { IfOk result (λ word. IsWord word.width word.signed) }
 {
-    let signed = match words.next()?.as_bytes() {
-        b"s" => true,
-        b"u" => false,
-        _ => return Err(anyhow!("no sign")),
-    };
+    let signed = words.one_of(&[("s", true), ("u", false)])?;
     let width = words.byte()?;
     if is_word(width, signed) {
         Ok(Word { width, signed })
     } else {
-        Err(anyhow!("no word"))
+        Err(Error::msg("no word"))
     }
 }
 
-pub fn wrapped<W: Write>(words: &mut Row<'_>, out: &mut W) -> Result<()> {
+/// Tells what becomes of a number and a word.
+pub fn in_word<W: Write>(name: &str, words: &mut Row<'_>, out: &mut W) -> Result<()> {
     let v = words.integer()?;
     let Word { width, signed } = word_of(words)?;
-    let r = wrap(v, width, signed);
-    writeln!(out, "{r}")?;
-    Ok(())
-}
-
-pub fn fitted<W: Write>(words: &mut Row<'_>, out: &mut W) -> Result<()> {
-    let v = words.integer()?;
-    let Word { width, signed } = word_of(words)?;
-    let r = fits(v, width, signed);
-    writeln!(out, "{r}")?;
-    Ok(())
-}
-
-pub fn in_bits<W: Write>(words: &mut Row<'_>, out: &mut W) -> Result<()> {
-    let v = words.integer()?;
-    let Word { width, signed } = word_of(words)?;
-    if !fits(v, width, signed) {
-        return Err(anyhow!("the number leaves its word"));
+    match name {
+        "wrap" => written(writeln!(out, "{}", wrap(v, width, signed))),
+        "fits" => written(writeln!(out, "{}", fits(v, width, signed))),
+        "to_bits" => put_bits(v, width, signed, out),
+        _ => put_number(v, width, signed, out),
     }
-    let r = to_bits(v, width, signed);
-    writeln!(out, "{r}")?;
-    Ok(())
+}
+
+fn put_bits<W: Write>(v: i128, width: u8, signed: bool, out: &mut W) -> Result<()>
+    requires { IsWord width signed }
+{
+    if fits(v, width, signed) {
+        written(writeln!(out, "{}", to_bits(v, width, signed)))
+    } else {
+        Err(Error::msg("the number leaves its word"))
+    }
+}
+
+/// Tells the number of a word that has these bits, which are those of a byte.
+fn put_number<W: Write>(bits: i128, width: u8, signed: bool, out: &mut W) -> Result<()>
+    requires { IsWord width signed }
+{
+    let Ok(bits) = u8::try_from(bits) else {
+        return Err(Error::msg("no byte"));
+    };
+    if width < 8 {
+        return Err(Error::msg("the bits may leave their word"));
+    }
+    written(writeln!(out, "{}", of_byte(bits, width, signed)))
 }
 
 /// The number of a word of a byte or more that has these bits.
@@ -65,23 +69,11 @@ fn of_byte(bits: u8, width: u8, signed: bool) -> i128
     from_bits(u128::from(bits), width, signed)
 }
 
-pub fn of_bits<W: Write>(words: &mut Row<'_>, out: &mut W) -> Result<()> {
-    let bits = words.byte()?;
-    let Word { width, signed } = word_of(words)?;
-    if width < 8 {
-        return Err(anyhow!("the bits may leave their word"));
-    }
-    let r = of_byte(bits, width, signed);
-    writeln!(out, "{r}")?;
-    Ok(())
-}
-
 pub fn shifted<W: Write>(words: &mut Row<'_>, out: &mut W) -> Result<()> {
     let v = words.integer()?;
     let by = words.number()?;
     match shift_up(v, by) {
-        Some(r) => writeln!(out, "{r}")?,
-        None => writeln!(out, "None")?,
+        Some(r) => written(writeln!(out, "{r}")),
+        None => written(out.write_all(b"None\n")),
     }
-    Ok(())
 }

@@ -36,7 +36,7 @@ use anyhow::Result;
 use std::alloc::Global;
 use std::io::Write;
 use std::thread::Threads;
-use tests_rows::{Answers, Row, Texts, answer_lines};
+use tests_rows::{Answers, Row, Texts, answer_lines, written};
 
 /// Nothing stands between cases.
 #[derive(Drop)]
@@ -65,50 +65,39 @@ impl Answers for Cases {
 }
 
 fn answer<W: Write>(alloc: Global, words: &mut Row<'_>, text: &str, out: &mut W) -> Result<()> {
-    match words.next()?.as_bytes() {
-        b"wrap" => bits::wrapped(words, out),
-        b"fits" => bits::fitted(words, out),
-        b"to_bits" => bits::in_bits(words, out),
-        b"from_bits" => bits::of_bits(words, out),
-        b"shift_up" => bits::shifted(words, out),
-        b"range" => types::range(words, out),
-        b"conversion" => types::conversion(words, out),
-        b"decimal" => types::decimal(words, text, out),
-        b"sum_type" => types::sum_type(alloc, words, out),
-        b"product_type" => types::product_type(words, out),
-        b"union_type" => types::union_type(words, out),
-        b"output" => put_output(alloc, words, out),
-        operation => put_operation(alloc, operation, words, out),
+    let name = words.next()?;
+    match name {
+        "wrap" | "fits" | "to_bits" | "from_bits" => bits::in_word(name, words, out),
+        "shift_up" => bits::shifted(words, out),
+        "range" => types::range(words, out),
+        "conversion" => types::conversion(words, out),
+        "decimal" => types::decimal(words, text, out),
+        "sum_type" => types::sum_type(alloc, words, out),
+        "product_type" | "union_type" => types::pair_type(name, words, out),
+        "output" => put_operation(alloc, words.next()?, false, words, out),
+        _ => put_operation(alloc, name, true, words, out),
     }
 }
 
-/// What an operation gives, and what it gives prepared.
-fn put_output<W: Write>(alloc: Global, words: &mut Row<'_>, out: &mut W) -> Result<()> {
-    let operation = words.next()?;
-    let answer = operations::carried_out(alloc, operation.as_bytes(), words)?;
-    let Answer {
-        value,
-        prepared,
-        ..
-    } = answer;
-    writeln!(out, "{value} {prepared}")?;
-    Ok(())
-}
-
-/// The same with what its nets show, and how many these are.
+/// What an operation gives, and what it gives prepared; in whole also what its nets show, and how
+/// many these are.
 fn put_operation<W: Write>(
     alloc: Global,
-    operation: &[u8],
+    name: &str,
+    whole: bool,
     words: &mut Row<'_>,
     out: &mut W,
 ) -> Result<()> {
-    let answer = operations::carried_out(alloc, operation, words)?;
+    let answer = operations::carried_out(alloc, name, words)?;
     let Answer {
         value,
         prepared,
         shown,
         nets,
     } = answer;
-    writeln!(out, "{value} {prepared} {shown} {nets}")?;
-    Ok(())
+    if whole {
+        written(writeln!(out, "{value} {prepared} {shown} {nets}"))
+    } else {
+        written(writeln!(out, "{value} {prepared}"))
+    }
 }

@@ -6,7 +6,7 @@ ghost use Rattle.dg_model.specs.Operation.{operation_of, CanCarryOut};
 ghost use Rattle.hw_net.specs.Netlist.{HasWord};
 ghost use Rattle.hw_lower.specs.Lowered.{AreArgs};
 
-use anyhow::{Result, anyhow};
+use anyhow::{Error, Result};
 use dg_blocks::{Prepared, output};
 use dg_model::OpCall;
 use fx_io::{Sizes, Text};
@@ -31,14 +31,8 @@ pub fn answered(alloc: Global, call: &OpCall, inputs: &[i128]) -> Result<Answer>
     let value = output(call, inputs);
     let prepared = Prepared::new(call).output(call, inputs);
     let mut net = Netlist::new(alloc, 1);
-    let args = put_inputs(alloc, &mut net, call.types)?;
-    let before = net.nets().len();
-    if !are_args(&net, call.types, args.as_slice()) {
-        return Err(anyhow!("an input lacks its net"));
-    }
-    let number = lower(alloc, &mut net, call, args.as_slice())?;
-    let shown = shown(alloc, &net, number, inputs)?;
-    let nets = net.nets().len().saturating_sub(before);
+    let shown = shown_in(alloc, &mut net, call, inputs)?;
+    let nets = net.nets().len().saturating_sub(inputs.len());
     Ok(Answer {
         value,
         prepared,
@@ -47,23 +41,59 @@ pub fn answered(alloc: Global, call: &OpCall, inputs: &[i128]) -> Result<Answer>
     })
 }
 
-/// Puts an input of each type into the netlist, and gives the numbers of their nets.
-fn put_inputs(alloc: Global, net: &mut Netlist, types: &[FxType]) -> Result<Vec<u32>> {
+/// What the nets of an operation show, which are put into an empty netlist behind its inputs.
+fn shown_in(alloc: Global, net: &mut Netlist, call: &OpCall, inputs: &[i128]) -> Result<i128>
+    requires { CanCarryOut (operation_of call.now) inputs.now }
+{
     let mut args = Vec::new(alloc);
-    for (input, kind) in types.iter().enumerate() {
-        let Ok(input) = u32::try_from(input) else {
-            return Err(anyhow!("too many inputs"));
-        };
-        let number = net.add(input_of(alloc, input, *kind))?;
-        args.push(number)?;
-        net.add_input(NetPort {
-            name: Text::copy(alloc, b"in")?,
-            net: number,
-            period: 1,
-            latency: 0,
-        })?;
+    put_inputs(alloc, net, call.types, &mut args)?;
+    lowered(alloc, net, call, args.as_slice(), inputs)
+}
+
+/// Puts an input of each type into the netlist, and gives the numbers of their nets.
+fn put_inputs(
+    alloc: Global,
+    net: &mut Netlist,
+    types: &[FxType],
+    args: &mut Vec<u32>,
+) -> Result<()> {
+    for kind in types {
+        put_input(alloc, net, *kind, args)?;
     }
-    Ok(args)
+    Ok(())
+}
+
+fn put_input(alloc: Global, net: &mut Netlist, kind: FxType, args: &mut Vec<u32>) -> Result<()> {
+    let Ok(input) = u32::try_from(args.len()) else {
+        return Err(Error::msg("too many inputs"));
+    };
+    let number = net.add(input_of(alloc, input, kind))?;
+    args.push(number)?;
+    let name = Text::copy(alloc, b"in")?;
+    net.add_input(NetPort {
+        name,
+        net: number,
+        period: 1,
+        latency: 0,
+    })?;
+    Ok(())
+}
+
+/// What the nets of an operation show, where their arguments have these numbers.
+fn lowered(
+    alloc: Global,
+    net: &mut Netlist,
+    call: &OpCall,
+    args: &[u32],
+    inputs: &[i128],
+) -> Result<i128>
+    requires { CanCarryOut (operation_of call.now) inputs.now }
+{
+    if !are_args(net, call.types, args) {
+        return Err(Error::msg("an input lacks its net"));
+    }
+    let number = lower(alloc, net, call, args)?;
+    shown(alloc, net, number, inputs)
 }
 
 /// The net of an input.
@@ -126,13 +156,13 @@ fn are_args(net: &Netlist, types: &[FxType], args: &[u32]) -> bool
 fn shown(alloc: Global, net: &Netlist, number: u32, inputs: &[i128]) -> Result<i128> {
     let sound = is_netlist(alloc, net)?;
     if !sound {
-        return Err(anyhow!("the netlist can't be run"));
+        return Err(Error::msg("the netlist can't be run"));
     }
     if net.inputs().len() != inputs.len() {
-        return Err(anyhow!("an input is not there"));
+        return Err(Error::msg("an input is not there"));
     }
     if net.nets().len() <= number as usize {
-        return Err(anyhow!("the result is not there"));
+        return Err(Error::msg("the result is not there"));
     }
     let mut state = NetState::new(alloc, net)?;
     state.step(net, inputs);

@@ -1,29 +1,29 @@
 //! Elementwise operations, of one, two or three inputs.
-ghost use Rattle.std.specs.Prelude.{[], ◌∷◌};
+ghost use Rattle.std.specs.Prelude.{[], ◌∷◌, IfOk};
 ghost use Rattle.fx_type.specs.FxType.{IsType, InRange};
 ghost use Rattle.dg_model.specs.Operation.{HasArity, HasSigns, HasParameters, HasResultType, HasFullType};
 
 use crate::nets::{Answer, answered};
-use crate::words::{End, Operand, criterion, gate, minus, read_end, read_operand, relation};
-use anyhow::{Result, anyhow};
+use crate::words::{CRITERIA, End, GATES, Operand, RELATIONS, minus, read_end, read_operand};
+use anyhow::{Error, Result};
 use dg_model::{Gate, Op, OpCall};
 use fx_type::{FxType, Rounding, TooWide, full_product, full_sum, union};
 use std::alloc::Global;
 use tests_rows::Row;
 
 /// What the operation of this name gives of the inputs that its line has.
-pub fn carried_out(alloc: Global, name: &[u8], words: &mut Row<'_>) -> Result<Answer> {
+pub fn carried_out(alloc: Global, name: &str, words: &mut Row<'_>) -> Result<Answer> {
     match name {
-        b"sum" => sum(alloc, words),
-        b"gain" => gain(alloc, words),
-        b"product" => product(alloc, words),
-        b"switch" => switch(alloc, words),
-        b"relational" => relational(alloc, words),
-        b"logic" => logic(alloc, words),
-        b"convert" => convert(alloc, words, false),
-        b"stored" => convert(alloc, words, true),
-        b"pass" => pass(alloc, words),
-        _ => Err(anyhow!("no operation")),
+        "sum" => sum(alloc, words),
+        "gain" => gain(alloc, words),
+        "product" => product(alloc, words),
+        "switch" => switch(alloc, words),
+        "relational" => relational(alloc, words),
+        "logic" => logic(alloc, words),
+        "convert" => convert(alloc, words, false),
+        "stored" => convert(alloc, words, true),
+        "pass" => pass(alloc, words),
+        _ => Err(Error::msg("no operation")),
     }
 }
 
@@ -119,7 +119,7 @@ fn sum(alloc: Global, words: &mut Row<'_>) -> Result<Answer> {
         1 => sum_of_one(alloc, words),
         2 => sum_of_two(alloc, words),
         3 => sum_of_three(alloc, words),
-        _ => Err(anyhow!("one to three inputs")),
+        _ => Err(Error::msg("one to three inputs")),
     }
 }
 
@@ -129,7 +129,7 @@ fn sum_of_one(alloc: Global, words: &mut Row<'_>) -> Result<Answer> {
     let end = read_end(words)?;
     match full_sum(&[(p, a.kind)]) {
         Ok(_full) => of_one(alloc, Op::Sum, &[p], a, end),
-        Err(TooWide) => Err(anyhow!("too wide")),
+        Err(TooWide) => Err(Error::msg("too wide")),
     }
 }
 
@@ -141,7 +141,7 @@ fn sum_of_two(alloc: Global, words: &mut Row<'_>) -> Result<Answer> {
     let end = read_end(words)?;
     match full_sum(&[(p, a.kind), (q, b.kind)]) {
         Ok(_full) => of_two(alloc, Op::Sum, &[p, q], a, b, end),
-        Err(TooWide) => Err(anyhow!("too wide")),
+        Err(TooWide) => Err(Error::msg("too wide")),
     }
 }
 
@@ -155,7 +155,7 @@ fn sum_of_three(alloc: Global, words: &mut Row<'_>) -> Result<Answer> {
     let end = read_end(words)?;
     match full_sum(&[(p, a.kind), (q, b.kind), (r, c.kind)]) {
         Ok(_full) => of_three(alloc, Op::Sum, &[p, q, r], a, b, c, end),
-        Err(TooWide) => Err(anyhow!("too wide")),
+        Err(TooWide) => Err(Error::msg("too wide")),
     }
 }
 
@@ -171,7 +171,7 @@ fn gain(alloc: Global, words: &mut Row<'_>) -> Result<Answer> {
             };
             of_one(alloc, op, &[], a, end)
         }
-        Err(TooWide) => Err(anyhow!("too wide")),
+        Err(TooWide) => Err(Error::msg("too wide")),
     }
 }
 
@@ -181,7 +181,7 @@ fn product(alloc: Global, words: &mut Row<'_>) -> Result<Answer> {
     let end = read_end(words)?;
     match full_product(a.kind, b.kind) {
         Ok(_full) => of_two(alloc, Op::Product, &[], a, b, end),
-        Err(TooWide) => Err(anyhow!("too wide")),
+        Err(TooWide) => Err(Error::msg("too wide")),
     }
 }
 
@@ -189,12 +189,9 @@ fn switch(alloc: Global, words: &mut Row<'_>) -> Result<Answer> {
     let a = read_operand(words)?;
     let control = read_operand(words)?;
     let c = read_operand(words)?;
-    let criterion = criterion(words)?;
-    let threshold = words.integer()?;
+    let criterion = words.one_of(CRITERIA)?;
+    let threshold = threshold(words, control.kind)?;
     let end = read_end(words)?;
-    if threshold < control.kind.lowest() || threshold > control.kind.highest() {
-        return Err(anyhow!("threshold out of range"));
-    }
     let op = Op::Switch {
         criterion,
         threshold,
@@ -202,23 +199,36 @@ fn switch(alloc: Global, words: &mut Row<'_>) -> Result<Answer> {
     of_three(alloc, op, &[], a, control, c, end)
 }
 
+/// A number in the range of this type.
+fn threshold(words: &mut Row<'_>, kind: FxType) -> Result<i128>
+    requires { IsType kind }
+    ensures { IfOk result (InRange kind) }
+{
+    let v = words.integer()?;
+    if v < kind.lowest() || v > kind.highest() {
+        Err(Error::msg("threshold out of range"))
+    } else {
+        Ok(v)
+    }
+}
+
 fn relational(alloc: Global, words: &mut Row<'_>) -> Result<Answer> {
     let a = read_operand(words)?;
-    let operator = relation(words)?;
+    let operator = words.one_of(RELATIONS)?;
     let b = read_operand(words)?;
     match union(a.kind, b.kind) {
         Ok(_union) => of_two(alloc, Op::Relational { operator }, &[], a, b, TRUTH),
-        Err(TooWide) => Err(anyhow!("too wide")),
+        Err(TooWide) => Err(Error::msg("too wide")),
     }
 }
 
 fn logic(alloc: Global, words: &mut Row<'_>) -> Result<Answer> {
-    let operator = gate(words)?;
+    let operator = words.one_of(GATES)?;
     match words.byte()? {
         1 => inverted(alloc, words, operator),
         2 => logic_of_two(alloc, words, operator),
         3 => logic_of_three(alloc, words, operator),
-        _ => Err(anyhow!("one to three inputs")),
+        _ => Err(Error::msg("one to three inputs")),
     }
 }
 
@@ -235,7 +245,7 @@ fn inverted(alloc: Global, words: &mut Row<'_>, operator: Gate) -> Result<Answer
             a,
             TRUTH,
         ),
-        _ => Err(anyhow!("two or more inputs")),
+        _ => Err(Error::msg("two or more inputs")),
     }
 }
 
@@ -243,7 +253,7 @@ fn logic_of_two(alloc: Global, words: &mut Row<'_>, operator: Gate) -> Result<An
     let a = read_operand(words)?;
     let b = read_operand(words)?;
     match operator {
-        Gate::Not => Err(anyhow!("one input")),
+        Gate::Not => Err(Error::msg("one input")),
         _ => of_two(alloc, Op::Logic { operator }, &[], a, b, TRUTH),
     }
 }
@@ -253,7 +263,7 @@ fn logic_of_three(alloc: Global, words: &mut Row<'_>, operator: Gate) -> Result<
     let b = read_operand(words)?;
     let c = read_operand(words)?;
     match operator {
-        Gate::Not => Err(anyhow!("one input")),
+        Gate::Not => Err(Error::msg("one input")),
         _ => of_three(alloc, Op::Logic { operator }, &[], a, b, c, TRUTH),
     }
 }

@@ -1,18 +1,17 @@
 //! Conversions, full types and decimals.
 use crate::words::{Operand, in_type, minus, read_end, valid_type};
-use anyhow::{Result, anyhow};
+use anyhow::{Error, Result};
 use fx_round::{DecimalFault, convert, read_decimal, to_stored};
 use fx_type::{FxType, TooWide, full_product, full_sum, union};
 use std::alloc::Global;
 use std::io::Write;
-use tests_rows::Row;
+use tests_rows::{Row, written};
 
 pub fn range<W: Write>(words: &mut Row<'_>, out: &mut W) -> Result<()> {
     let kind = valid_type(words)?;
     let lowest = kind.lowest();
     let highest = kind.highest();
-    writeln!(out, "{lowest} {highest}")?;
-    Ok(())
+    written(writeln!(out, "{lowest} {highest}"))
 }
 
 pub fn conversion<W: Write>(words: &mut Row<'_>, out: &mut W) -> Result<()> {
@@ -21,8 +20,7 @@ pub fn conversion<W: Write>(words: &mut Row<'_>, out: &mut W) -> Result<()> {
     let Operand { kind, value } = in_type(from, v)?;
     let end = read_end(words)?;
     let r = convert(value, kind, end.kind, end.rounding, end.saturate);
-    writeln!(out, "{r}")?;
-    Ok(())
+    written(writeln!(out, "{r}"))
 }
 
 pub fn decimal<W: Write>(words: &mut Row<'_>, text: &str, out: &mut W) -> Result<()> {
@@ -33,59 +31,60 @@ pub fn decimal<W: Write>(words: &mut Row<'_>, text: &str, out: &mut W) -> Result
             let sign = if decimal.negative { "-" } else { "+" };
             let digits = decimal.digits;
             let exponent = decimal.exponent;
-            writeln!(out, "{sign} {digits} {exponent} {stored}")?;
+            written(writeln!(out, "{sign} {digits} {exponent} {stored}"))
         }
-        Err(DecimalFault::NotANumber) => writeln!(out, "NotANumber")?,
-        Err(DecimalFault::TooLong) => writeln!(out, "TooLong")?,
+        Err(DecimalFault::NotANumber) => written(out.write_all(b"NotANumber\n")),
+        Err(DecimalFault::TooLong) => written(out.write_all(b"TooLong\n")),
     }
-    Ok(())
 }
 
 pub fn sum_type<W: Write>(alloc: Global, words: &mut Row<'_>, out: &mut W) -> Result<()> {
-    let n = words.byte()?;
     let mut terms = Vec::new(alloc);
-    for _ in 0..n {
+    read_terms(words, &mut terms)?;
+    put_sum_type(terms.as_slice(), out)
+}
+
+fn read_terms(words: &mut Row<'_>, terms: &mut Vec<(bool, FxType)>) -> Result<()> {
+    for _ in 0..words.byte()? {
         let subtracted = minus(words)?;
         let term = valid_type(words)?;
         terms.push((subtracted, term))?;
     }
+    Ok(())
+}
+
+fn put_sum_type<W: Write>(terms: &[(bool, FxType)], out: &mut W) -> Result<()> {
     if terms.len() >= 1 && terms.len() <= 32 && terms.iter().all(|term| term.1.is_valid()) {
-        print_type(out, full_sum(terms.as_slice()))
+        print_type(out, full_sum(terms))
     } else {
-        Err(anyhow!("no terms, or too many"))
+        Err(Error::msg("no terms, or too many"))
     }
 }
 
-pub fn product_type<W: Write>(words: &mut Row<'_>, out: &mut W) -> Result<()> {
+/// Tells the full type of a product, or the union.
+pub fn pair_type<W: Write>(name: &str, words: &mut Row<'_>, out: &mut W) -> Result<()> {
     let a = valid_type(words)?;
     let b = valid_type(words)?;
-    print_type(out, full_product(a, b))
-}
-
-pub fn union_type<W: Write>(words: &mut Row<'_>, out: &mut W) -> Result<()> {
-    let a = valid_type(words)?;
-    let b = valid_type(words)?;
-    print_type(out, union(a, b))
+    if name == "product_type" {
+        print_type(out, full_product(a, b))
+    } else {
+        print_type(out, union(a, b))
+    }
 }
 
 fn print_type<W: Write>(out: &mut W, kind: Result<FxType, TooWide>) -> Result<()> {
     match kind {
-        Ok(FxType::Logical) => writeln!(out, "L")?,
+        Ok(FxType::Logical) => written(out.write_all(b"L\n")),
         Ok(
             FxType::Num {
-                signed: true,
+                signed,
                 width,
                 frac,
             },
-        ) => writeln!(out, "s {width} {frac}")?,
-        Ok(
-            FxType::Num {
-                signed: false,
-                width,
-                frac,
-            },
-        ) => writeln!(out, "u {width} {frac}")?,
-        Err(TooWide) => writeln!(out, "TooWide")?,
+        ) => {
+            let sign = if signed { 's' } else { 'u' };
+            written(writeln!(out, "{sign} {width} {frac}"))
+        }
+        Err(TooWide) => written(out.write_all(b"TooWide\n")),
     }
-    Ok(())
 }

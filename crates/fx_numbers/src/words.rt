@@ -2,7 +2,7 @@
 ghost use Rattle.std.specs.Prelude.{IfOk};
 ghost use Rattle.fx_type.specs.FxType.{IsType, InRange};
 
-use anyhow::{Result, anyhow};
+use anyhow::{Error, Result};
 use dg_model::{Criterion, Gate, Relation};
 use fx_type::{FxType, Rounding};
 use tests_rows::Row;
@@ -25,33 +25,21 @@ pub struct End {
 fn frac(words: &mut Row<'_>) -> Result<i16> {
     match words.next()?.parse::<i16>() {
         Ok(v) => Ok(v),
-        Err(_) => Err(anyhow!("no frac")),
+        Err(_) => Err(Error::msg("no frac")),
     }
 }
 
 /// Whether a sign is a minus.
 pub fn minus(words: &mut Row<'_>) -> Result<bool> {
-    match words.next()?.as_bytes() {
-        b"+" => Ok(false),
-        b"-" => Ok(true),
-        _ => Err(anyhow!("no sign")),
-    }
-}
-
-fn flag(words: &mut Row<'_>) -> Result<bool> {
-    match words.next()?.as_bytes() {
-        b"on" => Ok(true),
-        b"off" => Ok(false),
-        _ => Err(anyhow!("neither on nor off")),
-    }
+    words.one_of(&[("+", false), ("-", true)])
 }
 
 fn any_type(words: &mut Row<'_>) -> Result<FxType> {
-    let signed = match words.next()?.as_bytes() {
-        b"L" => return Ok(FxType::Logical),
-        b"s" => true,
-        b"u" => false,
-        _ => return Err(anyhow!("no type")),
+    let signed = match words.next()? {
+        "L" => return Ok(FxType::Logical),
+        "s" => true,
+        "u" => false,
+        _ => return Err(Error::msg("no type")),
     };
     let width = words.byte()?;
     let frac = frac(words)?;
@@ -69,7 +57,7 @@ pub fn valid_type(words: &mut Row<'_>) -> Result<FxType>
     if kind.is_valid() {
         Ok(kind)
     } else {
-        Err(anyhow!("no valid type"))
+        Err(Error::msg("no valid type"))
     }
 }
 
@@ -87,8 +75,8 @@ pub fn read_end(words: &mut Row<'_>) -> Result<End>
     ensures { IfOk result (λ end. IsType end.kind) }
 {
     let kind = valid_type(words)?;
-    let rounding = rounding(words)?;
-    let saturate = flag(words)?;
+    let rounding = words.one_of(ROUNDINGS)?;
+    let saturate = words.one_of(&[("on", true), ("off", false)])?;
     Ok(End {
         kind,
         rounding,
@@ -96,58 +84,47 @@ pub fn read_end(words: &mut Row<'_>) -> Result<End>
     })
 }
 
-fn rounding(words: &mut Row<'_>) -> Result<Rounding> {
-    match words.next()?.as_bytes() {
-        b"Floor" => Ok(Rounding::Floor),
-        b"Ceiling" => Ok(Rounding::Ceiling),
-        b"Zero" => Ok(Rounding::Zero),
-        b"Nearest" => Ok(Rounding::Nearest),
-        b"Round" => Ok(Rounding::Round),
-        b"Convergent" => Ok(Rounding::Convergent),
-        _ => Err(anyhow!("no rounding")),
-    }
-}
+const ROUNDINGS: &[(&str, Rounding)] = &[
+    ("Floor", Rounding::Floor),
+    ("Ceiling", Rounding::Ceiling),
+    ("Zero", Rounding::Zero),
+    ("Nearest", Rounding::Nearest),
+    ("Round", Rounding::Round),
+    ("Convergent", Rounding::Convergent),
+];
 
-pub fn criterion(words: &mut Row<'_>) -> Result<Criterion> {
-    match words.next()?.as_bytes() {
-        b">=" => Ok(Criterion::AtLeast),
-        b">" => Ok(Criterion::Above),
-        b"~=0" => Ok(Criterion::NotZero),
-        _ => Err(anyhow!("no criterion")),
-    }
-}
+pub const CRITERIA: &[(&str, Criterion)] = &[
+    (">=", Criterion::AtLeast),
+    (">", Criterion::Above),
+    ("~=0", Criterion::NotZero),
+];
 
-pub fn relation(words: &mut Row<'_>) -> Result<Relation> {
-    match words.next()?.as_bytes() {
-        b"==" => Ok(Relation::Eq),
-        b"~=" => Ok(Relation::Ne),
-        b"<" => Ok(Relation::Lt),
-        b"<=" => Ok(Relation::Le),
-        b">=" => Ok(Relation::Ge),
-        b">" => Ok(Relation::Gt),
-        _ => Err(anyhow!("no relation")),
-    }
-}
+pub const RELATIONS: &[(&str, Relation)] = &[
+    ("==", Relation::Eq),
+    ("~=", Relation::Ne),
+    ("<", Relation::Lt),
+    ("<=", Relation::Le),
+    (">=", Relation::Ge),
+    (">", Relation::Gt),
+];
 
-pub fn gate(words: &mut Row<'_>) -> Result<Gate> {
-    match words.next()?.as_bytes() {
-        b"AND" => Ok(Gate::And),
-        b"OR" => Ok(Gate::Or),
-        b"NAND" => Ok(Gate::Nand),
-        b"NOR" => Ok(Gate::Nor),
-        b"XOR" => Ok(Gate::Xor),
-        b"NXOR" => Ok(Gate::Nxor),
-        b"NOT" => Ok(Gate::Not),
-        _ => Err(anyhow!("no gate")),
-    }
-}
+pub const GATES: &[(&str, Gate)] = &[
+    ("AND", Gate::And),
+    ("OR", Gate::Or),
+    ("NAND", Gate::Nand),
+    ("NOR", Gate::Nor),
+    ("XOR", Gate::Xor),
+    ("NXOR", Gate::Nxor),
+    ("NOT", Gate::Not),
+];
+
 /// The number of a type, where it is in range.
 pub fn in_type(kind: FxType, value: i128) -> Result<Operand>
     requires { IsType kind }
     ensures { IfOk result (λ operand. IsType operand.kind × InRange operand.kind operand.value) }
 {
     if value < kind.lowest() || value > kind.highest() {
-        Err(anyhow!("out of range"))
+        Err(Error::msg("out of range"))
     } else {
         Ok(Operand { kind, value })
     }
