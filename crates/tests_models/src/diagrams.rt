@@ -1,49 +1,91 @@
-//! Flat diagrams, and what is found of them.
-ghost use Rattle.std.specs.Prelude.{IfOk};
+//! Models and flat diagrams, and what is found of them.
+ghost use Rattle.std.specs.Prelude.{◌≡◌};
+ghost use Rattle.dg_model.specs.Periods.{periods_of};
+ghost use Rattle.dg_model.specs.Sound.{IsSound};
 ghost use Rattle.dg_model.specs.Wired.{IsWired};
 
+use crate::nested::put_nested;
 use crate::told::put_fault;
-use crate::trees::whole_tree;
-use anyhow::{Result, anyhow};
+use anyhow::{Error, Result};
 use dg_flat::flatten;
-use dg_model::{CheckFault, Diagram};
+use dg_model::{Diagram, Nested, Path, PortWidths};
 use dg_rates::rates;
 use dg_sort::order;
 use dg_types::{types, widths};
 use fx_type::FxType;
 use mdl_build::build;
+use mdl_text::{Tree, read};
 use std::alloc::Global;
 use std::io::Write;
+use tests_rows::{Row, written};
 
-/// The flat diagram of a text, or the rule that it breaks.
-fn diagram_of(alloc: Global, text: &[u8]) -> Result<Result<Diagram, CheckFault>>
-    ensures { IfOk result (λ found. IfOk found IsWired) }
-{
-    let tree = whole_tree(alloc, text)?;
-    match build(alloc, &tree) {
-        Ok(nested) => Ok(flatten(alloc, &nested)),
-        Err(fault) => Ok(Err(fault)),
+/// Tells what a word asks of a text's model, or the rule that it breaks.
+pub fn model<W: Write>(alloc: Global, asked: &str, text: &[u8], out: &mut W) -> Result<()> {
+    match read(alloc, text) {
+        Ok(tree) => put_built(alloc, asked, &tree, out),
+        Err(_fault) => Err(Error::msg("no MDL text")),
     }
 }
 
-pub fn diagram<W: Write>(alloc: Global, found: &str, text: &[u8], out: &mut W) -> Result<()> {
-    let diagram = match diagram_of(alloc, text)? {
-        Ok(diagram) => diagram,
-        Err(fault) => return put_fault(alloc, fault, &[], out),
-    };
-    match found.as_bytes() {
-        b"flat" => put_flat(alloc, &diagram, out),
-        b"widths" => put_widths(alloc, &diagram, out),
-        b"types" => put_types(alloc, &diagram, out),
-        b"rates" => put_rates(alloc, &diagram, out),
-        _ => put_order(alloc, &diagram, out),
+/// Tells that a model of so many blocks is kept.
+pub fn many<W: Write>(alloc: Global, row: &mut Row<'_>, out: &mut W) -> Result<()> {
+    let count = row.number()?;
+    let mut text = String::new(alloc);
+    put_blocks(alloc, &mut text, count)?;
+    model(alloc, "build", text.as_bytes(), out)
+}
+
+fn put_blocks(alloc: Global, text: &mut String, count: u32) -> Result<()> {
+    text.push_str("Model {\nSystem {\n")?;
+    for number in 0..count {
+        let block = format!(in alloc; "Block {{\nBlockType Ground\nName b{number}\n}}\n")?;
+        text.push_str(&block)?;
+    }
+    text.push_str("}\n}\n")?;
+    Ok(())
+}
+
+fn put_built<W: Write>(alloc: Global, asked: &str, tree: &Tree, out: &mut W) -> Result<()> {
+    match build(alloc, tree) {
+        Ok(nested) => put_model(alloc, asked, &nested, out),
+        Err(fault) => put_fault(alloc, &fault, &[], out),
+    }
+}
+
+fn put_model<W: Write>(alloc: Global, asked: &str, nested: &Nested, out: &mut W) -> Result<()>
+    requires { IsSound nested.now }
+{
+    match asked {
+        "build" => written(out.write_all(b"kept\n")),
+        "nested" => put_nested(nested, out),
+        _ => put_flattened(alloc, asked, nested, out),
+    }
+}
+
+fn put_flattened<W: Write>(alloc: Global, asked: &str, nested: &Nested, out: &mut W) -> Result<()>
+    requires { IsSound nested.now }
+{
+    match flatten(alloc, nested) {
+        Ok(diagram) => put_asked(alloc, asked, &diagram, out),
+        Err(fault) => put_fault(alloc, &fault, &[], out),
+    }
+}
+
+fn put_asked<W: Write>(alloc: Global, asked: &str, diagram: &Diagram, out: &mut W) -> Result<()>
+    requires { IsWired diagram.now }
+{
+    match asked {
+        "flat" => put_flat(alloc, diagram, out),
+        "widths" => put_widths(alloc, diagram, out),
+        "types" => put_types(alloc, diagram, out),
+        "rates" => put_rates(alloc, diagram, out),
+        _ => put_order(alloc, diagram, out),
     }
 }
 
 fn put_flat<W: Write>(alloc: Global, diagram: &Diagram, out: &mut W) -> Result<()> {
     for block in diagram.blocks.as_slice() {
-        let path = block.path.text(alloc)?;
-        out.write_all(path.bytes())?;
+        put_path(alloc, &block.path, out)?;
         match block.enable {
             Some(enable) => writeln!(out, " enable {enable}")?,
             None => out.write_all(b"\n")?,
@@ -55,30 +97,46 @@ fn put_flat<W: Write>(alloc: Global, diagram: &Diagram, out: &mut W) -> Result<(
     Ok(())
 }
 
+fn put_path<W: Write>(alloc: Global, path: &Path, out: &mut W) -> Result<()> {
+    let path = path.text(alloc)?;
+    written(out.write_all(path.bytes()))
+}
+
 fn put_widths<W: Write>(alloc: Global, diagram: &Diagram, out: &mut W) -> Result<()>
     requires { IsWired diagram.now }
 {
     match widths(alloc, diagram) {
-        Ok(widths) => writeln!(out, "{widths:?}")?,
-        Err(fault) => put_fault(alloc, fault, diagram.blocks.as_slice(), out)?,
+        Ok(widths) => written(writeln!(out, "{widths:?}")),
+        Err(fault) => put_fault(alloc, &fault, diagram.blocks.as_slice(), out),
     }
-    Ok(())
 }
 
 /// Tells of each block the type of its outputs and that of its coefficients.
 fn put_types<W: Write>(alloc: Global, diagram: &Diagram, out: &mut W) -> Result<()>
     requires { IsWired diagram.now }
 {
-    let widths = match widths(alloc, diagram) {
-        Ok(widths) => widths,
-        Err(fault) => return put_fault(alloc, fault, diagram.blocks.as_slice(), out),
-    };
-    let found = match types(alloc, diagram, &widths) {
-        Ok(found) => found,
-        Err(fault) => return put_fault(alloc, fault, diagram.blocks.as_slice(), out),
-    };
-    let results = found.results.as_slice().iter();
-    for (result, param) in results.zip(found.params.as_slice()) {
+    match widths(alloc, diagram) {
+        Ok(widths) => put_typed(alloc, diagram, &widths, out),
+        Err(fault) => put_fault(alloc, &fault, diagram.blocks.as_slice(), out),
+    }
+}
+
+fn put_typed<W: Write>(
+    alloc: Global,
+    diagram: &Diagram,
+    widths: &PortWidths,
+    out: &mut W,
+) -> Result<()>
+    requires { IsWired diagram.now }
+{
+    match types(alloc, diagram, widths) {
+        Ok(types) => put_pairs(types.results.as_slice(), types.params.as_slice(), out),
+        Err(fault) => put_fault(alloc, &fault, diagram.blocks.as_slice(), out),
+    }
+}
+
+fn put_pairs<W: Write>(results: &[FxType], params: &[FxType], out: &mut W) -> Result<()> {
+    for (result, param) in results.iter().zip(params) {
         put_type(*result, out)?;
         out.write_all(b", ")?;
         put_type(*param, out)?;
@@ -107,33 +165,46 @@ fn put_rates<W: Write>(alloc: Global, diagram: &Diagram, out: &mut W) -> Result<
     requires { IsWired diagram.now }
 {
     match rates(alloc, diagram) {
-        Ok(periods) => {
-            for period in periods.as_slice() {
-                match period {
-                    Some(period) => write!(out, "{period} ")?,
-                    None => out.write_all(b"inf ")?,
-                }
-            }
-            out.write_all(b"\n")?;
-        }
-        Err(fault) => put_fault(alloc, fault, diagram.blocks.as_slice(), out)?,
+        Ok(periods) => put_periods(periods.as_slice(), out),
+        Err(fault) => put_fault(alloc, &fault, diagram.blocks.as_slice(), out),
     }
-    Ok(())
+}
+
+fn put_periods<W: Write>(periods: &[Option<u32>], out: &mut W) -> Result<()> {
+    for period in periods {
+        match period {
+            Some(period) => write!(out, "{period} ")?,
+            None => out.write_all(b"inf ")?,
+        }
+    }
+    written(out.write_all(b"\n"))
 }
 
 /// Tells how many blocks stand in order.
 fn put_order<W: Write>(alloc: Global, diagram: &Diagram, out: &mut W) -> Result<()>
     requires { IsWired diagram.now }
 {
-    let Ok(periods) = rates(alloc, diagram) else {
-        return Err(anyhow!("no periods"));
-    };
-    match order(alloc, diagram, periods.as_slice()) {
-        Ok(order) => {
-            let count = order.as_slice().len();
-            writeln!(out, "{count} in order")?;
-        }
-        Err(fault) => put_fault(alloc, fault, diagram.blocks.as_slice(), out)?,
+    match rates(alloc, diagram) {
+        Ok(periods) => put_ordered(alloc, diagram, periods.as_slice(), out),
+        Err(fault) => put_fault(alloc, &fault, diagram.blocks.as_slice(), out),
     }
-    Ok(())
+}
+
+fn put_ordered<W: Write>(
+    alloc: Global,
+    diagram: &Diagram,
+    periods: &[Option<u32>],
+    out: &mut W,
+) -> Result<()>
+    requires wired { IsWired diagram.now }
+    requires periods { periods.now ≡ periods_of diagram.now }
+{
+    match order(alloc, diagram, periods) {
+        Ok(order) => put_count(order.as_slice().len(), out),
+        Err(fault) => put_fault(alloc, &fault, diagram.blocks.as_slice(), out),
+    }
+}
+
+fn put_count<W: Write>(count: usize, out: &mut W) -> Result<()> {
+    written(writeln!(out, "{count} in order"))
 }

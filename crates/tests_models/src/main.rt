@@ -71,24 +71,18 @@ fn answer<W: Write>(
     out: &mut W,
 ) -> Result<()> {
     let text = row.text.as_slice();
-    match row.command.as_bytes() {
-        b"tree" => trees::tree(alloc, text, out),
-        b"syntax" => trees::syntax(alloc, text, out),
-        b"cuts" => trees::cuts(alloc, text, out),
-        b"build" => nested::build_of(alloc, text, out),
-        b"many" => nested::many(alloc, row.number()?, out),
-        b"nested" => nested::nested(alloc, text, out),
-        b"plan" => {
-            plan.clear();
-            plan.extend_from_slice(text)?;
-            tables::plan(alloc, text, out)
+    match row.command {
+        "tree" => trees::tree(alloc, text, out),
+        "syntax" => trees::lines(alloc, text, text.len(), out),
+        "cuts" => trees::lines(alloc, text, 0, out),
+        "build" | "nested" | "flat" | "widths" | "types" | "rates" | "order" => {
+            diagrams::model(alloc, row.command, text, out)
         }
-        b"stages" => tables::stages(alloc, text, plan.as_slice(), out),
-        b"rows" => tables::rows(alloc, row, out),
-        b"accept" => tables::accepted(alloc, text, out),
-        b"flat" | b"widths" | b"types" | b"rates" | b"order" => {
-            diagrams::diagram(alloc, row.command, text, out)
-        }
+        "many" => diagrams::many(alloc, row, out),
+        "plan" => tables::plan(alloc, text, plan, out),
+        "stages" => tables::stages(alloc, text, plan.as_slice(), out),
+        "rows" => tables::rows(alloc, row, out),
+        "accept" => tables::accepted(alloc, text, out),
         _ => values::value(alloc, row, out),
     }
 }

@@ -1,24 +1,32 @@
 //! The lines of broken rules.
 
-use anyhow::{Result, anyhow};
-use dg_model::{Block, CheckFault};
+use anyhow::{Error, Result};
+use dg_model::{Block, CheckFault, RuleFault};
 use fx_model::rule_text;
 use std::alloc::Global;
 use std::io::Write;
+use tests_rows::written;
 
 /// Tells a broken rule; the blocks are those whose numbers it may show.
 pub fn put_fault<W: Write>(
     alloc: Global,
-    fault: CheckFault,
+    fault: &CheckFault,
     blocks: &[Block],
     out: &mut W,
 ) -> Result<()> {
     match fault {
-        CheckFault::Broken(fault) => {
-            let line = rule_text(alloc, &fault, blocks)?;
-            out.write_all(line.bytes())?;
-            Ok(())
-        }
-        CheckFault::OutOfMemory => Err(anyhow!("out of memory")),
+        CheckFault::Broken(fault) => put_rule(alloc, fault, blocks, out),
+        CheckFault::OutOfMemory => Err(Error::msg("out of memory")),
     }
+}
+
+/// Tells the rule that is broken.
+pub fn put_rule<W: Write>(
+    alloc: Global,
+    fault: &RuleFault,
+    blocks: &[Block],
+    out: &mut W,
+) -> Result<()> {
+    let line = rule_text(alloc, fault, blocks)?;
+    written(out.write_all(line.bytes()))
 }

@@ -1,38 +1,29 @@
 //! MDL texts as trees.
 
-use anyhow::{Result, anyhow};
-use mdl_text::{Item, MdlFault, Tree, Value, read};
+use anyhow::{Error, Result};
+use mdl_text::{Item, MdlFault, Value, read};
 use std::alloc::Global;
 use std::io::Write;
-use tests_rows::put_escaped;
+use tests_rows::{put_escaped, written};
 
-/// The tree of a text, or the line at which it is none.
-pub fn tree_of(alloc: Global, text: &[u8]) -> Result<Result<Tree, u64>> {
-    match read(alloc, text) {
-        Ok(tree) => Ok(Ok(tree)),
-        Err(MdlFault::Syntax { line }) => Ok(Err(line)),
-        Err(MdlFault::OutOfMemory) => Err(anyhow!("out of memory")),
-    }
-}
-
-/// The tree of a text that is one.
-pub fn whole_tree(alloc: Global, text: &[u8]) -> Result<Tree> {
-    match tree_of(alloc, text)? {
-        Ok(tree) => Ok(tree),
-        Err(_line) => Err(anyhow!("no MDL text")),
-    }
-}
-
+/// Tells the items of a text, or the line at which it is none.
 pub fn tree<W: Write>(alloc: Global, text: &[u8], out: &mut W) -> Result<()> {
-    match tree_of(alloc, text)? {
-        Ok(tree) => {
-            for item in tree.items.as_slice() {
-                put_item(item, out)?;
-            }
-        }
-        Err(line) => writeln!(out, "line {line}")?,
+    match read(alloc, text) {
+        Ok(tree) => put_items(tree.items.as_slice(), out),
+        Err(fault) => put_line(fault, out),
+    }
+}
+
+fn put_items<W: Write>(items: &[Item], out: &mut W) -> Result<()> {
+    for item in items {
+        put_item(item, out)?;
     }
     Ok(())
+}
+
+fn put_line<W: Write>(fault: MdlFault, out: &mut W) -> Result<()> {
+    let line = line_in(fault)?;
+    written(writeln!(out, "line {line}"))
 }
 
 fn put_item<W: Write>(item: &Item, out: &mut W) -> Result<()> {
@@ -48,28 +39,31 @@ fn put_item<W: Write>(item: &Item, out: &mut W) -> Result<()> {
     };
     out.write_all(&[sign])?;
     put_escaped(out, content)?;
-    out.write_all(b"|\n")?;
-    Ok(())
+    written(out.write_all(b"|\n"))
 }
 
-/// The line at which a text is none, or 0.
-fn line_of(alloc: Global, text: &[u8]) -> Result<u64> {
-    match tree_of(alloc, text)? {
-        Ok(_tree) => Ok(0),
-        Err(line) => Ok(line),
+/// The line at which a text is none.
+fn line_in(fault: MdlFault) -> Result<u64> {
+    match fault {
+        MdlFault::Syntax { line } => Ok(line),
+        MdlFault::OutOfMemory => Err(Error::msg("out of memory")),
     }
 }
 
-pub fn syntax<W: Write>(alloc: Global, text: &[u8], out: &mut W) -> Result<()> {
-    let line = line_of(alloc, text)?;
-    writeln!(out, "{line}")?;
-    Ok(())
+/// That line, or 0.
+fn line_of(alloc: Global, text: &[u8]) -> Result<u64> {
+    match read(alloc, text) {
+        Ok(_tree) => Ok(0),
+        Err(fault) => line_in(fault),
+    }
 }
 
-pub fn cuts<W: Write>(alloc: Global, text: &[u8], out: &mut W) -> Result<()> {
-    for length in 0..text.len() {
+/// Tells that of each beginning of a text, from one of so many bytes up to the whole.
+pub fn lines<W: Write>(alloc: Global, text: &[u8], first: usize, out: &mut W) -> Result<()> {
+    for length in first..text.len() {
         let line = line_of(alloc, &text[..length])?;
         write!(out, "{line} ")?;
     }
-    syntax(alloc, text, out)
+    let line = line_of(alloc, text)?;
+    written(writeln!(out, "{line}"))
 }

@@ -1,6 +1,6 @@
 //! Values of parameters.
 
-use anyhow::{Result, anyhow};
+use anyhow::{Error, Result};
 use fx_type::Decimal;
 use mdl_values::{
     read_constant_time, read_criterion, read_gate, read_list, read_number, read_period,
@@ -9,23 +9,23 @@ use mdl_values::{
 };
 use std::alloc::Global;
 use std::io::Write;
-use tests_rows::Row;
+use tests_rows::{Row, written};
 
 /// Tells the value of a text by its kind, `None` where it has none.
 pub fn value<W: Write>(alloc: Global, row: &mut Row<'_>, out: &mut W) -> Result<()> {
     let text = row.text.as_slice();
-    match row.command.as_bytes() {
-        b"list" => return list(alloc, text, out),
-        b"sizes" => return sizes(alloc, text, out),
-        b"signs" => return signs(alloc, text, out),
-        b"period" => return put_decimal(read_period(alloc, text)?, out),
-        b"sample_time" => writeln!(out, "{:?}", read_sample_time(alloc, text)?)?,
-        b"constant_time" => writeln!(out, "{:?}", read_constant_time(alloc, text)?)?,
-        b"width" => writeln!(out, "{:?}", read_width(alloc, text)?)?,
-        b"type" => writeln!(out, "{:?}", read_type(text))?,
-        b"number" => return number(row, out),
-        b"word" => return word(row, out),
-        _ => return Err(anyhow!("no command")),
+    match row.command {
+        "list" => return list(alloc, text, out),
+        "sizes" => return sizes(alloc, text, out),
+        "signs" => return signs(alloc, text, out),
+        "period" => return put_decimal(read_period(alloc, text)?, out),
+        "sample_time" => writeln!(out, "{:?}", read_sample_time(alloc, text)?)?,
+        "constant_time" => writeln!(out, "{:?}", read_constant_time(alloc, text)?)?,
+        "width" => writeln!(out, "{:?}", read_width(alloc, text)?)?,
+        "type" => writeln!(out, "{:?}", read_type(text))?,
+        "number" => return number(row, out),
+        "word" => return word(row, out),
+        _ => return Err(Error::msg("no command")),
     }
     Ok(())
 }
@@ -33,8 +33,7 @@ pub fn value<W: Write>(alloc: Global, row: &mut Row<'_>, out: &mut W) -> Result<
 fn number<W: Write>(row: &mut Row<'_>, out: &mut W) -> Result<()> {
     let low = row.number()?;
     let high = row.number()?;
-    writeln!(out, "{:?}", read_number(row.text.as_slice(), low, high))?;
-    Ok(())
+    written(writeln!(out, "{:?}", read_number(row.text.as_slice(), low, high)))
 }
 
 /// Tells a decimal without its exponent.
@@ -47,48 +46,48 @@ fn put_decimal<W: Write>(decimal: Option<Decimal>, out: &mut W) -> Result<()> {
 }
 
 fn list<W: Write>(alloc: Global, text: &[u8], out: &mut W) -> Result<()> {
-    let Some(list) = read_list(alloc, text)? else {
-        out.write_all(b"None\n")?;
-        return Ok(());
-    };
-    for decimal in list.as_slice() {
+    match read_list(alloc, text)? {
+        Some(list) => put_list(list.as_slice(), out),
+        None => written(out.write_all(b"None\n")),
+    }
+}
+
+fn put_list<W: Write>(list: &[Decimal], out: &mut W) -> Result<()> {
+    for decimal in list {
         let sign = if decimal.negative { "-" } else { "" };
         let digits = decimal.digits;
         let exponent = decimal.exponent;
         write!(out, "{sign}{digits}e{exponent} ")?;
     }
-    out.write_all(b"\n")?;
-    Ok(())
+    written(out.write_all(b"\n"))
 }
 
 fn sizes<W: Write>(alloc: Global, text: &[u8], out: &mut W) -> Result<()> {
     match read_sizes(alloc, text)? {
-        Some(sizes) => writeln!(out, "{:?}", sizes.as_slice())?,
-        None => out.write_all(b"None\n")?,
+        Some(sizes) => written(writeln!(out, "{:?}", sizes.as_slice())),
+        None => written(out.write_all(b"None\n")),
     }
-    Ok(())
 }
 
 fn signs<W: Write>(alloc: Global, text: &[u8], out: &mut W) -> Result<()> {
     match read_signs(alloc, text)? {
-        Some(signs) => writeln!(out, "{:?}", signs.as_slice())?,
-        None => out.write_all(b"None\n")?,
+        Some(signs) => written(writeln!(out, "{:?}", signs.as_slice())),
+        None => written(out.write_all(b"None\n")),
     }
-    Ok(())
 }
 
 /// Tells the word of a kind.
 fn word<W: Write>(row: &mut Row<'_>, out: &mut W) -> Result<()> {
     let kind = row.next()?;
     let text = row.text.as_slice();
-    match kind.as_bytes() {
-        b"rounding" => writeln!(out, "{:?}", read_rounding(text))?,
-        b"relation" => writeln!(out, "{:?}", read_relation(text))?,
-        b"gate" => writeln!(out, "{:?}", read_gate(text))?,
-        b"criterion" => writeln!(out, "{:?}", read_criterion(text))?,
-        b"switch" => writeln!(out, "{:?}", read_switch(text))?,
-        b"reset" => writeln!(out, "{:?}", read_reset(text))?,
-        _ => return Err(anyhow!("no kind of word")),
+    match kind {
+        "rounding" => writeln!(out, "{:?}", read_rounding(text))?,
+        "relation" => writeln!(out, "{:?}", read_relation(text))?,
+        "gate" => writeln!(out, "{:?}", read_gate(text))?,
+        "criterion" => writeln!(out, "{:?}", read_criterion(text))?,
+        "switch" => writeln!(out, "{:?}", read_switch(text))?,
+        "reset" => writeln!(out, "{:?}", read_reset(text))?,
+        _ => return Err(Error::msg("no kind of word")),
     }
     Ok(())
 }
