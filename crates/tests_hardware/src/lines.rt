@@ -3,8 +3,7 @@ ghost use Rattle.std.specs.Prelude.{◌≡◌, ◌<◌, ◌≤◌, All, true};
 ghost use Rattle.hw_lines.specs.Chain.{IsSource, IsUse};
 
 use crate::nets::frame_of;
-use anyhow::{Result, anyhow};
-use fx_io::Sizes;
+use anyhow::{Error, Result};
 use fx_num::{fits, is_word};
 use hw_lines::{Source, Use, chain, line};
 use hw_net::{Frame, Netlist};
@@ -48,15 +47,11 @@ fn are_uses(source: Source, uses: &[Use]) -> bool
     uses.iter().all(|one| is_use(source, *one))
 }
 
-pub fn source_of(row: &mut Row<'_>) -> Result<Source> {
+fn source_of(row: &mut Row<'_>) -> Result<Source> {
     let from = row.number()?;
     let frame = frame_of(row)?;
     let first = row.integer()?;
-    let registered = match row.next()?.as_bytes() {
-        b"plain" => false,
-        b"registered" => true,
-        _ => return Err(anyhow!("neither plain nor registered")),
-    };
+    let registered = row.one_of(&[("plain", false), ("registered", true)])?;
     Ok(Source {
         from,
         frame,
@@ -66,27 +61,50 @@ pub fn source_of(row: &mut Row<'_>) -> Result<Source> {
 }
 
 /// The uses of a text.
-pub fn uses_of(alloc: Global, text: &[u8]) -> Result<Vec<Use>> {
+fn uses_of(alloc: Global, text: &[u8]) -> Result<Vec<Use>> {
     let mut table = Row::of(alloc, str::from_utf8(text)?)?;
     let mut uses = Vec::new(alloc);
     for _ in 0..table.left() / 3 {
-        let shift = table.long()?;
-        let period = table.number()?;
-        for more in 0..table.number()? {
-            let shift = shift.wrapping_add(u64::from(more));
-            uses.push(Use { shift, period })?;
-        }
+        put_uses(&mut table, &mut uses)?;
     }
     Ok(uses)
 }
 
-/// A chain, and the numbers of its answers.
-pub fn put_chain(alloc: Global, net: &mut Netlist, source: Source, uses: &[Use]) -> Result<Sizes> {
+/// Reads a use, and puts so many of it behind others, each shifted by one more.
+fn put_uses(table: &mut Row<'_>, uses: &mut Vec<Use>) -> Result<()> {
+    let shift = table.long()?;
+    let period = table.number()?;
+    for more in 0..table.number()? {
+        let shift = shift.wrapping_add(u64::from(more));
+        uses.push(Use { shift, period })?;
+    }
+    Ok(())
+}
+
+/// Puts in a chain, whose answers stand in the place of others.
+pub fn put_chain(
+    alloc: Global,
+    net: &mut Netlist,
+    row: &mut Row<'_>,
+    answers: &mut Vec<u32>,
+) -> Result<()> {
+    let source = source_of(row)?;
+    let uses = uses_of(alloc, row.text.as_slice())?;
+    chain_of(alloc, net, source, uses.as_slice(), answers)
+}
+
+fn chain_of(
+    alloc: Global,
+    net: &mut Netlist,
+    source: Source,
+    uses: &[Use],
+    answers: &mut Vec<u32>,
+) -> Result<()> {
     if net.cycles() == 0 || net.cycles() > 1024 {
-        return Err(anyhow!("no number of clocks"));
+        return Err(Error::msg("no number of clocks"));
     }
     if !is_source(net, source) || !are_uses(source, uses) {
-        return Err(anyhow!("no chain"));
+        return Err(Error::msg("no chain"));
     }
     let Source {
         from,
@@ -94,16 +112,34 @@ pub fn put_chain(alloc: Global, net: &mut Netlist, source: Source, uses: &[Use])
         first,
         registered,
     } = source;
-    Ok(chain(alloc, net, from, frame, first, registered, uses)?)
+    let numbers = chain(alloc, net, from, frame, first, registered, uses)?;
+    answers.clear();
+    answers.extend_from_slice(numbers.as_slice())?;
+    Ok(())
 }
 
-/// A chain of one use, and its answer.
-pub fn put_line(alloc: Global, net: &mut Netlist, source: Source, one: Use) -> Result<u32> {
+/// Puts in a chain of one use, whose answer stands in the place of others.
+pub fn put_line(
+    alloc: Global,
+    net: &mut Netlist,
+    row: &mut Row<'_>,
+    answers: &mut Vec<u32>,
+) -> Result<()> {
+    let source = source_of(row)?;
+    let shift = row.long()?;
+    let period = row.number()?;
+    let answer = line_of(alloc, net, source, Use { shift, period })?;
+    answers.clear();
+    answers.push(answer)?;
+    Ok(())
+}
+
+fn line_of(alloc: Global, net: &mut Netlist, source: Source, one: Use) -> Result<u32> {
     if net.cycles() == 0 || net.cycles() > 1024 {
-        return Err(anyhow!("no number of clocks"));
+        return Err(Error::msg("no number of clocks"));
     }
     if !is_source(net, source) || !is_use(source, one) {
-        return Err(anyhow!("no line"));
+        return Err(Error::msg("no line"));
     }
     let Source {
         from,

@@ -48,21 +48,9 @@ mod texts;
 
 use crate::bench::Bench;
 use anyhow::Result;
-use std::io::{self, BufRead, BufReader, BufWriter, Write};
-use tests_rows::Texts;
+use tests_rows::answer_lines;
 
 fn main(rt: HostRuntime) -> Result<()> {
-    let alloc = rt.alloc();
-    let mut out = BufWriter::new(alloc, io::writer(&rt))?;
-    let mut texts = Texts::new(alloc);
-    let mut bench = Bench::new(alloc);
-    for line in BufReader::new(alloc, rt.reader())?.lines(alloc) {
-        let line = line?;
-        if !texts.take(alloc, line.as_str())? {
-            let mut row = texts.row(alloc, line.as_str())?;
-            bench.take(&rt, alloc, &mut row, &mut out)?;
-        }
-    }
-    out.flush()?;
-    Ok(())
+    let mut bench = Bench::new(rt.alloc());
+    answer_lines(&rt, rt.alloc(), &mut bench)
 }

@@ -3,12 +3,13 @@ ghost use Rattle.std.specs.Prelude.{◌≡◌, true, All};
 ghost use Rattle.hw_net.specs.Emittable.{IsEmittable};
 ghost use Rattle.tests_hardware.specs.inner.Emitted.{IsCounted};
 
-use anyhow::{Result, anyhow};
+use anyhow::{Error, Result};
 use fx_io::{OpenGate, Text};
 use hw_net::{NetKind, Netlist, is_netlist};
 use std::alloc::Global;
 use std::io::Write;
 use std::thread::Threads;
+use tests_rows::{Row, written};
 use vl_ast::Module;
 use vl_emit::emit;
 use vl_write::write;
@@ -49,7 +50,7 @@ fn is_bare(netlist: &Netlist) -> bool
 
 fn module_of(alloc: Global, netlist: &Netlist) -> Result<Module> {
     if !is_netlist(alloc, netlist)? || !is_bare(netlist) {
-        return Err(anyhow!("the netlist has no module"));
+        return Err(Error::msg("the netlist has no module"));
     }
     Ok(emit(alloc, netlist)?)
 }
@@ -58,8 +59,7 @@ fn module_of(alloc: Global, netlist: &Netlist) -> Result<Module> {
 pub fn put_items<W: Write>(alloc: Global, netlist: &Netlist, out: &mut W) -> Result<()> {
     let module = module_of(alloc, netlist)?;
     let count = module.items.as_slice().len();
-    writeln!(out, "{count} items")?;
-    Ok(())
+    written(writeln!(out, "{count} items"))
 }
 
 fn text_of<R: Threads + Sync>(rt: &R, alloc: Global, netlist: &Netlist) -> Result<Text> {
@@ -75,8 +75,7 @@ pub fn put_module<R: Threads + Sync, W: Write>(
     out: &mut W,
 ) -> Result<()> {
     let text = text_of(rt, alloc, netlist)?;
-    out.write_all(text.bytes())?;
-    Ok(())
+    written(out.write_all(text.bytes()))
 }
 
 /// Prints the lines of a netlist's module that give a net its value.
@@ -84,9 +83,10 @@ pub fn put_spelled<R: Threads + Sync, W: Write>(
     rt: &R,
     alloc: Global,
     netlist: &Netlist,
-    net: u32,
+    row: &mut Row<'_>,
     out: &mut W,
 ) -> Result<()> {
+    let net = row.number()?;
     let text = text_of(rt, alloc, netlist)?;
     let begin = format!(in alloc; "assign fx_n{net} = ")?;
     put_lines(text.bytes(), begin.as_bytes(), out)

@@ -8,19 +8,15 @@
 //! | `keep FRAME ENABLE INITIAL NET`, `reset FRAME ENABLE INITIAL NET` | an enabled register, which keeps its number or takes its first one where it isn't enabled |
 //! | `bridge FRAME LIVE NET`, `unit NET NET`, `counter FRAME` | a bridge, a shared multiplier, a Counter |
 
-use anyhow::{Result, anyhow};
+use anyhow::{Error, Result};
 use fx_io::{Sizes, Text};
 use hw_net::{Frame, Net, NetKind, NetLabel, NetOp, NetPort, Netlist};
 use std::alloc::Global;
-use tests_rows::Row;
+use tests_rows::{Row, found};
 
 /// The net that the words tell.
 fn net_of(alloc: Global, row: &mut Row<'_>) -> Result<Net> {
-    let signed = match row.next()?.as_bytes() {
-        b"s" => true,
-        b"u" => false,
-        _ => return Err(anyhow!("no sign")),
-    };
+    let signed = row.one_of(&[("s", true), ("u", false)])?;
     let width = row.byte()?;
     let kind = kind_of(alloc, row)?;
     Ok(Net {
@@ -38,15 +34,15 @@ pub fn frame_of(row: &mut Row<'_>) -> Result<Frame> {
 
 fn kind_of(alloc: Global, row: &mut Row<'_>) -> Result<NetKind> {
     let name = row.next()?;
-    match name.as_bytes() {
-        b"reg" => register(row),
-        b"keep" => enabled(row, false),
-        b"reset" => enabled(row, true),
-        b"bridge" => bridge(row),
-        b"counter" => Ok(NetKind::Counter {
+    match name {
+        "reg" => register(row),
+        "keep" => enabled(row, false),
+        "reset" => enabled(row, true),
+        "bridge" => bridge(row),
+        "counter" => Ok(NetKind::Counter {
             frame: frame_of(row)?,
         }),
-        b"unit" => unit(row),
+        "unit" => unit(row),
         _ => operation(alloc, name, row),
     }
 }
@@ -102,37 +98,34 @@ fn operation(alloc: Global, name: &str, row: &mut Row<'_>) -> Result<NetKind> {
 }
 
 fn op_of(name: &str, row: &mut Row<'_>) -> Result<NetOp> {
-    match name.as_bytes() {
-        b"input" => Ok(NetOp::Input(row.number()?)),
-        b"const" => Ok(NetOp::Const(row.integer()?)),
-        b"up" => Ok(NetOp::ShiftUp(row.byte()?)),
-        b"down" => Ok(NetOp::ShiftDown(row.byte()?)),
-        b"slice" => {
+    match name {
+        "input" => Ok(NetOp::Input(row.number()?)),
+        "const" => Ok(NetOp::Const(row.integer()?)),
+        "up" => Ok(NetOp::ShiftUp(row.byte()?)),
+        "down" => Ok(NetOp::ShiftDown(row.byte()?)),
+        "slice" => {
             let high = row.byte()?;
             let low = row.byte()?;
             Ok(NetOp::Slice { high, low })
         }
-        _ => plain(name),
+        _ => found(name, PLAIN),
     }
 }
 
-fn plain(name: &str) -> Result<NetOp> {
-    match name.as_bytes() {
-        b"resize" => Ok(NetOp::Resize),
-        b"add" => Ok(NetOp::Add),
-        b"subtract" => Ok(NetOp::Subtract),
-        b"negate" => Ok(NetOp::Negate),
-        b"multiply" => Ok(NetOp::Multiply),
-        b"and" => Ok(NetOp::And),
-        b"or" => Ok(NetOp::Or),
-        b"xor" => Ok(NetOp::Xor),
-        b"not" => Ok(NetOp::Not),
-        b"less" => Ok(NetOp::Less),
-        b"equal" => Ok(NetOp::Equal),
-        b"choose" => Ok(NetOp::Choose),
-        _ => Err(anyhow!("no kind of net")),
-    }
-}
+const PLAIN: &[(&str, NetOp)] = &[
+    ("resize", NetOp::Resize),
+    ("add", NetOp::Add),
+    ("subtract", NetOp::Subtract),
+    ("negate", NetOp::Negate),
+    ("multiply", NetOp::Multiply),
+    ("and", NetOp::And),
+    ("or", NetOp::Or),
+    ("xor", NetOp::Xor),
+    ("not", NetOp::Not),
+    ("less", NetOp::Less),
+    ("equal", NetOp::Equal),
+    ("choose", NetOp::Choose),
+];
 
 pub fn put_net(alloc: Global, netlist: &mut Netlist, row: &mut Row<'_>) -> Result<()> {
     let _ = netlist.add(net_of(alloc, row)?)?;
@@ -151,7 +144,8 @@ fn port_of(alloc: Global, net: u32, frame: Frame) -> Result<NetPort> {
     })
 }
 
-pub fn put_port(alloc: Global, netlist: &mut Netlist, net: u32) -> Result<()> {
+pub fn put_port(alloc: Global, netlist: &mut Netlist, row: &mut Row<'_>) -> Result<()> {
+    let net = row.number()?;
     let frame = Frame {
         period: 1,
         latency: 0,
@@ -179,32 +173,20 @@ pub fn connect(alloc: Global, netlist: &mut Netlist, row: &mut Row<'_>) -> Resul
     let number = row.number()?;
     let argument = row.number()?;
     if !netlist.is_resize(number) {
-        return Err(anyhow!("no resize"));
+        return Err(Error::msg("no resize"));
     }
     netlist.connect(alloc, number, argument)?;
     Ok(())
 }
 
 /// Puts in so many nets: sums of the last net and net 0, and registers that take them, in turn.
-pub fn put_sums(alloc: Global, netlist: &mut Netlist, count: u32) -> Result<()> {
+pub fn put_sums(alloc: Global, netlist: &mut Netlist, row: &mut Row<'_>) -> Result<()> {
     let mut last = 0;
-    for place in 0..count {
+    for place in 0..row.number()? {
         let kind = if place % 2 == 0 {
-            let mut args = Sizes::new(alloc);
-            args.push(last)?;
-            args.push(0)?;
-            let op = NetOp::Add;
-            NetKind::Comb { op, args }
+            sum_of(alloc, last)?
         } else {
-            NetKind::Reg {
-                frame: Frame {
-                    period: 2,
-                    latency: 1,
-                },
-                slot: 0,
-                first: 0,
-                from: last,
-            }
+            register_of(last)
         };
         last = netlist.add(Net {
             signed: true,
@@ -213,4 +195,24 @@ pub fn put_sums(alloc: Global, netlist: &mut Netlist, count: u32) -> Result<()> 
         })?;
     }
     Ok(())
+}
+
+fn sum_of(alloc: Global, net: u32) -> Result<NetKind> {
+    let mut args = Sizes::new(alloc);
+    args.push(net)?;
+    args.push(0)?;
+    let op = NetOp::Add;
+    Ok(NetKind::Comb { op, args })
+}
+
+fn register_of(from: u32) -> NetKind {
+    NetKind::Reg {
+        frame: Frame {
+            period: 2,
+            latency: 1,
+        },
+        slot: 0,
+        first: 0,
+        from,
+    }
 }

@@ -4,8 +4,8 @@ ghost use Rattle.hw_share.specs.Operations.{IsOperation, SameWord, AreApart, Can
 ghost use Rattle.tests_hardware.specs.inner.Tried.{AreUsed, IsApartAt};
 
 use crate::nets::frame_of;
-use anyhow::{Result, anyhow};
-use fx_io::{OutOfMemory, Sizes};
+use anyhow::{Error, Result};
+use fx_io::OutOfMemory;
 use fx_num::is_word;
 use hw_net::{Frame, NetKind, Netlist};
 use hw_share::{Operation, units};
@@ -144,39 +144,63 @@ fn can_share(net: &Netlist, operations: &[Operation]) -> Result<bool, OutOfMemor
 }
 
 /// The operations of a text.
-pub fn operations_of(alloc: Global, text: &[u8]) -> Result<Vec<Operation>> {
+fn operations_of(alloc: Global, text: &[u8]) -> Result<Vec<Operation>> {
     let mut table = Row::of(alloc, str::from_utf8(text)?)?;
     let mut operations = Vec::new(alloc);
     for _ in 0..table.left() / 6 {
-        let frame = frame_of(&mut table)?;
-        let slot = table.long()?;
-        let unit = table.long()?;
-        let left = table.number()?;
-        let right = table.number()?;
-        operations.push(Operation {
-            frame,
-            slot,
-            unit,
-            left,
-            right,
-        })?;
+        operations.push(operation_of(&mut table)?)?;
     }
     Ok(operations)
 }
 
-/// Puts the multipliers of operations into the netlist, and gives the numbers of their products.
-pub fn put_units(alloc: Global, net: &mut Netlist, operations: &[Operation]) -> Result<Sizes> {
+fn operation_of(table: &mut Row<'_>) -> Result<Operation> {
+    let frame = frame_of(table)?;
+    let slot = table.long()?;
+    let unit = table.long()?;
+    let left = table.number()?;
+    let right = table.number()?;
+    Ok(Operation {
+        frame,
+        slot,
+        unit,
+        left,
+        right,
+    })
+}
+
+/// Puts in the multipliers of a text's operations. The numbers of their products and then the
+/// operands of the Unit nets stand in the place of other answers.
+pub fn put_units(
+    alloc: Global,
+    net: &mut Netlist,
+    row: &mut Row<'_>,
+    answers: &mut Vec<u32>,
+) -> Result<()> {
+    let operations = operations_of(alloc, row.text.as_slice())?;
+    put_products(alloc, net, operations.as_slice(), answers)?;
+    put_operands(net, answers)
+}
+
+fn put_products(
+    alloc: Global,
+    net: &mut Netlist,
+    operations: &[Operation],
+    answers: &mut Vec<u32>,
+) -> Result<()> {
     if net.cycles() == 0 || net.cycles() > 1024 {
-        return Err(anyhow!("no number of clocks"));
+        return Err(Error::msg("no number of clocks"));
     }
     if !can_share(net, operations)? {
-        return Err(anyhow!("the operations can't share"));
+        return Err(Error::msg("the operations can't share"));
     }
-    Ok(units(alloc, net, operations)?)
+    let products = units(alloc, net, operations)?;
+    answers.clear();
+    answers.extend_from_slice(products.as_slice())?;
+    Ok(())
 }
 
 /// Puts the operands of the Unit nets behind other numbers, in order.
-pub fn put_operands(net: &Netlist, numbers: &mut Vec<u32>) -> Result<()> {
+fn put_operands(net: &Netlist, numbers: &mut Vec<u32>) -> Result<()> {
     for one in net.nets() {
         if let NetKind::Unit { left, right } = &one.kind {
             numbers.push(*left)?;

@@ -1,6 +1,5 @@
 use anyhow::Result;
 use fx_io::Text;
-use std::alloc::Global;
 use std::fmt::Write;
 use vl_ast::{Attrs, Expr, ModItem, Module, Sized};
 
@@ -166,21 +165,20 @@ fn put_item(out: &mut String, item: &ModItem) -> Result<()> {
 }
 
 /// A module: its name and attributes on a line, then each port and each item on a line.
-pub fn shown(alloc: Global, module: &Module) -> Result<String> {
-    let mut out = String::new(alloc);
+pub fn put_shown(out: &mut String, module: &Module) -> Result<()> {
     out.push_str("module ")?;
-    put_text(&mut out, &module.name)?;
-    put_attrs(&mut out, &module.attrs)?;
+    put_text(out, &module.name)?;
+    put_attrs(out, &module.attrs)?;
     out.push('\n')?;
     for port in module.ports.as_slice() {
         let word = if port.input { "in" } else { "out" };
-        put_net(&mut out, word, port.signed, port.width, &port.name)?;
-        put_attrs(&mut out, &port.attrs)?;
+        put_net(out, word, port.signed, port.width, &port.name)?;
+        put_attrs(out, &port.attrs)?;
         out.push('\n')?;
     }
     for item in module.items.as_slice() {
-        put_item(&mut out, item)?;
+        put_item(out, item)?;
         out.push('\n')?;
     }
-    Ok(out)
+    Ok(())
 }

@@ -1,11 +1,11 @@
 //! What nets show, clock by clock.
 ghost use Rattle.std.specs.Prelude.{◌<◌};
 
-use anyhow::{Result, anyhow};
+use anyhow::{Error, Result};
 use hw_net::{NetState, Netlist, is_netlist};
 use std::alloc::Global;
 use std::io::Write;
-use tests_rows::Row;
+use tests_rows::{Row, written};
 
 /// Which clocks of a run are printed.
 #[derive(Clone, Copy)]
@@ -26,14 +26,14 @@ pub fn view_of(row: &mut Row<'_>) -> Result<View> {
     })
 }
 
-/// The numbers of a text.
-pub fn numbers_of(alloc: Global, text: &[u8]) -> Result<Vec<i128>> {
+/// Reads the numbers of a text in the place of others.
+pub fn read_numbers(alloc: Global, text: &[u8], numbers: &mut Vec<i128>) -> Result<()> {
     let mut table = Row::of(alloc, str::from_utf8(text)?)?;
-    let mut numbers = Vec::new(alloc);
+    numbers.clear();
     for _ in 0..table.left() {
         numbers.push(table.integer()?)?;
     }
-    Ok(numbers)
+    Ok(())
 }
 
 /// Prints what a net shows in the clocks of a view, where the inputs are these one behind another.
@@ -50,8 +50,7 @@ pub fn put_shown<W: Write>(
     for value in values.iter().skip(view.first as usize).step_by(step) {
         write!(out, "{value} ")?;
     }
-    out.write_all(b"\n")?;
-    Ok(())
+    written(out.write_all(b"\n"))
 }
 
 /// What a net shows in the first clocks.
@@ -63,17 +62,17 @@ fn values_of(
     clocks: u32,
 ) -> Result<Vec<i128>> {
     if !is_netlist(alloc, net)? {
-        return Err(anyhow!("the netlist can't be run"));
+        return Err(Error::msg("the netlist can't be run"));
     }
     if net.nets().len() <= number as usize {
-        return Err(anyhow!("no net"));
+        return Err(Error::msg("no net"));
     }
     let mut state = NetState::new(alloc, net)?;
     let mut values = Vec::new(alloc);
     let mut left = inputs;
     for _clock in 0..clocks {
         if left.len() < net.inputs().len() {
-            return Err(anyhow!("too few inputs"));
+            return Err(Error::msg("too few inputs"));
         }
         let (now, behind) = left.split_at(net.inputs().len());
         state.step(net, now);
