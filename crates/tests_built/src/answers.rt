@@ -1,11 +1,12 @@
 //! What is told of a model and a plan.
-ghost use Rattle.std.specs.Prelude.{◌≡◌, IfOk, length};
+ghost use Rattle.std.specs.Prelude.{◌≡◌, length};
 ghost use Rattle.dg_model.specs.PlanRange.{IsPlanInRange};
 ghost use Rattle.dg_model.specs.PlanOf.{IsPlanOf};
+ghost use Rattle.hw_latency.specs.Latency.{AreLatencies};
 
-use crate::faults::{put_fault, put_model_fault};
+use crate::faults::{put_fault, put_model_fault, put_path};
 use crate::schedules::put_schedule;
-use anyhow::{Result, anyhow};
+use anyhow::{Error, Result};
 use dg_model::{Block, CheckFault, Checked, Plan, Resolved, Rule, Shown};
 use dg_rules::resolve;
 use fx_io::Longs;
@@ -15,32 +16,34 @@ use hw_latency::{Latencies, LatencyFault, latencies_of};
 use hw_sched::depths;
 use std::alloc::Global;
 use std::io::Write;
+use tests_rows::written;
 
 pub fn answer<W: Write>(alloc: Global, model: &[u8], plan: &[u8], out: &mut W) -> Result<()> {
     match accept(alloc, model) {
         Ok(checked) => planned(alloc, &checked, plan, out),
-        Err(ModelFault::NotMdl { line }) => {
-            writeln!(out, "line {line}")?;
-            Ok(())
-        }
-        Err(ModelFault::Broken { fault, blocks }) => put_fault(
-            alloc,
-            &fault,
-            blocks.as_slice(),
-            out,
-        ),
-        Err(ModelFault::OutOfMemory) => Err(anyhow!("out of memory")),
+        Err(fault) => put_refusal(alloc, &fault, out),
+    }
+}
+
+fn put_refusal<W: Write>(alloc: Global, fault: &ModelFault, out: &mut W) -> Result<()> {
+    match fault {
+        ModelFault::NotMdl { line } => written(writeln!(out, "line {line}")),
+        ModelFault::Broken { fault, blocks } => put_fault(alloc, fault, blocks.as_slice(), out),
+        ModelFault::OutOfMemory => Err(Error::msg("out of memory")),
     }
 }
 
 fn planned<W: Write>(alloc: Global, checked: &Checked, plan: &[u8], out: &mut W) -> Result<()> {
     match read_plan(alloc, plan) {
         Ok(plan) => found(alloc, checked, &plan, out),
-        Err(TableFault::Bad { line, cause }) => {
-            writeln!(out, "plan line {line}: {cause}")?;
-            Ok(())
-        }
-        Err(TableFault::OutOfMemory) => Err(anyhow!("out of memory")),
+        Err(fault) => put_bad_plan(fault, out),
+    }
+}
+
+fn put_bad_plan<W: Write>(fault: TableFault, out: &mut W) -> Result<()> {
+    match fault {
+        TableFault::Bad { line, cause } => written(writeln!(out, "plan line {line}: {cause}")),
+        TableFault::OutOfMemory => Err(Error::msg("out of memory")),
     }
 }
 
@@ -49,10 +52,19 @@ fn found<W: Write>(alloc: Global, checked: &Checked, plan: &Plan, out: &mut W) -
 {
     match resolve(alloc, checked, plan) {
         Ok(resolved) => scheduled(alloc, checked, &resolved, out),
-        Err(CheckFault::Broken(fault)) => {
-            put_fault(alloc, &fault, checked.diagram().blocks.as_slice(), out)
-        }
-        Err(CheckFault::OutOfMemory) => Err(anyhow!("out of memory")),
+        Err(fault) => put_broken(alloc, &fault, checked.diagram().blocks.as_slice(), out),
+    }
+}
+
+fn put_broken<W: Write>(
+    alloc: Global,
+    fault: &CheckFault,
+    blocks: &[Block],
+    out: &mut W,
+) -> Result<()> {
+    match fault {
+        CheckFault::Broken(fault) => put_fault(alloc, fault, blocks, out),
+        CheckFault::OutOfMemory => Err(Error::msg("out of memory")),
     }
 }
 
@@ -60,23 +72,40 @@ fn scheduled<W: Write>(alloc: Global, checked: &Checked, plan: &Resolved, out: &
     requires { IsPlanOf checked.now.diagram plan.now }
 {
     match latencies_of(alloc, checked, plan) {
-        Ok(latencies) => {
-            let by_block = depths(alloc, checked, plan)?;
-            let blocks = checked.diagram().blocks.as_slice();
-            list(alloc, blocks, &latencies, &by_block, out)?;
-            put_schedule(alloc, checked, plan, &latencies, out)
-        }
-        Err(LatencyFault::Cycle { blocks, total }) => {
-            put_model_fault(
-                alloc,
-                Rule::Latency,
-                Shown::Latency { blocks, total },
-                checked,
-                out,
-            )
-        }
-        Err(LatencyFault::OutOfMemory) => Err(anyhow!("out of memory")),
+        Ok(latencies) => put_latencies(alloc, checked, plan, &latencies, out),
+        Err(fault) => put_cycle(alloc, fault, checked, out),
     }
+}
+
+fn put_cycle<W: Write>(
+    alloc: Global,
+    fault: LatencyFault,
+    checked: &Checked,
+    out: &mut W,
+) -> Result<()> {
+    match fault {
+        LatencyFault::Cycle { blocks, total } => {
+            let shown = Shown::Latency { blocks, total };
+            put_model_fault(alloc, Rule::Latency, shown, checked, out)
+        }
+        LatencyFault::OutOfMemory => Err(Error::msg("out of memory")),
+    }
+}
+
+fn put_latencies<W: Write>(
+    alloc: Global,
+    checked: &Checked,
+    plan: &Resolved,
+    latencies: &Latencies,
+    out: &mut W,
+) -> Result<()>
+    requires plan { IsPlanOf checked.now.diagram plan.now }
+    requires latencies { AreLatencies checked.now.diagram plan.now latencies.now }
+{
+    let blocks = checked.diagram().blocks.as_slice();
+    let by_block = depths(alloc, checked, plan)?;
+    list(alloc, blocks, latencies, &by_block, out)?;
+    put_schedule(alloc, checked, plan, latencies, out)
 }
 
 fn list<W: Write>(
@@ -91,8 +120,7 @@ fn list<W: Write>(
     requires depths { length depths.now ≡ length blocks.now }
 {
     for place in 0..blocks.len() {
-        let path = blocks[place].path.text(alloc)?;
-        out.write_all(path.bytes())?;
+        put_path(alloc, &blocks[place].path, out)?;
         let lat = latencies.lat.as_slice()[place];
         let depth = depths.as_slice()[place];
         let fed = latencies.fed.as_slice()[place];
@@ -103,6 +131,5 @@ fn list<W: Write>(
 
 fn write_numbers<W: Write>(lat: u64, depth: u64, fed: bool, out: &mut W) -> Result<()> {
     let mark = if fed { " fed" } else { "" };
-    writeln!(out, " latency {lat} depth {depth}{mark}")?;
-    Ok(())
+    written(writeln!(out, " latency {lat} depth {depth}{mark}"))
 }

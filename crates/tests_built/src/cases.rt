@@ -1,12 +1,12 @@
 //! Rows, one after another.
 
 use crate::answers;
-use crate::comparing::{put_comparison, put_held};
-use anyhow::{Result, anyhow};
+use crate::comparing::put_comparison;
+use anyhow::{Error, Result};
 use std::alloc::Global;
 use std::io::Write;
 use std::thread::Threads;
-use tests_rows::{Answers, Row, Texts};
+use tests_rows::{Answers, Row, Texts, written};
 
 /// The plan and the stimulus that stand now.
 #[derive(Drop)]
@@ -25,27 +25,31 @@ impl Case {
 
     /// Does what a row says.
     fn answer<W: Write>(&mut self, alloc: Global, row: &Row<'_>, out: &mut W) -> Result<()> {
-        let text = row.text.as_slice();
-        match row.command.as_bytes() {
-            b"plan" => self.plan = text.to_vec(alloc)?,
-            b"stimulus" => self.stimulus = text.to_vec(alloc)?,
-            b"built" => {
-                put_words(row.words.as_slice(), out)?;
-                let (plan, stimulus) = (self.plan.as_slice(), self.stimulus.as_slice());
-                put_comparison(alloc, text, plan, stimulus, out)?;
-            }
-            b"held" => {
-                put_words(row.words.as_slice(), out)?;
-                put_held(alloc, text, self.plan.as_slice(), out)?;
-            }
-            b"scheduled" => {
-                put_words(row.words.as_slice(), out)?;
-                answers::answer(alloc, text, self.plan.as_slice(), out)?;
-            }
-            _ => return Err(anyhow!("no command")),
+        match row.command {
+            "plan" => keep(&mut self.plan, row.text.as_slice()),
+            "stimulus" => keep(&mut self.stimulus, row.text.as_slice()),
+            _ => self.tell(alloc, row, out),
         }
-        Ok(())
     }
+
+    /// Prints the words of a row on a line, and then what is told of its model.
+    fn tell<W: Write>(&self, alloc: Global, row: &Row<'_>, out: &mut W) -> Result<()> {
+        put_words(row.words.as_slice(), out)?;
+        let (model, plan) = (row.text.as_slice(), self.plan.as_slice());
+        match row.command {
+            "built" => put_comparison(alloc, model, plan, Some(self.stimulus.as_slice()), out),
+            "held" => put_comparison(alloc, model, plan, None, out),
+            "scheduled" => answers::answer(alloc, model, plan, out),
+            _ => Err(Error::msg("no command")),
+        }
+    }
+}
+
+/// Keeps a text in the place of another.
+fn keep(kept: &mut Vec<u8>, text: &[u8]) -> Result<()> {
+    kept.clear();
+    kept.extend_from_slice(text)?;
+    Ok(())
 }
 
 impl Answers for Case {
@@ -70,6 +74,5 @@ fn put_words<W: Write>(words: &[&str], out: &mut W) -> Result<()> {
         }
         out.write_all(word.as_bytes())?;
     }
-    out.write_all(b"\n")?;
-    Ok(())
+    written(out.write_all(b"\n"))
 }

@@ -3,21 +3,24 @@ ghost use Rattle.dg_model.specs.PlanOf.{IsPlanOf};
 ghost use Rattle.hw_net.specs.Netlist.{IsNetlist};
 ghost use Rattle.hw_rules.specs.Times.{AreTimes};
 
-use crate::designs::{Simulated, netlist_of, simulate};
+use crate::designs::{Simulated, simulate};
 use crate::stepping::{Tally, tallies_of};
 use crate::windows::windows_of;
-use anyhow::{Result, anyhow};
+use anyhow::{Error, Result};
 use fx_designed::{DesignFault, Designed, designed_of};
-use hw_net::{NetKind, Netlist};
+use hw_build::build;
+use hw_net::{Net, NetKind, Netlist, is_netlist};
 use std::alloc::Global;
 use std::io::Write;
+use tests_rows::written;
 
-/// Prints the rule that a model by a plan breaks, or what its netlist shows under a stimulus.
+/// Prints the rule that a model by a plan breaks, or what its netlist shows under a stimulus;
+/// without one, how many registers and Counters it has.
 pub fn put_comparison<W: Write>(
     alloc: Global,
     model: &[u8],
     plan: &[u8],
-    stimulus: &[u8],
+    stimulus: Option<&[u8]>,
     out: &mut W,
 ) -> Result<()> {
     match designed_of(alloc, model, plan) {
@@ -26,28 +29,46 @@ pub fn put_comparison<W: Write>(
     }
 }
 
-/// Prints what the netlist of a design shows under a stimulus.
 fn put_designed<W: Write>(
     alloc: Global,
     designed: &Designed,
-    stimulus: &[u8],
+    stimulus: Option<&[u8]>,
     out: &mut W,
 ) -> Result<()>
     requires plan { IsPlanOf designed.now.checked.diagram designed.now.planned.resolved }
     requires times { AreTimes designed.now.checked.diagram designed.now.planned.resolved
         designed.now.planned.times }
 {
-    let netlist = netlist_of(
+    let plan = &designed.planned;
+    match build(
         alloc,
         &designed.checked,
-        &designed.planned.resolved,
-        &designed.planned.times,
-    )?;
-    put_netlist(alloc, designed, &netlist, stimulus, out)
+        &plan.resolved,
+        &plan.times.latencies,
+        &plan.times.slots,
+    ) {
+        Ok(netlist) => put_netlist(alloc, designed, &netlist, stimulus, out),
+        Err(_fault) => Err(Error::msg("no netlist")),
+    }
 }
 
-/// Prints what this netlist of a design shows under a stimulus.
 fn put_netlist<W: Write>(
+    alloc: Global,
+    designed: &Designed,
+    netlist: &Netlist,
+    stimulus: Option<&[u8]>,
+    out: &mut W,
+) -> Result<()> {
+    if !is_netlist(alloc, netlist)? {
+        return Err(Error::msg("a netlist can't be run"));
+    }
+    match stimulus {
+        Some(stimulus) => put_run(alloc, designed, netlist, stimulus, out),
+        None => put_held(netlist, out),
+    }
+}
+
+fn put_run<W: Write>(
     alloc: Global,
     designed: &Designed,
     netlist: &Netlist,
@@ -70,47 +91,30 @@ fn put_simulated<W: Write>(
 ) -> Result<()>
     requires { IsNetlist netlist.now }
 {
+    put_inputs(netlist, out)?;
     let windows = windows_of(alloc, designed, netlist)?;
     let tallies = tallies_of(alloc, simulated, netlist, windows.as_slice())?;
-    put_inputs(netlist, out)?;
     put_outputs(netlist, tallies.as_slice(), out)
 }
 
-/// Prints how many registers and Counters the netlist of a model by a plan has.
-pub fn put_held<W: Write>(alloc: Global, model: &[u8], plan: &[u8], out: &mut W) -> Result<()> {
-    match designed_of(alloc, model, plan) {
-        Ok(designed) => put_held_of(alloc, &designed, out),
-        Err(fault) => put_fault(&fault, out),
-    }
+/// Prints how many registers and Counters a netlist has.
+fn put_held<W: Write>(netlist: &Netlist, out: &mut W) -> Result<()> {
+    let held = held_of(netlist.nets());
+    written(writeln!(out, "held {held}"))
 }
 
-/// Prints how many registers and Counters the netlist of a design has.
-fn put_held_of<W: Write>(alloc: Global, designed: &Designed, out: &mut W) -> Result<()>
-    requires plan { IsPlanOf designed.now.checked.diagram designed.now.planned.resolved }
-    requires times { AreTimes designed.now.checked.diagram designed.now.planned.resolved
-        designed.now.planned.times }
-{
-    let netlist = netlist_of(
-        alloc,
-        &designed.checked,
-        &designed.planned.resolved,
-        &designed.planned.times,
-    )?;
-    let held = netlist.nets().iter().filter(|net| holds(&net.kind)).count();
-    writeln!(out, "held {held}")?;
-    Ok(())
-}
-
-/// Whether a net holds a number from clock to clock.
-fn holds(kind: &NetKind) -> bool {
-    match kind {
-        NetKind::Comb { .. } => false,
-        NetKind::Reg { .. } => true,
-        NetKind::EnReg { .. } => true,
-        NetKind::Bridge { .. } => true,
-        NetKind::Unit { .. } => false,
-        NetKind::Counter { .. } => true,
+fn held_of(nets: &[Net]) -> usize {
+    let mut held = 0usize;
+    for net in nets {
+        match &net.kind {
+            NetKind::Comb { .. } | NetKind::Unit { .. } => {}
+            NetKind::Reg { .. }
+            | NetKind::EnReg { .. }
+            | NetKind::Bridge { .. }
+            | NetKind::Counter { .. } => held = held.wrapping_add(1),
+        }
     }
+    held
 }
 
 /// Prints the line of a broken rule.
@@ -120,9 +124,9 @@ fn put_fault<W: Write>(fault: &DesignFault, out: &mut W) -> Result<()> {
             out.write_all(line.bytes())?;
             Ok(())
         }
-        DesignFault::NotMdl { .. } => Err(anyhow!("a text is no model")),
-        DesignFault::BadPlan { .. } => Err(anyhow!("a text is no plan")),
-        DesignFault::OutOfMemory => Err(anyhow!("out of memory")),
+        DesignFault::NotMdl { .. } => Err(Error::msg("a text is no model")),
+        DesignFault::BadPlan { .. } => Err(Error::msg("a text is no plan")),
+        DesignFault::OutOfMemory => Err(Error::msg("out of memory")),
     }
 }
 

@@ -1,19 +1,12 @@
-//! Designs: a model's diagram, the numbers of its simulation, and its netlist by a plan.
+//! The numbers of a diagram's simulation.
 ghost use Rattle.std.specs.Prelude.{◌≡◌, ◌<◌, ◌≤◌, ◌^◌, All, IfOk, length, true};
-ghost use Rattle.dg_model.specs.PlanOf.{IsPlanOf};
 ghost use Rattle.dg_response.specs.Response.{input_columns, output_columns};
 ghost use Rattle.fx_tables.specs.Stimulus.{FitsColumns};
-ghost use Rattle.hw_net.specs.Netlist.{IsNetlist};
-ghost use Rattle.hw_rules.specs.Times.{AreTimes};
 
-use anyhow::{Result, anyhow};
-use dg_model::{Checked, Resolved};
+use anyhow::{Error, Result};
+use dg_model::Checked;
 use dg_response::{Responding, RootColumns, columns};
 use fx_tables::{Column, Rows, TableFault, read_rows};
-use hw_build::build;
-use hw_net::{Netlist, is_netlist};
-use hw_rules::Times;
-use hw_sched::SizeFault;
 use std::alloc::Global;
 
 /// What a simulation takes and gives.
@@ -38,7 +31,7 @@ fn columns_of(alloc: Global, checked: &Checked) -> Result<RootColumns>
     if have_periods(columns.inputs.as_slice()) && are_few(columns.inputs.as_slice()) {
         Ok(columns)
     } else {
-        Err(anyhow!("an input has no period"))
+        Err(Error::msg("an input has no period"))
     }
 }
 
@@ -67,8 +60,8 @@ fn rows_of(alloc: Global, stimulus: &[u8], columns: &RootColumns) -> Result<Rows
     let outputs = columns.outputs.as_slice().len() as u64;
     match read_rows(alloc, stimulus, columns.inputs.as_slice(), outputs) {
         Ok(rows) => Ok(rows),
-        Err(TableFault::Bad { .. }) => Err(anyhow!("a stimulus has a bad line")),
-        Err(TableFault::OutOfMemory) => Err(anyhow!("out of memory")),
+        Err(TableFault::Bad { .. }) => Err(Error::msg("a stimulus has a bad line")),
+        Err(TableFault::OutOfMemory) => Err(Error::msg("out of memory")),
     }
 }
 
@@ -99,27 +92,4 @@ pub fn simulate(alloc: Global, checked: &Checked, stimulus: &[u8]) -> Result<Sim
         rows,
         shown,
     })
-}
-
-/// The netlist of a diagram by a plan with its times.
-pub fn netlist_of(
-    alloc: Global,
-    checked: &Checked,
-    plan: &Resolved,
-    times: &Times,
-) -> Result<Netlist>
-    requires plan { IsPlanOf checked.now.diagram plan.now }
-    requires times { AreTimes checked.now.diagram plan.now times.now }
-    ensures { IfOk result (λ netlist. IsNetlist netlist) }
-{
-    let netlist = match build(alloc, checked, plan, &times.latencies, &times.slots) {
-        Ok(netlist) => netlist,
-        Err(SizeFault::Size { .. }) => return Err(anyhow!("too large")),
-        Err(SizeFault::OutOfMemory) => return Err(anyhow!("out of memory")),
-    };
-    if is_netlist(alloc, &netlist)? {
-        Ok(netlist)
-    } else {
-        Err(anyhow!("a netlist can't be run"))
-    }
 }

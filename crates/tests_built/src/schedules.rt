@@ -3,13 +3,14 @@ ghost use Rattle.std.specs.Prelude.{◌≡◌, length};
 ghost use Rattle.hw_latency.specs.Latency.{AreLatencies};
 ghost use Rattle.dg_model.specs.PlanOf.{IsPlanOf};
 
-use crate::faults::put_model_fault;
-use anyhow::{Result, anyhow};
+use crate::faults::{put_model_fault, put_path};
+use anyhow::{Error, Result};
 use dg_model::{Block, Checked, Kind, Resolved, Rule, Shown};
 use hw_latency::{Latencies, is_shared};
 use hw_sched::{BudgetFault, SizeFault, Slots, check_size, own_width, slots_of};
 use std::alloc::Global;
 use std::io::Write;
+use tests_rows::written;
 
 /// Tells the slots, root outputs and size of a plan, or that there are too few slots.
 pub fn put_schedule<W: Write>(
@@ -23,17 +24,41 @@ pub fn put_schedule<W: Write>(
     requires latencies { AreLatencies checked.now.diagram plan.now latencies.now }
 {
     match slots_of(alloc, checked, latencies, plan) {
-        Ok(slots) => {
-            put_operations(alloc, checked, plan, &slots, out)?;
-            put_outputs(alloc, checked, plan, latencies, &slots, out)?;
-            put_size(alloc, checked, plan, latencies, &slots, out)
-        }
-        Err(BudgetFault::Budget { period, need, have }) => {
+        Ok(slots) => put_slots(alloc, checked, plan, latencies, &slots, out),
+        Err(fault) => put_short(alloc, fault, checked, out),
+    }
+}
+
+fn put_short<W: Write>(
+    alloc: Global,
+    fault: BudgetFault,
+    checked: &Checked,
+    out: &mut W,
+) -> Result<()> {
+    match fault {
+        BudgetFault::Budget { period, need, have } => {
             let shown = Shown::Budget { period, need, have };
             put_model_fault(alloc, Rule::Budget, shown, checked, out)
         }
-        Err(BudgetFault::OutOfMemory) => Err(anyhow!("out of memory")),
+        BudgetFault::OutOfMemory => Err(Error::msg("out of memory")),
     }
+}
+
+fn put_slots<W: Write>(
+    alloc: Global,
+    checked: &Checked,
+    plan: &Resolved,
+    latencies: &Latencies,
+    slots: &Slots,
+    out: &mut W,
+) -> Result<()>
+    requires plan { IsPlanOf checked.now.diagram plan.now }
+    requires latencies { AreLatencies checked.now.diagram plan.now latencies.now }
+    requires ready { length slots.now.ready ≡ length checked.now.diagram.blocks }
+{
+    put_operations(alloc, checked, plan, slots, out)?;
+    put_outputs(alloc, checked, plan, latencies, slots, out)?;
+    put_size(alloc, checked, plan, latencies, slots, out)
 }
 
 /// Tells of each shared operation its slot and its multiplier.
@@ -71,17 +96,27 @@ fn put_elements<W: Write>(
     let path = block.path.text(alloc)?;
     let mut number = first;
     for element in 0..width {
-        let Some(slot) = slots.starts.as_slice().get(number) else {
-            return Err(anyhow!("an operation has no slot"));
-        };
-        let Some(unit) = slots.units.as_slice().get(number) else {
-            return Err(anyhow!("an operation has no multiplier"));
-        };
-        out.write_all(path.bytes())?;
-        writeln!(out, " element {element} slot {slot} multiplier {unit}")?;
-        number += 1;
+        put_element(path.bytes(), element, slots, number, out)?;
+        number = number.wrapping_add(1);
     }
     Ok(number)
+}
+
+fn put_element<W: Write>(
+    path: &[u8],
+    element: u32,
+    slots: &Slots,
+    number: usize,
+    out: &mut W,
+) -> Result<()> {
+    let Some(slot) = slots.starts.as_slice().get(number) else {
+        return Err(Error::msg("an operation has no slot"));
+    };
+    let Some(unit) = slots.units.as_slice().get(number) else {
+        return Err(Error::msg("an operation has no multiplier"));
+    };
+    out.write_all(path)?;
+    written(writeln!(out, " element {element} slot {slot} multiplier {unit}"))
 }
 
 /// Tells of each root output when it is ready in its period, and the latency that is declared of it.
@@ -102,8 +137,7 @@ fn put_outputs<W: Write>(
             let lat = latencies.lat.as_slice()[place];
             let ready = slots.ready.as_slice()[place];
             let declared = declared(lat, plan.cycles, ready)?;
-            let path = blocks[place].path.text(alloc)?;
-            out.write_all(path.bytes())?;
+            put_path(alloc, &blocks[place].path, out)?;
             writeln!(out, " ready {ready} declared {declared}")?;
         }
     }
@@ -118,10 +152,10 @@ fn is_output(kind: &Kind) -> bool {
 /// A latency in clocks.
 fn declared(lat: u64, cycles: u32, ready: u64) -> Result<u64> {
     let Some(clocks) = lat.checked_mul(u64::from(cycles)) else {
-        return Err(anyhow!("a latency of 2^64 or more"));
+        return Err(Error::msg("a latency of 2^64 or more"));
     };
     let Some(clocks) = clocks.checked_add(ready) else {
-        return Err(anyhow!("a latency of 2^64 or more"));
+        return Err(Error::msg("a latency of 2^64 or more"));
     };
     Ok(clocks)
 }
@@ -140,21 +174,26 @@ fn put_size<W: Write>(
     requires ready { length slots.now.ready ≡ length checked.now.diagram.blocks }
 {
     match check_size(checked, plan, latencies, slots.ready.as_slice()) {
-        Ok(sizing) => {
-            let storage = sizing.storage;
-            let latency = sizing.latency;
-            writeln!(out, "storage {storage} latency {latency}")?;
-            Ok(())
+        Ok(sizing) => put_sizing(sizing.storage, sizing.latency, out),
+        Err(fault) => put_large(alloc, fault, checked, out),
+    }
+}
+
+fn put_sizing<W: Write>(storage: u64, latency: u64, out: &mut W) -> Result<()> {
+    written(writeln!(out, "storage {storage} latency {latency}"))
+}
+
+fn put_large<W: Write>(
+    alloc: Global,
+    fault: SizeFault,
+    checked: &Checked,
+    out: &mut W,
+) -> Result<()> {
+    match fault {
+        SizeFault::Size { storage, latency } => {
+            let shown = Shown::Size { storage, latency };
+            put_model_fault(alloc, Rule::Size, shown, checked, out)
         }
-        Err(SizeFault::Size { storage, latency }) => {
-            put_model_fault(
-                alloc,
-                Rule::Size,
-                Shown::Size { storage, latency },
-                checked,
-                out,
-            )
-        }
-        Err(SizeFault::OutOfMemory) => Err(anyhow!("out of memory")),
+        SizeFault::OutOfMemory => Err(Error::msg("out of memory")),
     }
 }

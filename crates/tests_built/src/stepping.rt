@@ -4,7 +4,7 @@ ghost use Rattle.hw_net.specs.Netlist.{IsNetlist};
 
 use crate::designs::Simulated;
 use crate::windows::{Window, sample_at};
-use anyhow::{Result, anyhow};
+use anyhow::{Error, Result};
 use fx_tables::Column;
 use hw_net::{NetState, Netlist};
 use std::alloc::Global;
@@ -106,13 +106,13 @@ fn tally_of(
 {
     let mut tally = Tally { equal: 0, seen: 0 };
     if window.net as usize >= netlist.nets().len() {
-        return Err(anyhow!("an output has no net"));
+        return Err(Error::msg("an output has no net"));
     }
     let mut state = NetState::new(alloc, netlist)?;
     for clock in 0..clocks {
         let numbers = numbers_at(alloc, simulated, netlist.cycles(), clock)?;
         if numbers.len() != netlist.inputs().len() {
-            return Err(anyhow!("an input lacks a port"));
+            return Err(Error::msg("an input lacks a port"));
         }
         state.step(netlist, numbers.as_slice());
         let value = state.value(window.net);
@@ -142,7 +142,7 @@ pub fn tallies_of(
     for (place, window) in windows.iter().enumerate() {
         let clocks = window.end(netlist.cycles(), simulated.rows.count())?;
         if clocks > MOST_CLOCKS {
-            return Err(anyhow!("too many clocks"));
+            return Err(Error::msg("too many clocks"));
         }
         tallies.push(tally_of(alloc, simulated, netlist, place, *window, clocks)?)?;
     }

@@ -1,9 +1,9 @@
 //! The clocks in which outputs show their numbers.
 
-use anyhow::{Result, anyhow};
+use anyhow::{Error, Result};
 use dg_tables::output_blocks;
 use fx_designed::Designed;
-use hw_net::Netlist;
+use hw_net::{NetPort, Netlist};
 use std::alloc::Global;
 
 /// When an output shows its numbers.
@@ -37,14 +37,14 @@ impl Window {
     /// The clock behind the frame of the last of so many samples.
     pub fn end(self, cycles: u32, samples: u64) -> Result<u64> {
         let Some(frames) = samples.checked_add(u64::from(self.period)) else {
-            return Err(anyhow!("too many samples"));
+            return Err(Error::msg("too many samples"));
         };
         let Some(length) = frames.checked_mul(u64::from(cycles)) else {
-            return Err(anyhow!("too many clocks"));
+            return Err(Error::msg("too many clocks"));
         };
         match self.start.checked_add(length) {
             Some(end) => Ok(end),
-            None => Err(anyhow!("too many clocks")),
+            None => Err(Error::msg("too many clocks")),
         }
     }
 }
@@ -54,21 +54,25 @@ pub fn windows_of(alloc: Global, designed: &Designed, netlist: &Netlist) -> Resu
     let blocks = output_blocks(alloc, &designed.checked)?;
     let mut windows = Vec::new(alloc);
     if netlist.outputs().len() != blocks.as_slice().len() {
-        return Err(anyhow!("an output lacks a port"));
+        return Err(Error::msg("an output lacks a port"));
     }
     for (port, block) in netlist.outputs().iter().zip(blocks.as_slice().iter()) {
-        let start = start_of(designed, *block)?;
-        let Some(ready) = port.latency.checked_sub(start) else {
-            return Err(anyhow!("an output is declared too early"));
-        };
-        windows.push(Window {
-            net: port.net,
-            period: port.period,
-            start,
-            ready,
-        })?;
+        windows.push(window_of(designed, port, *block)?)?;
     }
     Ok(windows)
+}
+
+fn window_of(designed: &Designed, port: &NetPort, block: u32) -> Result<Window> {
+    let start = start_of(designed, block)?;
+    let Some(ready) = port.latency.checked_sub(start) else {
+        return Err(Error::msg("an output is declared too early"));
+    };
+    Ok(Window {
+        net: port.net,
+        period: port.period,
+        start,
+        ready,
+    })
 }
 
 /// The clock of the first frame of a block.
@@ -81,10 +85,10 @@ fn start_of(designed: &Designed, block: u32) -> Result<u64> {
         .as_slice()
         .get(block as usize)
     else {
-        return Err(anyhow!("an output has no latency"));
+        return Err(Error::msg("an output has no latency"));
     };
     match lat.checked_mul(u64::from(designed.planned.resolved.cycles)) {
         Some(start) => Ok(start),
-        None => Err(anyhow!("a latency is too great")),
+        None => Err(Error::msg("a latency is too great")),
     }
 }
