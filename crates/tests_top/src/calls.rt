@@ -3,7 +3,7 @@
 use crate::cases::{Case, ROOM};
 use crate::fixed::Fixed;
 use crate::stuck::Stuck;
-use anyhow::{Result, anyhow};
+use anyhow::{Error, Result};
 use fx_io::{MemShelf, MemSink};
 use fx_top::{run, sample_with};
 use std::alloc::Global;
@@ -22,48 +22,47 @@ pub fn answered<R: Threads + Sync>(
     rt: &R,
     alloc: Global,
     case: &Case,
-    words: &str,
+    line: &str,
 ) -> Result<Answer> {
-    if case.stuck {
-        return stopped(rt, alloc, case, words, 0, &[1]);
-    }
     let mut shelf = shelf_of(alloc, case)?;
-    let words = words_of(alloc, words)?;
-    let mut out = sink(alloc, case.puts.as_slice(), case.piece)?;
-    let mut err = sink(alloc, &[], ROOM)?;
-    let status = run(rt, alloc, words.as_slice(), &mut shelf, &mut out, &mut err);
-    Ok(Answer {
-        status,
-        out: out.taken().to_vec(alloc)?,
-        err: err.taken().to_vec(alloc)?,
-    })
+    let words = words_of(alloc, line)?;
+    match case.takes {
+        Some(takes) => stopped(rt, alloc, case, words.as_slice(), &mut shelf, takes),
+        None => called(rt, alloc, case, words.as_slice(), &mut shelf),
+    }
 }
 
-/// The same where standard output takes so many pieces and then nothing, and these puts to standard
-/// error fail.
-pub fn stopped<R: Threads + Sync>(
+fn called<R: Threads + Sync>(
     rt: &R,
     alloc: Global,
     case: &Case,
-    words: &str,
-    takes: usize,
-    failing: &[u64],
+    words: &[String],
+    shelf: &mut MemShelf,
 ) -> Result<Answer> {
-    let mut shelf = shelf_of(alloc, case)?;
-    let words = words_of(alloc, words)?;
+    let mut out = sink(alloc, case.puts.as_slice(), case.piece)?;
+    let mut err = sink(alloc, &[], ROOM)?;
+    let status = run(rt, alloc, words, shelf, &mut out, &mut err);
+    answer_of(alloc, status, out.taken(), err.taken())
+}
+
+/// The same where standard output takes so many pieces and then nothing.
+fn stopped<R: Threads + Sync>(
+    rt: &R,
+    alloc: Global,
+    case: &Case,
+    words: &[String],
+    shelf: &mut MemShelf,
+    takes: usize,
+) -> Result<Answer> {
     let mut out = Stuck {
         takes,
         taken: Vec::new(alloc),
         faults: 0,
         stalls: 0,
     };
-    let mut err = sink(alloc, failing, ROOM)?;
-    let status = run(rt, alloc, words.as_slice(), &mut shelf, &mut out, &mut err);
-    Ok(Answer {
-        status,
-        out: out.taken,
-        err: err.taken().to_vec(alloc)?,
-    })
+    let mut err = sink(alloc, case.failing.as_slice(), ROOM)?;
+    let status = run(rt, alloc, words, shelf, &mut out, &mut err);
+    answer_of(alloc, status, out.taken.as_slice(), err.taken())
 }
 
 /// What `sample 1` answers by a bench that tells these bytes.
@@ -72,11 +71,13 @@ pub fn benched<R: Threads + Sync>(rt: &R, alloc: Global, tells: &[u8]) -> Result
     let mut out = sink(alloc, &[], ROOM)?;
     let mut err = sink(alloc, &[], ROOM)?;
     let status = sample_with(rt, alloc, 1, &mut bench, &mut out, &mut err);
-    Ok(Answer {
-        status,
-        out: out.taken().to_vec(alloc)?,
-        err: err.taken().to_vec(alloc)?,
-    })
+    answer_of(alloc, status, out.taken(), err.taken())
+}
+
+fn answer_of(alloc: Global, status: u8, out: &[u8], err: &[u8]) -> Result<Answer> {
+    let out = out.to_vec(alloc)?;
+    let err = err.to_vec(alloc)?;
+    Ok(Answer { status, out, err })
 }
 
 /// A shelf of the files.
@@ -101,6 +102,6 @@ fn words_of(alloc: Global, line: &str) -> Result<Vec<String>> {
 fn sink(alloc: Global, failing: &[u64], piece: usize) -> Result<MemSink> {
     match MemSink::new(alloc, failing, piece, ROOM) {
         Ok(sink) => Ok(sink),
-        Err(_) => Err(anyhow!("no sink")),
+        Err(_) => Err(Error::msg("no sink")),
     }
 }

@@ -5,12 +5,12 @@ use crate::ends::put_ends;
 use crate::plans::{FEW, WHOLE, put_explored};
 use crate::samples::{put_sample, put_summary};
 use crate::wires::{put_expected, put_met};
-use anyhow::{Result, anyhow};
+use anyhow::{Error, Result};
 use fx_sample::plan_text;
 use std::alloc::Global;
 use std::io::Write;
 use std::thread::Threads;
-use tests_rows::{Answers, Row, Texts};
+use tests_rows::{Answers, Row, Texts, written};
 
 /// A file by its name.
 #[derive(Drop)]
@@ -26,7 +26,10 @@ pub struct Case {
     pub fetches: Vec<u64>,
     pub puts: Vec<u64>,
     pub piece: usize,
-    pub stuck: bool,
+    /// How many pieces standard output takes, and then nothing.
+    pub takes: Option<usize>,
+    /// The puts to standard error that fail where standard output takes nothing.
+    pub failing: Vec<u64>,
 }
 
 /// How much a sink takes.
@@ -39,7 +42,8 @@ impl Case {
             fetches: Vec::new(alloc),
             puts: Vec::new(alloc),
             piece: ROOM,
-            stuck: false,
+            takes: None,
+            failing: Vec::new(alloc),
         }
     }
 
@@ -52,47 +56,59 @@ impl Case {
         out: &mut W,
     ) -> Result<()> {
         let answer = answered(rt, alloc, self, words)?;
-        put_answer(&answer, out)?;
+        self.reset();
+        put_answer(&answer, out)
+    }
+
+    /// Nothing fails at the next call.
+    pub fn reset(&mut self) {
         self.fetches.clear();
         self.puts.clear();
+        self.failing.clear();
         self.piece = ROOM;
-        self.stuck = false;
+        self.takes = None;
+    }
+
+    /// Puts in the file of a name and these bytes, which hold from here on.
+    fn put(&mut self, alloc: Global, name: &str, bytes: &[u8]) -> Result<()> {
+        let name = String::from_str(alloc, name)?;
+        let bytes = bytes.to_vec(alloc)?;
+        self.files.push(Held { name, bytes })?;
         Ok(())
     }
 
-    /// Puts a file in, in the place of one of the same name.
-    fn put(&mut self, alloc: Global, name: &str, bytes: Vec<u8>) -> Result<()> {
-        self.files
-            .retain(|held| held.name.as_bytes() != name.as_bytes());
-        let name = String::from_str(alloc, name)?;
-        self.files.push(Held { name, bytes })?;
+    /// The same of so many bytes 0.
+    fn put_zeros(&mut self, alloc: Global, row: &mut Row<'_>) -> Result<()> {
+        let name = row.next()?;
+        let count = row.number()? as usize;
+        let bytes = std::vec![in alloc; 0u8; count]?;
+        self.put(alloc, name, bytes.as_slice())
+    }
+
+    /// Standard output takes nothing at the next call, and standard error fails.
+    fn stop(&mut self) -> Result<()> {
+        self.takes = Some(0);
+        self.failing.push(1)?;
         Ok(())
     }
 
     /// Does what a row says.
     fn set(&mut self, alloc: Global, row: &mut Row<'_>) -> Result<()> {
-        match row.command.as_bytes() {
-            b"file" => {
-                let name = row.next()?;
-                self.put(alloc, name, row.text.to_vec(alloc)?)
-            }
-            b"zeros" => {
-                let name = row.next()?;
-                let count = row.number()? as usize;
-                self.put(alloc, name, std::vec![in alloc; 0u8; count]?)
-            }
+        match row.command {
+            "file" => self.put(alloc, row.next()?, row.text.as_slice()),
+            "zeros" => self.put_zeros(alloc, row),
+            "stuck" => self.stop(),
             _ => self.fail(row),
         }
     }
 
     /// Says what fails at the next call.
     fn fail(&mut self, row: &mut Row<'_>) -> Result<()> {
-        match row.command.as_bytes() {
-            b"fetch" => self.fetches.push(row.long()?)?,
-            b"put" => self.puts.push(row.long()?)?,
-            b"piece" => self.piece = row.number()? as usize,
-            b"stuck" => self.stuck = true,
-            _ => return Err(anyhow!("no command")),
+        match row.command {
+            "fetch" => self.fetches.push(row.long()?)?,
+            "put" => self.puts.push(row.long()?)?,
+            "piece" => self.piece = row.number()? as usize,
+            _ => return Err(Error::msg("no command")),
         }
         Ok(())
     }
@@ -109,8 +125,7 @@ impl Answers for Case {
     ) -> Result<()> {
         if let Some(tells) = line.strip_prefix("bench:") {
             writeln!(out, "{line}")?;
-            let answer = benched(rt, alloc, tells.as_bytes())?;
-            return put_answer(&answer, out);
+            return put_benched(rt, alloc, tells, out);
         }
         if let Some(words) = line.strip_prefix("run ") {
             writeln!(out, "{line}")?;
@@ -125,6 +140,17 @@ impl Answers for Case {
     }
 }
 
+/// Writes what `sample 1` answers by a bench that tells this.
+fn put_benched<R: Threads + Sync, W: Write>(
+    rt: &R,
+    alloc: Global,
+    tells: &str,
+    out: &mut W,
+) -> Result<()> {
+    let answer = benched(rt, alloc, tells.as_bytes())?;
+    put_answer(&answer, out)
+}
+
 /// Writes what a row asks for, or does what it says.
 fn put_row<R: Threads + Sync, W: Write>(
     rt: &R,
@@ -133,14 +159,14 @@ fn put_row<R: Threads + Sync, W: Write>(
     row: &mut Row<'_>,
     out: &mut W,
 ) -> Result<()> {
-    match row.command.as_bytes() {
-        b"explored" => put_explored(rt, alloc, row.text.as_slice(), WHOLE, out),
-        b"explored_few" => put_explored(rt, alloc, row.text.as_slice(), FEW, out),
-        b"met" => put_met(rt, alloc, row.number()?, out),
-        b"wires" => put_expected(rt, alloc, row.number()?, out),
-        b"sample" => put_sample(alloc, row.number()?, out),
-        b"sample_plan" => Ok(out.write_all(plan_text())?),
-        b"summary" => put_summary(alloc, row.text.as_slice(), out),
+    match row.command {
+        "explored" => put_explored(rt, alloc, row.text.as_slice(), WHOLE, out),
+        "explored_few" => put_explored(rt, alloc, row.text.as_slice(), FEW, out),
+        "met" => put_met(rt, alloc, row, out),
+        "wires" => put_expected(rt, alloc, row, out),
+        "sample" => put_sample(alloc, row, out),
+        "sample_plan" => written(out.write_all(plan_text())),
+        "summary" => put_summary(alloc, row.text.as_slice(), out),
         _ => case.set(alloc, row),
     }
 }

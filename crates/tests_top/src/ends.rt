@@ -1,9 +1,9 @@
 //! Calls whose standard output ends early.
 
-use crate::calls::{Answer, answered, stopped};
+use crate::calls::{Answer, answered};
 use crate::cases::Case;
 use crate::stuck::PIECE;
-use anyhow::{Result, anyhow};
+use anyhow::{Error, Result};
 use std::alloc::Global;
 use std::io::Write;
 use std::thread::Threads;
@@ -27,10 +27,21 @@ pub fn put_ends<R: Threads + Sync, W: Write>(
     words: &str,
     out: &mut W,
 ) -> Result<()> {
-    let whole = answered(rt, alloc, case, words)?.out;
-    let failing = beginnings(rt, alloc, case, words, whole.as_slice(), End::Fails)?;
+    let whole = answered(rt, alloc, case, words)?;
+    put_counts(rt, alloc, case, words, whole.out.as_slice(), out)
+}
+
+fn put_counts<R: Threads + Sync, W: Write>(
+    rt: &R,
+    alloc: Global,
+    case: &mut Case,
+    words: &str,
+    whole: &[u8],
+    out: &mut W,
+) -> Result<()> {
+    let failing = beginnings(rt, alloc, case, words, whole, End::Fails)?;
     writeln!(out, "status 4 and a beginning, {failing} puts that fail")?;
-    let nothing = beginnings(rt, alloc, case, words, whole.as_slice(), End::TakesNothing)?;
+    let nothing = beginnings(rt, alloc, case, words, whole, End::TakesNothing)?;
     writeln!(
         out,
         "status 4 and a beginning, {nothing} puts that take nothing"
@@ -48,35 +59,47 @@ fn beginnings<R: Threads + Sync>(
     end: End,
 ) -> Result<usize> {
     for number in 0..MOST {
-        let answer = ended(rt, alloc, case, words, number, end)?;
-        if answer.status == 0 && answer.out.as_slice() == whole {
+        set(case, end, number)?;
+        let all = writes(rt, alloc, case, words, whole)?;
+        case.reset();
+        if all {
             return Ok(number);
         }
-        if !is_beginning(&answer, whole) {
-            return Err(anyhow!("no beginning"));
-        }
     }
-    Err(anyhow!("too many puts"))
+    Err(Error::msg("too many puts"))
 }
 
-/// The call in which standard output takes so many pieces.
-fn ended<R: Threads + Sync>(
-    rt: &R,
-    alloc: Global,
-    case: &mut Case,
-    words: &str,
-    number: usize,
-    end: End,
-) -> Result<Answer> {
+/// At the next call standard output ends behind so many puts.
+fn set(case: &mut Case, end: End, number: usize) -> Result<()> {
     match end {
-        End::TakesNothing => stopped(rt, alloc, case, words, number, &[]),
+        End::TakesNothing => case.takes = Some(number),
         End::Fails => {
             case.piece = PIECE;
             case.puts.push((number as u64).saturating_add(1))?;
-            let answer = answered(rt, alloc, case, words)?;
-            case.puts.clear();
-            Ok(answer)
         }
+    }
+    Ok(())
+}
+
+/// Whether the call writes the whole; else it writes a beginning.
+fn writes<R: Threads + Sync>(
+    rt: &R,
+    alloc: Global,
+    case: &Case,
+    words: &str,
+    whole: &[u8],
+) -> Result<bool> {
+    let answer = answered(rt, alloc, case, words)?;
+    is_whole(&answer, whole)
+}
+
+fn is_whole(answer: &Answer, whole: &[u8]) -> Result<bool> {
+    if answer.status == 0 && answer.out.as_slice() == whole {
+        Ok(true)
+    } else if is_beginning(answer, whole) {
+        Ok(false)
+    } else {
+        Err(Error::msg("no beginning"))
     }
 }
 

@@ -2,12 +2,13 @@
 ghost use Rattle.hw_explore.specs.Range.{IsRange};
 
 use crate::meeting::Meeting;
-use anyhow::{Result, anyhow};
+use anyhow::{Error, Result};
 use fx_model::accept;
 use hw_explore::{Range, explore};
 use std::alloc::Global;
 use std::io::Write;
 use std::thread::Threads;
+use tests_rows::written;
 
 /// 64 clocks by 64 multipliers.
 pub const WHOLE: Range = Range {
@@ -34,10 +35,10 @@ fn meet<R: Threads + Sync>(
 ) -> Result<(usize, u64)>
     requires { IsRange range }
 {
-    let Ok(checked) = accept(alloc, model) else {
-        return Err(anyhow!("the model is refused"));
-    };
     let meeting = Meeting::new(u64::from(range.pairs()).saturating_sub(1));
+    let Ok(checked) = accept(alloc, model) else {
+        return Err(Error::msg("the model is refused"));
+    };
     let findings = explore(rt, alloc, &checked, range, &meeting)?;
     Ok((findings.rows.as_slice().len(), meeting.met()))
 }
@@ -53,6 +54,5 @@ pub fn put_explored<R: Threads + Sync, W: Write>(
     requires { IsRange range }
 {
     let (explored, met) = meet(rt, alloc, model, range)?;
-    writeln!(out, "{explored} plans, {met} workers met")?;
-    Ok(())
+    written(writeln!(out, "{explored} plans, {met} workers met"))
 }

@@ -1,10 +1,11 @@
 //! Texts of samples, and the summaries that benches lead to.
 
 use crate::fixed::Fixed;
-use anyhow::{Result, anyhow};
+use anyhow::{Error, Result};
 use fx_sample::{Made, model_text, plan_text, stimulus_text, summary};
 use std::alloc::Global;
 use std::io::Write;
+use tests_rows::{Row, written};
 
 /// What the module of a sample might say of itself.
 const MADE: Made = Made {
@@ -19,19 +20,18 @@ const RESPONSE: &[u8] = b"1 2\n3 -\n5 6\n7 -\n9 0\n1 -\n3 4\n5 -\n";
 const MOST: u32 = 5000;
 
 /// Writes the model and the stimulus of a sample of so many blocks.
-pub fn put_sample<W: Write>(alloc: Global, count: u32, out: &mut W) -> Result<()> {
+pub fn put_sample<W: Write>(alloc: Global, row: &mut Row<'_>, out: &mut W) -> Result<()> {
+    let count = row.number()?;
     if count > MOST {
-        return Err(anyhow!("too many blocks"));
+        return Err(Error::msg("too many blocks"));
     }
     out.write_all(model_text(alloc, count)?.bytes())?;
-    out.write_all(stimulus_text(alloc, count)?.bytes())?;
-    Ok(())
+    written(out.write_all(stimulus_text(alloc, count)?.bytes()))
 }
 
 /// Writes the summary where a bench tells these bytes.
 pub fn put_summary<W: Write>(alloc: Global, tells: &[u8], out: &mut W) -> Result<()> {
     let mut bench = Fixed { tells };
     let text = summary(alloc, 1, MADE, b"", RESPONSE, &mut bench)?;
-    out.write_all(text.bytes())?;
-    Ok(())
+    written(out.write_all(text.bytes()))
 }

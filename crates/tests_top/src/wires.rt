@@ -7,6 +7,7 @@ use std::alloc::Global;
 use std::fmt::Write;
 use std::io;
 use std::thread::Threads;
+use tests_rows::{Row, written};
 use vl_ast::{Attrs, ModItem, ModItems, Module, Ports};
 use vl_write::{spelled, write};
 
@@ -15,32 +16,36 @@ const TEXTS: u32 = 20;
 
 /// A module of so many wires of one bit, called `w0`, `w1` and on.
 fn module_of(alloc: Global, count: u32) -> Result<Module> {
+    let name = Text::copy(alloc, b"m")?;
     let mut items = ModItems::new(alloc);
     for number in 0..count {
-        let name = format!(in alloc; "w{number}")?;
-        items.push(ModItem::Wire {
-            signed: false,
-            width: 1,
-            name: Text::copy(alloc, name.as_bytes())?,
-        })?;
+        items.push(wire_of(alloc, number)?)?;
     }
     Ok(Module {
-        name: Text::copy(alloc, b"m")?,
+        name,
         attrs: Attrs::new(alloc),
         ports: Ports::new(alloc),
         items,
     })
 }
 
-/// The text of such a module, line by line.
-fn expected_text(alloc: Global, count: u32) -> Result<String> {
-    let mut text = String::new(alloc);
+fn wire_of(alloc: Global, number: u32) -> Result<ModItem> {
+    let name = format!(in alloc; "w{number}")?;
+    Ok(ModItem::Wire {
+        signed: false,
+        width: 1,
+        name: Text::copy(alloc, name.as_bytes())?,
+    })
+}
+
+/// Puts the text of such a module behind another, line by line.
+fn put_text(text: &mut String, count: u32) -> Result<()> {
     text.push_str("module m (\n\n);\n")?;
     for number in 0..count {
         writeln!(text, "wire w{number};")?;
     }
     text.push_str("endmodule\n")?;
-    Ok(text)
+    Ok(())
 }
 
 /// How many workers meet while a module of so many wires is written.
@@ -64,38 +69,66 @@ fn joined(alloc: Global, parts: &[Vec<u8>]) -> Result<Vec<u8>> {
 /// parts: up to 20.
 fn texts_as_expected<R: Threads + Sync>(rt: &R, alloc: Global, count: u32) -> Result<u32> {
     let module = module_of(alloc, count)?;
-    let expected = expected_text(alloc, count)?;
+    let mut expected = String::new(alloc);
+    put_text(&mut expected, count)?;
+    texts_like(rt, alloc, &module, expected.as_bytes())
+}
+
+fn texts_like<R: Threads + Sync>(
+    rt: &R,
+    alloc: Global,
+    module: &Module,
+    expected: &[u8],
+) -> Result<u32> {
     for texts in 0..TEXTS {
-        let text = write(rt, alloc, &module, &OpenGate)?;
-        let parts = spelled(rt, alloc, &module, &OpenGate)?;
-        let parted = joined(alloc, parts.as_slice())?;
-        if text.bytes() != expected.as_bytes() || parted.as_slice() != expected.as_bytes() {
+        if !is_written(rt, alloc, module, expected)? || !is_spelled(rt, alloc, module, expected)? {
             return Ok(texts);
         }
     }
     Ok(TEXTS)
 }
 
+fn is_written<R: Threads + Sync>(
+    rt: &R,
+    alloc: Global,
+    module: &Module,
+    expected: &[u8],
+) -> Result<bool> {
+    let text = write(rt, alloc, module, &OpenGate)?;
+    Ok(text.bytes() == expected)
+}
+
+fn is_spelled<R: Threads + Sync>(
+    rt: &R,
+    alloc: Global,
+    module: &Module,
+    expected: &[u8],
+) -> Result<bool> {
+    let parts = spelled(rt, alloc, module, &OpenGate)?;
+    let text = joined(alloc, parts.as_slice())?;
+    Ok(text.as_slice() == expected)
+}
+
 /// Writes how many workers meet.
 pub fn put_met<R: Threads + Sync, W: io::Write>(
     rt: &R,
     alloc: Global,
-    count: u32,
+    row: &mut Row<'_>,
     out: &mut W,
 ) -> Result<()> {
+    let count = row.number()?;
     let met = meet(rt, alloc, count)?;
-    writeln!(out, "{count} wires, {met} workers met")?;
-    Ok(())
+    written(writeln!(out, "{count} wires, {met} workers met"))
 }
 
 /// Writes how many texts are the expected one.
 pub fn put_expected<R: Threads + Sync, W: io::Write>(
     rt: &R,
     alloc: Global,
-    count: u32,
+    row: &mut Row<'_>,
     out: &mut W,
 ) -> Result<()> {
+    let count = row.number()?;
     let texts = texts_as_expected(rt, alloc, count)?;
-    writeln!(out, "{count} wires, {texts} texts as expected")?;
-    Ok(())
+    written(writeln!(out, "{count} wires, {texts} texts as expected"))
 }
