@@ -7,7 +7,7 @@ import sys
 import tempfile
 import unittest
 
-from .common import TOOLS, TOP, write
+from .common import TOOLS, TOP, read, write
 
 
 class Crossing(unittest.TestCase):
@@ -156,6 +156,40 @@ class Editing(unittest.TestCase):
         ):
             self.assertEqual(self.ends(odd, "--texts"), 1, odd)
         self.assertEqual(self.ends(self.EDIT, "--texts", "high"), 2)
+
+
+class Calling(unittest.TestCase):
+    """Calls of the program fail where an answer differs, where there is none, and at a row that can't be read."""
+
+    CASES = "text line\na word\nend\nfile line f `word`number\nrun show f\nmakes g show f\ncuts f count f\n"
+    EXPECTED = (
+        "run show f\nstatus 3\nan error\na number\n|\nmakes g show f\nstatus 3\n"
+        "cuts f count f\n0 bytes\nstatus 0\n0\n|\n" + "".join(f"{at} bytes\nstatus 0\n{at}\n|\n" for at in range(1, 10))
+    )
+    PROGRAM = '#!/bin/sh\ncase $1 in\n    show) cat "$2"; echo "an error" >&2; exit 3 ;;\n    count) wc -c <"$2" ;;\nesac\n'
+
+    def ends(self, cases, expected):
+        with tempfile.TemporaryDirectory() as room:
+            for name in ("calls", "rows.py"):
+                write(os.path.join(room, "tests", name), read(os.path.join(TOP, "tests", name)))
+            for name, text in (("tilecatnip", f"#!/bin/sh\necho {room}/program\n"), ("program", self.PROGRAM)):
+                write(os.path.join(room, name), text)
+                os.chmod(os.path.join(room, name), 0o755)
+            if cases is not None:
+                write(os.path.join(room, "tests/small.cases"), cases)
+                write(os.path.join(room, "tests/small.expected"), expected)
+            return subprocess.run([sys.executable, os.path.join(room, "tests/calls")], capture_output=True, text=True).returncode
+
+    def test_answers(self):
+        self.assertEqual(self.ends(self.CASES, self.EXPECTED), 0)
+        for old, new in (("an error", "no error"), ("status 3", "status 0"), ("a number", "a word"), ("0 bytes\n", "")):
+            self.assertEqual(self.ends(self.CASES, self.EXPECTED.replace(old, new, 1)), 1, old)
+
+    def test_rows(self):
+        self.assertEqual(self.ends(None, None), 1)
+        self.assertEqual(self.ends("", ""), 1)
+        for old, new in (("run show", "runs show"), ("`word`", "`words`"), ("file line", "file other")):
+            self.assertNotEqual(self.ends(self.CASES.replace(old, new), self.EXPECTED.replace(old, new)), 0, old)
 
 
 class Gate(unittest.TestCase):
