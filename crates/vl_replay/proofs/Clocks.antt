@@ -1,6 +1,5 @@
 -- The row with `reset`, and one clock more.
 use Rattle.std.proofs.Common.{◌≡◌, ◌<◌, ◌+◌, ◌*◌, ◌/◌, ℕ, suc, List, length, map, ℤ, sym, ap, subst, ◌∙◌, arith}
-use Rattle.std.proofs.lemmas.Nat.{pow_pos}
 use Rattle.vl_ast.specs.Control.{is_stallable}
 use Rattle.vl_ast.specs.declared.modules.Module.{Module}
 use Rattle.vl_ast.specs.Runs.{Row, Rows}
@@ -12,16 +11,12 @@ use Rattle.vl_eval.specs.declared.machine.Machine.{Machine}
 use Rattle.vl_replay.specs.declared.playing.Score.{Score}
 use Rattle.vl_replay.specs.Sampled.{numbers_of}
 use Rattle.vl_replay.specs.inner.Driving.{AreBits, driver_bits, drivers_from, inputs_of, reset_bits}
-use Rattle.vl_replay.specs.inner.Sampling.{ArePut, IsPower, number_at}
+use Rattle.vl_replay.specs.inner.Sampling.{ArePut, number_at}
 use Rattle.vl_replay.specs.inner.Played.{HaveCells, IsPlayed, IsScoreOf}
 use Rattle.vl_replay.proofs.Cells.{cells-more}
 use Rattle.vl_replay.proofs.Rows.{at-place, before-place, steps-more, with_row, zeros}
 use Rattle.vl_replay.proofs.Scores.{bits-of-score, samplers-many}
 use Rattle.vl_replay.proofs.Times.{div-told}
-
--- it has a row
-pub power-some : (window : ℕ) → IsPower window → 0 < window
-power-some window power = subst (λ n. 0 < n) (sym power.is) (pow_pos power.exponent)
 
 module _ (m : Module) (score : Score) (window : ℕ) (is : IsScoreOf m score) (first next : Row) (bits : List ℕ) (cells : List ℤ)
     (beginning : IsFirstRow m zeros zeros first) (are : AreBits reset_bits score.drivers.items (length score.drivers.items) bits)
@@ -52,7 +47,7 @@ module _ (m : Module) (score : Score) (window : ℕ) (is : IsScoreOf m score) (f
     at = λ place port there t below past. absurd (omega (arith, past));
   }
 
-module _ (m : Module) (score : Score) (window : ℕ) (power : IsPower window) (is : IsScoreOf m score) (sample phase : ℕ) (phase-below : phase < score.cycles) (rows : Rows) (row next : Row) (bits : List ℕ) (before after : List ℤ)
+module _ (m : Module) (score : Score) (window : ℕ) (some-window : 0 < window) (is : IsScoreOf m score) (sample phase : ℕ) (phase-below : phase < score.cycles) (rows : Rows) (row next : Row) (bits : List ℕ) (before after : List ℤ)
     (steps : AreSteps m (2 + (sample * score.cycles + phase)) zeros (inputs_of m (numbers_of score.stimulus) score.stimulus.lines) rows)
     (last : rows (1 + (sample * score.cycles + phase)) ≡ row)
     (have : HaveCells m score.stimulus.lines window (sample * score.cycles + phase) rows before)
@@ -107,24 +102,24 @@ module _ (m : Module) (score : Score) (window : ℕ) (power : IsPower window) (i
     where
       told : HaveCells m score.stimulus.lines window (sample * clocks_of m + phase + 1) (with_row rows (1 + (1 + clock)) next) after
       told = cells-more m score.stimulus.lines window sample phase rows (with_row rows (1 + (1 + clock)) next) next score.samplers.items before after
-          (subst (λ f. phase < f) is.cycles phase-below) (power-some window power) is.samplers
+          (subst (λ f. phase < f) is.cycles phase-below) some-window is.samplers
           (subst (λ f. HaveCells m score.stimulus.lines window (sample * f + phase) rows before) is.cycles have)
           (λ k below. before-place rows (1 + (1 + clock)) next k (let e = ap (λ f. sample * f) is.cycles in omega (arith, below, e)))
           (let e : 2 + (sample * clocks_of m + phase) ≡ 1 + (1 + clock) = (let s = ap (λ f. sample * f) is.cycles in omega (arith, s)) in ap (with_row rows (1 + (1 + clock)) next) e ∙ at-place rows (1 + (1 + clock)) next)
           put
 
 -- the machine after the row with `reset`
-pub begun : (score : Score) (window : ℕ) (machine later : Machine) (bits : List ℕ) (cells : List ℤ) → IsPower window → IsScoreOf (source_of machine) score → source_of later ≡ source_of machine → IsReady later
+pub begun : (score : Score) (window : ℕ) (machine later : Machine) (bits : List ℕ) (cells : List ℤ) → 0 < window → IsScoreOf (source_of machine) score → source_of later ≡ source_of machine → IsReady later
     → IsFirstRow (source_of machine) zeros zeros (row_of machine) → AreBits reset_bits score.drivers.items (length score.drivers.items) bits
     → IsEdge (source_of machine) (row_of machine) (given (driven_ports (source_of machine)) bits) (row_of later) → length cells ≡ window * length score.samplers.items
     → IsPlayed score window 0 later cells
-begun score window machine later bits cells power is same ready first are edge room =
+begun score window machine later bits cells some is same ready first are edge room =
     let m = source_of machine in
     let rows = begun-rows m score window is (row_of machine) (row_of later) bits cells first are edge room in
     record {
       ready = ready;
       score_is = subst (λ n. IsScoreOf n score) (sym same) is;
-      power = power;
+      some = some;
       rows = rows;
       steps = subst (λ n. AreSteps n (2 + 0) zeros (inputs_of n (numbers_of score.stimulus) score.stimulus.lines) rows) (sym same) (begun-steps m score window is (row_of machine) (row_of later) bits cells first are edge room);
       last = begun-last m score window is (row_of machine) (row_of later) bits cells first are edge room;
@@ -141,15 +136,15 @@ pub played-more : (score : Score) (window : ℕ) (sample phase : ℕ) (machine l
 played-more score window sample phase machine later bits before after played below are same ready edge put =
     let m = source_of machine in
     let put' = subst (λ n. ArePut (number_at n (row_of later)) score.samplers.items score.stimulus.lines window sample phase (length score.samplers.items) before after) same put in
-    let rows = more-rows m score window played.power played.score_is sample phase below played.rows (row_of machine) (row_of later) bits before after played.steps played.last played.have are edge put' in
+    let rows = more-rows m score window played.some played.score_is sample phase below played.rows (row_of machine) (row_of later) bits before after played.steps played.last played.have are edge put' in
     record {
       ready = ready;
       score_is = subst (λ n. IsScoreOf n score) (sym same) played.score_is;
-      power = played.power;
+      some = played.some;
       rows = rows;
       steps = subst (λ n. AreSteps n (2 + (sample * score.cycles + phase + 1)) zeros (inputs_of n (numbers_of score.stimulus) score.stimulus.lines) rows) (sym same)
-          (more-steps m score window played.power played.score_is sample phase below played.rows (row_of machine) (row_of later) bits before after played.steps played.last played.have are edge put');
-      last = more-last m score window played.power played.score_is sample phase below played.rows (row_of machine) (row_of later) bits before after played.steps played.last played.have are edge put';
+          (more-steps m score window played.some played.score_is sample phase below played.rows (row_of machine) (row_of later) bits before after played.steps played.last played.have are edge put');
+      last = more-last m score window played.some played.score_is sample phase below played.rows (row_of machine) (row_of later) bits before after played.steps played.last played.have are edge put';
       have = subst (λ n. HaveCells n score.stimulus.lines window (sample * score.cycles + phase + 1) rows after) (sym same)
-          (more-cells m score window played.power played.score_is sample phase below played.rows (row_of machine) (row_of later) bits before after played.steps played.last played.have are edge put');
+          (more-cells m score window played.some played.score_is sample phase below played.rows (row_of machine) (row_of later) bits before after played.steps played.last played.have are edge put');
     }

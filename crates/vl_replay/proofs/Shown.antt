@@ -16,12 +16,11 @@ use Rattle.vl_ast.specs.Steps.{AreSteps}
 use Rattle.vl_replay.specs.declared.playing.Score.{Score}
 use Rattle.vl_replay.specs.Sampled.{Sampled, hit_at, numbers_of, window_of}
 use Rattle.vl_replay.specs.inner.Driving.{inputs_of}
-use Rattle.vl_replay.specs.inner.Sampling.{IsPower, sampler_of}
+use Rattle.vl_replay.specs.inner.Sampling.{sampler_of}
 use Rattle.vl_replay.specs.inner.Played.{HaveCells, IsDelay, IsScoreOf, IsWindow}
 use Rattle.vl_replay.proofs.Cells.{has-place, mapped}
 use Rattle.vl_ast.proofs.Ranges.{clocks-some}
 use Rattle.vl_ast.specs.Attributes.{clocks_of, lateness_of, step_of}
-use Rattle.vl_replay.proofs.Clocks.{power-some}
 use Rattle.vl_replay.proofs.OneResponse.{ShowRow, one-row}
 use Rattle.vl_replay.proofs.Rows.{zeros}
 use Rattle.vl_replay.proofs.Scores.{samplers-many}
@@ -49,9 +48,12 @@ in-span f late t delay some most =
     parts : (a b c : ℕ) → (a + 1 + b) * c ≡ a * c + c + b * c
     parts a b c = grind arith
 
+sum-times : (a b c : ℕ) → (a + b) * c ≡ a * c + b * c
+sum-times a b c = grind arith
+
 module _ (one_run : (m : Module) (count : ℕ) (start : List ℕ → ℕ) (inputs rows other : ℕ → List ℕ → ℕ) → BreaksNone m → Runs m count start inputs rows → Runs m count start inputs other → AreSame m count rows other)
     (steps_run : (m : Module) (count : ℕ) (start : List ℕ → ℕ) (inputs rows : ℕ → List ℕ → ℕ) → AreSteps m count start inputs rows → Runs m count start inputs rows)
-    (m : Module) (score : Score) (window delay t : ℕ) (power : IsPower window) (is : IsScoreOf m score) (late : IsDelay score delay) (holds : IsWindow score.stimulus.lines delay window) (rows : Rows) (cells : List ℤ)
+    (m : Module) (score : Score) (window delay t : ℕ) (is : IsScoreOf m score) (late : IsDelay score delay) (holds : IsWindow score delay window) (rows : Rows) (cells : List ℤ)
     (below : t < score.stimulus.lines)
     (steps : AreSteps m (2 + (t + 1 + delay) * score.cycles) zeros (inputs_of m (numbers_of score.stimulus) score.stimulus.lines) rows)
     (have : HaveCells m score.stimulus.lines window ((t + 1 + delay) * score.cycles) rows cells) where
@@ -71,26 +73,30 @@ module _ (one_run : (m : Module) (count : ℕ) (start : List ℕ → ℕ) (input
   long-cells = have.long ∙ ap (λ k. window * k) (sym (samplers-many m score is))
 
   within : t % window < window
-  within = mod_below t window (power-some window power)
+  within = mod_below t window holds.some
 
   pub shown-long : length shown ≡ length (output_ports m)
   shown-long = row-long window n (t % window) cells long-cells within ∙ samplers-many m score is
 
+  sampled-by : (place : ℕ) (port : Port) → slice_get (output_ports m) place ≡ Some port → slice_get score.samplers.items place ≡ Some (sampler_of (clocks_of m) port)
+  sampled-by place port there = ap (λ xs. slice_get xs place) is.samplers ∙ mapped (sampler_of (clocks_of m)) (output_ports m) place port there
+
   near : (place : ℕ) (port : Port) → slice_get (output_ports m) place ≡ Some port → lateness_of port / clocks_of m ≤ delay
-  near place port there = late.most place (sampler_of (clocks_of m) port)
-      (ap (λ xs. slice_get xs place) is.samplers ∙ mapped (sampler_of (clocks_of m)) (output_ports m) place port there) (omega (arith, below))
+  near place port there = late.most place (sampler_of (clocks_of m) port) (sampled-by place port there) (omega (arith, below))
 
   past : (place : ℕ) (port : Port) → slice_get (output_ports m) place ≡ Some port → t * clocks_of m + lateness_of port < (t + 1 + delay) * score.cycles
   past place port there = subst (λ f. t * clocks_of m + lateness_of port < (t + 1 + delay) * f) (sym is.cycles)
       (in-span (clocks_of m) (lateness_of port) t delay (clocks-some m).0 (near place port there))
 
   -- no number stands in its place yet
-  held : (port : Port) → t + window < samples → (t + 1 + delay) * score.cycles ≤ (t + window) * clocks_of m + lateness_of port
-  held port fewer =
-      let wide = holds.wide (omega (arith, fewer)) in
-      let le : (t + 1 + delay) * clocks_of m ≤ (t + window) * clocks_of m = mul-le-mul_right (clocks_of m) (omega (arith, wide)) in
+  held : (place : ℕ) (port : Port) → slice_get (output_ports m) place ≡ Some port → t + window < samples → (t + 1 + delay) * score.cycles ≤ (t + window) * clocks_of m + lateness_of port
+  held place port there fewer =
+      let wide = holds.wide place (sampler_of (clocks_of m) port) (sampled-by place port there) (omega (arith, fewer)) in
+      let le : (t + 1 + delay) * clocks_of m ≤ (t + window + lateness_of port / clocks_of m) * clocks_of m = mul-le-mul_right (clocks_of m) (omega (arith, wide)) in
       let e : (t + 1 + delay) * score.cycles ≡ (t + 1 + delay) * clocks_of m = ap (λ f. (t + 1 + delay) * f) is.cycles in
-      omega (arith, le, e)
+      let both = sum-times (t + window) (lateness_of port / clocks_of m) (clocks_of m) in
+      let whole = div-add-mod' (lateness_of port) (clocks_of m) in
+      omega (arith, le, e, both, whole)
 
   shows : ShowRow m count rows t shown
   shows = λ cycles ec place port there period latency ep el.
@@ -107,7 +113,7 @@ module _ (one_run : (m : Module) (count : ℕ) (start : List ℕ → ℕ) (input
         omega (arith, in-time, le, place-is),
         picked window n (t % window) cells long-cells within place low
             ∙ ap Some (ap (λ k. slice_index_or cells (t % window * k + place) (pos 0)) (samplers-many m score is)
-            ∙ have.at place port there t below in-time (held port)
+            ∙ have.at place port there t below in-time (held place port there)
             ∙ ap (λ k. port_number port (rows k port.name)) (sym row)),
       )
 

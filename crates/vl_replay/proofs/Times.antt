@@ -23,10 +23,6 @@ same-told t n p u q pl ql e = (
   sym (mod-mul-add t n p pl) ∙ ap (λ k. k % n) e ∙ mod-mul-add u n q ql,
 )
 
--- a hit is its own
-pub own-hit : (period t : ℕ) → t % period ≡ 0 → hit_at period t ≡ t
-own-hit period t at = omega (arith, at)
-
 pub hit-below : (period t : ℕ) → hit_at period t ≤ t
 hit-below period t = omega arith
 
@@ -35,9 +31,6 @@ pub last-is-hit : (period t : ℕ) → 0 < period → hit_at period t % period �
 last-is-hit period t some =
     let e : t - t % period ≡ t / period * period + 0 = let d = div-add-mod' t period in omega (arith, d) in
     ap (λ n. n % period) e ∙ mod-mul-add (t / period) period 0 some
-
-pub hit-twice : (period t : ℕ) → 0 < period → hit_at period (hit_at period t) ≡ hit_at period t
-hit-twice period t some = own-hit period (hit_at period t) (last-is-hit period t some)
 
 -- between hits the last hit is that of the sample before
 pub hit-before : (period t : ℕ) → 0 < period → (hit_at period t ≡ t → ⊥) → hit_at period (t - 1) ≡ hit_at period t

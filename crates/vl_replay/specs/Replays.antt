@@ -20,5 +20,5 @@ pub record StandsBefore (replay : Replay) (t : Sample) : Type 0 where
   pub few : replay.score.stimulus.lines ≤ 50000000
   pub wide : length replay.bits.items ≡ length replay.score.drivers.items
   pub delay : IsDelay replay.score replay.delay
-  pub window : IsWindow replay.score.stimulus.lines replay.delay replay.window
+  pub window : IsWindow replay.score replay.delay replay.window
   pub played : IsPlayed replay.score replay.window ((t + replay.delay) * replay.score.cycles) replay.machine replay.cells.items

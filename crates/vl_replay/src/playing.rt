@@ -1,10 +1,9 @@
-ghost use Rattle.std.specs.Prelude.{◌≡◌, ◌≤◌, ◌<◌, ◌+◌, ◌*◌, IfOk, length};
+ghost use Rattle.std.specs.Prelude.{◌≡◌, ◌≤◌, ◌<◌, ◌+◌, ◌*◌, ℕ, ℤ, IfOk, List, length};
 ghost use Rattle.vl_ast.specs.Conditions.{BreaksNone};
 ghost use Rattle.vl_ast.specs.Driven.{stimulus_ports};
 ghost use Rattle.vl_ast.specs.Steps.{IsFirstRow};
 ghost use Rattle.vl_eval.specs.Machine.{IsReady, row_of, source_of};
 ghost use Rattle.vl_replay.specs.Sampled.{numbers_of};
-ghost use Rattle.vl_replay.specs.inner.Sampling.{IsPower};
 ghost use Rattle.vl_replay.specs.inner.Driving.{AreBits, driver_bits};
 ghost use Rattle.vl_replay.specs.inner.Played.{AreNear, IsDelay, IsPlayed, IsScoreOf, IsWindow};
 
@@ -61,18 +60,17 @@ pub fn delay_of(score: &Score) -> u64
     delay
 }
 
-/// For how many samples the numbers of so many are held while outputs are sampled so late: the least
-/// power of two that will do.
-pub fn window_of(samples: u64, delay: u64) -> u64
+/// For how many samples numbers are held while the latest output is sampled so late: from the
+/// earliest to the latest, and for no more than there are.
+pub fn window_of(score: &Score, delay: u64) -> u64
     requires late { delay ≤ 16777216 }
-    ensures { IsWindow samples delay result }
+    ensures { IsWindow score.now delay result }
 {
-    let least = samples.min(delay + 1);
-    let mut window = 1;
-    while window < least {
-        window *= 2;
+    let mut earliest = delay;
+    for sampler in score.samplers.as_slice() {
+        earliest = sampler.delay.min(earliest);
     }
-    window
+    (delay - earliest + 1).min(score.stimulus.count()).max(1)
 }
 
 /// Passes one clock of this phase of a sample, and samples what is due.
@@ -85,7 +83,8 @@ fn step(
     phase: u64,
     cells: &mut [i128],
 )
-    requires played { IsPlayed score.now window (sample * score.now.cycles + phase) machine.old cells.old }
+    requires played { IsPlayed score.now window
+        (sample * score.now.cycles + phase) machine.old cells.old }
     requires phase { phase < score.now.cycles }
     requires bits { AreBits (driver_bits
         (numbers_of score.now.stimulus) score.now.stimulus.lines sample) score.now.drivers.items
@@ -129,19 +128,17 @@ pub fn play_sample(
 }
 
 /// Passes the row with `reset`.
-fn begin(machine: &mut Machine, score: &Score, window: u64, bits: &mut [u128], cells: &[i128])
+fn begin(machine: &mut Machine, score: &Score, bits: &mut [u128])
     requires ready { IsReady machine.old }
     requires score { IsScoreOf (source_of machine.old) score.now }
     requires row { IsFirstRow (source_of machine.old) (λ name. 0) (λ name. 0) (row_of machine.old) }
-    requires power { IsPower window }
-    requires room { length cells.now ≡ window * length score.now.samplers.items }
     requires wide { length bits.old ≡ length score.now.drivers.items }
-    ensures played { IsPlayed score.now window 0 machine.new cells.now }
+    ensures played { (window : ℕ) (cells : List ℤ) → 0 < window
+        → length cells ≡ window * length score.now.samplers.items
+        → IsPlayed score.now window 0 machine.new cells }
     ensures wide { length bits.new ≡ length score.now.drivers.items }
     ensures source { source_of machine.new ≡ source_of machine.old }
 {
-    let _ = window;
-    let _ = cells;
     put_reset(score.drivers.as_slice(), bits);
     machine.edge(bits);
 }
@@ -158,13 +155,13 @@ pub fn play(
     requires ready { IsReady machine.old }
     requires score { IsScoreOf (source_of machine.old) score.now }
     requires row { IsFirstRow (source_of machine.old) (λ name. 0) (λ name. 0) (row_of machine.old) }
-    requires power { IsPower window }
+    requires some { 0 < window }
     requires room { length cells.old ≡ window * length score.now.samplers.items }
     requires wide { length bits.old ≡ length score.now.drivers.items }
     ensures played { IsPlayed score.now window (span * score.now.cycles) machine.new cells.new }
     ensures source { source_of machine.new ≡ source_of machine.old }
 {
-    begin(machine, score, window, bits, cells);
+    begin(machine, score, bits);
     for sample in 0..span {
         play_sample(machine, score, window, sample, bits, cells);
     }

@@ -53,7 +53,7 @@ impl Replay {
         let mut machine = machine;
         let score = score_of(alloc, machine.module(), stimulus)?;
         let delay = delay_of(&score);
-        let window = window_of(score.stimulus.count(), delay);
+        let window = window_of(&score, delay);
         let mut bits = vec![in alloc; 0u128; score.drivers.len()]?;
         let mut cells = vec![in alloc; 0i128; window as usize * score.samplers.len()]?;
         play(&mut machine, &score, window, delay, &mut bits, &mut cells);

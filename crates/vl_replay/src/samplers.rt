@@ -3,7 +3,7 @@ ghost use Rattle.vl_ast.specs.Driven.{output_ports};
 ghost use Rattle.vl_eval.specs.Machine.{IsReady, row_of, source_of};
 ghost use Rattle.vl_replay.specs.Sampled.{hit_at};
 ghost use Rattle.vl_replay.specs.declared.samplers.Sampler.{Sampler};
-ghost use Rattle.vl_replay.specs.inner.Sampling.{ArePut, IsPower, number_at, sampler_of};
+ghost use Rattle.vl_replay.specs.inner.Sampling.{ArePut, number_at, sampler_of};
 
 use fx_io::OutOfMemory;
 use std::alloc::Global;
@@ -53,15 +53,19 @@ pub fn samplers_of(alloc: Global, source: &Module, cycles: u64) -> Result<Vec<Sa
     Ok(samplers)
 }
 
-/// Where the cells of a sample begin in a ring of so many rows, a power of two.
+/// Where the cells of a sample begin in a ring of so many rows.
 #[inline(always)]
 pub fn start_of(window: u64, outputs: usize, sample: u64) -> usize
-    requires power { IsPower window }
+    requires some { 0 < window }
     requires room { window * outputs < 2 ^ 64 }
     ensures start { result ≡ sample % window * outputs }
     ensures within { result + outputs ≤ window * outputs }
 {
-    (sample & (window - 1)) as usize * outputs
+    if window == 1 {
+        0
+    } else {
+        (sample % window) as usize * outputs
+    }
 }
 
 /// The number of an output at a sample: what it shows at a hit, and between hits the number of the
@@ -79,7 +83,7 @@ fn number_for(
     requires period { 0 < period }
     requires within { place < outputs }
     requires outputs { outputs ≡ length (output_ports (source_of machine.now)) }
-    requires power { IsPower window }
+    requires some { 0 < window }
     requires room { length cells.now ≡ window * outputs }
     ensures { result ≡ (if hit_at period sample == sample
         then number_at (source_of machine.now) (row_of machine.now) place
@@ -106,7 +110,7 @@ fn put_number(
     requires period { 0 < period }
     requires within { place < outputs }
     requires outputs { outputs ≡ length (output_ports (source_of machine.now)) }
-    requires power { IsPower window }
+    requires some { 0 < window }
     requires room { length cells.old ≡ window * outputs }
     ensures { cells.new ≡ slice_set cells.old (sample % window * outputs + place)
         (if hit_at period sample == sample
@@ -132,7 +136,7 @@ fn put_if_due(
     requires outputs { length samplers.now ≡ length (output_ports (source_of machine.now)) }
     requires periods { (place : ℕ) (sampler : Sampler) → slice_get samplers.now place ≡ Some sampler
         → 0 < sampler.period }
-    requires power { IsPower window }
+    requires some { 0 < window }
     requires room { length cells.old ≡ window * length samplers.now }
     requires within { place < length samplers.now }
     ensures { (before : List ℤ) → ArePut
@@ -157,7 +161,7 @@ fn put_if_due(
 }
 
 /// Puts the numbers that are due at a clock of this phase of a sample into their cells, of which
-/// there are so many rows, a power of two: the row of a sample is that of its remainder.
+/// there are so many rows: the row of a sample is that of its remainder.
 pub fn put_numbers(
     machine: &Machine,
     samplers: &[Sampler],
@@ -171,7 +175,7 @@ pub fn put_numbers(
     requires outputs { length samplers.now ≡ length (output_ports (source_of machine.now)) }
     requires periods { (place : ℕ) (sampler : Sampler) → slice_get samplers.now place ≡ Some sampler
         → 0 < sampler.period }
-    requires power { IsPower window }
+    requires some { 0 < window }
     requires room { length cells.old ≡ window * length samplers.now }
     ensures { ArePut (number_at (source_of machine.now) (row_of machine.now)) samplers.now samples
         window sample phase (length samplers.now) cells.old cells.new }

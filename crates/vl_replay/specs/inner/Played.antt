@@ -15,7 +15,7 @@ use Rattle.vl_replay.specs.declared.playing.Score.{Score}
 use Rattle.vl_replay.specs.declared.samplers.Sampler.{Sampler}
 use Rattle.vl_replay.specs.Sampled.{hit_at, numbers_of}
 use Rattle.vl_replay.specs.inner.Driving.{drivers_from, inputs_of}
-use Rattle.vl_replay.specs.inner.Sampling.{IsPower, cell_of, sampler_of}
+use Rattle.vl_replay.specs.inner.Sampling.{cell_of, sampler_of}
 
 -- a score of a module that breaks no condition
 pub record IsScoreOf (m : Module) (score : Score) : Type 0 where
@@ -37,7 +37,7 @@ pub record HaveCells (m : Module) (samples window clocks : ℕ) (rows : Rows) (c
 pub record IsPlayed (score : Score) (window clocks : ℕ) (machine : Machine) (cells : List ℤ) : Type 0 where
   pub ready : IsReady machine
   pub score_is : IsScoreOf (source_of machine) score
-  pub power : IsPower window
+  pub some : 0 < window
   pub rows : Rows
   pub steps : AreSteps (source_of machine) (2 + clocks) (λ name. 0) (inputs_of (source_of machine) (numbers_of score.stimulus) score.stimulus.lines) rows
   pub last : rows (1 + clocks) ≡ row_of machine
@@ -52,8 +52,9 @@ pub record IsDelay (score : Score) (delay : ℕ) : Type 0 where
   pub few : delay ≤ 16777216
   pub most : (place : ℕ) (sampler : Sampler) → slice_get score.samplers.items place ≡ Some sampler → 0 < score.stimulus.lines → sampler.delay ≤ delay
 
--- a ring of so many rows holds the numbers of a sample until all of them are sampled
-pub record IsWindow (samples delay window : ℕ) : Type 0 where
-  pub power : IsPower window
-  pub few : window ≤ 33554434
-  pub wide : window < samples → delay < window
+-- a ring of so many rows holds the numbers of a sample until all of them are sampled: its row is another's only once
+-- that one's number is sampled, by each sampler's own delay
+pub record IsWindow (score : Score) (delay window : ℕ) : Type 0 where
+  pub some : 0 < window
+  pub few : window ≤ 16777217
+  pub wide : (place : ℕ) (sampler : Sampler) → slice_get score.samplers.items place ≡ Some sampler → window < score.stimulus.lines → delay < window + sampler.delay

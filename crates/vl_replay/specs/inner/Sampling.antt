@@ -1,5 +1,5 @@
 -- When the outputs are sampled, and the cells of a table in which their numbers stand.
-use Rattle.std.specs.Prelude.{◌≡◌, ℕ, ◌+◌, ◌-◌, ◌*◌, ◌/◌, ◌%◌, ◌^◌, ◌<◌, ◌==◌, if◌then◌else◌, List, length, slice_get, slice_index_or, Option, None, Some, ℤ, pos}
+use Rattle.std.specs.Prelude.{◌≡◌, ℕ, ◌+◌, ◌-◌, ◌*◌, ◌/◌, ◌%◌, ◌<◌, ◌==◌, if◌then◌else◌, List, length, slice_get, slice_index_or, Option, None, Some, ℤ, pos}
 use Rattle.vl_ast.specs.declared.modules.Port.{Port}
 use Rattle.vl_ast.specs.declared.modules.Module.{Module}
 use Rattle.vl_ast.specs.Attributes.{lateness_of, step_of}
@@ -21,11 +21,6 @@ number_or_zero row (Some port) = port_number port (row port.name)
 -- the number of the output at a place
 abbrev pub number_at : Module → Row → ℕ → ℤ
 number_at m row place = number_or_zero row (slice_get (output_ports m) place)
-
--- a power of two
-pub record IsPower (number : ℕ) : Type 0 where
-  pub exponent : ℕ
-  pub is : number ≡ 2 ^ exponent
 
 -- the place of an output's number in a ring of so many rows, in which the row of a sample is that of its remainder
 abbrev pub cell_of : ℕ → ℕ → ℕ → Sample → ℕ

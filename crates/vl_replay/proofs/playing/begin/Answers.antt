@@ -14,6 +14,6 @@ edge-requires-clause-fit c =
     fit-score (source_of c.args.machine.now) c.args.score.now c.requires.score reset_bits (reset-fits (is_stallable (source_of c.args.machine.now))) c.put_reset.new.bits are
 
 pub returns-clause-played : goal.returns-clause-played
-returns-clause-played c =
+returns-clause-played c = λ window cells some room.
     let are = subst (λ (xs : List Driver). AreBits reset_bits xs (length xs) c.put_reset.new.bits) c.as_slice.ensures.value c.put_reset.ensures in
-    begun c.args.score.now c.args.window c.args.machine.now c.edge.new.self c.put_reset.new.bits c.args.cells.now c.requires.power c.requires.score c.edge.ensures.source c.edge.ensures.ready c.requires.row are c.edge.ensures.row c.requires.room
+    begun c.args.score.now window c.args.machine.now c.edge.new.self c.put_reset.new.bits cells some c.requires.score c.edge.ensures.source c.edge.ensures.ready c.requires.row are c.edge.ensures.row room

@@ -1,8 +1,17 @@
-use Rattle.std.proofs.Common.{◌*◌, ap, sym, subst, ◌∙◌}
+use Rattle.std.proofs.Common.{◌≡◌, ◌*◌, ap, sym, subst, ◌∙◌, arith}
 use Rattle.std.proofs.Math.Nat.{suc-mul}
 use Rattle.std.proofs.Math.Numerals.{suc-eq-add-one}
 use Rattle.vl_replay.specs.inner.Played.{IsPlayed}
 use Rattle.vl_replay.proofs.playing.play.Goals as goal
+
+pub loop-sample-init : goal.loop-sample-init
+loop-sample-init c =
+    let start : 0 ≡ 0 * c.args.score.now.cycles = omega arith in
+    record {
+      played = subst (λ clocks. IsPlayed c.args.score.now c.args.window clocks c.begin.new.machine c.args.cells.now) start (c.begin.ensures.played c.args.window c.args.cells.now c.requires.some c.requires.room);
+      wide = c.begin.ensures.wide;
+      source = c.begin.ensures.source;
+    }
 
 pub loop-sample-preserved : goal.loop-sample-preserved
 loop-sample-preserved c =

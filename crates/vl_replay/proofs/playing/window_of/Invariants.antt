@@ -1,13 +1,9 @@
-use Rattle.std.proofs.Common.{◌≤◌, ◌-◌}
-use Rattle.vl_replay.specs.inner.Sampling.{IsPower}
+use Rattle.std.proofs.Common.{◌≡◌, ◌≤◌, ◌<◌, ℕ, Some, slice_get}
+use Rattle.vl_replay.specs.declared.samplers.Sampler.{Sampler}
 use Rattle.vl_replay.proofs.playing.window_of.Given as goal
 
-abbrev pub invariant-loop-window : goal.invariant-loop-window
-invariant-loop-window l = record {
-  power : IsPower l.window;
-  some : 1 ≤ l.window;
-  few : l.window ≤ 33554434;
+abbrev pub invariant-loop-sampler : goal.invariant-loop-sampler
+invariant-loop-sampler l = record {
+  most : l.earliest ≤ l.fn.delay;
+  least : (place : ℕ) (sampler : Sampler) → slice_get l.score.samplers.items place ≡ Some sampler → place < l.sampler-index → l.earliest ≤ sampler.delay;
 }
-
-abbrev pub decreases-loop-window : goal.decreases-loop-window
-decreases-loop-window l = l.least - l.window

@@ -4,7 +4,6 @@ use Rattle.std.proofs.lemmas.Option.{slice_get-get_or}
 use Rattle.vl_eval.specs.Machine.{row_of, source_of}
 use Rattle.vl_replay.specs.declared.samplers.Sampler.{Sampler}
 use Rattle.vl_replay.specs.inner.Sampling.{ArePut, number_at}
-use Rattle.vl_replay.proofs.Clocks.{power-some}
 use Rattle.vl_replay.proofs.Putting.{put-due, put-undue}
 use Rattle.vl_replay.proofs.samplers.put_if_due.Goals.{then-own-phase-via-then-own-phase, then-own-phase-via-else-own-phase+then-sample-delay}
 use Rattle.vl_replay.proofs.samplers.put_if_due.Goals as goal
@@ -38,4 +37,4 @@ returns c = λ before put.
     let late = c.if-sample-delay.false in
     let due : c.args.sample - own.delay + own.delay ≡ c.args.sample = omega (arith, late) in
     subst (λ (cells : List ℤ). ArePut numbers c.args.samplers.now c.args.samples c.args.window c.args.sample c.args.phase (c.args.place + 1) before cells) (sym c.put_number.ensures)
-    (put-due numbers c.args.samplers.now c.args.samples c.args.window c.args.sample c.args.phase c.args.place before c.args.cells.now own there put (c.args.sample - own.delay) c.if-samples-due.false c.if-own-phase.false due (power-some c.args.window c.requires.power) c.requires.room)
+    (put-due numbers c.args.samplers.now c.args.samples c.args.window c.args.sample c.args.phase c.args.place before c.args.cells.now own there put (c.args.sample - own.delay) c.if-samples-due.false c.if-own-phase.false due c.requires.some c.requires.room)

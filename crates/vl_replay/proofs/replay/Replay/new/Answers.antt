@@ -3,7 +3,7 @@ use Rattle.std.proofs.lemmas.List.{with_items_is}
 use Rattle.fx_tables.specs.declared.table.Rows.{Rows as Table}
 use Rattle.vl_ast.specs.declared.modules.Module.{Module}
 use Rattle.vl_eval.specs.Machine.{source_of}
-use Rattle.vl_replay.specs.inner.Played.{IsPlayed, IsScoreOf, IsWindow}
+use Rattle.vl_replay.specs.inner.Played.{IsPlayed, IsScoreOf}
 use Rattle.vl_replay.proofs.Scores.{samplers-near}
 use Rattle.vl_replay.proofs.replay.Replay.new.Goals as goal
 
@@ -27,7 +27,7 @@ returns-clause-stands c =
       few = let few = c.requires.few in omega (arith, few, lines);
       wide = ap length (with_items_is bits c.play.new.bits many) ∙ many ∙ c.in_ok-bits.ensures.len ∙ c.len.ensures ∙ score.drivers.ok.0;
       delay = c.delay_of-delay.ensures;
-      window = subst (λ samples. IsWindow samples delay window) c.count.ensures c.window_of-window.ensures;
+      window = c.window_of-window.ensures;
       played = subst (λ (items : List ℤ). IsPlayed score window ((0 + delay) * score.cycles) c.play.new.machine items) (sym (with_items_is cells c.play.new.cells long))
           (subst (λ (n : ℕ). IsPlayed score window (n * score.cycles) c.play.new.machine c.play.new.cells) first c.play.ensures.played);
     }

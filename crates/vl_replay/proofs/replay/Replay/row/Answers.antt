@@ -17,5 +17,5 @@ returns-clause-sampled c = λ table is.
     ap (λ k. take k (drop start c.deref.result.now)) (many ∙ many-outputs)
     ∙ ap (λ k. take n (drop k c.deref.result.now)) start-is
     ∙ ap (λ (cells : List ℤ). take n (drop (c.args.sample % replay.window * n) cells)) c.deref.ensures.value
-    ∙ shown-is c.one_run.ensures.one c.steps_run.ensures (source_of replay.machine) score replay.window replay.delay c.args.sample played.power played.score_is stands.delay stands.window played.rows replay.cells.items
+    ∙ shown-is c.one_run.ensures.one c.steps_run.ensures (source_of replay.machine) score replay.window replay.delay c.args.sample played.score_is stands.delay stands.window played.rows replay.cells.items
     c.requires.within played.steps played.have table is
