@@ -1,32 +1,40 @@
 //! The wrapper's counters, and what it makes of them.
-ghost use Rattle.std.specs.Prelude.{◌≡◌, ◌++◌, false, IfOk, OnOk};
+ghost use Rattle.std.specs.Prelude.{◌≡◌, ◌++◌, ◌∷◌, [], false, IfOk, OnOk};
+ghost use Rattle.vl_ast.specs.declared.expressions.Expr.TheVariants.{Name, Binary};
 ghost use Rattle.vl_ast.specs.declared.modules.ModItem.TheVariants.{Wire, Reg, Assign};
 ghost use Rattle.st_wrap.specs.inner.Control.{control_declared, control_driven, handshake_driven, signals_driven};
-ghost use Rattle.st_wrap.specs.inner.Control.{is_due_now, is_last, next_phase, next_wait, phase_item, unless, wait_item};
+ghost use Rattle.st_wrap.specs.inner.Control.{is_due_now, next_phase, next_wait, number, phase_item, unless, wait_item};
 
-use crate::expressions::{binary, choice, is_zero, joined, moving, named, number, plain};
+use crate::expressions::{is_zero, joined, named, number, plain};
 use crate::pace::{Counter, Counters};
-use fx_io::{OutOfMemory, Text};
+use fx_io::{Boxed, OutOfMemory, Text};
 use std::alloc::Global;
 use vl_ast::{BinOp, Expr, ModItem, ModItems};
 
-fn bit_wire(alloc: Global, name: &[u8]) -> Result<ModItem, OutOfMemory>
-    ensures { IfOk result (λ item. item ≡ Wire false 1 name.now) }
+fn declare_wire(alloc: Global, name: &[u8], items: &mut ModItems) -> Result<(), OutOfMemory>
+    ensures { OnOk result (items.new ≡ items.old ++ Wire false 1 name.now ∷ []) }
 {
-    Ok(ModItem::Wire {
+    let name = Text::copy(alloc, name)?;
+    items.push(ModItem::Wire {
         signed: false,
         width: 1,
-        name: Text::copy(alloc, name)?,
+        name,
     })
 }
 
-fn plain_reg(alloc: Global, name: &[u8], width: u32) -> Result<ModItem, OutOfMemory>
-    ensures { IfOk result (λ item. item ≡ Reg false width name.now) }
+fn declare_reg(
+    alloc: Global,
+    name: &[u8],
+    width: u32,
+    items: &mut ModItems,
+) -> Result<(), OutOfMemory>
+    ensures { OnOk result (items.new ≡ items.old ++ Reg false width name.now ∷ []) }
 {
-    Ok(ModItem::Reg {
+    let name = Text::copy(alloc, name)?;
+    items.push(ModItem::Reg {
         signed: false,
         width,
-        name: Text::copy(alloc, name)?,
+        name,
     })
 }
 
@@ -38,61 +46,67 @@ pub fn declare_control(
 ) -> Result<(), OutOfMemory>
     ensures { OnOk result (items.new ≡ items.old ++ control_declared counters) }
 {
-    items.push(bit_wire(alloc, b"fx_begin")?)?;
-    items.push(bit_wire(alloc, b"fx_end")?)?;
-    items.push(bit_wire(alloc, b"fx_due")?)?;
-    items.push(bit_wire(alloc, b"fx_fed")?)?;
-    items.push(bit_wire(alloc, b"fx_open")?)?;
-    items.push(plain_reg(alloc, b"fx_phase", counters.phase.width)?)?;
-    items.push(plain_reg(alloc, b"fx_wait", counters.wait.width)?)
+    declare_wire(alloc, b"fx_begin", items)?;
+    declare_wire(alloc, b"fx_end", items)?;
+    declare_wire(alloc, b"fx_due", items)?;
+    declare_wire(alloc, b"fx_fed", items)?;
+    declare_wire(alloc, b"fx_open", items)?;
+    declare_reg(alloc, b"fx_phase", counters.phase.width, items)?;
+    declare_reg(alloc, b"fx_wait", counters.wait.width, items)
 }
 
-fn is_last(alloc: Global, phase: Counter) -> Result<Expr, OutOfMemory>
-    ensures { IfOk result (λ e. e ≡ is_last phase) }
+/// A name and a number, with an operator between them.
+fn with_number(
+    alloc: Global,
+    op: BinOp,
+    name: &[u8],
+    width: u32,
+    bits: u64,
+) -> Result<Expr, OutOfMemory>
+    ensures { IfOk result (λ e. e ≡ Binary op (Name name.now) (number width bits)) }
 {
-    let clock = named(alloc, b"fx_phase")?;
-    binary(alloc, BinOp::Equal, clock, number(phase.width, phase.most))
+    let name = named(alloc, name)?;
+    Ok(Expr::Binary(op, name, number(alloc, width, bits)?))
 }
 
 fn is_due(alloc: Global) -> Result<Expr, OutOfMemory>
     ensures { IfOk result (λ e. e ≡ is_due_now) }
 {
     let last = named(alloc, b"fx_end")?;
-    binary(alloc, BinOp::Both, last, is_zero(alloc, b"fx_wait")?)
+    let none = Boxed::new(alloc, is_zero(alloc, b"fx_wait")?)?;
+    Ok(Expr::Binary(BinOp::Both, last, none))
 }
 
 fn unless(alloc: Global, name: &[u8], signal: &[u8]) -> Result<Expr, OutOfMemory>
     ensures { IfOk result (λ e. e ≡ unless name.now signal.now) }
 {
-    let other = is_zero(alloc, name)?;
-    binary(alloc, BinOp::Either, other, named(alloc, signal)?)
+    let other = Boxed::new(alloc, is_zero(alloc, name)?)?;
+    Ok(Expr::Binary(BinOp::Either, other, named(alloc, signal)?))
 }
 
 fn next_phase(alloc: Global, phase: Counter) -> Result<Expr, OutOfMemory>
     ensures { IfOk result (λ e. e ≡ next_phase phase) }
 {
+    let more = with_number(alloc, BinOp::Add, b"fx_phase", phase.width, 1)?;
+    let more = Boxed::new(alloc, more)?;
     let last = named(alloc, b"fx_end")?;
-    let clock = named(alloc, b"fx_phase")?;
-    let more = binary(alloc, BinOp::Add, clock, number(phase.width, 1))?;
-    choice(alloc, last, number(phase.width, 0), more)
+    Ok(Expr::Choose(last, number(alloc, phase.width, 0)?, more))
 }
 
 fn next_wait(alloc: Global, wait: Counter) -> Result<Expr, OutOfMemory>
     ensures { IfOk result (λ e. e ≡ next_wait wait) }
 {
+    let fewer = with_number(alloc, BinOp::Subtract, b"fx_wait", wait.width, 1)?;
+    let fewer = Boxed::new(alloc, fewer)?;
     let some = named(alloc, b"fx_wait")?;
-    let samples = named(alloc, b"fx_wait")?;
-    let fewer = binary(alloc, BinOp::Subtract, samples, number(wait.width, 1))?;
-    choice(alloc, some, fewer, number(wait.width, 0))
+    Ok(Expr::Choose(some, fewer, number(alloc, wait.width, 0)?))
 }
 
-fn assignment(alloc: Global, name: &[u8], value: Expr) -> Result<ModItem, OutOfMemory>
-    ensures { IfOk result (λ item. item ≡ Assign name.now value) }
+fn assign(alloc: Global, name: &[u8], value: Expr, items: &mut ModItems) -> Result<(), OutOfMemory>
+    ensures { OnOk result (items.new ≡ items.old ++ Assign name.now value ∷ []) }
 {
-    Ok(ModItem::Assign {
-        name: Text::copy(alloc, name)?,
-        value,
-    })
+    let name = Text::copy(alloc, name)?;
+    items.push(ModItem::Assign { name, value })
 }
 
 fn put_assignments(
@@ -102,45 +116,59 @@ fn put_assignments(
 ) -> Result<(), OutOfMemory>
     ensures { OnOk result (items.new ≡ items.old ++ signals_driven counters.phase) }
 {
-    items.push(assignment(alloc, b"fx_begin", is_zero(alloc, b"fx_phase")?)?)?;
-    items.push(assignment(alloc, b"fx_end", is_last(alloc, counters.phase)?)?)?;
-    items.push(assignment(alloc, b"fx_due", is_due(alloc)?)?)?;
+    assign(alloc, b"fx_begin", is_zero(alloc, b"fx_phase")?, items)?;
+    let last = with_number(
+        alloc,
+        BinOp::Equal,
+        b"fx_phase",
+        counters.phase.width,
+        counters.phase.most,
+    )?;
+    assign(alloc, b"fx_end", last, items)?;
+    assign(alloc, b"fx_due", is_due(alloc)?, items)?;
     let fed = unless(alloc, b"fx_begin", b"in_valid")?;
-    items.push(assignment(alloc, b"fx_fed", fed)?)?;
+    assign(alloc, b"fx_fed", fed, items)?;
     let open = unless(alloc, b"fx_due", b"out_ready")?;
-    items.push(assignment(alloc, b"fx_open", open)?)
+    assign(alloc, b"fx_open", open, items)
 }
 
 fn put_handshake(alloc: Global, items: &mut ModItems) -> Result<(), OutOfMemory>
     ensures { OnOk result (items.new ≡ items.old ++ handshake_driven) }
 {
     let moves = joined(alloc, BinOp::Both, b"fx_fed", b"fx_open")?;
-    items.push(assignment(alloc, b"fx_core_clk_enable", moves)?)?;
+    assign(alloc, b"fx_core_clk_enable", moves, items)?;
     let ready = joined(alloc, BinOp::Both, b"fx_begin", b"fx_open")?;
-    items.push(assignment(alloc, b"in_ready", ready)?)?;
+    assign(alloc, b"in_ready", ready, items)?;
     let valid = joined(alloc, BinOp::Both, b"fx_due", b"fx_fed")?;
-    items.push(assignment(alloc, b"out_valid", valid)?)
+    assign(alloc, b"out_valid", valid, items)
 }
 
-fn phase_item(alloc: Global, phase: Counter) -> Result<ModItem, OutOfMemory>
-    ensures { IfOk result (λ item. item ≡ phase_item phase) }
+fn put_phase(alloc: Global, phase: Counter, items: &mut ModItems) -> Result<(), OutOfMemory>
+    ensures { OnOk result (items.new ≡ items.old ++ phase_item phase ∷ []) }
 {
-    Ok(ModItem::Always {
-        name: Text::copy(alloc, b"fx_phase")?,
+    let name = Text::copy(alloc, b"fx_phase")?;
+    let moves = Text::copy(alloc, b"fx_core_clk_enable")?;
+    let value = next_phase(alloc, phase)?;
+    items.push(ModItem::Always {
+        name,
         first: plain(phase.width, 0),
-        condition: Some(named(alloc, b"fx_core_clk_enable")?),
-        value: next_phase(alloc, phase)?,
+        condition: Some(Expr::Name(moves)),
+        value,
     })
 }
 
-fn wait_item(alloc: Global, wait: Counter) -> Result<ModItem, OutOfMemory>
-    ensures { IfOk result (λ item. item ≡ wait_item wait) }
+fn put_wait(alloc: Global, wait: Counter, items: &mut ModItems) -> Result<(), OutOfMemory>
+    ensures { OnOk result (items.new ≡ items.old ++ wait_item wait ∷ []) }
 {
-    Ok(ModItem::Always {
-        name: Text::copy(alloc, b"fx_wait")?,
+    let name = Text::copy(alloc, b"fx_wait")?;
+    let moves = named(alloc, b"fx_core_clk_enable")?;
+    let last = named(alloc, b"fx_end")?;
+    let value = next_wait(alloc, wait)?;
+    items.push(ModItem::Always {
+        name,
         first: plain(wait.width, wait.most),
-        condition: Some(moving(alloc, b"fx_end")?),
-        value: next_wait(alloc, wait)?,
+        condition: Some(Expr::Binary(BinOp::Both, moves, last)),
+        value,
     })
 }
 
@@ -154,6 +182,6 @@ pub fn drive_control(
 {
     put_assignments(alloc, counters, items)?;
     put_handshake(alloc, items)?;
-    items.push(phase_item(alloc, counters.phase)?)?;
-    items.push(wait_item(alloc, counters.wait)?)
+    put_phase(alloc, counters.phase, items)?;
+    put_wait(alloc, counters.wait, items)
 }

@@ -1,6 +1,6 @@
 //! Expressions from their parts.
 ghost use Rattle.std.specs.Prelude.{◌≡◌, IfOk};
-ghost use Rattle.vl_ast.specs.declared.expressions.Expr.TheVariants.{Name, Unary, Binary, Choose};
+ghost use Rattle.vl_ast.specs.declared.expressions.Expr.TheVariants.{Name, Binary};
 ghost use Rattle.st_wrap.specs.inner.Columns.{moving, plain};
 ghost use Rattle.st_wrap.specs.inner.Control.{is_zero, number};
 
@@ -9,10 +9,10 @@ use std::alloc::Global;
 use vl_ast::{BinOp, Bits128, Expr, Sized, UnOp};
 
 /// A name.
-pub fn named(alloc: Global, name: &[u8]) -> Result<Expr, OutOfMemory>
+pub fn named(alloc: Global, name: &[u8]) -> Result<Boxed<Expr>, OutOfMemory>
     ensures { IfOk result (λ e. e ≡ Name name.now) }
 {
-    Ok(Expr::Name(Text::copy(alloc, name)?))
+    Boxed::new(alloc, Expr::Name(Text::copy(alloc, name)?))
 }
 
 /// So many bits without sign.
@@ -27,41 +27,17 @@ pub fn plain(width: u32, bits: u64) -> Sized
 }
 
 /// So many bits without sign, as an expression.
-pub fn number(width: u32, bits: u64) -> Expr
-    ensures { result ≡ number width bits }
+pub fn number(alloc: Global, width: u32, bits: u64) -> Result<Boxed<Expr>, OutOfMemory>
+    ensures { IfOk result (λ e. e ≡ number width bits) }
 {
-    Expr::Literal(plain(width, bits))
-}
-
-/// `op part`
-pub fn unary(alloc: Global, op: UnOp, part: Expr) -> Result<Expr, OutOfMemory>
-    ensures { IfOk result (λ e. e ≡ Unary op part) }
-{
-    Ok(Expr::Unary(op, Boxed::new(alloc, part)?))
-}
-
-/// `left op right`
-pub fn binary(alloc: Global, op: BinOp, left: Expr, right: Expr) -> Result<Expr, OutOfMemory>
-    ensures { IfOk result (λ e. e ≡ Binary op left right) }
-{
-    let left = Boxed::new(alloc, left)?;
-    Ok(Expr::Binary(op, left, Boxed::new(alloc, right)?))
-}
-
-/// `test ? chosen : other`
-pub fn choice(alloc: Global, test: Expr, chosen: Expr, other: Expr) -> Result<Expr, OutOfMemory>
-    ensures { IfOk result (λ e. e ≡ Choose test chosen other) }
-{
-    let test = Boxed::new(alloc, test)?;
-    let chosen = Boxed::new(alloc, chosen)?;
-    Ok(Expr::Choose(test, chosen, Boxed::new(alloc, other)?))
+    Boxed::new(alloc, Expr::Literal(plain(width, bits)))
 }
 
 /// 1 where the name is 0.
 pub fn is_zero(alloc: Global, name: &[u8]) -> Result<Expr, OutOfMemory>
     ensures { IfOk result (λ e. e ≡ is_zero name.now) }
 {
-    unary(alloc, UnOp::IsZero, named(alloc, name)?)
+    Ok(Expr::Unary(UnOp::IsZero, named(alloc, name)?))
 }
 
 /// An operator between two names.
@@ -69,7 +45,7 @@ pub fn joined(alloc: Global, op: BinOp, left: &[u8], right: &[u8]) -> Result<Exp
     ensures { IfOk result (λ e. e ≡ Binary op (Name left.now) (Name right.now)) }
 {
     let left = named(alloc, left)?;
-    binary(alloc, op, left, named(alloc, right)?)
+    Ok(Expr::Binary(op, left, named(alloc, right)?))
 }
 
 /// The row moves, and the name is 1.

@@ -10,12 +10,17 @@ use fx_io::{OutOfMemory, Text};
 use std::alloc::Global;
 use vl_ast::{Attr, Attrs, Port, Ports};
 
-/// An attribute with its number.
-fn attribute(alloc: Global, name: &[u8], value: u64) -> Result<Attr, OutOfMemory>
-    ensures { IfOk result (λ attr. attr ≡ attribute_of name.now value) }
+/// Puts an attribute with its number.
+fn put_attribute(
+    alloc: Global,
+    name: &[u8],
+    value: u64,
+    attrs: &mut Attrs,
+) -> Result<(), OutOfMemory>
+    ensures { OnOk result (attrs.new ≡ attrs.old ++ attribute_of name.now value ∷ []) }
 {
     let name = Text::copy(alloc, name)?;
-    Ok(Attr { name, value })
+    attrs.push(Attr { name, value })
 }
 
 /// The attribute of the module: a sample takes a row.
@@ -23,48 +28,65 @@ pub fn module_attrs(alloc: Global) -> Result<Attrs, OutOfMemory>
     ensures { IfOk result (λ attrs. attrs ≡ attribute_of (codes "fx_cycles") 1 ∷ []) }
 {
     let mut attrs = Attrs::new(alloc);
-    attrs.push(attribute(alloc, b"fx_cycles", 1)?)?;
+    put_attribute(alloc, b"fx_cycles", 1, &mut attrs)?;
     Ok(attrs)
 }
 
-fn bit_input(alloc: Global, name: &[u8]) -> Result<Port, OutOfMemory>
-    ensures { IfOk result (λ port. port ≡ bit_input name.now) }
+fn put_bit_input(alloc: Global, name: &[u8], ports: &mut Ports) -> Result<(), OutOfMemory>
+    ensures { OnOk result (ports.new ≡ ports.old ++ bit_input name.now ∷ []) }
 {
-    Ok(Port {
+    let name = Text::copy(alloc, name)?;
+    ports.push(Port {
         attrs: Attrs::new(alloc),
         input: true,
         signed: false,
         width: 1,
-        name: Text::copy(alloc, name)?,
+        name,
     })
 }
 
-fn input_port(alloc: Global, name: &[u8], width: u32, signed: bool) -> Result<Port, OutOfMemory>
-    ensures { IfOk result (λ port. port ≡ input_port (row_port name.now width signed)) }
+fn put_input(
+    alloc: Global,
+    name: &[u8],
+    width: u32,
+    signed: bool,
+    ports: &mut Ports,
+) -> Result<(), OutOfMemory>
+    ensures { OnOk result (ports.new
+        ≡ ports.old ++ input_port (row_port name.now width signed) ∷ []) }
 {
     let mut attrs = Attrs::new(alloc);
-    attrs.push(attribute(alloc, b"fx_period", 1)?)?;
-    Ok(Port {
+    put_attribute(alloc, b"fx_period", 1, &mut attrs)?;
+    let name = Text::copy(alloc, name)?;
+    ports.push(Port {
         attrs,
         input: true,
         signed,
         width,
-        name: Text::copy(alloc, name)?,
+        name,
     })
 }
 
-fn output_port(alloc: Global, name: &[u8], width: u32, signed: bool) -> Result<Port, OutOfMemory>
-    ensures { IfOk result (λ port. port ≡ output_port (row_port name.now width signed)) }
+fn put_output(
+    alloc: Global,
+    name: &[u8],
+    width: u32,
+    signed: bool,
+    ports: &mut Ports,
+) -> Result<(), OutOfMemory>
+    ensures { OnOk result (ports.new
+        ≡ ports.old ++ output_port (row_port name.now width signed) ∷ []) }
 {
     let mut attrs = Attrs::new(alloc);
-    attrs.push(attribute(alloc, b"fx_period", 1)?)?;
-    attrs.push(attribute(alloc, b"fx_latency", 0)?)?;
-    Ok(Port {
+    put_attribute(alloc, b"fx_period", 1, &mut attrs)?;
+    put_attribute(alloc, b"fx_latency", 0, &mut attrs)?;
+    let name = Text::copy(alloc, name)?;
+    ports.push(Port {
         attrs,
         input: false,
         signed,
         width,
-        name: Text::copy(alloc, name)?,
+        name,
     })
 }
 
@@ -73,8 +95,13 @@ fn put_inputs(alloc: Global, inputs: &[Column], ports: &mut Ports) -> Result<(),
         ≡ ports.old ++ map (λ column. input_port (column_port column)) inputs.now) }
 {
     for column in inputs {
-        let name = column.name.bytes();
-        ports.push(input_port(alloc, name, column.width, column.signed)?)?;
+        put_input(
+            alloc,
+            column.name.bytes(),
+            column.width,
+            column.signed,
+            ports,
+        )?;
     }
     Ok(())
 }
@@ -84,10 +111,33 @@ fn put_outputs(alloc: Global, outputs: &[Column], ports: &mut Ports) -> Result<(
         ≡ ports.old ++ map (λ column. output_port (column_port column)) outputs.now) }
 {
     for column in outputs {
-        let name = column.name.bytes();
-        ports.push(output_port(alloc, name, column.width, column.signed)?)?;
+        put_output(
+            alloc,
+            column.name.bytes(),
+            column.width,
+            column.signed,
+            ports,
+        )?;
     }
     Ok(())
+}
+
+fn put_ports(
+    alloc: Global,
+    inputs: &[Column],
+    outputs: &[Column],
+    ports: &mut Ports,
+) -> Result<(), OutOfMemory>
+    ensures { OnOk result (ports.new ≡ ports.old ++ ports_of inputs.now outputs.now) }
+{
+    put_bit_input(alloc, b"clk", ports)?;
+    put_bit_input(alloc, b"reset", ports)?;
+    put_input(alloc, b"in_valid", 1, false, ports)?;
+    put_inputs(alloc, inputs, ports)?;
+    put_input(alloc, b"out_ready", 1, false, ports)?;
+    put_output(alloc, b"in_ready", 1, false, ports)?;
+    put_output(alloc, b"out_valid", 1, false, ports)?;
+    put_outputs(alloc, outputs, ports)
 }
 
 /// The ports of the wrapper.
@@ -99,13 +149,6 @@ pub fn module_ports(
     ensures { IfOk result (λ ports. ports ≡ ports_of inputs.now outputs.now) }
 {
     let mut ports = Ports::new(alloc);
-    ports.push(bit_input(alloc, b"clk")?)?;
-    ports.push(bit_input(alloc, b"reset")?)?;
-    ports.push(input_port(alloc, b"in_valid", 1, false)?)?;
-    put_inputs(alloc, inputs, &mut ports)?;
-    ports.push(input_port(alloc, b"out_ready", 1, false)?)?;
-    ports.push(output_port(alloc, b"in_ready", 1, false)?)?;
-    ports.push(output_port(alloc, b"out_valid", 1, false)?)?;
-    put_outputs(alloc, outputs, &mut ports)?;
+    put_ports(alloc, inputs, outputs, &mut ports)?;
     Ok(ports)
 }

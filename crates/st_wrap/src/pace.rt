@@ -7,14 +7,14 @@ use vl_ast::{Module, Port, clocks_of, lateness_of};
 use vl_check::{is_number_output, is_stallable};
 
 /// A counter's greatest number, and how many bits it has.
-#[derive(Clone, Copy, Debug)]
+#[derive(Clone, Copy)]
 pub struct Counter {
     pub most: u64,
     pub width: u32,
 }
 
 /// The counters of a wrapper.
-#[derive(Clone, Copy, Debug)]
+#[derive(Clone, Copy)]
 pub struct Counters {
     /// Of the clocks of a sample.
     pub phase: Counter,

@@ -1,12 +1,14 @@
 //! What holds the inputs, and what holds the outputs back.
 ghost use Rattle.std.specs.Prelude.{◌≡◌, ◌+◌, ◌++◌, ◌<◌, ◌^◌, flat_map, IfOk, OnOk};
+ghost use Rattle.vl_ast.specs.declared.expressions.Expr.TheVariants.{Name, Choose};
+ghost use Rattle.st_wrap.specs.inner.Names.{begin_name, held_name};
 ghost use Rattle.st_wrap.specs.inner.Columns.{held_declared, held_driven, late_declared, late_driven};
 ghost use Rattle.st_wrap.specs.inner.Columns.{stage_declared, stage_driven, stage_name};
 
 use crate::columns::Column;
-use crate::expressions::{choice, moving, named, plain};
+use crate::expressions::{moving, named, plain};
 use crate::names::{held_name, inner_name, late_name};
-use fx_io::{OutOfMemory, Text};
+use fx_io::{Boxed, OutOfMemory, Text};
 use std::alloc::Global;
 use vl_ast::{Expr, ModItem, ModItems};
 
@@ -28,21 +30,30 @@ pub fn declare_held(
     Ok(())
 }
 
-fn drive_input(alloc: Global, column: &Column, items: &mut ModItems) -> Result<(), OutOfMemory>
-    ensures { OnOk result (items.new ≡ items.old ++ held_driven column.now) }
+/// What the core's input shows: the port's in a sample's first clock, and then what was held of it.
+fn fresh_or_held(alloc: Global, column: &Column) -> Result<Expr, OutOfMemory>
+    ensures { IfOk result (λ e. e ≡ Choose (Name begin_name) (Name column.now.name)
+        (Name (held_name column.now.name))) }
 {
     let begin = named(alloc, b"fx_begin")?;
     let fresh = named(alloc, column.name.bytes())?;
     let held = Expr::Name(held_name(alloc, column.name.bytes())?);
-    items.push(ModItem::Assign {
-        name: inner_name(alloc, column.inner.bytes())?,
-        value: choice(alloc, begin, fresh, held)?,
-    })?;
+    Ok(Expr::Choose(begin, fresh, Boxed::new(alloc, held)?))
+}
+
+fn drive_input(alloc: Global, column: &Column, items: &mut ModItems) -> Result<(), OutOfMemory>
+    ensures { OnOk result (items.new ≡ items.old ++ held_driven column.now) }
+{
+    let name = inner_name(alloc, column.inner.bytes())?;
+    let value = fresh_or_held(alloc, column)?;
+    items.push(ModItem::Assign { name, value })?;
+    let name = held_name(alloc, column.name.bytes())?;
+    let fresh = Text::copy(alloc, column.name.bytes())?;
     items.push(ModItem::Always {
-        name: held_name(alloc, column.name.bytes())?,
+        name,
         first: plain(column.width, 0),
         condition: Some(moving(alloc, b"fx_begin")?),
-        value: named(alloc, column.name.bytes())?,
+        value: Expr::Name(fresh),
     })
 }
 
@@ -85,11 +96,13 @@ fn stage_driven(alloc: Global, column: &Column, place: u64) -> Result<ModItem, O
     requires { place + 1 < 2 ^ 64 }
     ensures { IfOk result (λ item. item ≡ stage_driven column.now place) }
 {
+    let name = late_name(alloc, column.name.bytes(), place + 1)?;
+    let before = stage_name(alloc, column, place)?;
     Ok(ModItem::Always {
-        name: late_name(alloc, column.name.bytes(), place + 1)?,
+        name,
         first: plain(column.width, 0),
         condition: Some(moving(alloc, b"fx_end")?),
-        value: Expr::Name(stage_name(alloc, column, place)?),
+        value: Expr::Name(before),
     })
 }
 

@@ -2,7 +2,6 @@
 ghost use Rattle.std.specs.Prelude.{◌≡◌, ◌++◌, map, IfOk, OnOk};
 ghost use Rattle.st_wrap.specs.inner.Renamed.{core_items, renamed, renamed_condition, renamed_item, wires_of};
 
-use crate::expressions::{binary, choice, unary};
 use crate::names::{inner_name, is_shared};
 use fx_io::{Boxed, OutOfMemory};
 use std::alloc::Global;
@@ -22,38 +21,33 @@ fn renamed(alloc: Global, e: &Expr) -> Result<Expr, OutOfMemory>
         }
         Expr::Literal(number) => Ok(Expr::Literal(*number)),
         Expr::Concat(parts) => Ok(Expr::Concat(renamed_parts(alloc, parts.as_slice())?)),
-        Expr::Repeat(count, part) => {
-            let part = renamed(alloc, part.get())?;
-            Ok(Expr::Repeat(*count, Boxed::new(alloc, part)?))
-        }
-        Expr::AsSigned(part) => {
-            let part = renamed(alloc, part.get())?;
-            Ok(Expr::AsSigned(Boxed::new(alloc, part)?))
-        }
-        Expr::AsUnsigned(part) => {
-            let part = renamed(alloc, part.get())?;
-            Ok(Expr::AsUnsigned(Boxed::new(alloc, part)?))
-        }
-        Expr::Unary(op, part) => {
-            let part = renamed(alloc, part.get())?;
-            unary(alloc, *op, part)
-        }
+        Expr::Repeat(count, part) => Ok(Expr::Repeat(*count, renamed_boxed(alloc, part.get())?)),
+        Expr::AsSigned(part) => Ok(Expr::AsSigned(renamed_boxed(alloc, part.get())?)),
+        Expr::AsUnsigned(part) => Ok(Expr::AsUnsigned(renamed_boxed(alloc, part.get())?)),
+        Expr::Unary(op, part) => Ok(Expr::Unary(*op, renamed_boxed(alloc, part.get())?)),
         Expr::Binary(op, left, right) => {
-            let left = renamed(alloc, left.get())?;
-            let right = renamed(alloc, right.get())?;
-            binary(alloc, *op, left, right)
+            let left = renamed_boxed(alloc, left.get())?;
+            let right = renamed_boxed(alloc, right.get())?;
+            Ok(Expr::Binary(*op, left, right))
         }
         Expr::Shift(op, part, amount) => {
-            let part = renamed(alloc, part.get())?;
-            Ok(Expr::Shift(*op, Boxed::new(alloc, part)?, *amount))
+            let part = renamed_boxed(alloc, part.get())?;
+            Ok(Expr::Shift(*op, part, *amount))
         }
         Expr::Choose(test, chosen, other) => {
-            let test = renamed(alloc, test.get())?;
-            let chosen = renamed(alloc, chosen.get())?;
-            let other = renamed(alloc, other.get())?;
-            choice(alloc, test, chosen, other)
+            let test = renamed_boxed(alloc, test.get())?;
+            let chosen = renamed_boxed(alloc, chosen.get())?;
+            let other = renamed_boxed(alloc, other.get())?;
+            Ok(Expr::Choose(test, chosen, other))
         }
     }
+}
+
+#[cycle(renaming)]
+fn renamed_boxed(alloc: Global, e: &Expr) -> Result<Boxed<Expr>, OutOfMemory>
+    ensures { IfOk result (λ made. made ≡ renamed e.now) }
+{
+    Boxed::new(alloc, renamed(alloc, e)?)
 }
 
 #[cycle(renaming)]

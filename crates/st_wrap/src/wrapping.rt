@@ -1,5 +1,5 @@
 //! The module with valid and ready round a core.
-ghost use Rattle.std.specs.Prelude.{◌≡◌, List, ℕ, true, IfOk, length};
+ghost use Rattle.std.specs.Prelude.{◌≡◌, ◌++◌, List, ℕ, true, IfOk, OnOk, length};
 ghost use Rattle.vl_ast.specs.Conditions.{BreaksNone};
 ghost use Rattle.vl_ast.specs.Control.{is_stallable};
 ghost use Rattle.vl_ast.specs.Grammar.{Spells};
@@ -86,13 +86,27 @@ fn module_items(
     ensures { IfOk result (λ items. items ≡ items_of core.now counters inputs.now outputs.now) }
 {
     let mut items = ModItems::new(alloc);
-    put_wires(alloc, core, &mut items)?;
-    declare_control(alloc, counters, &mut items)?;
-    declare_held(alloc, inputs, &mut items)?;
-    declare_late(alloc, outputs, &mut items)?;
-    put_core(alloc, core, &mut items)?;
-    drive_control(alloc, counters, &mut items)?;
-    drive_inputs(alloc, inputs, &mut items)?;
-    drive_outputs(alloc, outputs, &mut items)?;
+    put_items(alloc, core, counters, inputs, outputs, &mut items)?;
     Ok(items)
+}
+
+fn put_items(
+    alloc: Global,
+    core: &Module,
+    counters: Counters,
+    inputs: &[Column],
+    outputs: &[Column],
+    items: &mut ModItems,
+) -> Result<(), OutOfMemory>
+    ensures { OnOk result (items.new
+        ≡ items.old ++ items_of core.now counters inputs.now outputs.now) }
+{
+    put_wires(alloc, core, items)?;
+    declare_control(alloc, counters, items)?;
+    declare_held(alloc, inputs, items)?;
+    declare_late(alloc, outputs, items)?;
+    put_core(alloc, core, items)?;
+    drive_control(alloc, counters, items)?;
+    drive_inputs(alloc, inputs, items)?;
+    drive_outputs(alloc, outputs, items)
 }
