@@ -6,6 +6,7 @@ use Rattle.vl_ast.specs.Nets.{Declared, declarations}
 use Rattle.vl_ast.specs.Runs.{Row}
 use Rattle.vl_check.specs.Names.{names_of}
 use Rattle.vl_eval.specs.declared.machine.Machine.{Machine}
+use Rattle.vl_eval.specs.declared.machine.Snapshot.{Snapshot}
 use Rattle.vl_eval.specs.inner.Ops.{IsSettled}
 use Rattle.vl_eval.specs.inner.Planned.{IsPlanOf}
 use Rattle.vl_eval.specs.inner.Site.{slot_at}
@@ -34,3 +35,12 @@ pub record IsReady (machine : Machine) : Type 0 where
   pub settled : IsSettled machine.plan.base machine.plan.ops (λ k. slice_index machine.values.items k)
   pub fits : (declared : Declared) → Contains (declarations machine.source) declared → row_of machine declared.name < 2 ^ declared.net.width
   pub still : (port : Port) → Contains machine.source.ports port → port.input ≡ true → bytes_eq port.name (codes "clk") ≡ true → row_of machine port.name ≡ 0
+
+-- a snapshot has room for the values of the machine (own)
+abbrev pub HasRoom : Machine → Snapshot → Type 0
+HasRoom machine snapshot = length snapshot.values.items ≡ machine.plan.base + length machine.plan.ops
+
+-- it has the values that the machine has in a row (own)
+pub record IsKept (machine : Machine) (snapshot : Snapshot) (row : Row) : Type 0 where
+  pub room : HasRoom machine snapshot
+  pub row_is : row ≡ (λ name. slice_index snapshot.values.items (slot_of machine name))

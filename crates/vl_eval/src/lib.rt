@@ -10,7 +10,8 @@
 //! the registers take, puts the inputs in and works out all operations but constants in one sweep. Its
 //! contract: the machine's row is first the first row of the module with all registers and inputs 0, and
 //! each edge leads from a row to the next (`row`); a fault comes only where its condition is the first
-//! that is broken (`fault`).
+//! that is broken (`fault`). A `Snapshot` keeps the values of one row, and tells whether the machine has
+//! come back to them.
 //!
 //! The definitions: rows and edges stand in `vl_ast`; `specs/` says what row a machine is in
 //! (`Machine`) and which inputs an edge is given (`Given`). `specs/inner` is cited by private contracts
@@ -35,4 +36,4 @@ mod site;
 mod steps;
 mod sweeping;
 
-pub use machine::Machine;
+pub use machine::{Machine, Snapshot};

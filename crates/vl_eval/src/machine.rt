@@ -26,6 +26,12 @@ pub struct Machine {
     values: Vec<u128>,
 }
 
+/// The values of a machine in a row of its run.
+#[derive(Drop)]
+pub struct Snapshot {
+    values: Vec<u128>,
+}
+
 /// So many zeros.
 fn zeros(alloc: Global, count: usize) -> Result<Vec<u128>, OutOfMemory>
     ensures { IfOk result (λ values. AreZeros count values.items) }
@@ -80,7 +86,9 @@ fn number_in(bits: u128, width: u32, signed: bool) -> i128
 }
 
 impl Machine {
-    ghost use Rattle.vl_eval.specs.Machine.{AreFit, IsReady, row_of, source_of};
+    ghost use Rattle.vl_ast.specs.Runs.{Row};
+    ghost use Rattle.vl_eval.specs.Machine.{AreFit, HasRoom, IsKept, IsReady, row_of, source_of};
+    ghost use Rattle.vl_eval.specs.declared.machine.Snapshot.{Snapshot};
 
     /// A machine in row 0 of its module, in which every register and input is 0. The time is linear in
     /// the module, but for the lengths of operands of operators, casts and choices, which are worked
@@ -120,6 +128,8 @@ impl Machine {
             (given (driven_ports (source_of self.old)) inputs.now) (row_of self.new) }
         ensures source { source_of self.new ≡ source_of self.old }
         ensures ready { IsReady self.new }
+        ensures kept { (snapshot : Snapshot) (row : Row) → IsKept self.old snapshot row
+            → IsKept self.new snapshot row }
     {
         meaning_by_layer();
         let values = self.values.as_mut_slice();
@@ -128,6 +138,41 @@ impl Machine {
         self.plan
             .ops
             .sweep(self.plan.base, self.plan.constants, values);
+    }
+
+    /// A snapshot of the row.
+    ///
+    /// # Errors
+    /// Want of memory.
+    pub fn snapshot(&self, alloc: Global) -> Result<Snapshot, OutOfMemory>
+        requires ready { IsReady self.now }
+        ensures { IfOk result (λ snapshot. IsKept self.now snapshot (row_of self.now)) }
+    {
+        let mut values = vec![in alloc; 0u128; self.values.len()]?;
+        values
+            .as_mut_slice()
+            .copy_from_slice(self.values.as_slice());
+        Ok(Snapshot { values })
+    }
+
+    /// Makes of an earlier snapshot one of the row. It takes no memory.
+    pub fn keep(&self, snapshot: &mut Snapshot)
+        requires ready { IsReady self.now }
+        requires room { HasRoom self.now snapshot.old }
+        ensures { IsKept self.now snapshot.new (row_of self.now) }
+    {
+        snapshot
+            .values
+            .as_mut_slice()
+            .copy_from_slice(self.values.as_slice());
+    }
+
+    /// Whether the machine has the values of a snapshot, and so is in its row.
+    pub fn is_at(&self, snapshot: &Snapshot) -> bool
+        ensures { result ≡ true → (row : Row) → IsKept self.now snapshot.now row
+            → row ≡ row_of self.now }
+    {
+        self.values.as_slice() == snapshot.values.as_slice()
     }
 
     /// The number that an output port shows, by its place among those that carry numbers.

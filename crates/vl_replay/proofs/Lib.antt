@@ -3,6 +3,8 @@ pub mod Cells
 pub mod Clocks
 pub mod OneResponse
 pub mod Putting
+pub mod Rested
+pub mod Rounds
 pub mod Rows
 pub mod Scores
 pub mod Shown

@@ -25,7 +25,7 @@ use Rattle.vl_replay.proofs.OneResponse.{ShowRow, one-row}
 use Rattle.vl_replay.proofs.Rows.{zeros}
 use Rattle.vl_replay.proofs.Scores.{samplers-many}
 use Rattle.vl_replay.proofs.Stimulated.{replayed}
-use Rattle.vl_replay.proofs.Times.{hit-below, row-room}
+use Rattle.vl_replay.proofs.Times.{hit-below, row-room, sum-times}
 
 module _ (window outputs row : ℕ) (cells : List ℤ) (long : length cells ≡ window * outputs) (below : row < window) where
   row-long : length (take outputs (drop (row * outputs) cells)) ≡ outputs
@@ -47,9 +47,6 @@ in-span f late t delay some most =
   where
     parts : (a b c : ℕ) → (a + 1 + b) * c ≡ a * c + c + b * c
     parts a b c = grind arith
-
-sum-times : (a b c : ℕ) → (a + b) * c ≡ a * c + b * c
-sum-times a b c = grind arith
 
 module _ (one_run : (m : Module) (count : ℕ) (start : List ℕ → ℕ) (inputs rows other : ℕ → List ℕ → ℕ) → BreaksNone m → Runs m count start inputs rows → Runs m count start inputs other → AreSame m count rows other)
     (steps_run : (m : Module) (count : ℕ) (start : List ℕ → ℕ) (inputs rows : ℕ → List ℕ → ℕ) → AreSteps m count start inputs rows → Runs m count start inputs rows)

@@ -45,6 +45,9 @@ hit-before period t some other =
 pub next-times : (a b : ℕ) → (a + 1) * b ≡ a * b + b
 next-times a b = grind arith
 
+pub sum-times : (a b c : ℕ) → (a + b) * c ≡ a * c + b * c
+sum-times a b c = grind arith
+
 -- samples that are less than a ring's rows apart have other rows of it
 pub apart : (window t u : ℕ) → t < u → u < t + window → t % window ≡ u % window → ⊥
 apart window t u less near same = by (cases_lt (t / window) (u / window)) where

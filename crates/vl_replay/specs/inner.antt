@@ -1,4 +1,5 @@
 -- What private contracts cite.
 pub mod Driving
 pub mod Played
+pub mod Resting
 pub mod Sampling

@@ -6,7 +6,8 @@ ghost use Rattle.vl_ast.specs.Windows.{Sample};
 ghost use Rattle.vl_eval.specs.Machine.{IsReady, row_of, source_of};
 ghost use Rattle.vl_replay.specs.Sampled.{Sampled, numbers_of};
 
-use crate::playing::{Score, delay_of, play, play_sample, score_of, window_of};
+use crate::playing::{Score, delay_of, play_sample, score_of, window_of};
+use crate::resting::play_ahead;
 use crate::samplers::start_of;
 use fx_io::OutOfMemory;
 use fx_tables::Rows;
@@ -56,7 +57,15 @@ impl Replay {
         let window = window_of(&score, delay);
         let mut bits = vec![in alloc; 0u128; score.drivers.len()]?;
         let mut cells = vec![in alloc; 0i128; window as usize * score.samplers.len()]?;
-        play(&mut machine, &score, window, delay, &mut bits, &mut cells);
+        play_ahead(
+            alloc,
+            &mut machine,
+            &score,
+            window,
+            delay,
+            &mut bits,
+            &mut cells,
+        )?;
         Ok(Replay {
             machine,
             score,

@@ -19,15 +19,15 @@ returns-clause-stands c =
     let cells = c.in_ok-cells.cells in
     let window = c.window_of-window.result in
     let delay = c.delay_of-delay.result in
-    let many : length c.play.new.bits ≡ bits.len = c.play.auto.bits ∙ c.deref_mut.ensures.len in
-    let long : length c.play.new.cells ≡ cells.len = c.play.auto.cells ∙ c.deref_mut-2.ensures.len in
+    let many : length c.play_ahead.new.bits ≡ bits.len = c.play_ahead.auto.bits ∙ c.deref_mut.ensures.len in
+    let long : length c.play_ahead.new.cells ≡ cells.len = c.play_ahead.auto.cells ∙ c.deref_mut-2.ensures.len in
     let lines : score.stimulus.lines ≡ c.args.stimulus.lines = ap (λ (table : Table). table.lines) c.in_ok-score.ensures.stimulus in
     let first : delay ≡ 0 + delay = omega arith in
     record {
       few = let few = c.requires.few in omega (arith, few, lines);
-      wide = ap length (with_items_is bits c.play.new.bits many) ∙ many ∙ c.in_ok-bits.ensures.len ∙ c.len.ensures ∙ score.drivers.ok.0;
+      wide = ap length (with_items_is bits c.play_ahead.new.bits many) ∙ many ∙ c.in_ok-bits.ensures.len ∙ c.len.ensures ∙ score.drivers.ok.0;
       delay = c.delay_of-delay.ensures;
       window = c.window_of-window.ensures;
-      played = subst (λ (items : List ℤ). IsPlayed score window ((0 + delay) * score.cycles) c.play.new.machine items) (sym (with_items_is cells c.play.new.cells long))
-          (subst (λ (n : ℕ). IsPlayed score window (n * score.cycles) c.play.new.machine c.play.new.cells) first c.play.ensures.played);
+      played = subst (λ (items : List ℤ). IsPlayed score window ((0 + delay) * score.cycles) c.play_ahead.new.machine items) (sym (with_items_is cells c.play_ahead.new.cells long))
+          (subst (λ (n : ℕ). IsPlayed score window (n * score.cycles) c.play_ahead.new.machine c.play_ahead.new.cells) first c.in_ok-play_ahead.ensures.played);
     }
