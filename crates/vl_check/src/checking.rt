@@ -40,6 +40,13 @@ struct Known<'a> {
     numbers: Vec<usize>,
 }
 
+/// The order of a module's assignments, as in `Checked`.
+#[derive(Drop)]
+struct Found {
+    order: Vec<usize>,
+    places: Vec<Option<usize>>,
+}
+
 fn known_of<'a>(alloc: Global, text: &[Mention<'a>]) -> Result<Known<'a>, OutOfMemory>
     ensures scope { IfOk result (λ known. (m : Module) → shown text.now ≡ mentions m
         → IsScopeOf m known.scope) }
@@ -75,36 +82,50 @@ pub fn check<'a>(alloc: Global, source: &'a Module) -> Result<Checked<'a>, VlFau
 {
     let text = mentions_of(alloc, source)?;
     let known = known_of(alloc, text.as_slice())?;
-    if let Some(name) = undriven(
-        alloc,
-        text.as_slice(),
-        known.numbers.as_slice(),
-        known.scope.count(),
-    )? {
+    let Found { order, places } = order_of(alloc, source, text.as_slice(), &known)?;
+    let Known { scope, numbers } = known;
+    drop(numbers);
+    Ok(Checked {
+        scope,
+        order,
+        places,
+    })
+}
+
+/// Tries the six conditions on a module whose names are known, and gives the order of its assignments.
+fn order_of(
+    alloc: Global,
+    source: &Module,
+    text: &[Mention<'_>],
+    known: &Known<'_>,
+) -> Result<Found, VlFault>
+    requires whole { shown text.now ≡ mentions source.now }
+    requires scope { IsScopeOf source.now known.now.scope }
+    requires numbers { AreNumbers (map mentioned (shown text.now)) known.now.numbers.items
+        (length known.now.scope.declared.items) }
+    requires first { AreFirst (map mentioned (shown text.now)) known.now.numbers.items
+        known.now.scope.declared.items (shown text.now) }
+    ensures sound { IfOk result (λ found. BreaksNone source.now) }
+    ensures order { IfOk result (λ found.
+        IsOrdering source.now known.now.scope found.order.items found.places.items) }
+    ensures fault { IfErr result (IsCause source.now) }
+{
+    let numbers = known.numbers.as_slice();
+    if let Some(name) = undriven(alloc, text, numbers, known.scope.count())? {
         return Err(VlFault::Undriven {
             name: Text::copy(alloc, name)?,
         });
     }
-    if let Some(name) = doubly(
-        alloc,
-        text.as_slice(),
-        known.numbers.as_slice(),
-        known.scope.declared.as_slice(),
-    )? {
+    if let Some(name) = doubly(alloc, text, numbers, known.scope.declared.as_slice())? {
         return Err(VlFault::Doubly {
             name: Text::copy(alloc, name)?,
         });
     }
-    let Known { scope, numbers: _ } = known;
-    match ordered(alloc, text.as_slice(), &scope, source)? {
+    match ordered(alloc, text, &known.scope, source)? {
         Assignments::InLoop(names) => Err(VlFault::CombLoop { names }),
         Assignments::InOrder { order, places } => {
-            check_rest(alloc, source, text.as_slice(), &scope)?;
-            Ok(Checked {
-                scope,
-                order,
-                places,
-            })
+            check_rest(alloc, source, text, &known.scope)?;
+            Ok(Found { order, places })
         }
     }
 }

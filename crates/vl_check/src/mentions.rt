@@ -7,7 +7,7 @@ use std::alloc::Global;
 use vl_ast::{Expr, ModItem, Module, Port};
 
 /// What a name is declared as.
-#[derive(Clone, Copy, Debug, PartialEq, Eq)]
+#[derive(Clone, Copy)]
 pub enum Kind {
     InputPort,
     OutputPort,

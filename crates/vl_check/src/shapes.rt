@@ -11,7 +11,7 @@ use vl_ast::{BinOp, Expr, Sized, UnOp};
 const MOST_BITS: u32 = 128;
 
 /// The length and the sign of an expression by itself (IEEE 1364-2005, 5.4.1 and 5.5.1).
-#[derive(Clone, Copy, Debug, PartialEq, Eq)]
+#[derive(Clone, Copy)]
 pub struct Shape {
     /// How many bits it has.
     pub length: u32,

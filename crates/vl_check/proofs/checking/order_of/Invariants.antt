@@ -1,4 +1,4 @@
-use Rattle.vl_check.proofs.checking.check.Given as goal
+use Rattle.vl_check.proofs.checking.order_of.Given as goal
 
 abbrev pub ghost-ordered : goal.ghost-ordered
 ghost-ordered a = a.source.now
