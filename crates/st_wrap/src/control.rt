@@ -105,8 +105,13 @@ fn next_wait(alloc: Global, wait: Counter) -> Result<Expr, OutOfMemory>
 fn assign(alloc: Global, name: &[u8], value: Expr, items: &mut ModItems) -> Result<(), OutOfMemory>
     ensures { OnOk result (items.new ≡ items.old ++ Assign name.now value ∷ []) }
 {
-    let name = Text::copy(alloc, name)?;
-    items.push(ModItem::Assign { name, value })
+    match Text::copy(alloc, name) {
+        Ok(name) => items.push(ModItem::Assign { name, value }),
+        Err(wanting) => {
+            drop(value);
+            Err(wanting)
+        }
+    }
 }
 
 fn put_assignments(

@@ -1,11 +1,13 @@
 //! The core's items and ports in the wrapper.
 ghost use Rattle.std.specs.Prelude.{◌≡◌, ◌++◌, map, IfOk, OnOk};
+ghost use Rattle.vl_ast.specs.declared.modules.ModItem.TheVariants.{Always};
+ghost use Rattle.st_wrap.specs.inner.Names.{inner_name};
 ghost use Rattle.st_wrap.specs.inner.Renamed.{core_items, renamed, renamed_condition, renamed_item, wires_of};
 
 use crate::names::{inner_name, is_shared};
 use fx_io::{Boxed, OutOfMemory};
 use std::alloc::Global;
-use vl_ast::{Expr, Exprs, ModItem, ModItems, Module};
+use vl_ast::{Expr, Exprs, ModItem, ModItems, Module, Sized};
 
 /// An expression over the names that the core's have in the wrapper. The recursion is as deep as the
 /// expression nests.
@@ -102,16 +104,32 @@ fn renamed_item(alloc: Global, item: &ModItem) -> Result<ModItem, OutOfMemory>
             first,
             condition,
             value,
-        } => {
-            let name = inner_name(alloc, name.bytes())?;
-            let condition = renamed_condition(alloc, condition)?;
-            let value = renamed(alloc, value)?;
-            Ok(ModItem::Always {
-                name,
-                first: *first,
-                condition,
-                value,
-            })
+        } => { renamed_always(alloc, name.bytes(), *first, condition, value) }
+    }
+}
+
+fn renamed_always(
+    alloc: Global,
+    name: &[u8],
+    first: Sized,
+    condition: &Option<Expr>,
+    value: &Expr,
+) -> Result<ModItem, OutOfMemory>
+    ensures { IfOk result (λ item. item ≡ Always (inner_name name.now) first
+        (renamed_condition condition.now) (renamed value.now)) }
+{
+    let name = inner_name(alloc, name)?;
+    let condition = renamed_condition(alloc, condition)?;
+    match renamed(alloc, value) {
+        Ok(value) => Ok(ModItem::Always {
+            name,
+            first,
+            condition,
+            value,
+        }),
+        Err(wanting) => {
+            drop(condition);
+            Err(wanting)
         }
     }
 }
