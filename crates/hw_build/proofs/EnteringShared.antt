@@ -31,7 +31,7 @@ use Rattle.hw_build.proofs.Growth.{goes_appended, later_on}
 use Rattle.hw_build.proofs.Making.{IsMadeLater, gain_shared, made_kind, product_shared}
 use Rattle.hw_build.proofs.Parameters.{readable}
 
-one_arg : (net : Circuit) (type : FxType) (product : ℕ) → HasWord net.nets product (width_of type) (is_signed type) → AreArgs net (type ∷ []) (product ∷ [])
+pub one_arg : (net : Circuit) (type : FxType) (product : ℕ) → HasWord net.nets product (width_of type) (is_signed type) → AreArgs net (type ∷ []) (product ∷ [])
 one_arg net type product has = record { count = refl; words = words }
   where
     words : (input number : ℕ) (own : FxType) → slice_get (product ∷ []) input ≡ Some number → slice_get (type ∷ []) input ≡ Some own → HasWord net.nets number (width_of own) (is_signed own)

@@ -16,7 +16,7 @@ use Rattle.dg_model.specs.Attributes.{attributes_of}
 use Rattle.dg_model.specs.Checked.{IsChecked}
 use Rattle.dg_model.specs.Library.{row_of, HasPorts, IsReadable}
 use Rattle.dg_model.specs.Solves.{IsShown, shown_ports, shown_width}
-use Rattle.dg_model.specs.Wired.{Joins}
+use Rattle.dg_model.specs.Wired.{Joins, MayStand}
 use Rattle.dg_model.specs.Wires.{repeated, type_into, types_into}
 use Rattle.dg_tables.specs.Fit.{HasLists}
 use Rattle.hw_net.specs.Circuit.{Circuit}
@@ -85,6 +85,11 @@ some_delay diagram block b delay initial reset checked at is = (subst (λ (k : K
 pub some_control : (enable : Option ℕ) → IsSome enable → (control : ℕ) × (enable ≡ Some control)
 some_control None some = absurd (false≢true some)
 some_control (Some control) some = (control, refl)
+
+-- an output port of an enabled subsystem stands in one
+pub out_enabled : (diagram : Diagram) (block : ℕ) (b : Block) (reset : Bool) (initial : List Decimal) → IsChecked diagram → slice_get diagram.blocks block ≡ Some b → b.kind ≡ EnOut reset initial → IsSome b.enable
+out_enabled diagram block b reset initial checked at is =
+    subst (λ (k : Kind). MayStand (row_of k).place.stands b.enable) is (at-place (λ (one : Block). MayStand (row_of one.kind).place.stands one.enable) diagram.blocks block b checked.wired.enables at)
 
 -- a line comes from a block that is there
 pub source_there : (diagram : Diagram) (number : ℕ) (edge : Edge) → IsChecked diagram → slice_get diagram.edges number ≡ Some edge → edge.from < length diagram.blocks

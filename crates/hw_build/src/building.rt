@@ -84,6 +84,27 @@ fn put_ports<'a>(
     Ok(())
 }
 
+/// Puts all nets and ports into an empty netlist.
+fn put_all<'a>(alloc: Global, net: &mut Netlist, design: Design<'a>) -> Result<(), OutOfMemory>
+    requires designed { IsDesigned design }
+    requires slots { HasSlots design }
+    requires small { IsSmall design }
+    requires empty { IsEmptyFor design net.old }
+    ensures { OnOk result (IsDoneFor design.entry net.new) }
+{
+    let inputs = input_blocks(alloc, design.checked)?;
+    let outputs = output_blocks(alloc, design.checked)?;
+    let firsts = put_nets(alloc, net, design, inputs.as_slice())?;
+    put_ports(
+        alloc,
+        net,
+        design,
+        &firsts,
+        inputs.as_slice(),
+        outputs.as_slice(),
+    )
+}
+
 /// The netlist of a design that keeps the rule of size.
 fn netlist_of<'a>(alloc: Global, design: Design<'a>) -> Result<Netlist, OutOfMemory>
     requires designed { IsDesigned design }
@@ -93,18 +114,8 @@ fn netlist_of<'a>(alloc: Global, design: Design<'a>) -> Result<Netlist, OutOfMem
 {
     design.checked.keeps_rules();
     done_is_built();
-    let inputs = input_blocks(alloc, design.checked)?;
-    let outputs = output_blocks(alloc, design.checked)?;
     let mut net = Netlist::new(alloc, design.plan.cycles);
-    let firsts = put_nets(alloc, &mut net, design, inputs.as_slice())?;
-    put_ports(
-        alloc,
-        &mut net,
-        design,
-        &firsts,
-        inputs.as_slice(),
-        outputs.as_slice(),
-    )?;
+    put_all(alloc, &mut net, design)?;
     Ok(net)
 }
 

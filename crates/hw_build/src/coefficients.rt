@@ -5,16 +5,16 @@ ghost use Rattle.dg_model.specs.Attributes.{attributes_of};
 ghost use Rattle.dg_model.specs.Equation.{StoresEntry};
 ghost use Rattle.dg_model.specs.Library.{row_of};
 ghost use Rattle.dg_model.specs.Wires.{repeated};
-ghost use Rattle.hw_net.specs.Growing.{with_net};
-ghost use Rattle.hw_build.specs.inner.Factors.{AddsConstants, IsCoefficient, IsSecond, constant_net};
+ghost use Rattle.hw_build.specs.inner.Factors.{AddsConstants, IsCoefficient, IsSecond};
 ghost use Rattle.hw_build.specs.inner.Operands.{offered_at};
 
 use crate::firsts::place_in;
 use crate::operands::Operands;
+use crate::parts::{put_const, word_of};
 use dg_model::{Block, Checked};
-use fx_io::{OutOfMemory, Sizes};
+use fx_io::OutOfMemory;
 use fx_type::{Decimal, FxType};
-use hw_net::{Net, NetKind, NetOp, Netlist};
+use hw_net::Netlist;
 use std::alloc::Global;
 
 /// The entry of a list parameter for an element, stored in a type.
@@ -25,25 +25,6 @@ pub fn stored(list: &[Decimal], element: u32, kind: FxType) -> i128
 {
     let decimal = list[place_in(list.len(), element)];
     fx_round::to_stored(decimal, kind)
-}
-
-/// Puts in a net that shows a number at each clock, in the word of a type.
-pub fn put_constant(
-    alloc: Global,
-    net: &mut Netlist,
-    kind: FxType,
-    value: i128,
-) -> Result<u32, OutOfMemory>
-    ensures number { IfOk result (λ number. number ≡ length net.old.nets) }
-    ensures grown { OnOk result (net.new ≡ with_net net.old (constant_net kind value)) }
-{
-    let args = Sizes::new(alloc);
-    let op = NetOp::Const(value);
-    net.add(Net {
-        signed: kind.is_signed(),
-        width: kind.width(),
-        kind: NetKind::Comb { op, args },
-    })
 }
 
 /// Puts in a net for the coefficient of an element.
@@ -61,7 +42,7 @@ fn put_coefficient(
     ensures adds { OnOk result (AddsConstants net.old net.new) }
 {
     let value = stored(list, element, kind);
-    let number = put_constant(alloc, net, kind, value)?;
+    let number = put_const(alloc, net, word_of(kind), value)?;
     Ok(number)
 }
 

@@ -5,13 +5,14 @@ ghost use Rattle.dg_model.specs.Library.{row_of};
 ghost use Rattle.dg_model.specs.RootElements.{root_inputs};
 ghost use Rattle.dg_model.specs.Solves.{shown_ports as shown_ports_of, shown_width as shown_width_of};
 ghost use Rattle.dg_tables.specs.Listing.{AreBlocksOf};
-ghost use Rattle.hw_build.specs.inner.HubPlaces.{before, hub_of, input_net as input_net_of, is_input_role, is_output_role, port_size, hub_start, hub_at as hub_at_of, AddsFresh, AddsPorts, AddsBlock, AddsBlocks, AddsInputs, HasHubs};
+ghost use Rattle.hw_build.specs.inner.HubPlaces.{before, is_input_role, is_output_role, port_size, hub_start, hub_at as hub_at_of, AddsFresh, AddsPorts, AddsBlock, AddsBlocks, AddsInputs, HasHubs};
 
+use crate::parts::{put_comb, word_of};
 use dg_model::{Block, Checked, Kind, PortWidths, Role};
 use fx_io::{OutOfMemory, PortSizes, Sizes};
 use fx_type::FxType;
 use hw_names::columns_of;
-use hw_net::{Net, NetKind, NetOp, Netlist};
+use hw_net::{NetOp, Netlist};
 use hw_sched::width_into;
 use std::alloc::Global;
 
@@ -67,36 +68,6 @@ pub fn shown_width(checked: &Checked, block: u32, one: &Block, port: u32) -> u32
     }
 }
 
-/// A net that is to show an element of this type, without an argument yet.
-fn hub(alloc: Global, kind: FxType) -> Net
-    ensures { result ≡ hub_of kind }
-{
-    let args = Sizes::new(alloc);
-    Net {
-        signed: kind.is_signed(),
-        width: kind.width(),
-        kind: NetKind::Comb {
-            op: NetOp::Resize,
-            args,
-        },
-    }
-}
-
-/// A net that shows an input port of this type.
-fn input_net(alloc: Global, kind: FxType, port: u32) -> Net
-    ensures { result ≡ input_net_of kind port }
-{
-    let args = Sizes::new(alloc);
-    Net {
-        signed: kind.is_signed(),
-        width: kind.width(),
-        kind: NetKind::Comb {
-            op: NetOp::Input(port),
-            args,
-        },
-    }
-}
-
 /// Puts in the nets of a port, which have no argument yet, and gives the first.
 fn put_port(alloc: Global, net: &mut Netlist, kind: FxType, width: u32) -> Result<u32, OutOfMemory>
     ensures first { IfOk result (λ first. first ≡ length net.old.nets) }
@@ -107,8 +78,7 @@ fn put_port(alloc: Global, net: &mut Netlist, kind: FxType, width: u32) -> Resul
         return Err(OutOfMemory);
     };
     for element in 0..width {
-        let one = hub(alloc, kind);
-        let number = net.add(one)?;
+        let number = put_comb(alloc, net, word_of(kind), NetOp::Resize, &[])?;
         let _ = number;
     }
     Ok(first)
@@ -205,8 +175,7 @@ fn put_inputs(
             return Err(OutOfMemory);
         };
         let kind = checked.result(inputs[column]);
-        let one = input_net(alloc, kind, number);
-        let place = net.add(one)?;
+        let place = put_comb(alloc, net, word_of(kind), NetOp::Input(number), &[])?;
         let _ = place;
     }
     Ok(())

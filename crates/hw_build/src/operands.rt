@@ -7,7 +7,7 @@ use dg_model::{Block, Checked, Edge};
 use fx_io::{Sequence, Sizes};
 
 /// The nets of an end: the number of the first among those of all ends, and how many there are.
-#[derive(Clone, Copy, Debug)]
+#[derive(Clone, Copy)]
 pub struct Span {
     pub first: u32,
     pub count: u32,

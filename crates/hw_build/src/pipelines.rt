@@ -1,12 +1,13 @@
 //! The registers of a plan behind an element.
-ghost use Rattle.std.specs.Prelude.{◌≡◌, ◌+◌, ◌-◌, ◌*◌, ◌<◌, ◌++◌, ◌∷◌, ◌^◌, [], IfOk, OnOk, Some, length};
+ghost use Rattle.std.specs.Prelude.{◌≡◌, ◌+◌, ◌-◌, ◌*◌, ◌<◌, ◌++◌, ◌^◌, IfOk, OnOk, Some, length};
 ghost use Rattle.dg_model.specs.Attributes.{attributes_of};
 ghost use Rattle.hw_build.specs.inner.Designed.{IsDesigned, timing_for};
-ghost use Rattle.hw_build.specs.inner.Piping.{own_frame, stage_labels, stage_net, stage_nets, wire_of, AddsPipeline, IsPipedBy};
+ghost use Rattle.hw_build.specs.inner.Piping.{own_frame, stage_labels, stage_net, stage_nets, AddsPipeline, IsPipedBy};
 
 use crate::design::Design;
 use crate::labels::label_stage;
-use fx_io::{OutOfMemory, Sizes};
+use crate::parts::{put_comb, word_of};
+use fx_io::OutOfMemory;
 use fx_type::FxType;
 use hw_net::{Frame, Net, NetKind, NetOp, Netlist};
 use hw_sched::periods_are_above;
@@ -42,22 +43,6 @@ pub fn last_slot<'a>(design: Design<'a>, block: u32, period: u32) -> u32
 {
     periods_are_above();
     period * design.plan.cycles - 1
-}
-
-/// A net that passes another on, in the word of a type.
-fn wire(alloc: Global, kind: FxType, from: u32) -> Result<Net, OutOfMemory>
-    ensures { IfOk result (λ net. net ≡ wire_of kind from) }
-{
-    let mut args = Sizes::new(alloc);
-    args.push(from)?;
-    Ok(Net {
-        signed: kind.is_signed(),
-        width: kind.width(),
-        kind: NetKind::Comb {
-            op: NetOp::Resize,
-            args,
-        },
-    })
 }
 
 /// A register that takes a net in a slot of a frame, in the word of a type. It has 0 first.
@@ -145,8 +130,7 @@ fn put_stages<'a>(
     let kind = design.checked.result(block);
     let stages = design.plan.stages.as_slice()[block as usize];
     let _ = net.counter(frame)?;
-    let first = wire(alloc, kind, entry)?;
-    let begin = net.add(first)?;
+    let begin = put_comb(alloc, net, word_of(kind), NetOp::Resize, &[entry])?;
     let end = put_registers(net, kind, frame, slot, begin, stages)?;
     name_registers(alloc, net, block, element, begin, stages)?;
     Ok(Piped { begin, end })

@@ -9,7 +9,7 @@ use hw_net::Frame;
 use std::alloc::Global;
 
 /// A source that is shown later.
-#[derive(Clone, Copy, Debug, PartialEq, Eq, PartialOrd, Ord)]
+#[derive(Clone, Copy, PartialEq, Eq, PartialOrd, Ord)]
 pub struct Feed {
     /// Its net.
     pub hub: u32,

@@ -1,4 +1,4 @@
--- Netlists with nets behind their own: what stood stands, and no frame gets a second Counter.
+-- Netlists with nets behind their own: what stood stands, and no frame gets a second Counter. Crates above may cite this file.
 use Rattle.std.proofs.Common.{◌≡◌, ℕ, zero, suc, append-nil, append_assoc, ◌+◌, ◌<◌, ◌≤◌, ◌⊎◌, inl, inr, List, [], ◌∷◌, ◌++◌, length, Option, None, Some, IsSome, slice_get, Result, Ok, Err, IfOk, Bool, true, false, if◌then◌else◌, ap, sym, ◌∙◌, arith, refl, length-append}
 use Rattle.std.proofs.lemmas.Bool.{cases_lt}
 use Rattle.std.proofs.lemmas.Option.{none-some, same_Some, slice_get_within}

@@ -1,7 +1,8 @@
-use Rattle.std.proofs.Common.{sym, subst, ◌∙◌}
+use Rattle.std.proofs.Common.{sym, subst, ◌∙◌, arith}
 use Rattle.hw_build.specs.inner.Offers.{Offer}
 use Rattle.hw_build.proofs.EnteringOne.{args_are, one_entered, IsKnown}
-use Rattle.hw_build.proofs.EnteringProduct.{product_word, shared_entered}
+use Rattle.hw_build.proofs.EnteringProduct.{product_word, shared_entered, multiplying}
+use Rattle.std.proofs.lemmas.Option.{slice_get_within}
 use Rattle.hw_build.proofs.blocks.put_one.Goals as goal
 
 pub put_shared-requires-clause-word : goal.put_shared-requires-clause-word
@@ -63,3 +64,41 @@ returns c =
       set = c.requires.set;
     } in
     one_entered c.args.setting known c.args.net.now c.requires.going c.args.place.block c.args.one.now c.args.place.port c.args.place.element c.requires.shown c.as_slice-nets.result.now c.requires.other (subst (Offer c.args.setting c.args.place.block c.args.one.now c.args.place.port c.args.place.element) (sym c.as_slice-nets.ensures) c.in_ok-operands.ensures) c.put_entry.new.net c.in_ok-entry-2.entry c.in_ok-entry-2.ensures (sym c.at.ensures ∙ c.in_default.is)
+
+pub at-requires : goal.at-requires
+at-requires c =
+    let inside = slice_get_within c.args.setting.design.checked.now.diagram.blocks c.args.place.block c.args.one.now c.requires.shown.block_is in
+    omega (arith, inside, c.requires.set.products_are.size)
+
+pub full_type-full-requires-clause-block : goal.full_type-full-requires-clause-block
+full_type-full-requires-clause-block c = c.requires.shown.block_is
+
+pub full_type-full-requires-clause-multiplies : goal.full_type-full-requires-clause-multiplies
+full_type-full-requires-clause-multiplies c =
+    let known : IsKnown c.args.setting = record {
+      listed = c.root_elements_are_listed.ensures.inputs;
+      fit = c.operations_prepare.ensures.fit;
+      valid = c.operations_prepare.ensures.types;
+      widths = c.edges_stand_by_port.ensures.widths;
+      storing = c.stored_is_one.ensures;
+      lines = c.lines_are_edges.ensures.lines;
+      controls = c.lines_are_edges.ensures.controls;
+      ordered = record { checked = c.keeps_rules.ensures.checked; ordered = c.keeps_rules.ensures.ordered };
+      set = c.requires.set;
+    } in
+    multiplying c.args.setting known c.args.net.now c.requires.going c.args.place.block c.args.one.now c.args.place.port c.args.place.element c.requires.shown c.in-Some.product (sym c.at.ensures ∙ c.in-Some.is)
+
+pub put_shared-requires-clause-block : goal.put_shared-requires-clause-block
+put_shared-requires-clause-block c = c.requires.shown.block_is
+
+pub put_shared-requires-clause-full : goal.put_shared-requires-clause-full
+put_shared-requires-clause-full c = c.full_type-full.ensures
+
+pub put_entry-requires-clause-designed : goal.put_entry-requires-clause-designed
+put_entry-requires-clause-designed c = c.requires.set.designed
+
+pub put_entry-requires-clause-cycles : goal.put_entry-requires-clause-cycles
+put_entry-requires-clause-cycles c = c.requires.going.going.cycles
+
+pub put_entry-requires-clause-types : goal.put_entry-requires-clause-types
+put_entry-requires-clause-types c = c.as_slice-types.ensures.value ∙ c.requires.inputs.types_are

@@ -1,14 +1,20 @@
+use Rattle.std.proofs.Common.{[]}
 use Rattle.std.specs.Int.{w128}
 use Rattle.std.proofs.lemmas.Int.{to_z-of_z}
+use Rattle.hw_net.specs.declared.netlist.NetKind.TheVariants.{Comb}
+use Rattle.hw_net.specs.declared.netlist.NetOp.TheVariants.{Const}
 use Rattle.hw_build.proofs.Constants.{adds_one, coefficient_is}
+use Rattle.hw_build.proofs.Entering.{typed_net}
 use Rattle.hw_build.proofs.coefficients.put_coefficient.Goals as goal
 
 pub returns-clause-is : goal.returns-clause-is
 returns-clause-is c =
-    let grown = rw (to_z-of_z w128 c.stored-value.result (record { sfits = c.stored-value.type_inv })) at c.in_ok-number.ensures.grown in
-    coefficient_is c.args.net.now c.put_constant.new.net c.args.list.now c.args.element c.args.kind c.stored-value.result c.in_ok-number.number c.stored-value.ensures c.in_ok-number.ensures.number grown
+    let same = to_z-of_z w128 c.stored-value.result (record { sfits = c.stored-value.type_inv }) in
+    let grown = typed_net c.args.net.now c.put_const.new.net c.word_of.result c.args.kind (Comb (Const c.stored-value.result) []) c.word_of.ensures (rw (← same) c.in_ok-number.ensures.grown) in
+    coefficient_is c.args.net.now c.put_const.new.net c.args.list.now c.args.element c.args.kind c.stored-value.result c.in_ok-number.number c.stored-value.ensures c.in_ok-number.ensures.number grown
 
 pub returns-clause-adds : goal.returns-clause-adds
 returns-clause-adds c =
-    let grown = rw (to_z-of_z w128 c.stored-value.result (record { sfits = c.stored-value.type_inv })) at c.in_ok-number.ensures.grown in
-    adds_one c.args.net.now c.put_constant.new.net c.args.kind c.stored-value.result c.requires.valid grown
+    let same = to_z-of_z w128 c.stored-value.result (record { sfits = c.stored-value.type_inv }) in
+    let grown = typed_net c.args.net.now c.put_const.new.net c.word_of.result c.args.kind (Comb (Const c.stored-value.result) []) c.word_of.ensures (rw (← same) c.in_ok-number.ensures.grown) in
+    adds_one c.args.net.now c.put_const.new.net c.args.kind c.stored-value.result c.requires.valid grown

@@ -10,6 +10,7 @@ use Rattle.hw_build.specs.inner.Factors.{IsCoefficient, IsSecond}
 use Rattle.hw_build.specs.inner.Operands.{offered_at}
 use Rattle.hw_build.proofs.Constants.{adds_none}
 use Rattle.hw_build.proofs.Serving.{product_by, reads_there, scaled_by}
+use Rattle.std.proofs.lemmas.Option.{slice_get_within}
 use Rattle.hw_build.proofs.coefficients.second_of.Goals as goal
 
 pub put_coefficient-requires-clause-valid : goal.put_coefficient-requires-clause-valid
@@ -39,3 +40,9 @@ returns-in-None-clause-is c =
 
 pub returns-in-None-clause-adds : goal.returns-in-None-clause-adds
 returns-in-None-clause-adds c = adds_none c.args.net.now
+
+pub param-kind-requires : goal.param-kind-requires
+param-kind-requires c = slice_get_within c.args.checked.now.diagram.blocks c.args.block c.args.one.now c.requires.block
+
+pub returns-in_ok-number-in-Some-clause-adds : goal.returns-in_ok-number-in-Some-clause-adds
+returns-in_ok-number-in-Some-clause-adds c = c.in_ok-number-in-Some.ensures.adds

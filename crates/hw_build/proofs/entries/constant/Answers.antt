@@ -8,6 +8,9 @@ use Rattle.hw_build.specs.declared.entries.Entry.{Entry}
 use Rattle.hw_build.specs.inner.Designed.{timing_for}
 use Rattle.hw_build.proofs.Entering.{typed_net}
 use Rattle.hw_build.proofs.EnteringPlain.{constant_entry}
+use Rattle.dg_model.specs.declared.kind.Kind.{Kind}
+use Rattle.dg_model.specs.Library.{row_of}
+use Rattle.std.proofs.lemmas.Option.{slice_get_within}
 use Rattle.hw_build.proofs.entries.constant.Goals as goal
 
 pub stored-first-requires-clause-kind : goal.stored-first-requires-clause-kind
@@ -22,3 +25,9 @@ returns c =
     c.stored-first.result c.result-kind.result c.requires.kind c.result-kind.ensures (subst IsType (sym (c.result-kind.ensures 1)) types.0) c.stored-first.ensures.range c.stored-first.ensures.entry
     (typed_net c.args.net.now c.put_const.new.net c.word_of.result c.result-kind.result (Comb (Const c.stored-first.result) []) c.word_of.ensures (rw (← (to_z-of_z w128 c.stored-first.result (record { sfits = c.stored-first.type_inv }))) c.in_ok-number.ensures.grown))
     (ap (λ (e : Entry). e.net) c.plain.ensures ∙ c.in_ok-number.ensures.number) (ap (λ (e : Entry). e.multiply) c.plain.ensures)
+
+pub result-kind-requires : goal.result-kind-requires
+result-kind-requires c = slice_get_within c.args.design.checked.now.diagram.blocks c.args.place.block c.args.one.now c.requires.shown.block_is
+
+pub stored-first-requires-clause-list : goal.stored-first-requires-clause-list
+stored-first-requires-clause-list c = ap (λ (kind : Kind). (row_of kind).signal.lists) c.requires.kind

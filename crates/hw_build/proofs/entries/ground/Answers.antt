@@ -1,4 +1,5 @@
 use Rattle.std.proofs.Common.{pos, [], sym, ap, subst, ◌∙◌}
+use Rattle.std.proofs.lemmas.Option.{slice_get_within}
 use Rattle.fx_type.specs.FxType.{IsType}
 use Rattle.hw_net.specs.declared.netlist.NetKind.TheVariants.{Comb}
 use Rattle.hw_net.specs.declared.netlist.NetOp.TheVariants.{Const}
@@ -14,3 +15,6 @@ returns c =
     ground_entry c.args.design.checked.now.diagram (timing_for c.args.design) c.args.net.now c.put_const.new.net c.args.place.block c.args.one.now c.args.place.port c.args.place.element c.args.operands.now c.plain.result c.result-kind.result c.requires.kind c.result-kind.ensures (subst IsType (sym (c.result-kind.ensures 1)) types.0) (zero_in_range c.result-kind.result (subst IsType (sym (c.result-kind.ensures 1)) types.0))
     (typed_net c.args.net.now c.put_const.new.net c.word_of.result c.result-kind.result (Comb (Const (pos 0)) []) c.word_of.ensures c.in_ok-number.ensures.grown)
     (ap (λ (e : Entry). e.net) c.plain.ensures ∙ c.in_ok-number.ensures.number) (ap (λ (e : Entry). e.multiply) c.plain.ensures)
+
+pub result-kind-requires : goal.result-kind-requires
+result-kind-requires c = slice_get_within c.args.design.checked.now.diagram.blocks c.args.place.block c.args.one.now c.requires.shown.block_is

@@ -1,6 +1,9 @@
 use Rattle.std.proofs.Common.{subst, sym}
 use Rattle.fx_type.specs.FxType.{IsType}
+use Rattle.dg_model.specs.Library.{IsReadable}
 use Rattle.hw_build.proofs.FullyTyped.{full_is_there, second_is_valid}
+use Rattle.hw_build.proofs.Serving.{multiplies_input}
+use Rattle.hw_build.proofs.Widths.{held}
 use Rattle.hw_build.proofs.full_types.full_type.Goals as goal
 
 pub full_of-requires-clause-one : goal.full_of-requires-clause-one
@@ -17,3 +20,11 @@ pub full_of-requires-clause-full : goal.full_of-requires-clause-full
 full_of-requires-clause-full c =
     let full = full_is_there c.storing_gives_one.ensures c.operations_prepare.ensures.operations c.operations_prepare.ensures.types c.args.checked.now.diagram c.args.checked.now.order (record { checked = c.keeps_rules.ensures.checked; ordered = c.keeps_rules.ensures.ordered }) c.args.block c.args.one.now c.requires.block c.requires.multiplies in
     rw (c.type_into-left.ensures, c.second_type-right.ensures) full
+
+pub type_into-left-requires-clause-to : goal.type_into-left-requires-clause-to
+type_into-left-requires-clause-to c =
+    let readable = held IsReadable c.args.checked.now.diagram.blocks c.args.block c.args.one.now c.keeps_rules.ensures.checked.wired.blocks c.requires.block in
+    multiplies_input c.args.one.now.kind c.args.one.now.inputs c.args.one.now.outputs readable.ports c.requires.multiplies
+
+pub returns : goal.returns
+returns c = rw (c.type_into-left.ensures, c.second_type-right.ensures) at c.full_of.ensures

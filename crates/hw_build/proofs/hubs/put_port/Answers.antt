@@ -1,8 +1,12 @@
-use Rattle.std.proofs.Common.{rules, ◌^◌, ◌<◌}
+use Rattle.std.proofs.Common.{rules, ◌^◌, ◌<◌, []}
+use Rattle.hw_net.specs.declared.netlist.NetKind.TheVariants.{Comb}
+use Rattle.hw_net.specs.declared.netlist.NetOp.TheVariants.{Resize}
+use Rattle.hw_build.proofs.Entering.{typed_net}
 use Rattle.hw_build.proofs.Placing.{fresh_one, fresh_then}
 use Rattle.hw_build.proofs.hubs.put_port.Goals as goal
 
 pub loop-element-preserved : goal.loop-element-preserved
 loop-element-preserved c =
     let fits : c.in_ok-number.number < 2 ^ 32 = search rules in
-    fresh_then c.args.net.now c.loop-element.net c.add.new.self c.loop-element.element 1 c.args.kind c.loop-element.invariant (fresh_one c.loop-element.net c.add.new.self c.in_ok-number.number c.args.kind c.in_ok-number.ensures.number fits (rw c.hub-one.ensures at c.in_ok-number.ensures.grown))
+    let grown = typed_net c.loop-element.net c.put_comb.new.net c.word_of.result c.args.kind (Comb Resize []) c.word_of.ensures c.in_ok-number.ensures.grown in
+    fresh_then c.args.net.now c.loop-element.net c.put_comb.new.net c.loop-element.element 1 c.args.kind c.loop-element.invariant (fresh_one c.loop-element.net c.put_comb.new.net c.in_ok-number.number c.args.kind c.in_ok-number.ensures.number fits grown)

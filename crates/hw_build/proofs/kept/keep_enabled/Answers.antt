@@ -1,7 +1,8 @@
-use Rattle.std.proofs.Common.{None, ◌∷◌, [], ℤ, refl, sym, subst, to_z, of_z}
+use Rattle.std.proofs.Common.{None, ◌∷◌, [], ℤ, refl, sym, subst, to_z, of_z, ap, arith}
 use Rattle.std.specs.Prelude.{slice_index_or}
 use Rattle.std.specs.Int.{w128}
 use Rattle.std.proofs.lemmas.Int.{to_z-of_z}
+use Rattle.std.proofs.lemmas.Option.{slice_get_within}
 use Rattle.fx_num.specs.Word.{IsWord, InWord}
 use Rattle.fx_type.specs.declared.kind.FxType.{FxType}
 use Rattle.fx_type.specs.FxType.{IsType, is_signed, width_of}
@@ -15,6 +16,8 @@ use Rattle.hw_build.specs.inner.Registering.{AreSeries}
 use Rattle.hw_build.proofs.EnteringKept.{first_operand, second_operand, delay_enabled_entry}
 use Rattle.hw_build.proofs.Parameters.{some_control, some_delay}
 use Rattle.hw_build.proofs.Words.{in_word, word_of}
+use Rattle.dg_model.specs.declared.kind.Kind.{Kind}
+use Rattle.dg_model.specs.Library.{row_of}
 use Rattle.hw_build.proofs.kept.keep_enabled.Goals as goal
 
 pub stored-first-requires-clause-kind : goal.stored-first-requires-clause-kind
@@ -54,3 +57,28 @@ returns c =
     let control = some_control c.args.one.now.enable c.requires.enable in
     delay_enabled_entry c.args.design.checked.now.diagram (timing_for c.args.design) c.args.net.now c.put_enabled_series.new.net c.args.place.block c.args.one.now c.args.place.port c.args.place.element c.args.operands.now (record { net = c.in_ok-series.series.last; state = c.in_ok-series.series.first; multiply = None }) c.args.count c.in_ok-series.series.first c.args.initial.now c.args.reset c.stored-first.result c.result-kind.result c.own_frame-frame.result c.word_of-word.result c.requires.kind (some_delay c.args.design.checked.now.diagram c.args.place.block c.args.one.now c.args.count c.args.initial.now c.args.reset c.keeps_rules.ensures.checked c.requires.shown.block_is c.requires.kind) c.result-kind.ensures c.word_of-word.ensures c.own_frame-frame.ensures c.stored-first.ensures.one c.in_ok-series.ensures.last_is refl refl control.0 control.1 c.requires.operands
     (subst (λ (first : ℤ). AreSeries (λ last. EnReg c.own_frame-frame.result (slice_index_or c.args.operands.now 1 0) c.args.reset first last) c.args.net.now c.put_enabled_series.new.net (slice_index_or c.args.operands.now 1 0 ∷ slice_index_or c.args.operands.now 0 0 ∷ []) c.own_frame-frame.result c.word_of-word.result (slice_index_or c.args.operands.now 0 0) c.in_ok-series.series.first c.args.count) e c.in_ok-series.ensures.are)
+
+pub result-kind-requires : goal.result-kind-requires
+result-kind-requires c = slice_get_within c.args.design.checked.now.diagram.blocks c.args.place.block c.args.one.now c.requires.shown.block_is
+
+pub stored-first-requires-clause-list : goal.stored-first-requires-clause-list
+stored-first-requires-clause-list c = ap (λ (kind : Kind). (row_of kind).signal.lists) c.requires.kind
+
+pub own_frame-frame-requires-clause-is : goal.own_frame-frame-requires-clause-is
+own_frame-frame-requires-clause-is c = c.requires.shown.block_is
+
+pub own_frame-frame-requires-clause-moves : goal.own_frame-frame-requires-clause-moves
+own_frame-frame-requires-clause-moves c = ap (λ (kind : Kind). (row_of kind).timing.inherits) c.requires.kind
+
+pub bounds-operands-0 : goal.bounds-operands-0
+bounds-operands-0 c =
+    let within = (second_operand c.args.design.checked.now.diagram c.args.net.now ((attributes_of c.args.design.checked.now.diagram).type_at c.args.place.block c.args.place.port) c.args.operands.now c.args.one.now.enable c.requires.enable c.requires.operands).0 in
+    omega (arith, within)
+
+pub bounds-operands-1 : goal.bounds-operands-1
+bounds-operands-1 c = (second_operand c.args.design.checked.now.diagram c.args.net.now ((attributes_of c.args.design.checked.now.diagram).type_at c.args.place.block c.args.place.port) c.args.operands.now c.args.one.now.enable c.requires.enable c.requires.operands).0
+
+pub put_enabled_series-requires-clause-cycles : goal.put_enabled_series-requires-clause-cycles
+put_enabled_series-requires-clause-cycles c =
+    let some = c.requires.designed.scheduled.planned.some_clocks in
+    omega (arith, some, c.requires.cycles)

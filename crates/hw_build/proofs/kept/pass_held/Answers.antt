@@ -1,4 +1,4 @@
-use Rattle.std.proofs.Common.{false, None, ◌∷◌, [], ℤ, refl, sym, subst, to_z, of_z}
+use Rattle.std.proofs.Common.{false, None, ◌∷◌, [], ℤ, refl, sym, subst, to_z, of_z, ap, arith}
 use Rattle.std.specs.Prelude.{slice_index_or}
 use Rattle.std.specs.Int.{w128}
 use Rattle.std.proofs.lemmas.Int.{to_z-of_z}
@@ -18,6 +18,9 @@ use Rattle.hw_build.proofs.EnteringKept.{first_operand, second_operand}
 use Rattle.hw_build.proofs.EnteringOut.{held_entry}
 use Rattle.hw_build.proofs.Parameters.{some_control}
 use Rattle.hw_build.proofs.Words.{in_word, word_of}
+use Rattle.dg_model.specs.declared.kind.Kind.{Kind}
+use Rattle.dg_model.specs.Library.{row_of}
+use Rattle.std.proofs.lemmas.Option.{slice_get_within}
 use Rattle.hw_build.proofs.kept.pass_held.Goals as goal
 
 pub stored-first-requires-clause-kind : goal.stored-first-requires-clause-kind
@@ -60,3 +63,28 @@ returns c =
     c.in_ok-series.ensures.last_is
     (typed_net c.put_enabled_series.new.net c.put_comb.new.net c.word_of-word.result c.result-kind.result (Comb Choose (slice_index_or c.args.operands.now 1 0 ∷ slice_index_or c.args.operands.now 0 0 ∷ c.in_ok-series.series.last ∷ [])) c.word_of-word.ensures c.in_ok-chosen.ensures.grown)
     c.in_ok-chosen.ensures.number refl
+
+pub result-kind-requires : goal.result-kind-requires
+result-kind-requires c = slice_get_within c.args.design.checked.now.diagram.blocks c.args.place.block c.args.one.now c.requires.shown.block_is
+
+pub stored-first-requires-clause-list : goal.stored-first-requires-clause-list
+stored-first-requires-clause-list c = ap (λ (kind : Kind). (row_of kind).signal.lists) c.requires.kind
+
+pub own_frame-frame-requires-clause-is : goal.own_frame-frame-requires-clause-is
+own_frame-frame-requires-clause-is c = c.requires.shown.block_is
+
+pub own_frame-frame-requires-clause-moves : goal.own_frame-frame-requires-clause-moves
+own_frame-frame-requires-clause-moves c = ap (λ (kind : Kind). (row_of kind).timing.inherits) c.requires.kind
+
+pub bounds-operands-0 : goal.bounds-operands-0
+bounds-operands-0 c =
+    let within = (second_operand c.args.design.checked.now.diagram c.args.net.now ((attributes_of c.args.design.checked.now.diagram).type_at c.args.place.block c.args.place.port) c.args.operands.now c.args.one.now.enable c.requires.enable c.requires.operands).0 in
+    omega (arith, within)
+
+pub bounds-operands-1 : goal.bounds-operands-1
+bounds-operands-1 c = (second_operand c.args.design.checked.now.diagram c.args.net.now ((attributes_of c.args.design.checked.now.diagram).type_at c.args.place.block c.args.place.port) c.args.operands.now c.args.one.now.enable c.requires.enable c.requires.operands).0
+
+pub put_enabled_series-requires-clause-cycles : goal.put_enabled_series-requires-clause-cycles
+put_enabled_series-requires-clause-cycles c =
+    let some = c.requires.designed.scheduled.planned.some_clocks in
+    omega (arith, some, c.requires.cycles)

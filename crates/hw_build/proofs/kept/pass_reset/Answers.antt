@@ -1,4 +1,4 @@
-use Rattle.std.proofs.Common.{None, ◌∷◌, [], refl, sym, subst}
+use Rattle.std.proofs.Common.{None, ◌∷◌, [], refl, sym, subst, ap, arith}
 use Rattle.std.specs.Prelude.{slice_index_or}
 use Rattle.std.specs.Int.{w128}
 use Rattle.std.proofs.lemmas.Int.{to_z-of_z}
@@ -9,6 +9,11 @@ use Rattle.hw_build.proofs.Entering.{typed_net}
 use Rattle.hw_build.specs.inner.Designed.{timing_for}
 use Rattle.hw_build.proofs.EnteringOut.{reset_entry}
 use Rattle.hw_build.proofs.Parameters.{some_control}
+use Rattle.dg_model.specs.declared.kind.Kind.{Kind}
+use Rattle.dg_model.specs.Library.{row_of}
+use Rattle.dg_model.specs.Attributes.{attributes_of}
+use Rattle.std.proofs.lemmas.Option.{slice_get_within}
+use Rattle.hw_build.proofs.EnteringKept.{second_operand}
 use Rattle.hw_build.proofs.kept.pass_reset.Goals as goal
 
 pub stored-first-requires-clause-kind : goal.stored-first-requires-clause-kind
@@ -28,3 +33,17 @@ returns c =
     (typed_net c.args.net.now c.put_const.new.net c.word_of-word.result c.result-kind.result (Comb (Const c.stored-first.result) []) c.word_of-word.ensures (rw (← e) c.in_ok-constant.ensures.grown)) c.in_ok-constant.ensures.number
     (typed_net c.put_const.new.net c.put_comb.new.net c.word_of-word.result c.result-kind.result (Comb Choose (slice_index_or c.args.operands.now 1 0 ∷ slice_index_or c.args.operands.now 0 0 ∷ c.in_ok-constant.constant ∷ [])) c.word_of-word.ensures c.in_ok-chosen.ensures.grown)
     c.in_ok-chosen.ensures.number refl
+
+pub result-kind-requires : goal.result-kind-requires
+result-kind-requires c = slice_get_within c.args.design.checked.now.diagram.blocks c.args.place.block c.args.one.now c.requires.shown.block_is
+
+pub stored-first-requires-clause-list : goal.stored-first-requires-clause-list
+stored-first-requires-clause-list c = ap (λ (kind : Kind). (row_of kind).signal.lists) c.requires.kind
+
+pub bounds-operands-0 : goal.bounds-operands-0
+bounds-operands-0 c =
+    let within = (second_operand c.args.design.checked.now.diagram c.args.net.now ((attributes_of c.args.design.checked.now.diagram).type_at c.args.place.block c.args.place.port) c.args.operands.now c.args.one.now.enable c.requires.enable c.requires.operands).0 in
+    omega (arith, within)
+
+pub bounds-operands-1 : goal.bounds-operands-1
+bounds-operands-1 c = (second_operand c.args.design.checked.now.diagram c.args.net.now ((attributes_of c.args.design.checked.now.diagram).type_at c.args.place.block c.args.place.port) c.args.operands.now c.args.one.now.enable c.requires.enable c.requires.operands).0

@@ -1,6 +1,8 @@
 use Rattle.std.proofs.Common.{[], refl}
 use Rattle.std.proofs.lemmas.List.Elements.{All-cons, All-nil}
 use Rattle.fx_type.specs.FxType.{IsType}
+use Rattle.std.proofs.lemmas.Option.{slice_get_within}
+use Rattle.hw_build.proofs.EnteringShared.{one_arg}
 use Rattle.hw_build.proofs.lowering.converted.Goals as goal
 
 pub lower-requires-clause-can : goal.lower-requires-clause-can
@@ -18,3 +20,12 @@ lower-requires-clause-can c =
 
 pub returns-clause-lowered : goal.returns-clause-lowered
 returns-clause-lowered c = rw (← (c.result.ensures 1)) c.lower.ensures.lowered
+
+pub result-requires : goal.result-requires
+result-requires c = slice_get_within c.args.checked.now.diagram.blocks c.args.block c.args.one.now c.requires.block
+
+pub lower-requires-clause-args : goal.lower-requires-clause-args
+lower-requires-clause-args c = one_arg c.args.net.now c.args.full c.args.product c.requires.word
+
+pub returns-clause-lowers : goal.returns-clause-lowers
+returns-clause-lowers c = rw (← (c.result.ensures 1)) c.lower.ensures.lowers

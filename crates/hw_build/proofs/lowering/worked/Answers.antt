@@ -1,3 +1,4 @@
+use Rattle.std.proofs.lemmas.Option.{slice_get_within}
 use Rattle.hw_build.proofs.lowering.worked.Goals as goal
 
 pub lower-requires-clause-can : goal.lower-requires-clause-can
@@ -8,3 +9,9 @@ lower-requires-clause-can c =
 
 pub returns-clause-lowered : goal.returns-clause-lowered
 returns-clause-lowered c = rw (← c.requires.types, ← c.requires.signs, ← (c.result.ensures 1)) c.lower.ensures.lowered
+
+pub result-requires : goal.result-requires
+result-requires c = slice_get_within c.args.checked.now.diagram.blocks c.args.place.block c.args.one.now c.requires.block
+
+pub returns-clause-lowers : goal.returns-clause-lowers
+returns-clause-lowers c = rw (← c.requires.types, ← c.requires.signs, ← (c.result.ensures 1)) c.lower.ensures.lowers

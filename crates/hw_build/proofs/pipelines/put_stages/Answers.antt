@@ -1,15 +1,36 @@
-use Rattle.std.proofs.Common.{◌<◌, ℕ, List, slice_index_or, ap, sym, subst}
+use Rattle.std.proofs.Common.{◌<◌, ◌∷◌, [], ℕ, List, slice_index_or, ap, sym, subst, refl, arith, length}
 use Rattle.hw_net.specs.declared.netlist.Frame.{Frame}
+use Rattle.hw_net.specs.declared.netlist.NetKind.TheVariants.{Comb}
+use Rattle.hw_net.specs.declared.netlist.NetOp.TheVariants.{Resize}
+use Rattle.hw_net.proofs.Extending.{one-longer}
 use Rattle.hw_build.specs.inner.Designed.{timing_for}
+use Rattle.hw_build.specs.inner.Piping.{wire_of}
+use Rattle.hw_build.proofs.Entering.{typed_net}
 use Rattle.hw_build.proofs.Piping.{pipeline_put}
 use Rattle.hw_build.proofs.pipelines.put_stages.Goals as goal
+
+pub counter-requires-clause-cycles : goal.counter-requires-clause-cycles
+counter-requires-clause-cycles c =
+    let some = c.requires.designed.scheduled.planned.some_clocks in
+    omega (arith, some, c.requires.cycles)
 
 pub counter-requires-clause-period : goal.counter-requires-clause-period
 counter-requires-clause-period c =
     let some = c.periods_are_above.ensures.above c.args.design.checked.now.diagram c.args.block c.args.period c.requires.designed.scheduled.checked c.requires.period in
     subst (λ (f : Frame). 0 < f.period) (sym c.own_frame_of-frame.ensures) some
 
+pub put_registers-requires : goal.put_registers-requires
+put_registers-requires c =
+    let longer = one-longer c.counter.new.self c.put_comb.new.net _ c.in_ok-begin.ensures.grown in
+    omega (arith, longer, c.in_ok-begin.ensures.number)
+
 pub returns-clause-adds : goal.returns-clause-adds
 returns-clause-adds c =
-    pipeline_put (timing_for c.args.design) c.args.net.now c.counter.new.self c.add.new.self c.put_registers.new.net c.name_registers.new.net _ c.result-kind.result c.args.block c.args.element c.args.period c.args.entry c.in_ok-begin.begin (slice_index_or c.as_slice.result.now c.args.block 0) c.last_slot-slot.result c.in_ok-counter.field-0 c.own_frame_of-frame.result c.in_ok-first.first
-    (c.result-kind.ensures 1) c.own_frame_of-frame.ensures c.last_slot-slot.ensures (ap (λ (xs : List ℕ). slice_index_or xs c.args.block 0) c.as_slice.ensures) c.in_ok-counter.ensures.counted c.in_ok-counter.ensures.found c.in_ok-begin.ensures.number c.in_ok-first.ensures c.in_ok-begin.ensures.grown c.in_ok-end.ensures.grown c.in_ok-name_registers.ensures
+    let wired = typed_net c.counter.new.self c.put_comb.new.net c.word_of.result c.result-kind.result (Comb Resize (c.args.entry ∷ [])) c.word_of.ensures c.in_ok-begin.ensures.grown in
+    pipeline_put (timing_for c.args.design) c.args.net.now c.counter.new.self c.put_comb.new.net c.put_registers.new.net c.name_registers.new.net _ c.result-kind.result c.args.block c.args.element c.args.period c.args.entry c.in_ok-begin.begin (slice_index_or c.as_slice.result.now c.args.block 0) c.last_slot-slot.result c.in_ok-counter.field-0 c.own_frame_of-frame.result (wire_of c.result-kind.result c.args.entry)
+    (c.result-kind.ensures 1) c.own_frame_of-frame.ensures c.last_slot-slot.ensures (ap (λ (xs : List ℕ). slice_index_or xs c.args.block 0) c.as_slice.ensures) c.in_ok-counter.ensures.counted c.in_ok-counter.ensures.found c.in_ok-begin.ensures.number refl wired c.in_ok-end.ensures.grown c.in_ok-name_registers.ensures
+
+pub bounds-as_slice-block : goal.bounds-as_slice-block
+bounds-as_slice-block c =
+    let same = ap (λ (xs : List ℕ). length xs) c.as_slice.ensures in
+    omega (arith, same, c.requires.there, c.requires.designed.scheduled.planned.size)

@@ -1,6 +1,7 @@
 use Rattle.std.proofs.Common.{pos, false, sym, subst, ap, to_z, of_z}
 use Rattle.std.specs.Int.{w128}
 use Rattle.std.proofs.lemmas.Int.{to_z-of_z}
+use Rattle.std.proofs.lemmas.Option.{slice_get_within}
 use Rattle.fx_type.specs.declared.kind.FxType.{FxType}
 use Rattle.fx_type.specs.declared.kind.FxType.TheVariants.{Num}
 use Rattle.fx_type.specs.FxType.{IsType}
@@ -10,6 +11,7 @@ use Rattle.dg_model.specs.Attributes.{attributes_of}
 use Rattle.dg_model.specs.Equation.{IsOpOf, StoresEntry}
 use Rattle.dg_model.specs.Wires.{type_into}
 use Rattle.hw_build.proofs.Parameters.{second_type}
+use Rattle.dg_model.specs.Library.{row_of}
 use Rattle.hw_build.proofs.worked.switched.Goals as goal
 
 pub stored-threshold-requires-clause-kind : goal.stored-threshold-requires-clause-kind
@@ -25,3 +27,6 @@ carried-requires-clause-op c =
       subst (λ (t : FxType). StoresEntry c.args.list.now c.args.place.element t c.stored-threshold.result) (second_type c.args.design.checked.now.diagram c.args.place.block c.args.one.now c.args.criterion c.args.list.now c.args.types.now (Num false 0 (pos 0)) c.keeps_rules.ensures.checked c.requires.shown.block_is c.requires.kind c.requires.types) c.stored-threshold.ensures.entry,
       ap (Switch c.args.criterion) e,
     )
+
+pub stored-threshold-requires-clause-list : goal.stored-threshold-requires-clause-list
+stored-threshold-requires-clause-list c = ap (λ (kind : Kind). (row_of kind).signal.lists) c.requires.kind

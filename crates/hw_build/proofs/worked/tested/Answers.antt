@@ -1,4 +1,5 @@
 use Rattle.std.proofs.Common.{pos, false, sym, subst, ap}
+use Rattle.std.proofs.lemmas.Option.{slice_get_within}
 use Rattle.fx_type.specs.declared.kind.FxType.TheVariants.{Num}
 use Rattle.fx_type.specs.FxType.{IsType}
 use Rattle.dg_model.specs.declared.kind.Kind.{Kind}
@@ -27,3 +28,6 @@ returns c =
     let logical = subst (λ (k : Kind). KeepsType c.args.design.checked.now.diagram (attributes_of c.args.design.checked.now.diagram) c.args.place.block k c.args.one.now.inputs c.args.one.now.outputs) c.requires.kind fit.2 in
     tested_entry c.args.design.checked.now.diagram (timing_for c.args.design) c.args.net.now c.some_above.new.net c.args.place.block c.args.one.now c.args.place.port c.args.place.element c.args.operands.now c.plain.result c.result-own.result c.requires.kind c.result-own.ensures logical
     (subst (PutsControl c.args.net.now c.some_above.new.net c.args.operands.now) (sym (ap (λ (e : Entry). e.net) c.plain.ensures)) c.in_ok-number.ensures) (ap (λ (e : Entry). e.multiply) c.plain.ensures)
+
+pub result-own-requires : goal.result-own-requires
+result-own-requires c = slice_get_within c.args.design.checked.now.diagram.blocks c.args.place.block c.args.one.now c.requires.shown.block_is

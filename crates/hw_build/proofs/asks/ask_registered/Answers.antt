@@ -1,0 +1,6 @@
+use Rattle.std.specs.Int.{w128}
+use Rattle.std.proofs.lemmas.Int.{to_z-of_z}
+use Rattle.hw_build.proofs.asks.ask_registered.Goals as goal
+
+pub returns : goal.returns
+returns c = rw (to_z-of_z w128 c.args.first c.ranges.first) at (rw c.late_feed-feed.ensures at c.in_ok-ask_later.ensures)
