@@ -1,7 +1,7 @@
 -- Root outputs in the order of their columns.
-use Rattle.std.proofs.Common.{◌≡◌, ℕ, zero, suc, ◌+◌, ◌-◌, ◌^◌, ◌<◌, ◌≤◌, List, [], ◌∷◌, ◌++◌, length, map, Some, ap, sym, ◌∙◌, subst, refl, arith}
+use Rattle.std.proofs.Common.{◌≡◌, ℕ, zero, suc, ◌+◌, ◌-◌, ◌*◌, ◌^◌, ◌<◌, ◌≤◌, List, [], ◌∷◌, ◌++◌, length, map, Some, ap, sym, ◌∙◌, subst, refl, arith}
 use Rattle.std.specs.Prelude.{slice_get, slice_index_or}
-use Rattle.std.proofs.lemmas.Option.{none-some, same_Some, slice_get-get_or}
+use Rattle.std.proofs.lemmas.Option.{get_or_from_slice_get, none-some, same_Some, slice_get-get_or}
 use Rattle.dg_model.specs.declared.diagram.Block.{Block}
 use Rattle.dg_model.specs.declared.diagram.Diagram.{Diagram}
 use Rattle.dg_model.specs.Attributes.{attributes_of}
@@ -15,6 +15,7 @@ use Rattle.hw_build.specs.declared.design.Design.{Design}
 use Rattle.hw_names.specs.declared.names.Names.{Names}
 use Rattle.hw_build.specs.inner.Designed.{times_for}
 use Rattle.hw_names.specs.Columns.{AreColumnsFrom}
+use Rattle.hw_build.specs.inner.Factors.{HasSlots}
 use Rattle.hw_build.specs.inner.HubPlaces.{hub_at}
 use Rattle.hw_build.specs.inner.Outgoing.{IsSmall, clocks_to, AreOutputBlocks, IsOutputPort, AddsOutputs}
 use Rattle.hw_build.specs.inner.Porting.{AreOutputFirsts}
@@ -36,6 +37,14 @@ below_columns block columns blocks held diagram there size blocks_are is =
     let e : length blocks ≡ length held.blocks = ap (λ (bs : List Block). length bs) blocks_are in
     let f : length held.blocks ≡ length diagram.blocks = ap (λ (d : Diagram). length d.blocks) is in
     omega (arith, there, size, e, f)
+
+-- the latency of a block, as it is read
+pub clocks_are : (design : Design) (block cycles : ℕ) (lat ready : List ℕ) → HasSlots design → block < length design.checked.now.diagram.blocks → lat ≡ design.latencies.now.lat → ready ≡ design.slots.now.ready → cycles ≡ design.plan.now.cycles
+    → slice_index_or lat block 0 * cycles + slice_index_or ready block 0 ≡ clocks_to design block
+clocks_are design block cycles lat ready slots there lat_is ready_is cycles_is =
+    ap (λ (xs : List ℕ). slice_index_or xs block 0 * cycles + slice_index_or ready block 0) lat_is
+    ∙ ap (λ (n : ℕ). slice_index_or design.latencies.now.lat block 0 * n + slice_index_or ready block 0) cycles_is
+    ∙ ap (λ (n : ℕ). slice_index_or design.latencies.now.lat block 0 * design.plan.now.cycles + n) (ap (λ (xs : List ℕ). slice_index_or xs block 0) ready_is ∙ get_or_from_slice_get design.slots.now.ready block _ 0 (slots.ready.are block there))
 
 -- the element of a column, whose block begins at another one
 pub record IsOutputHere (design : Design) (firsts : List (List ℕ)) (block column k : ℕ) : Type 0 where

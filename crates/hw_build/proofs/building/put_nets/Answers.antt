@@ -20,3 +20,6 @@ pub returns : goal.returns
 returns c =
     steps_fill _ c.args.net.now c.hubs_of.new.net c.put_elements.new.net c.in_ok-spots.spots (steps_set _ c.args.net.now c.hubs_of.new.net c.requires.designed c.in_ok-firsts.ensures c.in_ok-products.ensures.which) (record { checked = c.keeps_rules.ensures.checked; ordered = c.keeps_rules.ensures.ordered })
     c.root_elements_are_listed.ensures.inputs c.root_elements_are_listed.ensures.outputs c.in_ok-firsts.ensures c.in_ok-spots.ensures
+
+pub put_elements-requires-clause-set : goal.put_elements-requires-clause-set
+put_elements-requires-clause-set c = steps_set _ c.args.net.now c.hubs_of.new.net c.requires.designed c.in_ok-firsts.ensures c.in_ok-products.ensures.which

@@ -1,0 +1,159 @@
+use Rattle.std.proofs.Common.{inl, inr, List, sym, ap, ◌∙◌}
+use Rattle.fx_type.specs.declared.decimal.Decimal.{Decimal}
+use Rattle.dg_model.specs.declared.kind.Kind.TheVariants.{Constant, Gain, Switch, Delay, EnOut}
+use Rattle.dg_model.specs.Attributes.{attributes_of}
+use Rattle.dg_model.specs.Wires.{period_into}
+use Rattle.hw_build.specs.inner.Entries.{hands_on, works_plainly}
+use Rattle.hw_build.proofs.entries.put_entry.Goals as goal
+
+pub handed-requires-clause-hands : goal.handed-requires-clause-hands
+handed-requires-clause-hands c =
+    elim c.in-Inport.is [
+      | inl here ↦ ap (hands_on c.args.one.now.enable (period_into c.args.design.checked.now.diagram (attributes_of c.args.design.checked.now.diagram) c.args.place.block 1)) here.2
+      | inr more ↦ elim more [
+        | inl here ↦ ap (hands_on c.args.one.now.enable (period_into c.args.design.checked.now.diagram (attributes_of c.args.design.checked.now.diagram) c.args.place.block 1)) here.1
+        | inr more ↦ elim more [
+          | inl here ↦ ap (hands_on c.args.one.now.enable (period_into c.args.design.checked.now.diagram (attributes_of c.args.design.checked.now.diagram) c.args.place.block 1)) here.1
+          | inr more ↦ ap (hands_on c.args.one.now.enable (period_into c.args.design.checked.now.diagram (attributes_of c.args.design.checked.now.diagram) c.args.place.block 1)) more.2
+        ]
+      ]
+    ]
+
+pub handed-requires-clause-operands : goal.handed-requires-clause-operands
+handed-requires-clause-operands c = c.requires.operands
+
+pub constant-requires-clause-shown : goal.constant-requires-clause-shown
+constant-requires-clause-shown c = c.requires.shown
+
+pub constant-requires-clause-kind : goal.constant-requires-clause-kind
+constant-requires-clause-kind c = c.in-Constant.is ∙ ap Constant (sym c.as_slice.ensures)
+
+pub ground-requires-clause-shown : goal.ground-requires-clause-shown
+ground-requires-clause-shown c = c.requires.shown
+
+pub ground-requires-clause-kind : goal.ground-requires-clause-kind
+ground-requires-clause-kind c = c.in-Ground.is
+
+pub scaled-requires-clause-shown : goal.scaled-requires-clause-shown
+scaled-requires-clause-shown c = c.requires.shown
+
+pub scaled-requires-clause-types : goal.scaled-requires-clause-types
+scaled-requires-clause-types c = c.requires.types
+
+pub scaled-requires-clause-operands : goal.scaled-requires-clause-operands
+scaled-requires-clause-operands c = c.requires.operands
+
+pub scaled-requires-clause-kind : goal.scaled-requires-clause-kind
+scaled-requires-clause-kind c = (c.in-Gain.param, c.in-Gain.is ∙ ap (λ (list : List Decimal). Gain list c.in-Gain.param) (sym c.as_slice-value.ensures))
+
+pub switched-requires-clause-shown : goal.switched-requires-clause-shown
+switched-requires-clause-shown c = c.requires.shown
+
+pub switched-requires-clause-types : goal.switched-requires-clause-types
+switched-requires-clause-types c = c.requires.types
+
+pub switched-requires-clause-operands : goal.switched-requires-clause-operands
+switched-requires-clause-operands c = c.requires.operands
+
+pub switched-requires-clause-kind : goal.switched-requires-clause-kind
+switched-requires-clause-kind c = c.in-Switch.is ∙ ap (Switch c.in-Switch.criterion) (sym c.as_slice-list.ensures)
+
+pub tested-requires-clause-shown : goal.tested-requires-clause-shown
+tested-requires-clause-shown c = c.requires.shown
+
+pub tested-requires-clause-types : goal.tested-requires-clause-types
+tested-requires-clause-types c = c.requires.types
+
+pub tested-requires-clause-operands : goal.tested-requires-clause-operands
+tested-requires-clause-operands c = c.requires.operands
+
+pub tested-requires-clause-kind : goal.tested-requires-clause-kind
+tested-requires-clause-kind c = c.in-EnableTest.is
+
+pub delayed-requires-clause-designed : goal.delayed-requires-clause-designed
+delayed-requires-clause-designed c = c.requires.designed
+
+pub delayed-requires-clause-cycles : goal.delayed-requires-clause-cycles
+delayed-requires-clause-cycles c = c.requires.cycles
+
+pub delayed-requires-clause-shown : goal.delayed-requires-clause-shown
+delayed-requires-clause-shown c = c.requires.shown
+
+pub delayed-requires-clause-operands : goal.delayed-requires-clause-operands
+delayed-requires-clause-operands c = c.requires.operands
+
+pub delayed-requires-clause-kind : goal.delayed-requires-clause-kind
+delayed-requires-clause-kind c = c.in-Delay.is ∙ ap (λ (list : List Decimal). Delay c.in-Delay.length list c.in-Delay.reset) (sym c.as_slice-initial.ensures)
+
+pub passed_out-requires-clause-designed : goal.passed_out-requires-clause-designed
+passed_out-requires-clause-designed c = c.requires.designed
+
+pub passed_out-requires-clause-cycles : goal.passed_out-requires-clause-cycles
+passed_out-requires-clause-cycles c = c.requires.cycles
+
+pub passed_out-requires-clause-shown : goal.passed_out-requires-clause-shown
+passed_out-requires-clause-shown c = c.requires.shown
+
+pub passed_out-requires-clause-operands : goal.passed_out-requires-clause-operands
+passed_out-requires-clause-operands c = c.requires.operands
+
+pub passed_out-requires-clause-kind : goal.passed_out-requires-clause-kind
+passed_out-requires-clause-kind c = c.in-EnOut.is ∙ ap (EnOut c.in-EnOut.reset) (sym c.as_slice-initial-in-EnOut.ensures)
+
+pub put_worked-requires-clause-shown : goal.put_worked-requires-clause-shown
+put_worked-requires-clause-shown c = c.requires.shown
+
+pub put_worked-requires-clause-types : goal.put_worked-requires-clause-types
+put_worked-requires-clause-types c = c.requires.types
+
+pub put_worked-requires-clause-operands : goal.put_worked-requires-clause-operands
+put_worked-requires-clause-operands c = c.requires.operands
+
+pub put_worked-requires-clause-kind : goal.put_worked-requires-clause-kind
+put_worked-requires-clause-kind c =
+    elim c.in-Sum.is [
+      | inl here ↦ ap works_plainly here.1
+      | inr more ↦ elim more [
+        | inl here ↦ ap works_plainly here
+        | inr more ↦ elim more [
+          | inl here ↦ ap works_plainly here.1
+          | inr more ↦ elim more [
+            | inl here ↦ ap works_plainly here.1
+            | inr more ↦ elim more [
+              | inl here ↦ ap works_plainly here.1
+              | inr more ↦ elim more [
+                | inl here ↦ ap works_plainly here.1
+                | inr more ↦ ap works_plainly more.1
+              ]
+            ]
+          ]
+        ]
+      ]
+    ]
+
+pub returns-in-Sum : goal.returns-in-Sum
+returns-in-Sum c = c.put_worked.ensures
+
+pub returns-in-Gain : goal.returns-in-Gain
+returns-in-Gain c = c.scaled.ensures
+
+pub returns-in-Constant : goal.returns-in-Constant
+returns-in-Constant c = c.constant.ensures
+
+pub returns-in-Ground : goal.returns-in-Ground
+returns-in-Ground c = c.ground.ensures
+
+pub returns-in-Switch : goal.returns-in-Switch
+returns-in-Switch c = c.switched.ensures
+
+pub returns-in-EnableTest : goal.returns-in-EnableTest
+returns-in-EnableTest c = c.tested.ensures
+
+pub returns-in-Delay : goal.returns-in-Delay
+returns-in-Delay c = c.delayed.ensures
+
+pub returns-in-EnOut : goal.returns-in-EnOut
+returns-in-EnOut c = c.passed_out.ensures
+
+pub returns-in-Inport : goal.returns-in-Inport
+returns-in-Inport c = c.handed.ensures
