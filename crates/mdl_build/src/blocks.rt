@@ -49,24 +49,24 @@ fn is_single<'a>(
 {
     match block_type {
         BlockType::Logic => text_of(layout, place, "Operator", defaults[0]) == b"NOT".as_slice(),
-        BlockType::Inport => false,
-        BlockType::Outport => false,
-        BlockType::Constant => false,
-        BlockType::Ground => false,
-        BlockType::Terminator => false,
-        BlockType::Sum => false,
-        BlockType::Gain => false,
-        BlockType::Product => false,
-        BlockType::UnitDelay => false,
-        BlockType::Delay => false,
-        BlockType::Switch => false,
-        BlockType::RelationalOperator => false,
-        BlockType::DataTypeConversion => false,
-        BlockType::Mux => false,
-        BlockType::Demux => false,
-        BlockType::RateTransition => false,
-        BlockType::SubSystem => false,
-        BlockType::EnablePort => false,
+        BlockType::Inport
+        | BlockType::Outport
+        | BlockType::Constant
+        | BlockType::Ground
+        | BlockType::Terminator
+        | BlockType::Sum
+        | BlockType::Gain
+        | BlockType::Product
+        | BlockType::UnitDelay
+        | BlockType::Delay
+        | BlockType::Switch
+        | BlockType::RelationalOperator
+        | BlockType::DataTypeConversion
+        | BlockType::Mux
+        | BlockType::Demux
+        | BlockType::RateTransition
+        | BlockType::SubSystem
+        | BlockType::EnablePort => false,
     }
 }
 

@@ -166,9 +166,7 @@ impl<'a> Layout<'a> {
         let item = &self.items[place];
         match item.value {
             Value::Section => item.name.bytes() == name,
-            Value::Bare(_) => false,
-            Value::List(_) => false,
-            Value::Quoted(_) => false,
+            Value::Bare(_) | Value::List(_) | Value::Quoted(_) => false,
         }
     }
 

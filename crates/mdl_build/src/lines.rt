@@ -40,13 +40,13 @@ fn branch_of(role: Role) -> Option<usize>
 {
     match role {
         Role::Branch(line) => Some(line),
-        Role::Other => None,
-        Role::Model => None,
-        Role::System(_) => None,
-        Role::Block(_) => None,
-        Role::SubSystem(_) => None,
-        Role::Defaults => None,
-        Role::TypeDefaults(_) => None,
+        Role::Other
+        | Role::Model
+        | Role::System(_)
+        | Role::Block(_)
+        | Role::SubSystem(_)
+        | Role::Defaults
+        | Role::TypeDefaults(_) => None,
     }
 }
 

@@ -19,13 +19,13 @@ fn is_defaults(role: Role) -> bool
 {
     match role {
         Role::Defaults => true,
-        Role::Other => false,
-        Role::Model => false,
-        Role::System(_) => false,
-        Role::Block(_) => false,
-        Role::SubSystem(_) => false,
-        Role::Branch(_) => false,
-        Role::TypeDefaults(_) => false,
+        Role::Other
+        | Role::Model
+        | Role::System(_)
+        | Role::Block(_)
+        | Role::SubSystem(_)
+        | Role::Branch(_)
+        | Role::TypeDefaults(_) => false,
     }
 }
 
@@ -42,13 +42,13 @@ fn is_in(section: usize, role: Role) -> bool
 {
     match role {
         Role::TypeDefaults(holder) => holder == section,
-        Role::Other => false,
-        Role::Model => false,
-        Role::System(_) => false,
-        Role::Block(_) => false,
-        Role::SubSystem(_) => false,
-        Role::Branch(_) => false,
-        Role::Defaults => false,
+        Role::Other
+        | Role::Model
+        | Role::System(_)
+        | Role::Block(_)
+        | Role::SubSystem(_)
+        | Role::Branch(_)
+        | Role::Defaults => false,
     }
 }
 

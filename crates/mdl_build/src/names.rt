@@ -33,14 +33,13 @@ pub fn is_block(role: Role) -> bool
     ensures { result ≡ is_block role }
 {
     match role {
-        Role::Block(_) => true,
-        Role::SubSystem(_) => true,
-        Role::Other => false,
-        Role::Model => false,
-        Role::System(_) => false,
-        Role::Branch(_) => false,
-        Role::Defaults => false,
-        Role::TypeDefaults(_) => false,
+        Role::Block(_) | Role::SubSystem(_) => true,
+        Role::Other
+        | Role::Model
+        | Role::System(_)
+        | Role::Branch(_)
+        | Role::Defaults
+        | Role::TypeDefaults(_) => false,
     }
 }
 

@@ -16,13 +16,13 @@ fn if_subsystem(place: usize, role: Role) -> Option<usize>
 {
     match role {
         Role::SubSystem(_) => Some(place),
-        Role::Block(_) => None,
-        Role::Other => None,
-        Role::Model => None,
-        Role::System(_) => None,
-        Role::Branch(_) => None,
-        Role::Defaults => None,
-        Role::TypeDefaults(_) => None,
+        Role::Block(_)
+        | Role::Other
+        | Role::Model
+        | Role::System(_)
+        | Role::Branch(_)
+        | Role::Defaults
+        | Role::TypeDefaults(_) => None,
     }
 }
 

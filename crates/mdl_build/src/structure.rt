@@ -22,13 +22,13 @@ fn is_model(role: Role) -> bool
 {
     match role {
         Role::Model => true,
-        Role::Other => false,
-        Role::System(_) => false,
-        Role::Block(_) => false,
-        Role::SubSystem(_) => false,
-        Role::Branch(_) => false,
-        Role::Defaults => false,
-        Role::TypeDefaults(_) => false,
+        Role::Other
+        | Role::System(_)
+        | Role::Block(_)
+        | Role::SubSystem(_)
+        | Role::Branch(_)
+        | Role::Defaults
+        | Role::TypeDefaults(_) => false,
     }
 }
 
@@ -38,13 +38,13 @@ fn level_of(role: Role) -> Option<u32>
 {
     match role {
         Role::System(level) => Some(level),
-        Role::Other => None,
-        Role::Model => None,
-        Role::Block(_) => None,
-        Role::SubSystem(_) => None,
-        Role::Branch(_) => None,
-        Role::Defaults => None,
-        Role::TypeDefaults(_) => None,
+        Role::Other
+        | Role::Model
+        | Role::Block(_)
+        | Role::SubSystem(_)
+        | Role::Branch(_)
+        | Role::Defaults
+        | Role::TypeDefaults(_) => None,
     }
 }
 
@@ -153,13 +153,13 @@ fn has_one_system(role: Role, systems: usize) -> bool
 {
     match role {
         Role::SubSystem(_) => systems == 1,
-        Role::Block(_) => true,
-        Role::System(_) => true,
-        Role::Other => true,
-        Role::Model => true,
-        Role::Branch(_) => true,
-        Role::Defaults => true,
-        Role::TypeDefaults(_) => true,
+        Role::Block(_)
+        | Role::System(_)
+        | Role::Other
+        | Role::Model
+        | Role::Branch(_)
+        | Role::Defaults
+        | Role::TypeDefaults(_) => true,
     }
 }
 
