@@ -1,6 +1,7 @@
 ghost use Rattle.std.specs.Prelude.{◌≡◌};
 ghost use Rattle.dg_model.specs.Library.{row_of};
 ghost use Rattle.dg_model.specs.Wired.{root_input, root_output};
+ghost use Rattle.dg_model.specs.inner.Told.{told_row};
 
 use crate::kind::Kind;
 use fx_type::FxType;
@@ -242,17 +243,9 @@ const ENABLED_OUTPUT: Row = Row {
 };
 
 impl Kind {
-    /// The row of a kind. A new kind has no meaning before it has one.
-    pub fn row(&self) -> Row
-        ensures role { result.role ≡ (row_of self.now).place.role }
-        ensures stands { result.stands ≡ (row_of self.now).place.stands }
-        ensures own { result.own ≡ (row_of self.now).types.own }
-        ensures inherits { result.inherits ≡ (row_of self.now).timing.inherits }
-        ensures reads { result.reads ≡ (row_of self.now).timing.reads }
-        ensures asks { result.asks ≡ (row_of self.now).timing.asks }
-        ensures delay { result.delay ≡ (row_of self.now).timing.delay }
-        ensures pipelines { result.pipelines ≡ (row_of self.now).hardware.pipelines }
-        ensures multiplies { result.multiplies ≡ (row_of self.now).hardware.multiplies }
+    /// The row of a kind as one value, so that no column is proved kind by kind.
+    fn told_row(&self) -> Row
+        ensures { result ≡ told_row self.now }
     {
         match self {
             Kind::Inport { number, .. } => Row {
@@ -282,5 +275,20 @@ impl Kind {
             Kind::EnOut { .. } => ENABLED_OUTPUT,
             Kind::Terminator => END,
         }
+    }
+
+    /// The row of a kind. A new kind has no meaning before it has one.
+    pub fn row(&self) -> Row
+        ensures role { result.role ≡ (row_of self.now).place.role }
+        ensures stands { result.stands ≡ (row_of self.now).place.stands }
+        ensures own { result.own ≡ (row_of self.now).types.own }
+        ensures inherits { result.inherits ≡ (row_of self.now).timing.inherits }
+        ensures reads { result.reads ≡ (row_of self.now).timing.reads }
+        ensures asks { result.asks ≡ (row_of self.now).timing.asks }
+        ensures delay { result.delay ≡ (row_of self.now).timing.delay }
+        ensures pipelines { result.pipelines ≡ (row_of self.now).hardware.pipelines }
+        ensures multiplies { result.multiplies ≡ (row_of self.now).hardware.multiplies }
+    {
+        self.told_row()
     }
 }
