@@ -14,7 +14,7 @@ pub struct Diagram {
 }
 
 /// A signal line from an output port to an input port (Simulink reference, signal lines).
-#[derive(Clone, Copy, Debug, PartialEq, Eq)]
+#[derive(Clone, Copy, Debug)]
 pub struct Edge {
     /// The block that drives the line.
     pub from: u32,
@@ -51,7 +51,7 @@ pub struct Block {
 }
 
 /// How a block's period is chosen (Simulink reference, `SampleTime`).
-#[derive(Clone, Copy, Debug, PartialEq, Eq)]
+#[derive(Clone, Copy, Debug)]
 pub enum PeriodSpec {
     /// From its sources, -1 in the file.
     Inherit,

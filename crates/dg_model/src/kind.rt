@@ -84,7 +84,7 @@ pub enum Kind {
 }
 
 /// What a Switch asks of its input 2 (Simulink reference, Switch, `Criteria`).
-#[derive(Clone, Copy, Debug, PartialEq, Eq)]
+#[derive(Clone, Copy, Debug)]
 pub enum Criterion {
     /// `u2 >= Threshold`.
     AtLeast,
@@ -95,7 +95,7 @@ pub enum Criterion {
 }
 
 /// A relation of two real values (Simulink reference, Relational Operator).
-#[derive(Clone, Copy, Debug, PartialEq, Eq)]
+#[derive(Clone, Copy, Debug)]
 pub enum Relation {
     /// `==`.
     Eq,
@@ -112,7 +112,7 @@ pub enum Relation {
 }
 
 /// A gate (Simulink reference, Logical Operator).
-#[derive(Clone, Copy, Debug, PartialEq, Eq)]
+#[derive(Clone, Copy, Debug)]
 pub enum Gate {
     /// Each input is true.
     And,

@@ -2,7 +2,7 @@ use crate::diagram::Block;
 use fx_io::{Sequence, Text};
 
 /// The blocks and lines of a model before its subsystems are taken apart (own).
-#[derive(Debug, Drop)]
+#[derive(Drop)]
 pub struct Nested {
     /// The blocks of all Systems in file order.
     pub blocks: NestedBlocks,
@@ -11,7 +11,7 @@ pub struct Nested {
 }
 
 /// A block of one System (Simulink reference, subsystems).
-#[derive(Debug, Drop)]
+#[derive(Drop)]
 pub struct NestedBlock {
     /// Its name in its System.
     pub name: Text,
@@ -22,7 +22,7 @@ pub struct NestedBlock {
 }
 
 /// What a block of a System is (own).
-#[derive(Debug, Drop)]
+#[derive(Drop)]
 pub enum Part {
     /// A block that stands in the flat diagram as it is.
     Plain(Block),
@@ -37,7 +37,7 @@ pub enum Part {
 }
 
 /// A line from an output port to one end (Simulink reference, `Line` and `Branch`).
-#[derive(Clone, Copy, Debug, PartialEq, Eq)]
+#[derive(Clone, Copy, Debug)]
 pub struct NestedLine {
     /// The block that drives the line.
     pub from: u32,
@@ -50,7 +50,7 @@ pub struct NestedLine {
 }
 
 /// The end of a line (Simulink reference, `DstPort`).
-#[derive(Clone, Copy, Debug, PartialEq, Eq)]
+#[derive(Clone, Copy, Debug)]
 pub enum Target {
     /// An input port, from 1.
     Port(u32),

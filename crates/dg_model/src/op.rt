@@ -2,7 +2,7 @@ use crate::kind::{Criterion, Gate, Relation};
 use fx_type::{FxType, Rounding};
 
 /// An elementwise operation, its parameters converted to stored integers (own).
-#[derive(Clone, Copy, Debug)]
+#[derive(Clone, Copy)]
 pub enum Op {
     /// The sum of its inputs with their signs.
     Sum,

@@ -2,7 +2,7 @@ use fx_io::{Sequence, Text};
 
 /// How the hardware of a diagram is to be built (own; the options are named after HDL Coder's clock-rate
 /// pipelining, resource sharing and output pipelines).
-#[derive(Debug, Drop)]
+#[derive(Drop)]
 pub struct Plan {
     /// Clocks in one base sample, 1 to 1024.
     pub cycles: u32,
@@ -13,7 +13,7 @@ pub struct Plan {
 }
 
 /// Registers behind one block (own; HDL Coder's output pipeline).
-#[derive(Debug, Drop)]
+#[derive(Drop)]
 pub struct Pipeline {
     /// The path of the block, names joined by `/`.
     pub path: Text,

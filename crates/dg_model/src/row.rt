@@ -7,7 +7,7 @@ use crate::kind::Kind;
 use fx_type::FxType;
 
 /// What a block is in its System (Simulink reference, ports and subsystems).
-#[derive(Clone, Copy, Debug, PartialEq, Eq)]
+#[derive(Clone, Copy)]
 pub enum Role {
     /// The root input port of this number.
     RootInput { number: u32 },
@@ -54,7 +54,7 @@ impl Role {
 }
 
 /// Where a block may stand (Simulink reference, enabled subsystems; the limits are own).
-#[derive(Clone, Copy, Debug, PartialEq, Eq)]
+#[derive(Clone, Copy)]
 pub enum Standing {
     /// Everywhere.
     Anywhere,
@@ -66,7 +66,7 @@ pub enum Standing {
 
 /// The type of a block's outputs where its specification chooses none (Simulink reference, each
 /// block's page).
-#[derive(Clone, Copy, Debug, PartialEq, Eq)]
+#[derive(Clone, Copy)]
 pub enum OwnType {
     /// None.
     Untyped,
@@ -77,7 +77,7 @@ pub enum OwnType {
 }
 
 /// Which period a block takes where it inherits one (Simulink reference, sample time propagation).
-#[derive(Clone, Copy, Debug, PartialEq, Eq)]
+#[derive(Clone, Copy)]
 pub enum Inherited {
     /// That of its sources, and none where no source's value ever changes.
     OfSources,
@@ -91,7 +91,7 @@ pub enum Inherited {
 
 /// When a block reads its inputs for its value at a base sample (Simulink reference, direct
 /// feedthrough).
-#[derive(Clone, Copy, Debug, PartialEq, Eq)]
+#[derive(Clone, Copy)]
 pub enum Reading {
     /// In that sample.
     Now,
@@ -103,7 +103,7 @@ pub enum Reading {
 
 /// When a block asks whether the enabled subsystem that holds it is enabled (Simulink reference,
 /// enabled subsystems).
-#[derive(Clone, Copy, Debug, PartialEq, Eq)]
+#[derive(Clone, Copy)]
 pub enum Asking {
     /// It doesn't ask.
     Never,
@@ -115,7 +115,7 @@ pub enum Asking {
 
 /// What is told of a kind of block: the columns of its row that are choices, numbers or marks
 /// (Simulink reference, each block's page; the limits are own).
-#[derive(Clone, Copy, Debug, PartialEq, Eq)]
+#[derive(Clone, Copy)]
 pub struct Row {
     /// What it is in its System.
     pub role: Role,
