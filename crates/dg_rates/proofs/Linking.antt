@@ -8,7 +8,8 @@ use Rattle.std.proofs.lemmas.Option.{same_Some, slice_get_within}
 use Rattle.dg_model.specs.declared.diagram.Diagram.{Diagram}
 use Rattle.dg_model.specs.declared.diagram.Block.{Block}
 use Rattle.dg_model.specs.Periods.{control_of, drivers_of}
-use Rattle.dg_rates.specs.inner.Links.{row_at, noted, AreControlled, AreSources}
+use Rattle.dg_rates.specs.inner.Links.{AreControlled, AreSources}
+use Rattle.fx_io.specs.Rows.{row_at, noted}
 use Rattle.dg_rates.proofs.Tying.{noted_here, noted_other}
 
 -- a place that isn't the next one is as it was

@@ -10,7 +10,8 @@ use Rattle.dg_model.specs.declared.diagram.Block.{Block}
 use Rattle.dg_model.specs.declared.row.Inherited.{Inherited}
 use Rattle.dg_model.specs.Library.{row_of}
 use Rattle.dg_model.specs.Periods.{Periods, first_period, first_periods, known_at, known_or, least_finite, next_periods, or_one, period_of_next, periods_after, periods_of, sources_of, taken_period}
-use Rattle.dg_rates.specs.inner.Links.{row_at, AreSources}
+use Rattle.dg_rates.specs.inner.Links.{AreSources}
+use Rattle.fx_io.specs.Rows.{row_at}
 use Rattle.dg_rates.specs.inner.Steps.{all_rests, is_of_sources, known_of, next_known, taken_by}
 
 taken_is : (inherits : Inherited) (sources : Periods) (least : Option ℕ) → least_finite sources ≡ least → taken_by (is_of_sources inherits) sources ≡ taken_period inherits sources

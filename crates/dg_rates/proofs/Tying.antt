@@ -7,7 +7,8 @@ use Rattle.std.proofs.lemmas.List.{get_or-set_other, length-set}
 use Rattle.std.proofs.lemmas.List.Elements.{All-push}
 use Rattle.dg_waves.specs.inner.Waves.{is_in}
 use Rattle.dg_waves.proofs.Waved.{is_in_push, is_in_last, pushed_at}
-use Rattle.dg_rates.specs.inner.Links.{row_at, noted, AreTied}
+use Rattle.dg_rates.specs.inner.Links.{AreTied}
+use Rattle.fx_io.specs.Rows.{row_at, noted}
 
 pub noted_here : (rows : List (List ℕ)) (block number k : ℕ) → block < length rows → k ≡ block → row_at (noted rows block number) k ≡ row_at rows k ++ number ∷ []
 noted_here rows block number k inside same =

@@ -1,9 +1,10 @@
-ghost use Rattle.std.specs.Prelude.{◌≡◌, ◌<◌, ◌≤◌, ◌∷◌, ◌^◌, ℕ, [], All, IfOk, OnOk, length, replicate};
+ghost use Rattle.std.specs.Prelude.{◌≡◌, ◌<◌, ◌≤◌, All, IfOk, OnOk, length};
 ghost use Rattle.dg_model.specs.Wired.{IsWired};
-ghost use Rattle.dg_rates.specs.inner.Links.{AreOwn, AreTied, AreDrivers, AreSources, noted, row_at};
+ghost use Rattle.dg_rates.specs.inner.Links.{AreOwn, AreTied, AreDrivers, AreSources};
+ghost use Rattle.fx_io.specs.Rows.{noted, row_at};
 
 use dg_model::{Diagram, Edge};
-use fx_io::{OutOfMemory, Sequence, Sizes};
+use fx_io::{OutOfMemory, Sequence, Sizes, empty_rows, push_at};
 use std::alloc::Global;
 
 /// What each block reads, in order of its ports and then its control, and which blocks read it,
@@ -22,17 +23,6 @@ struct Rows {
     readers: Vec<Sizes>,
 }
 
-/// So many empty rows.
-fn empty_rows(alloc: Global, count: usize) -> Result<Vec<Sizes>, OutOfMemory>
-    ensures { IfOk result (λ rows. rows.items ≡ replicate count []) }
-{
-    let mut rows: Vec<Sizes> = Vec::new(alloc);
-    for _block in 0..count {
-        rows.push(Sizes::new(alloc))?;
-    }
-    Ok(rows)
-}
-
 /// So many rows, each with its own number.
 fn own_rows(alloc: Global, count: usize) -> Result<Vec<Sizes>, OutOfMemory>
     requires { count ≤ 20000 }
@@ -47,15 +37,6 @@ fn own_rows(alloc: Global, count: usize) -> Result<Vec<Sizes>, OutOfMemory>
     Ok(rows)
 }
 
-/// Puts a number at the end of a block's row.
-fn note(rows: &mut Vec<Sizes>, block: u32, number: u32) -> Result<(), OutOfMemory>
-    requires { block < length rows.old.items }
-    ensures { OnOk result (rows.new.items ≡ noted rows.old.items block number) }
-{
-    rows[block as usize].push(number)?;
-    Ok(())
-}
-
 /// A block reads a source.
 fn link(rows: &mut Rows, reader: u32, source: u32) -> Result<(), OutOfMemory>
     requires reader { reader < length rows.old.sources.items }
@@ -67,8 +48,8 @@ fn link(rows: &mut Rows, reader: u32, source: u32) -> Result<(), OutOfMemory>
     ensures tied { OnOk result (AreTied (length rows.old.sources.items)
         rows.new.sources.items rows.new.readers.items) }
 {
-    note(&mut rows.sources, reader, source)?;
-    note(&mut rows.readers, source, reader)?;
+    push_at(&mut rows.sources, reader, source)?;
+    push_at(&mut rows.readers, source, reader)?;
     Ok(())
 }
 

@@ -4,7 +4,8 @@ ghost use Rattle.dg_waves.specs.Rounds.{after_rounds as after_rounds_of};
 ghost use Rattle.dg_model.specs.Library.{row_of};
 ghost use Rattle.dg_model.specs.Periods.{are_unchanging, is_unchanging, least_finite as least_finite_of, least_of, next_periods, or_one};
 ghost use Rattle.dg_model.specs.Wired.{IsWired};
-ghost use Rattle.dg_rates.specs.inner.Links.{AreSources, row_at};
+ghost use Rattle.dg_rates.specs.inner.Links.{AreSources};
+ghost use Rattle.fx_io.specs.Rows.{row_at};
 ghost use Rattle.dg_rates.specs.inner.Steps.{all_rests, is_of_sources, known_of, next_known, taken_by};
 ghost use Rattle.dg_rates.specs.inner.StepLaws.{step_is_local};
 

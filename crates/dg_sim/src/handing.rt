@@ -11,20 +11,10 @@ ghost use Rattle.dg_model.specs.declared.kind.Kind.{Kind};
 
 use crate::memories::slowed;
 use crate::program::{Program, Rule};
-use dg_model::{Block, Checked};
+use dg_model::{Block, Checked, is_slow_to_fast};
 use dg_tables::{Place, Starts, input, period_of_input};
 use fx_io::OutOfMemory;
 use fx_type::Decimal;
-
-/// Whether a rate transition leads from slow to fast.
-fn is_slower(driver: Option<u32>, own: Option<u32>) -> bool
-    ensures { result ≡ is_slow_to_fast driver own }
-{
-    match (driver, own) {
-        (Some(slow), Some(fast)) => fast < slow,
-        _ => false,
-    }
-}
 
 /// The rule of a block that hands on what an input port offers to an element.
 pub fn hand_on(
@@ -70,7 +60,7 @@ pub fn transition(
     checked.keeps_rules();
     let slow = period_of_input(checked, starts, place.block, 1);
     let own = checked.period(place.block);
-    if is_slower(slow, own) {
+    if is_slow_to_fast(slow, own) {
         slowed(checked, starts, program, k, place, block, initial, slow)
     } else {
         Ok(hand_on(checked, starts, program, k, place, 1, place.element))

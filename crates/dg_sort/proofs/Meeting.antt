@@ -7,7 +7,8 @@ use Rattle.std.proofs.lemmas.Option.{none-some, same_Some, slice_get_within}
 use Rattle.dg_sort.specs.declared.search.Mark.{Mark}
 use Rattle.dg_sort.specs.declared.search.Mark.TheVariants.{Unmet, Held, Placed}
 use Rattle.dg_sort.specs.declared.search.Group.{Group}
-use Rattle.dg_sort.specs.Rows.{Reads, row_at}
+use Rattle.dg_sort.specs.Rows.{Reads}
+use Rattle.fx_io.specs.Rows.{row_at}
 use Rattle.dg_sort.specs.inner.Back.{LeadsBack, IsOnCycle}
 use Rattle.dg_sort.specs.inner.State.{IsLooked, IsPlaced, IsSettled, IsHeldFrom, IsLeft, IsRead, NoneBetween, BeginsAfter, floor_of, ArePlaced, AreGroups, AreLooked}
 use Rattle.dg_waves.proofs.Waved.{set_same, set_other}

@@ -22,9 +22,11 @@ use Rattle.dg_model.specs.Loop.{LeadsNow}
 use Rattle.dg_model.specs.Periods.{Period, periods_of, period_at}
 use Rattle.dg_model.specs.Wired.{IsWired}
 use Rattle.dg_model.specs.Wires.{enters, driver_of, at_source, period_into}
-use Rattle.dg_sort.specs.Rows.{Reads, AreRows, row_at}
+use Rattle.dg_sort.specs.Rows.{Reads, AreRows}
+use Rattle.fx_io.specs.Rows.{row_at}
 use Rattle.dg_sort.specs.Control.{control_now}
-use Rattle.dg_sort.specs.inner.Rows.{noted, is_read_now, is_line_instant}
+use Rattle.dg_sort.specs.inner.Rows.{is_read_now, is_line_instant}
+use Rattle.fx_io.specs.Rows.{noted}
 use Rattle.dg_sort.proofs.Lines.{joins_at, from_there, to_there, lines_from, control_there, controls_from}
 use Rattle.fx_io.proofs.Places.{get_left, get_right, push_cases, last_at}
 

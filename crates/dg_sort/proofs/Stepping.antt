@@ -7,7 +7,8 @@ use Rattle.std.proofs.lemmas.Option.{none-some, same_Some, slice_get_within, sli
 use Rattle.dg_sort.specs.declared.search.Mark.{Mark}
 use Rattle.dg_sort.specs.declared.search.Mark.TheVariants.{Unmet, Held, Placed}
 use Rattle.dg_sort.specs.declared.search.Group.{Group}
-use Rattle.dg_sort.specs.Rows.{Reads, AreKnown, row_at}
+use Rattle.dg_sort.specs.Rows.{Reads, AreKnown}
+use Rattle.fx_io.specs.Rows.{row_at}
 use Rattle.dg_sort.specs.inner.Back.{LeadsBack}
 use Rattle.dg_sort.specs.inner.Search.{Walk, begun, met, placed, placed_marks, CanJoin, IsJoined, KeepsAllButGroups, on_cycle}
 use Rattle.dg_sort.specs.inner.State.{AreGroups, IsState, IsStep, IsSearched, unmet_weight}

@@ -5,7 +5,8 @@ use Rattle.std.proofs.lemmas.Bool.{cases_eq, cases_lt, true≢false}
 use Rattle.std.proofs.lemmas.List.{length-append, length-set, length-replicate, get_or-replicate, get_or_default}
 use Rattle.std.proofs.lemmas.Option.{none-some, same_Some, slice_get_within, slice_get-get_or}
 use Rattle.dg_sort.specs.declared.cycle.Step.{Step}
-use Rattle.dg_sort.specs.Rows.{Reads, AreKnown, row_at}
+use Rattle.dg_sort.specs.Rows.{Reads, AreKnown}
+use Rattle.fx_io.specs.Rows.{row_at}
 use Rattle.dg_sort.specs.inner.Back.{LeadsBackIn, IsOnCycle}
 use Rattle.dg_sort.specs.inner.Cycle.{IsReadBy, IsMet, met_count, AreSteps, IsPassed, AreClosed, IsFoundAt, IsLooking, IsReadCycle, IsWalked}
 use Rattle.dg_waves.proofs.Waved.{set_same, set_other}

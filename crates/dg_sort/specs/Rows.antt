@@ -1,12 +1,9 @@
 -- The blocks that each block reads in its own sample, by rows of their numbers (own).
-use Rattle.std.specs.Prelude.{◌≡◌, ℕ, ◌<◌, List, [], length, slice_get, slice_index_or, Some}
+use Rattle.std.specs.Prelude.{◌≡◌, ℕ, ◌<◌, List, length, slice_get, Some}
+use Rattle.fx_io.specs.Rows.{row_at}
 use Rattle.dg_model.specs.declared.diagram.Diagram.{Diagram}
 use Rattle.dg_model.specs.Attributes.{attributes_of}
 use Rattle.dg_model.specs.Loop.{LeadsNow}
-
--- what a block reads
-abbrev pub row_at : List (List ℕ) → ℕ → List ℕ
-row_at rows block = slice_index_or rows block []
 
 -- the block reads this source
 pub record Reads (rows : List (List ℕ)) (block source : ℕ) : Type 0 where

@@ -1,15 +1,14 @@
-ghost use Rattle.std.specs.Prelude.{◌≡◌, ◌<◌, [], IfOk, OnOk, length, replicate};
-ghost use Rattle.dg_model.specs.Hits.{is_slow_to_fast};
+ghost use Rattle.std.specs.Prelude.{◌≡◌, ◌<◌, IfOk, length};
 ghost use Rattle.dg_model.specs.Instant.{is_now, asks_now as asks_now_of};
 ghost use Rattle.dg_model.specs.Library.{row_of};
 ghost use Rattle.dg_model.specs.Periods.{periods_of};
 ghost use Rattle.dg_model.specs.Wired.{IsWired};
 ghost use Rattle.dg_sort.specs.Control.{control_now as control_now_of};
 ghost use Rattle.dg_sort.specs.Rows.{AreRows};
-ghost use Rattle.dg_sort.specs.inner.Rows.{is_line_instant, noted};
+ghost use Rattle.dg_sort.specs.inner.Rows.{is_line_instant};
 
-use dg_model::{Asking, Block, Diagram, Edge, Kind, Reading};
-use fx_io::{OutOfMemory, Sizes};
+use dg_model::{Asking, Block, Diagram, Edge, Kind, Reading, is_slow_to_fast};
+use fx_io::{OutOfMemory, Sizes, empty_rows, push_at};
 use std::alloc::Global;
 
 /// Whether a block of this kind reads its inputs in its own sample, by whether its input is slower.
@@ -33,18 +32,6 @@ fn asks_now(kind: &Kind) -> bool
     }
 }
 
-/// Whether a block's period is shorter than its driver's.
-fn is_slower(driver: Option<u32>, own: Option<u32>) -> bool
-    ensures { result ≡ is_slow_to_fast driver own }
-{
-    match (driver, own) {
-        (Some(driver), Some(own)) => own < driver,
-        (Some(_), None) => false,
-        (None, Some(_)) => false,
-        (None, None) => false,
-    }
-}
-
 /// Whether an edge's end is read in the sample of its source.
 fn is_instant(blocks: &[Block], periods: &[Option<u32>], edge: Edge) -> bool
     requires from { edge.from < length periods.now }
@@ -52,28 +39,8 @@ fn is_instant(blocks: &[Block], periods: &[Option<u32>], edge: Edge) -> bool
     requires timed { length periods.now ≡ length blocks.now }
     ensures { result ≡ is_line_instant blocks.now periods.now edge }
 {
-    let slower = is_slower(periods[edge.from as usize], periods[edge.to as usize]);
+    let slower = is_slow_to_fast(periods[edge.from as usize], periods[edge.to as usize]);
     reads_now(&blocks[edge.to as usize].kind, slower)
-}
-
-/// So many empty rows.
-pub fn empty_rows(alloc: Global, count: usize) -> Result<Vec<Sizes>, OutOfMemory>
-    ensures { IfOk result (λ rows. rows.items ≡ replicate count []) }
-{
-    let mut rows: Vec<Sizes> = Vec::new(alloc);
-    for _block in 0..count {
-        rows.push(Sizes::new(alloc))?;
-    }
-    Ok(rows)
-}
-
-/// Puts a source at the end of a block's row.
-pub fn note(rows: &mut Vec<Sizes>, block: u32, source: u32) -> Result<(), OutOfMemory>
-    requires { block < length rows.old.items }
-    ensures { OnOk result (rows.new.items ≡ noted rows.old.items block source) }
-{
-    rows[block as usize].push(source)?;
-    Ok(())
 }
 
 /// The control that a block asks in its own sample, where it asks one.
@@ -103,12 +70,12 @@ pub fn rows_of(
     for edge in diagram.edges.as_slice() {
         let edge = *edge;
         if is_instant(blocks, periods, edge) {
-            note(&mut rows, edge.to, edge.from)?;
+            push_at(&mut rows, edge.to, edge.from)?;
         }
     }
     for (place, block) in blocks.iter().enumerate() {
         if let Some(control) = control_now(block) {
-            note(&mut rows, place as u32, control)?;
+            push_at(&mut rows, place as u32, control)?;
         }
     }
     Ok(rows)

@@ -1,4 +1,4 @@
-ghost use Rattle.std.specs.Prelude.{◌≡◌, ◌^◌, ◌<◌, ◌≤◌, ◌∷◌, ◌++◌, [], length, set, replicate, slice_get, slice_index_or, All, Some, IfOk, OnOk};
+ghost use Rattle.std.specs.Prelude.{◌≡◌, ◌^◌, ◌<◌, ◌≤◌, [], length, slice_get, All, Some, IfOk};
 ghost use Rattle.dg_model.specs.declared.diagram.Block.{Block};
 ghost use Rattle.dg_types.specs.inner.Build.{AreAlike, CanLink, Gathered, Known, IsPortOf, all_forms as all_forms_of};
 ghost use Rattle.dg_types.specs.inner.Shown.{shape_of, form_of as form_of_shape, share_at as share_at_shape, part_of, source_of as source_of_edge, Mirrors};
@@ -7,7 +7,7 @@ ghost use Rattle.dg_model.specs.Widths.{are_open as are_open_of, list_length as 
 use crate::kinds::list_length;
 use crate::linked::{Form, Share, Source, WidthRound};
 use dg_model::{Block, Diagram, Edge, Kind, Shape};
-use fx_io::{OutOfMemory, Sequence, Sizes};
+use fx_io::{OutOfMemory, Sequence, Sizes, empty_rows, push_at};
 use std::alloc::Global;
 
 /// Whether no size is fixed, in one step, where each is or none.
@@ -75,27 +75,6 @@ fn all_forms(alloc: Global, blocks: &[Block]) -> Result<Sequence<Form>, OutOfMem
         forms.push(form_of(&block.kind))?;
     }
     Ok(forms)
-}
-
-/// Puts an item at the end of a row.
-pub fn push_at<E: Drop>(rows: &mut Vec<Sequence<E>>, row: u32, item: E) -> Result<(), OutOfMemory>
-    requires { row < length rows.old.items }
-    ensures { let old = slice_index_or rows.old.items row [] in
-        OnOk result (rows.new.items ≡ set rows.old.items row (old ++ item ∷ [])) }
-{
-    rows[row as usize].push(item)?;
-    Ok(())
-}
-
-/// So many empty rows.
-pub fn empty_rows<E: Drop>(alloc: Global, count: usize) -> Result<Vec<Sequence<E>>, OutOfMemory>
-    ensures { IfOk result (λ rows. rows.items ≡ replicate count []) }
-{
-    let mut rows: Vec<Sequence<E>> = Vec::new(alloc);
-    for k in 0..count {
-        rows.push(Sequence::new(alloc))?;
-    }
-    Ok(rows)
 }
 
 /// So many rows, each with its own number.

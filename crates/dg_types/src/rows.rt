@@ -6,11 +6,10 @@ ghost use Rattle.dg_types.specs.inner.Build.{Gathered};
 ghost use Rattle.dg_types.specs.inner.Shown.{shape_of, outputs_of, shown};
 ghost use Rattle.dg_types.specs.inner.Rows.{HasRow, width_of_edge};
 
-use crate::build::{empty_rows, push_at};
 use crate::kinds::are_open;
 use crate::linked::part;
 use dg_model::{Block, Edge, Kind, Shape};
-use fx_io::{OutOfMemory, PortSizes, Sizes};
+use fx_io::{OutOfMemory, PortSizes, Sizes, empty_rows, push_at};
 use std::alloc::Global;
 
 /// A row of ones, as long as another.

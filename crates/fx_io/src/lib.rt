@@ -1,6 +1,7 @@
 //! The ground that every other crate stands on, in four parts.
 //!
-//! - Plain data: `Sequence`, `Boxed` and `Text`, which contracts see as a list, a value and bytes.
+//! - Plain data: `Sequence`, `Boxed` and `Text`, which contracts see as a list, a value and bytes, and
+//!   rows of items (`empty_rows`, `push_at`, `specs/Rows.antt`).
 //! - `Shelf` and `Sink`: where files come from and where bytes go. Each counts its faults, and a
 //!   fault is answered only where the count rose in the call (`specs/Shelf.antt`, `specs/Sink.antt`,
 //!   `specs/Cause.antt`). `put_all` puts bytes to the last or leaves a proper prefix.
@@ -16,6 +17,7 @@ mod gate;
 mod held_file;
 mod mem_shelf;
 mod mem_sink;
+mod rows;
 mod sequence;
 mod shelf;
 mod sink;
@@ -28,6 +30,7 @@ pub use gate::{Gate, OpenGate};
 pub use held_file::HeldFile;
 pub use mem_shelf::MemShelf;
 pub use mem_sink::{MemSink, PutSetup};
+pub use rows::{empty_rows, push_at};
 pub use sequence::{Cells, Flags, Longs, Periods, PortSizes, Sequence, Sizes, Texts};
 pub use shelf::{FetchFault, Shelf};
 pub use sink::{PutFault, Sink, put_all};

@@ -7,7 +7,8 @@ use Rattle.std.proofs.lemmas.Option.{none-some, same_Some, slice_get_within, sli
 use Rattle.hw_arcs.specs.declared.arc.Arc.{Arc}
 use Rattle.hw_arcs.specs.Latencies.{latency_at, IsFeasible}
 use Rattle.hw_arcs.specs.Found.{IsIn, IsWhole, AreKnown, AreLeast}
-use Rattle.hw_arcs.specs.inner.State.{State, label_of, taken, relaxed, begun, popped, noted, row_at, IsState, AreSettled, AreWithin, work_of, AreCounted, AreRows, AreRowsOf, IsRowEnd, IsStepOn}
+use Rattle.hw_arcs.specs.inner.State.{State, label_of, taken, relaxed, begun, popped, IsState, AreSettled, AreWithin, work_of, AreCounted, AreRows, AreRowsOf, IsRowEnd, IsStepOn}
+use Rattle.fx_io.specs.Rows.{noted, row_at}
 use Rattle.fx_io.proofs.Places.{get_left, last_at, push_cases}
 use Rattle.hw_arcs.proofs.Moving.{set_moves}
 use Rattle.hw_arcs.proofs.Taking.{IsRest, state_taken, settled_taken, settled_passed, work_taken, within_taken}
@@ -274,7 +275,7 @@ rows_begin arcs count rows are = rw are record {
   whole = λ number arc below at counts. absurd (omega (arith, below));
 }
   where
-    empty_at : (n block : ℕ) → row_at (replicate n []) block ≡ []
+    empty_at : (n block : ℕ) → row_at {A = ℕ} (replicate n []) block ≡ []
     empty_at zero block = refl
     empty_at (suc n) zero = refl
     empty_at (suc n) (suc block) = empty_at n block

@@ -1,40 +1,20 @@
 ghost use Rattle.std.specs.Prelude.{◌≡◌, ◌*◌, ◌<◌, ◌≤◌, ◌^◌, [], IfNone, IfOk, IfSome};
-ghost use Rattle.std.specs.Prelude.{MatchOption, OnOk, length, replicate};
+ghost use Rattle.std.specs.Prelude.{MatchOption, OnOk, length};
 ghost use Rattle.hw_arcs.specs.Latencies.{IsFeasible, latency_at};
 ghost use Rattle.hw_arcs.specs.Found.{AreKnown, IsFound, IsGaining, IsWhole, most_gain};
 ghost use Rattle.hw_arcs.specs.declared.found.Found.TheVariants.{Gains, Least};
-ghost use Rattle.hw_arcs.specs.inner.State.{AreRows, AreSettled, AreWithin, IsState, noted, seen};
+ghost use Rattle.hw_arcs.specs.inner.State.{AreRows, AreSettled, AreWithin, IsState, seen};
 
 use crate::arc::Arc;
 use crate::found::{Found, Gaining};
 use crate::relaxing::{Relaxing, Step};
 use crate::ring::{total_of, turn_back};
 use crate::walking::walk_back;
-use fx_io::{Longs, OutOfMemory, Periods, Sizes};
+use fx_io::{Longs, OutOfMemory, Periods, Sizes, empty_rows, push_at};
 use std::alloc::Global;
 
 /// The most that an arc gains: 64 registers and one base sample more, of a period below 2^32.
 const MOST_GAIN: u64 = 279_172_874_240;
-
-/// So many empty rows.
-fn empty_rows(alloc: Global, count: usize) -> Result<Vec<Sizes>, OutOfMemory>
-    ensures { IfOk result (λ rows. rows.items ≡ replicate count []) }
-{
-    let mut rows: Vec<Sizes> = Vec::new(alloc);
-    for _block in 0..count {
-        rows.push(Sizes::new(alloc))?;
-    }
-    Ok(rows)
-}
-
-/// Puts a number at the end of a row.
-fn note(rows: &mut Vec<Sizes>, block: u32, number: u32) -> Result<(), OutOfMemory>
-    requires { block < length rows.old.items }
-    ensures { OnOk result (rows.new.items ≡ noted rows.old.items block number) }
-{
-    rows[block as usize].push(number)?;
-    Ok(())
-}
 
 /// By block, the numbers of the arcs that lead from it and count.
 fn rows_of(alloc: Global, arcs: &[Arc], count: usize) -> Result<Vec<Sizes>, OutOfMemory>
@@ -46,7 +26,7 @@ fn rows_of(alloc: Global, arcs: &[Arc], count: usize) -> Result<Vec<Sizes>, OutO
     for (number, arc) in arcs.iter().enumerate() {
         let arc = *arc;
         if arc.counts {
-            note(&mut rows, arc.from, number as u32)?;
+            push_at(&mut rows, arc.from, number as u32)?;
         }
     }
     Ok(rows)

@@ -10,7 +10,8 @@ use Rattle.dg_model.specs.Attributes.{attributes_of}
 use Rattle.dg_model.specs.Loop.{IsOrder}
 use Rattle.hw_latency.specs.Shared.{is_shared}
 use Rattle.hw_latency.specs.Cone.{IsFed, AreFed, is_marked}
-use Rattle.dg_sort.specs.Rows.{AreRows, row_at}
+use Rattle.dg_sort.specs.Rows.{AreRows}
+use Rattle.fx_io.specs.Rows.{row_at}
 use Rattle.hw_latency.specs.inner.Marks.{AreBelow, AreFedTo, AreFedUpTo, IsMark, IsNext}
 use Rattle.hw_latency.proofs.Cones.{cone_self, cone_more, cone_cases}
 

@@ -4,7 +4,8 @@ use Rattle.std.proofs.Math.Nat.{mod_self, mod-eq_of_lt, zero-mod, mod-add-mod}
 use Rattle.std.proofs.lemmas.Nat.{mod_below}
 use Rattle.vl_ast.specs.declared.modules.Module.{Module}
 use Rattle.vl_ast.specs.Conditions.{AssignmentReads, IsLoop}
-use Rattle.vl_check.specs.inner.Order.{row_at, IsCycle}
+use Rattle.vl_check.specs.inner.Order.{IsCycle}
+use Rattle.fx_io.specs.Rows.{row_at}
 use Rattle.vl_ast.proofs.Chains.{Repeats, loop}
 
 -- each number stands for an assignment of a name of its own, and reads what that assignment reads

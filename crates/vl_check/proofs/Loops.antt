@@ -17,7 +17,8 @@ use Rattle.vl_ast.proofs.Places.{map-in, from-map, head-in, tail-in}
 use Rattle.vl_ast.proofs.Facts.{in-item, one-driver}
 use Rattle.vl_check.specs.declared.scope.Scope.{Scope}
 use Rattle.vl_check.specs.Scope.{IsScopeOf, names_in, number_at, number_in}
-use Rattle.vl_check.specs.inner.Order.{row_at, AreKnown, IsCycle, IsOrder}
+use Rattle.vl_check.specs.inner.Order.{AreKnown, IsCycle, IsOrder}
+use Rattle.fx_io.specs.Rows.{row_at}
 use Rattle.vl_check.specs.inner.Assigned.{IsNoted}
 use Rattle.vl_check.specs.inner.Looped.{name_of, AreNamed, IsBeginning, IsTurned}
 use Rattle.vl_check.specs.Ordering.{IsOrdering}

@@ -12,7 +12,7 @@ use Rattle.vl_ast.specs.Nets.{names_read}
 use Rattle.vl_check.specs.declared.scope.Scope.{Scope}
 use Rattle.vl_check.specs.Scope.{names_in, number_at, number_in}
 use Rattle.vl_check.specs.inner.Mentioned.{texts}
-use Rattle.vl_check.specs.inner.Order.{row_at}
+use Rattle.fx_io.specs.Rows.{row_at}
 use Rattle.vl_check.specs.inner.Assigned.{IsNoted, IsNotedAt, places_after, reads_after, IsEmpty}
 use Rattle.vl_check.proofs.Numbering.{slice_get-front}
 use Rattle.vl_check.proofs.Scoped.{at-number}

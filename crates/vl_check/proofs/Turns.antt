@@ -4,7 +4,8 @@ use Rattle.std.proofs.Common.{◌≡◌, ◌≢◌, ◌<◌, ◌≤◌, ◌+◌,
 use Rattle.std.proofs.lemmas.List.{length-append, get_or_at, get_or_default, take_all, take_more}
 use Rattle.std.proofs.lemmas.List.Elements.{Contains-append_left, Contains-push, Contains-push_cases, Contains-get_or}
 use Rattle.std.proofs.lemmas.Bool.{cases_eq}
-use Rattle.vl_check.specs.inner.Order.{row_at, IsCycle}
+use Rattle.vl_check.specs.inner.Order.{IsCycle}
+use Rattle.fx_io.specs.Rows.{row_at}
 use Rattle.vl_check.specs.inner.Walks.{size, Done, Walk, State, IsStep}
 use Rattle.vl_check.proofs.Stages.{still-done, own-stage, total-set, higher-by-one, most-by-one, met-before}
 use Rattle.vl_check.proofs.Walked.{opened, advanced, closed, cycle-found}

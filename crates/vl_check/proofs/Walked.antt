@@ -5,7 +5,8 @@ use Rattle.std.proofs.lemmas.List.{length-set, length-append, get_or_append_left
 use Rattle.std.proofs.lemmas.List.Elements.{Contains-append_left, Contains-push, Contains-get_or}
 use Rattle.std.proofs.lemmas.Bool.{cases_lt, cases_eq}
 use Rattle.std.proofs.Math.Nat.{mod_self, mod-eq_of_lt}
-use Rattle.vl_check.specs.inner.Order.{row_at, IsOrder, IsCycle}
+use Rattle.vl_check.specs.inner.Order.{IsOrder, IsCycle}
+use Rattle.fx_io.specs.Rows.{row_at}
 use Rattle.vl_check.specs.inner.Walks.{size, Done, Walk}
 use Rattle.vl_check.proofs.Stages.{still-done, was-done, other-stage, own-stage}
 

@@ -1,18 +1,11 @@
 -- What each block reads, and which blocks read it, by rows of their numbers (own).
-use Rattle.std.specs.Prelude.{◌≡◌, ℕ, ◌<◌, ◌++◌, ◌==◌, nat_lt, true, if◌then◌else◌, List, [], ◌∷◌, All, length, map, filter, Some, slice_get, slice_index_or, slice_set}
+use Rattle.std.specs.Prelude.{◌≡◌, ℕ, ◌<◌, ◌++◌, ◌==◌, nat_lt, true, if◌then◌else◌, List, [], ◌∷◌, All, length, map, filter, Some, slice_get}
+use Rattle.fx_io.specs.Rows.{row_at}
 use Rattle.dg_waves.specs.inner.Waves.{is_in}
 use Rattle.dg_model.specs.declared.diagram.Diagram.{Diagram}
 use Rattle.dg_model.specs.declared.diagram.Block.{Block}
 use Rattle.dg_model.specs.declared.diagram.Edge.{Edge}
 use Rattle.dg_model.specs.Periods.{control_of, drivers_of, sources_of}
-
--- the row of a block
-abbrev pub row_at : List (List ℕ) → ℕ → List ℕ
-row_at rows block = slice_index_or rows block []
-
--- the rows with one more number at the end of one
-abbrev pub noted : List (List ℕ) → ℕ → ℕ → List (List ℕ)
-noted rows block number = slice_set rows block (row_at rows block ++ number ∷ [])
 
 -- so many rows, each with its own number alone
 pub record AreOwn (count : ℕ) (rows : List (List ℕ)) : Type 0 where

@@ -4,7 +4,8 @@ use Rattle.std.specs.Prelude.{slice_get, unwrap_or, Option}
 use Rattle.std.proofs.lemmas.Option.{unwrap_or-slice_get}
 use Rattle.dg_waves.specs.inner.Waves.{is_in}
 use Rattle.dg_model.specs.Periods.{Period, Periods, known_at, known_or}
-use Rattle.dg_rates.specs.inner.Links.{row_at, AreTied}
+use Rattle.dg_rates.specs.inner.Links.{AreTied}
+use Rattle.fx_io.specs.Rows.{row_at}
 use Rattle.dg_rates.specs.inner.Steps.{known_of, taken_by, next_known}
 
 same_known : (old new : Periods) (block : ℕ) → slice_get old block ≡ slice_get new block → known_at old block ≡ known_at new block

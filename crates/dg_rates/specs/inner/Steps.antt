@@ -4,7 +4,7 @@ use Rattle.dg_model.specs.declared.diagram.Block.{Block}
 use Rattle.dg_model.specs.declared.row.Inherited.{Inherited}
 use Rattle.dg_model.specs.Library.{row_of}
 use Rattle.dg_model.specs.Periods.{Period, Periods, are_unchanging, known_at, known_or, least_finite}
-use Rattle.dg_rates.specs.inner.Links.{row_at}
+use Rattle.fx_io.specs.Rows.{row_at}
 
 -- a block that so inherits may take the period of a value that never changes
 abbrev pub is_of_sources : Inherited → Bool

@@ -1,7 +1,8 @@
 -- The steps of a search back from a block for a cycle through it (own).
 use Rattle.std.specs.Prelude.{◌≡◌, ℕ, suc, ◌-◌, ◌<◌, Bool, true, false, List, [], ◌∷◌, length, slice_get, Some}
 use Rattle.dg_sort.specs.declared.cycle.Step.{Step}
-use Rattle.dg_sort.specs.Rows.{row_at, Reads}
+use Rattle.dg_sort.specs.Rows.{Reads}
+use Rattle.fx_io.specs.Rows.{row_at}
 
 -- a step whose block reads another
 pub record IsReadBy (rows : List (List ℕ)) (steps : List Step) (place block : ℕ) : Type 0 where

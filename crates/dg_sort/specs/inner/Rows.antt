@@ -1,16 +1,11 @@
 -- Rows of what blocks read, while they are made (own).
-use Rattle.std.specs.Prelude.{ℕ, ◌++◌, Bool, false, List, [], ◌∷◌, slice_get, slice_set, Option, Some, None}
+use Rattle.std.specs.Prelude.{Bool, false, List, slice_get, Option, Some, None}
 use Rattle.dg_model.specs.declared.diagram.Block.{Block}
 use Rattle.dg_model.specs.declared.diagram.Edge.{Edge}
 use Rattle.dg_model.specs.Hits.{is_slow_to_fast}
 use Rattle.dg_model.specs.Instant.{is_now}
 use Rattle.dg_model.specs.Library.{row_of}
 use Rattle.dg_model.specs.Periods.{Period, period_at}
-use Rattle.dg_sort.specs.Rows.{row_at}
-
--- the rows once a source is put at the end of a block's
-abbrev pub noted : List (List ℕ) → ℕ → ℕ → List (List ℕ)
-noted rows block source = slice_set rows block (row_at rows block ++ source ∷ [])
 
 -- a line is read in the sample of its source, by the block that it ends at and whether that is the faster
 abbrev pub is_read_now : Option Block → Bool → Bool

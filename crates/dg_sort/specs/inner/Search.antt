@@ -4,7 +4,7 @@ use Rattle.dg_sort.specs.declared.search.Mark.{Mark}
 use Rattle.dg_sort.specs.declared.search.Mark.TheVariants.{Unmet, Held, Placed}
 use Rattle.dg_sort.specs.declared.search.Group.{Group}
 use Rattle.dg_sort.specs.declared.search.Search.{Search}
-use Rattle.dg_sort.specs.Rows.{row_at}
+use Rattle.fx_io.specs.Rows.{row_at}
 
 -- the state of a search, as lists
 pub record Walk : Type 0 where

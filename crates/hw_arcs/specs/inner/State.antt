@@ -1,6 +1,7 @@
 -- The state of a relaxation, as lists, and what it keeps (own).
 use Rattle.std.specs.Prelude.{◌≡◌, ◌⊎◌, ℕ, ◌+◌, ◌-◌, ◌≤◌, ◌<◌, nat_lt, Bool, true, false, if◌then◌else◌, List, [], ◌∷◌, ◌++◌, length, drop, replicate, Option, Some, None, slice_get, slice_set, slice_index_or}
 use Rattle.std.specs.List.{sum_by}
+use Rattle.fx_io.specs.Rows.{row_at}
 use Rattle.hw_arcs.specs.declared.arc.Arc.{Arc}
 use Rattle.hw_arcs.specs.declared.relaxing.Relaxing.{Relaxing}
 use Rattle.hw_arcs.specs.Latencies.{latency_at, IsFeasible}
@@ -80,10 +81,6 @@ pub record AreWithin (limit : ℕ) (s : State) : Type 0 where
 abbrev pub work_of : ℕ → State → ℕ
 work_of limit s = sum_by (λ label. limit - label) s.lat + length s.queue
 
--- the arcs of a block
-abbrev pub row_at : List (List ℕ) → ℕ → List ℕ
-row_at rows block = slice_index_or rows block []
-
 -- numbers of arcs that count
 pub record AreCounted (arcs : List Arc) (row : List ℕ) : Type 0 where
   pub counted : (place number : ℕ) → slice_get row place ≡ Some number → (arc : Arc) × (slice_get arcs number ≡ Some arc) × (arc.counts ≡ true)
@@ -130,10 +127,6 @@ IsStepEnd arcs count limit s after (Settled block) = IsStepOn arcs count limit s
 IsStepEnd arcs count limit s after (Above block) = IsAbove limit after block count
 
 -- ---- rows
-
--- a number put at the end of a row
-abbrev pub noted : List (List ℕ) → ℕ → ℕ → List (List ℕ)
-noted rows block number = slice_set rows block (row_at rows block ++ number ∷ [])
 
 -- the arcs before one are in their rows
 pub record AreRowsOf (arcs : List Arc) (count done : ℕ) (rows : List (List ℕ)) : Type 0 where

@@ -6,7 +6,7 @@ use Rattle.vl_ast.specs.declared.modules.ModItem.TheVariants.{Wire, Reg, Assign,
 use Rattle.vl_ast.specs.Nets.{names_read}
 use Rattle.vl_check.specs.declared.scope.Scope.{Scope}
 use Rattle.vl_check.specs.Scope.{names_in, number_at, number_in}
-use Rattle.vl_check.specs.inner.Order.{row_at}
+use Rattle.fx_io.specs.Rows.{row_at}
 
 pub record IsEmpty (lists : List (List ℕ)) : Type 0 where
   pub at : (v : ℕ) → row_at lists v ≡ []

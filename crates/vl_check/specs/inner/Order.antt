@@ -1,9 +1,6 @@
 -- An order in which each reads what stands before it, or a cycle of them.
-use Rattle.std.specs.Prelude.{◌≡◌, ◌≢◌, ℕ, ◌+◌, ◌<◌, ◌%◌, List, [], length, slice_index, slice_index_or, Contains}
-
--- what each reads, by its number
-abbrev pub row_at : List (List ℕ) → ℕ → List ℕ
-row_at reads v = slice_index_or reads v []
+use Rattle.std.specs.Prelude.{◌≡◌, ◌≢◌, ℕ, ◌+◌, ◌<◌, ◌%◌, List, length, slice_index, Contains}
+use Rattle.fx_io.specs.Rows.{row_at}
 
 pub record IsOrder (reads : List (List ℕ)) (order : List ℕ) : Type 0 where
   pub each : (v : ℕ) → v < length reads → Contains order v

@@ -1,7 +1,8 @@
 -- The state of a search in depth: a stage for each number (0 before it is met, 1 and how many of its reads
 -- were passed while it is open, and one more when it is placed), the open ones, and those that are placed.
 use Rattle.std.specs.Prelude.{◌≡◌, ◌≢◌, ◌⊎◌, ℕ, ◌+◌, ◌-◌, ◌<◌, ◌≤◌, List, [], length, drop, slice_index, Contains, Option, Some, None, sum}
-use Rattle.vl_check.specs.inner.Order.{row_at, IsCycle}
+use Rattle.vl_check.specs.inner.Order.{IsCycle}
+use Rattle.fx_io.specs.Rows.{row_at}
 
 abbrev pub size : List (List ℕ) → ℕ → ℕ
 size reads v = length (row_at reads v)

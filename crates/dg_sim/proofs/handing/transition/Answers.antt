@@ -18,7 +18,7 @@ hand_on-requires c =
     let b = c.args.block.now in
     let slow = c.period_of_input-slow.result in
     let kind = RateTransition c.requires.kind.0 c.args.initial.now in
-    let fast : is_slow_to_fast slow c.period-own.result ≡ false = sym c.is_slower.ensures ∙ c.if-is_slower.false in
+    let fast : is_slow_to_fast slow c.period-own.result ≡ false = sym c.is_slow_to_fast.ensures ∙ c.if-is_slow_to_fast.false in
     let own : is_slow_to_fast slow ((attributes_of diagram).period_at place.block) ≡ false = ap (is_slow_to_fast slow) (sym c.period-own.ensures) ∙ fast in
     let driver : is_slow_to_fast (period_into diagram (attributes_of diagram) place.block 1) ((attributes_of diagram).period_at place.block) ≡ false =
     ap (λ p. is_slow_to_fast p ((attributes_of diagram).period_at place.block)) (sym c.period_of_input-slow.ensures) ∙ own in
@@ -35,7 +35,7 @@ pub period-own-requires : goal.period-own-requires
 period-own-requires c = slice_get_within c.args.checked.now.diagram.blocks c.args.place.block c.args.block.now c.requires.block
 
 pub slowed-requires-clause-slower : goal.slowed-requires-clause-slower
-slowed-requires-clause-slower c = ap (is_slow_to_fast c.period_of_input-slow.result) (sym c.period-own.ensures) ∙ (sym c.is_slower.ensures ∙ c.if-is_slower.true)
+slowed-requires-clause-slower c = ap (is_slow_to_fast c.period_of_input-slow.result) (sym c.period-own.ensures) ∙ (sym c.is_slow_to_fast.ensures ∙ c.if-is_slow_to_fast.true)
 
-pub returns-then-is_slower : goal.returns-then-is_slower
-returns-then-is_slower c = c.slowed.ensures
+pub returns-then-is_slow_to_fast : goal.returns-then-is_slow_to_fast
+returns-then-is_slow_to_fast c = c.slowed.ensures

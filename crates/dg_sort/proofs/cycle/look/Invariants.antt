@@ -1,6 +1,6 @@
 use Rattle.std.proofs.Common.{◌≡◌}
 use Rattle.dg_sort.specs.inner.Cycle.{IsLooking}
-use Rattle.dg_sort.specs.Rows.{row_at}
+use Rattle.fx_io.specs.Rows.{row_at}
 use Rattle.dg_sort.proofs.cycle.look.Given as goal
 
 abbrev pub invariant-loop-source : goal.invariant-loop-source

@@ -3,7 +3,7 @@ use Rattle.dg_model.specs.LatencyEdges.{enable_edges_from}
 use Rattle.dg_model.proofs.Propagation.{length_periods}
 use Rattle.dg_sort.proofs.Lines.{from_there, to_there}
 use Rattle.dg_sort.proofs.Noting.{edge_read, block_read, instant_as, noting_begins, line_more, line_skips, lines_end, control_more, control_skips, controls_end}
-use Rattle.dg_sort.proofs.rows.rows_of.Goals.{then-is_instant+in_ok-note, else-is_instant, in-Some+in_ok-note-2, in_default}
+use Rattle.dg_sort.proofs.rows.rows_of.Goals.{then-is_instant+in_ok-push_at, else-is_instant, in-Some+in_ok-push_at-2, in_default}
 use Rattle.dg_sort.proofs.rows.rows_of.Goals as goal
 
 pub is_instant-requires-clause-from : goal.is_instant-requires-clause-from
@@ -23,8 +23,8 @@ is_instant-requires-clause-to c =
 pub is_instant-requires-clause-timed : goal.is_instant-requires-clause-timed
 is_instant-requires-clause-timed c = ap length c.requires.periods ∙ length_periods c.args.diagram.now ∙ sym (ap length c.as_slice-blocks.ensures)
 
-pub note-requires : goal.note-requires
-note-requires c =
+pub push_at-requires : goal.push_at-requires
+push_at-requires c =
     let at = edge_read c.args.diagram.now c.as_slice-edge-items.result.now c.loop-edge.edge-index (record { from = 0; from_port = 0; to = 0; to_port = 0 }) c.as_slice-edge-items.ensures c.loop-edge-test.true in
     let inside = to_there c.args.diagram.now c.loop-edge.edge-index _ c.requires.wired at in
     let size = c.loop-edge.invariant.size in
@@ -37,9 +37,9 @@ pub loop-edge-preserved : goal.loop-edge-preserved
 loop-edge-preserved c =
     let at = edge_read c.args.diagram.now c.as_slice-edge-items.result.now c.loop-edge.edge-index (record { from = 0; from_port = 0; to = 0; to_port = 0 }) c.as_slice-edge-items.ensures c.loop-edge-test.true in
     elim c.if-is_instant.branch [
-      | then-is_instant+in_ok-note w ↦
+      | then-is_instant+in_ok-push_at w ↦
           let now = instant_as c.args.diagram.now c.as_slice-blocks.result.now c.args.periods.now (get_or c.as_slice-edge-items.result.now c.loop-edge.edge-index (record { from = 0; from_port = 0; to = 0; to_port = 0 })) c.is_instant.result true c.as_slice-blocks.ensures c.requires.periods c.is_instant.ensures w.if-is_instant.true in
-          rw (w.rows-is, w.in_ok-note.ensures)
+          rw (w.rows-is, w.in_ok-push_at.ensures)
           (line_more c.args.diagram.now c.loop-edge.edge-index (get_or c.as_slice-edge-items.result.now c.loop-edge.edge-index (record { from = 0; from_port = 0; to = 0; to_port = 0 })) (enable_edges_from 0 c.args.diagram.now.blocks) c.loop-edge.rows.items c.requires.wired at now c.loop-edge.invariant)
       | else-is_instant w ↦
           let still = instant_as c.args.diagram.now c.as_slice-blocks.result.now c.args.periods.now (get_or c.as_slice-edge-items.result.now c.loop-edge.edge-index (record { from = 0; from_port = 0; to = 0; to_port = 0 })) c.is_instant.result false c.as_slice-blocks.ensures c.requires.periods c.is_instant.ensures w.if-is_instant.false in
@@ -56,8 +56,8 @@ pub loop-place-preserved : goal.loop-place-preserved
 loop-place-preserved c =
     let at = block_read c.args.diagram.now c.as_slice-blocks.result.now c.loop-place.place c.index-blocks-place.result c.as_slice-blocks.ensures c.loop-place-test.true c.index-blocks-place.is in
     elim c.match-control_now.branch [
-      | in-Some+in_ok-note-2 w ↦
-          rw (w.rows-is, w.in_ok-note-2.ensures)
+      | in-Some+in_ok-push_at-2 w ↦
+          rw (w.rows-is, w.in_ok-push_at-2.ensures)
           (control_more c.args.diagram.now c.loop-place.place w.in-Some.control c.index-blocks-place.result c.control_now.result c.loop-place.rows.items c.requires.wired at c.control_now.ensures w.in-Some.is c.loop-place.invariant)
       | in_default w ↦
           rw w.rows-is

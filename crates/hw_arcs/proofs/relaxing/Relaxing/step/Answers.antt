@@ -1,7 +1,8 @@
 use Rattle.std.proofs.Common.{◌≡◌, false, List, [], ◌∷◌, ℕ, length, refl, sym, subst, ◌∙◌, arith}
 use Rattle.std.specs.Prelude.{slice_set}
 use Rattle.std.proofs.lemmas.List.{get_or_read, nil_from_length}
-use Rattle.hw_arcs.specs.inner.State.{State, AreCounted, AreSettled, row_at, seen}
+use Rattle.hw_arcs.specs.inner.State.{State, AreCounted, AreSettled, seen}
+use Rattle.fx_io.specs.Rows.{row_at}
 use Rattle.hw_arcs.proofs.Stepping.{pop_there, pop_state, pop_settled, nothing_left, step_on}
 use Rattle.hw_arcs.proofs.relaxing.Relaxing.step.Goals as goal
 
