@@ -3,6 +3,7 @@ use Rattle.dg_model.specs.declared.diagram.Diagram.{Diagram}
 use Rattle.dg_model.specs.declared.diagram.Edge.{Edge}
 use Rattle.hw_sched.proofs.Items.{item_read}
 use Rattle.hw_sched.proofs.Spanning.{longest_more, longest_end}
+use Rattle.dg_sort.proofs.Lines.{from_there, to_there}
 use Rattle.hw_sched.proofs.spans.longest_into.Goals as goal
 
 abbrev none : Edge
@@ -19,3 +20,18 @@ pub returns : goal.returns
 returns c =
     longest_end c.args.checked.now.diagram c.loop-edge.edge-index c.loop-edge.longest.items c.keeps_rules.ensures.checked
     (subst (λ (es : List Edge). length es ≤ c.loop-edge.edge-index) (c.as_slice-edge-items.ensures ∙ ap (λ (d : Diagram). d.edges) c.diagram.ensures) c.loop-edge-test.false) c.loop-edge.invariant
+
+pub raise-requires-clause-from : goal.raise-requires-clause-from
+raise-requires-clause-from c =
+    let es = c.as_slice-edge-items.ensures ∙ ap (λ (d : Diagram). d.edges) c.diagram.ensures in
+    let at = item_read c.args.checked.now.diagram.edges c.as_slice-edge-items.result.now c.loop-edge.edge-index none es c.loop-edge-test.true in
+    from_there c.args.checked.now.diagram c.loop-edge.edge-index _ c.keeps_rules.ensures.checked.wired at
+
+pub raise-requires-clause-to : goal.raise-requires-clause-to
+raise-requires-clause-to c =
+    let es = c.as_slice-edge-items.ensures ∙ ap (λ (d : Diagram). d.edges) c.diagram.ensures in
+    let at = item_read c.args.checked.now.diagram.edges c.as_slice-edge-items.result.now c.loop-edge.edge-index none es c.loop-edge-test.true in
+    to_there c.args.checked.now.diagram c.loop-edge.edge-index _ c.keeps_rules.ensures.checked.wired at
+
+pub raise-requires-clause-counted : goal.raise-requires-clause-counted
+raise-requires-clause-counted c = c.loop-edge.invariant.counted
