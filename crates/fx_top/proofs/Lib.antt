@@ -14,6 +14,7 @@ mod Outcomes
 pub mod Placing
 mod Periods
 pub mod Planning
+pub mod Refusals
 pub mod Replayed
 mod ReplayedDelay
 pub mod Responses

@@ -2,6 +2,7 @@ pub mod Benching
 pub mod Fetching
 pub mod Generating
 pub mod Named
+pub mod Refusing
 pub mod Responding
 pub mod Sampling
 pub mod Simulating

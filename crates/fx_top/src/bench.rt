@@ -2,7 +2,7 @@ ghost use Rattle.std.specs.Prelude.{◌≡◌, [], IfOk};
 ghost use Rattle.fx_top.specs.Benched.{IsTold};
 ghost use Rattle.fx_top.specs.inner.Benching.{IsReplayedAs};
 
-use crate::response::{ReplayFault, Response, response_of, response_text};
+use crate::response::{ReplayFault, lines_of, response_of};
 use fx_io::{OutOfMemory, Text};
 use fx_sample::Bench;
 use std::alloc::Global;
@@ -81,11 +81,6 @@ fn replayed_text(
         ) => return Ok(None),
         Err(ReplayFault::OutOfMemory) => return Err(OutOfMemory),
     };
-    let Response {
-        samples,
-        mut replay,
-        mut text,
-    } = response;
-    let lines = response_text(alloc, &mut replay, &mut text, samples)?;
+    let lines = lines_of(alloc, response)?;
     Ok(Some(lines))
 }

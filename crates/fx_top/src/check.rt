@@ -7,6 +7,7 @@ ghost use Rattle.fx_top.specs.Command.{Check, plan_word};
 
 use crate::answer::Answer;
 use crate::fetch::{fetch_file, fetch_plan};
+use crate::refused::design_answer;
 use fx_check::{Gathered, gather, put_check};
 use fx_designed::{DesignFault, Designed, designed_of};
 use fx_io::{OutOfMemory, PutFault, Shelf, Sink};
@@ -30,7 +31,10 @@ fn found_of(alloc: Global, model: &[u8], plan: &[u8]) -> Result<Found, DesignFau
     };
     match gather(alloc, &designed.checked, &designed.planned) {
         Ok(gathered) => Ok(Found { designed, gathered }),
-        Err(OutOfMemory) => Err(DesignFault::OutOfMemory),
+        Err(OutOfMemory) => {
+            drop(designed);
+            Err(DesignFault::OutOfMemory)
+        }
     }
 }
 
@@ -41,7 +45,9 @@ fn put_found<K: Sink>(out: &mut K, found: Found) -> Result<(), PutFault>
     ensures cut { OnErr result (TookPartOfCheck found K.taken K.faults out.old out.new) }
 {
     let Found { designed, gathered } = found;
-    put_check(out, &designed.checked, &designed.planned, gathered)
+    let put = put_check(out, &designed.checked, &designed.planned, gathered);
+    drop(designed);
+    put
 }
 
 /// Writes what is worked out of a model by a plan.
@@ -63,21 +69,21 @@ pub fn check<'a, S: Shelf, K: Sink>(
     };
     let lines = match fetch_plan(alloc, plan, shelf) {
         Ok(lines) => lines,
-        Err(answer) => return answer,
+        Err(answer) => {
+            drop(source);
+            return answer;
+        }
     };
     let found = match found_of(alloc, source.bytes(), lines.bytes()) {
         Ok(found) => found,
-        Err(DesignFault::NotMdl { line }) => return Answer::NotMdl { file: model, line },
-        Err(DesignFault::BreaksRule { line }) => return Answer::BreaksRule { line },
-        Err(DesignFault::BadPlan { line, cause }) => {
-            return Answer::BadTable {
-                file: plan,
-                line,
-                cause,
-            };
+        Err(fault) => {
+            drop(lines);
+            drop(source);
+            return design_answer(model, plan, fault);
         }
-        Err(DesignFault::OutOfMemory) => return Answer::OutOfMemory,
     };
+    drop(lines);
+    drop(source);
     match put_found(out, found) {
         Ok(()) => Answer::Done,
         Err(_) => Answer::CannotWrite,

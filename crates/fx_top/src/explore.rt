@@ -8,6 +8,7 @@ ghost use Rattle.hw_explore.specs.Range.{IsRange};
 
 use crate::answer::Answer;
 use crate::fetch::fetch_file;
+use crate::refused::model_answer;
 use fx_designed::{ModelRefusal, checked_of};
 use fx_explored::findings_text;
 use fx_io::{OpenGate, OutOfMemory, Shelf, Sink, Text, put_all};
@@ -32,9 +33,15 @@ fn exploration_of<R: Threads + Sync>(
     };
     let findings = match hw_explore::explore(rt, alloc, &checked, range, &OpenGate) {
         Ok(findings) => findings,
-        Err(OutOfMemory) => return Err(ModelRefusal::OutOfMemory),
+        Err(OutOfMemory) => {
+            drop(checked);
+            return Err(ModelRefusal::OutOfMemory);
+        }
     };
-    match findings_text(alloc, &findings, checked.diagram().blocks.as_slice()) {
+    let text = findings_text(alloc, &findings, checked.diagram().blocks.as_slice());
+    drop(findings);
+    drop(checked);
+    match text {
         Ok(text) => Ok(text),
         Err(OutOfMemory) => Err(ModelRefusal::OutOfMemory),
     }
@@ -61,10 +68,12 @@ pub fn explore<'a, R: Threads + Sync, S: Shelf, K: Sink>(
     };
     let text = match exploration_of(rt, alloc, bytes.bytes(), range) {
         Ok(text) => text,
-        Err(ModelRefusal::NotMdl { line }) => return Answer::NotMdl { file: model, line },
-        Err(ModelRefusal::BreaksRule { line }) => return Answer::BreaksRule { line },
-        Err(ModelRefusal::OutOfMemory) => return Answer::OutOfMemory,
+        Err(fault) => {
+            drop(bytes);
+            return model_answer(model, fault);
+        }
     };
+    drop(bytes);
     match put_all(out, text.bytes()) {
         Ok(()) => Answer::Done,
         Err(_) => Answer::CannotWrite,

@@ -5,8 +5,8 @@ ghost use Rattle.fx_top.specs.Command.{Generate, plan_word};
 use crate::answer::Answer;
 use crate::fetch::{fetch_file, fetch_plan};
 use crate::parts::put_parts;
+use crate::refused::design_answer;
 use crate::verilog::verilog_of;
-use fx_designed::DesignFault;
 use fx_io::{Shelf, Sink};
 use std::alloc::Global;
 use std::thread::Threads;
@@ -36,17 +36,14 @@ pub fn generate<'a, R: Threads + Sync, S: Shelf, K: Sink>(
     };
     let verilog = match verilog_of(rt, alloc, source.bytes(), lines.bytes()) {
         Ok(verilog) => verilog,
-        Err(DesignFault::NotMdl { line }) => return Answer::NotMdl { file: model, line },
-        Err(DesignFault::BreaksRule { line }) => return Answer::BreaksRule { line },
-        Err(DesignFault::BadPlan { line, cause }) => {
-            return Answer::BadTable {
-                file: plan,
-                line,
-                cause,
-            };
+        Err(fault) => {
+            drop(lines);
+            drop(source);
+            return design_answer(model, plan, fault);
         }
-        Err(DesignFault::OutOfMemory) => return Answer::OutOfMemory,
     };
+    drop(lines);
+    drop(source);
     match put_parts(out, verilog.as_slice()) {
         Ok(()) => Answer::Done,
         Err(_) => Answer::CannotWrite,

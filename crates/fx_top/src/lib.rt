@@ -30,6 +30,7 @@ mod explore;
 mod fetch;
 mod generate;
 mod parts;
+mod refused;
 mod replay;
 mod response;
 mod sample;

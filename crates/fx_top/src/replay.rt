@@ -5,7 +5,8 @@ ghost use Rattle.fx_top.specs.Command.{Replay as ReplayOf};
 
 use crate::answer::Answer;
 use crate::fetch::fetch_file;
-use crate::response::{ReplayFault, Response, response_of, write_lines};
+use crate::refused::replay_answer;
+use crate::response::{response_of, write_response};
 use fx_io::{Shelf, Sink};
 use std::alloc::Global;
 
@@ -29,37 +30,22 @@ pub fn replay<'a, S: Shelf, K: Sink>(
     };
     let numbers = match fetch_file(alloc, stimulus, shelf) {
         Ok(numbers) => numbers,
-        Err(answer) => return answer,
+        Err(answer) => {
+            drop(source);
+            return answer;
+        }
     };
     let response = match response_of(alloc, source.bytes(), numbers.bytes()) {
         Ok(response) => response,
-        Err(ReplayFault::NotVerilog { line }) => {
-            return Answer::NotVerilog {
-                file: verilog,
-                line,
-            };
+        Err(fault) => {
+            drop(numbers);
+            drop(source);
+            return replay_answer(verilog, stimulus, fault);
         }
-        Err(ReplayFault::Broken { fault }) => {
-            return Answer::Broken {
-                file: verilog,
-                fault,
-            };
-        }
-        Err(ReplayFault::BadTable { line, cause }) => {
-            return Answer::BadTable {
-                file: stimulus,
-                line,
-                cause,
-            };
-        }
-        Err(ReplayFault::OutOfMemory) => return Answer::OutOfMemory,
     };
-    let Response {
-        samples,
-        mut replay,
-        mut text,
-    } = response;
-    match write_lines(&mut replay, &mut text, samples, out) {
+    drop(numbers);
+    drop(source);
+    match write_response(response, out) {
         Ok(()) => Answer::Done,
         Err(_) => Answer::CannotWrite,
     }

@@ -1,18 +1,21 @@
-ghost use Rattle.std.specs.Prelude.{◌≡◌, ℕ, ℤ, Err, IfOk, List, OnErr, OnOk, is_some, length};
+ghost use Rattle.std.specs.Prelude.{◌≡◌, ◌<◌, ◌≤◌, ◌^◌, ℕ, ℤ, All, Err, IfOk, List, OnErr, OnOk, is_some, length, map};
 ghost use Rattle.fx_io.specs.Cause.{Rose};
 ghost use Rattle.fx_io.specs.Sink.{TookProperPrefix, also_took};
 ghost use Rattle.fx_tables.specs.Response.{response};
 ghost use Rattle.fx_tables.specs.RowText.{periods_of};
 ghost use Rattle.fx_tables.specs.declared.table.TableCause.{TableCause as CauseOf};
-ghost use Rattle.vl_ast.specs.Driven.{output_ports};
+ghost use Rattle.vl_ast.specs.Conditions.{BreaksNone};
+ghost use Rattle.vl_ast.specs.Driven.{output_ports, stimulus_ports};
+ghost use Rattle.vl_ast.specs.Steps.{IsFirstRow};
 ghost use Rattle.vl_ast.specs.Windows.{Sample};
 ghost use Rattle.vl_check.specs.declared.fault.VlFault.{VlFault as FaultOf};
+ghost use Rattle.vl_eval.specs.Machine.{IsReady, row_of, source_of};
 ghost use Rattle.fx_top.specs.Replayed.{IsBadStimulus, IsBroken, IsNotVerilog, condition_of};
 ghost use Rattle.fx_top.specs.inner.Responding.{IsMachineOf, IsResponseTo, IsTableOf};
 ghost use Rattle.vl_replay.specs.Replays.{StandsBefore, module_of, stimulus_of};
 
 use fx_io::{OutOfMemory, PutFault, Sink, Text, put_all};
-use fx_tables::{RowText, TableCause, TableFault, read_rows};
+use fx_tables::{Column, RowText, Rows, TableCause, TableFault, read_rows};
 use std::alloc::Global;
 use vl_check::VlFault;
 use vl_eval::Machine;
@@ -108,29 +111,111 @@ pub fn response_of(alloc: Global, verilog: &[u8], stimulus: &[u8]) -> Result<Res
         Ok(machine) => machine,
         Err(fault) => return Err(fault),
     };
-    let PortColumns { inputs, outputs } = columns(alloc, &machine)?;
+    let PortColumns { inputs, outputs } = match columns(alloc, &machine) {
+        Ok(columns) => columns,
+        Err(OutOfMemory) => {
+            drop(machine);
+            return Err(ReplayFault::OutOfMemory);
+        }
+    };
     let count = outputs.as_slice().len() as u64;
     let rows = match read_rows(alloc, stimulus, inputs.as_slice(), count) {
         Ok(rows) => rows,
         Err(TableFault::Bad { line, cause }) => {
+            drop(machine);
             return Err(ReplayFault::BadTable { line, cause });
         }
-        Err(TableFault::OutOfMemory) => return Err(ReplayFault::OutOfMemory),
+        Err(TableFault::OutOfMemory) => {
+            drop(machine);
+            return Err(ReplayFault::OutOfMemory);
+        }
+    };
+    some_response();
+    let response = response_with(alloc, machine, rows, outputs.as_slice())?;
+    Ok(response)
+}
+
+/// The response of a machine to the rows of its stimulus, before its first sample.
+fn response_with(
+    alloc: Global,
+    machine: Machine,
+    rows: Rows,
+    outputs: &[Column],
+) -> Result<Response, OutOfMemory>
+    requires ready { IsReady machine }
+    requires sound { BreaksNone (source_of machine) }
+    requires row { IsFirstRow (source_of machine) (λ name. 0) (λ name. 0) (row_of machine) }
+    requires columns { rows.columns ≡ length (stimulus_ports (source_of machine)) }
+    requires few_outputs { length (output_ports (source_of machine)) < 2 ^ 32 }
+    requires few { rows.lines ≤ 50000000 }
+    requires periods { All (λ column. 0 < column.period) outputs.now }
+    requires few_columns { length outputs.now < 2 ^ 32 }
+    ensures samples { IfOk result (λ made. made.samples ≡ rows.lines) }
+    ensures text { IfOk result (λ made. periods_of made.text
+        ≡ map (λ column. column.period) outputs.now) }
+    ensures stands { IfOk result (λ made. StandsBefore made.replay 0) }
+    ensures source { IfOk result (λ made. module_of made.replay ≡ source_of machine) }
+    ensures stimulus { IfOk result (λ made. stimulus_of made.replay ≡ rows) }
+{
+    let text = match RowText::new(alloc, outputs) {
+        Ok(text) => text,
+        Err(OutOfMemory) => {
+            drop(rows);
+            drop(machine);
+            return Err(OutOfMemory);
+        }
     };
     let samples = rows.count();
-    let text = RowText::new(alloc, outputs.as_slice())?;
-    some_response();
-    let replay = Replay::new(alloc, machine, rows)?;
-    Ok(Response {
-        samples,
-        replay,
-        text,
-    })
+    match Replay::new(alloc, machine, rows) {
+        Ok(replay) => Ok(Response {
+            samples,
+            replay,
+            text,
+        }),
+        Err(OutOfMemory) => {
+            drop(text);
+            Err(OutOfMemory)
+        }
+    }
+}
+
+/// Puts the lines of a response, each by itself and as soon as its numbers are there. It takes no
+/// memory.
+pub fn write_response<K: Sink>(mut ready: Response, out: &mut K) -> Result<(), PutFault>
+    requires stands { StandsBefore ready.replay 0 }
+    requires samples { ready.samples ≡ (stimulus_of ready.replay).lines }
+    requires wide { length (output_ports (module_of ready.replay))
+        ≡ length (periods_of ready.text) }
+    ensures whole { (table : Sample → List ℤ) → IsTableOf ready.replay table
+        → OnOk result (K.taken out.new
+        ≡ also_took (K.taken out.old) (response (periods_of ready.text) table ready.samples)) }
+    ensures cut { (table : Sample → List ℤ) → IsTableOf ready.replay table
+        → OnErr result (TookProperPrefix (K.taken out.old) (K.taken out.new)
+        (response (periods_of ready.text) table ready.samples)) }
+    ensures cause { OnErr result (Rose (K.faults out.old) (K.faults out.new)) }
+{
+    let put = write_lines(&mut ready.replay, &mut ready.text, ready.samples, out);
+    drop(ready);
+    put
+}
+
+/// The lines of a response, one after another.
+pub fn lines_of(alloc: Global, mut ready: Response) -> Result<Text, OutOfMemory>
+    requires stands { StandsBefore ready.replay 0 }
+    requires samples { ready.samples ≡ (stimulus_of ready.replay).lines }
+    requires wide { length (output_ports (module_of ready.replay))
+        ≡ length (periods_of ready.text) }
+    ensures { (table : Sample → List ℤ) → IsTableOf ready.replay table → IfOk result (λ lines. lines
+        ≡ response (periods_of ready.text) table ready.samples) }
+{
+    let lines = response_text(alloc, &mut ready.replay, &mut ready.text, ready.samples);
+    drop(ready);
+    lines
 }
 
 /// Puts the lines of so many samples, each by itself and as soon as its numbers are there. It takes
 /// no memory.
-pub fn write_lines<K: Sink>(
+fn write_lines<K: Sink>(
     replay: &mut Replay,
     text: &mut RowText,
     samples: u64,
@@ -157,7 +242,7 @@ pub fn write_lines<K: Sink>(
 }
 
 /// The lines of so many samples, one after another.
-pub fn response_text(
+fn response_text(
     alloc: Global,
     replay: &mut Replay,
     text: &mut RowText,

@@ -1,19 +1,20 @@
-ghost use Rattle.std.specs.Prelude.{◌≡◌, ◌≤◌, ◌<◌, All, IfErr, IfOk, OnOk, length};
+ghost use Rattle.std.specs.Prelude.{◌≡◌, ◌≤◌, ◌<◌, All, IfErr, IfOk, length};
 ghost use Rattle.dg_model.specs.Attributes.{attributes_of};
 ghost use Rattle.dg_model.specs.PlanOf.{IsPlanOf};
 ghost use Rattle.dg_model.specs.RootElements.{root_outputs};
+ghost use Rattle.dg_response.specs.Responding.{IsBefore, row_of};
 ghost use Rattle.dg_tables.specs.Listing.{AreBlocksOf};
 ghost use Rattle.fx_designed.specs.Design.{IsDesignOf};
 ghost use Rattle.fx_designed.specs.Refused.{IsDesigned, IsRefusedDesign};
 ghost use Rattle.fx_model.specs.Model.{IsModelOf};
 ghost use Rattle.fx_sample.specs.ModelText.{sample_model};
 ghost use Rattle.fx_sample.specs.Stimulus.{sample_plan, sample_stimulus};
+ghost use Rattle.fx_tables.specs.RowText.{periods_of};
 ghost use Rattle.fx_top.specs.Call.{stream_in};
 ghost use Rattle.fx_top.specs.Sampled.{EndsSample, HasSampleCause, HasSampleWritten};
-ghost use Rattle.fx_top.specs.Simulated.{CanBeSimulated};
 ghost use Rattle.fx_top.specs.Summarized.{IsSampleResponse, IsSummaryOf, latency_of_output};
-ghost use Rattle.fx_top.specs.inner.Sampling.{IsOwed, IsRespondedAs, IsSampleFault, IsSimulatedAs};
-ghost use Rattle.fx_top.specs.inner.Simulating.{IsFaultOf};
+ghost use Rattle.fx_top.specs.inner.Sampling.{IsOwed, IsSampleFault};
+ghost use Rattle.fx_top.specs.inner.Simulating.{AreLines, IsFaultOf};
 ghost use Rattle.hw_rules.specs.Times.{AreTimes, timing_in};
 
 use crate::answer::Answer;
@@ -86,64 +87,43 @@ fn made_of(alloc: Global, checked: &Checked, planned: &Planned) -> Result<Made, 
     })
 }
 
-/// What a fault of the simulation of a sample says of the sample: nothing, where the stimulus doesn't
-/// fit the diagram's columns.
-fn unsimulated(number: u32, fault: SimulationFault) -> Result<(), SampleFault>
+/// What a fault of the simulation of a sample leaves to compare its module with: no bytes, where the
+/// stimulus doesn't fit the diagram's columns.
+fn unsimulated(number: u32, fault: SimulationFault) -> Result<Text, SampleFault>
     requires few { number ≤ 5000 }
     requires cause { IsFaultOf (sample_model number) (sample_stimulus number) fault }
-    ensures unfit { OnOk result (CanBeSimulated (sample_model number) (sample_stimulus number)
-        → ⊥) }
+    ensures made { IfOk result (IsSampleResponse number) }
     ensures refused { IfErr result (IsSampleFault number) }
 {
     fx_sample::models_stand();
     match fault {
         SimulationFault::NotMdl { .. } => unreachable!(),
         SimulationFault::BreaksRule { line } => Err(SampleFault::BreaksRule { line }),
-        SimulationFault::BadTable { .. } => Ok(()),
+        SimulationFault::BadTable { .. } => Ok(Text::new()),
         SimulationFault::OutOfMemory => Err(SampleFault::OutOfMemory),
     }
 }
 
-/// The response of the diagram of a sample to the sample's stimulus and the writer of its lines,
-/// where the stimulus fits the diagram's columns.
-fn sample_simulation(
+/// The lines of the response of the diagram of a sample.
+fn lines_of(
     alloc: Global,
     checked: &Checked,
-    number: u32,
-) -> Result<Option<Simulation>, SampleFault>
-    requires few { number ≤ 5000 }
-    requires model { IsModelOf (sample_model number) checked.now.diagram }
-    ensures made { IfOk result (IsSimulatedAs checked.now number) }
-    ensures refused { IfErr result (IsSampleFault number) }
+    mut simulation: Simulation,
+) -> Result<Text, OutOfMemory>
+    requires before { IsBefore checked.now simulation.rows simulation.responding 0 }
+    requires wide { length (row_of simulation.responding) ≡ length (periods_of simulation.text) }
+    ensures { IfOk result (AreLines checked.now simulation.rows (periods_of simulation.text)
+        simulation.rows.lines) }
 {
-    let stimulus = stimulus_text(alloc, number)?;
-    match simulation_in(alloc, checked, stimulus.bytes()) {
-        Ok(simulation) => Ok(Some(simulation)),
-        Err(fault) => match unsimulated(number, fault) {
-            Ok(()) => Ok(None),
-            Err(fault) => Err(fault),
-        },
-    }
-}
-
-/// The lines of that response.
-fn sample_lines(alloc: Global, checked: &Checked, number: u32) -> Result<Option<Text>, SampleFault>
-    requires few { number ≤ 5000 }
-    requires model { IsModelOf (sample_model number) checked.now.diagram }
-    ensures made { IfOk result (IsRespondedAs number) }
-    ensures refused { IfErr result (IsSampleFault number) }
-{
-    let Simulation {
-        rows,
-        mut responding,
-        mut text,
-    } = match sample_simulation(alloc, checked, number) {
-        Ok(Some(simulation)) => simulation,
-        Ok(None) => return Ok(None),
-        Err(fault) => return Err(fault),
-    };
-    let lines = simulation_text(alloc, checked, &rows, &mut responding, &mut text)?;
-    Ok(Some(lines))
+    let lines = simulation_text(
+        alloc,
+        checked,
+        &simulation.rows,
+        &mut simulation.responding,
+        &mut simulation.text,
+    );
+    drop(simulation);
+    lines
 }
 
 /// What the module of a sample is compared with: the response of its diagram, and no bytes where the
@@ -154,11 +134,14 @@ fn sample_response(alloc: Global, checked: &Checked, number: u32) -> Result<Text
     ensures made { IfOk result (IsSampleResponse number) }
     ensures refused { IfErr result (IsSampleFault number) }
 {
-    match sample_lines(alloc, checked, number) {
-        Ok(Some(lines)) => Ok(lines),
-        Ok(None) => Ok(Text::new()),
-        Err(fault) => Err(fault),
-    }
+    let stimulus = stimulus_text(alloc, number)?;
+    let simulation = match simulation_in(alloc, checked, stimulus.bytes()) {
+        Ok(simulation) => simulation,
+        Err(fault) => return unsimulated(number, fault),
+    };
+    drop(stimulus);
+    let lines = lines_of(alloc, checked, simulation)?;
+    Ok(lines)
 }
 
 /// Why the texts of a sample make no design.
@@ -239,11 +222,20 @@ fn summary_of<R: Threads + Sync, B: Bench>(
     ensures made { IfOk result (IsSummaryOf B.may_tell number (B.tells bench.new)) }
     ensures refused { IfErr result (IsSampleFault number) }
 {
-    let Designed { checked, planned } = match sample_design(alloc, number) {
+    let designed = match sample_design(alloc, number) {
         Ok(designed) => designed,
         Err(fault) => return Err(fault),
     };
-    summary_by(rt, alloc, number, &checked, &planned, bench)
+    let summed = summary_by(
+        rt,
+        alloc,
+        number,
+        &designed.checked,
+        &designed.planned,
+        bench,
+    );
+    drop(designed);
+    summed
 }
 
 /// Writes the summary of a sample.

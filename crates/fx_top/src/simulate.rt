@@ -5,7 +5,8 @@ ghost use Rattle.fx_top.specs.Command.{Simulate as SimulateOf};
 
 use crate::answer::Answer;
 use crate::fetch::fetch_file;
-use crate::simulated::{SimulationFault, simulation_of, write_simulation};
+use crate::refused::simulation_answer;
+use crate::simulated::{simulation_of, write_simulation};
 use fx_io::{Shelf, Sink};
 use std::alloc::Global;
 
@@ -29,21 +30,21 @@ pub fn simulate<'a, S: Shelf, K: Sink>(
     };
     let numbers = match fetch_file(alloc, stimulus, shelf) {
         Ok(numbers) => numbers,
-        Err(answer) => return answer,
+        Err(answer) => {
+            drop(source);
+            return answer;
+        }
     };
     let ready = match simulation_of(alloc, source.bytes(), numbers.bytes()) {
         Ok(ready) => ready,
-        Err(SimulationFault::NotMdl { line }) => return Answer::NotMdl { file: model, line },
-        Err(SimulationFault::BreaksRule { line }) => return Answer::BreaksRule { line },
-        Err(SimulationFault::BadTable { line, cause }) => {
-            return Answer::BadTable {
-                file: stimulus,
-                line,
-                cause,
-            };
+        Err(fault) => {
+            drop(numbers);
+            drop(source);
+            return simulation_answer(model, stimulus, fault);
         }
-        Err(SimulationFault::OutOfMemory) => return Answer::OutOfMemory,
     };
+    drop(numbers);
+    drop(source);
     match write_simulation(ready, out) {
         Ok(()) => Answer::Done,
         Err(_) => Answer::CannotWrite,

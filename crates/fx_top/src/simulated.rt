@@ -11,7 +11,7 @@ use dg_model::{Checked, root_elements_are_listed};
 use dg_response::{Responding, RootColumns, columns, some_response};
 use fx_designed::{ModelRefusal, checked_of};
 use fx_io::{OutOfMemory, PutFault, Sink, Text, put_all};
-use fx_tables::{Column, RowText, Rows, TableCause, TableFault, read_rows};
+use fx_tables::{RowText, Rows, TableCause, TableFault, read_rows};
 use hw_sched::periods_are_above;
 use std::alloc::Global;
 
@@ -74,8 +74,7 @@ fn columns_of(alloc: Global, checked: &Checked) -> Result<RootColumns, OutOfMemo
     root_elements_are_listed();
     periods_are_above();
     let columns = columns(alloc, checked)?;
-    fit(columns.inputs.as_slice())?;
-    fit(columns.outputs.as_slice())?;
+    fit(&columns)?;
     Ok(columns)
 }
 
@@ -183,19 +182,25 @@ pub fn simulation_of(
             checked,
             simulation,
         }),
-        Err(fault) => Err(fault),
+        Err(fault) => {
+            drop(checked);
+            Err(fault)
+        }
     }
 }
 
 /// That columns are few enough to be numbered by 32 bits.
-fn fit(columns: &[Column]) -> Result<(), OutOfMemory>
-    ensures { OnOk result (length columns.now < 2 ^ 32) }
+fn fit(columns: &RootColumns) -> Result<(), OutOfMemory>
+    ensures inputs { OnOk result (length columns.now.inputs < 2 ^ 32) }
+    ensures outputs { OnOk result (length columns.now.outputs < 2 ^ 32) }
 {
-    if columns.len() >= MOST_COLUMNS {
-        // word: columns are numbered in 32 bits
-        return Err(OutOfMemory);
+    let inputs = columns.inputs.as_slice().len();
+    let outputs = columns.outputs.as_slice().len();
+    if inputs < MOST_COLUMNS && outputs < MOST_COLUMNS {
+        return Ok(());
     }
-    Ok(())
+    // word: columns are numbered in 32 bits
+    Err(OutOfMemory)
 }
 
 /// The fault of a simulation whose model is refused so.
@@ -237,7 +242,7 @@ fn put_lines<K: Sink>(
 }
 
 /// Writes the lines of a simulation, each by itself. It takes no memory.
-pub fn write_simulation<K: Sink>(ready: ModelSimulation, out: &mut K) -> Result<(), PutFault>
+pub fn write_simulation<K: Sink>(mut ready: ModelSimulation, out: &mut K) -> Result<(), PutFault>
     requires before { IsBefore ready.checked ready.simulation.rows ready.simulation.responding 0 }
     requires wide { length (row_of ready.simulation.responding)
         ≡ length (periods_of ready.simulation.text) }
@@ -248,16 +253,15 @@ pub fn write_simulation<K: Sink>(ready: ModelSimulation, out: &mut K) -> Result<
         (periods_of ready.simulation.text) (K.taken out.old) (K.taken out.new)) }
     ensures cause { OnErr result (Rose (K.faults out.old) (K.faults out.new)) }
 {
-    let ModelSimulation {
-        checked,
-        simulation,
-    } = ready;
-    let Simulation {
-        rows,
-        mut responding,
-        mut text,
-    } = simulation;
-    put_lines(&checked, &rows, &mut responding, &mut text, out)
+    let put = put_lines(
+        &ready.checked,
+        &ready.simulation.rows,
+        &mut ready.simulation.responding,
+        &mut ready.simulation.text,
+        out,
+    );
+    drop(ready);
+    put
 }
 
 /// The lines of all rows, one after another.

@@ -4,8 +4,8 @@ ghost use Rattle.fx_top.specs.Command.{Stream, plan_word};
 
 use crate::answer::Answer;
 use crate::fetch::{fetch_file, fetch_plan};
+use crate::refused::design_answer;
 use crate::streamed::streamed_of;
-use fx_designed::DesignFault;
 use fx_io::{Shelf, Sink, put_all};
 use std::alloc::Global;
 use std::thread::Threads;
@@ -35,17 +35,14 @@ pub fn stream<'a, R: Threads + Sync, S: Shelf, K: Sink>(
     };
     let text = match streamed_of(rt, alloc, source.bytes(), lines.bytes()) {
         Ok(text) => text,
-        Err(DesignFault::NotMdl { line }) => return Answer::NotMdl { file: model, line },
-        Err(DesignFault::BreaksRule { line }) => return Answer::BreaksRule { line },
-        Err(DesignFault::BadPlan { line, cause }) => {
-            return Answer::BadTable {
-                file: plan,
-                line,
-                cause,
-            };
+        Err(fault) => {
+            drop(lines);
+            drop(source);
+            return design_answer(model, plan, fault);
         }
-        Err(DesignFault::OutOfMemory) => return Answer::OutOfMemory,
     };
+    drop(lines);
+    drop(source);
     match put_all(out, text.bytes()) {
         Ok(()) => Answer::Done,
         Err(_) => Answer::CannotWrite,

@@ -11,7 +11,7 @@ ghost use Rattle.vl_ast.specs.Spelling.{spelling};
 use crate::steady::check_ports;
 use crate::verilog::netlist_of;
 use dg_model::{CheckFault, Checked, Resolved, root_elements_are_listed};
-use fx_designed::{DesignFault, Designed, designed_of};
+use fx_designed::{DesignFault, designed_of};
 use fx_io::{OpenGate, OutOfMemory, Text};
 use fx_model::rule_text;
 use hw_build::slots_are_scheduled;
@@ -36,14 +36,16 @@ fn core_of(
     ensures { IfOk result (IsCoreOf checked.now.diagram plan.now times.now) }
 {
     let netlist = netlist_of(alloc, checked, plan, times)?;
-    module_of(
+    let core = module_of(
         alloc,
         checked,
         plan,
         &times.latencies,
         &times.slots,
         &netlist,
-    )
+    );
+    drop(netlist);
+    core
 }
 
 /// The module with valid and ready round it.
@@ -64,9 +66,11 @@ fn stream_of(
     root_elements_are_listed();
     ready_fits();
     slots_are_scheduled();
-    let core = core_of(alloc, checked, plan, times)?;
     let names = stream_names(alloc, checked)?;
-    wrap(alloc, &core, names.as_slice())
+    let core = core_of(alloc, checked, plan, times)?;
+    let made = wrap(alloc, &core, names.as_slice());
+    drop(core);
+    made
 }
 
 /// The text of that module.
@@ -84,7 +88,9 @@ fn text_of<R: Threads + Sync>(
 {
     vl_read::unique();
     let module = stream_of(alloc, checked, plan, times)?;
-    vl_write::write(rt, alloc, &module, &OpenGate)
+    let text = vl_write::write(rt, alloc, &module, &OpenGate);
+    drop(module);
+    text
 }
 
 /// The fault of ports that break the rule, by its line.
@@ -116,15 +122,28 @@ pub fn streamed_of<R: Threads + Sync>(
     ensures made { IfOk result (IsStreamedOf model.now plan.now) }
     ensures refused { IfErr result (IsRefusedStream model.now plan.now) }
 {
-    let Designed { checked, planned } = match designed_of(alloc, model, plan) {
+    let designed = match designed_of(alloc, model, plan) {
         Ok(designed) => designed,
         Err(fault) => return Err(fault),
     };
-    match check_ports(alloc, &checked) {
+    match check_ports(alloc, &designed.checked) {
         Ok(()) => (),
-        Err(fault) => return Err(told_of(alloc, &checked, fault)),
+        Err(fault) => {
+            let fault = told_of(alloc, &designed.checked, fault);
+            drop(designed);
+            return Err(fault);
+        }
     }
-    match text_of(rt, alloc, &checked, &planned.resolved, &planned.times) {
+    let planned = &designed.planned;
+    let text = text_of(
+        rt,
+        alloc,
+        &designed.checked,
+        &planned.resolved,
+        &planned.times,
+    );
+    drop(designed);
+    match text {
         Ok(text) => Ok(text),
         Err(OutOfMemory) => Err(DesignFault::OutOfMemory),
     }

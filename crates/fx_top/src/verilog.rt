@@ -10,7 +10,7 @@ ghost use Rattle.vl_ast.specs.Grammar.{Spells};
 ghost use Rattle.vl_ast.specs.Spelling.{spelling};
 
 use dg_model::{Checked, Resolved};
-use fx_designed::{DesignFault, Designed, designed_of};
+use fx_designed::{DesignFault, designed_of};
 use fx_io::{OpenGate, OutOfMemory, Text};
 use hw_build::build;
 use hw_module::module_of;
@@ -54,14 +54,16 @@ fn made_of(
     ensures spelled { IfOk result (λ made. Spells (spelling made) made) }
 {
     let netlist = netlist_of(alloc, checked, plan, times)?;
-    module_of(
+    let made = module_of(
         alloc,
         checked,
         plan,
         &times.latencies,
         &times.slots,
         &netlist,
-    )
+    );
+    drop(netlist);
+    made
 }
 
 /// The Verilog text of a diagram by a plan with its times.
@@ -78,7 +80,9 @@ pub fn text_of<R: Threads + Sync>(
 {
     vl_read::unique();
     let made = made_of(alloc, checked, plan, times)?;
-    vl_write::write(rt, alloc, &made, &OpenGate)
+    let text = vl_write::write(rt, alloc, &made, &OpenGate);
+    drop(made);
+    text
 }
 
 /// The same text in parts, to be put one after another.
@@ -96,7 +100,9 @@ fn parts_of<R: Threads + Sync>(
 {
     vl_read::unique();
     let made = made_of(alloc, checked, plan, times)?;
-    vl_write::spelled(rt, alloc, &made, &OpenGate)
+    let parts = vl_write::spelled(rt, alloc, &made, &OpenGate);
+    drop(made);
+    parts
 }
 
 /// The Verilog text of the bytes of a model and of a plan, in parts; no bytes are the empty plan.
@@ -110,11 +116,20 @@ pub fn verilog_of<R: Threads + Sync>(
         (flat_map (λ part. part.items) parts.items)) }
     ensures refused { IfErr result (IsRefusedDesign model.now plan.now) }
 {
-    let Designed { checked, planned } = match designed_of(alloc, model, plan) {
+    let designed = match designed_of(alloc, model, plan) {
         Ok(designed) => designed,
         Err(fault) => return Err(fault),
     };
-    match parts_of(rt, alloc, &checked, &planned.resolved, &planned.times) {
+    let planned = &designed.planned;
+    let parts = parts_of(
+        rt,
+        alloc,
+        &designed.checked,
+        &planned.resolved,
+        &planned.times,
+    );
+    drop(designed);
+    match parts {
         Ok(parts) => Ok(parts),
         Err(OutOfMemory) => Err(DesignFault::OutOfMemory),
     }

@@ -1,12 +1,11 @@
 use Rattle.std.proofs.Common.{ℕ, List, refl, subst, arith}
-use Rattle.fx_designed.specs.declared.designing.DesignFault.{DesignFault}
-use Rattle.fx_designed.specs.Refused.{IsRefusedDesign}
 use Rattle.fx_io.specs.Cause.{Rose}
 use Rattle.fx_io.specs.Shelf.{Told}
 use Rattle.fx_top.specs.Call.{files_in, stream_in}
 use Rattle.fx_top.specs.Command.{Check, plan_word}
 use Rattle.fx_top.specs.Output.{IsPlanText}
-use Rattle.fx_top.proofs.Planning.{fetched-planned, plan-bad, plan-moved, plan-rule, plan-unfetched, plan-unwritten}
+use Rattle.fx_top.proofs.Planning.{fetched-planned, plan-moved, plan-unfetched, plan-unwritten}
+use Rattle.fx_top.proofs.Refusals.{design-caused, design-unwritten}
 use Rattle.fx_top.proofs.Found.{check-of}
 use Rattle.fx_top.proofs.Told.{checks}
 use Rattle.fx_top.proofs.check.check.Goals as goal
@@ -29,29 +28,17 @@ returns-in-Err-fetch_plan-clause-written g c = plan-unwritten
     (stream_in g.K.Sink.taken g.K.Sink.faults c.args.out.now c.args.out.now)
     (Check c.args.model.now (plan_word c.args.plan.now)) (plan_word c.args.plan.now) c.in-Err-fetch_plan.answer refl c.in-Err-fetch_plan.ensures.refused
 
-pub returns-in-Err-NotMdl-clause-cause : goal.returns-in-Err-NotMdl-clause-cause
-returns-in-Err-NotMdl-clause-cause g c =
+pub returns-in-Err-found_of-clause-cause : goal.returns-in-Err-found_of-clause-cause
+returns-in-Err-found_of-clause-cause g c =
     let says = subst (λ (held : List ℕ → Told). IsPlanText held (plan_word c.args.plan.now) c.in-Ok-fetch_plan.lines) c.in-Ok.ensures.kept c.in-Ok-fetch_plan.ensures.says in
-    let not_mdl = subst (λ (fault : DesignFault). IsRefusedDesign c.in-Ok.source c.in-Ok-fetch_plan.lines fault) c.in-Err-NotMdl.field-0-is (rw (c.bytes.ensures, c.bytes-2.ensures) at c.in-Err-NotMdl.ensures.refused) in (
-      fetched-planned (g.S.Shelf.held c.args.shelf.now) c.args.model.now (plan_word c.args.plan.now) c.in-Ok.source c.in-Ok-fetch_plan.lines c.in-Ok.ensures.found says,
-      record { is_model = refl; bytes = c.in-Ok.source; fetched = c.in-Ok.ensures.found; not_mdl = not_mdl },
-    )
+    design-caused (files_in g.S.Shelf.held g.S.Shelf.steady g.S.Shelf.faults g.S.Shelf.overlong c.args.shelf.now c.fetch_plan.new.shelf) (Check c.args.model.now (plan_word c.args.plan.now)) c.args.model.now c.args.plan.now (checks c.args.model.now (plan_word c.args.plan.now))
+    c.in-Ok.source c.in-Ok-fetch_plan.lines c.in-Ok.ensures.found says c.in-Err-found_of.fault c.design_answer.result (rw (c.bytes.ensures, c.bytes-2.ensures) at c.in-Err-found_of.ensures.refused) c.design_answer.ensures
 
-pub returns-in-Err-BreaksRule-clause-cause : goal.returns-in-Err-BreaksRule-clause-cause
-returns-in-Err-BreaksRule-clause-cause g c =
-    let says = subst (λ (held : List ℕ → Told). IsPlanText held (plan_word c.args.plan.now) c.in-Ok-fetch_plan.lines) c.in-Ok.ensures.kept c.in-Ok-fetch_plan.ensures.says in
-    let told = subst (λ (fault : DesignFault). IsRefusedDesign c.in-Ok.source c.in-Ok-fetch_plan.lines fault) c.in-Err-BreaksRule.field-0-is (rw (c.bytes.ensures, c.bytes-2.ensures) at c.in-Err-BreaksRule.ensures.refused) in (
-      fetched-planned (g.S.Shelf.held c.args.shelf.now) c.args.model.now (plan_word c.args.plan.now) c.in-Ok.source c.in-Ok-fetch_plan.lines c.in-Ok.ensures.found says,
-      plan-rule (files_in g.S.Shelf.held g.S.Shelf.steady g.S.Shelf.faults g.S.Shelf.overlong c.args.shelf.now c.fetch_plan.new.shelf) (Check c.args.model.now (plan_word c.args.plan.now)) c.args.model.now (plan_word c.args.plan.now) (checks c.args.model.now (plan_word c.args.plan.now)) c.in-Ok.source c.in-Ok-fetch_plan.lines c.in-Err-BreaksRule.line c.in-Ok.ensures.found says told,
-    )
-
-pub returns-in-Err-BadPlan-clause-cause : goal.returns-in-Err-BadPlan-clause-cause
-returns-in-Err-BadPlan-clause-cause g c =
-    let says = subst (λ (held : List ℕ → Told). IsPlanText held (plan_word c.args.plan.now) c.in-Ok-fetch_plan.lines) c.in-Ok.ensures.kept c.in-Ok-fetch_plan.ensures.says in
-    let bad = subst (λ (fault : DesignFault). IsRefusedDesign c.in-Ok.source c.in-Ok-fetch_plan.lines fault) c.in-Err-BadPlan.field-0-is (rw (c.bytes.ensures, c.bytes-2.ensures) at c.in-Err-BadPlan.ensures.refused) in (
-      fetched-planned (g.S.Shelf.held c.args.shelf.now) c.args.model.now (plan_word c.args.plan.now) c.in-Ok.source c.in-Ok-fetch_plan.lines c.in-Ok.ensures.found says,
-      plan-bad (files_in g.S.Shelf.held g.S.Shelf.steady g.S.Shelf.faults g.S.Shelf.overlong c.args.shelf.now c.fetch_plan.new.shelf) (Check c.args.model.now (plan_word c.args.plan.now)) c.args.model.now c.args.plan.now (checks c.args.model.now (plan_word c.args.plan.now)) c.in-Ok.source c.in-Ok-fetch_plan.lines c.in-Err-BadPlan.line c.in-Err-BadPlan.cause c.in-Ok.ensures.found says bad,
-    )
+pub returns-in-Err-found_of-clause-written : goal.returns-in-Err-found_of-clause-written
+returns-in-Err-found_of-clause-written g c = design-unwritten
+    (files_in g.S.Shelf.held g.S.Shelf.steady g.S.Shelf.faults g.S.Shelf.overlong c.args.shelf.now c.fetch_plan.new.shelf)
+    (stream_in g.K.Sink.taken g.K.Sink.faults c.args.out.now c.args.out.now) (Check c.args.model.now (plan_word c.args.plan.now)) c.args.model.now c.args.plan.now
+    c.in-Err-found_of.fault c.design_answer.result refl c.design_answer.ensures
 
 pub returns-in-Ok-put_found-clause-cause : goal.returns-in-Ok-put_found-clause-cause
 returns-in-Ok-put_found-clause-cause g c =
@@ -75,13 +62,13 @@ returns-in-Ok-put_found-clause-written g c =
       taken = took.all;
     }
 
-pub returns-clause-cause : goal.returns-clause-cause
-returns-clause-cause g c =
+pub returns-in-Err-put_found-clause-cause : goal.returns-in-Err-put_found-clause-cause
+returns-in-Err-put_found-clause-cause g c =
     let says = subst (λ (held : List ℕ → Told). IsPlanText held (plan_word c.args.plan.now) c.in-Ok-fetch_plan.lines) c.in-Ok.ensures.kept c.in-Ok-fetch_plan.ensures.says in
     fetched-planned (g.S.Shelf.held c.args.shelf.now) c.args.model.now (plan_word c.args.plan.now) c.in-Ok.source c.in-Ok-fetch_plan.lines c.in-Ok.ensures.found says
 
-pub returns-clause-written : goal.returns-clause-written
-returns-clause-written g c =
+pub returns-in-Err-put_found-clause-written : goal.returns-in-Err-put_found-clause-written
+returns-in-Err-put_found-clause-written g c =
     let says = subst (λ (held : List ℕ → Told). IsPlanText held (plan_word c.args.plan.now) c.in-Ok-fetch_plan.lines) c.in-Ok.ensures.kept c.in-Ok-fetch_plan.ensures.says in
     let found = rw (c.bytes.ensures, c.bytes-2.ensures) at c.in-Ok-found_of.ensures.found in
     let took = c.in-Err-put_found.ensures.cut in

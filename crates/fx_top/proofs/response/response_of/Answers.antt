@@ -11,10 +11,11 @@ returns-clause-made c =
     let m = source_of c.in-Ok.machine in
     let rows = c.in-Ok-read_rows.rows in
     let some = c.some_response.ensures m (numbers_of rows) rows.lines c.in-Ok.ensures.made.spelled.sound in
-    let periods = c.in_ok-text.ensures ∙ ap (λ (columns : List Column). map (λ (column : Column). column.period) columns) (c.as_slice-3.ensures ∙ sym c.as_slice.ensures) in
-    responds c.args.verilog.now c.args.stimulus.now m rows c.as_slice-2.result.now c.as_slice.result.now (length c.as_slice.result.now) c.count-samples.result c.in_ok-replay.replay c.in_ok-text.text some.table
-    c.in-Ok.ensures.made.spelled (c.as_slice-2.ensures ∙ c.in_ok-inputs.ensures.inputs) (c.as_slice.ensures ∙ c.in_ok-inputs.ensures.outputs) refl c.in-Ok-read_rows.ensures.rows c.count-samples.ensures periods c.in_ok-replay.ensures.stands
-    c.in_ok-replay.ensures.source c.in_ok-replay.ensures.stimulus some.sampled
+    let ready = c.in_ok-response.response in
+    let periods = c.in_ok-response.ensures.text ∙ ap (λ (columns : List Column). map (λ (column : Column). column.period) columns) (c.as_slice-3.ensures ∙ sym c.as_slice.ensures) in
+    responds c.args.verilog.now c.args.stimulus.now m rows c.as_slice-2.result.now c.as_slice.result.now (length c.as_slice.result.now) ready.samples ready.replay ready.text some.table
+    c.in-Ok.ensures.made.spelled (c.as_slice-2.ensures ∙ c.in-Ok-columns.ensures.inputs) (c.as_slice.ensures ∙ c.in-Ok-columns.ensures.outputs) refl c.in-Ok-read_rows.ensures.rows c.in_ok-response.ensures.samples periods c.in_ok-response.ensures.stands
+    c.in_ok-response.ensures.source c.in_ok-response.ensures.stimulus some.sampled
 
 pub returns-in-Err-clause-not_verilog : goal.returns-in-Err-clause-not_verilog
 returns-in-Err-clause-not_verilog c = λ line e.

@@ -1,10 +1,10 @@
-use Rattle.std.proofs.Common.{inl, ℕ, List, None, refl, subst, arith}
+use Rattle.std.proofs.Common.{ℕ, List, None, refl, subst, arith}
 use Rattle.fx_io.specs.Cause.{Rose}
 use Rattle.fx_io.specs.Shelf.{Fetched, Told}
 use Rattle.fx_top.specs.Call.{files_in, stream_in, file_limit}
 use Rattle.fx_top.specs.Command.{Simulate}
-use Rattle.fx_top.specs.declared.simulated.SimulationFault.{SimulationFault}
-use Rattle.fx_top.specs.inner.Simulating.{IsFaultOf, IsSimulationTo}
+use Rattle.fx_top.specs.inner.Simulating.{IsSimulationTo}
+use Rattle.fx_top.proofs.Refusals.{simulation-caused, simulation-unwritten}
 use Rattle.fx_top.proofs.Replayed.{fetched-both, second-first}
 use Rattle.fx_top.proofs.Simulations.{wrote-lines, wrote-part}
 use Rattle.fx_top.proofs.Unfetched.{cause-unfetched, moved}
@@ -22,44 +22,25 @@ returns-in-Err-fetch_file-clause-cause g c =
     (second-first files c.args.model.now c.args.stimulus.now c.in-Ok.source c.in-Ok.ensures.found) c.in-Err-fetch_file.answer
     (moved files (files_in g.S.Shelf.held g.S.Shelf.steady g.S.Shelf.faults g.S.Shelf.overlong mid new) c.args.stimulus.now c.in-Err-fetch_file.answer c.in-Ok.ensures.kept c.in-Ok.ensures.stays_steady failed overlong c.in-Err-fetch_file.ensures.refused)
 
-pub returns-in-Err-NotMdl-clause-cause : goal.returns-in-Err-NotMdl-clause-cause
-returns-in-Err-NotMdl-clause-cause g c =
+pub returns-in-Err-simulation_of-clause-cause : goal.returns-in-Err-simulation_of-clause-cause
+returns-in-Err-simulation_of-clause-cause g c =
     let numbers = subst (λ (held : List ℕ → Told). Fetched (held c.args.stimulus.now) file_limit c.in-Ok-fetch_file.numbers) c.in-Ok.ensures.kept c.in-Ok-fetch_file.ensures.found in
-    let not_mdl = subst (λ (fault : SimulationFault). IsFaultOf c.in-Ok.source c.in-Ok-fetch_file.numbers fault) c.in-Err-NotMdl.field-0-is (rw (c.bytes.ensures, c.bytes-2.ensures) at c.in-Err-NotMdl.ensures.refused) in (
-      fetched-both (files_in g.S.Shelf.held g.S.Shelf.steady g.S.Shelf.faults g.S.Shelf.overlong c.args.shelf.now c.fetch_file-2.new.shelf) c.args.model.now c.args.stimulus.now c.in-Ok.source c.in-Ok-fetch_file.numbers c.in-Ok.ensures.found numbers,
-      record { is_model = refl; bytes = c.in-Ok.source; fetched = c.in-Ok.ensures.found; not_mdl = not_mdl },
-    )
+    simulation-caused (files_in g.S.Shelf.held g.S.Shelf.steady g.S.Shelf.faults g.S.Shelf.overlong c.args.shelf.now c.fetch_file-2.new.shelf) c.args.model.now c.args.stimulus.now c.in-Ok.source c.in-Ok-fetch_file.numbers c.in-Ok.ensures.found numbers
+    c.in-Err-simulation_of.fault c.simulation_answer.result (rw (c.bytes.ensures, c.bytes-2.ensures) at c.in-Err-simulation_of.ensures.refused) c.simulation_answer.ensures
 
-pub returns-in-Err-BreaksRule-clause-cause : goal.returns-in-Err-BreaksRule-clause-cause
-returns-in-Err-BreaksRule-clause-cause g c =
-    let numbers = subst (λ (held : List ℕ → Told). Fetched (held c.args.stimulus.now) file_limit c.in-Ok-fetch_file.numbers) c.in-Ok.ensures.kept c.in-Ok-fetch_file.ensures.found in
-    let told = subst (λ (fault : SimulationFault). IsFaultOf c.in-Ok.source c.in-Ok-fetch_file.numbers fault) c.in-Err-BreaksRule.field-0-is (rw (c.bytes.ensures, c.bytes-2.ensures) at c.in-Err-BreaksRule.ensures.refused) in (
-      fetched-both (files_in g.S.Shelf.held g.S.Shelf.steady g.S.Shelf.faults g.S.Shelf.overlong c.args.shelf.now c.fetch_file-2.new.shelf) c.args.model.now c.args.stimulus.now c.in-Ok.source c.in-Ok-fetch_file.numbers c.in-Ok.ensures.found numbers,
-      inl (record { file = c.args.model.now; is_model = refl; bytes = c.in-Ok.source; fetched = c.in-Ok.ensures.found; told = told }),
-    )
-
-pub returns-in-Err-BadTable-clause-cause : goal.returns-in-Err-BadTable-clause-cause
-returns-in-Err-BadTable-clause-cause g c =
-    let numbers = subst (λ (held : List ℕ → Told). Fetched (held c.args.stimulus.now) file_limit c.in-Ok-fetch_file.numbers) c.in-Ok.ensures.kept c.in-Ok-fetch_file.ensures.found in
-    let bad = subst (λ (fault : SimulationFault). IsFaultOf c.in-Ok.source c.in-Ok-fetch_file.numbers fault) c.in-Err-BadTable.field-0-is (rw (c.bytes.ensures, c.bytes-2.ensures) at c.in-Err-BadTable.ensures.refused) in (
-      fetched-both (files_in g.S.Shelf.held g.S.Shelf.steady g.S.Shelf.faults g.S.Shelf.overlong c.args.shelf.now c.fetch_file-2.new.shelf) c.args.model.now c.args.stimulus.now c.in-Ok.source c.in-Ok-fetch_file.numbers c.in-Ok.ensures.found numbers,
-      record {
-        is_table = refl;
-        first = c.in-Ok.source;
-        table = c.in-Ok-fetch_file.numbers;
-        first_fetched = c.in-Ok.ensures.found;
-        table_fetched = numbers;
-        bad = bad;
-      },
-    )
+pub returns-in-Err-simulation_of-clause-written : goal.returns-in-Err-simulation_of-clause-written
+returns-in-Err-simulation_of-clause-written g c = simulation-unwritten
+    (files_in g.S.Shelf.held g.S.Shelf.steady g.S.Shelf.faults g.S.Shelf.overlong c.args.shelf.now c.fetch_file-2.new.shelf)
+    (stream_in g.K.Sink.taken g.K.Sink.faults c.args.out.now c.args.out.now) (Simulate c.args.model.now c.args.stimulus.now) c.args.model.now c.args.stimulus.now
+    c.in-Err-simulation_of.fault c.simulation_answer.result refl c.simulation_answer.ensures
 
 pub returns-in-Ok-write_simulation-clause-cause : goal.returns-in-Ok-write_simulation-clause-cause
 returns-in-Ok-write_simulation-clause-cause g c =
     let numbers = subst (λ (held : List ℕ → Told). Fetched (held c.args.stimulus.now) file_limit c.in-Ok-fetch_file.numbers) c.in-Ok.ensures.kept c.in-Ok-fetch_file.ensures.found in
     fetched-both (files_in g.S.Shelf.held g.S.Shelf.steady g.S.Shelf.faults g.S.Shelf.overlong c.args.shelf.now c.fetch_file-2.new.shelf) c.args.model.now c.args.stimulus.now c.in-Ok.source c.in-Ok-fetch_file.numbers c.in-Ok.ensures.found numbers
 
-pub returns-clause-cause : goal.returns-clause-cause
-returns-clause-cause g c =
+pub returns-in-Err-write_simulation-clause-cause : goal.returns-in-Err-write_simulation-clause-cause
+returns-in-Err-write_simulation-clause-cause g c =
     let numbers = subst (λ (held : List ℕ → Told). Fetched (held c.args.stimulus.now) file_limit c.in-Ok-fetch_file.numbers) c.in-Ok.ensures.kept c.in-Ok-fetch_file.ensures.found in
     fetched-both (files_in g.S.Shelf.held g.S.Shelf.steady g.S.Shelf.faults g.S.Shelf.overlong c.args.shelf.now c.fetch_file-2.new.shelf) c.args.model.now c.args.stimulus.now c.in-Ok.source c.in-Ok-fetch_file.numbers c.in-Ok.ensures.found numbers
 
@@ -70,8 +51,8 @@ returns-in-Ok-write_simulation-clause-written g c =
     wrote-lines (files_in g.S.Shelf.held g.S.Shelf.steady g.S.Shelf.faults g.S.Shelf.overlong c.args.shelf.now c.fetch_file-2.new.shelf) (stream_in g.K.Sink.taken g.K.Sink.faults c.args.out.now c.write_simulation.new.out) c.args.model.now c.args.stimulus.now
     c.in-Ok.source c.in-Ok-fetch_file.numbers c.in-Ok-simulation_of.ready c.in-Ok.ensures.found numbers ready c.in-Ok-write_simulation.ensures.whole
 
-pub returns-clause-written : goal.returns-clause-written
-returns-clause-written g c =
+pub returns-in-Err-write_simulation-clause-written : goal.returns-in-Err-write_simulation-clause-written
+returns-in-Err-write_simulation-clause-written g c =
     let numbers = subst (λ (held : List ℕ → Told). Fetched (held c.args.stimulus.now) file_limit c.in-Ok-fetch_file.numbers) c.in-Ok.ensures.kept c.in-Ok-fetch_file.ensures.found in
     let ready = subst (λ (source : List ℕ). IsSimulationTo source c.in-Ok-fetch_file.numbers c.in-Ok-simulation_of.ready) c.bytes.ensures (subst (λ (stimulus : List ℕ). IsSimulationTo c.bytes.result.now stimulus c.in-Ok-simulation_of.ready) c.bytes-2.ensures c.in-Ok-simulation_of.ensures.made) in
     wrote-part (files_in g.S.Shelf.held g.S.Shelf.steady g.S.Shelf.faults g.S.Shelf.overlong c.args.shelf.now c.fetch_file-2.new.shelf) (stream_in g.K.Sink.taken g.K.Sink.faults c.args.out.now c.write_simulation.new.out) c.args.model.now c.args.stimulus.now

@@ -1,12 +1,11 @@
 use Rattle.std.proofs.Common.{ℕ, List, refl, subst, arith}
-use Rattle.fx_designed.specs.declared.designing.DesignFault.{DesignFault}
 use Rattle.fx_io.specs.Cause.{Rose}
 use Rattle.fx_io.specs.Shelf.{Told}
 use Rattle.fx_top.specs.Call.{files_in, stream_in}
 use Rattle.fx_top.specs.Command.{Stream, plan_word}
 use Rattle.fx_top.specs.Output.{IsPlanText}
-use Rattle.fx_top.specs.inner.Streaming.{IsRefusedStream}
-use Rattle.fx_top.proofs.Planning.{fetched-planned, plan-bad, plan-moved, plan-unfetched, plan-unwritten, stream-rule}
+use Rattle.fx_top.proofs.Planning.{fetched-planned, plan-moved, plan-unfetched, plan-unwritten}
+use Rattle.fx_top.proofs.Refusals.{design-unwritten, stream-caused}
 use Rattle.fx_top.proofs.Told.{streams}
 use Rattle.fx_top.proofs.stream.stream.Goals as goal
 
@@ -28,29 +27,17 @@ returns-in-Err-fetch_plan-clause-written g c = plan-unwritten
     (stream_in g.K.Sink.taken g.K.Sink.faults c.args.out.now c.args.out.now)
     (Stream c.args.model.now (plan_word c.args.plan.now)) (plan_word c.args.plan.now) c.in-Err-fetch_plan.answer refl c.in-Err-fetch_plan.ensures.refused
 
-pub returns-in-Err-NotMdl-clause-cause : goal.returns-in-Err-NotMdl-clause-cause
-returns-in-Err-NotMdl-clause-cause g c =
+pub returns-in-Err-streamed_of-clause-cause : goal.returns-in-Err-streamed_of-clause-cause
+returns-in-Err-streamed_of-clause-cause g c =
     let says = subst (λ (held : List ℕ → Told). IsPlanText held (plan_word c.args.plan.now) c.in-Ok-fetch_plan.lines) c.in-Ok.ensures.kept c.in-Ok-fetch_plan.ensures.says in
-    let not_mdl = subst (λ (fault : DesignFault). IsRefusedStream c.in-Ok.source c.in-Ok-fetch_plan.lines fault) c.in-Err-NotMdl.field-0-is (rw (c.bytes.ensures, c.bytes-2.ensures) at c.in-Err-NotMdl.ensures.refused) in (
-      fetched-planned (g.S.Shelf.held c.args.shelf.now) c.args.model.now (plan_word c.args.plan.now) c.in-Ok.source c.in-Ok-fetch_plan.lines c.in-Ok.ensures.found says,
-      record { is_model = refl; bytes = c.in-Ok.source; fetched = c.in-Ok.ensures.found; not_mdl = not_mdl },
-    )
+    stream-caused (files_in g.S.Shelf.held g.S.Shelf.steady g.S.Shelf.faults g.S.Shelf.overlong c.args.shelf.now c.fetch_plan.new.shelf) c.args.model.now c.args.plan.now
+    c.in-Ok.source c.in-Ok-fetch_plan.lines c.in-Ok.ensures.found says c.in-Err-streamed_of.fault c.design_answer.result (rw (c.bytes.ensures, c.bytes-2.ensures) at c.in-Err-streamed_of.ensures.refused) c.design_answer.ensures
 
-pub returns-in-Err-BreaksRule-clause-cause : goal.returns-in-Err-BreaksRule-clause-cause
-returns-in-Err-BreaksRule-clause-cause g c =
-    let says = subst (λ (held : List ℕ → Told). IsPlanText held (plan_word c.args.plan.now) c.in-Ok-fetch_plan.lines) c.in-Ok.ensures.kept c.in-Ok-fetch_plan.ensures.says in
-    let told = subst (λ (fault : DesignFault). IsRefusedStream c.in-Ok.source c.in-Ok-fetch_plan.lines fault) c.in-Err-BreaksRule.field-0-is (rw (c.bytes.ensures, c.bytes-2.ensures) at c.in-Err-BreaksRule.ensures.refused) in (
-      fetched-planned (g.S.Shelf.held c.args.shelf.now) c.args.model.now (plan_word c.args.plan.now) c.in-Ok.source c.in-Ok-fetch_plan.lines c.in-Ok.ensures.found says,
-      stream-rule (files_in g.S.Shelf.held g.S.Shelf.steady g.S.Shelf.faults g.S.Shelf.overlong c.args.shelf.now c.fetch_plan.new.shelf) c.args.model.now (plan_word c.args.plan.now) c.in-Ok.source c.in-Ok-fetch_plan.lines c.in-Err-BreaksRule.line c.in-Ok.ensures.found says told,
-    )
-
-pub returns-in-Err-BadPlan-clause-cause : goal.returns-in-Err-BadPlan-clause-cause
-returns-in-Err-BadPlan-clause-cause g c =
-    let says = subst (λ (held : List ℕ → Told). IsPlanText held (plan_word c.args.plan.now) c.in-Ok-fetch_plan.lines) c.in-Ok.ensures.kept c.in-Ok-fetch_plan.ensures.says in
-    let bad = subst (λ (fault : DesignFault). IsRefusedStream c.in-Ok.source c.in-Ok-fetch_plan.lines fault) c.in-Err-BadPlan.field-0-is (rw (c.bytes.ensures, c.bytes-2.ensures) at c.in-Err-BadPlan.ensures.refused) in (
-      fetched-planned (g.S.Shelf.held c.args.shelf.now) c.args.model.now (plan_word c.args.plan.now) c.in-Ok.source c.in-Ok-fetch_plan.lines c.in-Ok.ensures.found says,
-      plan-bad (files_in g.S.Shelf.held g.S.Shelf.steady g.S.Shelf.faults g.S.Shelf.overlong c.args.shelf.now c.fetch_plan.new.shelf) (Stream c.args.model.now (plan_word c.args.plan.now)) c.args.model.now c.args.plan.now (streams c.args.model.now (plan_word c.args.plan.now)) c.in-Ok.source c.in-Ok-fetch_plan.lines c.in-Err-BadPlan.line c.in-Err-BadPlan.cause c.in-Ok.ensures.found says bad,
-    )
+pub returns-in-Err-streamed_of-clause-written : goal.returns-in-Err-streamed_of-clause-written
+returns-in-Err-streamed_of-clause-written g c = design-unwritten
+    (files_in g.S.Shelf.held g.S.Shelf.steady g.S.Shelf.faults g.S.Shelf.overlong c.args.shelf.now c.fetch_plan.new.shelf)
+    (stream_in g.K.Sink.taken g.K.Sink.faults c.args.out.now c.args.out.now) (Stream c.args.model.now (plan_word c.args.plan.now)) c.args.model.now c.args.plan.now
+    c.in-Err-streamed_of.fault c.design_answer.result refl c.design_answer.ensures
 
 pub returns-in-Ok-put_all-clause-cause : goal.returns-in-Ok-put_all-clause-cause
 returns-in-Ok-put_all-clause-cause g c =

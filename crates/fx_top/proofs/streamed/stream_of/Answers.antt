@@ -6,17 +6,17 @@ use Rattle.fx_top.proofs.streamed.stream_of.Goals as goal
 use Rattle.hw_names.specs.Names.{AreStreamNames}
 use Rattle.vl_ast.specs.Spelling.{spelling}
 
-pub wrap-requires-clause-sound : goal.wrap-requires-clause-sound
-wrap-requires-clause-sound c = c.in_ok-core.ensures.owed.carries.sound
+pub wrap-made-requires-clause-sound : goal.wrap-made-requires-clause-sound
+wrap-made-requires-clause-sound c = c.in_ok-core.ensures.owed.carries.sound
 
-pub wrap-requires-clause-stallable : goal.wrap-requires-clause-stallable
-wrap-requires-clause-stallable c = stalls c.in_ok-core.ensures.owed.carries
+pub wrap-made-requires-clause-stallable : goal.wrap-made-requires-clause-stallable
+wrap-made-requires-clause-stallable c = stalls c.in_ok-core.ensures.owed.carries
 
-pub wrap-requires-clause-keeps : goal.wrap-requires-clause-keeps
-wrap-requires-clause-keeps c = c.in_ok-core.ensures.keeps
+pub wrap-made-requires-clause-keeps : goal.wrap-made-requires-clause-keeps
+wrap-made-requires-clause-keeps c = c.in_ok-core.ensures.keeps
 
-pub wrap-requires-clause-names : goal.wrap-requires-clause-names
-wrap-requires-clause-names c =
+pub wrap-made-requires-clause-names : goal.wrap-made-requires-clause-names
+wrap-made-requires-clause-names c =
     let laws : Laws = record { inputs = c.root_elements_are_listed.ensures.inputs; outputs = c.root_elements_are_listed.ensures.outputs; fits = c.ready_fits.ensures } in
     let core = is-core c.args.checked.now.diagram c.args.plan.now c.args.times.now c.in_ok-core.core c.as_slice.result.now c.slots_are_scheduled.ensures c.keeps_rules.ensures.checked
     c.requires.plan c.requires.times c.requires.steady c.in_ok-core.ensures (subst (AreStreamNames c.args.checked.now.diagram) (sym c.as_slice.ensures) c.in_ok-names.ensures.names) in
@@ -27,8 +27,8 @@ returns-clause-streams c =
     let laws : Laws = record { inputs = c.root_elements_are_listed.ensures.inputs; outputs = c.root_elements_are_listed.ensures.outputs; fits = c.ready_fits.ensures } in
     let core = is-core c.args.checked.now.diagram c.args.plan.now c.args.times.now c.in_ok-core.core c.as_slice.result.now c.slots_are_scheduled.ensures c.keeps_rules.ensures.checked
     c.requires.plan c.requires.times c.requires.steady c.in_ok-core.ensures (subst (AreStreamNames c.args.checked.now.diagram) (sym c.as_slice.ensures) c.in_ok-names.ensures.names) in
-    let e = c.wrap.ensures in
-    stream-all laws core c.wrap.result e.header e.conditions e.products e.handshake e.transfers e.follows
+    let e = c.wrap-made.ensures in
+    stream-all laws core c.wrap-made.result e.header e.conditions e.products e.handshake e.transfers e.follows
 
 pub returns-clause-spelled : goal.returns-clause-spelled
-returns-clause-spelled c = IfOk-weaker c.wrap.result _ _ (λ m by. by (spelling c.in_ok-core.core) c.in_ok-core.ensures.spelled) c.wrap.ensures.spelled
+returns-clause-spelled c = IfOk-weaker c.wrap-made.result _ _ (λ m by. by (spelling c.in_ok-core.core) c.in_ok-core.ensures.spelled) c.wrap-made.ensures.spelled
