@@ -110,12 +110,14 @@ class Wanting(unittest.TestCase):
             "match g() {\n    Some(a) => Ok(a),\n    None => Err(OutOfMemory),\n}",
             "match g() {\n    Err(OutOfMemory) => Ok(1),\n    Ok(_) => Err(SizeFault::OutOfMemory),\n}",
             "g().ok_or(OutOfMemory)",
+            "match g() {\n    Err(OutOfMemory) => {\n        let a = 1;\n        Err(OutOfMemory)\n    }\n}",
         ):
             self.assertEqual(self.ends(line), 1, line)
         for line in (
             "// allocation: the buffer's\nreturn Err(OutOfMemory);",
             "match g() {\n    Ok(a) => Ok(a),\n    Err(AllocError) => Err(OutOfMemory),\n}",
             "match g() {\n    Err(SizeFault::OutOfMemory) => return Err(OutOfMemory),\n}",
+            "match g() {\n    Err(OutOfMemory) => {\n        drop(a);\n        return Err(F::OutOfMemory);\n    }\n}",
             "}\nimpl From<OutOfMemory> for F {\n    fn from(_refused: OutOfMemory) -> F {\n        F::OutOfMemory\n    }",
         ):
             self.assertEqual(self.ends(line), 0, line)
