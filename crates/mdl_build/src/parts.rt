@@ -123,7 +123,7 @@ fn switch(criterion: Criterion, threshold: Decimals) -> Kind
 }
 
 /// A relation of two inputs.
-fn relational(operator: Relation) -> Kind
+fn relation(operator: Relation) -> Kind
     ensures { result ≡ Kind.Relational operator }
 {
     Kind::Relational { operator }
@@ -148,7 +148,7 @@ fn delay(length: u32, initial: Decimals) -> Kind
 }
 
 /// A change of the period.
-fn rate_transition(period: Decimal, initial: Decimals) -> Kind
+fn transition(period: Decimal, initial: Decimals) -> Kind
     ensures { result ≡ Kind.RateTransition period initial }
 {
     Kind::RateTransition { period, initial }
@@ -171,8 +171,7 @@ pub fn part_of(
     ensures { IfOk result (λ part. part ≡ part_of standing block_type settings) }
 {
     let said = settings.said;
-    let number = said.number;
-    let part = match block_type {
+    Ok(match block_type {
         BlockType::Inport => in_part(standing, settings.into_said()),
         BlockType::Outport => out_part(standing, said, settings.into_list()),
         BlockType::SubSystem => {
@@ -185,25 +184,20 @@ pub fn part_of(
         BlockType::Constant => plain(said, constant(settings.into_list()), 0, 1),
         BlockType::Ground => plain(settings.into_said(), Kind::Ground, 0, 1),
         BlockType::Terminator => plain(settings.into_said(), Kind::Terminator, 1, 0),
-        BlockType::Sum => plain(said, sum(settings.into_signs()), number, 1),
+        BlockType::Sum => plain(said, sum(settings.into_signs()), said.number, 1),
         BlockType::Gain => plain(said, gain(settings.into_list(), said.coefficient), 1, 1),
         BlockType::Product => plain(settings.into_said(), Kind::Product, 2, 1),
         BlockType::UnitDelay => plain(said, delay(1, settings.into_list()), 1, 1),
-        BlockType::Delay => plain(said, delay(number, settings.into_list()), 1, 1),
+        BlockType::Delay => plain(said, delay(said.number, settings.into_list()), 1, 1),
         BlockType::Switch => plain(said, switch(said.criterion, settings.into_list()), 3, 1),
-        BlockType::RelationalOperator => {
-            plain(settings.into_said(), relational(said.relation), 2, 1)
-        }
-        BlockType::Logic => plain(settings.into_said(), logic(said.gate), number, 1),
-        BlockType::DataTypeConversion => { plain(settings.into_said(), convert(said.flag), 1, 1) }
-        BlockType::Mux => plain(said, mux(settings.into_sizes()), number, 1),
+        BlockType::RelationalOperator => plain(settings.into_said(), relation(said.relation), 2, 1),
+        BlockType::Logic => plain(settings.into_said(), logic(said.gate), said.number, 1),
+        BlockType::DataTypeConversion => plain(settings.into_said(), convert(said.flag), 1, 1),
+        BlockType::Mux => plain(said, mux(settings.into_sizes()), said.number, 1),
         BlockType::Demux => {
-            let sizes = open_sizes(alloc, number, settings.into_sizes())?;
-            plain(said, Kind::Demux { sizes }, 1, number)
+            let sizes = open_sizes(alloc, said.number, settings.into_sizes())?;
+            plain(said, Kind::Demux { sizes }, 1, said.number)
         }
-        BlockType::RateTransition => {
-            plain(said, rate_transition(said.rate, settings.into_list()), 1, 1)
-        }
-    };
-    Ok(part)
+        BlockType::RateTransition => plain(said, transition(said.rate, settings.into_list()), 1, 1),
+    })
 }
