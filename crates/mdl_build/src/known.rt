@@ -1,11 +1,12 @@
 //! A tree with what is known of its items, and the rule of structure.
-ghost use Rattle.std.specs.Prelude.{◌≡◌, ◌<◌, true, false, [], length, IfOk, IfErr, IfSome, MatchOption, Some, option_map, find, not};
+ghost use Rattle.std.specs.Prelude.{◌≡◌, ◌<◌, true, false, [], length, IfOk, IfErr, OnOk, IfSome, MatchOption, None, Some, option_map, find, not};
 ghost use Rattle.dg_model.specs.declared.fault.RuleFault.{RuleFault};
 ghost use Rattle.dg_model.specs.declared.fault.CheckFault.TheVariants.{Broken};
 ghost use Rattle.dg_model.specs.declared.fault.Shown.TheVariants.{Nothing, Word};
 ghost use Rattle.dg_model.specs.declared.rule.Rule.{Rule};
 ghost use Rattle.dg_model.specs.Faults.{fault_of, IsRefusal};
 ghost use Rattle.mdl_build.specs.Blocks.{path_of};
+ghost use Rattle.mdl_build.specs.Lines.{lines_of};
 ghost use Rattle.mdl_build.specs.Roles.{role_of, is_block, blocks_of};
 ghost use Rattle.mdl_build.specs.Rules.{keeps_structure, structure_fault};
 ghost use Rattle.mdl_build.specs.inner.Known.{IsKnown, IsStructured, keeps_sizes};
@@ -130,6 +131,24 @@ impl<'a> Known<'a> {
     }
 }
 
+/// The lines of a tree, where these and its blocks keep the rule of structure.
+fn kept_lines(alloc: Global, known: &Known) -> Result<NestedLines, CheckFault>
+    requires known { IsKnown known.now }
+    requires sizes { keeps_sizes known.now.layout.items.now ≡ true }
+    ensures lines { IfOk result (λ lines. lines ≡ lines_of known.now.layout.items.now) }
+    ensures keeps { OnOk result (structure_fault known.now.layout.items.now ≡ None) }
+    ensures err { IfErr result
+        (IsRefusal (λ fault. structure_fault known.now.layout.items.now ≡ Some fault)) }
+{
+    let Some(lines) = lines(alloc, &known.layout, &known.roles, &known.blocks)? else {
+        return Err(broken_model());
+    };
+    match known.misshapen(alloc)? {
+        None => Ok(lines),
+        Some(fault) => Err(CheckFault::Broken(fault)),
+    }
+}
+
 /// The tree of these items and its lines, where it keeps the rule of structure.
 pub fn structure_of<'a>(alloc: Global, items: &'a [Item]) -> Result<Structured<'a>, CheckFault>
     ensures ok { IfOk result (IsStructured items.now) }
@@ -138,11 +157,6 @@ pub fn structure_of<'a>(alloc: Global, items: &'a [Item]) -> Result<Structured<'
     let Some(known) = known_of(alloc, items)? else {
         return Err(broken_model());
     };
-    let Some(lines) = lines(alloc, &known.layout, &known.roles, &known.blocks)? else {
-        return Err(broken_model());
-    };
-    match known.misshapen(alloc)? {
-        None => Ok(Structured { known, lines }),
-        Some(fault) => Err(CheckFault::Broken(fault)),
-    }
+    let lines = kept_lines(alloc, &known)?;
+    Ok(Structured { known, lines })
 }

@@ -1,27 +1,25 @@
-use Rattle.std.proofs.Common.{◌≡◌, length, true, sym, ap, ◌∙◌}
+use Rattle.std.proofs.Common.{◌≡◌, true, sym, ap, ◌∙◌}
+use Rattle.mdl_build.specs.Lines.{lines_of}
 use Rattle.mdl_build.specs.Rules.{structure_fault}
 use Rattle.mdl_build.specs.inner.Known.{IsKnown, keeps_sizes}
-use Rattle.mdl_build.specs.inner.Lines.{are_joined_before}
-use Rattle.mdl_build.proofs.KnownLemmas.{model_keeps}
 use Rattle.mdl_build.proofs.known.structure_of.Goals as goal
 
-pub returns-clause-err : goal.returns-clause-err
-returns-clause-err c =
-    let its = c.in-Some.known.layout.items.now in
-    let items_are : its ≡ c.args.items.now = rw c.in-Some.is at c.in_ok-known.ensures.items in
+pub kept_lines-requires-clause-known : goal.kept_lines-requires-clause-known
+kept_lines-requires-clause-known c = rw c.in-Some.is at c.in_ok-known.ensures.known
+
+pub kept_lines-requires-clause-sizes : goal.kept_lines-requires-clause-sizes
+kept_lines-requires-clause-sizes c =
+    let items_are : c.in-Some.known.layout.items.now ≡ c.args.items.now = rw c.in-Some.is at c.in_ok-known.ensures.items in
     let sizes : keeps_sizes c.args.items.now ≡ true = rw c.in-Some.is at c.in_ok-known.ensures.sizes in
-    let joined : are_joined_before its (length its) ≡ true = rw c.in-Some-2.is at c.in_ok-lines.ensures.joined in
-    ap structure_fault (sym items_are) ∙ model_keeps its (ap keeps_sizes items_are ∙ sizes) joined ∙ sym c.in_ok-misshapen.ensures ∙ c.in-Some-3.is
+    ap keeps_sizes items_are ∙ sizes
 
-pub lines-requires-clause-roles : goal.lines-requires-clause-roles
-lines-requires-clause-roles c =
+pub returns-clause-ok : goal.returns-clause-ok
+returns-clause-ok c =
+    let items_are : c.in-Some.known.layout.items.now ≡ c.args.items.now = rw c.in-Some.is at c.in_ok-known.ensures.items in
     let known : IsKnown c.in-Some.known = rw c.in-Some.is at c.in_ok-known.ensures.known in
-    c.deref.ensures.value ∙ known.roles
-
-pub lines-requires-clause-known : goal.lines-requires-clause-known
-lines-requires-clause-known c =
-    let known : IsKnown c.in-Some.known = rw c.in-Some.is at c.in_ok-known.ensures.known in
-    known.blocks
-
-pub misshapen-requires : goal.misshapen-requires
-misshapen-requires c = rw c.in-Some.is at c.in_ok-known.ensures.known
+    record {
+      items_are = items_are;
+      known = known;
+      lines = c.in_ok-lines.ensures.lines ∙ ap lines_of items_are;
+      keeps = ap structure_fault (sym items_are) ∙ c.in_ok-lines.ensures.keeps;
+    }
