@@ -110,3 +110,13 @@ pub loop-step : {X : Type 0} (f : ℕ → List X) (start before after : List X) 
 loop-step f start before after n is more =
     more ∙ ap (λ (l : List _). l ++ f n) is ∙ append_assoc start (flat_map f (places n)) (f n)
     ∙ ap (λ (l : List _). start ++ l) (sym (one-more f n (n + 1) refl))
+
+-- ---- lists that grow at their end
+
+-- an item more
+pub put-next : {X : Type 0} (old items more front : List X) (item : X) → items ≡ old ++ front → more ≡ items ++ item ∷ [] → more ≡ old ++ (front ++ item ∷ [])
+put-next old items more front item are put = put ∙ ap (λ xs. xs ++ item ∷ []) are ∙ append_assoc old front (item ∷ [])
+
+-- a part, and then the rest
+pub put-before : {X : Type 0} (old items more part rest : List X) → items ≡ old ++ part → more ≡ items ++ rest → more ≡ old ++ (part ++ rest)
+put-before old items more part rest are put = put ∙ ap (λ xs. xs ++ rest) are ∙ append_assoc old part rest

@@ -1,5 +1,5 @@
 //! The header of a netlist's module.
-ghost use Rattle.std.specs.Prelude.{◌≡◌, ◌++◌, ◌<◌, length, IfOk, OnOk};
+ghost use Rattle.std.specs.Prelude.{◌≡◌, ◌++◌, ◌∷◌, ◌<◌, [], length, IfOk, OnOk};
 ghost use Rattle.vl_ast.specs.Header.{attribute_of, bit_input, bit_output};
 ghost use Rattle.vl_emit.specs.Header.{input_port, output_port};
 ghost use Rattle.vl_emit.specs.Header.{input_ports, output_ports, ports_of};
@@ -18,27 +18,29 @@ pub fn attribute(alloc: Global, name: &[u8], value: u64) -> Result<Attr, OutOfMe
     Ok(Attr { name, value })
 }
 
-fn bit_input(alloc: Global, name: &[u8]) -> Result<Port, OutOfMemory>
-    ensures { IfOk result (λ port. port ≡ bit_input name.now) }
+fn put_bit_input(alloc: Global, name: &[u8], ports: &mut Ports) -> Result<(), OutOfMemory>
+    ensures { OnOk result (ports.new ≡ ports.old ++ bit_input name.now ∷ []) }
 {
-    Ok(Port {
+    let name = Text::copy(alloc, name)?;
+    ports.push(Port {
         attrs: Attrs::new(alloc),
         input: true,
         signed: false,
         width: 1,
-        name: Text::copy(alloc, name)?,
+        name,
     })
 }
 
-fn bit_output(alloc: Global, name: &[u8]) -> Result<Port, OutOfMemory>
-    ensures { IfOk result (λ port. port ≡ bit_output name.now) }
+fn put_bit_output(alloc: Global, name: &[u8], ports: &mut Ports) -> Result<(), OutOfMemory>
+    ensures { OnOk result (ports.new ≡ ports.old ++ bit_output name.now ∷ []) }
 {
-    Ok(Port {
+    let name = Text::copy(alloc, name)?;
+    ports.push(Port {
         attrs: Attrs::new(alloc),
         input: false,
         signed: false,
         width: 1,
-        name: Text::copy(alloc, name)?,
+        name,
     })
 }
 
@@ -95,6 +97,18 @@ fn put_outputs(alloc: Global, netlist: &Netlist, ports: &mut Ports) -> Result<()
     Ok(())
 }
 
+fn put_ports(alloc: Global, netlist: &Netlist, ports: &mut Ports) -> Result<(), OutOfMemory>
+    requires { AreReady netlist.now }
+    ensures { OnOk result (ports.new ≡ ports.old ++ ports_of netlist.now) }
+{
+    put_bit_input(alloc, b"clk", ports)?;
+    put_bit_input(alloc, b"reset", ports)?;
+    put_bit_input(alloc, b"clk_enable", ports)?;
+    put_inputs(alloc, netlist, ports)?;
+    put_bit_output(alloc, b"ce_out", ports)?;
+    put_outputs(alloc, netlist, ports)
+}
+
 /// The clock, the reset, the clock enable, and the ports of a netlist in order, with `ce_out` before
 /// its outputs.
 pub fn module_ports(alloc: Global, netlist: &Netlist) -> Result<Ports, OutOfMemory>
@@ -102,11 +116,6 @@ pub fn module_ports(alloc: Global, netlist: &Netlist) -> Result<Ports, OutOfMemo
     ensures { IfOk result (λ ports. ports ≡ ports_of netlist.now) }
 {
     let mut ports = Ports::new(alloc);
-    ports.push(bit_input(alloc, b"clk")?)?;
-    ports.push(bit_input(alloc, b"reset")?)?;
-    ports.push(bit_input(alloc, b"clk_enable")?)?;
-    put_inputs(alloc, netlist, &mut ports)?;
-    ports.push(bit_output(alloc, b"ce_out")?)?;
-    put_outputs(alloc, netlist, &mut ports)?;
+    put_ports(alloc, netlist, &mut ports)?;
     Ok(ports)
 }

@@ -1,6 +1,7 @@
 //! The items of a netlist's module: declarations, then the drivers of Unit nets, then the other
 //! drivers, then the output ports, then `ce_out`.
 ghost use Rattle.std.specs.Prelude.{◌≡◌, ◌++◌, ◌<◌, ◌∷◌, [], length, map, IfOk, OnOk};
+ghost use Rattle.vl_ast.specs.declared.modules.ModItem.TheVariants.{Wire, Reg};
 ghost use Rattle.vl_ast.specs.Gated.{gated_item, shows_enable};
 ghost use Rattle.vl_emit.specs.inner.Emitted.{items_of};
 ghost use Rattle.vl_emit.specs.inner.Ready.{IsSource, circuit_of, net_count};
@@ -11,12 +12,32 @@ use crate::conditions::enable;
 use crate::driving::{
     comb_item, counter_item, held_item, put_bridge, reg_item, reset_item, unit_item,
 };
-use crate::operands::{hold_text, named, text_of};
+use crate::operands::{Operand, hold_text, named, text_of};
 use crate::source::{Source, operand};
 use fx_io::{OutOfMemory, Text};
 use hw_net::NetKind;
 use std::alloc::Global;
 use vl_ast::{ModItem, ModItems};
+
+fn wire(net: Operand, name: Text) -> ModItem
+    ensures { result ≡ Wire net.entry.signed net.entry.width name }
+{
+    ModItem::Wire {
+        signed: net.signed,
+        width: net.width,
+        name,
+    }
+}
+
+fn reg(net: Operand, name: Text) -> ModItem
+    ensures { result ≡ Reg net.entry.signed net.entry.width name }
+{
+    ModItem::Reg {
+        signed: net.signed,
+        width: net.width,
+        name,
+    }
+}
 
 /// The declarations of a net.
 fn declare(
@@ -30,37 +51,17 @@ fn declare(
     ensures { OnOk result (items.new ≡ items.old ++ declarers_in source.entry own) }
 {
     let net = operand(source, own);
-    let signed = net.signed;
-    let width = net.width;
     let name = text_of(alloc, net.called)?;
     match source.netlist.nets()[own].kind {
-        NetKind::Comb { .. } | NetKind::Unit { .. } => items.push(ModItem::Wire {
-            signed,
-            width,
-            name,
-        })?,
+        NetKind::Comb { .. } | NetKind::Unit { .. } => items.push(wire(net, name)),
         NetKind::Reg { .. } | NetKind::EnReg { .. } | NetKind::Counter { .. } => {
-            items.push(ModItem::Reg {
-                signed,
-                width,
-                name,
-            })?
+            items.push(reg(net, name))
         }
         NetKind::Bridge { .. } => {
-            items.push(ModItem::Wire {
-                signed,
-                width,
-                name,
-            })?;
-            let name = hold_text(alloc, own)?;
-            items.push(ModItem::Reg {
-                signed,
-                width,
-                name,
-            })?
+            items.push(wire(net, name))?;
+            items.push(reg(net, hold_text(alloc, own)?))
         }
     }
-    Ok(())
 }
 
 /// The driver of a Unit net, before those of the others.

@@ -4,6 +4,7 @@ ghost use Rattle.vl_ast.specs.declared.expressions.Expr.TheVariants.{Unary, Bina
 ghost use Rattle.hw_net.specs.declared.netlist.NetOp.TheVariants.{Less, Equal};
 ghost use Rattle.vl_emit.specs.inner.Operators.{compared, widened, signed_width, common_width};
 ghost use Rattle.vl_emit.specs.inner.Operators.{test_of, slice_at, shifted_up};
+ghost use Rattle.vl_emit.specs.inner.Spelled.{at_width};
 ghost use Rattle.vl_emit.specs.inner.Emitted.{constant, plain_number};
 ghost use Rattle.vl_emit.specs.inner.Spoken.{wire_at, CanBeWritten, HasRoom, IsWithin};
 ghost use Rattle.vl_emit.specs.inner.Spoken.{both_at, comparison_at, choice_at, operation_at};
@@ -37,9 +38,12 @@ pub fn constant(width: u8, signed: bool, number: i128) -> Sized
     }
 }
 
-fn unary(alloc: Global, op: UnOp, part: Expr) -> Result<Expr, OutOfMemory>
-    ensures { IfOk result (λ e. e ≡ Unary op part) }
+fn unary(alloc: Global, op: UnOp, operand: Operand, width: u32) -> Result<Expr, OutOfMemory>
+    requires net { CanBeWritten operand }
+    requires width { HasRoom width }
+    ensures { IfOk result (λ e. e ≡ Unary op (at_width width (wire_at operand.entry))) }
 {
+    let part = at_width(alloc, operand, width)?;
     Ok(Expr::Unary(op, Boxed::new(alloc, part)?))
 }
 
@@ -191,15 +195,16 @@ fn slice_at(
     alloc: Global,
     width: u32,
     operand: Operand,
+    high: u32,
     low: u32,
-    count: u32,
 ) -> Result<Expr, OutOfMemory>
     requires net { CanBeWritten operand }
     requires width { HasRoom width }
-    requires low { low < 256 }
-    requires count { HasRoom count }
-    ensures { IfOk result (λ e. e ≡ slice_at width (wire_at operand.entry) low count) }
+    requires order { low ≤ high }
+    requires within { high < operand.width }
+    ensures { IfOk result (λ e. e ≡ slice_at width (wire_at operand.entry) low (high + 1 - low)) }
 {
+    let count = high + 1 - low;
     if width <= count {
         return piece(alloc, operand, low, width);
     }
@@ -235,21 +240,15 @@ pub fn expression(
         NetOp::ShiftDown(places) => piece(alloc, first, places as u32, width),
         NetOp::Add => in_width(alloc, BinOp::Add, first, second, width),
         NetOp::Subtract => in_width(alloc, BinOp::Subtract, first, second, width),
-        NetOp::Negate => unary(alloc, UnOp::Negate, at_width(alloc, first, width)?),
+        NetOp::Negate => unary(alloc, UnOp::Negate, first, width),
         NetOp::Multiply => in_width(alloc, BinOp::Multiply, first, second, width),
         NetOp::And => in_width(alloc, BinOp::And, first, second, width),
         NetOp::Or => in_width(alloc, BinOp::Or, first, second, width),
         NetOp::Xor => in_width(alloc, BinOp::Xor, first, second, width),
-        NetOp::Not => unary(alloc, UnOp::Invert, at_width(alloc, first, width)?),
+        NetOp::Not => unary(alloc, UnOp::Invert, first, width),
         NetOp::Less => less(alloc, first, second, width),
         NetOp::Equal => equal(alloc, first, second, width),
         NetOp::Choose => choice(alloc, first, second, third, width),
-        NetOp::Slice { high, low } => slice_at(
-            alloc,
-            width,
-            first,
-            low as u32,
-            high as u32 + 1 - low as u32,
-        ),
+        NetOp::Slice { high, low } => slice_at(alloc, width, first, high as u32, low as u32),
     }
 }

@@ -1,0 +1,23 @@
+use Rattle.std.proofs.Common.{[], ◌∷◌, ◌++◌, ◌≡◌, List, codes}
+use Rattle.std.proofs.lemmas.Result.{on_ok_weaker}
+use Rattle.vl_ast.specs.declared.modules.Port.{Port}
+use Rattle.vl_ast.specs.Header.{bit_input, bit_output}
+use Rattle.vl_emit.specs.Header.{input_ports, output_ports}
+use Rattle.vl_emit.proofs.Lists.{put-before, put-next}
+use Rattle.vl_emit.proofs.header.put_ports.Goals as goal
+
+pub returns : goal.returns
+returns c =
+    let clk : Port = bit_input (codes "clk") in
+    let reset : Port = bit_input (codes "reset") in
+    let enable : Port = bit_input (codes "clk_enable") in
+    let shows : Port = bit_output (codes "ce_out") in
+    let ins : List Port = input_ports c.args.netlist.now in
+    let outs : List Port = output_ports c.args.netlist.now in
+    let old : List Port = c.args.ports.now in
+    let mid : List Port = c.put_inputs.new.ports in
+    let two = put-next old c.put_bit_input.new.ports c.put_bit_input-2.new.ports (clk ∷ []) reset c.in_ok-put_bit_input.ensures c.in_ok-put_bit_input-2.ensures in
+    let three = put-next old c.put_bit_input-2.new.ports c.put_bit_input-3.new.ports (clk ∷ reset ∷ []) enable two c.in_ok-put_bit_input-3.ensures in
+    let front : mid ≡ old ++ (clk ∷ reset ∷ enable ∷ ins) = put-before old c.put_bit_input-3.new.ports mid (clk ∷ reset ∷ enable ∷ []) ins three c.in_ok-put_inputs.ensures in
+    on_ok_weaker c.put_outputs.result (λ put. put-before old mid c.put_outputs.new.ports (clk ∷ reset ∷ enable ∷ ins) (shows ∷ outs) front
+    (put-before mid c.put_bit_output.new.ports c.put_outputs.new.ports (shows ∷ []) outs c.in_ok-put_bit_output.ensures put)) c.put_outputs.ensures
