@@ -121,10 +121,14 @@ pub fn piece(alloc: Global, operand: Operand, low: u32, width: u32) -> Result<Ex
     if low + width <= operand.width {
         return inside(alloc, operand, low, width);
     }
-    let mut parts = Exprs::new(alloc);
-    parts.push(fill(alloc, operand, low + width - operand.width)?)?;
-    parts.push(inside(alloc, operand, low, operand.width - low)?)?;
-    Ok(Expr::Concat(parts))
+    let left = fill(alloc, operand, low + width - operand.width)?;
+    match inside(alloc, operand, low, operand.width - low) {
+        Ok(right) => beside(alloc, left, right),
+        Err(wanting) => {
+            drop(left);
+            Err(wanting)
+        }
+    }
 }
 
 /// An operand at the width at which it is used.
