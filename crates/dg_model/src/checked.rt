@@ -11,7 +11,7 @@ use std::marker::Model;
 
 /// A diagram that is well formed and keeps the rules of dimensions, types, rates and loops, with what
 /// propagation gives its blocks (own). Contracts see the diagram and an order of its blocks.
-#[derive(Debug, Drop)]
+#[derive(Drop)]
 pub struct Checked {
     diagram: Diagram,
     values: Propagated,

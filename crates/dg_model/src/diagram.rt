@@ -5,7 +5,7 @@ use fx_type::{Decimal, Rounding, TypeSpec};
 
 /// A flat block diagram: subsystems are taken apart, and every signal line is one edge from an output
 /// port to an input port (Simulink reference, block diagrams; flattening own).
-#[derive(Debug, Drop)]
+#[derive(Drop)]
 pub struct Diagram {
     /// The blocks in file order. A block is named by its place here, from 0.
     pub blocks: Blocks,
@@ -27,7 +27,7 @@ pub struct Edge {
 }
 
 /// A block with its parameters (Simulink reference, block parameters).
-#[derive(Debug, Drop)]
+#[derive(Drop)]
 pub struct Block {
     /// The names from the root to the block, joined by `/`; a `/` inside a name is written `//`.
     pub path: Path,

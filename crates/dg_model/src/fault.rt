@@ -2,7 +2,7 @@ use crate::rule::Rule;
 use fx_io::{OutOfMemory, Sizes, Text};
 
 /// Why a check answers no (own).
-#[derive(Debug, Drop)]
+#[derive(Drop)]
 pub enum CheckFault {
     /// A rule is broken.
     Broken(RuleFault),
@@ -11,7 +11,7 @@ pub enum CheckFault {
 }
 
 /// The first broken rule with its first place (own).
-#[derive(Debug, Drop)]
+#[derive(Drop)]
 pub struct RuleFault {
     /// The rule.
     pub rule: Rule,
@@ -22,7 +22,7 @@ pub struct RuleFault {
 }
 
 /// What is told of a broken rule (own).
-#[derive(Debug, Drop)]
+#[derive(Drop)]
 pub enum Shown {
     /// Nothing.
     Nothing,

@@ -2,7 +2,7 @@ use fx_io::{Flags, Sequence, Sizes};
 use fx_type::{Decimal, TypeSpec};
 
 /// What a block does, with the parameters that only its kind has (Simulink reference, block library).
-#[derive(Debug, Drop)]
+#[derive(Drop)]
 pub enum Kind {
     /// A root input port. Its `number` is from 1, and a `width` of 0 is not declared.
     Inport {

@@ -10,7 +10,7 @@ use std::sync::Arc;
 
 /// The path of a block (own): its name, in which a `/` stands twice, behind the path of the System
 /// around it, which all blocks in there share. Contracts see the bytes of the whole.
-#[derive(Debug, Drop)]
+#[derive(Drop)]
 pub struct Path {
     around: Option<Arc<Path>>,
     name: Text,

@@ -4,7 +4,7 @@ use fx_type::FxType;
 
 /// What propagation gives each block of a diagram (Simulink reference, signal attributes and sorted
 /// order).
-#[derive(Debug, Drop)]
+#[derive(Drop)]
 pub struct Propagated {
     /// The widths at the output ports of each block.
     pub widths: PortWidths,

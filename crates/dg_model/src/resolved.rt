@@ -1,7 +1,7 @@
 use fx_io::Sizes;
 
 /// A plan whose paths are found in a diagram (own).
-#[derive(Debug, Drop)]
+#[derive(Drop)]
 pub struct Resolved {
     /// Clocks in one base sample, 1 to 1024.
     pub cycles: u32,

@@ -5,7 +5,7 @@ ghost use Rattle.dg_model.specs.RuleTable.{rule_number, rule_word};
 /// A rule of models, of plans or of ports, in the order in which they are tried (Simulink
 /// reference, model files, signal attributes, sample times and algebraic loops; those of plans and
 /// of ports are own).
-#[derive(Clone, Copy, Debug)]
+#[derive(Clone, Copy)]
 pub enum Rule {
     /// The sections of a text are those of one model, with blocks that differ in their names and
     /// lines that join blocks.

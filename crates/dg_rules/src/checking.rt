@@ -10,7 +10,7 @@ use dg_types::{BlockTypes, types, widths};
 use std::alloc::Global;
 
 /// A diagram that isn't accepted, and why.
-#[derive(Debug, Drop)]
+#[derive(Drop)]
 pub struct Refused {
     /// The first rule that it breaks, or want of memory.
     pub fault: CheckFault,

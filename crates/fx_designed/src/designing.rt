@@ -15,7 +15,7 @@ use hw_rules::{Planned, plan_on};
 use std::alloc::Global;
 
 /// A model's diagram under a plan that keeps the rules on it (own).
-#[derive(Debug, Drop)]
+#[derive(Drop)]
 pub struct Designed {
     /// The model's diagram.
     pub checked: Checked,

@@ -13,7 +13,7 @@ use mdl_text::{MdlFault, Tree};
 use std::alloc::Global;
 
 /// Why a model has no checked diagram (own).
-#[derive(Debug, Drop)]
+#[derive(Drop)]
 pub enum ModelFault {
     /// The bytes are no MDL text; they stop being the beginning of one at this line, from 1.
     NotMdl { line: u64 },

@@ -1,7 +1,7 @@
 use dg_model::{Rule, Shown};
 
 /// What a plan is worth (own).
-#[derive(Debug, Drop)]
+#[derive(Drop)]
 pub enum Judged {
     /// It keeps the rules: the module has `owed` multiplications, and `latency` clocks are the
     /// greatest latency that it declares of an output.
@@ -11,7 +11,7 @@ pub enum Judged {
 }
 
 /// A plan of so many clocks and multipliers without pipelines, and what it is worth (own).
-#[derive(Debug, Drop)]
+#[derive(Drop)]
 pub struct Finding {
     /// Clocks in one base sample.
     pub cycles: u32,

@@ -5,7 +5,7 @@ use fx_io::Sequence;
 pub type FindingRows = Sequence<Finding>;
 
 /// What is found of the plans of a range (own).
-#[derive(Debug, Drop)]
+#[derive(Drop)]
 pub struct Findings {
     /// What is found of each plan, in order.
     pub rows: FindingRows,

@@ -11,7 +11,7 @@ use dg_rules::resolve;
 use std::alloc::Global;
 
 /// A plan whose paths are found in a diagram, and the times of the diagram by it (own).
-#[derive(Debug, Drop)]
+#[derive(Drop)]
 pub struct Planned {
     /// The plan by the diagram's blocks.
     pub resolved: Resolved,
