@@ -10,7 +10,7 @@ use fx_tables::{Column, Columns};
 use std::alloc::Global;
 
 /// The columns of a diagram's stimulus and response.
-#[derive(Debug, Drop)]
+#[derive(Drop)]
 pub struct RootColumns {
     /// One for each root input element, in order of ports and elements.
     pub inputs: Columns,

@@ -2,7 +2,7 @@
 use fx_io::Sequence;
 
 /// Where entries of a table stand: a block by its place, an output port from 1 and an element from 0.
-#[derive(Clone, Copy, Debug, PartialEq, Eq)]
+#[derive(Clone, Copy, PartialEq, Eq)]
 pub struct Place {
     pub block: u32,
     pub port: u32,

@@ -4,7 +4,7 @@ use fx_io::{Cells, Sequence};
 use thiserror::Error;
 
 /// What one field of each line holds: an element of an input or an output (own).
-#[derive(Clone, Copy, Debug)]
+#[derive(Clone, Copy)]
 pub struct Column {
     /// The least stored integer.
     pub low: i128,
@@ -18,7 +18,7 @@ pub struct Column {
 pub type Columns = Sequence<Column>;
 
 /// The numbers of a table, line by line (own). A cell where no number stands is 0.
-#[derive(Debug, Drop)]
+#[derive(Drop)]
 pub struct Rows {
     /// How many lines there are, one per base sample.
     pub lines: u64,

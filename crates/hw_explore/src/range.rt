@@ -1,5 +1,5 @@
 /// From a number to another (own).
-#[derive(Clone, Copy, Debug)]
+#[derive(Clone, Copy)]
 pub struct Ends {
     /// The lowest number.
     pub low: u64,
@@ -9,7 +9,7 @@ pub struct Ends {
 
 /// Numbers of clocks for a base sample and numbers of multipliers, each from the lowest to the
 /// highest (own).
-#[derive(Clone, Copy, Debug, PartialEq, Eq)]
+#[derive(Clone, Copy, PartialEq, Eq)]
 pub struct Range {
     /// The least number of clocks, at least 1.
     pub low_cycles: u32,

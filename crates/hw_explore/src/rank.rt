@@ -2,7 +2,7 @@ ghost use Rattle.std.specs.Prelude.{◌↔◌, IsTrue};
 ghost use Rattle.hw_explore.specs.Findings.{IsBetter};
 
 /// By what good plans are compared, in this order (own).
-#[derive(Clone, Copy, Debug)]
+#[derive(Clone, Copy)]
 pub struct Rank {
     /// The multiplications of the module.
     pub multiplications: u64,

@@ -12,7 +12,7 @@ use hw_latency::{Latencies, LatencyFault, latencies_of};
 use std::alloc::Global;
 
 /// The latencies of blocks by a plan, or a cycle of blocks that leaves none.
-#[derive(Debug, Drop)]
+#[derive(Drop)]
 pub enum Timed {
     /// The least latencies.
     Kept(Latencies),
@@ -21,7 +21,7 @@ pub enum Timed {
 }
 
 /// The latencies by plans without pipelines, one for each of the ways to share multiplications.
-#[derive(Debug, Drop)]
+#[derive(Drop)]
 pub struct BySharing {
     /// No multiplication is shared.
     none: Timed,

@@ -14,7 +14,7 @@ use hw_sched::{BudgetFault, SizeFault, Sizing, Slots, check_size, slots_of};
 use std::alloc::Global;
 
 /// The times and the size of a diagram's module by a plan (own).
-#[derive(Debug, Drop)]
+#[derive(Drop)]
 pub struct Times {
     /// How late the outputs of blocks are.
     pub latencies: Latencies,

@@ -5,7 +5,7 @@ ghost use Rattle.hw_sched.specs.inner.Keys.{word_of as word_of_type, key_of, kin
 use fx_type::FxType;
 
 /// The word of a type that has numbers.
-#[derive(Clone, Copy, Debug, PartialEq, Eq, PartialOrd, Ord)]
+#[derive(Clone, Copy, PartialEq, Eq, PartialOrd, Ord)]
 pub struct Word {
     pub signed: bool,
     pub width: u8,
@@ -13,7 +13,7 @@ pub struct Word {
 }
 
 /// A kind of operations: those of one kind can be served by one multiplier.
-#[derive(Clone, Copy, Debug, PartialEq, Eq, PartialOrd, Ord)]
+#[derive(Clone, Copy, PartialEq, Eq, PartialOrd, Ord)]
 pub struct KindKey {
     pub period: u64,
     pub lat: u64,

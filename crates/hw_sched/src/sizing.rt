@@ -13,7 +13,7 @@ use hw_latency::Latencies;
 use hw_slots::total;
 
 /// How large a module is (own).
-#[derive(Clone, Copy, Debug, PartialEq, Eq)]
+#[derive(Clone, Copy, PartialEq, Eq)]
 pub struct Sizing {
     /// Its registers at the most, one for each element.
     pub storage: u64,
@@ -22,7 +22,7 @@ pub struct Sizing {
 }
 
 /// Why there is no module of such a size (own).
-#[derive(Debug, Drop)]
+#[derive(Drop)]
 pub enum SizeFault {
     /// It has too many registers, or is too late.
     Size { storage: u64, latency: u64 },

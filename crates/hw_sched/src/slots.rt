@@ -18,7 +18,7 @@ use std::alloc::Global;
 
 /// When and where shared operations are served, in order of their blocks and elements, and when
 /// outputs are ready (own; HDL Coder, resource sharing).
-#[derive(Debug, Drop)]
+#[derive(Drop)]
 pub struct Slots {
     /// The slot of each shared operation in its period, in clocks.
     pub starts: Longs,
@@ -32,7 +32,7 @@ pub struct Slots {
 }
 
 /// Why there are no slots (own).
-#[derive(Debug, Drop)]
+#[derive(Drop)]
 pub enum BudgetFault {
     /// The least period whose operations need more slots than it has.
     Budget { period: u32, need: u64, have: u64 },

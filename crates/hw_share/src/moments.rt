@@ -12,14 +12,14 @@ use std::alloc::Global;
 use std::collections::BTreeMap;
 
 /// A clock of a frame.
-#[derive(Clone, Copy, Debug, PartialEq, Eq, PartialOrd, Ord)]
+#[derive(Clone, Copy, PartialEq, Eq, PartialOrd, Ord)]
 pub struct Moment {
     pub frame: Frame,
     pub slot: u64,
 }
 
 /// A clock, and the net that tests for it.
-#[derive(Clone, Copy, Debug)]
+#[derive(Clone, Copy)]
 pub struct Known {
     pub moment: Moment,
     pub number: u32,

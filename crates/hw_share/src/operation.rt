@@ -2,7 +2,7 @@
 use hw_net::Frame;
 
 /// A multiplication that shares its multiplier with others (own; HDL Coder, resource sharing).
-#[derive(Clone, Copy, Debug)]
+#[derive(Clone, Copy)]
 pub struct Operation {
     /// The frame in which its operands stand.
     pub frame: Frame,

@@ -11,7 +11,7 @@ pub struct Spot {
 }
 
 /// How a list goes on over a line.
-#[derive(Clone, Copy, Debug, PartialEq, Eq)]
+#[derive(Clone, Copy, PartialEq, Eq)]
 pub enum ListEnd {
     /// Its last bracket stands on the line, and so many bytes are its own.
     Closed { taken: usize },

@@ -17,14 +17,14 @@ use std::mem;
 const DEEPEST: u32 = 256;
 
 /// The items so far, and how many sections are open.
-#[derive(Debug, Drop)]
+#[derive(Drop)]
 pub struct Draft {
     pub items: Items,
     pub depth: u32,
 }
 
 /// A parameter that the next line may go on with.
-#[derive(Debug, Drop)]
+#[derive(Drop)]
 pub enum Pending<'a> {
     Nothing,
     /// A quoted value, which further text may follow.
@@ -42,7 +42,7 @@ pub enum Pending<'a> {
 }
 
 /// What the lines so far say.
-#[derive(Debug, Drop)]
+#[derive(Drop)]
 pub struct Reader<'a> {
     pub draft: Draft,
     pub pending: Pending<'a>,

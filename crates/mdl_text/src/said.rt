@@ -5,7 +5,7 @@ use std::alloc::Global;
 use std::marker::Model;
 
 /// A piece of the text that is read (own). Contracts see the list of its bytes.
-#[derive(Debug, Drop)]
+#[derive(Drop)]
 pub struct Piece<'a> {
     bytes: &'a [u8],
 }
@@ -33,7 +33,7 @@ impl<'a> Piece<'a> {
 }
 
 /// Where the bytes stand.
-#[derive(Debug, Drop)]
+#[derive(Drop)]
 enum Stored<'a> {
     Lent(Piece<'a>),
     Gathered(Vec<u8>),
@@ -41,7 +41,7 @@ enum Stored<'a> {
 
 /// What a value says so far (own): a piece of the text as long as one piece says it all, else bytes
 /// gathered from several. Contracts see the list of the bytes.
-#[derive(Debug, Drop)]
+#[derive(Drop)]
 pub struct Said<'a> {
     stored: Stored<'a>,
 }

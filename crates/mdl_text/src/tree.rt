@@ -5,13 +5,13 @@ pub type Items = Sequence<Item>;
 
 /// What an MDL text stands for. A section holds the items after it up to the next one that is not
 /// deeper than itself.
-#[derive(Debug, Drop)]
+#[derive(Drop)]
 pub struct Tree {
     pub items: Items,
 }
 
 /// A section or a parameter.
-#[derive(Debug, Drop)]
+#[derive(Drop)]
 pub struct Item {
     /// How many sections hold it: 0 at the top.
     pub depth: u32,
@@ -21,7 +21,7 @@ pub struct Item {
 }
 
 /// What an item has after its name, with its content.
-#[derive(Debug, Drop)]
+#[derive(Drop)]
 pub enum Value {
     /// It is a section, whose items follow.
     Section,

@@ -3,7 +3,7 @@ ghost use Rattle.vl_eval.specs.inner.Ops.{op_value, reads_below};
 
 /// One step of a row: a value from values that stand before it. Widths, signs and contexts are worked
 /// out when it is made, so that it is arithmetic on whole words alone. Operands are places of values.
-#[derive(Clone, Copy, Debug)]
+#[derive(Clone, Copy)]
 pub enum Op {
     /// The bits.
     Constant(u128),

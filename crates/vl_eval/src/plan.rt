@@ -17,14 +17,14 @@ use vl_ast::{Expr, ModItem, Module, meaning_by_layer};
 use vl_check::{Scope, VlFault, check, is_number_output, is_stallable, net};
 
 /// What a register takes at an edge: the value at a place, into its own.
-#[derive(Clone, Copy, Debug)]
+#[derive(Clone, Copy)]
 pub struct Capture {
     pub from: usize,
     pub to: usize,
 }
 
 /// Where an output port has its value, and how it is read.
-#[derive(Clone, Copy, Debug)]
+#[derive(Clone, Copy)]
 pub struct Output {
     pub slot: usize,
     pub width: u32,

@@ -19,7 +19,7 @@ const PLACES: usize = 1 << 32;
 /// number 32, and fields stand in the order in which they leave no room: so it has 24 bytes, of which
 /// an operation has 64. Sums, differences and products of words of up to 64 bits are worked out in 64
 /// bits.
-#[derive(Clone, Copy, Debug)]
+#[derive(Clone, Copy)]
 pub enum Step {
     Constant(u64),
     Extended {
