@@ -12,7 +12,7 @@ use hw_net::{FrameIndex, Net, NetKind, Netlist, is_netlist};
 use std::alloc::Global;
 use std::io::Write;
 use std::thread::Threads;
-use tests_rows::{Row, Texts, written};
+use tests_rows::{Answers, Row, Texts, written};
 
 /// What stands between rows.
 #[derive(Drop)]
@@ -130,9 +130,8 @@ impl Bench {
     }
 }
 
-impl Bench {
-    /// Takes a line that is no text's, and writes its answer.
-    pub fn take<R: Threads + Sync, W: Write>(
+impl Answers for Bench {
+    fn take<R: Threads + Sync, W: Write>(
         &mut self,
         rt: &R,
         alloc: Global,

@@ -48,32 +48,9 @@ mod texts;
 
 use crate::bench::Bench;
 use anyhow::Result;
-use std::alloc::Global;
-use std::io::{self, BufRead, BufWriter, Input, Write};
-use std::thread::Threads;
-use tests_rows::{Texts, written};
+use tests_rows::answer_lines;
 
 fn main(rt: HostRuntime) -> Result<()> {
-    let alloc = rt.alloc();
-    let mut out = BufWriter::new(alloc, io::writer(&rt))?;
-    let mut texts = Texts::new(alloc);
-    let mut bench = Bench::new(alloc);
-    answer_each(&rt, alloc, &mut bench, &mut texts, &mut out)
-}
-
-/// Answers the lines of standard input, one after another.
-fn answer_each<R: Input + Threads + Sync, W: Write>(
-    rt: &R,
-    alloc: Global,
-    bench: &mut Bench,
-    texts: &mut Texts,
-    out: &mut W,
-) -> Result<()> {
-    for line in rt.reader().lines(alloc) {
-        let line = line?;
-        if !texts.take(alloc, line.as_str())? {
-            bench.take(rt, alloc, texts, line.as_str(), out)?;
-        }
-    }
-    written(out.flush())
+    let mut bench = Bench::new(rt.alloc());
+    answer_lines(&rt, rt.alloc(), &mut bench)
 }

@@ -8,6 +8,8 @@ use std::thread::Threads;
 
 /// What a program of rows keeps between lines.
 pub trait Answers {
+    ghost use Rattle.std.specs.Thread.{IsSync};
+
     /// Takes a line that is no text's, and writes its answer.
     fn take<R: Threads + Sync, W: Write>(
         &mut self,
@@ -16,7 +18,8 @@ pub trait Answers {
         texts: &Texts,
         line: &str,
         out: &mut W,
-    ) -> Result<()>;
+    ) -> Result<()>
+        requires { IsSync R.row };
 }
 
 /// Reads standard input to its end, and writes the answers to standard output.

@@ -10,7 +10,7 @@ use fx_sample::plan_text;
 use std::alloc::Global;
 use std::io::Write;
 use std::thread::Threads;
-use tests_rows::{Row, Texts, written};
+use tests_rows::{Answers, Row, Texts, written};
 
 /// A file by its name.
 #[derive(Drop)]
@@ -114,9 +114,8 @@ impl Case {
     }
 }
 
-impl Case {
-    /// Takes a line that is no text's, and writes its answer.
-    pub fn take<R: Threads + Sync, W: Write>(
+impl Answers for Case {
+    fn take<R: Threads + Sync, W: Write>(
         &mut self,
         rt: &R,
         alloc: Global,
