@@ -20,3 +20,8 @@ returns c =
     let least : AreColumnsFrom c.args.inputs.now columns 0 = subst (λ (cs : List ℕ). AreColumnsFrom c.args.inputs.now cs 0) (sym c.as_slice-2.ensures.value) c.in_ok-columns.ensures.least in
     subst (λ (fs : List (List ℕ)). HasHubs c.args.checked.now.diagram c.args.net.now c.put_blocks.new.net fs) (sym c.in_ok-widths.ensures)
     (hubs_are c.args.checked.now.diagram c.keeps_rules.ensures.checked c.root_elements_are_listed.ensures.inputs c.args.net.now c.put_inputs.new.net c.put_blocks.new.net c.args.inputs.now columns c.in_ok-firsts.firsts c.requires.are c.in_ok-put_inputs.ensures least c.in_ok-firsts.ensures)
+
+pub put_blocks-requires-clause-columns : goal.put_blocks-requires-clause-columns
+put_blocks-requires-clause-columns c =
+    let blocks : c.as_slice.result.now ≡ c.args.checked.now.diagram.blocks = c.as_slice.ensures ∙ ap (λ (d : Diagram). d.blocks) c.diagram.ensures in
+    ap (λ (columns : List ℕ). length columns) c.as_slice-2.ensures.value ∙ c.in_ok-columns.ensures.size ∙ ap (λ (bs : List Block). length bs) blocks

@@ -28,3 +28,12 @@ loop-step-preserved c =
           (subst (λ (first : ℤ). AreSeries (λ last. EnReg c.args.frame c.args.enable c.args.reset first last) c.args.net.now c.add.new.self (c.args.enable ∷ c.args.from ∷ []) c.args.frame c.args.word c.args.from c.in-Ok.begin (suc c.loop-step._step)) (sym e) more),
       subst (λ (k : ℕ). c.in_ok-last.last ≡ taken_by c.args.from c.in-Ok.begin k) next last,
     )
+
+pub returns : goal.returns
+returns c =
+    let e = to_z-of_z w128 c.args.first c.ranges.first in
+    let done : c.loop-step._step ≡ c.args.count = omega (arith, c.loop-step.auto._step-end, c.loop-step-test.false) in
+    record {
+      are = subst (λ (n : ℕ). AreSeries (λ last. EnReg c.args.frame c.args.enable c.args.reset c.args.first last) c.args.net.now c.loop-step.net (c.args.enable ∷ c.args.from ∷ []) c.args.frame c.args.word c.args.from c.in-Ok.begin n) done (subst (λ (first : ℤ). AreSeries (λ last. EnReg c.args.frame c.args.enable c.args.reset first last) c.args.net.now c.loop-step.net (c.args.enable ∷ c.args.from ∷ []) c.args.frame c.args.word c.args.from c.in-Ok.begin c.loop-step._step) e c.loop-step.invariant.0);
+      last_is = subst (λ (n : ℕ). c.loop-step.last ≡ taken_by c.args.from c.in-Ok.begin n) done c.loop-step.invariant.1;
+    }
