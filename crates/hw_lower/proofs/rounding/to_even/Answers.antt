@@ -16,3 +16,36 @@ returns c =
     (made-both c.in_ok-half.ensures (made-both c.in_ok-odd.ensures (made-both c.in_ok-tie.ensures c.in_ok-carry.ensures))) c.raised.ensures
     (λ made numbers has later p q. convergent-rounds (numbers c.args.from.place) c.args.by c.requires.some (numbers c.in_ok-half.half.place) (numbers c.in_ok-odd.odd.place) (numbers c.in_ok-tie.tie.place) (numbers c.in_ok-carry.carry.place)
     (numbers made.place) p.0 p.1.0 p.1.1.0 p.1.1.1 q)
+
+pub bit-requires-2 : goal.bit-requires-2
+bit-requires-2 c = at-later _ _ c.args.from c.in_ok-half.ensures.grows c.requires.at
+
+pub both-requires-clause-test : goal.both-requires-clause-test
+both-requires-clause-test c = at-later _ _ c.in_ok-half.half c.in_ok-odd.ensures.grows c.in_ok-half.ensures.at
+
+pub both-requires-clause-bit : goal.both-requires-clause-bit
+both-requires-clause-bit c = c.in_ok-odd.ensures.at
+
+pub both-requires-clause-word : goal.both-requires-clause-word
+both-requires-clause-word c = c.in_ok-odd.ensures.has_word
+
+pub past_tie-requires-clause-from : goal.past_tie-requires-clause-from
+past_tie-requires-clause-from c = at-later _ _ c.args.from c.in_ok-tie.ensures.grows (at-later _ _ c.args.from c.in_ok-odd.ensures.grows (at-later _ _ c.args.from c.in_ok-half.ensures.grows c.requires.at))
+
+pub past_tie-requires-clause-half : goal.past_tie-requires-clause-half
+past_tie-requires-clause-half c = at-later _ _ c.in_ok-half.half c.in_ok-tie.ensures.grows (at-later _ _ c.in_ok-half.half c.in_ok-odd.ensures.grows c.in_ok-half.ensures.at)
+
+pub past_tie-requires-clause-half_bit : goal.past_tie-requires-clause-half_bit
+past_tie-requires-clause-half_bit c = c.in_ok-half.ensures.has_word
+
+pub past_tie-requires-clause-tie : goal.past_tie-requires-clause-tie
+past_tie-requires-clause-tie c = c.in_ok-tie.ensures.at
+
+pub past_tie-requires-clause-tie_bit : goal.past_tie-requires-clause-tie_bit
+past_tie-requires-clause-tie_bit c = c.in_ok-tie.ensures.has_word
+
+pub raised-requires-clause-carry : goal.raised-requires-clause-carry
+raised-requires-clause-carry c = c.in_ok-carry.ensures.at
+
+pub raised-requires-clause-bit : goal.raised-requires-clause-bit
+raised-requires-clause-bit c = c.in_ok-carry.ensures.has_word
