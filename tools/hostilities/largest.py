@@ -108,9 +108,9 @@ def braces(length):
     return linked(length - 2 * depth, "wire w0; assign y = w0;\n", link, lambda one: f"assign w{one} = a;\n")
 
 
-def shown(outputs):
-    """A Verilog text without inputs, whose outputs are numbers."""
-    ports = "".join(f", (* fx_period = 1, fx_latency = 0 *) output wire y{one}" for one in range(outputs))
+def shown(outputs, late=0, early=0):
+    """A Verilog text without inputs, whose outputs are numbers, so many samples late but for some at the front."""
+    ports = "".join(f", (* fx_period = 1, fx_latency = {0 if one < early else late} *) output wire y{one}" for one in range(outputs))
     return ("(* fx_cycles = 1 *) module m (input wire clk, input wire reset" + ports + ");\n" + "".join(f"assign y{one} = 1'd1;\n" for one in range(outputs)) + "endmodule\n").encode()
 
 
@@ -135,6 +135,8 @@ def cases():
     yield "50,000 rows without inputs, 1,000 outputs", ("simulate", "m", "s"), {"m": lambda: fan(0, 1000), "s": lambda: b"\n" * 50000}
     yield "16,666,666 rows without inputs, 3 outputs", ("replay", "m", "s"), {"m": lambda: shown(3), "s": lambda: b"\n" * (50000000 // 3)}
     yield "50,000 rows without inputs, 1,000 outputs", ("replay", "m", "s"), {"m": lambda: shown(1000), "s": lambda: b"\n" * 50000}
+    yield "the same outputs 49,999 samples late", ("replay", "m", "s"), {"m": lambda: shown(1000, 49999), "s": lambda: b"\n" * 50000}
+    yield "the same but one", ("replay", "m", "s"), {"m": lambda: shown(1000, 49999, 1), "s": lambda: b"\n" * 50000}
     yield "8,333,333 rows of an input, 5 outputs", ("simulate", "m", "s"), {"m": lambda: fan(1, 5), "s": lambda: b"7\n" * (50000000 // 6)}
     yield "8,388 rows of 1,000 inputs", ("simulate", "m", "s"), {"m": lambda: fan(1000, 1), "s": lambda: (b"7 " * 999 + b"7\n") * (MOST // 2000)}
     yield "8,388,608 rows of an input", ("replay", "m", "s"), {"m": lambda: held(os.path.join(TOP, "examples", "unit_delay.v")), "s": lambda: b"7\n" * (MOST // 2)}
