@@ -1,5 +1,7 @@
 """The comparisons with other tools, and what the gate ends with."""
 
+import importlib.machinery
+import importlib.util
 import os
 import shutil
 import subprocess
@@ -194,6 +196,18 @@ class Calling(unittest.TestCase):
             self.assertNotEqual(self.ends(self.CASES.replace(old, new), self.EXPECTED.replace(old, new)), 0, old)
 
 
+class SideBySide(unittest.TestCase):
+    """As many checks as there are processors where each has room for one, unless all fit by what is reckoned."""
+
+    def test_jobs(self):
+        place = os.path.join(TOOLS, "jobs")
+        loader = importlib.machinery.SourceFileLoader("jobs", place)
+        jobs = importlib.util.module_from_spec(importlib.util.spec_from_loader("jobs", loader))
+        loader.exec_module(jobs)
+        for processors, gigabytes, wanted in ((4, 11, None), (4, 12, 4), (4, 22, 4), (4, 31, 4), (4, 32, None), (8, 23, None), (8, 24, 8), (1, 4, 1)):
+            self.assertEqual(jobs.jobs(processors, gigabytes * 10**9), wanted, (processors, gigabytes))
+
+
 class Gate(unittest.TestCase):
     CHECKS = (
         "examples/run", "tests/calls", "tools/streams", "tools/glossary", "tools/cites", "tools/memory", "tools/edits", "tools/try",
@@ -203,15 +217,17 @@ class Gate(unittest.TestCase):
     def gate(self, status, last, statuses):
         """What the gate ends with, where `rt ci` ends with a status and a last line, and the checks with theirs."""
         with tempfile.TemporaryDirectory() as room:
-            rt = f"#!/bin/sh\necho a line\necho '{last}'\nexit {status}\n"
-            for name, text in [("bin/rt", rt)] + [(f"top/{name}", f"#!/bin/sh\n{text_of(code)}\n") for name, code in statuses.items()]:
+            rt = f"#!/bin/sh\necho jobs $RT_JOBS\necho '{last}'\nexit {status}\n"
+            for name, text in [("bin/rt", rt), ("top/tools/jobs", "#!/bin/sh\necho 3\n")] + [(f"top/{name}", f"#!/bin/sh\n{text_of(code)}\n") for name, code in statuses.items()]:
                 write(os.path.join(room, name), text)
                 os.chmod(os.path.join(room, name), 0o755)
             for name in (".ci/run", "tilecatnip"):
                 os.makedirs(os.path.join(room, "top/.ci"), exist_ok=True)
                 shutil.copy(os.path.join(TOP, name), os.path.join(room, "top", name))
             env = {**os.environ, "PATH": os.path.join(room, "bin") + ":" + os.environ["PATH"]}
+            env.pop("RT_JOBS", None)
             done = subprocess.run([os.path.join(room, "top/.ci/run")], cwd="/", env=env, capture_output=True, text=True, timeout=60)
+            self.assertEqual(done.stdout.splitlines()[0], "jobs 3")
             return done.returncode, done.stdout.splitlines()[-1], [line for line in done.stdout.splitlines() if "skipped" in line]
 
     def test_its_last_line_and_status_tell_of_all_checks(self):
