@@ -1,5 +1,6 @@
 mod Exactly
 mod Fracs
+mod Gaps
 mod Listed
 mod Narrowed
 mod Outputs

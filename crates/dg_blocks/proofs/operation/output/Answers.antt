@@ -1,10 +1,148 @@
-use Rattle.std.proofs.Common.{◌≡◌, length, to_z, of_z, sym, subst, arith}
+use Rattle.std.proofs.Common.{◌≡◌, ◌<◌, Bool, true, false, MatchBool, ℕ, ℤ, List, All, length, to_z, of_z, sym, subst, arith}
 use Rattle.std.specs.Int.{w128}
 use Rattle.std.proofs.lemmas.Int.{to_z-of_z}
+use Rattle.fx_type.specs.declared.kind.FxType.{FxType}
+use Rattle.fx_type.specs.FxType.{IsType}
 use Rattle.fx_type.proofs.Ranges.{InRange-fits}
 use Rattle.dg_model.specs.declared.op.Op.{Op}
-use Rattle.dg_model.specs.Operation.{operation_of, type_of, value_of, HasArity, Gives}
+use Rattle.dg_model.specs.Operation.{operation_of, type_of, value_of, HasArity, HasParameters, HasFullType, AreInRange, IsConverted, meets, Gives}
 use Rattle.dg_blocks.proofs.operation.output.Goals as goal
+
+-- an input is the number of the code that stands for it
+own : (types : List FxType) (inputs : List ℤ) (input : ℕ) → All IsType types → AreInRange types inputs → input < length types → to_z w128 (of_z w128 (value_of inputs input)) ≡ value_of inputs input
+own types inputs input valid values inside = to_z-of_z w128 _ (InRange-fits (type_of types input) (value_of inputs input) (valid input _ inside) (values.in_range input inside))
+
+pub times-requires : goal.times-requires
+times-requires c =
+    let types = c.args.call.now.types.now in
+    let inputs = c.args.inputs.now in
+    let one : length types ≡ 1 = subst (λ (op : Op). HasArity op (length types)) c.in-Gain.is c.requires.prepared.arity in
+    let x = own types inputs 0 c.requires.prepared.types c.requires.values (omega (arith, one)) in
+    let parameters = subst (λ (op : Op). HasParameters op types) c.in-Gain.is c.requires.prepared.parameters in
+    let y = to_z-of_z w128 c.in-Gain.coefficient (InRange-fits c.in-Gain.param c.in-Gain.coefficient parameters.0 parameters.1) in
+    record {
+      left = c.requires.prepared.types 0 _ (omega (arith, one));
+      right = parameters.0;
+      x_in_range = rw x (c.requires.values.in_range 0 (omega (arith, one)));
+      y_in_range = rw y parameters.1;
+      full = subst (λ (op : Op). HasFullType op c.args.call.now.signs.now types) c.in-Gain.is c.requires.prepared.full_type;
+      result = c.requires.prepared.result;
+    }
+
+pub times-requires-in-Product : goal.times-requires-in-Product
+times-requires-in-Product c =
+    let types = c.args.call.now.types.now in
+    let inputs = c.args.inputs.now in
+    let two : length types ≡ 2 = subst (λ (op : Op). HasArity op (length types)) c.in-Product.is c.requires.prepared.arity in
+    let x = own types inputs 0 c.requires.prepared.types c.requires.values (omega (arith, two)) in
+    let y = own types inputs 1 c.requires.prepared.types c.requires.values (omega (arith, two)) in
+    record {
+      left = c.requires.prepared.types 0 _ (omega (arith, two));
+      right = c.requires.prepared.types 1 _ (omega (arith, two));
+      x_in_range = rw x (c.requires.values.in_range 0 (omega (arith, two)));
+      y_in_range = rw y (c.requires.values.in_range 1 (omega (arith, two)));
+      full = subst (λ (op : Op). HasFullType op c.args.call.now.signs.now types) c.in-Product.is c.requires.prepared.full_type;
+      result = c.requires.prepared.result;
+    }
+
+pub compares_values-requires : goal.compares_values-requires
+compares_values-requires c =
+    let types = c.args.call.now.types.now in
+    let inputs = c.args.inputs.now in
+    let two : length types ≡ 2 = subst (λ (op : Op). HasArity op (length types)) c.in-Relational.is c.requires.prepared.arity in
+    let x = own types inputs 0 c.requires.prepared.types c.requires.values (omega (arith, two)) in
+    let y = own types inputs 1 c.requires.prepared.types c.requires.values (omega (arith, two)) in
+    record {
+      left = c.requires.prepared.types 0 _ (omega (arith, two));
+      right = c.requires.prepared.types 1 _ (omega (arith, two));
+      x_in_range = rw x (c.requires.values.in_range 0 (omega (arith, two)));
+      y_in_range = rw y (c.requires.values.in_range 1 (omega (arith, two)));
+      union = subst (λ (op : Op). HasFullType op c.args.call.now.signs.now types) c.in-Relational.is c.requires.prepared.full_type;
+    }
+
+pub converted-requires : goal.converted-requires
+converted-requires c =
+    let types = c.args.call.now.types.now in
+    let inputs = c.args.inputs.now in
+    let three : length types ≡ 3 = subst (λ (op : Op). HasArity op (length types)) c.in-Switch.is c.requires.prepared.arity in
+    let x = own types inputs 0 c.requires.prepared.types c.requires.values (omega (arith, three)) in
+    record { from = c.requires.prepared.types 0 _ (omega (arith, three)); in_range = rw x (c.requires.values.in_range 0 (omega (arith, three))); result = c.requires.prepared.result }
+
+pub converted-requires-else-meets : goal.converted-requires-else-meets
+converted-requires-else-meets c =
+    let types = c.args.call.now.types.now in
+    let inputs = c.args.inputs.now in
+    let three : length types ≡ 3 = subst (λ (op : Op). HasArity op (length types)) c.in-Switch.is c.requires.prepared.arity in
+    let x = own types inputs 2 c.requires.prepared.types c.requires.values (omega (arith, three)) in
+    record { from = c.requires.prepared.types 2 _ (omega (arith, three)); in_range = rw x (c.requires.values.in_range 2 (omega (arith, three))); result = c.requires.prepared.result }
+
+pub converted-requires-in-Convert-false : goal.converted-requires-in-Convert-false
+converted-requires-in-Convert-false c =
+    let types = c.args.call.now.types.now in
+    let inputs = c.args.inputs.now in
+    let one : length types ≡ 1 = subst (λ (op : Op). HasArity op (length types)) c.in-Convert-false.is c.requires.prepared.arity in
+    let x = own types inputs 0 c.requires.prepared.types c.requires.values (omega (arith, one)) in
+    record { from = c.requires.prepared.types 0 _ (omega (arith, one)); in_range = rw x (c.requires.values.in_range 0 (omega (arith, one))); result = c.requires.prepared.result }
+
+pub stored_converted-requires : goal.stored_converted-requires
+stored_converted-requires c =
+    let types = c.args.call.now.types.now in
+    let inputs = c.args.inputs.now in
+    let one : length types ≡ 1 = subst (λ (op : Op). HasArity op (length types)) c.in-Convert-true.is c.requires.prepared.arity in
+    let x = own types inputs 0 c.requires.prepared.types c.requires.values (omega (arith, one)) in
+    record { from = c.requires.prepared.types 0 _ (omega (arith, one)); in_range = rw x (c.requires.values.in_range 0 (omega (arith, one))); result = c.requires.prepared.result }
+
+pub returns-in-Sum : goal.returns-in-Sum
+returns-in-Sum c =
+    let r = to_z-of_z w128 c.sum.result (record { sfits = c.sum.type_inv }) in
+    rw r c.sum.ensures
+
+pub returns-in-Gain : goal.returns-in-Gain
+returns-in-Gain c =
+    let types = c.args.call.now.types.now in
+    let inputs = c.args.inputs.now in
+    let op = c.in-Gain.is in
+    let one : length types ≡ 1 = subst (λ (op : Op). HasArity op (length types)) op c.requires.prepared.arity in
+    let parameters = subst (λ (op : Op). HasParameters op types) op c.requires.prepared.parameters in
+    let x = own types inputs 0 c.requires.prepared.types c.requires.values (omega (arith, one)) in
+    let y = to_z-of_z w128 c.in-Gain.coefficient (InRange-fits c.in-Gain.param c.in-Gain.coefficient parameters.0 parameters.1) in
+    let r = to_z-of_z w128 c.times.result (record { sfits = c.times.type_inv }) in
+    let given = rw (x, y) at c.times.ensures in
+    rw r (subst (λ (op : Op). Gives op (operation_of c.args.call.now) types inputs c.times.result) (sym op) given)
+
+pub returns-then-meets : goal.returns-then-meets
+returns-then-meets c =
+    let types = c.args.call.now.types.now in
+    let inputs = c.args.inputs.now in
+    let operation = operation_of c.args.call.now in
+    let op = c.in-Switch.is in
+    let three : length types ≡ 3 = subst (λ (op : Op). HasArity op (length types)) op c.requires.prepared.arity in
+    let parameters = subst (λ (op : Op). HasParameters op types) op c.requires.prepared.parameters in
+    let threshold = to_z-of_z w128 c.in-Switch.threshold (InRange-fits (type_of types 1) c.in-Switch.threshold (c.requires.prepared.types 1 _ (omega (arith, three))) parameters) in
+    let control = own types inputs 1 c.requires.prepared.types c.requires.values (omega (arith, three)) in
+    let x = own types inputs 0 c.requires.prepared.types c.requires.values (omega (arith, three)) in
+    let r = to_z-of_z w128 c.converted.result (record { sfits = c.converted.type_inv }) in
+    let met : true ≡ meets c.in-Switch.criterion c.in-Switch.threshold (value_of inputs 1) = rw (threshold, control) at c.if-meets.ensures in
+    let given = rw x at c.converted.ensures in
+    let chosen = subst (λ (b : Bool). MatchBool b (IsConverted operation (value_of inputs 0) (type_of types 0) c.converted.result) (IsConverted operation (value_of inputs 2) (type_of types 2) c.converted.result)) met given in
+    rw r (subst (λ (op : Op). Gives op operation types inputs c.converted.result) (sym op) chosen)
+
+pub returns-else-meets : goal.returns-else-meets
+returns-else-meets c =
+    let types = c.args.call.now.types.now in
+    let inputs = c.args.inputs.now in
+    let operation = operation_of c.args.call.now in
+    let op = c.in-Switch.is in
+    let three : length types ≡ 3 = subst (λ (op : Op). HasArity op (length types)) op c.requires.prepared.arity in
+    let parameters = subst (λ (op : Op). HasParameters op types) op c.requires.prepared.parameters in
+    let threshold = to_z-of_z w128 c.in-Switch.threshold (InRange-fits (type_of types 1) c.in-Switch.threshold (c.requires.prepared.types 1 _ (omega (arith, three))) parameters) in
+    let control = own types inputs 1 c.requires.prepared.types c.requires.values (omega (arith, three)) in
+    let x = own types inputs 2 c.requires.prepared.types c.requires.values (omega (arith, three)) in
+    let r = to_z-of_z w128 c.converted-else-meets.result (record { sfits = c.converted-else-meets.type_inv }) in
+    let met : false ≡ meets c.in-Switch.criterion c.in-Switch.threshold (value_of inputs 1) = rw (threshold, control) at c.if-meets.ensures in
+    let given = rw x at c.converted-else-meets.ensures in
+    let chosen = subst (λ (b : Bool). MatchBool b (IsConverted operation (value_of inputs 0) (type_of types 0) c.converted-else-meets.result) (IsConverted operation (value_of inputs 2) (type_of types 2) c.converted-else-meets.result)) met given in
+    rw r (subst (λ (op : Op). Gives op operation types inputs c.converted-else-meets.result) (sym op) chosen)
 
 pub returns-in-Product : goal.returns-in-Product
 returns-in-Product c =
