@@ -1,4 +1,5 @@
-use Rattle.std.proofs.Common.{◌≡◌, ◌∙◌, List, Some, slice_get, ap, sym, refl, arith}
+use Rattle.std.proofs.Common.{◌≡◌, ◌∙◌, ◌<◌, length, subst, List, Some, slice_get, ap, sym, refl, arith}
+use Rattle.std.proofs.lemmas.Option.{slice_get_within}
 use Rattle.fx_type.specs.declared.decimal.Decimal.{Decimal}
 use Rattle.dg_model.specs.declared.diagram.Block.{Block}
 use Rattle.dg_model.specs.declared.diagram.Diagram.{Diagram}
@@ -231,3 +232,26 @@ returns-in-Sum-clause-made c = c.worked.ensures
 
 pub returns-in-Delay-clause-made : goal.returns-in-Delay-clause-made
 returns-in-Delay-clause-made c = c.kept_rule.ensures
+
+pub bounds-as_slice-place : goal.bounds-as_slice-place
+bounds-as_slice-place c =
+    let diagram = c.args.checked.now.diagram in
+    let place = c.args.place in
+    let list = c.as_slice.ensures ∙ ap (λ (d : Diagram). d.blocks) c.diagram.ensures in
+    let entry = c.requires.entry in
+    subst (λ (blocks : List Block). place.block < length blocks) (sym list) (slice_get_within diagram.blocks place.block entry.0 entry.1.block_is)
+
+pub from_row-requires-clause-roots : goal.from_row-requires-clause-roots
+from_row-requires-clause-roots c = c.requires.roots
+
+pub returns-in-Outport-clause-made : goal.returns-in-Outport-clause-made
+returns-in-Outport-clause-made c = c.hand_on.ensures
+
+pub returns-in-Pass-clause-made : goal.returns-in-Pass-clause-made
+returns-in-Pass-clause-made c = c.hand_on-in-Pass.ensures
+
+pub returns-in-Mux-clause-cursors : goal.returns-in-Mux-clause-cursors
+returns-in-Mux-clause-cursors c = c.joined.ensures.cursors
+
+pub returns-in-Demux-clause-cursors : goal.returns-in-Demux-clause-cursors
+returns-in-Demux-clause-cursors c = c.parted.ensures.cursors
