@@ -1,8 +1,39 @@
-use Rattle.std.proofs.Common.{false, length, get_or, arith}
-use Rattle.std.proofs.lemmas.List.{get_or_read}
-use Rattle.hw_arcs.specs.inner.State.{seen}
+use Rattle.std.proofs.Common.{List, ℕ, false, length, get_or, subst, arith}
+use Rattle.std.proofs.lemmas.List.{drop_all, get_or_read}
+use Rattle.std.proofs.lemmas.Option.{slice_get_within, slice_get-get_or}
+use Rattle.hw_arcs.specs.declared.arc.Arc.{Arc}
+use Rattle.hw_arcs.specs.inner.State.{AreSettled, seen}
 use Rattle.hw_arcs.proofs.Stepping.{row_looked}
 use Rattle.hw_arcs.proofs.relaxing.Relaxing.settle.Goals as goal
+
+pub bounds-arcs-number : goal.bounds-arcs-number
+bounds-arcs-number c =
+    let number = get_or c.args.row.now c.loop-number.number-index 0 in
+    let here = c.requires.row.counted c.loop-number.number-index number (slice_get-get_or c.args.row.now c.loop-number.number-index 0 c.loop-number-test.true) in
+    slice_get_within c.args.arcs.now number here.0 here.1
+
+pub relax-requires : goal.relax-requires
+relax-requires c =
+    let number = get_or c.args.row.now c.loop-number.number-index 0 in
+    let none : Arc = record { from = 0; to = 0; counts = false; gain = 0; slack = 0 } in
+    let here = c.requires.row.counted c.loop-number.number-index number (slice_get-get_or c.args.row.now c.loop-number.number-index 0 c.loop-number-test.true) in
+    let arc = get_or c.args.arcs.now number none in
+    let at = slice_get-get_or c.args.arcs.now number none (slice_get_within c.args.arcs.now number here.0 here.1) in
+    let from = c.requires.known.from number arc at in
+    let to = c.requires.known.to number arc at in
+    let gain = c.requires.known.gain number arc at in
+    let limit = c.requires.limit in
+    let size = c.loop-number.invariant.state.size in
+    let tight = c.loop-number.invariant.state.labels.size in
+    let pending = c.loop-number.invariant.state.pending in
+    let within = c.loop-number.invariant.within.within arc.from in
+    record {
+      from = omega (arith, from, size);
+      to = omega (arith, to, size);
+      tight = tight;
+      pending = omega (arith, pending, size);
+      room = omega (arith, within, gain, limit);
+    }
 
 pub index-requires : goal.index-requires
 index-requires c =
@@ -39,3 +70,20 @@ loop-number-preserved c =
     let read = get_or_read c.relax.new.self.lat.items arc.to c.index.result.now (omega (arith, there, size)) c.index.ensures 0 in
     let less = c.if-limit-index.false in
     looked.on (omega (arith, read, less))
+
+pub loop-number-init : goal.loop-number-init
+loop-number-init c = record {
+  size = c.requires.state.size;
+  state = c.requires.state;
+  within = c.requires.within;
+  settled = c.requires.settled;
+  work = omega arith;
+}
+
+pub returns-clause-end : goal.returns-clause-end
+returns-clause-end c =
+    record {
+      within = c.loop-number.invariant.within;
+      settled = subst (λ (left : List ℕ). AreSettled c.args.arcs.now (seen c.loop-number.self) left) (drop_all c.loop-number.number-index c.args.row.now c.loop-number-test.false) c.loop-number.invariant.settled;
+      work = c.loop-number.invariant.work;
+    }
