@@ -1,9 +1,35 @@
-use Rattle.std.proofs.Common.{◌<◌, ◌≤◌, List, length, ap, subst, ◌∙◌}
+use Rattle.std.proofs.Common.{◌≡◌, ◌<◌, ◌≤◌, List, Some, slice_get, length, get_or, sym, ap, subst, ◌∙◌}
+use Rattle.std.proofs.lemmas.Option.{slice_get-get_or}
 use Rattle.dg_model.specs.declared.diagram.Block.{Block}
 use Rattle.dg_model.specs.declared.diagram.Diagram.{Diagram}
 use Rattle.dg_model.specs.declared.diagram.Edge.{Edge}
-use Rattle.hw_latency.proofs.Listing.{control_put, line_put, lines_listed, listing_ends}
+use Rattle.dg_sort.proofs.Lines.{from_there, to_there}
+use Rattle.hw_latency.proofs.Listing.{control_put, line_put, lines_listed, listing_begins, listing_ends}
 use Rattle.hw_latency.proofs.arcs.arcs_of.Goals as goal
+
+pub loop-edge-init : goal.loop-edge-init
+loop-edge-init c = listing_begins c.args.checked.now.diagram c.args.plan.now c.args.fed.now c.new-arcs.result.items c.new-arcs.ensures.items
+
+pub put_arc-requires : goal.put_arc-requires
+put_arc-requires c =
+    let diagram : Diagram = c.args.checked.now.diagram in
+    let edge : Edge = get_or c.as_slice-edges.result.now c.loop-edge.edge-index (record { from = 0; from_port = 0; to = 0; to_port = 0 }) in
+    let at : slice_get diagram.edges c.loop-edge.edge-index ≡ Some edge =
+    ap (λ (es : List Edge). slice_get es c.loop-edge.edge-index) (sym (c.as_slice-edges.ensures ∙ ap (λ (d : Diagram). d.edges) c.diagram.ensures))
+    ∙ slice_get-get_or c.as_slice-edges.result.now c.loop-edge.edge-index (record { from = 0; from_port = 0; to = 0; to_port = 0 }) c.loop-edge-test.true in
+    record {
+      plan = c.requires.plan;
+      fed = c.requires.fed;
+      from = from_there diagram c.loop-edge.edge-index edge c.keeps_rules.ensures.checked.wired at;
+      to = to_there diagram c.loop-edge.edge-index edge c.keeps_rules.ensures.checked.wired at;
+    }
+
+pub put_control-requires : goal.put_control-requires
+put_control-requires c = record {
+  plan = c.requires.plan;
+  fed = c.requires.fed;
+  there = subst (λ (bs : List Block). c.loop-place.place < length bs) (c.as_slice-blocks.ensures ∙ ap (λ (d : Diagram). d.blocks) c.diagram-2.ensures) c.loop-place-test.true;
+}
 
 pub loop-edge-preserved : goal.loop-edge-preserved
 loop-edge-preserved c =
