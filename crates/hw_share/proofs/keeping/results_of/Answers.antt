@@ -1,9 +1,15 @@
-use Rattle.std.proofs.Common.{◌≡◌, slice_index_or, arith}
+use Rattle.std.proofs.Common.{◌≡◌, ℕ, length, slice_index_or, subst, arith}
 use Rattle.std.proofs.lemmas.Option.{slice_get-get_or}
 use Rattle.hw_share.specs.declared.operation.Operation.{Operation}
+use Rattle.hw_share.specs.inner.Steps.{AreResults}
 use Rattle.hw_share.proofs.Grown.{there-later}
 use Rattle.hw_share.proofs.Kept.{results-begun, results-more, no-operation}
 use Rattle.hw_share.proofs.keeping.results_of.Goals as goal
+
+pub bounds-numbers-one : goal.bounds-numbers-one
+bounds-numbers-one c =
+    let one : Operation = slice_index_or c.args.operations.now c.loop-one.one-index no-operation in
+    c.requires.can.inside c.loop-one.one-index one (slice_get-get_or c.args.operations.now c.loop-one.one-index no-operation c.loop-one-test.true)
 
 pub register_at-requires : goal.register_at-requires
 register_at-requires c =
@@ -28,3 +34,10 @@ loop-one-preserved c =
     rw c.in_ok-push.ensures.appended
     (results-more c.args.net.now c.loop-one.net c.register_at.new.net c.args.operations.now c.args.numbers.now c.loop-one.results c.loop-one.one-index c.in_ok-result.result one c.requires.can c.loop-one.invariant at
     held c.in_ok-result.ensures.grown)
+
+pub returns : goal.returns
+returns c =
+    let low = c.loop-one-test.false in
+    let high = c.loop-one.auto.one-index-end in
+    let all : c.loop-one.one-index ≡ length c.args.operations.now = omega (arith, low, high) in
+    subst (λ (count : ℕ). AreResults c.args.net.now c.loop-one.net c.args.operations.now c.args.numbers.now c.loop-one.results count) all c.loop-one.invariant
