@@ -11,6 +11,11 @@ bounds-numbers-one c =
     let one : Operation = slice_index_or c.args.operations.now c.loop-one.one-index no-operation in
     c.requires.can.inside c.loop-one.one-index one (slice_get-get_or c.args.operations.now c.loop-one.one-index no-operation c.loop-one-test.true)
 
+pub overflow_cast-one : goal.overflow_cast-one
+overflow_cast-one c =
+    let one : Operation = slice_index_or c.args.operations.now c.loop-one.one-index no-operation in
+    record { fits = c.requires.can.low c.loop-one.one-index one (slice_get-get_or c.args.operations.now c.loop-one.one-index no-operation c.loop-one-test.true) }
+
 pub register_at-requires : goal.register_at-requires
 register_at-requires c =
     let inv = c.loop-one.invariant in
