@@ -1,6 +1,8 @@
 use Rattle.std.proofs.Common.{ℕ, ◌*◌, length, subst, sym, ◌∙◌, refl, arith}
+use Rattle.std.specs.Prelude.{IfSome, Option}
+use Rattle.hw_arcs.specs.declared.found.Gaining.{Gaining}
 use Rattle.hw_arcs.specs.declared.relaxing.Step.{Step}
-use Rattle.hw_arcs.specs.Found.{AreKnown, most_gain}
+use Rattle.hw_arcs.specs.Found.{AreKnown, IsGaining, most_gain}
 use Rattle.hw_arcs.specs.inner.State.{AreRows, IsAbove, IsState, IsStepEnd, IsStepOn, seen}
 use Rattle.hw_arcs.proofs.solving.relax_all.Goals as goal
 
@@ -104,3 +106,24 @@ relax-smaller-then-left-gt0 c =
     let end : IsStepOn c.args.arcs.now before limit (seen c.relax.state) (seen c.step.new.self) c.in-Settled.block =
     subst (λ (step : Step). IsStepEnd c.args.arcs.now before limit (seen c.relax.state) (seen c.step.new.self) step) c.in-Settled.is c.in_ok-step.ensures.end in
     end.work
+
+pub returns-in-Done : goal.returns-in-Done
+returns-in-Done c =
+    let before : ℕ = length c.relax.state.lat.items in
+    let limit : ℕ = length c.args.rows.now * most_gain in
+    record {
+      state = subst (λ (count : ℕ). IsState c.args.arcs.now count (seen c.step.new.self)) c.relax.invariant.size c.in_ok-step.ensures.state;
+      found = subst (λ (step : Step). IsStepEnd c.args.arcs.now before limit (seen c.relax.state) (seen c.step.new.self) step) c.in-Done.is c.in_ok-step.ensures.end;
+    }
+
+pub returns-in-Some : goal.returns-in-Some
+returns-in-Some c = record {
+  state = subst (λ (count : ℕ). IsState c.args.arcs.now count (seen c.step.new.self)) c.relax.invariant.size c.in_ok-step.ensures.state;
+  found = subst (λ (found : Option Gaining). IfSome found (IsGaining c.args.arcs.now)) c.in-Some.is c.in_ok-gaining-in-Settled.ensures.gaining;
+}
+
+pub returns-in-Above : goal.returns-in-Above
+returns-in-Above c = record {
+  state = subst (λ (count : ℕ). IsState c.args.arcs.now count (seen c.step.new.self)) c.relax.invariant.size c.in_ok-step.ensures.state;
+  found = c.in_ok-gaining-in-Above.ensures;
+}
