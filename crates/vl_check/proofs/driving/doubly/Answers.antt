@@ -1,7 +1,7 @@
-use Rattle.std.proofs.Common.{◌≤◌, [], length, take, Some, None, sym, ap, ◌∙◌, arith}
-use Rattle.std.proofs.lemmas.List.{length-map}
+use Rattle.std.proofs.Common.{◌≡◌, ◌<◌, ◌≤◌, ℕ, Bool, false, List, [], length, replicate, slice_index, slice_index_or, take, Some, None, refl, sym, ap, subst, ◌∙◌, arith, rules}
+use Rattle.std.proofs.lemmas.List.{get_or-replicate, length-map}
 use Rattle.std.proofs.Math.ListN.{drop_of_length-le}
-use Rattle.vl_ast.specs.Conditions.{first_fault, is_declaration_of, is_double, is_driver_of}
+use Rattle.vl_ast.specs.Conditions.{first_fault, is_declaration_of, is_double, is_driver_of, mentioned}
 use Rattle.vl_check.specs.inner.Mentioned.{shown, mention_of}
 use Rattle.vl_check.specs.inner.Marks.{declares, drives}
 use Rattle.vl_check.proofs.Marking.{driver-test, declaration-test, marks-step, fault-step, fault-found, mark-here, declared-here, double-here, marks-long}
@@ -40,3 +40,37 @@ loop-i-preserved c =
           let sound = sym (double-here m (take c.loop-i.i (shown text)) _ _ _ _ marked driven first) ∙ sym c.if-is_double.ensures in
           fault-step text c.loop-i.i _ c.loop-i-test.true (is_double m) _ sound (old.fault m whole);
     }
+
+pub loop-i-init : goal.loop-i-init
+loop-i-init c =
+    let numbers = c.args.numbers.now in
+    let count = length c.args.first.now in
+    let declared : c.in_ok-declared.declared.items ≡ replicate count false = c.in_ok-declared.ensures.items_if_clones_equal (search rules) in
+    let driven : c.in_ok-driven.driven.items ≡ replicate count false = c.in_ok-driven.ensures.items_if_clones_equal (search rules) in
+    record {
+      long = sym c.in_ok-declared.declared.ok.0 ∙ c.in_ok-declared.ensures.len;
+      driven_long = sym c.in_ok-driven.driven.ok.0 ∙ c.in_ok-driven.ensures.len;
+      marks = record {
+        at = λ i d m inside. ap (λ (marks : List Bool). slice_index_or marks (slice_index numbers i) m) declared ∙ get_or-replicate count (slice_index numbers i) false m (c.requires.numbers.below i inside);
+      };
+      driven_marks = record {
+        at = λ i d m inside. ap (λ (marks : List Bool). slice_index_or marks (slice_index numbers i) m) driven ∙ get_or-replicate count (slice_index numbers i) false m (c.requires.numbers.below i inside);
+      };
+      fault = λ m whole. refl;
+    }
+
+pub mark-requires : goal.mark-requires
+mark-requires c =
+    let text = c.args.text.now in
+    let long = length-map (shown text) mentioned ∙ length-map text mention_of in
+    let inside : c.loop-i.i < length text = c.loop-i-test.true in
+    let below = c.requires.numbers.below c.loop-i.i (omega (arith, long, inside)) in
+    subst (λ (n : ℕ). slice_index c.args.numbers.now c.loop-i.i < n) (sym c.loop-i.invariant.long) below
+
+pub mark-requires-in-loop-i : goal.mark-requires-in-loop-i
+mark-requires-in-loop-i c =
+    let text = c.args.text.now in
+    let long = length-map (shown text) mentioned ∙ length-map text mention_of in
+    let inside : c.loop-i.i < length text = c.loop-i-test.true in
+    let below = c.requires.numbers.below c.loop-i.i (omega (arith, long, inside)) in
+    subst (λ (n : ℕ). slice_index c.args.numbers.now c.loop-i.i < n) (sym c.loop-i.invariant.driven_long) below

@@ -1,6 +1,7 @@
-use Rattle.std.proofs.Common.{take, Some, sym, ap, ◌∙◌}
-use Rattle.vl_ast.specs.Conditions.{is_declaration_of, is_driver_of, is_undriven}
-use Rattle.vl_check.specs.inner.Mentioned.{shown}
+use Rattle.std.proofs.Common.{◌≡◌, ◌<◌, ℕ, Bool, false, List, length, replicate, slice_index, slice_index_or, take, Some, refl, sym, ap, subst, ◌∙◌, arith, rules}
+use Rattle.std.proofs.lemmas.List.{get_or-replicate, length-map}
+use Rattle.vl_ast.specs.Conditions.{is_declaration_of, is_driver_of, is_undriven, mentioned}
+use Rattle.vl_check.specs.inner.Mentioned.{mention_of, shown}
 use Rattle.vl_check.specs.inner.Marks.{declares}
 use Rattle.vl_check.proofs.Marking.{declaration-test, marks-step, fault-step, fault-found, mark-here, undriven-here, marks-long}
 use Rattle.vl_check.proofs.driving.undriven.Goals as goal
@@ -25,3 +26,24 @@ loop-i-preserved c =
       marks = marks-step text c.loop-i.i _ c.loop-i-test.true is_declaration_of declares declaration-test c.args.numbers.now c.args.count c.requires c.loop-i.declared.items _ _ old.long c.declares.ensures c.mark.ensures old.marks;
       fault = fault-step text c.loop-i.i _ c.loop-i-test.true (is_undriven (shown text)) _ sound old.fault;
     }
+
+pub loop-i-init : goal.loop-i-init
+loop-i-init c =
+    let numbers = c.args.numbers.now in
+    let count = c.args.count in
+    let declared : c.in_ok-declared.declared.items ≡ replicate count false = c.in_ok-declared.ensures.items_if_clones_equal (search rules) in
+    record {
+      long = sym c.in_ok-declared.declared.ok.0 ∙ c.in_ok-declared.ensures.len;
+      marks = record {
+        at = λ i d m inside. ap (λ (marks : List Bool). slice_index_or marks (slice_index numbers i) m) declared ∙ get_or-replicate count (slice_index numbers i) false m (c.requires.below i inside);
+      };
+      fault = refl;
+    }
+
+pub mark-requires : goal.mark-requires
+mark-requires c =
+    let text = c.args.text.now in
+    let long = length-map (shown text) mentioned ∙ length-map text mention_of in
+    let inside : c.loop-i.i < length text = c.loop-i-test.true in
+    let below = c.requires.below c.loop-i.i (omega (arith, long, inside)) in
+    subst (λ (n : ℕ). slice_index c.args.numbers.now c.loop-i.i < n) (sym c.loop-i.invariant.long) below
