@@ -21,6 +21,6 @@ mod prepared;
 mod preparing;
 mod short_sums;
 
-pub use laws::operation_gives_one;
+pub use laws::{each_is_one, operation_gives_one};
 pub use operation::output;
 pub use prepared::Prepared;

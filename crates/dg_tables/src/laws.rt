@@ -6,48 +6,28 @@ ghost use Rattle.dg_tables.specs.Steps.{KeptMoves, KeptIsRead, StepsStand};
 pub fn tables_are_one()
     ensures { TablesAreOne }
 {
-    dg_blocks::operation_gives_one();
-    fx_round::storing_gives_one();
-    fx_type::full_sum_is_one();
-    fx_type::full_product_is_one();
-    fx_type::union_is_one();
-    dg_model::param_type_is_one();
+    dg_blocks::each_is_one();
 }
 
 /// For a diagram that keeps the rules and every stimulus in range some table solves (own).
 pub fn some_table_solves()
     ensures { SomeTableSolves }
 {
-    dg_blocks::operation_gives_one();
-    fx_round::storing_gives_one();
-    fx_type::full_sum_is_one();
-    fx_type::full_product_is_one();
-    fx_type::union_is_one();
-    dg_model::param_type_is_one();
+    dg_blocks::each_is_one();
 }
 
 /// What a table that solves shows is in the range of its type (own).
 pub fn solved_is_in_range()
     ensures { SolvedIsInRange }
 {
-    dg_blocks::operation_gives_one();
-    fx_round::storing_gives_one();
-    fx_type::full_sum_is_one();
-    fx_type::full_product_is_one();
-    fx_type::union_is_one();
-    dg_model::param_type_is_one();
+    dg_blocks::each_is_one();
 }
 
 /// At a hit the entry of a table that solves is the one number that its equation gives (own).
 pub fn entry_is_one()
     ensures { EntryIsOne }
 {
-    dg_blocks::operation_gives_one();
-    fx_round::storing_gives_one();
-    fx_type::full_sum_is_one();
-    fx_type::full_product_is_one();
-    fx_type::union_is_one();
-    dg_model::param_type_is_one();
+    dg_blocks::each_is_one();
 }
 
 /// Off its hits a block keeps the entry of the sample before (Simulink reference, discrete sample
@@ -70,10 +50,5 @@ pub fn operations_prepare()
     ensures types { TypesAreValid }
     ensures fit { SignalsFit }
 {
-    dg_blocks::operation_gives_one();
-    fx_round::storing_gives_one();
-    fx_type::full_sum_is_one();
-    fx_type::full_product_is_one();
-    fx_type::union_is_one();
-    dg_model::param_type_is_one();
+    dg_blocks::each_is_one();
 }

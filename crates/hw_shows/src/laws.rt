@@ -10,12 +10,7 @@ pub fn built_is_shown()
     ensures stages { StagesAreShown }
     ensures served { OperandsAreServed }
 {
-    dg_blocks::operation_gives_one();
-    fx_round::storing_gives_one();
-    fx_type::full_sum_is_one();
-    fx_type::full_product_is_one();
-    fx_type::union_is_one();
-    dg_model::param_type_is_one();
+    dg_blocks::each_is_one();
     hw_net::register_is_closed();
     hw_net::enabled_register_is_closed();
 }

@@ -3,5 +3,5 @@ use Rattle.dg_tables.proofs.laws.some_table_solves.Goals as goal
 
 pub returns : goal.returns
 returns c =
-    checked_table_solves c.storing_gives_one.ensures c.operation_gives_one.ensures.at_most c.operation_gives_one.ensures.exactly
-    c.full_sum_is_one.ensures c.full_product_is_one.ensures c.union_is_one.ensures c.param_type_is_one.ensures
+    checked_table_solves c.each_is_one.ensures.storing c.each_is_one.ensures.at_most c.each_is_one.ensures.exactly
+    c.each_is_one.ensures.sum c.each_is_one.ensures.product c.each_is_one.ensures.union c.each_is_one.ensures.param
