@@ -20,23 +20,7 @@ use Rattle.fx_model.specs.Laws.{DiagramIsOne, VerdictIsOne, BrokenIsOne, LineIsO
 use Rattle.fx_model.specs.Model.{IsDiagramOf, IsModelOf, BreaksModel, IsBrokenModel}
 use Rattle.fx_model.specs.RuleLine.{rule_line}
 use Rattle.fx_model.specs.Verdict.{Verdict}
-
-abbrev pub TreeIsOne : Type 0
-TreeIsOne = (bytes : List ℕ) (one other : Tree) → Stands bytes one → Stands bytes other → one ≡ other
-
--- the laws of the lower crates
-pub record Known : Type 0 where
-  pub tree : TreeIsOne
-  pub line : (bytes : List ℕ) (one other : ℕ) → IsMdlFaultLine bytes one → IsMdlFaultLine bytes other → one ≡ other
-  pub nested : NestedIsOne
-  pub text : TextIsOne
-  pub text_kept : NestedIsNotBroken
-  pub flat : FlatIsOne
-  pub lines : LinesAreOne
-  pub lines_kept : FlatIsNotBroken
-  pub rule : FaultIsOne
-  pub same_told : ToldIsOne
-  pub rule_kept : CheckedIsNotBroken
+use Rattle.fx_model.specs.inner.Singles.{TreeIsOne, EachIsOne}
 
 -- ---- diagrams
 
@@ -50,7 +34,7 @@ one_model one_tree one_nested one_flat bytes one other is too =
 
 -- ---- faults
 
-module _ (known : Known) where
+module _ (known : EachIsOne) where
   -- one fault, or two of the rule of loops that differ in their cycles at most
   record AreSame (one other : RuleFault) (paths others : List (List ℕ)) : Type 0 where
     told_same : told_first one ≡ told_first other

@@ -2,46 +2,10 @@ use Rattle.fx_model.proofs.OneVerdict.{one_verdict, one_broken, one_line}
 use Rattle.fx_model.proofs.laws.verdict_is_one.Goals as goal
 
 pub returns-clause-one : goal.returns-clause-one
-returns-clause-one c = one_verdict (record {
-  tree = c.unique.ensures;
-  line = c.one_fault_line.ensures;
-  nested = c.nested_is_one.ensures;
-  text = c.fault_is_one.ensures;
-  text_kept = c.nested_is_not_broken.ensures;
-  flat = c.flat_is_one.ensures;
-  lines = c.broken_is_one.ensures;
-  lines_kept = c.flat_is_not_broken.ensures;
-  rule = c.fault_is_one-2.ensures.one;
-  same_told = c.fault_is_one-2.ensures.told;
-  rule_kept = c.checked_is_not_broken.ensures;
-})
+returns-clause-one c = one_verdict c.each_is_one.ensures
 
 pub returns-clause-broken : goal.returns-clause-broken
-returns-clause-broken c = one_broken (record {
-  tree = c.unique.ensures;
-  line = c.one_fault_line.ensures;
-  nested = c.nested_is_one.ensures;
-  text = c.fault_is_one.ensures;
-  text_kept = c.nested_is_not_broken.ensures;
-  flat = c.flat_is_one.ensures;
-  lines = c.broken_is_one.ensures;
-  lines_kept = c.flat_is_not_broken.ensures;
-  rule = c.fault_is_one-2.ensures.one;
-  same_told = c.fault_is_one-2.ensures.told;
-  rule_kept = c.checked_is_not_broken.ensures;
-})
+returns-clause-broken c = one_broken c.each_is_one.ensures
 
 pub returns-clause-line : goal.returns-clause-line
-returns-clause-line c = one_line (record {
-  tree = c.unique.ensures;
-  line = c.one_fault_line.ensures;
-  nested = c.nested_is_one.ensures;
-  text = c.fault_is_one.ensures;
-  text_kept = c.nested_is_not_broken.ensures;
-  flat = c.flat_is_one.ensures;
-  lines = c.broken_is_one.ensures;
-  lines_kept = c.flat_is_not_broken.ensures;
-  rule = c.fault_is_one-2.ensures.one;
-  same_told = c.fault_is_one-2.ensures.told;
-  rule_kept = c.checked_is_not_broken.ensures;
-})
+returns-clause-line c = one_line c.each_is_one.ensures
