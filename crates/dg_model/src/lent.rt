@@ -1,5 +1,6 @@
 //! The columns of a kind's row that hold lists.
 ghost use Rattle.std.specs.Prelude.{◌≡◌, ◌∷◌, [], MatchOption};
+ghost use Rattle.dg_model.specs.Equation.{signs_of};
 ghost use Rattle.dg_model.specs.Lent.{lent_full, lent_shape};
 ghost use Rattle.dg_model.specs.Library.{row_of};
 
@@ -103,6 +104,20 @@ impl Kind {
             | Kind::EnableTest
             | Kind::EnOut { .. }
             | Kind::Terminator => FullRule::NoFull,
+        }
+    }
+
+    /// The signs of a Sum, where `true` marks an input that is subtracted; no other kind has any.
+    pub fn signs(&self) -> &[bool]
+        ensures { result.now ≡ signs_of self.now }
+    {
+        match self.full() {
+            FullRule::FullSum { negative } => negative,
+            FullRule::NoFull
+            | FullRule::FullScaled { .. }
+            | FullRule::FullProduct
+            | FullRule::UnionOfTwo
+            | FullRule::UnionOfEnds => &[],
         }
     }
 

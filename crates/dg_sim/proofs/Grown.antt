@@ -13,9 +13,9 @@ use Rattle.dg_sim.specs.declared.program.Rule.{Rule}
 use Rattle.dg_sim.specs.declared.program.Rule.TheVariants.{Input, Fixed, Same, Works, Above, Past, Slower, Held, Reset}
 use Rattle.dg_sim.specs.Program.{part, operation_at, Gives, CanGive, IsWithin}
 use Rattle.dg_sim.specs.Sim.{Agrees}
-use Rattle.dg_sim.specs.inner.Building.{Grows, IsRule}
+use Rattle.dg_sim.specs.inner.Building.{Grows, IsAlways, IsMade, IsRule}
 use Rattle.dg_tables.proofs.Ranks.{there_left}
-use Rattle.dg_sim.proofs.Serving.{part_more}
+use Rattle.dg_sim.proofs.Serving.{part_more, fixed_rule}
 
 pub grows_same : (program : Program) → Grows program program
 grows_same program = record {
@@ -27,6 +27,10 @@ grows_same program = record {
   signs = ([], sym (append-nil program.signs));
   memories = ([], sym (append-nil program.memories));
 }
+
+-- nothing is put for a block whose value never changes
+pub fixed_made : (diagram : Diagram) (attributes : Attributes) (program : Program) (k : ℕ) (place : Place) (v : ℤ) → IsAlways diagram attributes place v → IsMade diagram attributes program program k place (Fixed v)
+fixed_made diagram attributes program k place v is = record { grows = grows_same program; memories = λ are. are; made = fixed_rule diagram attributes program k place v is }
 
 module _ (old new : Program) (grows : Grows old new) where
   args_part : (first count : ℕ) → first + count ≤ length old.args → part new.args first count ≡ part old.args first count

@@ -8,15 +8,15 @@ ghost use Rattle.dg_model.specs.declared.diagram.Block.{Block};
 ghost use Rattle.dg_model.specs.declared.kind.Kind.{Kind};
 ghost use Rattle.dg_model.specs.Equation.{IsPart};
 ghost use Rattle.dg_model.specs.Wires.{width_into, widths_into};
-ghost use Rattle.dg_sim.specs.inner.Building.{IsMade};
 ghost use Rattle.dg_sim.specs.inner.Cursors.{AreCursors, IsInto, IsOut};
 ghost use Rattle.dg_tables.specs.Finding.{AreLines};
-ghost use Rattle.dg_sim.specs.inner.Turns.{IsTurn};
+ghost use Rattle.dg_sim.specs.inner.Turns.{IsMadeFor, IsTurnOf};
 
 use crate::handing::hand_on;
 use crate::program::{Program, Rule};
-use dg_model::{Block, Checked};
-use dg_tables::{Place, Starts, width_of_input, width_of_output};
+use crate::turn::Turn;
+use dg_model::Checked;
+use dg_tables::{Starts, width_of_input, width_of_output};
 
 /// How many elements the first ports of a block have together.
 #[derive(Clone, Copy)]
@@ -134,33 +134,24 @@ fn width_before(checked: &Checked, from: Cursor, block: u32, port: u32) -> u32
 }
 
 /// The rule of a Mux.
-pub fn joined(
-    checked: &Checked,
-    starts: &Starts,
-    cursors: &mut Cursors,
-    program: &Program,
-    k: u32,
-    place: Place,
-    block: &Block,
-) -> Rule
-    requires block { slice_get checked.now.diagram.blocks place.block ≡ Some block.now }
-    requires kind { (sizes : List ℕ) × (block.now.kind ≡ Kind.Mux sizes) }
-    requires turn { IsTurn checked.now starts.now program.now.places k place block.now }
-    requires cursors { AreCursors checked.now.diagram
-        (attributes_of checked.now.diagram) cursors.old }
-    ensures made { IsMade checked.now.diagram (attributes_of checked.now.diagram) program.now
-        program.now k place result }
-    ensures cursors { AreCursors checked.now.diagram
-        (attributes_of checked.now.diagram) cursors.new }
+pub fn joined<'a>(cursors: &mut Cursors, program: &Program, turn: Turn<'a>) -> Rule
+    requires kind { (sizes : List ℕ) × (turn.block.now.kind ≡ Kind.Mux sizes) }
+    requires turn { IsTurnOf turn program.now.places }
+    requires cursors { AreCursors turn.checked.now.diagram
+        (attributes_of turn.checked.now.diagram) cursors.old }
+    ensures made { IsMadeFor turn.entry program.now program.now result }
+    ensures cursors { AreCursors turn.entry.checked.now.diagram
+        (attributes_of turn.entry.checked.now.diagram) cursors.new }
 {
-    checked.keeps_rules();
+    turn.checked.keeps_rules();
+    let place = turn.place;
     let from = cursors.into;
     let part = part_into(
-        checked,
-        starts,
+        turn.checked,
+        turn.starts,
         from,
         place.block,
-        block.inputs,
+        turn.block.inputs,
         place.element,
     );
     cursors.into = Cursor {
@@ -168,45 +159,27 @@ pub fn joined(
         ports: part.port - 1,
         before: part.before,
     };
-    hand_on(checked, starts, program, k, place, part.port, part.element)
+    hand_on(program, turn, part.port, part.element)
 }
 
 /// The rule of a Demux.
-pub fn parted(
-    checked: &Checked,
-    starts: &Starts,
-    cursors: &mut Cursors,
-    program: &Program,
-    k: u32,
-    place: Place,
-    block: &Block,
-) -> Rule
-    requires block { slice_get checked.now.diagram.blocks place.block ≡ Some block.now }
-    requires kind { (sizes : List ℕ) × (block.now.kind ≡ Kind.Demux sizes) }
-    requires turn { IsTurn checked.now starts.now program.now.places k place block.now }
-    requires cursors { AreCursors checked.now.diagram
-        (attributes_of checked.now.diagram) cursors.old }
-    ensures made { IsMade checked.now.diagram (attributes_of checked.now.diagram) program.now
-        program.now k place result }
-    ensures cursors { AreCursors checked.now.diagram
-        (attributes_of checked.now.diagram) cursors.new }
+pub fn parted<'a>(cursors: &mut Cursors, program: &Program, turn: Turn<'a>) -> Rule
+    requires kind { (sizes : List ℕ) × (turn.block.now.kind ≡ Kind.Demux sizes) }
+    requires turn { IsTurnOf turn program.now.places }
+    requires cursors { AreCursors turn.checked.now.diagram
+        (attributes_of turn.checked.now.diagram) cursors.old }
+    ensures made { IsMadeFor turn.entry program.now program.now result }
+    ensures cursors { AreCursors turn.entry.checked.now.diagram
+        (attributes_of turn.entry.checked.now.diagram) cursors.new }
 {
-    checked.keeps_rules();
-    let _name = &block.path;
+    turn.checked.keeps_rules();
+    let place = turn.place;
     let from = cursors.out;
-    let before = width_before(checked, from, place.block, place.port);
+    let before = width_before(turn.checked, from, place.block, place.port);
     cursors.out = Cursor {
         block: place.block,
         ports: place.port - 1,
         before,
     };
-    hand_on(
-        checked,
-        starts,
-        program,
-        k,
-        place,
-        1,
-        before + place.element,
-    )
+    hand_on(program, turn, 1, before + place.element)
 }

@@ -1,78 +1,75 @@
 //! The rules of blocks that work element by element.
-ghost use Rattle.std.specs.Prelude.{◌≡◌, ◌<◌, ◌≤◌, ◌++◌, ◌∷◌, [], ℕ, List, Some, length, slice_get, true, IfOk, OnOk};
+ghost use Rattle.std.specs.Prelude.{◌≡◌, ◌<◌, ◌≤◌, ◌++◌, ◌∷◌, [], ℕ, List, length, true, IfOk, OnOk};
 ghost use Rattle.dg_model.specs.Attributes.{attributes_of};
-ghost use Rattle.dg_model.specs.declared.diagram.Block.{Block};
-ghost use Rattle.dg_model.specs.Equation.{IsOpOf, signs_of};
+ghost use Rattle.dg_model.specs.Equation.{IsOpOf};
 ghost use Rattle.dg_model.specs.Wires.{type_into, types_into};
 ghost use Rattle.dg_model.specs.Solves.{IsShown};
 ghost use Rattle.dg_tables.specs.Entries.{Reads, AreEntries};
-ghost use Rattle.dg_sim.specs.inner.Building.{AreRead, IsMade, is_worked};
+ghost use Rattle.dg_sim.specs.inner.Building.{AreRead, is_worked};
 ghost use Rattle.dg_tables.specs.Finding.{AreLines, Finds, IsRead, ReadsNow};
-ghost use Rattle.dg_sim.specs.inner.Turns.{IsTurn};
-ghost use Rattle.dg_model.specs.declared.kind.Kind.{Kind};
+ghost use Rattle.dg_sim.specs.inner.Turns.{IsMadeFor, IsTurnOf};
 
 use crate::program::{Program, Rule, Work};
 use crate::rules::stored;
-use dg_model::{Block, Checked, FxTypes, Kind, Op};
-use dg_tables::{Place, Places, Starts, input, operations_prepare, type_of_input};
+use crate::turn::Turn;
+use dg_model::{FxTypes, Kind, Op};
+use dg_tables::{Places, input, operations_prepare, type_of_input};
 use fx_io::{Flags, OutOfMemory, Sizes};
 
-/// Puts what the input ports of a block offer to an element behind the arguments, with their types.
-fn put_inputs(
-    checked: &Checked,
-    starts: &Starts,
+/// Puts what the input ports of the block offer to the entry's element behind the arguments, with
+/// their types.
+fn put_inputs<'a>(
+    turn: Turn<'a>,
     places: &Places,
-    k: u32,
-    place: Place,
-    inputs: u32,
     args: &mut Sizes,
     types: &mut FxTypes,
 ) -> Result<(), OutOfMemory>
-    requires finds { Finds checked.now starts.now places.now }
-    requires now { ReadsNow checked.now places.now k place.block }
-    requires read { (port : ℕ) → 1 ≤ port → port ≤ inputs → IsRead checked.now.diagram
-        (attributes_of checked.now.diagram) place.block port place.element }
-    ensures { OnOk result ((numbers : List ℕ) × (length numbers ≡ inputs)
+    requires finds { Finds turn.checked.now turn.starts.now places.now }
+    requires now { ReadsNow turn.checked.now places.now turn.cell turn.place.block }
+    requires read { (port : ℕ) → 1 ≤ port → port ≤ turn.block.now.inputs
+        → IsRead turn.checked.now.diagram (attributes_of turn.checked.now.diagram)
+        turn.place.block port turn.place.element }
+    ensures { OnOk result ((numbers : List ℕ) × (length numbers ≡ turn.entry.block.now.inputs)
         × (args.new ≡ args.old ++ numbers)
-        × AreRead checked.now.diagram (attributes_of checked.now.diagram) places.now place.block
-        place.element k numbers
-        × (types.new ≡ types.old
-        ++ types_into checked.now.diagram (attributes_of checked.now.diagram) place.block inputs)) }
+        × AreRead turn.entry.checked.now.diagram
+        (attributes_of turn.entry.checked.now.diagram) places.now turn.entry.place.block
+        turn.entry.place.element turn.entry.cell numbers
+        × (types.new ≡ types.old ++ types_into turn.entry.checked.now.diagram
+        (attributes_of turn.entry.checked.now.diagram) turn.entry.place.block
+        turn.entry.block.now.inputs)) }
 {
-    for i in 0..inputs {
-        put_input(checked, starts, places, k, place, i + 1, args, types)?;
+    for i in 0..turn.block.inputs {
+        put_input(turn, places, i + 1, args, types)?;
     }
     Ok(())
 }
 
 /// The same of one input port.
-fn put_input(
-    checked: &Checked,
-    starts: &Starts,
+fn put_input<'a>(
+    turn: Turn<'a>,
     places: &Places,
-    k: u32,
-    place: Place,
     port: u32,
     args: &mut Sizes,
     types: &mut FxTypes,
 ) -> Result<(), OutOfMemory>
-    requires finds { Finds checked.now starts.now places.now }
-    requires now { ReadsNow checked.now places.now k place.block }
-    requires read { IsRead checked.now.diagram (attributes_of checked.now.diagram) place.block port
-        place.element }
+    requires finds { Finds turn.checked.now turn.starts.now places.now }
+    requires now { ReadsNow turn.checked.now places.now turn.cell turn.place.block }
+    requires read { IsRead turn.checked.now.diagram (attributes_of turn.checked.now.diagram)
+        turn.place.block port turn.place.element }
     ensures { OnOk result ((number : ℕ) × (args.new ≡ args.old ++ number ∷ [])
-        × (number < k) × Reads checked.now.diagram (attributes_of checked.now.diagram) places.now
-        place.block port place.element number
-        × (types.new ≡ types.old
-        ++ type_into checked.now.diagram (attributes_of checked.now.diagram) place.block port
-        ∷ [])) }
+        × (number < turn.entry.cell) × Reads turn.entry.checked.now.diagram
+        (attributes_of turn.entry.checked.now.diagram) places.now turn.entry.place.block port
+        turn.entry.place.element number
+        × (types.new ≡ types.old ++ type_into turn.entry.checked.now.diagram
+        (attributes_of turn.entry.checked.now.diagram) turn.entry.place.block port ∷ [])) }
 {
-    let _ = k;
-    let kind = type_of_input(checked, starts, place.block, port);
+    let place = turn.place;
+    let places = places.as_slice();
+    let kind = type_of_input(turn.checked, turn.starts, place.block, port);
     let number = input(
-        checked,
-        starts,
-        places.as_slice(),
+        turn.checked,
+        turn.starts,
+        places,
         place.block,
         port,
         place.element,
@@ -93,22 +90,23 @@ fn put_signs(signs: &mut Flags, negative: &[bool]) -> Result<(), OutOfMemory>
 }
 
 /// The operation of a block that works element by element.
-pub fn op_of(checked: &Checked, starts: &Starts, place: Place, block: &Block) -> Op
-    requires block { slice_get checked.now.diagram.blocks place.block ≡ Some block.now }
-    requires lines { AreLines checked.now.diagram starts.now.lines.items }
-    requires shown { IsShown checked.now.diagram (attributes_of checked.now.diagram) place.block
-        block.now place.port place.element }
-    requires worked { is_worked block.now.kind ≡ true }
-    ensures { IsOpOf block.now.kind place.element
-        ((attributes_of checked.now.diagram).param_at place.block)
-        (type_into checked.now.diagram (attributes_of checked.now.diagram) place.block 2) result }
+pub fn op_of<'a>(turn: Turn<'a>) -> Op
+    requires lines { AreLines turn.checked.now.diagram turn.starts.now.lines.items }
+    requires shown { IsShown turn.checked.now.diagram (attributes_of turn.checked.now.diagram)
+        turn.place.block turn.block.now turn.place.port turn.place.element }
+    requires worked { is_worked turn.block.now.kind ≡ true }
+    ensures { IsOpOf turn.entry.block.now.kind turn.entry.place.element
+        ((attributes_of turn.entry.checked.now.diagram).param_at turn.entry.place.block)
+        (type_into turn.entry.checked.now.diagram
+        (attributes_of turn.entry.checked.now.diagram) turn.entry.place.block 2) result }
 {
     operations_prepare();
-    checked.keeps_rules();
-    match &block.kind {
+    turn.checked.keeps_rules();
+    let place = turn.place;
+    match &turn.block.kind {
         Kind::Sum { .. } => Op::Sum,
         Kind::Gain { value, .. } => {
-            let param = checked.param(place.block);
+            let param = turn.checked.param(place.block);
             let coefficient = stored(value.as_slice(), place.element, param);
             Op::Gain { coefficient, param }
         }
@@ -117,7 +115,7 @@ pub fn op_of(checked: &Checked, starts: &Starts, place: Place, block: &Block) ->
             criterion,
             threshold,
         } => {
-            let control = type_of_input(checked, starts, place.block, 2);
+            let control = type_of_input(turn.checked, turn.starts, place.block, 2);
             let threshold = stored(threshold.as_slice(), place.element, control);
             Op::Switch {
                 criterion: *criterion,
@@ -150,57 +148,22 @@ pub fn op_of(checked: &Checked, starts: &Starts, place: Place, block: &Block) ->
     }
 }
 
-/// The signs of a Sum; no other kind has any.
-fn negative_of(kind: &Kind) -> &[bool]
-    ensures { result.now ≡ signs_of kind.now }
-{
-    match kind {
-        Kind::Sum { negative } => negative.as_slice(),
-        Kind::Inport { .. }
-        | Kind::Outport { .. }
-        | Kind::Constant { .. }
-        | Kind::Ground
-        | Kind::Gain { .. }
-        | Kind::Product
-        | Kind::Switch { .. }
-        | Kind::Relational { .. }
-        | Kind::Logic { .. }
-        | Kind::Convert { .. }
-        | Kind::Delay { .. }
-        | Kind::Mux { .. }
-        | Kind::Demux { .. }
-        | Kind::RateTransition { .. }
-        | Kind::Pass { .. }
-        | Kind::EnableTest
-        | Kind::EnOut { .. }
-        | Kind::Terminator => &[],
-    }
-}
-
 /// The rule of a block that works element by element.
-pub fn works(
-    checked: &Checked,
-    starts: &Starts,
-    program: &mut Program,
-    k: u32,
-    place: Place,
-    block: &Block,
-    op: Op,
-) -> Result<Rule, OutOfMemory>
-    requires block { slice_get checked.now.diagram.blocks place.block ≡ Some block.now }
-    requires turn { IsTurn checked.now starts.now program.old.places k place block.now }
-    requires entries { AreEntries checked.now.diagram (attributes_of checked.now.diagram)
-        program.old.places }
+pub fn works<'a>(program: &mut Program, turn: Turn<'a>, op: Op) -> Result<Rule, OutOfMemory>
+    requires turn { IsTurnOf turn program.old.places }
+    requires entries { AreEntries turn.checked.now.diagram
+        (attributes_of turn.checked.now.diagram) program.old.places }
     requires paired { length program.old.types ≡ length program.old.args }
-    requires op { IsOpOf block.now.kind place.element
-        ((attributes_of checked.now.diagram).param_at place.block)
-        (type_into checked.now.diagram (attributes_of checked.now.diagram) place.block 2) op }
-    ensures { IfOk result (λ rule. IsMade checked.now.diagram (attributes_of checked.now.diagram)
-        program.old program.new k place rule) }
+    requires op { IsOpOf turn.block.now.kind turn.place.element
+        ((attributes_of turn.checked.now.diagram).param_at turn.place.block)
+        (type_into turn.checked.now.diagram (attributes_of turn.checked.now.diagram)
+        turn.place.block 2) op }
+    ensures { IfOk result (IsMadeFor turn.entry program.old program.new) }
 {
     operations_prepare();
-    checked.keeps_rules();
-    let negative = negative_of(&block.kind);
+    turn.checked.keeps_rules();
+    let block = turn.block;
+    let negative = block.kind.signs();
     let Ok(first) = u32::try_from(program.args.as_slice().len()) else {
         // word: a rule names its arguments in 32 bits
         return Err(OutOfMemory);
@@ -210,16 +173,7 @@ pub fn works(
         return Err(OutOfMemory);
     };
     let signs = negative.len() as u32;
-    put_inputs(
-        checked,
-        starts,
-        &program.places,
-        k,
-        place,
-        block.inputs,
-        &mut program.args,
-        &mut program.types,
-    )?;
+    put_inputs(turn, &program.places, &mut program.args, &mut program.types)?;
     put_signs(&mut program.signs, negative)?;
     let work = Work {
         op,
@@ -227,7 +181,7 @@ pub fn works(
         count: block.inputs,
         first_sign,
         signs,
-        result: checked.result(place.block),
+        result: turn.checked.result(turn.place.block),
         rounding: block.rounding,
         saturate: block.saturate,
     };

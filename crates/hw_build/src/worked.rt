@@ -201,33 +201,6 @@ fn plain_op(kind: &Kind) -> Op
     }
 }
 
-/// The signs of a Sum; no other kind has any.
-fn negative_of(kind: &Kind) -> &[bool]
-    ensures { result.now ≡ signs_of kind.now }
-{
-    match kind {
-        Kind::Sum { negative } => negative.as_slice(),
-        Kind::Inport { .. }
-        | Kind::Outport { .. }
-        | Kind::Constant { .. }
-        | Kind::Ground
-        | Kind::Gain { .. }
-        | Kind::Product
-        | Kind::Switch { .. }
-        | Kind::Relational { .. }
-        | Kind::Logic { .. }
-        | Kind::Convert { .. }
-        | Kind::Delay { .. }
-        | Kind::Mux { .. }
-        | Kind::Demux { .. }
-        | Kind::RateTransition { .. }
-        | Kind::Pass { .. }
-        | Kind::EnableTest
-        | Kind::EnOut { .. }
-        | Kind::Terminator => &[],
-    }
-}
-
 /// Puts in an element of a block whose operation has no numbers of its own.
 pub fn put_worked<'a>(
     alloc: Global,
@@ -250,7 +223,7 @@ pub fn put_worked<'a>(
         net.old net.new place.block one.now place.port place.element operands.now) }
 {
     let op = plain_op(&one.kind);
-    let signs = negative_of(&one.kind);
+    let signs = one.kind.signs();
     carried(alloc, net, design, place, one, types, operands, op, signs)
 }
 

@@ -9,12 +9,24 @@ use Rattle.dg_model.specs.Wires.{repeated}
 use Rattle.dg_tables.specs.Finding.{Finds}
 use Rattle.dg_tables.specs.declared.entries.Place.{Place}
 use Rattle.dg_tables.specs.declared.reading.Starts.{Starts}
+use Rattle.dg_sim.specs.declared.program.Program.{Program}
+use Rattle.dg_sim.specs.declared.program.Rule.{Rule}
+use Rattle.dg_sim.specs.declared.turn.Turn.{Turn}
+use Rattle.dg_sim.specs.inner.Building.{IsMade}
 
 -- a rule is to be made for the entry that stands at k
 pub record IsTurn (checked : CheckedDiagram) (starts : Starts) (places : List Place) (k : ℕ) (place : Place) (b : Block) : Type 0 where
   pub finds : Finds checked starts places
   pub at : slice_get places k ≡ Some place
   pub shown : IsShown checked.diagram (attributes_of checked.diagram) place.block b place.port place.element
+
+-- a rule is to be made for the entry of a turn
+abbrev pub IsTurnOf : Turn → List Place → Type 0
+IsTurnOf turn places = IsTurn turn.checked.now turn.starts.now places turn.cell turn.place turn.block.now
+
+-- the rule of a turn was made, and the program has grown for it
+abbrev pub IsMadeFor : Turn → Program → Program → Rule → Type 0
+IsMadeFor turn old new rule = IsMade turn.checked.now.diagram (attributes_of turn.checked.now.diagram) old new turn.cell turn.place rule
 
 -- a list parameter has an entry for an element
 abbrev pub HasEntry : List Decimal → ℕ → Type 0

@@ -7,11 +7,11 @@ use Rattle.dg_sim.proofs.enabling.put_element.Goals as goal
 
 pub returns : goal.returns
 returns c =
-    let diagram = c.args.checked.now.diagram in
+    let diagram = c.args.turn.checked.now.diagram in
     let number = c.input-number.result in (
       number,
       c.in_ok-push.ensures.appended,
-      c.input-number.ensures.before c.args.k (subst (λ (places : List Place). ReadsNow c.args.checked.now places c.args.k c.args.block) (sym c.as_slice.ensures) c.requires.now),
-      subst (λ (places : List Place). Reads diagram (attributes_of diagram) places c.args.block 1 c.args.element number) c.as_slice.ensures c.input-number.ensures.reads,
+      c.input-number.ensures.before c.args.turn.cell (subst (λ (places : List Place). ReadsNow c.args.turn.checked.now places c.args.turn.cell c.args.turn.place.block) (sym c.as_slice.ensures) c.requires.now),
+      subst (λ (places : List Place). Reads diagram (attributes_of diagram) places c.args.turn.place.block 1 c.args.element number) c.as_slice.ensures c.input-number.ensures.reads,
       c.in_ok-push-2.ensures.appended,
     )

@@ -9,12 +9,12 @@ use Rattle.dg_sim.proofs.handing.hand_on.Goals as goal
 
 pub returns : goal.returns
 returns c =
-    let diagram = c.args.checked.now.diagram in
+    let diagram = c.args.turn.checked.now.diagram in
     let from = c.input-from.result in
-    let reads = subst (λ (places : List Place). Reads diagram (attributes_of diagram) places c.args.place.block c.args.port c.args.element from) c.as_slice-places.ensures c.input-from.ensures.reads in
-    let below : from < c.args.k = c.input-from.ensures.before c.args.k (subst (λ (places : List Place). ReadsNow c.args.checked.now places c.args.k c.args.place.block) (sym c.as_slice-places.ensures) c.requires.now) in
+    let reads = subst (λ (places : List Place). Reads diagram (attributes_of diagram) places c.args.turn.place.block c.args.port c.args.element from) c.as_slice-places.ensures c.input-from.ensures.reads in
+    let below : from < c.args.turn.cell = c.input-from.ensures.before c.args.turn.cell (subst (λ (places : List Place). ReadsNow c.args.turn.checked.now places c.args.turn.cell c.args.turn.place.block) (sym c.as_slice-places.ensures) c.requires.now) in
     record {
       grows = grows_same c.args.program.now;
       memories = λ are. are;
-      made = same_rule diagram (attributes_of diagram) c.args.program.now c.args.k c.args.place c.args.port c.args.element from reads below c.requires.hands;
+      made = same_rule diagram (attributes_of diagram) c.args.program.now c.args.turn.cell c.args.turn.place c.args.port c.args.element from reads below c.requires.hands;
     }

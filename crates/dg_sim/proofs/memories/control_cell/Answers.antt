@@ -5,7 +5,10 @@ use Rattle.dg_sim.proofs.memories.control_cell.Goals as goal
 
 pub look_up-requires-clause-entry : goal.look_up-requires-clause-entry
 look_up-requires-clause-entry c =
-    let checked = c.args.checked.now in
+    let checked = c.args.turn.checked.now in
     control_shown checked.diagram (attributes_of checked.diagram) c.keeps_rules.ensures.checked.wired
     (λ block b at. widths_fit checked.diagram c.keeps_rules.ensures.checked.wired c.keeps_rules.ensures.checked.dimensions block b at)
-    c.requires.block.0 c.args.block.now c.args.enable c.requires.block.1 c.requires.enable
+    c.args.turn.place.block c.args.turn.block.now c.args.enable c.requires.turn.shown.block_is c.requires.enable
+
+pub look_up-requires-clause-finds : goal.look_up-requires-clause-finds
+look_up-requires-clause-finds c = rw c.as_slice.ensures c.requires.turn.finds

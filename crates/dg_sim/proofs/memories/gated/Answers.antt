@@ -20,80 +20,77 @@ use Rattle.dg_sim.proofs.memories.gated.Goals as goal
 
 pub stored-first-requires-clause-kind : goal.stored-first-requires-clause-kind
 stored-first-requires-clause-kind c =
-    let checked = c.args.checked.now in
-    let valid = c.operations_prepare.ensures.types checked.diagram checked.order c.args.place.block c.args.block.now (record { checked = c.keeps_rules.ensures.checked; ordered = c.keeps_rules.ensures.ordered }) c.requires.block in
+    let checked = c.args.turn.checked.now in
+    let valid = c.operations_prepare.ensures.types checked.diagram checked.order c.args.turn.place.block c.args.turn.block.now (record { checked = c.keeps_rules.ensures.checked; ordered = c.keeps_rules.ensures.ordered }) c.requires.turn.shown.block_is in
     subst IsType (sym (c.result.ensures 1)) valid.0
 
 pub returns-then-reset : goal.returns-then-reset
 returns-then-reset c =
-    let diagram = c.args.checked.now.diagram in
+    let diagram = c.args.turn.checked.now.diagram in
     let fits : FitsSigned w128 c.stored-first.result = search rules in
-    let stores = subst (λ (kind : FxType). StoresEntry c.args.initial.now c.args.place.element kind c.stored-first.result) (c.result.ensures 1) c.stored-first.ensures in
-    let reads = subst (λ (places : List Place). Reads diagram (attributes_of diagram) places c.args.place.block 1 c.args.place.element c.input-from.result) c.as_slice.ensures c.input-from.ensures.reads in
+    let stores = subst (λ (kind : FxType). StoresEntry c.args.initial.now c.args.turn.place.element kind c.stored-first.result) (c.result.ensures 1) c.stored-first.ensures in
+    let reads = subst (λ (places : List Place). Reads diagram (attributes_of diagram) places c.args.turn.place.block 1 c.args.turn.place.element c.input-from.result) c.as_slice-places.ensures c.input-from.ensures.reads in
     let kind = c.requires.kind ∙ ap (λ (reset : Bool). EnOut reset c.args.initial.now) c.if-reset.true in
-    let below : c.control_cell-cell.result < c.args.k =
-    control_before c.args.checked.now c.args.starts.now c.args.program.now.places c.args.k c.args.place c.args.block.now c.requires.turn c.control_cell-cell.result c.in-Some.enable c.args.reset c.args.initial.now c.requires.kind c.in-Some.is c.control_cell-cell.ensures in
-    let now = turn_now c.args.checked.now c.args.starts.now c.args.program.now.places c.args.k c.args.place c.args.block.now c.requires.turn (EnOut c.args.reset c.args.initial.now) c.requires.kind refl in
-    let from_below : c.input-from.result < c.args.k = c.input-from.ensures.before c.args.k (subst (λ (places : List Place). ReadsNow c.args.checked.now places c.args.k c.args.place.block) (sym c.as_slice.ensures) now) in
+    let below : c.control_cell-cell.result < c.args.turn.cell =
+    control_before c.args.turn.checked.now c.args.turn.starts.now c.args.program.now.places c.args.turn.cell c.args.turn.place c.args.turn.block.now c.requires.turn c.control_cell-cell.result c.in-Some.enable c.args.reset c.args.initial.now c.requires.kind c.in-Some.is c.control_cell-cell.ensures in
+    let now = turn_now c.args.turn.checked.now c.args.turn.starts.now c.args.program.now.places c.args.turn.cell c.args.turn.place c.args.turn.block.now c.requires.turn (EnOut c.args.reset c.args.initial.now) c.requires.kind refl in
+    let from_below : c.input-from.result < c.args.turn.cell = c.input-from.ensures.before c.args.turn.cell (subst (λ (places : List Place). ReadsNow c.args.turn.checked.now places c.args.turn.cell c.args.turn.place.block) (sym c.as_slice-places.ensures) now) in
     rw (to_z-of_z w128 c.stored-first.result fits) (record {
       grows = grows_same c.args.program.now;
       memories = λ are. are;
-      made = reset_rule diagram (attributes_of diagram) c.args.program.now c.args.program.now c.args.place c.args.block.now c.requires.block c.args.k c.control_cell-cell.result c.input-from.result c.args.initial.now c.stored-first.result below from_below (c.in-Some.enable, c.in-Some.is, c.control_cell-cell.ensures) reads stores kind;
+      made = reset_rule diagram (attributes_of diagram) c.args.program.now c.args.program.now c.args.turn.place c.args.turn.block.now c.requires.turn.shown.block_is c.args.turn.cell c.control_cell-cell.result c.input-from.result c.args.initial.now c.stored-first.result below from_below (c.in-Some.enable, c.in-Some.is, c.control_cell-cell.ensures) reads stores kind;
     })
 
 pub period-period-requires : goal.period-period-requires
-period-period-requires c = slice_get_within c.args.checked.now.diagram.blocks c.args.place.block c.args.block.now c.requires.block
+period-period-requires c = slice_get_within c.args.turn.checked.now.diagram.blocks c.args.turn.place.block c.args.turn.block.now c.requires.turn.shown.block_is
 
 pub remember-requires-clause-moves : goal.remember-requires-clause-moves
 remember-requires-clause-moves c =
-    let diagram = c.args.checked.now.diagram in
-    gated_moves diagram (attributes_of diagram) c.args.program.now c.args.program.now c.args.place c.args.block.now c.requires.block c.args.program.now.places c.period-period.result c.control_cell-cell.result c.args.reset c.args.initial.now c.requires.kind c.period-period.ensures (c.in-Some.enable, c.in-Some.is, c.control_cell-cell.ensures)
+    let diagram = c.args.turn.checked.now.diagram in
+    gated_moves diagram (attributes_of diagram) c.args.program.now c.args.program.now c.args.turn.place c.args.turn.block.now c.requires.turn.shown.block_is c.args.program.now.places c.period-period.result c.control_cell-cell.result c.args.reset c.args.initial.now c.requires.kind c.period-period.ensures (c.in-Some.enable, c.in-Some.is, c.control_cell-cell.ensures)
 
 pub returns : goal.returns
 returns c =
-    let diagram = c.args.checked.now.diagram in
+    let diagram = c.args.turn.checked.now.diagram in
     let fits : FitsSigned w128 c.stored-first.result = search rules in
-    let stores = subst (λ (kind : FxType). StoresEntry c.args.initial.now c.args.place.element kind c.stored-first.result) (c.result.ensures 1) c.stored-first.ensures in
+    let stores = subst (λ (kind : FxType). StoresEntry c.args.initial.now c.args.turn.place.element kind c.stored-first.result) (c.result.ensures 1) c.stored-first.ensures in
     let is = c.in_ok-memory.ensures in
-    let reads = subst (λ (places : List Place). Reads diagram (attributes_of diagram) places c.args.place.block 1 c.args.place.element c.input-from.result) (c.as_slice.ensures ∙ sym is.grows.places) c.input-from.ensures.reads in
-    let control = subst (λ (places : List Place). IsControlCell places c.args.block.now.enable c.control_cell-cell.result) (sym is.grows.places) (c.in-Some.enable, c.in-Some.is, c.control_cell-cell.ensures) in
+    let reads = subst (λ (places : List Place). Reads diagram (attributes_of diagram) places c.args.turn.place.block 1 c.args.turn.place.element c.input-from.result) (c.as_slice-places.ensures ∙ sym is.grows.places) c.input-from.ensures.reads in
+    let control = subst (λ (places : List Place). IsControlCell places c.args.turn.block.now.enable c.control_cell-cell.result) (sym is.grows.places) (c.in-Some.enable, c.in-Some.is, c.control_cell-cell.ensures) in
     let kind = c.requires.kind ∙ ap (λ (reset : Bool). EnOut reset c.args.initial.now) c.if-reset.false in
-    let below : c.control_cell-cell.result < c.args.k =
-    control_before c.args.checked.now c.args.starts.now c.args.program.now.places c.args.k c.args.place c.args.block.now c.requires.turn c.control_cell-cell.result c.in-Some.enable c.args.reset c.args.initial.now c.requires.kind c.in-Some.is c.control_cell-cell.ensures in
-    let now = turn_now c.args.checked.now c.args.starts.now c.args.program.now.places c.args.k c.args.place c.args.block.now c.requires.turn (EnOut c.args.reset c.args.initial.now) c.requires.kind refl in
-    let from_below : c.input-from.result < c.args.k = c.input-from.ensures.before c.args.k (subst (λ (places : List Place). ReadsNow c.args.checked.now places c.args.k c.args.place.block) (sym c.as_slice.ensures) now) in
+    let below : c.control_cell-cell.result < c.args.turn.cell =
+    control_before c.args.turn.checked.now c.args.turn.starts.now c.args.program.now.places c.args.turn.cell c.args.turn.place c.args.turn.block.now c.requires.turn c.control_cell-cell.result c.in-Some.enable c.args.reset c.args.initial.now c.requires.kind c.in-Some.is c.control_cell-cell.ensures in
+    let now = turn_now c.args.turn.checked.now c.args.turn.starts.now c.args.program.now.places c.args.turn.cell c.args.turn.place c.args.turn.block.now c.requires.turn (EnOut c.args.reset c.args.initial.now) c.requires.kind refl in
+    let from_below : c.input-from.result < c.args.turn.cell = c.input-from.ensures.before c.args.turn.cell (subst (λ (places : List Place). ReadsNow c.args.turn.checked.now places c.args.turn.cell c.args.turn.place.block) (sym c.as_slice-places.ensures) now) in
     rw (to_z-of_z w128 c.stored-first.result fits) (record {
       grows = is.grows;
       memories = is.memories;
-      made = held_rule diagram (attributes_of diagram) c.args.program.now c.remember.new.program c.args.place c.args.block.now c.requires.block c.args.k c.control_cell-cell.result c.input-from.result c.args.initial.now c.stored-first.result below from_below control reads stores c.kept_moves.ensures.read c.in_ok-memory.memory kind is;
+      made = held_rule diagram (attributes_of diagram) c.args.program.now c.remember.new.program c.args.turn.place c.args.turn.block.now c.requires.turn.shown.block_is c.args.turn.cell c.control_cell-cell.result c.input-from.result c.args.initial.now c.stored-first.result below from_below control reads stores c.kept_moves.ensures.read c.in_ok-memory.memory kind is;
     })
 
 pub input-from-requires-clause-read : goal.input-from-requires-clause-read
-input-from-requires-clause-read c = output_reads c.args.checked.now c.args.starts.now c.args.program.now.places c.args.k c.args.place c.args.block.now c.requires.turn c.keeps_rules.ensures.checked c.args.reset c.args.initial.now c.requires.kind
+input-from-requires-clause-read c = output_reads c.args.turn.checked.now c.args.turn.starts.now c.args.program.now.places c.args.turn.cell c.args.turn.place c.args.turn.block.now c.requires.turn c.keeps_rules.ensures.checked c.args.reset c.args.initial.now c.requires.kind
 
 pub remember-requires-clause-read : goal.remember-requires-clause-read
-remember-requires-clause-read c = output_reads c.args.checked.now c.args.starts.now c.args.program.now.places c.args.k c.args.place c.args.block.now c.requires.turn c.keeps_rules.ensures.checked c.args.reset c.args.initial.now c.requires.kind
+remember-requires-clause-read c = output_reads c.args.turn.checked.now c.args.turn.starts.now c.args.program.now.places c.args.turn.cell c.args.turn.place c.args.turn.block.now c.requires.turn c.keeps_rules.ensures.checked c.args.reset c.args.initial.now c.requires.kind
 
 pub stored-first-requires-clause-entry : goal.stored-first-requires-clause-entry
-stored-first-requires-clause-entry c = output_entry_there c.args.checked.now.diagram c.keeps_rules.ensures.checked c.args.place.block c.args.place.port c.args.place.element c.args.block.now c.requires.turn.shown c.args.reset c.args.initial.now c.requires.kind
+stored-first-requires-clause-entry c = output_entry_there c.args.turn.checked.now.diagram c.keeps_rules.ensures.checked c.args.turn.place.block c.args.turn.place.port c.args.turn.place.element c.args.turn.block.now c.requires.turn.shown c.args.reset c.args.initial.now c.requires.kind
 
-pub control_cell-cell-requires-clause-finds : goal.control_cell-cell-requires-clause-finds
-control_cell-cell-requires-clause-finds c = c.requires.turn.finds
-
-pub control_cell-cell-requires-clause-block : goal.control_cell-cell-requires-clause-block
-control_cell-cell-requires-clause-block c = (c.args.place.block, c.requires.block)
+pub control_cell-cell-requires-clause-turn : goal.control_cell-cell-requires-clause-turn
+control_cell-cell-requires-clause-turn c = c.requires.turn
 
 pub control_cell-cell-requires-clause-enable : goal.control_cell-cell-requires-clause-enable
 control_cell-cell-requires-clause-enable c = c.in-Some.is
 
 pub input-from-requires-clause-finds : goal.input-from-requires-clause-finds
-input-from-requires-clause-finds c = rw c.as_slice.ensures c.requires.turn.finds
+input-from-requires-clause-finds c = rw c.as_slice-places.ensures c.requires.turn.finds
 
 pub result-requires : goal.result-requires
-result-requires c = slice_get_within c.args.checked.now.diagram.blocks c.args.place.block c.args.block.now c.requires.block
+result-requires c = slice_get_within c.args.turn.checked.now.diagram.blocks c.args.turn.place.block c.args.turn.block.now c.requires.turn.shown.block_is
 
-pub remember-requires-clause-finds : goal.remember-requires-clause-finds
-remember-requires-clause-finds c = c.requires.turn.finds
+pub remember-requires-clause-turn : goal.remember-requires-clause-turn
+remember-requires-clause-turn c = c.requires.turn
 
 pub remember-requires-clause-room : goal.remember-requires-clause-room
 remember-requires-clause-room c = sym (ap kept_count c.requires.kind)

@@ -8,10 +8,10 @@ use Rattle.dg_sim.proofs.memories.remember.Goals as goal
 
 pub returns : goal.returns
 returns c =
-    let diagram = c.args.checked.now.diagram in
+    let diagram = c.args.turn.checked.now.diagram in
     let old = c.args.program.now in
-    let place = c.args.place in
-    let reads = subst (λ (places : List Place). Reads diagram (attributes_of diagram) places place.block 1 place.element c.input-from.result) c.as_slice.ensures c.input-from.ensures.reads in
+    let place = c.args.turn.place in
+    let reads = subst (λ (places : List Place). Reads diagram (attributes_of diagram) places place.block 1 place.element c.input-from.result) c.as_slice-places.ensures c.input-from.ensures.reads in
     let memory : Memory = record { place = place; from = c.input-from.result; period = c.args.period; control = c.args.control; reset = c.args.reset; room = c.args.room } in
-    remembered diagram (attributes_of diagram) old (record { places = old.places; cells = old.cells; args = old.args; types = old.types; signs = old.signs; memories = c.push.new.self; outputs = old.outputs }) place c.args.block.now c.requires.block
-    memory refl c.requires.room c.requires.some c.requires.moves reads refl refl refl refl refl c.in_ok-push.ensures.appended c.in-Ok.number (c.in-Ok.ensures.1 ∙ ap length c.as_slice-2.ensures)
+    remembered diagram (attributes_of diagram) old (record { places = old.places; cells = old.cells; args = old.args; types = old.types; signs = old.signs; memories = c.push.new.self; outputs = old.outputs }) place c.args.turn.block.now c.requires.turn.shown.block_is
+    memory refl c.requires.room c.requires.some c.requires.moves reads refl refl refl refl refl c.in_ok-push.ensures.appended c.in-Ok.number (c.in-Ok.ensures.1 ∙ ap length c.as_slice.ensures)

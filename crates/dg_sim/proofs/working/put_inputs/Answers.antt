@@ -12,12 +12,12 @@ loop-i-preserved c =
     let inv = c.loop-i.invariant in
     let new = c.in_ok-put_input.ensures in
     let i : ℕ = c.loop-i.i in
-    let diagram = c.args.checked.now.diagram in
-    let place = c.args.place in (
+    let diagram = c.args.turn.checked.now.diagram in
+    let place = c.args.turn.place in (
       inv.0 ++ new.0 ∷ [],
       length-append inv.0 (new.0 ∷ []) ∙ omega (arith, inv.1),
       new.1 ∙ ap (λ (xs : List ℕ). xs ++ new.0 ∷ []) inv.2 ∙ append_assoc c.args.args.now inv.0 (new.0 ∷ []),
-      read_more diagram (attributes_of diagram) c.args.places.now place.block place.element c.args.k inv.0 new.0 i inv.1 new.2 (subst (λ (port : ℕ). Reads diagram (attributes_of diagram) c.args.places.now place.block port place.element new.0) (omega arith) new.3) inv.3,
+      read_more diagram (attributes_of diagram) c.args.places.now place.block place.element c.args.turn.cell inv.0 new.0 i inv.1 new.2 (subst (λ (port : ℕ). Reads diagram (attributes_of diagram) c.args.places.now place.block port place.element new.0) (omega arith) new.3) inv.3,
       new.4 ∙ ap (λ (xs : List FxType). xs ++ type_into diagram (attributes_of diagram) place.block (i + 1) ∷ []) inv.4
           ∙ append_assoc c.args.types.now _ (type_into diagram (attributes_of diagram) place.block (i + 1) ∷ [])
           ∙ ap (λ (xs : List FxType). c.args.types.now ++ xs) (sym (map_last (type_into diagram (attributes_of diagram) place.block) i)),

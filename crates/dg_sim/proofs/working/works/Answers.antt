@@ -7,28 +7,28 @@ use Rattle.dg_sim.proofs.working.works.Goals as goal
 
 pub returns : goal.returns
 returns c =
-    let diagram = c.args.checked.now.diagram in
+    let diagram = c.args.turn.checked.now.diagram in
     let attributes = attributes_of diagram in
-    let place = c.args.place in
-    let b = c.args.block.now in
+    let place = c.args.turn.place in
+    let b = c.args.turn.block.now in
     let read = c.in_ok-put_inputs.ensures in
-    let prepared = c.operations_prepare.ensures.operations diagram c.args.checked.now.order place.block b place.element c.args.op (record { checked = c.keeps_rules.ensures.checked; ordered = c.keeps_rules.ensures.ordered }) c.requires.block c.requires.op in
+    let prepared = c.operations_prepare.ensures.operations diagram c.args.turn.checked.now.order place.block b place.element c.args.op (record { checked = c.keeps_rules.ensures.checked; ordered = c.keeps_rules.ensures.ordered }) c.requires.turn.shown.block_is c.requires.op in
     let first = c.in-Ok.ensures.1 ∙ ap length c.as_slice.ensures in
-    let few = op_inputs c.args.checked.now c.args.starts.now c.args.program.now.places c.args.k place b c.requires.turn c.keeps_rules.ensures.checked _ _ c.args.op c.requires.op in
-    works_made diagram attributes c.args.program.now c.args.k place b c.args.op c.in-Ok.first c.in-Ok-try_from.first_sign (length c.negative_of-negative.result.now) c.result.result read.0 c.put_inputs.new.args c.put_inputs.new.types c.negative_of-negative.result.now c.put_signs.new.signs
-    (op_elementwise diagram attributes place b c.requires.block c.args.op c.requires.op) c.requires.entries c.requires.op prepared few (c.result.ensures 1) first (first ∙ sym c.requires.paired)
-    (c.in-Ok-try_from.ensures.1 ∙ ap length c.as_slice-2.ensures) refl c.negative_of-negative.ensures read.1 read.2 read.3 read.4 c.in_ok-put_signs.ensures
+    let few = op_inputs c.args.turn.checked.now c.args.turn.starts.now c.args.program.now.places c.args.turn.cell place b c.requires.turn c.keeps_rules.ensures.checked _ _ c.args.op c.requires.op in
+    works_made diagram attributes c.args.program.now c.args.turn.cell place b c.args.op c.in-Ok.first c.in-Ok-try_from.first_sign (length c.signs-negative.result.now) c.result.result read.0 c.put_inputs.new.args c.put_inputs.new.types c.signs-negative.result.now c.put_signs.new.signs
+    (op_elementwise diagram attributes place b c.requires.turn.shown.block_is c.args.op c.requires.op) c.requires.entries c.requires.op prepared few (c.result.ensures 1) first (first ∙ sym c.requires.paired)
+    (c.in-Ok-try_from.ensures.1 ∙ ap length c.as_slice-2.ensures) refl c.signs-negative.ensures read.1 read.2 read.3 read.4 c.in_ok-put_signs.ensures
 
 pub put_inputs-requires-clause-now : goal.put_inputs-requires-clause-now
 put_inputs-requires-clause-now c =
-    op_now c.args.checked.now c.args.starts.now c.args.program.now.places c.args.k c.args.place c.args.block.now c.requires.turn _ _ c.args.op c.requires.op
+    op_now c.args.turn.checked.now c.args.turn.starts.now c.args.program.now.places c.args.turn.cell c.args.turn.place c.args.turn.block.now c.requires.turn _ _ c.args.op c.requires.op
 
 pub put_inputs-requires-clause-read : goal.put_inputs-requires-clause-read
 put_inputs-requires-clause-read c =
-    op_reads c.args.checked.now c.args.starts.now c.args.program.now.places c.args.k c.args.place c.args.block.now c.requires.turn c.keeps_rules.ensures.checked _ _ c.args.op c.requires.op
+    op_reads c.args.turn.checked.now c.args.turn.starts.now c.args.program.now.places c.args.turn.cell c.args.turn.place c.args.turn.block.now c.requires.turn c.keeps_rules.ensures.checked _ _ c.args.op c.requires.op
 
 pub overflow_cast-signs : goal.overflow_cast-signs
 overflow_cast-signs c =
-    let few = op_signs c.args.checked.now c.args.starts.now c.args.program.now.places c.args.k c.args.place c.args.block.now c.requires.turn c.keeps_rules.ensures.checked in
-    let many : length c.negative_of-negative.result.now ≤ 32 = subst (λ (signs : List Bool). length signs ≤ 32) (sym c.negative_of-negative.ensures) few in
+    let few = op_signs c.args.turn.checked.now c.args.turn.starts.now c.args.program.now.places c.args.turn.cell c.args.turn.place c.args.turn.block.now c.requires.turn c.keeps_rules.ensures.checked in
+    let many : length c.signs-negative.result.now ≤ 32 = subst (λ (signs : List Bool). length signs ≤ 32) (sym c.signs-negative.ensures) few in
     record { fits = omega (arith, many) }

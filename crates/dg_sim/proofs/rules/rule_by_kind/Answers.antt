@@ -1,0 +1,115 @@
+use Rattle.std.proofs.Common.{◌∙◌, List, ap, sym, refl, arith}
+use Rattle.fx_type.specs.declared.decimal.Decimal.{Decimal}
+use Rattle.dg_model.specs.declared.kind.Kind.TheVariants.{Constant, Outport, Pass, RateTransition}
+use Rattle.dg_model.specs.Attributes.{attributes_of}
+use Rattle.dg_sim.proofs.ByKind.{outport_hands, pass_hands, ground_always}
+use Rattle.dg_sim.proofs.Entries.{ports_are}
+use Rattle.dg_sim.proofs.Grown.{fixed_made}
+use Rattle.dg_sim.proofs.Turns.{turn_now, turn_read}
+use Rattle.dg_sim.proofs.rules.rule_by_kind.Goals as goal
+
+pub hand_on-requires : goal.hand_on-requires
+hand_on-requires c =
+    let diagram = c.args.turn.checked.now.diagram in
+    let is = c.keeps_rules.ensures.checked in
+    let kind = Outport c.in-Outport.number in
+    let ports = (ports_are diagram is.wired c.args.turn.place.block c.args.turn.block.now c.requires.turn.shown.block_is kind c.in-Outport.is).0 in
+    record {
+      hands = outport_hands diagram (attributes_of diagram) c.args.turn.place c.args.turn.block.now c.requires.turn.shown.block_is c.in-Outport.number c.in-Outport.is ports;
+      finds = c.requires.turn.finds;
+      now = turn_now c.args.turn.checked.now c.args.turn.starts.now c.args.program.now.places c.args.turn.cell c.args.turn.place c.args.turn.block.now c.requires.turn kind c.in-Outport.is refl;
+      read = turn_read c.args.turn.checked.now c.args.turn.starts.now c.args.program.now.places c.args.turn.cell c.args.turn.place c.args.turn.block.now c.requires.turn kind c.in-Outport.is is refl 1 (omega arith) (omega (arith, ports));
+    }
+
+pub hand_on-requires-in-Pass : goal.hand_on-requires-in-Pass
+hand_on-requires-in-Pass c =
+    let diagram = c.args.turn.checked.now.diagram in
+    let is = c.keeps_rules.ensures.checked in
+    let kind = Pass c.in-Pass.width in
+    let ports = (ports_are diagram is.wired c.args.turn.place.block c.args.turn.block.now c.requires.turn.shown.block_is kind c.in-Pass.is).0 in
+    record {
+      hands = pass_hands diagram (attributes_of diagram) c.args.turn.place c.args.turn.block.now c.requires.turn.shown.block_is c.in-Pass.width c.in-Pass.is ports;
+      finds = c.requires.turn.finds;
+      now = turn_now c.args.turn.checked.now c.args.turn.starts.now c.args.program.now.places c.args.turn.cell c.args.turn.place c.args.turn.block.now c.requires.turn kind c.in-Pass.is refl;
+      read = turn_read c.args.turn.checked.now c.args.turn.starts.now c.args.program.now.places c.args.turn.cell c.args.turn.place c.args.turn.block.now c.requires.turn kind c.in-Pass.is is refl 1 (omega arith) (omega (arith, ports));
+    }
+
+pub joined-requires : goal.joined-requires
+joined-requires c = record { kind = (c.in-Mux.sizes, c.in-Mux.is); turn = c.requires.turn; cursors = c.requires.cursors }
+
+pub parted-requires : goal.parted-requires
+parted-requires c = record { kind = (c.in-Demux.sizes, c.in-Demux.is); turn = c.requires.turn; cursors = c.requires.cursors }
+
+pub returns-in-Ground-clause-made : goal.returns-in-Ground-clause-made
+returns-in-Ground-clause-made c =
+    let diagram = c.args.turn.checked.now.diagram in
+    fixed_made diagram (attributes_of diagram) c.args.program.now c.args.turn.cell c.args.turn.place _ (ground_always diagram (attributes_of diagram) c.args.turn.place c.args.turn.block.now c.requires.turn.shown.block_is c.in-Ground.is)
+
+pub transition-requires-clause-kind : goal.transition-requires-clause-kind
+transition-requires-clause-kind c = (c.in-RateTransition.period, c.in-RateTransition.is ∙ ap (λ (initial : List Decimal). RateTransition c.in-RateTransition.period initial) (sym c.as_slice-in-RateTransition.ensures))
+
+pub from_row-requires-clause-kind : goal.from_row-requires-clause-kind
+from_row-requires-clause-kind c = (c.in-Inport.width, c.in-Inport.is)
+
+pub constant-requires-clause-kind : goal.constant-requires-clause-kind
+constant-requires-clause-kind c = c.in-Constant.is ∙ ap (λ (value : List Decimal). Constant value) (sym c.as_slice.ensures)
+
+pub above-requires-clause-kind : goal.above-requires-clause-kind
+above-requires-clause-kind c = c.in-EnableTest.is
+
+pub returns-in-Inport-clause-made : goal.returns-in-Inport-clause-made
+returns-in-Inport-clause-made c = c.from_row.ensures
+
+pub returns-in-Constant-clause-made : goal.returns-in-Constant-clause-made
+returns-in-Constant-clause-made c = c.constant.ensures
+
+pub returns-in-Mux-clause-made : goal.returns-in-Mux-clause-made
+returns-in-Mux-clause-made c = c.joined.ensures.made
+
+pub returns-in-Demux-clause-made : goal.returns-in-Demux-clause-made
+returns-in-Demux-clause-made c = c.parted.ensures.made
+
+pub returns-in-RateTransition-clause-made : goal.returns-in-RateTransition-clause-made
+returns-in-RateTransition-clause-made c = c.transition.ensures
+
+pub returns-in-EnableTest-clause-made : goal.returns-in-EnableTest-clause-made
+returns-in-EnableTest-clause-made c = c.above.ensures
+
+pub returns-in-Sum-clause-made : goal.returns-in-Sum-clause-made
+returns-in-Sum-clause-made c = c.worked.ensures
+
+pub returns-in-Delay-clause-made : goal.returns-in-Delay-clause-made
+returns-in-Delay-clause-made c = c.kept_rule.ensures
+
+pub from_row-requires-clause-roots : goal.from_row-requires-clause-roots
+from_row-requires-clause-roots c = c.requires.roots
+
+pub returns-in-Outport-clause-made : goal.returns-in-Outport-clause-made
+returns-in-Outport-clause-made c = c.hand_on.ensures
+
+pub returns-in-Pass-clause-made : goal.returns-in-Pass-clause-made
+returns-in-Pass-clause-made c = c.hand_on-in-Pass.ensures
+
+pub returns-in-Mux-clause-cursors : goal.returns-in-Mux-clause-cursors
+returns-in-Mux-clause-cursors c = c.joined.ensures.cursors
+
+pub returns-in-Demux-clause-cursors : goal.returns-in-Demux-clause-cursors
+returns-in-Demux-clause-cursors c = c.parted.ensures.cursors
+
+pub from_row-requires-clause-turn : goal.from_row-requires-clause-turn
+from_row-requires-clause-turn c = c.requires.turn
+
+pub constant-requires-clause-turn : goal.constant-requires-clause-turn
+constant-requires-clause-turn c = c.requires.turn
+
+pub transition-requires-clause-turn : goal.transition-requires-clause-turn
+transition-requires-clause-turn c = c.requires.turn
+
+pub above-requires-clause-turn : goal.above-requires-clause-turn
+above-requires-clause-turn c = c.requires.turn
+
+pub kept_rule-requires-clause-turn : goal.kept_rule-requires-clause-turn
+kept_rule-requires-clause-turn c = c.requires.turn
+
+pub worked-requires-clause-turn : goal.worked-requires-clause-turn
+worked-requires-clause-turn c = c.requires.turn
