@@ -1,9 +1,10 @@
 -- Rows that are filled edge by edge hold the readers of a diagram, and with the sources they are its links.
-use Rattle.std.proofs.Common.{◌≡◌, ℕ, zero, suc, ◌<◌, ◌≤◌, Bool, true, false, List, [], ◌∷◌, ◌++◌, length, map, filter, cond, set, All, Some, Option, get_or, eqb, refl, sym, ap, subst, ◌∙◌, inl, inr, arith, append-nil}
+use Rattle.std.proofs.Common.{◌≡◌, ℕ, zero, suc, ◌+◌, ◌<◌, ◌≤◌, Bool, true, false, List, [], ◌∷◌, ◌++◌, length, map, filter, cond, set, All, Some, Option, get_or, eqb, refl, sym, ap, subst, ◌∙◌, inl, inr, arith, append-nil}
 use Rattle.std.specs.Prelude.{slice_get, unwrap_or, ◌==◌}
 use Rattle.std.proofs.lemmas.Bool.{cases_lt, cases_Bool, eqb-true, eqb-false}
 use Rattle.std.proofs.lemmas.Bool.Decides.{Decides-by_and, Decides-eqb, nat_tests}
-use Rattle.std.proofs.lemmas.List.{length-set, get_or-set_same, get_or-set_other, map-append}
+use Rattle.std.proofs.lemmas.List.{length-set, get_or-set_same, get_or-set_other, get_or_append_left, map-append}
+use Rattle.std.proofs.Math.Seq.{get_or-append_seam}
 use Rattle.std.proofs.lemmas.List.Elements.{filter-append}
 use Rattle.std.proofs.lemmas.Option.{unwrap_or-slice_get, slice_get_past, slice_get-get_or, none-some, same_Some}
 use Rattle.dg_model.specs.declared.diagram.Block.{Block}
@@ -24,6 +25,18 @@ all_push P [] x all here zero d inside = here
 all_push P [] x all here (suc k) d inside = absurd (omega arith)
 all_push P (y ∷ xs) x all here zero d inside = all 0 d (omega arith)
 all_push P (y ∷ xs) x all here (suc k) d inside = all_push P xs x (λ j e i. all (suc j) e (omega arith)) here k d (omega arith)
+
+-- of rows that have their own number alone, and one more that has its own
+pub own_more : (rows : List (List ℕ)) (count : ℕ) (own : List ℕ) → length rows ≡ count → own ≡ count ∷ [] → ((k : ℕ) → k < count → get_or rows k [] ≡ k ∷ []) →
+    (k : ℕ) → k < count + 1 → get_or (rows ++ own ∷ []) k [] ≡ k ∷ []
+own_more rows count own size is before k below =
+    elim (cases_lt k count) [
+      | inl inner ↦ get_or_append_left rows (own ∷ []) [] k (omega (arith, inner, size)) ∙ before k inner
+      | inr past ↦
+          let last : length rows ≡ k = omega (arith, size, past, below) in
+          let same : count ≡ k = omega (arith, past, below) in
+          subst (λ (j : ℕ). get_or (rows ++ own ∷ []) j [] ≡ own) last (get_or-append_seam rows own [] []) ∙ is ∙ ap (λ (j : ℕ). j ∷ []) same
+    ]
 
 pub known_more : (count : ℕ) (done : List Edge) (rows : List (List ℕ)) (edge : Edge) → edge.from < count → edge.to < count → Known count done rows →
     Known count (done ++ edge ∷ []) (set rows edge.from (get_or rows edge.from [] ++ edge.to ∷ []))

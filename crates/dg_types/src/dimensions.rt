@@ -82,7 +82,20 @@ pub fn widths(alloc: Global, diagram: &Diagram) -> Result<PortWidths, CheckFault
     ensures refused { IfErr result (IsRefusal (BreaksDimension diagram.now)) }
 {
     let scan = scan_of(alloc, diagram)?;
-    if let Some(place) = first_broken(diagram, &scan) {
+    let widths = widths_in(alloc, diagram, &scan);
+    drop(scan);
+    widths
+}
+
+/// The widths of a diagram that a scan found, where they keep the rule.
+fn widths_in(alloc: Global, diagram: &Diagram, scan: &Scan) -> Result<PortWidths, CheckFault>
+    requires wired { IsWired diagram.now }
+    requires scan { IsScan diagram.now scan.now }
+    ensures widths { IfOk result (λ widths. widths ≡ widths_of diagram.now) }
+    ensures kept { OnOk result (KeepsDimensions diagram.now) }
+    ensures refused { IfErr result (IsRefusal (BreaksDimension diagram.now)) }
+{
+    if let Some(place) = first_broken(diagram, scan) {
         let path = diagram.blocks.as_slice()[place].path.text(alloc)?;
         return Err(CheckFault::Broken(fault_at(path)));
     }

@@ -1,10 +1,11 @@
-ghost use Rattle.std.specs.Prelude.{◌≡◌, ℕ, ◌^◌, ◌<◌, Some, slice_get, IfOk};
+ghost use Rattle.std.specs.Prelude.{◌≡◌, ℕ, ◌^◌, ◌<◌, Some, length, slice_get, IfOk};
 ghost use Rattle.dg_model.specs.declared.diagram.Block.{Block};
 ghost use Rattle.dg_model.specs.Wired.{IsWired};
-ghost use Rattle.dg_types.specs.inner.Shown.{shape_of, declared_width as declared_width_of, first_held as first_held_of, all_first as all_first_of};
+ghost use Rattle.dg_types.specs.inner.Shown.{shape_of, declared_width as declared_width_of, first_held as first_held_of, all_first as all_first_of, Mirrors};
 ghost use Rattle.dg_types.specs.inner.Scanned.{IsScan};
 
 use crate::build::linked;
+use crate::linked::WidthRound;
 use crate::rows::{input_rows, rows_of};
 use dg_model::{Block, Diagram, Kind, Shape};
 use fx_io::{OutOfMemory, PortSizes};
@@ -51,13 +52,26 @@ pub fn scan_of(alloc: Global, diagram: &Diagram) -> Result<Scan, OutOfMemory>
     requires { IsWired diagram.now }
     ensures { IfOk result (IsScan diagram.now) }
 {
-    let blocks = diagram.blocks.as_slice();
     let round = linked(alloc, diagram)?;
+    let scan = scan_by(alloc, diagram, &round);
+    drop(round);
+    scan
+}
+
+/// Works out the rounds of a diagram that is linked so.
+fn scan_by(alloc: Global, diagram: &Diagram, round: &WidthRound) -> Result<Scan, OutOfMemory>
+    requires wired { IsWired diagram.now }
+    requires size { length round.now.sources ≡ length diagram.now.blocks }
+    requires mirrors { Mirrors diagram.now round.now.forms round.now.sources }
+    ensures { IfOk result (IsScan diagram.now) }
+{
+    let blocks = diagram.blocks.as_slice();
     let first = all_first(alloc, blocks)?;
-    let held = dg_waves::after_rounds(alloc, &round, first, blocks.len() as u32)?;
+    let held = dg_waves::after_rounds(alloc, round, first, blocks.len() as u32)?;
     let widths = rows_of(alloc, blocks, held.as_slice())?;
-    let held_again = dg_waves::after_rounds(alloc, &round, held, 1)?;
+    let held_again = dg_waves::after_rounds(alloc, round, held, 1)?;
     let again = rows_of(alloc, blocks, held_again.as_slice())?;
+    drop(held_again);
     let inputs = input_rows(alloc, diagram.edges.as_slice(), widths.as_slice())?;
     Ok(Scan {
         widths,

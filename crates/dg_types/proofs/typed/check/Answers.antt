@@ -1,5 +1,4 @@
-use Rattle.std.proofs.Common.{List, length, sym, ap, ◌∙◌}
-use Rattle.std.proofs.lemmas.Option.{slice_get_within, slice_get-get_or}
+use Rattle.std.proofs.lemmas.Option.{slice_get_within}
 use Rattle.dg_types.proofs.typed.check.Goals as goal
 
 pub returns-in_default-clause-kept : goal.returns-in_default-clause-kept

@@ -1,4 +1,4 @@
-use Rattle.std.proofs.Common.{◌≡◌, ◌+◌, ◌-◌, Bool, true, cond, ℤ, pos, ◌-ℤ◌, to_z, of_z, Some, ap, sym, ◌∙◌, arith}
+use Rattle.std.proofs.Common.{◌≡◌, ◌+◌, ◌-◌, Bool, cond, ℤ, pos, ◌-ℤ◌, to_z, of_z, Some, ap, sym, ◌∙◌, arith}
 use Rattle.std.specs.Int.{w16}
 use Rattle.std.specs.List.{find, range_with_len}
 use Rattle.std.proofs.lemmas.Int.{ints}

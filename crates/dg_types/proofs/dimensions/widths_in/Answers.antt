@@ -4,7 +4,7 @@ use Rattle.std.proofs.lemmas.Option.{slice_get-get_or}
 use Rattle.dg_model.specs.declared.diagram.Block.{Block}
 use Rattle.dg_types.proofs.ScanFacts.{ends_there}
 use Rattle.dg_types.proofs.Verdicts.{breaks_at, breaks_bounds, keeps_all}
-use Rattle.dg_types.proofs.dimensions.widths.Goals as goal
+use Rattle.dg_types.proofs.dimensions.widths_in.Goals as goal
 
 pub returns-in-Some-clause-refused : goal.returns-in-Some-clause-refused
 returns-in-Some-clause-refused c =
@@ -17,15 +17,15 @@ returns-in-Some-clause-refused c =
 
 pub is_bounded-requires-clause-from : goal.is_bounded-requires-clause-from
 is_bounded-requires-clause-from c =
-    rw c.as_slice-2.ensures (λ k edge inside. (ends_there c.args.diagram.now c.in_ok-scan.scan.widths c.requires c.in_ok-scan.ensures.size k edge inside).0)
+    rw c.as_slice-2.ensures (λ k edge inside. (ends_there c.args.diagram.now c.args.scan.now.widths c.requires.wired c.requires.scan.size k edge inside).0)
 
 pub returns-then-not-is_bounded-clause-refused : goal.returns-then-not-is_bounded-clause-refused
 returns-then-not-is_bounded-clause-refused c =
     let no : c.is_bounded.result ≡ false = grind arith in
-    breaks_bounds c.args.diagram.now c.as_slice-2.result.now c.fault_at-then-not-is_bounded.result (c.in_default.ensures.none refl) (c.as_slice-2.ensures ∙ c.in_ok-scan.ensures.widths)
+    breaks_bounds c.args.diagram.now c.as_slice-2.result.now c.fault_at-then-not-is_bounded.result (c.in_default.ensures.none refl) (c.as_slice-2.ensures ∙ c.requires.scan.widths)
     (λ bounded. let yes = c.is_bounded.ensures.1 bounded in cc) (rw c.new.ensures at c.fault_at-then-not-is_bounded.ensures)
 
 pub returns-clause-kept : goal.returns-clause-kept
 returns-clause-kept c =
     let yes : c.is_bounded.result ≡ true = grind arith in
-    keeps_all c.args.diagram.now c.as_slice-2.result.now (c.in_default.ensures.none refl) (c.as_slice-2.ensures ∙ c.in_ok-scan.ensures.widths) (c.is_bounded.ensures.0 yes)
+    keeps_all c.args.diagram.now c.as_slice-2.result.now (c.in_default.ensures.none refl) (c.as_slice-2.ensures ∙ c.requires.scan.widths) (c.is_bounded.ensures.0 yes)

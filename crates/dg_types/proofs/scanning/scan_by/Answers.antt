@@ -7,54 +7,54 @@ use Rattle.dg_types.specs.inner.Shown.{shown, all_first}
 use Rattle.dg_types.proofs.FromWired.{is_laid}
 use Rattle.dg_types.proofs.Shown.{first_fits, length_first, length_shown}
 use Rattle.dg_types.proofs.ScanFacts.{ends_there, is_scan}
-use Rattle.dg_types.proofs.scanning.scan_of.Goals as goal
+use Rattle.dg_types.proofs.scanning.scan_by.Goals as goal
 
 pub after_rounds-requires-clause-fit : goal.after_rounds-requires-clause-fit
 after_rounds-requires-clause-fit c =
     rw (c.in_ok-first.ensures, c.as_slice-blocks.ensures)
-    (λ k d inside. first_fits c.args.diagram.now.blocks k d (is_laid c.args.diagram.now c.requires).declared inside)
+    (λ k d inside. first_fits c.args.diagram.now.blocks k d (is_laid c.args.diagram.now c.requires.wired).declared inside)
 
 pub rows_of-requires-clause-size : goal.rows_of-requires-clause-size
 rows_of-requires-clause-size c =
     let blocks = c.as_slice-blocks.result.now in
-    let next = next_held c.in_ok-round.round.forms c.in_ok-round.round.sources in
+    let next = next_held c.args.round.now.forms c.args.round.now.sources in
     ap length (c.as_slice.ensures.value ∙ c.in_ok-held.ensures.values) ∙ length_after next (length blocks) c.in_ok-first.first.items ∙ ap length c.in_ok-first.ensures ∙ length_first blocks
 
 pub after_rounds-requires-2-clause-size : goal.after_rounds-requires-2-clause-size
 after_rounds-requires-2-clause-size c =
     let blocks = c.as_slice-blocks.result.now in
-    let next = next_held c.in_ok-round.round.forms c.in_ok-round.round.sources in
+    let next = next_held c.args.round.now.forms c.args.round.now.sources in
     ap length c.in_ok-held.ensures.values ∙ length_after next (length blocks) c.in_ok-first.first.items ∙ ap length c.in_ok-first.ensures ∙ length_first blocks
-    ∙ ap length c.as_slice-blocks.ensures ∙ sym c.in_ok-round.ensures.size
+    ∙ ap length c.as_slice-blocks.ensures ∙ sym c.requires.size
 
 pub rows_of-requires-2-clause-size : goal.rows_of-requires-2-clause-size
 rows_of-requires-2-clause-size c =
     let blocks = c.as_slice-blocks.result.now in
-    let next = next_held c.in_ok-round.round.forms c.in_ok-round.round.sources in
+    let next = next_held c.args.round.now.forms c.args.round.now.sources in
     ap length (c.as_slice-2.ensures.value ∙ c.in_ok-held_again.ensures.values) ∙ length_after next 1 c.in_ok-held.held.items
     ∙ ap length c.in_ok-held.ensures.values ∙ length_after next (length blocks) c.in_ok-first.first.items ∙ ap length c.in_ok-first.ensures ∙ length_first blocks
 
 pub input_rows-requires-clause-from : goal.input_rows-requires-clause-from
 input_rows-requires-clause-from c =
     let blocks = c.as_slice-blocks.result.now in
-    let next = next_held c.in_ok-round.round.forms c.in_ok-round.round.sources in
+    let next = next_held c.args.round.now.forms c.args.round.now.sources in
     let held : length c.as_slice.result.now ≡ length blocks = ap length (c.as_slice.ensures.value ∙ c.in_ok-held.ensures.values) ∙ length_after next (length blocks) c.in_ok-first.first.items ∙ ap length c.in_ok-first.ensures ∙ length_first blocks in
     let size = ap length c.in_ok-widths.ensures ∙ length_shown blocks c.as_slice.result.now held ∙ ap length c.as_slice-blocks.ensures in
-    rw (c.as_slice-3.ensures, c.as_slice-4.ensures) (λ k edge inside. (ends_there c.args.diagram.now c.in_ok-widths.widths c.requires size k edge inside).0)
+    rw (c.as_slice-3.ensures, c.as_slice-4.ensures) (λ k edge inside. (ends_there c.args.diagram.now c.in_ok-widths.widths c.requires.wired size k edge inside).0)
 
 pub input_rows-requires-clause-to : goal.input_rows-requires-clause-to
 input_rows-requires-clause-to c =
     let blocks = c.as_slice-blocks.result.now in
-    let next = next_held c.in_ok-round.round.forms c.in_ok-round.round.sources in
+    let next = next_held c.args.round.now.forms c.args.round.now.sources in
     let held : length c.as_slice.result.now ≡ length blocks = ap length (c.as_slice.ensures.value ∙ c.in_ok-held.ensures.values) ∙ length_after next (length blocks) c.in_ok-first.first.items ∙ ap length c.in_ok-first.ensures ∙ length_first blocks in
     let size = ap length c.in_ok-widths.ensures ∙ length_shown blocks c.as_slice.result.now held ∙ ap length c.as_slice-blocks.ensures in
-    rw (c.as_slice-3.ensures, c.as_slice-4.ensures) (λ k edge inside. (ends_there c.args.diagram.now c.in_ok-widths.widths c.requires size k edge inside).1)
+    rw (c.as_slice-3.ensures, c.as_slice-4.ensures) (λ k edge inside. (ends_there c.args.diagram.now c.in_ok-widths.widths c.requires.wired size k edge inside).1)
 
 pub returns : goal.returns
 returns c =
     let diagram = c.args.diagram.now in
-    let forms = c.in_ok-round.round.forms in
-    let sources = c.in_ok-round.round.sources in
+    let forms = c.args.round.now.forms in
+    let sources = c.args.round.now.sources in
     let next = next_held forms sources in
     let held = c.in_ok-held.held.items in
     let later = c.in_ok-held_again.held_again.items in
@@ -62,5 +62,5 @@ returns c =
     c.in_ok-held.ensures.values ∙ ap (after_rounds next (length c.as_slice-blocks.result.now)) c.in_ok-first.ensures ∙ ap (λ (bs : List Block). after_rounds next (length bs) (all_first bs)) c.as_slice-blocks.ensures in
     let widths : c.in_ok-widths.widths ≡ shown diagram.blocks held = c.in_ok-widths.ensures ∙ ap (λ (bs : List Block). shown bs c.as_slice.result.now) c.as_slice-blocks.ensures ∙ ap (shown diagram.blocks) c.as_slice.ensures.value in
     let again : c.in_ok-again.again ≡ shown diagram.blocks later = c.in_ok-again.ensures ∙ ap (λ (bs : List Block). shown bs c.as_slice-2.result.now) c.as_slice-blocks.ensures ∙ ap (shown diagram.blocks) c.as_slice-2.ensures.value in
-    is_scan diagram (record { widths = c.in_ok-widths.widths; again = c.in_ok-again.again; inputs = c.in_ok-inputs.inputs }) forms sources held later c.requires c.in_ok-round.ensures.mirrors
+    is_scan diagram (record { widths = c.in_ok-widths.widths; again = c.in_ok-again.again; inputs = c.in_ok-inputs.inputs }) forms sources held later c.requires.wired c.requires.mirrors
     is_held c.in_ok-held_again.ensures.values widths again (rw (c.as_slice-3.ensures, c.as_slice-4.ensures) at c.in_ok-inputs.ensures)

@@ -1,0 +1,17 @@
+use Rattle.std.proofs.Common.{◌≡◌, ℕ, List, [], ◌∷◌, ◌++◌, length, ap, ◌∙◌, arith}
+use Rattle.std.proofs.lemmas.List.{length-append}
+use Rattle.dg_types.proofs.Built.{own_more}
+use Rattle.dg_types.proofs.build.own_rows.Goals as goal
+
+pub loop-k-init : goal.loop-k-init
+loop-k-init c = record { size = ap length c.new-rows.ensures.items; own = λ k below. absurd (omega (arith, below)) }
+
+pub loop-k-preserved : goal.loop-k-preserved
+loop-k-preserved c =
+    let rows = c.loop-k.rows.items in
+    let own : c.push.new.self ≡ c.loop-k.k ∷ [] = c.in_ok-push.ensures.appended ∙ ap (λ (xs : List ℕ). xs ++ c.loop-k.k ∷ []) c.new-own.ensures in
+    let before = c.loop-k.invariant in
+    record {
+      size = ap length c.in_ok-push-2.ensures.items ∙ omega (arith, before.size, length-append rows (c.push.new.self ∷ []));
+      own = rw c.in_ok-push-2.ensures.items (own_more rows c.loop-k.k c.push.new.self before.size own before.own);
+    }

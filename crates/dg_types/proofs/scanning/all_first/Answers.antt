@@ -1,0 +1,21 @@
+use Rattle.std.proofs.Common.{ℕ, List, [], ◌∷◌, ◌++◌, Some, take, sym, ap, ◌∙◌}
+use Rattle.std.proofs.lemmas.List.{map_more}
+use Rattle.std.proofs.lemmas.Option.{slice_get-get_or}
+use Rattle.dg_model.specs.declared.diagram.Block.{Block}
+use Rattle.dg_types.specs.inner.Shown.{shape_of, declared_width, first_held, all_first}
+use Rattle.dg_types.proofs.scanning.all_first.Goals as goal
+
+pub first_held-requires : goal.first_held-requires
+first_held-requires c =
+    let block = c.block-item.result in
+    c.requires c.loop-block.block-index block (slice_get-get_or c.args.blocks.now c.loop-block.block-index block c.loop-block-test.true ∙ ap Some (sym c.block-item.is))
+
+pub loop-block-preserved : goal.loop-block-preserved
+loop-block-preserved c =
+    let before = all_first (take c.loop-block.block-index c.args.blocks.now) in
+    let value = λ (block : Block). first_held (shape_of block.kind) (declared_width block.kind) in
+    c.in_ok-push.ensures.items
+    ∙ ap (λ (first : List ℕ). first ++ c.first_held.result ∷ []) c.loop-block.invariant
+    ∙ ap (λ (held : ℕ). before ++ held ∷ []) c.first_held.ensures
+    ∙ ap (λ (block : Block). before ++ value block ∷ []) c.block-item.is
+    ∙ sym (map_more value c.args.blocks.now c.loop-block.block-index c.block-item.result c.loop-block-test.true)
