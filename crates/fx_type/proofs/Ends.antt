@@ -1,5 +1,5 @@
 -- The ends of ranges, of terms and of sums.
-use Rattle.std.proofs.Common.{◌≡◌, ℕ, ◌+◌, ◌^◌, ◌<◌, Bool, true, false, [], ◌∷◌, ◌++◌, take, drop, length, get_or, ℤ, pos, negsuc, ◌+ℤ◌, ◌≤ℤ◌, ap, sym, ◌∙◌, arith, refl, take-append-drop, MatchResult, Result, IsErr, Ok, Err, true≢false, subst₂, ◌-ℤ◌, nat_abs}
+use Rattle.std.proofs.Common.{◌≡◌, ℕ, ◌+◌, ◌^◌, ◌<◌, Bool, true, false, [], ◌∷◌, ◌++◌, take, drop, length, get_or, ℤ, pos, ◌+ℤ◌, ◌≤ℤ◌, ap, sym, ◌∙◌, arith, refl, take-append-drop, MatchResult, Result, IsErr, Ok, Err, true≢false, subst₂}
 use Rattle.std.specs.Int.{int_gap}
 use Rattle.std.proofs.lemmas.Int.{ints}
 use Rattle.std.proofs.lemmas.List.{take_more}

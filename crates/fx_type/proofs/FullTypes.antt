@@ -1,12 +1,13 @@
 -- The full types of sums and unions.
-use Rattle.std.proofs.Common.{◌≡◌, ◌≢◌, ℕ, ◌-◌, ◌^◌, ◌<◌, ◌≤◌, Bool, true, false, ◌||◌, ℤ, pos, ◌*ℤ◌, ◌≤ℤ◌, ◌<ℤ◌, ap, sym, ◌∙◌, refl, subst, arith, pow_pos, mul-pos, true≢false, Result, Ok, Err, OnErr}
+use Rattle.std.proofs.Common.{◌≡◌, ◌≢◌, ℕ, ◌+◌, ◌-◌, ◌^◌, ◌<◌, ◌≤◌, min, Bool, true, false, ◌||◌, ℤ, pos, ◌+ℤ◌, ◌*ℤ◌, ◌≤ℤ◌, ◌<ℤ◌, ap, sym, ◌∙◌, refl, subst, arith, pow_pos, mul-pos, true≢false, Result, Ok, Err, OnErr}
 use Rattle.std.specs.Int.{int_max, int_min, int_gap}
 use Rattle.std.proofs.lemmas.Int.{ints, clamps}
+use Rattle.fx_num.specs.Word.{IsWord}
 use Rattle.fx_type.specs.declared.full.Span.{Span}
 use Rattle.fx_type.specs.declared.kind.FxType.{FxType}
 use Rattle.fx_type.specs.declared.kind.FxType.TheVariants.{Num, Logical}
 use Rattle.fx_type.specs.FxType.{IsType, IsNumber, is_signed, width_of, frac_of, lowest_of, highest_of, InRange, aligned}
-use Rattle.fx_type.specs.FullType.{Terms, IsPossibleSum, HoldsSums, IsGreatestFrac, IsFullSum, HoldsType, HoldsBoth, IsUnion}
+use Rattle.fx_type.specs.FullType.{Terms, IsPossibleSum, HoldsSums, IsGreatestFrac, IsFullSum, IsFullProduct, HoldsType, HoldsBoth, IsUnion}
 use Rattle.fx_type.specs.Span.{least_term, greatest_term, sum_of, IsSpan, FitSpan, IsNarrowest}
 use Rattle.fx_num.proofs.Arithmetic.{scaled-mono, scaled-neg}
 use Rattle.fx_type.proofs.Ranges.{InRange-lowest, InRange-highest, InRange-fits, InRange-between}
@@ -63,6 +64,21 @@ full_sum_is terms frac span type g ends n =
     (subst (λ (f : ℤ). IsGreatestFrac terms f) e g)
     (subst (λ (f : ℤ). IsSpan (sum_of (least_term f) terms) (sum_of (greatest_term f) terms) span) e ends)
     (subst (λ (f : ℤ). IsNarrowest span.low span.high f type) e n)
+
+-- ---- products
+-- no word is wider
+pub word_most : (signed : Bool) (width : ℕ) → IsWord width signed → width ≤ 128
+word_most true width valid = valid.1
+word_most false width valid = omega (arith, valid.1)
+
+-- where a full product is valid, a type made of its width, cut at 255, and its frac is
+pub product_valid : (a b type : FxType) (signed : Bool) (width : ℕ) (frac : ℤ) → signed ≡ (is_signed a || is_signed b) → width ≡ min (width_of a + width_of b) 255 → frac ≡ frac_of a +ℤ frac_of b → IsFullProduct a b type
+    → IsType (Num signed width frac)
+product_valid a b (Num s w f) signed width frac sign size point full =
+    let most = word_most s w full.valid.0 in
+    let same : width ≡ w = omega (arith, size, full.width, most) in
+    rw (sign ∙ sym full.sign, same, point ∙ sym full.frac) full.valid
+product_valid a b Logical signed width frac sign size point full = absurd full.number
 
 -- ---- unions
 holds_ends : (t a : FxType) → IsType t → HoldsType t a → FitSpan (least_term (frac_of t) (false, a)) (greatest_term (frac_of t) (false, a))

@@ -53,6 +53,14 @@ int_max_cases x y = cases _
     cases true = inl refl
     cases false = inr refl
 
+-- the greater of two is bounded as both are
+pub int_max_most : (x y most : ℤ) → x ≤ℤ most → y ≤ℤ most → int_max x y ≤ℤ most
+int_max_most x y most left right =
+    elim (int_max_cases x y) [
+      | inl is ↦ rw is left
+      | inr is ↦ rw is right
+    ]
+
 -- how far one frac is above another
 pub gap_is : (a b x : ℤ) → a ≤ℤ b → x ≡ b -ℤ a → nat_abs x ≡ int_gap a b
 gap_is (pos a) (pos b) x h e = omega (arith, ints, h)

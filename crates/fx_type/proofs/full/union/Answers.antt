@@ -5,7 +5,7 @@ use Rattle.fx_type.specs.declared.kind.FxType.{FxType}
 use Rattle.fx_type.specs.FxType.{frac_of}
 use Rattle.fx_type.specs.Span.{least_term, greatest_term, FitSpan}
 use Rattle.fx_type.proofs.Ends.{least_sign, greatest_sign}
-use Rattle.fx_type.proofs.Ranges.{frac_bounds}
+use Rattle.fx_type.proofs.Ranges.{frac_bounds, int_max_most}
 use Rattle.fx_type.proofs.FullTypes.{OnErr-from, no_left, no_right, union_is}
 use Rattle.fx_type.proofs.full.union.Goals as goal
 
@@ -28,6 +28,38 @@ returns-in_err-right-clause-too_wide c =
     let d : c.args.a ≢ c.args.b = search rules in
     let n : ¬ FitSpan (least_term (int_max (frac_of c.args.a) (frac_of c.args.b)) (false, c.args.b)) (greatest_term (int_max (frac_of c.args.a) (frac_of c.args.b)) (false, c.args.b)) = rw f at c.in_err-right.ensures in
     OnErr-from c.from_residual-in_err-right.result _ (no_right c.args.a c.args.b d n)
+
+-- the greater of two fracs, given through its bits and theirs
+frac_is : (a b x y most : ℤ) → to_z w16 (of_z w16 most) ≡ most → most ≡ int_max (to_z w16 (of_z w16 a)) (to_z w16 (of_z w16 b)) → to_z w16 (of_z w16 a) ≡ x → to_z w16 (of_z w16 b) ≡ y → to_z w16 (of_z w16 most) ≡ int_max x y
+frac_is a b x y most bits is left right = bits ∙ is ∙ ap₂ int_max left right
+
+pub term_span-requires-clause-least : goal.term_span-requires-clause-least
+term_span-requires-clause-least c =
+    let bits = to_z-of_z w16 c.max-frac.result (record { sfits = c.max-frac.type_inv }) in
+    let left : to_z w16 (of_z w16 c.frac.result) ≡ frac_of c.args.a = to_z-of_z w16 c.frac.result (record { sfits = c.frac.type_inv }) ∙ c.frac.ensures in
+    rw bits (rw left at c.max-frac.ensures.self_bound)
+
+pub term_span-requires-2-clause-least : goal.term_span-requires-2-clause-least
+term_span-requires-2-clause-least c =
+    let bits = to_z-of_z w16 c.max-frac.result (record { sfits = c.max-frac.type_inv }) in
+    let right : to_z w16 (of_z w16 c.frac-2.result) ≡ frac_of c.args.b = to_z-of_z w16 c.frac-2.result (record { sfits = c.frac-2.type_inv }) ∙ c.frac-2.ensures in
+    rw bits (rw right at c.max-frac.ensures.other_bound)
+
+pub term_span-requires-clause-greatest : goal.term_span-requires-clause-greatest
+term_span-requires-clause-greatest c =
+    let bits = to_z-of_z w16 c.max-frac.result (record { sfits = c.max-frac.type_inv }) in
+    let left = to_z-of_z w16 c.frac.result (record { sfits = c.frac.type_inv }) ∙ c.frac.ensures in
+    let right = to_z-of_z w16 c.frac-2.result (record { sfits = c.frac-2.type_inv }) ∙ c.frac-2.ensures in
+    rw (frac_is c.frac.result c.frac-2.result (frac_of c.args.a) (frac_of c.args.b) c.max-frac.result bits c.max-frac.ensures.value left right)
+    (int_max_most (frac_of c.args.a) (frac_of c.args.b) (pos 128) (frac_bounds c.args.a c.requires.left).1 (frac_bounds c.args.b c.requires.right).1)
+
+pub term_span-requires-2-clause-greatest : goal.term_span-requires-2-clause-greatest
+term_span-requires-2-clause-greatest c =
+    let bits = to_z-of_z w16 c.max-frac.result (record { sfits = c.max-frac.type_inv }) in
+    let left = to_z-of_z w16 c.frac.result (record { sfits = c.frac.type_inv }) ∙ c.frac.ensures in
+    let right = to_z-of_z w16 c.frac-2.result (record { sfits = c.frac-2.type_inv }) ∙ c.frac-2.ensures in
+    rw (frac_is c.frac.result c.frac-2.result (frac_of c.args.a) (frac_of c.args.b) c.max-frac.result bits c.max-frac.ensures.value left right)
+    (int_max_most (frac_of c.args.a) (frac_of c.args.b) (pos 128) (frac_bounds c.args.a c.requires.left).1 (frac_bounds c.args.b c.requires.right).1)
 
 left_sign : (f : ℤ) (a : FxType) → least_term f (false, a) ≤ℤ pos 0
 left_sign f a = least_sign f (false, a)
