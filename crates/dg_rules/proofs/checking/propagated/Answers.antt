@@ -1,4 +1,54 @@
+use Rattle.std.proofs.Common.{inl, inr}
+use Rattle.std.proofs.lemmas.Result.{err_from_is_err_and}
+use Rattle.dg_model.specs.declared.fault.CheckFault.{CheckFault}
+use Rattle.dg_model.specs.declared.fault.CheckFault.TheVariants.{Broken, OutOfMemory}
+use Rattle.dg_model.specs.declared.fault.RuleFault.{RuleFault}
+use Rattle.dg_model.specs.Attributes.{attributes_of}
+use Rattle.dg_model.specs.Checked.{BreaksRule}
+use Rattle.dg_model.specs.Dimension.{BreaksDimension}
+use Rattle.dg_model.specs.Faults.{IsRefusal}
+use Rattle.dg_model.specs.Loop.{BreaksLoop}
+use Rattle.dg_model.specs.Rate.{BreaksRate}
+use Rattle.dg_model.specs.TypeRule.{BreaksType}
 use Rattle.dg_rules.proofs.checking.propagated.Goals as goal
+
+-- what refuses by one rule refuses by any that is broken where this one is
+refused_as : (P Q : RuleFault → Type 0) (fault : CheckFault) → ((f : RuleFault) → P f → Q f) → IsRefusal P fault → IsRefusal Q fault
+refused_as P Q (Broken fault) all is = all fault is
+refused_as P Q OutOfMemory all is = is
+
+pub returns-in_err-widths-clause-broken : goal.returns-in_err-widths-clause-broken
+returns-in_err-widths-clause-broken c =
+    let diagram = c.args.diagram.now in
+    let p = err_from_is_err_and c.from_residual.result c.from_residual.ensures.1 in
+    rw (p.1, p.2) (refused_as (BreaksDimension diagram) (BreaksRule diagram) c.in_err-widths.field-0.0 (λ fault broken. inl broken) c.in_err-widths.ensures.refused)
+
+pub returns-in_err-results-clause-broken : goal.returns-in_err-results-clause-broken
+returns-in_err-results-clause-broken c =
+    let diagram = c.args.diagram.now in
+    let p = err_from_is_err_and c.from_residual-in_err-results.result c.from_residual-in_err-results.ensures.1 in
+    rw (p.1, p.2)
+    (refused_as (BreaksType diagram) (BreaksRule diagram) c.in_err-results.field-0.0
+    (λ fault broken. inr (inl (record { dimensions = c.in_ok-widths.ensures.kept; types = broken })))
+    c.in_err-results.ensures.refused)
+
+pub returns-in_err-periods-clause-broken : goal.returns-in_err-periods-clause-broken
+returns-in_err-periods-clause-broken c =
+    let diagram = c.args.diagram.now in
+    let p = err_from_is_err_and c.from_residual-in_err-periods.result c.from_residual-in_err-periods.ensures.1 in
+    rw (p.1, p.2)
+    (refused_as (BreaksRate diagram) (BreaksRule diagram) c.in_err-periods.field-0.0
+    (λ fault broken. inr (inr (inl (record { dimensions = c.in_ok-widths.ensures.kept; types = c.in_ok-results.ensures.kept; rates = broken }))))
+    c.in_err-periods.ensures.refused)
+
+pub returns-in_err-order-clause-broken : goal.returns-in_err-order-clause-broken
+returns-in_err-order-clause-broken c =
+    let diagram = c.args.diagram.now in
+    let p = err_from_is_err_and c.from_residual-in_err-order.result c.from_residual-in_err-order.ensures.1 in
+    rw (p.1, p.2)
+    (refused_as (BreaksLoop diagram (attributes_of diagram)) (BreaksRule diagram) c.in_err-order.field-0.0
+    (λ fault broken. inr (inr (inr (record { dimensions = c.in_ok-widths.ensures.kept; types = c.in_ok-results.ensures.kept; rates = c.in_ok-periods.ensures.kept; loops = broken }))))
+    c.in_err-order.ensures.broken)
 
 pub returns : goal.returns
 returns c = record {

@@ -1,6 +1,6 @@
-use Rattle.std.proofs.Common.{◌≡◌, ℕ, ◌<◌, ◌+◌, suc, ◌++◌, ◌∷◌, [], Some, Option, List, map, take, length, sym, ap, subst, ◌∙◌, arith}
+use Rattle.std.proofs.Common.{◌≡◌, ℕ, ◌<◌, ◌≤◌, ◌+◌, suc, ◌++◌, ◌∷◌, [], Some, Option, List, map, take, length, sym, ap, subst, ◌∙◌, arith}
 use Rattle.std.specs.Prelude.{slice_get, position}
-use Rattle.std.proofs.lemmas.List.{map-append, take_more}
+use Rattle.std.proofs.lemmas.List.{map-append, take_all, take_more}
 use Rattle.std.proofs.lemmas.Option.{slice_get-get_or, get_or_from_slice_get}
 use Rattle.dg_model.specs.declared.diagram.Block.{Block}
 use Rattle.dg_model.specs.declared.diagram.Diagram.{Diagram}
@@ -45,4 +45,19 @@ loop-place-preserved c =
           ∙ sym (map-append (λ (b : Block). count_of plan b.path) (take place diagram.blocks) (block ∷ []))
           ∙ sym (ap (λ front. map (λ (b : Block). count_of plan b.path) front)
           (take_more diagram.blocks place block below ∙ ap (λ b. take place diagram.blocks ++ b ∷ []) (get_or_from_slice_get diagram.blocks place block block at)));
+    }
+
+pub look_at-count-requires-clause-long : goal.look_at-count-requires-clause-long
+look_at-count-requires-clause-long c = c.loop-place.invariant.standings.long ∙ ap length (sym c.as_slice-pipelines.ensures)
+
+pub returns : goal.returns
+returns c =
+    let diagram = c.args.checked.now.diagram in
+    let blocks : c.as_slice-blocks.result.now ≡ diagram.blocks = c.as_slice-blocks.ensures ∙ ap (λ (d : Diagram). d.blocks) c.diagram.ensures in
+    let past : length diagram.blocks ≤ c.loop-place.place = subst (λ (bs : List Block). length bs ≤ c.loop-place.place) blocks c.loop-place-test.false in
+    let within : c.loop-place.place ≤ length diagram.blocks = subst (λ (bs : List Block). c.loop-place.place ≤ length bs) blocks c.loop-place.auto.place-end in
+    let all : c.loop-place.place ≡ length diagram.blocks = omega (arith, past, within) in
+    record {
+      standings = subst (λ n. AreStandings diagram (attributes_of diagram) n c.args.plan.now.pipelines c.loop-place.standings.items) all c.loop-place.invariant.standings;
+      stages = c.loop-place.invariant.stages ∙ ap (map (λ (b : Block). count_of c.args.plan.now b.path)) (take_all c.loop-place.place diagram.blocks past);
     }
