@@ -3,7 +3,8 @@ ghost use Rattle.std.specs.Prelude.{◌≡◌, ◌<◌, ◌≤◌, ◌+◌, ◌^
 ghost use Rattle.dg_model.specs.Attributes.{attributes_of};
 ghost use Rattle.dg_model.specs.RootElements.{root_outputs};
 ghost use Rattle.dg_model.specs.Signals.{Stimulus, Table};
-ghost use Rattle.dg_sim.specs.Sim.{Simulation, IsSimOf, IsAt, IsStepped, Stands};
+ghost use Rattle.dg_sim.specs.Ready.{AreReady};
+ghost use Rattle.dg_sim.specs.Sim.{Simulation, IsProgram, IsSimOf, IsAt, IsStepped, Stands};
 ghost use Rattle.dg_sim.specs.inner.Building.{AreRooms};
 
 use crate::building::program_of;
@@ -88,6 +89,39 @@ fn pasts_of(alloc: Global, memories: &[Memory]) -> Result<Vec<Past>, OutOfMemory
     Ok(pasts)
 }
 
+/// What a run has beside its program before its first sample.
+#[derive(Drop)]
+struct Beginning {
+    row: Vec<i128>,
+    pasts: Vec<Past>,
+    prepared: Vec<Prepared>,
+}
+
+/// What a run of a program has before its first sample.
+fn beginning_of(
+    alloc: Global,
+    checked: &Checked,
+    program: &Program,
+) -> Result<Beginning, OutOfMemory>
+    requires { IsProgram checked.now.diagram (attributes_of checked.now.diagram) program.now }
+    ensures row { IfOk result (λ beginning.
+        length beginning.row.items ≡ length program.now.places) }
+    ensures rooms { IfOk result (λ beginning. AreRooms program.now.memories beginning.pasts.items
+        (length program.now.memories)) }
+    ensures ready { IfOk result (λ beginning.
+        AreReady program.now beginning.prepared.items (length program.now.cells)) }
+{
+    let count = program.places.as_slice().len();
+    let row: Vec<i128> = vec![in alloc; 0; count]?;
+    let pasts = pasts_of(alloc, program.memories.as_slice())?;
+    let prepared = prepare(alloc, checked, program)?;
+    Ok(Beginning {
+        row,
+        pasts,
+        prepared,
+    })
+}
+
 impl Sim {
     /// A simulator of a checked diagram before its first sample.
     ///
@@ -99,16 +133,18 @@ impl Sim {
             (attributes_of checked.now.diagram) sim table 0) }
     {
         let program = program_of(alloc, checked)?;
-        let pasts = pasts_of(alloc, program.memories.as_slice())?;
-        let prepared = prepare(alloc, checked, &program)?;
-        let count = program.places.as_slice().len();
-        let row: Vec<i128> = vec![in alloc; 0; count]?;
-        Ok(Sim {
-            program,
-            samples: 0,
-            row,
-            pasts,
-            prepared,
-        })
+        match beginning_of(alloc, checked, &program) {
+            Ok(beginning) => Ok(Sim {
+                program,
+                samples: 0,
+                row: beginning.row,
+                pasts: beginning.pasts,
+                prepared: beginning.prepared,
+            }),
+            Err(wanting) => {
+                drop(program);
+                Err(wanting)
+            }
+        }
     }
 }
