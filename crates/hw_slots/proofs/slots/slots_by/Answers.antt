@@ -1,7 +1,7 @@
 use Rattle.std.proofs.Common.{subst, sym}
 use Rattle.hw_slots.specs.Answer.{AreBaseSlots}
 use Rattle.hw_slots.proofs.Totals.{laid_end, bases_end}
-use Rattle.hw_slots.proofs.slots.slots_of.Goals as goal
+use Rattle.hw_slots.proofs.slots.slots_by.Goals as goal
 
 pub returns-clause-slots : goal.returns-clause-slots
 returns-clause-slots c = record {
