@@ -1,9 +1,11 @@
-use Rattle.std.proofs.Common.{◌+◌, length, true, false, ap, ◌∙◌, arith}
+use Rattle.std.proofs.Common.{◌≡◌, ◌+◌, ℕ, AllPairs, List, length, true, false, sym, ap, subst, ◌∙◌, arith}
 use Rattle.dg_model.specs.declared.diagram.Diagram.{Diagram}
 use Rattle.dg_model.specs.declared.diagram.Edge.{Edge}
 use Rattle.dg_model.specs.Attributes.{attributes_of}
+use Rattle.dg_model.specs.Wired.{StandsBefore}
+use Rattle.hw_sched.specs.inner.Greatest.{IsGreatest, IsLineFrom}
 use Rattle.hw_sched.proofs.Items.{rest_length, rest_read, tested, next_counts, next_skips, first_as}
-use Rattle.hw_sched.proofs.Reading.{lines_stop, lines_end, from_there}
+use Rattle.hw_sched.proofs.Reading.{lines_begin, lines_stop, lines_end, from_there}
 use Rattle.hw_sched.proofs.lines.best_of_lines.Goals.{then-is_same_period, else-is_same_period}
 use Rattle.hw_sched.proofs.lines.best_of_lines.Goals as goal
 
@@ -66,3 +68,19 @@ returns c =
     let within = c.first_into-first.ensures.within in
     let many = ap length es in
     lines_end c.args.checked.now.diagram c.args.place c.args.depths.now (c.first_into-first.result + c.loop-edge.edge-index) c.loop-edge.best (omega (arith, test, size, within, many)) c.loop-edge.invariant
+
+pub period-own-requires : goal.period-own-requires
+period-own-requires c = c.requires.there
+
+pub first_into-first-requires : goal.first_into-first-requires
+first_into-first-requires c =
+    let es = c.as_slice-edges.ensures ∙ ap (λ (d : Diagram). d.edges) c.diagram.ensures in
+    subst (λ (edges : List Edge). AllPairs StandsBefore edges) (sym es) c.keeps_rules.ensures.checked.wired.ordered
+
+pub loop-edge-init : goal.loop-edge-init
+loop-edge-init c =
+    let es = c.as_slice-edges.ensures ∙ ap (λ (d : Diagram). d.edges) c.diagram.ensures in
+    let first = c.first_into-first.result in
+    let start : first ≡ first + 0 = omega arith in
+    subst (λ (count : ℕ). IsGreatest (IsLineFrom c.args.checked.now.diagram count c.args.place) c.args.depths.now 0) start
+    (lines_begin c.args.checked.now.diagram c.args.place c.args.depths.now first (first_as c.args.checked.now.diagram.edges c.as_slice-edges.result.now c.args.place first es c.first_into-first.ensures))
