@@ -258,6 +258,35 @@ fn moved_captures(
     Ok(arranged)
 }
 
+/// What `arrange` gives of operations that aren't too many for it.
+fn arranged_by(
+    alloc: Global,
+    base: usize,
+    ops: &Code,
+    slots: &[usize],
+    captures: &[Capture],
+) -> Result<Arranged, OutOfMemory>
+    requires ordered { IsOrdered base ops.now }
+    requires few { length ops.now ≤ 2 ^ 29 }
+    ensures { IfOk result (IsArranged base ops.now slots.now captures.now) }
+{
+    let Some(_end) = base.checked_add(ops.len()) else {
+        // word: words and operations are counted in 64 bits
+        return Err(OutOfMemory);
+    };
+    let mut entries = entries(alloc, ops, base)?;
+    entries.sort_unstable();
+    let places = places_of(alloc, entries.as_slice(), base)?;
+    let arranged = in_order(alloc, ops, entries.as_slice(), base, places.as_slice())?;
+    let slots = moved_slots(alloc, slots, base, places.as_slice())?;
+    let captures = moved_captures(alloc, captures, base, places.as_slice())?;
+    Ok(Arranged {
+        ops: arranged,
+        slots,
+        captures,
+    })
+}
+
 /// Sorts operations by level and, within a level, by kind, so that the jump on the kind of an operation
 /// is foreseen. An operation is of a level above those that it reads.
 pub fn arrange(
@@ -277,19 +306,9 @@ pub fn arrange(
             captures,
         });
     }
-    let Some(_end) = base.checked_add(ops.len()) else {
-        // word: words and operations are counted in 64 bits
-        return Err(OutOfMemory);
-    };
-    let mut entries = entries(alloc, &ops, base)?;
-    entries.sort_unstable();
-    let places = places_of(alloc, entries.as_slice(), base)?;
-    let arranged = in_order(alloc, &ops, entries.as_slice(), base, places.as_slice())?;
-    let slots = moved_slots(alloc, slots.as_slice(), base, places.as_slice())?;
-    let captures = moved_captures(alloc, captures.as_slice(), base, places.as_slice())?;
-    Ok(Arranged {
-        ops: arranged,
-        slots,
-        captures,
-    })
+    let arranged = arranged_by(alloc, base, &ops, slots.as_slice(), captures.as_slice());
+    drop(captures);
+    drop(slots);
+    drop(ops);
+    arranged
 }

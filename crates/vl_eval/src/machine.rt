@@ -7,7 +7,8 @@ ghost use Rattle.vl_ast.specs.Value.{number_of};
 ghost use Rattle.vl_check.specs.Cause.{IsCause};
 ghost use Rattle.vl_eval.specs.Given.{driven_ports, given};
 ghost use Rattle.vl_eval.specs.declared.plan.Capture.{Capture};
-ghost use Rattle.vl_eval.specs.inner.Edges.{AreZeros, IsPut, IsTaken};
+ghost use Rattle.vl_eval.specs.inner.Edges.{AreZeros, IsFirst, IsPut, IsTaken};
+ghost use Rattle.vl_eval.specs.inner.Ops.{IsOrdered};
 
 use crate::operators::{half_of, mask_of};
 use crate::plan::{Capture, Output, Plan, plan_of};
@@ -40,6 +41,20 @@ fn zeros(alloc: Global, count: usize) -> Result<Vec<u128>, OutOfMemory>
     for _place in 0..count {
         values.push(0)?;
     }
+    Ok(values)
+}
+
+/// The values of row 0: those of the operations, where every register and input is 0.
+fn first_values(alloc: Global, plan: &Plan) -> Result<Vec<u128>, OutOfMemory>
+    requires { IsOrdered plan.now.base plan.now.ops }
+    ensures { IfOk result (λ values. IsFirst plan.now.base plan.now.ops values.items) }
+{
+    let Some(room) = plan.base.checked_add(plan.ops.len()) else {
+        // word: words and operations are counted in 64 bits
+        return Err(OutOfMemory);
+    };
+    let mut values = zeros(alloc, room)?;
+    plan.ops.sweep(plan.base, 0, values.as_mut_slice());
     Ok(values)
 }
 
@@ -105,18 +120,25 @@ impl Machine {
         ensures fault { IfErr result (IsCause source) }
     {
         meaning_by_layer();
-        let plan = plan_of(alloc, &source)?;
-        let Some(room) = plan.base.checked_add(plan.ops.len()) else {
-            // word: words and operations are counted in 64 bits
-            return Err(VlFault::OutOfMemory);
+        let plan = match plan_of(alloc, &source) {
+            Ok(plan) => plan,
+            Err(fault) => {
+                drop(source);
+                return Err(fault);
+            }
         };
-        let mut values = zeros(alloc, room)?;
-        plan.ops.sweep(plan.base, 0, values.as_mut_slice());
-        Ok(Machine {
-            source,
-            plan,
-            values,
-        })
+        match first_values(alloc, &plan) {
+            Ok(values) => Ok(Machine {
+                source,
+                plan,
+                values,
+            }),
+            Err(wanting) => {
+                drop(plan);
+                drop(source);
+                Err(wanting.into())
+            }
+        }
     }
 
     /// One edge of `clk`: the registers take their next values from the present row, and the next row

@@ -1,4 +1,4 @@
-ghost use Rattle.std.specs.Prelude.{◌≡◌, length, slice_index, if◌then◌else◌};
+ghost use Rattle.std.specs.Prelude.{◌≡◌, ◌<◌, ◌+◌, ◌-◌, ◌/◌, ◌%◌, ◌^◌, ◌==◌, nat_le, length, slice_index, if◌then◌else◌};
 ghost use Rattle.vl_eval.specs.inner.Ops.{op_value, reads_below};
 
 /// One step of a row: a value from values that stand before it. Widths, signs and contexts are worked
@@ -128,11 +128,37 @@ pub enum Op {
     },
 }
 
-/// 1 where it holds.
-pub fn truth(holds: bool) -> u128
-    ensures { result ≡ (if holds then 1 else 0) }
+/// The words at two places.
+pub fn both(values: &[u128], left: usize, right: usize) -> (u128, u128)
+    requires { (left < length values.now) × (right < length values.now) }
+    ensures left { result.0 ≡ slice_index values.now left }
+    ensures right { result.1 ≡ slice_index values.now right }
 {
-    if holds { 1 } else { 0 }
+    (values[left], values[right])
+}
+
+/// The word at one of two places, by whether a third is 0.
+pub fn chosen(values: &[u128], test: usize, chosen: usize, other: usize) -> u128
+    requires { (test < length values.now) × (chosen < length values.now) × (other < length values.now) }
+    ensures { result ≡ (if slice_index values.now test == 0 then slice_index values.now other
+        else slice_index values.now chosen) }
+{
+    let place = if values[test] == 0 { other } else { chosen };
+    values[place]
+}
+
+/// A word down by `places`; where it is `half` or more, ones of `mask` come from the left.
+pub fn signed_down(bits: u128, places: u32, half: u128, mask: u128) -> u128
+    requires { places < 128 }
+    ensures { result ≡ (if nat_le half bits
+        then (mask + (2 ^ 128 - (mask + (2 ^ 128 - bits)) % 2 ^ 128 / 2 ^ places)) % 2 ^ 128
+        else bits / 2 ^ places) }
+{
+    if bits >= half {
+        mask.wrapping_sub(mask.wrapping_sub(bits) >> places)
+    } else {
+        bits >> places
+    }
 }
 
 /// What an operation gives.
@@ -151,51 +177,77 @@ pub fn value_of(op: Op, values: &[u128]) -> u128
             }
         }
         Op::Select { part, low, mask } => (values[part] >> low) & mask,
-        Op::Add { left, right, mask } => values[left].wrapping_add(values[right]) & mask,
-        Op::Subtract { left, right, mask } => values[left].wrapping_sub(values[right]) & mask,
-        Op::Multiply { left, right, mask } => values[left].wrapping_mul(values[right]) & mask,
-        Op::And { left, right } => values[left] & values[right],
-        Op::Or { left, right } => values[left] | values[right],
-        Op::Xor { left, right } => values[left] ^ values[right],
-        Op::Equal { left, right } => truth(values[left] == values[right]),
-        Op::NotEqual { left, right } => truth(values[left] != values[right]),
-        Op::Less { left, right, half } => truth(values[left] ^ half < values[right] ^ half),
-        Op::LessEqual { left, right, half } => truth(values[left] ^ half <= values[right] ^ half),
-        Op::Both { left, right } => truth(values[left] != 0 && values[right] != 0),
-        Op::Either { left, right } => truth(values[left] != 0 || values[right] != 0),
+        Op::Add { left, right, mask } => {
+            let (left, right) = both(values, left, right);
+            left.wrapping_add(right) & mask
+        }
+        Op::Subtract { left, right, mask } => {
+            let (left, right) = both(values, left, right);
+            left.wrapping_sub(right) & mask
+        }
+        Op::Multiply { left, right, mask } => {
+            let (left, right) = both(values, left, right);
+            left.wrapping_mul(right) & mask
+        }
+        Op::And { left, right } => {
+            let (left, right) = both(values, left, right);
+            left & right
+        }
+        Op::Or { left, right } => {
+            let (left, right) = both(values, left, right);
+            left | right
+        }
+        Op::Xor { left, right } => {
+            let (left, right) = both(values, left, right);
+            left ^ right
+        }
+        Op::Equal { left, right } => {
+            let (left, right) = both(values, left, right);
+            (left == right) as u128
+        }
+        Op::NotEqual { left, right } => {
+            let (left, right) = both(values, left, right);
+            (left != right) as u128
+        }
+        Op::Less { left, right, half } => {
+            let (left, right) = both(values, left, right);
+            (left ^ half < right ^ half) as u128
+        }
+        Op::LessEqual { left, right, half } => {
+            let (left, right) = both(values, left, right);
+            (left ^ half <= right ^ half) as u128
+        }
+        Op::Both { left, right } => {
+            let (left, right) = both(values, left, right);
+            ((left != 0) & (right != 0)) as u128
+        }
+        Op::Either { left, right } => {
+            let (left, right) = both(values, left, right);
+            ((left != 0) | (right != 0)) as u128
+        }
         Op::Negate { part, mask } => 0u128.wrapping_sub(values[part]) & mask,
         Op::Invert { part, mask } => mask.wrapping_sub(values[part]),
-        Op::IsZero { part } => truth(values[part] == 0),
+        Op::IsZero { part } => (values[part] == 0) as u128,
         Op::Up { part, places, mask } => (values[part] << places) & mask,
         Op::SignedDown {
             part,
             places,
             half,
             mask,
-        } => {
-            let bits = values[part];
-            if bits >= half {
-                mask.wrapping_sub(mask.wrapping_sub(bits) >> places)
-            } else {
-                bits >> places
-            }
-        }
+        } => { signed_down(values[part], places, half, mask) }
         Op::Choose {
             test,
-            chosen,
+            chosen: first,
             other,
-        } => {
-            if values[test] == 0 {
-                values[other]
-            } else {
-                values[chosen]
-            }
-        }
+        } => chosen(values, test, first, other),
         Op::Beside {
             left,
             right,
             places,
-        } => (values[left] << places).wrapping_add(values[right]),
+        } => {
+            let (left, right) = both(values, left, right);
+            (left << places).wrapping_add(right)
+        }
         Op::Next {
             reset,
             first,
@@ -205,10 +257,8 @@ pub fn value_of(op: Op, values: &[u128]) -> u128
         } => {
             if values[reset] == 1 {
                 first
-            } else if values[test] == 0 {
-                values[kept]
             } else {
-                values[value]
+                chosen(values, test, value, kept)
             }
         }
     }

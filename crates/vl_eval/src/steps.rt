@@ -131,24 +131,84 @@ pub enum Step {
 // Five places and numbers of 32 bits, or one and two numbers of 64 bits.
 const _: () = prove!(size_of::<Step>() == 24);
 
-/// The step of an operation whose places it can name, if it can hold its numbers.
-fn step_of(op: Op) -> Option<Step>
+/// The step of an operation on three values or four, whose places it can name.
+fn step_of_choice(op: Op) -> Option<Step>
     requires { each_of (λ place. place < 2 ^ 32) (reads_of op) }
     ensures within { IfSome result (λ step. (count : ℕ) → IsWithin count step) }
     ensures held { IfSome result (λ step. (wide : List Op) → op_in wide step ≡ op) }
 {
     let step = match op {
-        Op::Constant(bits) if bits <= LONGEST => Step::Constant(bits as u64),
-        Op::Extended { part, half, fill } if half <= LONGEST && fill <= LONGEST => Step::Extended {
-            part: part as u32,
-            half: half as u64,
-            fill: fill as u64,
+        Op::Choose {
+            test,
+            chosen,
+            other,
+        } => Step::Choose {
+            test: test as u32,
+            chosen: chosen as u32,
+            other: other as u32,
         },
-        Op::Select { part, low, mask } if mask <= LONGEST => Step::Select {
+        Op::Next {
+            reset,
+            first,
+            test,
+            value,
+            kept,
+        } if first <= SHORT => Step::Next {
+            reset: reset as u32,
+            first: first as u32,
+            test: test as u32,
+            value: value as u32,
+            kept: kept as u32,
+        },
+        _ => return None,
+    };
+    Some(step)
+}
+
+/// The step of an operation that moves bits, or of those above.
+fn step_of_shift(op: Op) -> Option<Step>
+    requires { each_of (λ place. place < 2 ^ 32) (reads_of op) }
+    ensures within { IfSome result (λ step. (count : ℕ) → IsWithin count step) }
+    ensures held { IfSome result (λ step. (wide : List Op) → op_in wide step ≡ op) }
+{
+    let step = match op {
+        Op::Up { part, places, mask } if mask <= LONGEST => Step::Up {
             part: part as u32,
-            low,
+            places,
             mask: mask as u64,
         },
+        Op::SignedDown {
+            part,
+            places,
+            half,
+            mask,
+        } if places < 128 && half <= LONGEST && mask <= LONGEST => Step::SignedDown {
+            places: places as u8,
+            part: part as u32,
+            half: half as u64,
+            mask: mask as u64,
+        },
+        Op::Beside {
+            left,
+            right,
+            places,
+        } => Step::Beside {
+            left: left as u32,
+            right: right as u32,
+            places,
+        },
+        _ => return step_of_choice(op),
+    };
+    Some(step)
+}
+
+/// The step of an operation on two values and a number, or of those above.
+fn step_of_sum(op: Op) -> Option<Step>
+    requires { each_of (λ place. place < 2 ^ 32) (reads_of op) }
+    ensures within { IfSome result (λ step. (count : ℕ) → IsWithin count step) }
+    ensures held { IfSome result (λ step. (wide : List Op) → op_in wide step ≡ op) }
+{
+    let step = match op {
         Op::Add { left, right, mask } if mask <= LONGEST => Step::Add {
             left: left as u32,
             right: right as u32,
@@ -164,6 +224,28 @@ fn step_of(op: Op) -> Option<Step>
             right: right as u32,
             mask: mask as u64,
         },
+        Op::Less { left, right, half } if half <= LONGEST => Step::Less {
+            left: left as u32,
+            right: right as u32,
+            half: half as u64,
+        },
+        Op::LessEqual { left, right, half } if half <= LONGEST => Step::LessEqual {
+            left: left as u32,
+            right: right as u32,
+            half: half as u64,
+        },
+        _ => return step_of_shift(op),
+    };
+    Some(step)
+}
+
+/// The step of an operation on two values alone, or of those above.
+fn step_of_two(op: Op) -> Option<Step>
+    requires { each_of (λ place. place < 2 ^ 32) (reads_of op) }
+    ensures within { IfSome result (λ step. (count : ℕ) → IsWithin count step) }
+    ensures held { IfSome result (λ step. (wide : List Op) → op_in wide step ≡ op) }
+{
+    let step = match op {
         Op::And { left, right } => Step::And {
             left: left as u32,
             right: right as u32,
@@ -184,16 +266,6 @@ fn step_of(op: Op) -> Option<Step>
             left: left as u32,
             right: right as u32,
         },
-        Op::Less { left, right, half } if half <= LONGEST => Step::Less {
-            left: left as u32,
-            right: right as u32,
-            half: half as u64,
-        },
-        Op::LessEqual { left, right, half } if half <= LONGEST => Step::LessEqual {
-            left: left as u32,
-            right: right as u32,
-            half: half as u64,
-        },
         Op::Both { left, right } => Step::Both {
             left: left as u32,
             right: right as u32,
@@ -201,6 +273,29 @@ fn step_of(op: Op) -> Option<Step>
         Op::Either { left, right } => Step::Either {
             left: left as u32,
             right: right as u32,
+        },
+        _ => return step_of_sum(op),
+    };
+    Some(step)
+}
+
+/// The step of an operation whose places it can name, if it can hold its numbers.
+fn step_of(op: Op) -> Option<Step>
+    requires { each_of (λ place. place < 2 ^ 32) (reads_of op) }
+    ensures within { IfSome result (λ step. (count : ℕ) → IsWithin count step) }
+    ensures held { IfSome result (λ step. (wide : List Op) → op_in wide step ≡ op) }
+{
+    let step = match op {
+        Op::Constant(bits) if bits <= LONGEST => Step::Constant(bits as u64),
+        Op::Extended { part, half, fill } if half <= LONGEST && fill <= LONGEST => Step::Extended {
+            part: part as u32,
+            half: half as u64,
+            fill: fill as u64,
+        },
+        Op::Select { part, low, mask } if mask <= LONGEST => Step::Select {
+            part: part as u32,
+            low,
+            mask: mask as u64,
         },
         Op::Negate { part, mask } if mask <= LONGEST => Step::Negate {
             part: part as u32,
@@ -211,54 +306,7 @@ fn step_of(op: Op) -> Option<Step>
             mask: mask as u64,
         },
         Op::IsZero { part } => Step::IsZero { part: part as u32 },
-        Op::Up { part, places, mask } if mask <= LONGEST => Step::Up {
-            part: part as u32,
-            places,
-            mask: mask as u64,
-        },
-        Op::SignedDown {
-            part,
-            places,
-            half,
-            mask,
-        } if places < 128 && half <= LONGEST && mask <= LONGEST => Step::SignedDown {
-            places: places as u8,
-            part: part as u32,
-            half: half as u64,
-            mask: mask as u64,
-        },
-        Op::Choose {
-            test,
-            chosen,
-            other,
-        } => Step::Choose {
-            test: test as u32,
-            chosen: chosen as u32,
-            other: other as u32,
-        },
-        Op::Beside {
-            left,
-            right,
-            places,
-        } => Step::Beside {
-            left: left as u32,
-            right: right as u32,
-            places,
-        },
-        Op::Next {
-            reset,
-            first,
-            test,
-            value,
-            kept,
-        } if first <= SHORT => Step::Next {
-            reset: reset as u32,
-            first: first as u32,
-            test: test as u32,
-            value: value as u32,
-            kept: kept as u32,
-        },
-        _ => return None,
+        _ => return step_of_two(op),
     };
     Some(step)
 }

@@ -1,8 +1,8 @@
-ghost use Rattle.std.specs.Prelude.{◌≡◌, ◌<◌, ◌+◌, ◌-◌, ◌*◌, ◌%◌, ◌^◌, ◌==◌, nat_le, bit_and, length, take, slice_index, if◌then◌else◌};
+ghost use Rattle.std.specs.Prelude.{◌≡◌, ◌<◌, ◌+◌, ◌-◌, ◌*◌, ◌%◌, ◌^◌, nat_le, bit_and, length, take, slice_index, if◌then◌else◌};
 ghost use Rattle.vl_eval.specs.inner.Ops.{AreSettled, IsOrdered, IsSettled, op_value, reads_below};
 ghost use Rattle.vl_eval.specs.inner.Steps.{AreWithin, IsWithin, op_in, ops_of};
 
-use crate::ops::{Op, truth, value_of};
+use crate::ops::{Op, both, chosen, signed_down, value_of};
 use crate::steps::{LONGEST, Step};
 
 /// The low 64 bits.
@@ -18,22 +18,6 @@ fn extended(bits: u128, half: u64, fill: u64) -> u128
 {
     let more = if bits >= u128::from(half) { fill } else { 0 };
     bits.wrapping_add(u128::from(more))
-}
-
-/// The word at one of two places, by whether a third is 0.
-fn chosen(values: &[u128], test: u32, chosen: u32, other: u32) -> u128
-    requires test { test < length values.now }
-    requires chosen { chosen < length values.now }
-    requires other { other < length values.now }
-    ensures { result ≡ (if slice_index values.now test == 0 then slice_index values.now other
-        else slice_index values.now chosen) }
-{
-    let place = if values[test as usize] == 0 {
-        other
-    } else {
-        chosen
-    };
-    values[place as usize]
 }
 
 /// The sum, of which `mask` is kept.
@@ -64,68 +48,87 @@ fn value_by(step: Step, wide: &[Op], values: &[u128]) -> u128
     ensures { result ≡ op_value (op_in wide.now step) (λ k. slice_index values.now k) }
 {
     match step {
-        Step::Constant(bits) => u128::from(bits),
+        Step::Constant(bits) => bits as u128,
         Step::Extended { part, half, fill } => extended(values[part as usize], half, fill),
-        Step::Select { part, low, mask } => (values[part as usize] >> low) & u128::from(mask),
-        Step::Add { left, right, mask } => sum(values[left as usize], values[right as usize], mask),
-        Step::Subtract { left, right, mask } => difference(
-            values[left as usize],
-            values[right as usize],
-            mask,
-        ),
-        Step::Multiply { left, right, mask } => product(
-            values[left as usize],
-            values[right as usize],
-            mask,
-        ),
-        Step::And { left, right } => values[left as usize] & values[right as usize],
-        Step::Or { left, right } => values[left as usize] | values[right as usize],
-        Step::Xor { left, right } => values[left as usize] ^ values[right as usize],
-        Step::Equal { left, right } => truth(values[left as usize] == values[right as usize]),
-        Step::NotEqual { left, right } => truth(values[left as usize] != values[right as usize]),
+        Step::Select { part, low, mask } => (values[part as usize] >> low) & mask as u128,
+        Step::Add { left, right, mask } => {
+            let (left, right) = both(values, left as usize, right as usize);
+            sum(left, right, mask)
+        }
+        Step::Subtract { left, right, mask } => {
+            let (left, right) = both(values, left as usize, right as usize);
+            difference(left, right, mask)
+        }
+        Step::Multiply { left, right, mask } => {
+            let (left, right) = both(values, left as usize, right as usize);
+            product(left, right, mask)
+        }
+        Step::And { left, right } => {
+            let (left, right) = both(values, left as usize, right as usize);
+            left & right
+        }
+        Step::Or { left, right } => {
+            let (left, right) = both(values, left as usize, right as usize);
+            left | right
+        }
+        Step::Xor { left, right } => {
+            let (left, right) = both(values, left as usize, right as usize);
+            left ^ right
+        }
+        Step::Equal { left, right } => {
+            let (left, right) = both(values, left as usize, right as usize);
+            (left == right) as u128
+        }
+        Step::NotEqual { left, right } => {
+            let (left, right) = both(values, left as usize, right as usize);
+            (left != right) as u128
+        }
         Step::Less { left, right, half } => {
-            let half = u128::from(half);
-            truth(values[left as usize] ^ half < values[right as usize] ^ half)
+            let (left, right) = both(values, left as usize, right as usize);
+            let half = half as u128;
+            (left ^ half < right ^ half) as u128
         }
         Step::LessEqual { left, right, half } => {
-            let half = u128::from(half);
-            truth(values[left as usize] ^ half <= values[right as usize] ^ half)
+            let (left, right) = both(values, left as usize, right as usize);
+            let half = half as u128;
+            (left ^ half <= right ^ half) as u128
         }
-        Step::Both { left, right } => truth(
-            values[left as usize] != 0 && values[right as usize] != 0,
-        ),
-        Step::Either { left, right } => truth(
-            values[left as usize] != 0 || values[right as usize] != 0,
-        ),
-        Step::Negate { part, mask } => 0u128.wrapping_sub(values[part as usize]) & u128::from(mask),
-        Step::Invert { part, mask } => u128::from(mask).wrapping_sub(values[part as usize]),
-        Step::IsZero { part } => truth(values[part as usize] == 0),
-        Step::Up { part, places, mask } => (values[part as usize] << places) & u128::from(mask),
+        Step::Both { left, right } => {
+            let (left, right) = both(values, left as usize, right as usize);
+            ((left != 0) & (right != 0)) as u128
+        }
+        Step::Either { left, right } => {
+            let (left, right) = both(values, left as usize, right as usize);
+            ((left != 0) | (right != 0)) as u128
+        }
+        Step::Negate { part, mask } => 0u128.wrapping_sub(values[part as usize]) & mask as u128,
+        Step::Invert { part, mask } => (mask as u128).wrapping_sub(values[part as usize]),
+        Step::IsZero { part } => (values[part as usize] == 0) as u128,
+        Step::Up { part, places, mask } => (values[part as usize] << places) & mask as u128,
         Step::SignedDown {
             places,
             part,
             half,
             mask,
-        } => {
-            let places = u32::from(places);
-            let bits = values[part as usize];
-            let mask = u128::from(mask);
-            if bits >= u128::from(half) {
-                mask.wrapping_sub(mask.wrapping_sub(bits) >> places)
-            } else {
-                bits >> places
-            }
-        }
+        } => signed_down(
+            values[part as usize],
+            places as u32,
+            half as u128,
+            mask as u128,
+        ),
         Step::Choose {
             test,
             chosen: first,
             other,
-        } => chosen(values, test, first, other),
+        } => chosen(values, test as usize, first as usize, other as usize),
         Step::Beside {
             left,
             right,
             places,
-        } => (values[left as usize] << places).wrapping_add(values[right as usize]),
+        } => {
+            let (left, right) = both(values, left as usize, right as usize);
+            (left << places).wrapping_add(right)
+        }
         Step::Next {
             reset,
             first,
@@ -134,9 +137,9 @@ fn value_by(step: Step, wide: &[Op], values: &[u128]) -> u128
             kept,
         } => {
             if values[reset as usize] == 1 {
-                u128::from(first)
+                first as u128
             } else {
-                chosen(values, test, value, kept)
+                chosen(values, test as usize, value as usize, kept as usize)
             }
         }
         Step::Whole(number) => value_of(wide[number], values),

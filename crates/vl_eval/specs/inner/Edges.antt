@@ -1,6 +1,8 @@
--- The two ways in which fixed places change at an edge.
-use Rattle.std.specs.Prelude.{◌≡◌, ◌≢◌, ◌⊎◌, ℕ, ◌<◌, List, length, slice_index, Contains}
+-- The two ways in which fixed places change at an edge, and the values of row 0.
+use Rattle.std.specs.Prelude.{◌≡◌, ◌≢◌, ◌⊎◌, ℕ, ◌<◌, ◌+◌, List, length, take, slice_index, Contains}
+use Rattle.vl_eval.specs.declared.ops.Op.{Op}
 use Rattle.vl_eval.specs.declared.plan.Capture.{Capture}
+use Rattle.vl_eval.specs.inner.Ops.{IsSettled}
 
 -- no capture goes to a place
 abbrev pub IsFree : List Capture → ℕ → Type 0
@@ -22,3 +24,11 @@ pub record IsPut (places bits before after : List ℕ) : Type 0 where
 pub record AreZeros (count : ℕ) (values : List ℕ) : Type 0 where
   pub long : length values ≡ count
   pub at : (k : ℕ) → slice_index values k ≡ 0
+
+-- every fixed place has 0, and each operation its value
+pub record IsFirst (base : ℕ) (ops : List Op) (values : List ℕ) : Type 0 where
+  pub long : length values ≡ base + length ops
+  pub zeros : List ℕ
+  pub none : (k : ℕ) → slice_index zeros k ≡ 0
+  pub kept : take base values ≡ take base zeros
+  pub settled : IsSettled base ops (λ k. slice_index values k)

@@ -1,8 +1,6 @@
-use Rattle.std.proofs.Common.{◌≡◌, ◌<◌, ◌≤◌, ◌^◌, ℕ, length, map, slice_index, refl, sym, ap, subst, ◌∙◌, arith}
-use Rattle.std.proofs.lemmas.List.Sorted.{IsNonDecreasingBy-from_sort}
-use Rattle.vl_eval.specs.inner.Arranged.{ArePlaces, moved, moved_capture, number_of, op_at}
-use Rattle.vl_eval.specs.inner.Ops.{IsOrdered, IsSettled}
-use Rattle.vl_eval.proofs.Sorting.{arranged-long, arranged-ordered, arranged-settled, map-same, moved-fixed, moved-within, numbers-low, sorted-long}
+use Rattle.std.proofs.Common.{IfOk, refl, subst}
+use Rattle.vl_eval.specs.inner.Arranged.{IsArranged, moved_capture}
+use Rattle.vl_eval.proofs.Sorting.{map-same}
 use Rattle.vl_eval.proofs.arranging.arrange.Goals as goal
 
 pub returns-then-len-gt-MOST : goal.returns-then-len-gt-MOST
@@ -17,50 +15,8 @@ returns-then-len-gt-MOST c = record {
   captures_are = map-same (moved_capture (λ k. k)) c.args.captures.items (λ k. refl);
 }
 
-pub places_of-requires-clause-numbers : goal.places_of-requires-clause-numbers
-places_of-requires-clause-numbers c =
-    let ops = c.args.ops in
-    let few : length ops ≤ 2 ^ 29 = omega (arith, c.if-len-gt-MOST.false, c.len.ensures) in
-    let all = c.in_ok-entries.ensures in
-    let sorted = c.sort_unstable.new.self.items in
-    let same = c.sort_unstable.ensures.permutation in
-    let rising = IsNonDecreasingBy-from_sort (λ x. x) sorted c.sort_unstable.ensures.sorted in
-    let long = sorted-long c.args.base ops c.in_ok-entries.entries.items sorted sorted few c.requires.ordered all same rising in
-    subst (λ xs. (i : ℕ) → i < length xs → number_of (slice_index xs i) < length xs) (sym c.as_slice.ensures.value)
-    (λ i low. subst (λ n. number_of (slice_index sorted i) < n) (sym long) (numbers-low c.args.base ops c.in_ok-entries.entries.items sorted sorted few c.requires.ordered all same rising i low))
-
-pub in_order-requires : goal.in_order-requires
-in_order-requires c =
-    let ops = c.args.ops in
-    let few : length ops ≤ 2 ^ 29 = omega (arith, c.if-len-gt-MOST.false, c.len.ensures) in
-    let all = c.in_ok-entries.ensures in
-    let sorted = c.sort_unstable.new.self.items in
-    let same = c.sort_unstable.ensures.permutation in
-    let rising = IsNonDecreasingBy-from_sort (λ x. x) sorted c.sort_unstable.ensures.sorted in
-    subst (λ xs. (i : ℕ) → i < length xs → number_of (slice_index xs i) < length ops) (sym c.as_slice-2.ensures.value)
-    (numbers-low c.args.base ops c.in_ok-entries.entries.items sorted sorted few c.requires.ordered all same rising)
-
 pub returns : goal.returns
 returns c =
-    let base = c.args.base in
-    let ops = c.args.ops in
-    let few : length ops ≤ 2 ^ 29 = omega (arith, c.if-len-gt-MOST.false, c.len.ensures) in
-    let entries = c.in_ok-entries.entries.items in
-    let all = c.in_ok-entries.ensures in
-    let sorted = c.sort_unstable.new.self.items in
-    let same = c.sort_unstable.ensures.permutation in
-    let rising = IsNonDecreasingBy-from_sort (λ x. x) sorted c.sort_unstable.ensures.sorted in
-    let places = c.in_ok-places.places.items in
-    let there = subst (λ xs. ArePlaces base xs (length xs) places) c.as_slice.ensures.value c.in_ok-places.ensures in
-    let is : c.in_ok-arranged.arranged ≡ map (op_at base places ops) sorted =
-    c.in_ok-arranged.ensures ∙ (λ i. map (op_at base (c.as_slice-3.ensures.value i) ops) (c.as_slice-2.ensures.value i)) in
-    record {
-      move = moved base places;
-      fixed = moved-fixed base places;
-      within = moved-within base ops entries sorted places few c.requires.ordered all same rising there;
-      long = ap length is ∙ arranged-long base ops entries sorted places few c.requires.ordered all same rising there;
-      ordered = subst (λ os. IsOrdered base os) (sym is) (arranged-ordered base ops entries sorted places few c.requires.ordered all same rising there);
-      settled = λ values s. arranged-settled base ops entries sorted places few c.requires.ordered all same rising there values (subst (λ os. IsSettled base os values) is s);
-      slots_are = c.in_ok-slots.ensures ∙ (λ i. map (moved base (c.as_slice-5.ensures.value i)) (c.as_slice-4.ensures.value i));
-      captures_are = c.in_ok-captures.ensures ∙ (λ i. map (moved_capture (moved base (c.as_slice-7.ensures.value i))) (c.as_slice-6.ensures.value i));
-    }
+    let made = c.arranged_by-arranged.result in
+    subst (λ slots. IfOk made (IsArranged c.args.base c.args.ops slots c.args.captures.items)) c.as_slice.ensures.value
+    (subst (λ captures. IfOk made (IsArranged c.args.base c.args.ops c.as_slice.result.now captures)) c.as_slice-2.ensures.value c.arranged_by-arranged.ensures)

@@ -1,0 +1,54 @@
+use Rattle.std.proofs.Common.{◌≡◌, ◌<◌, ℕ, length, map, slice_index, sym, ap, subst, ◌∙◌}
+use Rattle.std.proofs.lemmas.List.Sorted.{IsNonDecreasingBy-from_sort}
+use Rattle.vl_eval.specs.inner.Arranged.{ArePlaces, moved, moved_capture, number_of, op_at}
+use Rattle.vl_eval.specs.inner.Ops.{IsOrdered, IsSettled}
+use Rattle.vl_eval.proofs.Sorting.{arranged-long, arranged-ordered, arranged-settled, moved-fixed, moved-within, numbers-low, sorted-long}
+use Rattle.vl_eval.proofs.arranging.arranged_by.Goals as goal
+
+pub places_of-requires-clause-numbers : goal.places_of-requires-clause-numbers
+places_of-requires-clause-numbers c =
+    let ops = c.args.ops.now in
+    let few = c.requires.few in
+    let all = c.in_ok-entries.ensures in
+    let sorted = c.sort_unstable.new.self.items in
+    let same = c.sort_unstable.ensures.permutation in
+    let rising = IsNonDecreasingBy-from_sort (λ x. x) sorted c.sort_unstable.ensures.sorted in
+    let long = sorted-long c.args.base ops c.in_ok-entries.entries.items sorted sorted few c.requires.ordered all same rising in
+    subst (λ xs. (i : ℕ) → i < length xs → number_of (slice_index xs i) < length xs) (sym c.as_slice.ensures.value)
+    (λ i low. subst (λ n. number_of (slice_index sorted i) < n) (sym long) (numbers-low c.args.base ops c.in_ok-entries.entries.items sorted sorted few c.requires.ordered all same rising i low))
+
+pub in_order-requires : goal.in_order-requires
+in_order-requires c =
+    let ops = c.args.ops.now in
+    let few = c.requires.few in
+    let all = c.in_ok-entries.ensures in
+    let sorted = c.sort_unstable.new.self.items in
+    let same = c.sort_unstable.ensures.permutation in
+    let rising = IsNonDecreasingBy-from_sort (λ x. x) sorted c.sort_unstable.ensures.sorted in
+    subst (λ xs. (i : ℕ) → i < length xs → number_of (slice_index xs i) < length ops) (sym c.as_slice-2.ensures.value)
+    (numbers-low c.args.base ops c.in_ok-entries.entries.items sorted sorted few c.requires.ordered all same rising)
+
+pub returns : goal.returns
+returns c =
+    let base = c.args.base in
+    let ops = c.args.ops.now in
+    let few = c.requires.few in
+    let entries = c.in_ok-entries.entries.items in
+    let all = c.in_ok-entries.ensures in
+    let sorted = c.sort_unstable.new.self.items in
+    let same = c.sort_unstable.ensures.permutation in
+    let rising = IsNonDecreasingBy-from_sort (λ x. x) sorted c.sort_unstable.ensures.sorted in
+    let places = c.in_ok-places.places.items in
+    let there = subst (λ xs. ArePlaces base xs (length xs) places) c.as_slice.ensures.value c.in_ok-places.ensures in
+    let is : c.in_ok-arranged.arranged ≡ map (op_at base places ops) sorted =
+    c.in_ok-arranged.ensures ∙ (λ i. map (op_at base (c.as_slice-3.ensures.value i) ops) (c.as_slice-2.ensures.value i)) in
+    record {
+      move = moved base places;
+      fixed = moved-fixed base places;
+      within = moved-within base ops entries sorted places few c.requires.ordered all same rising there;
+      long = ap length is ∙ arranged-long base ops entries sorted places few c.requires.ordered all same rising there;
+      ordered = subst (λ os. IsOrdered base os) (sym is) (arranged-ordered base ops entries sorted places few c.requires.ordered all same rising there);
+      settled = λ values s. arranged-settled base ops entries sorted places few c.requires.ordered all same rising there values (subst (λ os. IsSettled base os values) is s);
+      slots_are = c.in_ok-slots.ensures ∙ (λ i. map (moved base (c.as_slice-4.ensures.value i)) c.args.slots.now);
+      captures_are = c.in_ok-captures.ensures ∙ (λ i. map (moved_capture (moved base (c.as_slice-5.ensures.value i))) c.args.captures.now);
+    }
