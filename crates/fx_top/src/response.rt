@@ -1,17 +1,15 @@
-ghost use Rattle.std.specs.Prelude.{◌≡◌, ◌<◌, ◌≤◌, ◌^◌, ℕ, ℤ, All, Err, IfOk, List, OnErr, OnOk, is_some, length, map};
+ghost use Rattle.std.specs.Prelude.{◌≡◌, ◌<◌, ◌≤◌, ◌^◌, ℕ, ℤ, All, IfErr, IfOk, List, OnErr, OnOk, is_some, length, map};
 ghost use Rattle.fx_io.specs.Cause.{Rose};
 ghost use Rattle.fx_io.specs.Sink.{TookProperPrefix, also_took};
 ghost use Rattle.fx_tables.specs.Response.{response};
 ghost use Rattle.fx_tables.specs.RowText.{periods_of};
-ghost use Rattle.fx_tables.specs.declared.table.TableCause.{TableCause as CauseOf};
 ghost use Rattle.vl_ast.specs.Conditions.{BreaksNone};
 ghost use Rattle.vl_ast.specs.Driven.{output_ports, stimulus_ports};
 ghost use Rattle.vl_ast.specs.Steps.{IsFirstRow};
 ghost use Rattle.vl_ast.specs.Windows.{Sample};
-ghost use Rattle.vl_check.specs.declared.fault.VlFault.{VlFault as FaultOf};
 ghost use Rattle.vl_eval.specs.Machine.{IsReady, row_of, source_of};
-ghost use Rattle.fx_top.specs.Replayed.{IsBadStimulus, IsBroken, IsNotVerilog, condition_of};
-ghost use Rattle.fx_top.specs.inner.Responding.{IsMachineOf, IsResponseTo, IsTableOf};
+ghost use Rattle.fx_top.specs.Replayed.{condition_of};
+ghost use Rattle.fx_top.specs.inner.Responding.{IsFaultOf, IsMachineOf, IsResponseTo, IsTableOf};
 ghost use Rattle.vl_replay.specs.Replays.{StandsBefore, module_of, stimulus_of};
 
 use fx_io::{OutOfMemory, PutFault, Sink, Text, put_all};
@@ -57,12 +55,7 @@ pub struct Response {
 /// The machine of a Verilog text.
 fn machine_of(alloc: Global, verilog: &[u8]) -> Result<Machine, ReplayFault>
     ensures made { IfOk result (IsMachineOf verilog.now) }
-    ensures not_verilog { (line : ℕ) → result ≡ Err (ReplayFault.NotVerilog line)
-        → IsNotVerilog verilog.now line }
-    ensures broken { (fault : FaultOf) → result ≡ Err (ReplayFault.Broken fault)
-        → IsBroken verilog.now fault }
-    ensures good { (line : ℕ) (cause : CauseOf) → result ≡ Err (ReplayFault.BadTable line cause)
-        → ⊥ }
+    ensures refused { (stimulus : List ℕ) → IfErr result (IsFaultOf verilog.now stimulus) }
 {
     let made = match vl_read::read(alloc, verilog) {
         Ok(made) => made,
@@ -100,12 +93,7 @@ fn is_condition(fault: &VlFault) -> bool
 /// The response of a Verilog text to a stimulus.
 pub fn response_of(alloc: Global, verilog: &[u8], stimulus: &[u8]) -> Result<Response, ReplayFault>
     ensures made { IfOk result (IsResponseTo verilog.now stimulus.now) }
-    ensures not_verilog { (line : ℕ) → result ≡ Err (ReplayFault.NotVerilog line)
-        → IsNotVerilog verilog.now line }
-    ensures broken { (fault : FaultOf) → result ≡ Err (ReplayFault.Broken fault)
-        → IsBroken verilog.now fault }
-    ensures bad { (line : ℕ) (cause : CauseOf) → result ≡ Err (ReplayFault.BadTable line cause)
-        → IsBadStimulus verilog.now stimulus.now line cause }
+    ensures refused { IfErr result (IsFaultOf verilog.now stimulus.now) }
 {
     let machine = match machine_of(alloc, verilog) {
         Ok(machine) => machine,
@@ -131,8 +119,10 @@ pub fn response_of(alloc: Global, verilog: &[u8], stimulus: &[u8]) -> Result<Res
         }
     };
     some_response();
-    let response = response_with(alloc, machine, rows, outputs.as_slice())?;
-    Ok(response)
+    match response_with(alloc, machine, rows, outputs.as_slice()) {
+        Ok(response) => Ok(response),
+        Err(OutOfMemory) => Err(ReplayFault::OutOfMemory),
+    }
 }
 
 /// The response of a machine to the rows of its stimulus, before its first sample.

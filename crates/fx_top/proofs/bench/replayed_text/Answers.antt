@@ -1,19 +1,20 @@
-use Rattle.std.proofs.Common.{ℕ, List, Err, ap, sym, subst}
+use Rattle.std.proofs.Common.{ℕ, List, sym, subst}
 use Rattle.fx_top.specs.Replayed.{IsReplayOf}
+use Rattle.fx_top.specs.inner.Responding.{IsFaultOf}
 use Rattle.fx_top.proofs.Unreplayed.{no-module, no-rows, no-sound}
 use Rattle.fx_top.proofs.bench.replayed_text.Goals as goal
 
 pub returns-in-Err-NotVerilog : goal.returns-in-Err-NotVerilog
 returns-in-Err-NotVerilog c =
-    no-module c.args.verilog.now c.args.stimulus.now c.in-Err-NotVerilog._line (c.in-Err-NotVerilog.ensures.not_verilog c.in-Err-NotVerilog._line (ap Err c.in-Err-NotVerilog.field-0-is))
+    no-module c.args.verilog.now c.args.stimulus.now c.in-Err-NotVerilog._line (subst (IsFaultOf c.args.verilog.now c.args.stimulus.now) c.in-Err-NotVerilog.field-0-is c.in-Err-NotVerilog.ensures.refused)
 
 pub returns-in-Err-Broken : goal.returns-in-Err-Broken
 returns-in-Err-Broken c =
-    no-sound c.args.verilog.now c.args.stimulus.now c.unique.ensures c.in-Err-Broken._fault (c.in-Err-Broken.ensures.broken c.in-Err-Broken._fault (ap Err c.in-Err-Broken.field-0-is))
+    no-sound c.args.verilog.now c.args.stimulus.now c.unique.ensures c.in-Err-Broken._fault (subst (IsFaultOf c.args.verilog.now c.args.stimulus.now) c.in-Err-Broken.field-0-is c.in-Err-Broken.ensures.refused)
 
 pub returns-in-Err-BadTable : goal.returns-in-Err-BadTable
 returns-in-Err-BadTable c =
-    no-rows c.args.verilog.now c.args.stimulus.now c.unique.ensures c.in-Err-BadTable._line c.in-Err-BadTable._cause (c.in-Err-BadTable.ensures.bad c.in-Err-BadTable._line c.in-Err-BadTable._cause (ap Err c.in-Err-BadTable.field-0-is))
+    no-rows c.args.verilog.now c.args.stimulus.now c.unique.ensures c.in-Err-BadTable._line c.in-Err-BadTable._cause (subst (IsFaultOf c.args.verilog.now c.args.stimulus.now) c.in-Err-BadTable.field-0-is c.in-Err-BadTable.ensures.refused)
 
 pub returns : goal.returns
 returns c =

@@ -1,10 +1,11 @@
-use Rattle.std.proofs.Common.{ℕ, List, Err, None, refl, ap, subst, arith}
+use Rattle.std.proofs.Common.{ℕ, List, None, refl, subst, arith}
 use Rattle.fx_io.specs.Cause.{Rose}
 use Rattle.fx_io.specs.Shelf.{Fetched, Told}
 use Rattle.fx_tables.specs.Response.{response as response_lines}
 use Rattle.fx_tables.specs.RowText.{periods_of}
 use Rattle.fx_top.specs.Call.{files_in, file_limit, stream_in}
 use Rattle.fx_top.specs.Command.{Replay}
+use Rattle.fx_top.specs.inner.Responding.{IsFaultOf}
 use Rattle.fx_top.proofs.Refusals.{replay-caused, replay-unwritten}
 use Rattle.fx_top.proofs.Replayed.{fetched-both, second-first}
 use Rattle.fx_top.proofs.Unfetched.{cause-unfetched, moved}
@@ -25,10 +26,10 @@ returns-in-Err-fetch_file-clause-cause g c =
 pub returns-in-Err-response_of-clause-cause : goal.returns-in-Err-response_of-clause-cause
 returns-in-Err-response_of-clause-cause g c =
     let numbers = subst (λ (held : List ℕ → Told). Fetched (held c.args.stimulus.now) file_limit c.in-Ok-fetch_file.numbers) c.in-Ok.ensures.kept c.in-Ok-fetch_file.ensures.found in
-    let why = c.in-Err-response_of.ensures in
+    let refused = rw (c.bytes.ensures, c.bytes-2.ensures) at c.in-Err-response_of.ensures.refused in
+    let fault = IsFaultOf c.in-Ok.source c.in-Ok-fetch_file.numbers in
     replay-caused (files_in g.S.Shelf.held g.S.Shelf.steady g.S.Shelf.faults g.S.Shelf.overlong c.args.shelf.now c.fetch_file-2.new.shelf) c.args.verilog.now c.args.stimulus.now c.in-Ok.source c.in-Ok-fetch_file.numbers c.in-Ok.ensures.found numbers c.in-Err-response_of.fault c.replay_answer.result
-    (λ line is. rw c.bytes.ensures at (why.not_verilog line (ap Err is))) (λ broken is. rw c.bytes.ensures at (why.broken broken (ap Err is)))
-    (λ line cause is. rw (c.bytes.ensures, c.bytes-2.ensures) at (why.bad line cause (ap Err is))) c.replay_answer.ensures
+    (λ line is. subst fault is refused) (λ broken is. subst fault is refused) (λ line cause is. subst fault is refused) c.replay_answer.ensures
 
 pub returns-in-Err-response_of-clause-written : goal.returns-in-Err-response_of-clause-written
 returns-in-Err-response_of-clause-written g c = replay-unwritten
