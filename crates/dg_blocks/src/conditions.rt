@@ -1,5 +1,5 @@
 //! The operations that ask something of their inputs: criteria, relations and gates.
-ghost use Rattle.std.specs.Prelude.{◌≡◌, IsTrue, count_by};
+ghost use Rattle.std.specs.Prelude.{◌≡◌, count_by};
 ghost use Rattle.std.specs.List.{list_all, list_any};
 ghost use Rattle.fx_type.specs.declared.kind.FxType.{FxType};
 ghost use Rattle.fx_type.specs.FxType.{IsType, InRange};

@@ -5,7 +5,7 @@ ghost use Rattle.fx_type.specs.declared.kind.FxType.{FxType};
 ghost use Rattle.fx_type.specs.declared.rounding.Rounding.{Rounding};
 ghost use Rattle.fx_type.specs.FxType.{IsType, frac_of};
 ghost use Rattle.fx_type.specs.Conversion.{twice, Converts, Settles};
-ghost use Rattle.dg_blocks.specs.Narrow.{IsSmall, IsBias, bias_for, IsTie, IsShifted, HasEnds, HasShifts, HasRoom, IsNarrow};
+ghost use Rattle.dg_blocks.specs.Narrow.{IsSmall, IsBias, bias_for, IsTie, IsShifted, HasEnds, HasRoom, IsNarrow};
 
 use fx_type::{FxType, Rounding};
 

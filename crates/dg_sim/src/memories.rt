@@ -1,5 +1,5 @@
 //! What is kept for the rules that look back.
-ghost use Rattle.std.specs.Prelude.{◌≡◌, ◌≤◌, ℕ, Some, slice_get, true, IfOk};
+ghost use Rattle.std.specs.Prelude.{◌≡◌, ◌≤◌, Some, slice_get, true, IfOk};
 ghost use Rattle.dg_model.specs.Attributes.{attributes_of};
 ghost use Rattle.fx_type.specs.declared.decimal.Decimal.{Decimal};
 ghost use Rattle.dg_model.specs.declared.kind.Kind.{Kind};

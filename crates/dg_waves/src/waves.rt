@@ -1,4 +1,4 @@
-ghost use Rattle.std.specs.Prelude.{◌≡◌, ℕ, ◌^◌, ◌<◌, ◌↔◌, Bool, true, List, [], ◌∷◌, All, length, slice_get, MatchOption, IfOk, OnOk};
+ghost use Rattle.std.specs.Prelude.{◌≡◌, ℕ, ◌^◌, ◌<◌, ◌↔◌, true, List, [], All, length, slice_get, MatchOption, IfOk, OnOk};
 ghost use Rattle.dg_waves.specs.Rounds.{round as round_of, after_rounds as after_rounds_of};
 ghost use Rattle.dg_waves.specs.inner.Waves.{is_in, written, Sought, MarkedWait, ReadersMarked, Marked, IsBetween};
 

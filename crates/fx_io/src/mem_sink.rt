@@ -1,4 +1,4 @@
-ghost use Rattle.std.specs.Prelude.{◌≡◌, ℕ, ◌+◌, ◌<◌, ◌≤◌, [], length, take, Some, IfOk, IsOk, IsErr, OnOk, OnErr, ◌↔◌, IsErrOf, IsTrue};
+ghost use Rattle.std.specs.Prelude.{◌≡◌, ◌<◌, ◌≤◌, [], length, take, Some, IfOk, IsOk, IsErr, OnOk, OnErr, ◌↔◌, IsErrOf, IsTrue};
 ghost use Rattle.fx_io.specs.Cause.{Rose, counted};
 ghost use Rattle.fx_io.specs.Sink.{also_took};
 ghost use Rattle.fx_io.specs.Memory.{SinkState, FailsNext, takes_of, stalls_of};
@@ -22,7 +22,7 @@ pub struct MemSink {
 }
 
 impl Model for MemSink {
-    ghost use Rattle.std.specs.Prelude.{ℕ, ◌<◌, ◌≤◌, vec_len, vec_capacity};
+    ghost use Rattle.std.specs.Prelude.{◌<◌, ◌≤◌, vec_len, vec_capacity};
     ghost use Rattle.fx_io.specs.Memory.{SinkState};
 
     ghost Value = { SinkState };

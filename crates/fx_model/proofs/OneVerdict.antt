@@ -2,11 +2,9 @@
 use Rattle.std.proofs.Common.{◌≡◌, ◌≢◌, ℕ, inl, inr, List, sym, ◌∙◌, ap, ap₂, subst}
 use Rattle.std.specs.Prelude.{map}
 use Rattle.mdl_text.specs.declared.tree.Tree.{Tree}
-use Rattle.mdl_text.specs.Prefix.{IsMdlFaultLine}
-use Rattle.mdl_text.specs.Stands.{Stands}
-use Rattle.mdl_build.specs.Laws.{NestedIsOne, FaultIsOne as TextIsOne, NestedIsNotBroken}
+use Rattle.mdl_build.specs.Laws.{NestedIsOne}
 use Rattle.mdl_build.specs.Nested.{IsNestedOf}
-use Rattle.dg_flat.specs.Laws.{FlatIsOne, BrokenIsOne as LinesAreOne, FlatIsNotBroken}
+use Rattle.dg_flat.specs.Laws.{FlatIsOne}
 use Rattle.dg_flat.specs.Flat.{IsFlatOf}
 use Rattle.dg_flat.specs.Rules.{BreaksWiringOrEnable}
 use Rattle.dg_model.specs.declared.diagram.Block.{Block}
@@ -15,7 +13,7 @@ use Rattle.dg_model.specs.declared.fault.RuleFault.{RuleFault}
 use Rattle.dg_model.specs.declared.nested.Nested.{Nested}
 use Rattle.dg_model.specs.declared.rule.Rule.{Rule}
 use Rattle.dg_model.specs.Checked.{IsChecked, BreaksRule}
-use Rattle.dg_rules.specs.Laws.{FaultIsOne, ToldIsOne, CheckedIsNotBroken, told_first}
+use Rattle.dg_rules.specs.Laws.{told_first}
 use Rattle.fx_model.specs.Laws.{DiagramIsOne, VerdictIsOne, BrokenIsOne, LineIsOne}
 use Rattle.fx_model.specs.Model.{IsDiagramOf, IsModelOf, BreaksModel, IsBrokenModel}
 use Rattle.fx_model.specs.RuleLine.{rule_line}

@@ -1,4 +1,4 @@
-use Rattle.std.proofs.Common.{List, ◌++◌, ◌∷◌, [], ◌∙◌, map, ap, sym, ◌≡◌, ℕ, arith}
+use Rattle.std.proofs.Common.{List, ◌++◌, ◌∷◌, [], ◌∙◌, map, ap, sym, ◌≡◌, arith}
 use Rattle.fx_type.specs.declared.kind.FxType.{FxType}
 use Rattle.dg_waves.specs.Rounds.{numbers_from}
 use Rattle.dg_model.specs.Attributes.{attributes_of}
