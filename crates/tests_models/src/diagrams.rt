@@ -17,10 +17,22 @@ use mdl_build::build;
 use mdl_text::{Tree, read};
 use std::alloc::Global;
 use std::io::Write;
-use tests_rows::{Row, written};
+use tests_rows::{Row, put_debug, written};
 
-/// Tells what a word asks of a text's model, or the rule that it breaks.
-pub fn model<W: Write>(alloc: Global, asked: &str, text: &[u8], out: &mut W) -> Result<()> {
+/// What is asked of a model.
+#[derive(Clone, Copy)]
+pub enum Asked {
+    Build,
+    Nested,
+    Flat,
+    Widths,
+    Types,
+    Rates,
+    Order,
+}
+
+/// Tells what is asked of a text's model, or the rule that it breaks.
+pub fn model<W: Write>(alloc: Global, asked: Asked, text: &[u8], out: &mut W) -> Result<()> {
     match read(alloc, text) {
         Ok(tree) => put_built(alloc, asked, &tree, out),
         Err(_fault) => Err(Error::msg("no MDL text")),
@@ -32,7 +44,7 @@ pub fn many<W: Write>(alloc: Global, row: &mut Row<'_>, out: &mut W) -> Result<(
     let count = row.number()?;
     let mut text = String::new(alloc);
     put_blocks(alloc, &mut text, count)?;
-    model(alloc, "build", text.as_bytes(), out)
+    model(alloc, Asked::Build, text.as_bytes(), out)
 }
 
 fn put_blocks(alloc: Global, text: &mut String, count: u32) -> Result<()> {
@@ -45,40 +57,48 @@ fn put_blocks(alloc: Global, text: &mut String, count: u32) -> Result<()> {
     Ok(())
 }
 
-fn put_built<W: Write>(alloc: Global, asked: &str, tree: &Tree, out: &mut W) -> Result<()> {
+fn put_built<W: Write>(alloc: Global, asked: Asked, tree: &Tree, out: &mut W) -> Result<()> {
     match build(alloc, tree) {
-        Ok(nested) => put_model(alloc, asked, &nested, out),
-        Err(fault) => put_fault(alloc, &fault, &[], out),
+        Ok(nested) => {
+            let put = put_model(alloc, asked, &nested, out);
+            drop(nested);
+            put
+        }
+        Err(fault) => put_fault(alloc, fault, &[], out),
     }
 }
 
-fn put_model<W: Write>(alloc: Global, asked: &str, nested: &Nested, out: &mut W) -> Result<()>
+fn put_model<W: Write>(alloc: Global, asked: Asked, nested: &Nested, out: &mut W) -> Result<()>
     requires { IsSound nested.now }
 {
     match asked {
-        "build" => written(out.write_all(b"kept\n")),
-        "nested" => put_nested(nested, out),
+        Asked::Build => written(out.write_all(b"kept\n")),
+        Asked::Nested => put_nested(nested, out),
         _ => put_flattened(alloc, asked, nested, out),
     }
 }
 
-fn put_flattened<W: Write>(alloc: Global, asked: &str, nested: &Nested, out: &mut W) -> Result<()>
+fn put_flattened<W: Write>(alloc: Global, asked: Asked, nested: &Nested, out: &mut W) -> Result<()>
     requires { IsSound nested.now }
 {
     match flatten(alloc, nested) {
-        Ok(diagram) => put_asked(alloc, asked, &diagram, out),
-        Err(fault) => put_fault(alloc, &fault, &[], out),
+        Ok(diagram) => {
+            let put = put_asked(alloc, asked, &diagram, out);
+            drop(diagram);
+            put
+        }
+        Err(fault) => put_fault(alloc, fault, &[], out),
     }
 }
 
-fn put_asked<W: Write>(alloc: Global, asked: &str, diagram: &Diagram, out: &mut W) -> Result<()>
+fn put_asked<W: Write>(alloc: Global, asked: Asked, diagram: &Diagram, out: &mut W) -> Result<()>
     requires { IsWired diagram.now }
 {
     match asked {
-        "flat" => put_flat(alloc, diagram, out),
-        "widths" => put_widths(alloc, diagram, out),
-        "types" => put_types(alloc, diagram, out),
-        "rates" => put_rates(alloc, diagram, out),
+        Asked::Flat => put_flat(alloc, diagram, out),
+        Asked::Widths => put_widths(alloc, diagram, out),
+        Asked::Types => put_types(alloc, diagram, out),
+        Asked::Rates => put_rates(alloc, diagram, out),
         _ => put_order(alloc, diagram, out),
     }
 }
@@ -92,7 +112,7 @@ fn put_flat<W: Write>(alloc: Global, diagram: &Diagram, out: &mut W) -> Result<(
         }
     }
     for edge in diagram.edges.as_slice() {
-        writeln!(out, "{edge:?}")?;
+        put_debug(edge, out)?;
     }
     Ok(())
 }
@@ -106,8 +126,8 @@ fn put_widths<W: Write>(alloc: Global, diagram: &Diagram, out: &mut W) -> Result
     requires { IsWired diagram.now }
 {
     match widths(alloc, diagram) {
-        Ok(widths) => written(writeln!(out, "{widths:?}")),
-        Err(fault) => put_fault(alloc, &fault, diagram.blocks.as_slice(), out),
+        Ok(widths) => put_debug(&widths, out),
+        Err(fault) => put_fault(alloc, fault, diagram.blocks.as_slice(), out),
     }
 }
 
@@ -117,7 +137,7 @@ fn put_types<W: Write>(alloc: Global, diagram: &Diagram, out: &mut W) -> Result<
 {
     match widths(alloc, diagram) {
         Ok(widths) => put_typed(alloc, diagram, &widths, out),
-        Err(fault) => put_fault(alloc, &fault, diagram.blocks.as_slice(), out),
+        Err(fault) => put_fault(alloc, fault, diagram.blocks.as_slice(), out),
     }
 }
 
@@ -131,7 +151,7 @@ fn put_typed<W: Write>(
 {
     match types(alloc, diagram, widths) {
         Ok(types) => put_pairs(types.results.as_slice(), types.params.as_slice(), out),
-        Err(fault) => put_fault(alloc, &fault, diagram.blocks.as_slice(), out),
+        Err(fault) => put_fault(alloc, fault, diagram.blocks.as_slice(), out),
     }
 }
 
@@ -147,17 +167,16 @@ fn put_pairs<W: Write>(results: &[FxType], params: &[FxType], out: &mut W) -> Re
 
 fn put_type<W: Write>(kind: FxType, out: &mut W) -> Result<()> {
     match kind {
-        FxType::Logical => out.write_all(b"L")?,
+        FxType::Logical => written(out.write_all(b"L")),
         FxType::Num {
             signed,
             width,
             frac,
         } => {
             let sign = if signed { 's' } else { 'u' };
-            write!(out, "{sign} {width} {frac}")?;
+            written(write!(out, "{sign} {width} {frac}"))
         }
     }
-    Ok(())
 }
 
 /// Tells of each block its period, `inf` of one that never changes.
@@ -166,7 +185,7 @@ fn put_rates<W: Write>(alloc: Global, diagram: &Diagram, out: &mut W) -> Result<
 {
     match rates(alloc, diagram) {
         Ok(periods) => put_periods(periods.as_slice(), out),
-        Err(fault) => put_fault(alloc, &fault, diagram.blocks.as_slice(), out),
+        Err(fault) => put_fault(alloc, fault, diagram.blocks.as_slice(), out),
     }
 }
 
@@ -186,7 +205,7 @@ fn put_order<W: Write>(alloc: Global, diagram: &Diagram, out: &mut W) -> Result<
 {
     match rates(alloc, diagram) {
         Ok(periods) => put_ordered(alloc, diagram, periods.as_slice(), out),
-        Err(fault) => put_fault(alloc, &fault, diagram.blocks.as_slice(), out),
+        Err(fault) => put_fault(alloc, fault, diagram.blocks.as_slice(), out),
     }
 }
 
@@ -201,7 +220,7 @@ fn put_ordered<W: Write>(
 {
     match order(alloc, diagram, periods) {
         Ok(order) => put_count(order.as_slice().len(), out),
-        Err(fault) => put_fault(alloc, &fault, diagram.blocks.as_slice(), out),
+        Err(fault) => put_fault(alloc, fault, diagram.blocks.as_slice(), out),
     }
 }
 

@@ -30,11 +30,13 @@ mod told;
 mod trees;
 mod values;
 
+use crate::diagrams::Asked;
+use crate::values::Kind;
 use anyhow::Result;
 use std::alloc::Global;
 use std::io::Write;
 use std::thread::Threads;
-use tests_rows::{Answers, Row, Texts, answer_lines};
+use tests_rows::{Answers, Row, Texts, answer_lines, found};
 
 /// The last plan.
 #[derive(Drop)]
@@ -63,6 +65,49 @@ impl Answers for Plan {
     }
 }
 
+/// What a row asks for.
+#[derive(Clone, Copy)]
+enum Command {
+    Tree,
+    Syntax,
+    Cuts,
+    Model(Asked),
+    Many,
+    Plan,
+    Stages,
+    Rows,
+    Accept,
+    Value(Kind),
+}
+
+const COMMANDS: &[(&str, Command)] = &[
+    ("tree", Command::Tree),
+    ("syntax", Command::Syntax),
+    ("cuts", Command::Cuts),
+    ("build", Command::Model(Asked::Build)),
+    ("nested", Command::Model(Asked::Nested)),
+    ("flat", Command::Model(Asked::Flat)),
+    ("widths", Command::Model(Asked::Widths)),
+    ("types", Command::Model(Asked::Types)),
+    ("rates", Command::Model(Asked::Rates)),
+    ("order", Command::Model(Asked::Order)),
+    ("many", Command::Many),
+    ("plan", Command::Plan),
+    ("stages", Command::Stages),
+    ("rows", Command::Rows),
+    ("accept", Command::Accept),
+    ("list", Command::Value(Kind::List)),
+    ("sizes", Command::Value(Kind::Sizes)),
+    ("signs", Command::Value(Kind::Signs)),
+    ("period", Command::Value(Kind::Period)),
+    ("sample_time", Command::Value(Kind::SampleTime)),
+    ("constant_time", Command::Value(Kind::ConstantTime)),
+    ("width", Command::Value(Kind::Width)),
+    ("type", Command::Value(Kind::Type)),
+    ("number", Command::Value(Kind::Number)),
+    ("word", Command::Value(Kind::Word)),
+];
+
 /// Answers a row, and keeps its text where this is a plan.
 fn answer<W: Write>(
     alloc: Global,
@@ -71,18 +116,16 @@ fn answer<W: Write>(
     out: &mut W,
 ) -> Result<()> {
     let text = row.text.as_slice();
-    match row.command {
-        "tree" => trees::tree(alloc, text, out),
-        "syntax" => trees::lines(alloc, text, text.len(), out),
-        "cuts" => trees::lines(alloc, text, 0, out),
-        "build" | "nested" | "flat" | "widths" | "types" | "rates" | "order" => {
-            diagrams::model(alloc, row.command, text, out)
-        }
-        "many" => diagrams::many(alloc, row, out),
-        "plan" => tables::plan(alloc, text, plan, out),
-        "stages" => tables::stages(alloc, text, plan.as_slice(), out),
-        "rows" => tables::rows(alloc, row, out),
-        "accept" => tables::accepted(alloc, text, out),
-        _ => values::value(alloc, row, out),
+    match found(row.command, COMMANDS)? {
+        Command::Tree => trees::tree(alloc, text, out),
+        Command::Syntax => trees::lines(alloc, text, text.len(), out),
+        Command::Cuts => trees::lines(alloc, text, 0, out),
+        Command::Model(asked) => diagrams::model(alloc, asked, text, out),
+        Command::Many => diagrams::many(alloc, row, out),
+        Command::Plan => tables::plan(alloc, text, plan, out),
+        Command::Stages => tables::stages(alloc, text, plan.as_slice(), out),
+        Command::Rows => tables::rows(alloc, row, out),
+        Command::Accept => tables::accepted(alloc, text, out),
+        Command::Value(kind) => values::value(alloc, kind, row, out),
     }
 }

@@ -3,7 +3,7 @@
 use anyhow::Result;
 use dg_model::{Block, Kind, Nested, NestedBlock, Part};
 use std::io::Write;
-use tests_rows::written;
+use tests_rows::{put_debug, written};
 
 /// Tells the blocks and lines of a model.
 pub fn put_nested<W: Write>(nested: &Nested, out: &mut W) -> Result<()> {
@@ -11,7 +11,7 @@ pub fn put_nested<W: Write>(nested: &Nested, out: &mut W) -> Result<()> {
         put_block(block, out)?;
     }
     for line in nested.lines.as_slice() {
-        writeln!(out, "{line:?}")?;
+        put_debug(line, out)?;
     }
     Ok(())
 }
@@ -20,12 +20,12 @@ pub fn put_nested<W: Write>(nested: &Nested, out: &mut W) -> Result<()> {
 fn put_block<W: Write>(block: &NestedBlock, out: &mut W) -> Result<()> {
     out.write_all(block.name.bytes())?;
     match &block.part {
-        Part::Plain(block) => put_plain(block, out)?,
-        Part::In(_block, number) => write!(out, " in {number}")?,
-        Part::Out(_block, number) => write!(out, " out {number}")?,
-        Part::SubSystem => out.write_all(b" subsystem")?,
-        Part::Enable { reset } => write!(out, " enable {reset}")?,
-    }
+        Part::Plain(block) => put_plain(block, out),
+        Part::In(_block, number) => written(write!(out, " in {number}")),
+        Part::Out(_block, number) => written(write!(out, " out {number}")),
+        Part::SubSystem => written(out.write_all(b" subsystem")),
+        Part::Enable { reset } => written(write!(out, " enable {reset}")),
+    }?;
     written(out.write_all(b"\n"))
 }
 

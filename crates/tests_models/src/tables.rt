@@ -33,8 +33,16 @@ const WIDE: Column = Column {
 /// What is said of a model.
 pub fn accepted<W: Write>(alloc: Global, text: &[u8], out: &mut W) -> Result<()> {
     match accept(alloc, text) {
-        Ok(checked) => written(writeln!(out, "{} blocks", checked.order().len())),
-        Err(fault) => put_model_fault(alloc, &fault, out),
+        Ok(checked) => {
+            let count = checked.order().len();
+            drop(checked);
+            written(writeln!(out, "{count} blocks"))
+        }
+        Err(fault) => {
+            let put = put_model_fault(alloc, &fault, out);
+            drop(fault);
+            put
+        }
     }
 }
 
@@ -83,8 +91,15 @@ fn put_cause<W: Write>(line: u64, cause: TableCause, out: &mut W) -> Result<()> 
 /// What a plan sets behind each block of a model, or the rule that it breaks.
 pub fn stages<W: Write>(alloc: Global, text: &[u8], plan: &[u8], out: &mut W) -> Result<()> {
     match accept(alloc, text) {
-        Ok(checked) => put_planned(alloc, &checked, plan, out),
-        Err(_fault) => Err(Error::msg("the model is not accepted")),
+        Ok(checked) => {
+            let put = put_planned(alloc, &checked, plan, out);
+            drop(checked);
+            put
+        }
+        Err(fault) => {
+            drop(fault);
+            Err(Error::msg("the model is not accepted"))
+        }
     }
 }
 
@@ -100,7 +115,7 @@ fn put_resolved<W: Write>(alloc: Global, checked: &Checked, plan: &Plan, out: &m
 {
     match resolve(alloc, checked, plan) {
         Ok(resolved) => put_stages(resolved.stages.as_slice(), out),
-        Err(fault) => put_fault(alloc, &fault, checked.diagram().blocks.as_slice(), out),
+        Err(fault) => put_fault(alloc, fault, checked.diagram().blocks.as_slice(), out),
     }
 }
 
@@ -111,18 +126,35 @@ fn put_stages<W: Write>(stages: &[u32], out: &mut W) -> Result<()> {
     written(out.write_all(b"\n"))
 }
 
+/// The columns that a word names.
+#[derive(Clone, Copy)]
+enum Columns {
+    Byte,
+    Slow,
+    Wide,
+    Both,
+    None,
+}
+
+const COLUMNS: &[(&str, Columns)] = &[
+    ("byte", Columns::Byte),
+    ("slow", Columns::Slow),
+    ("wide", Columns::Wide),
+    ("both", Columns::Both),
+    ("none", Columns::None),
+];
+
 /// What is read of a stimulus of columns that a word names.
 pub fn rows<W: Write>(alloc: Global, row: &mut Row<'_>, out: &mut W) -> Result<()> {
-    let columns = row.next()?;
+    let columns = row.one_of(COLUMNS)?;
     let outputs = row.long()?;
     let text = row.text.as_slice();
     match columns {
-        "byte" => put_rows(alloc, text, &[BYTE], outputs, out),
-        "slow" => put_rows(alloc, text, &[SLOW], outputs, out),
-        "wide" => put_rows(alloc, text, &[WIDE], outputs, out),
-        "both" => put_rows(alloc, text, &[BYTE, SLOW], outputs, out),
-        "none" => put_rows(alloc, text, &[], outputs, out),
-        _ => Err(Error::msg("no columns")),
+        Columns::Byte => put_rows(alloc, text, &[BYTE], outputs, out),
+        Columns::Slow => put_rows(alloc, text, &[SLOW], outputs, out),
+        Columns::Wide => put_rows(alloc, text, &[WIDE], outputs, out),
+        Columns::Both => put_rows(alloc, text, &[BYTE, SLOW], outputs, out),
+        Columns::None => put_rows(alloc, text, &[], outputs, out),
     }
 }
 

@@ -10,6 +10,17 @@ use tests_rows::written;
 /// Tells a broken rule; the blocks are those whose numbers it may show.
 pub fn put_fault<W: Write>(
     alloc: Global,
+    fault: CheckFault,
+    blocks: &[Block],
+    out: &mut W,
+) -> Result<()> {
+    let put = put_broken(alloc, &fault, blocks, out);
+    drop(fault);
+    put
+}
+
+fn put_broken<W: Write>(
+    alloc: Global,
     fault: &CheckFault,
     blocks: &[Block],
     out: &mut W,

@@ -1,6 +1,6 @@
 //! Values of parameters.
 
-use anyhow::{Error, Result};
+use anyhow::Result;
 use fx_type::Decimal;
 use mdl_values::{
     read_constant_time, read_criterion, read_gate, read_list, read_number, read_period,
@@ -9,40 +9,52 @@ use mdl_values::{
 };
 use std::alloc::Global;
 use std::io::Write;
-use tests_rows::{Row, written};
+use tests_rows::{Row, put_debug, written};
+
+/// A kind of value.
+#[derive(Clone, Copy)]
+pub enum Kind {
+    List,
+    Sizes,
+    Signs,
+    Period,
+    SampleTime,
+    ConstantTime,
+    Width,
+    Type,
+    Number,
+    Word,
+}
 
 /// Tells the value of a text by its kind, `None` where it has none.
-pub fn value<W: Write>(alloc: Global, row: &mut Row<'_>, out: &mut W) -> Result<()> {
+pub fn value<W: Write>(alloc: Global, kind: Kind, row: &mut Row<'_>, out: &mut W) -> Result<()> {
     let text = row.text.as_slice();
-    match row.command {
-        "list" => return list(alloc, text, out),
-        "sizes" => return sizes(alloc, text, out),
-        "signs" => return signs(alloc, text, out),
-        "period" => return put_decimal(read_period(alloc, text)?, out),
-        "sample_time" => writeln!(out, "{:?}", read_sample_time(alloc, text)?)?,
-        "constant_time" => writeln!(out, "{:?}", read_constant_time(alloc, text)?)?,
-        "width" => writeln!(out, "{:?}", read_width(alloc, text)?)?,
-        "type" => writeln!(out, "{:?}", read_type(text))?,
-        "number" => return number(row, out),
-        "word" => return word(row, out),
-        _ => return Err(Error::msg("no command")),
+    match kind {
+        Kind::List => list(alloc, text, out),
+        Kind::Sizes => sizes(alloc, text, out),
+        Kind::Signs => signs(alloc, text, out),
+        Kind::Period => put_decimal(read_period(alloc, text)?, out),
+        Kind::SampleTime => put_debug(&read_sample_time(alloc, text)?, out),
+        Kind::ConstantTime => put_debug(&read_constant_time(alloc, text)?, out),
+        Kind::Width => put_debug(&read_width(alloc, text)?, out),
+        Kind::Type => put_debug(&read_type(text), out),
+        Kind::Number => number(row, out),
+        Kind::Word => word(row, out),
     }
-    Ok(())
 }
 
 fn number<W: Write>(row: &mut Row<'_>, out: &mut W) -> Result<()> {
     let low = row.number()?;
     let high = row.number()?;
-    written(writeln!(out, "{:?}", read_number(row.text.as_slice(), low, high)))
+    put_debug(&read_number(row.text.as_slice(), low, high), out)
 }
 
 /// Tells a decimal without its exponent.
 fn put_decimal<W: Write>(decimal: Option<Decimal>, out: &mut W) -> Result<()> {
     match decimal {
-        Some(decimal) => writeln!(out, "{decimal:?}")?,
-        None => out.write_all(b"None\n")?,
+        Some(decimal) => put_debug(&decimal, out),
+        None => written(out.write_all(b"None\n")),
     }
-    Ok(())
 }
 
 fn list<W: Write>(alloc: Global, text: &[u8], out: &mut W) -> Result<()> {
@@ -64,30 +76,48 @@ fn put_list<W: Write>(list: &[Decimal], out: &mut W) -> Result<()> {
 
 fn sizes<W: Write>(alloc: Global, text: &[u8], out: &mut W) -> Result<()> {
     match read_sizes(alloc, text)? {
-        Some(sizes) => written(writeln!(out, "{:?}", sizes.as_slice())),
+        Some(sizes) => put_debug(&sizes.as_slice(), out),
         None => written(out.write_all(b"None\n")),
     }
 }
 
 fn signs<W: Write>(alloc: Global, text: &[u8], out: &mut W) -> Result<()> {
     match read_signs(alloc, text)? {
-        Some(signs) => written(writeln!(out, "{:?}", signs.as_slice())),
+        Some(signs) => put_debug(&signs.as_slice(), out),
         None => written(out.write_all(b"None\n")),
     }
 }
 
+/// A kind of word.
+#[derive(Clone, Copy)]
+enum Words {
+    Rounding,
+    Relation,
+    Gate,
+    Criterion,
+    Switch,
+    Reset,
+}
+
+const WORDS: &[(&str, Words)] = &[
+    ("rounding", Words::Rounding),
+    ("relation", Words::Relation),
+    ("gate", Words::Gate),
+    ("criterion", Words::Criterion),
+    ("switch", Words::Switch),
+    ("reset", Words::Reset),
+];
+
 /// Tells the word of a kind.
 fn word<W: Write>(row: &mut Row<'_>, out: &mut W) -> Result<()> {
-    let kind = row.next()?;
+    let kind = row.one_of(WORDS)?;
     let text = row.text.as_slice();
     match kind {
-        "rounding" => writeln!(out, "{:?}", read_rounding(text))?,
-        "relation" => writeln!(out, "{:?}", read_relation(text))?,
-        "gate" => writeln!(out, "{:?}", read_gate(text))?,
-        "criterion" => writeln!(out, "{:?}", read_criterion(text))?,
-        "switch" => writeln!(out, "{:?}", read_switch(text))?,
-        "reset" => writeln!(out, "{:?}", read_reset(text))?,
-        _ => return Err(Error::msg("no kind of word")),
+        Words::Rounding => put_debug(&read_rounding(text), out),
+        Words::Relation => put_debug(&read_relation(text), out),
+        Words::Gate => put_debug(&read_gate(text), out),
+        Words::Criterion => put_debug(&read_criterion(text), out),
+        Words::Switch => put_debug(&read_switch(text), out),
+        Words::Reset => put_debug(&read_reset(text), out),
     }
-    Ok(())
 }

@@ -3,6 +3,7 @@
 use crate::texts::Texts;
 use anyhow::Result;
 use std::alloc::Global;
+use std::fmt::Debug;
 use std::io::{self, BufRead, BufWriter, Input, Print, Write};
 use std::thread::Threads;
 
@@ -65,4 +66,9 @@ fn answer<R: Threads + Sync, A: Answers, W: Write>(
 /// What writing came to.
 pub fn written(put: io::Result<()>) -> Result<()> {
     Ok(put?)
+}
+
+/// Writes a value on a line, as `Debug` tells it.
+pub fn put_debug<T: Debug, W: Write>(value: &T, out: &mut W) -> Result<()> {
+    written(writeln!(out, "{value:?}"))
 }
