@@ -26,15 +26,24 @@ fn word_of(words: &mut Row<'_>) -> Result<Word>
     }
 }
 
+/// What is told of a number and a word.
+#[derive(Clone, Copy)]
+pub enum Asked {
+    Wrap,
+    Fits,
+    ToBits,
+    FromBits,
+}
+
 /// Tells what becomes of a number and a word.
-pub fn in_word<W: Write>(name: &str, words: &mut Row<'_>, out: &mut W) -> Result<()> {
+pub fn in_word<W: Write>(asked: Asked, words: &mut Row<'_>, out: &mut W) -> Result<()> {
     let v = words.integer()?;
     let Word { width, signed } = word_of(words)?;
-    match name {
-        "wrap" => written(writeln!(out, "{}", wrap(v, width, signed))),
-        "fits" => written(writeln!(out, "{}", fits(v, width, signed))),
-        "to_bits" => put_bits(v, width, signed, out),
-        _ => put_number(v, width, signed, out),
+    match asked {
+        Asked::Wrap => written(writeln!(out, "{}", wrap(v, width, signed))),
+        Asked::Fits => written(writeln!(out, "{}", fits(v, width, signed))),
+        Asked::ToBits => put_bits(v, width, signed, out),
+        Asked::FromBits => put_number(v, width, signed, out),
     }
 }
 

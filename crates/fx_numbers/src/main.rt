@@ -31,8 +31,10 @@ mod operations;
 mod types;
 mod words;
 
+use crate::bits::Asked;
 use crate::nets::Answer;
-use anyhow::Result;
+use crate::operations::Operation;
+use anyhow::{Error, Result};
 use std::alloc::Global;
 use std::io::Write;
 use std::thread::Threads;
@@ -64,18 +66,65 @@ impl Answers for Cases {
     }
 }
 
+/// What a line asks for.
+#[derive(Clone, Copy)]
+enum Command {
+    InWord(Asked),
+    ShiftUp,
+    Range,
+    Conversion,
+    Decimal,
+    SumType,
+    ProductType,
+    UnionType,
+    Output,
+    Whole(Operation),
+}
+
+const COMMANDS: &[(&str, Command)] = &[
+    ("wrap", Command::InWord(Asked::Wrap)),
+    ("fits", Command::InWord(Asked::Fits)),
+    ("to_bits", Command::InWord(Asked::ToBits)),
+    ("from_bits", Command::InWord(Asked::FromBits)),
+    ("shift_up", Command::ShiftUp),
+    ("range", Command::Range),
+    ("conversion", Command::Conversion),
+    ("decimal", Command::Decimal),
+    ("sum_type", Command::SumType),
+    ("product_type", Command::ProductType),
+    ("union_type", Command::UnionType),
+    ("output", Command::Output),
+    ("sum", Command::Whole(Operation::Sum)),
+    ("gain", Command::Whole(Operation::Gain)),
+    ("product", Command::Whole(Operation::Product)),
+    ("switch", Command::Whole(Operation::Switch)),
+    ("relational", Command::Whole(Operation::Relational)),
+    ("logic", Command::Whole(Operation::Logic)),
+    ("convert", Command::Whole(Operation::Convert)),
+    ("stored", Command::Whole(Operation::Stored)),
+    ("pass", Command::Whole(Operation::Pass)),
+];
+
 fn answer<W: Write>(alloc: Global, words: &mut Row<'_>, text: &str, out: &mut W) -> Result<()> {
-    let name = words.next()?;
-    match name {
-        "wrap" | "fits" | "to_bits" | "from_bits" => bits::in_word(name, words, out),
-        "shift_up" => bits::shifted(words, out),
-        "range" => types::range(words, out),
-        "conversion" => types::conversion(words, out),
-        "decimal" => types::decimal(words, text, out),
-        "sum_type" => types::sum_type(alloc, words, out),
-        "product_type" | "union_type" => types::pair_type(name, words, out),
-        "output" => put_operation(alloc, words.next()?, false, words, out),
-        _ => put_operation(alloc, name, true, words, out),
+    match words.one_of(COMMANDS)? {
+        Command::InWord(asked) => bits::in_word(asked, words, out),
+        Command::ShiftUp => bits::shifted(words, out),
+        Command::Range => types::range(words, out),
+        Command::Conversion => types::conversion(words, out),
+        Command::Decimal => types::decimal(words, text, out),
+        Command::SumType => types::sum_type(alloc, words, out),
+        Command::ProductType => types::pair_type(true, words, out),
+        Command::UnionType => types::pair_type(false, words, out),
+        Command::Output => put_output(alloc, words, out),
+        Command::Whole(operation) => put_operation(alloc, operation, true, words, out),
+    }
+}
+
+/// The first two numbers alone of the operation behind the first word.
+fn put_output<W: Write>(alloc: Global, words: &mut Row<'_>, out: &mut W) -> Result<()> {
+    match words.one_of(COMMANDS)? {
+        Command::Whole(operation) => put_operation(alloc, operation, false, words, out),
+        _ => Err(Error::msg("no operation")),
     }
 }
 
@@ -83,12 +132,12 @@ fn answer<W: Write>(alloc: Global, words: &mut Row<'_>, text: &str, out: &mut W)
 /// many these are.
 fn put_operation<W: Write>(
     alloc: Global,
-    name: &str,
+    operation: Operation,
     whole: bool,
     words: &mut Row<'_>,
     out: &mut W,
 ) -> Result<()> {
-    let answer = operations::carried_out(alloc, name, words)?;
+    let answer = operations::carried_out(alloc, operation, words)?;
     let Answer {
         value,
         prepared,

@@ -31,12 +31,13 @@ pub fn answered(alloc: Global, call: &OpCall, inputs: &[i128]) -> Result<Answer>
     let value = output(call, inputs);
     let prepared = Prepared::new(call).output(call, inputs);
     let mut net = Netlist::new(alloc, 1);
-    let shown = shown_in(alloc, &mut net, call, inputs)?;
+    let shown = shown_in(alloc, &mut net, call, inputs);
     let nets = net.nets().len().saturating_sub(inputs.len());
+    drop(net);
     Ok(Answer {
         value,
         prepared,
-        shown,
+        shown: shown?,
         nets,
     })
 }

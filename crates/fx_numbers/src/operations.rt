@@ -11,19 +11,32 @@ use fx_type::{FxType, Rounding, TooWide, full_product, full_sum, union};
 use std::alloc::Global;
 use tests_rows::Row;
 
-/// What the operation of this name gives of the inputs that its line has.
-pub fn carried_out(alloc: Global, name: &str, words: &mut Row<'_>) -> Result<Answer> {
-    match name {
-        "sum" => sum(alloc, words),
-        "gain" => gain(alloc, words),
-        "product" => product(alloc, words),
-        "switch" => switch(alloc, words),
-        "relational" => relational(alloc, words),
-        "logic" => logic(alloc, words),
-        "convert" => convert(alloc, words, false),
-        "stored" => convert(alloc, words, true),
-        "pass" => pass(alloc, words),
-        _ => Err(Error::msg("no operation")),
+/// A line's operation.
+#[derive(Clone, Copy)]
+pub enum Operation {
+    Sum,
+    Gain,
+    Product,
+    Switch,
+    Relational,
+    Logic,
+    Convert,
+    Stored,
+    Pass,
+}
+
+/// What an operation gives of the inputs that its line has.
+pub fn carried_out(alloc: Global, operation: Operation, words: &mut Row<'_>) -> Result<Answer> {
+    match operation {
+        Operation::Sum => sum(alloc, words),
+        Operation::Gain => gain(alloc, words),
+        Operation::Product => product(alloc, words),
+        Operation::Switch => switch(alloc, words),
+        Operation::Relational => relational(alloc, words),
+        Operation::Logic => logic(alloc, words),
+        Operation::Convert => convert(alloc, words, false),
+        Operation::Stored => convert(alloc, words, true),
+        Operation::Pass => pass(alloc, words),
     }
 }
 

@@ -62,10 +62,10 @@ fn put_sum_type<W: Write>(terms: &[(bool, FxType)], out: &mut W) -> Result<()> {
 }
 
 /// Tells the full type of a product, or the union.
-pub fn pair_type<W: Write>(name: &str, words: &mut Row<'_>, out: &mut W) -> Result<()> {
+pub fn pair_type<W: Write>(product: bool, words: &mut Row<'_>, out: &mut W) -> Result<()> {
     let a = valid_type(words)?;
     let b = valid_type(words)?;
-    if name == "product_type" {
+    if product {
         print_type(out, full_product(a, b))
     } else {
         print_type(out, union(a, b))
