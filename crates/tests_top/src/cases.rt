@@ -10,7 +10,7 @@ use fx_sample::plan_text;
 use std::alloc::Global;
 use std::io::Write;
 use std::thread::Threads;
-use tests_rows::{Answers, Row, Texts, written};
+use tests_rows::{Answers, Row, Texts, found, written};
 
 /// A file by its name.
 #[derive(Drop)]
@@ -92,26 +92,17 @@ impl Case {
         Ok(())
     }
 
-    /// Does what a row says.
-    fn set(&mut self, alloc: Global, row: &mut Row<'_>) -> Result<()> {
-        match row.command {
-            "file" => self.put(alloc, row.next()?, row.text.as_slice()),
-            "zeros" => self.put_zeros(alloc, row),
-            "stuck" => self.stop(),
-            _ => self.fail(row),
-        }
-    }
-
-    /// Says what fails at the next call.
-    fn fail(&mut self, row: &mut Row<'_>) -> Result<()> {
-        match row.command {
-            "fetch" => self.fetches.push(row.long()?)?,
-            "put" => self.puts.push(row.long()?)?,
-            "piece" => self.piece = row.number()? as usize,
-            _ => return Err(Error::msg("no command")),
-        }
+    /// At the next call standard output takes at most so many bytes a put.
+    fn narrow(&mut self, row: &mut Row<'_>) -> Result<()> {
+        self.piece = row.number()? as usize;
         Ok(())
     }
+}
+
+/// Puts the number of a row behind others.
+fn push(numbers: &mut Vec<u64>, row: &mut Row<'_>) -> Result<()> {
+    numbers.push(row.long()?)?;
+    Ok(())
 }
 
 impl Answers for Case {
@@ -123,21 +114,42 @@ impl Answers for Case {
         line: &str,
         out: &mut W,
     ) -> Result<()> {
-        if let Some(tells) = line.strip_prefix("bench:") {
-            writeln!(out, "{line}")?;
-            return put_benched(rt, alloc, tells, out);
+        let Some((call, rest)) = called(line) else {
+            let mut row = texts.row(alloc, line)?;
+            return put_row(rt, alloc, self, &mut row, out);
+        };
+        writeln!(out, "{line}")?;
+        match call {
+            Call::Bench => put_benched(rt, alloc, rest, out),
+            Call::Run => self.run(rt, alloc, rest, out),
+            Call::Ends => put_ends(rt, alloc, self, rest, out),
         }
-        if let Some(words) = line.strip_prefix("run ") {
-            writeln!(out, "{line}")?;
-            return self.run(rt, alloc, words, out);
-        }
-        if let Some(words) = line.strip_prefix("ends ") {
-            writeln!(out, "{line}")?;
-            return put_ends(rt, alloc, self, words, out);
-        }
-        let mut row = texts.row(alloc, line)?;
-        put_row(rt, alloc, self, &mut row, out)
     }
+}
+
+/// What a line calls.
+#[derive(Clone, Copy)]
+enum Call {
+    Bench,
+    Run,
+    Ends,
+}
+
+const CALLS: &[(&str, Call)] = &[
+    ("bench:", Call::Bench),
+    ("run ", Call::Run),
+    ("ends ", Call::Ends),
+];
+
+/// What a line calls, and what stands behind that; none where it is a row.
+fn called<'a>(line: &'a str) -> Option<(Call, &'a str)> {
+    for entry in CALLS {
+        let (begin, call) = *entry;
+        if let Some(rest) = line.strip_prefix(begin) {
+            return Some((call, rest));
+        }
+    }
+    None
 }
 
 /// Writes what `sample 1` answers by a bench that tells this.
@@ -151,6 +163,40 @@ fn put_benched<R: Threads + Sync, W: Write>(
     put_answer(&answer, out)
 }
 
+/// What a row asks for, or says.
+#[derive(Clone, Copy)]
+enum Command {
+    Explored,
+    ExploredFew,
+    Met,
+    Wires,
+    Sample,
+    SamplePlan,
+    Summary,
+    File,
+    Zeros,
+    Stuck,
+    Fetch,
+    Put,
+    Piece,
+}
+
+const COMMANDS: &[(&str, Command)] = &[
+    ("explored", Command::Explored),
+    ("explored_few", Command::ExploredFew),
+    ("met", Command::Met),
+    ("wires", Command::Wires),
+    ("sample", Command::Sample),
+    ("sample_plan", Command::SamplePlan),
+    ("summary", Command::Summary),
+    ("file", Command::File),
+    ("zeros", Command::Zeros),
+    ("stuck", Command::Stuck),
+    ("fetch", Command::Fetch),
+    ("put", Command::Put),
+    ("piece", Command::Piece),
+];
+
 /// Writes what a row asks for, or does what it says.
 fn put_row<R: Threads + Sync, W: Write>(
     rt: &R,
@@ -159,15 +205,20 @@ fn put_row<R: Threads + Sync, W: Write>(
     row: &mut Row<'_>,
     out: &mut W,
 ) -> Result<()> {
-    match row.command {
-        "explored" => put_explored(rt, alloc, row.text.as_slice(), WHOLE, out),
-        "explored_few" => put_explored(rt, alloc, row.text.as_slice(), FEW, out),
-        "met" => put_met(rt, alloc, row, out),
-        "wires" => put_expected(rt, alloc, row, out),
-        "sample" => put_sample(alloc, row, out),
-        "sample_plan" => written(out.write_all(plan_text())),
-        "summary" => put_summary(alloc, row.text.as_slice(), out),
-        _ => case.set(alloc, row),
+    match found(row.command, COMMANDS)? {
+        Command::Explored => put_explored(rt, alloc, row.text.as_slice(), WHOLE, out),
+        Command::ExploredFew => put_explored(rt, alloc, row.text.as_slice(), FEW, out),
+        Command::Met => put_met(rt, alloc, row, out),
+        Command::Wires => put_expected(rt, alloc, row, out),
+        Command::Sample => put_sample(alloc, row, out),
+        Command::SamplePlan => written(out.write_all(plan_text())),
+        Command::Summary => put_summary(alloc, row.text.as_slice(), out),
+        Command::File => case.put(alloc, row.next()?, row.text.as_slice()),
+        Command::Zeros => case.put_zeros(alloc, row),
+        Command::Stuck => case.stop(),
+        Command::Fetch => push(&mut case.fetches, row),
+        Command::Put => push(&mut case.puts, row),
+        Command::Piece => case.narrow(row),
     }
 }
 

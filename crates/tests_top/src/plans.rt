@@ -26,24 +26,33 @@ pub const FEW: Range = Range {
     high_multipliers: 0,
 };
 
-/// How many plans of a model are explored, and how many workers met meanwhile.
-fn meet<R: Threads + Sync>(
+/// How many plans of a model are explored.
+fn explored<R: Threads + Sync>(
     rt: &R,
     alloc: Global,
     model: &[u8],
     range: Range,
-) -> Result<(usize, u64)>
+    meeting: &Meeting,
+) -> Result<usize>
     requires { IsRange range }
 {
-    let meeting = Meeting::new(u64::from(range.pairs()).saturating_sub(1));
-    let Ok(checked) = accept(alloc, model) else {
-        return Err(Error::msg("the model is refused"));
-    };
-    let findings = explore(rt, alloc, &checked, range, &meeting)?;
-    Ok((findings.rows.as_slice().len(), meeting.met()))
+    match accept(alloc, model) {
+        Ok(checked) => {
+            let found = explore(rt, alloc, &checked, range, meeting);
+            drop(checked);
+            let findings = found?;
+            let count = findings.rows.as_slice().len();
+            drop(findings);
+            Ok(count)
+        }
+        Err(fault) => {
+            drop(fault);
+            Err(Error::msg("the model is refused"))
+        }
+    }
 }
 
-/// Writes these.
+/// Writes how many plans of a model are explored, and how many workers met meanwhile.
 pub fn put_explored<R: Threads + Sync, W: Write>(
     rt: &R,
     alloc: Global,
@@ -53,6 +62,8 @@ pub fn put_explored<R: Threads + Sync, W: Write>(
 ) -> Result<()>
     requires { IsRange range }
 {
-    let (explored, met) = meet(rt, alloc, model, range)?;
+    let meeting = Meeting::new(u64::from(range.pairs()).saturating_sub(1));
+    let explored = explored(rt, alloc, model, range, &meeting)?;
+    let met = meeting.met();
     written(writeln!(out, "{explored} plans, {met} workers met"))
 }
