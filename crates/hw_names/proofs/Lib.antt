@@ -1,3 +1,4 @@
 mod Named
 pub mod Places
+mod Plain
 pub mod Taking
