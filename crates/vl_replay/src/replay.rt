@@ -1,10 +1,11 @@
-ghost use Rattle.std.specs.Prelude.{◌≡◌, ◌≤◌, ◌<◌, ◌+◌, ◌*◌, ◌^◌, ℤ, IfOk, List, length};
+ghost use Rattle.std.specs.Prelude.{◌≡◌, ◌≤◌, ◌<◌, ◌+◌, ◌*◌, ◌^◌, ℤ, IfOk, OnOk, List, length};
 ghost use Rattle.vl_ast.specs.Conditions.{BreaksNone};
 ghost use Rattle.vl_ast.specs.Driven.{output_ports, stimulus_ports};
 ghost use Rattle.vl_ast.specs.Steps.{IsFirstRow};
 ghost use Rattle.vl_ast.specs.Windows.{Sample};
 ghost use Rattle.vl_eval.specs.Machine.{IsReady, row_of, source_of};
 ghost use Rattle.vl_replay.specs.Sampled.{Sampled, numbers_of};
+ghost use Rattle.vl_replay.specs.inner.Played.{IsDelay, IsScoreOf, IsWindow};
 
 use crate::playing::{Score, delay_of, play_sample, score_of, window_of};
 use crate::resting::play_ahead;
@@ -51,29 +52,60 @@ impl Replay {
         ensures source { IfOk result (λ replay. module_of replay ≡ source_of machine) }
         ensures stimulus { IfOk result (λ replay. stimulus_of replay ≡ stimulus) }
     {
-        let mut machine = machine;
-        let score = score_of(alloc, machine.module(), stimulus)?;
+        let score = match score_of(alloc, machine.module(), stimulus) {
+            Ok(score) => score,
+            Err(wanting) => {
+                drop(machine);
+                return Err(wanting);
+            }
+        };
         let delay = delay_of(&score);
         let window = window_of(&score, delay);
-        let mut bits = vec![in alloc; 0u128; score.drivers.len()]?;
-        let mut cells = vec![in alloc; 0i128; window as usize * score.samplers.len()]?;
-        play_ahead(
-            alloc,
-            &mut machine,
-            &score,
-            window,
-            delay,
-            &mut bits,
-            &mut cells,
-        )?;
-        Ok(Replay {
+        let mut replay = Replay {
             machine,
             score,
-            bits,
-            cells,
+            bits: Vec::new(alloc),
+            cells: Vec::new(alloc),
             window,
             delay,
-        })
+        };
+        match replay.begin(alloc) {
+            Ok(()) => Ok(replay),
+            Err(wanting) => {
+                drop(replay);
+                Err(wanting)
+            }
+        }
+    }
+
+    /// Takes the memory for numbers, and passes the clocks before the first that sample 0 waits for.
+    fn begin(&mut self, alloc: Global) -> Result<(), OutOfMemory>
+        requires ready { IsReady self.old.machine }
+        requires row { IsFirstRow (module_of self.old) (λ name. 0) (λ name. 0)
+            (row_of self.old.machine) }
+        requires outputs { length (output_ports (module_of self.old)) < 2 ^ 32 }
+        requires score { IsScoreOf (module_of self.old) self.old.score }
+        requires few { (stimulus_of self.old).lines ≤ 50000000 }
+        requires delay { IsDelay self.old.score self.old.delay }
+        requires window { IsWindow self.old.score self.old.delay self.old.window }
+        ensures stands { OnOk result (StandsBefore self.new 0) }
+        ensures source { OnOk result (module_of self.new ≡ module_of self.old) }
+        ensures stimulus { OnOk result (stimulus_of self.new ≡ stimulus_of self.old) }
+    {
+        let bits = vec![in alloc; 0u128; self.score.drivers.len()]?;
+        self.bits = bits;
+        let cells = vec![in alloc; 0i128; self.window as usize * self.score.samplers.len()]?;
+        self.cells = cells;
+        play_ahead(
+            alloc,
+            &mut self.machine,
+            &self.score,
+            self.window,
+            self.delay,
+            &mut self.bits,
+            &mut self.cells,
+        )?;
+        Ok(())
     }
 
     /// Goes on to the next sample. It takes no memory.

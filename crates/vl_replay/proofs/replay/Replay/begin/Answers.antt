@@ -1,0 +1,37 @@
+use Rattle.std.proofs.Common.{◌≡◌, ◌+◌, ◌*◌, ℤ, ℕ, List, length, ap, sym, subst, ◌∙◌, arith}
+use Rattle.std.proofs.lemmas.List.{with_items_is}
+use Rattle.vl_replay.specs.inner.Played.{IsPlayed}
+use Rattle.vl_replay.proofs.replay.Replay.begin.Goals as goal
+
+pub play_ahead-requires : goal.play_ahead-requires
+play_ahead-requires c =
+    let replay = c.args.self.now in
+    let score = replay.score in
+    record {
+      ready = c.requires.ready;
+      score = c.requires.score;
+      row = c.requires.row;
+      some = c.requires.window.some;
+      room = c.deref_mut-2.ensures.len ∙ c.in_ok-cells.ensures.len ∙ ap (λ (n : ℕ). replay.window * n) (c.len-2.ensures ∙ score.samplers.ok.0);
+      wide = c.deref_mut.ensures.len ∙ c.in_ok-bits.ensures.len ∙ c.len.ensures ∙ score.drivers.ok.0;
+      few = c.requires.few;
+      late = c.requires.delay.few;
+    }
+
+pub returns-clause-stands : goal.returns-clause-stands
+returns-clause-stands c =
+    let replay = c.args.self.now in
+    let score = replay.score in
+    let bits = c.in_ok-bits.bits in
+    let cells = c.in_ok-cells.cells in
+    let many : length c.play_ahead.new.bits ≡ bits.len = c.play_ahead.auto.bits ∙ c.deref_mut.ensures.len in
+    let long : length c.play_ahead.new.cells ≡ cells.len = c.play_ahead.auto.cells ∙ c.deref_mut-2.ensures.len in
+    let first : replay.delay ≡ 0 + replay.delay = omega arith in
+    record {
+      few = c.requires.few;
+      wide = ap length (with_items_is bits c.play_ahead.new.bits many) ∙ many ∙ c.in_ok-bits.ensures.len ∙ c.len.ensures ∙ score.drivers.ok.0;
+      delay = c.requires.delay;
+      window = c.requires.window;
+      played = subst (λ (items : List ℤ). IsPlayed score replay.window ((0 + replay.delay) * score.cycles) c.play_ahead.new.machine items) (sym (with_items_is cells c.play_ahead.new.cells long))
+          (subst (λ (n : ℕ). IsPlayed score replay.window (n * score.cycles) c.play_ahead.new.machine c.play_ahead.new.cells) first c.in_ok-play_ahead.ensures.played);
+    }
