@@ -35,12 +35,7 @@ fn counter<'a>(source: Source<'a>, frame: Frame) -> Operand<'a>
 }
 
 /// Whether the clock is that of a slot of the frame.
-pub fn slot_test(
-    alloc: Global,
-    source: Source,
-    frame: Frame,
-    slot: u64,
-) -> Result<Expr, OutOfMemory>
+fn slot_test(alloc: Global, source: Source, frame: Frame, slot: u64) -> Result<Expr, OutOfMemory>
     requires source { IsSource source }
     requires timed { IsTimed (circuit_of source) frame }
     ensures { IfOk result (λ e. e ≡ slot_in source.entry frame slot) }
@@ -74,22 +69,15 @@ pub fn live_test(
     binary(alloc, BinOp::GreaterEqual, name, number)
 }
 
-/// The name of the clock enable as a text.
-pub fn enable_text(alloc: Global) -> Result<Text, OutOfMemory>
-    ensures { IfOk result (λ text. text ≡ codes "clk_enable") }
-{
-    Text::copy(alloc, b"clk_enable")
-}
-
 /// The name of the clock enable.
 pub fn enable(alloc: Global) -> Result<Expr, OutOfMemory>
     ensures { IfOk result (λ e. e ≡ gated_condition None) }
 {
-    Ok(Expr::Name(enable_text(alloc)?))
+    Ok(Expr::Name(Text::copy(alloc, b"clk_enable")?))
 }
 
 /// A condition of a register, with the clock enable before it.
-pub fn enabled(alloc: Global, condition: Expr) -> Result<Expr, OutOfMemory>
+fn enabled(alloc: Global, condition: Expr) -> Result<Expr, OutOfMemory>
     ensures { IfOk result (λ e. e ≡ gated_condition (Some condition)) }
 {
     let condition = Boxed::new(alloc, condition)?;
@@ -107,7 +95,7 @@ pub fn last_slot(source: Source, frame: Frame) -> u64
 }
 
 /// Whether the clock is that of the last slot of the frame, and `enable` isn't 0.
-pub fn taking(alloc: Global, source: Source, frame: Frame, enable: u32) -> Result<Expr, OutOfMemory>
+fn taking(alloc: Global, source: Source, frame: Frame, enable: u32) -> Result<Expr, OutOfMemory>
     requires source { IsSource source }
     requires timed { IsTimed (circuit_of source) frame }
     requires enable { enable < net_count source }
@@ -119,4 +107,35 @@ pub fn taking(alloc: Global, source: Source, frame: Frame, enable: u32) -> Resul
     let last = Boxed::new(alloc, last)?;
     let test = Boxed::new(alloc, test_of(alloc, operand(source, enable as usize))?)?;
     Ok(Expr::Binary(BinOp::Both, last, test))
+}
+
+/// Whether the clock is enabled, and that of a slot of the frame.
+pub fn enabled_slot(
+    alloc: Global,
+    source: Source,
+    frame: Frame,
+    slot: u64,
+) -> Result<Expr, OutOfMemory>
+    requires source { IsSource source }
+    requires timed { IsTimed (circuit_of source) frame }
+    ensures { IfOk result (λ e. e ≡ gated_condition (Some (slot_in source.entry frame slot))) }
+{
+    enabled(alloc, slot_test(alloc, source, frame, slot)?)
+}
+
+/// Whether the clock is enabled, and the last of a frame's, and `enable` isn't 0.
+pub fn enabled_taking(
+    alloc: Global,
+    source: Source,
+    frame: Frame,
+    enable: u32,
+) -> Result<Expr, OutOfMemory>
+    requires source { IsSource source }
+    requires timed { IsTimed (circuit_of source) frame }
+    requires enable { enable < net_count source }
+    ensures { IfOk result (λ e. e ≡ gated_condition (Some (Binary Both
+        (slot_in source.entry frame (frame.period * cycles_in source.entry - 1))
+        (test_of (wire_in source.entry enable))))) }
+{
+    enabled(alloc, taking(alloc, source, frame, enable)?)
 }

@@ -1,7 +1,11 @@
 //! What drives each net.
-ghost use Rattle.std.specs.Prelude.{◌≡◌, ◌++◌, ◌<◌, ℕ, true, false, length, get_or, IfOk, OnOk};
+ghost use Rattle.std.specs.Prelude.{◌≡◌, ◌++◌, ◌<◌, ◌∷◌, [], ℕ, List, Some, true, false, length, get_or};
+ghost use Rattle.std.specs.Prelude.{IfOk, OnOk};
 ghost use Rattle.vl_ast.specs.declared.expressions.BinOp.TheVariants.{Subtract};
+ghost use Rattle.vl_ast.specs.declared.expressions.Expr.{Expr};
+ghost use Rattle.vl_ast.specs.declared.expressions.Sized.{Sized};
 ghost use Rattle.vl_ast.specs.declared.expressions.Expr.TheVariants.{Name, Literal, Binary, Choose};
+ghost use Rattle.vl_ast.specs.declared.modules.ModItem.TheVariants.{Always};
 ghost use Rattle.hw_net.specs.declared.netlist.NetOp.TheVariants.{Input};
 ghost use Rattle.hw_net.specs.declared.netlist.NetKind.TheVariants.{Comb, Reg, EnReg, Bridge};
 ghost use Rattle.hw_net.specs.declared.netlist.NetKind.TheVariants.{Unit, Counter};
@@ -13,11 +17,11 @@ ghost use Rattle.vl_emit.specs.inner.Operators.{test_of};
 ghost use Rattle.vl_emit.specs.Names.{hold_name};
 ghost use Rattle.vl_emit.specs.inner.Spoken.{wire_at, CanBeWritten};
 
-use crate::conditions::{clocks, enable_text, enabled, last_slot, live_test, slot_test, taking};
+use crate::conditions::{clocks, enable, enabled_slot, enabled_taking, last_slot, live_test};
 use crate::operands::{Operand, hold_text, named, text_of};
 use crate::operators::{binary, constant, expression, in_width, plain, test_of};
 use crate::source::{Source, input_operand, operand};
-use fx_io::{Boxed, OutOfMemory};
+use fx_io::{Boxed, OutOfMemory, Text};
 use hw_net::{Frame, NetOp};
 use std::alloc::Global;
 use vl_ast::{BinOp, Expr, ModItem, ModItems, Sized};
@@ -132,6 +136,49 @@ fn counted(alloc: Global, net: Operand, greatest: Sized) -> Result<Expr, OutOfMe
     Ok(Expr::Choose(test, less, Boxed::new(alloc, Expr::Literal(greatest))?))
 }
 
+/// The item of a register of these parts, each of which may have wanted memory.
+fn register(
+    name: Result<Text, OutOfMemory>,
+    first: Sized,
+    condition: Result<Expr, OutOfMemory>,
+    value: Result<Expr, OutOfMemory>,
+) -> Result<ModItem, OutOfMemory>
+    ensures { (text : List ℕ) (number : Sized) (test taken : Expr) → first ≡ number
+        → IfOk name (λ made. made ≡ text) → IfOk condition (λ made. made ≡ test)
+        → IfOk value (λ made. made ≡ taken)
+        → IfOk result (λ item. item ∷ [] ≡ Always text number (Some test) taken ∷ []) }
+{
+    let name = match name {
+        Ok(name) => name,
+        Err(wanting) => {
+            drop(condition);
+            drop(value);
+            return Err(wanting);
+        }
+    };
+    let condition = match condition {
+        Ok(condition) => Some(condition),
+        Err(wanting) => {
+            drop(name);
+            drop(value);
+            return Err(wanting);
+        }
+    };
+    match value {
+        Ok(value) => Ok(ModItem::Always {
+            name,
+            first,
+            condition,
+            value,
+        }),
+        Err(wanting) => {
+            drop(name);
+            drop(condition);
+            Err(wanting)
+        }
+    }
+}
+
 /// The item of a Counter.
 pub fn counter_item(
     alloc: Global,
@@ -147,15 +194,12 @@ pub fn counter_item(
     let net = operand(source, own);
     let top = u128::from(clocks(source, frame) - 1);
     let start = u128::from(frame.latency) * u128::from(source.netlist.cycles());
-    let name = text_of(alloc, net.called)?;
-    let counting = enable_text(alloc)?;
-    let value = counted(alloc, net, plain(net.width, top))?;
-    Ok(ModItem::Always {
-        name,
-        first: plain(net.width, start + top),
-        condition: Some(Expr::Name(counting)),
-        value,
-    })
+    register(
+        text_of(alloc, net.called),
+        plain(net.width, start + top),
+        enable(alloc),
+        counted(alloc, net, plain(net.width, top)),
+    )
 }
 
 /// The item of a register.
@@ -174,15 +218,12 @@ pub fn reg_item(
     ensures { IfOk result (IsDriver source.entry own (Reg frame slot first from)) }
 {
     let net = &source.netlist.nets()[own];
-    let name = text_of(alloc, operand(source, own).called)?;
-    let taken = text_of(alloc, operand(source, from as usize).called)?;
-    let test = slot_test(alloc, source, frame, u64::from(slot))?;
-    Ok(ModItem::Always {
-        name,
-        first: constant(net.width, net.signed, first),
-        condition: Some(enabled(alloc, test)?),
-        value: Expr::Name(taken),
-    })
+    register(
+        text_of(alloc, operand(source, own).called),
+        constant(net.width, net.signed, first),
+        enabled_slot(alloc, source, frame, u64::from(slot)),
+        named(alloc, operand(source, from as usize)),
+    )
 }
 
 /// What a register takes that begins anew: the value of a net where `enable` isn't 0, else `begun`.
@@ -221,17 +262,12 @@ pub fn reset_item(
 {
     let net = &source.netlist.nets()[own];
     let begun = constant(net.width, net.signed, first);
-    let name = text_of(alloc, operand(source, own).called)?;
-    let test = slot_test(alloc, source, frame, last_slot(source, frame))?;
-    let test = Boxed::new(alloc, test)?;
-    let counting = Boxed::new(alloc, Expr::Name(enable_text(alloc)?))?;
-    let value = renewed(alloc, source, enable, from, begun)?;
-    Ok(ModItem::Always {
-        name,
-        first: begun,
-        condition: Some(Expr::Binary(BinOp::Both, counting, test)),
-        value,
-    })
+    register(
+        text_of(alloc, operand(source, own).called),
+        constant(net.width, net.signed, first),
+        enabled_slot(alloc, source, frame, last_slot(source, frame)),
+        renewed(alloc, source, enable, from, begun),
+    )
 }
 
 /// The item of a register with enable that keeps its value where `enable` is 0.
@@ -250,15 +286,12 @@ pub fn held_item(
     ensures { IfOk result (IsDriver source.entry own (EnReg frame enable false first from)) }
 {
     let net = &source.netlist.nets()[own];
-    let name = text_of(alloc, operand(source, own).called)?;
-    let taken = text_of(alloc, operand(source, from as usize).called)?;
-    let condition = taking(alloc, source, frame, enable)?;
-    Ok(ModItem::Always {
-        name,
-        first: constant(net.width, net.signed, first),
-        condition: Some(enabled(alloc, condition)?),
-        value: Expr::Name(taken),
-    })
+    register(
+        text_of(alloc, operand(source, own).called),
+        constant(net.width, net.signed, first),
+        enabled_taking(alloc, source, frame, enable),
+        named(alloc, operand(source, from as usize)),
+    )
 }
 
 /// What a bridge shows: another net where it is live, else what its register holds.
@@ -303,11 +336,11 @@ pub fn put_bridge(
     items.push(ModItem::Assign { name, value })?;
     let name = hold_text(alloc, own)?;
     let shown = text_of(alloc, net.called)?;
-    let counting = enable_text(alloc)?;
+    let counting = enable(alloc)?;
     items.push(ModItem::Always {
         name,
         first: plain(net.width, 0),
-        condition: Some(Expr::Name(counting)),
+        condition: Some(counting),
         value: Expr::Name(shown),
     })
 }

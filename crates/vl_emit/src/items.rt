@@ -1,6 +1,7 @@
 //! The items of a netlist's module: declarations, then the drivers of Unit nets, then the other
 //! drivers, then the output ports, then `ce_out`.
-ghost use Rattle.std.specs.Prelude.{◌≡◌, ◌++◌, ◌<◌, ◌∷◌, [], length, map, IfOk, OnOk};
+ghost use Rattle.std.specs.Prelude.{◌≡◌, ◌++◌, ◌<◌, ◌∷◌, [], List, length, map, IfOk, OnOk};
+ghost use Rattle.vl_ast.specs.declared.modules.ModItem.{ModItem};
 ghost use Rattle.vl_ast.specs.declared.modules.ModItem.TheVariants.{Wire, Reg};
 ghost use Rattle.vl_ast.specs.Gated.{gated_item, shows_enable};
 ghost use Rattle.vl_emit.specs.inner.Emitted.{items_of};
@@ -64,6 +65,14 @@ fn declare(
     }
 }
 
+/// Puts an item behind the others, which may have wanted memory.
+fn put(items: &mut ModItems, made: Result<ModItem, OutOfMemory>) -> Result<(), OutOfMemory>
+    ensures { (driven : List ModItem) → IfOk made (λ item. item ∷ [] ≡ driven)
+        → OnOk result (items.new ≡ items.old ++ driven) }
+{
+    items.push(made?)
+}
+
 /// The driver of a Unit net, before those of the others.
 fn drive_unit(
     alloc: Global,
@@ -76,9 +85,7 @@ fn drive_unit(
     ensures { OnOk result (items.new ≡ items.old ++ units_in source.entry own) }
 {
     match &source.netlist.nets()[own].kind {
-        NetKind::Unit { left, right } => {
-            items.push(unit_item(alloc, source, own, *left, *right)?)
-        }
+        NetKind::Unit { left, right } => put(items, unit_item(alloc, source, own, *left, *right)),
         NetKind::Comb { .. }
         | NetKind::Reg { .. }
         | NetKind::EnReg { .. }
@@ -96,29 +103,38 @@ fn drive(alloc: Global, source: Source, items: &mut ModItems, own: usize) -> Res
     match &source.netlist.nets()[own].kind {
         NetKind::Unit { .. } => Ok(()),
         NetKind::Comb { op, args } => {
-            items.push(comb_item(alloc, source, own, *op, args.as_slice())?)
+            put(items, comb_item(alloc, source, own, *op, args.as_slice()))
         }
-        NetKind::Counter { frame } => items.push(counter_item(alloc, source, own, *frame)?),
+        NetKind::Counter { frame } => put(items, counter_item(alloc, source, own, *frame)),
         NetKind::Reg {
             frame,
             slot,
             first,
             from,
-        } => items.push(reg_item(alloc, source, own, *frame, *slot, *first, *from)?),
+        } => put(
+            items,
+            reg_item(alloc, source, own, *frame, *slot, *first, *from),
+        ),
         NetKind::EnReg {
             frame,
             enable,
             reset: true,
             first,
             from,
-        } => items.push(reset_item(alloc, source, own, *frame, *enable, *first, *from)?),
+        } => put(
+            items,
+            reset_item(alloc, source, own, *frame, *enable, *first, *from),
+        ),
         NetKind::EnReg {
             frame,
             enable,
             reset: false,
             first,
             from,
-        } => items.push(held_item(alloc, source, own, *frame, *enable, *first, *from)?),
+        } => put(
+            items,
+            held_item(alloc, source, own, *frame, *enable, *first, *from),
+        ),
         NetKind::Bridge { frame, live, from } => {
             put_bridge(alloc, source, items, own, *frame, *live, *from)
         }
