@@ -2,6 +2,7 @@
 ghost use Rattle.std.specs.Prelude.{◌≡◌, ◌<◌, ◌-◌, ◌*◌, codes, IfOk, Some, None};
 ghost use Rattle.vl_ast.specs.Gated.{gated_condition};
 ghost use Rattle.vl_ast.specs.declared.expressions.BinOp.TheVariants.{Both};
+ghost use Rattle.vl_ast.specs.declared.expressions.Expr.{Expr};
 ghost use Rattle.vl_ast.specs.declared.expressions.Expr.TheVariants.{Binary};
 ghost use Rattle.vl_emit.specs.inner.Operators.{test_of};
 ghost use Rattle.vl_emit.specs.inner.Ready.{IsSource, IsTimed, circuit_of, net_count, cycles_in};
@@ -11,7 +12,7 @@ ghost use Rattle.vl_emit.specs.inner.Spoken.{wire_at, CanBeWritten};
 use crate::operands::{Operand, named, zeros};
 use crate::operators::{binary, plain, test_of};
 use crate::source::{Source, operand};
-use fx_io::{Boxed, OutOfMemory, Text};
+use fx_io::{OutOfMemory, Text};
 use hw_net::Frame;
 use std::alloc::Global;
 use vl_ast::{BinOp, Expr};
@@ -45,9 +46,8 @@ fn slot_test(alloc: Global, source: Source, frame: Frame, slot: u64) -> Result<E
         return Ok(zeros(1));
     }
     let counter = counter(source, frame);
-    let name = named(alloc, counter)?;
     let number = Expr::Literal(plain(counter.width, u128::from(clocks - 1 - slot)));
-    binary(alloc, BinOp::Equal, name, number)
+    binary(alloc, BinOp::Equal, named(alloc, counter), Ok(number))
 }
 
 /// Whether the clock is before a frame or among its first `live` base samples.
@@ -64,9 +64,13 @@ pub fn live_test(
     let left = u64::from(frame.period.saturating_sub(live));
     let bound = left * u64::from(source.netlist.cycles());
     let counter = counter(source, frame);
-    let name = named(alloc, counter)?;
     let number = Expr::Literal(plain(counter.width, u128::from(bound)));
-    binary(alloc, BinOp::GreaterEqual, name, number)
+    binary(
+        alloc,
+        BinOp::GreaterEqual,
+        named(alloc, counter),
+        Ok(number),
+    )
 }
 
 /// The name of the clock enable.
@@ -76,13 +80,12 @@ pub fn enable(alloc: Global) -> Result<Expr, OutOfMemory>
     Ok(Expr::Name(Text::copy(alloc, b"clk_enable")?))
 }
 
-/// A condition of a register, with the clock enable before it.
-fn enabled(alloc: Global, condition: Expr) -> Result<Expr, OutOfMemory>
-    ensures { IfOk result (λ e. e ≡ gated_condition (Some condition)) }
+/// A condition of a register, which may have wanted memory, with the clock enable before it.
+fn enabled(alloc: Global, condition: Result<Expr, OutOfMemory>) -> Result<Expr, OutOfMemory>
+    ensures { (test : Expr) → IfOk condition (λ e. e ≡ test)
+        → IfOk result (λ e. e ≡ gated_condition (Some test)) }
 {
-    let condition = Boxed::new(alloc, condition)?;
-    let enable = Boxed::new(alloc, enable(alloc)?)?;
-    Ok(Expr::Binary(BinOp::Both, enable, condition))
+    binary(alloc, BinOp::Both, enable(alloc), condition)
 }
 
 /// The last slot of a frame.
@@ -103,10 +106,9 @@ fn taking(alloc: Global, source: Source, frame: Frame, enable: u32) -> Result<Ex
         (slot_in source.entry frame (frame.period * cycles_in source.entry - 1))
         (test_of (wire_in source.entry enable))) }
 {
-    let last = slot_test(alloc, source, frame, last_slot(source, frame))?;
-    let last = Boxed::new(alloc, last)?;
-    let test = Boxed::new(alloc, test_of(alloc, operand(source, enable as usize))?)?;
-    Ok(Expr::Binary(BinOp::Both, last, test))
+    let last = slot_test(alloc, source, frame, last_slot(source, frame));
+    let test = test_of(alloc, operand(source, enable as usize));
+    binary(alloc, BinOp::Both, last, test)
 }
 
 /// Whether the clock is enabled, and that of a slot of the frame.
@@ -120,7 +122,7 @@ pub fn enabled_slot(
     requires timed { IsTimed (circuit_of source) frame }
     ensures { IfOk result (λ e. e ≡ gated_condition (Some (slot_in source.entry frame slot))) }
 {
-    enabled(alloc, slot_test(alloc, source, frame, slot)?)
+    enabled(alloc, slot_test(alloc, source, frame, slot))
 }
 
 /// Whether the clock is enabled, and the last of a frame's, and `enable` isn't 0.
@@ -137,5 +139,5 @@ pub fn enabled_taking(
         (slot_in source.entry frame (frame.period * cycles_in source.entry - 1))
         (test_of (wire_in source.entry enable))))) }
 {
-    enabled(alloc, taking(alloc, source, frame, enable)?)
+    enabled(alloc, taking(alloc, source, frame, enable))
 }

@@ -19,9 +19,9 @@ ghost use Rattle.vl_emit.specs.inner.Spoken.{wire_at, CanBeWritten};
 
 use crate::conditions::{clocks, enable, enabled_slot, enabled_taking, last_slot, live_test};
 use crate::operands::{Operand, hold_text, named, text_of};
-use crate::operators::{binary, constant, expression, in_width, plain, test_of};
+use crate::operators::{binary, choose, constant, expression, in_width, plain, test_of};
 use crate::source::{Source, input_operand, operand};
-use fx_io::{Boxed, OutOfMemory, Text};
+use fx_io::{OutOfMemory, Text};
 use hw_net::{Frame, NetOp};
 use std::alloc::Global;
 use vl_ast::{BinOp, Expr, ModItem, ModItems, Sized};
@@ -124,16 +124,10 @@ fn counted(alloc: Global, net: Operand, greatest: Sized) -> Result<Expr, OutOfMe
         (Binary Subtract (Name (wire_at net.entry).name) (Literal (plain_number net.entry.width 1)))
         (Literal greatest)) }
 {
-    let test = Boxed::new(alloc, test_of(alloc, net)?)?;
-    let name = named(alloc, net)?;
-    let less = binary(
-        alloc,
-        BinOp::Subtract,
-        name,
-        Expr::Literal(plain(net.width, 1)),
-    )?;
-    let less = Boxed::new(alloc, less)?;
-    Ok(Expr::Choose(test, less, Boxed::new(alloc, Expr::Literal(greatest))?))
+    let one = Expr::Literal(plain(net.width, 1));
+    let less = binary(alloc, BinOp::Subtract, named(alloc, net), Ok(one));
+    let greatest = Expr::Literal(greatest);
+    choose(alloc, test_of(alloc, net), less, Ok(greatest))
 }
 
 /// The item of a register of these parts, each of which may have wanted memory.
@@ -240,9 +234,9 @@ fn renewed(
     ensures { IfOk result (λ e. e ≡ Choose (test_of (wire_in source.entry enable))
         (Name (wire_in source.entry from).name) (Literal begun)) }
 {
-    let test = Boxed::new(alloc, test_of(alloc, operand(source, enable as usize))?)?;
-    let taken = Boxed::new(alloc, named(alloc, operand(source, from as usize))?)?;
-    Ok(Expr::Choose(test, taken, Boxed::new(alloc, Expr::Literal(begun))?))
+    let test = test_of(alloc, operand(source, enable as usize));
+    let taken = named(alloc, operand(source, from as usize));
+    choose(alloc, test, taken, Ok(Expr::Literal(begun)))
 }
 
 /// The item of a register with enable that begins anew where `enable` is 0.
@@ -309,10 +303,10 @@ fn bridged(
     ensures { IfOk result (λ e. e ≡ Choose (live_in source.entry frame live)
         (Name (wire_in source.entry from).name) (Name (hold_name own))) }
 {
-    let test = Boxed::new(alloc, live_test(alloc, source, frame, live)?)?;
-    let passed = Boxed::new(alloc, named(alloc, operand(source, from as usize))?)?;
     let held = Expr::Name(hold_text(alloc, own)?);
-    Ok(Expr::Choose(test, passed, Boxed::new(alloc, held)?))
+    let test = live_test(alloc, source, frame, live);
+    let passed = named(alloc, operand(source, from as usize));
+    choose(alloc, test, passed, Ok(held))
 }
 
 /// Puts the items of a bridge behind the others: its wire, and the register that holds its value.

@@ -1,6 +1,7 @@
 ghost use Rattle.std.specs.Prelude.{◌≡◌, ◌+◌, ◌-◌, ◌*◌, ◌≤◌, ◌<◌, ◌^◌, false, IfOk};
 ghost use Rattle.fx_num.specs.Word.{IsWord};
-ghost use Rattle.vl_ast.specs.declared.expressions.Expr.TheVariants.{Unary, Binary};
+ghost use Rattle.vl_ast.specs.declared.expressions.Expr.{Expr};
+ghost use Rattle.vl_ast.specs.declared.expressions.Expr.TheVariants.{Unary, Binary, Choose};
 ghost use Rattle.hw_net.specs.declared.netlist.NetOp.TheVariants.{Less, Equal};
 ghost use Rattle.vl_emit.specs.inner.Operators.{compared, widened, signed_width, common_width};
 ghost use Rattle.vl_emit.specs.inner.Operators.{test_of, slice_at, shifted_up};
@@ -47,13 +48,43 @@ fn unary(alloc: Global, op: UnOp, operand: Operand, width: u32) -> Result<Expr, 
     Ok(Expr::Unary(op, Boxed::new(alloc, part)?))
 }
 
-/// `left op right`
-pub fn binary(alloc: Global, op: BinOp, left: Expr, right: Expr) -> Result<Expr, OutOfMemory>
-    ensures { IfOk result (λ e. e ≡ Binary op left right) }
+/// An expression in its box, if memory wasn't wanting for it.
+fn boxed(alloc: Global, made: Result<Expr, OutOfMemory>) -> Result<Boxed<Expr>, OutOfMemory>
+    ensures { (part : Expr) → IfOk made (λ e. e ≡ part) → IfOk result (λ e. e ≡ part) }
 {
-    let left = Boxed::new(alloc, left);
-    let right = Boxed::new(alloc, right);
+    Boxed::new(alloc, made?)
+}
+
+/// `left op right`, of operands each of which may have wanted memory.
+pub fn binary(
+    alloc: Global,
+    op: BinOp,
+    left: Result<Expr, OutOfMemory>,
+    right: Result<Expr, OutOfMemory>,
+) -> Result<Expr, OutOfMemory>
+    ensures { (one other : Expr) → IfOk left (λ e. e ≡ one) → IfOk right (λ e. e ≡ other)
+        → IfOk result (λ e. e ≡ Binary op one other) }
+{
+    let left = boxed(alloc, left);
+    let right = boxed(alloc, right);
     Ok(Expr::Binary(op, left?, right?))
+}
+
+/// `test ? chosen : other`, of operands each of which may have wanted memory.
+pub fn choose(
+    alloc: Global,
+    test: Result<Expr, OutOfMemory>,
+    chosen: Result<Expr, OutOfMemory>,
+    other: Result<Expr, OutOfMemory>,
+) -> Result<Expr, OutOfMemory>
+    ensures { (first second third : Expr) → IfOk test (λ e. e ≡ first)
+        → IfOk chosen (λ e. e ≡ second) → IfOk other (λ e. e ≡ third)
+        → IfOk result (λ e. e ≡ Choose first second third) }
+{
+    let test = boxed(alloc, test);
+    let chosen = boxed(alloc, chosen);
+    let other = boxed(alloc, other);
+    Ok(Expr::Choose(test?, chosen?, other?))
 }
 
 fn compared(alloc: Global, signed: bool, part: Expr) -> Result<Expr, OutOfMemory>
@@ -78,9 +109,9 @@ pub fn in_width(
     requires width { HasRoom width }
     ensures { IfOk result (λ e. e ≡ both_at op width left.entry right.entry) }
 {
-    let left = Boxed::new(alloc, at_width(alloc, left, width)?)?;
-    let right = Boxed::new(alloc, at_width(alloc, right, width)?)?;
-    Ok(Expr::Binary(op, left, right))
+    let left = at_width(alloc, left, width);
+    let right = at_width(alloc, right, width);
+    binary(alloc, op, left, right)
 }
 
 fn widened(alloc: Global, width: u32, bit: Expr) -> Result<Expr, OutOfMemory>
@@ -123,11 +154,11 @@ pub fn test_of(alloc: Global, operand: Operand) -> Result<Expr, OutOfMemory>
     requires { CanBeWritten operand }
     ensures { IfOk result (λ e. e ≡ test_of (wire_at operand.entry)) }
 {
-    let name = named(alloc, operand)?;
+    let name = named(alloc, operand);
     if operand.width == 1 {
-        return Ok(name);
+        return name;
     }
-    binary(alloc, BinOp::NotEqual, name, zeros(operand.width))
+    binary(alloc, BinOp::NotEqual, name, Ok(zeros(operand.width)))
 }
 
 fn less(alloc: Global, left: Operand, right: Operand, width: u32) -> Result<Expr, OutOfMemory>
@@ -168,10 +199,10 @@ fn choice(
     requires width { HasRoom width }
     ensures { IfOk result (λ e. e ≡ choice_at width test.entry chosen.entry other.entry) }
 {
-    let test = Boxed::new(alloc, test_of(alloc, test)?)?;
-    let chosen = Boxed::new(alloc, at_width(alloc, chosen, width)?)?;
-    let other = Boxed::new(alloc, at_width(alloc, other, width)?)?;
-    Ok(Expr::Choose(test, chosen, other))
+    let test = test_of(alloc, test);
+    let chosen = at_width(alloc, chosen, width);
+    let other = at_width(alloc, other, width);
+    choose(alloc, test, chosen, other)
 }
 
 fn shifted_up(alloc: Global, operand: Operand, places: u8, width: u32) -> Result<Expr, OutOfMemory>
