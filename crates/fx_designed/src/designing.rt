@@ -103,10 +103,18 @@ pub fn designed_of(alloc: Global, model: &[u8], plan: &[u8]) -> Result<Designed,
     };
     let plan = match plan_of(alloc, plan) {
         Ok(plan) => plan,
-        Err(fault) => return Err(fault),
+        Err(fault) => {
+            drop(checked);
+            return Err(fault);
+        }
     };
-    match planned_on(alloc, &checked, &plan) {
+    let planned = planned_on(alloc, &checked, &plan);
+    drop(plan);
+    match planned {
         Ok(planned) => Ok(Designed { checked, planned }),
-        Err(fault) => Err(fault),
+        Err(fault) => {
+            drop(checked);
+            Err(fault)
+        }
     }
 }
