@@ -1,13 +1,14 @@
 -- Rows of sources and readers once one more block reads one more source.
-use Rattle.std.proofs.Common.{◌≡◌, ℕ, ◌<◌, ⊎_elim, true, List, [], ◌∷◌, ◌++◌, length, Some, refl, sym, ap, subst, ◌∙◌, arith}
+use Rattle.std.proofs.Common.{◌≡◌, ℕ, ◌+◌, ◌<◌, ⊎_elim, true, List, [], ◌∷◌, ◌++◌, length, get_or, Some, refl, sym, ap, subst, ◌∙◌, arith}
 use Rattle.std.specs.Prelude.{All, slice_get}
-use Rattle.std.proofs.lemmas.Bool.{cases_eq}
+use Rattle.std.proofs.Math.Seq.{get_or-append_seam}
+use Rattle.std.proofs.lemmas.Bool.{cases_eq, cases_lt}
 use Rattle.std.proofs.lemmas.Grind.{get_or-set_at}
-use Rattle.std.proofs.lemmas.List.{get_or-set_other, length-set}
+use Rattle.std.proofs.lemmas.List.{get_or-set_other, get_or_append_left, length-append, length-set}
 use Rattle.std.proofs.lemmas.List.Elements.{All-push}
 use Rattle.dg_waves.specs.inner.Waves.{is_in}
 use Rattle.dg_waves.proofs.Waved.{is_in_push, is_in_last, pushed_at}
-use Rattle.dg_rates.specs.inner.Links.{AreTied}
+use Rattle.dg_rates.specs.inner.Links.{AreOwn, AreTied}
 use Rattle.fx_io.specs.Rows.{row_at, noted}
 
 pub noted_here : (rows : List (List ℕ)) (block number k : ℕ) → block < length rows → k ≡ block → row_at (noted rows block number) k ≡ row_at rows k ++ number ∷ []
@@ -26,6 +27,21 @@ each_row P rows block number inside before more k =
     (λ same. subst (P k) (sym (noted_here rows block number k inside same)) (more k same (before k)))
     (λ other. subst (P k) (sym (noted_other rows block number k other)) (before k))
     (cases_eq k block)
+
+-- rows that have their own number alone, and one more that has its own
+pub own_more : (count : ℕ) (rows : List (List ℕ)) (own : List ℕ) → own ≡ count ∷ [] → AreOwn count rows → AreOwn (count + 1) (rows ++ own ∷ [])
+own_more count rows own is before = record {
+  size = length-append rows (own ∷ []) ∙ ap (λ n. n + 1) before.size;
+  own = λ block below.
+      ⊎_elim
+      (λ inner. get_or_append_left rows (own ∷ []) [] block (omega (arith, inner, before.size)) ∙ before.own block inner)
+      (λ past. last block (omega (arith, past, below)))
+      (cases_lt block count);
+}
+  where
+    last : (block : ℕ) → count ≡ block → get_or (rows ++ own ∷ []) block [] ≡ block ∷ []
+    last block same =
+        subst (λ (k : ℕ). get_or (rows ++ own ∷ []) k [] ≡ own) (before.size ∙ same) (get_or-append_seam rows own [] []) ∙ is ∙ ap (λ (k : ℕ). k ∷ []) same
 
 pub tie_more : (count : ℕ) (sources readers : List (List ℕ)) (reader source : ℕ) → reader < count → source < count → AreTied count sources readers
     → AreTied count (noted sources reader source) (noted readers source reader)

@@ -1,4 +1,4 @@
-ghost use Rattle.std.specs.Prelude.{◌≡◌, ℕ, ◌<◌, ◌≤◌, ◌&&◌, IfOk, ⊤, true, false, [], All, length, map, slice_index_or, Some, None};
+ghost use Rattle.std.specs.Prelude.{◌≡◌, ◌<◌, ◌≤◌, ◌&&◌, IfOk, ⊤, true, false, All, length, map, slice_index_or, Some, None};
 ghost use Rattle.std.specs.List.{list_all};
 ghost use Rattle.dg_waves.specs.Rounds.{after_rounds as after_rounds_of};
 ghost use Rattle.dg_model.specs.Library.{row_of};
