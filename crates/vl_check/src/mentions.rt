@@ -42,8 +42,7 @@ pub fn push_names<'a>(names: &mut Vec<&'a [u8]>, e: &'a Expr) -> Result<(), OutO
     ensures { OnOk result (texts names.new.items ≡ texts names.old.items ++ names_read e.now) }
 {
     match e {
-        Expr::Name(name) => push_name(names, name.bytes()),
-        Expr::Bit(name, _place) => push_name(names, name.bytes()),
+        Expr::Name(name) | Expr::Bit(name, _) => push_name(names, name.bytes()),
         Expr::Part(name, _high, _low) => push_name(names, name.bytes()),
         Expr::Literal(_number) => Ok(()),
         Expr::Concat(parts) => {
@@ -52,15 +51,15 @@ pub fn push_names<'a>(names: &mut Vec<&'a [u8]>, e: &'a Expr) -> Result<(), OutO
             }
             Ok(())
         }
-        Expr::Repeat(_count, part) => push_names(names, part.get()),
-        Expr::AsSigned(part) => push_names(names, part.get()),
-        Expr::AsUnsigned(part) => push_names(names, part.get()),
-        Expr::Unary(_op, part) => push_names(names, part.get()),
+        Expr::Repeat(_, part)
+        | Expr::AsSigned(part)
+        | Expr::AsUnsigned(part)
+        | Expr::Unary(_, part)
+        | Expr::Shift(_, part, _) => push_names(names, part.get()),
         Expr::Binary(_op, left, right) => {
             push_names(names, left.get())?;
             push_names(names, right.get())
         }
-        Expr::Shift(_op, part, _amount) => push_names(names, part.get()),
         Expr::Choose(test, chosen, other) => {
             push_names(names, test.get())?;
             push_names(names, chosen.get())?;

@@ -9,8 +9,8 @@ use Rattle.vl_check.proofs.mentions.+push_names.Goals as goal
 
 pub returns-in_ok-push_names-in-Binary : goal.returns-in_ok-push_names-in-Binary
 returns-in_ok-push_names-in-Binary t c =
-    let l = ap names_read c.get-in-Binary.ensures in
-    let r = ap names_read c.get-in-Binary-2.ensures in
+    let l = ap names_read c.get.ensures in
+    let r = ap names_read c.get-in-Binary.ensures in
     on-ok c.push_names-in-Binary-2.result
     (λ last. reads-binary c.in-Binary._op c.in-Binary.left c.in-Binary.right c.args.e.now (texts c.args.names.now.items) (texts c.push_names-in-Binary.new.names.items) _ c.in-Binary.is
     (c.in_ok-push_names-in-Binary.ensures ∙ ap (λ xs. texts c.args.names.now.items ++ xs) l) (last ∙ ap (λ xs. texts c.push_names-in-Binary.new.names.items ++ xs) r))
