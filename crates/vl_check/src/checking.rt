@@ -124,8 +124,14 @@ fn order_of(
     match ordered(alloc, text, &known.scope, source)? {
         Assignments::InLoop(names) => Err(VlFault::CombLoop { names }),
         Assignments::InOrder { order, places } => {
-            check_rest(alloc, source, text, &known.scope)?;
-            Ok(Found { order, places })
+            let found = Found { order, places };
+            match check_rest(alloc, source, text, &known.scope) {
+                Ok(()) => Ok(found),
+                Err(fault) => {
+                    drop(found);
+                    Err(fault)
+                }
+            }
         }
     }
 }
