@@ -125,7 +125,9 @@ pub fn explore<R: Threads + Sync, G: Gate + Sync>(
     ensures { IfOk result (AreFindings checked.now.diagram range) }
 {
     let timed = BySharing::of(alloc, checked)?;
-    let rows = all_found(rt, alloc, checked, &timed, range, gate)?;
+    let rows = all_found(rt, alloc, checked, &timed, range, gate);
+    drop(timed);
+    let rows = rows?;
     let least = least_of(rows.as_slice());
     Ok(Findings { rows, least })
 }

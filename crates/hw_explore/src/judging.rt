@@ -48,13 +48,21 @@ fn judge_good(
         (timing_of latencies.now slots.depths) }
     ensures { IfOk result (IsJudged checked.now.diagram plan.now) }
 {
-    let copy = copy_of(alloc, latencies)?;
+    let copy = match copy_of(alloc, latencies) {
+        Ok(copy) => copy,
+        Err(wanting) => {
+            drop(slots);
+            return Err(wanting);
+        }
+    };
     let times = Times {
         latencies: copy,
         slots,
         sizing,
     };
-    let owed = multiplications(checked, plan, &times)?;
+    let owed = multiplications(checked, plan, &times);
+    drop(times);
+    let owed = owed?;
     Ok(Judged::Good {
         owed,
         latency: sizing.latency,
