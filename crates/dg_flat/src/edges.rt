@@ -1,4 +1,4 @@
-ghost use Rattle.std.specs.Prelude.{◌≡◌, ◌<◌, ◌≤◌, List, length, AllPairs, IsPermutation, MatchOption, option_map, All, IfOk, OnOk, ⊤};
+ghost use Rattle.std.specs.Prelude.{◌≡◌, ◌<◌, List, length, AllPairs, IsPermutation, MatchOption, option_map, IfOk, OnOk, ⊤};
 ghost use Rattle.std.specs.List.{filter_map};
 ghost use Rattle.dg_model.specs.Wired.{StandsBefore};
 ghost use Rattle.dg_model.specs.declared.nested.NestedBlock.{NestedBlock};

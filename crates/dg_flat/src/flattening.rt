@@ -1,4 +1,4 @@
-ghost use Rattle.std.specs.Prelude.{◌≡◌, ◌<◌, length, slice_get, IfOk, IfErr, OnOk, Some};
+ghost use Rattle.std.specs.Prelude.{◌≡◌, ◌<◌, length, IfOk, IfErr, OnOk, Some};
 ghost use Rattle.dg_model.specs.Faults.{fault_of, IsRefusal};
 ghost use Rattle.dg_model.specs.Sound.{IsSound};
 ghost use Rattle.dg_model.specs.Wired.{IsWired};

@@ -1,4 +1,4 @@
-ghost use Rattle.std.specs.Prelude.{◌≡◌, ◌≢◌, ◌↔◌, ℕ, ◌<◌, ◌≤◌, List, length, slice_get, slice_index, IsTrue, IsFalse, IfOk, Some};
+ghost use Rattle.std.specs.Prelude.{◌≡◌, ◌≢◌, ℕ, ◌<◌, ◌≤◌, List, length, slice_get, slice_index, IsTrue, IsFalse, IfOk, Some};
 ghost use Rattle.dg_model.specs.declared.nested.NestedBlock.{NestedBlock};
 ghost use Rattle.dg_flat.specs.declared.numbering.Side.{Side};
 ghost use Rattle.dg_flat.specs.Rules.{KeepsWiring};

@@ -1,4 +1,4 @@
-ghost use Rattle.std.specs.Prelude.{◌≡◌, ◌<◌, ◌≤◌, ◌∷◌, ℕ, [], All, IfErr, IfOk, IfSome, OnErr, OnOk, Some, codes};
+ghost use Rattle.std.specs.Prelude.{◌≡◌, ◌<◌, All, IfErr, IfOk, IfSome, OnErr, OnOk, Some, codes};
 ghost use Rattle.std.specs.Option.{option_map};
 ghost use Rattle.dg_model.specs.declared.diagram.Block.{Block};
 ghost use Rattle.dg_model.specs.declared.fault.Shown.TheVariants.{Word};
@@ -7,7 +7,6 @@ ghost use Rattle.dg_model.specs.Faults.{AllKeep, BreaksAt, IsRefusal, fault_of};
 ghost use Rattle.dg_model.specs.Library.{row_of};
 ghost use Rattle.dg_model.specs.Periods.{base_units, first_inherited, first_periods as first_periods_of, least_of, units_of};
 ghost use Rattle.dg_model.specs.Rate.{KeepsDeclared};
-ghost use Rattle.dg_model.specs.Wired.{IsWired};
 ghost use Rattle.dg_rates.specs.inner.Declared.{IsAbove, KeepsIn, first_in, least_units};
 
 use crate::rounds::Known;

@@ -1,4 +1,4 @@
-ghost use Rattle.std.specs.Prelude.{◌≡◌, ◌+◌, ◌<◌, ◌≤◌, [], true, false, IfOk, OnOk, length};
+ghost use Rattle.std.specs.Prelude.{◌≡◌, ◌+◌, ◌<◌, [], true, false, IfOk, OnOk, length};
 ghost use Rattle.dg_sort.specs.inner.Back.{IsOnCycle};
 ghost use Rattle.dg_sort.specs.inner.Cycle.{AreClosed, AreSteps, IsFoundAt, IsMet, IsReadCycle};
 ghost use Rattle.dg_sort.specs.Rows.{AreKnown};

@@ -1,5 +1,5 @@
 //! The types of a diagram, and the first block that breaks the rule of types.
-ghost use Rattle.std.specs.Prelude.{◌≡◌, ◌<◌, ◌↔◌, true, map, length, None, Some, slice_get, slice_index_or, IfOk, IfErr, IfSome, OnOk, codes};
+ghost use Rattle.std.specs.Prelude.{◌≡◌, ◌<◌, ◌↔◌, true, map, length, None, Some, slice_get, IfOk, IfErr, IfSome, OnOk};
 ghost use Rattle.dg_model.specs.declared.diagram.Block.{Block};
 ghost use Rattle.dg_model.specs.declared.fault.Shown.TheVariants.{Word};
 ghost use Rattle.dg_model.specs.declared.rule.Rule.{Rule};

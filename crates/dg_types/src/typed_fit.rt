@@ -1,6 +1,6 @@
 //! Whether a decimal is in range at a frac. Both sides of each inequality are divided by a power of
 //! two, so that 128 bits hold them without loss, and no quotient is worked out.
-ghost use Rattle.std.specs.Prelude.{◌≡◌, ◌+◌, ◌-◌, ◌*◌, ◌^◌, ◌/◌, ◌<◌, ◌≤◌, ℕ, pos, negsuc, ◌-ℤ◌, ◌≤ℤ◌, MatchOption};
+ghost use Rattle.std.specs.Prelude.{◌≡◌, ◌+◌, ◌-◌, ◌*◌, ◌^◌, ◌/◌, ◌<◌, ◌≤◌, pos, negsuc, ◌≤ℤ◌, MatchOption};
 ghost use Rattle.std.specs.Int.{int_gap};
 ghost use Rattle.dg_types.specs.inner.TypedFit.{is_within, is_below as is_below_bound};
 

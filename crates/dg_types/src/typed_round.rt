@@ -1,6 +1,6 @@
 //! The rounds of types: in each round every block whose type isn't known takes what it can from the
 //! types of the round before.
-ghost use Rattle.std.specs.Prelude.{◌≡◌, ◌<◌, ◌≤◌, ◌^◌, All, [], length, slice_get, slice_index_or, Some, IfOk, true};
+ghost use Rattle.std.specs.Prelude.{◌≡◌, ◌<◌, All, [], length, slice_index_or, Some, IfOk};
 ghost use Rattle.dg_model.specs.TypeRounds.{explicit_type as explicit_type_of, types_of};
 ghost use Rattle.dg_model.specs.Wired.{IsWired};
 ghost use Rattle.dg_types.specs.inner.Shown.{Mirrors};

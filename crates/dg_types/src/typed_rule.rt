@@ -1,6 +1,6 @@
 //! Whether the types of a diagram keep the rule of types: its three parts, each of them a test of
 //! one block.
-ghost use Rattle.std.specs.Prelude.{◌≡◌, ◌↔◌, ◌≤◌, true, All, Some, IsSome, length, slice_get, MatchOption};
+ghost use Rattle.std.specs.Prelude.{◌≡◌, ◌↔◌, ◌≤◌, true, All, Some, IsSome, length};
 ghost use Rattle.dg_model.specs.declared.diagram.Block.{Block};
 ghost use Rattle.dg_model.specs.Library.{row_of};
 ghost use Rattle.dg_model.specs.Types.{names_full_type as names_full_type_of};

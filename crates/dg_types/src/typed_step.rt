@@ -1,6 +1,6 @@
 //! The type that a block takes from those of its inputs: one function for each choice of a kind's
 //! row.
-ghost use Rattle.std.specs.Prelude.{◌≡◌, ◌≤◌, All, length, true, IfSome};
+ghost use Rattle.std.specs.Prelude.{◌≡◌, ◌≤◌, All, length, true};
 ghost use Rattle.fx_type.specs.FullTypeOf.{full_sum_of, full_product_of, union_of as union_of_types};
 ghost use Rattle.fx_type.specs.FxType.{IsType};
 ghost use Rattle.dg_model.specs.Attributes.{coefficient_type as coefficient_type_of};

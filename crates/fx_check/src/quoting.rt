@@ -1,5 +1,5 @@
 //! Paths between quotes.
-ghost use Rattle.std.specs.Prelude.{◌≡◌, ◌<◌, ◌≤◌, length, take};
+ghost use Rattle.std.specs.Prelude.{◌<◌, ◌≤◌, length, take};
 ghost use Rattle.std.specs.List.{flat_map};
 ghost use Rattle.fx_model.specs.RuleLine.{quoted_byte, quoted_path};
 ghost use Rattle.fx_check.specs.Handed.{Adds};

@@ -1,6 +1,5 @@
 ghost use Rattle.std.specs.Prelude.{◌≡◌, ◌<◌, ◌≤◌, ◌++◌, ◌-◌, IfOk, OnOk, codes};
 ghost use Rattle.std.specs.List.{flat_map, range_with_len};
-ghost use Rattle.fx_sample.specs.Chain.{inputs_of};
 ghost use Rattle.fx_sample.specs.ModelText.{block_at, block_text, chain_lines, chain_name as chain_name_of, chain_text, end_lines, ends_text, input_text, line_text, lines_at, model_end, model_head, parameter_text, parameters_of, sample_model, type_parameter};
 
 use crate::chain::ChainKind;

@@ -1,4 +1,4 @@
-ghost use Rattle.std.specs.Prelude.{◌≡◌, ◌-◌, ◌^◌, ◌<◌, ◌≤◌, pos, neg_ℤ, IsTrue, true, false, length, MatchOption, min};
+ghost use Rattle.std.specs.Prelude.{◌≡◌, ◌-◌, ◌<◌, pos, neg_ℤ, IsTrue, length};
 ghost use Rattle.std.specs.Str.Parse.{starts_with_minus};
 ghost use Rattle.fx_tables.specs.inner.Number.{IsMagnitude, IsNumber, IsReading};
 

@@ -1,4 +1,4 @@
-ghost use Rattle.std.specs.Prelude.{◌≡◌, IfErr, IfOk, OnErr, OnOk};
+ghost use Rattle.std.specs.Prelude.{IfErr, IfOk, OnErr, OnOk};
 ghost use Rattle.fx_designed.specs.Refused.{IsRefusedDesign};
 ghost use Rattle.fx_top.specs.Call.{files_in, stream_in};
 ghost use Rattle.fx_top.specs.Caused.{HasCause, HasWritten};

@@ -1,4 +1,4 @@
-ghost use Rattle.std.specs.Prelude.{◌≡◌, ◌≤◌, Some, IfOk, IfErr};
+ghost use Rattle.std.specs.Prelude.{◌≡◌, ◌≤◌, IfOk, IfErr};
 ghost use Rattle.fx_io.specs.Shelf.{Fetched};
 ghost use Rattle.fx_top.specs.Call.{files_in};
 ghost use Rattle.fx_top.specs.Command.{plan_word};

@@ -1,4 +1,3 @@
-ghost use Rattle.std.specs.Prelude.{◌≡◌};
 ghost use Rattle.fx_top.specs.Call.{files_in, stream_in};
 ghost use Rattle.fx_top.specs.Caused.{HasCause, HasWritten};
 ghost use Rattle.fx_top.specs.Command.{Replay as ReplayOf};

@@ -1,8 +1,8 @@
 //! The elements of blocks, block by block.
-ghost use Rattle.std.specs.Prelude.{◌≡◌, ◌++◌, ◌+◌, ◌-◌, ◌<◌, ◌≤◌, ℕ, false, suc, IfOk, OnOk, length, slice_get};
+ghost use Rattle.std.specs.Prelude.{◌≡◌, ◌++◌, ◌+◌, ◌-◌, ◌<◌, ◌≤◌, false, suc, IfOk, OnOk, slice_get};
 ghost use Rattle.dg_model.specs.Attributes.{attributes_of};
 ghost use Rattle.dg_model.specs.Library.{row_of};
-ghost use Rattle.dg_model.specs.Solves.{IsShown, shown_ports as shown_ports_of, shown_width as shown_width_of};
+ghost use Rattle.dg_model.specs.Solves.{IsShown, shown_ports as shown_ports_of};
 ghost use Rattle.hw_build.specs.inner.HubPlaces.{hub_at, hub_start, hubs_in_all, is_input_role};
 ghost use Rattle.hw_build.specs.inner.Offers.{AreReadBy};
 ghost use Rattle.hw_build.specs.inner.Tally.{product_labels};

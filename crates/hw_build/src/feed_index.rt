@@ -1,5 +1,5 @@
 //! Numbers of classes by feed.
-ghost use Rattle.std.specs.Prelude.{◌≡◌, [], OnOk, Option, None, Some, if◌then◌else◌};
+ghost use Rattle.std.specs.Prelude.{◌≡◌, [], OnOk, Option, Some, if◌then◌else◌};
 ghost use Rattle.hw_build.specs.declared.wants.Feed.{Feed};
 ghost use Rattle.hw_build.specs.inner.Feeds.{is_same_feed, number_at_feed};
 

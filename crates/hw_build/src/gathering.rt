@@ -1,10 +1,8 @@
 //! What all ends ask: first those of the lines, then those of what enables blocks.
-ghost use Rattle.std.specs.Prelude.{◌≡◌, ◌+◌, ◌-◌, ◌<◌, ◌≤◌, ℕ, [], IfOk, List, OnOk, length, slice_get};
-ghost use Rattle.dg_model.specs.declared.diagram.Block.{Block};
-ghost use Rattle.hw_latency.specs.Control.{control_ever};
+ghost use Rattle.std.specs.Prelude.{◌≡◌, ◌-◌, ◌<◌, ◌≤◌, ℕ, [], IfOk, List, OnOk, length};
 ghost use Rattle.hw_build.specs.declared.operands.Span.{Span};
 ghost use Rattle.hw_build.specs.inner.Designed.{IsDesigned, times_for};
-ghost use Rattle.hw_build.specs.inner.EndAsks.{AreEndsFor, AreHubPlaces, IsControlPut, IsLawful, IsLineThere, IsLinePut, IsSpan, controls_left, lines_left};
+ghost use Rattle.hw_build.specs.inner.EndAsks.{AreEndsFor, AreHubPlaces, IsControlPut, IsLawful, IsLineThere, IsLinePut, IsSpan, controls_left};
 
 use crate::asks::{Asks, ask_signal};
 use crate::design::Design;

@@ -1,11 +1,11 @@
 //! The net of each element that a block shows, which its readers name.
-ghost use Rattle.std.specs.Prelude.{◌≡◌, ◌-◌, ◌+◌, ◌<◌, ◌≤◌, ◌^◌, [], false, suc, All, IfOk, OnOk, Some, length, slice_get, slice_index_or};
+ghost use Rattle.std.specs.Prelude.{◌≡◌, ◌-◌, ◌+◌, ◌<◌, ◌≤◌, ◌^◌, [], false, All, IfOk, OnOk, Some, length, slice_get, slice_index_or};
 ghost use Rattle.dg_model.specs.Attributes.{attributes_of};
 ghost use Rattle.dg_model.specs.Library.{row_of};
 ghost use Rattle.dg_model.specs.RootElements.{root_inputs};
 ghost use Rattle.dg_model.specs.Solves.{shown_ports as shown_ports_of, shown_width as shown_width_of};
 ghost use Rattle.dg_tables.specs.Listing.{AreBlocksOf};
-ghost use Rattle.hw_build.specs.inner.HubPlaces.{before, is_input_role, is_output_role, port_size, hub_start, hub_at as hub_at_of, AddsFresh, AddsPorts, AddsBlock, AddsBlocks, AddsInputs, HasHubs};
+ghost use Rattle.hw_build.specs.inner.HubPlaces.{is_input_role, is_output_role, port_size, hub_start, hub_at as hub_at_of, AddsFresh, AddsPorts, AddsBlock, AddsBlocks, AddsInputs, HasHubs};
 
 use crate::parts::{put_comb, word_of};
 use dg_model::{Block, Checked, Kind, PortWidths, Role};

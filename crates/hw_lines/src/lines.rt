@@ -1,6 +1,6 @@
 //! One chain of registers for all uses of a source.
-ghost use Rattle.std.specs.Prelude.{◌≡◌, ◌+◌, ◌*◌, ◌<◌, ◌≤◌, ◌^◌, ◌∷◌, [], All, length, slice_get};
-ghost use Rattle.std.specs.Prelude.{Some, IfOk, OnOk};
+ghost use Rattle.std.specs.Prelude.{◌*◌, ◌<◌, ◌≤◌, ◌∷◌, [], All};
+ghost use Rattle.std.specs.Prelude.{IfOk, OnOk};
 ghost use Rattle.hw_lines.specs.Chain.{IsSource, IsUse, AreAnswers, IsChained, IsAnswer, source_of};
 ghost use Rattle.hw_lines.specs.Chain.{reader_of};
 

@@ -1,6 +1,4 @@
 //! What a chain is given: a source, and its uses.
-ghost use Rattle.std.specs.Prelude.{◌≡◌, ◌+◌, ◌<◌, ◌^◌, max};
-ghost use Rattle.hw_lines.specs.Chain.{reader_of};
 
 use hw_net::Frame;
 

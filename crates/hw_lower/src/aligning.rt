@@ -1,5 +1,5 @@
 //! Numbers of several types in one unit.
-ghost use Rattle.std.specs.Prelude.{◌≡◌, ◌≤ℤ◌, ◌<◌, ◌≤◌, length, pos, negsuc, IfOk};
+ghost use Rattle.std.specs.Prelude.{◌≡◌, ◌≤ℤ◌, ◌<◌, ◌≤◌, length, pos, IfOk};
 ghost use Rattle.fx_num.specs.Word.{IsWord, IsWrapped};
 ghost use Rattle.fx_type.specs.FxType.{IsType, frac_of, aligned as aligned_of};
 ghost use Rattle.hw_lower.specs.inner.Planned.{IsAt, IsMade, word_of};

@@ -1,8 +1,7 @@
 //! Bits and truths.
-ghost use Rattle.std.specs.Prelude.{◌≡◌, ◌≤◌, ◌<◌, ◌-◌, ◌↔◌, ℤ, pos, ◌-ℤ◌, IfOk};
-ghost use Rattle.fx_num.specs.Word.{IsWord};
+ghost use Rattle.std.specs.Prelude.{◌≡◌, ◌≤◌, ◌<◌, ◌-◌, ◌↔◌, pos, ◌-ℤ◌, IfOk};
 ghost use Rattle.fx_type.specs.Conversion.{IsTruthOf};
-ghost use Rattle.hw_net.specs.Operation.{low_bits, shifted_down};
+ghost use Rattle.hw_net.specs.Operation.{low_bits};
 ghost use Rattle.hw_lower.specs.inner.Planned.{IsAt, IsMade, IsChosen, bit_word, bit_of};
 
 use crate::plan::{Operand, Plan, Word, choose, constant, slice, unary};

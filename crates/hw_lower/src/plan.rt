@@ -1,5 +1,5 @@
 //! The operations of a block element, one after another, before they are nets.
-ghost use Rattle.std.specs.Prelude.{◌≡◌, ◌++◌, ◌∷◌, [], length, IfOk};
+ghost use Rattle.std.specs.Prelude.{◌≡◌, IfOk};
 ghost use Rattle.fx_num.specs.Word.{IsWord, InWord, IsWrapped};
 ghost use Rattle.fx_type.specs.declared.kind.FxType.{FxType};
 ghost use Rattle.hw_net.specs.declared.netlist.NetOp.TheVariants.{Input, Const, Multiply};

@@ -1,6 +1,6 @@
 //! The names of ports.
 ghost use Rattle.std.specs.Prelude.{◌≡◌, [], ◌++◌, ◌∷◌, ◌↔◌, ℕ, List, false, map, Contains, IsTrue, IfOk, OnOk, decimal, ◌+◌, ◌<◌, ◌^◌};
-ghost use Rattle.hw_names.specs.Names.{plain_byte as plain_byte_of, undoubled, element_name as element_name_of, port_name as port_name_of, numbered as numbered_of, own_names, handshake_names, IsGiven, IsNumbered};
+ghost use Rattle.hw_names.specs.Names.{plain_byte as plain_byte_of, undoubled, element_name as element_name_of, port_name as port_name_of, numbered as numbered_of, own_names, handshake_names, IsGiven};
 ghost use Rattle.hw_names.specs.Taken.{AreTaken, AreTried};
 
 use fx_io::{OutOfMemory, Text};

@@ -1,5 +1,5 @@
 //! Whether a netlist can be run.
-ghost use Rattle.std.specs.Prelude.{◌≡◌, ◌+◌, ◌-◌, ◌*◌, ◌<◌, ◌≤◌, ◌*ℤ◌, ◌↔◌, [], ℕ};
+ghost use Rattle.std.specs.Prelude.{◌≡◌, ◌+◌, ◌-◌, ◌*◌, ◌<◌, ◌*ℤ◌, ◌↔◌, [], ℕ};
 ghost use Rattle.std.specs.Prelude.{length, All, IfOk, slice_get, Some, pos, IsTrue};
 ghost use Rattle.fx_num.specs.Word.{IsWord, InWord, word_lowest, word_highest};
 ghost use Rattle.hw_net.specs.declared.netlist.NetPort.{NetPort};
@@ -7,7 +7,7 @@ ghost use Rattle.hw_net.specs.declared.netlist.NetKind.TheVariants.{Comb};
 ghost use Rattle.hw_net.specs.declared.netlist.NetOp.TheVariants.{Input};
 ghost use Rattle.hw_net.specs.Operation.{arity};
 ghost use Rattle.hw_net.specs.Netlist.{IsNetlist, IsKind, HasWord, HasBits, HasParts};
-ghost use Rattle.hw_net.specs.Netlist.{HoldsProducts, IsInput, IsRanked, reads, reads_now};
+ghost use Rattle.hw_net.specs.Netlist.{HoldsProducts, IsInput, reads};
 
 use crate::circuit::Netlist;
 use crate::netlist::{Frame, Net, NetKind, NetOp, NetPort};

@@ -1,6 +1,6 @@
 //! A netlist that grows: its data, with an index of its Counters.
 ghost use Rattle.std.specs.Prelude.{◌≡◌, ◌↔◌, ℕ, List, ◌+◌, ◌*◌, ◌-◌, ◌<◌, ◌++◌, ◌∷◌, [], length};
-ghost use Rattle.std.specs.Prelude.{slice_get, slice_set, slice_index, IfOk, OnOk, OnErr, Option};
+ghost use Rattle.std.specs.Prelude.{IfOk, OnOk, OnErr, Option};
 ghost use Rattle.std.specs.Prelude.{None, Some, IsTrue, false, pos};
 ghost use Rattle.hw_net.specs.Circuit.{Circuit};
 ghost use Rattle.hw_net.specs.declared.netlist.NetKind.TheVariants.{Comb};

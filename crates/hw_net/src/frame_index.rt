@@ -1,5 +1,5 @@
 //! Numbers of nets by frame.
-ghost use Rattle.std.specs.Prelude.{◌≡◌, [], IfOk, OnOk, OnErr, Option, None, Some, if◌then◌else◌};
+ghost use Rattle.std.specs.Prelude.{◌≡◌, [], OnOk, OnErr, Option, None, Some, if◌then◌else◌};
 ghost use Rattle.hw_net.specs.ByFrame.{is_same_frame, number_at_frame};
 ghost use Rattle.hw_net.specs.declared.netlist.Frame.{Frame};
 

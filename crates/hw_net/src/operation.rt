@@ -1,6 +1,6 @@
 //! What an operation gives, modulo 2 to the power 128 and then cut to a word.
 ghost use Rattle.std.specs.Prelude.{◌≡◌, ◌^◌, ◌<◌, ◌≤◌, ◌+◌, ◌/◌, ◌%◌, length, pos, ◌+ℤ◌, ◌-ℤ◌};
-ghost use Rattle.std.specs.Prelude.{◌*ℤ◌, neg_ℤ, negsuc, not, if◌then◌else◌, int_lt, bit_and};
+ghost use Rattle.std.specs.Prelude.{◌*ℤ◌, negsuc, not, if◌then◌else◌, int_lt, bit_and};
 ghost use Rattle.std.specs.Prelude.{bit_or, bit_xor};
 ghost use Rattle.fx_num.specs.Word.{IsCongruent, IsWord, IsWrapped};
 ghost use Rattle.hw_net.specs.Operation.{low_bits, shifted_down, truth, given_by};

@@ -1,6 +1,6 @@
 //! An order in which each net stands after those that it reads in the same clock.
-ghost use Rattle.std.specs.Prelude.{◌≡◌, ◌+◌, ◌<◌, ◌∷◌, [], ◌++◌, length, slice_set};
-ghost use Rattle.std.specs.Prelude.{slice_index_or, OnOk, IfOk, All, true, false, Option, Some};
+ghost use Rattle.std.specs.Prelude.{◌≡◌, ◌+◌, ◌<◌, length};
+ghost use Rattle.std.specs.Prelude.{OnOk, IfOk, All, true, false, Option, Some};
 ghost use Rattle.std.specs.Prelude.{None, IsSome, ℕ, ◌↔◌, IsTrue};
 ghost use Rattle.hw_net.specs.Netlist.{IsNetlist, IsRanked, reads, reads_now};
 ghost use Rattle.hw_net.specs.State.{IsOrder};

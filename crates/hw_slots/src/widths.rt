@@ -1,7 +1,6 @@
 ghost use Rattle.std.specs.Prelude.{◌≡◌, ◌<◌, IfOk};
 ghost use Rattle.hw_slots.specs.Slots.{shared_out};
 ghost use Rattle.hw_slots.specs.inner.Made.{AreCounts, AreLevels, AreMost, AreWidths};
-ghost use Rattle.hw_slots.specs.inner.Tally.{tally_at};
 
 use crate::operation::Operation;
 use crate::tally::{Tally, total};

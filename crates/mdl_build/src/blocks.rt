@@ -1,5 +1,5 @@
 //! The blocks of a tree, each with what its parameters say.
-ghost use Rattle.std.specs.Prelude.{◌≡◌, ◌<◌, length, unwrap_or, bytes_eq, codes, IfOk};
+ghost use Rattle.std.specs.Prelude.{◌≡◌, ◌<◌, length, unwrap_or, IfOk};
 ghost use Rattle.mdl_values.specs.Reads.{Finds};
 ghost use Rattle.mdl_build.specs.Blocks.{is_single};
 ghost use Rattle.mdl_build.specs.Library.{row_of};

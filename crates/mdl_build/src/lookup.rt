@@ -1,8 +1,8 @@
 //! Where the value of a parameter is found: in the block's section, in the defaults of its type, or
 //! in the table.
-ghost use Rattle.std.specs.Prelude.{◌≡◌, ◌<◌, ◌&&◌, Some, List, ℕ, length, map, position, unwrap_or, codes, IfOk};
+ghost use Rattle.std.specs.Prelude.{◌≡◌, ◌<◌, ◌&&◌, Some, length, map, position, unwrap_or, codes, IfOk};
 ghost use Rattle.std.specs.Option.{ForSome, option_copied};
-ghost use Rattle.mdl_build.specs.Library.{row_of, parameters_of, block_types, type_name};
+ghost use Rattle.mdl_build.specs.Library.{row_of, block_types, type_name};
 ghost use Rattle.mdl_build.specs.Lookup.{is_defaults, first_defaults, is_in, defaults_of, value_under, value_in, fallback};
 ghost use Rattle.mdl_build.specs.Roles.{roles_of, says};
 ghost use Rattle.mdl_build.specs.inner.Texts.{contents_of, fallbacks_in, fallbacks_of};

@@ -1,13 +1,13 @@
 //! The blocks of a tree that keeps the rules of structure and of library.
-ghost use Rattle.std.specs.Prelude.{◌≡◌, ℕ, ◌<◌, ◌++◌, ◌∷◌, [], true, Some, List, length, option_map, unwrap_or, is_some, codes, slice_get, IfOk, IfErr};
-ghost use Rattle.std.specs.Option.{ForSome, option_copied};
+ghost use Rattle.std.specs.Prelude.{◌≡◌, ℕ, ◌<◌, ◌++◌, ◌∷◌, [], true, Some, List, length, option_map, unwrap_or, is_some, codes, IfOk, IfErr};
+ghost use Rattle.std.specs.Option.{ForSome};
 ghost use Rattle.dg_model.specs.Faults.{IsRefusal};
-ghost use Rattle.mdl_build.specs.Blocks.{number_at, parent_of, standing_in, HasSettings};
+ghost use Rattle.mdl_build.specs.Blocks.{number_at, standing_in, HasSettings};
 ghost use Rattle.mdl_build.specs.Nested.{IsBlockAt};
 ghost use Rattle.mdl_build.specs.Roles.{role_of, is_block, blocks_of};
 ghost use Rattle.mdl_build.specs.Rules.{type_at};
 ghost use Rattle.mdl_build.specs.Sections.{holder_of, value_of};
-ghost use Rattle.mdl_build.specs.inner.Known.{IsKnown, AreEnabled, AreNumbers, AreNumbersTo, IsWrongAt};
+ghost use Rattle.mdl_build.specs.inner.Known.{IsKnown, AreEnabled, AreNumbers, IsWrongAt};
 
 use crate::blocks::{Reading, read_block};
 use crate::known::Known;

@@ -1,5 +1,5 @@
 //! The blocks of a tree, and their names.
-ghost use Rattle.std.specs.Prelude.{◌≡◌, ◌<◌, ◌++◌, ◌∷◌, [], ℕ, length, vec_len, IfOk, OnOk, MatchOption};
+ghost use Rattle.std.specs.Prelude.{◌≡◌, ◌<◌, ◌++◌, ◌∷◌, [], length, vec_len, IfOk, OnOk, MatchOption};
 ghost use Rattle.mdl_build.specs.Roles.{is_block};
 ghost use Rattle.mdl_build.specs.inner.Names.{IsKeyAt};
 

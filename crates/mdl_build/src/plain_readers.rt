@@ -1,5 +1,5 @@
 //! The readers that take no memory.
-ghost use Rattle.std.specs.Prelude.{◌≡◌, true, false, [], codes};
+ghost use Rattle.std.specs.Prelude.{true, false, []};
 ghost use Rattle.mdl_values.specs.Reads.{Finds};
 ghost use Rattle.mdl_build.specs.declared.library.Reader.{Reader};
 ghost use Rattle.mdl_build.specs.Settings.{ReadsAs, IsTypeOr, IsTypeOrFirst};

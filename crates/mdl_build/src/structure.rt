@@ -1,5 +1,5 @@
 //! The rules of structure and of library.
-ghost use Rattle.std.specs.Prelude.{◌≡◌, ℕ, ◌<◌, ◌+◌, ◌==◌, not, nat_le, true, length, count_by, find, is_none, All, IfOk, slice_get, Some, List, Bool, false};
+ghost use Rattle.std.specs.Prelude.{◌≡◌, ℕ, ◌<◌, ◌+◌, ◌==◌, not, nat_le, true, length, count_by, find, is_none, All, IfOk, Some, List, Bool, false};
 ghost use Rattle.std.specs.Option.{option_map_or};
 ghost use Rattle.mdl_text.specs.declared.tree.Item.{Item};
 ghost use Rattle.mdl_build.specs.Blocks.{number_at};

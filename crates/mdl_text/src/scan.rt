@@ -1,4 +1,4 @@
-ghost use Rattle.std.specs.Prelude.{◌≡◌, length, ◌≤◌, IsTrue};
+ghost use Rattle.std.specs.Prelude.{◌≡◌, length, ◌≤◌};
 ghost use Rattle.std.specs.List.{list_all, prefix_len};
 ghost use Rattle.mdl_text.specs.Bytes.{is_blank, is_name_byte};
 ghost use Rattle.mdl_text.specs.inner.Plain.{unblanked, trimmed};

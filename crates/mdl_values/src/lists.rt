@@ -1,5 +1,5 @@
 //! Lists of decimals and of sizes.
-ghost use Rattle.std.specs.Prelude.{◌≤◌, IfOk};
+ghost use Rattle.std.specs.Prelude.{IfOk};
 ghost use Rattle.std.specs.List.{AllZip};
 ghost use Rattle.fx_round.specs.DecimalText.{IsDecimal};
 ghost use Rattle.mdl_values.specs.Reads.{Finds};

@@ -1,5 +1,5 @@
 //! Periods and declared widths.
-ghost use Rattle.std.specs.Prelude.{◌≡◌, IsTrue, ◌↔◌, IfOk};
+ghost use Rattle.std.specs.Prelude.{IsTrue, ◌↔◌, IfOk};
 ghost use Rattle.dg_model.specs.KindRow.{IsPeriod};
 ghost use Rattle.mdl_values.specs.Reads.{Finds};
 ghost use Rattle.mdl_values.specs.Periods.{IsZeroText, IsAboveZero, IsWithOffset, IsPeriodText, IsSampleTime, IsConstantTime, IsBracketedNumber, IsWidthNumber, IsWidthText};

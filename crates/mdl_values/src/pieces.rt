@@ -1,6 +1,6 @@
 //! Values cut into pieces, words and elements.
 ghost use Rattle.std.specs.Prelude.{◌≡◌, ◌<◌, ◌≤◌, ◌∷◌, ◌++◌, ◌==◌, [], length, OnOk, IfOk, IfSome, MatchOption};
-ghost use Rattle.std.specs.List.{prefix_len, list_any};
+ghost use Rattle.std.specs.List.{prefix_len};
 ghost use Rattle.mdl_text.specs.Bytes.{is_blank};
 ghost use Rattle.mdl_values.specs.Pieces.{is_other, pieces_at, is_solid, words_of, unblanked, separator_of, may_stand, elements_of};
 

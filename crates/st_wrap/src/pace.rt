@@ -1,5 +1,5 @@
 //! How many clocks a sample of the core takes, how late its outputs are, and the counters for both.
-ghost use Rattle.std.specs.Prelude.{◌≡◌, ◌<◌, ◌≤◌, ◌^◌};
+ghost use Rattle.std.specs.Prelude.{◌≡◌, ◌<◌, ◌≤◌};
 ghost use Rattle.st_wrap.specs.Pace.{latest_in, samples_late};
 ghost use Rattle.st_wrap.specs.inner.Control.{CountFor, HasRoom};
 

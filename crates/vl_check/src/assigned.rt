@@ -1,6 +1,6 @@
-ghost use Rattle.std.specs.Prelude.{◌≡◌, ◌<◌, [], IfOk, OnOk, None, length, map, slice_index_or};
+ghost use Rattle.std.specs.Prelude.{◌≡◌, ◌<◌, IfOk, OnOk, None, length, map};
 ghost use Rattle.vl_ast.specs.Nets.{names_read};
-ghost use Rattle.vl_check.specs.Scope.{names_in, number_at};
+ghost use Rattle.vl_check.specs.Scope.{number_at};
 ghost use Rattle.vl_check.specs.inner.Assigned.{IsEmpty, IsNoted, places_after, reads_after};
 
 use crate::mentions::push_names;

@@ -1,4 +1,4 @@
-ghost use Rattle.std.specs.Prelude.{◌≡◌, ◌<◌, IfOk, IsTrue, Bool, Option, Some, None, [], length, map, option_map, slice_set, true, if◌then◌else◌};
+ghost use Rattle.std.specs.Prelude.{◌≡◌, ◌<◌, IfOk, Option, Some, None, [], length, map, option_map, slice_set, true, if◌then◌else◌};
 ghost use Rattle.vl_ast.specs.declared.modules.Module.{Module};
 ghost use Rattle.vl_ast.specs.Nets.{mentions};
 ghost use Rattle.vl_ast.specs.Conditions.{doubly, first_fault, is_double, is_driver_of, is_undriven, may_drive_it, mentioned, needs_driver, undriven};

@@ -1,4 +1,4 @@
-ghost use Rattle.std.specs.Prelude.{◌≡◌, ◌++◌, ◌∷◌, [], map, flat_map, IfOk, OnOk};
+ghost use Rattle.std.specs.Prelude.{◌≡◌, ◌++◌, ◌∷◌, [], map, IfOk, OnOk};
 ghost use Rattle.vl_ast.specs.Nets.{condition_names, item_mentions, mentions, names_read, port_declared, Declares, Reads};
 ghost use Rattle.vl_check.specs.inner.Mentioned.{mention_of, shown, texts};
 

@@ -1,4 +1,4 @@
-ghost use Rattle.std.specs.Prelude.{◌≡◌, ◌≢◌, ◌<◌, IfOk, OnOk, Option, Some, None, bytes_eq, position, length, map, option_map, slice_get};
+ghost use Rattle.std.specs.Prelude.{◌≡◌, ◌<◌, IfOk, OnOk, Some, map, slice_get};
 ghost use Rattle.vl_ast.specs.Conditions.{mentioned};
 ghost use Rattle.vl_check.specs.Names.{with_name};
 ghost use Rattle.vl_check.specs.inner.Mentioned.{mention_of, shown, texts};

@@ -1,4 +1,4 @@
-ghost use Rattle.std.specs.Prelude.{◌≡◌, ◌<◌, ◌≤◌, ◌+◌, ◌%◌, Contains, IfOk, IsTrue, MatchOption, None, true, ℕ, length, slice_index};
+ghost use Rattle.std.specs.Prelude.{◌≡◌, ◌<◌, ◌+◌, ◌%◌, IfOk, None, true, ℕ, length, slice_index};
 ghost use Rattle.vl_ast.specs.declared.modules.Module.{Module};
 ghost use Rattle.vl_ast.specs.Conditions.{doubly, undriven};
 ghost use Rattle.vl_ast.specs.Nets.{mentions};

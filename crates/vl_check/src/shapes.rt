@@ -1,4 +1,4 @@
-ghost use Rattle.std.specs.Prelude.{◌≡◌, ◌≤◌, ◌<◌, ◌^◌, ◌*◌, ◌+◌, Bool, true, false, Option, Some, None, if◌then◌else◌, nat_lt, option_and_then, option_map};
+ghost use Rattle.std.specs.Prelude.{◌≡◌, ◌≤◌, ◌<◌, ◌^◌, ◌*◌, ◌+◌, true, false, Option, Some, None, if◌then◌else◌, nat_lt, option_and_then, option_map};
 ghost use Rattle.vl_ast.specs.Conditions.{is_number, is_width};
 ghost use Rattle.vl_check.specs.Scope.{nets_in};
 ghost use Rattle.vl_ast.specs.declared.expressions.Expr.TheVariants.{Concat};

@@ -1,4 +1,4 @@
-ghost use Rattle.std.specs.Prelude.{◌≡◌, ◌<◌, ◌≤◌, ◌+◌, ◌-◌, ◌^◌, ℕ, List, [], IfOk, length, drop, option_map, slice_index};
+ghost use Rattle.std.specs.Prelude.{◌≡◌, ◌<◌, ◌≤◌, ◌+◌, ◌-◌, ◌^◌, ℕ, [], IfOk, length, drop, option_map, slice_index};
 ghost use Rattle.vl_check.specs.inner.Order.{AreKnown};
 ghost use Rattle.fx_io.specs.Rows.{row_at};
 ghost use Rattle.vl_check.specs.inner.Sorted.{IsSorted};

@@ -1,5 +1,5 @@
 //! When registers take their values.
-ghost use Rattle.std.specs.Prelude.{◌≡◌, ◌<◌, ◌-◌, ◌*◌, codes, IfOk, Some, None};
+ghost use Rattle.std.specs.Prelude.{◌≡◌, ◌<◌, ◌-◌, ◌*◌, IfOk, Some, None};
 ghost use Rattle.vl_ast.specs.Gated.{gated_condition};
 ghost use Rattle.vl_ast.specs.declared.expressions.BinOp.TheVariants.{Both};
 ghost use Rattle.vl_ast.specs.declared.expressions.Expr.{Expr};

@@ -1,5 +1,5 @@
 //! Nets and ports as operands of expressions, each written at the width at which it is used.
-ghost use Rattle.std.specs.Prelude.{◌≡◌, ◌+◌, ◌≤◌, ◌<◌, ◌^◌, [], ◌∷◌, IfOk};
+ghost use Rattle.std.specs.Prelude.{◌≡◌, ◌+◌, ◌≤◌, ◌<◌, [], ◌∷◌, IfOk};
 ghost use Rattle.vl_ast.specs.declared.expressions.Expr.TheVariants.{Name, Concat};
 ghost use Rattle.vl_emit.specs.Names.{net_name, hold_name};
 ghost use Rattle.vl_emit.specs.inner.Spelled.{zeros, fill, inside, piece, at_width};

@@ -1,4 +1,4 @@
-ghost use Rattle.std.specs.Prelude.{◌≡◌, ◌≤◌, ◌<◌, ◌+◌, [], IfErr, IfOk, OnOk, length, map, option_map};
+ghost use Rattle.std.specs.Prelude.{◌≡◌, ◌<◌, [], IfErr, IfOk, OnOk, length, map, option_map};
 ghost use Rattle.vl_ast.specs.Conditions.{BreaksNone};
 ghost use Rattle.vl_ast.specs.Driven.{output_ports};
 ghost use Rattle.vl_check.specs.Cause.{IsCause};

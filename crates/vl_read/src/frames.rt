@@ -1,4 +1,4 @@
-ghost use Rattle.std.specs.Prelude.{◌≡◌, ◌++◌, ◌∷◌, [], IfOk};
+ghost use Rattle.std.specs.Prelude.{◌≡◌, IfOk};
 ghost use Rattle.vl_ast.specs.declared.expressions.Expr.TheViews.{out-Expr};
 ghost use Rattle.vl_read.specs.declared.places.Frame.TheVariants.{InConcat, InChosen};
 ghost use Rattle.vl_read.specs.declared.scan.Kind.TheVariants.{Fixed};

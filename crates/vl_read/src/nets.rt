@@ -1,4 +1,4 @@
-ghost use Rattle.std.specs.Prelude.{◌≡◌, [], true, false, bytes_eq, codes, IfOk};
+ghost use Rattle.std.specs.Prelude.{◌≡◌, true, false, bytes_eq, codes, IfOk};
 ghost use Rattle.vl_read.specs.declared.scan.Kind.TheVariants.{Fixed};
 ghost use Rattle.vl_read.specs.declared.places.NetSpot.TheVariants.{Signed, Ranged, Bound, Named};
 ghost use Rattle.vl_read.specs.inner.Lexemes.{kind_of};

@@ -1,8 +1,8 @@
 ghost use Rattle.std.specs.Prelude.{◌≡◌, ◌++◌, ◌∷◌, [], IfOk};
-ghost use Rattle.vl_read.specs.declared.places.Frame.TheVariants.{InConcat, InChosen};
+ghost use Rattle.vl_read.specs.declared.places.Frame.TheVariants.{InConcat};
 ghost use Rattle.vl_read.specs.declared.scan.Kind.TheVariants.{Fixed};
 ghost use Rattle.vl_read.specs.inner.Lexemes.{kind_of};
-ghost use Rattle.vl_read.specs.inner.Places.{Value, High};
+ghost use Rattle.vl_read.specs.inner.Places.{Value};
 ghost use Rattle.vl_read.specs.inner.Plain.{spot_at, expect_spot, compound_step, operand_step, opened_step, braced_step};
 ghost use Rattle.vl_read.specs.inner.Seen.{seen, goal_of, frames_of, spot_of};
 ghost use Rattle.vl_read.specs.inner.Turns.{stepped};

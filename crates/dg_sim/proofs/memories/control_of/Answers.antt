@@ -10,5 +10,5 @@ returns-in-Some c =
     let places = c.args.program.now.places in
     let within = slice_get_within places c.control_cell.result (place_at c.in-Some.enable 1 0) c.control_cell.ensures in
     λ table t look agrees.
-      ap (λ (z : ℤ). int_eq z (pos 1)) (agrees c.control_cell.result (place_at c.in-Some.enable 1 0) within c.control_cell.ensures)
-      ∙ ap (λ (enable : Option ℕ). is_enabled table enable t) (sym c.in-Some.is)
+    ap (λ (z : ℤ). int_eq z (pos 1)) (agrees c.control_cell.result (place_at c.in-Some.enable 1 0) within c.control_cell.ensures)
+    ∙ ap (λ (enable : Option ℕ). is_enabled table enable t) (sym c.in-Some.is)

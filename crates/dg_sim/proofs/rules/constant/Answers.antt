@@ -22,7 +22,7 @@ returns c =
     let stores = subst (λ (kind : FxType). StoresEntry c.args.value.now c.args.turn.place.element kind c.stored-first.result) (c.result.ensures 1) c.stored-first.ensures in
     let fits : FitsSigned w128 c.stored-first.result = search rules in
     rw (to_z-of_z w128 c.stored-first.result fits) (fixed_made diagram (attributes_of diagram) c.args.program.now c.args.turn.cell c.args.turn.place c.stored-first.result
-      (constant_always diagram (attributes_of diagram) c.args.turn.place c.args.turn.block.now c.requires.turn.shown.block_is c.args.value.now c.stored-first.result c.requires.kind stores))
+    (constant_always diagram (attributes_of diagram) c.args.turn.place c.args.turn.block.now c.requires.turn.shown.block_is c.args.value.now c.stored-first.result c.requires.kind stores))
 
 pub stored-first-requires-clause-entry : goal.stored-first-requires-clause-entry
 stored-first-requires-clause-entry c = constant_entry c.args.turn.checked.now.diagram c.keeps_rules.ensures.checked c.args.turn.place.block c.args.turn.place.port c.args.turn.place.element c.args.turn.block.now c.requires.turn.shown c.args.value.now c.requires.kind
