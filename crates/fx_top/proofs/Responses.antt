@@ -1,12 +1,14 @@
 -- What a replay before its first sample and the writer of its lines are.
-use Rattle.std.proofs.Common.{◌≡◌, ℕ, ℤ, List, [], ◌∷◌, length, map, refl, sym, ap, subst, ◌∙◌}
+use Rattle.std.proofs.Common.{◌≡◌, ℕ, ℤ, Some, List, [], ◌∷◌, length, map, refl, sym, ap, subst, ◌∙◌}
 use Rattle.std.proofs.lemmas.List.{length-map}
 use Rattle.fx_tables.specs.declared.row_text.RowText.{RowText}
 use Rattle.fx_tables.specs.declared.table.Column.{Column}
 use Rattle.fx_tables.specs.declared.table.Rows.{Rows as Table}
 use Rattle.fx_tables.specs.Response.{response}
 use Rattle.fx_tables.specs.RowText.{periods_of}
-use Rattle.fx_tables.specs.Stimulus.{IsRows}
+use Rattle.fx_tables.specs.Stimulus.{IsRows, stimulus_fault}
+use Rattle.fx_tables.specs.declared.table.TableCause.{TableCause}
+use Rattle.fx_tables.specs.declared.table.TableFault.TheVariants.{Bad}
 use Rattle.vl_ast.specs.declared.modules.Port.{Port}
 use Rattle.vl_ast.specs.declared.modules.Module.{Module}
 use Rattle.vl_ast.specs.Driven.{output_ports, stimulus_ports}
@@ -16,7 +18,7 @@ use Rattle.vl_replay.specs.declared.replay.Replay.{Replay}
 use Rattle.vl_replay.specs.Columns.{columns_of}
 use Rattle.vl_replay.specs.Replays.{StandsBefore, module_of, stimulus_of}
 use Rattle.vl_replay.specs.Sampled.{Sampled, numbers_of}
-use Rattle.fx_top.specs.Replayed.{IsSoundText}
+use Rattle.fx_top.specs.Replayed.{IsBadStimulus, IsSoundText}
 use Rattle.fx_top.specs.inner.Responding.{IsResponseTo, IsTableOf}
 
 periods-are : (ports : List Port) → map (λ (column : Column). column.period) (columns_of ports) ≡ map step_of ports
@@ -53,3 +55,13 @@ pub moved-table : (one other : Replay) (table : Sample → List ℤ) → module_
 moved-table one other table made of is =
     subst (λ (m : Module). Sampled m (numbers_of (stimulus_of one)) (stimulus_of one).lines table) (sym made)
     (subst (λ (rows : Table). Sampled (module_of other) (numbers_of rows) rows.lines table) (sym of) is)
+
+-- the rows of a stimulus have this fault by the columns of a module's ports
+pub bad-stimulus : (verilog stimulus : List ℕ) (m : Module) (inputs outputs : List Column) (line : ℕ) (cause : TableCause) → IsSoundText verilog m
+    → inputs ≡ columns_of (stimulus_ports m) → outputs ≡ columns_of (output_ports m) → stimulus_fault inputs (length outputs) stimulus ≡ Some (Bad line cause) → IsBadStimulus verilog stimulus line cause
+bad-stimulus verilog stimulus m inputs outputs line cause sound ins outs bad = record {
+  made = m;
+  spelled = sound;
+  bad = ap (λ (columns : List Column). stimulus_fault columns (length (output_ports m)) stimulus) (sym ins)
+      ∙ ap (λ (n : ℕ). stimulus_fault inputs n stimulus) (sym (ap length outs ∙ length-map (output_ports m) _)) ∙ bad;
+}

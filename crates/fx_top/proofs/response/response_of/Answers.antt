@@ -1,8 +1,10 @@
-use Rattle.std.proofs.Common.{List, length, map, refl, ap, sym, ◌∙◌}
+use Rattle.std.proofs.Common.{◌<◌, ◌^◌, ℕ, Some, All, List, length, map, refl, ap, subst, sym, ◌∙◌}
+use Rattle.std.proofs.lemmas.List.{length-map}
+use Rattle.vl_ast.specs.Driven.{output_ports, stimulus_ports}
 use Rattle.vl_eval.specs.Machine.{source_of}
 use Rattle.fx_tables.specs.declared.table.Column.{Column}
 use Rattle.vl_replay.specs.Sampled.{numbers_of}
-use Rattle.fx_top.proofs.Responses.{responds}
+use Rattle.fx_top.proofs.Responses.{bad-stimulus, responds}
 use Rattle.fx_top.proofs.response.response_of.Goals as goal
 
 pub returns-in-Ok-response_with-clause-made : goal.returns-in-Ok-response_with-clause-made
@@ -18,3 +20,36 @@ returns-in-Ok-response_with-clause-made c =
 
 pub returns-in-Err-clause-refused : goal.returns-in-Err-clause-refused
 returns-in-Err-clause-refused c = c.in-Err.ensures.refused c.args.stimulus.now
+
+pub returns-in-Err-Bad-clause-refused : goal.returns-in-Err-Bad-clause-refused
+returns-in-Err-Bad-clause-refused c =
+    let m = source_of c.in-Ok.machine in
+    let inputs = c.as_slice-2.ensures ∙ c.in-Ok-columns.ensures.inputs in
+    let outputs = c.as_slice.ensures ∙ c.in-Ok-columns.ensures.outputs in
+    rw (c.in-Err-Bad.line-is, c.in-Err-Bad.cause-is) (bad-stimulus c.args.verilog.now c.args.stimulus.now m c.as_slice-2.result.now c.as_slice.result.now c.in-Err-Bad.line c.in-Err-Bad.cause c.in-Ok.ensures.made.spelled inputs outputs
+    (c.in-Err-Bad.ensures.refused (λ e. cc (sym c.in-Err-Bad.field-0-is ∙ e)) ∙ ap Some c.in-Err-Bad.field-0-is))
+
+pub response_with-requires-clause-columns : goal.response_with-requires-clause-columns
+response_with-requires-clause-columns c =
+    let m = source_of c.in-Ok.machine in
+    c.in-Ok-read_rows.ensures.rows.column_count ∙ ap length (c.as_slice-2.ensures ∙ c.in-Ok-columns.ensures.inputs) ∙ length-map (stimulus_ports m) _
+
+pub response_with-requires-clause-few_outputs : goal.response_with-requires-clause-few_outputs
+response_with-requires-clause-few_outputs c =
+    let m = source_of c.in-Ok.machine in
+    subst (λ (n : ℕ). n < 2 ^ 32) (ap length c.in-Ok-columns.ensures.outputs ∙ length-map (output_ports m) _) c.in-Ok-columns.ensures.few_outputs
+
+pub response_with-requires-clause-few_columns : goal.response_with-requires-clause-few_columns
+response_with-requires-clause-few_columns c = subst (λ (columns : List Column). length columns < 2 ^ 32) (sym c.as_slice-3.ensures) c.in-Ok-columns.ensures.few_outputs
+
+pub response_with-requires-clause-periods : goal.response_with-requires-clause-periods
+response_with-requires-clause-periods c = subst (All (λ (column : Column). 0 < column.period)) (sym c.as_slice-3.ensures) c.in-Ok-columns.ensures.output_periods
+
+pub response_with-requires-clause-sound : goal.response_with-requires-clause-sound
+response_with-requires-clause-sound c = c.in-Ok.ensures.made.spelled.sound
+
+pub response_with-requires-clause-ready : goal.response_with-requires-clause-ready
+response_with-requires-clause-ready c = c.in-Ok.ensures.made.ready
+
+pub response_with-requires-clause-row : goal.response_with-requires-clause-row
+response_with-requires-clause-row c = c.in-Ok.ensures.made.row
