@@ -34,6 +34,7 @@ pub mod Readied
 pub mod Registering
 pub mod ResultNets
 pub mod Seeking
+pub mod Sites
 pub mod Soundness
 pub mod Spotted
 pub mod Tally

@@ -18,6 +18,7 @@ use crate::labels::label_product;
 use crate::offers::operands_of;
 use crate::operands::Operands;
 use crate::products::Products;
+use crate::site::Site;
 use crate::spots::Spots;
 use crate::worked::put_shared;
 use dg_model::{Block, PortWidths};
@@ -69,9 +70,13 @@ fn put_one<'a>(
         return Ok(entry);
     }
     let operands = operands_of(alloc, setting, place, one, inputs)?;
-    let nets = operands.as_slice();
-    let types = inputs.types.as_slice();
-    let entry = put_entry(alloc, net, design, place, one, types, nets)?;
+    let site = Site {
+        design,
+        place,
+        one,
+        operands: operands.as_slice(),
+    };
+    let entry = put_entry(alloc, net, site, inputs.types.as_slice())?;
     Ok(entry)
 }
 

@@ -2,19 +2,18 @@
 ghost use Rattle.std.specs.Prelude.{◌≡◌, true, None, IfOk};
 ghost use Rattle.dg_model.specs.declared.kind.Kind.{Kind};
 ghost use Rattle.dg_model.specs.Attributes.{attributes_of};
-ghost use Rattle.dg_model.specs.Solves.{IsShown};
-ghost use Rattle.dg_model.specs.Wires.{period_into, types_into};
-ghost use Rattle.hw_lower.specs.Lowered.{AreArgs};
-ghost use Rattle.hw_build.specs.inner.Designed.{IsDesigned, timing_for};
-ghost use Rattle.hw_build.specs.inner.Entries.{PutsEntry, hands_on, operand_types};
+ghost use Rattle.dg_model.specs.Wires.{period_into};
+ghost use Rattle.hw_build.specs.inner.Designed.{IsDesigned};
+ghost use Rattle.hw_build.specs.inner.Entries.{hands_on};
+ghost use Rattle.hw_build.specs.inner.Sites.{HasOperands, IsSite, Puts, types_at};
 
-use crate::design::Design;
 use crate::kept::{delayed, passed_out};
 use crate::lowering::stored;
 use crate::parts::{put_const, word_of};
+use crate::site::Site;
 use crate::worked::{put_worked, scaled, switched, tested};
-use dg_model::{Block, Kind};
-use dg_tables::{Place, operations_prepare};
+use dg_model::Kind;
+use dg_tables::operations_prepare;
 use fx_io::OutOfMemory;
 use fx_type::{Decimal, FxType};
 use hw_net::Netlist;
@@ -44,71 +43,44 @@ pub fn plain(net: u32) -> Entry
 }
 
 /// An element that is what is offered.
-pub fn handed<'a>(
-    net: &Netlist,
-    design: Design<'a>,
-    place: Place,
-    one: &Block,
-    operands: &[u32],
-) -> Entry
-    requires hands { hands_on one.now.enable (period_into design.checked.now.diagram
-        (attributes_of design.checked.now.diagram) place.block 1) one.now.kind ≡ true }
-    requires operands { AreArgs net.now (operand_types design.checked.now.diagram
-        (attributes_of design.checked.now.diagram) place.block one.now place.port one.now.kind)
-        operands.now }
-    ensures { PutsEntry design.entry.checked.now.diagram (timing_for design.entry)
-        net.now net.now place.block one.now place.port place.element operands.now result }
+pub fn handed<'a>(net: &Netlist, site: Site<'a>) -> Entry
+    requires hands { hands_on site.one.now.enable (period_into site.design.checked.now.diagram
+        (attributes_of site.design.checked.now.diagram) site.place.block 1) site.one.now.kind
+        ≡ true }
+    requires operands { HasOperands net.now site site.one.now.kind }
+    ensures { Puts site.entry net.now net.now result }
 {
-    let _ = (net.cycles(), design.plan.cycles, place.block);
-    let _path = &one.path;
-    plain(operands[0])
+    plain(site.operands[0])
 }
 
 /// Puts in an element of a Constant.
 fn constant<'a>(
     alloc: Global,
     net: &mut Netlist,
-    design: Design<'a>,
-    place: Place,
-    one: &Block,
-    operands: &[u32],
+    site: Site<'a>,
     value: &[Decimal],
 ) -> Result<Entry, OutOfMemory>
-    requires shown { IsShown design.checked.now.diagram
-        (attributes_of design.checked.now.diagram) place.block one.now place.port place.element }
-    requires kind { one.now.kind ≡ Kind.Constant value.now }
-    ensures { IfOk result (PutsEntry design.entry.checked.now.diagram (timing_for design.entry)
-        net.old net.new place.block one.now place.port place.element operands.now) }
+    requires shown { IsSite site }
+    requires kind { site.one.now.kind ≡ Kind.Constant value.now }
+    ensures { IfOk result (Puts site.entry net.old net.new) }
 {
-    design.checked.keeps_rules();
+    site.design.checked.keeps_rules();
     operations_prepare();
-    let _count = operands.len();
-    let kind = design.checked.result(place.block);
-    let first = stored(design.checked, place, one, value, kind);
+    let kind = site.design.checked.result(site.place.block);
+    let first = stored(site, value, kind);
     let number = put_const(alloc, net, word_of(kind), first)?;
     Ok(plain(number))
 }
 
 /// Puts in an element of a Ground.
-fn ground<'a>(
-    alloc: Global,
-    net: &mut Netlist,
-    design: Design<'a>,
-    place: Place,
-    one: &Block,
-    operands: &[u32],
-) -> Result<Entry, OutOfMemory>
-    requires shown { IsShown design.checked.now.diagram
-        (attributes_of design.checked.now.diagram) place.block one.now place.port place.element }
-    requires kind { one.now.kind ≡ Kind.Ground }
-    ensures { IfOk result (PutsEntry design.entry.checked.now.diagram (timing_for design.entry)
-        net.old net.new place.block one.now place.port place.element operands.now) }
+fn ground<'a>(alloc: Global, net: &mut Netlist, site: Site<'a>) -> Result<Entry, OutOfMemory>
+    requires shown { IsSite site }
+    requires kind { site.one.now.kind ≡ Kind.Ground }
+    ensures { IfOk result (Puts site.entry net.old net.new) }
 {
-    design.checked.keeps_rules();
+    site.design.checked.keeps_rules();
     operations_prepare();
-    let _path = &one.path;
-    let _count = operands.len();
-    let kind = design.checked.result(place.block);
+    let kind = site.design.checked.result(site.place.block);
     let number = put_const(alloc, net, word_of(kind), 0)?;
     Ok(plain(number))
 }
@@ -119,57 +91,34 @@ fn ground<'a>(
 pub fn put_entry<'a>(
     alloc: Global,
     net: &mut Netlist,
-    design: Design<'a>,
-    place: Place,
-    one: &Block,
+    site: Site<'a>,
     types: &[FxType],
-    operands: &[u32],
 ) -> Result<Entry, OutOfMemory>
-    requires designed { IsDesigned design }
-    requires cycles { net.old.cycles ≡ design.plan.now.cycles }
-    requires shown { IsShown design.checked.now.diagram
-        (attributes_of design.checked.now.diagram) place.block one.now place.port place.element }
-    requires types { types.now ≡ types_into design.checked.now.diagram
-        (attributes_of design.checked.now.diagram) place.block one.now.inputs }
-    requires operands { AreArgs net.old (operand_types design.checked.now.diagram
-        (attributes_of design.checked.now.diagram) place.block one.now place.port one.now.kind)
-        operands.now }
-    ensures { IfOk result (PutsEntry design.entry.checked.now.diagram (timing_for design.entry)
-        net.old net.new place.block one.now place.port place.element operands.now) }
+    requires designed { IsDesigned site.design }
+    requires cycles { net.old.cycles ≡ site.design.plan.now.cycles }
+    requires shown { IsSite site }
+    requires types { types.now ≡ types_at site }
+    requires operands { HasOperands net.old site site.one.now.kind }
+    ensures { IfOk result (Puts site.entry net.old net.new) }
 {
-    match &one.kind {
+    match &site.one.kind {
         Kind::Inport { .. } | Kind::Mux { .. } | Kind::Demux { .. } | Kind::RateTransition { .. } =>
-            Ok(handed(net, design, place, one, operands)),
-        Kind::Constant { value } => {
-            constant(alloc, net, design, place, one, operands, value.as_slice())
-        }
-        Kind::Ground => ground(alloc, net, design, place, one, operands),
-        Kind::Gain { value, .. } => {
-            let value = value.as_slice();
-            scaled(alloc, net, design, place, one, types, operands, value)
-        }
+            Ok(handed(net, site)),
+        Kind::Constant { value } => constant(alloc, net, site, value.as_slice()),
+        Kind::Ground => ground(alloc, net, site),
+        Kind::Gain { value, .. } => scaled(alloc, net, site, types, value.as_slice()),
         Kind::Switch {
             criterion,
             threshold,
-        } => {
-            let list = threshold.as_slice();
-            let criterion = *criterion;
-            switched(
-                alloc, net, design, place, one, types, operands, criterion, list,
-            )
-        }
-        Kind::EnableTest => tested(alloc, net, design, place, one, types, operands),
+        } => switched(alloc, net, site, types, *criterion, threshold.as_slice()),
+        Kind::EnableTest => tested(alloc, net, site, types),
         Kind::Delay {
             length,
             initial,
             reset,
-        } => {
-            let initial = initial.as_slice();
-            delayed(net, design, place, one, operands, *length, initial, *reset)
-        }
+        } => delayed(net, site, *length, initial.as_slice(), *reset),
         Kind::EnOut { reset, initial } => {
-            let initial = initial.as_slice();
-            passed_out(alloc, net, design, place, one, operands, initial, *reset)
+            passed_out(alloc, net, site, initial.as_slice(), *reset)
         }
         Kind::Sum { .. }
         | Kind::Product
@@ -177,7 +126,7 @@ pub fn put_entry<'a>(
         | Kind::Logic { .. }
         | Kind::Convert { .. }
         | Kind::Pass { .. }
-        | Kind::Outport { .. } => put_worked(alloc, net, design, place, one, types, operands),
+        | Kind::Outport { .. } => put_worked(alloc, net, site, types),
         Kind::Terminator => unreachable!(),
     }
 }

@@ -4,11 +4,10 @@ ghost use Rattle.dg_model.specs.declared.kind.Kind.{Kind};
 ghost use Rattle.dg_model.specs.Attributes.{attributes_of};
 ghost use Rattle.dg_model.specs.declared.row.Inherited.{Inherited};
 ghost use Rattle.dg_model.specs.Library.{row_of};
-ghost use Rattle.dg_model.specs.Solves.{IsShown};
 ghost use Rattle.dg_model.specs.Wires.{period_into};
-ghost use Rattle.hw_lower.specs.Lowered.{AreArgs};
 ghost use Rattle.hw_build.specs.inner.Designed.{IsDesigned, timing_for};
-ghost use Rattle.hw_build.specs.inner.Entries.{IsFrameOf, PutsEntry, operand_types};
+ghost use Rattle.hw_build.specs.inner.Entries.{IsFrameOf};
+ghost use Rattle.hw_build.specs.inner.Sites.{HasOperands, IsSite, Puts};
 
 use crate::design::Design;
 use crate::entries::{Entry, handed};
@@ -16,9 +15,10 @@ use crate::laws::schedules_are_timed;
 use crate::lowering::stored;
 use crate::operands::line_into;
 use crate::parts::{put_comb, put_const, word_of};
+use crate::site::Site;
 use crate::states::{put_enabled_series, put_series};
 use dg_model::{Block, Checked};
-use dg_tables::{Place, operations_prepare};
+use dg_tables::operations_prepare;
 use fx_io::OutOfMemory;
 use fx_type::Decimal;
 use hw_net::{Frame, NetOp, Netlist};
@@ -56,34 +56,27 @@ pub fn last_slot<'a>(design: Design<'a>, block: u32, frame: Frame) -> u32
 /// Puts in an element of a Delay in an enabled subsystem.
 fn keep_enabled<'a>(
     net: &mut Netlist,
-    design: Design<'a>,
-    place: Place,
-    one: &Block,
-    operands: &[u32],
+    site: Site<'a>,
     count: u32,
     initial: &[Decimal],
     reset: bool,
 ) -> Result<Entry, OutOfMemory>
-    requires designed { IsDesigned design }
-    requires cycles { net.old.cycles ≡ design.plan.now.cycles }
-    requires shown { IsShown design.checked.now.diagram
-        (attributes_of design.checked.now.diagram) place.block one.now place.port place.element }
-    requires kind { one.now.kind ≡ Kind.Delay count initial.now reset }
-    requires enable { IsSome one.now.enable }
-    requires operands { AreArgs net.old (operand_types design.checked.now.diagram
-        (attributes_of design.checked.now.diagram) place.block one.now place.port
-        (Kind.Delay count initial.now reset)) operands.now }
-    ensures { IfOk result (PutsEntry design.entry.checked.now.diagram (timing_for design.entry)
-        net.old net.new place.block one.now place.port place.element operands.now) }
+    requires designed { IsDesigned site.design }
+    requires cycles { net.old.cycles ≡ site.design.plan.now.cycles }
+    requires shown { IsSite site }
+    requires kind { site.one.now.kind ≡ Kind.Delay count initial.now reset }
+    requires enable { IsSome site.one.now.enable }
+    requires operands { HasOperands net.old site (Kind.Delay count initial.now reset) }
+    ensures { IfOk result (Puts site.entry net.old net.new) }
 {
-    design.checked.keeps_rules();
+    site.design.checked.keeps_rules();
     operations_prepare();
     periods_are_above();
-    let kind = design.checked.result(place.block);
-    let first = stored(design.checked, place, one, initial, kind);
-    let frame = own_frame(design, place.block, one);
+    let kind = site.design.checked.result(site.place.block);
+    let first = stored(site, initial, kind);
+    let frame = own_frame(site.design, site.place.block, site.one);
     let word = word_of(kind);
-    let (from, enable) = (operands[0], operands[1]);
+    let (from, enable) = (site.operands[0], site.operands[1]);
     let series = put_enabled_series(net, word, frame, count, enable, reset, first, from)?;
     Ok(Entry {
         net: series.last,
@@ -95,38 +88,30 @@ fn keep_enabled<'a>(
 /// Puts in an element of a Delay whose source never changes.
 fn keep_still<'a>(
     net: &mut Netlist,
-    design: Design<'a>,
-    place: Place,
-    one: &Block,
-    operands: &[u32],
+    site: Site<'a>,
     count: u32,
     initial: &[Decimal],
     reset: bool,
 ) -> Result<Entry, OutOfMemory>
-    requires designed { IsDesigned design }
-    requires cycles { net.old.cycles ≡ design.plan.now.cycles }
-    requires shown { IsShown design.checked.now.diagram
-        (attributes_of design.checked.now.diagram) place.block one.now place.port place.element }
-    requires kind { one.now.kind ≡ Kind.Delay count initial.now reset }
-    requires enable { one.now.enable ≡ None }
-    requires still { period_into design.checked.now.diagram
-        (attributes_of design.checked.now.diagram) place.block 1 ≡ None }
-    requires operands { AreArgs net.old (operand_types design.checked.now.diagram
-        (attributes_of design.checked.now.diagram) place.block one.now place.port
-        (Kind.Delay count initial.now reset)) operands.now }
-    ensures { IfOk result (PutsEntry design.entry.checked.now.diagram (timing_for design.entry)
-        net.old net.new place.block one.now place.port place.element operands.now) }
+    requires designed { IsDesigned site.design }
+    requires cycles { net.old.cycles ≡ site.design.plan.now.cycles }
+    requires shown { IsSite site }
+    requires kind { site.one.now.kind ≡ Kind.Delay count initial.now reset }
+    requires enable { site.one.now.enable ≡ None }
+    requires still { period_into site.design.checked.now.diagram
+        (attributes_of site.design.checked.now.diagram) site.place.block 1 ≡ None }
+    requires operands { HasOperands net.old site (Kind.Delay count initial.now reset) }
+    ensures { IfOk result (Puts site.entry net.old net.new) }
 {
-    design.checked.keeps_rules();
+    site.design.checked.keeps_rules();
     operations_prepare();
     periods_are_above();
-    let kind = design.checked.result(place.block);
-    let first = stored(design.checked, place, one, initial, kind);
-    let frame = own_frame(design, place.block, one);
-    let slot = last_slot(design, place.block, frame);
-    let from = operands[0];
+    let kind = site.design.checked.result(site.place.block);
+    let first = stored(site, initial, kind);
+    let frame = own_frame(site.design, site.place.block, site.one);
+    let slot = last_slot(site.design, site.place.block, frame);
+    let from = site.operands[0];
     let series = put_series(net, word_of(kind), frame, slot, count, first, from)?;
-    let _ = reset;
     Ok(Entry {
         net: series.last,
         state: series.first,
@@ -138,32 +123,25 @@ fn keep_still<'a>(
 fn pass_held<'a>(
     alloc: Global,
     net: &mut Netlist,
-    design: Design<'a>,
-    place: Place,
-    one: &Block,
-    operands: &[u32],
+    site: Site<'a>,
     initial: &[Decimal],
 ) -> Result<Entry, OutOfMemory>
-    requires designed { IsDesigned design }
-    requires cycles { net.old.cycles ≡ design.plan.now.cycles }
-    requires shown { IsShown design.checked.now.diagram
-        (attributes_of design.checked.now.diagram) place.block one.now place.port place.element }
-    requires kind { one.now.kind ≡ Kind.EnOut false initial.now }
-    requires enable { IsSome one.now.enable }
-    requires operands { AreArgs net.old (operand_types design.checked.now.diagram
-        (attributes_of design.checked.now.diagram) place.block one.now place.port
-        (Kind.EnOut false initial.now)) operands.now }
-    ensures { IfOk result (PutsEntry design.entry.checked.now.diagram (timing_for design.entry)
-        net.old net.new place.block one.now place.port place.element operands.now) }
+    requires designed { IsDesigned site.design }
+    requires cycles { net.old.cycles ≡ site.design.plan.now.cycles }
+    requires shown { IsSite site }
+    requires kind { site.one.now.kind ≡ Kind.EnOut false initial.now }
+    requires enable { IsSome site.one.now.enable }
+    requires operands { HasOperands net.old site (Kind.EnOut false initial.now) }
+    ensures { IfOk result (Puts site.entry net.old net.new) }
 {
-    design.checked.keeps_rules();
+    site.design.checked.keeps_rules();
     operations_prepare();
     periods_are_above();
-    let kind = design.checked.result(place.block);
-    let first = stored(design.checked, place, one, initial, kind);
-    let frame = own_frame(design, place.block, one);
+    let kind = site.design.checked.result(site.place.block);
+    let first = stored(site, initial, kind);
+    let frame = own_frame(site.design, site.place.block, site.one);
     let word = word_of(kind);
-    let (from, enable) = (operands[0], operands[1]);
+    let (from, enable) = (site.operands[0], site.operands[1]);
     let series = put_enabled_series(net, word, frame, 1, enable, false, first, from)?;
     let reads = [enable, from, series.last];
     let chosen = put_comb(alloc, net, word, NetOp::Choose, &reads)?;
@@ -179,28 +157,21 @@ fn pass_held<'a>(
 fn pass_reset<'a>(
     alloc: Global,
     net: &mut Netlist,
-    design: Design<'a>,
-    place: Place,
-    one: &Block,
-    operands: &[u32],
+    site: Site<'a>,
     initial: &[Decimal],
 ) -> Result<Entry, OutOfMemory>
-    requires shown { IsShown design.checked.now.diagram
-        (attributes_of design.checked.now.diagram) place.block one.now place.port place.element }
-    requires kind { one.now.kind ≡ Kind.EnOut true initial.now }
-    requires enable { IsSome one.now.enable }
-    requires operands { AreArgs net.old (operand_types design.checked.now.diagram
-        (attributes_of design.checked.now.diagram) place.block one.now place.port
-        (Kind.EnOut true initial.now)) operands.now }
-    ensures { IfOk result (PutsEntry design.entry.checked.now.diagram (timing_for design.entry)
-        net.old net.new place.block one.now place.port place.element operands.now) }
+    requires shown { IsSite site }
+    requires kind { site.one.now.kind ≡ Kind.EnOut true initial.now }
+    requires enable { IsSome site.one.now.enable }
+    requires operands { HasOperands net.old site (Kind.EnOut true initial.now) }
+    ensures { IfOk result (Puts site.entry net.old net.new) }
 {
-    design.checked.keeps_rules();
+    site.design.checked.keeps_rules();
     operations_prepare();
-    let kind = design.checked.result(place.block);
-    let first = stored(design.checked, place, one, initial, kind);
+    let kind = site.design.checked.result(site.place.block);
+    let first = stored(site, initial, kind);
     let word = word_of(kind);
-    let (from, enable) = (operands[0], operands[1]);
+    let (from, enable) = (site.operands[0], site.operands[1]);
     let constant = put_const(alloc, net, word, first)?;
     let reads = [enable, from, constant];
     let chosen = put_comb(alloc, net, word, NetOp::Choose, &reads)?;
@@ -225,58 +196,44 @@ fn driver_period(checked: &Checked, block: u32, one: &Block) -> Option<u32>
 /// Puts in an element of a Delay outside enabled subsystems.
 fn delayed_outside<'a>(
     net: &mut Netlist,
-    design: Design<'a>,
-    place: Place,
-    one: &Block,
-    operands: &[u32],
+    site: Site<'a>,
     count: u32,
     initial: &[Decimal],
     reset: bool,
 ) -> Result<Entry, OutOfMemory>
-    requires designed { IsDesigned design }
-    requires cycles { net.old.cycles ≡ design.plan.now.cycles }
-    requires shown { IsShown design.checked.now.diagram
-        (attributes_of design.checked.now.diagram) place.block one.now place.port place.element }
-    requires kind { one.now.kind ≡ Kind.Delay count initial.now reset }
-    requires enable { one.now.enable ≡ None }
-    requires operands { AreArgs net.old (operand_types design.checked.now.diagram
-        (attributes_of design.checked.now.diagram) place.block one.now place.port one.now.kind)
-        operands.now }
-    ensures { IfOk result (PutsEntry design.entry.checked.now.diagram (timing_for design.entry)
-        net.old net.new place.block one.now place.port place.element operands.now) }
+    requires designed { IsDesigned site.design }
+    requires cycles { net.old.cycles ≡ site.design.plan.now.cycles }
+    requires shown { IsSite site }
+    requires kind { site.one.now.kind ≡ Kind.Delay count initial.now reset }
+    requires enable { site.one.now.enable ≡ None }
+    requires operands { HasOperands net.old site site.one.now.kind }
+    ensures { IfOk result (Puts site.entry net.old net.new) }
 {
-    design.checked.keeps_rules();
-    match driver_period(design.checked, place.block, one) {
-        Some(_) => Ok(handed(net, design, place, one, operands)),
-        None => keep_still(net, design, place, one, operands, count, initial, reset),
+    site.design.checked.keeps_rules();
+    match driver_period(site.design.checked, site.place.block, site.one) {
+        Some(_) => Ok(handed(net, site)),
+        None => keep_still(net, site, count, initial, reset),
     }
 }
 
 /// Puts in an element of a Delay: what its line shows, or the last of registers of its own.
 pub fn delayed<'a>(
     net: &mut Netlist,
-    design: Design<'a>,
-    place: Place,
-    one: &Block,
-    operands: &[u32],
+    site: Site<'a>,
     count: u32,
     initial: &[Decimal],
     reset: bool,
 ) -> Result<Entry, OutOfMemory>
-    requires designed { IsDesigned design }
-    requires cycles { net.old.cycles ≡ design.plan.now.cycles }
-    requires shown { IsShown design.checked.now.diagram
-        (attributes_of design.checked.now.diagram) place.block one.now place.port place.element }
-    requires kind { one.now.kind ≡ Kind.Delay count initial.now reset }
-    requires operands { AreArgs net.old (operand_types design.checked.now.diagram
-        (attributes_of design.checked.now.diagram) place.block one.now place.port one.now.kind)
-        operands.now }
-    ensures { IfOk result (PutsEntry design.entry.checked.now.diagram (timing_for design.entry)
-        net.old net.new place.block one.now place.port place.element operands.now) }
+    requires designed { IsDesigned site.design }
+    requires cycles { net.old.cycles ≡ site.design.plan.now.cycles }
+    requires shown { IsSite site }
+    requires kind { site.one.now.kind ≡ Kind.Delay count initial.now reset }
+    requires operands { HasOperands net.old site site.one.now.kind }
+    ensures { IfOk result (Puts site.entry net.old net.new) }
 {
-    match one.enable {
-        Some(_) => keep_enabled(net, design, place, one, operands, count, initial, reset),
-        None => delayed_outside(net, design, place, one, operands, count, initial, reset),
+    match site.one.enable {
+        Some(_) => keep_enabled(net, site, count, initial, reset),
+        None => delayed_outside(net, site, count, initial, reset),
     }
 }
 
@@ -285,28 +242,21 @@ pub fn delayed<'a>(
 pub fn passed_out<'a>(
     alloc: Global,
     net: &mut Netlist,
-    design: Design<'a>,
-    place: Place,
-    one: &Block,
-    operands: &[u32],
+    site: Site<'a>,
     initial: &[Decimal],
     reset: bool,
 ) -> Result<Entry, OutOfMemory>
-    requires designed { IsDesigned design }
-    requires cycles { net.old.cycles ≡ design.plan.now.cycles }
-    requires shown { IsShown design.checked.now.diagram
-        (attributes_of design.checked.now.diagram) place.block one.now place.port place.element }
-    requires kind { one.now.kind ≡ Kind.EnOut reset initial.now }
-    requires operands { AreArgs net.old (operand_types design.checked.now.diagram
-        (attributes_of design.checked.now.diagram) place.block one.now place.port one.now.kind)
-        operands.now }
-    ensures { IfOk result (PutsEntry design.entry.checked.now.diagram (timing_for design.entry)
-        net.old net.new place.block one.now place.port place.element operands.now) }
+    requires designed { IsDesigned site.design }
+    requires cycles { net.old.cycles ≡ site.design.plan.now.cycles }
+    requires shown { IsSite site }
+    requires kind { site.one.now.kind ≡ Kind.EnOut reset initial.now }
+    requires operands { HasOperands net.old site site.one.now.kind }
+    ensures { IfOk result (Puts site.entry net.old net.new) }
 {
-    design.checked.keeps_rules();
+    site.design.checked.keeps_rules();
     if reset {
-        pass_reset(alloc, net, design, place, one, operands, initial)
+        pass_reset(alloc, net, site, initial)
     } else {
-        pass_held(alloc, net, design, place, one, operands, initial)
+        pass_held(alloc, net, site, initial)
     }
 }

@@ -35,6 +35,7 @@ mod pipelines;
 mod ports;
 mod products;
 mod shared;
+mod site;
 mod spots;
 mod states;
 mod wants;

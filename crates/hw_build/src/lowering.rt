@@ -2,18 +2,18 @@
 ghost use Rattle.std.specs.Prelude.{◌≡◌, ◌∷◌, [], ℤ, Some, IfOk, OnOk, length, slice_get};
 ghost use Rattle.fx_type.specs.FxType.{InRange, IsType, is_signed, width_of};
 ghost use Rattle.dg_model.specs.Attributes.{attributes_of};
-ghost use Rattle.dg_model.specs.Equation.{IsOpOf, StoresEntry, signs_of};
+ghost use Rattle.dg_model.specs.Equation.{StoresEntry, signs_of};
 ghost use Rattle.dg_model.specs.Library.{row_of};
-ghost use Rattle.dg_model.specs.Solves.{IsShown};
-ghost use Rattle.dg_model.specs.Wires.{type_into, types_into};
 ghost use Rattle.hw_lower.specs.Lowered.{AreArgs, IsLowered, Lowers, multiply_of};
 ghost use Rattle.hw_net.specs.Netlist.{HasWord};
 ghost use Rattle.hw_build.specs.inner.Entries.{number_behind};
-ghost use Rattle.hw_build.specs.inner.Lowering.{conversion_of, operation_at};
+ghost use Rattle.hw_build.specs.inner.Lowering.{conversion_of};
+ghost use Rattle.hw_build.specs.inner.Sites.{IsOpAt, IsSite, operation_for, types_at};
 
 use crate::firsts::place_in;
+use crate::site::Site;
 use dg_model::{Block, Checked, Op, OpCall};
-use dg_tables::{Place, operations_prepare};
+use dg_tables::operations_prepare;
 use fx_io::OutOfMemory;
 use fx_type::{Decimal, FxType};
 use hw_lower::lower;
@@ -21,20 +21,18 @@ use hw_net::Netlist;
 use std::alloc::Global;
 
 /// The entry of a list of a block for an element, stored in a type.
-pub fn stored(checked: &Checked, place: Place, one: &Block, list: &[Decimal], kind: FxType) -> i128
-    requires shown { IsShown checked.now.diagram (attributes_of checked.now.diagram)
-        place.block one.now place.port place.element }
-    requires list { (row_of one.now.kind).signal.lists ≡ list.now ∷ [] }
+pub fn stored<'a>(site: Site<'a>, list: &[Decimal], kind: FxType) -> i128
+    requires shown { IsSite site }
+    requires list { (row_of site.one.now.kind).signal.lists ≡ list.now ∷ [] }
     requires kind { IsType kind }
-    ensures entry { StoresEntry list.now place.element kind result }
+    ensures entry { StoresEntry list.now site.entry.place.element kind result }
     ensures range { InRange kind result }
-    ensures one { (v : ℤ) → StoresEntry list.now place.element kind v → v ≡ result }
+    ensures one { (v : ℤ) → StoresEntry list.now site.entry.place.element kind v → v ≡ result }
 {
-    checked.keeps_rules();
+    site.design.checked.keeps_rules();
     operations_prepare();
     fx_round::storing_gives_one();
-    let _path = &one.path;
-    let decimal = list[place_in(list.len(), place.element)];
+    let decimal = list[place_in(list.len(), site.place.element)];
     fx_round::to_stored(decimal, kind)
 }
 
@@ -64,42 +62,37 @@ pub fn multiply_behind(net: &Netlist, op: Op) -> Result<Option<u32>, OutOfMemory
 }
 
 /// Puts in the operation of a block on the nets that its inputs offer to an element.
-pub fn worked(
+pub fn worked<'a>(
     alloc: Global,
     net: &mut Netlist,
-    checked: &Checked,
-    place: Place,
-    one: &Block,
+    site: Site<'a>,
     types: &[FxType],
-    operands: &[u32],
     op: Op,
     signs: &[bool],
 ) -> Result<u32, OutOfMemory>
-    requires block { slice_get checked.now.diagram.blocks place.block ≡ Some one.now }
-    requires types { types.now ≡ types_into checked.now.diagram
-        (attributes_of checked.now.diagram) place.block one.now.inputs }
-    requires operands { AreArgs net.old types.now operands.now }
-    requires op { IsOpOf one.now.kind place.element
-        ((attributes_of checked.now.diagram).param_at place.block)
-        (type_into checked.now.diagram (attributes_of checked.now.diagram) place.block 2) op }
-    requires signs { signs.now ≡ signs_of one.now.kind }
-    ensures lowers { OnOk result (Lowers net.old net.new (operation_at checked.now.diagram
-        (attributes_of checked.now.diagram) place.block one.now op) operands.now) }
-    ensures lowered { IfOk result (λ number.
-        IsLowered net.old net.new (operation_at checked.now.diagram
-        (attributes_of checked.now.diagram) place.block one.now op) operands.now number) }
+    requires block { slice_get site.design.checked.now.diagram.blocks site.place.block
+        ≡ Some site.one.now }
+    requires types { types.now ≡ types_at site }
+    requires operands { AreArgs net.old types.now site.operands.now }
+    requires op { IsOpAt site op }
+    requires signs { signs.now ≡ signs_of site.one.now.kind }
+    ensures lowers { OnOk result (Lowers net.old net.new (operation_for site.entry op)
+        site.entry.operands.now) }
+    ensures lowered { IfOk result (IsLowered net.old net.new (operation_for site.entry op)
+        site.entry.operands.now) }
 {
+    let checked = site.design.checked;
     checked.keeps_rules();
     operations_prepare();
     let call = OpCall {
         op,
         signs,
         types,
-        result: checked.result(place.block),
-        rounding: one.rounding,
-        saturate: one.saturate,
+        result: checked.result(site.place.block),
+        rounding: site.one.rounding,
+        saturate: site.one.saturate,
     };
-    lower(alloc, net, &call, operands)
+    lower(alloc, net, &call, site.operands)
 }
 
 /// Puts in the conversion of what a shared multiplier gave an element, which is of this type, to that

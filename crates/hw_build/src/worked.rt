@@ -7,18 +7,18 @@ ghost use Rattle.fx_type.specs.FxType.{is_signed, width_of};
 ghost use Rattle.dg_model.specs.declared.kind.Kind.{Kind};
 ghost use Rattle.dg_model.specs.Attributes.{attributes_of};
 ghost use Rattle.dg_model.specs.Equation.{IsOpOf, signs_of};
-ghost use Rattle.dg_model.specs.Solves.{IsShown};
-ghost use Rattle.dg_model.specs.Wires.{type_into, types_into};
-ghost use Rattle.hw_lower.specs.Lowered.{AreArgs};
+ghost use Rattle.dg_model.specs.Wires.{type_into};
 ghost use Rattle.hw_net.specs.Netlist.{HasWord};
 ghost use Rattle.hw_sched.specs.Slots.{right_of};
 ghost use Rattle.hw_build.specs.inner.Designed.{timing_for};
-ghost use Rattle.hw_build.specs.inner.Entries.{PutsEntry, PutsShared, operand_types, works_plainly};
+ghost use Rattle.hw_build.specs.inner.Entries.{PutsShared, works_plainly};
+ghost use Rattle.hw_build.specs.inner.Sites.{HasOperands, IsOpAt, IsSite, Puts, types_at};
 
 use crate::controls::some_above;
 use crate::design::Design;
 use crate::entries::{Entry, plain};
 use crate::lowering::{converted, multiply_behind, stored, worked};
+use crate::site::Site;
 use dg_model::{Block, Criterion, Kind, Op};
 use dg_tables::{Place, operations_prepare};
 use fx_io::OutOfMemory;
@@ -30,42 +30,23 @@ use std::alloc::Global;
 pub fn carried<'a>(
     alloc: Global,
     net: &mut Netlist,
-    design: Design<'a>,
-    place: Place,
-    one: &Block,
+    site: Site<'a>,
     types: &[FxType],
-    operands: &[u32],
     op: Op,
     signs: &[bool],
 ) -> Result<Entry, OutOfMemory>
-    requires block { slice_get design.checked.now.diagram.blocks place.block ≡ Some one.now }
-    requires types { types.now ≡ types_into design.checked.now.diagram
-        (attributes_of design.checked.now.diagram) place.block one.now.inputs }
-    requires operands { AreArgs net.old (operand_types design.checked.now.diagram
-        (attributes_of design.checked.now.diagram) place.block one.now place.port one.now.kind)
-        operands.now }
-    requires op { IsOpOf one.now.kind place.element
-        ((attributes_of design.checked.now.diagram).param_at place.block)
-        (type_into design.checked.now.diagram (attributes_of design.checked.now.diagram)
-        place.block 2) op }
-    requires signs { signs.now ≡ signs_of one.now.kind }
-    ensures { IfOk result (PutsEntry design.entry.checked.now.diagram (timing_for design.entry)
-        net.old net.new place.block one.now place.port place.element operands.now) }
+    requires block { slice_get site.design.checked.now.diagram.blocks site.place.block
+        ≡ Some site.one.now }
+    requires types { types.now ≡ types_at site }
+    requires operands { HasOperands net.old site site.one.now.kind }
+    requires op { IsOpAt site op }
+    requires signs { signs.now ≡ signs_of site.one.now.kind }
+    ensures { IfOk result (Puts site.entry net.old net.new) }
 {
-    let kind = design.checked.result(place.block);
+    let kind = site.design.checked.result(site.place.block);
     let _ = kind;
     let multiply = multiply_behind(net, op)?;
-    let number = worked(
-        alloc,
-        net,
-        design.checked,
-        place,
-        one,
-        types,
-        operands,
-        op,
-        signs,
-    )?;
+    let number = worked(alloc, net, site, types, op, signs)?;
     Ok(Entry {
         net: number,
         state: number,
@@ -77,92 +58,67 @@ pub fn carried<'a>(
 pub fn scaled<'a>(
     alloc: Global,
     net: &mut Netlist,
-    design: Design<'a>,
-    place: Place,
-    one: &Block,
+    site: Site<'a>,
     types: &[FxType],
-    operands: &[u32],
     value: &[Decimal],
 ) -> Result<Entry, OutOfMemory>
-    requires shown { IsShown design.checked.now.diagram
-        (attributes_of design.checked.now.diagram) place.block one.now place.port place.element }
-    requires kind { (param : TypeSpec) × (one.now.kind ≡ Kind.Gain value.now param) }
-    requires types { types.now ≡ types_into design.checked.now.diagram
-        (attributes_of design.checked.now.diagram) place.block one.now.inputs }
-    requires operands { AreArgs net.old (operand_types design.checked.now.diagram
-        (attributes_of design.checked.now.diagram) place.block one.now place.port one.now.kind)
-        operands.now }
-    ensures { IfOk result (PutsEntry design.entry.checked.now.diagram (timing_for design.entry)
-        net.old net.new place.block one.now place.port place.element operands.now) }
+    requires shown { IsSite site }
+    requires kind { (param : TypeSpec) × (site.one.now.kind ≡ Kind.Gain value.now param) }
+    requires types { types.now ≡ types_at site }
+    requires operands { HasOperands net.old site site.one.now.kind }
+    ensures { IfOk result (Puts site.entry net.old net.new) }
 {
-    design.checked.keeps_rules();
+    site.design.checked.keeps_rules();
     operations_prepare();
-    let param = design.checked.param(place.block);
-    let coefficient = stored(design.checked, place, one, value, param);
+    let param = site.design.checked.param(site.place.block);
+    let coefficient = stored(site, value, param);
     let op = Op::Gain { coefficient, param };
-    carried(alloc, net, design, place, one, types, operands, op, &[])
+    carried(alloc, net, site, types, op, &[])
 }
 
 /// Puts in an element of a Switch.
 pub fn switched<'a>(
     alloc: Global,
     net: &mut Netlist,
-    design: Design<'a>,
-    place: Place,
-    one: &Block,
+    site: Site<'a>,
     types: &[FxType],
-    operands: &[u32],
     criterion: Criterion,
     list: &[Decimal],
 ) -> Result<Entry, OutOfMemory>
-    requires shown { IsShown design.checked.now.diagram
-        (attributes_of design.checked.now.diagram) place.block one.now place.port place.element }
-    requires kind { one.now.kind ≡ Kind.Switch criterion list.now }
-    requires types { types.now ≡ types_into design.checked.now.diagram
-        (attributes_of design.checked.now.diagram) place.block one.now.inputs }
-    requires operands { AreArgs net.old (operand_types design.checked.now.diagram
-        (attributes_of design.checked.now.diagram) place.block one.now place.port one.now.kind)
-        operands.now }
-    ensures { IfOk result (PutsEntry design.entry.checked.now.diagram (timing_for design.entry)
-        net.old net.new place.block one.now place.port place.element operands.now) }
+    requires shown { IsSite site }
+    requires kind { site.one.now.kind ≡ Kind.Switch criterion list.now }
+    requires types { types.now ≡ types_at site }
+    requires operands { HasOperands net.old site site.one.now.kind }
+    ensures { IfOk result (Puts site.entry net.old net.new) }
 {
-    design.checked.keeps_rules();
+    site.design.checked.keeps_rules();
     operations_prepare();
-    let threshold = stored(design.checked, place, one, list, types[1]);
+    let threshold = stored(site, list, types[1]);
     let op = Op::Switch {
         criterion,
         threshold,
     };
-    carried(alloc, net, design, place, one, types, operands, op, &[])
+    carried(alloc, net, site, types, op, &[])
 }
 
 /// Puts in the element of the control of an enabled subsystem.
 pub fn tested<'a>(
     alloc: Global,
     net: &mut Netlist,
-    design: Design<'a>,
-    place: Place,
-    one: &Block,
+    site: Site<'a>,
     types: &[FxType],
-    operands: &[u32],
 ) -> Result<Entry, OutOfMemory>
-    requires shown { IsShown design.checked.now.diagram
-        (attributes_of design.checked.now.diagram) place.block one.now place.port place.element }
-    requires kind { one.now.kind ≡ Kind.EnableTest }
-    requires types { types.now ≡ types_into design.checked.now.diagram
-        (attributes_of design.checked.now.diagram) place.block one.now.inputs }
-    requires operands { AreArgs net.old (operand_types design.checked.now.diagram
-        (attributes_of design.checked.now.diagram) place.block one.now place.port one.now.kind)
-        operands.now }
-    ensures { IfOk result (PutsEntry design.entry.checked.now.diagram (timing_for design.entry)
-        net.old net.new place.block one.now place.port place.element operands.now) }
+    requires shown { IsSite site }
+    requires kind { site.one.now.kind ≡ Kind.EnableTest }
+    requires types { types.now ≡ types_at site }
+    requires operands { HasOperands net.old site site.one.now.kind }
+    ensures { IfOk result (Puts site.entry net.old net.new) }
 {
-    design.checked.keeps_rules();
+    site.design.checked.keeps_rules();
     operations_prepare();
-    let _path = &one.path;
-    let own = design.checked.result(place.block);
+    let own = site.design.checked.result(site.place.block);
     let _ = own;
-    let number = some_above(alloc, net, types[0], operands)?;
+    let number = some_above(alloc, net, types[0], site.operands)?;
     Ok(plain(number))
 }
 
@@ -205,26 +161,18 @@ fn plain_op(kind: &Kind) -> Op
 pub fn put_worked<'a>(
     alloc: Global,
     net: &mut Netlist,
-    design: Design<'a>,
-    place: Place,
-    one: &Block,
+    site: Site<'a>,
     types: &[FxType],
-    operands: &[u32],
 ) -> Result<Entry, OutOfMemory>
-    requires shown { IsShown design.checked.now.diagram
-        (attributes_of design.checked.now.diagram) place.block one.now place.port place.element }
-    requires kind { works_plainly one.now.kind ≡ true }
-    requires types { types.now ≡ types_into design.checked.now.diagram
-        (attributes_of design.checked.now.diagram) place.block one.now.inputs }
-    requires operands { AreArgs net.old (operand_types design.checked.now.diagram
-        (attributes_of design.checked.now.diagram) place.block one.now place.port one.now.kind)
-        operands.now }
-    ensures { IfOk result (PutsEntry design.entry.checked.now.diagram (timing_for design.entry)
-        net.old net.new place.block one.now place.port place.element operands.now) }
+    requires shown { IsSite site }
+    requires kind { works_plainly site.one.now.kind ≡ true }
+    requires types { types.now ≡ types_at site }
+    requires operands { HasOperands net.old site site.one.now.kind }
+    ensures { IfOk result (Puts site.entry net.old net.new) }
 {
-    let op = plain_op(&one.kind);
-    let signs = one.kind.signs();
-    carried(alloc, net, design, place, one, types, operands, op, signs)
+    let op = plain_op(&site.one.kind);
+    let signs = site.one.kind.signs();
+    carried(alloc, net, site, types, op, signs)
 }
 
 /// Puts in an element of a shared block: the product of a shared multiplier, in the type that holds

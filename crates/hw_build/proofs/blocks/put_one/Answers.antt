@@ -48,7 +48,7 @@ put_entry-requires-clause-operands c =
       ordered = record { checked = c.keeps_rules.ensures.checked; ordered = c.keeps_rules.ensures.ordered };
       set = c.requires.set;
     } in
-    args_are c.args.setting known c.args.net.now c.requires.going c.args.place.block c.args.one.now c.args.place.port c.args.place.element c.requires.shown c.as_slice-nets.result.now c.requires.other (subst (Offer c.args.setting c.args.place.block c.args.one.now c.args.place.port c.args.place.element) (sym c.as_slice-nets.ensures) c.in_ok-operands.ensures)
+    args_are c.args.setting known c.args.net.now c.requires.going c.args.place.block c.args.one.now c.args.place.port c.args.place.element c.requires.shown c.as_slice.result.now c.requires.other (subst (Offer c.args.setting c.args.place.block c.args.one.now c.args.place.port c.args.place.element) (sym c.as_slice.ensures) c.in_ok-operands.ensures)
 
 pub returns : goal.returns
 returns c =
@@ -63,7 +63,7 @@ returns c =
       ordered = record { checked = c.keeps_rules.ensures.checked; ordered = c.keeps_rules.ensures.ordered };
       set = c.requires.set;
     } in
-    one_entered c.args.setting known c.args.net.now c.requires.going c.args.place.block c.args.one.now c.args.place.port c.args.place.element c.requires.shown c.as_slice-nets.result.now c.requires.other (subst (Offer c.args.setting c.args.place.block c.args.one.now c.args.place.port c.args.place.element) (sym c.as_slice-nets.ensures) c.in_ok-operands.ensures) c.put_entry.new.net c.in_ok-entry-2.entry c.in_ok-entry-2.ensures (sym c.at.ensures ∙ c.in_default.is)
+    one_entered c.args.setting known c.args.net.now c.requires.going c.args.place.block c.args.one.now c.args.place.port c.args.place.element c.requires.shown c.as_slice.result.now c.requires.other (subst (Offer c.args.setting c.args.place.block c.args.one.now c.args.place.port c.args.place.element) (sym c.as_slice.ensures) c.in_ok-operands.ensures) c.put_entry.new.net c.in_ok-entry-2.entry c.in_ok-entry-2.ensures (sym c.at.ensures ∙ c.in_default.is)
 
 pub at-requires : goal.at-requires
 at-requires c =
@@ -101,4 +101,4 @@ pub put_entry-requires-clause-cycles : goal.put_entry-requires-clause-cycles
 put_entry-requires-clause-cycles c = c.requires.going.going.cycles
 
 pub put_entry-requires-clause-types : goal.put_entry-requires-clause-types
-put_entry-requires-clause-types c = c.as_slice-types.ensures.value ∙ c.requires.inputs.types_are
+put_entry-requires-clause-types c = c.as_slice-2.ensures.value ∙ c.requires.inputs.types_are

@@ -9,12 +9,12 @@ use Rattle.hw_build.proofs.entries.put_entry.Goals as goal
 pub handed-requires-clause-hands : goal.handed-requires-clause-hands
 handed-requires-clause-hands c =
     elim c.in-Inport.is [
-      | inl here ↦ ap (hands_on c.args.one.now.enable (period_into c.args.design.checked.now.diagram (attributes_of c.args.design.checked.now.diagram) c.args.place.block 1)) here.2
+      | inl here ↦ ap (hands_on c.args.site.one.now.enable (period_into c.args.site.design.checked.now.diagram (attributes_of c.args.site.design.checked.now.diagram) c.args.site.place.block 1)) here.2
       | inr more ↦ elim more [
-        | inl here ↦ ap (hands_on c.args.one.now.enable (period_into c.args.design.checked.now.diagram (attributes_of c.args.design.checked.now.diagram) c.args.place.block 1)) here.1
+        | inl here ↦ ap (hands_on c.args.site.one.now.enable (period_into c.args.site.design.checked.now.diagram (attributes_of c.args.site.design.checked.now.diagram) c.args.site.place.block 1)) here.1
         | inr more ↦ elim more [
-          | inl here ↦ ap (hands_on c.args.one.now.enable (period_into c.args.design.checked.now.diagram (attributes_of c.args.design.checked.now.diagram) c.args.place.block 1)) here.1
-          | inr more ↦ ap (hands_on c.args.one.now.enable (period_into c.args.design.checked.now.diagram (attributes_of c.args.design.checked.now.diagram) c.args.place.block 1)) more.2
+          | inl here ↦ ap (hands_on c.args.site.one.now.enable (period_into c.args.site.design.checked.now.diagram (attributes_of c.args.site.design.checked.now.diagram) c.args.site.place.block 1)) here.1
+          | inr more ↦ ap (hands_on c.args.site.one.now.enable (period_into c.args.site.design.checked.now.diagram (attributes_of c.args.site.design.checked.now.diagram) c.args.site.place.block 1)) more.2
         ]
       ]
     ]
@@ -44,7 +44,7 @@ pub scaled-requires-clause-operands : goal.scaled-requires-clause-operands
 scaled-requires-clause-operands c = c.requires.operands
 
 pub scaled-requires-clause-kind : goal.scaled-requires-clause-kind
-scaled-requires-clause-kind c = (c.in-Gain.param, c.in-Gain.is ∙ ap (λ (list : List Decimal). Gain list c.in-Gain.param) (sym c.as_slice-value.ensures))
+scaled-requires-clause-kind c = (c.in-Gain.param, c.in-Gain.is ∙ ap (λ (list : List Decimal). Gain list c.in-Gain.param) (sym c.as_slice-in-Gain.ensures))
 
 pub switched-requires-clause-shown : goal.switched-requires-clause-shown
 switched-requires-clause-shown c = c.requires.shown
@@ -56,7 +56,7 @@ pub switched-requires-clause-operands : goal.switched-requires-clause-operands
 switched-requires-clause-operands c = c.requires.operands
 
 pub switched-requires-clause-kind : goal.switched-requires-clause-kind
-switched-requires-clause-kind c = c.in-Switch.is ∙ ap (Switch c.in-Switch.criterion) (sym c.as_slice-list.ensures)
+switched-requires-clause-kind c = c.in-Switch.is ∙ ap (Switch c.in-Switch.criterion) (sym c.as_slice-in-Switch.ensures)
 
 pub tested-requires-clause-shown : goal.tested-requires-clause-shown
 tested-requires-clause-shown c = c.requires.shown
@@ -83,7 +83,7 @@ pub delayed-requires-clause-operands : goal.delayed-requires-clause-operands
 delayed-requires-clause-operands c = c.requires.operands
 
 pub delayed-requires-clause-kind : goal.delayed-requires-clause-kind
-delayed-requires-clause-kind c = c.in-Delay.is ∙ ap (λ (list : List Decimal). Delay c.in-Delay.length list c.in-Delay.reset) (sym c.as_slice-initial.ensures)
+delayed-requires-clause-kind c = c.in-Delay.is ∙ ap (λ (list : List Decimal). Delay c.in-Delay.length list c.in-Delay.reset) (sym c.as_slice-in-Delay.ensures)
 
 pub passed_out-requires-clause-designed : goal.passed_out-requires-clause-designed
 passed_out-requires-clause-designed c = c.requires.designed
@@ -98,7 +98,7 @@ pub passed_out-requires-clause-operands : goal.passed_out-requires-clause-operan
 passed_out-requires-clause-operands c = c.requires.operands
 
 pub passed_out-requires-clause-kind : goal.passed_out-requires-clause-kind
-passed_out-requires-clause-kind c = c.in-EnOut.is ∙ ap (EnOut c.in-EnOut.reset) (sym c.as_slice-initial-in-EnOut.ensures)
+passed_out-requires-clause-kind c = c.in-EnOut.is ∙ ap (EnOut c.in-EnOut.reset) (sym c.as_slice-in-EnOut.ensures)
 
 pub put_worked-requires-clause-shown : goal.put_worked-requires-clause-shown
 put_worked-requires-clause-shown c = c.requires.shown

@@ -16,16 +16,16 @@ keep_still-requires-clause-still c = sym c.driver_period.ensures ∙ c.in-None.i
 
 pub keep_still-requires-clause-operands : goal.keep_still-requires-clause-operands
 keep_still-requires-clause-operands c =
-    let diagram = c.args.design.checked.now.diagram in
-    subst (λ (kind : Kind). AreArgs c.args.net.now (operand_types diagram (attributes_of diagram) c.args.place.block c.args.one.now c.args.place.port kind) c.args.operands.now) c.requires.kind c.requires.operands
+    let diagram = c.args.site.design.checked.now.diagram in
+    subst (λ (kind : Kind). AreArgs c.args.net.now (operand_types diagram (attributes_of diagram) c.args.site.place.block c.args.site.one.now c.args.site.place.port kind) c.args.site.operands.now) c.requires.kind c.requires.operands
 
 pub driver_period-requires-clause-some : goal.driver_period-requires-clause-some
 driver_period-requires-clause-some c =
-    let ports = subst (λ (kind : Kind). HasPorts kind c.args.one.now.inputs c.args.one.now.outputs) c.requires.kind (readable c.args.design.checked.now.diagram c.args.place.block c.args.one.now c.keeps_rules.ensures.checked c.requires.shown.block_is).ports in
+    let ports = subst (λ (kind : Kind). HasPorts kind c.args.site.one.now.inputs c.args.site.one.now.outputs) c.requires.kind (readable c.args.site.design.checked.now.diagram c.args.site.place.block c.args.site.one.now c.keeps_rules.ensures.checked c.requires.shown.block_is).ports in
     omega (arith, ports.0)
 
 pub handed-requires-clause-hands : goal.handed-requires-clause-hands
 handed-requires-clause-hands c =
-    let diagram = c.args.design.checked.now.diagram in
-    let driver : period_into diagram (attributes_of diagram) c.args.place.block 1 ≡ Some c.in-Some.field-0 = sym c.driver_period.ensures ∙ c.in-Some.is in
-    ap (λ (period : Option ℕ). hands_on c.args.one.now.enable period c.args.one.now.kind) driver ∙ ap (λ (enable : Option ℕ). hands_on enable (Some c.in-Some.field-0) c.args.one.now.kind) c.requires.enable ∙ ap (λ (kind : Kind). hands_on None (Some c.in-Some.field-0) kind) c.requires.kind
+    let diagram = c.args.site.design.checked.now.diagram in
+    let driver : period_into diagram (attributes_of diagram) c.args.site.place.block 1 ≡ Some c.in-Some.field-0 = sym c.driver_period.ensures ∙ c.in-Some.is in
+    ap (λ (period : Option ℕ). hands_on c.args.site.one.now.enable period c.args.site.one.now.kind) driver ∙ ap (λ (enable : Option ℕ). hands_on enable (Some c.in-Some.field-0) c.args.site.one.now.kind) c.requires.enable ∙ ap (λ (kind : Kind). hands_on None (Some c.in-Some.field-0) kind) c.requires.kind

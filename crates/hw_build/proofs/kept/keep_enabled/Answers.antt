@@ -22,25 +22,25 @@ use Rattle.hw_build.proofs.kept.keep_enabled.Goals as goal
 
 pub stored-first-requires-clause-kind : goal.stored-first-requires-clause-kind
 stored-first-requires-clause-kind c =
-    let types = c.operations_prepare.ensures.types c.args.design.checked.now.diagram c.args.design.checked.now.order c.args.place.block c.args.one.now (record { checked = c.keeps_rules.ensures.checked; ordered = c.keeps_rules.ensures.ordered }) c.requires.shown.block_is in
+    let types = c.operations_prepare.ensures.types c.args.site.design.checked.now.diagram c.args.site.design.checked.now.order c.args.site.place.block c.args.site.one.now (record { checked = c.keeps_rules.ensures.checked; ordered = c.keeps_rules.ensures.ordered }) c.requires.shown.block_is in
     (subst IsType (sym (c.result-kind.ensures 1)) types.0)
 
 pub put_enabled_series-requires-clause-period : goal.put_enabled_series-requires-clause-period
-put_enabled_series-requires-clause-period c = c.periods_are_above.ensures.above c.args.design.checked.now.diagram c.args.place.block c.own_frame-frame.result.period c.keeps_rules.ensures.checked c.own_frame-frame.ensures.period_is
+put_enabled_series-requires-clause-period c = c.periods_are_above.ensures.above c.args.site.design.checked.now.diagram c.args.site.place.block c.own_frame-frame.result.period c.keeps_rules.ensures.checked c.own_frame-frame.ensures.period_is
 
 pub put_enabled_series-requires-clause-some : goal.put_enabled_series-requires-clause-some
-put_enabled_series-requires-clause-some c = some_delay c.args.design.checked.now.diagram c.args.place.block c.args.one.now c.args.count c.args.initial.now c.args.reset c.keeps_rules.ensures.checked c.requires.shown.block_is c.requires.kind
+put_enabled_series-requires-clause-some c = some_delay c.args.site.design.checked.now.diagram c.args.site.place.block c.args.site.one.now c.args.count c.args.initial.now c.args.reset c.keeps_rules.ensures.checked c.requires.shown.block_is c.requires.kind
 
 pub put_enabled_series-requires-clause-word : goal.put_enabled_series-requires-clause-word
 put_enabled_series-requires-clause-word c =
-    let types = c.operations_prepare.ensures.types c.args.design.checked.now.diagram c.args.design.checked.now.order c.args.place.block c.args.one.now (record { checked = c.keeps_rules.ensures.checked; ordered = c.keeps_rules.ensures.ordered }) c.requires.shown.block_is in
+    let types = c.operations_prepare.ensures.types c.args.site.design.checked.now.diagram c.args.site.design.checked.now.order c.args.site.place.block c.args.site.one.now (record { checked = c.keeps_rules.ensures.checked; ordered = c.keeps_rules.ensures.ordered }) c.requires.shown.block_is in
     subst (λ (w : Word). IsWord w.width w.signed) (sym c.word_of-word.ensures) (word_of c.result-kind.result (subst IsType (sym (c.result-kind.ensures 1)) types.0))
 
 pub put_enabled_series-requires-clause-from : goal.put_enabled_series-requires-clause-from
 put_enabled_series-requires-clause-from c =
-    let has = first_operand c.args.net.now ((attributes_of c.args.design.checked.now.diagram).type_at c.args.place.block c.args.place.port) (enable_types (attributes_of c.args.design.checked.now.diagram) c.args.one.now.enable) c.args.operands.now c.requires.operands in
-    subst (λ (w : Word). HasWord c.args.net.now.nets (slice_index_or c.args.operands.now 0 0) w.width w.signed) (sym c.word_of-word.ensures)
-    (subst (λ (t : FxType). HasWord c.args.net.now.nets (slice_index_or c.args.operands.now 0 0) (width_of t) (is_signed t)) (sym (c.result-kind.ensures c.args.place.port)) has)
+    let has = first_operand c.args.net.now ((attributes_of c.args.site.design.checked.now.diagram).type_at c.args.site.place.block c.args.site.place.port) (enable_types (attributes_of c.args.site.design.checked.now.diagram) c.args.site.one.now.enable) c.args.site.operands.now c.requires.operands in
+    subst (λ (w : Word). HasWord c.args.net.now.nets (slice_index_or c.args.site.operands.now 0 0) w.width w.signed) (sym c.word_of-word.ensures)
+    (subst (λ (t : FxType). HasWord c.args.net.now.nets (slice_index_or c.args.site.operands.now 0 0) (width_of t) (is_signed t)) (sym (c.result-kind.ensures c.args.site.place.port)) has)
 
 pub put_enabled_series-requires-clause-first : goal.put_enabled_series-requires-clause-first
 put_enabled_series-requires-clause-first c =
@@ -49,17 +49,17 @@ put_enabled_series-requires-clause-first c =
 
 pub put_enabled_series-requires-clause-enable : goal.put_enabled_series-requires-clause-enable
 put_enabled_series-requires-clause-enable c =
-    (second_operand c.args.design.checked.now.diagram c.args.net.now ((attributes_of c.args.design.checked.now.diagram).type_at c.args.place.block c.args.place.port) c.args.operands.now c.args.one.now.enable c.requires.enable c.requires.operands).1
+    (second_operand c.args.site.design.checked.now.diagram c.args.net.now ((attributes_of c.args.site.design.checked.now.diagram).type_at c.args.site.place.block c.args.site.place.port) c.args.site.operands.now c.args.site.one.now.enable c.requires.enable c.requires.operands).1
 
 pub returns : goal.returns
 returns c =
     let e = to_z-of_z w128 c.stored-first.result (record { sfits = c.stored-first.type_inv }) in
-    let control = some_control c.args.one.now.enable c.requires.enable in
-    delay_enabled_entry c.args.design.checked.now.diagram (timing_for c.args.design) c.args.net.now c.put_enabled_series.new.net c.args.place.block c.args.one.now c.args.place.port c.args.place.element c.args.operands.now (record { net = c.in_ok-series.series.last; state = c.in_ok-series.series.first; multiply = None }) c.args.count c.in_ok-series.series.first c.args.initial.now c.args.reset c.stored-first.result c.result-kind.result c.own_frame-frame.result c.word_of-word.result c.requires.kind (some_delay c.args.design.checked.now.diagram c.args.place.block c.args.one.now c.args.count c.args.initial.now c.args.reset c.keeps_rules.ensures.checked c.requires.shown.block_is c.requires.kind) c.result-kind.ensures c.word_of-word.ensures c.own_frame-frame.ensures c.stored-first.ensures.one c.in_ok-series.ensures.last_is refl refl control.0 control.1 c.requires.operands
-    (subst (λ (first : ℤ). AreSeries (λ last. EnReg c.own_frame-frame.result (slice_index_or c.args.operands.now 1 0) c.args.reset first last) c.args.net.now c.put_enabled_series.new.net (slice_index_or c.args.operands.now 1 0 ∷ slice_index_or c.args.operands.now 0 0 ∷ []) c.own_frame-frame.result c.word_of-word.result (slice_index_or c.args.operands.now 0 0) c.in_ok-series.series.first c.args.count) e c.in_ok-series.ensures.are)
+    let control = some_control c.args.site.one.now.enable c.requires.enable in
+    delay_enabled_entry c.args.site.design.checked.now.diagram (timing_for c.args.site.design) c.args.net.now c.put_enabled_series.new.net c.args.site.place.block c.args.site.one.now c.args.site.place.port c.args.site.place.element c.args.site.operands.now (record { net = c.in_ok-series.series.last; state = c.in_ok-series.series.first; multiply = None }) c.args.count c.in_ok-series.series.first c.args.initial.now c.args.reset c.stored-first.result c.result-kind.result c.own_frame-frame.result c.word_of-word.result c.requires.kind (some_delay c.args.site.design.checked.now.diagram c.args.site.place.block c.args.site.one.now c.args.count c.args.initial.now c.args.reset c.keeps_rules.ensures.checked c.requires.shown.block_is c.requires.kind) c.result-kind.ensures c.word_of-word.ensures c.own_frame-frame.ensures c.stored-first.ensures.one c.in_ok-series.ensures.last_is refl refl control.0 control.1 c.requires.operands
+    (subst (λ (first : ℤ). AreSeries (λ last. EnReg c.own_frame-frame.result (slice_index_or c.args.site.operands.now 1 0) c.args.reset first last) c.args.net.now c.put_enabled_series.new.net (slice_index_or c.args.site.operands.now 1 0 ∷ slice_index_or c.args.site.operands.now 0 0 ∷ []) c.own_frame-frame.result c.word_of-word.result (slice_index_or c.args.site.operands.now 0 0) c.in_ok-series.series.first c.args.count) e c.in_ok-series.ensures.are)
 
 pub result-kind-requires : goal.result-kind-requires
-result-kind-requires c = slice_get_within c.args.design.checked.now.diagram.blocks c.args.place.block c.args.one.now c.requires.shown.block_is
+result-kind-requires c = slice_get_within c.args.site.design.checked.now.diagram.blocks c.args.site.place.block c.args.site.one.now c.requires.shown.block_is
 
 pub stored-first-requires-clause-list : goal.stored-first-requires-clause-list
 stored-first-requires-clause-list c = ap (λ (kind : Kind). (row_of kind).signal.lists) c.requires.kind
@@ -70,13 +70,13 @@ own_frame-frame-requires-clause-is c = c.requires.shown.block_is
 pub own_frame-frame-requires-clause-moves : goal.own_frame-frame-requires-clause-moves
 own_frame-frame-requires-clause-moves c = ap (λ (kind : Kind). (row_of kind).timing.inherits) c.requires.kind
 
-pub bounds-operands-0 : goal.bounds-operands-0
-bounds-operands-0 c =
-    let within = (second_operand c.args.design.checked.now.diagram c.args.net.now ((attributes_of c.args.design.checked.now.diagram).type_at c.args.place.block c.args.place.port) c.args.operands.now c.args.one.now.enable c.requires.enable c.requires.operands).0 in
+pub bounds-site-0 : goal.bounds-site-0
+bounds-site-0 c =
+    let within = (second_operand c.args.site.design.checked.now.diagram c.args.net.now ((attributes_of c.args.site.design.checked.now.diagram).type_at c.args.site.place.block c.args.site.place.port) c.args.site.operands.now c.args.site.one.now.enable c.requires.enable c.requires.operands).0 in
     omega (arith, within)
 
-pub bounds-operands-1 : goal.bounds-operands-1
-bounds-operands-1 c = (second_operand c.args.design.checked.now.diagram c.args.net.now ((attributes_of c.args.design.checked.now.diagram).type_at c.args.place.block c.args.place.port) c.args.operands.now c.args.one.now.enable c.requires.enable c.requires.operands).0
+pub bounds-site-1 : goal.bounds-site-1
+bounds-site-1 c = (second_operand c.args.site.design.checked.now.diagram c.args.net.now ((attributes_of c.args.site.design.checked.now.diagram).type_at c.args.site.place.block c.args.site.place.port) c.args.site.operands.now c.args.site.one.now.enable c.requires.enable c.requires.operands).0
 
 pub put_enabled_series-requires-clause-cycles : goal.put_enabled_series-requires-clause-cycles
 put_enabled_series-requires-clause-cycles c =

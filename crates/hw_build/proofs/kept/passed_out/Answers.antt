@@ -11,20 +11,20 @@ pub pass_reset-requires-clause-kind : goal.pass_reset-requires-clause-kind
 pass_reset-requires-clause-kind c = c.requires.kind ∙ ap (λ (reset : Bool). EnOut reset c.args.initial.now) c.if-reset.true
 
 pub pass_reset-requires-clause-enable : goal.pass_reset-requires-clause-enable
-pass_reset-requires-clause-enable c = out_enabled c.args.design.checked.now.diagram c.args.place.block c.args.one.now c.args.reset c.args.initial.now c.keeps_rules.ensures.checked c.requires.shown.block_is c.requires.kind
+pass_reset-requires-clause-enable c = out_enabled c.args.site.design.checked.now.diagram c.args.site.place.block c.args.site.one.now c.args.reset c.args.initial.now c.keeps_rules.ensures.checked c.requires.shown.block_is c.requires.kind
 
 pub pass_reset-requires-clause-operands : goal.pass_reset-requires-clause-operands
 pass_reset-requires-clause-operands c =
-    let diagram = c.args.design.checked.now.diagram in
-    subst (λ (kind : Kind). AreArgs c.args.net.now (operand_types diagram (attributes_of diagram) c.args.place.block c.args.one.now c.args.place.port kind) c.args.operands.now) (c.requires.kind ∙ ap (λ (reset : Bool). EnOut reset c.args.initial.now) c.if-reset.true) c.requires.operands
+    let diagram = c.args.site.design.checked.now.diagram in
+    subst (λ (kind : Kind). AreArgs c.args.net.now (operand_types diagram (attributes_of diagram) c.args.site.place.block c.args.site.one.now c.args.site.place.port kind) c.args.site.operands.now) (c.requires.kind ∙ ap (λ (reset : Bool). EnOut reset c.args.initial.now) c.if-reset.true) c.requires.operands
 
 pub pass_held-requires-clause-kind : goal.pass_held-requires-clause-kind
 pass_held-requires-clause-kind c = c.requires.kind ∙ ap (λ (reset : Bool). EnOut reset c.args.initial.now) c.if-reset.false
 
 pub pass_held-requires-clause-enable : goal.pass_held-requires-clause-enable
-pass_held-requires-clause-enable c = out_enabled c.args.design.checked.now.diagram c.args.place.block c.args.one.now c.args.reset c.args.initial.now c.keeps_rules.ensures.checked c.requires.shown.block_is c.requires.kind
+pass_held-requires-clause-enable c = out_enabled c.args.site.design.checked.now.diagram c.args.site.place.block c.args.site.one.now c.args.reset c.args.initial.now c.keeps_rules.ensures.checked c.requires.shown.block_is c.requires.kind
 
 pub pass_held-requires-clause-operands : goal.pass_held-requires-clause-operands
 pass_held-requires-clause-operands c =
-    let diagram = c.args.design.checked.now.diagram in
-    subst (λ (kind : Kind). AreArgs c.args.net.now (operand_types diagram (attributes_of diagram) c.args.place.block c.args.one.now c.args.place.port kind) c.args.operands.now) (c.requires.kind ∙ ap (λ (reset : Bool). EnOut reset c.args.initial.now) c.if-reset.false) c.requires.operands
+    let diagram = c.args.site.design.checked.now.diagram in
+    subst (λ (kind : Kind). AreArgs c.args.net.now (operand_types diagram (attributes_of diagram) c.args.site.place.block c.args.site.one.now c.args.site.place.port kind) c.args.site.operands.now) (c.requires.kind ∙ ap (λ (reset : Bool). EnOut reset c.args.initial.now) c.if-reset.false) c.requires.operands

@@ -15,15 +15,15 @@ use Rattle.hw_build.proofs.worked.switched.Goals as goal
 
 pub stored-threshold-requires-clause-kind : goal.stored-threshold-requires-clause-kind
 stored-threshold-requires-clause-kind c =
-    let types = c.operations_prepare.ensures.types c.args.design.checked.now.diagram c.args.design.checked.now.order c.args.place.block c.args.one.now (record { checked = c.keeps_rules.ensures.checked; ordered = c.keeps_rules.ensures.ordered }) c.requires.shown.block_is in
-    subst IsType (sym (second_type c.args.design.checked.now.diagram c.args.place.block c.args.one.now c.args.criterion c.args.list.now c.args.types.now (Num false 0 (pos 0)) c.keeps_rules.ensures.checked c.requires.shown.block_is c.requires.kind c.requires.types)) (types.2 2)
+    let types = c.operations_prepare.ensures.types c.args.site.design.checked.now.diagram c.args.site.design.checked.now.order c.args.site.place.block c.args.site.one.now (record { checked = c.keeps_rules.ensures.checked; ordered = c.keeps_rules.ensures.ordered }) c.requires.shown.block_is in
+    subst IsType (sym (second_type c.args.site.design.checked.now.diagram c.args.site.place.block c.args.site.one.now c.args.criterion c.args.list.now c.args.types.now (Num false 0 (pos 0)) c.keeps_rules.ensures.checked c.requires.shown.block_is c.requires.kind c.requires.types)) (types.2 2)
 
 pub carried-requires-clause-op : goal.carried-requires-clause-op
 carried-requires-clause-op c =
     let e = to_z-of_z w128 c.stored-threshold.result (record { sfits = c.stored-threshold.type_inv }) in
-    subst (λ (k : Kind). IsOpOf k c.args.place.element ((attributes_of c.args.design.checked.now.diagram).param_at c.args.place.block) (type_into c.args.design.checked.now.diagram (attributes_of c.args.design.checked.now.diagram) c.args.place.block 2) (Switch c.args.criterion (to_z w128 (of_z w128 c.stored-threshold.result)))) (sym c.requires.kind) (
+    subst (λ (k : Kind). IsOpOf k c.args.site.place.element ((attributes_of c.args.site.design.checked.now.diagram).param_at c.args.site.place.block) (type_into c.args.site.design.checked.now.diagram (attributes_of c.args.site.design.checked.now.diagram) c.args.site.place.block 2) (Switch c.args.criterion (to_z w128 (of_z w128 c.stored-threshold.result)))) (sym c.requires.kind) (
       c.stored-threshold.result,
-      subst (λ (t : FxType). StoresEntry c.args.list.now c.args.place.element t c.stored-threshold.result) (second_type c.args.design.checked.now.diagram c.args.place.block c.args.one.now c.args.criterion c.args.list.now c.args.types.now (Num false 0 (pos 0)) c.keeps_rules.ensures.checked c.requires.shown.block_is c.requires.kind c.requires.types) c.stored-threshold.ensures.entry,
+      subst (λ (t : FxType). StoresEntry c.args.list.now c.args.site.place.element t c.stored-threshold.result) (second_type c.args.site.design.checked.now.diagram c.args.site.place.block c.args.site.one.now c.args.criterion c.args.list.now c.args.types.now (Num false 0 (pos 0)) c.keeps_rules.ensures.checked c.requires.shown.block_is c.requires.kind c.requires.types) c.stored-threshold.ensures.entry,
       ap (Switch c.args.criterion) e,
     )
 
