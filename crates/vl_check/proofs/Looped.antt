@@ -1,5 +1,7 @@
 -- A cycle of assignments by number is a loop of their names.
-use Rattle.std.proofs.Common.{◌≡◌, ◌<◌, ◌+◌, ◌%◌, ℕ, List, length, Contains, slice_index, sym, ap, subst, ◌∙◌, arith}
+use Rattle.std.proofs.Common.{◌≡◌, ◌<◌, ◌≤◌, ◌+◌, ◌%◌, ⊎_elim, ℕ, List, [], ◌∷◌, ◌++◌, length, Contains, slice_index, slice_index_or, sym, ap, subst, ◌∙◌, arith}
+use Rattle.std.proofs.lemmas.Bool.{cases_lt}
+use Rattle.std.proofs.lemmas.List.{get_or_append_left, get_or_push}
 use Rattle.std.proofs.Math.Nat.{mod_self, mod-eq_of_lt, zero-mod, mod-add-mod}
 use Rattle.std.proofs.lemmas.Nat.{mod_below}
 use Rattle.vl_ast.specs.declared.modules.Module.{Module}
@@ -46,3 +48,11 @@ module _ (m : Module) (reads : List (List ℕ)) (name_of : ℕ → List ℕ) (st
 
   pub loop-of-names : (first : List ℕ) × (others : List (List ℕ)) × IsLoop m first others
   loop-of-names = (_, _, loop m around (length cycle + 1) walks comes-back)
+
+-- one more name of a turned cycle
+pub turned-more : (turned turned' : List (List ℕ)) (text : List ℕ) (of : ℕ → List ℕ) (n : ℕ) → turned' ≡ turned ++ text ∷ [] → text ≡ of n → length turned ≡ n
+    → ((k : ℕ) (d : List ℕ) → k < n → slice_index_or turned k d ≡ of k) → (k : ℕ) (d : List ℕ) → k < n + 1 → slice_index_or turned' k d ≡ of k
+turned-more turned turned' text of n grown is long each k d below = ap (λ xs. slice_index_or xs k d) grown ∙ ⊎_elim
+    (λ (less : k < n). get_or_append_left turned (text ∷ []) d k (omega (arith, less, long)) ∙ each k d less)
+    (λ (most : n ≤ k). let same : k ≡ n = omega (arith, most, below) in get_or_push turned text d k (long ∙ sym same) ∙ is ∙ ap of (sym same))
+    (cases_lt k n)

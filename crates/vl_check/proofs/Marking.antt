@@ -289,3 +289,15 @@ pub declared-here : (m : Module) (text : List MentionHere) → shown text ≡ me
 declared-here m text whole i d below numbers first f a =
     first-here text i d below numbers first (shown text) f a
     ∙ ap (λ all. find (λ (x : Declared). bytes_eq x.name (mentioned (mention_of (slice_index_or text i d)))) (flat_map declared_by all)) whole
+
+-- the number of the name at a place
+pub number-there : (text : List MentionHere) (numbers : List ℕ) (count : ℕ) → AreNumbers (map mentioned (shown text)) numbers count → (i : ℕ) → i < length text → i < length numbers
+number-there text numbers count known i below =
+    let long = length-map (shown text) mentioned ∙ length-map text mention_of in
+    let all = known.long in
+    omega (arith, long, all, below)
+
+pub number-below : (text : List MentionHere) (numbers : List ℕ) (count : ℕ) → AreNumbers (map mentioned (shown text)) numbers count → (i : ℕ) → i < length text → slice_index numbers i < count
+number-below text numbers count known i below =
+    let long = length-map (shown text) mentioned ∙ length-map text mention_of in
+    known.below i (omega (arith, long, below))

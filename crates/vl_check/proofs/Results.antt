@@ -1,5 +1,11 @@
 -- Facts under an answer.
 use Rattle.std.proofs.Common.{Result, Ok, Err, OnOk, IfOk}
+use Rattle.vl_ast.specs.declared.modules.Module.{Module}
+use Rattle.vl_ast.specs.Conditions.{IsAcyclic}
+use Rattle.vl_check.specs.Cause.{IsCause}
+use Rattle.vl_check.specs.declared.fault.VlFault.{VlFault}
+use Rattle.vl_check.specs.declared.fault.VlFault.TheVariants.{Undriven, Doubly, CombLoop, TooWide, NoReset, NoAttribute, OutOfMemory}
+use Rattle.vl_check.specs.inner.Rest.{IsCauseOfRest}
 
 pub on-ok : {A E P Q : Type 0} (r : Result A E) → (P → Q) → OnOk r P → OnOk r Q
 on-ok (Ok a) f p = f p
@@ -8,3 +14,13 @@ on-ok (Err e) f p = tt
 pub if-both : {A E : Type 0} (r : Result A E) (P Q G : A → Type 0) → ((a : A) → P a → Q a → G a) → IfOk r P → IfOk r Q → IfOk r G
 if-both (Ok a) P Q G f p q = f a p q
 if-both (Err e) P Q G f p q = tt
+
+-- a fault of the last three conditions, where the first three hold
+pub rest-cause : (m : Module) (fault : VlFault) → IsAcyclic m → IsCauseOfRest m fault → IsCause m fault
+rest-cause m (Undriven name) sound is = absurd is
+rest-cause m (Doubly name) sound is = absurd is
+rest-cause m (CombLoop names) sound is = absurd is
+rest-cause m (TooWide name) sound is = (sound, is)
+rest-cause m (NoReset name) sound is = (sound, is.0, is.1)
+rest-cause m (NoAttribute name) sound is = (sound, is.0, is.1, is.2)
+rest-cause m OutOfMemory sound is = tt

@@ -137,3 +137,20 @@ step-cycle reads stage stack order v x at s some is room read low found =
 
 pub last-is : (stack : List ℕ) (n v : ℕ) → n ≡ length stack → 0 < length stack → v ≡ slice_index_or stack (n - 1) v → v ≡ slice_index stack (length stack - 1)
 last-is stack n v e some is = is ∙ get_or_default stack (n - 1) v 0 (omega (arith, e)) ∙ ap (λ k. slice_index stack (k - 1)) e
+
+-- a search that begins
+pub begun-with : (reads : List (List ℕ)) (stage order : List ℕ) (root : ℕ) → State reads stage [] order → root < length reads → slice_index stage root ≡ 0
+    → State reads (set stage root 1) (root ∷ []) order × (1 ≤ slice_index (set stage root 1) root) × ((v : ℕ) → slice_index stage v ≤ slice_index (set stage root 1) v)
+begun-with reads stage order root s within white =
+    let long = s.walk.long in
+    let low : root < length stage = omega (arith, long, within) in
+    let one : slice_index stage root + 1 ≡ 1 = omega (arith, white) in
+    let own = own-stage stage root 1 low in (
+      subst (λ y. State reads (set stage root y) (root ∷ []) order) one (turn-open reads stage order [] root s within white (λ i e. absurd (omega (arith, e)))),
+      omega (arith, own),
+      λ v. subst (λ y. slice_index stage v ≤ slice_index (set stage root y) v) one (higher-by-one stage root v low),
+    )
+
+pub none-left : (xs : List ℕ) → length xs ≡ 0 → xs ≡ []
+none-left [] e = refl
+none-left (x ∷ xs) e = absurd (omega (arith, e))

@@ -4,7 +4,7 @@ use Rattle.std.proofs.Math.ListN.{drop_of_length-le}
 use Rattle.vl_ast.specs.Conditions.{first_fault, is_declaration_of, is_double, is_driver_of, mentioned}
 use Rattle.vl_check.specs.inner.Mentioned.{shown, mention_of}
 use Rattle.vl_check.specs.inner.Marks.{declares, drives}
-use Rattle.vl_check.proofs.Marking.{driver-test, declaration-test, marks-step, fault-step, fault-found, mark-here, declared-here, double-here, marks-long}
+use Rattle.vl_check.proofs.Marking.{number-below, number-there, driver-test, declaration-test, marks-step, fault-step, fault-found, mark-here, declared-here, double-here, marks-long}
 use Rattle.vl_check.proofs.driving.doubly.Goals as goal
 
 pub returns-then-is_double : goal.returns-then-is_double
@@ -74,3 +74,31 @@ mark-requires-in-loop-i c =
     let inside : c.loop-i.i < length text = c.loop-i-test.true in
     let below = c.requires.numbers.below c.loop-i.i (omega (arith, long, inside)) in
     subst (λ (n : ℕ). slice_index c.args.numbers.now c.loop-i.i < n) (sym c.loop-i.invariant.driven_long) below
+
+pub bounds-text-i : goal.bounds-text-i
+bounds-text-i c = c.loop-i-test.true
+
+pub bounds-numbers-i : goal.bounds-numbers-i
+bounds-numbers-i c = number-there c.args.text.now c.args.numbers.now _ c.requires.numbers c.loop-i.i c.loop-i-test.true
+
+pub offset_bounds-numbers-i : goal.offset_bounds-numbers-i
+offset_bounds-numbers-i c = let below = number-there c.args.text.now c.args.numbers.now _ c.requires.numbers c.loop-i.i c.loop-i-test.true in omega arith
+
+pub bounds-first-number : goal.bounds-first-number
+bounds-first-number c = number-below c.args.text.now c.args.numbers.now _ c.requires.numbers c.loop-i.i c.loop-i-test.true
+
+pub offset_bounds-first-number : goal.offset_bounds-first-number
+offset_bounds-first-number c = let below = number-below c.args.text.now c.args.numbers.now _ c.requires.numbers c.loop-i.i c.loop-i-test.true in omega arith
+
+pub index-requires : goal.index-requires
+index-requires c =
+    subst (λ (n : ℕ). slice_index c.args.numbers.now c.loop-i.i < n) (sym (c.loop-i.declared.ok.0 ∙ c.loop-i.invariant.long))
+    (number-below c.args.text.now c.args.numbers.now _ c.requires.numbers c.loop-i.i c.loop-i-test.true)
+
+pub index-requires-in-loop-i : goal.index-requires-in-loop-i
+index-requires-in-loop-i c =
+    subst (λ (n : ℕ). slice_index c.args.numbers.now c.loop-i.i < n) (sym (c.loop-i.driven.ok.0 ∙ c.loop-i.invariant.driven_long))
+    (number-below c.args.text.now c.args.numbers.now _ c.requires.numbers c.loop-i.i c.loop-i-test.true)
+
+pub loop-i-smaller : goal.loop-i-smaller
+loop-i-smaller c = let here : c.loop-i.i < length c.args.text.now = c.loop-i-test.true in omega (arith, here)

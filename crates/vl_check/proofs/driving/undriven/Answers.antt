@@ -1,9 +1,10 @@
-use Rattle.std.proofs.Common.{◌≡◌, ◌<◌, ℕ, Bool, false, List, length, replicate, slice_index, slice_index_or, take, Some, refl, sym, ap, subst, ◌∙◌, arith, rules}
+use Rattle.std.proofs.Common.{◌≤◌, ◌≡◌, ◌<◌, ℕ, Bool, false, List, length, replicate, slice_index, slice_index_or, take, Some, refl, sym, ap, subst, ◌∙◌, arith, rules}
+use Rattle.std.proofs.Math.ListN.{drop_of_length-le}
 use Rattle.std.proofs.lemmas.List.{get_or-replicate, length-map}
-use Rattle.vl_ast.specs.Conditions.{is_declaration_of, is_driver_of, is_undriven, mentioned}
+use Rattle.vl_ast.specs.Conditions.{first_fault, is_declaration_of, is_driver_of, is_undriven, mentioned}
 use Rattle.vl_check.specs.inner.Mentioned.{mention_of, shown}
 use Rattle.vl_check.specs.inner.Marks.{declares}
-use Rattle.vl_check.proofs.Marking.{declaration-test, marks-step, fault-step, fault-found, mark-here, undriven-here, marks-long}
+use Rattle.vl_check.proofs.Marking.{number-below, number-there, declaration-test, marks-step, fault-step, fault-found, mark-here, undriven-here, marks-long}
 use Rattle.vl_check.proofs.driving.undriven.Goals as goal
 
 pub returns-then-is_undriven : goal.returns-then-is_undriven
@@ -47,3 +48,35 @@ mark-requires c =
     let inside : c.loop-i.i < length text = c.loop-i-test.true in
     let below = c.requires.below c.loop-i.i (omega (arith, long, inside)) in
     subst (λ (n : ℕ). slice_index c.args.numbers.now c.loop-i.i < n) (sym c.loop-i.invariant.long) below
+
+pub bounds-text-i : goal.bounds-text-i
+bounds-text-i c = c.loop-i-test.true
+
+pub bounds-numbers-i : goal.bounds-numbers-i
+bounds-numbers-i c = number-there c.args.text.now c.args.numbers.now _ c.requires c.loop-i.i c.loop-i-test.true
+
+pub offset_bounds-numbers-i : goal.offset_bounds-numbers-i
+offset_bounds-numbers-i c = let below = number-there c.args.text.now c.args.numbers.now _ c.requires c.loop-i.i c.loop-i-test.true in omega arith
+
+pub index-requires : goal.index-requires
+index-requires c =
+    subst (λ (n : ℕ). slice_index c.args.numbers.now c.loop-i.i < n) (sym (c.loop-i.declared.ok.0 ∙ c.loop-i.invariant.long))
+    (number-below c.args.text.now c.args.numbers.now _ c.requires c.loop-i.i c.loop-i-test.true)
+
+pub index-requires-in-loop-i : goal.index-requires-in-loop-i
+index-requires-in-loop-i c =
+    subst (λ (n : ℕ). slice_index c.args.numbers.now c.loop-i.i < n) (sym (c.in_ok-driven.driven.ok.0 ∙ c.in_ok-driven.ensures.long))
+    (number-below c.args.text.now c.args.numbers.now _ c.requires c.loop-i.i c.loop-i-test.true)
+
+pub loop-i-smaller : goal.loop-i-smaller
+loop-i-smaller c = let here : c.loop-i.i < length c.args.text.now = c.loop-i-test.true in omega (arith, here)
+
+pub driven_names-requires : goal.driven_names-requires
+driven_names-requires c = c.requires
+
+pub returns : goal.returns
+returns c =
+    let text = c.args.text.now in
+    let past : length text ≤ c.loop-i.i = c.loop-i-test.false in
+    let long = length-map text mention_of in
+    sym (ap (first_fault (is_undriven (shown text)) (take c.loop-i.i (shown text))) (drop_of_length-le (shown text) (omega (arith, long, past)))) ∙ c.loop-i.invariant.fault

@@ -1,0 +1,60 @@
+use Rattle.std.proofs.Common.{ℕ, List, Option, Bor, Some, [], length, map, option_map, ap, subst, sym, ◌∙◌}
+use Rattle.vl_ast.specs.Nets.{Mention}
+use Rattle.vl_ast.specs.Conditions.{first_fault, is_undriven, mentioned}
+use Rattle.vl_check.specs.Ordering.{IsInOrder}
+use Rattle.vl_check.specs.declared.ordering.Assignments.{Assignments}
+use Rattle.vl_check.specs.inner.Mentioned.{shown}
+use Rattle.vl_check.specs.inner.Marks.{AreNumbers}
+use Rattle.vl_check.proofs.Results.{rest-cause}
+use Rattle.vl_check.proofs.checking.order_of.Goals as goal
+
+abbrev names_of : Option (Bor (List ℕ)) → Option (List ℕ)
+names_of found = option_map (λ (name : Bor (List ℕ)). name.now) found
+
+pub returns-in-Some-clause-fault : goal.returns-in-Some-clause-fault
+returns-in-Some-clause-fault c =
+    sym (c.in_ok-name.ensures ∙ ap (λ (all : List Mention). first_fault (is_undriven all) [] all) c.requires.whole) ∙ ap names_of c.in-Some.is ∙ ap Some (sym c.in_ok-copy.ensures)
+
+pub returns-in-Some-2-clause-fault : goal.returns-in-Some-2-clause-fault
+returns-in-Some-2-clause-fault c = (
+  sym (c.in_ok-name.ensures ∙ ap (λ (all : List Mention). first_fault (is_undriven all) [] all) c.requires.whole) ∙ ap names_of c.in_default.is,
+  sym (c.in_ok-name-2.ensures c.args.source.now c.requires.whole) ∙ ap names_of c.in-Some-2.is ∙ ap Some (sym c.in_ok-copy-2.ensures),
+)
+
+pub doubly-requires-clause-numbers : goal.doubly-requires-clause-numbers
+doubly-requires-clause-numbers c =
+    let names = map mentioned (shown c.args.text.now) in
+    subst (λ (numbers : List ℕ). AreNumbers names numbers (length c.as_slice.result.now)) (sym c.as_slice-numbers.ensures.value)
+    (subst (λ (n : ℕ). AreNumbers names c.args.known.now.numbers.items n) (sym (ap length c.as_slice.ensures.value)) c.requires.numbers)
+
+pub returns-in-InLoop-clause-fault : goal.returns-in-InLoop-clause-fault
+returns-in-InLoop-clause-fault c = (
+  sym (c.in_ok-name.ensures ∙ ap (λ (all : List Mention). first_fault (is_undriven all) [] all) c.requires.whole) ∙ ap names_of c.in_default.is,
+  sym (c.in_ok-name-2.ensures c.args.source.now c.requires.whole) ∙ ap names_of c.in_default-2.is,
+  subst (λ (found : Assignments). IsInOrder c.args.source.now c.args.known.now.scope found) c.in-InLoop.is c.in_ok-names.ensures,
+)
+
+pub returns-in-Err-clause-fault : goal.returns-in-Err-clause-fault
+returns-in-Err-clause-fault c =
+    rest-cause c.args.source.now c.in-Err.fault (record {
+      driven = sym (c.in_ok-name.ensures ∙ ap (λ (all : List Mention). first_fault (is_undriven all) [] all) c.requires.whole) ∙ ap names_of c.in_default.is;
+      once = sym (c.in_ok-name-2.ensures c.args.source.now c.requires.whole) ∙ ap names_of c.in_default-2.is;
+      acyclic = (subst (λ (found : Assignments). IsInOrder c.args.source.now c.args.known.now.scope found) c.in-InOrder.is c.in_ok-names.ensures).0;
+    }) c.in-Err.ensures.fault
+
+pub returns-in-Ok-clause-sound : goal.returns-in-Ok-clause-sound
+returns-in-Ok-clause-sound c =
+    let rest = c.in-Ok.ensures.sound in
+    record {
+      acyclic = record {
+        driven = sym (c.in_ok-name.ensures ∙ ap (λ (all : List Mention). first_fault (is_undriven all) [] all) c.requires.whole) ∙ ap names_of c.in_default.is;
+        once = sym (c.in_ok-name-2.ensures c.args.source.now c.requires.whole) ∙ ap names_of c.in_default-2.is;
+        acyclic = (subst (λ (found : Assignments). IsInOrder c.args.source.now c.args.known.now.scope found) c.in-InOrder.is c.in_ok-names.ensures).0;
+      };
+      narrow = rest.narrow;
+      clocked = rest.clocked;
+      attributed = rest.attributed;
+    }
+
+pub returns-in-Ok-clause-order : goal.returns-in-Ok-clause-order
+returns-in-Ok-clause-order c = (subst (λ (found : Assignments). IsInOrder c.args.source.now c.args.known.now.scope found) c.in-InOrder.is c.in_ok-names.ensures).1
