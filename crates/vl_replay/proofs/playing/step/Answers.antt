@@ -1,5 +1,7 @@
 use Rattle.vl_ast.specs.Control.{is_stallable}
-use Rattle.std.proofs.Common.{List, length, slice_get, ap, subst, sym, ◌∙◌}
+use Rattle.std.proofs.Common.{◌*◌, ℕ, List, length, slice_get, ap, subst, sym, ◌∙◌}
+use Rattle.vl_ast.specs.declared.modules.Module.{Module}
+use Rattle.vl_ast.specs.Driven.{output_ports}
 use Rattle.vl_eval.specs.Machine.{row_of, source_of}
 use Rattle.vl_replay.specs.Sampled.{numbers_of}
 use Rattle.vl_replay.specs.declared.samplers.Sampler.{Sampler}
@@ -7,7 +9,7 @@ use Rattle.vl_replay.specs.inner.Driving.{driver_bits}
 use Rattle.vl_replay.specs.inner.Sampling.{ArePut, number_at}
 use Rattle.vl_replay.proofs.Bits.{driver-fits}
 use Rattle.vl_replay.proofs.Clocks.{played-more}
-use Rattle.vl_replay.proofs.Scores.{fit-score, samplers-step}
+use Rattle.vl_replay.proofs.Scores.{fit-score, samplers-many, samplers-step}
 use Rattle.vl_replay.proofs.playing.step.Goals as goal
 
 pub edge-requires-clause-fit : goal.edge-requires-clause-fit
@@ -24,3 +26,25 @@ returns-clause-played c =
     let put = subst (λ (xs : List Sampler). ArePut (number_at (source_of c.edge.new.self) (row_of c.edge.new.self)) xs c.count.result c.args.window c.args.sample c.args.phase (length xs) c.args.cells.now c.put_numbers.new.cells) c.as_slice.ensures.value c.put_numbers.ensures in
     played-more c.args.score.now c.args.window c.args.sample c.args.phase c.args.machine.now c.edge.new.self c.args.bits.now c.args.cells.now c.put_numbers.new.cells c.requires.played c.requires.phase c.requires.bits
     c.edge.ensures.source c.edge.ensures.ready c.edge.ensures.row (rw c.count.ensures at put)
+
+pub edge-requires-clause-ready : goal.edge-requires-clause-ready
+edge-requires-clause-ready c = c.requires.played.ready
+
+pub put_numbers-requires-clause-ready : goal.put_numbers-requires-clause-ready
+put_numbers-requires-clause-ready c = c.edge.ensures.ready
+
+pub put_numbers-requires-clause-some : goal.put_numbers-requires-clause-some
+put_numbers-requires-clause-some c = c.requires.played.some
+
+pub put_numbers-requires-clause-outputs : goal.put_numbers-requires-clause-outputs
+put_numbers-requires-clause-outputs c =
+    ap length c.as_slice.ensures.value ∙ samplers-many (source_of c.args.machine.now) c.args.score.now c.requires.played.score_is
+    ∙ ap (λ (m : Module). length (output_ports m)) (sym c.edge.ensures.source)
+
+pub put_numbers-requires-clause-room : goal.put_numbers-requires-clause-room
+put_numbers-requires-clause-room c =
+    let many = ap length c.as_slice.ensures.value ∙ samplers-many (source_of c.args.machine.now) c.args.score.now c.requires.played.score_is in
+    c.requires.played.have.long ∙ ap (λ (n : ℕ). c.args.window * n) (sym many)
+
+pub returns-clause-source : goal.returns-clause-source
+returns-clause-source c = c.edge.ensures.source

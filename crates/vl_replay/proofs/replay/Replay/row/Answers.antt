@@ -1,6 +1,9 @@
-use Rattle.std.proofs.Common.{◌≡◌, ◌+◌, ◌-◌, ◌*◌, ◌%◌, ℤ, List, length, take, drop, ap, ◌∙◌, arith}
+use Rattle.std.proofs.Common.{◌≡◌, ◌≤◌, ◌+◌, ◌-◌, ◌*◌, ◌%◌, ℕ, ℤ, List, length, take, drop, ap, sym, ◌∙◌, arith}
 use Rattle.vl_eval.specs.Machine.{source_of}
-use Rattle.vl_replay.proofs.Shown.{shown-is}
+use Rattle.vl_replay.specs.Replays.{StandsBefore}
+use Rattle.vl_replay.specs.declared.replay.Replay.{Replay}
+use Rattle.vl_replay.proofs.Scores.{samplers-many}
+use Rattle.vl_replay.proofs.Shown.{shown-is, shown-long}
 use Rattle.vl_replay.proofs.replay.Replay.row.Goals as goal
 
 pub returns-clause-sampled : goal.returns-clause-sampled
@@ -19,3 +22,47 @@ returns-clause-sampled c = λ table is.
     ∙ ap (λ (cells : List ℤ). take n (drop (c.args.sample % replay.window * n) cells)) c.deref.ensures.value
     ∙ shown-is c.one_run.ensures.one c.steps_run.ensures (source_of replay.machine) score replay.window replay.delay c.args.sample played.score_is stands.delay stands.window played.rows replay.cells.items
     c.requires.within played.steps played.have table is
+
+-- the ring has its rows
+rows-long : (replay : Replay) (sample : ℕ) → StandsBefore replay sample → (cells : List ℤ) (outputs : ℕ) → cells ≡ replay.cells.items → outputs ≡ length replay.score.samplers.items → length cells ≡ replay.window * outputs
+rows-long replay sample stands cells outputs is many =
+    ap length is ∙ stands.played.have.long ∙ ap (λ (n : ℕ). replay.window * n) (sym (many ∙ samplers-many (source_of replay.machine) replay.score stands.played.score_is))
+
+pub returns-clause-long : goal.returns-clause-long
+returns-clause-long c =
+    let replay = c.args.self.now in
+    let score = replay.score in
+    let stands = c.requires.stands in
+    let played = stands.played in
+    let n = length score.samplers.items in
+    let start = c.start_of-start.result in
+    let many-outputs : c.len-outputs.result ≡ n = c.len-outputs.ensures ∙ replay.score.samplers.ok.0 in
+    let many : start + c.len-outputs.result - start ≡ c.len-outputs.result = omega arith in
+    let start-is : start ≡ c.args.sample % replay.window * n = c.start_of-start.ensures.start ∙ ap (λ k. c.args.sample % replay.window * k) many-outputs in
+    ap (λ k. length (take k (drop start c.deref.result.now))) (many ∙ many-outputs)
+    ∙ ap (λ k. length (take n (drop k c.deref.result.now))) start-is
+    ∙ ap (λ (cells : List ℤ). length (take n (drop (c.args.sample % replay.window * n) cells))) c.deref.ensures.value
+    ∙ shown-long c.one_run.ensures.one c.steps_run.ensures (source_of replay.machine) score replay.window replay.delay c.args.sample played.score_is stands.delay stands.window played.rows replay.cells.items
+    c.requires.within played.steps played.have
+
+pub start_of-start-requires-clause-some : goal.start_of-start-requires-clause-some
+start_of-start-requires-clause-some c = c.requires.stands.window.some
+
+pub slice_bounds-result-count : goal.slice_bounds-result-count
+slice_bounds-result-count c = omega arith
+
+pub offset_bounds-deref-start : goal.offset_bounds-deref-start
+offset_bounds-deref-start c =
+    let replay = c.args.self.now in
+    let long = rows-long replay (c.args.sample + 1) c.requires.stands c.deref.result.now c.len-outputs.result c.deref.ensures.value (c.len-outputs.ensures ∙ replay.score.samplers.ok.0) in
+    let within = c.start_of-start.ensures.within in
+    let low : c.start_of-start.result ≤ length c.deref.result.now = omega (arith, long, within) in
+    omega arith
+
+pub overflow_add-result : goal.overflow_add-result
+overflow_add-result c =
+    let replay = c.args.self.now in
+    let long = rows-long replay (c.args.sample + 1) c.requires.stands c.deref.result.now c.len-outputs.result c.deref.ensures.value (c.len-outputs.ensures ∙ replay.score.samplers.ok.0) in
+    let within = c.start_of-start.ensures.within in
+    let low : c.start_of-start.result + c.len-outputs.result ≤ length c.deref.result.now = omega (arith, long, within) in
+    omega arith
