@@ -36,3 +36,4 @@ pub mod Shallow
 pub mod Worded
 pub mod Spelled
 pub mod Gathered
+pub mod Forms

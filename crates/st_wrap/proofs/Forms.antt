@@ -1,0 +1,49 @@
+-- What is made of the renamed parts of an expression is the expression renamed.
+use Rattle.std.proofs.Common.{◌≡◌, ◌∙◌, ℕ, List, map, ap, sym}
+use Rattle.vl_ast.specs.declared.expressions.UnOp.{UnOp}
+use Rattle.vl_ast.specs.declared.expressions.BinOp.{BinOp}
+use Rattle.vl_ast.specs.declared.expressions.ShiftOp.{ShiftOp}
+use Rattle.vl_ast.specs.declared.expressions.Sized.{Sized}
+use Rattle.vl_ast.specs.declared.expressions.Expr.{Expr}
+use Rattle.vl_ast.specs.declared.expressions.Expr.TheOpen.{Expr-F}
+use Rattle.vl_ast.specs.declared.expressions.Expr.TheVariants.{Name, Bit, Part, Literal, Concat, Repeat, AsSigned, AsUnsigned, Unary, Binary, Shift, Choose}
+use Rattle.vl_ast.specs.declared.expressions.Expr.TheVariants.{rolls-Name, rolls-Bit, rolls-Part, rolls-Literal, rolls-Concat, rolls-Repeat, rolls-AsSigned, rolls-AsUnsigned, rolls-Unary, rolls-Binary, rolls-Shift, rolls-Choose}
+use Rattle.vl_ast.specs.declared.expressions.Expr.TheFolds.{fold-roll-Expr}
+use Rattle.st_wrap.specs.inner.Names.{inner_name}
+use Rattle.st_wrap.specs.inner.Renamed.{renamed, renamed_step}
+
+pub of-name : (name : List ℕ) (e : Expr) → e ≡ Name name → Name (inner_name name) ≡ renamed e
+of-name name e is = sym (ap renamed (is ∙ sym (rolls-Name name)) ∙ fold-roll-Expr Expr renamed_step (Expr-F.Name name))
+
+pub of-bit : (name : List ℕ) (place : ℕ) (e : Expr) → e ≡ Bit name place → Bit (inner_name name) place ≡ renamed e
+of-bit name place e is = sym (ap renamed (is ∙ sym (rolls-Bit name place)) ∙ fold-roll-Expr Expr renamed_step (Expr-F.Bit name place))
+
+pub of-part : (name : List ℕ) (high low : ℕ) (e : Expr) → e ≡ Part name high low → Part (inner_name name) high low ≡ renamed e
+of-part name high low e is = sym (ap renamed (is ∙ sym (rolls-Part name high low)) ∙ fold-roll-Expr Expr renamed_step (Expr-F.Part name high low))
+
+pub of-literal : (number : Sized) (e : Expr) → e ≡ Literal number → Literal number ≡ renamed e
+of-literal number e is = sym (ap renamed (is ∙ sym (rolls-Literal number)) ∙ fold-roll-Expr Expr renamed_step (Expr-F.Literal number))
+
+pub of-concat : (parts : List Expr) (e : Expr) → e ≡ Concat parts → Concat (map renamed parts) ≡ renamed e
+of-concat parts e is = sym (ap renamed (is ∙ sym (rolls-Concat parts)) ∙ fold-roll-Expr Expr renamed_step (Expr-F.Concat parts))
+
+pub of-repeat : (count : ℕ) (part : Expr) (e : Expr) → e ≡ Repeat count part → Repeat count (renamed part) ≡ renamed e
+of-repeat count part e is = sym (ap renamed (is ∙ sym (rolls-Repeat count part)) ∙ fold-roll-Expr Expr renamed_step (Expr-F.Repeat count part))
+
+pub of-signed : (part : Expr) (e : Expr) → e ≡ AsSigned part → AsSigned (renamed part) ≡ renamed e
+of-signed part e is = sym (ap renamed (is ∙ sym (rolls-AsSigned part)) ∙ fold-roll-Expr Expr renamed_step (Expr-F.AsSigned part))
+
+pub of-unsigned : (part : Expr) (e : Expr) → e ≡ AsUnsigned part → AsUnsigned (renamed part) ≡ renamed e
+of-unsigned part e is = sym (ap renamed (is ∙ sym (rolls-AsUnsigned part)) ∙ fold-roll-Expr Expr renamed_step (Expr-F.AsUnsigned part))
+
+pub of-unary : (op : UnOp) (part : Expr) (e : Expr) → e ≡ Unary op part → Unary op (renamed part) ≡ renamed e
+of-unary op part e is = sym (ap renamed (is ∙ sym (rolls-Unary op part)) ∙ fold-roll-Expr Expr renamed_step (Expr-F.Unary op part))
+
+pub of-binary : (op : BinOp) (left right : Expr) (e : Expr) → e ≡ Binary op left right → Binary op (renamed left) (renamed right) ≡ renamed e
+of-binary op left right e is = sym (ap renamed (is ∙ sym (rolls-Binary op left right)) ∙ fold-roll-Expr Expr renamed_step (Expr-F.Binary op left right))
+
+pub of-shift : (op : ShiftOp) (part : Expr) (amount : Sized) (e : Expr) → e ≡ Shift op part amount → Shift op (renamed part) amount ≡ renamed e
+of-shift op part amount e is = sym (ap renamed (is ∙ sym (rolls-Shift op part amount)) ∙ fold-roll-Expr Expr renamed_step (Expr-F.Shift op part amount))
+
+pub of-choose : (test chosen other : Expr) (e : Expr) → e ≡ Choose test chosen other → Choose (renamed test) (renamed chosen) (renamed other) ≡ renamed e
+of-choose test chosen other e is = sym (ap renamed (is ∙ sym (rolls-Choose test chosen other)) ∙ fold-roll-Expr Expr renamed_step (Expr-F.Choose test chosen other))

@@ -1,0 +1,73 @@
+use Rattle.std.proofs.Common.{◌∙◌, map, ap}
+use Rattle.vl_ast.specs.declared.expressions.Expr.TheVariants.{Name, Bit, Part, Concat, Repeat, AsSigned, AsUnsigned, Unary, Binary, Shift, Choose}
+use Rattle.st_wrap.specs.inner.Names.{inner_name}
+use Rattle.st_wrap.specs.inner.Renamed.{renamed}
+use Rattle.st_wrap.proofs.Forms.{of-name, of-bit, of-part, of-literal, of-concat, of-repeat, of-signed, of-unsigned, of-unary, of-binary, of-shift, of-choose}
+use Rattle.st_wrap.proofs.renaming.+renaming.Goals as goal
+
+pub renamed-returns-in_ok-inner_name-in-Name : goal.renamed-returns-in_ok-inner_name-in-Name
+renamed-returns-in_ok-inner_name-in-Name t c =
+    ap (λ made. Name made) (c.in_ok-inner_name-in-Name.ensures ∙ ap inner_name c.bytes.ensures)
+    ∙ of-name c.in-Name.name c.args.e.now c.in-Name.is
+
+pub renamed-returns-in_ok-inner_name-in-Bit : goal.renamed-returns-in_ok-inner_name-in-Bit
+renamed-returns-in_ok-inner_name-in-Bit t c =
+    ap (λ made. Bit made c.in-Bit.place) (c.in_ok-inner_name-in-Bit.ensures ∙ ap inner_name c.bytes-in-Bit.ensures)
+    ∙ of-bit c.in-Bit.name c.in-Bit.place c.args.e.now c.in-Bit.is
+
+pub renamed-returns-in_ok-inner_name-in-Part : goal.renamed-returns-in_ok-inner_name-in-Part
+renamed-returns-in_ok-inner_name-in-Part t c =
+    ap (λ made. Part made c.in-Part.high c.in-Part.low) (c.in_ok-inner_name-in-Part.ensures ∙ ap inner_name c.bytes-in-Part.ensures)
+    ∙ of-part c.in-Part.name c.in-Part.high c.in-Part.low c.args.e.now c.in-Part.is
+
+pub renamed-returns-in-Literal : goal.renamed-returns-in-Literal
+renamed-returns-in-Literal t c =
+    of-literal c.in-Literal.number c.args.e.now c.in-Literal.is
+
+pub renamed-returns-in_ok-renamed_parts-in-Concat : goal.renamed-returns-in_ok-renamed_parts-in-Concat
+renamed-returns-in_ok-renamed_parts-in-Concat t c =
+    ap Concat (c.in_ok-renamed_parts-in-Concat.ensures ∙ ap (map renamed) c.as_slice.ensures)
+    ∙ of-concat c.in-Concat.parts c.args.e.now c.in-Concat.is
+
+pub renamed-returns-in_ok-renamed_boxed-in-Repeat : goal.renamed-returns-in_ok-renamed_boxed-in-Repeat
+renamed-returns-in_ok-renamed_boxed-in-Repeat t c =
+    ap (λ made. Repeat c.in-Repeat.count made) (c.in_ok-renamed_boxed-in-Repeat.ensures ∙ ap renamed c.get.ensures)
+    ∙ of-repeat c.in-Repeat.count c.in-Repeat.part c.args.e.now c.in-Repeat.is
+
+pub renamed-returns-in_ok-renamed_boxed-in-AsSigned : goal.renamed-returns-in_ok-renamed_boxed-in-AsSigned
+renamed-returns-in_ok-renamed_boxed-in-AsSigned t c =
+    ap (λ made. AsSigned made) (c.in_ok-renamed_boxed-in-AsSigned.ensures ∙ ap renamed c.get-in-AsSigned.ensures)
+    ∙ of-signed c.in-AsSigned.part c.args.e.now c.in-AsSigned.is
+
+pub renamed-returns-in_ok-renamed_boxed-in-AsUnsigned : goal.renamed-returns-in_ok-renamed_boxed-in-AsUnsigned
+renamed-returns-in_ok-renamed_boxed-in-AsUnsigned t c =
+    ap (λ made. AsUnsigned made) (c.in_ok-renamed_boxed-in-AsUnsigned.ensures ∙ ap renamed c.get-in-AsUnsigned.ensures)
+    ∙ of-unsigned c.in-AsUnsigned.part c.args.e.now c.in-AsUnsigned.is
+
+pub renamed-returns-in_ok-renamed_boxed-in-Unary : goal.renamed-returns-in_ok-renamed_boxed-in-Unary
+renamed-returns-in_ok-renamed_boxed-in-Unary t c =
+    ap (λ made. Unary c.in-Unary.op made) (c.in_ok-renamed_boxed-in-Unary.ensures ∙ ap renamed c.get-in-Unary.ensures)
+    ∙ of-unary c.in-Unary.op c.in-Unary.part c.args.e.now c.in-Unary.is
+
+pub renamed-returns-in_ok-part-in-Shift : goal.renamed-returns-in_ok-part-in-Shift
+renamed-returns-in_ok-part-in-Shift t c =
+    ap (λ made. Shift c.in-Shift.op made c.in-Shift.amount) (c.in_ok-part-in-Shift.ensures ∙ ap renamed c.get-in-Shift.ensures)
+    ∙ of-shift c.in-Shift.op c.in-Shift.part c.in-Shift.amount c.args.e.now c.in-Shift.is
+
+pub renamed-returns-in_ok-right-in-Binary : goal.renamed-returns-in_ok-right-in-Binary
+renamed-returns-in_ok-right-in-Binary t c =
+    let left = c.in_ok-left-in-Binary.ensures ∙ ap renamed c.get-in-Binary.ensures in
+    let right = c.in_ok-right-in-Binary.ensures ∙ ap renamed c.get-in-Binary-2.ensures in
+    ap (λ made. Binary c.in-Binary.op made c.in_ok-right-in-Binary.right) left
+    ∙ ap (λ made. Binary c.in-Binary.op (renamed c.in-Binary.left) made) right
+    ∙ of-binary c.in-Binary.op c.in-Binary.left c.in-Binary.right c.args.e.now c.in-Binary.is
+
+pub renamed-returns-in_ok-other-in-Choose : goal.renamed-returns-in_ok-other-in-Choose
+renamed-returns-in_ok-other-in-Choose t c =
+    let test = c.in_ok-test-in-Choose.ensures ∙ ap renamed c.get-in-Choose.ensures in
+    let chosen = c.in_ok-chosen-in-Choose.ensures ∙ ap renamed c.get-in-Choose-2.ensures in
+    let other = c.in_ok-other-in-Choose.ensures ∙ ap renamed c.get-in-Choose-3.ensures in
+    ap (λ made. Choose made c.in_ok-chosen-in-Choose.chosen c.in_ok-other-in-Choose.other) test
+    ∙ ap (λ made. Choose (renamed c.in-Choose.test) made c.in_ok-other-in-Choose.other) chosen
+    ∙ ap (λ made. Choose (renamed c.in-Choose.test) (renamed c.in-Choose.chosen) made) other
+    ∙ of-choose c.in-Choose.test c.in-Choose.chosen c.in-Choose.other c.args.e.now c.in-Choose.is
