@@ -1,11 +1,12 @@
 ghost use Rattle.std.specs.Prelude.{◌≡◌, IfOk};
+ghost use Rattle.vl_ast.specs.declared.expressions.Expr.{Expr};
 ghost use Rattle.vl_ast.specs.declared.expressions.Expr.TheViews.{out-Expr};
 ghost use Rattle.vl_read.specs.declared.places.Frame.TheVariants.{InConcat, InChosen};
 ghost use Rattle.vl_read.specs.declared.scan.Kind.TheVariants.{Fixed};
 ghost use Rattle.vl_read.specs.inner.Lexemes.{kind_of};
 ghost use Rattle.vl_read.specs.inner.Places.{Value, High, Low, Amount};
-ghost use Rattle.vl_read.specs.inner.Plain.{left_step, frame_step, goal_step, spot_step, indexed, name_of};
-ghost use Rattle.vl_read.specs.inner.Seen.{seen, goal_of, frames_of, spot_of};
+ghost use Rattle.vl_read.specs.inner.Plain.{expect_spot, left_step, frame_step, goal_step, spot_step, indexed, name_of};
+ghost use Rattle.vl_read.specs.inner.Seen.{seen, goal_of, frames_of, spot_of, spot_seen};
 ghost use Rattle.vl_read.specs.inner.Turns.{stepped};
 
 use crate::numbers::{constant_of, count_of, kind_of};
@@ -91,6 +92,24 @@ impl Reader {
         Ok(self.expect_spot(b':', lexeme, goal, Spot::Operand))
     }
 
+    /// After the mark that ends what an operand was made of. What was made may have wanted memory.
+    fn ended_step(
+        &mut self,
+        goal: Goal,
+        made: Result<Expr, OutOfMemory>,
+        lexeme: &[u8],
+        mark: u8,
+        spot: Spot,
+    ) -> Result<bool, OutOfMemory>
+        ensures { (value : Expr) → IfOk made (λ e. e ≡ value)
+            → IfOk result (λ said. stepped said (seen self.new)
+            ≡ expect_spot mark lexeme.now self.old.draft (goal_of self.old goal)
+            (frames_of self.old) (spot_seen self.old.held.operand value spot)) }
+    {
+        self.hold(made?);
+        Ok(self.expect_spot(mark, lexeme, goal, spot))
+    }
+
     /// After an operand in a frame.
     #[tactic(auto, unfolding(crate::specs::inner::Plain::frame_step))]
     fn frame_step(
@@ -110,24 +129,27 @@ impl Reader {
             Frame::InLeft => self.left_step(alloc, goal, value, lexeme),
             Frame::InChosen(test) => self.chosen_step(alloc, goal, test, value, lexeme),
             Frame::InRepeat(count) => {
-                self.hold(repeat(alloc, count, value)?);
-                Ok(self.expect_spot(b'}', lexeme, goal, Spot::Ends(Closing::CloseBrace)))
+                let made = repeat(alloc, count, value);
+                self.ended_step(goal, made, lexeme, b'}', Spot::Ends(Closing::CloseBrace))
             }
             Frame::InCast(signed) => {
-                self.hold(cast(alloc, signed, value)?);
-                Ok(self.expect_spot(b')', lexeme, goal, Spot::Value))
+                self.ended_step(goal, cast(alloc, signed, value), lexeme, b')', Spot::Value)
             }
             Frame::InUnary(op) => {
-                self.hold(unary(alloc, op, value)?);
-                Ok(self.expect_spot(b')', lexeme, goal, Spot::Value))
+                self.ended_step(goal, unary(alloc, op, value), lexeme, b')', Spot::Value)
             }
             Frame::InRight(op, left) => {
-                self.hold(binary(alloc, op, left, value)?);
-                Ok(self.expect_spot(b')', lexeme, goal, Spot::Value))
+                self.ended_step(
+                    goal,
+                    binary(alloc, op, left, value),
+                    lexeme,
+                    b')',
+                    Spot::Value,
+                )
             }
             Frame::InOther(test, chosen) => {
-                self.hold(choose(alloc, test, chosen, value)?);
-                Ok(self.expect_spot(b')', lexeme, goal, Spot::Value))
+                let made = choose(alloc, test, chosen, value);
+                self.ended_step(goal, made, lexeme, b')', Spot::Value)
             }
         }
     }

@@ -15,7 +15,6 @@ const DEC_DIGITS: usize = 9;
 const SIZED_DIGITS: usize = 128;
 
 /// The number of digits in a base. `None` where a byte is no digit or the number isn't below 2^128.
-#[tactic(auto, using(crate::proofs::Digits::number_some, crate::proofs::Digits::number_none))]
 fn number_in(base: u32, digits: &[u8]) -> Option<u128>
     requires low { 2 ≤ base }
     requires high { base ≤ 16 }

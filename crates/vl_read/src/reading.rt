@@ -99,11 +99,16 @@ pub fn read(alloc: Global, bytes: &[u8]) -> Result<Module, VlSyntax>
     ensures line { IfSyntax result (λ line. IsVerilogFaultLine bytes.now line) }
 {
     let mut reader = Reader::new(alloc, MOST_ITEMS);
-    let mode = read_lexemes(alloc, bytes, &mut reader)?;
-    match last(reader, mode) {
-        None => Err(VlSyntax::Syntax {
-            line: line_at(bytes),
-        }),
-        Some(module) => Ok(module),
+    match read_lexemes(alloc, bytes, &mut reader) {
+        Err(fault) => {
+            drop(reader);
+            Err(fault)
+        }
+        Ok(mode) => match last(reader, mode) {
+            None => Err(VlSyntax::Syntax {
+                line: line_at(bytes),
+            }),
+            Some(module) => Ok(module),
+        },
     }
 }
