@@ -7,8 +7,8 @@ use Rattle.vl_ast.specs.declared.expressions.ShiftOp.{ShiftOp}
 use Rattle.vl_ast.specs.declared.expressions.Sized.{Sized}
 use Rattle.vl_ast.specs.declared.expressions.Expr.{Expr}
 use Rattle.vl_ast.specs.declared.expressions.Expr.TheOpen.{Expr-F}
-use Rattle.vl_ast.specs.declared.expressions.Expr.TheVariants.{Concat, Repeat, Unary, Binary, Shift, Choose}
-use Rattle.vl_ast.specs.declared.expressions.Expr.TheVariants.{rolls-Concat, rolls-Repeat, rolls-Unary, rolls-Binary, rolls-Shift, rolls-Choose}
+use Rattle.vl_ast.specs.declared.expressions.Expr.TheVariants.{Name, Bit, Part, Literal, Concat, Repeat, AsSigned, AsUnsigned, Unary, Binary, Shift, Choose}
+use Rattle.vl_ast.specs.declared.expressions.Expr.TheVariants.{rolls-Name, rolls-Bit, rolls-Part, rolls-Literal, rolls-Concat, rolls-Repeat, rolls-AsSigned, rolls-AsUnsigned, rolls-Unary, rolls-Binary, rolls-Shift, rolls-Choose}
 use Rattle.vl_ast.specs.declared.expressions.Expr.TheFolds.{fold-roll-Expr}
 use Rattle.vl_ast.specs.Operators.{unary_text, binary_text, shift_text}
 use Rattle.vl_ast.specs.Spelling.{joined, expr_step, expr_text, sized_text}
@@ -35,6 +35,30 @@ choose_appended old a test b chosen d other f one two three p q r = rw (r, q, p)
 
 of-form : (old last text : List ℕ) (e made : Expr) → e ≡ made → expr_text made ≡ text → last ≡ old ++ text → last ≡ old ++ expr_text e
 of-form old last text e made is same ends = ends ∙ ap (λ xs. old ++ xs) (sym same) ∙ ap (λ x. old ++ expr_text x) (sym is)
+
+pub wrote-name : (name : List ℕ) (e : Expr) (old last : List ℕ) → e ≡ Name name → last ≡ old ++ name → last ≡ old ++ expr_text e
+wrote-name name e old last is p =
+    of-form old last _ e (Name name) is (ap expr_text (sym (rolls-Name name)) ∙ fold-roll-Expr (List ℕ) expr_step (Expr-F.Name name)) p
+
+pub wrote-bit : (name : List ℕ) (place : ℕ) (e : Expr) (old last : List ℕ) → e ≡ Bit name place → last ≡ old ++ (name ++ codes " [" ++ decimal place ++ codes "]") → last ≡ old ++ expr_text e
+wrote-bit name place e old last is p =
+    of-form old last _ e (Bit name place) is (ap expr_text (sym (rolls-Bit name place)) ∙ fold-roll-Expr (List ℕ) expr_step (Expr-F.Bit name place)) p
+
+pub wrote-part : (name : List ℕ) (high low : ℕ) (e : Expr) (old last : List ℕ) → e ≡ Part name high low → last ≡ old ++ (name ++ codes " [" ++ decimal high ++ codes ":" ++ decimal low ++ codes "]") → last ≡ old ++ expr_text e
+wrote-part name high low e old last is p =
+    of-form old last _ e (Part name high low) is (ap expr_text (sym (rolls-Part name high low)) ∙ fold-roll-Expr (List ℕ) expr_step (Expr-F.Part name high low)) p
+
+pub wrote-literal : (number : Sized) (e : Expr) (old last : List ℕ) → e ≡ Literal number → last ≡ old ++ sized_text number → last ≡ old ++ expr_text e
+wrote-literal number e old last is p =
+    of-form old last _ e (Literal number) is (ap expr_text (sym (rolls-Literal number)) ∙ fold-roll-Expr (List ℕ) expr_step (Expr-F.Literal number)) p
+
+pub wrote-signed : (part : Expr) (e : Expr) (old last : List ℕ) → e ≡ AsSigned part → last ≡ old ++ (codes "$signed (" ++ (expr_text part ++ codes ")")) → last ≡ old ++ expr_text e
+wrote-signed part e old last is p =
+    of-form old last _ e (AsSigned part) is (ap expr_text (sym (rolls-AsSigned part)) ∙ fold-roll-Expr (List ℕ) expr_step (Expr-F.AsSigned part)) p
+
+pub wrote-unsigned : (part : Expr) (e : Expr) (old last : List ℕ) → e ≡ AsUnsigned part → last ≡ old ++ (codes "$unsigned (" ++ (expr_text part ++ codes ")")) → last ≡ old ++ expr_text e
+wrote-unsigned part e old last is p =
+    of-form old last _ e (AsUnsigned part) is (ap expr_text (sym (rolls-AsUnsigned part)) ∙ fold-roll-Expr (List ℕ) expr_step (Expr-F.AsUnsigned part)) p
 
 pub wrote-concat : (parts : List Expr) (e : Expr) (old one two three : List ℕ) → e ≡ Concat parts →
     one ≡ old ++ codes "{" → two ≡ one ++ joined (codes ", ") (map expr_text parts) → three ≡ two ++ codes "}" → three ≡ old ++ expr_text e

@@ -1,9 +1,50 @@
-use Rattle.std.proofs.Common.{◌++◌, map, codes, arith, ap, ◌∙◌}
+use Rattle.std.proofs.Common.{◌++◌, map, codes, decimal, arith, ap, ◌∙◌}
 use Rattle.std.proofs.lemmas.Result.{on_ok_weaker}
 use Rattle.vl_ast.specs.Spelling.{joined, expr_text, sized_text}
-use Rattle.vl_write.proofs.Joined.{joined_text}
-use Rattle.vl_write.proofs.Written.{wrote-concat, wrote-repeat, wrote-unary, wrote-binary, wrote-shift, wrote-choose}
+use Rattle.vl_write.proofs.Joined.{joined_text, one_more}
+use Rattle.vl_write.proofs.Written.{wrote-name, wrote-bit, wrote-part, wrote-literal, wrote-signed, wrote-unsigned, wrote-concat, wrote-repeat, wrote-unary, wrote-binary, wrote-shift, wrote-choose}
 use Rattle.vl_write.proofs.expressions.+expression.Goals as goal
+
+pub put_expr-returns-in-Name : goal.put_expr-returns-in-Name
+put_expr-returns-in-Name t c =
+    let name = ap (λ xs. c.args.out.now.items ++ xs) c.bytes.ensures in
+    on_ok_weaker c.put.result
+    (λ ends. wrote-name c.in-Name.name c.args.e.now c.args.out.now.items _ c.in-Name.is (ends ∙ name))
+    c.put.ensures
+
+pub put_expr-returns-in-Bit : goal.put_expr-returns-in-Bit
+put_expr-returns-in-Bit t c =
+    let name = ap (λ xs. c.args.out.now.items ++ (xs ++ codes " [" ++ decimal c.in-Bit.place ++ codes "]")) c.bytes-in-Bit.ensures in
+    on_ok_weaker c.put_bit.result
+    (λ ends. wrote-bit c.in-Bit.name c.in-Bit.place c.args.e.now c.args.out.now.items _ c.in-Bit.is (ends ∙ name))
+    c.put_bit.ensures
+
+pub put_expr-returns-in-Part : goal.put_expr-returns-in-Part
+put_expr-returns-in-Part t c =
+    let name = ap (λ xs. c.args.out.now.items ++ (xs ++ codes " [" ++ decimal c.in-Part.high ++ codes ":" ++ decimal c.in-Part.low ++ codes "]")) c.bytes-in-Part.ensures in
+    on_ok_weaker c.put_part.result
+    (λ ends. wrote-part c.in-Part.name c.in-Part.high c.in-Part.low c.args.e.now c.args.out.now.items _ c.in-Part.is (ends ∙ name))
+    c.put_part.ensures
+
+pub put_expr-returns-in-Literal : goal.put_expr-returns-in-Literal
+put_expr-returns-in-Literal t c =
+    on_ok_weaker c.put_sized.result
+    (λ ends. wrote-literal c.in-Literal.number c.args.e.now c.args.out.now.items _ c.in-Literal.is ends)
+    c.put_sized.ensures
+
+pub put_expr-returns-in-AsSigned : goal.put_expr-returns-in-AsSigned
+put_expr-returns-in-AsSigned t c =
+    let part = ap (λ x. c.args.out.now.items ++ (codes "$signed (" ++ (expr_text x ++ codes ")"))) c.get-in-AsSigned.ensures in
+    on_ok_weaker c.put_within-in-AsSigned.result
+    (λ ends. wrote-signed c.in-AsSigned.part c.args.e.now c.args.out.now.items _ c.in-AsSigned.is (ends ∙ part))
+    c.put_within-in-AsSigned.ensures
+
+pub put_expr-returns-in-AsUnsigned : goal.put_expr-returns-in-AsUnsigned
+put_expr-returns-in-AsUnsigned t c =
+    let part = ap (λ x. c.args.out.now.items ++ (codes "$unsigned (" ++ (expr_text x ++ codes ")"))) c.get-in-AsUnsigned.ensures in
+    on_ok_weaker c.put_within-in-AsUnsigned.result
+    (λ ends. wrote-unsigned c.in-AsUnsigned.part c.args.e.now c.args.out.now.items _ c.in-AsUnsigned.is (ends ∙ part))
+    c.put_within-in-AsUnsigned.ensures
 
 pub put_expr-returns-in_ok-put_parts-in-Concat : goal.put_expr-returns-in_ok-put_parts-in-Concat
 put_expr-returns-in_ok-put_parts-in-Concat t c =
@@ -55,3 +96,8 @@ put_expr-returns-in_ok-put_within-in-Choose-2 t c =
 
 pub put_parts-returns : goal.put_parts-returns
 put_parts-returns t c = joined_text (codes ", ") expr_text c.args.parts.now c.in-Some.first.now c.in-Some.others.now c.args.out.now.items _ _ c.loop-part.part-index c.in-Some.ensures.cases.0 c.in_ok-put_expr.ensures c.loop-part.invariant (omega arith)
+
+pub put_parts-loop-part-preserved : goal.put_parts-loop-part-preserved
+put_parts-loop-part-preserved t c =
+    one_more (codes ", ") expr_text c.in-Some.others.now c.put_expr.new.out.items c.loop-part.out.items c.put.new.out.items c.put_expr-in-loop-part.new.out.items
+    c.loop-part.part-index c.part-item.result c.loop-part-test.true c.part-item.is c.loop-part.invariant c.in_ok-put.ensures c.in_ok-put_expr-2.ensures
