@@ -73,3 +73,6 @@ first_more diagram done place block known at before is =
 
 pub kept_in : (diagram : Diagram) (base place : ℕ) (block : Block) → base ≡ base_units diagram → KeepsIn base block → KeepsDeclared diagram place block
 kept_in diagram base place block same keeps = subst (λ b. KeepsIn b block) same keeps
+
+pub kept_out : (diagram : Diagram) (base place : ℕ) (block : Block) → base ≡ base_units diagram → KeepsDeclared diagram place block → KeepsIn base block
+kept_out diagram base place block same keeps = subst (λ b. KeepsIn b block) (sym same) keeps

@@ -1,14 +1,21 @@
 -- Rows of sources as the controls come to them.
-use Rattle.std.proofs.Common.{◌≡◌, ℕ, ◌+◌, ◌<◌, ◌≤◌, ⊎_elim, Bool, true, false, List, [], ◌∷◌, ◌++◌, length, cond, Some, None, refl, sym, ap, ◌∙◌, arith}
-use Rattle.std.specs.Prelude.{nat_lt, slice_get}
+use Rattle.std.proofs.Common.{◌≡◌, ℕ, ◌+◌, ◌<◌, ◌≤◌, ⊎_elim, Bool, true, false, List, [], ◌∷◌, ◌++◌, length, map, filter, replicate, take, get_or, cond, eqb, All, Some, None, refl, sym, ap, subst, ◌∙◌, arith}
+use Rattle.std.specs.Prelude.{◌==◌, nat_lt, slice_get, MatchOption}
 use Rattle.std.specs.Option.{option_to_list}
-use Rattle.std.proofs.lemmas.Bool.{cases_eq, cases_lt, cond-true, cond-false, lt-ltb, le-ltb}
-use Rattle.std.proofs.lemmas.List.{append-nil}
-use Rattle.std.proofs.lemmas.Option.{same_Some, slice_get_within}
+use Rattle.std.proofs.lemmas.Bool.{cases_eq, cases_lt, cond-true, cond-false, eq-eqb, ne_eqb, lt-ltb, le-ltb}
+use Rattle.std.proofs.lemmas.List.{append-nil, get_or-replicate, get_or_past, length-replicate, map-append, take_more}
+use Rattle.std.proofs.lemmas.List.Elements.{All-push, filter-append}
+use Rattle.std.proofs.lemmas.Option.{get_or_from_slice_get, same_Some, slice_get_past, slice_get_within}
+use Rattle.dg_waves.specs.inner.Waves.{is_in}
+use Rattle.dg_waves.proofs.Waved.{is_in_last}
 use Rattle.dg_model.specs.declared.diagram.Diagram.{Diagram}
 use Rattle.dg_model.specs.declared.diagram.Block.{Block}
+use Rattle.dg_model.specs.declared.diagram.Edge.{Edge}
+use Rattle.dg_model.specs.declared.row.Role.{Role}
+use Rattle.dg_model.specs.Library.{row_of}
 use Rattle.dg_model.specs.Periods.{control_of, drivers_of}
-use Rattle.dg_rates.specs.inner.Links.{AreControlled, AreSources}
+use Rattle.dg_model.specs.Wired.{IsWired, NamesControl}
+use Rattle.dg_rates.specs.inner.Links.{AreControlled, AreDrivers, AreOwn, AreSources, AreTied}
 use Rattle.fx_io.specs.Rows.{row_at, noted}
 use Rattle.dg_rates.proofs.Tying.{noted_here, noted_other}
 
@@ -22,6 +29,14 @@ same_before place done c other =
   where
     later : done ≤ place → done + 1 ≤ place
     later past = ⊎_elim (λ same. absurd (other same)) (λ differ. omega (arith, past, differ)) (cases_eq place done)
+
+pub controlled_first : (diagram : Diagram) (rows : List (List ℕ)) → AreDrivers (length diagram.blocks) diagram.edges rows → AreControlled diagram 0 rows
+controlled_first diagram rows drivers = record {
+  row = λ place block at.
+      drivers.row place (slice_get_within diagram.blocks place block at)
+      ∙ sym (append-nil (drivers_of diagram place))
+      ∙ ap (λ (c : List ℕ). drivers_of diagram place ++ c) (sym (cond-false (nat_lt place 0) (control_of block) [] (le-ltb place 0 (omega arith))));
+}
 
 pub controlled_more : (diagram : Diagram) (done : ℕ) (rows : List (List ℕ)) (block : Block) (control : ℕ) → slice_get diagram.blocks done ≡ Some block → block.enable ≡ Some control
     → done < length rows → AreControlled diagram done rows → AreControlled diagram (done + 1) (noted rows done control)
@@ -73,3 +88,76 @@ sources_all diagram done rows all a = record {
       a.row place block at ∙ ap (λ (c : List ℕ). drivers_of diagram place ++ c)
       (cond-true (nat_lt place done) (control_of block) [] (lt-ltb place done (omega (arith, all, slice_get_within diagram.blocks place block at))));
 }
+
+-- ---- before the controls
+
+-- rows without a source, and readers that have themselves alone
+pub tied_first : (count : ℕ) (sources readers : List (List ℕ)) → sources ≡ replicate count [] → AreOwn count readers → AreTied count sources readers
+tied_first count sources readers empty own = record {
+  sources_size = ap length empty ∙ length-replicate count [];
+  readers_size = own.size;
+  there = λ block. rw (no_source block) (λ k d below. absurd (omega (arith, below)));
+  readers_there = λ block.
+      ⊎_elim
+      (λ below. rw (own.own block below) (All-push (λ reader. reader < count) [] block (λ k d none. absurd (omega (arith, none))) below))
+      (λ past. rw (get_or_past readers block [] (omega (arith, past, own.size))) (λ k d inside. absurd (omega (arith, inside))))
+      (cases_lt block count);
+  own = λ block below. subst (λ (row : List ℕ). is_in block row ≡ true) (sym (own.own block below)) (is_in_last [] block block refl);
+  known = λ block k source at.
+      let inside = slice_get_within (row_at sources block) k source at in
+      absurd (omega (arith, inside, ap length (no_source block)));
+}
+  where
+    no_source : (block : ℕ) → row_at sources block ≡ []
+    no_source block =
+        ap (λ (rows : List (List ℕ)). row_at rows block) empty
+        ∙ ⊎_elim
+        (λ below. get_or-replicate count block [] [] below)
+        (λ past. get_or_past (replicate count []) block [] (omega (arith, past, length-replicate {A = List ℕ} count [])))
+        (cases_lt block count)
+
+pub drivers_first : (count : ℕ) (rows : List (List ℕ)) → rows ≡ replicate count [] → AreDrivers count [] rows
+drivers_first count rows empty = record { row = λ block below. ap (λ (all : List (List ℕ)). row_at all block) empty ∙ get_or-replicate count block [] [] below }
+
+one_driver : (count : ℕ) (done : List Edge) (edge : Edge) (rows : List (List ℕ)) → edge.to < length rows → AreDrivers count done rows → AreDrivers count (done ++ edge ∷ []) (noted rows edge.to edge.from)
+one_driver count done edge rows inside before = record {
+  row = λ block below.
+      ⊎_elim
+      (λ same. noted_here rows edge.to edge.from block inside same ∙ ap (λ (row : List ℕ). row ++ edge.from ∷ []) (before.row block below) ∙ sym (added block true (eq-eqb edge.to block (sym same))))
+      (λ other.
+      noted_other rows edge.to edge.from block other ∙ before.row block below
+      ∙ sym (append-nil (map (λ (e : Edge). e.from) (filter (λ e. e.to == block) done))) ∙ sym (added block false (ne_eqb edge.to block (λ same. other (sym same)))))
+      (cases_eq block edge.to);
+}
+  where
+    added : (block : ℕ) (b : Bool) → eqb edge.to block ≡ b
+        → map (λ (e : Edge). e.from) (filter (λ e. e.to == block) (done ++ edge ∷ [])) ≡ map (λ (e : Edge). e.from) (filter (λ e. e.to == block) done) ++ map (λ (e : Edge). e.from) (cond b (edge ∷ []) [])
+    added block b is =
+        ap (map (λ (e : Edge). e.from)) (filter-append (λ (e : Edge). e.to == block) done (edge ∷ []) ∙ ap (λ (c : Bool). filter (λ e. e.to == block) done ++ cond c (edge ∷ []) []) is)
+        ∙ map-append (λ (e : Edge). e.from) (filter (λ e. e.to == block) done) (cond b (edge ∷ []) [])
+
+pub drivers_more : (count : ℕ) (edges : List Edge) (place : ℕ) (d : Edge) (rows : List (List ℕ)) → place < length edges → (get_or edges place d).to < length rows → AreDrivers count (take place edges) rows
+    → AreDrivers count (take (place + 1) edges) (noted rows (get_or edges place d).to (get_or edges place d).from)
+drivers_more count edges place d rows below inside before = rw (take_more edges place d below) (one_driver count (take place edges) (get_or edges place d) rows inside before)
+
+-- ---- what is named is there
+
+-- a place of which something is said is one of the list
+inside_of : {A : Type 0} (xs : List A) (P : A → Type 0) (k : ℕ) → MatchOption (slice_get xs k) ⊥ P → k < length xs
+inside_of xs P k said =
+    ⊎_elim
+    (λ below. below)
+    (λ past. absurd (subst (λ o. MatchOption o ⊥ P) (slice_get_past xs k past) said))
+    (cases_lt k (length xs))
+
+pub from_inside : (diagram : Diagram) → IsWired diagram → All (λ edge. edge.from < length diagram.blocks) diagram.edges
+from_inside diagram wired k d below = inside_of diagram.blocks _ _ (wired.edges k d below).source
+
+pub to_inside : (diagram : Diagram) → IsWired diagram → All (λ edge. edge.to < length diagram.blocks) diagram.edges
+to_inside diagram wired k d below = inside_of diagram.blocks _ _ (wired.edges k d below).target
+
+pub control_inside : (diagram : Diagram) (place : ℕ) (block : Block) (control : ℕ) → IsWired diagram → slice_get diagram.blocks place ≡ Some block → block.enable ≡ Some control → control < length diagram.blocks
+control_inside diagram place block control wired at enable =
+    let last = get_or_from_slice_get diagram.blocks place block block at in
+    let names : NamesControl diagram.blocks block.enable = subst (λ (b : Block). NamesControl diagram.blocks b.enable) last (wired.controls place block (slice_get_within diagram.blocks place block at)) in
+    inside_of diagram.blocks (λ b. (row_of b.kind).place.role ≡ Role.Control) control (subst (λ o. NamesControl diagram.blocks o) enable names)
