@@ -1,8 +1,9 @@
 -- An edge leads from the block that is told, and its arc too.
-use Rattle.std.proofs.Common.{◌≡◌, ◌⊎◌, inl, inr, ℕ, zero, suc, ◌+◌, ◌-◌, ◌<◌, ◌≤◌, Bool, true, false, List, [], ◌∷◌, ◌++◌, length, map, Option, None, Some, ap, sym, ◌∙◌, refl, arith}
+use Rattle.std.proofs.Common.{◌≡◌, ◌⊎◌, inl, inr, ℕ, zero, suc, ◌+◌, ◌-◌, ◌<◌, ◌≤◌, Bool, true, false, List, [], ◌∷◌, ◌++◌, length, map, get_or, Option, None, Some, ap, sym, ◌∙◌, refl, arith}
 use Rattle.std.specs.Prelude.{slice_get}
 use Rattle.std.proofs.lemmas.Bool.{cases_lt}
-use Rattle.std.proofs.lemmas.Option.{none-some, same_Some, slice_get_past}
+use Rattle.std.proofs.lemmas.List.{length-map}
+use Rattle.std.proofs.lemmas.Option.{none-some, same_Some, slice_get-get_or, slice_get_past, slice_get_within}
 use Rattle.dg_model.specs.declared.diagram.Diagram.{Diagram}
 use Rattle.dg_model.specs.declared.diagram.Block.{Block}
 use Rattle.dg_model.specs.declared.diagram.Edge.{Edge}
@@ -77,6 +78,16 @@ control_source diagram block number source b b_at none enables = record {
   ];
 }
 
+pub line_source : (diagram : Diagram) (block number : ℕ) (line : Edge) → slice_get diagram.edges number ≡ Some line → IsSource diagram block number line.from
+line_source diagram block number line at = record {
+  is = λ edge edge_at to.
+      let inside = slice_get_within diagram.edges number line at in
+      let less : number < length (map signal_edge diagram.edges) = omega (arith, inside, length-map diagram.edges signal_edge) in
+      let found = map_from signal_edge diagram.edges number edge (sym (get_front (map signal_edge diagram.edges) (enable_edges_from 0 diagram.blocks) number less) ∙ edge_at) in
+      let same : line ≡ found.0 = same_Some line found.0 (sym at ∙ found.1) in
+      ap (λ (e : Edge). e.from) same ∙ ap (λ (e : LatencyEdge). e.from) found.2;
+}
+
 -- ---- their arcs
 
 ends_into : (from to : ℕ) (fed : Bool) (stages period own : ℕ) (found : Option Block) → ((arc_into from to fed stages period own found).from ≡ from) × ((arc_into from to fed stages period own found).to ≡ to)
@@ -101,6 +112,10 @@ arc_source diagram plan fed block number source arc is at to =
 -- past the lines there is none
 pub no_line : (diagram own : Diagram) (edges : List Edge) (number : ℕ) → edges ≡ own.edges → own ≡ diagram → length edges ≤ number → slice_get diagram.edges number ≡ None
 no_line diagram own edges number edges_are own_is past = ap (λ (es : List Edge). slice_get es number) (sym (edges_are ∙ ap (λ (d : Diagram). d.edges) own_is)) ∙ slice_get_past edges number past
+
+pub line_found : (diagram own : Diagram) (edges : List Edge) (number : ℕ) (edge : Edge) → edges ≡ own.edges → own ≡ diagram → number < length edges → edge ≡ get_or edges number edge → slice_get diagram.edges number ≡ Some edge
+line_found diagram own edges number edge edges_are own_is inside is =
+    ap (λ (es : List Edge). slice_get es number) (sym (edges_are ∙ ap (λ (d : Diagram). d.edges) own_is)) ∙ slice_get-get_or edges number edge inside ∙ ap Some (sym is)
 
 pub control_found : (diagram : Diagram) (block number control : ℕ) (b : Block) → IsChecked diagram → slice_get diagram.blocks block ≡ Some b → slice_get diagram.edges number ≡ None → b.enable ≡ Some control → IsSource diagram block number control × (control < length diagram.blocks)
 control_found diagram block number control b checked b_at none is = (

@@ -1,4 +1,4 @@
-use Rattle.std.proofs.Common.{◌++◌, ◌-◌, ℕ, List, codes, drop, ap}
+use Rattle.std.proofs.Common.{◌++◌, ℕ, List, codes, drop, ap}
 use Rattle.hw_rules.specs.Times.{timing_in}
 use Rattle.fx_io.proofs.Taken.{rest-whole}
 use Rattle.fx_check.specs.CheckText.{head_text, steps_text}
@@ -21,3 +21,9 @@ returns-clause-puts g c =
           (ap (λ (line : List ℕ). earlier ++ line) (output_is diagram plan timing c.args.name.now path c.args.block c.args.clocks c.requires.clocks));
       puts = both (both c.put_front.ensures (adds_as (ap (λ (blocks : List ℕ). steps_text diagram blocks) whole) c.put_steps.ensures)) c.put.ensures;
     }
+
+pub path_to-start-requires-clause-latencies : goal.path_to-start-requires-clause-latencies
+path_to-start-requires-clause-latencies g c = c.requires.times.latencies
+
+pub returns-clause-room : goal.returns-clause-room
+returns-clause-room g c = c.path_to-start.ensures.room
