@@ -1,7 +1,8 @@
 use Rattle.std.proofs.Common.{◌<◌, length, arith}
+use Rattle.dg_sort.specs.declared.search.Mark.TheVariants.{Unmet}
 use Rattle.dg_sort.specs.inner.Search.{seen}
 use Rattle.dg_sort.proofs.Finding.{found}
-use Rattle.dg_sort.proofs.Stepping.{roots_more, roots_same}
+use Rattle.dg_sort.proofs.Stepping.{mark_is, roots_more, roots_same}
 use Rattle.dg_sort.proofs.search.search_all.Goals.{in-Unmet+in_ok-search_from, in_default}
 use Rattle.dg_sort.proofs.search.search_all.Goals as goal
 
@@ -30,3 +31,19 @@ pub returns : goal.returns
 returns c =
     let end = c.loop-root-test.false in
     found c.args.rows.now (seen c.loop-root.search) c.requires.known c.loop-root.invariant.state c.loop-root.invariant.free (λ block inside at. c.loop-root.invariant.met block (omega (arith, inside, end)) at)
+
+pub search_from-requires-clause-unmet : goal.search_from-requires-clause-unmet
+search_from-requires-clause-unmet c =
+    let size = c.loop-root.invariant.state.places.marked in
+    let below = c.loop-root-test.true in
+    let inside : c.loop-root.root < length c.loop-root.search.marks.items = omega (arith, size, below) in
+    mark_is c.loop-root.search.marks.items c.loop-root.root c.index.result.now Unmet inside c.index.ensures c.in-Unmet.is
+
+pub search_from-requires-clause-state : goal.search_from-requires-clause-state
+search_from-requires-clause-state c = c.loop-root.invariant.state
+
+pub search_from-requires-clause-free : goal.search_from-requires-clause-free
+search_from-requires-clause-free c = c.loop-root.invariant.free
+
+pub search_from-requires-clause-known : goal.search_from-requires-clause-known
+search_from-requires-clause-known c = c.requires.known
