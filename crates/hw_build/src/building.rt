@@ -45,17 +45,40 @@ fn put_nets<'a>(
     dg_model::edges_stand_by_port();
     dg_model::root_elements_are_listed();
     let firsts = hubs_of(alloc, net, design.checked, inputs)?;
-    let operands = put_lines(alloc, net, design, &firsts)?;
-    let products = products_of(alloc, net, design, &operands)?;
+    let operands = match put_lines(alloc, net, design, &firsts) {
+        Ok(operands) => operands,
+        Err(wanting) => {
+            drop(firsts);
+            return Err(wanting);
+        }
+    };
+    let products = match products_of(alloc, net, design, &operands) {
+        Ok(products) => products,
+        Err(wanting) => {
+            drop(operands);
+            drop(firsts);
+            return Err(wanting);
+        }
+    };
     let setting = Setting {
         design,
         firsts: &firsts,
         operands: &operands,
         products: &products,
     };
-    let spots = put_elements(alloc, net, setting, inputs.len())?;
-    let _ = spots;
-    Ok(firsts)
+    let spots = put_elements(alloc, net, setting, inputs.len());
+    drop(products);
+    drop(operands);
+    match spots {
+        Ok(spots) => {
+            drop(spots);
+            Ok(firsts)
+        }
+        Err(wanting) => {
+            drop(firsts);
+            Err(wanting)
+        }
+    }
 }
 
 /// Puts in all ports, whose blocks these are. By block, the firsts are where the nets begin that

@@ -10,16 +10,16 @@ put_lines-requires-clause-inputs c = inputs_begin c.args.design.checked.now.diag
 
 pub products_of-requires-clause-words : goal.products_of-requires-clause-words
 products_of-requires-clause-words c =
-    words_stand c.args.design.checked.now.diagram c.args.design.plan.now (times_for c.args.design) c.hubs_of.new.net c.put_lines.new.net c.in_ok-firsts.firsts c.in_ok-operands.operands c.keeps_rules.ensures.checked c.edges_stand_by_port.ensures.widths c.columns_are_a_stimulus.ensures.kept c.in_ok-operands.ensures
+    words_stand c.args.design.checked.now.diagram c.args.design.plan.now (times_for c.args.design) c.hubs_of.new.net c.put_lines.new.net c.in_ok-firsts.firsts c.in-Ok.operands c.keeps_rules.ensures.checked c.edges_stand_by_port.ensures.widths c.columns_are_a_stimulus.ensures.kept c.in-Ok.ensures
 
-pub put_elements-requires-clause-begun : goal.put_elements-requires-clause-begun
-put_elements-requires-clause-begun c =
-    steps_begin _ c.args.net.now c.hubs_of.new.net c.put_lines.new.net c.products_of.new.net c.keeps_rules.ensures.checked c.keeps_rules.ensures.ordered c.columns_are_a_stimulus.ensures.kept c.requires.empty c.in_ok-firsts.ensures c.in_ok-operands.ensures c.in_ok-products.ensures.adds
+pub put_elements-spots-requires-clause-begun : goal.put_elements-spots-requires-clause-begun
+put_elements-spots-requires-clause-begun c =
+    steps_begin _ c.args.net.now c.hubs_of.new.net c.put_lines.new.net c.products_of.new.net c.keeps_rules.ensures.checked c.keeps_rules.ensures.ordered c.columns_are_a_stimulus.ensures.kept c.requires.empty c.in_ok-firsts.ensures c.in-Ok.ensures c.in-Ok-products_of.ensures.adds
 
-pub returns : goal.returns
-returns c =
-    steps_fill _ c.args.net.now c.hubs_of.new.net c.put_elements.new.net c.in_ok-spots.spots (steps_set _ c.args.net.now c.hubs_of.new.net c.requires.designed c.in_ok-firsts.ensures c.in_ok-products.ensures.which) (record { checked = c.keeps_rules.ensures.checked; ordered = c.keeps_rules.ensures.ordered })
-    c.root_elements_are_listed.ensures.inputs c.root_elements_are_listed.ensures.outputs c.in_ok-firsts.ensures c.in_ok-spots.ensures
+pub returns-in-Ok-spots : goal.returns-in-Ok-spots
+returns-in-Ok-spots c =
+    steps_fill _ c.args.net.now c.hubs_of.new.net c.put_elements-spots.new.net c.in-Ok-spots.spots (steps_set _ c.args.net.now c.hubs_of.new.net c.requires.designed c.in_ok-firsts.ensures c.in-Ok-products_of.ensures.which) (record { checked = c.keeps_rules.ensures.checked; ordered = c.keeps_rules.ensures.ordered })
+    c.root_elements_are_listed.ensures.inputs c.root_elements_are_listed.ensures.outputs c.in_ok-firsts.ensures c.in-Ok-spots.ensures
 
-pub put_elements-requires-clause-set : goal.put_elements-requires-clause-set
-put_elements-requires-clause-set c = steps_set _ c.args.net.now c.hubs_of.new.net c.requires.designed c.in_ok-firsts.ensures c.in_ok-products.ensures.which
+pub put_elements-spots-requires-clause-set : goal.put_elements-spots-requires-clause-set
+put_elements-spots-requires-clause-set c = steps_set _ c.args.net.now c.hubs_of.new.net c.requires.designed c.in_ok-firsts.ensures c.in-Ok-products_of.ensures.which

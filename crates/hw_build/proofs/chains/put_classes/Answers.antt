@@ -1,4 +1,4 @@
-use Rattle.std.proofs.Common.{rules, ◌≡◌, ℕ, ◌++◌, ◌∷◌, [], List, Some, length, slice_get, refl, sym, subst}
+use Rattle.std.proofs.Common.{◌≡◌, ℕ, ◌++◌, ◌∷◌, [], List, Some, length, slice_get, refl, sym, subst}
 use Rattle.std.proofs.lemmas.Option.{slice_get_read}
 use Rattle.hw_build.specs.declared.wants.Class.{Class}
 use Rattle.hw_build.specs.inner.Wants.{AreAnswered}
@@ -20,5 +20,5 @@ loop-class-preserved c =
     let classes : List Class = c.args.classes.now in
     let i : ℕ = c.loop-class.class-index in
     let at : slice_get classes i ≡ Some c.class-item.result = slice_get_read classes (length classes) i c.class-item.result refl c.loop-class-test.true c.class-item.is in
-    let more : c.push.new.self.items ≡ c.loop-class.answers.items ++ c.in_ok-own.own ∷ [] = search rules in
+    let more : c.push.new.self.items ≡ c.loop-class.answers.items ++ c.in_ok-own.own ∷ [] = c.in_ok-push.ensures.items in
     rw more (answered_more c.args.net.now c.loop-class.net c.put_class.new.net classes c.loop-class.answers.items i c.class-item.result c.in_ok-own.own c.requires.classes c.loop-class.invariant at c.in_ok-own.ensures)

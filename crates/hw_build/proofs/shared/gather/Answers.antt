@@ -1,4 +1,4 @@
-use Rattle.std.proofs.Common.{rules, ◌≡◌, ℕ, ◌+◌, ◌++◌, ◌∷◌, List, [], Option, sym, ap, subst, arith, add-one, refl}
+use Rattle.std.proofs.Common.{◌≡◌, ℕ, ◌+◌, ◌++◌, ◌∷◌, List, [], Option, sym, ap, subst, arith, add-one, refl}
 use Rattle.hw_share.specs.declared.operation.Operation.{Operation}
 use Rattle.hw_build.specs.inner.Designed.{times_for}
 use Rattle.hw_build.specs.inner.Factors.{AreFirsts, GathersFor, first_for}
@@ -11,7 +11,7 @@ pub loop-place-init : goal.loop-place-init
 loop-place-init c =
     let diagram = c.args.design.checked.now.diagram in
     let plan = c.args.design.plan.now in
-    let none : c.new-firsts.result.items ≡ [] = search rules in (
+    let none : c.new-firsts.result.items ≡ [] = c.new-firsts.ensures.items in (
       subst (λ (firsts : List (Option ℕ)). AreFirsts diagram plan firsts 0) (sym none) (firsts_none diagram plan),
       subst (λ (operations : List Operation). GathersFor c.args.design c.args.operands.now c.args.net.now c.args.net.now [] operations 0 0) (sym c.requires.none)
           (gathers_none diagram plan (times_for c.args.design) (offered_at diagram c.args.operands.now) c.args.net.now [] 0 refl),
@@ -22,7 +22,7 @@ loop-place-preserved c =
     let diagram = c.args.design.checked.now.diagram in
     let plan = c.args.design.plan.now in
     let place : ℕ = c.loop-place.place in
-    let more : c.push.new.self.items ≡ c.loop-place.firsts.items ++ c.in_ok-first.first ∷ [] = search rules in
+    let more : c.push.new.self.items ≡ c.loop-place.firsts.items ++ c.in_ok-first.first ∷ [] = c.in_ok-push.ensures.items in
     let zero_first : first_for c.args.design place ≡ 0 + first_for c.args.design place = omega arith in
     let next : first_for c.args.design place + shared_width diagram plan place ≡ first_for c.args.design (place + 1) = ap (first_for c.args.design) (sym (add-one place)) in
     let block = subst (λ (n : ℕ). GathersFor c.args.design c.args.operands.now c.loop-place.net c.gather_block.new.net c.loop-place.operations.items c.gather_block.new.operations.items n (shared_width diagram plan place)) zero_first c.in_ok-first.ensures.more in (

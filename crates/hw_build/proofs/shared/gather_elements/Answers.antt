@@ -1,4 +1,4 @@
-use Rattle.std.proofs.Common.{rules, ◌≡◌, ℕ, ◌+◌, ◌++◌, ◌∷◌, [], length, sym, subst, ◌∙◌, arith}
+use Rattle.std.proofs.Common.{◌≡◌, ℕ, ◌+◌, ◌++◌, ◌∷◌, [], length, sym, subst, ◌∙◌, arith}
 use Rattle.std.proofs.lemmas.Option.{slice_get_within}
 use Rattle.hw_sched.specs.Slots.{Operation, operation}
 use Rattle.hw_build.specs.inner.Designed.{times_for}
@@ -18,7 +18,7 @@ shared_of-requires-clause-is c =
     let width = c.own_width-element-end.ensures in
     let test = c.loop-element-test.true in
     let there = operation_there diagram c.args.design.plan.now c.args.block c.loop-element.element inside c.requires.shared (omega (arith, width, test)) in
-    let size : c.len-number.result ≡ length c.loop-element.operations.items = search rules in
+    let size : c.len-number.result ≡ length c.loop-element.operations.items = omega (arith, c.len-number.ensures) in
     let number : first_for c.args.design c.args.block + c.loop-element.element ≡ c.len-number.result = sym (size ∙ c.loop-element.invariant.size) in
     subst (λ (n : ℕ). IsNumbered c.args.design n (operation c.args.block c.loop-element.element)) number there
 
@@ -32,10 +32,10 @@ loop-element-preserved c =
     let width = c.own_width-element-end.ensures in
     let test = c.loop-element-test.true in
     let there = operation_there diagram plan c.args.block c.loop-element.element inside c.requires.shared (omega (arith, width, test)) in
-    let size : c.len-number.result ≡ length c.loop-element.operations.items = search rules in
+    let size : c.len-number.result ≡ length c.loop-element.operations.items = omega (arith, c.len-number.ensures) in
     let number : c.len-number.result ≡ count = size ∙ c.loop-element.invariant.size in
     let made = subst (λ (n : ℕ). IsGatheredFor c.args.design c.args.operands.now c.loop-element.net c.shared_of.new.net n o c.in_ok-made.made) number c.in_ok-made.ensures.made in
-    let more : c.push.new.self.items ≡ c.loop-element.operations.items ++ c.in_ok-made.made ∷ [] = search rules in
+    let more : c.push.new.self.items ≡ c.loop-element.operations.items ++ c.in_ok-made.made ∷ [] = c.in_ok-push.ensures.items in
     let one = gathers_one diagram plan (times_for c.args.design) (offered_at diagram c.args.operands.now) c.loop-element.net c.shared_of.new.net c.loop-element.operations.items count o c.in_ok-made.made c.loop-element.invariant.size there c.in_ok-made.ensures.adds made in
     rw more (gathers_then diagram plan (times_for c.args.design) (offered_at diagram c.args.operands.now) c.args.net.now c.loop-element.net c.shared_of.new.net c.args.operations.now.items c.loop-element.operations.items (c.loop-element.operations.items ++ c.in_ok-made.made ∷ [])
     (first_for c.args.design c.args.block) c.loop-element.element 1 c.loop-element.invariant one)
