@@ -1,5 +1,5 @@
 -- What the words of a command say, and what its causes say of the bytes of its first file.
-use Rattle.std.proofs.Common.{◌≡◌, ℕ, List, [], ◌∷◌, length, map, None, Some, refl, sym, arith}
+use Rattle.std.proofs.Common.{◌≡◌, ap, ◌∙◌, Bool, true, false, if◌then◌else◌, ℕ, List, [], ◌∷◌, length, map, None, Some, refl, sym, arith}
 use Rattle.dg_model.specs.declared.diagram.Diagram.{Diagram}
 use Rattle.dg_model.specs.declared.fault.RuleFault.{RuleFault}
 use Rattle.mdl_text.specs.declared.tree.Tree.{Tree}
@@ -12,6 +12,13 @@ use Rattle.fx_model.specs.Model.{IsModelOf, IsBrokenModel, IsAccepted}
 use Rattle.fx_top.specs.Outcome.{Yields, IsBadFor}
 use Rattle.fx_top.specs.Output.{IsBadTable}
 use Rattle.fx_top.specs.Replayed.{IsSoundText}
+
+-- a choice is its first part where the test holds, and else its second
+pub if-then : {A : Type 0} {test : Bool} {one goal : A} (other : A) → test ≡ true → goal ≡ one → goal ≡ (if test then one else other)
+if-then {A} {test} {one} other holds is = is ∙ ap (λ (b : Bool). if b then one else other) (sym holds)
+
+pub if-else : {A : Type 0} {test : Bool} {other goal : A} (one : A) → test ≡ false → goal ≡ other → goal ≡ (if test then one else other)
+if-else {A} {test} {other} one fails is = is ∙ ap (λ (b : Bool). if b then one else other) (sym fails)
 
 -- so many words ask for nothing
 pub none_asked : {W : Type 0} (bytes : W → List ℕ) (words : List W) → (length words ≡ 2 → ⊥) → (length words ≡ 3 → ⊥) → None ≡ asked_of (map bytes words)

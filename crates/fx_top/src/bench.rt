@@ -72,7 +72,10 @@ fn replayed_text(
     let response = match response_of(alloc, verilog, stimulus) {
         Ok(response) => response,
         Err(ReplayFault::NotVerilog { line: _line }) => return Ok(None),
-        Err(ReplayFault::Broken { fault: _fault }) => return Ok(None),
+        Err(ReplayFault::Broken { fault }) => {
+            drop(fault);
+            return Ok(None);
+        }
         Err(
             ReplayFault::BadTable {
                 line: _line,

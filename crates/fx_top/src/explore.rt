@@ -74,7 +74,9 @@ pub fn explore<'a, R: Threads + Sync, S: Shelf, K: Sink>(
         }
     };
     drop(bytes);
-    match put_all(out, text.bytes()) {
+    let put = put_all(out, text.bytes());
+    drop(text);
+    match put {
         Ok(()) => Answer::Done,
         Err(_) => Answer::CannotWrite,
     }

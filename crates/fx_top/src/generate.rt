@@ -32,7 +32,10 @@ pub fn generate<'a, R: Threads + Sync, S: Shelf, K: Sink>(
     };
     let lines = match fetch_plan(alloc, plan, shelf) {
         Ok(lines) => lines,
-        Err(answer) => return answer,
+        Err(answer) => {
+            drop(source);
+            return answer;
+        }
     };
     let verilog = match verilog_of(rt, alloc, source.bytes(), lines.bytes()) {
         Ok(verilog) => verilog,
@@ -44,7 +47,9 @@ pub fn generate<'a, R: Threads + Sync, S: Shelf, K: Sink>(
     };
     drop(lines);
     drop(source);
-    match put_parts(out, verilog.as_slice()) {
+    let put = put_parts(out, verilog.as_slice());
+    drop(verilog);
+    match put {
         Ok(()) => Answer::Done,
         Err(_) => Answer::CannotWrite,
     }

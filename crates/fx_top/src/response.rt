@@ -68,6 +68,7 @@ fn machine_of(alloc: Global, verilog: &[u8]) -> Result<Machine, ReplayFault>
             if is_condition(&fault) {
                 Err(ReplayFault::Broken { fault })
             } else {
+                drop(fault);
                 // allocation: one of the machine's, which is its only other fault
                 Err(ReplayFault::OutOfMemory)
             }

@@ -199,7 +199,13 @@ fn summary_by<R: Threads + Sync, B: Bench>(
         Ok(response) => response,
         Err(fault) => return Err(fault),
     };
-    let verilog = text_of(rt, alloc, checked, &planned.resolved, &planned.times)?;
+    let verilog = match text_of(rt, alloc, checked, &planned.resolved, &planned.times) {
+        Ok(verilog) => verilog,
+        Err(OutOfMemory) => {
+            drop(response);
+            return Err(SampleFault::OutOfMemory);
+        }
+    };
     let text = summary(
         alloc,
         number,
@@ -207,7 +213,10 @@ fn summary_by<R: Threads + Sync, B: Bench>(
         verilog.bytes(),
         response.bytes(),
         bench,
-    )?;
+    );
+    drop(verilog);
+    drop(response);
+    let text = text?;
     Ok(text)
 }
 
@@ -256,7 +265,9 @@ pub fn sample<'a, R: Threads + Sync, B: Bench, K: Sink>(
         Err(SampleFault::BreaksRule { line }) => return Answer::BreaksRule { line },
         Err(SampleFault::OutOfMemory) => return Answer::OutOfMemory,
     };
-    match put_all(out, text.bytes()) {
+    let put = put_all(out, text.bytes());
+    drop(text);
+    match put {
         Ok(()) => Answer::Done,
         Err(_) => Answer::CannotWrite,
     }
@@ -284,5 +295,7 @@ pub fn sample_with<R: Threads + Sync, B: Bench, K: Sink, E: Sink>(
 {
     let answer = sample(rt, alloc, number, bench, out);
     answer.report(err);
-    answer.status()
+    let status = answer.status();
+    drop(answer);
+    status
 }

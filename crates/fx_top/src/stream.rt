@@ -31,7 +31,10 @@ pub fn stream<'a, R: Threads + Sync, S: Shelf, K: Sink>(
     };
     let lines = match fetch_plan(alloc, plan, shelf) {
         Ok(lines) => lines,
-        Err(answer) => return answer,
+        Err(answer) => {
+            drop(source);
+            return answer;
+        }
     };
     let text = match streamed_of(rt, alloc, source.bytes(), lines.bytes()) {
         Ok(text) => text,
@@ -43,7 +46,9 @@ pub fn stream<'a, R: Threads + Sync, S: Shelf, K: Sink>(
     };
     drop(lines);
     drop(source);
-    match put_all(out, text.bytes()) {
+    let put = put_all(out, text.bytes());
+    drop(text);
+    match put {
         Ok(()) => Answer::Done,
         Err(_) => Answer::CannotWrite,
     }

@@ -101,7 +101,9 @@ fn told_of(alloc: Global, checked: &Checked, fault: CheckFault) -> DesignFault
         CheckFault::Broken(fault) => fault,
         CheckFault::OutOfMemory => return DesignFault::OutOfMemory,
     };
-    match rule_text(alloc, &fault, checked.diagram().blocks.as_slice()) {
+    let text = rule_text(alloc, &fault, checked.diagram().blocks.as_slice());
+    drop(fault);
+    match text {
         Ok(line) => DesignFault::BreaksRule { line },
         Err(OutOfMemory) => DesignFault::OutOfMemory,
     }

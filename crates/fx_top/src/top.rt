@@ -58,7 +58,9 @@ pub fn run<R: Threads + Sync, S: Shelf, K: Sink, E: Sink>(
     vl_read::unique();
     let answer = carry_out(rt, alloc, words, shelf, out);
     answer.report(err);
-    answer.status()
+    let status = answer.status();
+    drop(answer);
+    status
 }
 
 fn carry_out<'a, R: Threads + Sync, S: Shelf, K: Sink>(

@@ -10,7 +10,7 @@ returns-in-Err-NotVerilog c =
 
 pub returns-in-Err-Broken : goal.returns-in-Err-Broken
 returns-in-Err-Broken c =
-    no-sound c.args.verilog.now c.args.stimulus.now c.unique.ensures c.in-Err-Broken._fault (subst (IsFaultOf c.args.verilog.now c.args.stimulus.now) c.in-Err-Broken.field-0-is c.in-Err-Broken.ensures.refused)
+    no-sound c.args.verilog.now c.args.stimulus.now c.unique.ensures c.in-Err-Broken.fault (subst (IsFaultOf c.args.verilog.now c.args.stimulus.now) c.in-Err-Broken.field-0-is c.in-Err-Broken.ensures.refused)
 
 pub returns-in-Err-BadTable : goal.returns-in-Err-BadTable
 returns-in-Err-BadTable c =

@@ -41,13 +41,13 @@ returns-in-Err-verilog_of-clause-written g c = design-unwritten
     (stream_in g.K.Sink.taken g.K.Sink.faults c.args.out.now c.args.out.now) (Generate c.args.model.now (plan_word c.args.plan.now)) c.args.model.now c.args.plan.now
     c.in-Err-verilog_of.fault c.design_answer.result refl c.design_answer.ensures
 
-pub returns-in-Ok-put_parts-clause-cause : goal.returns-in-Ok-put_parts-clause-cause
-returns-in-Ok-put_parts-clause-cause g c =
+pub returns-in-Ok-put-clause-cause : goal.returns-in-Ok-put-clause-cause
+returns-in-Ok-put-clause-cause g c =
     let says = subst (λ (held : List ℕ → Told). IsPlanText held (plan_word c.args.plan.now) c.in-Ok-fetch_plan.lines) c.in-Ok.ensures.kept c.in-Ok-fetch_plan.ensures.says in
     fetched-planned (g.S.Shelf.held c.args.shelf.now) c.args.model.now (plan_word c.args.plan.now) c.in-Ok.source c.in-Ok-fetch_plan.lines c.in-Ok.ensures.found says
 
-pub returns-in-Ok-put_parts-clause-written : goal.returns-in-Ok-put_parts-clause-written
-returns-in-Ok-put_parts-clause-written g c =
+pub returns-in-Ok-put-clause-written : goal.returns-in-Ok-put-clause-written
+returns-in-Ok-put-clause-written g c =
     let says = subst (λ (held : List ℕ → Told). IsPlanText held (plan_word c.args.plan.now) c.in-Ok-fetch_plan.lines) c.in-Ok.ensures.kept c.in-Ok-fetch_plan.ensures.says in
     record {
       text = flat_map (λ part. part.items) c.in-Ok-verilog_of.verilog.items;
@@ -58,10 +58,10 @@ returns-in-Ok-put_parts-clause-written g c =
         plan_says = says;
         verilog = rw (c.bytes.ensures, c.bytes-2.ensures) at c.in-Ok-verilog_of.ensures.made;
       };
-      taken = c.in-Ok-put_parts.ensures.whole ∙ ap (λ (parts : List (Vec ℕ Global)). also_took (g.K.Sink.taken c.args.out.now) (flat_map (λ part. part.items) parts)) c.as_slice.ensures.value;
+      taken = c.in-Ok-put.ensures.whole ∙ ap (λ (parts : List (Vec ℕ Global)). also_took (g.K.Sink.taken c.args.out.now) (flat_map (λ part. part.items) parts)) c.as_slice.ensures.value;
     }
 
-pub returns-clause-cause : goal.returns-clause-cause
-returns-clause-cause g c =
+pub returns-in-Err-put-clause-cause : goal.returns-in-Err-put-clause-cause
+returns-in-Err-put-clause-cause g c =
     let says = subst (λ (held : List ℕ → Told). IsPlanText held (plan_word c.args.plan.now) c.in-Ok-fetch_plan.lines) c.in-Ok.ensures.kept c.in-Ok-fetch_plan.ensures.says in
     fetched-planned (g.S.Shelf.held c.args.shelf.now) c.args.model.now (plan_word c.args.plan.now) c.in-Ok.source c.in-Ok-fetch_plan.lines c.in-Ok.ensures.found says

@@ -39,18 +39,18 @@ returns-in-Err-streamed_of-clause-written g c = design-unwritten
     (stream_in g.K.Sink.taken g.K.Sink.faults c.args.out.now c.args.out.now) (Stream c.args.model.now (plan_word c.args.plan.now)) c.args.model.now c.args.plan.now
     c.in-Err-streamed_of.fault c.design_answer.result refl c.design_answer.ensures
 
-pub returns-in-Ok-put_all-clause-cause : goal.returns-in-Ok-put_all-clause-cause
-returns-in-Ok-put_all-clause-cause g c =
+pub returns-in-Ok-put-clause-cause : goal.returns-in-Ok-put-clause-cause
+returns-in-Ok-put-clause-cause g c =
     let says = subst (λ (held : List ℕ → Told). IsPlanText held (plan_word c.args.plan.now) c.in-Ok-fetch_plan.lines) c.in-Ok.ensures.kept c.in-Ok-fetch_plan.ensures.says in
     fetched-planned (g.S.Shelf.held c.args.shelf.now) c.args.model.now (plan_word c.args.plan.now) c.in-Ok.source c.in-Ok-fetch_plan.lines c.in-Ok.ensures.found says
 
-pub returns-clause-cause : goal.returns-clause-cause
-returns-clause-cause g c =
+pub returns-in-Err-put-clause-cause : goal.returns-in-Err-put-clause-cause
+returns-in-Err-put-clause-cause g c =
     let says = subst (λ (held : List ℕ → Told). IsPlanText held (plan_word c.args.plan.now) c.in-Ok-fetch_plan.lines) c.in-Ok.ensures.kept c.in-Ok-fetch_plan.ensures.says in
     fetched-planned (g.S.Shelf.held c.args.shelf.now) c.args.model.now (plan_word c.args.plan.now) c.in-Ok.source c.in-Ok-fetch_plan.lines c.in-Ok.ensures.found says
 
-pub returns-in-Ok-put_all-clause-written : goal.returns-in-Ok-put_all-clause-written
-returns-in-Ok-put_all-clause-written g c =
+pub returns-in-Ok-put-clause-written : goal.returns-in-Ok-put-clause-written
+returns-in-Ok-put-clause-written g c =
     let says = subst (λ (held : List ℕ → Told). IsPlanText held (plan_word c.args.plan.now) c.in-Ok-fetch_plan.lines) c.in-Ok.ensures.kept c.in-Ok-fetch_plan.ensures.says in
     record {
       text = c.in-Ok-streamed_of.text;
@@ -61,14 +61,14 @@ returns-in-Ok-put_all-clause-written g c =
         plan_says = says;
         stream = rw (c.bytes.ensures, c.bytes-2.ensures) at c.in-Ok-streamed_of.ensures.made;
       };
-      taken = rw c.bytes-3.ensures at c.in-Ok-put_all.ensures.whole;
+      taken = rw c.bytes-3.ensures at c.in-Ok-put.ensures.whole;
     }
 
-pub returns-clause-written : goal.returns-clause-written
-returns-clause-written g c =
+pub returns-in-Err-put-clause-written : goal.returns-in-Err-put-clause-written
+returns-in-Err-put-clause-written g c =
     let says = subst (λ (held : List ℕ → Told). IsPlanText held (plan_word c.args.plan.now) c.in-Ok-fetch_plan.lines) c.in-Ok.ensures.kept c.in-Ok-fetch_plan.ensures.says in
     record {
-      rise = c.in-Err-put_all.ensures.cause;
+      rise = c.in-Err-put.ensures.cause;
       text = c.in-Ok-streamed_of.text;
       output = record {
         model_bytes = c.in-Ok.source;
@@ -77,5 +77,5 @@ returns-clause-written g c =
         plan_says = says;
         stream = rw (c.bytes.ensures, c.bytes-2.ensures) at c.in-Ok-streamed_of.ensures.made;
       };
-      taken = rw c.bytes-3.ensures at c.in-Err-put_all.ensures.cut;
+      taken = rw c.bytes-3.ensures at c.in-Err-put.ensures.cut;
     }

@@ -7,31 +7,31 @@ use Rattle.fx_top.proofs.top.run.Goals as goal
 pub returns-clause-ends : goal.returns-clause-ends
 returns-clause-ends g c = record {
   answer = c.carry_out-answer.result;
-  status_is = c.status.ensures;
+  status_is = c.status-status.ensures;
   said = c.report.ensures;
   carried_out = c.carry_out-answer.ensures;
 }
 
 pub returns-clause-due : goal.returns-clause-due
-returns-clause-due g c = rw c.status.ensures (due-clause
+returns-clause-due g c = rw c.status-status.ensures (due-clause
     (files_in g.S.Shelf.held g.S.Shelf.steady g.S.Shelf.faults g.S.Shelf.overlong c.args.shelf.now c.carry_out-answer.new.shelf)
     (stream_in g.K.Sink.taken g.K.Sink.faults c.args.out.now c.carry_out-answer.new.out)
     c.unique.ensures c.unique-2.ensures (map string_bytes c.args.words.now) c.carry_out-answer.result c.carry_out-answer.ensures)
 
 pub returns-clause-complete : goal.returns-clause-complete
-returns-clause-complete g c = rw c.status.ensures (complete-clause
+returns-clause-complete g c = rw c.status-status.ensures (complete-clause
     (files_in g.S.Shelf.held g.S.Shelf.steady g.S.Shelf.faults g.S.Shelf.overlong c.args.shelf.now c.carry_out-answer.new.shelf)
     (stream_in g.K.Sink.taken g.K.Sink.faults c.args.out.now c.carry_out-answer.new.out)
     c.unique.ensures c.unique-2.ensures (map string_bytes c.args.words.now) c.carry_out-answer.result c.carry_out-answer.ensures)
 
 pub returns-clause-sample_due : goal.returns-clause-sample_due
-returns-clause-sample_due g c = rw c.status.ensures (sample_due-clause
+returns-clause-sample_due g c = rw c.status-status.ensures (sample_due-clause
     (files_in g.S.Shelf.held g.S.Shelf.steady g.S.Shelf.faults g.S.Shelf.overlong c.args.shelf.now c.carry_out-answer.new.shelf)
     (stream_in g.K.Sink.taken g.K.Sink.faults c.args.out.now c.carry_out-answer.new.out)
     (map string_bytes c.args.words.now) c.carry_out-answer.result c.carry_out-answer.ensures)
 
 pub returns-clause-sample_complete : goal.returns-clause-sample_complete
-returns-clause-sample_complete g c = rw c.status.ensures (sample_complete-clause
+returns-clause-sample_complete g c = rw c.status-status.ensures (sample_complete-clause
     (files_in g.S.Shelf.held g.S.Shelf.steady g.S.Shelf.faults g.S.Shelf.overlong c.args.shelf.now c.carry_out-answer.new.shelf)
     (stream_in g.K.Sink.taken g.K.Sink.faults c.args.out.now c.carry_out-answer.new.out)
     (map string_bytes c.args.words.now) c.carry_out-answer.result c.carry_out-answer.ensures)

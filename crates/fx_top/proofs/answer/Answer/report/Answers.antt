@@ -12,3 +12,18 @@ returns-in-CannotWrite g c = rw c.in-CannotWrite.is c.say-in-CannotWrite.ensures
 
 pub returns-in-BreaksRule : goal.returns-in-BreaksRule
 returns-in-BreaksRule g c = rw c.in-BreaksRule.is (said-alone c.bytes.result.now c.in-BreaksRule.line c.bytes.ensures c.say-in-BreaksRule.ensures.said)
+
+pub returns-in-CannotRead : goal.returns-in-CannotRead
+returns-in-CannotRead g c = rw c.in-CannotRead.is (rw c.as_bytes.ensures.value at c.say-in-CannotRead.ensures.said)
+
+pub returns-in-NotMdl : goal.returns-in-NotMdl
+returns-in-NotMdl g c = rw c.in-NotMdl.is c.say_line.ensures
+
+pub returns-in-BadTable : goal.returns-in-BadTable
+returns-in-BadTable g c = rw c.in-BadTable.is (rw c.cause_end.ensures at c.say_line-in-BadTable.ensures)
+
+pub returns-in-NotVerilog : goal.returns-in-NotVerilog
+returns-in-NotVerilog g c = rw c.in-NotVerilog.is c.say_line-in-NotVerilog.ensures
+
+pub returns-in-Broken : goal.returns-in-Broken
+returns-in-Broken g c = rw c.in-Broken.is c.say_fault.ensures
