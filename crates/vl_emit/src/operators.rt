@@ -87,9 +87,13 @@ pub fn choose(
     Ok(Expr::Choose(test?, chosen?, other?))
 }
 
-fn compared(alloc: Global, signed: bool, part: Expr) -> Result<Expr, OutOfMemory>
-    ensures { IfOk result (λ e. e ≡ compared signed part) }
+/// An operand at the width at which it is compared.
+fn compared(alloc: Global, signed: bool, operand: Operand, width: u32) -> Result<Expr, OutOfMemory>
+    requires net { CanBeWritten operand }
+    requires width { HasRoom width }
+    ensures { IfOk result (λ e. e ≡ compared signed (at_width width (wire_at operand.entry))) }
 {
+    let part = at_width(alloc, operand, width)?;
     if !signed {
         return Ok(part);
     }
@@ -169,11 +173,10 @@ fn less(alloc: Global, left: Operand, right: Operand, width: u32) -> Result<Expr
 {
     let common = common_width(left, right);
     let signed = left.signed || right.signed;
-    let one = at_width(alloc, left, common)?;
-    let one = Boxed::new(alloc, compared(alloc, signed, one)?)?;
-    let other = at_width(alloc, right, common)?;
-    let other = Boxed::new(alloc, compared(alloc, signed, other)?)?;
-    widened(alloc, width, Expr::Binary(BinOp::Less, one, other))
+    let one = compared(alloc, signed, left, common);
+    let other = compared(alloc, signed, right, common);
+    let bit = binary(alloc, BinOp::Less, one, other)?;
+    widened(alloc, width, bit)
 }
 
 fn equal(alloc: Global, left: Operand, right: Operand, width: u32) -> Result<Expr, OutOfMemory>
