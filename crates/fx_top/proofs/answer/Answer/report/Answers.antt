@@ -13,9 +13,6 @@ returns-in-CannotWrite g c = rw c.in-CannotWrite.is c.say-in-CannotWrite.ensures
 pub returns-in-BreaksRule : goal.returns-in-BreaksRule
 returns-in-BreaksRule g c = rw c.in-BreaksRule.is (said-alone c.bytes.result.now c.in-BreaksRule.line c.bytes.ensures c.say-in-BreaksRule.ensures.said)
 
-pub returns-in-CannotRead : goal.returns-in-CannotRead
-returns-in-CannotRead g c = rw c.in-CannotRead.is (rw c.as_bytes.ensures.value at c.say-in-CannotRead.ensures.said)
-
 pub returns-in-NotMdl : goal.returns-in-NotMdl
 returns-in-NotMdl g c = rw c.in-NotMdl.is c.say_line.ensures
 
