@@ -27,4 +27,4 @@ pub use laws::{
     sound_modules_spell, spelling_spells, steps_run, tokens_spell,
 };
 pub use modules::{Attr, Attrs, ModItem, ModItems, Module, Port, Ports};
-pub use words::Bits128;
+pub use words::{Bits128, mask_of};

@@ -1,6 +1,18 @@
-ghost use Rattle.std.specs.Prelude.{◌≡◌};
+ghost use Rattle.std.specs.Prelude.{◌≡◌, ◌≤◌, ◌-◌, ◌^◌};
 
 use std::marker::Model;
+
+/// The bits of a word of this width (own).
+pub fn mask_of(width: u32) -> u128
+    requires { width ≤ 128 }
+    ensures { result ≡ 2 ^ width - 1 }
+{
+    if width == 128 {
+        u128::MAX
+    } else {
+        (1 << width) - 1
+    }
+}
 
 /// A number below 2^128 as two words of 64 bits, since a `u128` stands at a multiple of 16 bytes and
 /// would make each expression longer (own). Contracts see the number.

@@ -2,9 +2,10 @@ ghost use Rattle.std.specs.Prelude.{◌≤◌, IfOk};
 ghost use Rattle.vl_eval.specs.inner.Shown.{IsBeside, IsExtended, Pushed};
 
 use crate::code::Code;
-use crate::operators::{half_of, mask_of};
+use crate::operators::half_of;
 use crate::ops::Op;
 use fx_io::OutOfMemory;
+use vl_ast::mask_of;
 
 /// Adds an operation, and gives its place.
 pub fn push(ops: &mut Code, base: usize, op: Op) -> Result<usize, OutOfMemory>

@@ -9,12 +9,12 @@ ghost use Rattle.vl_eval.specs.inner.Assigning.{Assigns, Captures, Tests, next_n
 use crate::adding::push;
 use crate::building::build;
 use crate::code::Code;
-use crate::operators::{literal, mask_of};
+use crate::operators::literal;
 use crate::ops::Op;
 use crate::site::{Site, shape_of, slot};
 use fx_io::OutOfMemory;
 use std::alloc::Global;
-use vl_ast::{Expr, Sized, meaning_by_layer};
+use vl_ast::{Expr, Sized, mask_of, meaning_by_layer};
 use vl_check::net;
 
 /// Adds the operations of an assignment to a net of this width, and gives the place of its bits.

@@ -10,11 +10,11 @@ use crate::adding::{beside, extend, push};
 use crate::code::Code;
 use crate::contexts::{half_in, left_context, unary_context};
 use crate::leaves::{build_bit, build_literal, build_name, build_part};
-use crate::operators::{binary_op, mask_of, shift_op, unary_op};
+use crate::operators::{binary_op, shift_op, unary_op};
 use crate::ops::Op;
 use crate::site::{Alone, Site, shape_of, unsigned};
 use fx_io::OutOfMemory;
-use vl_ast::{BinOp, Expr, ShiftOp, Sized, UnOp, meaning_by_layer};
+use vl_ast::{BinOp, Expr, ShiftOp, Sized, UnOp, mask_of, meaning_by_layer};
 
 #[cycle(build)]
 fn build_unary(

@@ -8,11 +8,11 @@ ghost use Rattle.vl_eval.specs.inner.Site.{ArePlaced, Built};
 
 use crate::adding::{extend, push};
 use crate::code::Code;
-use crate::operators::{literal, mask_of};
+use crate::operators::literal;
 use crate::ops::Op;
 use crate::site::{Site, slot};
 use fx_io::OutOfMemory;
-use vl_ast::{Sized, meaning_by_layer};
+use vl_ast::{Sized, mask_of, meaning_by_layer};
 use vl_check::net;
 
 /// Adds what extends a name, where it is signed, and gives the place of its value.

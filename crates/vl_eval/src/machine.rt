@@ -10,11 +10,11 @@ ghost use Rattle.vl_eval.specs.declared.plan.Capture.{Capture};
 ghost use Rattle.vl_eval.specs.inner.Edges.{AreZeros, IsFirst, IsPut, IsTaken};
 ghost use Rattle.vl_eval.specs.inner.Ops.{IsOrdered};
 
-use crate::operators::{half_of, mask_of};
+use crate::operators::half_of;
 use crate::plan::{Capture, Output, Plan, plan_of};
 use fx_io::OutOfMemory;
 use std::alloc::Global;
-use vl_ast::{Module, meaning_by_layer};
+use vl_ast::{Module, mask_of, meaning_by_layer};
 use vl_check::VlFault;
 
 /// A module that breaks no condition, in one row of its run (IEEE 1364-2005, 6.1 and 9.2.2). It makes the

@@ -4,19 +4,7 @@ ghost use Rattle.vl_ast.specs.Value.{extended};
 ghost use Rattle.vl_eval.specs.inner.Built.{binary_op, down, shift_op, unary_op};
 
 use crate::ops::Op;
-use vl_ast::{BinOp, ShiftOp, Sized, UnOp};
-
-/// The bits of a word of this width.
-pub fn mask_of(width: u32) -> u128
-    requires { width ≤ 128 }
-    ensures { result ≡ 2 ^ width - 1 }
-{
-    if width == 128 {
-        u128::MAX
-    } else {
-        (1 << width) - 1
-    }
-}
+use vl_ast::{BinOp, ShiftOp, Sized, UnOp, mask_of};
 
 /// The weight of the sign bit of a word of this width.
 pub fn half_of(width: u32) -> u128

@@ -6,12 +6,11 @@ ghost use Rattle.vl_eval.specs.Given.{driven_ports};
 ghost use Rattle.vl_replay.specs.Sampled.{numbers_of};
 ghost use Rattle.vl_replay.specs.inner.Driving.{AreBits, AreWithin, IsWithin, driver_bits, drivers_from, is_own, own_driver, reset_bits};
 
-use crate::port_columns::mask_of;
 use crate::samplers::hit_at;
 use fx_io::OutOfMemory;
 use fx_tables::Rows;
 use std::alloc::Global;
-use vl_ast::{Module, Port, step_of};
+use vl_ast::{Module, Port, mask_of, step_of};
 use vl_check::is_stallable;
 
 /// How an input port but `clk` is driven.

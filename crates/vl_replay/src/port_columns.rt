@@ -1,4 +1,4 @@
-ghost use Rattle.std.specs.Prelude.{◌≡◌, ◌<◌, ◌+◌, ◌^◌, All, Contains, IfOk, filter, length, true};
+ghost use Rattle.std.specs.Prelude.{◌≡◌, ◌<◌, ◌^◌, All, Contains, IfOk, filter, length, true};
 ghost use Rattle.vl_ast.specs.declared.modules.Port.{Port};
 ghost use Rattle.vl_ast.specs.Conditions.{BreaksNone, is_width};
 ghost use Rattle.vl_ast.specs.Control.{is_number_input, is_number_output};
@@ -9,7 +9,7 @@ ghost use Rattle.vl_replay.specs.Columns.{column_of, columns_of};
 use fx_io::{OutOfMemory, Sequence};
 use fx_tables::{Column, Columns};
 use std::alloc::Global;
-use vl_ast::{Port, step_of};
+use vl_ast::{Port, mask_of, step_of};
 use vl_check::{is_number_input, is_number_output, is_stallable};
 use vl_eval::Machine;
 
@@ -24,14 +24,6 @@ pub struct PortColumns {
 
 /// No table has so many columns.
 const MOST_COLUMNS: usize = 4_294_967_296;
-
-/// The number whose lowest `width` bits are set.
-pub fn mask_of(width: u32) -> u128
-    requires { is_width width ≡ true }
-    ensures { result + 1 ≡ 2 ^ width }
-{
-    u128::MAX >> (128 - width)
-}
 
 /// The period of a port and the range of its numbers: two's complement where it is signed or has
 /// 128 bits.
