@@ -139,7 +139,8 @@ pub fn both(values: &[u128], left: usize, right: usize) -> (u128, u128)
 
 /// The word at one of two places, by whether a third is 0.
 pub fn chosen(values: &[u128], test: usize, chosen: usize, other: usize) -> u128
-    requires { (test < length values.now) × (chosen < length values.now) × (other < length values.now) }
+    requires { (test < length values.now) × (chosen < length values.now)
+        × (other < length values.now) }
     ensures { result ≡ (if slice_index values.now test == 0 then slice_index values.now other
         else slice_index values.now chosen) }
 {
