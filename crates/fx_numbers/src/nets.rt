@@ -12,7 +12,8 @@ use dg_model::OpCall;
 use fx_io::{Sizes, Text};
 use fx_type::FxType;
 use hw_lower::lower;
-use hw_net::{Net, NetKind, NetOp, NetPort, NetState, Netlist, is_netlist};
+use hw_net::{Net, NetKind, NetOp, NetPort, Netlist};
+use hw_run::{NetState, is_netlist};
 use std::alloc::Global;
 
 /// What an operation gives, what it gives prepared, what its nets show, and how many these are.

@@ -1,17 +1,10 @@
-pub mod At
 pub mod Clocks
-pub mod Exists
 pub mod Extending
 pub mod Growing
 pub mod Index
 pub mod Magnitudes
 pub mod Modular
 pub mod Numbers
-pub mod Ordering
 pub mod Places
-pub mod Products
-pub mod Steppable
 pub mod Steps
-pub mod Sweep
-pub mod Unique
 pub mod Words

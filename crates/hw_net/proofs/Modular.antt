@@ -1,4 +1,4 @@
--- Numbers of 128 bits and their bits, modulo 2 to the power 128.
+-- Numbers of 128 bits and their bits, modulo 2 to the power 128. Crates above may cite this file.
 use Rattle.std.proofs.Common.{◌≡◌, ℕ, zero, suc, ◌+◌, ◌-◌, ◌*◌, ◌/◌, ◌%◌, ◌^◌, ◌<◌, ◌≤◌, ◌<ℤ◌, ◌≤ℤ◌, ◌≢◌, int_lt, not, if◌then◌else◌, Bool, true, false, ℤ, pos, negsuc, ◌+ℤ◌, ◌-ℤ◌, ◌*ℤ◌, neg_ℤ, ap, sym, ◌∙◌, subst, arith, refl, of_z, to_z, FitsSigned, bit_and, bit_or, bit_xor, mul_comm, mul_assoc, mod-lt, inl, inr, pow_pos, pow_mono}
 use Rattle.std.specs.Int.{w128}
 use Rattle.std.proofs.lemmas.Int.{ints, to_z-of_z}

@@ -1,4 +1,4 @@
--- Rows that go on from clock to clock are the rows of the netlist.
+-- Rows that go on from clock to clock are the rows of the netlist. Crates above may cite this file.
 use Rattle.std.proofs.Common.{◌≡◌, ◌≢◌, ℕ, zero, suc, ◌+◌, ◌-◌, ◌*◌, ◌/◌, ◌%◌, ◌<◌, ◌≤◌, ◌^◌, Bool, List, All, Option, None, Some, slice_get, inl, inr, ℤ, pos, negsuc, ◌<ℤ◌, ◌≤ℤ◌, ◌*ℤ◌, length, ap, ◌∙◌, subst, arith, refl}
 use Rattle.std.proofs.lemmas.Int.{ints}
 use Rattle.std.proofs.lemmas.Nat.{mul-lt, div-add-mod', mod-mul-add}

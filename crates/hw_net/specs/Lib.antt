@@ -9,7 +9,5 @@ pub mod Netlist
 pub mod Operation
 pub mod Products
 pub mod Registers
-pub mod Run
-pub mod State
 pub mod Step
 pub mod inner

@@ -137,16 +137,6 @@ impl Netlist {
         self.add(counter)
     }
 
-    /// Whether the net of a number is a Resize.
-    pub fn is_resize(&self, number: u32) -> bool
-        ensures { IsTrue result ↔ IsResize self.now.nets number }
-    {
-        match self.nets().get(number as usize) {
-            Some(net) => resizes(&net.kind),
-            None => false,
-        }
-    }
-
     /// Gives a Resize net its argument, in place of any that it had. Where memory is wanting the
     /// netlist stays.
     pub fn connect(&mut self, alloc: Global, number: u32, argument: u32) -> Result<(), OutOfMemory>
@@ -200,24 +190,6 @@ fn counted(kind: &NetKind) -> Option<Frame>
         | NetKind::EnReg { .. }
         | NetKind::Bridge { .. }
         | NetKind::Unit { .. } => None,
-    }
-}
-
-/// Whether a net is a Resize.
-fn resizes(kind: &NetKind) -> bool
-    ensures { IsTrue result ↔ ((args : List ℕ) × (kind.now ≡ Comb Resize args)) }
-{
-    match kind {
-        NetKind::Comb {
-            op: NetOp::Resize,
-            args: _,
-        } => true,
-        NetKind::Comb { .. }
-        | NetKind::Reg { .. }
-        | NetKind::EnReg { .. }
-        | NetKind::Bridge { .. }
-        | NetKind::Unit { .. }
-        | NetKind::Counter { .. } => false,
     }
 }
 

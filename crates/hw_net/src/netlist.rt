@@ -1,4 +1,7 @@
 //! Netlists as data: nets by number, each with its word and what it shows.
+ghost use Rattle.std.specs.Prelude.{◌≡◌};
+ghost use Rattle.hw_net.specs.Operation.{arity};
+
 use fx_io::{Sequence, Sizes, Text};
 
 /// Nets by number, from 0.
@@ -99,6 +102,30 @@ pub enum NetOp {
     Choose,
     /// The bits `low` to `high` of the argument's word, as an unsigned number.
     Slice { high: u8, low: u8 },
+}
+
+/// How many arguments an operation has.
+pub fn arity(op: NetOp) -> usize
+    ensures { result ≡ arity op }
+{
+    match op {
+        NetOp::Input(_) | NetOp::Const(_) => 0,
+        NetOp::Resize
+        | NetOp::ShiftUp(_)
+        | NetOp::ShiftDown(_)
+        | NetOp::Negate
+        | NetOp::Not
+        | NetOp::Slice { .. } => 1,
+        NetOp::Add
+        | NetOp::Subtract
+        | NetOp::Multiply
+        | NetOp::And
+        | NetOp::Or
+        | NetOp::Xor
+        | NetOp::Less
+        | NetOp::Equal => 2,
+        NetOp::Choose => 3,
+    }
 }
 
 /// A port of the module (own).

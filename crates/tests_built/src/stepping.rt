@@ -6,7 +6,8 @@ use crate::designs::Simulated;
 use crate::windows::{Window, sample_at};
 use anyhow::{Error, Result};
 use fx_tables::Column;
-use hw_net::{NetState, Netlist};
+use hw_net::Netlist;
+use hw_run::NetState;
 use std::alloc::Global;
 
 /// How many numbers an output showed in its windows, and how many of them were equal to those of the

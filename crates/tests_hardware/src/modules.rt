@@ -5,7 +5,8 @@ ghost use Rattle.tests_hardware.specs.inner.Emitted.{IsCounted};
 
 use anyhow::{Error, Result};
 use fx_io::{OpenGate, Text};
-use hw_net::{NetKind, Netlist, is_netlist};
+use hw_net::{NetKind, Netlist};
+use hw_run::is_netlist;
 use std::alloc::Global;
 use std::io::Write;
 use std::thread::Threads;

@@ -2,7 +2,8 @@
 ghost use Rattle.std.specs.Prelude.{◌<◌};
 
 use anyhow::{Error, Result};
-use hw_net::{NetState, Netlist, is_netlist};
+use hw_net::Netlist;
+use hw_run::{NetState, is_netlist};
 use std::alloc::Global;
 use std::io::Write;
 use tests_rows::{Row, written};

@@ -1,5 +1,5 @@
 use Rattle.std.proofs.Common.{◌≡◌}
-use Rattle.hw_net.specs.State.{IsStateOf}
+use Rattle.hw_run.specs.State.{IsStateOf}
 use Rattle.tests_hardware.proofs.stepping.values_of.Given as goal
 
 abbrev pub invariant-loop-clock : goal.invariant-loop-clock

@@ -1,5 +1,0 @@
-use Rattle.hw_net.proofs.Exists.{rows-are-there}
-use Rattle.hw_net.proofs.laws.rows_are_there.Goals as goal
-
-pub returns : goal.returns
-returns c = rows-are-there

@@ -1,5 +1,0 @@
-use Rattle.hw_net.proofs.At.{runs-go-on}
-use Rattle.hw_net.proofs.laws.runs_go_on.Goals as goal
-
-pub returns : goal.returns
-returns c = runs-go-on

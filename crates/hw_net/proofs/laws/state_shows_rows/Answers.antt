@@ -1,5 +1,0 @@
-use Rattle.hw_net.proofs.At.{state-shows-rows}
-use Rattle.hw_net.proofs.laws.state_shows_rows.Goals as goal
-
-pub returns : goal.returns
-returns c = state-shows-rows

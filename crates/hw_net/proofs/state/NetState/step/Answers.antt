@@ -1,5 +1,0 @@
-use Rattle.hw_net.proofs.Steppable.{all-can-step}
-use Rattle.hw_net.proofs.state.NetState.step.Goals as goal
-
-pub sweep-requires-clause-can : goal.sweep-requires-clause-can
-sweep-requires-clause-can c = all-can-step c.args.net.now c.requires.netlist

@@ -1,0 +1,5 @@
+use Rattle.hw_net.proofs.Modular.{between}
+use Rattle.hw_run.proofs.operation.bits_between.Goals as goal
+
+pub returns : goal.returns
+returns c = between c.args.bits c.args.high c.args.low c.requires.order c.requires.within

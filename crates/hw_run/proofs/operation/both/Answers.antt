@@ -1,0 +1,5 @@
+use Rattle.hw_net.proofs.Modular.{and-congruent}
+use Rattle.hw_run.proofs.operation.both.Goals as goal
+
+pub returns : goal.returns
+returns c = and-congruent c.args.a c.args.b c.ranges.a c.ranges.b

@@ -1,0 +1,5 @@
+use Rattle.hw_net.proofs.Modular.{difference-congruent}
+use Rattle.hw_run.proofs.operation.difference.Goals as goal
+
+pub returns : goal.returns
+returns c = difference-congruent c.args.a c.args.b c.ranges.a c.ranges.b

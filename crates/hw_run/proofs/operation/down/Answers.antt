@@ -1,0 +1,10 @@
+use Rattle.std.proofs.Common.{arith}
+use Rattle.std.proofs.lemmas.Int.{ints}
+use Rattle.hw_net.proofs.Modular.{far-down}
+use Rattle.hw_run.proofs.operation.down.Goals as goal
+
+pub returns-then-v-lt0 : goal.returns-then-v-lt0
+returns-then-v-lt0 c = (far-down c.args.v c.args.places c.ranges.v (omega (arith, c.if-places-lt127.false))).0 (omega (arith, ints, c.if-v-lt0.true))
+
+pub returns-else-v-lt0 : goal.returns-else-v-lt0
+returns-else-v-lt0 c = (far-down c.args.v c.args.places c.ranges.v (omega (arith, c.if-places-lt127.false))).1 (omega (arith, ints, c.if-v-lt0.false))

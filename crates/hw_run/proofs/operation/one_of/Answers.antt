@@ -1,0 +1,5 @@
+use Rattle.hw_net.proofs.Modular.{xor-congruent}
+use Rattle.hw_run.proofs.operation.one_of.Goals as goal
+
+pub returns : goal.returns
+returns c = xor-congruent c.args.a c.args.b c.ranges.a c.ranges.b

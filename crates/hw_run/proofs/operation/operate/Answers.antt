@@ -1,0 +1,11 @@
+use Rattle.std.specs.Int.{w128}
+use Rattle.std.proofs.lemmas.Int.{to_z-of_z}
+use Rattle.hw_net.proofs.Modular.{cut-through, word-width}
+use Rattle.hw_run.proofs.operation.operate.Goals as goal
+
+pub returns : goal.returns
+returns c =
+    let e = to_z-of_z w128 c.wrap.result (record { sfits = c.wrap.type_inv }) in
+    let f = to_z-of_z w128 c.given.result (record { sfits = c.given.type_inv }) in
+    let given = rw (to_z-of_z w128 c.args.first c.ranges.first, to_z-of_z w128 c.args.second c.ranges.second, to_z-of_z w128 c.args.third c.ranges.third) at c.given.ensures in
+    rw e (cut-through c.given.result _ c.wrap.result c.args.width c.args.signed (word-width c.args.width c.args.signed c.requires.word) given (rw f at c.wrap.ensures))
