@@ -1,35 +1,27 @@
-//! The ground that every other crate stands on, in four parts.
+//! The ground that every other crate stands on, in three parts.
 //!
 //! - Plain data: `Sequence`, `Boxed` and `Text`, which contracts see as a list, a value and bytes, and
 //!   rows of items (`empty_rows`, `push_at`, `specs/Rows.antt`).
 //! - `Shelf` and `Sink`: where files come from and where bytes go. Each counts its faults, and a
 //!   fault is answered only where the count rose in the call (`specs/Shelf.antt`, `specs/Sink.antt`,
 //!   `specs/Cause.antt`). `put_all` puts bytes to the last or leaves a proper prefix.
-//! - Their forms: in memory for tests (`MemShelf`, `MemSink`, `specs/Memory.antt`), and over the
-//!   system's files and streams (`FileShelf`, `OutSink`, `ErrSink`), which tell no content.
+//!   Their forms stand above: in memory for tests (`fx_memory`), and over the system's files and
+//!   streams (`fx_devices`).
 //! - `Gate`: what workers pass before a piece of work. `OpenGate` lets all by.
 #![tactic(auto)]
 
-mod adapters;
 mod boxed;
 mod fault;
 mod gate;
-mod held_file;
-mod mem_shelf;
-mod mem_sink;
 mod rows;
 mod sequence;
 mod shelf;
 mod sink;
 mod text;
 
-pub use adapters::{ErrSink, FileShelf, OutSink, StreamSink};
 pub use boxed::Boxed;
 pub use fault::{Failed, OutOfMemory};
 pub use gate::{Gate, OpenGate};
-pub use held_file::HeldFile;
-pub use mem_shelf::MemShelf;
-pub use mem_sink::{MemSink, PutSetup};
 pub use rows::{empty_rows, push_at};
 pub use sequence::{Cells, Flags, Longs, Periods, PortSizes, Sequence, Sizes, Texts};
 pub use shelf::{FetchFault, Shelf};

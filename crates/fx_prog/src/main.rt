@@ -2,7 +2,8 @@
 //! answer is the exit status.
 #![tactic(auto)]
 
-use fx_io::{ErrSink, FileShelf, OutOfMemory, OutSink, Sink, put_all};
+use fx_devices::{ErrSink, FileShelf, OutSink};
+use fx_io::{OutOfMemory, Sink, put_all};
 use fx_top::run;
 use std::env;
 use std::io::{BufWriter, ErrorKind, Write};

@@ -1,4 +1,5 @@
-use fx_io::{FetchFault, FileShelf, PutFault, Shelf, Sink, StreamSink, put_all};
+use fx_devices::{FileShelf, StreamSink};
+use fx_io::{FetchFault, PutFault, Shelf, Sink, put_all};
 use std::io::{self, ErrorKind, Write};
 use std::test::Fail;
 

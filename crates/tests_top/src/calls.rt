@@ -4,7 +4,7 @@ use crate::cases::{Case, ROOM};
 use crate::fixed::Fixed;
 use crate::stuck::Stuck;
 use anyhow::{Error, Result};
-use fx_io::{MemShelf, MemSink};
+use fx_memory::{MemShelf, MemSink};
 use fx_top::{run, sample_with};
 use std::alloc::Global;
 use std::thread::Threads;

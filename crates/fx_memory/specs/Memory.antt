@@ -5,7 +5,7 @@ use Rattle.std.specs.Option.{option_map}
 use Rattle.std.specs.Str.{bytes_eq}
 use Rattle.fx_io.specs.Cause.{counted}
 use Rattle.fx_io.specs.Shelf.{Told}
-use Rattle.fx_io.specs.declared.held_file.HeldFile.{HeldFile}
+use Rattle.fx_memory.specs.declared.held_file.HeldFile.{HeldFile}
 
 -- a shelf in memory: its files, the one added last first, and the numbers of the fetches that fail
 pub record ShelfState : Type 0 where

@@ -3,10 +3,7 @@ ghost use Rattle.std.specs.Io.KnownBytes.{WriteAppends};
 ghost use Rattle.fx_io.specs.Cause.{Rose};
 ghost use Rattle.fx_io.specs.Sink.{also_took, untold};
 
-use crate::fault::Failed;
-use crate::shelf::{FetchFault, Shelf};
-use crate::sink::Sink;
-use crate::text::Text;
+use fx_io::{Failed, FetchFault, Shelf, Sink, Text};
 use std::alloc::Global;
 use std::fs;
 use std::io::{self, ErrorKind, Read, Write};

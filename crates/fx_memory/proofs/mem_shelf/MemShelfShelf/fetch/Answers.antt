@@ -1,6 +1,6 @@
 use Rattle.std.proofs.Common.{subst, sym, arith}
-use Rattle.fx_io.specs.Memory.{IsSteady, ShelfState}
-use Rattle.fx_io.proofs.mem_shelf.MemShelfShelf.fetch.Goals as goal
+use Rattle.fx_memory.specs.Memory.{IsSteady, ShelfState}
+use Rattle.fx_memory.proofs.mem_shelf.MemShelfShelf.fetch.Goals as goal
 
 pub returns-clause-stays_steady : goal.returns-clause-stays_steady
 returns-clause-stays_steady c = λ steady k d below.

@@ -1,4 +1,4 @@
-use Rattle.fx_io.proofs.mem_shelf.MemShelf.fails_by_number.Goals as goal
+use Rattle.fx_memory.proofs.mem_shelf.MemShelf.fails_by_number.Goals as goal
 
 pub returns-then-self-lt18446744073709551615 : goal.returns-then-self-lt18446744073709551615
 returns-then-self-lt18446744073709551615 c =

@@ -2,12 +2,10 @@ ghost use Rattle.std.specs.Prelude.{◌≡◌, ℕ, ◌+◌, ◌<◌, ◌≤◌,
 ghost use Rattle.std.specs.Option.{option_copied};
 ghost use Rattle.fx_io.specs.Cause.{Rose, counted};
 ghost use Rattle.fx_io.specs.Shelf.{Fetched, IsOverlong, AnswersSteadily};
-ghost use Rattle.fx_io.specs.Memory.{ShelfState, held_under, told_of, IsSteady, FailsByNumber, FailsFetch};
+ghost use Rattle.fx_memory.specs.Memory.{ShelfState, held_under, told_of, IsSteady, FailsByNumber, FailsFetch};
 
-use crate::fault::OutOfMemory;
 use crate::held_file::HeldFile;
-use crate::shelf::{FetchFault, Shelf};
-use crate::text::Text;
+use fx_io::{FetchFault, OutOfMemory, Shelf, Text};
 use std::alloc::Global;
 use std::collections::VecDeque;
 use std::marker::Model;
@@ -24,7 +22,7 @@ pub struct MemShelf {
 }
 
 impl Model for MemShelf {
-    ghost use Rattle.fx_io.specs.Memory.{ShelfState};
+    ghost use Rattle.fx_memory.specs.Memory.{ShelfState};
 
     ghost Value = { ShelfState };
 

@@ -1,6 +1,6 @@
 use Rattle.std.proofs.Common.{◌≡◌, ◌+◌, arith}
 use Rattle.std.proofs.lemmas.Option.{none-some}
-use Rattle.fx_io.proofs.adapters.FileShelfShelf.fetch.Goals as goal
+use Rattle.fx_devices.proofs.adapters.FileShelfShelf.fetch.Goals as goal
 
 pub returns-in-Ok-2-clause-too_long : goal.returns-in-Ok-2-clause-too_long
 returns-in-Ok-2-clause-too_long o c reported e =

@@ -1,10 +1,9 @@
 ghost use Rattle.std.specs.Prelude.{◌≡◌, ◌<◌, ◌≤◌, [], length, take, Some, IfOk, IsOk, IsErr, OnOk, OnErr, ◌↔◌, IsErrOf, IsTrue};
 ghost use Rattle.fx_io.specs.Cause.{Rose, counted};
 ghost use Rattle.fx_io.specs.Sink.{also_took};
-ghost use Rattle.fx_io.specs.Memory.{SinkState, FailsNext, takes_of, stalls_of};
+ghost use Rattle.fx_memory.specs.Memory.{SinkState, FailsNext, takes_of, stalls_of};
 
-use crate::fault::Failed;
-use crate::sink::Sink;
+use fx_io::{Failed, Sink};
 use std::alloc::{AllocError, Global};
 use std::marker::Model;
 use thiserror::Error;
@@ -23,7 +22,7 @@ pub struct MemSink {
 
 impl Model for MemSink {
     ghost use Rattle.std.specs.Prelude.{◌<◌, ◌≤◌, vec_len, vec_capacity};
-    ghost use Rattle.fx_io.specs.Memory.{SinkState};
+    ghost use Rattle.fx_memory.specs.Memory.{SinkState};
 
     ghost Value = { SinkState };
 
@@ -53,7 +52,7 @@ pub enum PutSetup {
 
 impl From<AllocError> for PutSetup {
     ghost use Rattle.std.specs.Prelude.{◌≡◌};
-    ghost use Rattle.fx_io.specs.declared.mem_sink.PutSetup.TheVariants.{OutOfMemory};
+    ghost use Rattle.fx_memory.specs.declared.mem_sink.PutSetup.TheVariants.{OutOfMemory};
 
     ghost from_gives = { λ _ fault. fault ≡ OutOfMemory };
 

@@ -1,4 +1,4 @@
-use crate::text::Text;
+use fx_io::Text;
 
 /// A file in memory (own).
 #[derive(Debug, Drop)]
