@@ -13,7 +13,7 @@ from .common import TOP, read, write
 
 
 # `version` prints a file's line; `try` answers by its words and ends as another file says; `ci` counts,
-# does what a third says, and makes the program.
+# does what a third says, refuses crates that crates.txt doesn't list, and makes the program where it is there.
 TOOLCHAIN = """#!/bin/sh
 case $1 in
     version) cat "$PRETENDED/line" ;;
@@ -29,7 +29,11 @@ case $1 in
         ls crates/*/* >"$PRETENDED/copied"
         pwd >"$PRETENDED/room"
         . "$PRETENDED/meanwhile"
+        for crate in crates/*; do
+            grep -q "^${crate#crates/}:" crates.txt || { echo "rt: no check reads $crate"; exit 1; }
+        done
         echo 'rt: low is kept: an earlier run'
+        [ -d crates/fx_prog ] || exit 0
         echo 'rt: fx_prog proved'
         mkdir -p crates/fx_prog/out
         printf '#!/bin/sh\\necho "$@"\\n' >crates/fx_prog/out/fx_prog
