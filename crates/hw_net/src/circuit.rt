@@ -3,8 +3,6 @@ ghost use Rattle.std.specs.Prelude.{◌≡◌, ◌↔◌, ℕ, List, ◌+◌, �
 ghost use Rattle.std.specs.Prelude.{IfOk, OnOk, OnErr, Option};
 ghost use Rattle.std.specs.Prelude.{None, Some, IsTrue, false, pos};
 ghost use Rattle.hw_net.specs.Circuit.{Circuit};
-ghost use Rattle.hw_net.specs.declared.netlist.NetKind.TheVariants.{Comb};
-ghost use Rattle.hw_net.specs.declared.netlist.NetOp.TheVariants.{Resize};
 ghost use Rattle.hw_net.specs.Frames.{counter_of, counted_frame};
 ghost use Rattle.hw_net.specs.Growing.{with_net, IsCounted, IsResize, IsConnected};
 ghost use Rattle.hw_net.specs.inner.Index.{IsIndex};

@@ -11,6 +11,7 @@
 use anyhow::{Error, Result};
 use fx_io::{Sizes, Text};
 use hw_net::{Frame, Net, NetKind, NetLabel, NetOp, NetPort, Netlist};
+use hw_run::is_resize;
 use std::alloc::Global;
 use tests_rows::{Row, found};
 
@@ -172,7 +173,7 @@ pub fn put_label(alloc: Global, netlist: &mut Netlist, row: &mut Row<'_>) -> Res
 pub fn connect(alloc: Global, netlist: &mut Netlist, row: &mut Row<'_>) -> Result<()> {
     let number = row.number()?;
     let argument = row.number()?;
-    if !netlist.is_resize(number) {
+    if !is_resize(netlist, number) {
         return Err(Error::msg("no resize"));
     }
     netlist.connect(alloc, number, argument)?;
