@@ -2,7 +2,6 @@
 ghost use Rattle.std.specs.Prelude.{◌≡◌, length};
 ghost use Rattle.dg_model.specs.PlanRange.{IsPlanInRange};
 ghost use Rattle.dg_model.specs.PlanOf.{IsPlanOf};
-ghost use Rattle.hw_latency.specs.Latency.{AreLatencies};
 
 use crate::faults::{put_fault, put_model_fault, put_path};
 use crate::schedules::put_schedule;
@@ -36,14 +35,10 @@ fn put_refusal<W: Write>(alloc: Global, fault: &ModelFault, out: &mut W) -> Resu
 fn planned<W: Write>(alloc: Global, checked: &Checked, plan: &[u8], out: &mut W) -> Result<()> {
     match read_plan(alloc, plan) {
         Ok(plan) => found(alloc, checked, &plan, out),
-        Err(fault) => put_bad_plan(fault, out),
-    }
-}
-
-fn put_bad_plan<W: Write>(fault: TableFault, out: &mut W) -> Result<()> {
-    match fault {
-        TableFault::Bad { line, cause } => written(writeln!(out, "plan line {line}: {cause}")),
-        TableFault::OutOfMemory => Err(Error::msg("out of memory")),
+        Err(TableFault::Bad { line, cause }) => {
+            written(writeln!(out, "plan line {line}: {cause}"))
+        }
+        Err(TableFault::OutOfMemory) => Err(Error::msg("out of memory")),
     }
 }
 
@@ -52,19 +47,10 @@ fn found<W: Write>(alloc: Global, checked: &Checked, plan: &Plan, out: &mut W) -
 {
     match resolve(alloc, checked, plan) {
         Ok(resolved) => scheduled(alloc, checked, &resolved, out),
-        Err(fault) => put_broken(alloc, &fault, checked.diagram().blocks.as_slice(), out),
-    }
-}
-
-fn put_broken<W: Write>(
-    alloc: Global,
-    fault: &CheckFault,
-    blocks: &[Block],
-    out: &mut W,
-) -> Result<()> {
-    match fault {
-        CheckFault::Broken(fault) => put_fault(alloc, fault, blocks, out),
-        CheckFault::OutOfMemory => Err(Error::msg("out of memory")),
+        Err(CheckFault::Broken(fault)) => {
+            put_fault(alloc, &fault, checked.diagram().blocks.as_slice(), out)
+        }
+        Err(CheckFault::OutOfMemory) => Err(Error::msg("out of memory")),
     }
 }
 
@@ -72,40 +58,23 @@ fn scheduled<W: Write>(alloc: Global, checked: &Checked, plan: &Resolved, out: &
     requires { IsPlanOf checked.now.diagram plan.now }
 {
     match latencies_of(alloc, checked, plan) {
-        Ok(latencies) => put_latencies(alloc, checked, plan, &latencies, out),
-        Err(fault) => put_cycle(alloc, fault, checked, out),
-    }
-}
-
-fn put_cycle<W: Write>(
-    alloc: Global,
-    fault: LatencyFault,
-    checked: &Checked,
-    out: &mut W,
-) -> Result<()> {
-    match fault {
-        LatencyFault::Cycle { blocks, total } => {
+        Ok(latencies) => {
+            let blocks = checked.diagram().blocks.as_slice();
+            list(
+                alloc,
+                blocks,
+                &latencies,
+                &depths(alloc, checked, plan)?,
+                out,
+            )?;
+            put_schedule(alloc, checked, plan, &latencies, out)
+        }
+        Err(LatencyFault::Cycle { blocks, total }) => {
             let shown = Shown::Latency { blocks, total };
             put_model_fault(alloc, Rule::Latency, shown, checked, out)
         }
-        LatencyFault::OutOfMemory => Err(Error::msg("out of memory")),
+        Err(LatencyFault::OutOfMemory) => Err(Error::msg("out of memory")),
     }
-}
-
-fn put_latencies<W: Write>(
-    alloc: Global,
-    checked: &Checked,
-    plan: &Resolved,
-    latencies: &Latencies,
-    out: &mut W,
-) -> Result<()>
-    requires plan { IsPlanOf checked.now.diagram plan.now }
-    requires latencies { AreLatencies checked.now.diagram plan.now latencies.now }
-{
-    let blocks = checked.diagram().blocks.as_slice();
-    let by_block = depths(alloc, checked, plan)?;
-    list(alloc, blocks, latencies, &by_block, out)?;
-    put_schedule(alloc, checked, plan, latencies, out)
 }
 
 fn list<W: Write>(

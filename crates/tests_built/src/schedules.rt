@@ -7,7 +7,7 @@ use crate::faults::{put_model_fault, put_path};
 use anyhow::{Error, Result};
 use dg_model::{Block, Checked, Kind, Resolved, Rule, Shown};
 use hw_latency::{Latencies, is_shared};
-use hw_sched::{BudgetFault, SizeFault, Slots, check_size, own_width, slots_of};
+use hw_sched::{BudgetFault, SizeFault, Sizing, Slots, check_size, own_width, slots_of};
 use std::alloc::Global;
 use std::io::Write;
 use tests_rows::written;
@@ -25,22 +25,11 @@ pub fn put_schedule<W: Write>(
 {
     match slots_of(alloc, checked, latencies, plan) {
         Ok(slots) => put_slots(alloc, checked, plan, latencies, &slots, out),
-        Err(fault) => put_short(alloc, fault, checked, out),
-    }
-}
-
-fn put_short<W: Write>(
-    alloc: Global,
-    fault: BudgetFault,
-    checked: &Checked,
-    out: &mut W,
-) -> Result<()> {
-    match fault {
-        BudgetFault::Budget { period, need, have } => {
+        Err(BudgetFault::Budget { period, need, have }) => {
             let shown = Shown::Budget { period, need, have };
             put_model_fault(alloc, Rule::Budget, shown, checked, out)
         }
-        BudgetFault::OutOfMemory => Err(Error::msg("out of memory")),
+        Err(BudgetFault::OutOfMemory) => Err(Error::msg("out of memory")),
     }
 }
 
@@ -57,8 +46,25 @@ fn put_slots<W: Write>(
     requires ready { length slots.now.ready ≡ length checked.now.diagram.blocks }
 {
     put_operations(alloc, checked, plan, slots, out)?;
-    put_outputs(alloc, checked, plan, latencies, slots, out)?;
-    put_size(alloc, checked, plan, latencies, slots, out)
+    let (blocks, ready) = (checked.diagram().blocks.as_slice(), slots.ready.as_slice());
+    put_outputs(
+        alloc,
+        blocks,
+        latencies.lat.as_slice(),
+        ready,
+        plan.cycles,
+        out,
+    )?;
+    match check_size(checked, plan, latencies, ready) {
+        Ok(Sizing { storage, latency }) => {
+            written(writeln!(out, "storage {storage} latency {latency}"))
+        }
+        Err(SizeFault::Size { storage, latency }) => {
+            let shown = Shown::Size { storage, latency };
+            put_model_fault(alloc, Rule::Size, shown, checked, out)
+        }
+        Err(SizeFault::OutOfMemory) => Err(Error::msg("out of memory")),
+    }
 }
 
 /// Tells of each shared operation its slot and its multiplier.
@@ -122,21 +128,19 @@ fn put_element<W: Write>(
 /// Tells of each root output when it is ready in its period, and the latency that is declared of it.
 fn put_outputs<W: Write>(
     alloc: Global,
-    checked: &Checked,
-    plan: &Resolved,
-    latencies: &Latencies,
-    slots: &Slots,
+    blocks: &[Block],
+    lats: &[u64],
+    readys: &[u64],
+    cycles: u32,
     out: &mut W,
 ) -> Result<()>
-    requires lat { length latencies.now.lat ≡ length checked.now.diagram.blocks }
-    requires ready { length slots.now.ready ≡ length checked.now.diagram.blocks }
+    requires lats { length lats.now ≡ length blocks.now }
+    requires readys { length readys.now ≡ length blocks.now }
 {
-    let blocks = checked.diagram().blocks.as_slice();
     for place in 0..blocks.len() {
         if is_output(&blocks[place].kind) {
-            let lat = latencies.lat.as_slice()[place];
-            let ready = slots.ready.as_slice()[place];
-            let declared = declared(lat, plan.cycles, ready)?;
+            let ready = readys[place];
+            let declared = declared(lats[place], cycles, ready)?;
             put_path(alloc, &blocks[place].path, out)?;
             writeln!(out, " ready {ready} declared {declared}")?;
         }
@@ -158,42 +162,4 @@ fn declared(lat: u64, cycles: u32, ready: u64) -> Result<u64> {
         return Err(Error::msg("a latency of 2^64 or more"));
     };
     Ok(clocks)
-}
-
-/// Tells the storage and the greatest latency, or that they are too large.
-fn put_size<W: Write>(
-    alloc: Global,
-    checked: &Checked,
-    plan: &Resolved,
-    latencies: &Latencies,
-    slots: &Slots,
-    out: &mut W,
-) -> Result<()>
-    requires plan { IsPlanOf checked.now.diagram plan.now }
-    requires latencies { AreLatencies checked.now.diagram plan.now latencies.now }
-    requires ready { length slots.now.ready ≡ length checked.now.diagram.blocks }
-{
-    match check_size(checked, plan, latencies, slots.ready.as_slice()) {
-        Ok(sizing) => put_sizing(sizing.storage, sizing.latency, out),
-        Err(fault) => put_large(alloc, fault, checked, out),
-    }
-}
-
-fn put_sizing<W: Write>(storage: u64, latency: u64, out: &mut W) -> Result<()> {
-    written(writeln!(out, "storage {storage} latency {latency}"))
-}
-
-fn put_large<W: Write>(
-    alloc: Global,
-    fault: SizeFault,
-    checked: &Checked,
-    out: &mut W,
-) -> Result<()> {
-    match fault {
-        SizeFault::Size { storage, latency } => {
-            let shown = Shown::Size { storage, latency };
-            put_model_fault(alloc, Rule::Size, shown, checked, out)
-        }
-        SizeFault::OutOfMemory => Err(Error::msg("out of memory")),
-    }
 }
