@@ -18,5 +18,6 @@ mod operation;
 mod sharing;
 mod testing;
 
+pub use joining::count_of;
 pub use operation::Operation;
 pub use sharing::units;

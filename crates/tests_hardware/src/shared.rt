@@ -1,6 +1,6 @@
 //! Shared multipliers.
 ghost use Rattle.std.specs.Prelude.{◌≡◌, ◌<◌, All, IfOk, true, length};
-ghost use Rattle.hw_share.specs.Operations.{IsOperation, SameWord, AreApart, CanShare, IsUsed, unit_count};
+ghost use Rattle.hw_share.specs.Operations.{IsOperation, SameWord, AreApart, CanShare, IsUsed};
 ghost use Rattle.tests_hardware.specs.inner.Tried.{AreUsed, IsApartAt};
 
 use crate::nets::frame_of;
@@ -8,7 +8,7 @@ use anyhow::{Error, Result};
 use fx_io::OutOfMemory;
 use fx_num::is_word;
 use hw_net::{Frame, NetKind, Netlist};
-use hw_share::{Operation, units};
+use hw_share::{Operation, count_of, units};
 use std::alloc::Global;
 use tests_rows::Row;
 
@@ -113,20 +113,6 @@ fn are_used(operations: &[Operation], count: u64) -> bool
     true
 }
 
-/// How many multipliers operations have.
-fn count_of(operations: &[Operation]) -> Result<u64, OutOfMemory>
-    ensures { IfOk result (λ count. count ≡ unit_count operations.now) }
-{
-    let mut count = 0;
-    for one in operations {
-        let Some(behind) = one.unit.checked_add(1) else {
-            return Err(OutOfMemory);
-        };
-        count = behind.max(count);
-    }
-    Ok(count)
-}
-
 /// Whether operations can share multipliers.
 fn can_share(net: &Netlist, operations: &[Operation]) -> Result<bool, OutOfMemory>
     ensures { IfOk result (λ can. can ≡ true → CanShare net.now operations.now) }
@@ -154,17 +140,12 @@ fn operations_of(alloc: Global, text: &[u8]) -> Result<Vec<Operation>> {
 }
 
 fn operation_of(table: &mut Row<'_>) -> Result<Operation> {
-    let frame = frame_of(table)?;
-    let slot = table.long()?;
-    let unit = table.long()?;
-    let left = table.number()?;
-    let right = table.number()?;
     Ok(Operation {
-        frame,
-        slot,
-        unit,
-        left,
-        right,
+        frame: frame_of(table)?,
+        slot: table.long()?,
+        unit: table.long()?,
+        left: table.number()?,
+        right: table.number()?,
     })
 }
 
