@@ -141,12 +141,15 @@ fn line_of(alloc: Global, net: &mut Netlist, source: Source, one: Use) -> Result
     if !is_source(net, source) || !is_use(source, one) {
         return Err(Error::msg("no line"));
     }
-    let Source {
-        from,
-        frame,
-        first,
-        registered,
-    } = source;
     let Use { shift, period } = one;
-    Ok(line(alloc, net, from, frame, shift, period, first, registered)?)
+    Ok(line(
+        alloc,
+        net,
+        source.from,
+        source.frame,
+        shift,
+        period,
+        source.first,
+        source.registered,
+    )?)
 }
