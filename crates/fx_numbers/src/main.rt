@@ -38,7 +38,7 @@ use anyhow::{Error, Result};
 use std::alloc::Global;
 use std::io::Write;
 use std::thread::Threads;
-use tests_rows::{Answers, Row, Texts, answer_lines, written};
+use tests_rows::{Answers, Line, Row, answer_lines, written};
 
 /// Nothing stands between cases.
 #[derive(Drop)]
@@ -49,20 +49,13 @@ fn main(rt: HostRuntime) -> Result<()> {
 }
 
 impl Answers for Cases {
-    fn take<R: Threads + Sync, W: Write>(
-        &mut self,
-        _rt: &R,
-        alloc: Global,
-        _texts: &Texts,
-        line: &str,
-        out: &mut W,
-    ) -> Result<()> {
-        let (front, text) = match line.split_once('|') {
+    fn take<R: Threads + Sync, W: Write>(&mut self, line: &Line<'_, R>, out: &mut W) -> Result<()> {
+        let (front, text) = match line.text.split_once('|') {
             Some((front, text)) => (front, text),
-            None => (line, ""),
+            None => (line.text, ""),
         };
-        let mut words = Row::of(alloc, front)?;
-        answer(alloc, &mut words, text, out)
+        let mut words = Row::of(line.alloc, front)?;
+        answer(line.alloc, &mut words, text, out)
     }
 }
 

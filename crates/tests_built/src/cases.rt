@@ -6,7 +6,7 @@ use anyhow::{Error, Result};
 use std::alloc::Global;
 use std::io::Write;
 use std::thread::Threads;
-use tests_rows::{Answers, Row, Texts, written};
+use tests_rows::{Answers, Line, Row, written};
 
 /// The plan and the stimulus that stand now.
 #[derive(Drop)]
@@ -53,16 +53,8 @@ fn keep(kept: &mut Vec<u8>, text: &[u8]) -> Result<()> {
 }
 
 impl Answers for Case {
-    fn take<R: Threads + Sync, W: Write>(
-        &mut self,
-        _rt: &R,
-        alloc: Global,
-        texts: &Texts,
-        line: &str,
-        out: &mut W,
-    ) -> Result<()> {
-        let row = texts.row(alloc, line)?;
-        self.answer(alloc, &row, out)
+    fn take<R: Threads + Sync, W: Write>(&mut self, line: &Line<'_, R>, out: &mut W) -> Result<()> {
+        self.answer(line.alloc, &line.row()?, out)
     }
 }
 

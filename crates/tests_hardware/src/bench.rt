@@ -13,7 +13,7 @@ use hw_run::is_netlist;
 use std::alloc::Global;
 use std::io::Write;
 use std::thread::Threads;
-use tests_rows::{Answers, Row, Texts, written};
+use tests_rows::{Answers, Line, Row, written};
 
 /// What stands between rows.
 #[derive(Drop)]
@@ -132,16 +132,8 @@ impl Bench {
 }
 
 impl Answers for Bench {
-    fn take<R: Threads + Sync, W: Write>(
-        &mut self,
-        rt: &R,
-        alloc: Global,
-        texts: &Texts,
-        line: &str,
-        out: &mut W,
-    ) -> Result<()> {
-        let mut row = texts.row(alloc, line)?;
-        self.answer(rt, alloc, &mut row, out)
+    fn take<R: Threads + Sync, W: Write>(&mut self, line: &Line<'_, R>, out: &mut W) -> Result<()> {
+        self.answer(line.rt, line.alloc, &mut line.row()?, out)
     }
 }
 

@@ -36,7 +36,7 @@ use anyhow::Result;
 use std::alloc::Global;
 use std::io::Write;
 use std::thread::Threads;
-use tests_rows::{Answers, Row, Texts, answer_lines, found};
+use tests_rows::{Answers, Line, Row, answer_lines, found};
 
 /// The last plan.
 #[derive(Drop)]
@@ -52,16 +52,8 @@ fn main(rt: HostRuntime) -> Result<()> {
 }
 
 impl Answers for Plan {
-    fn take<R: Threads + Sync, W: Write>(
-        &mut self,
-        _rt: &R,
-        alloc: Global,
-        texts: &Texts,
-        line: &str,
-        out: &mut W,
-    ) -> Result<()> {
-        let mut row = texts.row(alloc, line)?;
-        answer(alloc, &mut row, &mut self.text, out)
+    fn take<R: Threads + Sync, W: Write>(&mut self, line: &Line<'_, R>, out: &mut W) -> Result<()> {
+        answer(line.alloc, &mut line.row()?, &mut self.text, out)
     }
 }
 

@@ -13,6 +13,6 @@ mod row;
 mod texts;
 
 pub use escapes::{put_escaped, unescaped};
-pub use lines::{Answers, answer_lines, put_debug, written};
+pub use lines::{Answers, Line, answer_lines, put_debug, written};
 pub use row::{Row, found};
 pub use texts::Texts;

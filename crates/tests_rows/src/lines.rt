@@ -1,5 +1,6 @@
 //! The lines of standard input, one after another.
 
+use crate::row::Row;
 use crate::texts::Texts;
 use anyhow::Result;
 use std::alloc::Global;
@@ -7,19 +8,28 @@ use std::fmt::Debug;
 use std::io::{self, BufRead, BufWriter, Input, Print, Write};
 use std::thread::Threads;
 
+/// A line that is no text's, and what it is answered with.
+#[derive(Drop)]
+pub struct Line<'a, R> {
+    pub rt: &'a R,
+    pub alloc: Global,
+    pub texts: &'a Texts,
+    pub text: &'a str,
+}
+
+impl<'a, R> Line<'a, R> {
+    /// The row that the line is.
+    pub fn row(&self) -> Result<Row<'a>> {
+        self.texts.row(self.alloc, self.text)
+    }
+}
+
 /// What a program of rows keeps between lines.
 pub trait Answers {
     ghost use Rattle.std.specs.Thread.{IsSync};
 
-    /// Takes a line that is no text's, and writes its answer.
-    fn take<R: Threads + Sync, W: Write>(
-        &mut self,
-        rt: &R,
-        alloc: Global,
-        texts: &Texts,
-        line: &str,
-        out: &mut W,
-    ) -> Result<()>
+    /// Takes a line, and writes its answer.
+    fn take<R: Threads + Sync, W: Write>(&mut self, line: &Line<'_, R>, out: &mut W) -> Result<()>
         requires { IsSync R.row };
 }
 
@@ -53,14 +63,19 @@ fn answer<R: Threads + Sync, A: Answers, W: Write>(
     alloc: Global,
     answers: &mut A,
     texts: &mut Texts,
-    line: &str,
+    text: &str,
     out: &mut W,
 ) -> Result<()> {
-    if texts.take(alloc, line)? {
-        Ok(())
-    } else {
-        answers.take(rt, alloc, texts, line, out)
+    if texts.take(alloc, text)? {
+        return Ok(());
     }
+    let line = Line {
+        rt,
+        alloc,
+        texts,
+        text,
+    };
+    answers.take(&line, out)
 }
 
 /// What writing came to.

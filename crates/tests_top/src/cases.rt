@@ -10,7 +10,7 @@ use fx_sample::plan_text;
 use std::alloc::Global;
 use std::io::Write;
 use std::thread::Threads;
-use tests_rows::{Answers, Row, Texts, found, written};
+use tests_rows::{Answers, Line, Row, found, written};
 
 /// A file by its name.
 #[derive(Drop)]
@@ -106,19 +106,12 @@ fn push(numbers: &mut Vec<u64>, row: &mut Row<'_>) -> Result<()> {
 }
 
 impl Answers for Case {
-    fn take<R: Threads + Sync, W: Write>(
-        &mut self,
-        rt: &R,
-        alloc: Global,
-        texts: &Texts,
-        line: &str,
-        out: &mut W,
-    ) -> Result<()> {
-        let Some((call, rest)) = called(line) else {
-            let mut row = texts.row(alloc, line)?;
-            return put_row(rt, alloc, self, &mut row, out);
+    fn take<R: Threads + Sync, W: Write>(&mut self, line: &Line<'_, R>, out: &mut W) -> Result<()> {
+        let (rt, alloc) = (line.rt, line.alloc);
+        let Some((call, rest)) = called(line.text) else {
+            return put_row(rt, alloc, self, &mut line.row()?, out);
         };
-        writeln!(out, "{line}")?;
+        writeln!(out, "{}", line.text)?;
         match call {
             Call::Bench => put_benched(rt, alloc, rest, out),
             Call::Run => self.run(rt, alloc, rest, out),
