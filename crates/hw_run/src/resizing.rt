@@ -20,16 +20,11 @@ pub fn is_resize(net: &Netlist, number: u32) -> bool
 fn resizes(kind: &NetKind) -> bool
     ensures { IsTrue result ↔ ((args : List ℕ) × (kind.now ≡ Comb Resize args)) }
 {
-    match kind {
+    matches!(
+        kind,
         NetKind::Comb {
             op: NetOp::Resize,
-            args: _,
-        } => true,
-        NetKind::Comb { .. }
-        | NetKind::Reg { .. }
-        | NetKind::EnReg { .. }
-        | NetKind::Bridge { .. }
-        | NetKind::Unit { .. }
-        | NetKind::Counter { .. } => false,
-    }
+            ..
+        }
+    )
 }
