@@ -173,23 +173,7 @@ fn kept_rule<'a>(program: &mut Program, turn: Turn<'a>) -> Result<Rule, OutOfMem
             reset,
         } => delayed(program, turn, *length, initial.as_slice(), *reset),
         Kind::EnOut { reset, initial } => gated(program, turn, *reset, initial.as_slice()),
-        Kind::Inport { .. }
-        | Kind::Outport { .. }
-        | Kind::Constant { .. }
-        | Kind::Ground
-        | Kind::Sum { .. }
-        | Kind::Gain { .. }
-        | Kind::Product
-        | Kind::Switch { .. }
-        | Kind::Relational { .. }
-        | Kind::Logic { .. }
-        | Kind::Convert { .. }
-        | Kind::Mux { .. }
-        | Kind::Demux { .. }
-        | Kind::RateTransition { .. }
-        | Kind::Pass { .. }
-        | Kind::EnableTest
-        | Kind::Terminator => unreachable!(),
+        _ => unreachable!(),
     }
 }
 

@@ -133,18 +133,7 @@ pub fn op_of<'a>(turn: Turn<'a>) -> Op
             }
         }
         Kind::Convert { stored: integer } => Op::Convert { stored: *integer },
-        Kind::Inport { .. }
-        | Kind::Outport { .. }
-        | Kind::Constant { .. }
-        | Kind::Ground
-        | Kind::Delay { .. }
-        | Kind::Mux { .. }
-        | Kind::Demux { .. }
-        | Kind::RateTransition { .. }
-        | Kind::Pass { .. }
-        | Kind::EnableTest
-        | Kind::EnOut { .. }
-        | Kind::Terminator => unreachable!(),
+        _ => unreachable!(),
     }
 }
 

@@ -142,18 +142,7 @@ fn plain_op(kind: &Kind) -> Op
         }
         Kind::Convert { stored } => Op::Convert { stored: *stored },
         Kind::Pass { .. } | Kind::Outport { .. } => Op::Pass,
-        Kind::Inport { .. }
-        | Kind::Constant { .. }
-        | Kind::Ground
-        | Kind::Gain { .. }
-        | Kind::Switch { .. }
-        | Kind::Delay { .. }
-        | Kind::Mux { .. }
-        | Kind::Demux { .. }
-        | Kind::RateTransition { .. }
-        | Kind::EnableTest
-        | Kind::EnOut { .. }
-        | Kind::Terminator => unreachable!(),
+        _ => unreachable!(),
     }
 }
 
