@@ -14,7 +14,7 @@ use Rattle.hw_net.specs.Netlist.{reads, reads_now, IsRanked}
 use Rattle.hw_net.specs.Growing.{Appends, MayReadNow, IsReopened, IsConnected}
 use Rattle.hw_net.proofs.Growing.{longer, stood-there}
 use Rattle.hw_net.proofs.Places.{at-place}
-use Rattle.hw_lines.specs.Chain.{IsNewReg}
+use Rattle.hw_net.specs.Growing.{IsNewReg}
 use Rattle.hw_build.specs.inner.Growth.{GoesOn}
 use Rattle.hw_build.specs.inner.Levels.{IsLevelled, level_of, net_at, level_behind}
 

@@ -17,7 +17,7 @@ use Rattle.hw_net.specs.Netlist.{reads_now}
 use Rattle.hw_net.proofs.Growing.{stood-there}
 use Rattle.hw_share.specs.declared.operation.Operation.{Operation as Asked}
 use Rattle.hw_share.specs.Operations.{operands_of, unit_count}
-use Rattle.hw_share.specs.Shared.{IsChoosingOp, IsPart, IsFrameOf, AreShared, is_unit, IsNewReg}
+use Rattle.hw_share.specs.Shared.{IsChoosingOp, IsPart, IsFrameOf, AreShared, is_unit}
 use Rattle.hw_build.specs.Serving.{unit_factors, op_factors, own_factors, others}
 use Rattle.hw_build.specs.inner.Factors.{AddsConstants}
 use Rattle.hw_build.specs.inner.Levels.{level_behind, level_of, net_at}
@@ -115,9 +115,6 @@ quiet_low before after level own number net at new quiet =
     cond-false {A = ℕ} (nat_lt number (length before.nets)) (level number) (level_of own (reads_now (net_at after.nets number).kind)) (le-ltb number (length before.nets) new)
     ∙ ap (λ (n : Net). level_of own (reads_now n.kind)) (get_or_from_slice_get after.nets number net _ at)
     ∙ ap (level_of own) quiet
-
-pub register_low : (before after : Circuit) (level : ℕ → ℕ) (own number : ℕ) → IsNewReg before after number → level_behind before after level own number ≡ 0
-register_low before after level own number is = quiet_low before after level own number is.net is.is is.new (ap reads_now is.holds)
 
 -- what is named of operations is an operand
 pub operand_of : (operations : List Asked) (place read : ℕ) → slice_get (operands_of operations) place ≡ Some read → (k : ℕ) × (one : Asked) × (slice_get operations k ≡ Some one) × ((read ≡ one.left) ⊎ (read ≡ one.right))

@@ -42,9 +42,9 @@ use Rattle.hw_build.specs.inner.Units.{IsUnitFor}
 use Rattle.hw_build.proofs.Constants.{same_registers}
 use Rattle.hw_build.proofs.Factoring.{shared_multiplies}
 use Rattle.hw_build.proofs.Serving.{is_product, multiplies_input, product_inputs}
-use Rattle.hw_build.proofs.Levels.{level_stays}
+use Rattle.hw_build.proofs.Levels.{level_stays, register_level}
 use Rattle.hw_build.proofs.Listed.{AreUnitsFrom, multiplier_at, counted_units}
-use Rattle.hw_build.proofs.Multiplying.{no_units_mid, same_others, none_behind, counter_frame, quiet_low, register_low, operand_of}
+use Rattle.hw_build.proofs.Multiplying.{no_units_mid, same_others, none_behind, counter_frame, quiet_low, operand_of}
 use Rattle.hw_build.proofs.Numbering.{operation_there}
 use Rattle.hw_build.proofs.Offered.{offered_word, offered_low}
 use Rattle.hw_build.proofs.Operations.{of_shared}
@@ -192,7 +192,7 @@ module _ (storing : StoringGivesOne) (prepare : OperationsPrepare) (valid : Type
             let number = operation_there diagram plan block element inside is below in
             let result = result_there diagram plan products firsts block element (shared.count ∙ count) inside is below in
             let served = served_at storing prepare valid periods diagram order ordered plan times offered before mid after words operations products gathered shared mid_cycles (first_operation diagram plan block + element) (operation block element) (product_net products block element) number result in
-            ap late (placed.product_is block element) ∙ register_low mid after early own (product_net products block element) served.holds
+            ap late (placed.product_is block element) ∙ register_level mid after early own (product_net products block element) served.holds
 
         -- the multiplier of an operation
         module _ (none : HasNoUnits before) (number : ℕ) (o : Operation) (b : Block) (is : IsOperation diagram (attributes_of diagram) plan number o) (at : slice_get diagram.blocks o.block ≡ Some b) where

@@ -13,7 +13,8 @@ use Rattle.hw_net.specs.Registers.{IsReg}
 use Rattle.hw_net.specs.Growing.{Extends}
 use Rattle.hw_net.proofs.Growing.{IsNamed, longer, still-there, stood-there, word-stays, split-last, in-rows-first, in-rows-last, in-rows-both, in-rows-all, appends-self, appends-trans}
 use Rattle.hw_lines.specs.declared.source.Source.{Source}
-use Rattle.hw_lines.specs.Chain.{IsSource, IsPart, IsNewReg, IsAnswer}
+use Rattle.hw_lines.specs.Chain.{IsSource, IsPart, IsAnswer}
+use Rattle.hw_net.specs.Growing.{IsNewReg}
 use Rattle.hw_lines.specs.Taps.{IsTap, TapSteps}
 use Rattle.hw_lines.specs.inner.Parts.{CanHold, Grows, SameWord, IsHeld, IsTapAt, AreTaps}
 

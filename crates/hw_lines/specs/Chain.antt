@@ -12,7 +12,7 @@ use Rattle.hw_net.specs.Circuit.{Circuit}
 use Rattle.hw_net.specs.ByFrame.{is_same_frame}
 use Rattle.hw_net.specs.Frames.{register_count}
 use Rattle.hw_net.specs.Netlist.{HasWord}
-use Rattle.hw_net.specs.Growing.{InRows, Appends}
+use Rattle.hw_net.specs.Growing.{InRows, Appends, IsNewReg}
 use Rattle.hw_lines.specs.declared.source.Source.{Source}
 use Rattle.hw_lines.specs.declared.source.Use.{Use}
 use Rattle.hw_lines.specs.Line.{Line, ShowsLater}
@@ -51,17 +51,6 @@ pub record IsUse (source : Source) (one : Use) : Type 0 where
   pub plain : source.registered ≡ false → one.period % source.frame.period ≡ 0
   pub registered : source.registered ≡ true
       → (source.frame.period % one.period ≡ 0) × (1 ≤ one.shift)
-
--- the net of this number is a Reg that was put behind those of the first netlist
-pub record IsNewReg (before after : Circuit) (number : ℕ) : Type 0 where
-  pub frame : Frame
-  pub slot : ℕ
-  pub first : ℤ
-  pub from : ℕ
-  pub net : Net
-  pub is : slice_get after.nets number ≡ Some net
-  pub holds : net.kind ≡ Reg frame slot first from
-  pub new : length before.nets ≤ number
 
 -- an answer shows the source in the reader's frame, in every later netlist, and has its word
 pub record IsAnswer (before after : Circuit) (source : Source) (reader : Frame)

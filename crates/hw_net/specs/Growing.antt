@@ -1,10 +1,10 @@
 -- Netlists that grow at their end, and what a later netlist keeps of one (own).
 use Rattle.std.specs.Prelude.{◌≡◌, ℕ, ◌+◌, ◌-◌, ◌*◌, ◌<◌, ◌≤◌, ◌⊎◌, ◌++◌, ◌∷◌, List, [], length}
-use Rattle.std.specs.Prelude.{All, Contains, slice_get, slice_set, None, Some, IsSome, pos}
+use Rattle.std.specs.Prelude.{All, Contains, slice_get, slice_set, None, Some, IsSome, ℤ, pos}
 use Rattle.fx_num.specs.Word.{IsWord, InWord}
 use Rattle.hw_net.specs.declared.netlist.Frame.{Frame}
 use Rattle.hw_net.specs.declared.netlist.Net.{Net}
-use Rattle.hw_net.specs.declared.netlist.NetKind.TheVariants.{Comb, Counter}
+use Rattle.hw_net.specs.declared.netlist.NetKind.TheVariants.{Comb, Reg, Counter}
 use Rattle.hw_net.specs.declared.netlist.NetOp.TheVariants.{Resize}
 use Rattle.hw_net.specs.Circuit.{Circuit}
 use Rattle.hw_net.specs.Frames.{IsCounter, CountersDiffer, frame_of, counter_of}
@@ -40,6 +40,17 @@ pub record AddsCounter (before after : Circuit) (frame : Frame) : Type 0 where
 pub record IsCounted (before after : Circuit) (frame : Frame) : Type 0 where
   pub stays : IsSome (counter_of before.nets frame) → after ≡ before
   pub grows : counter_of before.nets frame ≡ None → AddsCounter before after frame
+
+-- the net of this number is a Reg that was put behind those of the first netlist
+pub record IsNewReg (before after : Circuit) (number : ℕ) : Type 0 where
+  pub frame : Frame
+  pub slot : ℕ
+  pub first : ℤ
+  pub from : ℕ
+  pub net : Net
+  pub is : slice_get after.nets number ≡ Some net
+  pub holds : net.kind ≡ Reg frame slot first from
+  pub new : length before.nets ≤ number
 
 -- the net of this number is a Resize
 pub record IsResize (nets : List Net) (number : ℕ) : Type 0 where

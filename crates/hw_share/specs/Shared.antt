@@ -1,5 +1,5 @@
 -- What is owed for operations that share multipliers (own; HDL Coder, resource sharing).
-use Rattle.std.specs.Prelude.{◌≡◌, ℕ, ◌+◌, ◌<◌, ◌≤◌, ◌||◌, ◌↔◌, ℤ, List, length, Contains}
+use Rattle.std.specs.Prelude.{◌≡◌, ℕ, ◌+◌, ◌<◌, ◌≤◌, ◌||◌, ◌↔◌, List, length, Contains}
 use Rattle.std.specs.Prelude.{slice_get, Some, Bool, true, false, ⊤}
 use Rattle.hw_net.specs.declared.netlist.Frame.{Frame}
 use Rattle.hw_net.specs.declared.netlist.Net.{Net}
@@ -13,7 +13,7 @@ use Rattle.hw_net.specs.declared.netlist.NetKind.TheVariants.{Comb, Reg, EnReg, 
 use Rattle.hw_net.specs.declared.netlist.NetKind.TheVariants.{Counter}
 use Rattle.hw_net.specs.Circuit.{Circuit}
 use Rattle.hw_net.specs.Frames.{register_count}
-use Rattle.hw_net.specs.Growing.{InRows, Appends}
+use Rattle.hw_net.specs.Growing.{InRows, Appends, IsNewReg}
 use Rattle.hw_net.specs.Netlist.{HasWord}
 use Rattle.hw_net.specs.NetRows.{span_of}
 use Rattle.hw_share.specs.declared.operation.Operation.{Operation}
@@ -25,17 +25,6 @@ pub record IsUnitAt (nets : List Net) (number left right : ℕ) : Type 0 where
   pub net : Net
   pub is : slice_get nets number ≡ Some net
   pub multiplies : net.kind ≡ Unit left right
-
--- the net of this number is a Reg that was put behind those of the first netlist
-pub record IsNewReg (before after : Circuit) (number : ℕ) : Type 0 where
-  pub frame : Frame
-  pub slot : ℕ
-  pub first : ℤ
-  pub from : ℕ
-  pub net : Net
-  pub is : slice_get after.nets number ≡ Some net
-  pub holds : net.kind ≡ Reg frame slot first from
-  pub new : length before.nets ≤ number
 
 -- the net has the word of the product of two nets
 abbrev pub HasProductWord : Circuit → Circuit → ℕ → ℕ → ℕ → Type 0

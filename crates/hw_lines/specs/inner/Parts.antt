@@ -10,7 +10,8 @@ use Rattle.hw_net.specs.Netlist.{HasWord}
 use Rattle.hw_net.specs.NetRows.{span_of}
 use Rattle.hw_net.specs.Growing.{InRows, Appends}
 use Rattle.hw_lines.specs.declared.source.Source.{Source}
-use Rattle.hw_lines.specs.Chain.{IsPart, IsNewReg}
+use Rattle.hw_lines.specs.Chain.{IsPart}
+use Rattle.hw_net.specs.Growing.{IsNewReg}
 use Rattle.hw_lines.specs.Taps.{IsTap}
 
 -- the net is there in a word

@@ -10,7 +10,8 @@ use Rattle.hw_net.specs.Growing.{InRows}
 use Rattle.hw_share.specs.declared.operation.Operation.{Operation}
 use Rattle.hw_share.specs.declared.joining.Ends.{Ends}
 use Rattle.hw_share.specs.Operations.{SameWord}
-use Rattle.hw_share.specs.Shared.{IsUnitAt, IsNewReg, HasProductWord, IsFrameOf}
+use Rattle.hw_share.specs.Shared.{IsUnitAt, HasProductWord, IsFrameOf}
+use Rattle.hw_net.specs.Growing.{IsNewReg}
 use Rattle.hw_share.specs.inner.Parts.{Grows, IsMultiplying, IsKeeping, IsThere}
 
 -- the nets are there in words whose product has a word
