@@ -10,7 +10,7 @@ use Rattle.dg_model.specs.declared.nested.Part.{Part}
 use Rattle.dg_model.specs.declared.nested.Part.TheVariants.{Plain, In, Out}
 use Rattle.dg_flat.specs.Flat.{flat_block, flat_place, placed, resets_under}
 use Rattle.dg_flat.specs.Parts.{nested_path}
-use Rattle.dg_flat.specs.inner.Flats.{placed_as}
+use Rattle.dg_flat.specs.Flat.{placed_as}
 
 placed_is : (blocks : List NestedBlock) (place : ℕ) (control : Option ℕ) (block : Block) (path : List ℕ) (found : Option ℕ) (flat : Block) →
     flat ≡ placed_as path (resets_under blocks found) (option_map (flat_place blocks) found) block → path ≡ nested_path blocks place → found ≡ control → flat ≡ placed blocks place control block

@@ -8,7 +8,7 @@ use Rattle.dg_model.specs.declared.kind.Kind.TheVariants.{Inport, Outport, Const
 use Rattle.dg_model.specs.KindRow.{Row}
 use Rattle.dg_model.specs.Library.{row_of, IsReadable}
 use Rattle.dg_flat.specs.Flat.{resetting}
-use Rattle.dg_flat.specs.inner.Flats.{placed_as, control_as}
+use Rattle.dg_flat.specs.Flat.{placed_as, control_as}
 
 -- whether a Delay begins anew is no matter of its row
 pub row_kept : (resets : Bool) (kind : Kind) → row_of kind ≡ row_of (resetting resets kind)

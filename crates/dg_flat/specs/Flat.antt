@@ -64,24 +64,29 @@ abbrev pub resets_under : List NestedBlock → Option ℕ → Bool
 resets_under blocks None = false
 resets_under blocks (Some control) = resets (slice_get blocks control)
 
--- a block with its path, in the enabled subsystem of this EnablePort
-abbrev pub placed : List NestedBlock → ℕ → Option ℕ → Block → Block
-placed blocks place control block = record {
-  path = nested_path blocks place;
-  kind = resetting (resets_under blocks control) block.kind;
+-- a block with this path, and this enable
+abbrev pub placed_as : List ℕ → Bool → Option ℕ → Block → Block
+placed_as path resets enable block = record {
+  path = path;
+  kind = resetting resets block.kind;
   inputs = block.inputs;
   outputs = block.outputs;
   result = block.result;
   rounding = block.rounding;
   saturate = block.saturate;
   period = block.period;
-  enable = option_map (flat_place blocks) control;
+  enable = enable;
 }
 
--- the control of an enabled subsystem
-abbrev pub control_block : List NestedBlock → ℕ → Block
-control_block blocks place = record {
-  path = nested_path blocks place;
+-- a block with its path, in the enabled subsystem of this EnablePort
+abbrev pub placed : List NestedBlock → ℕ → Option ℕ → Block → Block
+placed blocks place control =
+    placed_as (nested_path blocks place) (resets_under blocks control) (option_map (flat_place blocks) control)
+
+-- the control of an enabled subsystem with this path
+abbrev pub control_as : List ℕ → Block
+control_as path = record {
+  path = path;
   kind = EnableTest;
   inputs = 1;
   outputs = 1;
@@ -91,6 +96,10 @@ control_block blocks place = record {
   period = Inherit;
   enable = None;
 }
+
+-- the control of an enabled subsystem
+abbrev pub control_block : List NestedBlock → ℕ → Block
+control_block blocks place = control_as (nested_path blocks place)
 
 -- the block that a part becomes; a subsystem becomes none
 abbrev pub flat_block : List NestedBlock → ℕ → Option ℕ → Part → Option Block

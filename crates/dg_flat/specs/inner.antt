@@ -6,4 +6,3 @@ pub mod Paths
 pub mod Ports
 pub mod Tally
 pub mod Verdict
-pub mod Flats

@@ -2,7 +2,7 @@ ghost use Rattle.std.specs.Prelude.{◌≡◌, ℕ, ◌<◌, ◌≤◌, List, le
 ghost use Rattle.dg_model.specs.declared.nested.NestedBlock.{NestedBlock};
 ghost use Rattle.dg_flat.specs.Flat.{flat_place, flat_block as flat_block_of, flat_blocks as flat_blocks_of, resets_under as resets_under_of};
 ghost use Rattle.dg_flat.specs.Parts.{control_of};
-ghost use Rattle.dg_flat.specs.inner.Flats.{placed_as, control_as};
+ghost use Rattle.dg_flat.specs.Flat.{placed_as, control_as};
 ghost use Rattle.dg_flat.specs.inner.Paths.{ArePaths};
 ghost use Rattle.dg_flat.specs.inner.Slots.{slot_of, HaveParents};
 ghost use Rattle.dg_flat.specs.inner.Systems.{AreSystems};

@@ -2,7 +2,7 @@ use Rattle.std.proofs.Common.{length, Some, sym, ap, ◌∙◌}
 use Rattle.std.proofs.lemmas.Option.{get_or_from_slice_get}
 use Rattle.dg_flat.specs.Flat.{flat_block}
 use Rattle.dg_flat.specs.Parts.{control_of}
-use Rattle.dg_flat.specs.inner.Flats.{control_as}
+use Rattle.dg_flat.specs.Flat.{control_as}
 use Rattle.dg_flat.proofs.FlatBlock.{flat_plain, flat_in, flat_out}
 use Rattle.dg_flat.proofs.Found.{control_inside}
 use Rattle.dg_flat.proofs.PathTable.{path_is}
