@@ -7,6 +7,9 @@ use Rattle.std.proofs.lemmas.Option.{slice_get-get_or, get_or_from_slice_get}
 use Rattle.std.proofs.lemmas.List.Elements.{Contains-append_right, Contains-append_cases}
 use Rattle.hw_net.specs.Products.{places}
 use Rattle.vl_emit.proofs.Found.{no-element, first-or-later, here, later, of-one, of-mapped, below-place, one-more}
+use Rattle.hw_net.specs.declared.netlist.Net.{Net}
+use Rattle.hw_net.specs.declared.netlist.NetKind.{NetKind}
+use Rattle.hw_net.specs.Products.{net_at}
 
 -- the element at a place
 pub at-contains : {X : Type 0} (xs : List X) (k : ℕ) (d : X) → k < length xs → Contains xs (get_or xs k d)
@@ -120,3 +123,9 @@ put-next old items more front item are put = put ∙ ap (λ xs. xs ++ item ∷ [
 -- a part, and then the rest
 pub put-before : {X : Type 0} (old items more part rest : List X) → items ≡ old ++ part → more ≡ items ++ rest → more ≡ old ++ (part ++ rest)
 put-before old items more part rest are put = put ∙ ap (λ xs. xs ++ rest) are ∙ append_assoc old part rest
+
+-- the kind of a net that is read
+pub kind-at : (nets read : List Net) (own : ℕ) (default : Net) (kind : NetKind) → read ≡ nets → own < length nets → (get_or read own default).kind ≡ kind → (net_at nets own).kind ≡ kind
+kind-at nets read own default kind same inside is =
+    let net : get_or read own default ≡ net_at nets own = ap (λ (ns : List Net). get_or ns own default) same ∙ default-free nets own default _ inside in
+    ap (λ (n : Net). n.kind) (sym net) ∙ is

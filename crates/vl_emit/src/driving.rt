@@ -5,7 +5,8 @@ ghost use Rattle.vl_ast.specs.declared.expressions.BinOp.TheVariants.{Subtract};
 ghost use Rattle.vl_ast.specs.declared.expressions.Expr.{Expr};
 ghost use Rattle.vl_ast.specs.declared.expressions.Sized.{Sized};
 ghost use Rattle.vl_ast.specs.declared.expressions.Expr.TheVariants.{Name, Literal, Binary, Choose};
-ghost use Rattle.vl_ast.specs.declared.modules.ModItem.TheVariants.{Always};
+ghost use Rattle.vl_ast.specs.declared.modules.ModItem.{ModItem};
+ghost use Rattle.vl_ast.specs.declared.modules.ModItem.TheVariants.{Always, Assign};
 ghost use Rattle.hw_net.specs.declared.netlist.NetOp.TheVariants.{Input};
 ghost use Rattle.hw_net.specs.declared.netlist.NetKind.TheVariants.{Comb, Reg, EnReg, Bridge};
 ghost use Rattle.hw_net.specs.declared.netlist.NetKind.TheVariants.{Unit, Counter};
@@ -78,6 +79,39 @@ fn operation(
     expression(alloc, op, port, first, second, third, word)
 }
 
+/// The item of a wire of these parts, each of which may have wanted memory.
+pub fn assigned(
+    name: Result<Text, OutOfMemory>,
+    value: Result<Expr, OutOfMemory>,
+) -> Result<ModItem, OutOfMemory>
+    ensures { (text : List ℕ) (shown : Expr) → IfOk name (λ made. made ≡ text)
+        → IfOk value (λ made. made ≡ shown)
+        → IfOk result (λ item. item ∷ [] ≡ Assign text shown ∷ []) }
+{
+    let name = match name {
+        Ok(name) => name,
+        Err(wanting) => {
+            drop(value);
+            return Err(wanting);
+        }
+    };
+    match value {
+        Ok(value) => Ok(ModItem::Assign { name, value }),
+        Err(wanting) => {
+            drop(name);
+            Err(wanting)
+        }
+    }
+}
+
+/// Puts an item behind the others, which may have wanted memory.
+pub fn put(items: &mut ModItems, made: Result<ModItem, OutOfMemory>) -> Result<(), OutOfMemory>
+    ensures { (driven : List ModItem) → IfOk made (λ item. item ∷ [] ≡ driven)
+        → OnOk result (items.new ≡ items.old ++ driven) }
+{
+    items.push(made?)
+}
+
 /// The item of a net that is an operation on others.
 pub fn comb_item(
     alloc: Global,
@@ -91,9 +125,8 @@ pub fn comb_item(
     requires kind { IsReady (circuit_of source) (Comb op args.now) }
     ensures { IfOk result (IsDriver source.entry own (Comb op args.now)) }
 {
-    let name = text_of(alloc, operand(source, own).called)?;
-    let value = operation(alloc, source, own, op, args)?;
-    Ok(ModItem::Assign { name, value })
+    let name = text_of(alloc, operand(source, own).called);
+    assigned(name, operation(alloc, source, own, op, args))
 }
 
 /// The item of a shared multiplier.
@@ -110,11 +143,10 @@ pub fn unit_item(
     ensures { IfOk result (IsDriver source.entry own (Unit left right)) }
 {
     let net = operand(source, own);
-    let name = text_of(alloc, net.called)?;
     let left = operand(source, left as usize);
     let right = operand(source, right as usize);
-    let value = in_width(alloc, BinOp::Multiply, left, right, net.width)?;
-    Ok(ModItem::Assign { name, value })
+    let value = in_width(alloc, BinOp::Multiply, left, right, net.width);
+    assigned(text_of(alloc, net.called), value)
 }
 
 /// What a Counter takes: one less than it has, and the greatest after 0.
@@ -239,53 +271,44 @@ fn renewed(
     choose(alloc, test, taken, Ok(Expr::Literal(begun)))
 }
 
-/// The item of a register with enable that begins anew where `enable` is 0.
-pub fn reset_item(
+/// The item of a register with enable. Where `enable` is 0 it begins anew with `reset`, else it keeps
+/// its value.
+pub fn enabled_item(
     alloc: Global,
     source: Source,
     own: usize,
     frame: Frame,
     enable: u32,
+    reset: bool,
     first: i128,
     from: u32,
 ) -> Result<ModItem, OutOfMemory>
     requires source { IsSource source }
     requires own { own < net_count source }
-    requires kind { IsReady (circuit_of source) (EnReg frame enable true first from) }
-    ensures { IfOk result (IsDriver source.entry own (EnReg frame enable true first from)) }
+    requires kind { IsReady (circuit_of source) (EnReg frame enable reset first from) }
+    ensures { IfOk result (IsDriver source.entry own (EnReg frame enable reset first from)) }
 {
     let net = &source.netlist.nets()[own];
-    let begun = constant(net.width, net.signed, first);
-    register(
-        text_of(alloc, operand(source, own).called),
-        constant(net.width, net.signed, first),
-        enabled_slot(alloc, source, frame, last_slot(source, frame)),
-        renewed(alloc, source, enable, from, begun),
-    )
-}
-
-/// The item of a register with enable that keeps its value where `enable` is 0.
-pub fn held_item(
-    alloc: Global,
-    source: Source,
-    own: usize,
-    frame: Frame,
-    enable: u32,
-    first: i128,
-    from: u32,
-) -> Result<ModItem, OutOfMemory>
-    requires source { IsSource source }
-    requires own { own < net_count source }
-    requires kind { IsReady (circuit_of source) (EnReg frame enable false first from) }
-    ensures { IfOk result (IsDriver source.entry own (EnReg frame enable false first from)) }
-{
-    let net = &source.netlist.nets()[own];
-    register(
-        text_of(alloc, operand(source, own).called),
-        constant(net.width, net.signed, first),
-        enabled_taking(alloc, source, frame, enable),
-        named(alloc, operand(source, from as usize)),
-    )
+    let name = text_of(alloc, operand(source, own).called);
+    let number = constant(net.width, net.signed, first);
+    if reset {
+        let begun = constant(net.width, net.signed, first);
+        let slot = enabled_slot(alloc, source, frame, last_slot(source, frame));
+        register(
+            name,
+            number,
+            slot,
+            renewed(alloc, source, enable, from, begun),
+        )
+    } else {
+        let taking = enabled_taking(alloc, source, frame, enable);
+        register(
+            name,
+            number,
+            taking,
+            named(alloc, operand(source, from as usize)),
+        )
+    }
 }
 
 /// What a bridge shows: another net where it is live, else what its register holds.
@@ -325,16 +348,13 @@ pub fn put_bridge(
     ensures { OnOk result (items.new ≡ items.old ++ bridge_in source.entry own frame live from) }
 {
     let net = operand(source, own);
-    let name = text_of(alloc, net.called)?;
-    let value = bridged(alloc, source, own, frame, live, from)?;
-    items.push(ModItem::Assign { name, value })?;
-    let name = hold_text(alloc, own)?;
-    let shown = text_of(alloc, net.called)?;
-    let counting = enable(alloc)?;
-    items.push(ModItem::Always {
-        name,
-        first: plain(net.width, 0),
-        condition: Some(counting),
-        value: Expr::Name(shown),
-    })
+    let value = bridged(alloc, source, own, frame, live, from);
+    put(items, assigned(text_of(alloc, net.called), value))?;
+    let held = register(
+        hold_text(alloc, own),
+        plain(net.width, 0),
+        enable(alloc),
+        named(alloc, net),
+    );
+    put(items, held)
 }

@@ -1,6 +1,6 @@
 //! The header of a netlist's module.
-ghost use Rattle.std.specs.Prelude.{◌≡◌, ◌++◌, ◌∷◌, ◌<◌, [], length, IfOk, OnOk};
-ghost use Rattle.vl_ast.specs.Header.{attribute_of, bit_input, bit_output};
+ghost use Rattle.std.specs.Prelude.{◌≡◌, ◌++◌, ◌∷◌, ◌<◌, [], false, codes, length, IfOk, OnOk};
+ghost use Rattle.vl_ast.specs.Header.{attribute_of};
 ghost use Rattle.vl_emit.specs.Header.{input_port, output_port};
 ghost use Rattle.vl_emit.specs.Header.{input_ports, output_ports, ports_of};
 ghost use Rattle.vl_emit.specs.inner.Ready.{AreReady};
@@ -10,38 +10,55 @@ use hw_net::{NetPort, Netlist};
 use std::alloc::Global;
 use vl_ast::{Attr, Attrs, Port, Ports};
 
-/// An attribute with its number.
-pub fn attribute(alloc: Global, name: &[u8], value: u64) -> Result<Attr, OutOfMemory>
-    ensures { IfOk result (λ attr. attr ≡ attribute_of name.now value) }
+/// Puts an attribute with its number behind the others.
+pub fn put_attribute(
+    alloc: Global,
+    attrs: &mut Attrs,
+    name: &[u8],
+    value: u64,
+) -> Result<(), OutOfMemory>
+    ensures { OnOk result (attrs.new ≡ attrs.old ++ attribute_of name.now value ∷ []) }
 {
     let name = Text::copy(alloc, name)?;
-    Ok(Attr { name, value })
+    attrs.push(Attr { name, value })
 }
 
-fn put_bit_input(alloc: Global, name: &[u8], ports: &mut Ports) -> Result<(), OutOfMemory>
-    ensures { OnOk result (ports.new ≡ ports.old ++ bit_input name.now ∷ []) }
+/// A port without attributes, whose word is its width and whether it has a sign.
+fn bare_port(
+    alloc: Global,
+    name: &[u8],
+    input: bool,
+    word: (u32, bool),
+) -> Result<Port, OutOfMemory>
+    ensures { IfOk result (λ port. port ≡ record {
+      attrs = [];
+      input = input;
+      signed = word.1;
+      width = word.0;
+      name = name.now;
+    }) }
 {
     let name = Text::copy(alloc, name)?;
-    ports.push(Port {
+    Ok(Port {
         attrs: Attrs::new(alloc),
-        input: true,
-        signed: false,
-        width: 1,
+        input,
+        signed: word.1,
+        width: word.0,
         name,
     })
 }
 
-fn put_bit_output(alloc: Global, name: &[u8], ports: &mut Ports) -> Result<(), OutOfMemory>
-    ensures { OnOk result (ports.new ≡ ports.old ++ bit_output name.now ∷ []) }
+/// Puts an unsigned port of one bit behind the others.
+fn put_bit(alloc: Global, name: &[u8], input: bool, ports: &mut Ports) -> Result<(), OutOfMemory>
+    ensures { OnOk result (ports.new ≡ ports.old ++ record {
+      attrs = [];
+      input = input;
+      signed = false;
+      width = 1;
+      name = name.now;
+    } ∷ []) }
 {
-    let name = Text::copy(alloc, name)?;
-    ports.push(Port {
-        attrs: Attrs::new(alloc),
-        input: false,
-        signed: false,
-        width: 1,
-        name,
-    })
+    ports.push(bare_port(alloc, name, input, (1, false))?)
 }
 
 fn input_port(alloc: Global, netlist: &Netlist, port: &NetPort) -> Result<Port, OutOfMemory>
@@ -49,15 +66,25 @@ fn input_port(alloc: Global, netlist: &Netlist, port: &NetPort) -> Result<Port, 
     ensures { IfOk result (λ made. made ≡ input_port netlist.now port.now) }
 {
     let net = &netlist.nets()[port.net as usize];
-    let mut attrs = Attrs::new(alloc);
-    attrs.push(attribute(alloc, b"fx_period", u64::from(port.period))?)?;
-    Ok(Port {
-        attrs,
-        input: true,
-        signed: net.signed,
-        width: u32::from(net.width),
-        name: Text::copy(alloc, port.name.bytes())?,
-    })
+    let word = (u32::from(net.width), net.signed);
+    let mut made = bare_port(alloc, port.name.bytes(), true, word)?;
+    match put_attribute(alloc, &mut made.attrs, b"fx_period", u64::from(port.period)) {
+        Ok(()) => Ok(made),
+        Err(wanting) => {
+            drop(made);
+            Err(wanting)
+        }
+    }
+}
+
+/// Puts the attributes of an output into an empty list.
+fn put_output_attrs(alloc: Global, port: &NetPort, attrs: &mut Attrs) -> Result<(), OutOfMemory>
+    requires { attrs.old ≡ [] }
+    ensures { OnOk result (attrs.new ≡ attribute_of (codes "fx_period") port.now.period
+        ∷ attribute_of (codes "fx_latency") port.now.latency ∷ []) }
+{
+    put_attribute(alloc, attrs, b"fx_period", u64::from(port.period))?;
+    put_attribute(alloc, attrs, b"fx_latency", port.latency)
 }
 
 fn output_port(alloc: Global, netlist: &Netlist, port: &NetPort) -> Result<Port, OutOfMemory>
@@ -65,16 +92,15 @@ fn output_port(alloc: Global, netlist: &Netlist, port: &NetPort) -> Result<Port,
     ensures { IfOk result (λ made. made ≡ output_port netlist.now port.now) }
 {
     let net = &netlist.nets()[port.net as usize];
-    let mut attrs = Attrs::new(alloc);
-    attrs.push(attribute(alloc, b"fx_period", u64::from(port.period))?)?;
-    attrs.push(attribute(alloc, b"fx_latency", port.latency)?)?;
-    Ok(Port {
-        attrs,
-        input: false,
-        signed: net.signed,
-        width: u32::from(net.width),
-        name: Text::copy(alloc, port.name.bytes())?,
-    })
+    let word = (u32::from(net.width), net.signed);
+    let mut made = bare_port(alloc, port.name.bytes(), false, word)?;
+    match put_output_attrs(alloc, port, &mut made.attrs) {
+        Ok(()) => Ok(made),
+        Err(wanting) => {
+            drop(made);
+            Err(wanting)
+        }
+    }
 }
 
 fn put_inputs(alloc: Global, netlist: &Netlist, ports: &mut Ports) -> Result<(), OutOfMemory>
@@ -97,25 +123,16 @@ fn put_outputs(alloc: Global, netlist: &Netlist, ports: &mut Ports) -> Result<()
     Ok(())
 }
 
-fn put_ports(alloc: Global, netlist: &Netlist, ports: &mut Ports) -> Result<(), OutOfMemory>
+/// Puts the clock, the reset, the clock enable, and the ports of a netlist in order, with `ce_out`
+/// before its outputs, behind the others.
+pub fn put_ports(alloc: Global, netlist: &Netlist, ports: &mut Ports) -> Result<(), OutOfMemory>
     requires { AreReady netlist.now }
     ensures { OnOk result (ports.new ≡ ports.old ++ ports_of netlist.now) }
 {
-    put_bit_input(alloc, b"clk", ports)?;
-    put_bit_input(alloc, b"reset", ports)?;
-    put_bit_input(alloc, b"clk_enable", ports)?;
+    put_bit(alloc, b"clk", true, ports)?;
+    put_bit(alloc, b"reset", true, ports)?;
+    put_bit(alloc, b"clk_enable", true, ports)?;
     put_inputs(alloc, netlist, ports)?;
-    put_bit_output(alloc, b"ce_out", ports)?;
+    put_bit(alloc, b"ce_out", false, ports)?;
     put_outputs(alloc, netlist, ports)
-}
-
-/// The clock, the reset, the clock enable, and the ports of a netlist in order, with `ce_out` before
-/// its outputs.
-pub fn module_ports(alloc: Global, netlist: &Netlist) -> Result<Ports, OutOfMemory>
-    requires { AreReady netlist.now }
-    ensures { IfOk result (λ ports. ports ≡ ports_of netlist.now) }
-{
-    let mut ports = Ports::new(alloc);
-    put_ports(alloc, netlist, &mut ports)?;
-    Ok(ports)
 }

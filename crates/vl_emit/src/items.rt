@@ -1,6 +1,6 @@
 //! The items of a netlist's module: declarations, then the drivers of Unit nets, then the other
 //! drivers, then the output ports, then `ce_out`.
-ghost use Rattle.std.specs.Prelude.{◌≡◌, ◌++◌, ◌<◌, ◌∷◌, [], List, map, IfOk, OnOk};
+ghost use Rattle.std.specs.Prelude.{◌≡◌, ◌++◌, ◌<◌, ◌∷◌, [], ℕ, List, map, IfOk, OnOk};
 ghost use Rattle.vl_ast.specs.declared.modules.ModItem.{ModItem};
 ghost use Rattle.vl_ast.specs.declared.modules.ModItem.TheVariants.{Wire, Reg};
 ghost use Rattle.vl_ast.specs.Gated.{gated_item, shows_enable};
@@ -11,7 +11,7 @@ ghost use Rattle.vl_emit.specs.inner.Ready.{all_declared, all_units, all_others,
 
 use crate::conditions::enable;
 use crate::driving::{
-    comb_item, counter_item, held_item, put_bridge, reg_item, reset_item, unit_item,
+    assigned, comb_item, counter_item, enabled_item, put, put_bridge, reg_item, unit_item,
 };
 use crate::operands::{Operand, hold_text, named, text_of};
 use crate::source::{Source, operand};
@@ -20,24 +20,28 @@ use hw_net::NetKind;
 use std::alloc::Global;
 use vl_ast::{ModItem, ModItems};
 
-fn wire(net: Operand, name: Text) -> ModItem
-    ensures { result ≡ Wire net.entry.signed net.entry.width name }
+/// The declaration of a wire, whose name may have wanted memory.
+fn wire(net: Operand, name: Result<Text, OutOfMemory>) -> Result<ModItem, OutOfMemory>
+    ensures { (text : List ℕ) → IfOk name (λ made. made ≡ text)
+        → IfOk result (λ item. item ∷ [] ≡ Wire net.entry.signed net.entry.width text ∷ []) }
 {
-    ModItem::Wire {
+    Ok(ModItem::Wire {
         signed: net.signed,
         width: net.width,
-        name,
-    }
+        name: name?,
+    })
 }
 
-fn reg(net: Operand, name: Text) -> ModItem
-    ensures { result ≡ Reg net.entry.signed net.entry.width name }
+/// The declaration of a register, whose name may have wanted memory.
+fn reg(net: Operand, name: Result<Text, OutOfMemory>) -> Result<ModItem, OutOfMemory>
+    ensures { (text : List ℕ) → IfOk name (λ made. made ≡ text)
+        → IfOk result (λ item. item ∷ [] ≡ Reg net.entry.signed net.entry.width text ∷ []) }
 {
-    ModItem::Reg {
+    Ok(ModItem::Reg {
         signed: net.signed,
         width: net.width,
-        name,
-    }
+        name: name?,
+    })
 }
 
 /// The declarations of a net.
@@ -52,25 +56,17 @@ fn declare(
     ensures { OnOk result (items.new ≡ items.old ++ declarers_in source.entry own) }
 {
     let net = operand(source, own);
-    let name = text_of(alloc, net.called)?;
+    let name = text_of(alloc, net.called);
     match source.netlist.nets()[own].kind {
-        NetKind::Comb { .. } | NetKind::Unit { .. } => items.push(wire(net, name)),
+        NetKind::Comb { .. } | NetKind::Unit { .. } => put(items, wire(net, name)),
         NetKind::Reg { .. } | NetKind::EnReg { .. } | NetKind::Counter { .. } => {
-            items.push(reg(net, name))
+            put(items, reg(net, name))
         }
         NetKind::Bridge { .. } => {
-            items.push(wire(net, name))?;
-            items.push(reg(net, hold_text(alloc, own)?))
+            put(items, wire(net, name))?;
+            put(items, reg(net, hold_text(alloc, own)))
         }
     }
-}
-
-/// Puts an item behind the others, which may have wanted memory.
-fn put(items: &mut ModItems, made: Result<ModItem, OutOfMemory>) -> Result<(), OutOfMemory>
-    ensures { (driven : List ModItem) → IfOk made (λ item. item ∷ [] ≡ driven)
-        → OnOk result (items.new ≡ items.old ++ driven) }
-{
-    items.push(made?)
 }
 
 /// The driver of a Unit net, before those of the others.
@@ -118,22 +114,12 @@ fn drive(alloc: Global, source: Source, items: &mut ModItems, own: usize) -> Res
         NetKind::EnReg {
             frame,
             enable,
-            reset: true,
+            reset,
             first,
             from,
         } => put(
             items,
-            reset_item(alloc, source, own, *frame, *enable, *first, *from),
-        ),
-        NetKind::EnReg {
-            frame,
-            enable,
-            reset: false,
-            first,
-            from,
-        } => put(
-            items,
-            held_item(alloc, source, own, *frame, *enable, *first, *from),
+            enabled_item(alloc, source, own, *frame, *enable, *reset, *first, *from),
         ),
         NetKind::Bridge { frame, live, from } => {
             put_bridge(alloc, source, items, own, *frame, *live, *from)
@@ -176,9 +162,9 @@ fn show_outputs(alloc: Global, source: Source, items: &mut ModItems) -> Result<(
     ensures { OnOk result (items.new ≡ items.old ++ all_shown source.entry) }
 {
     for output in source.netlist.outputs() {
-        let name = Text::copy(alloc, output.name.bytes())?;
-        let value = named(alloc, operand(source, output.net as usize))?;
-        items.push(ModItem::Assign { name, value })?;
+        let name = Text::copy(alloc, output.name.bytes());
+        let value = named(alloc, operand(source, output.net as usize));
+        put(items, assigned(name, value))?;
     }
     Ok(())
 }
@@ -187,22 +173,21 @@ fn show_outputs(alloc: Global, source: Source, items: &mut ModItems) -> Result<(
 fn show_enable(alloc: Global, items: &mut ModItems) -> Result<(), OutOfMemory>
     ensures { OnOk result (items.new ≡ items.old ++ shows_enable ∷ []) }
 {
-    let name = Text::copy(alloc, b"ce_out")?;
-    let value = enable(alloc)?;
-    items.push(ModItem::Assign { name, value })
+    let name = Text::copy(alloc, b"ce_out");
+    let value = enable(alloc);
+    put(items, assigned(name, value))
 }
 
-/// All items, in order.
-pub fn module_items(alloc: Global, source: Source) -> Result<ModItems, OutOfMemory>
-    requires { IsSource source }
-    ensures { IfOk result (λ items. items
+/// Puts all items, in order, into an empty list.
+pub fn put_items(alloc: Global, source: Source, items: &mut ModItems) -> Result<(), OutOfMemory>
+    requires source { IsSource source }
+    requires none { items.old ≡ [] }
+    ensures { OnOk result (items.new
         ≡ map gated_item (items_of (circuit_of source.entry) ++ shows_enable ∷ [])) }
 {
-    let mut items = ModItems::new(alloc);
-    declare_all(alloc, source, &mut items)?;
-    drive_units(alloc, source, &mut items)?;
-    drive_others(alloc, source, &mut items)?;
-    show_outputs(alloc, source, &mut items)?;
-    show_enable(alloc, &mut items)?;
-    Ok(items)
+    declare_all(alloc, source, items)?;
+    drive_units(alloc, source, items)?;
+    drive_others(alloc, source, items)?;
+    show_outputs(alloc, source, items)?;
+    show_enable(alloc, items)
 }

@@ -3,18 +3,18 @@ use Rattle.hw_net.specs.declared.netlist.Net.{Net}
 use Rattle.hw_net.specs.declared.netlist.NetLabel.{NetLabel}
 use Rattle.vl_emit.specs.inner.Ready.{IsIndex}
 use Rattle.vl_emit.proofs.Sounds.{netlist-ready}
-use Rattle.vl_emit.proofs.emission.module_of.Goals as goal
+use Rattle.vl_emit.proofs.emission.fill.Goals as goal
+
+pub put_ports-requires : goal.put_ports-requires
+put_ports-requires c = netlist-ready c.args.netlist.now c.requires.runs c.requires.counters
 
 pub label_places-requires : goal.label_places-requires
 label_places-requires c =
     λ label d. subst (λ (l : List Net). label.net < length l) (sym c.nets.ensures)
     (c.requires.labels label (subst (λ (l : List NetLabel). Contains l label) c.labels.ensures d))
 
-pub module_ports-requires : goal.module_ports-requires
-module_ports-requires c = netlist-ready c.args.netlist.now c.requires.runs c.requires.counters
-
-pub module_items-requires : goal.module_items-requires
-module_items-requires c =
+pub put_items-put-requires-clause-source : goal.put_items-put-requires-clause-source
+put_items-put-requires-clause-source c =
     let a = subst (λ (l : List NetLabel). IsIndex l (length c.nets.result.now) c.in_ok-labels.labels.items) c.labels.ensures c.in_ok-labels.ensures in
     let b = subst (λ (l : List Net). IsIndex c.args.netlist.now.labels (length l) c.in_ok-labels.labels.items) c.nets.ensures a in
     record {

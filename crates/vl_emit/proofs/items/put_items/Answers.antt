@@ -1,0 +1,10 @@
+use Rattle.std.proofs.lemmas.Result.{on_ok_weaker}
+use Rattle.vl_emit.specs.inner.Ready.{circuit_of}
+use Rattle.vl_emit.proofs.Opened.{items-put}
+use Rattle.vl_emit.proofs.items.put_items.Goals as goal
+
+pub returns : goal.returns
+returns c =
+    on_ok_weaker c.show_enable.result
+    (λ enable. items-put (circuit_of c.args.source) _ _ _ _ _ _ c.requires.none c.in_ok-declare_all.ensures c.in_ok-drive_units.ensures c.in_ok-drive_others.ensures c.in_ok-show_outputs.ensures enable)
+    c.show_enable.ensures
