@@ -45,6 +45,7 @@ mod FullyTyped
 mod Gathered
 mod Going
 mod Growth
+mod Handed
 mod Handing
 mod Injecting
 mod Keeping

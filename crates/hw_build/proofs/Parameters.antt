@@ -113,6 +113,27 @@ second_type diagram block b criterion threshold types default checked at is same
     let three : b.inputs ≡ 3 = (subst (λ (k : Kind). HasPorts k b.inputs b.outputs) is (readable diagram block b checked at).ports).0 in
     ap (λ (list : List FxType). slice_index_or list 1 default) (same ∙ ap (types_into diagram (attributes_of diagram) block) three)
 
+-- how many types there are
+pub three_types : (diagram : Diagram) (block : ℕ) (b : Block) (criterion : Criterion) (threshold : List Decimal) (types : List FxType) → IsChecked diagram → slice_get diagram.blocks block ≡ Some b → b.kind ≡ Switch criterion threshold
+    → types ≡ types_into diagram (attributes_of diagram) block b.inputs → length types ≡ 3
+three_types diagram block b criterion threshold types checked at is same =
+    let three : b.inputs ≡ 3 = (subst (λ (k : Kind). HasPorts k b.inputs b.outputs) is (readable diagram block b checked at).ports).0 in
+    ap (λ (list : List FxType). length list) (same ∙ ap (types_into diagram (attributes_of diagram) block) three)
+
+pub one_type : (diagram : Diagram) (block : ℕ) (b : Block) (types : List FxType) → IsChecked diagram → slice_get diagram.blocks block ≡ Some b → b.kind ≡ EnableTest
+    → types ≡ types_into diagram (attributes_of diagram) block b.inputs → length types ≡ 1
+one_type diagram block b types checked at is same =
+    let one : b.inputs ≡ 1 = (subst (λ (k : Kind). HasPorts k b.inputs b.outputs) is (readable diagram block b checked at).ports).0 in
+    ap (λ (list : List FxType). length list) (same ∙ ap (types_into diagram (attributes_of diagram) block) one)
+
+-- a Terminator shows nothing
+pub shows_none : (diagram : Diagram) (block : ℕ) (b : Block) (port element : ℕ) → IsChecked diagram → IsShown diagram (attributes_of diagram) block b port element → b.kind ≡ Terminator → ⊥
+shows_none diagram block b port element checked shown is =
+    let none : b.outputs ≡ 0 = (subst (λ (k : Kind). HasPorts k b.inputs b.outputs) is (readable diagram block b checked shown.block_is).ports).1 in
+    let last : port ≤ b.outputs = subst (λ (k : Kind). port ≤ shown_ports k b.outputs) is shown.port_to in
+    let from = shown.port_from in
+    omega (arith, none, last, from)
+
 -- nets of the words of types are there
 pub args_there : (net : Circuit) (types : List FxType) (operands : List ℕ) → AreArgs net types operands → All (λ operand. operand < length net.nets) operands
 args_there net types operands are k d within =

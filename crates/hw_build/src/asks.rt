@@ -112,8 +112,7 @@ pub fn ask_registered(
         }))) }
 {
     let feed = late_feed(hub, frame, first);
-    ask_later(asks, Want { feed, to })?;
-    Ok(())
+    ask_later(asks, Want { feed, to })
 }
 
 /// The nets of asks, where those of the wants have these numbers.

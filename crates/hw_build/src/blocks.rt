@@ -66,8 +66,7 @@ fn put_one<'a>(
     design.checked.keeps_rules();
     if let Some(product) = setting.products.at(place.block, place.element) {
         let full = full_type(design.checked, place.block, one);
-        let entry = put_shared(alloc, net, design, place, one, full, product)?;
-        return Ok(entry);
+        return put_shared(alloc, net, design, place, one, full, product);
     }
     let operands = operands_of(alloc, setting, place, one, inputs)?;
     let site = Site {
@@ -76,8 +75,9 @@ fn put_one<'a>(
         one,
         operands: operands.as_slice(),
     };
-    let entry = put_entry(alloc, net, site, inputs.types.as_slice())?;
-    Ok(entry)
+    let entry = put_entry(alloc, net, site, inputs.types.as_slice());
+    drop(operands);
+    entry
 }
 
 /// Names the multiplication of an element of a block, if it has one of its own.
@@ -95,8 +95,7 @@ fn name_product(
     let Some(number) = multiply else {
         return Ok(());
     };
-    label_product(alloc, net, number, block, element)?;
-    Ok(())
+    label_product(alloc, net, number, block, element)
 }
 
 /// Puts in an element of a block with its pipeline and its net.
@@ -135,8 +134,7 @@ fn put_element<'a>(
         entry.net,
         entry.state,
     )?;
-    name_product(alloc, net, place.block, place.element, entry.multiply)?;
-    Ok(())
+    name_product(alloc, net, place.block, place.element, entry.multiply)
 }
 
 /// Puts in the elements of a block at a port, from 1.

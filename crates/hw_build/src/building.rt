@@ -102,9 +102,39 @@ fn put_ports<'a>(
     dg_model::root_elements_are_listed();
     hw_sched::periods_are_above();
     let mut names = Names::new(alloc)?;
-    put_inputs(alloc, net, &mut names, design.checked, firsts, inputs)?;
-    put_outputs(alloc, net, &mut names, design, firsts, outputs)?;
-    Ok(())
+    match put_inputs(alloc, net, &mut names, design.checked, firsts, inputs) {
+        Ok(()) => {
+            let put = put_outputs(alloc, net, &mut names, design, firsts, outputs);
+            drop(names);
+            put
+        }
+        Err(wanting) => {
+            drop(names);
+            Err(wanting)
+        }
+    }
+}
+
+/// Puts in all nets and then all ports, whose blocks these are.
+fn put_netlist<'a>(
+    alloc: Global,
+    net: &mut Netlist,
+    design: Design<'a>,
+    inputs: &[u32],
+    outputs: &[u32],
+) -> Result<(), OutOfMemory>
+    requires designed { IsDesigned design }
+    requires slots { HasSlots design }
+    requires small { IsSmall design }
+    requires empty { IsEmptyFor design net.old }
+    requires inputs { AreInputBlocks design inputs.now }
+    requires outputs { AreOutputBlocks design outputs.now }
+    ensures { OnOk result (IsDoneFor design.entry net.new) }
+{
+    let firsts = put_nets(alloc, net, design, inputs)?;
+    let put = put_ports(alloc, net, design, &firsts, inputs, outputs);
+    drop(firsts);
+    put
 }
 
 /// Puts all nets and ports into an empty netlist.
@@ -116,16 +146,17 @@ fn put_all<'a>(alloc: Global, net: &mut Netlist, design: Design<'a>) -> Result<(
     ensures { OnOk result (IsDoneFor design.entry net.new) }
 {
     let inputs = input_blocks(alloc, design.checked)?;
-    let outputs = output_blocks(alloc, design.checked)?;
-    let firsts = put_nets(alloc, net, design, inputs.as_slice())?;
-    put_ports(
-        alloc,
-        net,
-        design,
-        &firsts,
-        inputs.as_slice(),
-        outputs.as_slice(),
-    )
+    let outputs = match output_blocks(alloc, design.checked) {
+        Ok(outputs) => outputs,
+        Err(wanting) => {
+            drop(inputs);
+            return Err(wanting);
+        }
+    };
+    let put = put_netlist(alloc, net, design, inputs.as_slice(), outputs.as_slice());
+    drop(outputs);
+    drop(inputs);
+    put
 }
 
 /// The netlist of a design that keeps the rule of size.

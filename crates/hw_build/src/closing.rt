@@ -38,6 +38,5 @@ pub fn close<'a>(
     };
     let piped = put_pipeline(alloc, net, design, block, element, entry)?;
     net.connect(alloc, hub, piped.end)?;
-    spots.put(entry, state, piped.begin)?;
-    Ok(())
+    spots.put(entry, state, piped.begin)
 }

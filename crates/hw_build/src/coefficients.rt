@@ -70,8 +70,7 @@ pub fn second_of(
     match one.kind.list() {
         Some(coefficients) => {
             let kind = checked.param(block);
-            let number = put_coefficient(alloc, net, coefficients, element, kind)?;
-            Ok(number)
+            put_coefficient(alloc, net, coefficients, element, kind)
         }
         None => Ok(operands.at(checked, block, 2, element)),
     }

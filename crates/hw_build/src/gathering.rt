@@ -56,16 +56,14 @@ fn line_end<'a>(
     let first = hubs.at(edge.from, edge.from_port);
     let width = checked.width(edge.from, edge.from_port);
     let Some(period) = checked.period(edge.from) else {
-        ask_signal(asks, first, width)?;
-        return Ok(());
+        return ask_signal(asks, first, width);
     };
     let own = samples(checked.period(edge.to));
     if is_registered(one, own, period) {
-        late_end(asks, design, edge, one, first, width, period, own)?;
+        late_end(asks, design, edge, one, first, width, period, own)
     } else {
-        plain_end(asks, design, edge, first, width, period, own)?;
+        plain_end(asks, design, edge, first, width, period, own)
     }
-    Ok(())
 }
 
 /// Asks for what enables a block, if anything does.
@@ -88,12 +86,10 @@ fn control_end<'a>(
     };
     let hub = hubs.at(control, 1);
     let Some(period) = checked.period(control) else {
-        ask_signal(asks, hub, 1)?;
-        return Ok(());
+        return ask_signal(asks, hub, 1);
     };
     let own = samples(checked.period(block));
-    enable_end(asks, design, control, block, hub, period, own)?;
-    Ok(())
+    enable_end(asks, design, control, block, hub, period, own)
 }
 
 /// The span between two numbers.

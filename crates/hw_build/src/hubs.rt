@@ -199,8 +199,9 @@ pub fn hubs_of(
     put_inputs(alloc, net, checked, inputs)?;
     let columns = columns_of(alloc, checked.diagram().blocks.as_slice().len(), inputs)?;
     let firsts = put_blocks(alloc, net, checked, columns.as_slice())?;
-    let widths = PortWidths::of(alloc, &firsts)?;
-    Ok(widths)
+    let widths = PortWidths::of(alloc, &firsts);
+    drop(firsts);
+    widths
 }
 
 /// The net of an element at a port, from 1, of a block.

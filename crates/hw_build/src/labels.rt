@@ -1,5 +1,5 @@
 //! The names of nets.
-ghost use Rattle.std.specs.Prelude.{◌≡◌, ◌++◌, ◌∷◌, [], IfOk, OnOk};
+ghost use Rattle.std.specs.Prelude.{◌≡◌, ◌++◌, ◌∷◌, [], codes, decimal, IfOk, OnOk};
 ghost use Rattle.hw_build.specs.Multiplied.{multiplication_name};
 ghost use Rattle.hw_build.specs.Pipelined.{stage_name as stage_name_of};
 
@@ -8,16 +8,23 @@ use hw_names::put_number;
 use hw_net::{NetLabel, Netlist};
 use std::alloc::Global;
 
+/// Puts the number of a block and that of its element behind a name.
+fn put_element(name: &mut Vec<u8>, block: u32, element: u32) -> Result<(), OutOfMemory>
+    ensures { OnOk result (name.new.items
+        ≡ name.old.items ++ (decimal block ++ (codes "_" ++ decimal element))) }
+{
+    put_number(name, block)?;
+    name.push(b'_')?;
+    put_number(name, element)
+}
+
 /// The name of the multiplication of an element of a block.
 fn product_name(alloc: Global, block: u32, element: u32) -> Result<Text, OutOfMemory>
     ensures { IfOk result (λ name. name ≡ multiplication_name block element) }
 {
     let mut name = Vec::from_slice(alloc, b"fx_m")?;
-    put_number(&mut name, block)?;
-    name.push(b'_')?;
-    put_number(&mut name, element)?;
-    let text = Text::from_vec(alloc, name)?;
-    Ok(text)
+    put_element(&mut name, block, element)?;
+    Text::from_vec(alloc, name)
 }
 
 /// The name of a register of the pipeline of an element of a block, by its number from 1.
@@ -25,13 +32,10 @@ fn stage_name(alloc: Global, block: u32, element: u32, stage: u32) -> Result<Tex
     ensures { IfOk result (λ name. name ≡ stage_name_of block element stage) }
 {
     let mut name = Vec::from_slice(alloc, b"fx_p")?;
-    put_number(&mut name, block)?;
-    name.push(b'_')?;
-    put_number(&mut name, element)?;
+    put_element(&mut name, block, element)?;
     name.push(b'_')?;
     put_number(&mut name, stage)?;
-    let text = Text::from_vec(alloc, name)?;
-    Ok(text)
+    Text::from_vec(alloc, name)
 }
 
 /// Names the multiplication of an element of a block.
@@ -48,8 +52,7 @@ pub fn label_product(
     }) }
 {
     let name = product_name(alloc, block, element)?;
-    net.add_label(NetLabel { net: number, name })?;
-    Ok(())
+    net.add_label(NetLabel { net: number, name })
 }
 
 /// Names a register of the pipeline of an element of a block, by its number from 1.
@@ -67,6 +70,5 @@ pub fn label_stage(
     }) }
 {
     let name = stage_name(alloc, block, element, stage)?;
-    net.add_label(NetLabel { net: number, name })?;
-    Ok(())
+    net.add_label(NetLabel { net: number, name })
 }

@@ -1,6 +1,7 @@
 use Rattle.std.proofs.Common.{rules, ◌∙◌, ◌<◌, ◌^◌}
 use Rattle.std.proofs.lemmas.Option.{slice_get_within}
 use Rattle.hw_build.proofs.Looped.{element_waits, element_reached}
+use Rattle.std.proofs.lemmas.Result.{on_ok_weaker}
 use Rattle.hw_build.proofs.blocks.put_element.Goals as goal
 
 pub close-requires-clause-there : goal.close-requires-clause-there
@@ -18,5 +19,7 @@ pub returns : goal.returns
 returns c =
     let small_block : c.args.place.block < 2 ^ 64 = search rules in
     let small_element : c.args.place.element < 2 ^ 64 = search rules in
-    element_reached c.args.setting c.root_elements_are_listed.ensures.inputs c.operations_prepare.ensures.types c.periods_are_above.ensures.above (record { checked = c.keeps_rules.ensures.checked; ordered = c.keeps_rules.ensures.ordered }) c.requires.set
-    c.args.place.block c.args.one.now c.args.place.port c.args.place.element c.requires.shown c.requires.other c.args.net.now c.put_one.new.net c.close.new.net c.name_product.new.net c.args.spots.now c.close.new.spots c.in_ok-entry.entry c.requires.before c.in_ok-entry.ensures c.in_ok-close.ensures c.in_ok-name_product.ensures small_block small_element
+    on_ok_weaker c.name_product.result
+    (λ named. element_reached c.args.setting c.root_elements_are_listed.ensures.inputs c.operations_prepare.ensures.types c.periods_are_above.ensures.above (record { checked = c.keeps_rules.ensures.checked; ordered = c.keeps_rules.ensures.ordered }) c.requires.set
+    c.args.place.block c.args.one.now c.args.place.port c.args.place.element c.requires.shown c.requires.other c.args.net.now c.put_one.new.net c.close.new.net c.name_product.new.net c.args.spots.now c.close.new.spots c.in_ok-entry.entry c.requires.before c.in_ok-entry.ensures c.in_ok-close.ensures named small_block small_element)
+    c.name_product.ensures

@@ -1,4 +1,4 @@
-use Rattle.std.proofs.Common.{ap}
+use Rattle.std.proofs.Common.{ap, length}
 use Rattle.hw_net.specs.Circuit.{Circuit}
 use Rattle.hw_build.specs.inner.Designed.{times_for}
 use Rattle.hw_build.proofs.Assembling.{words_stand, steps_begin, steps_set, steps_fill}
@@ -23,3 +23,21 @@ returns-in-Ok-spots c =
 
 pub put_elements-spots-requires-clause-set : goal.put_elements-spots-requires-clause-set
 put_elements-spots-requires-clause-set c = steps_set _ c.args.net.now c.hubs_of.new.net c.requires.designed c.in_ok-firsts.ensures c.in-Ok-products_of.ensures.which
+
+pub hubs_of-requires-clause-are : goal.hubs_of-requires-clause-are
+hubs_of-requires-clause-are c = c.requires.inputs
+
+pub hubs_of-requires-clause-none : goal.hubs_of-requires-clause-none
+hubs_of-requires-clause-none c = ap (λ (netlist : Circuit). length netlist.nets) c.requires.empty
+
+pub put_lines-requires-clause-designed : goal.put_lines-requires-clause-designed
+put_lines-requires-clause-designed c = c.requires.designed
+
+pub put_lines-requires-clause-hubs : goal.put_lines-requires-clause-hubs
+put_lines-requires-clause-hubs c = (c.args.net.now, c.in_ok-firsts.ensures)
+
+pub products_of-requires-clause-designed : goal.products_of-requires-clause-designed
+products_of-requires-clause-designed c = c.requires.designed
+
+pub products_of-requires-clause-slots : goal.products_of-requires-clause-slots
+products_of-requires-clause-slots c = c.requires.slots

@@ -2,6 +2,7 @@ use Rattle.std.proofs.Common.{◌≡◌, ◌∙◌, ℕ, List, length, ap, sym, 
 use Rattle.hw_net.specs.Growing.{IsConnected, IsResize}
 use Rattle.hw_build.specs.inner.Designed.{timing_for}
 use Rattle.hw_build.proofs.Piping.{resize_kept}
+use Rattle.std.proofs.lemmas.Result.{on_ok_weaker}
 use Rattle.hw_build.proofs.closing.close.Goals as goal
 
 pub connect-requires : goal.connect-requires
@@ -14,8 +15,10 @@ connect-requires c =
 pub returns : goal.returns
 returns c =
     let hub : c.in-Ok.hub ≡ length c.args.spots.now.entries = c.in-Ok.ensures.1 ∙ ap (λ (xs : List ℕ). length xs) c.as_slice.ensures in
-    record {
+    on_ok_weaker c.put.result
+    (λ kept. record {
       piped = c.in_ok-piped.piped;
       closed = record { middle = c.put_pipeline.new.net; put = c.in_ok-piped.ensures; connected = subst (λ (k : ℕ). IsConnected c.put_pipeline.new.net c.connect.new.self k c.in_ok-piped.piped.end) hub c.in_ok-connect.ensures.connected };
-      kept = c.in_ok-put.ensures;
-    }
+      kept = kept;
+    })
+    c.put.ensures

@@ -1,4 +1,4 @@
-use Rattle.std.proofs.Common.{ℕ, List, [], length, sym, subst, arith, ◌≡◌, ◌∷◌, All}
+use Rattle.std.proofs.Common.{ℕ, List, [], length, sym, subst, arith, ◌≡◌, ◌∷◌, All, IfOk}
 use Rattle.fx_type.specs.declared.decimal.Decimal.{Decimal}
 use Rattle.fx_type.specs.declared.kind.FxType.{FxType}
 use Rattle.fx_type.specs.FxType.{IsType}
@@ -26,12 +26,12 @@ put_coefficient-requires-clause-there c =
     let lists = subst (λ (lists : List (List Decimal)). All (λ (list : List Decimal). IsRepeated width (length list)) lists) has fit.1 in
     reads_there (length c.in-Some.coefficients.now) width c.args.element (lists 0 [] (omega arith)) c.requires.element
 
-pub returns-in_ok-number-in-Some-clause-is : goal.returns-in_ok-number-in-Some-clause-is
-returns-in_ok-number-in-Some-clause-is c =
+pub returns-in-Some-clause-is : goal.returns-in-Some-clause-is
+returns-in-Some-clause-is c =
     let has : (row_of c.args.one.now.kind).signal.lists ≡ c.in-Some.coefficients.now ∷ [] = rw c.in-Some.is at c.list.ensures in
     let rule = scaled_by c.args.one.now.kind c.in-Some.coefficients.now c.requires.multiplies has in
-    subst (λ (rule : FullRule). IsSecond c.args.checked.now.diagram (offered_at c.args.checked.now.diagram c.args.operands.now) c.args.net.now c.put_coefficient.new.net c.args.block c.args.element rule c.in_ok-number-in-Some.number) (sym rule.1)
-    (subst (λ (type : FxType). IsCoefficient c.args.net.now c.put_coefficient.new.net c.in-Some.coefficients.now c.args.element type c.in_ok-number-in-Some.number) c.param-kind.ensures c.in_ok-number-in-Some.ensures.is)
+    subst (λ (rule : FullRule). IfOk c.put_coefficient.result (λ number. IsSecond c.args.checked.now.diagram (offered_at c.args.checked.now.diagram c.args.operands.now) c.args.net.now c.put_coefficient.new.net c.args.block c.args.element rule number)) (sym rule.1)
+    (subst (λ (type : FxType). IfOk c.put_coefficient.result (λ number. IsCoefficient c.args.net.now c.put_coefficient.new.net c.in-Some.coefficients.now c.args.element type number)) c.param-kind.ensures c.put_coefficient.ensures.is)
 
 pub returns-in-None-clause-is : goal.returns-in-None-clause-is
 returns-in-None-clause-is c =
@@ -44,5 +44,5 @@ returns-in-None-clause-adds c = adds_none c.args.net.now
 pub param-kind-requires : goal.param-kind-requires
 param-kind-requires c = slice_get_within c.args.checked.now.diagram.blocks c.args.block c.args.one.now c.requires.block
 
-pub returns-in_ok-number-in-Some-clause-adds : goal.returns-in_ok-number-in-Some-clause-adds
-returns-in_ok-number-in-Some-clause-adds c = c.in_ok-number-in-Some.ensures.adds
+pub returns-in-Some-clause-adds : goal.returns-in-Some-clause-adds
+returns-in-Some-clause-adds c = c.put_coefficient.ensures.adds

@@ -4,6 +4,7 @@ use Rattle.dg_model.specs.declared.kind.Kind.TheVariants.{Constant, Gain, Switch
 use Rattle.dg_model.specs.Attributes.{attributes_of}
 use Rattle.dg_model.specs.Wires.{period_into}
 use Rattle.hw_build.specs.inner.Entries.{hands_on, works_plainly}
+use Rattle.hw_build.proofs.Parameters.{shows_none}
 use Rattle.hw_build.proofs.entries.put_entry.Goals as goal
 
 pub handed-requires-clause-hands : goal.handed-requires-clause-hands
@@ -157,3 +158,7 @@ returns-in-EnOut c = c.passed_out.ensures
 
 pub returns-in-Inport : goal.returns-in-Inport
 returns-in-Inport c = c.handed.ensures
+
+pub unreachable-unreachable : goal.unreachable-unreachable
+unreachable-unreachable c =
+    shows_none c.args.site.design.checked.now.diagram c.args.site.place.block c.args.site.one.now c.args.site.place.port c.args.site.place.element c.requires.designed.scheduled.checked c.requires.shown c.in-Terminator.is

@@ -9,6 +9,7 @@ use Rattle.dg_model.specs.Library.{row_of}
 use Rattle.dg_model.specs.Wires.{entry_of}
 use Rattle.hw_sched.specs.Chained.{first_list, stored_in}
 use Rattle.hw_build.specs.inner.Operands.{or_zero, first_of_block}
+use Rattle.std.proofs.lemmas.Option.{slice_get_within}
 use Rattle.hw_build.proofs.firsts.first_entry.Goals as goal
 
 pub stored_entry-requires : goal.stored_entry-requires
@@ -25,3 +26,9 @@ returns c =
     ∙ ap (λ (list : List Decimal). or_zero (stored_in ((attributes_of c.args.checked.now.diagram).type_at c.args.block 1) (entry_of list c.min.result))) c.list_of.ensures
     ∙ ap (λ (n : ℕ). or_zero (stored_in ((attributes_of c.args.checked.now.diagram).type_at c.args.block 1) (entry_of (first_list (row_of c.args.one.now.kind).signal.lists) n))) last
     ∙ ap (first_of_block c.args.checked.now.diagram c.args.block c.args.element) (sym c.requires)
+
+pub own_width-requires : goal.own_width-requires
+own_width-requires c = record { there = slice_get_within c.args.checked.now.diagram.blocks c.args.block c.args.one.now c.requires }
+
+pub result-requires : goal.result-requires
+result-requires c = slice_get_within c.args.checked.now.diagram.blocks c.args.block c.args.one.now c.requires

@@ -3,6 +3,7 @@ use Rattle.dg_model.specs.Attributes.{attributes_of}
 use Rattle.hw_latency.specs.Control.{control_ever}
 use Rattle.hw_latency.specs.Weight.{samples}
 use Rattle.hw_build.proofs.ControlWants.{control_feeds, control_put, control_inside, control_there, control_behind, control_period, still_control, moving_control}
+use Rattle.std.proofs.lemmas.Result.{on_ok_weaker}
 use Rattle.hw_build.proofs.gathering.control_end.Goals as goal
 
 pub at-hub-requires-clause-there : goal.at-hub-requires-clause-there
@@ -19,9 +20,11 @@ pub returns-in_default-period : goal.returns-in_default-period
 returns-in_default-period c =
     let is : control_ever c.block_at.result.now ≡ Some c.in-Some.control = sym c.control_of.ensures ∙ c.in-Some.is in
     let feeds = control_feeds c.args.design.checked.now.diagram c.args.block c.block_at.result.now c.in-Some.control is in
-    control_put c.ends_are_lawful.ensures c.args.block c.block_at.result.now c.block_at.ensures c.args.asks.now c.ask_signal.new.asks (Some c.in-Some.control) is
+    on_ok_weaker c.ask_signal.result
+    (λ put. control_put c.ends_are_lawful.ensures c.args.block c.block_at.result.now c.block_at.ensures c.args.asks.now c.ask_signal.new.asks (Some c.in-Some.control) is
     (still_control c.ends_are_lawful.ensures c.args.block c.in-Some.control c.block_at.result.now c.block_at.ensures feeds c.args.asks.now.list.items c.ask_signal.new.asks.list.items c.args.asks.now.wants.items c.ask_signal.new.asks.wants.items c.at-hub.result
-    (sym c.period.ensures ∙ c.in_default-period.is) c.at-hub.ensures c.in_ok-ask_signal.ensures)
+    (sym c.period.ensures ∙ c.in_default-period.is) c.at-hub.ensures put))
+    c.ask_signal.ensures
 
 pub enable_end-requires-clause-control : goal.enable_end-requires-clause-control
 enable_end-requires-clause-control c =
@@ -39,6 +42,8 @@ returns c =
     let feeds = control_feeds c.args.design.checked.now.diagram c.args.block c.block_at.result.now c.in-Some.control is in
     let moves : (attributes_of c.args.design.checked.now.diagram).period_at c.in-Some.control ≡ Some c.in-Some-period.period = sym c.period.ensures ∙ c.in-Some-period.is in
     let own = control_period c.ends_are_lawful.ensures c.args.block c.in-Some.control c.block_at.result.now c.block_at.ensures feeds c.in-Some-period.period moves c.samples-own.result (c.samples-own.ensures ∙ ap samples c.period-2.ensures) in
-    control_put c.ends_are_lawful.ensures c.args.block c.block_at.result.now c.block_at.ensures c.args.asks.now c.enable_end.new.asks (Some c.in-Some.control) is
+    on_ok_weaker c.enable_end.result
+    (λ put. control_put c.ends_are_lawful.ensures c.args.block c.block_at.result.now c.block_at.ensures c.args.asks.now c.enable_end.new.asks (Some c.in-Some.control) is
     (moving_control c.ends_are_lawful.ensures c.args.block c.in-Some.control c.block_at.result.now c.block_at.ensures feeds c.in-Some-period.period moves c.args.asks.now.list.items c.enable_end.new.asks.list.items c.args.asks.now.wants.items c.enable_end.new.asks.wants.items
-    c.at-hub.result c.samples-own.result own c.at-hub.ensures c.in_ok-enable_end.ensures)
+    c.at-hub.result c.samples-own.result own c.at-hub.ensures put))
+    c.enable_end.ensures

@@ -3,11 +3,12 @@ use Rattle.std.proofs.lemmas.Option.{slice_get_within}
 use Rattle.dg_model.specs.Attributes.{attributes_of}
 use Rattle.dg_model.specs.LatencyEdges.{signal_edge}
 use Rattle.dg_model.specs.Solves.{shown_ports}
-use Rattle.dg_sort.proofs.Lines.{from_there}
+use Rattle.dg_sort.proofs.Lines.{from_there, to_there}
 use Rattle.hw_sched.proofs.Widths.{source_there}
 use Rattle.hw_latency.specs.Weight.{samples}
 use Rattle.hw_build.proofs.PutLine.{still_line, plain_line, late_line, asked, period_by, late_fits, line_put, hub_there, hubs_fit}
 use Rattle.hw_build.proofs.Putting.{nothing_put}
+use Rattle.std.proofs.lemmas.Result.{on_ok_weaker}
 use Rattle.hw_build.proofs.gathering.line_end.Goals as goal
 
 pub returns-then-shown_ports-eq0 : goal.returns-then-shown_ports-eq0
@@ -41,8 +42,10 @@ pub returns-in_default : goal.returns-in_default
 returns-in_default c =
     let differs = c.if-shown_ports-eq0.false in
     let is = c.shown_ports.ensures in
-    line_put c.ends_are_lawful.ensures c.args.edge c.block_at-one.result.now c.block_at-one.ensures c.args.asks.now c.ask_signal.new.asks
-    (still_line c.ends_are_lawful.ensures c.requires.line.0 c.args.edge c.block_at-one.result.now c.requires.line.1 c.block_at-one.ensures (omega (arith, differs, is)) c.args.asks.now.list.items c.ask_signal.new.asks.list.items c.args.asks.now.wants.items c.ask_signal.new.asks.wants.items c.at-first.result c.width-width.result (sym c.period.ensures ∙ c.in_default.is) c.at-first.ensures c.width-width.ensures c.in_ok-ask_signal.ensures)
+    on_ok_weaker c.ask_signal.result
+    (λ put. line_put c.ends_are_lawful.ensures c.args.edge c.block_at-one.result.now c.block_at-one.ensures c.args.asks.now c.ask_signal.new.asks
+    (still_line c.ends_are_lawful.ensures c.requires.line.0 c.args.edge c.block_at-one.result.now c.requires.line.1 c.block_at-one.ensures (omega (arith, differs, is)) c.args.asks.now.list.items c.ask_signal.new.asks.list.items c.args.asks.now.wants.items c.ask_signal.new.asks.wants.items c.at-first.result c.width-width.result (sym c.period.ensures ∙ c.in_default.is) c.at-first.ensures c.width-width.ensures put))
+    c.ask_signal.ensures
 
 pub period-requires-2 : goal.period-requires-2
 period-requires-2 c = slice_get_within c.args.design.checked.now.diagram.blocks c.args.edge.to c.block_at-one.result.now c.block_at-one.ensures
@@ -98,20 +101,51 @@ plain_end-requires-clause-fits c =
     let is = c.shown_ports.ensures in
     hubs_fit c.ends_are_lawful.ensures c.requires.line.0 c.args.edge c.block_at-one.result.now c.requires.line.1 c.block_at-one.ensures (omega (arith, differs, is)) c.at-first.result c.width-width.result c.at-first.ensures c.width-width.ensures c.at-first.type_inv
 
-pub returns-in_ok-late_end : goal.returns-in_ok-late_end
-returns-in_ok-late_end c =
+pub returns-then-is_registered : goal.returns-then-is_registered
+returns-then-is_registered c =
     let differs = c.if-shown_ports-eq0.false in
     let is = c.shown_ports.ensures in
     let moves : (attributes_of c.args.design.checked.now.diagram).period_at c.args.edge.from ≡ Some c.in-Some.period = sym c.period.ensures ∙ c.in-Some.is in
     let own : (attributes_of c.args.design.checked.now.diagram).period_at c.args.edge.to ≡ Some c.samples-own.result = period_by c.ends_are_lawful.ensures c.requires.line.0 c.args.edge c.block_at-one.result.now c.requires.line.1 c.block_at-one.ensures (omega (arith, differs, is)) c.in-Some.period c.samples-own.result moves (c.samples-own.ensures ∙ ap samples c.period-2.ensures) in
-    line_put c.ends_are_lawful.ensures c.args.edge c.block_at-one.result.now c.block_at-one.ensures c.args.asks.now c.late_end.new.asks
-    (late_line c.ends_are_lawful.ensures c.requires.line.0 c.args.edge c.block_at-one.result.now c.requires.line.1 c.block_at-one.ensures (omega (arith, differs, is)) c.in-Some.period moves c.args.asks.now.list.items c.late_end.new.asks.list.items c.args.asks.now.wants.items c.late_end.new.asks.wants.items c.at-first.result c.width-width.result c.samples-own.result own (sym c.is_registered.ensures ∙ c.if-is_registered.true) c.at-first.ensures c.width-width.ensures c.in_ok-late_end.ensures)
+    on_ok_weaker c.late_end.result
+    (λ put. line_put c.ends_are_lawful.ensures c.args.edge c.block_at-one.result.now c.block_at-one.ensures c.args.asks.now c.late_end.new.asks
+    (late_line c.ends_are_lawful.ensures c.requires.line.0 c.args.edge c.block_at-one.result.now c.requires.line.1 c.block_at-one.ensures (omega (arith, differs, is)) c.in-Some.period moves c.args.asks.now.list.items c.late_end.new.asks.list.items c.args.asks.now.wants.items c.late_end.new.asks.wants.items c.at-first.result c.width-width.result c.samples-own.result own (sym c.is_registered.ensures ∙ c.if-is_registered.true) c.at-first.ensures c.width-width.ensures put))
+    c.late_end.ensures
 
-pub returns-in_ok-plain_end : goal.returns-in_ok-plain_end
-returns-in_ok-plain_end c =
+pub returns-else-is_registered : goal.returns-else-is_registered
+returns-else-is_registered c =
     let differs = c.if-shown_ports-eq0.false in
     let is = c.shown_ports.ensures in
     let moves : (attributes_of c.args.design.checked.now.diagram).period_at c.args.edge.from ≡ Some c.in-Some.period = sym c.period.ensures ∙ c.in-Some.is in
     let own : (attributes_of c.args.design.checked.now.diagram).period_at c.args.edge.to ≡ Some c.samples-own.result = period_by c.ends_are_lawful.ensures c.requires.line.0 c.args.edge c.block_at-one.result.now c.requires.line.1 c.block_at-one.ensures (omega (arith, differs, is)) c.in-Some.period c.samples-own.result moves (c.samples-own.ensures ∙ ap samples c.period-2.ensures) in
-    line_put c.ends_are_lawful.ensures c.args.edge c.block_at-one.result.now c.block_at-one.ensures c.args.asks.now c.plain_end.new.asks
-    (plain_line c.ends_are_lawful.ensures c.requires.line.0 c.args.edge c.block_at-one.result.now c.requires.line.1 c.block_at-one.ensures (omega (arith, differs, is)) c.in-Some.period moves c.args.asks.now.list.items c.plain_end.new.asks.list.items c.args.asks.now.wants.items c.plain_end.new.asks.wants.items c.at-first.result c.width-width.result c.samples-own.result own (sym c.is_registered.ensures ∙ c.if-is_registered.false) c.at-first.ensures c.width-width.ensures c.in_ok-plain_end.ensures)
+    on_ok_weaker c.plain_end.result
+    (λ put. line_put c.ends_are_lawful.ensures c.args.edge c.block_at-one.result.now c.block_at-one.ensures c.args.asks.now c.plain_end.new.asks
+    (plain_line c.ends_are_lawful.ensures c.requires.line.0 c.args.edge c.block_at-one.result.now c.requires.line.1 c.block_at-one.ensures (omega (arith, differs, is)) c.in-Some.period moves c.args.asks.now.list.items c.plain_end.new.asks.list.items c.args.asks.now.wants.items c.plain_end.new.asks.wants.items c.at-first.result c.width-width.result c.samples-own.result own (sym c.is_registered.ensures ∙ c.if-is_registered.false) c.at-first.ensures c.width-width.ensures put))
+    c.plain_end.ensures
+
+pub ends_are_lawful-requires-clause-designed : goal.ends_are_lawful-requires-clause-designed
+ends_are_lawful-requires-clause-designed c = c.requires.designed
+
+pub ends_are_lawful-requires-clause-hubs : goal.ends_are_lawful-requires-clause-hubs
+ends_are_lawful-requires-clause-hubs c = c.requires.hubs
+
+pub block_at-one-requires : goal.block_at-one-requires
+block_at-one-requires c = to_there c.args.design.checked.now.diagram c.requires.line.0 c.args.edge c.requires.designed.scheduled.checked.wired c.requires.line.1
+
+pub at-first-requires-clause-port : goal.at-first-requires-clause-port
+at-first-requires-clause-port c = (source_there c.args.design.checked.now.diagram c.requires.designed.scheduled.checked c.requires.line.0 c.args.edge c.requires.line.1).0
+
+pub late_end-requires-clause-designed : goal.late_end-requires-clause-designed
+late_end-requires-clause-designed c = c.requires.designed
+
+pub late_end-requires-clause-is : goal.late_end-requires-clause-is
+late_end-requires-clause-is c = c.block_at-one.ensures
+
+pub late_end-requires-clause-period : goal.late_end-requires-clause-period
+late_end-requires-clause-period c = sym c.period.ensures ∙ c.in-Some.is
+
+pub plain_end-requires-clause-designed : goal.plain_end-requires-clause-designed
+plain_end-requires-clause-designed c = c.requires.designed
+
+pub plain_end-requires-clause-period : goal.plain_end-requires-clause-period
+plain_end-requires-clause-period c = sym c.period.ensures ∙ c.in-Some.is

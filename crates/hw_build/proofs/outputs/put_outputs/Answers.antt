@@ -5,6 +5,7 @@ use Rattle.dg_model.specs.declared.diagram.Diagram.{Diagram}
 use Rattle.hw_build.specs.inner.HubPlaces.{hub_at}
 use Rattle.hw_build.proofs.Porting.{outputs_there}
 use Rattle.hw_build.proofs.Outgoing.{read_at, below_columns, output_here, element_is, outputs_next}
+use Rattle.hw_build.specs.inner.Outgoing.{AddsOutputs}
 use Rattle.hw_build.proofs.outputs.put_outputs.Goals as goal
 
 pub columns_of-requires : goal.columns_of-requires
@@ -55,3 +56,16 @@ loop-column-preserved c =
     let first : c.index.result.now ≡ slice_index_or c.in_ok-columns.columns.items block 0 = read_at c.in_ok-columns.columns.items block c.index.result.now (below_columns (slice_index_or c.args.outputs.now c.loop-column.column 0) c.in_ok-columns.columns.items c.as_slice.result.now c.diagram.result.now c.args.design.checked.now.diagram here.there c.in_ok-columns.ensures.size c.as_slice.ensures c.diagram.ensures) c.index.ensures in
     let element : c.in-Ok.number - c.index.result.now ≡ here.e.element = element_is c.args.design c.args.firsts.now block _ c.loop-column.column c.in-Ok.number c.index.result.now here number first in
     outputs_next c.args.design c.args.firsts.now c.args.names.now c.loop-column.names c.output_of.new.names c.args.net.now c.loop-column.net c.add_output.new.self block _ c.loop-column.column (c.in-Ok.number - c.index.result.now) c.in_ok-port.port here element c.loop-column.invariant c.in_ok-port.ensures c.in_ok-add_output.ensures.grown
+
+pub output_of-requires-clause-designed : goal.output_of-requires-clause-designed
+output_of-requires-clause-designed c = c.requires.designed
+
+pub output_of-requires-clause-slots : goal.output_of-requires-clause-slots
+output_of-requires-clause-slots c = c.requires.slots
+
+pub returns : goal.returns
+returns c =
+    let low = c.loop-column-test.false in
+    let high = c.loop-column.auto.column-end in
+    let all : c.loop-column.column ≡ length c.args.outputs.now = omega (arith, low, high) in
+    subst (λ (n : ℕ). AddsOutputs c.args.design c.args.firsts.now c.args.names.now c.loop-column.names c.args.net.now c.loop-column.net n) all c.loop-column.invariant

@@ -1,10 +1,12 @@
-use Rattle.std.proofs.Common.{◌≡◌, ℕ, ◌+◌, ◌++◌, ◌∷◌, List, [], Option, sym, ap, subst, arith, add-one, refl}
+use Rattle.std.proofs.Common.{◌≡◌, ℕ, ◌+◌, ◌++◌, ◌∷◌, List, [], Option, sym, ap, subst, arith, add-one, refl, ◌∙◌, length}
 use Rattle.hw_share.specs.declared.operation.Operation.{Operation}
 use Rattle.hw_build.specs.inner.Designed.{times_for}
 use Rattle.hw_build.specs.inner.Factors.{AreFirsts, GathersFor, first_for}
 use Rattle.hw_build.specs.inner.Operands.{offered_at}
 use Rattle.hw_build.specs.inner.ResultNets.{shared_width}
 use Rattle.hw_build.proofs.Factoring.{firsts_none, firsts_more, gathers_none, gathers_then}
+use Rattle.dg_model.specs.declared.diagram.Block.{Block}
+use Rattle.dg_model.specs.declared.diagram.Diagram.{Diagram}
 use Rattle.hw_build.proofs.shared.gather.Goals as goal
 
 pub loop-place-init : goal.loop-place-init
@@ -31,3 +33,38 @@ loop-place-preserved c =
           (gathers_then diagram plan (times_for c.args.design) (offered_at diagram c.args.operands.now) c.args.net.now c.loop-place.net c.gather_block.new.net [] c.loop-place.operations.items c.gather_block.new.operations.items 0 (first_for c.args.design place) (shared_width diagram plan place)
           c.loop-place.invariant.1 block),
     )
+
+pub overflow_cast-place : goal.overflow_cast-place
+overflow_cast-place c =
+    let blocks : length c.as_slice-place-end.result.now ≡ length c.args.design.checked.now.diagram.blocks = ap (λ (bs : List Block). length bs) (c.as_slice-place-end.ensures ∙ ap (λ (d : Diagram). d.blocks) c.diagram.ensures) in
+    record { fits = omega (arith, blocks, c.loop-place-test.true, c.keeps_rules.ensures.checked.wired.size) }
+
+pub gather_block-requires-clause-designed : goal.gather_block-requires-clause-designed
+gather_block-requires-clause-designed c = c.requires.designed
+
+pub gather_block-requires-clause-slots : goal.gather_block-requires-clause-slots
+gather_block-requires-clause-slots c = c.requires.slots
+
+pub gather_block-requires-clause-there : goal.gather_block-requires-clause-there
+gather_block-requires-clause-there c =
+    let blocks : length c.as_slice-place-end.result.now ≡ length c.args.design.checked.now.diagram.blocks = ap (λ (bs : List Block). length bs) (c.as_slice-place-end.ensures ∙ ap (λ (d : Diagram). d.blocks) c.diagram.ensures) in
+    omega (arith, blocks, c.loop-place-test.true)
+
+pub gather_block-requires-clause-count : goal.gather_block-requires-clause-count
+gather_block-requires-clause-count c = let size = c.loop-place.invariant.1.size in omega (arith, size)
+
+pub returns-clause-firsts : goal.returns-clause-firsts
+returns-clause-firsts c =
+    let blocks : length c.as_slice-place-end.result.now ≡ length c.args.design.checked.now.diagram.blocks = ap (λ (bs : List Block). length bs) (c.as_slice-place-end.ensures ∙ ap (λ (d : Diagram). d.blocks) c.diagram.ensures) in
+    let low = c.loop-place-test.false in
+    let high = c.loop-place.auto.place-end in
+    let all : c.loop-place.place ≡ length c.args.design.checked.now.diagram.blocks = omega (arith, blocks, low, high) in
+    subst (λ (n : ℕ). AreFirsts c.args.design.checked.now.diagram c.args.design.plan.now c.loop-place.firsts.items n) all c.loop-place.invariant.0
+
+pub returns-clause-more : goal.returns-clause-more
+returns-clause-more c =
+    let blocks : length c.as_slice-place-end.result.now ≡ length c.args.design.checked.now.diagram.blocks = ap (λ (bs : List Block). length bs) (c.as_slice-place-end.ensures ∙ ap (λ (d : Diagram). d.blocks) c.diagram.ensures) in
+    let low = c.loop-place-test.false in
+    let high = c.loop-place.auto.place-end in
+    let all : c.loop-place.place ≡ length c.args.design.checked.now.diagram.blocks = omega (arith, blocks, low, high) in
+    subst (λ (n : ℕ). GathersFor c.args.design c.args.operands.now c.args.net.now c.loop-place.net [] c.loop-place.operations.items 0 (first_for c.args.design n)) all c.loop-place.invariant.1

@@ -2,10 +2,11 @@ use Rattle.std.proofs.Common.{◌≡◌, ℕ, ◌+◌, ◌++◌, ◌∷◌, [], 
 use Rattle.std.proofs.lemmas.Option.{slice_get_within}
 use Rattle.hw_sched.specs.Slots.{Operation, operation}
 use Rattle.hw_build.specs.inner.Designed.{times_for}
-use Rattle.hw_build.specs.inner.Factors.{IsGatheredFor, IsNumbered, first_for}
+use Rattle.hw_build.specs.inner.Factors.{IsGatheredFor, IsNumbered, first_for, GathersFor}
 use Rattle.hw_build.specs.inner.Operands.{offered_at}
 use Rattle.hw_build.proofs.Factoring.{gathers_none, gathers_one, gathers_then}
 use Rattle.hw_build.proofs.Numbering.{operation_there}
+use Rattle.dg_model.specs.Attributes.{attributes_of}
 use Rattle.hw_build.proofs.shared.gather_elements.Goals as goal
 
 pub loop-element-init : goal.loop-element-init
@@ -39,3 +40,23 @@ loop-element-preserved c =
     let one = gathers_one diagram plan (times_for c.args.design) (offered_at diagram c.args.operands.now) c.loop-element.net c.shared_of.new.net c.loop-element.operations.items count o c.in_ok-made.made c.loop-element.invariant.size there c.in_ok-made.ensures.adds made in
     rw more (gathers_then diagram plan (times_for c.args.design) (offered_at diagram c.args.operands.now) c.args.net.now c.loop-element.net c.shared_of.new.net c.args.operations.now.items c.loop-element.operations.items (c.loop-element.operations.items ++ c.in_ok-made.made ∷ [])
     (first_for c.args.design c.args.block) c.loop-element.element 1 c.loop-element.invariant one)
+
+pub own_width-element-end-requires : goal.own_width-element-end-requires
+own_width-element-end-requires c = record { there = slice_get_within _ c.args.block c.args.one.now c.requires.block }
+
+pub shared_of-requires-clause-designed : goal.shared_of-requires-clause-designed
+shared_of-requires-clause-designed c = c.requires.designed
+
+pub shared_of-requires-clause-slots : goal.shared_of-requires-clause-slots
+shared_of-requires-clause-slots c = c.requires.slots
+
+pub shared_of-requires-clause-block : goal.shared_of-requires-clause-block
+shared_of-requires-clause-block c = c.requires.block
+
+pub returns : goal.returns
+returns c =
+    let width = c.own_width-element-end.ensures in
+    let low = c.loop-element-test.false in
+    let high = c.loop-element.auto.element-end in
+    let all : c.loop-element.element ≡ (attributes_of c.args.design.checked.now.diagram).width_at c.args.block 1 = omega (arith, width, low, high) in
+    subst (λ (n : ℕ). GathersFor c.args.design c.args.operands.now c.args.net.now c.loop-element.net c.args.operations.now.items c.loop-element.operations.items (first_for c.args.design c.args.block) n) all c.loop-element.invariant

@@ -1,4 +1,4 @@
-use Rattle.std.proofs.Common.{pos, false, sym, subst, ap, to_z, of_z}
+use Rattle.std.proofs.Common.{pos, false, sym, subst, ap, to_z, of_z, arith}
 use Rattle.std.specs.Int.{w128}
 use Rattle.std.proofs.lemmas.Int.{to_z-of_z}
 use Rattle.fx_type.specs.declared.kind.FxType.{FxType}
@@ -7,9 +7,9 @@ use Rattle.fx_type.specs.FxType.{IsType}
 use Rattle.dg_model.specs.declared.kind.Kind.{Kind}
 use Rattle.dg_model.specs.declared.op.Op.TheVariants.{Switch}
 use Rattle.dg_model.specs.Attributes.{attributes_of}
-use Rattle.dg_model.specs.Equation.{IsOpOf, StoresEntry}
+use Rattle.dg_model.specs.Equation.{IsOpOf, StoresEntry, signs_of}
 use Rattle.dg_model.specs.Wires.{type_into}
-use Rattle.hw_build.proofs.Parameters.{second_type}
+use Rattle.hw_build.proofs.Parameters.{second_type, three_types}
 use Rattle.dg_model.specs.Library.{row_of}
 use Rattle.hw_build.proofs.worked.switched.Goals as goal
 
@@ -29,3 +29,26 @@ carried-requires-clause-op c =
 
 pub stored-threshold-requires-clause-list : goal.stored-threshold-requires-clause-list
 stored-threshold-requires-clause-list c = ap (λ (kind : Kind). (row_of kind).signal.lists) c.requires.kind
+
+pub bounds-types-1 : goal.bounds-types-1
+bounds-types-1 c =
+    let three = three_types c.args.site.design.checked.now.diagram c.args.site.place.block c.args.site.one.now c.args.criterion c.args.list.now c.args.types.now c.keeps_rules.ensures.checked c.requires.shown.block_is c.requires.kind c.requires.types in
+    omega (arith, three)
+
+pub stored-threshold-requires-clause-shown : goal.stored-threshold-requires-clause-shown
+stored-threshold-requires-clause-shown c = c.requires.shown
+
+pub carried-requires-clause-block : goal.carried-requires-clause-block
+carried-requires-clause-block c = c.requires.shown.block_is
+
+pub carried-requires-clause-types : goal.carried-requires-clause-types
+carried-requires-clause-types c = c.requires.types
+
+pub carried-requires-clause-operands : goal.carried-requires-clause-operands
+carried-requires-clause-operands c = c.requires.operands
+
+pub carried-requires-clause-signs : goal.carried-requires-clause-signs
+carried-requires-clause-signs c = sym (ap signs_of c.requires.kind)
+
+pub returns : goal.returns
+returns c = c.carried.ensures

@@ -1,4 +1,4 @@
-use Rattle.std.proofs.Common.{pos, false, sym, subst, ap}
+use Rattle.std.proofs.Common.{pos, false, sym, subst, ap, arith}
 use Rattle.std.proofs.lemmas.Option.{slice_get_within}
 use Rattle.fx_type.specs.declared.kind.FxType.TheVariants.{Num}
 use Rattle.fx_type.specs.FxType.{IsType}
@@ -10,7 +10,7 @@ use Rattle.hw_build.specs.inner.Controls.{PutsControl}
 use Rattle.hw_build.specs.inner.Designed.{timing_for}
 use Rattle.hw_build.specs.inner.Entries.{operand_types}
 use Rattle.hw_build.proofs.EnteringOut.{tested_entry}
-use Rattle.hw_build.proofs.Parameters.{args_there, first_type}
+use Rattle.hw_build.proofs.Parameters.{args_there, first_type, one_type}
 use Rattle.hw_build.proofs.worked.tested.Goals as goal
 
 pub some_above-requires-clause-kind : goal.some_above-requires-clause-kind
@@ -31,3 +31,8 @@ returns c =
 
 pub result-own-requires : goal.result-own-requires
 result-own-requires c = slice_get_within c.args.site.design.checked.now.diagram.blocks c.args.site.place.block c.args.site.one.now c.requires.shown.block_is
+
+pub bounds-types-0 : goal.bounds-types-0
+bounds-types-0 c =
+    let one = one_type c.args.site.design.checked.now.diagram c.args.site.place.block c.args.site.one.now c.args.types.now c.keeps_rules.ensures.checked c.requires.shown.block_is c.requires.kind c.requires.types in
+    omega (arith, one)
