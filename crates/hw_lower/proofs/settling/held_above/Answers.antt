@@ -6,7 +6,7 @@ use Rattle.hw_lower.specs.inner.Planned.{IsHeldAbove}
 use Rattle.hw_lower.proofs.Made.{at-later}
 use Rattle.hw_lower.proofs.Chained.{if-then, made-both, made-self}
 use Rattle.hw_lower.proofs.Cut.{less-is}
-use Rattle.hw_lower.proofs.Ends.{falls}
+use Rattle.hw_lower.proofs.Ends.{falls, highest-least}
 use Rattle.hw_lower.proofs.settling.held_above.Goals as goal
 
 pub returns-then-bound-lowest : goal.returns-then-bound-lowest
@@ -48,3 +48,42 @@ returns c =
           let one : numbers c.in_ok-test.test.place ≡ pos 1 = less.0 (omega (arith, ints, past, p.0, to_z-of_z w128 c.least-bound.result bound)) in
           omega (arith, ints, q.any (λ e. absurd (omega (arith, ints, e, one))), p.1.1, c.lowest-fewest.ensures, to_z-of_z w128 c.lowest-fewest.result end);
     })
+
+pub least-bound-requires : goal.least-bound-requires
+least-bound-requires c = c.requires.value.valid
+
+pub lowest-requires : goal.lowest-requires
+lowest-requires c = c.requires.from.valid
+
+pub lowest-fewest-requires : goal.lowest-fewest-requires
+lowest-fewest-requires c = c.requires.value.valid
+
+pub constant-requires-clause-word : goal.constant-requires-clause-word
+constant-requires-clause-word c = c.requires.from.valid
+
+pub constant-requires-clause-value : goal.constant-requires-clause-value
+constant-requires-clause-value c =
+    let bound = to_z-of_z w128 c.least-bound.result (record { sfits = c.least-bound.type_inv }) in
+    let end = to_z-of_z w128 c.lowest.result (record { sfits = c.lowest.type_inv }) in
+    record {
+      low = omega (arith, ints, bound, end, c.if-bound-lowest.false, c.lowest.ensures);
+      high = omega (arith, ints, bound, c.least-bound.ensures.most, highest-least c.args.from.word.width c.args.from.word.signed);
+    }
+
+pub binary-requires-clause-other : goal.binary-requires-clause-other
+binary-requires-clause-other c = c.in_ok-end.ensures.at
+
+pub binary-requires-clause-word : goal.binary-requires-clause-word
+binary-requires-clause-word c = rw c.bit_word.ensures (omega arith, omega arith)
+
+pub constant-requires-2-clause-word : goal.constant-requires-2-clause-word
+constant-requires-2-clause-word c = c.requires.value.valid
+
+pub choose-requires-clause-chosen : goal.choose-requires-clause-chosen
+choose-requires-clause-chosen c = c.in_ok-fewest.ensures.at
+
+pub choose-requires-clause-fits : goal.choose-requires-clause-fits
+choose-requires-clause-fits c = λ numbers none within. within
+
+pub choose-requires-clause-word : goal.choose-requires-clause-word
+choose-requires-clause-word c = c.in_ok-fewest.ensures.has_word

@@ -6,7 +6,7 @@ use Rattle.hw_lower.specs.inner.Planned.{IsHeldBelow}
 use Rattle.hw_lower.proofs.Made.{at-later}
 use Rattle.hw_lower.proofs.Chained.{if-then, made-both, made-self}
 use Rattle.hw_lower.proofs.Cut.{less-is}
-use Rattle.hw_lower.proofs.Ends.{passes}
+use Rattle.hw_lower.proofs.Ends.{passes, lowest-most}
 use Rattle.hw_lower.proofs.settling.held_below.Goals as goal
 
 pub returns-then-bound-highest : goal.returns-then-bound-highest
@@ -48,3 +48,42 @@ returns c =
           let one : numbers c.in_ok-test.test.place ≡ pos 1 = less.0 (omega (arith, ints, past, p.0, to_z-of_z w128 c.greatest-bound.result bound)) in
           omega (arith, ints, q.any (λ e. absurd (omega (arith, ints, e, one))), p.1.1, c.highest-most.ensures, to_z-of_z w128 c.highest-most.result top);
     })
+
+pub greatest-bound-requires : goal.greatest-bound-requires
+greatest-bound-requires c = c.requires.value.valid
+
+pub highest-requires : goal.highest-requires
+highest-requires c = c.requires.from.valid
+
+pub highest-most-requires : goal.highest-most-requires
+highest-most-requires c = c.requires.value.valid
+
+pub constant-requires-clause-word : goal.constant-requires-clause-word
+constant-requires-clause-word c = c.requires.from.valid
+
+pub constant-requires-clause-value : goal.constant-requires-clause-value
+constant-requires-clause-value c =
+    let bound = to_z-of_z w128 c.greatest-bound.result (record { sfits = c.greatest-bound.type_inv }) in
+    let top = to_z-of_z w128 c.highest.result (record { sfits = c.highest.type_inv }) in
+    record {
+      low = omega (arith, ints, bound, c.greatest-bound.ensures.least, lowest-most c.args.from.word.width c.args.from.word.signed);
+      high = omega (arith, ints, bound, top, c.if-bound-highest.false, c.highest.ensures);
+    }
+
+pub binary-requires-clause-one : goal.binary-requires-clause-one
+binary-requires-clause-one c = c.in_ok-end.ensures.at
+
+pub binary-requires-clause-word : goal.binary-requires-clause-word
+binary-requires-clause-word c = rw c.bit_word.ensures (omega arith, omega arith)
+
+pub constant-requires-2-clause-word : goal.constant-requires-2-clause-word
+constant-requires-2-clause-word c = c.requires.value.valid
+
+pub choose-requires-clause-chosen : goal.choose-requires-clause-chosen
+choose-requires-clause-chosen c = c.in_ok-most.ensures.at
+
+pub choose-requires-clause-fits : goal.choose-requires-clause-fits
+choose-requires-clause-fits c = λ numbers none within. within
+
+pub choose-requires-clause-word : goal.choose-requires-clause-word
+choose-requires-clause-word c = c.in_ok-most.ensures.has_word

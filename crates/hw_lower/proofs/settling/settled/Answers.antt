@@ -5,6 +5,7 @@ use Rattle.hw_lower.specs.declared.plan.Word.{Word}
 use Rattle.hw_lower.specs.inner.Planned.{IsMade, IsHeldBelow, IsHeldAbove}
 use Rattle.hw_lower.proofs.Chained.{if-then, made-both}
 use Rattle.hw_lower.proofs.Ends.{both-held}
+use Rattle.hw_lower.proofs.Made.{at-later}
 use Rattle.hw_lower.proofs.settling.settled.Goals as goal
 
 pub returns-then-saturate : goal.returns-then-saturate
@@ -19,3 +20,15 @@ returns-then-saturate c =
     (made-both c.in_ok-value.ensures below) above
     (λ made numbers has later p q frac.
     rw c.if-saturate.true (both-held c.args.word frac (numbers c.args.from.place *ℤ pos (2 ^ c.args.up)) (numbers c.in_ok-value.value.place) (numbers c.in_ok-below.below.place) (numbers made.place) c.requires.word p.0 p.1 q))
+
+pub held_below-requires-clause-from : goal.held_below-requires-clause-from
+held_below-requires-clause-from c = at-later _ _ c.args.from c.in_ok-value.ensures.grows c.requires.at
+
+pub held_below-requires-clause-value : goal.held_below-requires-clause-value
+held_below-requires-clause-value c = c.in_ok-value.ensures.at
+
+pub held_above-requires-clause-from : goal.held_above-requires-clause-from
+held_above-requires-clause-from c = at-later _ _ c.args.from c.in_ok-below.ensures.grows (at-later _ _ c.args.from c.in_ok-value.ensures.grows c.requires.at)
+
+pub held_above-requires-clause-value : goal.held_above-requires-clause-value
+held_above-requires-clause-value c = c.in_ok-below.ensures.at

@@ -12,3 +12,12 @@ returns-then-eq c =
     subst (λ (w : Word). IsMade c.args.plan.now c.args.plan.now w (λ numbers. IsWrapped (numbers c.args.from.place *ℤ pos (2 ^ c.args.up)) w.width w.signed (numbers c.args.from.place)) c.args.from) same
     (made-self (λ numbers. IsWrapped (numbers c.args.from.place *ℤ pos (2 ^ c.args.up)) c.args.from.word.width c.args.from.word.signed (numbers c.args.from.place)) c.requires.at
     (λ numbers has. none-shifted (numbers c.args.from.place) c.args.up c.args.from.word.width c.args.from.word.signed (omega (arith, c.if-up-gt0.false)) (has c.args.from c.requires.at)))
+
+pub unary-requires-clause-at : goal.unary-requires-clause-at
+unary-requires-clause-at c = c.requires.at
+
+pub returns-then-up-gt0 : goal.returns-then-up-gt0
+returns-then-up-gt0 c = c.unary.ensures
+
+pub unary-requires-2-clause-at : goal.unary-requires-2-clause-at
+unary-requires-2-clause-at c = c.requires.at

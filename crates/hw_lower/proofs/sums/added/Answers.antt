@@ -6,6 +6,7 @@ use Rattle.fx_type.specs.FxType.{aligned}
 use Rattle.fx_type.specs.FullType.{negated_if}
 use Rattle.hw_lower.proofs.Chained.{if-then}
 use Rattle.hw_lower.proofs.Summed.{wrapped-sum, wrapped-difference}
+use Rattle.hw_lower.proofs.Made.{at-later}
 use Rattle.hw_lower.proofs.sums.added.Goals as goal
 
 pub returns-then-negative : goal.returns-then-negative
@@ -21,3 +22,15 @@ returns c =
     let value = rw f at c.in_ok-value.ensures in
     if-then _ _ _ _ _ _ _ (λ made numbers. IsWrapped (numbers c.args.total.place +ℤ negated_if c.args.negative (aligned c.args.frac c.args.side.kind (numbers c.args.side.from.place))) c.args.word.width c.args.word.signed (numbers made.place)) _ _ value c.binary-2.ensures
     (λ made numbers has later p q. rw c.if-negative.false (wrapped-sum (numbers c.args.total.place) (aligned c.args.frac c.args.side.kind (numbers c.args.side.from.place)) (numbers c.in_ok-value.value.place) (numbers made.place) c.args.word.width c.args.word.signed p q))
+
+pub binary-requires-clause-one : goal.binary-requires-clause-one
+binary-requires-clause-one c = at-later _ _ c.args.total c.in_ok-value.ensures.grows c.requires.total
+
+pub binary-requires-clause-other : goal.binary-requires-clause-other
+binary-requires-clause-other c = c.in_ok-value.ensures.at
+
+pub binary-requires-2-clause-one : goal.binary-requires-2-clause-one
+binary-requires-2-clause-one c = at-later _ _ c.args.total c.in_ok-value.ensures.grows c.requires.total
+
+pub binary-requires-2-clause-other : goal.binary-requires-2-clause-other
+binary-requires-2-clause-other c = c.in_ok-value.ensures.at
