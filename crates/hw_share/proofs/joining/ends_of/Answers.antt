@@ -1,8 +1,8 @@
-use Rattle.std.proofs.Common.{[], rules, ◌≡◌, ◌∙◌, ap, sym, arith, Option, None, length, replicate, slice_index_or, subst}
+use Rattle.std.proofs.Common.{[], rules, ◌≡◌, ◌∙◌, ap, sym, arith, Option, None, length, replicate, slice_index_or, subst, ℕ}
 use Rattle.std.proofs.lemmas.Option.{slice_get-get_or, get_or_from_slice_get}
 use Rattle.hw_share.specs.declared.operation.Operation.{Operation}
 use Rattle.hw_share.specs.declared.joining.Ends.{Ends}
-use Rattle.hw_share.specs.inner.Joined.{IsJoined, ends_at}
+use Rattle.hw_share.specs.inner.Joined.{IsJoined, ends_at, AreEnds}
 use Rattle.hw_share.specs.inner.KnownTests.{AreTests}
 use Rattle.hw_share.proofs.Known.{no-tests}
 use Rattle.hw_share.proofs.Kept.{no-operation}
@@ -49,3 +49,10 @@ loop-one-preserved c =
     let joined : IsJoined c.args.net.now c.loop-one.net c.join.new.net (ends_at c.loop-one.ends.items one.unit) one c.in_ok-own.own =
     subst (λ (k : Option Ends). IsJoined c.args.net.now c.loop-one.net c.join.new.net k one c.in_ok-own.own) (c.index.ensures ∙ known) both.0 in
     (ends-more c.args.net.now c.loop-one.net c.args.operations.now c.loop-one.ends.items c.loop-one.one-index one c.requires.can c.loop-one.invariant.0 at c.join.new.net c.in_ok-own.own joined, both.1)
+
+pub returns : goal.returns
+returns c =
+    let low = c.loop-one-test.false in
+    let high = c.loop-one.auto.one-index-end in
+    let all : c.loop-one.one-index ≡ length c.args.operations.now = omega (arith, low, high) in
+    subst (λ (count : ℕ). AreEnds c.args.net.now c.loop-one.net c.args.operations.now c.loop-one.ends.items count) all c.loop-one.invariant.0

@@ -1,6 +1,6 @@
-use Rattle.std.proofs.Common.{None, Some, slice_index_or, sym, ◌∙◌, ap, subst, refl}
+use Rattle.std.proofs.Common.{None, Some, slice_index_or, sym, ◌∙◌, ap, subst, refl, ◌≡◌, ℕ, length, arith}
 use Rattle.std.proofs.lemmas.Option.{slice_get-get_or, same_Some}
-use Rattle.hw_share.specs.inner.Steps.{CanMultiply}
+use Rattle.hw_share.specs.inner.Steps.{CanMultiply, AreMultipliers}
 use Rattle.hw_share.proofs.Multiplied.{multipliers-begun, multipliers-more, can-later}
 use Rattle.hw_share.proofs.multiplying.multipliers.Goals as goal
 
@@ -26,3 +26,10 @@ loop-known-preserved c =
     rw c.in_ok-push.ensures.items
     (multipliers-more c.args.net.now c.loop-known.net c.multiply.new.net c.args.ends.now c.loop-known.numbers.items c.loop-known.known-index c.in_ok-number.number c.unwrap.result c.loop-known.invariant
     (at ∙ ap Some c.unwrap.ensures) c.in_ok-number.ensures.number c.in_ok-number.ensures.is c.in_ok-number.ensures.long c.in_ok-number.ensures.grown)
+
+pub returns : goal.returns
+returns c =
+    let low = c.loop-known-test.false in
+    let high = c.loop-known.auto.known-index-end in
+    let all : c.loop-known.known-index ≡ length c.args.ends.now = omega (arith, low, high) in
+    subst (λ (count : ℕ). AreMultipliers c.args.net.now c.loop-known.net c.args.ends.now c.loop-known.numbers.items count) all c.loop-known.invariant
