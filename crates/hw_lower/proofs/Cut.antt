@@ -1,5 +1,5 @@
 -- Numbers cut to a word.
-use Rattle.std.proofs.Common.{◌≡◌, ℕ, ◌-◌, ◌^◌, ◌<ℤ◌, ◌≤ℤ◌, Bool, true, false, ℤ, pos, negsuc, ◌+ℤ◌, ◌-ℤ◌, ◌*ℤ◌, ap, sym, arith}
+use Rattle.std.proofs.Common.{◌≡◌, ℕ, ◌-◌, ◌^◌, ◌<ℤ◌, ◌≤ℤ◌, Bool, true, false, ℤ, pos, negsuc, ◌+ℤ◌, ◌-ℤ◌, ◌*ℤ◌, ap, sym, arith, subst}
 use Rattle.std.specs.Prelude.{◌≢◌, not, if◌then◌else◌, ◌&&◌}
 use mathlib.Core.Bool.{beq}
 use Rattle.std.proofs.Common.{eqb, eqb-true, true≢false, int_lt}
@@ -51,6 +51,14 @@ none-shifted v up width signed e has =
     let one : 2 ^ up ≡ 1 = ap (λ (n : ℕ). 2 ^ n) e in
     let same : v *ℤ pos (2 ^ up) ≡ v *ℤ pos 1 = ap (λ (n : ℕ). v *ℤ pos n) one in
     record { in_word = has; congruent = record { turns = pos 0; equal = omega (arith, ints, same) } }
+
+-- a number that is wrapped is so where it is not shifted
+pub wrapped-shifted : (v : ℤ) (up width : ℕ) (signed : Bool) (r : ℤ) → up ≡ 0 → IsWrapped v width signed r → IsWrapped (v *ℤ pos (2 ^ up)) width signed r
+wrapped-shifted v up width signed r e is =
+    let one : 2 ^ up ≡ 1 = ap (λ (n : ℕ). 2 ^ n) e in
+    let same : v *ℤ pos (2 ^ up) ≡ v *ℤ pos 1 = ap (λ (n : ℕ). v *ℤ pos n) one in
+    let whole : v ≡ v *ℤ pos (2 ^ up) = omega (arith, ints, same) in
+    subst (λ (z : ℤ). IsWrapped z width signed r) whole is
 
 -- what a Less gives
 int-lt-is : (a b : ℤ) → (a <ℤ b → int_lt a b ≡ true) × (b ≤ℤ a → int_lt a b ≡ false)

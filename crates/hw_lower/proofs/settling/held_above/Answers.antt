@@ -6,7 +6,7 @@ use Rattle.hw_lower.specs.inner.Planned.{IsHeldAbove}
 use Rattle.hw_lower.proofs.Made.{at-later}
 use Rattle.hw_lower.proofs.Chained.{if-then, made-both, made-self}
 use Rattle.hw_lower.proofs.Cut.{less-is}
-use Rattle.hw_lower.proofs.Ends.{falls, highest-least}
+use Rattle.hw_lower.proofs.Ends.{falls, highest-least, lowest-most}
 use Rattle.hw_lower.proofs.settling.held_above.Goals as goal
 
 pub returns-then-bound-lowest : goal.returns-then-bound-lowest
@@ -87,3 +87,11 @@ choose-requires-clause-fits c = λ numbers none within. within
 
 pub choose-requires-clause-word : goal.choose-requires-clause-word
 choose-requires-clause-word c = c.in_ok-fewest.ensures.has_word
+
+pub constant-requires-2-clause-value : goal.constant-requires-2-clause-value
+constant-requires-2-clause-value c =
+    let end = to_z-of_z w128 c.lowest-fewest.result (record { sfits = c.lowest-fewest.type_inv }) in
+    record {
+      low = omega (arith, ints, end, c.lowest-fewest.ensures);
+      high = omega (arith, ints, end, c.lowest-fewest.ensures, lowest-most c.args.value.word.width c.args.value.word.signed, highest-least c.args.value.word.width c.args.value.word.signed);
+    }

@@ -6,7 +6,7 @@ use Rattle.hw_lower.specs.inner.Planned.{IsHeldBelow}
 use Rattle.hw_lower.proofs.Made.{at-later}
 use Rattle.hw_lower.proofs.Chained.{if-then, made-both, made-self}
 use Rattle.hw_lower.proofs.Cut.{less-is}
-use Rattle.hw_lower.proofs.Ends.{passes, lowest-most}
+use Rattle.hw_lower.proofs.Ends.{passes, lowest-most, highest-least}
 use Rattle.hw_lower.proofs.settling.held_below.Goals as goal
 
 pub returns-then-bound-highest : goal.returns-then-bound-highest
@@ -87,3 +87,11 @@ choose-requires-clause-fits c = λ numbers none within. within
 
 pub choose-requires-clause-word : goal.choose-requires-clause-word
 choose-requires-clause-word c = c.in_ok-most.ensures.has_word
+
+pub constant-requires-2-clause-value : goal.constant-requires-2-clause-value
+constant-requires-2-clause-value c =
+    let top = to_z-of_z w128 c.highest-most.result (record { sfits = c.highest-most.type_inv }) in
+    record {
+      low = omega (arith, ints, top, c.highest-most.ensures, lowest-most c.args.value.word.width c.args.value.word.signed, highest-least c.args.value.word.width c.args.value.word.signed);
+      high = omega (arith, ints, top, c.highest-most.ensures);
+    }
