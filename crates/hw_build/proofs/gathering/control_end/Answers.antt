@@ -47,3 +47,24 @@ returns c =
     (moving_control c.ends_are_lawful.ensures c.args.block c.in-Some.control c.block_at.result.now c.block_at.ensures feeds c.in-Some-period.period moves c.args.asks.now.list.items c.enable_end.new.asks.list.items c.args.asks.now.wants.items c.enable_end.new.asks.wants.items
     c.at-hub.result c.samples-own.result own c.at-hub.ensures put))
     c.enable_end.ensures
+
+pub ends_are_lawful-requires-clause-designed : goal.ends_are_lawful-requires-clause-designed
+ends_are_lawful-requires-clause-designed c = c.requires.designed
+
+pub ends_are_lawful-requires-clause-hubs : goal.ends_are_lawful-requires-clause-hubs
+ends_are_lawful-requires-clause-hubs c = c.requires.hubs
+
+pub block_at-requires : goal.block_at-requires
+block_at-requires c = c.requires.there
+
+pub period-requires-2 : goal.period-requires-2
+period-requires-2 c = c.requires.there
+
+pub enable_end-requires-clause-designed : goal.enable_end-requires-clause-designed
+enable_end-requires-clause-designed c = c.requires.designed
+
+pub enable_end-requires-clause-block : goal.enable_end-requires-clause-block
+enable_end-requires-clause-block c = c.requires.there
+
+pub enable_end-requires-clause-period : goal.enable_end-requires-clause-period
+enable_end-requires-clause-period c = sym c.period.ensures ∙ c.in-Some-period.is
