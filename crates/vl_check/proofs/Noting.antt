@@ -1,9 +1,9 @@
 -- One more item is noted.
-use Rattle.std.proofs.Common.{◌≡◌, ◌<◌, ◌+◌, inl, inr, ◌⊎◌, ⊎_elim, ℕ, List, [], ◌∷◌, ◌++◌, length, map, set, take, Bor, slice_get, slice_index_or, Option, None, Some, refl, sym, ap, subst, ◌∙◌, arith}
+use Rattle.std.proofs.Common.{◌≡◌, ◌<◌, ◌≤◌, ◌+◌, inl, inr, ◌⊎◌, ⊎_elim, ℕ, List, [], ◌∷◌, ◌++◌, length, map, set, take, Bor, replicate, slice_get, slice_index_or, Option, None, Some, refl, sym, ap, subst, ◌∙◌, arith}
 use Rattle.std.specs.Option.{unwrap_or}
 use Rattle.std.proofs.lemmas.Bool.{cases_lt, cases_eq}
 use Rattle.std.proofs.lemmas.Option.{slice_get_within, slice_get-get_or, get_or_from_slice_get}
-use Rattle.std.proofs.lemmas.List.{get_or-set_same, get_or-set_other, get_or_append_left, get_or_at, length-append, length-set, set_past, take_more, map-append}
+use Rattle.std.proofs.lemmas.List.{get_or-replicate, get_or-set_same, get_or-set_other, get_or_append_left, get_or_at, length-append, length-replicate, length-set, set_past, take_more, map-append}
 use Rattle.std.proofs.Math.ListN.{get_or-eq_default}
 use Rattle.vl_ast.specs.declared.expressions.Expr.{Expr}
 use Rattle.vl_ast.specs.declared.modules.ModItem.{ModItem}
@@ -182,3 +182,10 @@ numbers-more scope names i d below =
     ap (λ xs. map (number_at scope) (texts xs)) (take_more names i d below)
     ∙ ap (map (number_at scope)) (map-append (λ (x : Bor (List ℕ)). x.now) (take i names) (slice_index_or names i d ∷ []))
     ∙ map-append (number_at scope) (texts (take i names)) ((slice_index_or names i d).now ∷ [])
+
+-- the same everywhere, and past the end
+pub replicated : {A : Type 0} (a : A) (count v : ℕ) → slice_index_or (replicate count a) v a ≡ a
+replicated a count v = ⊎_elim
+    (λ (low : v < count). get_or-replicate count v a a low)
+    (λ (past : count ≤ v). let long = length-replicate count a in get_or-eq_default (replicate count a) a (omega (arith, long, past)))
+    (cases_lt v count)

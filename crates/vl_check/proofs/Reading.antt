@@ -1,13 +1,14 @@
--- The names that each form of expression reads.
-use Rattle.std.proofs.Common.{◌≡◌, ◌++◌, [], ◌∷◌, refl, ℕ, List, map, sym, ap, ◌∙◌}
+-- The names that each form of expression reads, and lists that are gone through.
+use Rattle.std.proofs.Common.{◌≡◌, ◌<◌, ◌+◌, ◌++◌, [], ◌∷◌, refl, ℕ, List, Bor, length, map, slice_index_or, take, sym, ap, subst, ◌∙◌}
 use Rattle.std.specs.List.{flat_map}
-use Rattle.std.proofs.lemmas.List.{append_assoc}
+use Rattle.std.proofs.lemmas.List.{append_assoc, flat_map_more, map-append, map_more, take_more}
 use Rattle.vl_ast.specs.declared.expressions.BinOp.{BinOp}
 use Rattle.vl_ast.specs.declared.expressions.Expr.{Expr}
 use Rattle.vl_ast.specs.declared.expressions.Expr.TheOpen.{Expr-F}
 use Rattle.vl_ast.specs.declared.expressions.Expr.TheVariants.{Binary, Choose, Concat, rolls-Binary, rolls-Choose, rolls-Concat}
 use Rattle.vl_ast.specs.declared.expressions.Expr.TheFolds.{fold-roll-Expr}
-use Rattle.vl_ast.specs.Nets.{names_read, names_step}
+use Rattle.vl_ast.specs.Nets.{Mention, Reads, names_read, names_step}
+use Rattle.vl_check.specs.inner.Mentioned.{texts}
 
 names-binary : (op : BinOp) (l r : Expr) → names_read (Binary op l r) ≡ names_read l ++ names_read r
 names-binary op l r = ap names_read (sym (rolls-Binary op l r)) ∙ fold-roll-Expr (List (List ℕ)) names_step (Expr-F.Binary op l r)
@@ -35,3 +36,24 @@ reads-choose t c o e old one two last is first second third =
 
 pub reads-concat : (parts : List Expr) (e : Expr) (old last : List (List ℕ)) → e ≡ Concat parts → last ≡ old ++ flat_map names_read parts → last ≡ old ++ names_read e
 reads-concat parts e old last is l = l ∙ ap (λ xs. old ++ xs) (sym (names-concat parts)) ∙ ap (λ x. old ++ names_read x) (sym is)
+
+-- what is made of the items of a list, an item further
+pub mapped-further : {A B : Type 0} (f : A → B) (items xs : List A) (i : ℕ) (x : A) → items ≡ xs → i < length items → x ≡ slice_index_or items i x → map f (take (i + 1) xs) ≡ map f (take i xs) ++ f x ∷ []
+mapped-further f items xs i x are below is =
+    subst (λ ys. map f (take (i + 1) ys) ≡ map f (take i ys) ++ f x ∷ []) are
+    (map_more f items i x below ∙ ap (λ y. map f (take i items) ++ f y ∷ []) (sym is))
+
+pub joined-further : {A B : Type 0} (f : A → List B) (old : List B) (items xs : List A) (i : ℕ) (x : A) → items ≡ xs → i < length items → x ≡ slice_index_or items i x → (old ++ flat_map f (take i xs)) ++ f x ≡ old ++ flat_map f (take (i + 1) xs)
+joined-further f old items xs i x are below is =
+    subst (λ ys. (old ++ flat_map f (take i ys)) ++ f x ≡ old ++ flat_map f (take (i + 1) ys)) are
+    (flat_map_more f old (take i items) x ∙ ap (λ ys. old ++ flat_map f ys) (sym (take_more items i x below ∙ ap (λ y. take i items ++ y ∷ []) (sym is))))
+
+-- names that are read, a name further
+pub read-further : (old all : List Mention) (names : List (Bor (List ℕ))) (i : ℕ) (d : Bor (List ℕ)) → i < length names → all ≡ old ++ map Reads (texts (take i names))
+    → all ++ Reads (slice_index_or names i d).now ∷ [] ≡ old ++ map Reads (texts (take (i + 1) names))
+read-further old all names i d below are =
+    ap (λ xs. xs ++ Reads (slice_index_or names i d).now ∷ []) are
+    ∙ append_assoc old (map Reads (texts (take i names))) (Reads (slice_index_or names i d).now ∷ [])
+    ∙ ap (λ xs. old ++ xs) (sym (ap (λ xs. map Reads (texts xs)) (take_more names i d below)
+    ∙ ap (map Reads) (map-append (λ (x : Bor (List ℕ)). x.now) (take i names) (slice_index_or names i d ∷ []))
+    ∙ map-append Reads (texts (take i names)) ((slice_index_or names i d).now ∷ [])))

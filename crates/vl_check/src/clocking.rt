@@ -15,11 +15,7 @@ pub fn is_mention_of(mention: &Mention<'_>, name: &[u8]) -> bool
 {
     match mention {
         Mention::Declares(declared) => declared.name == name,
-        Mention::Drives {
-            clocked: _,
-            name: driven,
-        } => *driven == name,
-        Mention::Reads(read) => *read == name,
+        Mention::Drives { name: used, .. } | Mention::Reads(used) => *used == name,
         Mention::Clocks => b"clk".as_slice() == name || b"reset".as_slice() == name,
     }
 }
@@ -55,13 +51,8 @@ fn is_read_of(mention: &Mention<'_>, name: &[u8]) -> bool
     ensures { result ≡ is_read_of name.now (mention_of mention.now) }
 {
     match mention {
-        Mention::Declares(_declared) => false,
-        Mention::Drives {
-            clocked: _,
-            name: _,
-        } => false,
         Mention::Reads(read) => *read == name,
-        Mention::Clocks => false,
+        Mention::Declares(_) | Mention::Drives { .. } | Mention::Clocks => false,
     }
 }
 

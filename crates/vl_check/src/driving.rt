@@ -15,13 +15,8 @@ fn declares(mention: &Mention<'_>) -> bool
     ensures { result ≡ declares (mention_of mention.now) }
 {
     match mention {
-        Mention::Declares(_declared) => true,
-        Mention::Drives {
-            clocked: _,
-            name: _,
-        } => false,
-        Mention::Reads(_name) => false,
-        Mention::Clocks => false,
+        Mention::Declares(_) => true,
+        Mention::Drives { .. } | Mention::Reads(_) | Mention::Clocks => false,
     }
 }
 
@@ -30,13 +25,8 @@ fn drives(mention: &Mention<'_>) -> bool
     ensures { result ≡ drives (mention_of mention.now) }
 {
     match mention {
-        Mention::Declares(_declared) => false,
-        Mention::Drives {
-            clocked: _,
-            name: _,
-        } => true,
-        Mention::Reads(_name) => false,
-        Mention::Clocks => false,
+        Mention::Drives { .. } => true,
+        Mention::Declares(_) | Mention::Reads(_) | Mention::Clocks => false,
     }
 }
 
@@ -99,11 +89,7 @@ fn is_undriven(mention: &Mention<'_>, declared: bool, driven: bool) -> bool
 {
     match mention {
         Mention::Declares(of) => needs_driver(of.kind) && !driven,
-        Mention::Drives {
-            clocked: _,
-            name: _,
-        } => !declared,
-        Mention::Reads(_name) => !declared,
+        Mention::Drives { .. } | Mention::Reads(_) => !declared,
         Mention::Clocks => false,
     }
 }
@@ -176,8 +162,7 @@ fn is_double(
     match mention {
         Mention::Declares(_declared) => declared,
         Mention::Drives { clocked, name: _ } => driven || !may_drive(*clocked, declaration),
-        Mention::Reads(_name) => false,
-        Mention::Clocks => false,
+        Mention::Reads(_) | Mention::Clocks => false,
     }
 }
 

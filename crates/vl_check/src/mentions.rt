@@ -1,6 +1,6 @@
 ghost use Rattle.std.specs.Prelude.{◌≡◌, ◌++◌, ◌∷◌, [], map, IfOk, OnOk};
-ghost use Rattle.vl_ast.specs.Nets.{condition_names, item_mentions, mentions, names_read, port_declared, Declares, Reads};
-ghost use Rattle.vl_check.specs.inner.Mentioned.{mention_of, shown, texts};
+ghost use Rattle.vl_ast.specs.Nets.{condition_names, item_mentions, mentions, names_read, port_declared, Declares, Drives, Reads};
+ghost use Rattle.vl_check.specs.inner.Mentioned.{kind_of, mention_of, net_declared, shown, texts};
 
 use fx_io::OutOfMemory;
 use std::alloc::Global;
@@ -128,6 +128,38 @@ fn port_declared<'a>(port: &'a Port) -> Declared<'a>
     }
 }
 
+/// Puts the declaration of a net.
+fn push_net<'a>(
+    mentions: &mut Vec<Mention<'a>>,
+    kind: Kind,
+    name: &'a [u8],
+    width: u32,
+    signed: bool,
+) -> Result<(), OutOfMemory>
+    ensures { OnOk result (shown mentions.new.items ≡ shown mentions.old.items
+        ++ Declares (net_declared (kind_of kind) name.now width signed) ∷ []) }
+{
+    let declared = Declared {
+        name,
+        kind,
+        width,
+        signed,
+    };
+    push(mentions, Mention::Declares(declared))
+}
+
+/// Puts the name that an item drives.
+fn push_driven<'a>(
+    mentions: &mut Vec<Mention<'a>>,
+    clocked: bool,
+    name: &'a [u8],
+) -> Result<(), OutOfMemory>
+    ensures { OnOk result (shown mentions.new.items
+        ≡ shown mentions.old.items ++ Drives clocked name.now ∷ []) }
+{
+    push(mentions, Mention::Drives { clocked, name })
+}
+
 fn push_item<'a>(
     alloc: Global,
     mentions: &mut Vec<Mention<'a>>,
@@ -141,37 +173,14 @@ fn push_item<'a>(
             signed,
             width,
             name,
-        } => {
-            let declared = Declared {
-                name: name.bytes(),
-                kind: Kind::PlainWire,
-                width: *width,
-                signed: *signed,
-            };
-            push(mentions, Mention::Declares(declared))
-        }
+        } => push_net(mentions, Kind::PlainWire, name.bytes(), *width, *signed),
         ModItem::Reg {
             signed,
             width,
             name,
-        } => {
-            let declared = Declared {
-                name: name.bytes(),
-                kind: Kind::Register,
-                width: *width,
-                signed: *signed,
-            };
-            push(mentions, Mention::Declares(declared))
-        }
+        } => push_net(mentions, Kind::Register, name.bytes(), *width, *signed),
         ModItem::Assign { name, value } => {
-            let name = name.bytes();
-            push(
-                mentions,
-                Mention::Drives {
-                    clocked: false,
-                    name,
-                },
-            )?;
+            push_driven(mentions, false, name.bytes())?;
             push_reads(alloc, mentions, value)
         }
         ModItem::Always {
@@ -180,15 +189,8 @@ fn push_item<'a>(
             condition,
             value,
         } => {
-            let name = name.bytes();
             push(mentions, Mention::Clocks)?;
-            push(
-                mentions,
-                Mention::Drives {
-                    clocked: true,
-                    name,
-                },
-            )?;
+            push_driven(mentions, true, name.bytes())?;
             push_condition(alloc, mentions, condition)?;
             push_reads(alloc, mentions, value)
         }

@@ -24,8 +24,7 @@ pub fn mentioned<'a>(mention: &Mention<'a>) -> &'a [u8]
 {
     match mention {
         Mention::Declares(declared) => declared.name,
-        Mention::Drives { clocked: _, name } => *name,
-        Mention::Reads(name) => *name,
+        Mention::Drives { name, .. } | Mention::Reads(name) => *name,
         Mention::Clocks => b"clk",
     }
 }

@@ -7,7 +7,7 @@ ghost use Rattle.vl_check.specs.Scope.{IsScopeOf, names_in};
 ghost use Rattle.vl_check.specs.inner.Looped.{AreMarked, AreNamed, IsBeginning, IsTurned, first_some, marked_at, marked_number};
 ghost use Rattle.vl_check.specs.inner.Mentioned.{mention_of, shown};
 
-use crate::assigned::assignments_of;
+use crate::assigned::{Assigned, assignments_of};
 use crate::mentions::Mention;
 use crate::scope::Scope;
 use crate::sorting::{Sorted, place_of, sort};
@@ -59,8 +59,7 @@ fn marked_at(scope: &Scope<'_>, marks: &[bool], mention: &Mention<'_>) -> Option
 {
     match mention {
         Mention::Declares(declared) => marked_number(scope, marks, declared.name),
-        Mention::Drives { clocked: _, name } => marked_number(scope, marks, name),
-        Mention::Reads(name) => marked_number(scope, marks, name),
+        Mention::Drives { name, .. } | Mention::Reads(name) => marked_number(scope, marks, name),
         Mention::Clocks => match marked_number(scope, marks, b"clk") {
             Some(number) => Some(number),
             None => marked_number(scope, marks, b"reset"),
@@ -136,13 +135,13 @@ pub fn ordered(
     requires once { doubly of ≡ None }
     ensures { IfOk result (λ found. IsInOrder of scope.now found) }
 {
-    let assigned = assignments_of(alloc, scope, source.items.as_slice())?;
-    match sort(alloc, assigned.reads.as_slice())? {
-        Sorted::Order(order) => Ok(Assignments::InOrder {
-            order,
-            places: assigned.places,
-        }),
+    let Assigned { places, reads } = assignments_of(alloc, scope, source.items.as_slice())?;
+    let sorted = sort(alloc, reads.as_slice());
+    drop(reads);
+    match sorted? {
+        Sorted::Order(order) => Ok(Assignments::InOrder { order, places }),
         Sorted::Cycle(cycle) => {
+            drop(places);
             let at = beginning(alloc, text, scope, cycle.as_slice())?;
             let names = turned_names(alloc, scope, cycle.as_slice(), at)?;
             Ok(Assignments::InLoop(names))

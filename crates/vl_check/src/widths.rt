@@ -25,22 +25,13 @@ fn is_sound_item(scope: &Scope<'_>, item: &ModItem) -> bool
     ensures { result ≡ is_sound_item (nets_in scope.now) item.now }
 {
     match item {
-        ModItem::Wire {
-            signed: _,
-            width,
-            name: _,
-        } => is_width(*width),
-        ModItem::Reg {
-            signed: _,
-            width,
-            name: _,
-        } => is_width(*width),
-        ModItem::Assign { name: _, value } => is_sound(scope, value),
+        ModItem::Wire { width, .. } | ModItem::Reg { width, .. } => is_width(*width),
+        ModItem::Assign { value, .. } => is_sound(scope, value),
         ModItem::Always {
-            name: _,
             first,
             condition,
             value,
+            ..
         } => { is_number(first) && is_sound_condition(scope, condition) && is_sound(scope, value) }
     }
 }
@@ -49,23 +40,10 @@ fn item_name(item: &ModItem) -> &[u8]
     ensures { result.now ≡ item_name item.now }
 {
     match item {
-        ModItem::Wire {
-            signed: _,
-            width: _,
-            name,
-        } => name.bytes(),
-        ModItem::Reg {
-            signed: _,
-            width: _,
-            name,
-        } => name.bytes(),
-        ModItem::Assign { name, value: _ } => name.bytes(),
-        ModItem::Always {
-            name,
-            first: _,
-            condition: _,
-            value: _,
-        } => name.bytes(),
+        ModItem::Wire { name, .. }
+        | ModItem::Reg { name, .. }
+        | ModItem::Assign { name, .. }
+        | ModItem::Always { name, .. } => name.bytes(),
     }
 }
 

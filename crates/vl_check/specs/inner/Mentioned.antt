@@ -1,5 +1,5 @@
 -- The places of names as the code has them, and as `vl_ast` says them.
-use Rattle.std.specs.Prelude.{ℕ, List, map}
+use Rattle.std.specs.Prelude.{ℕ, Bool, List, map}
 use Rattle.std.specs.Borrow.{Bor}
 use Rattle.vl_ast.specs.Nets.{Kind, InputPort, OutputPort, PlainWire, Register, Declared, Mention, Declares, Drives, Reads, Clocks}
 use Rattle.vl_check.specs.declared.mentions.Kind.{Kind as KindHere}
@@ -13,6 +13,10 @@ kind_of InputHere = InputPort
 kind_of OutputHere = OutputPort
 kind_of WireHere = PlainWire
 kind_of RegisterHere = Register
+
+-- a net that an item declares
+abbrev pub net_declared : Kind → List ℕ → ℕ → Bool → Declared
+net_declared kind name width signed = record { name = name; kind = kind; net = record { width = width; signed = signed } }
 
 abbrev pub declared_of : DeclaredHere → Declared
 declared_of d = record { name = d.name.now; kind = kind_of d.kind; net = record { width = d.width; signed = d.signed } }

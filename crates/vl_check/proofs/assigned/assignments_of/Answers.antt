@@ -1,7 +1,7 @@
-use Rattle.std.proofs.Common.{◌≡◌, ◌+◌, ◌++◌, ◌∷◌, [], length, take, sym, ap, subst, ◌∙◌, arith}
-use Rattle.std.proofs.lemmas.List.{take_more, length-take-le}
+use Rattle.std.proofs.Common.{◌≡◌, ◌≤◌, ◌+◌, ◌++◌, ◌∷◌, [], ℕ, List, Option, None, length, replicate, slice_index_or, take, sym, ap, subst, ◌∙◌, arith, rules}
+use Rattle.std.proofs.lemmas.List.{length-take-le, take_all, take_more}
 use Rattle.vl_check.specs.inner.Assigned.{IsNoted, places_after}
-use Rattle.vl_check.proofs.Noting.{noted-step}
+use Rattle.vl_check.proofs.Noting.{noted-none, noted-step, replicated}
 use Rattle.vl_check.proofs.assigned.assignments_of.Goals as goal
 
 pub loop-at-preserved : goal.loop-at-preserved
@@ -17,3 +17,17 @@ loop-at-preserved c =
     subst (λ xs. IsNoted scope xs c.note.new.places.items c.note.new.reads.items) (sym more)
     (subst (λ ps. IsNoted scope (take at items ++ item ∷ []) ps c.note.new.reads.items) (sym (c.in_ok-note.ensures.places ∙ ap (λ n. places_after scope c.loop-at.places.items n item) (sym long)))
     (subst (λ rs. IsNoted scope (take at items ++ item ∷ []) (places_after scope c.loop-at.places.items (length (take at items)) item) rs) (sym c.in_ok-note.ensures.reads) step))
+
+pub loop-at-init : goal.loop-at-init
+loop-at-init c =
+    let count = c.count.result in
+    let places : c.in_ok-places.places.items ≡ replicate count None = c.in_ok-places.ensures.items_if_clones_equal (search rules) in
+    noted-none c.args.scope.now c.in_ok-places.places.items c.in_ok-reads.reads.items
+    (sym c.in_ok-places.places.ok.0 ∙ c.in_ok-places.ensures.len ∙ c.count.ensures) (c.in_ok-reads.ensures.long ∙ c.count-2.ensures)
+    (λ v. ap (λ (ps : List (Option ℕ)). slice_index_or ps v None) places ∙ replicated None count v) c.in_ok-reads.ensures.empty
+
+pub returns : goal.returns
+returns c =
+    let items = c.args.items.now in
+    let past : length items ≤ c.loop-at.at = c.loop-at-test.false in
+    subst (λ xs. IsNoted c.args.scope.now xs c.loop-at.places.items c.loop-at.reads.items) (take_all c.loop-at.at items past) c.loop-at.invariant

@@ -17,16 +17,16 @@ noted m m' scope items places reads e same n = subst (λ xs. IsNoted scope xs pl
 sorted : (reads reads' : List (List ℕ)) (found found' : Sorted) → reads' ≡ reads → found ≡ found' → IsSorted reads' found → IsSorted reads found'
 sorted reads reads' found found' e same s = subst (λ f. IsSorted reads f) same (subst (λ rs. IsSorted rs found) e s)
 
-pub sort-requires : goal.sort-requires
-sort-requires g c =
-    let a = c.in_ok-assigned.assigned in
-    let n = noted g.of c.args.source.now c.args.scope.now c.as_slice.result.now a.places.items a.reads.items c.as_slice.ensures c.requires.0 c.in_ok-assigned.ensures in
+pub sort-sorted-requires : goal.sort-sorted-requires
+sort-sorted-requires g c =
+    let a = c.in_ok-places.field-0 in
+    let n = noted g.of c.args.source.now c.args.scope.now c.as_slice.result.now a.places.items a.reads.items c.as_slice.ensures c.requires.0 c.in_ok-places.ensures in
     subst (λ rs. AreKnown rs) (sym c.as_slice-2.ensures.value) (reads-known g.of c.args.scope.now a.places.items a.reads.items c.requires.1.1.0 c.requires.1.1.1.0 c.requires.1.1.1.1 n)
 
 pub beginning-requires : goal.beginning-requires
 beginning-requires g c =
-    let a = c.in_ok-assigned.assigned in
-    let n = noted g.of c.args.source.now c.args.scope.now c.as_slice.result.now a.places.items a.reads.items c.as_slice.ensures c.requires.0 c.in_ok-assigned.ensures in
+    let a = c.in_ok-places.field-0 in
+    let n = noted g.of c.args.source.now c.args.scope.now c.as_slice.result.now a.places.items a.reads.items c.as_slice.ensures c.requires.0 c.in_ok-places.ensures in
     let s : IsCycle a.reads.items c.in-Cycle.cycle.items = sorted a.reads.items c.as_slice-2.result.now c.in_ok-order.field-0 _ c.as_slice-2.ensures.value c.in-Cycle.is c.in_ok-order.ensures in
     let named = cycle-named g.of c.args.scope.now a.places.items a.reads.items c.requires.1.1.0 c.requires.1.1.1.0 c.requires.1.1.1.1 n c.in-Cycle.cycle.items s in
     let same = sym c.as_slice-in-Cycle.ensures.value in
@@ -34,8 +34,8 @@ beginning-requires g c =
 
 pub returns-in-Order : goal.returns-in-Order
 returns-in-Order g c =
-    let a = c.in_ok-assigned.assigned in
-    let n = noted g.of c.args.source.now c.args.scope.now c.as_slice.result.now a.places.items a.reads.items c.as_slice.ensures c.requires.0 c.in_ok-assigned.ensures in
+    let a = c.in_ok-places.field-0 in
+    let n = noted g.of c.args.source.now c.args.scope.now c.as_slice.result.now a.places.items a.reads.items c.as_slice.ensures c.requires.0 c.in_ok-places.ensures in
     let s : IsOrder a.reads.items c.in-Order.order.items = sorted a.reads.items c.as_slice-2.result.now c.in_ok-order.field-0 _ c.as_slice-2.ensures.value c.in-Order.is c.in_ok-order.ensures in (
       no-loop g.of c.args.scope.now a.places.items a.reads.items c.requires.1.1.0 c.requires.1.1.1.0 c.requires.1.1.1.1 n c.in-Order.order.items s,
       ordering g.of c.args.scope.now a.places.items a.reads.items c.requires.1.1.0 c.requires.1.1.1.0 c.requires.1.1.1.1 n c.in-Order.order.items s,
@@ -43,8 +43,8 @@ returns-in-Order g c =
 
 pub returns-in_ok-names-in-Cycle : goal.returns-in_ok-names-in-Cycle
 returns-in_ok-names-in-Cycle g c =
-    let a = c.in_ok-assigned.assigned in
-    let n = noted g.of c.args.source.now c.args.scope.now c.as_slice.result.now a.places.items a.reads.items c.as_slice.ensures c.requires.0 c.in_ok-assigned.ensures in
+    let a = c.in_ok-places.field-0 in
+    let n = noted g.of c.args.source.now c.args.scope.now c.as_slice.result.now a.places.items a.reads.items c.as_slice.ensures c.requires.0 c.in_ok-places.ensures in
     let s : IsCycle a.reads.items c.in-Cycle.cycle.items = sorted a.reads.items c.as_slice-2.result.now c.in_ok-order.field-0 _ c.as_slice-2.ensures.value c.in-Cycle.is c.in_ok-order.ensures in
     let begins = subst (λ xs. IsBeginning g.of c.args.scope.now xs c.in_ok-at-in-Cycle.at) c.as_slice-in-Cycle.ensures.value c.in_ok-at-in-Cycle.ensures in
     let turned = subst (λ xs. IsTurned (names_in c.args.scope.now) xs c.in_ok-at-in-Cycle.at c.in_ok-names-in-Cycle.names) c.as_slice-in-Cycle-2.ensures.value c.in_ok-names-in-Cycle.ensures in
