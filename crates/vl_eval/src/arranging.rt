@@ -277,11 +277,11 @@ fn arranged_by(
     let mut entries = entries(alloc, ops, base)?;
     entries.sort_unstable();
     let places = places_of(alloc, entries.as_slice(), base)?;
-    let arranged = in_order(alloc, ops, entries.as_slice(), base, places.as_slice())?;
     let slots = moved_slots(alloc, slots, base, places.as_slice())?;
     let captures = moved_captures(alloc, captures, base, places.as_slice())?;
+    let ops = in_order(alloc, ops, entries.as_slice(), base, places.as_slice())?;
     Ok(Arranged {
-        ops: arranged,
+        ops,
         slots,
         captures,
     })

@@ -37,31 +37,31 @@ fn op_in(step: Step, wide: &[Op]) -> Op
     ensures { result ≡ op_in wide.now step }
 {
     match step {
-        Step::Constant(bits) => Op::Constant(u128::from(bits)),
+        Step::Constant(bits) => Op::Constant(bits as u128),
         Step::Extended { part, half, fill } => Op::Extended {
             part: part as usize,
-            half: u128::from(half),
-            fill: u128::from(fill),
+            half: half as u128,
+            fill: fill as u128,
         },
         Step::Select { part, low, mask } => Op::Select {
             part: part as usize,
             low,
-            mask: u128::from(mask),
+            mask: mask as u128,
         },
         Step::Add { left, right, mask } => Op::Add {
             left: left as usize,
             right: right as usize,
-            mask: u128::from(mask),
+            mask: mask as u128,
         },
         Step::Subtract { left, right, mask } => Op::Subtract {
             left: left as usize,
             right: right as usize,
-            mask: u128::from(mask),
+            mask: mask as u128,
         },
         Step::Multiply { left, right, mask } => Op::Multiply {
             left: left as usize,
             right: right as usize,
-            mask: u128::from(mask),
+            mask: mask as u128,
         },
         Step::And { left, right } => Op::And {
             left: left as usize,
@@ -86,12 +86,12 @@ fn op_in(step: Step, wide: &[Op]) -> Op
         Step::Less { left, right, half } => Op::Less {
             left: left as usize,
             right: right as usize,
-            half: u128::from(half),
+            half: half as u128,
         },
         Step::LessEqual { left, right, half } => Op::LessEqual {
             left: left as usize,
             right: right as usize,
-            half: u128::from(half),
+            half: half as u128,
         },
         Step::Both { left, right } => Op::Both {
             left: left as usize,
@@ -103,11 +103,11 @@ fn op_in(step: Step, wide: &[Op]) -> Op
         },
         Step::Negate { part, mask } => Op::Negate {
             part: part as usize,
-            mask: u128::from(mask),
+            mask: mask as u128,
         },
         Step::Invert { part, mask } => Op::Invert {
             part: part as usize,
-            mask: u128::from(mask),
+            mask: mask as u128,
         },
         Step::IsZero { part } => Op::IsZero {
             part: part as usize,
@@ -115,7 +115,7 @@ fn op_in(step: Step, wide: &[Op]) -> Op
         Step::Up { part, places, mask } => Op::Up {
             part: part as usize,
             places,
-            mask: u128::from(mask),
+            mask: mask as u128,
         },
         Step::SignedDown {
             places,
@@ -124,9 +124,9 @@ fn op_in(step: Step, wide: &[Op]) -> Op
             mask,
         } => Op::SignedDown {
             part: part as usize,
-            places: u32::from(places),
-            half: u128::from(half),
-            mask: u128::from(mask),
+            places: places as u32,
+            half: half as u128,
+            mask: mask as u128,
         },
         Step::Choose {
             test,
@@ -154,7 +154,7 @@ fn op_in(step: Step, wide: &[Op]) -> Op
             kept,
         } => Op::Next {
             reset: reset as usize,
-            first: u128::from(first),
+            first: first as u128,
             test: test as usize,
             value: value as usize,
             kept: kept as usize,

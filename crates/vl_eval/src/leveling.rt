@@ -18,79 +18,38 @@ pub fn reads_of(op: Op) -> Reads
     ensures { result ≡ reads_of op }
 {
     match op {
-        Op::Constant(_bits) => Reads::Nothing,
-        Op::Extended {
-            part,
-            half: _,
-            fill: _,
-        } => Reads::One(part),
-        Op::Select {
-            part,
-            low: _,
-            mask: _,
-        } => Reads::One(part),
-        Op::Add {
-            left,
-            right,
-            mask: _,
-        } => Reads::Two(left, right),
-        Op::Subtract {
-            left,
-            right,
-            mask: _,
-        } => Reads::Two(left, right),
-        Op::Multiply {
-            left,
-            right,
-            mask: _,
-        } => Reads::Two(left, right),
-        Op::And { left, right } => Reads::Two(left, right),
-        Op::Or { left, right } => Reads::Two(left, right),
-        Op::Xor { left, right } => Reads::Two(left, right),
-        Op::Equal { left, right } => Reads::Two(left, right),
-        Op::NotEqual { left, right } => Reads::Two(left, right),
-        Op::Less {
-            left,
-            right,
-            half: _,
-        } => Reads::Two(left, right),
-        Op::LessEqual {
-            left,
-            right,
-            half: _,
-        } => Reads::Two(left, right),
-        Op::Both { left, right } => Reads::Two(left, right),
-        Op::Either { left, right } => Reads::Two(left, right),
-        Op::Negate { part, mask: _ } => Reads::One(part),
-        Op::Invert { part, mask: _ } => Reads::One(part),
-        Op::IsZero { part } => Reads::One(part),
-        Op::Up {
-            part,
-            places: _,
-            mask: _,
-        } => Reads::One(part),
-        Op::SignedDown {
-            part,
-            places: _,
-            half: _,
-            mask: _,
-        } => Reads::One(part),
+        Op::Constant(_) => Reads::Nothing,
+        Op::Extended { part, .. }
+        | Op::Select { part, .. }
+        | Op::Negate { part, .. }
+        | Op::Invert { part, .. }
+        | Op::IsZero { part }
+        | Op::Up { part, .. }
+        | Op::SignedDown { part, .. } => Reads::One(part),
+        Op::Add { left, right, .. }
+        | Op::Subtract { left, right, .. }
+        | Op::Multiply { left, right, .. }
+        | Op::And { left, right }
+        | Op::Or { left, right }
+        | Op::Xor { left, right }
+        | Op::Equal { left, right }
+        | Op::NotEqual { left, right }
+        | Op::Less { left, right, .. }
+        | Op::LessEqual { left, right, .. }
+        | Op::Both { left, right }
+        | Op::Either { left, right }
+        | Op::Beside { left, right, .. } => Reads::Two(left, right),
         Op::Choose {
             test,
             chosen,
             other,
         } => Reads::Three(test, chosen, other),
-        Op::Beside {
-            left,
-            right,
-            places: _,
-        } => Reads::Two(left, right),
         Op::Next {
             reset,
-            first: _,
             test,
             value,
             kept,
+            ..
         } => Reads::Four(reset, test, value, kept),
     }
 }

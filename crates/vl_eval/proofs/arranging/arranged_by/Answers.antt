@@ -25,7 +25,7 @@ in_order-requires c =
     let sorted = c.sort_unstable.new.self.items in
     let same = c.sort_unstable.ensures.permutation in
     let rising = IsNonDecreasingBy-from_sort (λ x. x) sorted c.sort_unstable.ensures.sorted in
-    subst (λ xs. (i : ℕ) → i < length xs → number_of (slice_index xs i) < length ops) (sym c.as_slice-2.ensures.value)
+    subst (λ xs. (i : ℕ) → i < length xs → number_of (slice_index xs i) < length ops) (sym c.as_slice-4.ensures.value)
     (numbers-low c.args.base ops c.in_ok-entries.entries.items sorted sorted few c.requires.ordered all same rising)
 
 pub returns : goal.returns
@@ -40,8 +40,8 @@ returns c =
     let rising = IsNonDecreasingBy-from_sort (λ x. x) sorted c.sort_unstable.ensures.sorted in
     let places = c.in_ok-places.places.items in
     let there = subst (λ xs. ArePlaces base xs (length xs) places) c.as_slice.ensures.value c.in_ok-places.ensures in
-    let is : c.in_ok-arranged.arranged ≡ map (op_at base places ops) sorted =
-    c.in_ok-arranged.ensures ∙ (λ i. map (op_at base (c.as_slice-3.ensures.value i) ops) (c.as_slice-2.ensures.value i)) in
+    let is : c.in_ok-ops.ops ≡ map (op_at base places ops) sorted =
+    c.in_ok-ops.ensures ∙ (λ i. map (op_at base (c.as_slice-5.ensures.value i) ops) (c.as_slice-4.ensures.value i)) in
     record {
       move = moved base places;
       fixed = moved-fixed base places;
@@ -49,6 +49,6 @@ returns c =
       long = ap length is ∙ arranged-long base ops entries sorted places few c.requires.ordered all same rising there;
       ordered = subst (λ os. IsOrdered base os) (sym is) (arranged-ordered base ops entries sorted places few c.requires.ordered all same rising there);
       settled = λ values s. arranged-settled base ops entries sorted places few c.requires.ordered all same rising there values (subst (λ os. IsSettled base os values) is s);
-      slots_are = c.in_ok-slots.ensures ∙ (λ i. map (moved base (c.as_slice-4.ensures.value i)) c.args.slots.now);
-      captures_are = c.in_ok-captures.ensures ∙ (λ i. map (moved_capture (moved base (c.as_slice-5.ensures.value i))) c.args.captures.now);
+      slots_are = c.in_ok-slots.ensures ∙ (λ i. map (moved base (c.as_slice-2.ensures.value i)) c.args.slots.now);
+      captures_are = c.in_ok-captures.ensures ∙ (λ i. map (moved_capture (moved base (c.as_slice-3.ensures.value i))) c.args.captures.now);
     }
