@@ -72,12 +72,6 @@ module _ {A : Type 0} (test : A → Bool) (xs : List A) (i : ℕ) (outside : len
 
 -- ---- items more
 
-pub put-first : {A : Type 0} (old more : List A) (x item : A) → more ≡ old ++ x ∷ [] → x ≡ item → more ≡ old ++ item ∷ []
-put-first old more x item put is = put ∙ ap (λ y. old ++ y ∷ []) is
-
-pub put-more : {A : Type 0} (old items more front : List A) (x item : A) → items ≡ old ++ front → more ≡ items ++ x ∷ [] → x ≡ item → more ≡ old ++ (front ++ item ∷ [])
-put-more old items more front x item are put is = put ∙ (λ i. are i ++ is i ∷ []) ∙ append_assoc old front (item ∷ [])
-
 pub put-next : {A : Type 0} (old items more front : List A) (item : A) → items ≡ old ++ front → more ≡ items ++ item ∷ [] → more ≡ old ++ (front ++ item ∷ [])
 put-next old items more front item are put = put ∙ ap (λ xs. xs ++ item ∷ []) are ∙ append_assoc old front (item ∷ [])
 

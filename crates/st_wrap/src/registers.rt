@@ -6,7 +6,7 @@ ghost use Rattle.st_wrap.specs.inner.Columns.{held_declared, held_driven, late_d
 ghost use Rattle.st_wrap.specs.inner.Columns.{stage_declared, stage_driven, stage_name};
 
 use crate::columns::Column;
-use crate::expressions::{moving, named, plain};
+use crate::expressions::{choose, moving, named, plain};
 use crate::names::{held_name, inner_name, late_name};
 use fx_io::{Boxed, OutOfMemory, Text};
 use std::alloc::Global;
@@ -35,10 +35,13 @@ fn fresh_or_held(alloc: Global, column: &Column) -> Result<Expr, OutOfMemory>
     ensures { IfOk result (λ e. e ≡ Choose (Name begin_name) (Name column.now.name)
         (Name (held_name column.now.name))) }
 {
-    let begin = named(alloc, b"fx_begin")?;
-    let fresh = named(alloc, column.name.bytes())?;
     let held = Expr::Name(held_name(alloc, column.name.bytes())?);
-    Ok(Expr::Choose(begin, fresh, Boxed::new(alloc, held)?))
+    let held = Boxed::new(alloc, held);
+    choose(
+        named(alloc, b"fx_begin"),
+        named(alloc, column.name.bytes()),
+        held,
+    )
 }
 
 fn drive_input(alloc: Global, column: &Column, items: &mut ModItems) -> Result<(), OutOfMemory>

@@ -4,6 +4,7 @@ ghost use Rattle.vl_ast.specs.declared.modules.ModItem.TheVariants.{Always};
 ghost use Rattle.st_wrap.specs.inner.Names.{inner_name};
 ghost use Rattle.st_wrap.specs.inner.Renamed.{core_items, renamed, renamed_condition, renamed_item, wires_of};
 
+use crate::expressions::{binary, boxed, choose};
 use crate::names::{inner_name, is_shared};
 use fx_io::{Boxed, OutOfMemory};
 use std::alloc::Global;
@@ -28,19 +29,17 @@ fn renamed(alloc: Global, e: &Expr) -> Result<Expr, OutOfMemory>
         Expr::AsUnsigned(part) => Ok(Expr::AsUnsigned(renamed_boxed(alloc, part.get())?)),
         Expr::Unary(op, part) => Ok(Expr::Unary(*op, renamed_boxed(alloc, part.get())?)),
         Expr::Binary(op, left, right) => {
-            let left = renamed_boxed(alloc, left.get())?;
-            let right = renamed_boxed(alloc, right.get())?;
-            Ok(Expr::Binary(*op, left, right))
+            let left = renamed_boxed(alloc, left.get());
+            binary(*op, left, renamed_boxed(alloc, right.get()))
         }
         Expr::Shift(op, part, amount) => {
             let part = renamed_boxed(alloc, part.get())?;
             Ok(Expr::Shift(*op, part, *amount))
         }
         Expr::Choose(test, chosen, other) => {
-            let test = renamed_boxed(alloc, test.get())?;
-            let chosen = renamed_boxed(alloc, chosen.get())?;
-            let other = renamed_boxed(alloc, other.get())?;
-            Ok(Expr::Choose(test, chosen, other))
+            let test = renamed_boxed(alloc, test.get());
+            let chosen = renamed_boxed(alloc, chosen.get());
+            choose(test, chosen, renamed_boxed(alloc, other.get()))
         }
     }
 }
@@ -49,7 +48,7 @@ fn renamed(alloc: Global, e: &Expr) -> Result<Expr, OutOfMemory>
 fn renamed_boxed(alloc: Global, e: &Expr) -> Result<Boxed<Expr>, OutOfMemory>
     ensures { IfOk result (λ made. made ≡ renamed e.now) }
 {
-    Boxed::new(alloc, renamed(alloc, e)?)
+    boxed(alloc, renamed(alloc, e))
 }
 
 #[cycle(renaming)]

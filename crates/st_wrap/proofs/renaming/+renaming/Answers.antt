@@ -1,5 +1,6 @@
-use Rattle.std.proofs.Common.{◌∙◌, map, ap}
-use Rattle.vl_ast.specs.declared.expressions.Expr.TheVariants.{Name, Bit, Part, Concat, Repeat, AsSigned, AsUnsigned, Unary, Binary, Shift, Choose}
+use Rattle.std.proofs.Common.{◌≡◌, ◌∙◌, IfOk, map, ap, subst}
+use Rattle.vl_ast.specs.declared.expressions.Expr.{Expr}
+use Rattle.vl_ast.specs.declared.expressions.Expr.TheVariants.{Name, Bit, Part, Concat, Repeat, AsSigned, AsUnsigned, Unary, Shift}
 use Rattle.st_wrap.specs.inner.Names.{inner_name}
 use Rattle.st_wrap.specs.inner.Renamed.{renamed}
 use Rattle.st_wrap.proofs.Forms.{of-name, of-bit, of-part, of-literal, of-concat, of-repeat, of-signed, of-unsigned, of-unary, of-binary, of-shift, of-choose}
@@ -54,20 +55,20 @@ renamed-returns-in_ok-part-in-Shift t c =
     ap (λ made. Shift c.in-Shift.op made c.in-Shift.amount) (c.in_ok-part-in-Shift.ensures ∙ ap renamed c.get-in-Shift.ensures)
     ∙ of-shift c.in-Shift.op c.in-Shift.part c.in-Shift.amount c.args.e.now c.in-Shift.is
 
-pub renamed-returns-in_ok-right-in-Binary : goal.renamed-returns-in_ok-right-in-Binary
-renamed-returns-in_ok-right-in-Binary t c =
-    let left = c.in_ok-left-in-Binary.ensures ∙ ap renamed c.get-in-Binary.ensures in
-    let right = c.in_ok-right-in-Binary.ensures ∙ ap renamed c.get-in-Binary-2.ensures in
-    ap (λ made. Binary c.in-Binary.op made c.in_ok-right-in-Binary.right) left
-    ∙ ap (λ made. Binary c.in-Binary.op (renamed c.in-Binary.left) made) right
-    ∙ of-binary c.in-Binary.op c.in-Binary.left c.in-Binary.right c.args.e.now c.in-Binary.is
+pub renamed-returns-in-Binary : goal.renamed-returns-in-Binary
+renamed-returns-in-Binary t c =
+    let left = subst (λ (e : Expr). IfOk c.renamed_boxed-left.result (λ made. made ≡ renamed e)) c.get-in-Binary.ensures c.renamed_boxed-left.ensures in
+    let right = subst (λ (e : Expr). IfOk c.renamed_boxed-in-Binary.result (λ made. made ≡ renamed e)) c.get-in-Binary-2.ensures c.renamed_boxed-in-Binary.ensures in
+    subst (λ (e : Expr). IfOk c.binary.result (λ made. made ≡ e)) (of-binary c.in-Binary.op c.in-Binary.left c.in-Binary.right c.args.e.now c.in-Binary.is)
+    (c.binary.ensures (renamed c.in-Binary.left) (renamed c.in-Binary.right) left right)
 
-pub renamed-returns-in_ok-other-in-Choose : goal.renamed-returns-in_ok-other-in-Choose
-renamed-returns-in_ok-other-in-Choose t c =
-    let test = c.in_ok-test-in-Choose.ensures ∙ ap renamed c.get-in-Choose.ensures in
-    let chosen = c.in_ok-chosen-in-Choose.ensures ∙ ap renamed c.get-in-Choose-2.ensures in
-    let other = c.in_ok-other-in-Choose.ensures ∙ ap renamed c.get-in-Choose-3.ensures in
-    ap (λ made. Choose made c.in_ok-chosen-in-Choose.chosen c.in_ok-other-in-Choose.other) test
-    ∙ ap (λ made. Choose (renamed c.in-Choose.test) made c.in_ok-other-in-Choose.other) chosen
-    ∙ ap (λ made. Choose (renamed c.in-Choose.test) (renamed c.in-Choose.chosen) made) other
-    ∙ of-choose c.in-Choose.test c.in-Choose.chosen c.in-Choose.other c.args.e.now c.in-Choose.is
+pub renamed-returns-in-Choose : goal.renamed-returns-in-Choose
+renamed-returns-in-Choose t c =
+    let test = subst (λ (e : Expr). IfOk c.renamed_boxed-test.result (λ made. made ≡ renamed e)) c.get-in-Choose.ensures c.renamed_boxed-test.ensures in
+    let chosen = subst (λ (e : Expr). IfOk c.renamed_boxed-chosen.result (λ made. made ≡ renamed e)) c.get-in-Choose-2.ensures c.renamed_boxed-chosen.ensures in
+    let other = subst (λ (e : Expr). IfOk c.renamed_boxed-in-Choose.result (λ made. made ≡ renamed e)) c.get-in-Choose-3.ensures c.renamed_boxed-in-Choose.ensures in
+    subst (λ (e : Expr). IfOk c.choose.result (λ made. made ≡ e)) (of-choose c.in-Choose.test c.in-Choose.chosen c.in-Choose.other c.args.e.now c.in-Choose.is)
+    (c.choose.ensures (renamed c.in-Choose.test) (renamed c.in-Choose.chosen) (renamed c.in-Choose.other) test chosen other)
+
+pub renamed_boxed-returns : goal.renamed_boxed-returns
+renamed_boxed-returns t c = c.boxed.ensures _ c.renamed.ensures
