@@ -1,9 +1,9 @@
 -- Rows that are filled edge by edge hold the readers of a diagram, and with the sources they are its links.
-use Rattle.std.proofs.Common.{◌≡◌, ℕ, zero, suc, ◌+◌, ◌<◌, ◌≤◌, Bool, true, false, List, [], ◌∷◌, ◌++◌, length, map, filter, cond, set, All, Some, Option, get_or, eqb, refl, sym, ap, subst, ◌∙◌, inl, inr, arith, append-nil}
+use Rattle.std.proofs.Common.{◌≡◌, ℕ, zero, suc, ◌+◌, ◌<◌, ◌≤◌, Bool, true, false, List, [], ◌∷◌, ◌++◌, length, replicate, map, filter, cond, set, All, Some, Option, get_or, eqb, refl, sym, ap, subst, ◌∙◌, inl, inr, arith, append-nil}
 use Rattle.std.specs.Prelude.{slice_get, unwrap_or, ◌==◌}
 use Rattle.std.proofs.lemmas.Bool.{cases_lt, cases_Bool, eqb-true, eqb-false}
 use Rattle.std.proofs.lemmas.Bool.Decides.{Decides-by_and, Decides-eqb, nat_tests}
-use Rattle.std.proofs.lemmas.List.{length-set, get_or-set_same, get_or-set_other, get_or_append_left, map-append}
+use Rattle.std.proofs.lemmas.List.{get_or-replicate, get_or_past, length-replicate, length-set, get_or-set_same, get_or-set_other, get_or_append_left, map-append}
 use Rattle.std.proofs.Math.Seq.{get_or-append_seam}
 use Rattle.std.proofs.lemmas.List.Elements.{filter-append}
 use Rattle.std.proofs.lemmas.Option.{unwrap_or-slice_get, slice_get_past, slice_get-get_or, none-some, same_Some}
@@ -59,6 +59,25 @@ known_more count done rows edge inside to_inside before =
             | inr e ↦ rw (get_or-set_other rows edge.from k added [] (λ s. eqb-false edge.from k e (sym s))) (before.there k)
           ];
     }
+
+-- before the first edge
+pub known_none : (count : ℕ) (rows : List (List ℕ)) → length rows ≡ count → ((k : ℕ) → k < count → get_or rows k [] ≡ k ∷ []) → Known count [] rows
+known_none count rows size own = record {
+  size = size;
+  own = λ k below. subst (λ (row : List ℕ). is_in k row ≡ true) (sym (own k below)) (is_in_last [] k k refl);
+  known = λ j edge at. absurd (none-some edge at);
+  there = λ k.
+      elim (cases_lt k count) [
+        | inl below ↦ rw (own k below) (all_push (λ reader. reader < count) [] k (λ i d none. absurd (omega (arith, none))) below)
+        | inr past ↦ rw (get_or_past rows k [] (omega (arith, past, size))) (λ i d inside. absurd (omega (arith, inside)))
+      ];
+}
+
+pub gathered_none : {A : Type 0} (count : ℕ) (f : Edge → A) (rows : List (List A)) → rows ≡ replicate count [] → Gathered count f [] rows
+gathered_none {A} count f rows empty = record {
+  size = ap length empty ∙ length-replicate count [];
+  row = λ k there. ap (λ (all : List (List A)). get_or all k []) empty ∙ get_or-replicate count k [] [] there;
+}
 
 -- what a row holds of one edge more
 one_edge : {A : Type 0} (f : Edge → A) (done : List Edge) (edge : Edge) (k : ℕ) (b : Bool) → eqb edge.to k ≡ b →

@@ -20,7 +20,7 @@ use fx_type::FxType;
 use std::alloc::Global;
 
 /// The types of a diagram's blocks (Simulink reference, signal data types).
-#[derive(Debug, Drop)]
+#[derive(Drop)]
 pub struct BlockTypes {
     /// The type of the outputs of each block; Logical where it has no output and nothing gives it
     /// one.

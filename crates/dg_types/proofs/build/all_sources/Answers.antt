@@ -1,9 +1,10 @@
-use Rattle.std.proofs.Common.{take, get_or, arith}
-use Rattle.std.proofs.lemmas.List.{take_more}
+use Rattle.std.proofs.Common.{List, length, take, get_or, subst, arith}
+use Rattle.std.proofs.lemmas.List.{take_all, take_more}
 use Rattle.std.proofs.lemmas.Option.{slice_get-get_or}
 use Rattle.dg_model.specs.declared.diagram.Edge.{Edge}
+use Rattle.dg_types.specs.inner.Build.{Gathered}
 use Rattle.dg_types.specs.inner.Shown.{source_of}
-use Rattle.dg_types.proofs.Built.{gathered_more}
+use Rattle.dg_types.proofs.Built.{gathered_more, gathered_none}
 use Rattle.dg_types.proofs.build.all_sources.Goals as goal
 
 abbrev none : Edge
@@ -30,3 +31,12 @@ loop-edge-preserved c =
     let there = c.requires.can.ends i (get_or edges i none) (slice_get-get_or edges i none c.loop-edge-test.true) in
     rw (take_more edges i none c.loop-edge-test.true, c.in_ok-push_at.ensures, c.source_of-source.ensures)
     (gathered_more _ (source_of c.args.blocks.now) (take i edges) c.loop-edge.rows.items (get_or edges i none) there.1 c.loop-edge.invariant)
+
+pub loop-edge-init : goal.loop-edge-init
+loop-edge-init c = gathered_none _ _ c.in_ok-rows.rows.items c.in_ok-rows.ensures
+
+pub returns : goal.returns
+returns c =
+    let blocks = c.args.blocks.now in
+    subst (λ (done : List Edge). Gathered (length blocks) (source_of blocks) done c.loop-edge.rows.items)
+    (take_all c.loop-edge.edge-index c.args.edges.now (omega (arith, c.loop-edge-test.false))) c.loop-edge.invariant

@@ -1,6 +1,6 @@
 use Rattle.std.proofs.Common.{◌≡◌, ℕ, List, [], ◌∷◌, ◌++◌, length, ap, ◌∙◌, arith}
 use Rattle.std.proofs.lemmas.List.{length-append}
-use Rattle.dg_types.proofs.Built.{own_more}
+use Rattle.dg_types.proofs.Built.{known_none, own_more}
 use Rattle.dg_types.proofs.build.own_rows.Goals as goal
 
 pub loop-k-init : goal.loop-k-init
@@ -15,3 +15,8 @@ loop-k-preserved c =
       size = ap length c.in_ok-push-2.ensures.items ∙ omega (arith, before.size, length-append rows (c.push.new.self ∷ []));
       own = rw c.in_ok-push-2.ensures.items (own_more rows c.loop-k.k c.push.new.self before.size own before.own);
     }
+
+pub returns : goal.returns
+returns c =
+    let all : c.loop-k.k ≡ c.args.count = omega (arith, c.loop-k-test.false, c.loop-k.auto.k-end) in
+    known_none c.args.count c.loop-k.rows.items (c.loop-k.invariant.size ∙ all) (λ k below. c.loop-k.invariant.own k (omega (arith, all, below)))
