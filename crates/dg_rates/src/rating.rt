@@ -8,7 +8,7 @@ use crate::agreeing::check_periods;
 use crate::declared::{base_period, first_periods};
 use crate::rounds::PeriodRound;
 use dg_model::{CheckFault, Diagram};
-use fx_io::Periods;
+use fx_io::{OutOfMemory, Periods};
 use std::alloc::Global;
 
 /// The period of each block of a diagram in base samples, in file order; `None` is a value that
@@ -33,7 +33,22 @@ pub fn rates(alloc: Global, diagram: &Diagram) -> Result<Periods, CheckFault>
     let base = base_period(diagram);
     let first = first_periods(alloc, diagram, base)?;
     let round = PeriodRound::of(alloc, diagram)?;
-    let periods = round.periods(alloc, diagram, first)?;
-    check_periods(alloc, diagram, &round.links, periods.as_slice())?;
-    Ok(periods)
+    let periods = match round.periods(alloc, diagram, first) {
+        Ok(periods) => periods,
+        Err(OutOfMemory) => {
+            drop(round);
+            return Err(CheckFault::OutOfMemory);
+        }
+    };
+    match check_periods(alloc, diagram, &round.links, periods.as_slice()) {
+        Ok(()) => {
+            drop(round);
+            Ok(periods)
+        }
+        Err(fault) => {
+            drop(round);
+            drop(periods);
+            Err(fault)
+        }
+    }
 }
