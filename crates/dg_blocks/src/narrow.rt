@@ -69,6 +69,8 @@ fn bias_of(mode: Rounding, down: u32) -> Bias
     ensures below { (pos 0 ≤ℤ result.below) × (result.below ≤ℤ pos (2 ^ 60)) }
 {
     let half = half_of(down);
+    let less = half - 1;
+    let most = half + less;
     match mode {
         Rounding::Floor => Bias {
             bias: 0,
@@ -76,13 +78,13 @@ fn bias_of(mode: Rounding, down: u32) -> Bias
             even: false,
         },
         Rounding::Ceiling => Bias {
-            bias: half + (half - 1),
-            below: half + (half - 1),
+            bias: most,
+            below: most,
             even: false,
         },
         Rounding::Zero => Bias {
             bias: 0,
-            below: half + (half - 1),
+            below: most,
             even: false,
         },
         Rounding::Nearest => Bias {
@@ -92,12 +94,12 @@ fn bias_of(mode: Rounding, down: u32) -> Bias
         },
         Rounding::Round => Bias {
             bias: half,
-            below: half - 1,
+            below: less,
             even: false,
         },
         Rounding::Convergent => Bias {
-            bias: half - 1,
-            below: half - 1,
+            bias: less,
+            below: less,
             even: true,
         },
     }

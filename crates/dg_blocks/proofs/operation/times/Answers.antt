@@ -27,3 +27,21 @@ returns c =
     let r : to_z w128 (of_z w128 c.settled.result) ≡ c.settled.result = to_z-of_z w128 c.settled.result (record { sfits = c.settled.type_inv }) in
     let converted = c.settled.ensures full (sym (full_frac (goal.at.returns c).After-frac-2)) in
     (full, c.requires.full.1, rw r (rw product at converted))
+
+pub product-requires-clause-left : goal.product-requires-clause-left
+product-requires-clause-left c = c.requires.left
+
+pub product-requires-clause-right : goal.product-requires-clause-right
+product-requires-clause-right c = c.requires.right
+
+pub product-requires-clause-x_in_range : goal.product-requires-clause-x_in_range
+product-requires-clause-x_in_range c = rw (to_z-of_z w128 c.args.x c.ranges.x) c.requires.x_in_range
+
+pub product-requires-clause-y_in_range : goal.product-requires-clause-y_in_range
+product-requires-clause-y_in_range c = rw (to_z-of_z w128 c.args.y c.ranges.y) c.requires.y_in_range
+
+pub product-requires-clause-full : goal.product-requires-clause-full
+product-requires-clause-full c = c.requires.full
+
+pub settled-requires-clause-result : goal.settled-requires-clause-result
+settled-requires-clause-result c = c.requires.result

@@ -40,3 +40,15 @@ returns c from to mode saturate is =
     let q : c.bias_for.result ≡ bias_for (c.args.v *ℤ c.args.self.scale) c.args.self.bias c.args.self.below = rw p at c.bias_for.ensures in
     let shifted : IsShifted (c.args.v *ℤ c.args.self.scale) (bias_for (c.args.v *ℤ c.args.self.scale) c.args.self.bias c.args.self.below) c.args.self.even (2 ^ c.args.self.down) c.shifted.result = rw (p, k, q) at c.shifted.ensures in
     rw t (narrow_converts c.args.self from to mode saturate c.args.v c.shifted.result c.settled.result is shifted (rw r at (c.settled.ensures to saturate is.ends)))
+
+pub overflow_mul-scaled : goal.overflow_mul-scaled
+overflow_mul-scaled c =
+    let f : FitsSigned w64 c.args.self.scale = search rules in
+    let p : FitsSigned w64 (c.args.v *ℤ c.args.self.scale) = omega (arith, ints, c.requires.small.low, c.requires.small.high) in
+    rw (to_z-of_z w64 c.args.v c.ranges.v, to_z-of_z w64 c.args.self.scale f) p
+
+pub settled-requires : goal.settled-requires
+settled-requires c = (c.requires.narrow.1, c.requires.narrow.3, c.requires.narrow.4.ends)
+
+pub shifted-requires-clause-down : goal.shifted-requires-clause-down
+shifted-requires-clause-down c = c.requires.narrow.4.shifts.down_below
