@@ -146,6 +146,13 @@ pub fn program_of(alloc: Global, checked: &Checked) -> Result<Program, OutOfMemo
         memories: Memories::new(alloc),
         outputs: Sizes::new(alloc),
     };
-    put_all(alloc, checked, &starts, &mut program)?;
-    Ok(program)
+    let put = put_all(alloc, checked, &starts, &mut program);
+    drop(starts);
+    match put {
+        Ok(()) => Ok(program),
+        Err(wanting) => {
+            drop(program);
+            Err(wanting)
+        }
+    }
 }

@@ -1,4 +1,4 @@
-use Rattle.std.proofs.Common.{ap, sym, subst, FitsSigned, rules}
+use Rattle.std.proofs.Common.{ap, sym, subst, FitsSigned}
 use Rattle.std.specs.Int.{w128}
 use Rattle.std.proofs.lemmas.Int.{to_z-of_z}
 use Rattle.std.proofs.lemmas.Option.{slice_get_within}
@@ -26,7 +26,7 @@ remember-requires-clause-moves c =
 pub returns : goal.returns
 returns c =
     let diagram = c.args.turn.checked.now.diagram in
-    let fits : FitsSigned w128 c.stored-first.result = search rules in
+    let fits : FitsSigned w128 c.stored-first.result = record { sfits = c.stored-first.type_inv } in
     let stores = subst (λ (kind : FxType). StoresEntry c.args.initial.now c.args.turn.place.element kind c.stored-first.result) (c.result.ensures 1) c.stored-first.ensures in
     rw (to_z-of_z w128 c.stored-first.result fits)
     (delay_made diagram (attributes_of diagram) c.args.program.now c.remember.new.program c.args.turn.place c.args.turn.block.now c.requires.turn.shown.block_is c.kept_moves.ensures.read c.args.turn.cell c.in_ok-memory.memory c.args.length c.args.initial.now c.args.reset c.stored-first.result

@@ -1,4 +1,4 @@
-use Rattle.std.proofs.Common.{◌∙◌, List, Bool, ap, sym, subst, ◌<◌, FitsSigned, rules, refl}
+use Rattle.std.proofs.Common.{◌∙◌, List, Bool, ap, sym, subst, ◌<◌, FitsSigned, refl}
 use Rattle.std.specs.Int.{w128}
 use Rattle.std.proofs.lemmas.Int.{to_z-of_z}
 use Rattle.std.proofs.lemmas.Option.{slice_get_within}
@@ -27,7 +27,7 @@ stored-first-requires-clause-kind c =
 pub returns-then-reset : goal.returns-then-reset
 returns-then-reset c =
     let diagram = c.args.turn.checked.now.diagram in
-    let fits : FitsSigned w128 c.stored-first.result = search rules in
+    let fits : FitsSigned w128 c.stored-first.result = record { sfits = c.stored-first.type_inv } in
     let stores = subst (λ (kind : FxType). StoresEntry c.args.initial.now c.args.turn.place.element kind c.stored-first.result) (c.result.ensures 1) c.stored-first.ensures in
     let reads = subst (λ (places : List Place). Reads diagram (attributes_of diagram) places c.args.turn.place.block 1 c.args.turn.place.element c.input-from.result) c.as_slice-places.ensures c.input-from.ensures.reads in
     let kind = c.requires.kind ∙ ap (λ (reset : Bool). EnOut reset c.args.initial.now) c.if-reset.true in
@@ -52,7 +52,7 @@ remember-requires-clause-moves c =
 pub returns : goal.returns
 returns c =
     let diagram = c.args.turn.checked.now.diagram in
-    let fits : FitsSigned w128 c.stored-first.result = search rules in
+    let fits : FitsSigned w128 c.stored-first.result = record { sfits = c.stored-first.type_inv } in
     let stores = subst (λ (kind : FxType). StoresEntry c.args.initial.now c.args.turn.place.element kind c.stored-first.result) (c.result.ensures 1) c.stored-first.ensures in
     let is = c.in_ok-memory.ensures in
     let reads = subst (λ (places : List Place). Reads diagram (attributes_of diagram) places c.args.turn.place.block 1 c.args.turn.place.element c.input-from.result) (c.as_slice-places.ensures ∙ sym is.grows.places) c.input-from.ensures.reads in

@@ -113,3 +113,36 @@ kept_rule-requires-clause-turn c = c.requires.turn
 
 pub worked-requires-clause-turn : goal.worked-requires-clause-turn
 worked-requires-clause-turn c = c.requires.turn
+
+pub returns-in-Constant-clause-cursors : goal.returns-in-Constant-clause-cursors
+returns-in-Constant-clause-cursors c = c.requires.cursors
+
+pub returns-in-Delay-clause-cursors : goal.returns-in-Delay-clause-cursors
+returns-in-Delay-clause-cursors c = c.requires.cursors
+
+pub returns-in-EnableTest-clause-cursors : goal.returns-in-EnableTest-clause-cursors
+returns-in-EnableTest-clause-cursors c = c.requires.cursors
+
+pub returns-in-Ground-clause-cursors : goal.returns-in-Ground-clause-cursors
+returns-in-Ground-clause-cursors c = c.requires.cursors
+
+pub returns-in-Inport-clause-cursors : goal.returns-in-Inport-clause-cursors
+returns-in-Inport-clause-cursors c = c.requires.cursors
+
+pub returns-in-Outport-clause-cursors : goal.returns-in-Outport-clause-cursors
+returns-in-Outport-clause-cursors c = c.requires.cursors
+
+pub returns-in-Pass-clause-cursors : goal.returns-in-Pass-clause-cursors
+returns-in-Pass-clause-cursors c = c.requires.cursors
+
+pub returns-in-RateTransition-clause-cursors : goal.returns-in-RateTransition-clause-cursors
+returns-in-RateTransition-clause-cursors c = c.requires.cursors
+
+pub returns-in-Sum-clause-cursors : goal.returns-in-Sum-clause-cursors
+returns-in-Sum-clause-cursors c = c.requires.cursors
+
+pub worked-requires-clause-entries : goal.worked-requires-clause-entries
+worked-requires-clause-entries c = c.requires.entries
+
+pub worked-requires-clause-paired : goal.worked-requires-clause-paired
+worked-requires-clause-paired c = c.requires.paired

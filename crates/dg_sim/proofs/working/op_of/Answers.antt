@@ -1,4 +1,5 @@
 use Rattle.std.proofs.Common.{List, sym, subst}
+use Rattle.std.proofs.lemmas.Option.{slice_get_within}
 use Rattle.fx_type.specs.FxType.{IsType}
 use Rattle.fx_type.specs.declared.decimal.Decimal.{Decimal}
 use Rattle.dg_sim.specs.inner.Turns.{HasEntry}
@@ -26,3 +27,9 @@ pub stored-threshold-requires-clause-entry : goal.stored-threshold-requires-clau
 stored-threshold-requires-clause-entry c =
     subst (λ (list : List Decimal). HasEntry list c.args.turn.place.element) (sym c.as_slice-in-Switch.ensures)
     (switch_entry c.args.turn.checked.now.diagram c.keeps_rules.ensures.checked c.args.turn.place.block c.args.turn.place.port c.args.turn.place.element c.args.turn.block.now c.requires.shown _ _ c.in-Switch.is)
+
+pub param-param-requires : goal.param-param-requires
+param-param-requires c = slice_get_within c.args.turn.checked.now.diagram.blocks c.args.turn.place.block c.args.turn.block.now c.requires.shown.block_is
+
+pub type_of_input-control-requires : goal.type_of_input-control-requires
+type_of_input-control-requires c = c.requires.lines

@@ -1,4 +1,5 @@
 use Rattle.std.proofs.Common.{◌∙◌, ◌≤◌, Bool, List, ap, sym, subst, refl, length, arith}
+use Rattle.std.proofs.lemmas.Option.{slice_get_within}
 use Rattle.dg_model.specs.Attributes.{attributes_of}
 use Rattle.dg_sim.proofs.ByKind.{op_elementwise}
 use Rattle.dg_sim.proofs.Turns.{op_inputs, op_now, op_reads, op_signs}
@@ -32,3 +33,9 @@ overflow_cast-signs c =
     let few = op_signs c.args.turn.checked.now c.args.turn.starts.now c.args.program.now.places c.args.turn.cell c.args.turn.place c.args.turn.block.now c.requires.turn c.keeps_rules.ensures.checked in
     let many : length c.signs-negative.result.now ≤ 32 = subst (λ (signs : List Bool). length signs ≤ 32) (sym c.signs-negative.ensures) few in
     record { fits = omega (arith, many) }
+
+pub put_inputs-requires-clause-finds : goal.put_inputs-requires-clause-finds
+put_inputs-requires-clause-finds c = c.requires.turn.finds
+
+pub result-requires : goal.result-requires
+result-requires c = slice_get_within c.args.turn.checked.now.diagram.blocks c.args.turn.place.block c.args.turn.block.now c.requires.turn.shown.block_is
