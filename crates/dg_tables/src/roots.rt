@@ -16,7 +16,7 @@ use fx_io::{OutOfMemory, Sequence};
 use std::alloc::Global;
 
 /// An element of a root port: the number of the port, its block and the element's place.
-#[derive(Clone, Copy, PartialEq, Eq)]
+#[derive(Clone, Copy)]
 pub struct Root {
     pub number: u32,
     pub block: u32,
