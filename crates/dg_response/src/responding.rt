@@ -34,8 +34,8 @@ impl Responding {
         requires outputs { outputs ≡ length (output_columns checked.now.diagram) }
         ensures { IfOk result (λ responding. IsBefore checked.now rows.now responding 0) }
     {
-        let sim = Sim::new(alloc, checked)?;
         let row = vec![in alloc; 0i128; outputs]?;
+        let sim = Sim::new(alloc, checked)?;
         Ok(Responding { sim, row })
     }
 
