@@ -41,7 +41,10 @@ fn refusal_of(alloc: Global, fault: ModelFault) -> ModelRefusal
     match fault {
         ModelFault::NotMdl { line } => ModelRefusal::NotMdl { line },
         ModelFault::Broken { fault, blocks } => {
-            match rule_text(alloc, &fault, blocks.as_slice()) {
+            let line = rule_text(alloc, &fault, blocks.as_slice());
+            drop(fault);
+            drop(blocks);
+            match line {
                 Ok(line) => ModelRefusal::BreaksRule { line },
                 Err(OutOfMemory) => ModelRefusal::OutOfMemory,
             }
