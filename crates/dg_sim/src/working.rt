@@ -102,12 +102,11 @@ pub fn op_of<'a>(turn: Turn<'a>) -> Op
 {
     operations_prepare();
     turn.checked.keeps_rules();
-    let place = turn.place;
     match &turn.block.kind {
         Kind::Sum { .. } => Op::Sum,
         Kind::Gain { value, .. } => {
-            let param = turn.checked.param(place.block);
-            let coefficient = stored(value.as_slice(), place.element, param);
+            let param = turn.checked.param(turn.place.block);
+            let coefficient = stored(value.as_slice(), turn.place.element, param);
             Op::Gain { coefficient, param }
         }
         Kind::Product => Op::Product,
@@ -115,23 +114,15 @@ pub fn op_of<'a>(turn: Turn<'a>) -> Op
             criterion,
             threshold,
         } => {
-            let control = type_of_input(turn.checked, turn.starts, place.block, 2);
-            let threshold = stored(threshold.as_slice(), place.element, control);
+            let control = type_of_input(turn.checked, turn.starts, turn.place.block, 2);
+            let threshold = stored(threshold.as_slice(), turn.place.element, control);
             Op::Switch {
                 criterion: *criterion,
                 threshold,
             }
         }
-        Kind::Relational { operator } => {
-            Op::Relational {
-                operator: *operator,
-            }
-        }
-        Kind::Logic { operator } => {
-            Op::Logic {
-                operator: *operator,
-            }
-        }
+        Kind::Relational { operator: by } => Op::Relational { operator: *by },
+        Kind::Logic { operator: by } => Op::Logic { operator: *by },
         Kind::Convert { stored: integer } => Op::Convert { stored: *integer },
         _ => unreachable!(),
     }
