@@ -3,8 +3,8 @@ ghost use Rattle.std.specs.Prelude.{◌≡◌, ℕ, ◌^◌, ◌≤◌, ◌↔�
 ghost use Rattle.std.specs.List.{AllPass};
 ghost use Rattle.std.specs.Char.{is_ascii_digit};
 ghost use Rattle.std.specs.Str.Parse.{digits_value_after};
-ghost use Rattle.fx_round.specs.DecimalText.{IsShort, IsDecimalOf, IsDecimal, IsDecimalText, IsLong};
-ghost use Rattle.fx_round.specs.inner.DecimalReading.{front_digits, after_digits, is_minus, after_sign, fraction_digits, after_fraction, one_or_two, exponent_of, Explains};
+ghost use Rattle.fx_round.specs.DecimalText.{signed, IsShort, IsDecimalOf, IsDecimal, IsDecimalText, IsLong};
+ghost use Rattle.fx_round.specs.inner.DecimalReading.{front_digits, after_digits, is_minus, after_sign, fraction_digits, after_fraction, one_or_two, signed_some, exponent_of, Explains};
 
 use fx_type::Decimal;
 
@@ -71,6 +71,27 @@ fn one_or_two(text: &[u8]) -> Option<u8>
     }
 }
 
+/// The number with a minus sign or without one.
+fn with_sign(negative: bool, size: u8) -> i16
+    ensures { result ≡ signed negative size }
+{
+    if negative {
+        -i16::from(size)
+    } else {
+        i16::from(size)
+    }
+}
+
+/// The exponent whose sign and digits the text is.
+fn written_exponent(text: &[u8]) -> Option<i16>
+    ensures { result ≡ signed_some (is_minus text.now) (one_or_two (after_sign text.now)) }
+{
+    match one_or_two(after_sign(text)) {
+        Some(size) => Some(with_sign(is_minus(text), size)),
+        None => None,
+    }
+}
+
 /// The exponent that the text is.
 fn exponent_of(text: &[u8]) -> Option<i16>
     ensures { result ≡ exponent_of text.now }
@@ -81,13 +102,7 @@ fn exponent_of(text: &[u8]) -> Option<i16>
     if text[0] != b'e' && text[0] != b'E' {
         return None;
     }
-    let written = &text[1..];
-    let size = one_or_two(after_sign(written));
-    match size {
-        Some(n) if is_minus(written) => Some(-i16::from(n)),
-        Some(n) => Some(i16::from(n)),
-        None => None,
-    }
+    written_exponent(&text[1..])
 }
 
 /// The number `start` with further digits behind it, or the least number of 19 digits where it is
@@ -108,7 +123,7 @@ fn read_on(start: u64, digits: &[u8]) -> u64
 }
 
 /// Why a text is no decimal.
-#[derive(Clone, Copy, Debug, PartialEq, Eq)]
+#[derive(Clone, Copy)]
 pub enum DecimalFault {
     /// It does not have the form of one.
     NotANumber,
