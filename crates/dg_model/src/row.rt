@@ -1,7 +1,7 @@
 ghost use Rattle.std.specs.Prelude.{◌≡◌};
 ghost use Rattle.dg_model.specs.Library.{row_of};
 ghost use Rattle.dg_model.specs.Wired.{root_input, root_output};
-ghost use Rattle.dg_model.specs.inner.Told.{told_row};
+ghost use Rattle.dg_model.specs.inner.Told.{fixed_row};
 
 use crate::kind::Kind;
 use fx_type::FxType;
@@ -225,7 +225,6 @@ const TRANSITION: Row = Row {
 
 /// The control of an enabled subsystem.
 const CONTROL: Row = Row {
-    role: Role::Control,
     stands: Standing::Outside,
     own: OwnType::Always {
         kind: FxType::Logical,
@@ -235,7 +234,6 @@ const CONTROL: Row = Row {
 
 /// An output port of an enabled subsystem.
 const ENABLED_OUTPUT: Row = Row {
-    role: Role::EnabledOutput,
     stands: Standing::Inside,
     inherits: Inherited::Moving,
     asks: Asking::Now,
@@ -243,37 +241,79 @@ const ENABLED_OUTPUT: Row = Row {
 };
 
 impl Kind {
-    /// The row of a kind as one value, so that no column is proved kind by kind.
-    fn told_row(&self) -> Row
-        ensures { result ≡ told_row self.now }
+    /// What it is in its System.
+    fn role(&self) -> Role
+        ensures { result ≡ (row_of self.now).place.role }
     {
         match self {
-            Kind::Inport { number, .. } => Row {
-                role: Role::RootInput { number: *number },
-                ..ROOT_INPUT
-            },
-            Kind::Outport { number } => Row {
-                role: Role::RootOutput { number: *number },
-                ..ROOT_OUTPUT
-            },
-            Kind::Constant { .. } => CONSTANT,
-            Kind::Ground => GROUND,
-            Kind::Sum { .. } | Kind::Switch { .. } | Kind::Convert { .. } => OPERATION,
-            Kind::Gain { .. } | Kind::Product => MULTIPLICATION,
-            Kind::Relational { .. } | Kind::Logic { .. } => DECISION,
-            Kind::Delay { length, .. } => Row {
-                delay: *length,
-                ..DELAY
-            },
-            Kind::Mux { .. } | Kind::Demux { .. } => PLAIN,
-            Kind::RateTransition { .. } => TRANSITION,
-            Kind::Pass { width } => Row {
-                role: Role::InnerPort { width: *width },
-                ..PLAIN
-            },
-            Kind::EnableTest => CONTROL,
-            Kind::EnOut { .. } => ENABLED_OUTPUT,
-            Kind::Terminator => END,
+            Kind::Inport { number, .. } => Role::RootInput { number: *number },
+            Kind::Outport { number } => Role::RootOutput { number: *number },
+            Kind::Pass { width } => Role::InnerPort { width: *width },
+            Kind::EnableTest => Role::Control,
+            Kind::EnOut { .. } => Role::EnabledOutput,
+            Kind::Constant { .. }
+            | Kind::Ground
+            | Kind::Sum { .. }
+            | Kind::Gain { .. }
+            | Kind::Product
+            | Kind::Switch { .. }
+            | Kind::Relational { .. }
+            | Kind::Logic { .. }
+            | Kind::Convert { .. }
+            | Kind::Delay { .. }
+            | Kind::Mux { .. }
+            | Kind::Demux { .. }
+            | Kind::RateTransition { .. }
+            | Kind::Terminator => Role::Plain,
+        }
+    }
+
+    /// How many samples of each element it keeps.
+    fn delay(&self) -> u32
+        ensures { result ≡ (row_of self.now).timing.delay }
+    {
+        match self {
+            Kind::Delay { length, .. } => *length,
+            Kind::Inport { .. }
+            | Kind::Outport { .. }
+            | Kind::Constant { .. }
+            | Kind::Ground
+            | Kind::Sum { .. }
+            | Kind::Gain { .. }
+            | Kind::Product
+            | Kind::Switch { .. }
+            | Kind::Relational { .. }
+            | Kind::Logic { .. }
+            | Kind::Convert { .. }
+            | Kind::Mux { .. }
+            | Kind::Demux { .. }
+            | Kind::RateTransition { .. }
+            | Kind::Pass { .. }
+            | Kind::EnableTest
+            | Kind::EnOut { .. }
+            | Kind::Terminator => 0,
+        }
+    }
+
+    /// The columns of its row that hold no parameter, as one value, so that none is proved kind by
+    /// kind.
+    fn fixed_row(&self) -> &'static Row
+        ensures { result.now ≡ fixed_row self.now }
+    {
+        match self {
+            Kind::Inport { .. } => &ROOT_INPUT,
+            Kind::Outport { .. } => &ROOT_OUTPUT,
+            Kind::Constant { .. } => &CONSTANT,
+            Kind::Ground => &GROUND,
+            Kind::Sum { .. } | Kind::Switch { .. } | Kind::Convert { .. } => &OPERATION,
+            Kind::Gain { .. } | Kind::Product => &MULTIPLICATION,
+            Kind::Relational { .. } | Kind::Logic { .. } => &DECISION,
+            Kind::Delay { .. } => &DELAY,
+            Kind::Mux { .. } | Kind::Demux { .. } | Kind::Pass { .. } => &PLAIN,
+            Kind::RateTransition { .. } => &TRANSITION,
+            Kind::EnableTest => &CONTROL,
+            Kind::EnOut { .. } => &ENABLED_OUTPUT,
+            Kind::Terminator => &END,
         }
     }
 
@@ -289,6 +329,10 @@ impl Kind {
         ensures pipelines { result.pipelines ≡ (row_of self.now).hardware.pipelines }
         ensures multiplies { result.multiplies ≡ (row_of self.now).hardware.multiplies }
     {
-        self.told_row()
+        Row {
+            role: self.role(),
+            delay: self.delay(),
+            ..*self.fixed_row()
+        }
     }
 }
