@@ -4,14 +4,14 @@ ghost use Rattle.mdl_text.specs.inner.Plain.{spot_at, spot_step, list_from, IsWi
 use crate::strings::Place;
 
 /// A place in a list: how many brackets are open beside the first, and where beside quotes.
-#[derive(Clone, Copy, Debug, PartialEq, Eq)]
+#[derive(Clone, Copy)]
 pub struct Spot {
     pub place: Place,
     pub nesting: u64,
 }
 
 /// How a list goes on over a line.
-#[derive(Clone, Copy, PartialEq, Eq)]
+#[derive(Clone, Copy)]
 pub enum ListEnd {
     /// Its last bracket stands on the line, and so many bytes are its own.
     Closed { taken: usize },

@@ -5,7 +5,7 @@ use fx_io::OutOfMemory;
 use thiserror::Error;
 
 /// Why there is no tree.
-#[derive(Clone, Copy, Debug, PartialEq, Eq, Error)]
+#[derive(Clone, Copy, Debug, Error)]
 pub enum MdlFault {
     /// The bytes are no MDL text. They stop being the beginning of one at this line, counted from
     /// 1.

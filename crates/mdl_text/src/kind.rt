@@ -5,7 +5,7 @@ use crate::tree::Value;
 use fx_io::Text;
 
 /// What an item is.
-#[derive(Clone, Copy, Debug, PartialEq, Eq)]
+#[derive(Clone, Copy)]
 pub enum Kind {
     /// It has no content of its own.
     Section,

@@ -91,6 +91,14 @@ impl<'a> Reader<'a> {
         }
     }
 
+    /// The next line may go on with this parameter.
+    #[inline(always)]
+    fn hold(&mut self, pending: Pending<'a>)
+        ensures { self.new ≡ record self.old { pending = pending.entry } }
+    {
+        self.pending = pending;
+    }
+
     /// A section begins, of which the bytes after its brace are given.
     #[tactic(auto, unfolding(crate::specs::inner::Plain::opened))]
     fn open(&mut self, alloc: Global, name: &[u8], after: &[u8]) -> Result<bool, OutOfMemory>
@@ -140,6 +148,7 @@ impl<'a> Reader<'a> {
         match list_end(nesting, line) {
             ListEnd::Closed { taken } => {
                 if !are_blanks(&line[taken..]) {
+                    drop(said);
                     return Ok(false);
                 }
                 let list = said.with(alloc, &line[..taken])?;
@@ -148,14 +157,17 @@ impl<'a> Reader<'a> {
             }
             ListEnd::Open { nesting } => {
                 let said = said.with(alloc, line)?.with(alloc, b"\n")?;
-                self.pending = Pending::Open {
+                self.hold(Pending::Open {
                     name: Piece::new(name),
                     said,
                     nesting,
-                };
+                });
                 Ok(true)
             }
-            ListEnd::Broken => Ok(false),
+            ListEnd::Broken => {
+                drop(said);
+                Ok(false)
+            }
         }
     }
 
@@ -185,11 +197,11 @@ impl<'a> Reader<'a> {
             }
             ListEnd::Open { nesting } => {
                 let said = Said::lent(value).with(alloc, b"\n")?;
-                self.pending = Pending::Open {
+                self.hold(Pending::Open {
                     name: Piece::new(name),
                     said,
                     nesting,
-                };
+                });
                 Ok(true)
             }
             ListEnd::Broken => Ok(false),
@@ -214,7 +226,7 @@ impl<'a> Reader<'a> {
             None => Ok(false),
             Some(said) => {
                 let name = Piece::new(name);
-                self.pending = Pending::Strings { name, said };
+                self.hold(Pending::Strings { name, said });
                 Ok(true)
             }
         }
@@ -238,7 +250,7 @@ impl<'a> Reader<'a> {
             Some(text) => {
                 let name = Piece::new(name);
                 let said = Said::lent(text);
-                self.pending = Pending::Strings { name, said };
+                self.hold(Pending::Strings { name, said });
                 Ok(true)
             }
         }
@@ -378,7 +390,11 @@ impl<'a> Reader<'a> {
                 draft.add(alloc, name.bytes(), Kind::Quoted, said)?;
                 Ok(draft.if_closed())
             }
-            Pending::Open { .. } => Ok(None),
+            Pending::Open { said, .. } => {
+                drop(draft);
+                drop(said);
+                Ok(None)
+            }
         }
     }
 }

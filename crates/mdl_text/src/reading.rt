@@ -27,6 +27,7 @@ pub fn read(alloc: Global, bytes: &[u8]) -> Result<Tree, MdlFault>
     let mut line = 1;
     while let Some((next, after)) = split_line(rest) {
         if !reader.step(alloc, next)? {
+            drop(reader);
             return Err(MdlFault::Syntax { line });
         }
         rest = after;
@@ -59,10 +60,16 @@ fn last_line<'a>(
     requires { IsBounded reader.pending }
     ensures { IfOk result (λ items. items ≡ run reader.entry (line.now ∷ [])) }
 {
-    if reader.step(alloc, line)? {
-        reader.finish(alloc)
-    } else {
-        Ok(None)
+    match reader.step(alloc, line) {
+        Ok(true) => reader.finish(alloc),
+        Ok(false) => {
+            drop(reader);
+            Ok(None)
+        }
+        Err(wanting) => {
+            drop(reader);
+            Err(wanting)
+        }
     }
 }
 

@@ -12,7 +12,7 @@ use std::alloc::Global;
 const USUAL_LENGTH: usize = 64;
 
 /// Where a byte stands, beside quotes: outside of a string, in one, or after a backslash in one.
-#[derive(Clone, Copy, Debug, PartialEq, Eq)]
+#[derive(Clone, Copy, PartialEq, Eq)]
 pub enum Place {
     Outside,
     Inside,
