@@ -2,7 +2,7 @@ use fx_io::Sequence;
 
 /// An arc from a block to another, which asks that the latency of its end is no less than that of
 /// its source, more by `gain` and less by `slack` (own).
-#[derive(Clone, Copy, Debug, PartialEq, Eq)]
+#[derive(Clone, Copy)]
 pub struct Arc {
     /// The block that it leads from.
     pub from: u32,

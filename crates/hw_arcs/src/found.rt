@@ -1,7 +1,7 @@
 use fx_io::{Longs, Periods, Sizes};
 
 /// Blocks of which an arc leads from each to the next and from the last to the first.
-#[derive(Debug, Drop)]
+#[derive(Drop)]
 pub struct Gaining {
     /// The blocks, from the least on.
     pub blocks: Sizes,
@@ -10,7 +10,7 @@ pub struct Gaining {
 }
 
 /// What arcs ask of latencies.
-#[derive(Debug, Drop)]
+#[derive(Drop)]
 pub enum Found {
     /// The least latencies that keep them, and for each one above 0 the number of an arc that asks
     /// for it.
