@@ -6,7 +6,7 @@ pub trait Gate {
 }
 
 /// The gate that does nothing.
-#[derive(Clone, Copy, Debug, Drop)]
+#[derive(Clone, Copy, Drop)]
 pub struct OpenGate;
 
 impl Gate for OpenGate {

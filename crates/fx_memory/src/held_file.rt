@@ -1,7 +1,7 @@
 use fx_io::Text;
 
 /// A file in memory (own).
-#[derive(Debug, Drop)]
+#[derive(Drop)]
 pub struct HeldFile {
     /// The name under which it is fetched.
     pub name: Text,

@@ -12,7 +12,7 @@ use std::marker::Model;
 
 /// A shelf in memory (own), for tests: it fails at the fetches whose numbers, from 1, it was
 /// given. A name that is added again holds the later bytes.
-#[derive(Debug, Drop)]
+#[derive(Drop)]
 pub struct MemShelf {
     files: VecDeque<HeldFile>,
     failing: Vec<u64>,

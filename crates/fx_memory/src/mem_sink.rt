@@ -10,7 +10,7 @@ use thiserror::Error;
 
 /// A sink in memory (own), for tests: it takes at most `piece` bytes a put, has `room` bytes in
 /// all, and fails at the puts of nonempty pieces whose numbers, from 1, it was given.
-#[derive(Debug, Drop)]
+#[derive(Drop)]
 pub struct MemSink {
     taken: Vec<u8>,
     failing: Vec<u64>,
@@ -40,7 +40,7 @@ impl Model for MemSink {
 }
 
 /// Why a sink in memory was not made (own).
-#[derive(Clone, Copy, Debug, PartialEq, Eq, Error)]
+#[derive(Clone, Copy, Debug, Error)]
 pub enum PutSetup {
     /// A piece of no bytes was asked for.
     #[error("a piece of no bytes")]

@@ -1,4 +1,4 @@
-use Rattle.std.proofs.Common.{subst, sym, arith}
+use Rattle.std.proofs.Common.{subst, sym, refl, inl, arith}
 use Rattle.fx_memory.specs.Memory.{IsSteady, ShelfState}
 use Rattle.fx_memory.proofs.mem_shelf.MemShelfShelf.fetch.Goals as goal
 
@@ -31,3 +31,21 @@ returns-in_err-copy-clause-stays_steady c = λ steady k d below.
     let before = subst (λ (shelf : ShelfState). IsSteady shelf) (sym c.self.view_is) steady k d below in
     let counts = c.saturating_add-self-inside.ensures in
     omega (arith, before, counts)
+
+pub returns-clause-too_long : goal.returns-clause-too_long
+returns-clause-too_long c = λ reported e. absurd cc
+
+pub returns-then-fails-clause-too_long : goal.returns-then-fails-clause-too_long
+returns-then-fails-clause-too_long c = λ reported e. absurd cc
+
+pub returns-in_default-clause-too_long : goal.returns-in_default-clause-too_long
+returns-in_default-clause-too_long c = λ reported e. absurd cc
+
+pub returns-then-fails-clause-faultless : goal.returns-then-fails-clause-faultless
+returns-then-fails-clause-faultless c = λ other. absurd (other refl)
+
+pub returns-in_default-clause-faultless : goal.returns-in_default-clause-faultless
+returns-in_default-clause-faultless c = λ other. absurd (other refl)
+
+pub returns-then-fails-clause-exactly_failed : goal.returns-then-fails-clause-exactly_failed
+returns-then-fails-clause-exactly_failed c = (λ is. inl (c.fails_by_number-fails.ensures.0 c.if-fails.true), λ fails. refl)

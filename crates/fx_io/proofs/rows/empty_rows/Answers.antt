@@ -1,0 +1,10 @@
+use Rattle.std.proofs.Common.{[], ◌∷◌, ◌++◌, replicate, ap, ◌∙◌}
+use Rattle.std.proofs.lemmas.List.{replicate-append-replicate}
+use Rattle.fx_io.proofs.rows.empty_rows.Goals as goal
+
+pub loop-row-preserved : goal.loop-row-preserved
+loop-row-preserved g c =
+    c.in_ok-push.ensures.items
+    ∙ ap (λ rows. rows ++ c.new.result ∷ []) c.loop-row.invariant
+    ∙ ap (λ row. replicate c.loop-row._row [] ++ row ∷ []) c.new.ensures
+    ∙ replicate-append-replicate c.loop-row._row 1 []
