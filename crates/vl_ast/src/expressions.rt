@@ -5,7 +5,7 @@ use fx_io::{Boxed, Sequence, Text};
 pub type Exprs = Sequence<Expr>;
 
 /// A based number, as `16'sd7` (IEEE 1364-2005, 3.5.1).
-#[derive(Clone, Copy, Debug, PartialEq, Eq)]
+#[derive(Clone, Copy)]
 pub struct Sized {
     /// How many bits the number has.
     pub width: u32,
@@ -16,7 +16,7 @@ pub struct Sized {
 }
 
 /// An operator before its operand (IEEE 1364-2005, 5.1).
-#[derive(Clone, Copy, Debug, PartialEq, Eq)]
+#[derive(Clone, Copy, Debug)]
 pub enum UnOp {
     /// `-`, two's complement.
     Negate,
@@ -27,7 +27,7 @@ pub enum UnOp {
 }
 
 /// An operator between its operands (IEEE 1364-2005, 5.1).
-#[derive(Clone, Copy, Debug, PartialEq, Eq)]
+#[derive(Clone, Copy, Debug)]
 pub enum BinOp {
     /// `+`
     Add,
@@ -60,7 +60,7 @@ pub enum BinOp {
 }
 
 /// A shift by a number (IEEE 1364-2005, 5.1.12).
-#[derive(Clone, Copy, Debug, PartialEq, Eq)]
+#[derive(Clone, Copy, Debug)]
 pub enum ShiftOp {
     /// `<<`, zeros from the right.
     Left,

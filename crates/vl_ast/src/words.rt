@@ -16,7 +16,7 @@ pub fn mask_of(width: u32) -> u128
 
 /// A number below 2^128 as two words of 64 bits, since a `u128` stands at a multiple of 16 bytes and
 /// would make each expression longer (own). Contracts see the number.
-#[derive(Clone, Copy, Debug, PartialEq, Eq)]
+#[derive(Clone, Copy)]
 pub struct Bits128 {
     high: u64,
     low: u64,
