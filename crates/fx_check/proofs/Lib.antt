@@ -4,6 +4,7 @@ mod Handing
 mod Lines
 mod Listing
 mod Rooms
+mod Shown
 mod Sources
 mod Spelling
 mod Ways

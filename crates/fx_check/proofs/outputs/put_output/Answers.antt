@@ -1,4 +1,4 @@
-use Rattle.std.proofs.Common.{◌++◌, ℕ, List, codes, drop, ap}
+use Rattle.std.proofs.Common.{◌++◌, ◌<◌, ℕ, List, All, codes, drop, length, ap, sym, subst}
 use Rattle.hw_rules.specs.Times.{timing_in}
 use Rattle.fx_io.proofs.Taken.{rest-whole}
 use Rattle.fx_check.specs.CheckText.{head_text, steps_text}
@@ -27,3 +27,7 @@ path_to-start-requires-clause-latencies g c = c.requires.times.latencies
 
 pub returns-clause-room : goal.returns-clause-room
 returns-clause-room g c = c.path_to-start.ensures.room
+
+pub put_steps-requires : goal.put_steps-requires
+put_steps-requires g c =
+    subst (λ (blocks : List ℕ). All (λ block. block < length c.args.checked.now.diagram.blocks) blocks) (sym (rest-whole c.path_to-start.new.room c.path_to-start.result)) c.path_to-start.ensures.there
