@@ -47,7 +47,10 @@ impl Reader {
                     self.hold(value);
                     Ok(self.spot(goal, Spot::Amount(op)))
                 }
-                None => Ok(false),
+                None => {
+                    drop(value);
+                    Ok(false)
+                }
             },
         }
     }
@@ -168,7 +171,7 @@ impl Reader {
             }
             Goal::Condition => {
                 let condition = self.take_value();
-                self.held.condition = Some(condition);
+                self.hold_condition(Some(condition));
                 Ok(self.expect(")", lexeme, Place::Again))
             }
             Goal::Next => Ok(self.expect(";", lexeme, Place::End)),
@@ -187,7 +190,10 @@ impl Reader {
                 self.held.operand = name;
                 self.spot(goal, Spot::Index)
             }
-            _ => false,
+            other => {
+                drop(other);
+                false
+            }
         }
     }
 

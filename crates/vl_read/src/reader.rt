@@ -140,6 +140,16 @@ impl Reader {
         self.held.value = value;
     }
 
+    /// Holds the condition of an item with a clock, or that it has none.
+    pub fn hold_condition(&mut self, condition: Option<Expr>)
+        ensures { self.new ≡ record self.old {
+          held = record self.old.held { condition = condition };
+        } }
+    {
+        let earlier = mem::replace(&mut self.held.condition, condition);
+        drop(earlier);
+    }
+
     /// Holds a name.
     pub fn hold_name(&mut self, name: Text)
         ensures { self.new ≡ record self.old { held = record self.old.held { name = name } } }

@@ -192,7 +192,7 @@ impl Reader {
             (kind_of lexeme.now) lexeme.now }
     {
         if is_name(lexeme) {
-            self.held.condition = None;
+            self.hold_condition(None);
             self.again_step(lexeme)
         } else {
             self.expect("if", lexeme, Place::If)
