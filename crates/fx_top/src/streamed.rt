@@ -3,19 +3,18 @@ ghost use Rattle.std.specs.Prelude.{IfErr, IfOk};
 ghost use Rattle.dg_model.specs.Faults.{AllKeep};
 ghost use Rattle.dg_model.specs.PlanOf.{IsPlanOf};
 ghost use Rattle.fx_top.specs.Streamed.{IsStreamOf, IsStreamedOf, KeepsStream};
-ghost use Rattle.fx_top.specs.inner.Streaming.{IsCoreOf, IsRefusedOnPorts, IsRefusedStream, IsStreamWritten};
+ghost use Rattle.fx_top.specs.inner.Streaming.{IsRefusedOnPorts, IsRefusedStream, IsStreamWritten};
 ghost use Rattle.hw_rules.specs.Times.{AreTimes, timing_in};
 ghost use Rattle.vl_ast.specs.Grammar.{Spells};
 ghost use Rattle.vl_ast.specs.Spelling.{spelling};
 
 use crate::steady::check_ports;
-use crate::verilog::netlist_of;
+use crate::verilog::made_of;
 use dg_model::{CheckFault, Checked, Resolved, root_elements_are_listed};
 use fx_designed::{DesignFault, designed_of};
 use fx_io::{OpenGate, OutOfMemory, Text};
 use fx_model::rule_text;
 use hw_build::slots_are_scheduled;
-use hw_module::module_of;
 use hw_names::stream_names;
 use hw_rules::Times;
 use hw_sched::ready_fits;
@@ -23,30 +22,6 @@ use st_wrap::wrap;
 use std::alloc::Global;
 use std::thread::Threads;
 use vl_ast::Module;
-
-/// The module that takes and gives the samples.
-fn core_of(
-    alloc: Global,
-    checked: &Checked,
-    plan: &Resolved,
-    times: &Times,
-) -> Result<Module, OutOfMemory>
-    requires plan { IsPlanOf checked.now.diagram plan.now }
-    requires times { AreTimes checked.now.diagram plan.now times.now }
-    ensures { IfOk result (IsCoreOf checked.now.diagram plan.now times.now) }
-{
-    let netlist = netlist_of(alloc, checked, plan, times)?;
-    let core = module_of(
-        alloc,
-        checked,
-        plan,
-        &times.latencies,
-        &times.slots,
-        &netlist,
-    );
-    drop(netlist);
-    core
-}
 
 /// The module with valid and ready round it.
 fn stream_of(
@@ -67,7 +42,7 @@ fn stream_of(
     ready_fits();
     slots_are_scheduled();
     let names = stream_names(alloc, checked)?;
-    let core = core_of(alloc, checked, plan, times)?;
+    let core = made_of(alloc, checked, plan, times)?;
     let made = wrap(alloc, &core, names.as_slice());
     drop(core);
     made

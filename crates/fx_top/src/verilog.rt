@@ -3,11 +3,9 @@ ghost use Rattle.dg_model.specs.PlanOf.{IsPlanOf};
 ghost use Rattle.fx_designed.specs.Refused.{IsRefusedDesign};
 ghost use Rattle.fx_top.specs.Generated.{IsVerilogOf};
 ghost use Rattle.fx_top.specs.inner.Generating.{IsWrittenOf};
+ghost use Rattle.fx_top.specs.inner.Streaming.{IsCoreOf};
 ghost use Rattle.hw_build.specs.Built.{IsBuiltBy};
-ghost use Rattle.hw_module.specs.Design.{IsModuleOf};
-ghost use Rattle.hw_rules.specs.Times.{AreTimes, timing_in};
-ghost use Rattle.vl_ast.specs.Grammar.{Spells};
-ghost use Rattle.vl_ast.specs.Spelling.{spelling};
+ghost use Rattle.hw_rules.specs.Times.{AreTimes};
 
 use dg_model::{Checked, Resolved};
 use fx_designed::{DesignFault, designed_of};
@@ -41,7 +39,7 @@ pub fn netlist_of(
 }
 
 /// The module of a diagram by a plan with its times.
-fn made_of(
+pub fn made_of(
     alloc: Global,
     checked: &Checked,
     plan: &Resolved,
@@ -49,9 +47,7 @@ fn made_of(
 ) -> Result<Module, OutOfMemory>
     requires plan { IsPlanOf checked.now.diagram plan.now }
     requires times { AreTimes checked.now.diagram plan.now times.now }
-    ensures owed { IfOk result (λ made. IsModuleOf made checked.now.diagram plan.now
-        (timing_in times.now)) }
-    ensures spelled { IfOk result (λ made. Spells (spelling made) made) }
+    ensures { IfOk result (IsCoreOf checked.now.diagram plan.now times.now) }
 {
     let netlist = netlist_of(alloc, checked, plan, times)?;
     let made = module_of(

@@ -65,3 +65,19 @@ pub returns-in-Err-put-clause-cause : goal.returns-in-Err-put-clause-cause
 returns-in-Err-put-clause-cause g c =
     let says = subst (λ (held : List ℕ → Told). IsPlanText held (plan_word c.args.plan.now) c.in-Ok-fetch_plan.lines) c.in-Ok.ensures.kept c.in-Ok-fetch_plan.ensures.says in
     fetched-planned (g.S.Shelf.held c.args.shelf.now) c.args.model.now (plan_word c.args.plan.now) c.in-Ok.source c.in-Ok-fetch_plan.lines c.in-Ok.ensures.found says
+
+pub returns-in-Err-put-clause-written : goal.returns-in-Err-put-clause-written
+returns-in-Err-put-clause-written g c =
+    let says = subst (λ (held : List ℕ → Told). IsPlanText held (plan_word c.args.plan.now) c.in-Ok-fetch_plan.lines) c.in-Ok.ensures.kept c.in-Ok-fetch_plan.ensures.says in
+    record {
+      rise = c.in-Err-put.ensures.cause;
+      text = flat_map (λ part. part.items) c.in-Ok-verilog_of.verilog.items;
+      output = record {
+        model_bytes = c.in-Ok.source;
+        plan_bytes = c.in-Ok-fetch_plan.lines;
+        model_fetched = c.in-Ok.ensures.found;
+        plan_says = says;
+        verilog = rw (c.bytes.ensures, c.bytes-2.ensures) at c.in-Ok-verilog_of.ensures.made;
+      };
+      taken = rw c.as_slice.ensures.value at c.in-Err-put.ensures.cut;
+    }
