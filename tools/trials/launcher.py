@@ -148,13 +148,15 @@ class Launcher(unittest.TestCase):
         self.assertNotIn("other", copied)
         self.assertFalse(os.path.exists(read(os.path.join(self.pretended, "room")).strip()))
 
-    def test_proves_last_what_nothing_is_beside(self):
-        write(os.path.join(self.top, "crates.txt"), "low:\nother:\nfx_prog: low other\n")
+    def test_proves_last_what_too_little_is_beside(self):
+        write(os.path.join(self.top, "crates.txt"), "low:\nother:\nsmall:\ntop: low other\nfx_prog: top small\n")
+        for name, lines in (("low", 90), ("other", 100), ("small", 1), ("top", 10)):
+            write(os.path.join(self.top, f"crates/{name}/src/lib.rt"), "a line\n" * lines)
         self.pretend("meanwhile", 'cat crates.txt; echo; echo "$RT_JOBS" >>"$PRETENDED/jobs"')
         self.prove(2)
         log = read(os.path.join(self.top, "crates/fx_prog/out/prove.log"))
         first, last = [set(re.findall(r"^\w+(?=:)", part, re.M)) - {"rt"} for part in log.split("\n\n")[:2]]
-        self.assertEqual((first, last), ({"low", "other"}, {"low", "other", "fx_prog"}))
+        self.assertEqual((first, last), ({"low", "other", "small"}, {"low", "other", "small", "top", "fx_prog"}))
         self.assertEqual(read(os.path.join(self.pretended, "jobs")).splitlines()[1:], [""])
 
     def test_notices_an_edit_during_the_proof(self):
