@@ -1,5 +1,5 @@
 //! The columns of the core, each with the name of the wrapper's port.
-ghost use Rattle.std.specs.Prelude.{◌≡◌, drop, length, map, IfOk};
+ghost use Rattle.std.specs.Prelude.{◌≡◌, ◌++◌, ◌∷◌, [], drop, length, map, IfOk, OnOk};
 ghost use Rattle.std.specs.List.{zip};
 ghost use Rattle.vl_ast.specs.Driven.{output_ports, stimulus_ports};
 ghost use Rattle.vl_ast.specs.Attributes.{clocks_of};
@@ -28,12 +28,21 @@ pub struct Column {
 /// Columns in order.
 pub type Columns = Sequence<Column>;
 
-fn column_with(alloc: Global, port: &Port, name: &Text, late: u64) -> Result<Column, OutOfMemory>
-    ensures { IfOk result (λ column. column ≡ column_of late (port.now, name.now)) }
+/// Puts the column of a port with this name behind the others.
+fn put_column(
+    alloc: Global,
+    port: &Port,
+    name: &Text,
+    late: u64,
+    columns: &mut Columns,
+) -> Result<(), OutOfMemory>
+    ensures { OnOk result (columns.new ≡ columns.old ++ column_of late (port.now, name.now) ∷ []) }
 {
-    Ok(Column {
-        inner: Text::copy(alloc, port.name.bytes())?,
-        name: Text::copy(alloc, name.bytes())?,
+    let inner = Text::copy(alloc, port.name.bytes())?;
+    let name = Text::copy(alloc, name.bytes())?;
+    columns.push(Column {
+        inner,
+        name,
         signed: port.signed,
         width: port.width,
         late,
@@ -53,7 +62,7 @@ pub fn input_columns(alloc: Global, core: &Module, names: &[Text]) -> Result<Col
             let Some((name, others)) = left.split_first() else {
                 return Ok(columns);
             };
-            columns.push(column_with(alloc, port, name, 0)?)?;
+            put_column(alloc, port, name, 0, &mut columns)?;
             left = others;
         }
     }
@@ -93,7 +102,7 @@ pub fn output_columns(alloc: Global, core: &Module, names: &[Text]) -> Result<Co
                 return Ok(columns);
             };
             let late = latest.saturating_sub(samples_late(cycles, port));
-            columns.push(column_with(alloc, port, name, late)?)?;
+            put_column(alloc, port, name, late, &mut columns)?;
             left = others;
         }
     }

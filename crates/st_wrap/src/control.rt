@@ -1,12 +1,14 @@
 //! The wrapper's counters, and what it makes of them.
 ghost use Rattle.std.specs.Prelude.{◌≡◌, ◌++◌, ◌∷◌, [], false, IfOk, OnOk};
-ghost use Rattle.vl_ast.specs.declared.expressions.Expr.{Expr};
 ghost use Rattle.vl_ast.specs.declared.expressions.Expr.TheVariants.{Name, Binary};
-ghost use Rattle.vl_ast.specs.declared.modules.ModItem.TheVariants.{Wire, Reg, Assign};
+ghost use Rattle.vl_ast.specs.declared.modules.ModItem.TheVariants.{Wire, Reg};
 ghost use Rattle.st_wrap.specs.inner.Control.{control_declared, control_driven, handshake_driven, signals_driven};
 ghost use Rattle.st_wrap.specs.inner.Control.{is_due_now, next_phase, next_wait, number, phase_item, unless, wait_item};
 
-use crate::expressions::{binary, boxed, choose, is_zero, joined, named, number, plain};
+use crate::expressions::{
+    binary, boxed, choose, is_zero, joined, moving, name_of, named, number, plain,
+};
+use crate::items::{assign, register};
 use crate::pace::{Counter, Counters};
 use fx_io::{OutOfMemory, Text};
 use std::alloc::Global;
@@ -107,26 +109,6 @@ fn next_wait(alloc: Global, wait: Counter) -> Result<Expr, OutOfMemory>
     )
 }
 
-/// Puts the assignment of a value, which may have wanted memory.
-fn assign(
-    alloc: Global,
-    name: &[u8],
-    value: Result<Expr, OutOfMemory>,
-    items: &mut ModItems,
-) -> Result<(), OutOfMemory>
-    ensures { (taken : Expr) → IfOk value (λ made. made ≡ taken)
-        → OnOk result (items.new ≡ items.old ++ Assign name.now taken ∷ []) }
-{
-    let value = value?;
-    match Text::copy(alloc, name) {
-        Ok(name) => items.push(ModItem::Assign { name, value }),
-        Err(wanting) => {
-            drop(value);
-            Err(wanting)
-        }
-    }
-}
-
 fn put_assignments(
     alloc: Global,
     counters: Counters,
@@ -164,30 +146,24 @@ fn put_handshake(alloc: Global, items: &mut ModItems) -> Result<(), OutOfMemory>
 fn put_phase(alloc: Global, phase: Counter, items: &mut ModItems) -> Result<(), OutOfMemory>
     ensures { OnOk result (items.new ≡ items.old ++ phase_item phase ∷ []) }
 {
-    let name = Text::copy(alloc, b"fx_phase")?;
-    let moves = Text::copy(alloc, b"fx_core_clk_enable")?;
-    let value = next_phase(alloc, phase)?;
-    items.push(ModItem::Always {
-        name,
-        first: plain(phase.width, 0),
-        condition: Some(Expr::Name(moves)),
-        value,
-    })
+    let moves = name_of(Text::copy(alloc, b"fx_core_clk_enable"));
+    items.push(register(
+        Text::copy(alloc, b"fx_phase"),
+        plain(phase.width, 0),
+        moves,
+        next_phase(alloc, phase),
+    )?)
 }
 
 fn put_wait(alloc: Global, wait: Counter, items: &mut ModItems) -> Result<(), OutOfMemory>
     ensures { OnOk result (items.new ≡ items.old ++ wait_item wait ∷ []) }
 {
-    let name = Text::copy(alloc, b"fx_wait")?;
-    let moves = named(alloc, b"fx_core_clk_enable")?;
-    let last = named(alloc, b"fx_end")?;
-    let value = next_wait(alloc, wait)?;
-    items.push(ModItem::Always {
-        name,
-        first: plain(wait.width, wait.most),
-        condition: Some(Expr::Binary(BinOp::Both, moves, last)),
-        value,
-    })
+    items.push(register(
+        Text::copy(alloc, b"fx_wait"),
+        plain(wait.width, wait.most),
+        moving(alloc, b"fx_end"),
+        next_wait(alloc, wait),
+    )?)
 }
 
 /// Drives the signals and the counters.

@@ -1,5 +1,5 @@
 //! Expressions from their parts.
-ghost use Rattle.std.specs.Prelude.{◌≡◌, IfOk};
+ghost use Rattle.std.specs.Prelude.{◌≡◌, ℕ, List, IfOk};
 ghost use Rattle.vl_ast.specs.declared.expressions.Expr.{Expr};
 ghost use Rattle.vl_ast.specs.declared.expressions.Expr.TheVariants.{Name, Binary, Choose};
 ghost use Rattle.st_wrap.specs.inner.Columns.{moving, plain};
@@ -39,6 +39,14 @@ pub fn choose(
         → IfOk result (λ e. e ≡ Choose first second third) }
 {
     Ok(Expr::Choose(test?, chosen?, other?))
+}
+
+/// A name, which may have wanted memory.
+pub fn name_of(name: Result<Text, OutOfMemory>) -> Result<Expr, OutOfMemory>
+    ensures { (text : List ℕ) → IfOk name (λ made. made ≡ text)
+        → IfOk result (λ e. e ≡ Name text) }
+{
+    Ok(Expr::Name(name?))
 }
 
 /// A name.

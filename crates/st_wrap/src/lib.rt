@@ -30,6 +30,7 @@ mod columns;
 mod control;
 mod expressions;
 mod header;
+mod items;
 mod names;
 mod pace;
 mod registers;

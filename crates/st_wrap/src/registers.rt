@@ -6,7 +6,8 @@ ghost use Rattle.st_wrap.specs.inner.Columns.{held_declared, held_driven, late_d
 ghost use Rattle.st_wrap.specs.inner.Columns.{stage_declared, stage_driven, stage_name};
 
 use crate::columns::Column;
-use crate::expressions::{choose, moving, named, plain};
+use crate::expressions::{choose, moving, name_of, named, plain};
+use crate::items::{assign, register};
 use crate::names::{held_name, inner_name, late_name};
 use fx_io::{Boxed, OutOfMemory, Text};
 use std::alloc::Global;
@@ -50,14 +51,13 @@ fn drive_input(alloc: Global, column: &Column, items: &mut ModItems) -> Result<(
     let name = inner_name(alloc, column.inner.bytes())?;
     let value = fresh_or_held(alloc, column)?;
     items.push(ModItem::Assign { name, value })?;
-    let name = held_name(alloc, column.name.bytes())?;
-    let fresh = Text::copy(alloc, column.name.bytes())?;
-    items.push(ModItem::Always {
-        name,
-        first: plain(column.width, 0),
-        condition: Some(moving(alloc, b"fx_begin")?),
-        value: Expr::Name(fresh),
-    })
+    let fresh = name_of(Text::copy(alloc, column.name.bytes()));
+    items.push(register(
+        held_name(alloc, column.name.bytes()),
+        plain(column.width, 0),
+        moving(alloc, b"fx_begin"),
+        fresh,
+    )?)
 }
 
 /// Drives each input of the core, and what holds it.
@@ -99,14 +99,13 @@ fn stage_driven(alloc: Global, column: &Column, place: u64) -> Result<ModItem, O
     requires { place + 1 < 2 ^ 64 }
     ensures { IfOk result (λ item. item ≡ stage_driven column.now place) }
 {
-    let name = late_name(alloc, column.name.bytes(), place + 1)?;
-    let before = stage_name(alloc, column, place)?;
-    Ok(ModItem::Always {
-        name,
-        first: plain(column.width, 0),
-        condition: Some(moving(alloc, b"fx_end")?),
-        value: Expr::Name(before),
-    })
+    let before = name_of(stage_name(alloc, column, place));
+    register(
+        late_name(alloc, column.name.bytes(), place + 1),
+        plain(column.width, 0),
+        moving(alloc, b"fx_end"),
+        before,
+    )
 }
 
 fn declare_output(alloc: Global, column: &Column, items: &mut ModItems) -> Result<(), OutOfMemory>
@@ -138,9 +137,8 @@ fn drive_output(alloc: Global, column: &Column, items: &mut ModItems) -> Result<
     for place in 0..column.late {
         items.push(stage_driven(alloc, column, place)?)?;
     }
-    let name = Text::copy(alloc, column.name.bytes())?;
-    let value = Expr::Name(stage_name(alloc, column, column.late)?);
-    items.push(ModItem::Assign { name, value })
+    let shown = name_of(stage_name(alloc, column, column.late));
+    assign(alloc, column.name.bytes(), shown, items)
 }
 
 /// Drives what holds each output back, and its port.
