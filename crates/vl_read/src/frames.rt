@@ -10,9 +10,7 @@ ghost use Rattle.vl_read.specs.inner.Seen.{seen, goal_of, frames_of, spot_of, sp
 ghost use Rattle.vl_read.specs.inner.Turns.{stepped};
 
 use crate::numbers::{constant_of, count_of, kind_of};
-use crate::pieces::{
-    binary, bit, cast, choose, concat, innermost, part, repeat, shift, unary, with_operand,
-};
+use crate::pieces::{binary, bit, cast, choose, concat, innermost, part, repeat, shift, unary};
 use crate::places::{Closing, Frame, Goal, Place, Reader, Spot};
 use crate::scan::is;
 use fx_io::{Boxed, OutOfMemory};
@@ -60,7 +58,7 @@ impl Reader {
     fn concat_step(
         &mut self,
         goal: Goal,
-        parts: Exprs,
+        mut parts: Exprs,
         value: Expr,
         lexeme: &[u8],
     ) -> Result<bool, OutOfMemory>
@@ -68,7 +66,7 @@ impl Reader {
             ≡ frame_step self.old.draft (goal_of self.old goal) (frames_of self.old)
             (InConcat parts) value lexeme.now) }
     {
-        let parts = with_operand(parts, value)?;
+        parts.push(value)?;
         if is(lexeme, ",") {
             return self.inside(goal, Frame::InConcat(parts), Spot::Operand);
         }

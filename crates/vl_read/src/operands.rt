@@ -8,12 +8,12 @@ ghost use Rattle.vl_read.specs.inner.Seen.{seen, goal_of, frames_of, spot_of};
 ghost use Rattle.vl_read.specs.inner.Turns.{stepped};
 
 use crate::numbers::kind_of;
-use crate::pieces::{literal, named};
+use crate::pieces::{literal, named, no_operands};
 use crate::places::{Frame, Goal, Opening, Place, Reader, Spot};
 use crate::scan::{Kind, is};
 use fx_io::{OutOfMemory, Text};
 use std::alloc::Global;
-use vl_ast::{Exprs, UnOp};
+use vl_ast::UnOp;
 
 /// How deep expressions nest at most (own).
 const DEEPEST: usize = 256;
@@ -172,13 +172,10 @@ impl Reader {
                 Frame::InRepeat(number),
                 Spot::Begins(Opening::OpenBrace),
             ),
-            Kind::Name | Kind::Constant(_) | Kind::Fixed => self.operand_in(
-                alloc,
-                goal,
-                Frame::InConcat(Exprs::new(alloc)),
-                kind,
-                lexeme,
-            ),
+            Kind::Name | Kind::Constant(_) | Kind::Fixed => {
+                let frame = Frame::InConcat(no_operands(alloc)?);
+                self.operand_in(alloc, goal, frame, kind, lexeme)
+            }
         }
     }
 }

@@ -1,4 +1,4 @@
-ghost use Rattle.std.specs.Prelude.{◌≡◌, ◌++◌, ◌∷◌, [], IfOk, MatchOption, Some, None, if◌then◌else◌};
+ghost use Rattle.std.specs.Prelude.{◌≡◌, [], IfOk, MatchOption, Some, None, if◌then◌else◌};
 ghost use Rattle.vl_ast.specs.declared.expressions.Expr.TheOpen.{Expr-F};
 ghost use Rattle.vl_ast.specs.declared.expressions.Expr.TheViews.{roll-Expr};
 ghost use Rattle.vl_read.specs.inner.Plain.{innermost};
@@ -36,16 +36,11 @@ pub fn literal(number: Sized) -> Expr
     Expr::Literal(number)
 }
 
-/// One more operand of a concatenation. The first takes room for itself alone, as most have no other.
-pub fn with_operand(parts: Exprs, value: Expr) -> Result<Exprs, OutOfMemory>
-    ensures { IfOk result (λ operands. operands ≡ parts ++ value ∷ []) }
+/// The operands of a concatenation that begins, with room for one, as most have no other.
+pub fn no_operands(alloc: Global) -> Result<Exprs, OutOfMemory>
+    ensures { IfOk result (λ operands. operands ≡ []) }
 {
-    let mut parts = parts.into_vec();
-    if parts.is_empty() {
-        parts.reserve_exact(1)?;
-    }
-    parts.push(value)?;
-    Ok(Exprs::from_vec(parts))
+    Ok(Exprs::from_vec(Vec::with_capacity(alloc, 1)?))
 }
 
 /// A concatenation, which keeps no room for further operands.

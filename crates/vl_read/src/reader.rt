@@ -137,7 +137,8 @@ impl Reader {
     pub fn hold(&mut self, value: Expr)
         ensures { self.new ≡ record self.old { held = record self.old.held { value = value } } }
     {
-        self.held.value = value;
+        let earlier = mem::replace(&mut self.held.value, value);
+        drop(earlier);
     }
 
     /// Holds the condition of an item with a clock, or that it has none.
