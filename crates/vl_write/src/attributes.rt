@@ -17,13 +17,11 @@ fn put_attr_list(out: &mut Vec<u8>, attrs: &[Attr]) -> Result<(), OutOfMemory>
     ensures { OnOk result (out.new.items
         ≡ out.old.items ++ joined (codes ", ") (map attr_text attrs.now)) }
 {
-    let Some((first, others)) = attrs.split_first() else {
-        return Ok(());
-    };
-    put_attr(out, first)?;
-    for attr in others {
-        put(out, b", ")?;
+    let mut before: &[u8] = b"";
+    for attr in attrs {
+        put(out, before)?;
         put_attr(out, attr)?;
+        before = b", ";
     }
     Ok(())
 }

@@ -111,13 +111,10 @@ fn put_parts(out: &mut Vec<u8>, parts: &[Expr]) -> Result<(), OutOfMemory>
     ensures { OnOk result (out.new.items
         ≡ out.old.items ++ joined (codes ", ") (map expr_text parts.now)) }
 {
-    let Some((first, others)) = parts.split_first() else {
-        return Ok(());
-    };
-    put_expr(out, first)?;
-    for part in others {
-        put(out, b", ")?;
-        put_expr(out, part)?;
+    let mut before: &[u8] = b"";
+    for part in parts {
+        put_within(out, before, part, b"")?;
+        before = b", ";
     }
     Ok(())
 }

@@ -50,14 +50,21 @@ fn put_reset(out: &mut Vec<u8>, name: &[u8], first: &Sized) -> Result<(), OutOfM
     put(out, b"; else ")
 }
 
-fn put_next(out: &mut Vec<u8>, name: &[u8], value: &Expr) -> Result<(), OutOfMemory>
+/// Puts what a name takes, with what stands between them and behind.
+fn put_value(
+    out: &mut Vec<u8>,
+    name: &[u8],
+    sign: &[u8],
+    value: &Expr,
+    end: &[u8],
+) -> Result<(), OutOfMemory>
     ensures { OnOk result (out.new.items
-        ≡ out.old.items ++ (name.now ++ codes " <= " ++ expr_text value.now ++ codes "; end\n")) }
+        ≡ out.old.items ++ (name.now ++ sign.now ++ expr_text value.now ++ end.now)) }
 {
     put(out, name)?;
-    put(out, b" <= ")?;
+    put(out, sign)?;
     put_expr(out, value)?;
-    put(out, b"; end\n")
+    put(out, end)
 }
 
 fn put_item(out: &mut Vec<u8>, item: &ModItem) -> Result<(), OutOfMemory>
@@ -76,10 +83,7 @@ fn put_item(out: &mut Vec<u8>, item: &ModItem) -> Result<(), OutOfMemory>
         } => put_net(out, b"reg ", *signed, *width, name.bytes()),
         ModItem::Assign { name, value } => {
             put(out, b"assign ")?;
-            put(out, name.bytes())?;
-            put(out, b" = ")?;
-            put_expr(out, value)?;
-            put(out, b";\n")
+            put_value(out, name.bytes(), b" = ", value, b";\n")
         }
         ModItem::Always {
             name,
@@ -89,7 +93,7 @@ fn put_item(out: &mut Vec<u8>, item: &ModItem) -> Result<(), OutOfMemory>
         } => {
             put_reset(out, name.bytes(), first)?;
             put_condition(out, condition)?;
-            put_next(out, name.bytes(), value)
+            put_value(out, name.bytes(), b" <= ", value, b"; end\n")
         }
     }
 }

@@ -31,13 +31,11 @@ pub fn put_ports(out: &mut Vec<u8>, ports: &[Port]) -> Result<(), OutOfMemory>
     ensures { OnOk result (out.new.items
         ≡ out.old.items ++ joined (codes ",\n") (map port_text ports.now)) }
 {
-    let Some((first, others)) = ports.split_first() else {
-        return Ok(());
-    };
-    put_port(out, first)?;
-    for port in others {
-        put(out, b",\n")?;
+    let mut before: &[u8] = b"";
+    for port in ports {
+        put(out, before)?;
         put_port(out, port)?;
+        before = b",\n";
     }
     Ok(())
 }

@@ -1,7 +1,8 @@
-use Rattle.std.proofs.Common.{◌≡◌, ◌++◌, codes, take}
-use Rattle.std.specs.List.{flat_map}
-use Rattle.vl_ast.specs.Spelling.{attr_text}
+use Rattle.std.proofs.Common.{◌≡◌, ◌++◌, codes, map, take}
+use Rattle.vl_ast.specs.Spelling.{joined, attr_text}
+use Rattle.vl_write.proofs.Joined.{before_part}
 use Rattle.vl_write.proofs.attributes.put_attr_list.Given as goal
 
 abbrev pub invariant-loop-attr : goal.invariant-loop-attr
-invariant-loop-attr l = l.out.items ≡ l.initial.out.items ++ flat_map (λ attr. codes ", " ++ attr_text attr) (take l.attr-index l.others)
+invariant-loop-attr l =
+    (l.out.items ≡ l.initial.out.items ++ joined (codes ", ") (map attr_text (take l.attr-index l.attrs))) × (l.before ≡ before_part (codes ", ") l.attr-index)

@@ -1,7 +1,8 @@
-use Rattle.std.proofs.Common.{◌++◌, map, codes, decimal, arith, ap, ◌∙◌}
+use Rattle.std.proofs.Common.{◌++◌, map, codes, decimal, append-nil, ap, ◌∙◌}
+use Rattle.std.proofs.lemmas.List.{take_all}
 use Rattle.std.proofs.lemmas.Result.{on_ok_weaker}
 use Rattle.vl_ast.specs.Spelling.{joined, expr_text, sized_text}
-use Rattle.vl_write.proofs.Joined.{joined_text, one_more}
+use Rattle.vl_write.proofs.Joined.{before_next, one_more}
 use Rattle.vl_write.proofs.Written.{wrote-name, wrote-bit, wrote-part, wrote-literal, wrote-signed, wrote-unsigned, wrote-concat, wrote-repeat, wrote-unary, wrote-binary, wrote-shift, wrote-choose}
 use Rattle.vl_write.proofs.expressions.+expression.Goals as goal
 
@@ -95,9 +96,14 @@ put_expr-returns-in_ok-put_within-in-Choose-2 t c =
     c.put_within-in-Choose-3.ensures
 
 pub put_parts-returns : goal.put_parts-returns
-put_parts-returns t c = joined_text (codes ", ") expr_text c.args.parts.now c.in-Some.first.now c.in-Some.others.now c.args.out.now.items _ _ c.loop-part.part-index c.in-Some.ensures.cases.0 c.in_ok-put_expr.ensures c.loop-part.invariant (omega arith)
+put_parts-returns t c =
+    c.loop-part.invariant.0
+    ∙ ap (λ xs. c.args.out.now.items ++ joined (codes ", ") (map expr_text xs)) (take_all c.loop-part.part-index c.args.parts.now c.loop-part-test.false)
 
 pub put_parts-loop-part-preserved : goal.put_parts-loop-part-preserved
 put_parts-loop-part-preserved t c =
-    one_more (codes ", ") expr_text c.in-Some.others.now c.put_expr.new.out.items c.loop-part.out.items c.put.new.out.items c.put_expr-in-loop-part.new.out.items
-    c.loop-part.part-index c.part-item.result c.loop-part-test.true c.part-item.is c.loop-part.invariant c.in_ok-put.ensures c.in_ok-put_expr-2.ensures
+    let part = expr_text c.part-item.result in
+    let put = c.in_ok-put_within.ensures ∙ (λ i. c.loop-part.out.items ++ (c.loop-part.invariant.1 i ++ append-nil part i)) in (
+      one_more (codes ", ") expr_text c.args.parts.now c.args.out.now.items c.loop-part.out.items _ c.loop-part.part-index c.part-item.result c.loop-part-test.true c.part-item.is c.loop-part.invariant.0 put,
+      before_next (codes ", ") c.loop-part.part-index,
+    )
