@@ -61,15 +61,20 @@ fn put_bit(alloc: Global, name: &[u8], input: bool, ports: &mut Ports) -> Result
     ports.push(bare_port(alloc, name, input, (1, false))?)
 }
 
-fn input_port(alloc: Global, netlist: &Netlist, port: &NetPort) -> Result<Port, OutOfMemory>
+fn put_input(
+    alloc: Global,
+    netlist: &Netlist,
+    port: &NetPort,
+    ports: &mut Ports,
+) -> Result<(), OutOfMemory>
     requires { port.now.net < length netlist.now.nets }
-    ensures { IfOk result (λ made. made ≡ input_port netlist.now port.now) }
+    ensures { OnOk result (ports.new ≡ ports.old ++ input_port netlist.now port.now ∷ []) }
 {
     let net = &netlist.nets()[port.net as usize];
     let word = (u32::from(net.width), net.signed);
     let mut made = bare_port(alloc, port.name.bytes(), true, word)?;
     match put_attribute(alloc, &mut made.attrs, b"fx_period", u64::from(port.period)) {
-        Ok(()) => Ok(made),
+        Ok(()) => ports.push(made),
         Err(wanting) => {
             drop(made);
             Err(wanting)
@@ -87,15 +92,20 @@ fn put_output_attrs(alloc: Global, port: &NetPort, attrs: &mut Attrs) -> Result<
     put_attribute(alloc, attrs, b"fx_latency", port.latency)
 }
 
-fn output_port(alloc: Global, netlist: &Netlist, port: &NetPort) -> Result<Port, OutOfMemory>
+fn put_output(
+    alloc: Global,
+    netlist: &Netlist,
+    port: &NetPort,
+    ports: &mut Ports,
+) -> Result<(), OutOfMemory>
     requires { port.now.net < length netlist.now.nets }
-    ensures { IfOk result (λ made. made ≡ output_port netlist.now port.now) }
+    ensures { OnOk result (ports.new ≡ ports.old ++ output_port netlist.now port.now ∷ []) }
 {
     let net = &netlist.nets()[port.net as usize];
     let word = (u32::from(net.width), net.signed);
     let mut made = bare_port(alloc, port.name.bytes(), false, word)?;
     match put_output_attrs(alloc, port, &mut made.attrs) {
-        Ok(()) => Ok(made),
+        Ok(()) => ports.push(made),
         Err(wanting) => {
             drop(made);
             Err(wanting)
@@ -108,7 +118,7 @@ fn put_inputs(alloc: Global, netlist: &Netlist, ports: &mut Ports) -> Result<(),
     ensures { OnOk result (ports.new ≡ ports.old ++ input_ports netlist.now) }
 {
     for port in netlist.inputs() {
-        ports.push(input_port(alloc, netlist, port)?)?;
+        put_input(alloc, netlist, port, ports)?;
     }
     Ok(())
 }
@@ -118,7 +128,7 @@ fn put_outputs(alloc: Global, netlist: &Netlist, ports: &mut Ports) -> Result<()
     ensures { OnOk result (ports.new ≡ ports.old ++ output_ports netlist.now) }
 {
     for port in netlist.outputs() {
-        ports.push(output_port(alloc, netlist, port)?)?;
+        put_output(alloc, netlist, port, ports)?;
     }
     Ok(())
 }

@@ -44,3 +44,45 @@ returns-else-reset c =
     let taken = subst (λ (w : Wire). IfOk c.named.result (λ e. e ≡ Name w.name)) c.operand-else-reset.ensures.wire c.named.ensures in
     subst (λ (reset : Bool). IfOk c.register-else-reset.result (IsDriver source c.args.own (EnReg c.args.frame c.args.enable reset c.args.first c.args.from))) (sym c.if-reset.false)
     (c.register-else-reset.ensures _ _ _ _ number name c.enabled_taking-taking.ensures taken)
+
+pub operand-requires-clause-source : goal.operand-requires-clause-source
+operand-requires-clause-source c = c.requires.source
+
+pub operand-requires-clause-there : goal.operand-requires-clause-there
+operand-requires-clause-there c = c.requires.own
+
+pub operand-requires-else-reset-clause-source : goal.operand-requires-else-reset-clause-source
+operand-requires-else-reset-clause-source c = c.requires.source
+
+pub operand-requires-else-reset-clause-there : goal.operand-requires-else-reset-clause-there
+operand-requires-else-reset-clause-there c = c.requires.kind.1
+
+pub last_slot-requires-clause-period : goal.last_slot-requires-clause-period
+last_slot-requires-clause-period c = c.requires.kind.0.period
+
+pub last_slot-requires-clause-source : goal.last_slot-requires-clause-source
+last_slot-requires-clause-source c = c.requires.source
+
+pub enabled_slot-slot-requires-clause-source : goal.enabled_slot-slot-requires-clause-source
+enabled_slot-slot-requires-clause-source c = c.requires.source
+
+pub enabled_slot-slot-requires-clause-timed : goal.enabled_slot-slot-requires-clause-timed
+enabled_slot-slot-requires-clause-timed c = c.requires.kind.0
+
+pub enabled_taking-taking-requires-clause-source : goal.enabled_taking-taking-requires-clause-source
+enabled_taking-taking-requires-clause-source c = c.requires.source
+
+pub enabled_taking-taking-requires-clause-timed : goal.enabled_taking-taking-requires-clause-timed
+enabled_taking-taking-requires-clause-timed c = c.requires.kind.0
+
+pub enabled_taking-taking-requires-clause-enable : goal.enabled_taking-taking-requires-clause-enable
+enabled_taking-taking-requires-clause-enable c = c.requires.kind.2
+
+pub renewed-requires-clause-source : goal.renewed-requires-clause-source
+renewed-requires-clause-source c = c.requires.source
+
+pub renewed-requires-clause-enable : goal.renewed-requires-clause-enable
+renewed-requires-clause-enable c = c.requires.kind.2
+
+pub renewed-requires-clause-from : goal.renewed-requires-clause-from
+renewed-requires-clause-from c = c.requires.kind.1

@@ -23,3 +23,51 @@ returns c =
     (wire_at c.argument-second.result) (wire_at c.argument-third.result) c.args.op c.port-port.ensures.wire (λ h. c.argument-first.ensures.wire (omega (arith, h, c.requires.kind.0)))
     (λ h. c.argument-second.ensures.wire (omega (arith, h, c.requires.kind.0))) (λ h. c.argument-third.ensures.wire (omega (arith, h, c.requires.kind.0))) in
     subst (λ (v : Expr). IfOk c.expression.result (λ e. e ≡ v)) (wide ∙ is) c.expression.ensures
+
+pub argument-first-requires-clause-source : goal.argument-first-requires-clause-source
+argument-first-requires-clause-source c = c.requires.source
+
+pub argument-first-requires-clause-own : goal.argument-first-requires-clause-own
+argument-first-requires-clause-own c = c.requires.own
+
+pub argument-first-requires-clause-there : goal.argument-first-requires-clause-there
+argument-first-requires-clause-there c = c.requires.kind.1
+
+pub argument-second-requires-clause-source : goal.argument-second-requires-clause-source
+argument-second-requires-clause-source c = c.requires.source
+
+pub argument-second-requires-clause-own : goal.argument-second-requires-clause-own
+argument-second-requires-clause-own c = c.requires.own
+
+pub argument-second-requires-clause-there : goal.argument-second-requires-clause-there
+argument-second-requires-clause-there c = c.requires.kind.1
+
+pub argument-third-requires-clause-source : goal.argument-third-requires-clause-source
+argument-third-requires-clause-source c = c.requires.source
+
+pub argument-third-requires-clause-own : goal.argument-third-requires-clause-own
+argument-third-requires-clause-own c = c.requires.own
+
+pub argument-third-requires-clause-there : goal.argument-third-requires-clause-there
+argument-third-requires-clause-there c = c.requires.kind.1
+
+pub port-port-requires-clause-source : goal.port-port-requires-clause-source
+port-port-requires-clause-source c = c.requires.source
+
+pub port-port-requires-clause-own : goal.port-port-requires-clause-own
+port-port-requires-clause-own c = c.requires.own
+
+pub port-port-requires-clause-there : goal.port-port-requires-clause-there
+port-port-requires-clause-there c = c.requires.kind.3
+
+pub expression-requires-clause-port : goal.expression-requires-clause-port
+expression-requires-clause-port c = c.port-port.ensures.word
+
+pub expression-requires-clause-first : goal.expression-requires-clause-first
+expression-requires-clause-first c = c.argument-first.ensures.word
+
+pub expression-requires-clause-second : goal.expression-requires-clause-second
+expression-requires-clause-second c = c.argument-second.ensures.word
+
+pub expression-requires-clause-third : goal.expression-requires-clause-third
+expression-requires-clause-third c = c.argument-third.ensures.word

@@ -25,3 +25,21 @@ returns c =
     let test = subst (λ (slot : ℕ). IfOk c.enabled_slot.result (λ e. e ≡ gated_condition (Some (slot_in source frame slot)))) c.from.ensures c.enabled_slot.ensures in
     let taken = subst (λ (w : Wire). IfOk c.named.result (λ e. e ≡ Name w.name)) c.operand-2.ensures.wire c.named.ensures in
     c.register.ensures _ _ _ _ first name test taken
+
+pub operand-requires-clause-source : goal.operand-requires-clause-source
+operand-requires-clause-source c = c.requires.source
+
+pub operand-requires-clause-there : goal.operand-requires-clause-there
+operand-requires-clause-there c = c.requires.own
+
+pub operand-requires-2-clause-source : goal.operand-requires-2-clause-source
+operand-requires-2-clause-source c = c.requires.source
+
+pub operand-requires-2-clause-there : goal.operand-requires-2-clause-there
+operand-requires-2-clause-there c = c.requires.kind.1
+
+pub enabled_slot-requires-clause-source : goal.enabled_slot-requires-clause-source
+enabled_slot-requires-clause-source c = c.requires.source
+
+pub enabled_slot-requires-clause-timed : goal.enabled_slot-requires-clause-timed
+enabled_slot-requires-clause-timed c = c.requires.kind.0

@@ -34,3 +34,33 @@ put_bridge-requires-clause-kind c = subst (IsReady (circuit_of c.args.source)) (
 
 pub returns-in-Bridge : goal.returns-in-Bridge
 returns-in-Bridge c = subst (λ (kind : NetKind). OnOk c.put_bridge.result (c.put_bridge.new.items ≡ c.args.items.now ++ map gated_item (others_at (circuit_of c.args.source) c.args.own kind))) (sym (kind-at (circuit_of c.args.source).nets _ c.args.own _ _ c.nets.ensures c.requires.own c.in-Bridge.is)) c.put_bridge.ensures
+
+pub comb_item-requires-clause-source : goal.comb_item-requires-clause-source
+comb_item-requires-clause-source c = c.requires.source
+
+pub comb_item-requires-clause-own : goal.comb_item-requires-clause-own
+comb_item-requires-clause-own c = c.requires.own
+
+pub counter_item-requires-clause-source : goal.counter_item-requires-clause-source
+counter_item-requires-clause-source c = c.requires.source
+
+pub counter_item-requires-clause-own : goal.counter_item-requires-clause-own
+counter_item-requires-clause-own c = c.requires.own
+
+pub reg_item-requires-clause-source : goal.reg_item-requires-clause-source
+reg_item-requires-clause-source c = c.requires.source
+
+pub reg_item-requires-clause-own : goal.reg_item-requires-clause-own
+reg_item-requires-clause-own c = c.requires.own
+
+pub enabled_item-requires-clause-source : goal.enabled_item-requires-clause-source
+enabled_item-requires-clause-source c = c.requires.source
+
+pub enabled_item-requires-clause-own : goal.enabled_item-requires-clause-own
+enabled_item-requires-clause-own c = c.requires.own
+
+pub put_bridge-requires-clause-source : goal.put_bridge-requires-clause-source
+put_bridge-requires-clause-source c = c.requires.source
+
+pub put_bridge-requires-clause-own : goal.put_bridge-requires-clause-own
+put_bridge-requires-clause-own c = c.requires.own
