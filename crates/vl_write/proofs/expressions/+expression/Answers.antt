@@ -1,4 +1,4 @@
-use Rattle.std.proofs.Common.{◌++◌, map, codes, decimal, append-nil, ap, ◌∙◌}
+use Rattle.std.proofs.Common.{◌++◌, ℕ, List, map, codes, decimal, append-nil, ap, ◌∙◌}
 use Rattle.std.proofs.lemmas.List.{take_all}
 use Rattle.std.proofs.lemmas.Result.{on_ok_weaker}
 use Rattle.vl_ast.specs.Spelling.{joined, expr_text, sized_text}
@@ -102,8 +102,7 @@ put_parts-returns t c =
 
 pub put_parts-loop-part-preserved : goal.put_parts-loop-part-preserved
 put_parts-loop-part-preserved t c =
-    let part = expr_text c.part-item.result in
-    let put = c.in_ok-put_within.ensures ∙ (λ i. c.loop-part.out.items ++ (c.loop-part.invariant.1 i ++ append-nil part i)) in (
+    let put = ◌∙◌ {A = List ℕ} c.in_ok-put_within.ensures (λ i. c.loop-part.out.items ++ (c.loop-part.invariant.1 i ++ append-nil (expr_text c.part-item.result) i)) in (
       one_more (codes ", ") expr_text c.args.parts.now c.args.out.now.items c.loop-part.out.items _ c.loop-part.part-index c.part-item.result c.loop-part-test.true c.part-item.is c.loop-part.invariant.0 put,
       before_next (codes ", ") c.loop-part.part-index,
     )
