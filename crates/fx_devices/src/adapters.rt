@@ -3,10 +3,10 @@ ghost use Rattle.std.specs.Io.KnownBytes.{WriteAppends};
 ghost use Rattle.fx_io.specs.Cause.{Rose};
 ghost use Rattle.fx_io.specs.Sink.{also_took, untold};
 
-use fx_io::{Failed, FetchFault, Shelf, Sink, Text};
+use fx_io::{Failed, FetchFault, OutOfMemory, Shelf, Sink, Text};
 use std::alloc::Global;
 use std::fs;
-use std::io::{self, ErrorKind, Read, Write};
+use std::io::{self, BufWriter, ErrorKind, Read, Write};
 use std::rt::Files;
 
 /// The files of the system, by their paths (own). The shelf tells nothing of what it holds, and
@@ -94,6 +94,38 @@ impl<W: Write + Drop> StreamSink<W> {
             faults: 0,
             stalls: 0,
         }
+    }
+}
+
+/// What becomes of the bytes that a buffered sink took and has not yet written (own).
+#[derive(Clone, Copy)]
+pub enum Rest {
+    /// They are written.
+    Written,
+    /// They are never written, so that none of them stands behind bytes that failed.
+    Dropped,
+}
+
+impl<W: Write + Drop> StreamSink<BufWriter<W>> {
+    /// A sink that writes to this stream through a buffer, so that lines share calls of the system.
+    pub fn buffered(alloc: Global, stream: W) -> Result<Self, OutOfMemory>
+        ensures faults { IfOk result (λ sink. sink.faults ≡ 0) }
+        ensures stalls { IfOk result (λ sink. sink.stalls ≡ 0) }
+    {
+        // allocation: the writer's buffer
+        let writer = BufWriter::new(alloc, stream).map_err(|_| OutOfMemory)?;
+        Ok(StreamSink::new(writer))
+    }
+
+    /// Ends the stream, and fails where the rest was to be written and was not. What a failure
+    /// leaves in the buffer is written no more.
+    pub fn close(mut self, rest: Rest) -> Result<(), Failed> {
+        let is_written = match rest {
+            Rest::Written => self.writer.flush().is_ok(),
+            Rest::Dropped => true,
+        };
+        let _ = self.writer.into_parts();
+        if is_written { Ok(()) } else { Err(Failed) }
     }
 }
 

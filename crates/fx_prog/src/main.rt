@@ -2,11 +2,9 @@
 //! answer is the exit status.
 #![tactic(auto)]
 
-use fx_devices::{ErrSink, FileShelf, OutSink};
+use fx_devices::{ErrSink, FileShelf, OutSink, Rest, words};
 use fx_io::{OutOfMemory, Sink, put_all};
 use fx_top::run;
-use std::env;
-use std::io::{BufWriter, ErrorKind, Write};
 use std::process::ExitCode;
 use std::thread::Threads;
 
@@ -31,9 +29,7 @@ fn answer<T: Threads + Sync, E: Sink>(
 ) -> Result<u8, OutOfMemory> {
     let words = words(rt)?;
     let mut shelf = FileShelf::new(rt);
-    // allocation: the writer's buffer
-    let writer = BufWriter::new(rt.alloc(), rt.stdout()).map_err(|_| OutOfMemory)?;
-    let mut out = OutSink::new(writer);
+    let mut out = OutSink::buffered(rt.alloc(), rt.stdout())?;
     let status = run(
         threads,
         rt.alloc(),
@@ -42,32 +38,19 @@ fn answer<T: Threads + Sync, E: Sink>(
         &mut out,
         err,
     );
-    let is_written = status != 0 || out.writer.flush().is_ok();
-    let _ = out.writer.into_parts();
-    if !is_written {
-        return Ok(end(err, b"cannot write\n", 4));
+    let rest = if status == 0 {
+        Rest::Written
+    } else {
+        Rest::Dropped
+    };
+    match out.close(rest) {
+        Ok(()) => Ok(status),
+        Err(_) => Ok(end(err, b"cannot write\n", 4)),
     }
-    Ok(status)
 }
 
 /// Says this line, and gives this status. As for every message, a failure changes nothing.
 fn end<E: Sink>(err: &mut E, line: &[u8], status: u8) -> u8 {
     let _ = put_all(err, line);
     status
-}
-
-/// The words after the program's name. Words that aren't all text are none, which have no listed
-/// shape.
-fn words(rt: &HostRuntime) -> Result<Vec<String>, OutOfMemory> {
-    let mut words = Vec::new(rt.alloc());
-    match env::args(rt) {
-        Ok(args) => {
-            for word in args.skip(1) {
-                words.push(word)?;
-            }
-        }
-        Err(fault) if fault.kind() == ErrorKind::OutOfMemory => return Err(OutOfMemory),
-        Err(_) => {}
-    }
-    Ok(words)
 }
