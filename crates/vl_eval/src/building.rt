@@ -255,22 +255,12 @@ fn build_alone(ops: &mut Code, site: &Site<'_, '_>, e: &Expr) -> Result<Alone, O
         | Expr::Unary(_, _)
         | Expr::Binary(_, _, _)
         | Expr::Shift(_, _, _)
-        | Expr::Choose(_, _, _) => build_shaped(ops, site, e),
+        | Expr::Choose(_, _, _) => {
+            let shape = shape_of(site, e);
+            let slot = build(ops, site, e, shape.length, shape.signed)?;
+            Ok(Alone { slot, shape })
+        }
     }
-}
-
-/// The same, where the context is worked out first.
-#[cycle(build)]
-fn build_shaped(ops: &mut Code, site: &Site<'_, '_>, e: &Expr) -> Result<Alone, OutOfMemory>
-    requires sound { is_sound (nets_in site.now.scope.now) e.now ≡ true }
-    requires placed { ArePlaced site.now.base site.now.scope.now site.now.slots.now ops.old
-        (names_read e.now) }
-    ensures { IfOk result (λ alone. BuiltAlone site.now.base site.now.scope.now site.now.slots.now
-        ops.old ops.new alone e.now) }
-{
-    let shape = shape_of(site, e);
-    let slot = build(ops, site, e, shape.length, shape.signed)?;
-    Ok(Alone { slot, shape })
 }
 
 /// Adds the operations of an expression in a context, and gives the place of its value. The recursion

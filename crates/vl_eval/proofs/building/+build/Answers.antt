@@ -1,6 +1,7 @@
-use Rattle.std.proofs.Common.{◌≡◌, ◌+◌, [], ◌++◌, ℕ, List, take, refl, sym, ap, subst, ◌∙◌, arith}
+use Rattle.std.proofs.Common.{◌≡◌, ◌≤◌, ◌+◌, [], ◌++◌, ℕ, true, List, IfOk, take, refl, sym, ap, subst, ◌∙◌, arith}
 use Rattle.vl_ast.specs.declared.expressions.Expr.{Expr}
-use Rattle.vl_ast.specs.declared.expressions.Expr.TheVariants.{Concat, Repeat}
+use Rattle.vl_ast.specs.declared.expressions.Expr.TheVariants.{Name, Bit, Part, Concat, Repeat, AsSigned, Unary, Binary, Shift, Choose}
+use Rattle.vl_ast.specs.Conditions.{is_sound}
 use Rattle.vl_ast.specs.Context.{own_length}
 use Rattle.vl_ast.specs.Nets.{names_read}
 use Rattle.vl_check.specs.Scope.{nets_in}
@@ -128,19 +129,8 @@ pub build_choice-build-requires : goal.build_choice-build-requires
 build_choice-build-requires t c =
     let site = c.args.site.now in
     let nets = nets_in site.scope.now in
-    let all = placed site c.args.ops.now _ _ (names-choose nets c.args.test.now c.args.chosen.now c.args.other.now) c.requires.placed in (
-      omega arith,
-      (
-        (sound-choose nets c.args.test.now c.args.chosen.now c.args.other.now c.requires.sound).0,
-        (
-          omega (arith, c.shape_of-context.ensures.length),
-          (
-            c.shape_of-context.ensures.few,
-            placed-left c.meaning_by_layer.ensures.value site.base site.scope.now site.slots.now c.args.ops.now (names_read c.args.test.now) (names_read c.args.chosen.now ++ names_read c.args.other.now) all,
-          ),
-        ),
-      ),
-    )
+    let all = placed site c.args.ops.now _ _ (names-choose nets c.args.test.now c.args.chosen.now c.args.other.now) c.requires.placed in
+    (omega arith, ((sound-choose nets c.args.test.now c.args.chosen.now c.args.other.now c.requires.sound).0, (omega (arith, c.shape_of-context.ensures.length), (c.shape_of-context.ensures.few, placed-left c.meaning_by_layer.ensures.value site.base site.scope.now site.slots.now c.args.ops.now (names_read c.args.test.now) (names_read c.args.chosen.now ++ names_read c.args.other.now) all))))
 
 pub build_choice-build-requires-2 : goal.build_choice-build-requires-2
 build_choice-build-requires-2 t c =
@@ -149,19 +139,8 @@ build_choice-build-requires-2 t c =
     let all = placed site c.args.ops.now _ _ (names-choose nets c.args.test.now c.args.chosen.now c.args.other.now) c.requires.placed in
     let rest = placed-right c.meaning_by_layer.ensures.value site.base site.scope.now site.slots.now c.args.ops.now (names_read c.args.test.now) (names_read c.args.chosen.now ++ names_read c.args.other.now) all in
     let mine = placed-left c.meaning_by_layer.ensures.value site.base site.scope.now site.slots.now c.args.ops.now (names_read c.args.chosen.now) (names_read c.args.other.now) rest in
-    let l = length-choose nets c.args.test.now c.args.chosen.now c.args.other.now in (
-      omega arith,
-      (
-        (sound-choose nets c.args.test.now c.args.chosen.now c.args.other.now c.requires.sound).1,
-        (
-          omega (arith, l, c.requires.longer),
-          (
-            c.requires.most,
-            placed-later c.meaning_by_layer.ensures.value site.base site.scope.now site.slots.now c.args.ops.now c.build.new.ops (names_read c.args.chosen.now) c.in_ok-tested.ensures.grows mine,
-          ),
-        ),
-      ),
-    )
+    let l = length-choose nets c.args.test.now c.args.chosen.now c.args.other.now in
+    (omega arith, ((sound-choose nets c.args.test.now c.args.chosen.now c.args.other.now c.requires.sound).1, (omega (arith, l, c.requires.longer), (c.requires.most, placed-later c.meaning_by_layer.ensures.value site.base site.scope.now site.slots.now c.args.ops.now c.build.new.ops (names_read c.args.chosen.now) c.in_ok-tested.ensures.grows mine))))
 
 pub build_choice-build-requires-3 : goal.build_choice-build-requires-3
 build_choice-build-requires-3 t c =
@@ -170,20 +149,8 @@ build_choice-build-requires-3 t c =
     let all = placed site c.args.ops.now _ _ (names-choose nets c.args.test.now c.args.chosen.now c.args.other.now) c.requires.placed in
     let rest = placed-right c.meaning_by_layer.ensures.value site.base site.scope.now site.slots.now c.args.ops.now (names_read c.args.test.now) (names_read c.args.chosen.now ++ names_read c.args.other.now) all in
     let mine = placed-right c.meaning_by_layer.ensures.value site.base site.scope.now site.slots.now c.args.ops.now (names_read c.args.chosen.now) (names_read c.args.other.now) rest in
-    let l = length-choose nets c.args.test.now c.args.chosen.now c.args.other.now in (
-      omega arith,
-      (
-        (sound-choose nets c.args.test.now c.args.chosen.now c.args.other.now c.requires.sound).2,
-        (
-          omega (arith, l, c.requires.longer),
-          (
-            c.requires.most,
-            placed-later c.meaning_by_layer.ensures.value site.base site.scope.now site.slots.now c.build.new.ops c.build-2.new.ops (names_read c.args.other.now) c.in_ok-first.ensures.grows
-                (placed-later c.meaning_by_layer.ensures.value site.base site.scope.now site.slots.now c.args.ops.now c.build.new.ops (names_read c.args.other.now) c.in_ok-tested.ensures.grows mine),
-          ),
-        ),
-      ),
-    )
+    let l = length-choose nets c.args.test.now c.args.chosen.now c.args.other.now in
+    (omega arith, ((sound-choose nets c.args.test.now c.args.chosen.now c.args.other.now c.requires.sound).2, (omega (arith, l, c.requires.longer), (c.requires.most, placed-later c.meaning_by_layer.ensures.value site.base site.scope.now site.slots.now c.build.new.ops c.build-2.new.ops (names_read c.args.other.now) c.in_ok-first.ensures.grows (placed-later c.meaning_by_layer.ensures.value site.base site.scope.now site.slots.now c.args.ops.now c.build.new.ops (names_read c.args.other.now) c.in_ok-tested.ensures.grows mine)))))
 
 pub build_choice-returns : goal.build_choice-returns
 build_choice-returns t c =
@@ -291,13 +258,9 @@ build_parts-build_alone-requires t c =
     let part = c.part-item.result in
     let there = part-in by_layer site.base site.scope.now site.slots.now parts c.loop-part.part-index part c.loop-part-test.true c.part-item.is in
     let all = placed site c.args.ops.now _ _ (names-concat nets parts) c.requires.placed in
-    let sizes : List Expr → ℕ = (λ (ps : List Expr). given.size-build_parts (record {
-      the-lifetimes = ([], ([], ([], ([], ([], tt)))));
-      ops = c.args.ops;
-      site = c.args.site;
-      parts = record { ref_ptr = c.args.parts.ref_ptr; now = ps };
-    })) in (
-      (let less = part-size sizes (λ x xs. refl) parts c.loop-part.part-index part c.loop-part-test.true c.part-item.is in omega (arith, less)),
+    let sizes : List Expr → ℕ = (λ (ps : List Expr). given.size-build_parts (record { the-lifetimes = ([], ([], ([], ([], ([], tt))))); ops = c.args.ops; site = c.args.site; parts = record { ref_ptr = c.args.parts.ref_ptr; now = ps } })) in
+    let less = part-size sizes (λ x xs. refl) parts c.loop-part.part-index part c.loop-part-test.true c.part-item.is in (
+      omega (arith, less),
       (
         part-sound by_layer site.base site.scope.now site.slots.now parts c.loop-part.part-index part (sound-concat nets parts c.requires.sound).0 c.loop-part-test.true c.part-item.is,
         placed-later by_layer site.base site.scope.now site.slots.now c.args.ops.now c.loop-part.ops (names_read part) (c.loop-part.invariant by_layer).grows
@@ -390,3 +353,46 @@ build-returns-in_ok-alone-in-Repeat t c =
     let site = c.args.site.now in
     subst (λ e. Built site.base site.scope.now site.slots.now c.args.ops.now c.build_copies.new.ops c.in_ok-alone-in-Repeat.alone.slot c.args.width c.args.signed e) (ap (Repeat c.in-Repeat.count) c.get.ensures ∙ sym c.in-Repeat.is)
     (c.in_ok-alone-in-Repeat.ensures.built c.args.width c.args.signed)
+
+-- what a call asks for of an expression
+abbrev Fits : Site → List Op → ℕ → Expr → Type 0
+Fits site ops width e = (is_sound (nets_in site.scope.now) e ≡ true) × (own_length (nets_in site.scope.now) e ≤ width) × ArePlaced site.base site.scope.now site.slots.now ops (names_read e)
+
+pub build-build_name-requires : goal.build-build_name-requires
+build-build_name-requires t c =
+    let fits = subst (Fits c.args.site.now c.args.ops.now c.args.width) (c.in-Name.is ∙ ap Name (sym c.bytes.ensures)) (c.requires.sound, c.requires.longer, c.requires.placed) in
+    record { sound = fits.0; longer = fits.1; most = c.requires.most; placed = fits.2 }
+
+pub build-returns-in-Name : goal.build-returns-in-Name
+build-returns-in-Name t c = subst (λ e. IfOk c.build_name.result (λ slot. Built c.args.site.now.base c.args.site.now.scope.now c.args.site.now.slots.now c.args.ops.now c.build_name.new.ops slot c.args.width c.args.signed e)) (sym (c.in-Name.is ∙ ap Name (sym c.bytes.ensures))) c.build_name.ensures
+
+pub build-build_bit-requires : goal.build-build_bit-requires
+build-build_bit-requires t c =
+    let fits = subst (Fits c.args.site.now c.args.ops.now c.args.width) (c.in-Bit.is ∙ ap (λ name. Bit name c.in-Bit.place) (sym c.bytes-in-Bit.ensures)) (c.requires.sound, c.requires.longer, c.requires.placed) in
+    record { sound = fits.0; longer = fits.1; most = c.requires.most; placed = fits.2 }
+
+pub build-returns-in-Bit : goal.build-returns-in-Bit
+build-returns-in-Bit t c = subst (λ e. IfOk c.build_bit.result (λ slot. Built c.args.site.now.base c.args.site.now.scope.now c.args.site.now.slots.now c.args.ops.now c.build_bit.new.ops slot c.args.width c.args.signed e)) (sym (c.in-Bit.is ∙ ap (λ name. Bit name c.in-Bit.place) (sym c.bytes-in-Bit.ensures))) c.build_bit.ensures
+
+pub build-build_part-requires : goal.build-build_part-requires
+build-build_part-requires t c =
+    let fits = subst (Fits c.args.site.now c.args.ops.now c.args.width) (c.in-Part.is ∙ ap (λ name. Part name c.in-Part.high c.in-Part.low) (sym c.bytes-in-Part.ensures)) (c.requires.sound, c.requires.longer, c.requires.placed) in
+    record { sound = fits.0; longer = fits.1; most = c.requires.most; placed = fits.2 }
+
+pub build-returns-in-Part : goal.build-returns-in-Part
+build-returns-in-Part t c = subst (λ e. IfOk c.build_part.result (λ slot. Built c.args.site.now.base c.args.site.now.scope.now c.args.site.now.slots.now c.args.ops.now c.build_part.new.ops slot c.args.width c.args.signed e)) (sym (c.in-Part.is ∙ ap (λ name. Part name c.in-Part.high c.in-Part.low) (sym c.bytes-in-Part.ensures))) c.build_part.ensures
+
+pub build-returns-in-AsSigned : goal.build-returns-in-AsSigned
+build-returns-in-AsSigned t c = subst (λ e. IfOk c.build_as_signed.result (λ slot. Built c.args.site.now.base c.args.site.now.scope.now c.args.site.now.slots.now c.args.ops.now c.build_as_signed.new.ops slot c.args.width c.args.signed e)) (sym (c.in-AsSigned.is ∙ ap AsSigned (sym c.get-in-AsSigned.ensures))) c.build_as_signed.ensures
+
+pub build-returns-in-Unary : goal.build-returns-in-Unary
+build-returns-in-Unary t c = subst (λ e. IfOk c.build_unary.result (λ slot. Built c.args.site.now.base c.args.site.now.scope.now c.args.site.now.slots.now c.args.ops.now c.build_unary.new.ops slot c.args.width c.args.signed e)) (sym (c.in-Unary.is ∙ ap (Unary c.in-Unary.op) (sym c.get-in-Unary.ensures))) c.build_unary.ensures
+
+pub build-returns-in-Binary : goal.build-returns-in-Binary
+build-returns-in-Binary t c = subst (λ e. IfOk c.build_binary.result (λ slot. Built c.args.site.now.base c.args.site.now.scope.now c.args.site.now.slots.now c.args.ops.now c.build_binary.new.ops slot c.args.width c.args.signed e)) (sym (c.in-Binary.is ∙ ap (λ left. Binary c.in-Binary.op left c.in-Binary.right) (sym c.get-in-Binary.ensures) ∙ ap (Binary c.in-Binary.op c.get-in-Binary.result.now) (sym c.get-in-Binary-2.ensures))) c.build_binary.ensures
+
+pub build-returns-in-Shift : goal.build-returns-in-Shift
+build-returns-in-Shift t c = subst (λ e. IfOk c.build_shift.result (λ slot. Built c.args.site.now.base c.args.site.now.scope.now c.args.site.now.slots.now c.args.ops.now c.build_shift.new.ops slot c.args.width c.args.signed e)) (sym (c.in-Shift.is ∙ ap (λ part. Shift c.in-Shift.op part c.in-Shift.amount) (sym c.get-in-Shift.ensures))) c.build_shift.ensures
+
+pub build-returns-in-Choose : goal.build-returns-in-Choose
+build-returns-in-Choose t c = subst (λ e. IfOk c.build_choice.result (λ slot. Built c.args.site.now.base c.args.site.now.scope.now c.args.site.now.slots.now c.args.ops.now c.build_choice.new.ops slot c.args.width c.args.signed e)) (sym (c.in-Choose.is ∙ ap (λ test. Choose test c.in-Choose.chosen c.in-Choose.other) (sym c.get-in-Choose.ensures) ∙ ap (λ chosen. Choose c.get-in-Choose.result.now chosen c.in-Choose.other) (sym c.get-in-Choose-2.ensures) ∙ ap (Choose c.get-in-Choose.result.now c.get-in-Choose-2.result.now) (sym c.get-in-Choose-3.ensures))) c.build_choice.ensures

@@ -42,8 +42,5 @@ decreases-build_parts l = 4 * goal.size-build_parts l + 3
 abbrev pub decreases-build_copies : goal.decreases-build_copies
 decreases-build_copies l = 4 * size-Expr l.part.now + 3
 
-abbrev pub decreases-build_shaped : goal.decreases-build_shaped
-decreases-build_shaped l = 4 * size-Expr l.e.now + 1
-
 abbrev pub decreases-build_alone : goal.decreases-build_alone
-decreases-build_alone l = 4 * size-Expr l.e.now + 2
+decreases-build_alone l = 4 * size-Expr l.e.now + 1

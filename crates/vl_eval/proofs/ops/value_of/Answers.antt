@@ -1,0 +1,138 @@
+use Rattle.std.proofs.Common.{◌+◌, ◌-◌, ◌*◌, ◌%◌, ◌^◌, ◌==◌, if◌then◌else◌, ℕ, List, length, slice_index, bit_and, bit_or, bit_xor, sym, ap, subst, ◌∙◌}
+use Rattle.vl_eval.specs.declared.ops.Op.{Op}
+use Rattle.vl_eval.specs.inner.Ops.{op_value, reads_below}
+use Rattle.vl_eval.proofs.ops.value_of.Goals as goal
+
+-- what an operation gives
+abbrev gives : List ℕ → Op → ℕ
+gives values op = op_value op (λ k. slice_index values k)
+
+-- that it reads what stands there
+abbrev reads : List ℕ → Op → Type 0
+reads values op = reads_below op (length values)
+
+pub both-left-requires : goal.both-left-requires
+both-left-requires c = subst (reads c.args.values.now) c.in-Add.is c.requires
+
+pub returns-in-Add : goal.returns-in-Add
+returns-in-Add c = (λ i. bit_and ((c.both-left.ensures.left i + c.both-left.ensures.right i) % 2 ^ 128) c.in-Add.mask) ∙ ap (gives c.args.values.now) (sym c.in-Add.is)
+
+pub both-left-requires-in-Subtract : goal.both-left-requires-in-Subtract
+both-left-requires-in-Subtract c = subst (reads c.args.values.now) c.in-Subtract.is c.requires
+
+pub returns-in-Subtract : goal.returns-in-Subtract
+returns-in-Subtract c = (λ i. bit_and ((c.both-left-in-Subtract.ensures.left i + (2 ^ 128 - c.both-left-in-Subtract.ensures.right i)) % 2 ^ 128) c.in-Subtract.mask) ∙ ap (gives c.args.values.now) (sym c.in-Subtract.is)
+
+pub both-left-requires-in-Multiply : goal.both-left-requires-in-Multiply
+both-left-requires-in-Multiply c = subst (reads c.args.values.now) c.in-Multiply.is c.requires
+
+pub returns-in-Multiply : goal.returns-in-Multiply
+returns-in-Multiply c = (λ i. bit_and ((c.both-left-in-Multiply.ensures.left i) * (c.both-left-in-Multiply.ensures.right i) % 2 ^ 128) c.in-Multiply.mask) ∙ ap (gives c.args.values.now) (sym c.in-Multiply.is)
+
+pub both-left-requires-in-And : goal.both-left-requires-in-And
+both-left-requires-in-And c = subst (reads c.args.values.now) c.in-And.is c.requires
+
+pub returns-in-And : goal.returns-in-And
+returns-in-And c = (λ i. bit_and (c.both-left-in-And.ensures.left i) (c.both-left-in-And.ensures.right i)) ∙ ap (gives c.args.values.now) (sym c.in-And.is)
+
+pub both-left-requires-in-Or : goal.both-left-requires-in-Or
+both-left-requires-in-Or c = subst (reads c.args.values.now) c.in-Or.is c.requires
+
+pub returns-in-Or : goal.returns-in-Or
+returns-in-Or c = (λ i. bit_or (c.both-left-in-Or.ensures.left i) (c.both-left-in-Or.ensures.right i)) ∙ ap (gives c.args.values.now) (sym c.in-Or.is)
+
+pub both-left-requires-in-Xor : goal.both-left-requires-in-Xor
+both-left-requires-in-Xor c = subst (reads c.args.values.now) c.in-Xor.is c.requires
+
+pub returns-in-Xor : goal.returns-in-Xor
+returns-in-Xor c = (λ i. bit_xor (c.both-left-in-Xor.ensures.left i) (c.both-left-in-Xor.ensures.right i)) ∙ ap (gives c.args.values.now) (sym c.in-Xor.is)
+
+pub both-left-requires-in-Equal : goal.both-left-requires-in-Equal
+both-left-requires-in-Equal c = subst (reads c.args.values.now) c.in-Equal.is c.requires
+
+pub both-left-requires-in-NotEqual : goal.both-left-requires-in-NotEqual
+both-left-requires-in-NotEqual c = subst (reads c.args.values.now) c.in-NotEqual.is c.requires
+
+pub both-left-requires-in-Less : goal.both-left-requires-in-Less
+both-left-requires-in-Less c = subst (reads c.args.values.now) c.in-Less.is c.requires
+
+pub both-left-requires-in-LessEqual : goal.both-left-requires-in-LessEqual
+both-left-requires-in-LessEqual c = subst (reads c.args.values.now) c.in-LessEqual.is c.requires
+
+pub both-left-requires-in-Both : goal.both-left-requires-in-Both
+both-left-requires-in-Both c = subst (reads c.args.values.now) c.in-Both.is c.requires
+
+pub both-left-requires-in-Either : goal.both-left-requires-in-Either
+both-left-requires-in-Either c = subst (reads c.args.values.now) c.in-Either.is c.requires
+
+pub both-left-requires-in-Beside : goal.both-left-requires-in-Beside
+both-left-requires-in-Beside c = let below = subst (reads c.args.values.now) c.in-Beside.is c.requires in (below.0, below.1)
+
+pub returns-in-Beside : goal.returns-in-Beside
+returns-in-Beside c = (λ i. ((c.both-left-in-Beside.ensures.left i) * 2 ^ c.in-Beside.places % 2 ^ 128 + c.both-left-in-Beside.ensures.right i) % 2 ^ 128) ∙ ap (gives c.args.values.now) (sym c.in-Beside.is)
+
+pub returns-in-Constant : goal.returns-in-Constant
+returns-in-Constant c = ap (gives c.args.values.now) (sym c.in-Constant.is)
+
+pub bounds-values-part : goal.bounds-values-part
+bounds-values-part c = subst (reads c.args.values.now) c.in-Extended.is c.requires
+
+pub bounds-values-part-in-Select : goal.bounds-values-part-in-Select
+bounds-values-part-in-Select c = (subst (reads c.args.values.now) c.in-Select.is c.requires).0
+
+pub returns-in-Select : goal.returns-in-Select
+returns-in-Select c = ap (gives c.args.values.now) (sym c.in-Select.is)
+
+pub bounds-values-part-in-Negate : goal.bounds-values-part-in-Negate
+bounds-values-part-in-Negate c = subst (reads c.args.values.now) c.in-Negate.is c.requires
+
+pub returns-in-Negate : goal.returns-in-Negate
+returns-in-Negate c = ap (gives c.args.values.now) (sym c.in-Negate.is)
+
+pub bounds-values-part-in-Invert : goal.bounds-values-part-in-Invert
+bounds-values-part-in-Invert c = subst (reads c.args.values.now) c.in-Invert.is c.requires
+
+pub returns-in-Invert : goal.returns-in-Invert
+returns-in-Invert c = ap (gives c.args.values.now) (sym c.in-Invert.is)
+
+pub bounds-values-part-in-IsZero : goal.bounds-values-part-in-IsZero
+bounds-values-part-in-IsZero c = subst (reads c.args.values.now) c.in-IsZero.is c.requires
+
+pub bounds-values-part-in-Up : goal.bounds-values-part-in-Up
+bounds-values-part-in-Up c = (subst (reads c.args.values.now) c.in-Up.is c.requires).0
+
+pub returns-in-Up : goal.returns-in-Up
+returns-in-Up c = ap (gives c.args.values.now) (sym c.in-Up.is)
+
+pub bounds-values-part-in-SignedDown : goal.bounds-values-part-in-SignedDown
+bounds-values-part-in-SignedDown c = (subst (reads c.args.values.now) c.in-SignedDown.is c.requires).0
+
+pub returns-in-SignedDown : goal.returns-in-SignedDown
+returns-in-SignedDown c = c.signed_down.ensures ∙ ap (gives c.args.values.now) (sym c.in-SignedDown.is)
+
+pub signed_down-requires : goal.signed_down-requires
+signed_down-requires c = (subst (reads c.args.values.now) c.in-SignedDown.is c.requires).1
+
+pub overflow_shr-result : goal.overflow_shr-result
+overflow_shr-result c = (subst (reads c.args.values.now) c.in-Select.is c.requires).1
+
+pub overflow_shl-result : goal.overflow_shl-result
+overflow_shl-result c = (subst (reads c.args.values.now) c.in-Up.is c.requires).1
+
+pub overflow_shl-result-in-Beside : goal.overflow_shl-result-in-Beside
+overflow_shl-result-in-Beside c = (subst (reads c.args.values.now) c.in-Beside.is c.requires).2
+
+pub chosen-requires : goal.chosen-requires
+chosen-requires c = subst (reads c.args.values.now) c.in-Choose.is c.requires
+
+pub returns-in-Choose : goal.returns-in-Choose
+returns-in-Choose c = c.chosen.ensures ∙ ap (gives c.args.values.now) (sym c.in-Choose.is)
+
+pub bounds-values-reset : goal.bounds-values-reset
+bounds-values-reset c = (subst (reads c.args.values.now) c.in-Next.is c.requires).0
+
+pub chosen-requires-else-values-reset-eq1 : goal.chosen-requires-else-values-reset-eq1
+chosen-requires-else-values-reset-eq1 c = let below = subst (reads c.args.values.now) c.in-Next.is c.requires in (below.1, below.2, below.3)
+
+pub returns-then-values-reset-eq1 : goal.returns-then-values-reset-eq1
+returns-then-values-reset-eq1 c = sym (ap (λ (n : ℕ). if n == 1 then c.in-Next.first else (if slice_index c.args.values.now c.in-Next.test == 0 then slice_index c.args.values.now c.in-Next.kept else slice_index c.args.values.now c.in-Next.value)) c.if-values-reset-eq1.true) ∙ ap (gives c.args.values.now) (sym c.in-Next.is)
