@@ -14,7 +14,7 @@ use vl_ast::{Module, Port, mask_of, step_of};
 use vl_check::is_stallable;
 
 /// How an input port but `clk` is driven.
-#[derive(Clone, Copy, Debug)]
+#[derive(Clone, Copy)]
 pub enum Driver {
     /// By 1 in the row before clock 0, and else by 0.
     Reset,

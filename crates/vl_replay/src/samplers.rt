@@ -12,7 +12,7 @@ use vl_check::{is_number_output, is_stallable};
 use vl_eval::Machine;
 
 /// When an output is sampled: at a clock of `phase` in its sample, so many samples late.
-#[derive(Clone, Copy, Debug)]
+#[derive(Clone, Copy)]
 pub struct Sampler {
     pub period: u32,
     pub delay: u64,
