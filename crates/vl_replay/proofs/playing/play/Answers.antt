@@ -1,4 +1,4 @@
-use Rattle.std.proofs.Common.{◌≡◌, ◌*◌, ap, sym, subst, ◌∙◌, arith}
+use Rattle.std.proofs.Common.{◌≡◌, ◌<◌, ◌≤◌, ◌*◌, ap, sym, subst, ◌∙◌, arith}
 use Rattle.std.proofs.Math.Nat.{suc-mul}
 use Rattle.std.proofs.Math.Numerals.{suc-eq-add-one}
 use Rattle.vl_replay.specs.inner.Played.{IsPlayed}
@@ -22,4 +22,32 @@ loop-sample-preserved c =
       played = subst (λ clocks. IsPlayed c.args.score.now c.args.window clocks c.play_sample.new.machine c.play_sample.new.cells) next c.play_sample.ensures.played;
       wide = c.play_sample.ensures.wide;
       source = c.play_sample.ensures.source ∙ c.loop-sample.invariant.source;
+    }
+
+pub begin-requires : goal.begin-requires
+begin-requires c = record {
+  ready = c.requires.ready;
+  score = c.requires.score;
+  row = c.requires.row;
+  wide = c.requires.wide;
+}
+
+pub play_sample-requires : goal.play_sample-requires
+play_sample-requires c = record {
+  played = c.loop-sample.invariant.played;
+  wide = c.loop-sample.invariant.wide;
+}
+
+pub loop-sample-smaller : goal.loop-sample-smaller
+loop-sample-smaller c = let here : c.loop-sample.sample < c.args.span = c.loop-sample-test.true in omega (arith, here)
+
+pub returns : goal.returns
+returns c =
+    let sample = c.loop-sample.sample in
+    let most : sample ≤ c.args.span = c.loop-sample.auto.sample-end in
+    let least : c.args.span ≤ sample = c.loop-sample-test.false in
+    let all : sample ≡ c.args.span = omega (arith, most, least) in
+    record {
+      played = subst (λ n. IsPlayed c.args.score.now c.args.window (n * c.args.score.now.cycles) c.loop-sample.machine c.loop-sample.cells) all c.loop-sample.invariant.played;
+      source = c.loop-sample.invariant.source;
     }
