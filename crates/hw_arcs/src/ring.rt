@@ -38,13 +38,10 @@ pub fn turn_back(alloc: Global, ring: &[u32]) -> Result<Sizes, OutOfMemory>
     ensures { IfOk result (IsTurnedBack ring.now) }
 {
     let place = least_place(ring);
-    let (before, from) = ring.split_at(place);
     let mut cycle = Vec::new(alloc);
-    if let Some((least, after)) = from.split_first() {
-        cycle.push(*least)?;
-        put_back(alloc, before, &mut cycle)?;
-        put_back(alloc, after, &mut cycle)?;
-    }
+    cycle.push(ring[place])?;
+    put_back(alloc, &ring[..place], &mut cycle)?;
+    put_back(alloc, &ring[place + 1..], &mut cycle)?;
     Ok(Sizes::from_vec(cycle))
 }
 

@@ -1,6 +1,8 @@
-use Rattle.hw_arcs.specs.inner.State.{seen}
+use Rattle.std.proofs.Common.{ℕ, List, subst, sym, arith}
+use Rattle.hw_arcs.specs.Found.{AreKnown}
+use Rattle.hw_arcs.specs.inner.State.{AreRows, AreWithin, State, seen}
 use Rattle.hw_arcs.proofs.Closing.{found_is}
-use Rattle.hw_arcs.proofs.Stepping.{begun_is}
+use Rattle.hw_arcs.proofs.Stepping.{begun_is, begun_within}
 use Rattle.hw_arcs.proofs.solving.latencies.Goals as goal
 
 pub relax_all-requires-clause-state : goal.relax_all-requires-clause-state
@@ -8,6 +10,25 @@ relax_all-requires-clause-state c = (begun_is c.args.arcs.now c.args.order.now c
 
 pub relax_all-requires-clause-settled : goal.relax_all-requires-clause-settled
 relax_all-requires-clause-settled c = (begun_is c.args.arcs.now c.args.order.now c.args.count (seen c.in_ok-state.state) c.requires.known c.requires.whole c.in_ok-state.ensures).settled
+
+pub relax_all-requires-clause-known : goal.relax_all-requires-clause-known
+relax_all-requires-clause-known c =
+    let size = (begun_is c.args.arcs.now c.args.order.now c.args.count (seen c.in_ok-state.state) c.requires.known c.requires.whole c.in_ok-state.ensures).size in
+    subst (AreKnown c.args.arcs.now) (sym size) c.requires.known
+
+pub relax_all-requires-clause-few : goal.relax_all-requires-clause-few
+relax_all-requires-clause-few c =
+    let size = (begun_is c.args.arcs.now c.args.order.now c.args.count (seen c.in_ok-state.state) c.requires.known c.requires.whole c.in_ok-state.ensures).size in
+    omega (arith, size, c.requires.small)
+
+pub relax_all-requires-clause-within : goal.relax_all-requires-clause-within
+relax_all-requires-clause-within c = subst (λ (state : State). AreWithin 0 state) (sym c.in_ok-state.ensures) (begun_within c.args.order.now c.args.count)
+
+pub relax_all-requires-clause-rows : goal.relax_all-requires-clause-rows
+relax_all-requires-clause-rows c =
+    let size = (begun_is c.args.arcs.now c.args.order.now c.args.count (seen c.in_ok-state.state) c.requires.known c.requires.whole c.in_ok-state.ensures).size in
+    let rows = subst (λ (rows : List (List ℕ)). AreRows c.args.arcs.now c.args.count rows) (sym c.as_slice.ensures.value) c.in_ok-rows.ensures in
+    subst (λ (count : ℕ). AreRows c.args.arcs.now count c.as_slice.result.now) (sym size) rows
 
 pub returns : goal.returns
 returns c =
