@@ -1,8 +1,11 @@
 //! One chain of registers for all uses of a source.
 ghost use Rattle.std.specs.Prelude.{◌*◌, ◌<◌, ◌≤◌, ◌∷◌, [], All};
-ghost use Rattle.std.specs.Prelude.{IfOk, OnOk};
+ghost use Rattle.std.specs.Prelude.{IfOk, OnOk, ◌≡◌, Some, if◌then◌else◌};
+ghost use Rattle.hw_net.specs.declared.netlist.Frame.{Frame};
+ghost use Rattle.hw_net.specs.ByFrame.{is_same_frame, number_at_frame};
 ghost use Rattle.hw_lines.specs.Chain.{IsSource, IsUse, AreAnswers, IsChained, IsAnswer, source_of};
 ghost use Rattle.hw_lines.specs.Chain.{reader_of};
+ghost use Rattle.hw_lines.specs.inner.Ends.{CanEnd, IsEndFor};
 
 use crate::ends::{end_for, reader_of};
 use crate::source::{Source, Use};
@@ -10,6 +13,27 @@ use crate::source_taps::{most_frames, taps_of};
 use fx_io::{OutOfMemory, Sizes};
 use hw_net::{Frame, FrameIndex, Netlist};
 use std::alloc::Global;
+
+/// The end of a line, by which later lines that are seen in its frame end too.
+fn end_at(
+    net: &mut Netlist,
+    source: Source,
+    taps: &[u32],
+    ends: &mut FrameIndex,
+    one: Use,
+) -> Result<u32, OutOfMemory>
+    requires { CanEnd net.old source taps.now one }
+    ensures end { IfOk result (λ number. IsEndFor net.old net.new source taps.now
+        (number_at_frame ends.old (reader_of source one)) one number) }
+    ensures put { IfOk result (λ number. (other : Frame) → number_at_frame ends.new other
+        ≡ (if is_same_frame (reader_of source one) other then Some number
+        else number_at_frame ends.old other)) }
+{
+    let reader = reader_of(source, one);
+    let number = end_for(net, source, taps, ends.find(reader), one)?;
+    ends.put(reader, number)?;
+    Ok(number)
+}
 
 /// The chain of a source: one register for each of its frames up to the last that is used, and
 /// behind these at most one more net for each different use. Uses that are seen in one frame share
@@ -27,13 +51,12 @@ fn chained(
     ensures answers { IfOk result (λ answers. AreAnswers net.old net.new source uses.now answers) }
     ensures chained { OnOk result (IsChained net.old net.new source uses.now) }
 {
-    let taps = taps_of(alloc, net, source, most_frames(source.frame.period, uses))?;
+    let made = taps_of(alloc, net, source, most_frames(source.frame.period, uses))?;
+    let taps = made.as_slice();
     let mut ends = FrameIndex::new(alloc);
     let mut answers = Sizes::new(alloc);
     for one in uses {
-        let reader = reader_of(source, *one);
-        let number = end_for(net, source, taps.as_slice(), ends.find(reader), *one)?;
-        ends.put(reader, number)?;
+        let number = end_at(net, source, taps, &mut ends, *one)?;
         answers.push(number)?;
     }
     Ok(answers)

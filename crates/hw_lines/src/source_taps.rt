@@ -7,7 +7,7 @@ ghost use Rattle.hw_lines.specs.inner.Parts.{AreTaps, Grows};
 use crate::laws::tap_steps;
 use crate::registers::register_at;
 use crate::source::{Source, Use};
-use fx_io::OutOfMemory;
+use fx_io::{OutOfMemory, Sizes};
 use hw_net::Netlist;
 use std::alloc::Global;
 
@@ -30,19 +30,19 @@ pub fn taps_of(
     net: &mut Netlist,
     source: Source,
     count: u64,
-) -> Result<Vec<u32>, OutOfMemory>
+) -> Result<Sizes, OutOfMemory>
     requires cycles { 0 < net.old.cycles }
     requires source { IsSource net.old source }
     requires room { source.frame.period * net.old.cycles < 2 ^ 32 }
-    ensures size { IfOk result (λ taps. length taps.items ≡ count + 1) }
-    ensures taps { IfOk result (λ taps. AreTaps net.old net.new source taps.items) }
+    ensures size { IfOk result (λ taps. length taps ≡ count + 1) }
+    ensures taps { IfOk result (λ taps. AreTaps net.old net.new source taps) }
     ensures grown { OnOk result
         (Grows net.old net.new source.from ⊥ (λ other. other ≡ source.frame)) }
     ensures few { OnOk result (register_count net.new.nets ≡ register_count net.old.nets + count) }
 {
     tap_steps();
     let slot = source.frame.period * net.cycles() - 1;
-    let mut taps = Vec::new(alloc);
+    let mut taps = Sizes::new(alloc);
     let mut last = source.from;
     taps.push(last)?;
     for step in 0..count {

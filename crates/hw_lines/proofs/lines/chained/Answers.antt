@@ -1,17 +1,15 @@
-use Rattle.std.proofs.Common.{rules, ◌≡◌, ◌+◌, ◌∷◌, [], ◌++◌, ℕ, List, Some, slice_get, slice_index_or, arith, if◌then◌else◌}
+use Rattle.std.proofs.Common.{◌≡◌, ◌+◌, ◌∙◌, ℕ, List, Some, length, slice_get, slice_index_or, ap, refl, subst, arith}
 use Rattle.std.proofs.lemmas.Option.{slice_get-get_or}
-use Rattle.hw_net.specs.declared.netlist.Frame.{Frame}
-use Rattle.hw_net.specs.ByFrame.{is_same_frame, number_at_frame}
 use Rattle.hw_net.specs.Frames.{register_count}
 use Rattle.hw_lines.specs.declared.source.Source.{Source}
 use Rattle.hw_lines.specs.declared.source.Use.{Use}
-use Rattle.hw_lines.specs.Chain.{reader_of, most_frames, different}
-use Rattle.hw_lines.specs.inner.Ends.{IsEndFor, frames_of}
-use Rattle.hw_lines.proofs.Chained.{room, most-of, taps-can-hold, done-more}
+use Rattle.hw_lines.specs.Chain.{most_frames, different}
+use Rattle.hw_lines.specs.inner.Ends.{IsDone, frames_of}
+use Rattle.hw_lines.proofs.Chained.{room, most-of, taps-can-hold, done-start, done-more, done-answers, done-chained}
 use Rattle.hw_lines.proofs.lines.chained.Goals as goal
 
-pub end_for-requires : goal.end_for-requires
-end_for-requires c =
+pub end_at-requires : goal.end_at-requires
+end_at-requires c =
     let source : Source = c.args.source in
     let uses : List Use = c.args.uses.now in
     let i : ℕ = c.loop-one.one-index in
@@ -20,15 +18,16 @@ end_for-requires c =
     let inv = c.loop-one.invariant in
     let cycles : c.loop-one.net.cycles ≡ c.args.net.now.cycles = inv.grown.appends.extends.cycles in
     let most = most-of source.frame.period uses i one at in
-    rw c.as_slice.ensures.value (record {
+    let size = ap (λ (taps : List ℕ). length taps) c.as_slice-taps.ensures in
+    record {
       cycles = omega (arith, cycles, c.requires.low);
       room = rw cycles (room source.frame.period c.args.net.now.cycles c.requires.source.most c.requires.high);
       some = c.requires.source.some;
       early = c.requires.source.early;
       use_is = c.requires.uses i (record { shift = 0; period = 0 }) c.loop-one-test.true;
-      held = taps-can-hold c.args.net.now c.loop-one.net source c.in_ok-taps.taps.items c.requires.source inv.taps_are;
-      size = omega (arith, most, c.in_ok-taps.ensures.size, c.most_frames.ensures);
-    })
+      held = taps-can-hold c.args.net.now c.loop-one.net source c.as_slice-taps.result.now c.requires.source inv.taps_are;
+      size = omega (arith, most, c.in_ok-made.ensures.size, size, c.most_frames.ensures);
+    }
 
 pub loop-one-preserved : goal.loop-one-preserved
 loop-one-preserved c =
@@ -38,9 +37,31 @@ loop-one-preserved c =
     let one : Use = slice_index_or uses i (record { shift = 0; period = 0 }) in
     let at : slice_get uses i ≡ Some one = slice_get-get_or uses i (record { shift = 0; period = 0 }) c.loop-one-test.true in
     let bound : ℕ = register_count c.args.net.now.nets + most_frames source.frame.period uses + different (frames_of source uses) in
-    let end : IsEndFor c.loop-one.net c.end_for.new.net source c.in_ok-taps.taps.items (number_at_frame c.loop-one.ends (reader_of source one)) one c.in_ok-number.number =
-    rw (c.as_slice.ensures.value, c.find.ensures, c.reader_of-reader.ensures) at c.in_ok-number.ensures in
-    let put : (other : Frame) → number_at_frame c.put.new.self other ≡ (if is_same_frame (reader_of source one) other then Some c.in_ok-number.number else number_at_frame c.loop-one.ends other) =
-    rw c.reader_of-reader.ensures at c.in_ok-put.ensures.found in
-    let more : c.push.new.self ≡ c.loop-one.answers ++ c.in_ok-number.number ∷ [] = search rules in
-    rw more (done-more c.args.net.now c.loop-one.net c.end_for.new.net source uses bound c.in_ok-taps.taps.items c.loop-one.ends c.put.new.self c.loop-one.answers i c.in_ok-number.number one c.loop-one.invariant at end put)
+    rw c.in_ok-push.ensures.appended
+    (done-more c.args.net.now c.loop-one.net c.end_at.new.net source uses bound c.as_slice-taps.result.now c.loop-one.ends c.end_at.new.ends c.loop-one.answers i c.in_ok-number.number one c.loop-one.invariant at c.in_ok-number.ensures.end c.in_ok-number.ensures.put)
+
+pub loop-one-init : goal.loop-one-init
+loop-one-init c =
+    let count = c.in_ok-made.ensures.few ∙ ap (λ (n : ℕ). register_count c.args.net.now.nets + n) c.most_frames.ensures in
+    rw (c.as_slice-taps.ensures, c.new-ends.ensures, c.new-answers.ensures) (done-start c.args.net.now c.taps_of.new.net c.args.source c.args.uses.now c.in_ok-made.made c.in_ok-made.ensures.taps c.in_ok-made.ensures.grown count)
+
+pub taps_of-requires-clause-room : goal.taps_of-requires-clause-room
+taps_of-requires-clause-room c = room c.args.source.frame.period c.args.net.now.cycles c.requires.source.most c.requires.high
+
+pub returns-clause-answers : goal.returns-clause-answers
+returns-clause-answers c =
+    let low = c.loop-one-test.false in
+    let high = c.loop-one.auto.one-index-end in
+    let bound : ℕ = register_count c.args.net.now.nets + most_frames c.args.source.frame.period c.args.uses.now + different (frames_of c.args.source c.args.uses.now) in
+    let all : c.loop-one.one-index ≡ length c.args.uses.now = omega (arith, low, high) in
+    let done = subst (λ (i : ℕ). IsDone c.args.net.now c.loop-one.net c.args.source c.args.uses.now bound c.as_slice-taps.result.now c.loop-one.ends c.loop-one.answers i) all c.loop-one.invariant in
+    done-answers c.args.net.now c.loop-one.net c.args.source c.args.uses.now bound c.as_slice-taps.result.now c.loop-one.ends c.loop-one.answers done
+
+pub returns-clause-chained : goal.returns-clause-chained
+returns-clause-chained c =
+    let low = c.loop-one-test.false in
+    let high = c.loop-one.auto.one-index-end in
+    let bound : ℕ = register_count c.args.net.now.nets + most_frames c.args.source.frame.period c.args.uses.now + different (frames_of c.args.source c.args.uses.now) in
+    let all : c.loop-one.one-index ≡ length c.args.uses.now = omega (arith, low, high) in
+    let done = subst (λ (i : ℕ). IsDone c.args.net.now c.loop-one.net c.args.source c.args.uses.now bound c.as_slice-taps.result.now c.loop-one.ends c.loop-one.answers i) all c.loop-one.invariant in
+    done-chained c.args.net.now c.loop-one.net c.args.source c.args.uses.now bound c.as_slice-taps.result.now c.loop-one.ends c.loop-one.answers done refl

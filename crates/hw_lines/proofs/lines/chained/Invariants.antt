@@ -6,4 +6,4 @@ use Rattle.hw_lines.proofs.lines.chained.Given as goal
 
 abbrev pub invariant-loop-one : goal.invariant-loop-one
 invariant-loop-one l =
-    IsDone l.fn.net l.net l.source l.uses (register_count l.fn.net.nets + most_frames l.source.frame.period l.uses + different (frames_of l.source l.uses)) l.taps.items l.ends l.answers l.one-index
+    IsDone l.fn.net l.net l.source l.uses (register_count l.fn.net.nets + most_frames l.source.frame.period l.uses + different (frames_of l.source l.uses)) l.taps l.ends l.answers l.one-index

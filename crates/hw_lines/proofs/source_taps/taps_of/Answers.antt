@@ -1,4 +1,4 @@
-use Rattle.std.proofs.Common.{rules, ◌≡◌, ◌+◌, ◌-◌, ◌*◌, ◌∷◌, [], ◌++◌, ℕ, slice_get, ap, sym, ◌∙◌, subst, arith, refl, FitsSigned, length-append}
+use Rattle.std.proofs.Common.{rules, ◌≡◌, ◌+◌, ◌-◌, ◌*◌, ◌∷◌, [], ◌++◌, ℕ, List, slice_get, ap, sym, ◌∙◌, subst, arith, refl, FitsSigned, length-append}
 use Rattle.std.specs.Int.{w128}
 use Rattle.std.proofs.lemmas.Int.{to_z-of_z}
 use Rattle.hw_net.specs.declared.netlist.Frame.{Frame}
@@ -9,7 +9,7 @@ use Rattle.hw_lines.proofs.source_taps.taps_of.Goals as goal
 
 pub loop-step-init : goal.loop-step-init
 loop-step-init c =
-    let one : c.push.new.self.items ≡ c.args.source.from ∷ [] = search rules in
+    let one : c.push.new.self ≡ c.args.source.from ∷ [] = c.in_ok-push.ensures.appended ∙ ap (λ (xs : List ℕ). xs ++ c.args.source.from ∷ []) c.new-taps.ensures in
     rw one (record {
       size = refl;
       are = taps-first c.tap_steps.ensures c.args.net.now c.args.source c.requires.cycles c.requires.source;
@@ -37,16 +37,15 @@ loop-step-preserved c =
     let tap = inv.are.each c.loop-step.step c.loop-step.last inv.last_is in
     let held = rw first at c.in_ok-last.ensures.held in
     let grown = c.in_ok-last.ensures.grown in
-    let more : c.push-in-loop-step.new.self.items ≡ c.loop-step.taps.items ++ c.in_ok-last.last ∷ [] = search rules in
     let slot : c.args.source.frame.period * c.cycles.result - 1 ≡ c.args.source.frame.period * c.args.net.now.cycles - 1 = ap (λ (x : ℕ). c.args.source.frame.period * x - 1) c.cycles.ensures in
     let next = tap-behind c.tap_steps.ensures c.args.net.now now new c.args.source c.loop-step.step c.loop-step.last (c.args.source.frame.period * c.cycles.result - 1) c.in_ok-last.last c.requires.cycles c.requires.source
     inv.grown.appends.extends grown.appends.extends slot tap held in
-    rw more (record {
-      size = length-append c.loop-step.taps.items (c.in_ok-last.last ∷ []) ∙ omega (arith, inv.size);
-      are = taps-more c.args.net.now new c.args.source c.loop-step.taps.items c.in_ok-last.last
-          (taps-stay c.args.net.now now new c.args.source c.loop-step.taps.items grown.appends.extends inv.are)
+    rw c.in_ok-push-2.ensures.appended (record {
+      size = length-append c.loop-step.taps (c.in_ok-last.last ∷ []) ∙ omega (arith, inv.size);
+      are = taps-more c.args.net.now new c.args.source c.loop-step.taps c.in_ok-last.last
+          (taps-stay c.args.net.now now new c.args.source c.loop-step.taps grown.appends.extends inv.are)
           (subst (λ (i : ℕ). IsTapAt c.args.net.now new c.args.source i c.in_ok-last.last) (sym inv.size) next);
-      last_is = ap (slice_get (c.loop-step.taps.items ++ c.in_ok-last.last ∷ [])) (sym inv.size) ∙ last-of c.loop-step.taps.items c.in_ok-last.last;
+      last_is = ap (slice_get (c.loop-step.taps ++ c.in_ok-last.last ∷ [])) (sym inv.size) ∙ last-of c.loop-step.taps c.in_ok-last.last;
       grown = grows-trans c.args.net.now now new c.args.source.from c.loop-step.last ⊥ ⊥ (λ (other : Frame). other ≡ c.args.source.frame) (λ (other : Frame). other ≡ c.args.source.frame) (λ none. none) (λ frame same. same)
           (tap-named c.args.net.now now c.args.source c.loop-step.step c.loop-step.last tap) inv.grown grown;
       few = omega (arith, c.in_ok-last.ensures.few, inv.few);

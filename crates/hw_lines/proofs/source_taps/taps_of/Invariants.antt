@@ -5,9 +5,9 @@ use Rattle.hw_lines.proofs.source_taps.taps_of.Given as goal
 
 abbrev pub invariant-loop-step : goal.invariant-loop-step
 invariant-loop-step l = record {
-  size : length l.taps.items ≡ l.step + 1;
-  are : AreTaps l.fn.net l.net l.source l.taps.items;
-  last_is : slice_get l.taps.items l.step ≡ Some l.last;
+  size : length l.taps ≡ l.step + 1;
+  are : AreTaps l.fn.net l.net l.source l.taps;
+  last_is : slice_get l.taps l.step ≡ Some l.last;
   grown : Grows l.fn.net l.net l.source.from ⊥ (λ other. other ≡ l.source.frame);
   few : register_count l.net.nets ≡ register_count l.fn.net.nets + l.step;
 }
