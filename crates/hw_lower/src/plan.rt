@@ -13,7 +13,7 @@ use fx_type::FxType;
 use hw_net::NetOp;
 
 /// The word of a number (own).
-#[derive(Clone, Copy, Debug, PartialEq, Eq)]
+#[derive(Clone, Copy, PartialEq, Eq)]
 pub struct Word {
     pub signed: bool,
     pub width: u8,

@@ -5,6 +5,7 @@ use Rattle.hw_lower.specs.declared.plan.Word.{Word}
 use Rattle.hw_lower.proofs.Chained.{if-then}
 use Rattle.hw_net.proofs.Numbers.{wrapped-is}
 use Rattle.hw_lower.proofs.Rounded.{bit-cases, carried-in-word}
+use Rattle.hw_lower.proofs.Made.{at-later}
 use Rattle.hw_lower.proofs.rounding.raised.Goals as goal
 
 pub returns : goal.returns
@@ -15,3 +16,12 @@ returns c =
     wrapped-is (shifted_down (numbers c.args.from.place) c.args.by +ℤ numbers c.args.carry.place) c.args.from.word.width c.args.from.word.signed (numbers made.place) c.requires.from.valid
     (carried-in-word c.args.from.word.width c.args.from.word.signed (numbers c.args.from.place) c.args.by (numbers c.args.carry.place) c.requires.from.valid (has c.args.from c.requires.from) c.requires.some (bit-cases (numbers c.args.carry.place) bit))
     (rw p at q))
+
+pub binary-requires-clause-one : goal.binary-requires-clause-one
+binary-requires-clause-one c = c.in_ok-below.ensures.at
+
+pub binary-requires-clause-other : goal.binary-requires-clause-other
+binary-requires-clause-other c = at-later _ _ c.args.carry c.in_ok-below.ensures.grows c.requires.carry
+
+pub binary-requires-clause-word : goal.binary-requires-clause-word
+binary-requires-clause-word c = c.requires.from.valid

@@ -1,4 +1,4 @@
-use Rattle.std.proofs.Common.{◌^◌, pos, Bool, true, subst}
+use Rattle.std.proofs.Common.{◌^◌, ◌∙◌, pos, Bool, true, subst, sym}
 use Rattle.fx_num.specs.Word.{InWord}
 use Rattle.fx_type.specs.Conversion.{Rounds}
 use Rattle.fx_type.specs.declared.rounding.Rounding.TheVariants.{Round}
@@ -6,6 +6,7 @@ use Rattle.hw_lower.specs.inner.Planned.{IsChosen}
 use Rattle.hw_lower.proofs.Made.{at-later}
 use Rattle.hw_lower.proofs.Chained.{if-then, made-both}
 use Rattle.hw_lower.proofs.Rounded.{round-rounds}
+use Rattle.hw_lower.specs.declared.plan.Word.{Word}
 use Rattle.hw_lower.proofs.rounding.signed_from_zero.Goals as goal
 
 pub choose-requires-clause-test : goal.choose-requires-clause-test
@@ -35,3 +36,30 @@ returns c =
     let tie : IsChosen (numbers c.in_ok-sign.sign.place) (pos 0) (numbers c.in_ok-half.half.place) (numbers c.in_ok-tie.tie.place) = rw p.1.1.0 at p.1.1.1.0 in
     round-rounds (numbers c.args.from.place) c.args.by c.requires.some c.args.from.word.width (numbers c.in_ok-half.half.place) (numbers c.in_ok-sign.sign.place) (numbers c.in_ok-tie.tie.place) (numbers c.in_ok-carry.carry.place)
     (numbers made.place) own p.0 p.1.0 tie p.1.1.1.1 q)
+
+pub sign-requires : goal.sign-requires
+sign-requires c = at-later _ _ c.args.from c.in_ok-half.ensures.grows c.requires.at
+
+pub choose-requires-clause-chosen : goal.choose-requires-clause-chosen
+choose-requires-clause-chosen c = c.in_ok-zero.ensures.at
+
+pub choose-requires-clause-word : goal.choose-requires-clause-word
+choose-requires-clause-word c = c.in_ok-zero.ensures.has_word ∙ c.bit_word.ensures ∙ sym c.bit_word-2.ensures
+
+pub choose-requires-clause-fits : goal.choose-requires-clause-fits
+choose-requires-clause-fits c = λ numbers zero own. subst (λ (w : Word). InWord w.width w.signed (numbers c.in_ok-half.half.place)) (c.in_ok-half.ensures.has_word ∙ sym c.bit_word-2.ensures) own
+
+pub past_tie-requires-clause-half_bit : goal.past_tie-requires-clause-half_bit
+past_tie-requires-clause-half_bit c = c.in_ok-half.ensures.has_word
+
+pub past_tie-requires-clause-tie : goal.past_tie-requires-clause-tie
+past_tie-requires-clause-tie c = c.in_ok-tie.ensures.at
+
+pub past_tie-requires-clause-tie_bit : goal.past_tie-requires-clause-tie_bit
+past_tie-requires-clause-tie_bit c = c.in_ok-tie.ensures.has_word ∙ c.bit_word-2.ensures
+
+pub raised-requires-clause-carry : goal.raised-requires-clause-carry
+raised-requires-clause-carry c = c.in_ok-carry.ensures.at
+
+pub raised-requires-clause-bit : goal.raised-requires-clause-bit
+raised-requires-clause-bit c = c.in_ok-carry.ensures.has_word

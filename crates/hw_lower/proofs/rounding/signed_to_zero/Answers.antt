@@ -23,3 +23,15 @@ returns c =
     (λ made numbers has later p q.
     let own : InWord c.args.from.word.width true (numbers c.args.from.place) = subst (λ (s : Bool). InWord c.args.from.word.width s (numbers c.args.from.place)) c.requires.signed (has c.args.from c.requires.at) in
     zero-rounds (numbers c.args.from.place) c.args.by c.args.from.word.width (numbers c.in_ok-low.low.place) (numbers c.in_ok-sign.sign.place) (numbers c.in_ok-carry.carry.place) (numbers made.place) own p.0 p.1.0 p.1.1 q)
+
+pub both-requires-clause-bit : goal.both-requires-clause-bit
+both-requires-clause-bit c = c.in_ok-sign.ensures.at
+
+pub both-requires-clause-word : goal.both-requires-clause-word
+both-requires-clause-word c = c.in_ok-sign.ensures.has_word
+
+pub raised-requires-clause-carry : goal.raised-requires-clause-carry
+raised-requires-clause-carry c = c.in_ok-carry.ensures.at
+
+pub raised-requires-clause-bit : goal.raised-requires-clause-bit
+raised-requires-clause-bit c = c.in_ok-carry.ensures.has_word

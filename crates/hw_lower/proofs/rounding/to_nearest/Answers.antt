@@ -3,9 +3,19 @@ use Rattle.fx_type.specs.Conversion.{Rounds}
 use Rattle.fx_type.specs.declared.rounding.Rounding.TheVariants.{Nearest}
 use Rattle.hw_lower.proofs.Chained.{if-then}
 use Rattle.hw_lower.proofs.Rounded.{nearest-rounds}
+use Rattle.hw_lower.proofs.Made.{at-later}
 use Rattle.hw_lower.proofs.rounding.to_nearest.Goals as goal
 
 pub returns : goal.returns
 returns c =
     if-then _ _ _ _ _ _ _ (λ made numbers. Rounds Nearest (numbers c.args.from.place) (2 ^ c.args.by) (numbers made.place)) _ _ c.in_ok-half.ensures c.raised.ensures
     (λ made numbers has later p q. nearest-rounds (numbers c.args.from.place) c.args.by c.requires.some (numbers c.in_ok-half.half.place) (numbers made.place) p q)
+
+pub raised-requires-clause-from : goal.raised-requires-clause-from
+raised-requires-clause-from c = at-later _ _ c.args.from c.in_ok-half.ensures.grows c.requires.at
+
+pub raised-requires-clause-carry : goal.raised-requires-clause-carry
+raised-requires-clause-carry c = c.in_ok-half.ensures.at
+
+pub raised-requires-clause-bit : goal.raised-requires-clause-bit
+raised-requires-clause-bit c = c.in_ok-half.ensures.has_word

@@ -4,6 +4,7 @@ use Rattle.fx_type.specs.Conversion.{Rounds}
 use Rattle.fx_type.specs.declared.rounding.Rounding.TheVariants.{Round}
 use Rattle.hw_lower.proofs.Chained.{if-then}
 use Rattle.hw_lower.proofs.Rounded.{round-up}
+use Rattle.hw_lower.proofs.Made.{at-later}
 use Rattle.hw_lower.proofs.rounding.unsigned_from_zero.Goals as goal
 
 pub returns : goal.returns
@@ -12,3 +13,12 @@ returns c =
     (λ made numbers has later p q.
     let own : InWord c.args.from.word.width false (numbers c.args.from.place) = subst (λ (s : Bool). InWord c.args.from.word.width s (numbers c.args.from.place)) c.requires.unsigned (has c.args.from c.requires.at) in
     round-up (numbers c.args.from.place) c.args.by c.requires.some (numbers c.in_ok-half.half.place) (numbers made.place) own.low p q)
+
+pub raised-requires-clause-from : goal.raised-requires-clause-from
+raised-requires-clause-from c = at-later _ _ c.args.from c.in_ok-half.ensures.grows c.requires.at
+
+pub raised-requires-clause-carry : goal.raised-requires-clause-carry
+raised-requires-clause-carry c = c.in_ok-half.ensures.at
+
+pub raised-requires-clause-bit : goal.raised-requires-clause-bit
+raised-requires-clause-bit c = c.in_ok-half.ensures.has_word
