@@ -1,6 +1,6 @@
 -- Greatest numbers, sums, counts and elements of lists, beside those of `hw_slots`.
-use Rattle.std.proofs.Common.{◌≡◌, ℕ, zero, suc, ◌+◌, ◌-◌, ◌/◌, ◌<◌, ◌≤◌, Bool, true, false, cond, List, [], ◌∷◌, ◌++◌, map, take, filter, refl, sym, ap, subst, ◌∙◌, inl, inr, arith}
-use Rattle.std.specs.Prelude.{slice_get, Some, count_by, ◌⊎◌, All}
+use Rattle.std.proofs.Common.{◌≡◌, ℕ, zero, suc, ◌+◌, ◌-◌, ◌/◌, ◌<◌, ◌≤◌, Bool, true, false, cond, List, [], ◌∷◌, ◌++◌, map, take, filter, replicate, refl, sym, ap, subst, ◌∙◌, inl, inr, arith}
+use Rattle.std.specs.Prelude.{slice_get, slice_index, Some, count_by, ◌⊎◌, All}
 use Rattle.std.specs.List.{flat_map}
 use Rattle.std.proofs.Math.Nat.{suc-mul}
 use Rattle.std.proofs.lemmas.Bool.{cond-true, cond-false, false≢true, cases_lt}
@@ -10,6 +10,13 @@ use Rattle.std.proofs.lemmas.Option.{none-some, same_Some, slice_get_within, get
 use Rattle.dg_waves.specs.Rounds.{numbers_from}
 use Rattle.dg_model.specs.Widths.{greatest}
 use Rattle.hw_slots.proofs.Sums.{counted, sum_below, sum_below_next}
+
+-- ---- zeros
+
+pub zero_at : (n place : ℕ) → slice_index (replicate n 0) place ≡ 0
+zero_at zero place = refl
+zero_at (suc n) zero = refl
+zero_at (suc n) (suc place) = zero_at n place
 
 -- ---- greatest numbers
 

@@ -139,8 +139,7 @@ fn put_block(
     if !is_shared(checked, plan, place) {
         return Ok(());
     }
-    put_shared(checked, plan, latencies, depths, cells, place)?;
-    Ok(())
+    put_shared(checked, plan, latencies, depths, cells, place)
 }
 
 /// The shared operations by the numbers of their kinds, in order of their blocks and elements.

@@ -52,9 +52,9 @@ pub fn ready_of(
         → AreReady checked.now.diagram plan (timing_of latencies.now depths.now) ready) }
 {
     checked.keeps_rules();
-    let mut ready = Vec::new(alloc);
+    let mut ready = Longs::new(alloc);
     for place in 0..depths.len() {
         ready.push(ready_at(checked, latencies, depths, bases, place as u32))?;
     }
-    Ok(Longs::from_vec(ready))
+    Ok(ready)
 }

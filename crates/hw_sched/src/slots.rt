@@ -132,12 +132,14 @@ pub fn slots_of(
     let depths = depths(alloc, checked, plan)?;
     let by_block = depths.as_slice();
     let made = served(alloc, checked, latencies, by_block, plan)?;
-    let ready = ready_of(alloc, checked, latencies, by_block, &made.bases)?;
+    let ready = ready_of(alloc, checked, latencies, by_block, &made.bases);
     let hw_slots::Slots {
         starts,
         units,
-        bases: _,
+        bases,
     } = made;
+    drop(bases);
+    let ready = ready?;
     Ok(Slots {
         starts,
         units,

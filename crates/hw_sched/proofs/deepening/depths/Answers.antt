@@ -1,9 +1,23 @@
-use Rattle.std.proofs.Common.{ℕ, ◌<◌, ◌≤◌, List, length, get_or, subst}
+use Rattle.std.proofs.Common.{◌≡◌, ℕ, ◌<◌, ◌≤◌, List, length, replicate, get_or, ap, subst, ◌∙◌, arith, rules}
+use Rattle.std.specs.Prelude.{slice_index}
+use Rattle.std.proofs.lemmas.List.{length-replicate}
+use Rattle.dg_model.specs.declared.diagram.Diagram.{Diagram}
 use Rattle.hw_sched.specs.inner.Greatest.{IsNextDepth}
-use Rattle.hw_sched.proofs.Lists.{held}
+use Rattle.hw_sched.proofs.Lists.{held, zero_at}
 use Rattle.hw_sched.proofs.Items.{item_read}
 use Rattle.hw_sched.proofs.Reading.{depths_more, depths_end}
 use Rattle.hw_sched.proofs.deepening.depths.Goals as goal
+
+pub loop-place-init : goal.loop-place-init
+loop-place-init c =
+    let count : ℕ = length c.as_slice.result.now in
+    let blocks = ap (λ xs. length xs) (c.as_slice.ensures ∙ ap (λ (d : Diagram). d.blocks) c.diagram.ensures) in
+    let zeros : c.in_ok-depths.depths.items ≡ replicate count 0 = c.in_ok-depths.ensures.items_if_clones_equal (search rules) in
+    record {
+      size = ap (λ (xs : List ℕ). length xs) zeros ∙ length-replicate count 0 ∙ blocks;
+      are = λ k place below at. absurd (omega (arith, below));
+      small = λ place. let none = ap (λ (xs : List ℕ). slice_index xs place) zeros ∙ zero_at count place in omega (arith, none);
+    }
 
 pub loop-place-preserved : goal.loop-place-preserved
 loop-place-preserved c =

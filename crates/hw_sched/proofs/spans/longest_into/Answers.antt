@@ -1,13 +1,24 @@
-use Rattle.std.proofs.Common.{◌≤◌, List, length, ap, subst, ◌∙◌}
+use Rattle.std.proofs.Common.{◌≡◌, ◌≤◌, ℕ, List, length, replicate, ap, sym, subst, ◌∙◌, rules}
+use Rattle.std.specs.Prelude.{slice_index}
+use Rattle.std.proofs.lemmas.List.{length-replicate}
 use Rattle.dg_model.specs.declared.diagram.Diagram.{Diagram}
 use Rattle.dg_model.specs.declared.diagram.Edge.{Edge}
+use Rattle.hw_sched.specs.inner.Spans.{AreCounted}
+use Rattle.hw_sched.proofs.Lists.{zero_at}
 use Rattle.hw_sched.proofs.Items.{item_read}
-use Rattle.hw_sched.proofs.Spanning.{longest_more, longest_end}
+use Rattle.hw_sched.proofs.Spanning.{longest_none, longest_more, longest_end}
 use Rattle.dg_sort.proofs.Lines.{from_there, to_there}
 use Rattle.hw_sched.proofs.spans.longest_into.Goals as goal
 
 abbrev none : Edge
 none = record { from = 0; from_port = 0; to = 0; to_port = 0 }
+
+pub loop-edge-init : goal.loop-edge-init
+loop-edge-init c =
+    let count : ℕ = c.count_of.result in
+    let zeros : c.in_ok-longest.longest.items ≡ replicate count 0 = c.in_ok-longest.ensures.items_if_clones_equal (search rules) in
+    let size = ap (λ (xs : List ℕ). length xs) zeros ∙ length-replicate count 0 in
+    longest_none c.args.checked.now.diagram c.in_ok-longest.longest.items (subst (AreCounted c.args.checked.now.diagram) (sym size) c.count_of.ensures) (λ period. ap (λ (xs : List ℕ). slice_index xs period) zeros ∙ zero_at count period)
 
 pub loop-edge-preserved : goal.loop-edge-preserved
 loop-edge-preserved c =
