@@ -2,13 +2,13 @@ ghost use Rattle.std.specs.Prelude.{◌≡◌, ◌<◌, ℕ, List, IfOk, OnOk, l
 ghost use Rattle.dg_tables.specs.Listing.{AreBlocksOf};
 ghost use Rattle.hw_names.specs.Names.{AreNames, AreStreamNames, Given, wanted_names};
 ghost use Rattle.hw_names.specs.Taken.{AreTaken};
-ghost use Rattle.hw_names.specs.inner.Sides.{AddsNames, elements_on, width_on};
+ghost use Rattle.hw_names.specs.inner.Sides.{AddsName, AddsNames, elements_on, name_wanted, width_on};
 
 use crate::columns::columns_of;
 use crate::names::Names;
-use dg_model::Checked;
+use dg_model::{Block, Checked};
 use dg_tables::{input_blocks, output_blocks};
-use fx_io::{OutOfMemory, Text, Texts};
+use fx_io::{OutOfMemory, Sizes, Texts};
 use hw_latency::block_at;
 use hw_sched::{own_width, width_into};
 use std::alloc::Global;
@@ -29,6 +29,33 @@ fn width_of(checked: &Checked, side: Side, block: u32) -> u32
         Side::Inputs => own_width(checked, block),
         Side::Outputs => width_into(checked, block),
     }
+}
+
+/// The blocks of the root elements on this side, one for each.
+fn blocks_of(alloc: Global, checked: &Checked, side: Side) -> Result<Sizes, OutOfMemory>
+    ensures { IfOk result (AreBlocksOf (elements_on side checked.now.diagram)) }
+{
+    match side {
+        Side::Inputs => input_blocks(alloc, checked),
+        Side::Outputs => output_blocks(alloc, checked),
+    }
+}
+
+/// Adds a name for an element of the signal of a root port, which has this width.
+fn put_name(
+    alloc: Global,
+    names: &mut Names,
+    texts: &mut Texts,
+    block: &Block,
+    width: u32,
+    element: u32,
+) -> Result<(), OutOfMemory>
+    ensures { OnOk result (AddsName (name_wanted block.now.path width element)
+        names.old names.new texts.old texts.new) }
+{
+    let path = block.path.text(alloc)?;
+    let name = names.port(alloc, path.bytes(), width, element)?;
+    texts.push(name)
 }
 
 /// Adds a name for each root element on this side, whose blocks these are.
@@ -56,11 +83,31 @@ fn put_names(
         let block = blocks[column];
         let element = number - firsts[block as usize];
         let width = width_of(checked, side, block);
-        let path = block_at(checked, block).path.text(alloc)?;
-        let name: Text = names.port(alloc, path.bytes(), width, element)?;
-        texts.push(name)?;
+        put_name(
+            alloc,
+            names,
+            texts,
+            block_at(checked, block),
+            width,
+            element,
+        )?;
     }
     Ok(())
+}
+
+/// Adds the same for all root elements on this side.
+fn put_side(
+    alloc: Global,
+    names: &mut Names,
+    texts: &mut Texts,
+    checked: &Checked,
+    side: Side,
+) -> Result<(), OutOfMemory>
+    ensures { OnOk result (AddsNames checked.now.diagram side names.old names.new
+        texts.old texts.new (length (elements_on side checked.now.diagram))) }
+{
+    let blocks = blocks_of(alloc, checked, side)?;
+    put_names(alloc, names, texts, checked, side, blocks.as_slice())
 }
 
 /// A name for each root element, beside those that are taken.
@@ -69,24 +116,8 @@ fn names_beside(alloc: Global, names: &mut Names, checked: &Checked) -> Result<T
         → Given list (wanted_names checked.now.diagram) texts) }
 {
     let mut texts = Texts::new(alloc);
-    let inputs = input_blocks(alloc, checked)?;
-    put_names(
-        alloc,
-        names,
-        &mut texts,
-        checked,
-        Side::Inputs,
-        inputs.as_slice(),
-    )?;
-    let outputs = output_blocks(alloc, checked)?;
-    put_names(
-        alloc,
-        names,
-        &mut texts,
-        checked,
-        Side::Outputs,
-        outputs.as_slice(),
-    )?;
+    put_side(alloc, names, &mut texts, checked, Side::Inputs)?;
+    put_side(alloc, names, &mut texts, checked, Side::Outputs)?;
     Ok(texts)
 }
 
@@ -101,8 +132,7 @@ pub fn port_names(alloc: Global, checked: &Checked) -> Result<Texts, OutOfMemory
         length names ≡ length (wanted_names checked.now.diagram)) }
 {
     let mut names = Names::new(alloc)?;
-    let texts = names_beside(alloc, &mut names, checked)?;
-    Ok(texts)
+    names_beside(alloc, &mut names, checked)
 }
 
 /// The names of the same ports in a module with valid and ready.
@@ -115,6 +145,5 @@ pub fn stream_names(alloc: Global, checked: &Checked) -> Result<Texts, OutOfMemo
         length names ≡ length (wanted_names checked.now.diagram)) }
 {
     let mut names = Names::of_stream(alloc)?;
-    let texts = names_beside(alloc, &mut names, checked)?;
-    Ok(texts)
+    names_beside(alloc, &mut names, checked)
 }

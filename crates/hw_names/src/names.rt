@@ -130,8 +130,7 @@ impl Names {
         self.take_bytes(alloc, b"ce_out")?;
         self.take_bytes(alloc, b"clk_enable")?;
         self.take_bytes(alloc, b"reset")?;
-        self.take_bytes(alloc, b"clk")?;
-        Ok(())
+        self.take_bytes(alloc, b"clk")
     }
 
     /// Takes those that a module has beside them with valid and ready.
@@ -142,8 +141,7 @@ impl Names {
         self.take_bytes(alloc, b"out_valid")?;
         self.take_bytes(alloc, b"in_ready")?;
         self.take_bytes(alloc, b"out_ready")?;
-        self.take_bytes(alloc, b"in_valid")?;
-        Ok(())
+        self.take_bytes(alloc, b"in_valid")
     }
 
     /// Takes the name of these bytes.
@@ -152,8 +150,7 @@ impl Names {
             AreTaken self.new (name.now ∷ list)) }
     {
         let own = Vec::from_slice(alloc, name)?;
-        self.take(own)?;
-        Ok(())
+        self.take(own)
     }
 
     /// Takes a name.
@@ -252,7 +249,6 @@ impl Names {
     {
         let own = element_name(alloc, path, width, element)?;
         let name = port_name(alloc, own)?;
-        let text = self.give(alloc, name)?;
-        Ok(text)
+        self.give(alloc, name)
     }
 }

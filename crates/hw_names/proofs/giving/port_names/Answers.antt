@@ -1,8 +1,10 @@
+use Rattle.std.proofs.lemmas.Result.{IfOk-weaker}
 use Rattle.hw_names.specs.Names.{own_names, wanted_names}
 use Rattle.hw_names.proofs.Taking.{given_size}
 use Rattle.hw_names.proofs.giving.port_names.Goals as goal
 
 pub returns : goal.returns
-returns c =
-    let given = c.in_ok-texts.ensures own_names c.in_ok-names.ensures in
-    record { names = record { given = given }; size = given_size own_names (wanted_names c.args.checked.now.diagram) c.in_ok-texts.texts given }
+returns c = record {
+  names = IfOk-weaker c.names_beside.result _ _ (λ texts given. record { given = given own_names c.in_ok-names.ensures }) c.names_beside.ensures;
+  size = IfOk-weaker c.names_beside.result _ _ (λ texts given. given_size own_names (wanted_names c.args.checked.now.diagram) texts (given own_names c.in_ok-names.ensures)) c.names_beside.ensures;
+}

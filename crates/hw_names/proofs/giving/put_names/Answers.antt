@@ -48,7 +48,8 @@ loop-column-preserved c =
     let here = element_on diagram c.args.side c.args.blocks.now c.in_ok-columns.columns.items c.as_slice-firsts.result.now k column c.in_ok-columns.ensures.least c.as_slice-firsts.ensures.value in
     let number : c.in-Ok.number ≡ k = c.in-Ok.ensures.1 in
     let element_is : c.in-Ok.number - first ≡ column.e.element = omega (arith, here, number) in
-    let path = c.bytes.ensures ∙ c.in_ok-path.ensures ∙ path_is diagram block c.block_at.result.now c.block_at.ensures in
-    let given = given_to diagram c.args.side c.loop-column.names c.port.new.self column.e block c.width_of-width.result (c.in-Ok.number - first) c.bytes.result.now c.in_ok-name.name column.block_is path c.width_of-width.ensures element_is c.in_ok-name.ensures in
-    subst (λ (texts : List (List ℕ)). AddsNames diagram c.args.side c.args.names.now c.port.new.self c.args.texts.now texts (k + 1)) (sym c.in_ok-push.ensures.appended)
-    (names_more diagram c.args.side c.args.names.now c.loop-column.names c.port.new.self c.args.texts.now c.loop-column.texts k column.e c.in_ok-name.name c.loop-column.invariant column.at given)
+    let added = c.in_ok-put_name.ensures in
+    let path = path_is diagram block c.block_at.result.now c.block_at.ensures in
+    let given = given_to diagram c.args.side c.loop-column.names c.put_name.new.names column.e block c.width_of-width.result (c.in-Ok.number - first) c.block_at.result.now.path added.name column.block_is path c.width_of-width.ensures element_is added.given in
+    subst (λ (texts : List (List ℕ)). AddsNames diagram c.args.side c.args.names.now c.put_name.new.names c.args.texts.now texts (k + 1)) (sym added.is)
+    (names_more diagram c.args.side c.args.names.now c.loop-column.names c.put_name.new.names c.args.texts.now c.loop-column.texts k column.e added.name c.loop-column.invariant column.at given)

@@ -1,9 +1,11 @@
 use Rattle.std.proofs.Common.{◌++◌}
+use Rattle.std.proofs.lemmas.Result.{IfOk-weaker}
 use Rattle.hw_names.specs.Names.{handshake_names, own_names, wanted_names}
 use Rattle.hw_names.proofs.Taking.{given_size}
 use Rattle.hw_names.proofs.giving.stream_names.Goals as goal
 
 pub returns : goal.returns
-returns c =
-    let given = c.in_ok-texts.ensures (handshake_names ++ own_names) c.in_ok-names.ensures in
-    record { names = record { given = given }; size = given_size (handshake_names ++ own_names) (wanted_names c.args.checked.now.diagram) c.in_ok-texts.texts given }
+returns c = record {
+  names = IfOk-weaker c.names_beside.result _ _ (λ texts given. record { given = given (handshake_names ++ own_names) c.in_ok-names.ensures }) c.names_beside.ensures;
+  size = IfOk-weaker c.names_beside.result _ _ (λ texts given. given_size (handshake_names ++ own_names) (wanted_names c.args.checked.now.diagram) texts (given (handshake_names ++ own_names) c.in_ok-names.ensures)) c.names_beside.ensures;
+}
