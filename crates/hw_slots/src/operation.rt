@@ -1,5 +1,5 @@
 /// An operation that shares multipliers (own; HDL Coder, resource sharing).
-#[derive(Clone, Copy, Debug)]
+#[derive(Clone, Copy)]
 pub struct Operation {
     /// The number of its kind; operations of one kind can be served by one multiplier.
     pub kind: u64,
@@ -10,7 +10,7 @@ pub struct Operation {
 }
 
 /// The slots of a period (own).
-#[derive(Clone, Copy, Debug)]
+#[derive(Clone, Copy)]
 pub struct Span {
     /// The first slot that can serve an operation.
     pub start: u64,

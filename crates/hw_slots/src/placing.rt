@@ -22,14 +22,14 @@ pub fn starts_of(
     ensures { IfOk result (λ starts.
         AreStarts operations.now multipliers periods.now (length operations.now) starts) }
 {
-    let mut starts = Vec::new(alloc);
+    let mut starts = Longs::new(alloc);
     for place in 0..operations.len() {
         let operation = operations[place];
         let base = bases.get(operation.period, operation.level);
         let start = total(base, turns[place] / multipliers)?;
         starts.push(start)?;
     }
-    Ok(Longs::from_vec(starts))
+    Ok(starts)
 }
 
 /// The multiplier of each operation.
@@ -47,12 +47,12 @@ pub fn units_of(
     ensures { IfOk result (λ units.
         AreUnits operations.now multipliers kinds (length operations.now) units) }
 {
-    let mut units = Vec::new(alloc);
+    let mut units = Longs::new(alloc);
     for place in 0..operations.len() {
         let operation = operations[place];
         let first = firsts.get(operation.kind, 0);
         let unit = total(first, turns[place] % multipliers)?;
         units.push(unit)?;
     }
-    Ok(Longs::from_vec(units))
+    Ok(units)
 }

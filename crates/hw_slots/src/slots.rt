@@ -25,7 +25,7 @@ pub struct Slots {
 }
 
 /// Why there are no slots (own).
-#[derive(Debug, Drop)]
+#[derive(Drop)]
 pub enum SlotFault {
     /// The first period whose operations need more slots than it has.
     Budget { period: usize, need: u64, have: u64 },

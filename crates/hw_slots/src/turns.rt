@@ -21,7 +21,7 @@ pub fn turns_of(alloc: Global, operations: &[Operation]) -> Result<Turns, OutOfM
         AreTurns operations.now (length operations.now) made.turns) }
     ensures counts { IfOk result (λ made. AreCounts operations.now made.counts) }
 {
-    let mut turns = Vec::new(alloc);
+    let mut turns = Longs::new(alloc);
     let mut counts = Tally::new(alloc);
     for operation in operations {
         let operation = *operation;
@@ -30,6 +30,5 @@ pub fn turns_of(alloc: Global, operations: &[Operation]) -> Result<Turns, OutOfM
         let count = total(turn, 1)?;
         counts.put(operation.kind, operation.level, count)?;
     }
-    let turns = Longs::from_vec(turns);
     Ok(Turns { turns, counts })
 }
