@@ -225,13 +225,13 @@ pub fn put_blocks<'a>(
 fn input_spots(alloc: Global, inputs: usize) -> Result<Spots, OutOfMemory>
     ensures { IfOk result (λ spots. AreInputSpots spots inputs) }
 {
+    let Ok(count) = u32::try_from(inputs) else {
+        // word: how many root input elements there are, of 32 bits
+        return Err(OutOfMemory);
+    };
     let mut spots = Spots::new(alloc);
-    for input in 0..inputs {
-        let Ok(number) = u32::try_from(input) else {
-            // word: the number of a root input element, of 32 bits
-            return Err(OutOfMemory);
-        };
-        spots.put(number, number, number)?;
+    for input in 0..count {
+        spots.put(input, input, input)?;
     }
     Ok(spots)
 }

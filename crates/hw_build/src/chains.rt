@@ -88,8 +88,7 @@ pub fn put_wants(alloc: Global, net: &mut Netlist, wants: &[Want]) -> Result<Siz
     };
     let seats = seats_of(alloc, &mut classes, wants)?;
     let answers = put_classes(alloc, net, classes.list.as_slice())?;
-    let numbers = taken(alloc, answers.as_slice(), seats.as_slice())?;
-    Ok(numbers)
+    taken(alloc, answers.as_slice(), seats.as_slice())
 }
 
 /// The nets of what ends ask: one for each ask.
@@ -102,6 +101,5 @@ pub fn put_asks(alloc: Global, net: &mut Netlist, asks: &Asks) -> Result<Sizes, 
         AreAsked net.old net.new asks.now.list.items asks.now.wants.items nets) }
 {
     let numbers = put_wants(alloc, net, asks.wants.as_slice())?;
-    let nets = nets_of(alloc, asks.list.as_slice(), numbers.as_slice())?;
-    Ok(nets)
+    nets_of(alloc, asks.list.as_slice(), numbers.as_slice())
 }

@@ -45,8 +45,7 @@ pub fn plain_end<'a>(
 {
     let frame = frame_after(design, edge.from, period);
     let to = line_use(design, edge.from, edge.to, frame, own);
-    ask_plain(asks, first, width, frame, to)?;
-    Ok(())
+    ask_plain(asks, first, width, frame, to)
 }
 
 /// The element of a signal of this width that serves an element of a block.
@@ -118,8 +117,7 @@ pub fn late_end<'a>(
 {
     let frame = frame_after(design, edge.from, period);
     let to = line_use(design, edge.from, edge.to, frame, own);
-    ask_late(asks, design.checked, edge.to, one, first, width, frame, to)?;
-    Ok(())
+    ask_late(asks, design.checked, edge.to, one, first, width, frame, to)
 }
 
 /// Asks for the control of an enabled block, which has this hub and this period.
@@ -153,6 +151,5 @@ pub fn enable_end<'a>(
         shift: lat - frame.latency,
         period: own,
     };
-    ask_plain(asks, hub, 1, frame, to)?;
-    Ok(())
+    ask_plain(asks, hub, 1, frame, to)
 }

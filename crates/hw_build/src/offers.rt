@@ -105,8 +105,7 @@ fn from_part<'a>(
     let checked = setting.design.checked;
     checked.keeps_rules();
     operations_prepare();
-    let nets = single(alloc, parts[place.element as usize])?;
-    Ok(nets)
+    single(alloc, parts[place.element as usize])
 }
 
 /// The element of the input of a Demux.
@@ -133,8 +132,7 @@ fn from_whole<'a>(
         return Err(OutOfMemory);
     };
     let net = setting.operands.at(checked, place.block, 1, element);
-    let nets = single(alloc, net)?;
-    Ok(nets)
+    single(alloc, net)
 }
 
 /// The nets that the ends of a block offer to an element.
