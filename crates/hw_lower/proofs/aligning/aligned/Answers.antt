@@ -15,3 +15,19 @@ returns c =
     let gap : nat_abs x ≡ int_gap (frac_of c.args.side.kind) c.args.frac = gap_is (frac_of c.args.side.kind) c.args.frac x c.requires.above difference in
     if-map _ _ _ _ (λ made numbers. IsWrapped (aligned c.args.frac c.args.side.kind (numbers c.args.side.from.place)) c.args.word.width c.args.word.signed (numbers made.place)) _ c.shifted.ensures
     (λ made numbers has p. rw (← gap) p)
+
+pub shifted-requires-clause-at : goal.shifted-requires-clause-at
+shifted-requires-clause-at c = c.requires.at
+
+pub shifted-requires-clause-word : goal.shifted-requires-clause-word
+shifted-requires-clause-word c = c.requires.word
+
+pub overflow_sub-up : goal.overflow_sub-up
+overflow_sub-up c =
+    let bounds = frac_bounds c.args.side.kind c.requires.kind in
+    omega (arith, ints, bounds.0, bounds.1, c.requires.above, c.requires.high, c.frac.ensures)
+
+pub overflow_cast-up : goal.overflow_cast-up
+overflow_cast-up c =
+    let bounds = frac_bounds c.args.side.kind c.requires.kind in
+    omega (arith, ints, bounds.0, bounds.1, c.requires.above, c.requires.high, c.frac.ensures)

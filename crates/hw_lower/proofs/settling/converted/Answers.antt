@@ -33,3 +33,39 @@ returns c =
     c.lowered.ensures
     (λ made numbers has p kind e. converts-down (numbers c.args.from.place) kind c.in-Num.signed c.in-Num.width c.in-Num.behind c.args.mode c.args.saturate (numbers made.place) (nat_abs x)
     (rw e (gap_is c.in-Num.behind c.args.frac x order difference)) (rw e (gap_none c.args.frac c.in-Num.behind order)) (p c.in-Num.behind)))
+
+pub settled-requires-clause-at : goal.settled-requires-clause-at
+settled-requires-clause-at c = c.requires.at
+
+pub settled-requires-clause-word : goal.settled-requires-clause-word
+settled-requires-clause-word c =
+    let to_type : IsType (Num c.in-Num.signed c.in-Num.width c.in-Num.behind) = rw c.in-Num.is at c.requires.to in
+    to_type.0
+
+pub lowered-requires-clause-at : goal.lowered-requires-clause-at
+lowered-requires-clause-at c = c.requires.at
+
+pub lowered-requires-clause-word : goal.lowered-requires-clause-word
+lowered-requires-clause-word c =
+    let to_type : IsType (Num c.in-Num.signed c.in-Num.width c.in-Num.behind) = rw c.in-Num.is at c.requires.to in
+    to_type.0
+
+pub overflow_sub-behind : goal.overflow_sub-behind
+overflow_sub-behind c =
+    let to_type : IsType (Num c.in-Num.signed c.in-Num.width c.in-Num.behind) = rw c.in-Num.is at c.requires.to in
+    omega (arith, ints, to_type.1, to_type.2, c.requires.low, c.requires.high)
+
+pub overflow_sub-frac : goal.overflow_sub-frac
+overflow_sub-frac c =
+    let to_type : IsType (Num c.in-Num.signed c.in-Num.width c.in-Num.behind) = rw c.in-Num.is at c.requires.to in
+    omega (arith, ints, to_type.1, to_type.2, c.requires.low, c.requires.high)
+
+pub overflow_cast-behind : goal.overflow_cast-behind
+overflow_cast-behind c =
+    let to_type : IsType (Num c.in-Num.signed c.in-Num.width c.in-Num.behind) = rw c.in-Num.is at c.requires.to in
+    omega (arith, ints, to_type.1, to_type.2, c.requires.low, c.requires.high, c.if-behind-frac.true)
+
+pub overflow_cast-frac : goal.overflow_cast-frac
+overflow_cast-frac c =
+    let to_type : IsType (Num c.in-Num.signed c.in-Num.width c.in-Num.behind) = rw c.in-Num.is at c.requires.to in
+    omega (arith, ints, to_type.1, to_type.2, c.requires.low, c.requires.high, c.if-behind-frac.false)
