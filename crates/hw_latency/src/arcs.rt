@@ -75,8 +75,7 @@ fn put_control(
     let Some(control) = control_of(block) else {
         return Ok(());
     };
-    put_arc(checked, plan, fed, arcs, control, place)?;
-    Ok(())
+    put_arc(checked, plan, fed, arcs, control, place)
 }
 
 /// What each edge for latency asks, by the edge's number.

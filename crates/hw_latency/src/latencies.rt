@@ -11,7 +11,7 @@ use std::alloc::Global;
 
 /// How late the outputs of a diagram's blocks are by a plan, in base samples (own; HDL Coder, delay
 /// balancing).
-#[derive(Debug, Drop)]
+#[derive(Drop)]
 pub struct Latencies {
     /// The latency of each block, the least that the edges leave.
     pub lat: Longs,
@@ -22,7 +22,7 @@ pub struct Latencies {
 }
 
 /// Why there are no latencies (own).
-#[derive(Debug, Drop)]
+#[derive(Drop)]
 pub enum LatencyFault {
     /// A cycle of edges gains `total` base samples each time round; it begins with its least block.
     Cycle { blocks: Sizes, total: i64 },
