@@ -4,7 +4,7 @@ ghost use Rattle.hw_share.specs.inner.Parts.{Grows, IsMultiplying};
 ghost use Rattle.hw_share.specs.inner.Steps.{AreMultipliers, AreReady, CanMultiply, IsMultiplier};
 
 use crate::joining::Ends;
-use fx_io::OutOfMemory;
+use fx_io::{OutOfMemory, Sizes};
 use hw_net::{Net, NetKind, Netlist};
 use std::alloc::Global;
 
@@ -35,12 +35,12 @@ pub fn multipliers(
     alloc: Global,
     net: &mut Netlist,
     ends: &[Option<Ends>],
-) -> Result<Vec<u32>, OutOfMemory>
+) -> Result<Sizes, OutOfMemory>
     requires { AreReady net.old ends.now }
     ensures { IfOk result (λ numbers.
-        AreMultipliers net.old net.new ends.now numbers.items (length ends.now)) }
+        AreMultipliers net.old net.new ends.now numbers (length ends.now)) }
 {
-    let mut numbers = Vec::new(alloc);
+    let mut numbers = Sizes::new(alloc);
     for known in ends {
         let number = multiply(net, known.unwrap())?;
         numbers.push(number)?;

@@ -18,13 +18,13 @@ multiply-requires c =
     can-later c.args.net.now c.loop-known.net c.unwrap.result c.loop-known.invariant.grown.appends.extends (subst (CanMultiply c.args.net.now) same ready.2)
 
 pub loop-known-init : goal.loop-known-init
-loop-known-init c = rw c.new-numbers.ensures.items (multipliers-begun c.args.net.now c.args.ends.now)
+loop-known-init c = rw c.new-numbers.ensures (multipliers-begun c.args.net.now c.args.ends.now)
 
 pub loop-known-preserved : goal.loop-known-preserved
 loop-known-preserved c =
     let at = slice_get-get_or c.args.ends.now c.loop-known.known-index None c.loop-known-test.true in
-    rw c.in_ok-push.ensures.items
-    (multipliers-more c.args.net.now c.loop-known.net c.multiply.new.net c.args.ends.now c.loop-known.numbers.items c.loop-known.known-index c.in_ok-number.number c.unwrap.result c.loop-known.invariant
+    rw c.in_ok-push.ensures.appended
+    (multipliers-more c.args.net.now c.loop-known.net c.multiply.new.net c.args.ends.now c.loop-known.numbers c.loop-known.known-index c.in_ok-number.number c.unwrap.result c.loop-known.invariant
     (at ∙ ap Some c.unwrap.ensures) c.in_ok-number.ensures.number c.in_ok-number.ensures.is c.in_ok-number.ensures.long c.in_ok-number.ensures.grown)
 
 pub returns : goal.returns
@@ -32,4 +32,4 @@ returns c =
     let low = c.loop-known-test.false in
     let high = c.loop-known.auto.known-index-end in
     let all : c.loop-known.known-index ≡ length c.args.ends.now = omega (arith, low, high) in
-    subst (λ (count : ℕ). AreMultipliers c.args.net.now c.loop-known.net c.args.ends.now c.loop-known.numbers.items count) all c.loop-known.invariant
+    subst (λ (count : ℕ). AreMultipliers c.args.net.now c.loop-known.net c.args.ends.now c.loop-known.numbers count) all c.loop-known.invariant
