@@ -1,4 +1,4 @@
-ghost use Rattle.std.specs.Prelude.{◌≡◌, ◌≤◌, IfSome, length};
+ghost use Rattle.std.specs.Prelude.{◌≡◌, ◌+◌, ◌≤◌, IfSome, drop, length};
 ghost use Rattle.fx_explored.specs.RangeWord.{ends_of as ends_of_word, first_of as first_of_mark, plain_number as plain_number_of, range_of};
 ghost use Rattle.hw_explore.specs.Range.{IsRange};
 
@@ -39,11 +39,24 @@ fn ends_of(word: &[u8]) -> Option<Ends>
     if !word[place..].starts_with(b"..") {
         return None;
     }
-    let low = plain_number(&word[..place]);
-    let high = plain_number(&word[place + 2..]);
-    match (low, high) {
-        (Some(low), Some(high)) => Some(Ends { low, high }),
-        _ => None,
+    let Some(low) = plain_number(&word[..place]) else {
+        return None;
+    };
+    let Some(high) = plain_number(&word[place + 2..]) else {
+        return None;
+    };
+    Some(Ends { low, high })
+}
+
+/// What stands behind a place.
+fn behind(place: usize, word: &[u8]) -> &[u8]
+    requires { place ≤ length word.now }
+    ensures { result.now ≡ drop (place + 1) word.now }
+{
+    if place < word.len() {
+        &word[place + 1..]
+    } else {
+        &word[place..]
     }
 }
 
@@ -54,13 +67,11 @@ pub fn read_range(word: &[u8]) -> Option<Range>
     ensures range { IfSome result IsRange }
 {
     let place = first_of(b',', word);
-    let rest = if place < word.len() {
-        &word[place + 1..]
-    } else {
-        &word[place..]
+    let Some(cycles) = ends_of(&word[..place]) else {
+        return None;
     };
-    match (ends_of(&word[..place]), ends_of(rest)) {
-        (Some(cycles), Some(multipliers)) => Range::between(cycles, multipliers),
-        _ => None,
-    }
+    let Some(multipliers) = ends_of(behind(place, word)) else {
+        return None;
+    };
+    Range::between(cycles, multipliers)
 }
