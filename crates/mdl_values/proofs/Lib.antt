@@ -1,3 +1,4 @@
+mod Beside
 mod BracketLemmas
 mod DecimalForms
 mod DecimalLemmas

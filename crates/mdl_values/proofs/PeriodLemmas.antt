@@ -6,7 +6,8 @@ use Rattle.fx_round.specs.DecimalText.{IsDecimal}
 use Rattle.dg_model.specs.KindRow.{IsPeriod}
 use Rattle.mdl_values.specs.Reads.{Finds}
 use Rattle.mdl_values.specs.Pieces.{bracket_elements}
-use Rattle.mdl_values.specs.Periods.{IsZeroText, IsAboveZero, IsWithOffset}
+use Rattle.mdl_values.specs.Numbers.{IsNumberText}
+use Rattle.mdl_values.specs.Periods.{IsZeroText, IsAboveZero, IsWithOffset, IsBracketedNumber}
 use Rattle.mdl_values.proofs.DecimalLemmas.{one_decimal}
 
 -- a decimal is 0 where its digits are
@@ -33,6 +34,9 @@ some_same xs ys e = cc
 first_same : (a b x y : List ℕ) → a ∷ b ∷ [] ≡ x ∷ y ∷ [] → a ≡ x
 first_same a b x y e = cc
 
+only_same : (a x : List ℕ) → a ∷ [] ≡ x ∷ [] → a ≡ x
+only_same a x e = cc
+
 -- a period with its offset, by the two elements
 pub offset_found : (text : List ℕ) (texts : List (List ℕ)) (first second : List ℕ) (found : Option Decimal) → bracket_elements text ≡ Some texts → length texts ≡ 2
     → get_or texts 0 [] ≡ first → get_or texts 1 [] ≡ second → IsZeroText second → Finds (IsAboveZero first) found → Finds (IsWithOffset text) found
@@ -47,4 +51,17 @@ offset_found text (a ∷ b ∷ []) first second (Some period) are long f s zero 
   elements = are ∙ ap₂ (λ (x y : List ℕ). Some (x ∷ y ∷ [])) f s;
   read = read;
   offset = zero;
+}
+
+-- a number in brackets, by the one element
+pub bracketed_found : (text : List ℕ) (texts : List (List ℕ)) (element : List ℕ) (found : Option ℕ) → bracket_elements text ≡ Some texts → length texts ≡ 1
+    → get_or texts 0 [] ≡ element → Finds (IsNumberText 1 1024 element) found → Finds (IsBracketedNumber text) found
+bracketed_found text [] element found are long f read = absurd (omega arith)
+bracketed_found text (a ∷ b ∷ more) element found are long f read = absurd (omega arith)
+bracketed_found text (a ∷ []) element None are long f none = λ number is.
+    none number (subst (λ (t : List ℕ). IsNumberText 1 1024 t number) (sym (only_same a is.element (some_same (a ∷ []) (is.element ∷ []) (sym are ∙ is.elements))) ∙ f) is.read)
+bracketed_found text (a ∷ []) element (Some number) are long f read = record {
+  element = element;
+  elements = are ∙ ap (λ (x : List ℕ). Some (x ∷ [])) f;
+  read = read;
 }

@@ -1,5 +1,6 @@
 -- Parameters whose values are words, and what each word says (Simulink reference, each block's page).
-use Rattle.std.specs.Prelude.{ℕ, Bool, true, false, List, [], ◌∷◌, Option, Some, None, codes, bytes_eq, if◌then◌else◌}
+use Rattle.std.specs.Prelude.{ℕ, Bool, true, false, List, [], ◌∷◌, Option, Some, None, map, codes, bytes_eq, if◌then◌else◌}
+use Rattle.std.specs.Borrow.{Bor}
 use Rattle.fx_type.specs.declared.rounding.Rounding.{Rounding}
 use Rattle.fx_type.specs.declared.rounding.Rounding.TheVariants.{Floor, Ceiling, Zero, Nearest, Round, Convergent}
 use Rattle.dg_model.specs.declared.kind.Criterion.{Criterion}
@@ -13,6 +14,10 @@ use Rattle.dg_model.specs.declared.kind.Gate.TheVariants.{And, Or, Nand, Nor, Xo
 abbrev pub value_beside : {A : Type 0} → List (List ℕ × A) → List ℕ → Option A
 value_beside [] text = None
 value_beside (entry ∷ entries) text = if bytes_eq text entry.0 then Some entry.1 else value_beside entries text
+
+-- the list of words that a table in the code has
+abbrev pub listed : {A : Type 0} → List (Bor (List ℕ) × A) → List (List ℕ × A)
+listed table = map (λ entry. (entry.0.now, entry.1)) table
 
 -- `RndMeth`
 abbrev pub rounding_of : List ℕ → Option Rounding

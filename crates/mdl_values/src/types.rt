@@ -8,7 +8,21 @@ ghost use Rattle.mdl_values.specs.Types.{named_type, signedness_of, IsFracText, 
 use crate::brackets::two_of;
 use crate::numbers::read_number;
 use crate::pieces::{cut, first_word};
+use crate::words::value_beside;
 use fx_type::FxType;
+
+/// The types without bits behind the point that have a name: whether each is signed, and its width.
+const WHOLE_TYPES: &[(&str, (bool, u8))] = &[
+    ("int8", (true, 8)),
+    ("int16", (true, 16)),
+    ("int32", (true, 32)),
+    ("uint8", (false, 8)),
+    ("uint16", (false, 16)),
+    ("uint32", (false, 32)),
+];
+
+/// What says whether a type is signed.
+const SIGNS: &[(&str, bool)] = &[("1", true), ("true", true), ("0", false), ("false", false)];
 
 /// A word with no bits behind the point.
 fn whole(signed: bool, width: u8) -> FxType
@@ -25,22 +39,15 @@ fn whole(signed: bool, width: u8) -> FxType
 fn named_type(text: &[u8]) -> Option<FxType>
     ensures { result ≡ named_type text.now }
 {
-    if text == b"int8".as_slice() {
-        Some(whole(true, 8))
-    } else if text == b"int16".as_slice() {
-        Some(whole(true, 16))
-    } else if text == b"int32".as_slice() {
-        Some(whole(true, 32))
-    } else if text == b"uint8".as_slice() {
-        Some(whole(false, 8))
-    } else if text == b"uint16".as_slice() {
-        Some(whole(false, 16))
-    } else if text == b"uint32".as_slice() {
-        Some(whole(false, 32))
-    } else if text == b"boolean".as_slice() {
-        Some(FxType::Logical)
-    } else {
-        None
+    match value_beside(WHOLE_TYPES, text) {
+        Some((signed, width)) => Some(whole(signed, width)),
+        None => {
+            if text == b"boolean".as_slice() {
+                Some(FxType::Logical)
+            } else {
+                None
+            }
+        }
     }
 }
 
@@ -48,13 +55,7 @@ fn named_type(text: &[u8]) -> Option<FxType>
 fn signedness_of(text: &[u8]) -> Option<bool>
     ensures { result ≡ signedness_of text.now }
 {
-    if text == b"1".as_slice() || text == b"true".as_slice() {
-        Some(true)
-    } else if text == b"0".as_slice() || text == b"false".as_slice() {
-        Some(false)
-    } else {
-        None
-    }
+    value_beside(SIGNS, text)
 }
 
 /// Reads a whole number of at most 128, which may have a minus sign.
