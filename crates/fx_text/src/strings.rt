@@ -6,7 +6,7 @@ use fx_io::{OutOfMemory, Text};
 use std::alloc::Global;
 
 /// A string of a text.
-#[derive(Debug, Drop)]
+#[derive(Drop)]
 pub struct QuotedText {
     /// What it says, with its escapes read.
     pub content: Text,
