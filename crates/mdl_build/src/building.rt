@@ -63,8 +63,9 @@ pub fn build(alloc: Global, tree: &Tree) -> Result<Nested, CheckFault>
     if let Some(fault) = library_fault(alloc, &structured.known)? {
         return Err(CheckFault::Broken(fault));
     }
-    let maker = Maker::new(alloc, structured.known)?;
+    let maker = Maker::new(alloc, &structured.known)?;
     let blocks = blocks(alloc, &maker)?;
+    drop(maker);
     Ok(Nested {
         blocks,
         lines: structured.lines,

@@ -224,8 +224,7 @@ fn add_line<'a>(
         return Ok(true);
     };
     let goal = goal_of(layout, blocks, line, place);
-    let joined = push_line(lines, sources[line], goal)?;
-    Ok(joined)
+    push_line(lines, sources[line], goal)
 }
 
 /// The lines of a tree, one for each of their ends, in the order of these. None where an end names no

@@ -167,8 +167,7 @@ fn texts_of<'a>(
         ≡ fallbacks_of layout.now.items.now block_type) }
 {
     let section = section_of(layout, roles, all, block_type);
-    let texts = fallbacks(alloc, layout, section, parameters(block_type))?;
-    Ok(texts)
+    fallbacks(alloc, layout, section, parameters(block_type))
 }
 
 /// The values that a model and the table give for these types.

@@ -23,9 +23,9 @@ use std::alloc::Global;
 
 /// What the blocks of a tree are made by.
 #[derive(Drop)]
-pub struct Maker<'a> {
+pub struct Maker<'k, 'a> {
     /// The tree.
-    pub known: Known<'a>,
+    pub known: &'k Known<'a>,
     /// Of each item whether it is a System that has an EnablePort.
     enabled: Vec<bool>,
     /// Of each item that is a block its number.
@@ -86,18 +86,18 @@ fn numbers(alloc: Global, known: &Known) -> Result<Vec<u32>, OutOfMemory>
     Ok(numbers)
 }
 
-impl<'a> Maker<'a> {
+impl<'k, 'a> Maker<'k, 'a> {
     ghost use Rattle.mdl_build.specs.inner.Makers.{IsMaker, items_of};
     ghost use Rattle.mdl_build.specs.inner.Readings.{IsReading};
 
     /// What makes the blocks of a tree.
-    pub fn new(alloc: Global, known: Known<'a>) -> Result<Maker<'a>, OutOfMemory>
-        requires { IsKnown known }
+    pub fn new(alloc: Global, known: &'k Known<'a>) -> Result<Maker<'k, 'a>, OutOfMemory>
+        requires { IsKnown known.now }
         ensures maker { IfOk result IsMaker }
-        ensures items { IfOk result (λ maker. items_of maker ≡ known.entry.layout.items.now) }
+        ensures items { IfOk result (λ maker. items_of maker ≡ known.now.layout.items.now) }
     {
-        let enabled = enabled(alloc, &known)?;
-        let numbers = numbers(alloc, &known)?;
+        let enabled = enabled(alloc, known)?;
+        let numbers = numbers(alloc, known)?;
         let defaults = defaults(alloc, &known.layout, &known.roles)?;
         Ok(Maker {
             known,

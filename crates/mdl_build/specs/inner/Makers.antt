@@ -11,11 +11,11 @@ use Rattle.mdl_build.specs.inner.Texts.{contents_of, fallbacks_of}
 
 -- the items
 abbrev pub items_of : Maker → List Item
-items_of maker = maker.known.layout.items.now
+items_of maker = maker.known.now.layout.items.now
 
 -- all that it holds is that of its items
 pub record IsMaker (maker : Maker) : Type 0 where
-  pub known : IsKnown maker.known
+  pub known : IsKnown maker.known.now
   pub enabled : AreEnabled (items_of maker) (blocks_of (items_of maker)) maker.enabled.items
   pub numbers : AreNumbers (items_of maker) maker.numbers.items
   pub defaults : map (λ texts. contents_of texts.items) maker.defaults.items ≡ map (fallbacks_of (items_of maker)) block_types

@@ -1,4 +1,5 @@
 use Rattle.std.proofs.Common.{rules, ◌≡◌, ◌<◌, ◌++◌, List, length, Option, None, get_or, sym, ap, ◌∙◌, arith}
+use Rattle.std.proofs.lemmas.Result.{IfOk-weaker}
 use Rattle.mdl_build.specs.declared.lines.Goal.{Goal}
 use Rattle.mdl_build.specs.declared.lines.Source.{Source}
 use Rattle.mdl_build.specs.declared.roles.Role.{Role}
@@ -36,20 +37,26 @@ returns-clause-joined c =
     let low = branch_line items c.args.place line (c.requires.role ∙ role_is) in
     let below : line < length items = omega (arith, low.0, c.requires.within) in
     let source_is = ap (λ (list : List (Option Source)). get_or list line None) c.requires.sources ∙ source_found items line None below low.1 in
-    c.in_ok-joined.ensures.joined
+    IfOk-weaker c.push_line.result _ _
+    (λ joined is.
+    is
     ∙ ap (λ (source : Option Source). is_joined source c.goal_of-goal.result) source_is
     ∙ ap (is_joined (source_of items line)) c.goal_of-goal.ensures
-    ∙ sym (ap (keeps_line items c.args.place) role_is)
+    ∙ sym (ap (keeps_line items c.args.place) role_is))
+    c.push_line.ensures.joined
 
 pub returns-clause-pushed : goal.returns-clause-pushed
-returns-clause-pushed c = λ joined.
+returns-clause-pushed c =
     let items = c.args.layout.now.items.now in
     let line = c.in-Some.line in
     let role_is : c.args.role ≡ Branch line = branch_is c.args.role line (sym c.branch_of.ensures ∙ c.in-Some.is) in
     let low = branch_line items c.args.place line (c.requires.role ∙ role_is) in
     let below : line < length items = omega (arith, low.0, c.requires.within) in
     let source_is = ap (λ (list : List (Option Source)). get_or list line None) c.requires.sources ∙ source_found items line None below low.1 in
-    c.in_ok-joined.ensures.pushed joined
+    IfOk-weaker c.push_line.result _ _
+    (λ joined pushes good.
+    pushes good
     ∙ ap (λ (source : Option Source). c.args.lines.now ++ line_list (line_from source c.goal_of-goal.result)) source_is
     ∙ ap (λ (end : Goal). c.args.lines.now ++ line_list (line_from (source_of items line) end)) c.goal_of-goal.ensures
-    ∙ sym (ap (λ (role : Role). c.args.lines.now ++ line_list (line_at items c.args.place role)) role_is)
+    ∙ sym (ap (λ (role : Role). c.args.lines.now ++ line_list (line_at items c.args.place role)) role_is))
+    c.push_line.ensures.pushed
