@@ -48,7 +48,7 @@ impl Rows {
 }
 
 /// Why a text is no table, or no plan (own).
-#[derive(Clone, Copy, Debug, PartialEq, Eq, Error)]
+#[derive(Clone, Copy, Debug, Error)]
 pub enum TableFault {
     /// A line, from 1, is bad; it is the first.
     #[error("line {line}: {cause}")]
@@ -64,7 +64,7 @@ pub enum TableFault {
 }
 
 /// What is wrong with a line (own).
-#[derive(Clone, Copy, Debug, PartialEq, Eq, Error)]
+#[derive(Clone, Copy, Debug, Error)]
 pub enum TableCause {
     /// The lines up to this one, times the fields of a line, are above 50,000,000.
     #[error("too many rows")]
