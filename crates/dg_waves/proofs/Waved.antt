@@ -1,12 +1,13 @@
 -- A wave over all changes is a round. Crates above may cite this file.
-use Rattle.std.proofs.Common.{◌≡◌, ℕ, zero, suc, ◌+◌, ◌<◌, Bool, true, false, Some, inl, inr, List, [], ◌∷◌, ◌++◌, length, map, take, drop, eqb, All, refl, sym, ap, subst, ◌∙◌, arith}
+use Rattle.std.proofs.Common.{◌≡◌, ℕ, zero, suc, ◌+◌, ◌<◌, Bool, true, false, Some, inl, inr, List, [], ◌∷◌, ◌++◌, length, map, take, drop, eqb, replicate, All, refl, sym, ap, subst, ◌∙◌, arith}
 use Rattle.std.specs.Prelude.{set, slice_get}
 use Rattle.std.proofs.lemmas.Bool.{true≢false, false≢true, eqb-true, eqb-false, eq-eqb, or_parts, or_cases, or_left, or_right, or_from, cases_Bool}
 use Rattle.std.proofs.Math.Seq.{take-append_seam}
+use Rattle.std.proofs.lemmas.List.{length-replicate}
 use Rattle.std.proofs.lemmas.Option.{none-some, same_Some, slice_get_within, get_or_from_slice_get}
 use Rattle.dg_waves.specs.declared.waves.Change.{Change}
 use Rattle.dg_waves.specs.Rounds.{numbers_from, round, after_rounds}
-use Rattle.dg_waves.specs.inner.Waves.{is_in, is_changed, written, Sought, MarkedWait, ReadersMarked, Marked}
+use Rattle.dg_waves.specs.inner.Waves.{is_in, is_changed, written, Sought, MarkedWait, ReadersMarked, Marked, IsBetween}
 
 -- ---- lists by their places
 
@@ -225,6 +226,28 @@ settled_after next readers count changes values marks waiting size marks_size lo
         | inr unchanged ↦ sym (unchanged_at changes values source unchanged)
       ]) in
       written_at (next values) changes values block there are.takes (λ unchanged. are.keeps block there unchanged refl) ∙ ap Some same;
+}
+
+-- ---- before the first wave
+
+none_marked : (n block : ℕ) → slice_get (replicate n false) block ≡ Some true → ⊥
+none_marked zero block at = none-some true at
+none_marked (suc n) zero at = false≢true (same_Some false true at)
+none_marked (suc n) (suc block) at = none_marked n block at
+
+-- every block waits, and none is marked
+pub between_first : {A : Type 0} (count : ℕ) (IsValue : A → Type 0) (next : List A → ℕ → A) (values : List A) (waiting : List ℕ) (marks : List Bool) →
+    length values ≡ count → All IsValue values → All (λ block. block < length values) waiting → ((block : ℕ) → block < length values → is_in block waiting ≡ true) → marks ≡ replicate (length values) false → IsBetween count IsValue next values waiting marks
+between_first count IsValue next values waiting marks size fit there all none = record {
+  size = size;
+  marks_size = ap (λ (bs : List Bool). length bs) none ∙ length-replicate (length values) false ∙ size;
+  there = λ k d inside. omega (arith, there k d inside, size);
+  fit = fit;
+  sought = record {
+    takes = λ k change at. absurd (none-some change at);
+    keeps = λ block inside unchanged rests. absurd (true≢false (sym (all block inside) ∙ rests));
+  };
+  wait = record { waits = λ block at. absurd (none_marked (length values) block (ap (λ (bs : List Bool). slice_get bs block) (sym none) ∙ at)) };
 }
 
 -- ---- two steps that agree

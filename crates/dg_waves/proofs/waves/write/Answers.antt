@@ -55,3 +55,8 @@ pub returns-clause-marked : goal.returns-clause-marked
 returns-clause-marked g c =
     let none = drop_all c.loop-change.change-index c.args.changes.now (omega (arith, c.loop-change-test.false)) in
     rw none at c.loop-change.invariant.marked
+
+pub bounds-values-change : goal.bounds-values-change
+bounds-values-change g c =
+    let there = subst (λ (x : Change _). x.block < g.R.Round.count c.args.round.now) (sym c.change-item.is) (c.requires.changes_there c.loop-change.change-index c.change-item.result c.loop-change-test.true) in
+    omega (arith, there, c.loop-change.invariant.size)
