@@ -1,8 +1,15 @@
 -- What a table by place keeps as it is written and as it grows.
-use Rattle.std.proofs.Common.{◌≡◌, ℕ, ◌<◌, ◌+◌, List, [], ◌∷◌, ◌++◌, set, get_or, sym, ap, subst, ◌∙◌, inl, inr, arith}
+use Rattle.std.proofs.Common.{◌≡◌, ℕ, ◌<◌, ◌+◌, List, [], ◌∷◌, ◌++◌, set, get_or, replicate, sym, ap, subst, ◌∙◌, inl, inr, arith}
 use Rattle.std.proofs.lemmas.Bool.{cases_eq}
-use Rattle.std.proofs.lemmas.List.{length-set, get_or-set_same, get_or-set_other, get_or_append_left, get_or_push, length_push}
+use Rattle.std.proofs.lemmas.List.{length-replicate, get_or-replicate, length-set, get_or-set_same, get_or-set_other, get_or_append_left, get_or_push, length_push}
 use Rattle.dg_flat.specs.inner.Tables.{IsTable}
+
+-- a table of one value
+pub table_filled : {X : Type 0} (count n : ℕ) (value : ℕ → X) (x : X) → n ≡ count → ((k : ℕ) → x ≡ value k) → IsTable count value (replicate n x)
+table_filled count n value x all same = record {
+  size = length-replicate n x ∙ all;
+  at = λ k d below. get_or-replicate n k x d (omega (arith, below, all)) ∙ same k;
+}
 
 pub table_same : {X : Type 0} (count : ℕ) (value other : ℕ → X) (table : List X) → ((k : ℕ) → k < count → value k ≡ other k) → IsTable count value table → IsTable count other table
 table_same count value other table same is = record {

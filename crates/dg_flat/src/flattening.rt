@@ -110,8 +110,8 @@ pub fn flatten(alloc: Global, nested: &Nested) -> Result<Diagram, CheckFault>
     ensures refused { IfErr result (IsRefusal (BreaksWiringOrEnable nested.now)) }
 {
     let blocks = nested.blocks.as_slice();
-    let systems = Systems::of(alloc, blocks)?;
     let paths = system_paths(alloc, blocks)?;
+    let systems = Systems::of(alloc, blocks)?;
     check(alloc, nested, &systems, paths.as_slice())?;
     let diagram = diagram_of(alloc, nested, &systems, paths.as_slice())?;
     Ok(diagram)

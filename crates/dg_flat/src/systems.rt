@@ -103,10 +103,10 @@ impl Systems {
         requires parents { HaveParents blocks.now }
         ensures { IfOk result (AreSystems blocks.now) }
     {
-        let ins = Numbering::of(alloc, blocks, Side::In)?;
-        let outs = Numbering::of(alloc, blocks, Side::Out)?;
         let enables = enable_ports(alloc, blocks)?;
         let controls = controls(alloc, blocks, &enables)?;
+        let ins = Numbering::of(alloc, blocks, Side::In)?;
+        let outs = Numbering::of(alloc, blocks, Side::Out)?;
         Ok(Systems {
             ins,
             outs,

@@ -1,4 +1,7 @@
-use Rattle.std.proofs.Common.{◌≡◌, ◌<◌, [], ◌∷◌, ◌++◌, length, get_or, sym, ap, ◌∙◌}
+use Rattle.std.proofs.Common.{◌≡◌, ◌<◌, [], ◌∷◌, ◌++◌, List, length, get_or, sym, ap, ◌∙◌, arith}
+use Rattle.std.specs.List.{enumerate_from, filter_map}
+use Rattle.std.proofs.lemmas.List.{take_all}
+use Rattle.dg_model.specs.declared.nested.NestedBlock.{NestedBlock}
 use Rattle.dg_flat.specs.Flat.{flat_block}
 use Rattle.dg_flat.specs.Parts.{control_of}
 use Rattle.dg_flat.proofs.Firsts.{length_done}
@@ -23,3 +26,16 @@ loop-block-preserved c =
           w.flat-is ∙ c.loop-block.invariant
           ∙ sym (flat_same (λ (place, block). flat_block blocks place (control_of blocks block.parent) block.part) blocks i block inside at (length_done blocks i inside) (sym its ∙ w.in_default.is))
     ]
+
+pub flat_block-requires-clause-within : goal.flat_block-requires-clause-within
+flat_block-requires-clause-within c =
+    let blocks = c.args.blocks.now in
+    let i = c.loop-block.block-index in
+    let before = c.requires.parents.before i c.block-item.result (read_at blocks i c.block-item.result c.loop-block-test.true c.block-item.is) in
+    omega (arith, before, c.loop-block-test.true)
+
+pub returns : goal.returns
+returns c =
+    let blocks = c.args.blocks.now in
+    c.loop-block.invariant
+    ∙ ap (λ (done : List NestedBlock). filter_map (λ (place, block). flat_block blocks place (control_of blocks block.parent) block.part) (enumerate_from 0 done)) (take_all c.loop-block.block-index blocks c.loop-block-test.false)

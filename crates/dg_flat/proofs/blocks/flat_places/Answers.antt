@@ -1,10 +1,11 @@
-use Rattle.std.proofs.Common.{◌≡◌, ◌<◌, ◌+◌, length, take, get_or, true, false, cond, add-zero, sym, ap, ◌∙◌}
+use Rattle.std.proofs.Common.{◌≡◌, ◌<◌, ◌+◌, length, take, get_or, true, false, cond, add-zero, sym, ap, subst, ◌∙◌, arith, ℕ}
+use Rattle.std.proofs.lemmas.List.Sums.{count_by-le-length}
 use Rattle.std.specs.Prelude.{not, count_by}
 use Rattle.dg_model.specs.declared.nested.NestedBlock.{NestedBlock}
 use Rattle.dg_flat.specs.Flat.{flat_place}
 use Rattle.dg_flat.specs.Parts.{is_subsystem}
 use Rattle.dg_flat.specs.inner.Tables.{IsTable}
-use Rattle.dg_flat.proofs.Firsts.{take_block, count_push}
+use Rattle.dg_flat.proofs.Firsts.{take_block, count_push, length_done}
 use Rattle.dg_flat.proofs.Tables.{table_push}
 use Rattle.dg_flat.proofs.blocks.flat_places.Goals as goal
 use Rattle.dg_flat.proofs.blocks.flat_places.Goals.{then-not-is_subsystem, else-not-is_subsystem}
@@ -34,3 +35,16 @@ loop-block-preserved c =
             places = places;
           }
     ]
+
+pub overflow_add-next : goal.overflow_add-next
+overflow_add-next c =
+    let blocks = c.args.blocks.now in
+    let i = c.loop-block.block-index in
+    let below = count_by-le-length (λ (other : NestedBlock). not (is_subsystem other.part)) (take i blocks) in
+    omega (arith, below, length_done blocks i c.loop-block-test.true, c.loop-block.invariant.next, c.loop-block-test.true, c.requires)
+
+pub returns : goal.returns
+returns c =
+    let blocks = c.args.blocks.now in
+    let all : c.loop-block.block-index ≡ length blocks = omega (arith, c.loop-block-test.false, c.loop-block.auto.block-index-end) in
+    subst (λ (n : ℕ). IsTable n (flat_place blocks) c.loop-block.places.items) all c.loop-block.invariant.places

@@ -1,4 +1,6 @@
 use Rattle.std.proofs.Common.{◌≡◌, ◌<◌, [], ◌∷◌, ◌++◌, length, get_or, sym, ap, ◌∙◌, Option}
+use Rattle.std.specs.List.{filter_map}
+use Rattle.std.proofs.lemmas.List.{take_all}
 use Rattle.dg_model.specs.declared.nested.NestedLine.{NestedLine}
 use Rattle.dg_model.specs.declared.nested.Target.TheVariants.{Port}
 use Rattle.dg_flat.specs.declared.edges.FlatPort.{FlatPort}
@@ -26,3 +28,6 @@ loop-line-preserved c =
       | in_default w ↦
           ap (λ v. v.items) w.edges-is ∙ c.loop-line.invariant ∙ sym (gathered_none (edge_of blocks) lines i none inside (sym is ∙ w.in_default.is))
     ]
+
+pub returns : goal.returns
+returns c = c.loop-line.invariant ∙ ap (filter_map (edge_of c.args.blocks.now)) (take_all c.loop-line.line-index c.args.lines.now c.loop-line-test.false)

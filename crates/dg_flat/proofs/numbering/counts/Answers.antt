@@ -1,8 +1,12 @@
-use Rattle.std.proofs.Common.{◌≡◌, ◌<◌, ◌≤◌, suc, length, take, get_or, sym, ap, ◌∙◌, arith}
+use Rattle.std.proofs.Common.{◌≡◌, ◌<◌, ◌≤◌, suc, [], refl, length, take, get_or, sym, ap, subst, ◌∙◌, arith, List}
+use Rattle.std.proofs.lemmas.List.{take_all}
 use Rattle.std.specs.Option.{is_some}
 use Rattle.dg_flat.specs.inner.Slots.{system_of}
-use Rattle.dg_flat.specs.inner.Numbering.{number_on}
+use Rattle.dg_flat.specs.inner.Numbering.{number_on, count_at}
+use Rattle.dg_flat.specs.inner.Tables.{IsTable}
+use Rattle.dg_model.specs.declared.nested.NestedBlock.{NestedBlock}
 use Rattle.dg_flat.proofs.Firsts.{counted_more, counted_same, take_block, slot_inside, count_few}
+use Rattle.dg_flat.proofs.Tables.{table_filled}
 use Rattle.dg_flat.proofs.numbering.counts.Goals as goal
 use Rattle.dg_flat.proofs.numbering.counts.Goals.{then-is_some, else-is_some}
 
@@ -37,3 +41,16 @@ loop-block-preserved c =
           rw (more, w.counts-is)
           (counted_same (take i blocks) block (λ part. is_some (number_on c.args.side part)) (suc (length blocks)) c.loop-block.counts.items (known ∙ w.if-is_some.false) c.loop-block.invariant)
     ]
+
+pub returns : goal.returns
+returns c =
+    let blocks = c.args.blocks.now in
+    subst (λ (done : List NestedBlock). IsTable (suc (length blocks)) (count_at done c.args.side) c.loop-block.counts.items) (take_all c.loop-block.block-index blocks c.loop-block-test.false) c.loop-block.invariant
+
+pub loop-block-init : goal.loop-block-init
+loop-block-init c = rw (c.in_ok-counts.ensures.items_if_clones_equal (λ y same. same)) (table_filled (suc (length c.args.blocks.now)) _ (count_at [] c.args.side) 0 (omega arith) (λ k. refl))
+
+pub index_mut-requires : goal.index_mut-requires
+index_mut-requires c =
+    let slot = slot_inside c.args.blocks.now c.loop-block.block-index c.block-item.result c.requires.parents c.loop-block-test.true (sym c.block-item.is) in
+    omega (arith, slot, c.slot.ensures, c.loop-block.invariant.size, c.loop-block.counts.ok.0)

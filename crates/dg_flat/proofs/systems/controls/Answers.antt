@@ -1,6 +1,7 @@
-use Rattle.std.proofs.Common.{◌≡◌, ◌<◌, ◌+◌, length, get_or, None, sym, ap, ◌∙◌, arith}
+use Rattle.std.proofs.Common.{◌≡◌, ◌<◌, ◌+◌, length, get_or, None, suc, ℕ, sym, ap, subst, ◌∙◌, arith}
 use Rattle.dg_flat.specs.Parts.{control_of}
 use Rattle.dg_flat.specs.inner.Slots.{system_of}
+use Rattle.dg_flat.specs.inner.Tables.{IsTable}
 use Rattle.dg_flat.proofs.Controls.{pushed_some, pushed_none}
 use Rattle.dg_flat.proofs.Firsts.{slot_back, slot_within}
 use Rattle.dg_flat.proofs.Tables.{table_push}
@@ -29,3 +30,14 @@ loop-place-preserved c =
           (table_push (i + 1) (λ slot. control_of blocks (system_of slot)) c.loop-place.controls.items c.match-enables-place.control
           (w.control-is ∙ around ∙ pushed_none blocks i block c.requires.parents inside at (entry ∙ w.in-None.is)) c.loop-place.invariant)
     ]
+
+pub index-around-requires : goal.index-around-requires
+index-around-requires c =
+    let parent = slot_within c.args.blocks.now c.loop-place.place c.index-blocks-place.result c.requires.parents c.loop-place-test.true (sym c.index-blocks-place.is) in
+    omega (arith, parent, c.slot.ensures, c.loop-place.invariant.size, c.loop-place.controls.ok.0)
+
+pub returns : goal.returns
+returns c =
+    let blocks = c.args.blocks.now in
+    let all : c.loop-place.place + 1 ≡ suc (length blocks) = omega (arith, c.loop-place-test.false, c.loop-place.auto.place-end) in
+    subst (λ (n : ℕ). IsTable n (λ slot. control_of blocks (system_of slot)) c.loop-place.controls.items) all c.loop-place.invariant

@@ -1,10 +1,11 @@
-use Rattle.std.proofs.Common.{◌≡◌, ◌<◌, true, suc, List, length, take, get_or, sym, ap, subst, arith}
+use Rattle.std.proofs.Common.{[], refl, None, ◌≡◌, ◌<◌, true, suc, List, length, take, get_or, sym, ap, subst, arith, rules}
 use Rattle.std.proofs.lemmas.List.{take_all}
 use Rattle.dg_model.specs.declared.nested.NestedBlock.{NestedBlock}
 use Rattle.dg_flat.specs.Parts.{first_in, is_enable_port}
 use Rattle.dg_flat.specs.inner.Slots.{system_of}
 use Rattle.dg_flat.specs.inner.Tables.{IsTable}
 use Rattle.dg_flat.proofs.Firsts.{noted_more, noted_same, take_block, slot_inside, length_done, not_enable_port}
+use Rattle.dg_flat.proofs.Tables.{table_filled}
 use Rattle.dg_flat.proofs.systems.enable_ports.Goals as goal
 use Rattle.dg_flat.proofs.systems.enable_ports.Goals.{in-Enable, in_default}
 
@@ -36,3 +37,6 @@ pub returns : goal.returns
 returns c =
     subst (λ (blocks : List NestedBlock). IsTable (suc (length c.args.blocks.now)) (λ slot. first_in blocks (system_of slot) is_enable_port) c.loop-place.ports.items)
     (take_all c.loop-place.place c.args.blocks.now c.loop-place-test.false) c.loop-place.invariant
+
+pub loop-place-init : goal.loop-place-init
+loop-place-init c = rw (c.in_ok-ports.ensures.items_if_clones_equal (search rules)) (table_filled (suc (length c.args.blocks.now)) _ (λ slot. first_in [] (system_of slot) is_enable_port) None (omega arith) (λ k. refl))

@@ -1,10 +1,11 @@
-use Rattle.std.proofs.Common.{◌<◌, List, length, take, get_or, subst, arith}
+use Rattle.std.proofs.Common.{[], refl, ◌<◌, List, length, take, get_or, subst, arith}
 use Rattle.std.proofs.lemmas.List.{take_more, take_all}
 use Rattle.dg_model.specs.declared.nested.NestedLine.{NestedLine}
 use Rattle.dg_model.specs.declared.nested.Target.TheVariants.{Port}
 use Rattle.dg_flat.specs.inner.Ports.{control_drivers}
 use Rattle.dg_flat.specs.inner.Tables.{IsTable}
 use Rattle.dg_flat.proofs.Drivers.{control_more, control_same, not_to_control}
+use Rattle.dg_flat.proofs.Tables.{table_filled}
 use Rattle.dg_flat.proofs.tally.enable_drivers.Goals as goal
 use Rattle.dg_flat.proofs.tally.enable_drivers.Goals.{in-Enable, in_default}
 
@@ -33,3 +34,6 @@ pub returns : goal.returns
 returns c =
     subst (λ (lines : List NestedLine). IsTable c.args.count (control_drivers lines) c.loop-line.drivers.items)
     (take_all c.loop-line.line-index c.args.lines.now c.loop-line-test.false) c.loop-line.invariant
+
+pub loop-line-init : goal.loop-line-init
+loop-line-init c = rw (c.in_ok-drivers.ensures.items_if_clones_equal (λ y same. same)) (table_filled c.args.count _ (control_drivers []) 0 (omega arith) (λ k. refl))

@@ -1,4 +1,4 @@
-use Rattle.std.proofs.Common.{◌≡◌, ◌<◌, List, [], length, take, get_or, replicate, refl, subst, arith, rules}
+use Rattle.std.proofs.Common.{◌≡◌, ◌<◌, List, [], length, take, get_or, replicate, refl, subst, arith}
 use Rattle.std.proofs.lemmas.List.{take_more, take_all}
 use Rattle.dg_model.specs.declared.nested.NestedLine.{NestedLine}
 use Rattle.dg_model.specs.declared.nested.Target.TheVariants.{Port}
@@ -15,7 +15,7 @@ none = record { from = 0; from_port = 0; to = 0; target = Port 0 }
 pub loop-line-init : goal.loop-line-init
 loop-line-init c =
     let rows = c.args.rows.now in
-    let is : c.in_ok-drivers.drivers.items ≡ replicate rows.cells 0 = c.in_ok-drivers.ensures.items_if_clones_equal (search rules) in
+    let is : c.in_ok-drivers.drivers.items ≡ replicate rows.cells 0 = c.in_ok-drivers.ensures.items_if_clones_equal (λ y same. same) in
     rw is (rows_filled rows.lengths.items (port_drivers []) 0 rows.cells c.requires.rows.cells (λ row number. refl))
 
 pub loop-line-preserved : goal.loop-line-preserved

@@ -20,3 +20,18 @@ loop-place-preserved c =
 
 pub returns : goal.returns
 returns c = keep_all c.args.nested.now KeepsWiring c.loop-place.place (rw c.as_slice-blocks.ensures at c.loop-place-test.false) c.loop-place.invariant
+
+pub keeps_wiring-requires-clause-there : goal.keeps_wiring-requires-clause-there
+keeps_wiring-requires-clause-there c = read_at c.args.nested.now.blocks c.loop-place.place c.index-blocks-place.result (rw c.as_slice-blocks.ensures at c.loop-place-test.true) (rw c.as_slice-blocks.ensures at c.index-blocks-place.is)
+
+pub keeps_wiring-requires-clause-tally : goal.keeps_wiring-requires-clause-tally
+keeps_wiring-requires-clause-tally c = rw (c.as_slice-blocks.ensures, c.as_slice.ensures) at c.in_ok-tally.ensures
+
+pub of-requires-clause-systems : goal.of-requires-clause-systems
+of-requires-clause-systems c = rw c.as_slice-blocks.ensures c.requires.systems
+
+pub of-requires-clause-ends : goal.of-requires-clause-ends
+of-requires-clause-ends c = rw (c.as_slice-blocks.ensures, c.as_slice.ensures) c.requires.ends
+
+pub of-requires-clause-few : goal.of-requires-clause-few
+of-requires-clause-few c = rw c.as_slice-blocks.ensures c.requires.few

@@ -45,3 +45,25 @@ returns-in-Some-clause-broken c = λ not.
     let early : c.in-Some.system < length blocks = omega (arith, inside, own) in
     control_broken c.args.nested.now c.args.place c.in-Some.system c.args.block.now c.in-Enable.reset c.in-Enable.is c.in-Some.is
     (λ once. eqb-false c.index.result.now 1 not (c.index.ensures ∙ c.requires.tally.enables.at c.in-Some.system c.index.result.now early ∙ once))
+
+pub is_numbered-requires-clause-rows : goal.is_numbered-requires-clause-rows
+is_numbered-requires-clause-rows c = c.requires.systems.ins.rows
+
+pub is_numbered-requires-clause-cells : goal.is_numbered-requires-clause-cells
+is_numbered-requires-clause-cells c = c.requires.systems.ins.ports.size ∙ sym c.requires.systems.ins.rows.cells
+
+pub is_numbered-requires-clause-there : goal.is_numbered-requires-clause-there
+is_numbered-requires-clause-there c =
+    let inside = some_inside c.args.nested.now.blocks c.args.place c.args.block.now c.requires.there in
+    omega (arith, inside, c.requires.parents.before c.args.place c.args.block.now c.requires.there, c.requires.systems.ins.counts.size)
+
+pub is_numbered-requires-in-Out-clause-rows : goal.is_numbered-requires-in-Out-clause-rows
+is_numbered-requires-in-Out-clause-rows c = c.requires.systems.outs.rows
+
+pub is_numbered-requires-in-Out-clause-cells : goal.is_numbered-requires-in-Out-clause-cells
+is_numbered-requires-in-Out-clause-cells c = c.requires.systems.outs.ports.size ∙ sym c.requires.systems.outs.rows.cells
+
+pub is_numbered-requires-in-Out-clause-there : goal.is_numbered-requires-in-Out-clause-there
+is_numbered-requires-in-Out-clause-there c =
+    let inside = some_inside c.args.nested.now.blocks c.args.place c.args.block.now c.requires.there in
+    omega (arith, inside, c.requires.parents.before c.args.place c.args.block.now c.requires.there, c.requires.systems.outs.counts.size)

@@ -1,4 +1,4 @@
-use Rattle.std.proofs.Common.{refl, sym, ◌∙◌}
+use Rattle.std.proofs.Common.{refl, sym, ◌∙◌, arith}
 use Rattle.dg_flat.proofs.Kept.{put_together, its_meets, its_part}
 use Rattle.dg_flat.proofs.PortReads.{some_inside}
 use Rattle.dg_flat.proofs.Verdicts.{meets, meets_not, all_driven, not_driven}
@@ -26,3 +26,15 @@ returns-clause-kept c = λ is.
 
 pub returns-clause-broken : goal.returns-clause-broken
 returns-clause-broken c = λ not keeps. c.keeps_part.ensures.broken not (its_part c.args.nested.now c.args.place c.args.block.now keeps)
+
+pub index-requires : goal.index-requires
+index-requires c = omega (arith, some_inside c.args.nested.now.blocks c.args.place c.args.block.now c.requires.there, c.requires.tally.lacks.size, c.args.tally.now.lacks.ok.0)
+
+pub is_driven-requires-clause-rows : goal.is_driven-requires-clause-rows
+is_driven-requires-clause-rows c = c.requires.tally.rows
+
+pub is_driven-requires-clause-there : goal.is_driven-requires-clause-there
+is_driven-requires-clause-there c = omega (arith, some_inside c.args.nested.now.blocks c.args.place c.args.block.now c.requires.there, c.requires.tally.lengths.size)
+
+pub is_driven-requires-clause-drivers : goal.is_driven-requires-clause-drivers
+is_driven-requires-clause-drivers c = c.requires.tally.drivers.size ∙ sym c.requires.tally.rows.cells

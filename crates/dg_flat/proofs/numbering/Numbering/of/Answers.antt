@@ -1,5 +1,8 @@
-use Rattle.std.proofs.Common.{◌≡◌, ◌<◌, [], length, take, get_or, replicate, None, refl, ap, sym, ◌∙◌, arith, rules}
+use Rattle.std.proofs.Common.{◌≡◌, ◌<◌, [], length, take, get_or, replicate, None, refl, ap, sym, subst, ◌∙◌, arith, rules, List}
+use Rattle.std.proofs.lemmas.List.{take_all}
+use Rattle.dg_model.specs.declared.nested.NestedBlock.{NestedBlock}
 use Rattle.dg_flat.specs.inner.Numbering.{numbered_at}
+use Rattle.dg_flat.specs.inner.Tables.{IsRowTable}
 use Rattle.dg_flat.proofs.Cells.{rows_filled}
 use Rattle.dg_flat.proofs.Firsts.{take_block, length_done, slot_inside}
 use Rattle.dg_flat.proofs.Numbers.{numbered_more, numbered_past, numbered_none}
@@ -46,3 +49,16 @@ cell-requires-clause-there c =
 
 pub note_first-requires : goal.note_first-requires
 note_first-requires c = let cell = c.in-Some-cell.ensures in omega (arith, cell.2, c.loop-place.invariant.size)
+
+pub of-requires : goal.of-requires
+of-requires c = omega (arith, c.in_ok-counts.ensures.size, c.requires.few)
+
+pub returns : goal.returns
+returns c =
+    let blocks = c.args.blocks.now in
+    let side = c.args.side in
+    record {
+      rows = c.in_ok-rows.ensures.rows;
+      counts = rw c.in_ok-rows.ensures.lengths c.in_ok-counts.ensures;
+      ports = subst (λ (done : List NestedBlock). IsRowTable c.in_ok-rows.rows.lengths.items (numbered_at done side) c.loop-place.ports.items) (take_all c.loop-place.place blocks c.loop-place-test.false) c.loop-place.invariant;
+    }
