@@ -9,7 +9,7 @@ use std::marker::Model;
 /// The widths of the signals at the output ports of each block, in elements (Simulink reference, signal
 /// dimensions). A block without an output port has its own width at port 1. Contracts see a list of
 /// widths for each block.
-#[derive(Debug, Drop)]
+#[derive(Drop)]
 pub struct PortWidths {
     /// Where the widths of each block begin.
     starts: Sizes,
