@@ -18,6 +18,7 @@ use Rattle.dg_types.specs.declared.linked.Share.TheVariants.{Even, Fixed}
 use Rattle.dg_types.specs.inner.Linked.{is_shared_out}
 use Rattle.dg_types.specs.inner.Shown.{shape_of, declared_width, IsPort, HasParts, IsLaid, share_at}
 use Rattle.dg_types.specs.inner.Build.{AreAlike, CanLink, IsPortOf}
+use Rattle.dg_types.specs.inner.Rows.{HasRow}
 
 port_is : (kind : Kind) (inputs outputs port : ℕ) → HasPorts kind inputs outputs → 1 ≤ port → port ≤ outputs → IsPort (shape_of kind) port
 port_is (Inport number width) inputs outputs port has low high = omega (arith, has.1)
@@ -173,6 +174,18 @@ parts_alike (Pass width) sizes has is = absurd (cc)
 parts_alike EnableTest sizes has is = absurd (cc)
 parts_alike (EnOut reset initial) sizes has is = absurd (cc)
 parts_alike Terminator sizes has is = absurd (cc)
+
+few_of : (shape : Shape) → ((sizes : List ℕ) → shape ≡ Shape.Parted sizes → length sizes ≤ 1024) → HasRow shape
+few_of Shape.Elementwise few = tt
+few_of (Shape.Joined sizes) few = tt
+few_of (Shape.Parted sizes) few = few sizes refl
+few_of Shape.Single few = tt
+
+-- each block has few outputs
+pub have_rows : (diagram : Diagram) → IsWired diagram → All (λ block. HasRow (shape_of block.kind)) diagram.blocks
+have_rows diagram wired = λ k d inside.
+    let block = get_or diagram.blocks k d in
+    few_of (shape_of block.kind) (λ sizes is. (parts_alike block.kind sizes (wired.blocks k d inside).parameters is).0)
 
 pub can_link : (diagram : Diagram) → IsWired diagram → CanLink diagram.blocks diagram.edges
 can_link diagram wired = record {

@@ -1,4 +1,4 @@
-use Rattle.std.proofs.Common.{List, length, take, get_or, subst, sym, arith}
+use Rattle.std.proofs.Common.{List, length, take, get_or, subst, arith}
 use Rattle.std.proofs.lemmas.List.{take_all, take_more}
 use Rattle.dg_model.specs.declared.diagram.Edge.{Edge}
 use Rattle.dg_types.specs.inner.Build.{Gathered}

@@ -1,5 +1,5 @@
 use Rattle.std.proofs.Common.{ℕ, List, [], ◌∷◌, ◌++◌, Some, take, sym, ap, ◌∙◌}
-use Rattle.std.proofs.lemmas.List.{map_more}
+use Rattle.std.proofs.lemmas.List.{map_more, take_all}
 use Rattle.std.proofs.lemmas.Option.{slice_get-get_or}
 use Rattle.dg_model.specs.declared.diagram.Block.{Block}
 use Rattle.dg_types.specs.inner.Shown.{shape_of, declared_width, first_held, all_first}
@@ -19,3 +19,6 @@ loop-block-preserved c =
     ∙ ap (λ (held : ℕ). before ++ held ∷ []) c.first_held.ensures
     ∙ ap (λ (block : Block). before ++ value block ∷ []) c.block-item.is
     ∙ sym (map_more value c.args.blocks.now c.loop-block.block-index c.block-item.result c.loop-block-test.true)
+
+pub returns : goal.returns
+returns c = c.loop-block.invariant ∙ ap all_first (take_all c.loop-block.block-index c.args.blocks.now c.loop-block-test.false)

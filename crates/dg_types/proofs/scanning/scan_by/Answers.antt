@@ -1,10 +1,11 @@
-use Rattle.std.proofs.Common.{◌≡◌, List, length, sym, ap, ◌∙◌}
+use Rattle.std.proofs.Common.{◌≡◌, List, length, sym, ap, ◌∙◌, arith}
+use Rattle.std.specs.Prelude.{slice_get}
 use Rattle.dg_model.specs.declared.diagram.Block.{Block}
 use Rattle.dg_waves.specs.Rounds.{after_rounds}
 use Rattle.dg_waves.proofs.Waved.{length_after}
 use Rattle.dg_types.specs.inner.Linked.{next_held}
 use Rattle.dg_types.specs.inner.Shown.{shown, all_first}
-use Rattle.dg_types.proofs.FromWired.{is_laid}
+use Rattle.dg_types.proofs.FromWired.{have_rows, is_laid}
 use Rattle.dg_types.proofs.Shown.{first_fits, length_first, length_shown}
 use Rattle.dg_types.proofs.ScanFacts.{ends_there, is_scan}
 use Rattle.dg_types.proofs.scanning.scan_by.Goals as goal
@@ -13,6 +14,35 @@ pub after_rounds-requires-clause-fit : goal.after_rounds-requires-clause-fit
 after_rounds-requires-clause-fit c =
     rw (c.in_ok-first.ensures, c.as_slice-blocks.ensures)
     (λ k d inside. first_fits c.args.diagram.now.blocks k d (is_laid c.args.diagram.now c.requires.wired).declared inside)
+
+pub after_rounds-requires-clause-size : goal.after_rounds-requires-clause-size
+after_rounds-requires-clause-size c = ap length c.in_ok-first.ensures ∙ length_first c.as_slice-blocks.result.now ∙ ap length c.as_slice-blocks.ensures ∙ sym c.requires.size
+
+pub after_rounds-requires-clause-few : goal.after_rounds-requires-clause-few
+after_rounds-requires-clause-few c = omega (arith, c.requires.size, c.requires.wired.size)
+
+pub after_rounds-requires-2-clause-few : goal.after_rounds-requires-2-clause-few
+after_rounds-requires-2-clause-few c = omega (arith, c.requires.size, c.requires.wired.size)
+
+pub after_rounds-requires-2-clause-fit : goal.after_rounds-requires-2-clause-fit
+after_rounds-requires-2-clause-fit c = c.in_ok-held.ensures.fit
+
+pub rows_of-requires-clause-rows : goal.rows_of-requires-clause-rows
+rows_of-requires-clause-rows c = rw c.as_slice-blocks.ensures (have_rows c.args.diagram.now c.requires.wired)
+
+pub rows_of-requires-2-clause-rows : goal.rows_of-requires-2-clause-rows
+rows_of-requires-2-clause-rows c = rw c.as_slice-blocks.ensures (have_rows c.args.diagram.now c.requires.wired)
+
+pub rows_of-requires-clause-small : goal.rows_of-requires-clause-small
+rows_of-requires-clause-small c = rw c.as_slice.ensures.value c.in_ok-held.ensures.fit
+
+pub rows_of-requires-2-clause-small : goal.rows_of-requires-2-clause-small
+rows_of-requires-2-clause-small c = rw c.as_slice-2.ensures.value c.in_ok-held_again.ensures.fit
+
+pub all_first-requires : goal.all_first-requires
+all_first-requires c = λ k block at.
+    let small = (is_laid c.args.diagram.now c.requires.wired).declared k block (ap (λ (bs : List Block). slice_get bs k) (sym c.as_slice-blocks.ensures) ∙ at) in
+    omega (arith, small)
 
 pub rows_of-requires-clause-size : goal.rows_of-requires-clause-size
 rows_of-requires-clause-size c =

@@ -1,5 +1,5 @@
 use Rattle.std.proofs.Common.{◌∷◌, ◌++◌, [], Option, take, sym, ap, ◌∙◌}
-use Rattle.std.proofs.lemmas.List.{map_more}
+use Rattle.std.proofs.lemmas.List.{map_more, take_all}
 use Rattle.fx_type.specs.declared.kind.FxType.{FxType}
 use Rattle.dg_model.specs.declared.diagram.Block.{Block}
 use Rattle.dg_model.specs.TypeRounds.{Types, explicit_type}
@@ -14,3 +14,6 @@ loop-block-preserved c =
     ∙ ap (λ (type : Option FxType). before ++ type ∷ []) c.explicit_type.ensures
     ∙ ap (λ (block : Block). before ++ explicit_type block.result ∷ []) c.block-item.is
     ∙ sym (map_more (λ (block : Block). explicit_type block.result) c.args.blocks.now c.loop-block.block-index c.block-item.result c.loop-block-test.true)
+
+pub returns : goal.returns
+returns c = c.loop-block.invariant ∙ ap first_types (take_all c.loop-block.block-index c.args.blocks.now c.loop-block-test.false)

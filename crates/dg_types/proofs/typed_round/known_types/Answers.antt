@@ -1,5 +1,7 @@
-use Rattle.std.proofs.Common.{length, ap, ◌∙◌}
-use Rattle.dg_model.specs.TypeRounds.{Types}
+use Rattle.std.proofs.Common.{List, length, ap, sym, ◌∙◌, arith}
+use Rattle.std.proofs.lemmas.List.{length-map}
+use Rattle.dg_model.specs.declared.diagram.Block.{Block}
+use Rattle.dg_model.specs.TypeRounds.{Types, explicit_type}
 use Rattle.dg_waves.specs.Rounds.{after_rounds}
 use Rattle.dg_types.specs.inner.TypedInputs.{next_typed}
 use Rattle.dg_types.proofs.TypedWired.{types_agree, first_valid}
@@ -18,3 +20,13 @@ returns-clause-types c =
 
 pub returns-clause-valid : goal.returns-clause-valid
 returns-clause-valid c = c.in_ok-types.ensures.fit
+
+pub after_rounds-requires-clause-size : goal.after_rounds-requires-clause-size
+after_rounds-requires-clause-size c =
+    let round = c.args.round.now in
+    ap (λ (types : Types). length types) c.in_ok-first.ensures ∙ length-map round.blocks.now (λ (block : Block). explicit_type block.result) ∙ sym round.ready.size
+
+pub after_rounds-requires-clause-few : goal.after_rounds-requires-clause-few
+after_rounds-requires-clause-few c =
+    let long = ap (λ (bs : List Block). length bs) c.requires.blocks in
+    omega (arith, c.args.round.now.ready.size, long, c.requires.wired.size)
