@@ -29,8 +29,7 @@ pub fn input_blocks(alloc: Global, checked: &Checked) -> Result<Sizes, OutOfMemo
         (root_inputs checked.now.diagram (attributes_of checked.now.diagram))) }
 {
     let roots = input_roots(alloc, checked)?;
-    let blocks = blocks_of(alloc, roots.as_slice())?;
-    Ok(blocks)
+    blocks_of(alloc, roots.as_slice())
 }
 
 /// The block of each root output element, in order of ports and elements.
@@ -43,6 +42,5 @@ pub fn output_blocks(alloc: Global, checked: &Checked) -> Result<Sizes, OutOfMem
 {
     let (starts, _places) = lay_out(alloc, checked)?;
     let roots = output_roots(alloc, checked, &starts)?;
-    let blocks = blocks_of(alloc, roots.as_slice())?;
-    Ok(blocks)
+    blocks_of(alloc, roots.as_slice())
 }
