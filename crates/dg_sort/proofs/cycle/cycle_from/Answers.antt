@@ -1,5 +1,18 @@
-use Rattle.dg_sort.proofs.Walking.{walk_lower, walk_goes, walk_ends}
+use Rattle.std.proofs.Common.{arith}
+use Rattle.dg_sort.proofs.Walking.{walk_begins, walk_lower, walk_goes, walk_ends}
 use Rattle.dg_sort.proofs.cycle.cycle_from.Goals as goal
+
+pub loop-at-init : goal.loop-at-init
+loop-at-init c = record {
+  met = c.in_ok-at.ensures.steps;
+  walked = rw (c.in_ok-push.ensures.appended, c.new-cycle.ensures) (walk_begins c.args.rows.now c.args.first c.in_ok-at.at c.steps_back.new.steps.items c.in_ok-at.ensures.found);
+}
+
+pub index-step-requires : goal.index-step-requires
+index-step-requires c =
+    let inside = c.loop-at.invariant.walked.inside in
+    let long = c.steps_back.new.steps.ok.0 in
+    omega (arith, inside, long)
 
 pub loop-at-smaller : goal.loop-at-smaller
 loop-at-smaller c =

@@ -12,3 +12,15 @@ loop-last-init c =
       met = root_is c.args.rows.now (seen c.args.self.now) (seen c.meet.new.self) c.args.root (omega (arith, size, there)) c.in_ok-meet.ensures;
       unmet = λ block at. root_kept c.args.rows.now (seen c.args.self.now) (seen c.meet.new.self) c.args.root block c.in_ok-meet.ensures at;
     }
+
+pub loop-last-preserved : goal.loop-last-preserved
+loop-last-preserved c =
+    let step = c.in_ok-step.ensures in
+    record {
+      state = step.state;
+      met = λ at. c.loop-last.invariant.met (step.unmet c.args.root at);
+      unmet = λ block at. c.loop-last.invariant.unmet block (step.unmet block at);
+    }
+
+pub loop-last-smaller : goal.loop-last-smaller
+loop-last-smaller c = c.in_ok-step.ensures.less
