@@ -1,6 +1,6 @@
-use Rattle.std.proofs.Common.{◌≡◌, to_z, of_z, ◌∙◌, refl}
+use Rattle.std.proofs.Common.{◌≡◌, to_z, of_z, ◌∙◌, refl, arith}
 use Rattle.std.specs.Int.{w16, w128, int_max}
-use Rattle.std.proofs.lemmas.Int.{to_z-of_z}
+use Rattle.std.proofs.lemmas.Int.{ints, clamps, to_z-of_z}
 use Rattle.fx_type.specs.FxType.{frac_of}
 use Rattle.fx_type.proofs.Ranges.{frac_bounds}
 use Rattle.dg_blocks.proofs.Fracs.{max_high}
@@ -28,3 +28,19 @@ pub aligned-requires-2-clause-fits : goal.aligned-requires-2-clause-fits
 aligned-requires-2-clause-fits c =
     let y : to_z w128 (of_z w128 c.args.y) ≡ c.args.y = to_z-of_z w128 c.args.y c.ranges.y in
     rw (max_frac (goal.at.aligned-requires-2-clause-fits c).After-max-frac, y) (right_fits c.args.a c.args.b c.requires.union.0 c.requires.union.1 c.args.y c.requires.right c.requires.y_in_range)
+
+pub aligned-requires-clause-valid : goal.aligned-requires-clause-valid
+aligned-requires-clause-valid c = c.requires.left
+
+pub aligned-requires-2-clause-valid : goal.aligned-requires-2-clause-valid
+aligned-requires-2-clause-valid c = c.requires.right
+
+pub aligned-requires-clause-high : goal.aligned-requires-clause-high
+aligned-requires-clause-high c =
+    rw (max_frac (goal.at.aligned-requires-clause-high c).After-max-frac) (max_high (frac_of c.args.a) (frac_of c.args.b) _ (frac_bounds c.args.a c.requires.left).1 (frac_bounds c.args.b c.requires.right).1)
+
+pub aligned-requires-clause-above : goal.aligned-requires-clause-above
+aligned-requires-clause-above c = rw (max_frac (goal.at.aligned-requires-clause-above c).After-max-frac) (omega (arith, ints, clamps))
+
+pub aligned-requires-2-clause-above : goal.aligned-requires-2-clause-above
+aligned-requires-2-clause-above c = rw (max_frac (goal.at.aligned-requires-2-clause-above c).After-max-frac) (omega (arith, ints, clamps))

@@ -1,6 +1,6 @@
-use Rattle.std.proofs.Common.{◌≡◌, ◌*ℤ◌, ◌+ℤ◌, to_z, of_z, sym, ◌∙◌, refl}
+use Rattle.std.proofs.Common.{◌≡◌, ◌*ℤ◌, ◌+ℤ◌, to_z, of_z, sym, ◌∙◌, refl, arith}
 use Rattle.std.specs.Int.{w16, w128}
-use Rattle.std.proofs.lemmas.Int.{to_z-of_z}
+use Rattle.std.proofs.lemmas.Int.{ints, to_z-of_z}
 use Rattle.fx_type.specs.FxType.{frac_of}
 use Rattle.fx_type.proofs.Ranges.{frac_bounds}
 use Rattle.dg_blocks.proofs.Fracs.{product_frac}
@@ -45,3 +45,11 @@ product-requires-clause-full c = c.requires.full
 
 pub settled-requires-clause-result : goal.settled-requires-clause-result
 settled-requires-clause-result c = c.requires.result
+
+pub overflow_add-frac : goal.overflow_add-frac
+overflow_add-frac c =
+    let a = frac_bounds c.args.a c.requires.left in
+    let b = frac_bounds c.args.b c.requires.right in
+    let f = to_z-of_z w16 c.frac.result (record { sfits = c.frac.type_inv }) in
+    let g = to_z-of_z w16 c.frac-2.result (record { sfits = c.frac-2.type_inv }) in
+    rw (f, g, c.frac.ensures, c.frac-2.ensures) (omega (arith, ints, a.0, a.1, b.0, b.1))

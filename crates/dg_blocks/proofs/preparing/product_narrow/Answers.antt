@@ -1,5 +1,6 @@
-use Rattle.std.proofs.Common.{◌≡◌, ◌+◌, ◌+ℤ◌, ℕ, ℤ, IfSome, to_z, of_z, ap₂, subst, ◌∙◌}
+use Rattle.std.proofs.Common.{◌≡◌, ◌+◌, ◌+ℤ◌, ℕ, ℤ, IfSome, to_z, of_z, ap₂, subst, ◌∙◌, arith}
 use Rattle.std.specs.Int.{w16}
+use Rattle.std.proofs.lemmas.Int.{ints, to_z-of_z}
 use Rattle.fx_type.specs.FxType.{width_of, frac_of}
 use Rattle.fx_type.proofs.Ranges.{frac_bounds}
 use Rattle.dg_model.specs.Operation.{operation_of}
@@ -30,3 +31,11 @@ returns c =
     (λ (narrow : Narrow). IsReady (operation_of call) narrow (width_of c.args.a + width_of c.args.b) (frac_of c.args.a +ℤ frac_of c.args.b)) c.new.result (λ narrow p q. (p, q))
     (subst (λ (z : ℤ). IfSome c.new.result (λ narrow. IsNarrow narrow z call.result call.rounding call.saturate)) f c.new.ensures.is)
     (subst (λ (n : ℕ). IfSome c.new.result (λ narrow. HasRoom narrow n)) bits c.new.ensures.room)
+
+pub overflow_add-frac : goal.overflow_add-frac
+overflow_add-frac c =
+    let a = frac_bounds c.args.a c.requires.left in
+    let b = frac_bounds c.args.b c.requires.right in
+    let f = to_z-of_z w16 c.frac.result (record { sfits = c.frac.type_inv }) in
+    let g = to_z-of_z w16 c.frac-2.result (record { sfits = c.frac-2.type_inv }) in
+    rw (f, g, c.frac.ensures, c.frac-2.ensures) (omega (arith, ints, a.0, a.1, b.0, b.1))

@@ -70,3 +70,13 @@ pub returns-clause-room : goal.returns-clause-room
 returns-clause-room c =
     let small : c.args.bits ≤ 61 = omega (arith, c.if-bits-gt61.false) in
     record { bits_below = small; small = λ v w. room_down c.args.bits v small w }
+
+pub overflow_cast-low : goal.overflow_cast-low
+overflow_cast-low c =
+    let small : c.in-Num.width ≤ 60 = omega (arith, c.if-width-gt60.false) in
+    rw (to_z-of_z w128 c.lowest-low.result (record { sfits = c.lowest-low.type_inv }), c.lowest-low.ensures) (ends_fit c.in-Num.width c.in-Num.signed small).0
+
+pub overflow_cast-high : goal.overflow_cast-high
+overflow_cast-high c =
+    let small : c.in-Num.width ≤ 60 = omega (arith, c.if-width-gt60.false) in
+    rw (to_z-of_z w128 c.highest-high.result (record { sfits = c.highest-high.type_inv }), c.highest-high.ensures) (ends_fit c.in-Num.width c.in-Num.signed small).1
