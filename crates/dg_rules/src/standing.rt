@@ -6,7 +6,7 @@ use fx_io::OutOfMemory;
 use std::alloc::Global;
 
 /// How a line of a plan stands with the blocks that were looked at.
-#[derive(Clone, Copy, Debug, PartialEq, Eq)]
+#[derive(Clone, Copy, PartialEq, Eq)]
 pub enum Standing {
     /// None has its path.
     Unseen,
