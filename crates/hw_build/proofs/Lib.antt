@@ -45,7 +45,6 @@ mod FullyTyped
 mod Gathered
 mod Going
 mod Growth
-mod Handed
 mod Handing
 mod Injecting
 mod Keeping

@@ -9,7 +9,6 @@ pub mod Operands
 pub mod Grown
 pub mod Builds
 pub mod SideBySide
-pub mod Results
 pub mod Rooms
 pub mod Assigns
 pub mod Sounds

@@ -3,7 +3,7 @@ use Rattle.hw_build.specs.inner.Offers.{Offer}
 use Rattle.hw_build.proofs.EnteringOne.{args_are, one_entered, IsKnown}
 use Rattle.hw_build.proofs.EnteringProduct.{product_word, shared_entered, multiplying}
 use Rattle.std.proofs.lemmas.Option.{slice_get_within}
-use Rattle.hw_build.proofs.Handed.{if_ok}
+use Rattle.std.proofs.lemmas.Result.{IfOk-weaker}
 use Rattle.hw_build.proofs.blocks.put_one.Goals as goal
 
 pub put_shared-requires-clause-word : goal.put_shared-requires-clause-word
@@ -34,7 +34,7 @@ returns-in-Some c =
       ordered = record { checked = c.keeps_rules.ensures.checked; ordered = c.keeps_rules.ensures.ordered };
       set = c.requires.set;
     } in
-    if_ok c.put_shared.result _ _ (λ entry put. shared_entered c.args.setting known c.args.net.now c.requires.going c.args.place.block c.args.one.now c.args.place.port c.args.place.element c.requires.shown c.in-Some.product (sym c.at.ensures ∙ c.in-Some.is) c.put_shared.new.net entry put) c.put_shared.ensures
+    IfOk-weaker c.put_shared.result _ _ (λ entry put. shared_entered c.args.setting known c.args.net.now c.requires.going c.args.place.block c.args.one.now c.args.place.port c.args.place.element c.requires.shown c.in-Some.product (sym c.at.ensures ∙ c.in-Some.is) c.put_shared.new.net entry put) c.put_shared.ensures
 
 pub put_entry-entry-requires-clause-operands : goal.put_entry-entry-requires-clause-operands
 put_entry-entry-requires-clause-operands c =
@@ -64,7 +64,7 @@ returns c =
       ordered = record { checked = c.keeps_rules.ensures.checked; ordered = c.keeps_rules.ensures.ordered };
       set = c.requires.set;
     } in
-    if_ok c.put_entry-entry.result _ _ (λ entry put. one_entered c.args.setting known c.args.net.now c.requires.going c.args.place.block c.args.one.now c.args.place.port c.args.place.element c.requires.shown c.as_slice.result.now c.requires.other (subst (Offer c.args.setting c.args.place.block c.args.one.now c.args.place.port c.args.place.element) (sym c.as_slice.ensures) c.in_ok-operands.ensures) c.put_entry-entry.new.net entry put (sym c.at.ensures ∙ c.in_default.is)) c.put_entry-entry.ensures
+    IfOk-weaker c.put_entry-entry.result _ _ (λ entry put. one_entered c.args.setting known c.args.net.now c.requires.going c.args.place.block c.args.one.now c.args.place.port c.args.place.element c.requires.shown c.as_slice.result.now c.requires.other (subst (Offer c.args.setting c.args.place.block c.args.one.now c.args.place.port c.args.place.element) (sym c.as_slice.ensures) c.in_ok-operands.ensures) c.put_entry-entry.new.net entry put (sym c.at.ensures ∙ c.in_default.is)) c.put_entry-entry.ensures
 
 pub at-requires : goal.at-requires
 at-requires c =

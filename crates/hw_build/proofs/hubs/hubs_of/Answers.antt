@@ -4,7 +4,7 @@ use Rattle.dg_model.specs.declared.diagram.Diagram.{Diagram}
 use Rattle.hw_names.specs.Columns.{AreColumnsFrom}
 use Rattle.hw_build.specs.inner.HubPlaces.{HasHubs}
 use Rattle.hw_build.proofs.Started.{hubs_are, inputs_there}
-use Rattle.hw_build.proofs.Handed.{if_ok}
+use Rattle.std.proofs.lemmas.Result.{IfOk-weaker}
 use Rattle.hw_build.proofs.hubs.hubs_of.Goals as goal
 
 pub put_inputs-requires-clause-there : goal.put_inputs-requires-clause-there
@@ -19,7 +19,7 @@ pub returns : goal.returns
 returns c =
     let columns : List ℕ = c.as_slice-2.result.now in
     let least : AreColumnsFrom c.args.inputs.now columns 0 = subst (λ (cs : List ℕ). AreColumnsFrom c.args.inputs.now cs 0) (sym c.as_slice-2.ensures.value) c.in_ok-columns.ensures.least in
-    if_ok c.of-widths.result _ _
+    IfOk-weaker c.of-widths.result _ _
     (λ widths are. subst (λ (fs : List (List ℕ)). HasHubs c.args.checked.now.diagram c.args.net.now c.put_blocks.new.net fs) (sym are)
     (hubs_are c.args.checked.now.diagram c.keeps_rules.ensures.checked c.root_elements_are_listed.ensures.inputs c.args.net.now c.put_inputs.new.net c.put_blocks.new.net c.args.inputs.now columns c.in_ok-firsts.firsts c.requires.are c.in_ok-put_inputs.ensures least c.in_ok-firsts.ensures))
     c.of-widths.ensures

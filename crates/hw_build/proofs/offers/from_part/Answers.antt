@@ -2,7 +2,7 @@ use Rattle.std.proofs.Common.{◌<◌, ℕ, List, length, sym, subst, arith}
 use Rattle.hw_sched.proofs.Periods.{readable_at}
 use Rattle.hw_build.specs.inner.Offers.{Offer}
 use Rattle.hw_build.proofs.EnteringParts.{mux_inside}
-use Rattle.hw_build.proofs.Handed.{if_ok}
+use Rattle.std.proofs.lemmas.Result.{IfOk-weaker}
 use Rattle.hw_build.proofs.offers.from_part.Goals as goal
 
 pub bounds-parts-place : goal.bounds-parts-place
@@ -22,7 +22,7 @@ returns c =
     let size = c.requires.parts.size in
     let below = inside.1 in
     let within : c.args.place.element < length c.args.parts.now = omega (arith, size, below) in
-    if_ok c.single.result _ _
+    IfOk-weaker c.single.result _ _
     (λ nets are. subst (λ (p : ℕ). Offer c.args.setting c.args.place.block c.args.one.now p c.args.place.element nets) (sym inside.0)
     (subst (λ (ns : List ℕ). Offer c.args.setting c.args.place.block c.args.one.now 1 c.args.place.element ns) (sym are) (c.requires.parts.each c.args.place.element within)))
     c.single.ensures

@@ -5,7 +5,7 @@ use Rattle.dg_model.specs.declared.kind.Kind.{Kind}
 use Rattle.dg_model.specs.Attributes.{attributes_of}
 use Rattle.dg_model.specs.Solves.{shown_ports, shown_width}
 use Rattle.hw_build.specs.inner.Entries.{AreOffered}
-use Rattle.hw_build.proofs.Handed.{if_ok}
+use Rattle.std.proofs.lemmas.Result.{IfOk-weaker}
 use Rattle.hw_build.proofs.offers.from_whole.Goals as goal
 
 pub returns : goal.returns
@@ -17,7 +17,7 @@ returns c =
     let below : c.args.place.port - 1 < shown_ports c.args.one.now.kind c.args.one.now.outputs = omega (arith, to, from) in
     let begin : slice_index_or c.args.begins.now (c.args.place.port - 1) 0 ≡ sum (map ((attributes_of diagram).width_at block) (numbers_from 1 (c.args.place.port - 1))) =
     c.requires.begins.each (c.args.place.port - 1) below ∙ ap (λ (k : Kind). sum (map (shown_width diagram (attributes_of diagram) k block) (numbers_from 1 (c.args.place.port - 1)))) c.requires.kind.1 in
-    if_ok c.single.result _ _
+    IfOk-weaker c.single.result _ _
     (λ nets are places fits. subst (λ (k : Kind). AreOffered diagram places block c.args.one.now c.args.place.port c.args.place.element k nets) (sym c.requires.kind.1)
     (are ∙ ap (λ (n : ℕ). n ∷ []) (c.at-net.ensures ∙ sym (fits.lines.offered block 1 c.in-Some.element))
     ∙ ap (λ (e : ℕ). places.offered block 1 e ∷ []) (c.in-Some.ensures.1 ∙ ap (λ (n : ℕ). n + c.args.place.element) begin)))

@@ -1,7 +1,7 @@
 use Rattle.std.proofs.Common.{subst}
 use Rattle.vl_eval.specs.inner.Site.{Built}
 use Rattle.vl_eval.proofs.Assigns.{assigns-cut, assigns-whole}
-use Rattle.vl_eval.proofs.Results.{if-ok}
+use Rattle.std.proofs.lemmas.Result.{IfOk-weaker}
 use Rattle.vl_eval.proofs.assigning.build_assigned.Goals as goal
 
 pub returns-then-shape-width : goal.returns-then-shape-width
@@ -15,5 +15,5 @@ pub returns : goal.returns
 returns c =
     let site = c.args.site.now in
     let built = subst (λ n. Built site.base site.scope.now site.slots.now c.args.ops.now c.build.new.ops c.in_ok-slot.slot n c.shape_of-shape.result.signed c.args.e.now) c.max.ensures c.in_ok-slot.ensures in
-    if-ok c.push.result (λ slot p. assigns-cut c.meaning_by_layer.ensures.value site.base site.scope.now site.slots.now c.args.e.now c.args.ops.now c.build.new.ops c.push.new.ops c.in_ok-slot.slot slot c.args.width
+    IfOk-weaker c.push.result _ _ (λ slot p. assigns-cut c.meaning_by_layer.ensures.value site.base site.scope.now site.slots.now c.args.e.now c.args.ops.now c.build.new.ops c.push.new.ops c.in_ok-slot.slot slot c.args.width
     c.mask_of-mask.result c.shape_of-shape.result c.shape_of-shape.ensures.length c.shape_of-shape.ensures.sign c.mask_of-mask.ensures built p) c.push.ensures

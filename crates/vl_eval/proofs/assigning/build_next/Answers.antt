@@ -3,7 +3,7 @@ use Rattle.vl_ast.specs.Context.{Net}
 use Rattle.vl_ast.specs.Nets.{condition_names, names_read}
 use Rattle.vl_eval.proofs.Assigns.{captures-next, own-few, placed-rest}
 use Rattle.vl_eval.proofs.Grown.{placed-later, placed-left, placed-right}
-use Rattle.vl_eval.proofs.Results.{if-ok}
+use Rattle.std.proofs.lemmas.Result.{IfOk-weaker}
 use Rattle.vl_eval.proofs.assigning.build_next.Goals as goal
 
 pub build_condition-requires-clause-placed : goal.build_condition-requires-clause-placed
@@ -36,6 +36,6 @@ first_bits-requires-clause-most c =
 pub returns : goal.returns
 returns c =
     let site = c.args.site.now in
-    if-ok c.push.result (λ slot p. captures-next c.meaning_by_layer.ensures.value site.base site.scope.now site.slots.now c.args.name.now c.args.first.now c.args.condition.now c.args.value.now
+    IfOk-weaker c.push.result _ _ (λ slot p. captures-next c.meaning_by_layer.ensures.value site.base site.scope.now site.slots.now c.args.name.now c.args.first.now c.args.condition.now c.args.value.now
     c.args.ops.now c.build_condition.new.ops c.build_assigned.new.ops c.push.new.ops c.net-width.result.length c.in_ok-test.test c.in_ok-taken.taken c.slot.result c.slot-2.result c.first_bits.result slot
     (ap (λ (n : Net). n.width) c.net-width.ensures) c.first_bits.ensures c.slot.ensures c.slot-2.ensures c.requires.placed c.in_ok-test.ensures c.in_ok-taken.ensures p) c.push.ensures

@@ -10,7 +10,7 @@ use Rattle.vl_eval.specs.declared.site.Site.{Site}
 use Rattle.vl_eval.specs.inner.Built.{shift_op}
 use Rattle.vl_eval.specs.inner.Shown.{Pushed}
 use Rattle.vl_eval.specs.inner.Site.{ArePlaced, Built}
-use Rattle.vl_eval.proofs.Results.{if-ok}
+use Rattle.std.proofs.lemmas.Result.{IfOk-weaker}
 use Rattle.vl_eval.proofs.Operands.{sound-unary, names-unary, sound-as-signed, names-as-signed, sound-as-unsigned, names-as-unsigned, sound-binary, names-binary, sound-shift, length-shift, names-shift, sound-choose, length-choose, names-choose, sound-repeat, length-repeat, sign-repeat, names-repeat, sound-concat, length-concat, sign-concat, names-concat}
 use Rattle.vl_eval.proofs.Rooms.{room-in, unary-room, left-context-room, right-context-room}
 use Rattle.std.proofs.lemmas.List.{take_all}
@@ -37,7 +37,7 @@ build_unary-build-requires t c =
 pub build_unary-returns : goal.build_unary-returns
 build_unary-returns t c =
     let site = c.args.site.now in
-    if-ok c.push.result (λ slot p. built-unary c.meaning_by_layer.ensures.value site.base site.scope.now site.slots.now c.args.op c.args.part.now c.args.ops.now c.build.new.ops c.push.new.ops c.in_ok-slot.slot slot c.args.width c.mask_of.result c.args.signed c.unary_context-context.result
+    IfOk-weaker c.push.result _ _ (λ slot p. built-unary c.meaning_by_layer.ensures.value site.base site.scope.now site.slots.now c.args.op c.args.part.now c.args.ops.now c.build.new.ops c.push.new.ops c.in_ok-slot.slot slot c.args.width c.mask_of.result c.args.signed c.unary_context-context.result
     c.requires.sound c.requires.longer c.requires.most c.mask_of.ensures c.unary_context-context.ensures c.in_ok-slot.ensures
     (subst (λ o. Pushed site.base c.build.new.ops c.push.new.ops slot o) c.unary_op.ensures p)) c.push.ensures
 
@@ -59,7 +59,7 @@ build_as_signed-returns-then-not-signed t c =
 pub build_as_signed-returns : goal.build_as_signed-returns
 build_as_signed-returns t c =
     let site = c.args.site.now in
-    if-ok c.extend.result (λ slot x. built-as-signed c.meaning_by_layer.ensures.value site.base site.scope.now site.slots.now c.args.part.now c.args.ops.now c.build.new.ops c.extend.new.ops c.in_ok-slot.slot slot c.args.width c.args.signed c.shape_of-context.result
+    IfOk-weaker c.extend.result _ _ (λ slot x. built-as-signed c.meaning_by_layer.ensures.value site.base site.scope.now site.slots.now c.args.part.now c.args.ops.now c.build.new.ops c.extend.new.ops c.in_ok-slot.slot slot c.args.width c.args.signed c.shape_of-context.result
     c.requires.sound c.requires.longer c.requires.most c.shape_of-context.ensures.length c.shape_of-context.ensures.sign c.if-not-signed.false c.in_ok-slot.ensures x) c.extend.ensures
 
 pub build_as_unsigned-shape_of-context-requires : goal.build_as_unsigned-shape_of-context-requires
@@ -75,7 +75,7 @@ build_as_unsigned-build-requires t c =
 pub build_as_unsigned-returns : goal.build_as_unsigned-returns
 build_as_unsigned-returns t c =
     let site = c.args.site.now in
-    if-ok c.build.result (λ slot b. built-as-unsigned c.meaning_by_layer.ensures.value site.base site.scope.now site.slots.now c.args.part.now c.args.ops.now c.build.new.ops slot c.args.width c.args.signed c.shape_of-context.result c.shape_of-context.ensures.length c.shape_of-context.ensures.sign b) c.build.ensures
+    IfOk-weaker c.build.result _ _ (λ slot b. built-as-unsigned c.meaning_by_layer.ensures.value site.base site.scope.now site.slots.now c.args.part.now c.args.ops.now c.build.new.ops slot c.args.width c.args.signed c.shape_of-context.result c.shape_of-context.ensures.length c.shape_of-context.ensures.sign b) c.build.ensures
 
 pub build_binary-left_context-on_left-requires-clause-left : goal.build_binary-left_context-on_left-requires-clause-left
 build_binary-left_context-on_left-requires-clause-left t c = (sound-binary (nets_in c.args.site.now.scope.now) c.args.op c.args.left.now c.args.right.now c.requires.sound).0
@@ -118,7 +118,7 @@ build_binary-half_in-requires t c =
 pub build_binary-returns : goal.build_binary-returns
 build_binary-returns t c =
     let site = c.args.site.now in
-    if-ok c.push.result (λ slot p. built-binary c.meaning_by_layer.ensures.value site.base site.scope.now site.slots.now c.args.op c.args.left.now c.args.right.now c.args.ops.now c.build.new.ops c.build-2.new.ops c.push.new.ops c.in_ok-first.first c.in_ok-second.second slot c.args.width c.mask_of.result c.half_in.result c.args.signed
+    IfOk-weaker c.push.result _ _ (λ slot p. built-binary c.meaning_by_layer.ensures.value site.base site.scope.now site.slots.now c.args.op c.args.left.now c.args.right.now c.args.ops.now c.build.new.ops c.build-2.new.ops c.push.new.ops c.in_ok-first.first c.in_ok-second.second slot c.args.width c.mask_of.result c.half_in.result c.args.signed
     c.left_context-on_left.result c.left_context-on_right.result c.requires.sound c.requires.longer c.requires.most c.mask_of.ensures c.left_context-on_left.ensures c.left_context-on_right.ensures c.half_in.ensures c.in_ok-first.ensures c.in_ok-second.ensures
     (subst (λ o. Pushed site.base c.build-2.new.ops c.push.new.ops slot o) c.binary_op.ensures p)) c.push.ensures
 
@@ -155,7 +155,7 @@ build_choice-build-requires-3 t c =
 pub build_choice-returns : goal.build_choice-returns
 build_choice-returns t c =
     let site = c.args.site.now in
-    if-ok c.push.result (λ slot p. built-choice c.meaning_by_layer.ensures.value site.base site.scope.now site.slots.now c.args.test.now c.args.chosen.now c.args.other.now c.args.ops.now c.build.new.ops c.build-2.new.ops c.build-3.new.ops c.push.new.ops c.in_ok-tested.tested c.in_ok-first.first c.in_ok-second.second slot c.args.width c.args.signed c.shape_of-context.result
+    IfOk-weaker c.push.result _ _ (λ slot p. built-choice c.meaning_by_layer.ensures.value site.base site.scope.now site.slots.now c.args.test.now c.args.chosen.now c.args.other.now c.args.ops.now c.build.new.ops c.build-2.new.ops c.build-3.new.ops c.push.new.ops c.in_ok-tested.tested c.in_ok-first.first c.in_ok-second.second slot c.args.width c.args.signed c.shape_of-context.result
     c.shape_of-context.ensures.length c.shape_of-context.ensures.sign c.in_ok-tested.ensures c.in_ok-first.ensures c.in_ok-second.ensures p) c.push.ensures
 
 pub build_shift-build-requires : goal.build_shift-build-requires
@@ -170,7 +170,7 @@ build_shift-build-requires t c =
 pub build_shift-returns : goal.build_shift-returns
 build_shift-returns t c =
     let site = c.args.site.now in
-    if-ok c.push.result (λ slot p. built-shift c.meaning_by_layer.ensures.value site.base site.scope.now site.slots.now c.args.op c.args.part.now c.args.amount.now c.args.ops.now c.build.new.ops c.push.new.ops c.in_ok-slot.slot slot c.args.width c.args.signed
+    IfOk-weaker c.push.result _ _ (λ slot p. built-shift c.meaning_by_layer.ensures.value site.base site.scope.now site.slots.now c.args.op c.args.part.now c.args.amount.now c.args.ops.now c.build.new.ops c.push.new.ops c.in_ok-slot.slot slot c.args.width c.args.signed
     c.requires.sound c.requires.longer c.requires.most c.in_ok-slot.ensures (subst (λ o. Pushed site.base c.build.new.ops c.push.new.ops slot o) (c.shift_op.ensures ∙ ap (λ (places : ℕ). shift_op c.args.op c.in_ok-slot.slot places c.args.width c.args.signed) c.get.ensures) p)) c.push.ensures
 
 pub build_copies-build_alone-requires : goal.build_copies-build_alone-requires

@@ -1,6 +1,6 @@
 use Rattle.std.proofs.Common.{arith}
 use Rattle.vl_check.specs.Scope.{nets_in}
-use Rattle.vl_eval.proofs.Results.{if-ok}
+use Rattle.std.proofs.lemmas.Result.{IfOk-weaker}
 use Rattle.vl_eval.proofs.Operands.{length-literal, sound-literal}
 use Rattle.vl_eval.proofs.Builds.{built-literal}
 use Rattle.vl_eval.proofs.leaves.build_literal.Goals as goal
@@ -14,5 +14,5 @@ literal-requires-clause-longer c = let l = length-literal (nets_in c.args.site.n
 pub returns : goal.returns
 returns c =
     let site = c.args.site.now in
-    if-ok c.push.result (λ slot p. built-literal c.meaning_by_layer.ensures.value site.base site.scope.now site.slots.now c.args.number.now c.args.ops.now c.push.new.ops c.literal.result slot c.args.width c.args.signed
+    IfOk-weaker c.push.result _ _ (λ slot p. built-literal c.meaning_by_layer.ensures.value site.base site.scope.now site.slots.now c.args.number.now c.args.ops.now c.push.new.ops c.literal.result slot c.args.width c.args.signed
     c.literal.ensures p) c.push.ensures

@@ -3,7 +3,7 @@ use Rattle.vl_ast.proofs.Places.{head-in}
 use Rattle.std.proofs.Common.{Contains}
 use Rattle.vl_ast.specs.Context.{Net}
 use Rattle.vl_check.specs.Scope.{nets_in}
-use Rattle.vl_eval.proofs.Results.{if-ok}
+use Rattle.std.proofs.lemmas.Result.{IfOk-weaker}
 use Rattle.vl_eval.proofs.Operands.{length-name, names-name}
 use Rattle.vl_eval.proofs.Builds.{built-name, built-signed-name}
 use Rattle.vl_eval.proofs.leaves.build_name.Goals as goal
@@ -28,5 +28,5 @@ returns c =
     let below = c.requires.placed.below c.args.name.now (subst (λ ns. Contains ns c.args.name.now) (sym (names-name nets c.args.name.now)) (head-in c.args.name.now [])) in
     let l = length-name nets c.args.name.now in
     let e = ap (λ (n : Net). n.width) c.net.ensures in
-    if-ok c.extend.result (λ slot x. built-signed-name c.meaning_by_layer.ensures.value site.base site.scope.now site.slots.now c.args.name.now c.args.ops.now c.extend.new.ops c.slot-part.result slot c.args.width c.net.result.length c.args.signed
+    IfOk-weaker c.extend.result _ _ (λ slot x. built-signed-name c.meaning_by_layer.ensures.value site.base site.scope.now site.slots.now c.args.name.now c.args.ops.now c.extend.new.ops c.slot-part.result slot c.args.width c.net.result.length c.args.signed
     c.slot-part.ensures e below (omega (arith, l, e, c.requires.longer)) c.requires.most c.if-not-signed.false x) c.extend.ensures

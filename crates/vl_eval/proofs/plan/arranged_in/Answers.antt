@@ -6,7 +6,7 @@ use Rattle.vl_eval.specs.inner.Arranged.{IsArranged}
 use Rattle.vl_eval.specs.inner.Planned.{AreCaptured}
 use Rattle.vl_eval.proofs.Capturing.{number-of, reset-known}
 use Rattle.vl_eval.proofs.Rearranged.{arranged-captured, arranged-wired}
-use Rattle.vl_eval.proofs.Results.{if-ok}
+use Rattle.std.proofs.lemmas.Result.{IfOk-weaker}
 use Rattle.vl_eval.proofs.Sounds.{scope-few}
 use Rattle.vl_eval.proofs.plan.arranged_in.Goals as goal
 
@@ -26,7 +26,7 @@ returns c =
     let reset = number-of by_layer m scope c.requires.scope a.driven a.once few slots wires wired (codes "reset") (reset-known by_layer m scope c.requires.scope a.driven a.once few slots wires wired c.requires.sound.clocked) in
     let low = slice_get_within (names_in scope) reset.0 (codes "reset") (at-number scope.names.items reset.0 (codes "reset") reset.1) in
     let some : 0 < length (names_in scope) = omega (arith, low) in
-    if-ok c.arrange.result (λ arranged sorted.
+    IfOk-weaker c.arrange.result _ _ (λ arranged sorted.
     let is = subst (λ n. IsArranged n ops slots taken arranged) c.count-base.ensures sorted in
     record {
       wires = arranged.ops;
