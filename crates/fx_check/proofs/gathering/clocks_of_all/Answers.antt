@@ -1,4 +1,4 @@
-use Rattle.std.proofs.Common.{◌≡◌, ◌++◌, ◌∷◌, [], ℕ, List, map, take, sym, ap, ◌∙◌, arith}
+use Rattle.std.proofs.Common.{◌++◌, ◌∷◌, [], ℕ, List, map, take, sym, ap, ◌∙◌, arith}
 use Rattle.std.proofs.lemmas.List.{map_more, take_all}
 use Rattle.hw_rules.specs.Times.{timing_in}
 use Rattle.fx_check.specs.Gathered.{clocks_at}

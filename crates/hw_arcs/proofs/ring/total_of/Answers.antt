@@ -1,4 +1,4 @@
-use Rattle.std.proofs.Common.{◌≡◌, ◌<◌, ℕ, List, arith, take, subst}
+use Rattle.std.proofs.Common.{◌≡◌, ℕ, List, arith, take, subst}
 use Rattle.std.proofs.lemmas.List.{take_all}
 use Rattle.hw_arcs.specs.inner.Walk.{gains_of, slacks_of}
 use Rattle.hw_arcs.proofs.ring.total_of.Goals as goal

@@ -1,4 +1,4 @@
-use Rattle.std.proofs.Common.{◌≡◌, ◌∙◌, ℕ, List, Option, None, Bool, true, ◌++◌, ◌∷◌, [], replicate, get_or, ap, sym, arith, rules, refl}
+use Rattle.std.proofs.Common.{◌≡◌, ◌∙◌, ℕ, List, Option, None, true, ◌++◌, ◌∷◌, [], replicate, get_or, ap, sym, arith, rules, refl}
 use Rattle.std.proofs.lemmas.List.{take_more, take_all}
 use Rattle.hw_arcs.proofs.relaxing.Relaxing.begin.Goals as goal
 
