@@ -1,4 +1,4 @@
--- What the registers take, one item after another.
+-- What the registers take, one item after another. Crates above may cite this file.
 use Rattle.std.proofs.Common.{◌≡◌, ◌<◌, ◌≤◌, ◌+◌, ◌^◌, ⊎_elim, ℕ, true, List, [], ◌∷◌, ◌++◌, length, take, slice_index, slice_index_or, codes, Contains, Option, None, Some, sym, ap, subst, ◌∙◌, arith}
 use Rattle.std.proofs.lemmas.Nat.{mod_below, pow_pos}
 use Rattle.std.proofs.lemmas.Option.{slice_get_within}
