@@ -1,7 +1,9 @@
 //! Models and flat diagrams, and what is found of them.
-ghost use Rattle.std.specs.Prelude.{◌≡◌};
+ghost use Rattle.std.specs.Prelude.{◌≡◌, ◌≤◌, [], length, slice_index_or};
+ghost use Rattle.dg_model.specs.Dimension.{KeepsDimensions};
 ghost use Rattle.dg_model.specs.Periods.{periods_of};
 ghost use Rattle.dg_model.specs.Sound.{IsSound};
+ghost use Rattle.dg_model.specs.Widths.{widths_of};
 ghost use Rattle.dg_model.specs.Wired.{IsWired};
 
 use crate::nested::put_nested;
@@ -126,9 +128,31 @@ fn put_widths<W: Write>(alloc: Global, diagram: &Diagram, out: &mut W) -> Result
     requires { IsWired diagram.now }
 {
     match widths(alloc, diagram) {
-        Ok(widths) => put_debug(&widths, out),
+        Ok(widths) => put_each_width(diagram, &widths, out),
         Err(fault) => put_fault(alloc, fault, diagram.blocks.as_slice(), out),
     }
+}
+
+/// Tells of each block the widths at its output ports.
+fn put_each_width<W: Write>(diagram: &Diagram, widths: &PortWidths, out: &mut W) -> Result<()>
+    requires wired { IsWired diagram.now }
+    requires dimensions { KeepsDimensions diagram.now }
+    requires widths { widths.now ≡ widths_of diagram.now }
+{
+    let blocks = diagram.blocks.as_slice();
+    for place in 0..blocks.len() {
+        put_outputs(widths, place as u32, blocks[place].outputs, out)?;
+    }
+    Ok(())
+}
+
+fn put_outputs<W: Write>(widths: &PortWidths, block: u32, outputs: u32, out: &mut W) -> Result<()>
+    requires { outputs ≤ length (slice_index_or widths.now block []) }
+{
+    for port in 0..outputs {
+        write!(out, "{} ", widths.at(block, port + 1))?;
+    }
+    written(out.write_all(b"\n"))
 }
 
 /// Tells of each block the type of its outputs and that of its coefficients.
