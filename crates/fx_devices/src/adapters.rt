@@ -1,6 +1,7 @@
 ghost use Rattle.std.specs.Prelude.{◌≡◌, ◌<◌, ◌≤◌, length, take, None, IfOk, IsOk, OnErr};
 ghost use Rattle.std.specs.Io.KnownBytes.{WriteAppends};
 ghost use Rattle.fx_io.specs.Cause.{Rose};
+ghost use Rattle.fx_devices.specs.declared.adapters.Rest.TheVariants.{Dropped};
 ghost use Rattle.fx_io.specs.Sink.{also_took, untold};
 
 use fx_io::{Failed, FetchFault, OutOfMemory, Shelf, Sink, Text};
@@ -119,7 +120,9 @@ impl<W: Write + Drop> StreamSink<BufWriter<W>> {
 
     /// Ends the stream, and fails where the rest was to be written and was not. What a failure
     /// leaves in the buffer is written no more.
-    pub fn close(mut self, rest: Rest) -> Result<(), Failed> {
+    pub fn close(mut self, rest: Rest) -> Result<(), Failed>
+        ensures dropped { rest ≡ Dropped → IsOk result }
+    {
         let is_written = match rest {
             Rest::Written => self.writer.flush().is_ok(),
             Rest::Dropped => true,
