@@ -1,17 +1,18 @@
--- An operation gives exactly one number, since a conversion does.
+-- An operation gives exactly one number, since a conversion does. Crates above may cite this file.
 use Rattle.std.proofs.Common.{◌≡◌, Bool, true, false, ℤ, ◌*ℤ◌, ◌≤ℤ◌, MatchBool, All, Any, List, length, zip, ap, sym, ◌∙◌, refl, subst, arith}
 use Rattle.std.proofs.lemmas.Int.{ints}
 use Rattle.fx_type.specs.declared.kind.FxType.{FxType}
 use Rattle.fx_type.specs.declared.kind.FxType.TheVariants.{Num, Logical}
 use Rattle.fx_type.specs.declared.rounding.Rounding.{Rounding}
 use Rattle.fx_type.specs.FxType.{IsType, InRange, frac_of}
-use Rattle.fx_type.specs.FullType.{Terms, IsGreatestFrac}
+use Rattle.fx_type.specs.FullType.{Terms}
 use Rattle.fx_type.specs.Conversion.{IsTruthOf, Converts}
 use Rattle.fx_round.specs.Laws.{ConversionGivesOne}
 use Rattle.dg_model.specs.declared.op.Op.{Op}
 use Rattle.dg_model.specs.declared.op.Op.TheVariants.{Sum, Gain, Product, Switch, Relational, Logic, Convert, Pass}
 use Rattle.dg_model.specs.Operation.{Operation, OpGives, Gives, IsConverted, HasArity, HasResultType, HasFullType, CanCarryOut, signed_sum, meets, value_of, type_of, without_frac, stored_truth, compares_values, gate_of}
 use Rattle.dg_blocks.specs.Laws.{OperationGivesAtMostOne, OperationGivesOne}
+use Rattle.fx_type.proofs.FullTypes.{greatest_only}
 
 -- only the frac of the source counts
 same_frac : (v w : ℤ) (from other to : FxType) (mode : Rounding) (saturate : Bool) (r : ℤ) → v ≡ w → frac_of from ≡ frac_of other → Converts v from to mode saturate r → Converts w other to mode saturate r
@@ -23,17 +24,11 @@ reached_at_most terms f g a b =
     let h : frac_of (a.1).1 ≤ℤ g = subst (λ (x : Bool × FxType). frac_of x.1 ≤ℤ g) a.3 (b a.0 a.1 a.2) in
     subst (λ (z : ℤ). z ≤ℤ g) a.4 h
 
-greatest_one : (terms : Terms) (f g : ℤ) → IsGreatestFrac terms f → IsGreatestFrac terms g → f ≡ g
-greatest_one terms f g p q =
-    let h : f ≤ℤ g = reached_at_most terms f g p.reached q.bound in
-    let k : g ≤ℤ f = reached_at_most terms g f q.reached p.bound in
-    omega (arith, ints, h, k)
-
 without_valid : (type : FxType) → IsType type → IsType (without_frac type)
 without_valid Logical t = tt
 without_valid (Num s w f) t = (t.0, omega (arith, ints), omega (arith, ints))
 
-truth_range : (truth : Bool) → InRange Logical (stored_truth truth)
+pub truth_range : (truth : Bool) → InRange Logical (stored_truth truth)
 truth_range true = record { low = omega (arith, ints); high = omega (arith, ints) }
 truth_range false = record { low = omega (arith, ints); high = omega (arith, ints) }
 
@@ -56,7 +51,7 @@ module _ (conversion : ConversionGivesOne) where
 
       by_op : (op : Op) → Gives op operation operation.types inputs r → Gives op operation operation.types inputs s → r ≡ s
       by_op Sum a b =
-          let e : frac_of b.0 ≡ frac_of a.0 = greatest_one (zip operation.signs operation.types) (frac_of b.0) (frac_of a.0) b.1.frac a.1.frac in
+          let e : frac_of b.0 ≡ frac_of a.0 = greatest_only (zip operation.signs operation.types) (frac_of b.0) (frac_of a.0) b.1.frac a.1.frac in
           conv (signed_sum (frac_of a.0) (zip operation.signs operation.types) inputs) a.0 a.2
           (same_frac (signed_sum (frac_of b.0) (zip operation.signs operation.types) inputs) (signed_sum (frac_of a.0) (zip operation.signs operation.types) inputs) b.0 a.0 operation.result operation.rounding operation.saturate s (ap (λ (f : ℤ). signed_sum f (zip operation.signs operation.types) inputs) e) e b.2)
       by_op (Gain coefficient param) a b =

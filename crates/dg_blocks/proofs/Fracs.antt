@@ -31,9 +31,3 @@ pub product_frac : (a b full : FxType) (f g : ℤ) → IsFullProduct a b full �
 product_frac a b full f g is_full is_f is_g fits_f fits_g =
     let e : frac_of full ≡ f +ℤ g = rw (is_f, is_g) is_full.frac in
     frac_sum f g (frac_of full) fits_f fits_g e (frac_bounds full is_full.valid).0 (frac_bounds full is_full.valid).1
-
-pub max_high : (f g high : ℤ) → f ≤ℤ high → g ≤ℤ high → int_max f g ≤ℤ high
-max_high f g high p q = elim (int_max_cases f g) [
-  | inl k ↦ subst (λ (z : ℤ). z ≤ℤ high) (sym k) p
-  | inr k ↦ subst (λ (z : ℤ). z ≤ℤ high) (sym k) q
-]

@@ -1,4 +1,4 @@
-mod Exactly
+pub mod Exactly
 mod Fracs
 mod Gaps
 mod Listed

@@ -1,15 +1,16 @@
 -- Powers of two in 128 bits, and how large a product of two stored integers is.
-use Rattle.std.proofs.Common.{◌≡◌, ℕ, zero, suc, ◌+◌, ◌-◌, ◌*◌, ◌%◌, ◌^◌, ◌<◌, ◌≤◌, Bool, true, false, true≢false, cond, ◌||◌, ℤ, pos, negsuc, neg_ℤ, ◌*ℤ◌, ◌≤ℤ◌, to_z, ap, sym, mul_comm, ◌∙◌, arith, pow_pos, FitsSigned, unsigned_abs, refl}
+use Rattle.std.proofs.Common.{◌≡◌, ℕ, ◌-◌, ◌*◌, ◌%◌, ◌^◌, ◌<◌, ◌≤◌, Bool, true, false, true≢false, cond, ◌||◌, ℤ, pos, ◌*ℤ◌, to_z, ap, mul_comm, ◌∙◌, arith, pow_pos, FitsSigned, unsigned_abs, refl}
 use Rattle.std.specs.Int.{w128}
 use Rattle.std.proofs.lemmas.Int.{ints, to_z_pos, fits_signed_mul}
-use Rattle.std.proofs.lemmas.Nat.{pow-add}
-use Rattle.std.proofs.Math.Dec.{lit<, lit≤}
-use Rattle.std.proofs.Math.Pow.{pow_mono, pow-lt}
-use Rattle.std.proofs.Math.Nat.{mod-eq_of_lt, mul-le-mul}
+use Rattle.std.proofs.Math.Dec.{lit<}
+use Rattle.std.proofs.Math.Pow.{pow-lt}
+use Rattle.std.proofs.Math.Nat.{mod-eq_of_lt}
 use Rattle.fx_type.specs.declared.kind.FxType.{FxType}
 use Rattle.fx_type.specs.declared.kind.FxType.TheVariants.{Num, Logical}
 use Rattle.fx_type.specs.FxType.{IsType, IsNumber, InRange, is_signed, width_of}
 use Rattle.fx_type.specs.FullType.{IsFullProduct}
+use Rattle.fx_type.proofs.Ranges.{some-width}
+use Rattle.fx_num.proofs.Arithmetic.{abs-between, abs-below, below-power, below-power-strict}
 
 -- 1, shifted up by less than 127 bits
 pub one_shifted : (gap : ℕ) → gap < 127 → to_z w128 ((1 * 2 ^ gap) % 2 ^ 128) ≡ pos (2 ^ gap)
@@ -29,24 +30,16 @@ record IsWithin (type : FxType) (v : ℤ) : Type 0 where
   at_most : unsigned_abs v ≤ 2 ^ exponent type
   below : is_signed type ≡ false → unsigned_abs v < 2 ^ exponent type
 
-abs_between : (v : ℤ) (n : ℕ) → neg_ℤ (pos n) ≤ℤ v → v ≤ℤ pos n → unsigned_abs v ≤ n
-abs_between (pos k) n low high = omega (arith, ints)
-abs_between (negsuc k) n low high = omega (arith, ints)
-
-abs_below : (v : ℤ) (n : ℕ) → pos 0 ≤ℤ v → v ≤ℤ pos (n - 1) → 0 < n → unsigned_abs v < n
-abs_below (pos k) n low high some = omega (arith, ints)
-abs_below (negsuc k) n low high some = absurd low.le
-
 within : (type : FxType) (v : ℤ) → InRange type v → IsWithin type v
 within (Num true width frac) v range = record {
-  at_most = abs_between v (2 ^ (width - 1)) range.low (omega (arith, ints, range.high));
+  at_most = abs-between v (2 ^ (width - 1)) range.low (omega (arith, ints, range.high));
   below = λ e. absurd (true≢false e);
 }
 within (Num false width frac) v range =
-    let below = abs_below v (2 ^ width) range.low range.high (pow_pos width)
+    let below = abs-below v (2 ^ width) range.low range.high (pow_pos width)
     in record { at_most = omega (arith, below); below = λ e. below }
 within Logical v range =
-    let below = abs_below v 2 range.low range.high (lit< tt)
+    let below = abs-below v 2 range.low range.high (lit< tt)
     in record { at_most = omega (arith, below); below = λ e. below }
 
 -- the width of a number type
@@ -60,26 +53,6 @@ unsigned_width (Num true width frac) valid number e = absurd (true≢false e)
 unsigned_width (Num false width frac) valid number e = valid.0.1
 unsigned_width Logical valid number e = elim number [ ]
 
-some_width : (type : FxType) → IsType type → 1 ≤ width_of type
-some_width (Num true width frac) valid = omega (arith, valid.0.0)
-some_width (Num false width frac) valid = valid.0.0
-some_width Logical valid = lit≤ tt
-
-below_power : (m n i j k : ℕ) → m ≤ 2 ^ i → n ≤ 2 ^ j → i + j < k → m * n < 2 ^ k
-below_power m n i j k p q h =
-    let both : m * n ≤ 2 ^ i * 2 ^ j = mul-le-mul p q
-    in let power : 2 ^ i * 2 ^ j ≡ 2 ^ (i + j) = sym (pow-add 2 i j)
-    in let less : 2 ^ (i + j) < 2 ^ k = pow-lt h
-    in omega (arith, both, power, less)
-
-below_power_strict : (m n i j k : ℕ) → m ≤ 2 ^ i → n < 2 ^ j → i + j ≤ k → m * n < 2 ^ k
-below_power_strict zero n i j k p q h = omega (arith, pow_pos k)
-below_power_strict (suc m) n i j k p q h =
-    let both : suc m * suc n ≤ 2 ^ i * 2 ^ j = mul-le-mul p q
-    in let power : 2 ^ i * 2 ^ j ≡ 2 ^ (i + j) = sym (pow-add 2 i j)
-    in let less : 2 ^ (i + j) ≤ 2 ^ k = pow_mono h
-    in omega (arith, both, power, less)
-
 signed_exponent : (type : FxType) → is_signed type ≡ true → exponent type ≡ width_of type - 1
 signed_exponent type e = ap (λ b. cond b (width_of type - 1) (width_of type)) e
 
@@ -91,20 +64,20 @@ module _ (a b full : FxType) (x y : ℤ) (valid_a : IsType a) (valid_b : IsType 
   by_signs : (sa sb : Bool) → is_signed a ≡ sa → is_signed b ≡ sb → unsigned_abs x * unsigned_abs y < 2 ^ 127
   by_signs true true ea eb =
       let sign : is_signed full ≡ true = is_full.sign ∙ ap (λ s. s || is_signed b) ea
-      in below_power _ _ _ _ 127 (within a x in_a).at_most (within b y in_b).at_most
-      (omega (arith, signed_width full is_full.valid is_full.number sign, is_full.width, signed_exponent a ea, signed_exponent b eb, some_width a valid_a, some_width b valid_b))
+      in below-power _ _ _ _ 127 (within a x in_a).at_most (within b y in_b).at_most
+      (omega (arith, signed_width full is_full.valid is_full.number sign, is_full.width, signed_exponent a ea, signed_exponent b eb, some-width a valid_a, some-width b valid_b))
   by_signs true false ea eb =
       let sign : is_signed full ≡ true = is_full.sign ∙ ap (λ s. s || is_signed b) ea
-      in below_power_strict _ _ _ _ 127 (within a x in_a).at_most ((within b y in_b).below eb)
-      (omega (arith, signed_width full is_full.valid is_full.number sign, is_full.width, signed_exponent a ea, unsigned_exponent b eb, some_width a valid_a))
+      in below-power-strict _ _ _ _ 127 (within a x in_a).at_most ((within b y in_b).below eb)
+      (omega (arith, signed_width full is_full.valid is_full.number sign, is_full.width, signed_exponent a ea, unsigned_exponent b eb, some-width a valid_a))
   by_signs false true ea eb =
       let sign : is_signed full ≡ true = is_full.sign ∙ ap (λ s. s || is_signed b) ea ∙ eb
-      in let swapped : unsigned_abs y * unsigned_abs x < 2 ^ 127 = below_power_strict _ _ _ _ 127 (within b y in_b).at_most ((within a x in_a).below ea)
-      (omega (arith, signed_width full is_full.valid is_full.number sign, is_full.width, unsigned_exponent a ea, signed_exponent b eb, some_width b valid_b))
+      in let swapped : unsigned_abs y * unsigned_abs x < 2 ^ 127 = below-power-strict _ _ _ _ 127 (within b y in_b).at_most ((within a x in_a).below ea)
+      (omega (arith, signed_width full is_full.valid is_full.number sign, is_full.width, unsigned_exponent a ea, signed_exponent b eb, some-width b valid_b))
       in omega (arith, mul_comm (unsigned_abs x) (unsigned_abs y), swapped)
   by_signs false false ea eb =
       let sign : is_signed full ≡ false = is_full.sign ∙ ap (λ s. s || is_signed b) ea ∙ eb
-      in below_power_strict _ _ _ _ 127 (within a x in_a).at_most ((within b y in_b).below eb)
+      in below-power-strict _ _ _ _ 127 (within a x in_a).at_most ((within b y in_b).below eb)
       (omega (arith, unsigned_width full is_full.valid is_full.number sign, is_full.width, unsigned_exponent a ea, unsigned_exponent b eb))
 
   pub product_fits : FitsSigned w128 (x *ℤ y)

@@ -1,13 +1,14 @@
 -- Stored integers, and aligned ones, fit 128 bits.
-use Rattle.std.proofs.Common.{◌≡◌, ℕ, suc, ◌*◌, ◌≤◌, ◌⊎◌, inl, inr, ℤ, pos, negsuc, neg_ℤ, ◌-ℤ◌, ◌*ℤ◌, FitsSigned, subst, sym, ap, ◌∙◌, arith}
+use Rattle.std.proofs.Common.{◌≡◌, ℕ, suc, ◌*◌, ◌≤◌, inl, inr, ℤ, pos, negsuc, neg_ℤ, ◌-ℤ◌, ◌*ℤ◌, FitsSigned, subst, sym, ap, ◌∙◌, arith}
 use Rattle.std.specs.Int.{int_max, int_gap, w128}
-use Rattle.std.proofs.lemmas.Int.{ints, by_lt_z}
+use Rattle.std.proofs.lemmas.Int.{ints}
 use Rattle.std.proofs.Math.IntN.{neg_ℤ-neg_ℤ, +ℤ_idl}
 use Rattle.std.proofs.Math.Nat.{mul-le-mul_left}
 use Rattle.fx_type.specs.declared.kind.FxType.{FxType}
 use Rattle.fx_type.specs.FxType.{IsType, InRange, frac_of, aligned}
 use Rattle.fx_type.specs.FullType.{IsUnion}
 use Rattle.fx_type.proofs.Ranges.{InRange-fits, int_max_cases}
+use Rattle.fx_num.proofs.Arithmetic.{int_cases}
 
 -- minus a number, as the code computes it
 pub minus_is : (v : ℤ) → pos 0 -ℤ v ≡ neg_ℤ v
@@ -20,12 +21,6 @@ neg_fits (negsuc n) d some fits scaled =
     let more : suc n * 1 ≤ suc n * d = mul-le-mul_left (suc n) some
     in let product : neg_ℤ (negsuc n *ℤ pos d) ≡ pos (suc n * d) = neg_ℤ-neg_ℤ (pos (suc n * d))
     in omega (arith, ints, product)
-
--- two numbers are equal or not
-int_cases : (x y : ℤ) → (x ≡ y) ⊎ (x ≡ y → ⊥)
-int_cases x y =
-    by_lt_z x y (λ below. inr (λ e. omega (arith, ints)))
-    (λ above. by_lt_z y x (λ below. inr (λ e. omega (arith, ints))) (λ at_most. inl (omega (arith, ints))))
 
 gap-same : (f : ℤ) → int_gap f f ≡ 0
 gap-same (pos n) = omega arith

@@ -1,14 +1,15 @@
 -- Shifts down in 64 bits, with a bias before, round as the modes do.
-use Rattle.std.proofs.Common.{◌≡◌, ℕ, suc, ◌+◌, ◌-◌, ◌/◌, ◌%◌, ◌^◌, ◌<◌, Bool, true, false, true≢false, ℤ, pos, negsuc, neg_ℤ, ◌+ℤ◌, ◌*ℤ◌, ◌≤ℤ◌, bit_and, to_z, of_z, FitsSigned, ap, sym, ◌∙◌, refl, subst, arith, pow_pos, div-add-mod', mod-lt, lt_of_le_of_lt, cond, int_lt}
+use Rattle.std.proofs.Common.{◌≡◌, ℕ, suc, ◌+◌, ◌-◌, ◌/◌, ◌%◌, ◌^◌, Bool, true, false, true≢false, ℤ, pos, negsuc, neg_ℤ, ◌+ℤ◌, ◌*ℤ◌, bit_and, to_z, of_z, FitsSigned, ap, sym, ◌∙◌, refl, subst, arith, lt_of_le_of_lt, cond, int_lt}
 use Rattle.std.specs.Int.{w64}
 use Rattle.std.specs.Int.Signed.{shr_z, mag_shr}
-use Rattle.std.proofs.lemmas.Int.{ints, by_lt_z}
+use Rattle.std.proofs.lemmas.Int.{ints}
 use Rattle.std.proofs.lemmas.Nat.{and_mask}
 use Rattle.fx_type.specs.declared.rounding.Rounding.{Rounding}
 use Rattle.fx_type.specs.declared.rounding.Rounding.TheVariants.{Floor, Ceiling, Zero, Nearest, Round, Convergent}
 use Rattle.fx_type.specs.Conversion.{twice, IsEven, RoundsDown, RoundsUp, RoundsTiesUp, RoundsTiesDown, RoundsTiesEven, Rounds}
-use Rattle.fx_num.proofs.Arithmetic.{scaled-mono, next-scaled}
+use Rattle.fx_num.proofs.Arithmetic.{next-scaled}
 use Rattle.dg_blocks.specs.Narrow.{IsBias, IsTie, IsShifted}
+use Rattle.fx_round.proofs.Biased.{shift_floors, floors_one}
 
 pub odd_bit : (v : ℤ) → FitsSigned w64 v → IsTie true v (to_z w64 (bit_and (of_z w64 v) 1))
 odd_bit (pos n) f =
@@ -34,21 +35,10 @@ odd_bit (negsuc n) f =
 pub no_tie : (v : ℤ) → IsTie false v (pos 0)
 no_tie v = record { none = λ _. refl; low = omega (arith, ints); high = omega (arith, ints); stays = λ k. absurd (true≢false (sym k)); goes = λ k. absurd (true≢false (sym k)) }
 
--- a shift down gives the whole number below
-pub shift_floor : (v : ℤ) (by : ℕ) → RoundsDown v (2 ^ by) (shr_z v (2 ^ by))
-shift_floor (pos n) by = let r : n % 2 ^ by < 2 ^ by = mod-lt n (pow_pos by) in record { at_most = omega (arith, ints, div-add-mod' n (2 ^ by)); next_above = omega (arith, ints, r, div-add-mod' n (2 ^ by)) }
-shift_floor (negsuc n) by = let r : n % 2 ^ by < 2 ^ by = mod-lt n (pow_pos by) in record { at_most = omega (arith, ints, r, div-add-mod' n (2 ^ by)); next_above = omega (arith, ints, r, div-add-mod' n (2 ^ by)) }
-
 pub shr-fits : (v : ℤ) (m : ℕ) → FitsSigned w64 v → FitsSigned w64 (shr_z v m)
 shr-fits v m f = record { sfits = lt_of_le_of_lt (mag_shr v m) f.sfits }
 
 -- ---- the modes
-
--- the whole number below is one
-floors_one : (n : ℤ) (d : ℕ) (r s : ℤ) → RoundsDown n d r → RoundsDown n d s → r ≡ s
-floors_one n d r s a b = by_lt_z r s
-    (λ l. let k : (r +ℤ pos 1) ≤ℤ s = omega (arith, ints, l) in absurd (omega (arith, ints, scaled-mono (r +ℤ pos 1) s d k, next-scaled r d, a.next_above, b.at_most)))
-    (λ g. by_lt_z s r (λ l. let k : (s +ℤ pos 1) ≤ℤ r = omega (arith, ints, l) in absurd (omega (arith, ints, scaled-mono (s +ℤ pos 1) r d k, next-scaled s d, b.next_above, a.at_most))) (λ h. omega (arith, ints, g, h)))
 
 module _ (n bias : ℤ) (even : Bool) (d : ℕ) (r : ℤ) (shifted : IsShifted n bias even d r) where
   pub floor_mode : bias ≡ pos 0 → even ≡ false → RoundsDown n d r
@@ -109,4 +99,4 @@ module _ (n bias below : ℤ) (even : Bool) (d : ℕ) (r : ℤ) where
 
 -- ---- the code's shift
 pub shifted_is : (v bias : ℤ) (even : Bool) (by : ℕ) (tie : ℤ) → IsTie even (shr_z v (2 ^ by)) tie → IsShifted v bias even (2 ^ by) (shr_z (v +ℤ bias +ℤ tie) (2 ^ by))
-shifted_is v bias even by tie t = record { lower = shr_z v (2 ^ by); floors = shift_floor v by; tie = tie; is_tie = t; rounds = shift_floor (v +ℤ bias +ℤ tie) by }
+shifted_is v bias even by tie t = record { lower = shr_z v (2 ^ by); floors = shift_floors v by; tie = tie; is_tie = t; rounds = shift_floors (v +ℤ bias +ℤ tie) by }

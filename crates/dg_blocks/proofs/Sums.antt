@@ -9,6 +9,7 @@ use Rattle.fx_type.specs.FxType.{IsType, InRange, frac_of, aligned}
 use Rattle.fx_type.specs.FullType.{negated_if, IsPossibleSum, IsFullSum}
 use Rattle.dg_model.specs.Operation.{signed_sum, type_of, value_of}
 use Rattle.fx_type.proofs.Ranges.{InRange-zero, InRange-fits}
+use Rattle.fx_type.proofs.Fracs.{bound_at}
 
 -- one term
 abbrev pub term_of : ℤ → Bool → FxType → ℤ → ℤ
@@ -85,14 +86,6 @@ module _ (frac : ℤ) where
   sum_more (s ∷ signs) (t ∷ types) (v ∷ inputs) same_signs same (suc k) h =
       ap (λ z. term_of frac s t v +ℤ z) (sum_more signs types inputs (omega arith) (omega arith) k (omega arith))
       ∙ sym (+ℤ_assoc (term_of frac s t v) (signed_sum frac (take k (zip signs types)) (take k inputs)) (term_of frac (get_or signs k false) (type_of types k) (value_of inputs k)))
-
--- the greatest frac bounds each type's
-bound_at : (frac : ℤ) (signs : List Bool) (types : List FxType) → All (λ (term : Bool × FxType). frac_of term.1 ≤ℤ frac) (zip signs types) → length signs ≡ length types → (k : ℕ) (d : FxType) → k < length types → frac_of (get_or types k d) ≤ℤ frac
-bound_at frac [] [] bound same k d h = absurd (omega arith)
-bound_at frac [] (t ∷ types) bound same k d h = absurd (omega arith)
-bound_at frac (s ∷ signs) [] bound same k d h = absurd (omega arith)
-bound_at frac (s ∷ signs) (t ∷ types) bound same zero d h = bound 0 (s, t) (omega arith)
-bound_at frac (s ∷ signs) (t ∷ types) bound same (suc k) d h = bound_at frac signs types (λ k e h. bound (suc k) e (omega arith)) (omega arith) k d (omega arith)
 
 module _ (frac : ℤ) (signs : List Bool) (types : List FxType) (inputs : List ℤ) (valid : AreTypes types) (range : EachInRange types inputs) (same_signs : length signs ≡ length types) (same : length inputs ≡ length types) (full : FxType) (is_full : IsFullSum (zip signs types) full) (is_frac : frac_of full ≡ frac) where
   possible_fits : (total : ℤ) → IsPossibleSum frac (zip signs types) total → FitsSigned w128 total

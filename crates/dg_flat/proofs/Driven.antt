@@ -30,7 +30,9 @@ use Rattle.dg_flat.proofs.Origins.{comes_from, one_origin}
 use Rattle.dg_flat.proofs.PortReads.{some_inside}
 use Rattle.dg_flat.proofs.Roles.{InPorts}
 use Rattle.dg_flat.proofs.Verdicts.{numbered_no}
-use Rattle.dg_flat.proofs.WiredParts.{all_get, no_block}
+use Rattle.fx_io.proofs.Places.{held as all_get}
+use Rattle.dg_flat.proofs.WiredParts.{no_block}
+use Rattle.fx_io.proofs.Tests.{same_test}
 
 -- ---- edges of lines
 
@@ -171,16 +173,11 @@ module _ (nested : Nested) (sound : IsSound nested) (keep : AllNestedKeep nested
 
 -- ---- one edge a port
 
-same_tests : (a b : Bool) → (a ≡ true → b ≡ true) → (b ≡ true → a ≡ true) → a ≡ b
-same_tests true b there back = sym (there refl)
-same_tests false true there back = back refl
-same_tests false false there back = refl
-
 -- a line's edge enters the port exactly where the line ends at the port's entry
 line_enters : (nested : Nested) (j port place : ℕ) (x : NestedBlock) (line : NestedLine) → slice_get nested.blocks place ≡ Some x → is_subsystem x.part ≡ false → flat_place nested.blocks place ≡ j →
     (entry : Entry nested place x port) → (end : EndPort nested line) → (eqb (flat_place nested.blocks end.place) j && eqb end.port port) ≡ (eqb line.to entry.to && entry.is_end line.target)
 line_enters nested j port place x line at kept flat_at entry end =
-    same_tests (eqb (flat_place nested.blocks end.place) j && eqb end.port port) (eqb line.to entry.to && entry.is_end line.target) there back where
+    same_test (eqb (flat_place nested.blocks end.place) j && eqb end.port port) (eqb line.to entry.to && entry.is_end line.target) there back where
       there : (eqb (flat_place nested.blocks end.place) j && eqb end.port port) ≡ true → (eqb line.to entry.to && entry.is_end line.target) ≡ true
       there is =
           let both = and_parts (eqb (flat_place nested.blocks end.place) j) (eqb end.port port) is in

@@ -1,6 +1,6 @@
 -- What the lines drive, as one more line comes.
 use Rattle.std.proofs.Common.{◌≡◌, ℕ, ◌<◌, ◌+◌, Bool, true, false, cond, ◌&&◌, ◌||◌, eqb, List, [], ◌∷◌, ◌++◌, min, set, get_or, add-zero, refl, sym, ap, subst, ◌∙◌, inl, inr, arith}
-use Rattle.std.proofs.lemmas.Bool.{cases_eq, eq-eqb}
+use Rattle.std.proofs.lemmas.Bool.{cases_eq, eq-eqb, ne_eqb}
 use Rattle.std.proofs.lemmas.List.Folds.{list_any-append}
 use Rattle.dg_model.specs.declared.nested.NestedBlock.{NestedBlock}
 use Rattle.dg_model.specs.declared.nested.NestedLine.{NestedLine}
@@ -11,8 +11,8 @@ use Rattle.dg_flat.specs.inner.Ports.{one_more, port_drivers, control_drivers, i
 use Rattle.dg_flat.specs.inner.Tables.{HasCell, IsTable, IsRowTable, cell_at}
 use Rattle.dg_flat.proofs.Tables.{table_set, table_same}
 use Rattle.dg_flat.proofs.Cells.{rows_set, rows_same}
-use Rattle.dg_flat.proofs.Firsts.{count_push, and_false}
-use Rattle.dg_flat.proofs.Numbers.{eqb_apart}
+use Rattle.fx_io.proofs.Tests.{and_false}
+use Rattle.dg_flat.proofs.Firsts.{count_push}
 
 -- ---- drivers
 
@@ -37,7 +37,7 @@ here_ends : (line : NestedLine) (is_end : Target → Bool) → is_end line.targe
 here_ends line is_end is = ap (λ (b : Bool). b && is_end line.target) (eq-eqb line.to line.to refl) ∙ is
 
 elsewhere : (line : NestedLine) (place : ℕ) (is_end : Target → Bool) → (place ≡ line.to → ⊥) → ends_at place is_end line ≡ false
-elsewhere line place is_end apart = ap (λ (b : Bool). b && is_end line.target) (eqb_apart line.to place (λ e. apart (sym e)))
+elsewhere line place is_end apart = ap (λ (b : Bool). b && is_end line.target) (ne_eqb line.to place (λ e. apart (sym e)))
 
 no_end : (line : NestedLine) (place : ℕ) (is_end : Target → Bool) → is_end line.target ≡ false → ends_at place is_end line ≡ false
 no_end line place is_end not = ap (λ (b : Bool). eqb line.to place && b) not ∙ and_false (eqb line.to place)
@@ -69,7 +69,7 @@ port_more done line port cell lengths table target has cell_is is =
     is) where
       other : (r n : ℕ) → ((r ≡ line.to) × (n ≡ port) → ⊥) → ends_at r (is_port n) line ≡ false
       other r n apart = elim (cases_eq r line.to) [
-        | inl e ↦ no_end line r (is_port n) (ap (is_port n) target ∙ eqb_apart port n (λ same. apart (e, sym same)))
+        | inl e ↦ no_end line r (is_port n) (ap (is_port n) target ∙ ne_eqb port n (λ same. apart (e, sym same)))
         | inr ne ↦ elsewhere line r (is_port n) ne
       ]
 
@@ -79,7 +79,7 @@ port_past done line port lengths table target past is =
     rows_same lengths (port_drivers done) (port_drivers (done ++ line ∷ [])) table (λ r n its. driven_same done line r (is_port n) (other r n its)) is where
       other : (r n : ℕ) → HasCell lengths r n → ends_at r (is_port n) line ≡ false
       other r n its = elim (cases_eq r line.to) [
-        | inl e ↦ no_end line r (is_port n) (ap (is_port n) target ∙ eqb_apart port n (λ same. past (subst (λ (k : ℕ). HasCell lengths k port) e (subst (λ (k : ℕ). HasCell lengths r k) (sym same) its))))
+        | inl e ↦ no_end line r (is_port n) (ap (is_port n) target ∙ ne_eqb port n (λ same. past (subst (λ (k : ℕ). HasCell lengths k port) e (subst (λ (k : ℕ). HasCell lengths r k) (sym same) its))))
         | inr ne ↦ elsewhere line r (is_port n) ne
       ]
 
@@ -109,7 +109,7 @@ mark_at : (count : ℕ) (value : ℕ → Bool) (table : List Bool) (place : ℕ)
 mark_at count value table place lacks inside is =
     table_set count value (λ k. value k || (eqb place k && lacks)) table place (get_or table place false || lacks) inside
     (ap (λ (b : Bool). b || lacks) (is.at place false inside) ∙ sym (ap (λ (b : Bool). value place || (b && lacks)) (eq-eqb place place refl)))
-    (λ k below apart. or_false (value k) ∙ sym (ap (λ (b : Bool). value k || (b && lacks)) (eqb_apart place k (λ e. apart (sym e)))))
+    (λ k below apart. or_false (value k) ∙ sym (ap (λ (b : Bool). value k || (b && lacks)) (ne_eqb place k (λ e. apart (sym e)))))
     is
 
 pub marked_more : (blocks : List NestedBlock) (done : List NestedLine) (line : NestedLine) (count : ℕ) (table once : List Bool) → line.from < count → line.to < count →

@@ -8,12 +8,7 @@ use Rattle.std.proofs.lemmas.List.{take_more, append-nil}
 use Rattle.std.proofs.lemmas.List.Elements.{filter_map-append}
 use Rattle.dg_model.specs.declared.diagram.Edge.{Edge}
 use Rattle.dg_model.specs.Wired.{StandsBefore}
-
-trans : (a b d : Edge) → StandsBefore a b → StandsBefore b d → StandsBefore a d
-trans a b d (inl before) (inl later) = inl (omega (arith, before, later))
-trans a b d (inl before) (inr same) = inl (omega (arith, before, same.0))
-trans a b d (inr same) (inl later) = inl (omega (arith, same.0, later))
-trans a b d (inr same) (inr more) = inr (same.0 ∙ more.0, omega (arith, same.1, more.1))
+use Rattle.dg_flat.proofs.SomeFlat.{stands_on}
 
 next : (edges : List Edge) → IsNonDecreasingBy (λ (e : Edge). e.to) edges →
     ((k : ℕ) (d : Edge) → k + 1 < length edges → (get_or edges k d).to ≡ (get_or edges (k + 1) d).to → (get_or edges k d).to_port ≤ (get_or edges (k + 1) d).to_port) →
@@ -40,7 +35,7 @@ walk edges rise ties i (suc j) d before inside = go (cases_eq i j) (λ early. wa
 
   go : (i ≡ j) ⊎ (i ≡ j → ⊥) → (i < j → StandsBefore (get_or edges i d) (get_or edges j d)) → StandsBefore (get_or edges i d) (get_or edges (suc j) d)
   go (inl e) rest = subst (λ (k : ℕ). StandsBefore (get_or edges k d) (get_or edges (suc j) d)) (sym e) last
-  go (inr n) rest = trans (get_or edges i d) (get_or edges j d) (get_or edges (suc j) d) (rest (omega (arith, before, n))) last
+  go (inr n) rest = stands_on (get_or edges i d) (get_or edges j d) (get_or edges (suc j) d) (rest (omega (arith, before, n))) last
 
 pub in_order : (edges : List Edge) → IsNonDecreasingBy (λ (e : Edge). e.to) edges → Ties edges → AllPairs StandsBefore edges
 in_order edges rise ties = λ i j d before inside. walk edges rise ties i j d before inside

@@ -14,6 +14,7 @@ use Rattle.dg_flat.specs.Parts.{same_system, first_in, count_in, is_enable_port}
 use Rattle.dg_flat.specs.inner.Slots.{slot_of, system_of, first_of, HaveParents}
 use Rattle.dg_flat.specs.inner.Tables.{IsTable}
 use Rattle.dg_flat.proofs.Tables.{table_same, table_set}
+use Rattle.fx_io.proofs.Tests.{and_false}
 
 -- ---- positions and counts
 
@@ -41,10 +42,6 @@ pub count_push : {X : Type 0} (p : X → Bool) (xs : List X) (y : X) → count_b
 count_push p xs y = sum_by-append (λ x. cond (p x) 1 0) xs (y ∷ []) ∙ ap (λ (n : ℕ). count_by p xs + n) (zero-add (cond (p y) 1 0))
 
 -- ---- Systems
-
-pub and_false : (b : Bool) → (b && false) ≡ false
-and_false true = refl
-and_false false = refl
 
 pub same_self : (system : Option ℕ) → same_system system system ≡ true
 same_self None = refl

@@ -4,11 +4,8 @@ use Rattle.std.specs.Prelude.{count_by, slice_get}
 use Rattle.std.specs.List.{enumerate_from, filter_map, cons_option}
 use Rattle.std.specs.Option.{is_some}
 use Rattle.std.proofs.lemmas.Bool.{true≢false}
-use Rattle.std.proofs.lemmas.List.Sums.{sum_by-cons}
 use Rattle.std.proofs.lemmas.Option.{none-some, same_Some}
-
-pub count_cons : {X : Type 0} (p : X → Bool) (x : X) (xs : List X) → count_by p (x ∷ xs) ≡ cond (p x) 1 0 + count_by p xs
-count_cons p x xs = sum_by-cons (λ x. cond (p x) 1 0) x xs
+use Rattle.fx_io.proofs.Places.{all_cons, count_cons}
 
 -- what stands behind an item that is kept, or left out
 behind : {Y : Type 0} (o : Option Y) (b : Bool) → is_some o ≡ b → (rest : List Y) (place : ℕ) → slice_get (cons_option o rest) (cond b 1 0 + place) ≡ slice_get rest place
@@ -37,10 +34,6 @@ kept_at {X} {Y} h keeps agrees from (y ∷ xs) (suc k) x at is =
     ∙ behind (h (from, y)) (keeps y) (agrees from y) rest (count_by keeps (take k xs))
     ∙ kept_at h keeps agrees (from + 1) xs k x at is
     ∙ ap (λ (n : ℕ). h (n, x)) next
-
-pub all_cons : {Y : Type 0} (P : Y → Type 0) (y : Y) (ys : List Y) → P y → All P ys → All P (y ∷ ys)
-all_cons P y ys here all zero d inside = here
-all_cons P y ys here all (suc j) d inside = all j d (omega (arith, inside))
 
 -- what holds of each item that is kept holds of the list
 pub each_kept : {X Y : Type 0} (h : ℕ × X → Option Y) (P : Y → Type 0) (from : ℕ) (xs : List X) → ((k : ℕ) (x : X) (y : Y) → slice_get xs k ≡ Some x → h (from + k, x) ≡ Some y → P y) →

@@ -3,7 +3,7 @@ use Rattle.std.proofs.Common.{◌≡◌, ℕ, zero, suc, ◌<◌, ◌≤◌, ◌
 use Rattle.std.specs.Prelude.{count_by, slice_get}
 use Rattle.std.specs.List.{position_from}
 use Rattle.std.specs.Option.{is_some}
-use Rattle.std.proofs.lemmas.Bool.{cases_eq, eq-eqb}
+use Rattle.std.proofs.lemmas.Bool.{cases_eq, eq-eqb, ne_eqb}
 use Rattle.std.proofs.lemmas.Iterator.Adapters.{position_from-zero}
 use Rattle.dg_model.specs.declared.nested.Nested.{Nested}
 use Rattle.dg_model.specs.declared.nested.NestedBlock.{NestedBlock}
@@ -11,10 +11,9 @@ use Rattle.dg_flat.specs.declared.numbering.Side.{Side}
 use Rattle.dg_flat.specs.Parts.{same_system, count_in, first_in, is_number}
 use Rattle.dg_flat.specs.Rules.{KeepsWiring, AllNestedKeep}
 use Rattle.dg_flat.specs.inner.Numbering.{number_on}
-use Rattle.dg_flat.proofs.FlatList.{count_cons}
+use Rattle.fx_io.proofs.Places.{count_cons}
 use Rattle.dg_flat.proofs.Found.{ranged}
 use Rattle.dg_flat.proofs.Firsts.{same_system_eq}
-use Rattle.dg_flat.proofs.Numbers.{eqb_apart}
 use Rattle.dg_flat.proofs.Verdicts.{has_this, passed}
 
 -- ---- sums
@@ -117,7 +116,7 @@ one_block side system count block ranged = go (same_system block.parent system) 
       λ m. ap (λ (v : Bool). cond (v && is_number (suc m) (number_on side block.part)) 1 0) e ∙ ap (λ (o : Option ℕ). cond (is_number (suc m) o) 1 0) is in
       sum_single (λ m. cond (has_this side system (suc m) block) 1 0) count j (omega (arith, (ranged (suc j) (same_system_eq block.parent system e) is).1))
       (value j ∙ ap (λ (v : Bool). cond v 1 0) (eq-eqb (suc j) (suc j) refl))
-      (λ m below apart. value m ∙ ap (λ (v : Bool). cond v 1 0) (eqb_apart (suc j) (suc m) (λ s. apart (omega (arith, s)))))
+      (λ m below apart. value m ∙ ap (λ (v : Bool). cond v 1 0) (ne_eqb (suc j) (suc m) (λ s. apart (omega (arith, s)))))
       ∙ sym (ap (λ (v : Bool). cond (v && is_some (number_on side block.part)) 1 0) e ∙ ap (λ (o : Option ℕ). cond (is_some o) 1 0) is)
 
 -- the blocks of each number are together the ports

@@ -1,7 +1,7 @@
 -- The ports of flat blocks that each line joins.
-use Rattle.std.proofs.Common.{◌≡◌, ℕ, ◌<◌, ◌≤◌, Bool, false, ◌&&◌, IsSome, List, length, get_or, All, Option, Some, None, refl, sym, ap, subst, ◌∙◌, inl, inr, arith}
+use Rattle.std.proofs.Common.{◌≡◌, ℕ, ◌<◌, ◌≤◌, Bool, false, ◌&&◌, List, length, get_or, All, Option, Some, None, refl, sym, ap, subst, ◌∙◌, inl, inr, arith}
 use Rattle.std.specs.Prelude.{slice_get, option_map, MatchOption}
-use Rattle.std.proofs.lemmas.Bool.{and_parts, true≢false}
+use Rattle.std.proofs.lemmas.Bool.{and_parts}
 use Rattle.std.proofs.lemmas.List.Quantifiers.{position-Some}
 use Rattle.std.proofs.lemmas.Option.{slice_get_cases, none-some}
 use Rattle.dg_model.specs.declared.diagram.Block.{Block}
@@ -27,7 +27,9 @@ use Rattle.dg_flat.proofs.FromSound.{have_ends}
 use Rattle.dg_flat.proofs.Full.{each_number}
 use Rattle.dg_flat.proofs.Roles.{IsInKind, IsOutKind, InPorts, OutPorts, in_kind, out_kind, in_ports, out_ports}
 use Rattle.dg_flat.proofs.Verdicts.{has_this, passed}
-use Rattle.dg_flat.proofs.WiredParts.{all_get, part_enable, stands_at}
+use Rattle.fx_io.proofs.Places.{held as all_get}
+use Rattle.dg_flat.proofs.WiredParts.{part_enable, stands_at}
+use Rattle.fx_io.proofs.Tests.{some_there}
 
 -- ---- lines whose ends are there
 
@@ -230,10 +232,6 @@ pub record EndPort (nested : Nested) (line : NestedLine) : Type 0 where
   pub enters : Enters line place block.parent block.part port
   pub input : HasInput (flat_blocks nested.blocks) (port_of nested.blocks place port)
 
-some_of : (o : Option ℕ) → IsSome o → (k : ℕ) × (o ≡ Some k)
-some_of None is = absurd (true≢false (sym is))
-some_of (Some k) is = (k, refl)
-
 pub end_port : (nested : Nested) (line : NestedLine) → IsSound nested → AllNestedKeep nested KeepsWiring → GoodLine nested line → EndPort nested line
 end_port nested line sound keep good = go good.target.part refl line.target refl where
   has : (part : Part) (target : Target) → good.target.part ≡ part → line.target ≡ target → HasEnd nested.blocks line.to part target
@@ -280,7 +278,7 @@ end_port nested line sound keep good = go good.target.part refl line.target refl
       }
   go (Enable reset) e (Port port) t = let ends = has (Enable reset) (Port port) e t in absurd (omega (arith, ends))
   go part e ToEnable t =
-      let found = some_of (enable_port nested.blocks (Some line.to)) (has part ToEnable e t) in
+      let found = some_there (enable_port nested.blocks (Some line.to)) (has part ToEnable e t) in
       let inner = inner_control nested.blocks line.to found.0 found.1 in
       record {
         place = found.0;

@@ -1,6 +1,6 @@
 -- The first port of each number in each System, as one more block comes.
-use Rattle.std.proofs.Common.{◌≡◌, ℕ, ◌<◌, Bool, true, false, cond, ◌&&◌, eqb, List, [], ◌∷◌, ◌++◌, length, set, get_or, Option, Some, None, refl, sym, ap, subst, ◌∙◌, inl, inr, arith}
-use Rattle.std.proofs.lemmas.Bool.{cases_eq, eq-eqb, eqb-true, false_from_ne_true}
+use Rattle.std.proofs.Common.{◌≡◌, ℕ, ◌<◌, Bool, true, false, cond, ◌&&◌, List, [], ◌∷◌, ◌++◌, length, set, get_or, Option, Some, None, refl, sym, ap, subst, ◌∙◌, inl, inr, arith}
+use Rattle.std.proofs.lemmas.Bool.{cases_eq, eq-eqb, ne_eqb}
 use Rattle.dg_model.specs.declared.nested.NestedBlock.{NestedBlock}
 use Rattle.dg_flat.specs.declared.numbering.Numbering.{Numbering}
 use Rattle.dg_flat.specs.declared.numbering.Side.{Side}
@@ -9,10 +9,8 @@ use Rattle.dg_flat.specs.inner.Slots.{slot_of, system_of, first_of}
 use Rattle.dg_flat.specs.inner.Tables.{HasCell, IsRowTable, cell_at}
 use Rattle.dg_flat.specs.inner.Numbering.{number_on, count_at, numbered_at, IsNumbering, IsNumberedAt}
 use Rattle.dg_flat.proofs.Cells.{rows_set, rows_same}
-use Rattle.dg_flat.proofs.Firsts.{position_push, and_false, same_at, other_at, first_none}
-
-pub eqb_apart : (a b : ℕ) → (a ≡ b → ⊥) → eqb a b ≡ false
-eqb_apart a b apart = false_from_ne_true (eqb a b) (λ e. apart (eqb-true a b e))
+use Rattle.fx_io.proofs.Tests.{and_false}
+use Rattle.dg_flat.proofs.Firsts.{position_push, same_at, other_at, first_none}
 
 -- whether the block is such a port
 abbrev is_port_at : Side → ℕ → ℕ → NestedBlock → Bool
@@ -23,7 +21,7 @@ port_apart side row n number block is apart =
     let same = same_system block.parent (system_of row) in
     elim (cases_eq row (slot_of block.parent)) [
       | inl e ↦
-          let differs : is_number n (Some number) ≡ false = eqb_apart number n (λ s. apart (e, sym s)) in
+          let differs : is_number n (Some number) ≡ false = ne_eqb number n (λ s. apart (e, sym s)) in
           ap (λ (o : Option ℕ). same && is_number n o) is ∙ ap (λ (v : Bool). same && v) differs ∙ and_false same
       | inr ne ↦ ap (λ (v : Bool). v && is_number n (number_on side block.part)) (other_at block.parent row ne)
     ]

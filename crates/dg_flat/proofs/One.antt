@@ -13,6 +13,7 @@ use Rattle.dg_model.specs.declared.nested.Nested.{Nested}
 use Rattle.dg_model.specs.Wired.{IsWired, Joins, StandsBefore}
 use Rattle.dg_model.specs.Wires.{enters}
 use Rattle.dg_flat.specs.Flat.{IsFlatOf, edge_of}
+use Rattle.dg_model.proofs.Ports.{enters_self}
 
 -- ---- counts
 
@@ -51,9 +52,6 @@ same_edge edge other = (other.from == edge.from) && (other.from_port == edge.fro
 
 edge_self : (edge : Edge) → same_edge edge edge ≡ true
 edge_self edge = rw (eq-eqb edge.from edge.from refl, eq-eqb edge.from_port edge.from_port refl, eq-eqb edge.to edge.to refl, eq-eqb edge.to_port edge.to_port refl) refl
-
-enters_self : (edge : Edge) → enters edge.to edge.to_port edge ≡ true
-enters_self edge = rw (eq-eqb edge.to edge.to refl, eq-eqb edge.to_port edge.to_port refl) refl
 
 edge_with : (edge other : Edge) → same_edge edge other ≡ true → edge ≡ other
 edge_with edge other same =

@@ -26,7 +26,7 @@ use Rattle.dg_flat.proofs.Joining.{in_block_kind, out_block_kind}
 use Rattle.dg_flat.proofs.Lists.{each_given, pairs_given, length_kept, kept_kept, of_some}
 use Rattle.dg_flat.proofs.Readable.{row_kept}
 use Rattle.dg_flat.proofs.Roles.{IsInKind, IsOutKind}
-use Rattle.dg_flat.proofs.WiredParts.{all_get}
+use Rattle.fx_io.proofs.Places.{held}
 
 -- the number of a block in the root
 abbrev at_root : Option ℕ → Option ℕ → Option ℕ
@@ -96,7 +96,7 @@ number_is nested sound side place x at =
       go : (part : Part) → x.part ≡ part → of_some (of_block side) (flat_block nested.blocks place (control_of nested.blocks x.parent) x.part) ≡ root_number side x
       go (Plain block) e = by_part (Plain block) e
           (role_kept side (resets_under nested.blocks (control_of nested.blocks x.parent)) block.kind
-          ∙ ap (of_role side) (subst HasPlainRole e (all_get (λ b. HasPlainRole b.part) nested.blocks place x sound.plains at)) ∙ plain_none side
+          ∙ ap (of_role side) (subst HasPlainRole e (held (λ b. HasPlainRole b.part) nested.blocks place x sound.plains at)) ∙ plain_none side
           ∙ sym (ap (at_root x.parent) (plain_number side block) ∙ no_number x.parent))
       go (In block number) e = by_part (In block number) e
           (role_kept side (resets_under nested.blocks (control_of nested.blocks x.parent)) block.kind ∙ in_number_is side x.parent number block (in_block_kind nested place number x block sound at e))

@@ -7,7 +7,7 @@ use Rattle.std.proofs.lemmas.Bool.{cases_lt, cases_order}
 use Rattle.std.proofs.lemmas.List.Elements.{All-cons}
 use Rattle.std.proofs.lemmas.List.Kept.{AllPairs-cons}
 use Rattle.std.proofs.lemmas.List.Sorted.{All-permutation, IsPermutation-refl, IsPermutation-trans, IsPermutation-cons, IsPermutation-middle}
-use Rattle.std.proofs.lemmas.Option.{slice_get_cases, none-some}
+use Rattle.std.proofs.lemmas.Option.{slice_get_cases, none-some, same_Some}
 use Rattle.dg_model.specs.declared.diagram.Diagram.{Diagram}
 use Rattle.dg_model.specs.declared.diagram.Edge.{Edge}
 use Rattle.dg_model.specs.declared.fault.RuleFault.{RuleFault}
@@ -34,7 +34,7 @@ stands_either edge other = elim (cases_order edge.to other.to) [
   | inr differ ↦ elim differ [ inl less ↦ inl (inl less) | inr more ↦ inr (inl more) ]
 ]
 
-stands_on : (edge other later : Edge) → StandsBefore edge other → StandsBefore other later → StandsBefore edge later
+pub stands_on : (edge other later : Edge) → StandsBefore edge other → StandsBefore other later → StandsBefore edge later
 stands_on edge other later (inl less) (inl before) = inl (omega (arith, less, before))
 stands_on edge other later (inl less) (inr before) = inl (omega (arith, less, before.0))
 stands_on edge other later (inr at) (inl before) = inl (omega (arith, at.0, before))
@@ -77,9 +77,6 @@ in_order (x ∷ xs) = on (in_order xs) where
 
 -- ---- the two rules
 
-some_one : {A : Type 0} (a b : A) → ◌≡◌ {A = Option A} (Some a) (Some b) → a ≡ b
-some_one a b e = cc
-
 abbrev KeepTo : Nested → (Nested → ℕ → NestedBlock → Type 0) → ℕ → Type 0
 KeepTo nested Keeps count = (place : ℕ) (block : NestedBlock) → place < count → slice_get nested.blocks place ≡ Some block → Keeps nested place block
 
@@ -101,7 +98,7 @@ kept_below nested rule Keeps none (suc count) never = kept_below nested rule Kee
       place = count;
       block = b;
       there = is;
-      broken = λ keeps. never (one_more nested Keeps count kept (λ block there. subst (λ (x : NestedBlock). Keeps nested count x) (some_one b block (sym is ∙ there)) keeps));
+      broken = λ keeps. never (one_more nested Keeps count kept (λ block there. subst (λ (x : NestedBlock). Keeps nested count x) (same_Some b block (sym is ∙ there)) keeps));
       before = λ other o less there. kept other o less there;
       fault_is = refl;
     })

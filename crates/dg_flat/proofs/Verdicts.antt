@@ -1,9 +1,9 @@
 -- What the tables say of the rule of wiring.
-use Rattle.std.proofs.Common.{◌≡◌, ℕ, ◌<◌, ◌≤◌, Bool, true, false, ◌&&◌, ◌||◌, eqb, not, IsSome, List, length, min, get_or, Option, Some, None, refl, sym, ap, subst, ◌∙◌, inl, inr, ◌⊎◌, arith}
+use Rattle.std.proofs.Common.{◌≡◌, ℕ, ◌<◌, ◌≤◌, Bool, true, false, ◌&&◌, ◌||◌, eqb, not, IsSome, List, length, min, get_or, Option, Some, None, refl, sym, ap, subst, ◌∙◌, inl, inr, arith}
 use Rattle.std.specs.Prelude.{slice_get}
 use Rattle.std.specs.List.{list_any, position, position_or_len, Any}
 use Rattle.std.specs.Option.{is_some}
-use Rattle.std.proofs.lemmas.Bool.{cases_lt, eq-eqb, eqb-true, false_from_ne_true, true≢false, false≢true, lt-ltb}
+use Rattle.std.proofs.lemmas.Bool.{cases_lt, eq-eqb, eqb-true, false_from_ne_true, true≢false, false≢true, lt-ltb, or_parts, or_cases, and_parts}
 use Rattle.std.proofs.lemmas.Bool.Decides.{nat_tests}
 use Rattle.std.proofs.lemmas.List.Folds.{list_any_at, Any-from_list_any}
 use Rattle.std.proofs.lemmas.List.Quantifiers.{position-Some}
@@ -26,18 +26,6 @@ use Rattle.dg_flat.proofs.PortReads.{inputs_is, outputs_is}
 use Rattle.dg_flat.proofs.Firsts.{slot_back, same_system_eq, same_self}
 
 -- ---- tests
-
-or_no : (a b : Bool) → (a || b) ≡ false → (a ≡ false) × (b ≡ false)
-or_no true b is = absurd (true≢false is)
-or_no false b is = (refl, is)
-
-or_yes : (a b : Bool) → (a || b) ≡ true → (a ≡ true) ⊎ (b ≡ true)
-or_yes true b is = inl refl
-or_yes false b is = inr is
-
-and_yes : (a b : Bool) → (a && b) ≡ true → (a ≡ true) × (b ≡ true)
-and_yes true b is = (refl, is)
-and_yes false b is = absurd (true≢false (sym is))
 
 and_here : (a b : Bool) → a ≡ true → (a && b) ≡ false → b ≡ false
 and_here true b here is = is
@@ -79,12 +67,12 @@ pub meets : (nested : Nested) (place : ℕ) (block : NestedBlock) → slice_get 
 meets nested place block at none = record {
   leaving = λ k d inside from.
       let line : NestedLine = get_or nested.lines k d in
-      let parts = or_no (eqb line.from place && lacks_output nested.blocks line) (eqb line.to place && lacks_input nested.blocks line) (any_none (meets_none nested.blocks place) nested.lines none k d inside) in
+      let parts = or_parts (eqb line.from place && lacks_output nested.blocks line) (eqb line.to place && lacks_input nested.blocks line) (any_none (meets_none nested.blocks place) nested.lines none k d inside) in
       let not = and_here (eqb line.from place) (lacks_output nested.blocks line) (eq-eqb line.from place from) parts.0 in
       past_no line.from_port (outputs_of nested.blocks place block.part) (sym (outputs_from nested.blocks place block line at from) ∙ not);
   ending = λ k d inside to.
       let line : NestedLine = get_or nested.lines k d in
-      let parts = or_no (eqb line.from place && lacks_output nested.blocks line) (eqb line.to place && lacks_input nested.blocks line) (any_none (meets_none nested.blocks place) nested.lines none k d inside) in
+      let parts = or_parts (eqb line.from place && lacks_output nested.blocks line) (eqb line.to place && lacks_input nested.blocks line) (any_none (meets_none nested.blocks place) nested.lines none k d inside) in
       let has : lacks_end nested.blocks line.to line.target ≡ false = and_here (eqb line.to place) (lacks_input nested.blocks line) (eq-eqb line.to place to) parts.1 in
       end_no nested.blocks place block line.target at (ap (λ (p : ℕ). lacks_end nested.blocks p line.target) (sym to) ∙ has);
 }
@@ -93,15 +81,15 @@ pub meets_not : (nested : Nested) (place : ℕ) (block : NestedBlock) → slice_
 meets_not nested place block at some meets = go (Any-from_list_any (meets_none nested.blocks place) nested.lines some) where
   go : Any (λ line. meets_none nested.blocks place line ≡ true) nested.lines → ⊥
   go (k, line, inside, there, hit) =
-      elim (or_yes (eqb line.from place && lacks_output nested.blocks line) (eqb line.to place && lacks_input nested.blocks line) hit) [
+      elim (or_cases (eqb line.from place && lacks_output nested.blocks line) (eqb line.to place && lacks_input nested.blocks line) hit) [
         | inl e ↦
-            let both = and_yes (eqb line.from place) (lacks_output nested.blocks line) e in
+            let both = and_parts (eqb line.from place) (lacks_output nested.blocks line) e in
             let from = eqb-true line.from place both.0 in
             let has : (1 ≤ line.from_port) × (line.from_port ≤ outputs_of nested.blocks place block.part) =
             subst (λ (l : NestedLine). l.from ≡ place → (1 ≤ l.from_port) × (l.from_port ≤ outputs_of nested.blocks place block.part)) there (meets.leaving k line inside) from in
             past_yes line.from_port (outputs_of nested.blocks place block.part) (sym (outputs_from nested.blocks place block line at from) ∙ both.1) has
         | inr e ↦
-            let both = and_yes (eqb line.to place) (lacks_input nested.blocks line) e in
+            let both = and_parts (eqb line.to place) (lacks_input nested.blocks line) e in
             let to = eqb-true line.to place both.0 in
             let has : HasEnd nested.blocks place block.part line.target =
             subst (λ (l : NestedLine). l.to ≡ place → HasEnd nested.blocks place block.part l.target) there (meets.ending k line inside) to in
@@ -173,7 +161,7 @@ is_number_yes number (Some own) is = ap (λ (n : ℕ). Some n) (eqb-true own num
 
 pub passed : (side : Side) (system : Option ℕ) (number : ℕ) (block : NestedBlock) → has_this side system number block ≡ true → (block.parent ≡ system) × (number_on side block.part ≡ Some number)
 passed side system number block is =
-    let both = and_yes (same_system block.parent system) (is_number number (number_on side block.part)) is in
+    let both = and_parts (same_system block.parent system) (is_number number (number_on side block.part)) is in
     (same_system_eq block.parent system both.0, is_number_yes number (number_on side block.part) both.1)
 
 -- a port that is found at its own place is rightly numbered

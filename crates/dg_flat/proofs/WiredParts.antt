@@ -20,15 +20,8 @@ use Rattle.dg_flat.specs.Parts.{nested_path, is_subsystem, is_enable_port, enabl
 use Rattle.dg_flat.proofs.FlatList.{kept_at, each_kept}
 use Rattle.dg_flat.proofs.Found.{position_within}
 use Rattle.dg_flat.proofs.Readable.{placed_readable, control_readable}
-
-pub all_get : {X : Type 0} (P : X → Type 0) (xs : List X) (k : ℕ) (x : X) → All P xs → slice_get xs k ≡ Some x → P x
-all_get {X} P xs k x all at =
-    elim (slice_get_cases xs k).1 [
-      | inl has ↦ subst P (has.3 ∙ same_Some has.0 x (sym has.2 ∙ at)) (all k has.0 has.1)
-      | inr past ↦ absurd (none_some (sym past.1 ∙ at))
-    ] where
-      none_some : ◌≡◌ {A = Option X} None (Some x) → ⊥
-      none_some e = cc
+use Rattle.fx_io.proofs.Places.{held}
+use Rattle.fx_io.proofs.Tests.{right_true}
 
 -- ---- size
 
@@ -57,7 +50,7 @@ readable blocks place control (Enable reset) y has is = subst IsReadable (same_S
 pub flat_readable : (nested : Nested) → IsSound nested → All IsReadable (flat_blocks nested.blocks)
 flat_readable nested sound =
     each_kept (λ (place, block). flat_block nested.blocks place (control_of nested.blocks block.parent) block.part) IsReadable 0 nested.blocks
-    (λ k x y at is. readable nested.blocks (0 + k) (control_of nested.blocks x.parent) x.part y (all_get (λ block. HasReadable block.part) nested.blocks k x sound.blocks at) is)
+    (λ k x y at is. readable nested.blocks (0 + k) (control_of nested.blocks x.parent) x.part y (held (λ block. HasReadable block.part) nested.blocks k x sound.blocks at) is)
 
 -- ---- controls
 
@@ -71,10 +64,6 @@ part_enable (Out block number) is = absurd (true≢false (sym is))
 part_enable SubSystem is = absurd (true≢false (sym is))
 part_enable (Enable reset) is = (reset, refl)
 
-second_of : (a b : Bool) → (a && b) ≡ true → b ≡ true
-second_of true b is = is
-second_of false b is = absurd (true≢false (sym is))
-
 port_enables : (blocks : List NestedBlock) (system : Option ℕ) (place : ℕ) → enable_port blocks system ≡ Some place → IsEnablePort blocks place
 port_enables blocks system place found =
     elim (slice_get_cases blocks place).1 [
@@ -82,7 +71,7 @@ port_enables blocks system place found =
           let block = has.0 in
           let known = position-Some (λ b. same_system b.parent system && is_enable_port b.part) blocks place block found in
           let yes = sym (ap (λ (b : NestedBlock). same_system b.parent system && is_enable_port b.part) has.3) ∙ known.1 in
-          let such = part_enable block.part (second_of (same_system block.parent system) (is_enable_port block.part) yes) in
+          let such = part_enable block.part (right_true (same_system block.parent system) (is_enable_port block.part) yes) in
           (block, such.0, has.2, such.1)
       | inr past ↦ absurd (omega (arith, past.0, position_within (λ b. same_system b.parent system && is_enable_port b.part) blocks place found))
     ]

@@ -5,7 +5,7 @@ mod Elements
 mod Enabled
 mod EnabledAccumulator
 mod EnabledOutput
-mod Examples
+pub mod Examples
 mod FastToSlow
 mod Flattened
 mod GainTypes
@@ -16,13 +16,16 @@ mod Numbers
 mod ParamTypes
 mod PeriodRounds
 mod PlanFaults
+pub mod Ports
+pub mod Propagation
 mod RateAndLoop
 mod ReadableRows
-mod Roots
+pub mod Refused
+pub mod Roots
 mod Roundings
 mod SlowToFast
-mod SoundRows
-mod SumTerms
+pub mod SoundRows
+pub mod SumTerms
 mod SumTypes
 mod TypeFaults
 mod TypeOfSmall
@@ -30,6 +33,4 @@ mod TypeRows
 mod Vectors
 mod WidthRounds
 mod WiredRows
-pub mod Ports
-pub mod Propagation
 pub mod Written

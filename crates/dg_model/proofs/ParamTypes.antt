@@ -13,7 +13,8 @@ use Rattle.fx_type.specs.declared.decimal.Decimal.{Decimal}
 use Rattle.fx_type.specs.FxType.{InRange}
 use Rattle.fx_type.specs.Conversion.{Stores}
 use Rattle.fx_type.specs.StoredOf.{rounded_of, is_in_range}
-use Rattle.fx_type.proofs.Found.{Some-injective, Some≢None, one_answer, IsFirst, NonePasses, found, not_found}
+use Rattle.std.proofs.lemmas.Option.{same_Some}
+use Rattle.fx_type.proofs.Found.{Some≢None, one_answer, IsFirst, NonePasses, found, not_found}
 use Rattle.fx_type.proofs.Stored.{nearest_only, rounded_rounds, Decides-in_range}
 use Rattle.dg_model.specs.GainParam.{is_zero, is_param_signed, param_width, FitsAt, IsGreatestFit, IsInternalParam, fits_at, frac_down, greatest_fit_of, internal_param_of, ParamTypeIsOne}
 
@@ -71,7 +72,7 @@ module _ (value : List Decimal) (s : Bool) (w : ℕ) where
 
   by_search : (o : Option ℕ) → find (λ k. fits_at value s w (frac_down k)) (range_with_len 0 193) ≡ o → (frac : ℤ) → option_map frac_down o ≡ Some frac → IsGreatestFit value s w frac
   by_search None e frac m = absurd (Some≢None _ (sym m))
-  by_search (Some steps) e frac m = subst (IsGreatestFit value s w) (Some-injective (frac_down steps) frac m) (greatest_here steps (found (λ k. fits_at value s w (frac_down k)) 0 193 steps e))
+  by_search (Some steps) e frac m = subst (IsGreatestFit value s w) (same_Some (frac_down steps) frac m) (greatest_here steps (found (λ k. fits_at value s w (frac_down k)) 0 193 steps e))
 
   none_found : (o : Option ℕ) → find (λ k. fits_at value s w (frac_down k)) (range_with_len 0 193) ≡ o → option_map frac_down o ≡ None → (frac : ℤ) → ¬ IsGreatestFit value s w frac
   none_found None e m = nowhere (not_found (λ k. fits_at value s w (frac_down k)) 0 193 e)
@@ -81,7 +82,7 @@ module _ (value : List Decimal) (s : Bool) (w : ℕ) where
   greatest_one = one_answer (IsGreatestFit value s w) (greatest_fit_of value s w) (by_search _ refl) (none_found _ refl) greatest_only
 
   frac_one : (zero : Bool) (frac : ℤ) → MatchBool zero (frac ≡ pos 0) (IsGreatestFit value s w frac) ↔ (cond zero (Some (pos 0)) (greatest_fit_of value s w) ≡ Some frac)
-  frac_one true frac = ((λ e. ap Some (sym e)), (λ m. sym (Some-injective (pos 0) frac m)))
+  frac_one true frac = ((λ e. ap Some (sym e)), (λ m. sym (same_Some (pos 0) frac m)))
   frac_one false frac = greatest_one frac
 
 internal_one : (value : List Decimal) (input param : FxType) → IsInternalParam value input param ↔ (internal_param_of value input ≡ Some param)
@@ -102,10 +103,10 @@ internal_one value input param = (
     by_frac : (o : Option ℤ) → cond (list_all is_zero value) (Some (pos 0)) (greatest_fit_of value (is_param_signed value input) (param_width value input)) ≡ o
         → option_map (Num (is_param_signed value input) (param_width value input)) o ≡ Some param → IsInternalParam value input param
     by_frac None e m = absurd (Some≢None _ (sym m))
-    by_frac (Some f) e m = (f, sym (Some-injective _ param m), (frac_one value (is_param_signed value input) (param_width value input) (list_all is_zero value) f).1 e)
+    by_frac (Some f) e m = (f, sym (same_Some _ param m), (frac_one value (is_param_signed value input) (param_width value input) (list_all is_zero value) f).1 e)
 
 pub param_type_one : ParamTypeIsOne
-param_type_one value (Fixed type) input param = ((λ e. ap Some (sym e)), (λ m. sym (Some-injective type param m)))
+param_type_one value (Fixed type) input param = ((λ e. ap Some (sym e)), (λ m. sym (same_Some type param m)))
 param_type_one value Internal input param = internal_one value input param
-param_type_one value SameFirst input param = ((λ e. ap Some (sym e)), (λ m. sym (Some-injective input param m)))
+param_type_one value SameFirst input param = ((λ e. ap Some (sym e)), (λ m. sym (same_Some input param m)))
 param_type_one value Auto input param = ((λ h. absurd h), (λ m. absurd (Some≢None param (sym m))))

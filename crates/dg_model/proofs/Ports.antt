@@ -145,11 +145,11 @@ counted_into to port (x ∷ xs) = sum_by-cons (λ (e : Edge). cond (enters to po
 all_found : (f g : ℕ → Option Edge) (from n : ℕ) → ((k : ℕ) → f k ≡ g k) → map f (numbers_from from n) ≡ map g (numbers_from from n)
 all_found f g from n same = mapped_numbers f g from n (λ k above. same k)
 
-found : (o : Option Block) (P : Block → Type 0) → MatchOption o ⊥ P → (block : Block) × (o ≡ Some block) × P block
+pub found : (o : Option Block) (P : Block → Type 0) → MatchOption o ⊥ P → (block : Block) × (o ≡ Some block) × P block
 found None P is = absurd is
 found (Some block) P is = (block, refl, is)
 
-joins : (diagram : Diagram) (k : ℕ) (edge : Edge) → IsWired diagram → slice_get diagram.edges k ≡ Some edge → Joins diagram.blocks edge
+pub joins : (diagram : Diagram) (k : ℕ) (edge : Edge) → IsWired diagram → slice_get diagram.edges k ≡ Some edge → Joins diagram.blocks edge
 joins diagram k edge wired at = subst (Joins diagram.blocks) (get_or_from_slice_get diagram.edges k edge edge at) (wired.edges k edge (slice_get_within diagram.edges k edge at))
 
 -- the drivers of a block's ports in order are the edges into it
@@ -166,7 +166,7 @@ drivers_are_edges diagram place block wired at =
     (into_from (λ (edge : Edge). edge.to_port < 1 + block.inputs) place diagram.edges (λ j edge here same. omega (arith, (ports j edge here same).1)))
     (λ port low under. sym (counted_into place port diagram.edges) ∙ wired.driven place port block at low (omega arith))
 
-map_twice : {A B C : Type 0} (f : A → B) (g : B → C) (xs : List A) → map g (map f xs) ≡ map (λ (x : A). g (f x)) xs
+pub map_twice : {A B C : Type 0} (f : A → B) (g : B → C) (xs : List A) → map g (map f xs) ≡ map (λ (x : A). g (f x)) xs
 map_twice f g [] = refl
 map_twice f g (x ∷ xs) = let tail = map_twice f g xs in cc
 
@@ -178,3 +178,6 @@ inputs_are_sources {A} other of_port diagram place block wired at =
     sym (map_twice (driver_of diagram place) show (numbers_from 1 block.inputs))
     ∙ ap (map show) (drivers_are_edges diagram place block wired at)
     ∙ map_twice {B = Option Edge} (λ edge. Some edge) show (edges_into diagram place)
+
+pub enters_self : (edge : Edge) → enters edge.to edge.to_port edge ≡ true
+enters_self edge = rw (eq-eqb edge.to edge.to refl, eq-eqb edge.to_port edge.to_port refl) refl

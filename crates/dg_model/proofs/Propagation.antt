@@ -1,9 +1,9 @@
 -- What stands at a block in the lists that propagation gives. Crates above may cite the lengths.
-use Rattle.std.proofs.Common.{◌≡◌, ℕ, zero, suc, ◌+◌, ◌<◌, length, map, get_or, None, Some, refl, sym, ap, subst, ◌∙◌, arith}
+use Rattle.std.proofs.Common.{◌≡◌, ℕ, ◌+◌, ◌<◌, length, map, get_or, None, Some, sym, ap, subst, ◌∙◌, arith}
 use Rattle.std.proofs.lemmas.List.{get_or-map, length-map}
 use Rattle.std.proofs.lemmas.Option.{get_or_from_slice_get}
 use Rattle.dg_waves.specs.Rounds.{numbers_from}
-use Rattle.dg_waves.proofs.Waved.{length_after, mapped_at}
+use Rattle.dg_waves.proofs.Waved.{length_after, mapped_at, length_numbers}
 use Rattle.fx_type.specs.declared.kind.FxType.{FxType}
 use Rattle.dg_model.specs.declared.diagram.Diagram.{Diagram}
 use Rattle.dg_model.specs.declared.diagram.Block.{Block}
@@ -23,14 +23,10 @@ length_types diagram =
     length_after (next_types diagram) (length diagram.blocks) (map (λ (block : Block). explicit_type block.result) diagram.blocks)
     ∙ length-map diagram.blocks (λ (block : Block). explicit_type block.result)
 
-length_numbers_from : (k n : ℕ) → length (numbers_from k n) ≡ n
-length_numbers_from k zero = refl
-length_numbers_from k (suc n) = ap (λ m. suc m) (length_numbers_from (suc k) n)
-
 pub length_params : (diagram : Diagram) → length (params_of diagram) ≡ length diagram.blocks
 length_params diagram =
     length-map (numbers_from 0 (length diagram.blocks)) (λ place. or_logical (param_type_at diagram (types_of diagram) place))
-    ∙ length_numbers_from 0 (length diagram.blocks)
+    ∙ length_numbers 0 (length diagram.blocks)
 
 -- the type of a block stands at its place
 pub type_stands : (diagram : Diagram) (place : ℕ) (none : FxType) → place < length diagram.blocks

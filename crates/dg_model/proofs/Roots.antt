@@ -1,4 +1,4 @@
--- The list of root elements has each element of each root port of a wired diagram at one place, and no other.
+-- The list of root elements has each element of each root port of a wired diagram at one place, and no other. Crates above may cite this file.
 use Rattle.std.proofs.Common.{◌≡◌, ℕ, zero, suc, ◌+◌, ◌<◌, ◌≤◌, Bool, true, false, true≢false, List, [], ◌∷◌, ◌++◌, length, map, cond, Some, None, Option, eqb, ltb, get_or, refl, sym, ap, subst, ◌∙◌, ◌⊎◌, inl, inr, arith}
 use Rattle.std.specs.Prelude.{⊤, find, slice_get, AllPairs, filter_map, ◌==◌, ◌&&◌, ◌≢◌}
 use Rattle.std.specs.List.{flat_map, position, position_or_len, cons_option}
@@ -63,7 +63,7 @@ in_filter_map {A} {B} h x y (z ∷ xs) (suc k) is gives = go (h z) (in_filter_ma
 -- ---- one block has a number
 
 -- two with one number can't stand at two places
-apart : {A : Type 0} (h : A → Option ℕ) (xs : List A) → AllPairs (λ (number other : ℕ). number ≢ other) (filter_map h xs) → (i j : ℕ) (x y : A) (n : ℕ) → i < j → slice_get xs i ≡ Some x → slice_get xs j ≡ Some y →
+pub apart : {A : Type 0} (h : A → Option ℕ) (xs : List A) → AllPairs (λ (number other : ℕ). number ≢ other) (filter_map h xs) → (i j : ℕ) (x y : A) (n : ℕ) → i < j → slice_get xs i ≡ Some x → slice_get xs j ≡ Some y →
     h x ≡ Some n → h y ≡ Some n → ⊥
 apart h [] pairs i j x y n before at_i at_j gives_x gives_y = none-some x at_i
 apart h (z ∷ xs) pairs i zero x y n before at_i at_j gives_x gives_y = absurd (omega (arith, before))
@@ -77,15 +77,15 @@ apart {A} h (z ∷ xs) pairs (suc i) (suc j) x y n before at_i at_j gives_x give
   go None all = all
   go (Some other) all = λ k l d less inside. all (suc k) (suc l) d (omega (arith, less)) (omega (arith, inside))
 
-is_number_true : (number : ℕ) (o : Option ℕ) → is_number number o ≡ true → o ≡ Some number
+pub is_number_true : (number : ℕ) (o : Option ℕ) → is_number number o ≡ true → o ≡ Some number
 is_number_true number None is = absurd (cc)
 is_number_true number (Some own) is = ap (λ n. Some n) (eqb-true own number is)
 
-number_is : (number : ℕ) (o : Option ℕ) → o ≡ Some number → is_number number o ≡ true
+pub number_is : (number : ℕ) (o : Option ℕ) → o ≡ Some number → is_number number o ≡ true
 number_is number o is = subst (λ o. is_number number o ≡ true) (sym is) (eq-eqb number number refl)
 
 -- the first block of a number is the only one
-first_is : (number_of : Role → Option ℕ) (blocks : List Block) → AllPairs (λ (number other : ℕ). number ≢ other) (filter_map (number_in number_of) blocks) → (block : ℕ) (b : Block) (number : ℕ) →
+pub first_is : (number_of : Role → Option ℕ) (blocks : List Block) → AllPairs (λ (number other : ℕ). number ≢ other) (filter_map (number_in number_of) blocks) → (block : ℕ) (b : Block) (number : ℕ) →
     slice_get blocks block ≡ Some b → number_in number_of b ≡ Some number → position (has_number number_of number) blocks ≡ Some block
 first_is number_of blocks pairs block b number at is =
     let inside : block < length blocks = slice_get_within blocks block b at in

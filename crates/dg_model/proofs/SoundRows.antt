@@ -1,4 +1,4 @@
--- Nested blocks and lines that are well formed, and what breaks each part of them.
+-- Nested blocks and lines that are well formed, and what breaks each part of them. Crates above may cite this file.
 use Rattle.std.specs.Option.{option_map}
 use Rattle.dg_waves.specs.Rounds.{numbers_from}
 use Rattle.std.proofs.Common.{◌≡◌, ◌+◌, ◌<◌, ◌∙◌, map, ℕ, zero, suc, ◌≤◌, List, [], ◌∷◌, get_or, None, Some, Option, false, true, refl, sym, ap, subst, arith}
@@ -187,7 +187,7 @@ parent_of (suc k) = Some k
 abbrev chained : ℕ → NestedBlock
 chained k = nested_block k (parent_of k) SubSystem
 
-number_at : (from n k : ℕ) → k < n → slice_get (numbers_from from n) k ≡ Some (from + k)
+pub number_at : (from n k : ℕ) → k < n → slice_get (numbers_from from n) k ≡ Some (from + k)
 number_at from zero k below = absurd (omega (arith, below))
 number_at from (suc n) zero below = let e : from ≡ from + 0 = omega arith in ap (λ m. Some m) e
 number_at from (suc n) (suc k) below = let e : suc from + k ≡ from + suc k = omega arith in number_at (suc from) n k (omega (arith, below)) ∙ ap (λ m. Some m) e

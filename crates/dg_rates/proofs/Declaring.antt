@@ -1,4 +1,4 @@
--- Declared periods as whole multiples of the base period.
+-- Declared periods as whole multiples of the base period. Crates above may cite this file.
 use Rattle.std.proofs.Common.{◌≡◌, ℕ, ◌+◌, ◌/◌, ◌<◌, [], ◌∷◌, ◌++◌, map, take, get_or, Option, Some, refl, sym, ap, subst, ◌∙◌}
 use Rattle.std.specs.Prelude.{All, slice_get}
 use Rattle.std.proofs.lemmas.List.{map-append, take_more}
@@ -28,7 +28,7 @@ first_is diagram base kind NeverChanges same = refl
 first_is diagram base kind (Every period) same = ap (λ b. Some (Some (units_of period / b))) same
 
 -- a period that a kind may declare is above 0
-declared_above : (kind : Kind) (period : Decimal) → (row_of kind).parameters → (row_of kind).timing.may_be (Every period) → IsPeriod period
+pub declared_above : (kind : Kind) (period : Decimal) → (row_of kind).parameters → (row_of kind).timing.may_be (Every period) → IsPeriod period
 declared_above (Inport number width) period has is = is
 declared_above (Outport number) period has is = is
 declared_above (Constant value) period has is = is

@@ -1,7 +1,7 @@
 mod Agreed
 pub mod Aligning
-mod Declaring
+pub mod Declaring
 mod Keeping
 mod Linking
-mod Stepping
+pub mod Stepping
 mod Tying

@@ -1,18 +1,18 @@
 -- The code's step of periods is that of the diagram.
-use Rattle.std.proofs.Common.{◌≡◌, ℕ, zero, suc, ◌<◌, Bool, false, List, [], ◌∷◌, length, Some, None, Option, get_or, refl, sym, ap, ◌∙◌, arith}
+use Rattle.std.proofs.Common.{◌≡◌, ℕ, zero, suc, Bool, false, List, [], ◌∷◌, length, Some, None, Option, get_or, refl, sym, ap, ◌∙◌}
 use Rattle.std.specs.Prelude.{slice_get}
-use Rattle.std.proofs.lemmas.List.{length-map}
 use Rattle.std.proofs.lemmas.Option.{none-some, same_Some}
 use Rattle.dg_waves.specs.Rounds.{after_rounds}
-use Rattle.dg_waves.proofs.Waved.{length_after, rounds_agree}
+use Rattle.dg_waves.proofs.Waved.{rounds_agree}
 use Rattle.dg_model.specs.declared.diagram.Diagram.{Diagram}
 use Rattle.dg_model.specs.declared.diagram.Block.{Block}
 use Rattle.dg_model.specs.declared.row.Inherited.{Inherited}
 use Rattle.dg_model.specs.Library.{row_of}
-use Rattle.dg_model.specs.Periods.{Periods, first_period, first_periods, known_at, known_or, least_finite, next_periods, or_one, period_of_next, periods_after, periods_of, sources_of, taken_period}
+use Rattle.dg_model.specs.Periods.{Periods, known_at, known_or, least_finite, next_periods, period_of_next, sources_of, taken_period}
 use Rattle.dg_rates.specs.inner.Links.{AreSources}
 use Rattle.fx_io.specs.Rows.{row_at}
 use Rattle.dg_rates.specs.inner.Steps.{all_rests, is_of_sources, known_of, next_known, taken_by}
+use Rattle.fx_io.proofs.Places.{get_some}
 
 taken_is : (inherits : Inherited) (sources : Periods) (least : Option ℕ) → least_finite sources ≡ least → taken_by (is_of_sources inherits) sources ≡ taken_period inherits sources
 taken_is Inherited.OfSources sources None e = rw e refl
@@ -23,11 +23,6 @@ taken_is Inherited.Base sources None e = rw e refl
 taken_is Inherited.Base sources (Some period) e = rw e refl
 taken_is Inherited.Unchanging sources None e = rw e refl
 taken_is Inherited.Unchanging sources (Some period) e = rw e refl
-
-pub block_at : (blocks : List Block) (k : ℕ) → k < length blocks → (block : Block) × (slice_get blocks k ≡ Some block)
-block_at [] k inside = absurd (omega arith)
-block_at (block ∷ blocks) zero inside = (block, refl)
-block_at (block ∷ blocks) (suc k) inside = block_at blocks k (omega arith)
 
 rests_at : (blocks : List Block) (k : ℕ) (block : Block) → slice_get blocks k ≡ Some block → get_or (all_rests blocks) k false ≡ is_of_sources (row_of block.kind).timing.inherits
 rests_at [] k block at = absurd (none-some block at)
@@ -48,11 +43,5 @@ pub rounds_are : (diagram : Diagram) (rests : List Bool) (sources : List (List �
 rounds_are diagram rests sources n start same are size =
     ap (λ rs. after_rounds (next_known rs sources) n start) same
     ∙ rounds_agree (next_known (all_rests diagram.blocks) sources) (next_periods diagram) (length diagram.blocks) (λ values k values_size inside.
-    let block = block_at diagram.blocks k inside in
+    let block = get_some diagram.blocks k inside in
     step_at diagram sources values k block.0 are block.1) n start size
-
-pub length_periods : (diagram : Diagram) → length (periods_of diagram) ≡ length diagram.blocks
-length_periods diagram =
-    length-map (periods_after diagram (length diagram.blocks)) or_one
-    ∙ length_after (next_periods diagram) (length diagram.blocks) (first_periods diagram)
-    ∙ length-map diagram.blocks (λ block. first_period diagram block.kind block.period)

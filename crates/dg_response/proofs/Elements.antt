@@ -8,7 +8,8 @@ use Rattle.dg_model.specs.RootElements.{RootElement, root_element}
 use Rattle.dg_model.specs.Signals.{Attributes}
 use Rattle.dg_response.specs.Response.{column_of}
 use Rattle.dg_response.specs.inner.Columns.{column_at}
-use Rattle.dg_response.proofs.Lists.{has-place, unmapped}
+use Rattle.fx_io.proofs.Places.{there_within}
+use Rattle.dg_response.proofs.Lists.{unmapped}
 use Rattle.dg_tables.specs.Listing.{AreBlocksOf}
 
 column-is : (attributes : Attributes) (e : RootElement) → e ≡ root_element attributes e.number e.block e.element → column_at attributes e.block ≡ column_of e
@@ -28,7 +29,7 @@ module _ (number_of : Role → Option ℕ) (width_of : ℕ → ℕ) (diagram : D
   blocks-there place block at =
       let e = unmapped (λ (e : RootElement). e.block) es place block at in
       let of = are.elements_of place e.0 e.1 in
-      subst (λ (n : ℕ). n < length diagram.blocks) (sym e.2) (has-place diagram.blocks e.0.block of.0 of.1)
+      subst (λ (n : ℕ). n < length diagram.blocks) (sym e.2) (there_within diagram.blocks e.0.block of.0 of.1)
 
 module _ (number_of : Role → Option ℕ) (width_of : ℕ → ℕ) (diagram : Diagram) (attributes : Attributes) (es : List RootElement) (are : AreRootElements number_of width_of diagram attributes es)
     (blocks : List ℕ) (of : AreBlocksOf es blocks) where

@@ -1,5 +1,5 @@
 -- Parts of lists, place by place.
-use Rattle.std.proofs.Common.{◌≡◌, ◌<◌, ◌+◌, ℕ, zero, suc, List, [], ◌∷◌, length, map, take, drop, slice_get, slice_index_or, Some, ℤ, pos, refl, sym, subst, ap, ap₂, arith}
+use Rattle.std.proofs.Common.{◌≡◌, ◌<◌, ◌+◌, ℕ, zero, suc, List, [], ◌∷◌, length, map, take, drop, slice_get, slice_index_or, Some, ℤ, pos, refl, sym, subst, ap₂, arith}
 
 -- an item of a part
 pub index-part : (xs : List ℤ) (start count place : ℕ) → place < count → slice_index_or (take count (drop start xs)) place (pos 0) ≡ slice_index_or xs (start + place) (pos 0)
@@ -24,16 +24,6 @@ by-places f [] [] same each = refl
 by-places f [] (v ∷ out) same each = absurd (omega (arith, same))
 by-places f (e ∷ es) [] same each = absurd (omega (arith, same))
 by-places f (e ∷ es) (v ∷ out) same each = ap₂ (λ (x : ℤ) (rest : List ℤ). x ∷ rest) (each 0 e refl) (by-places f es out (omega (arith, same)) (λ place other there. each (suc place) other there))
-
-pub has-place : {A : Type 0} (xs : List A) (k : ℕ) (x : A) → slice_get xs k ≡ Some x → k < length xs
-has-place [] k x e = absurd (cc e)
-has-place (y ∷ xs) zero x e = omega arith
-has-place (y ∷ xs) (suc k) x e = let h = has-place xs k x e in omega (arith, h)
-
-pub mapped : {A B : Type 0} (f : A → B) (xs : List A) (k : ℕ) (x : A) → slice_get xs k ≡ Some x → slice_get (map f xs) k ≡ Some (f x)
-mapped f [] k x e = absurd (cc e)
-mapped f (y ∷ xs) zero x e = ap (λ z. Some (f z)) (cc e)
-mapped f (y ∷ xs) (suc k) x e = mapped f xs k x e
 
 -- the other way
 pub unmapped : {A B : Type 0} (f : A → B) (xs : List A) (k : ℕ) (y : B) → slice_get (map f xs) k ≡ Some y → (x : A) × (slice_get xs k ≡ Some x) × (y ≡ f x)

@@ -16,7 +16,8 @@ use Rattle.dg_response.specs.declared.responding.Responding.{Responding}
 use Rattle.dg_response.specs.Laws.{SomeResponse}
 use Rattle.dg_response.specs.Responding.{IsBefore, IsRowAt, SolvesRows, row_of}
 use Rattle.dg_response.specs.Response.{column_of, input_columns, output_columns, number_in, stimulus_of, shown}
-use Rattle.dg_response.proofs.Lists.{by-places, has-place, index-part}
+use Rattle.fx_io.proofs.Places.{there_within}
+use Rattle.dg_response.proofs.Lists.{by-places, index-part}
 use Rattle.dg_response.proofs.Stimulated.{are-columns}
 
 -- ---- rows of numbers are a stimulus, and have a response
@@ -44,7 +45,7 @@ module _ (checked : CheckedDiagram) (rows : Rows) (is : IsChecked checked.diagra
   row-is : (t : ℕ) → IsRowOf checked.diagram attributes (stimulus_of checked.diagram rows) t (numbers_at t)
   row-is t = λ place e there hits.
       let elements = root_inputs checked.diagram attributes in
-      let within : place < rows.columns = subst (λ n. place < n) (sym (columns ∙ length-map elements column_of)) (has-place elements place e there) in
+      let within : place < rows.columns = subst (λ n. place < n) (sym (columns ∙ length-map elements column_of)) (there_within elements place e there) in
       index-part rows.cells (t * rows.columns) rows.columns place within ∙ sym (kept checked.diagram attributes (number_in rows) place e t is.wired there)
 
   module _ (before : Responding) (t : ℕ) (below : t < rows.lines) (stood : IsBefore checked rows before t) where

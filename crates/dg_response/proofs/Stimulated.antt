@@ -11,7 +11,8 @@ use Rattle.dg_model.specs.Attributes.{attributes_of}
 use Rattle.dg_model.specs.Hits.{Hits}
 use Rattle.dg_model.specs.RootElements.{AreColumns, root_inputs}
 use Rattle.dg_response.specs.Response.{column_of, input_columns, number_in}
-use Rattle.dg_response.proofs.Lists.{has-place, index-there, mapped}
+use Rattle.fx_io.proofs.Places.{there_within, there_map}
+use Rattle.dg_response.proofs.Lists.{index-there}
 
 hit-is : (period : Option ℕ) (t : ℕ) → Hits period t → hits_at (unwrap_or period 1) t ≡ true
 hit-is None t hits = ap (λ (n : ℕ). (n % 1) == 0) hits
@@ -40,8 +41,8 @@ pub are-columns : (diagram : Diagram) (rows : Rows) → rows.columns ≡ length 
     → AreColumns (root_inputs diagram (attributes_of diagram)) (number_in rows) rows.lines
 are-columns diagram rows many fits place e t there below hits =
     let elements = root_inputs diagram (attributes_of diagram) in
-    let within : place < rows.columns = subst (λ n. place < n) (sym (many ∙ length-map elements column_of)) (has-place elements place e there) in
+    let within : place < rows.columns = subst (λ n. place < n) (sym (many ∙ length-map elements column_of)) (there_within elements place e there) in
     let cell = index-there rows.cells (t * rows.columns + place) (place-below rows.lines rows.columns t place (length rows.cells) below within rows.full) in
-    let is = fits t place (column_of e) (number_in rows place t) below (mapped column_of elements place e there) cell in
+    let is = fits t place (column_of e) (number_in rows place t) below (there_map column_of elements place e there) cell in
     let range = in-range (lowest_of e.type) (highest_of e.type) (number_in rows place t) (is.at_hit (hit-is e.period t hits)) in
     record { low = range.0; high = range.1 }

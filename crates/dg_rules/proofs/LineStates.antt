@@ -2,7 +2,7 @@
 use Rattle.std.proofs.Common.{◌≡◌, ℕ, suc, ◌<◌, ◌≤◌, ◌⊎◌, ⊎_elim, Bool, true, false, List, length, Some, None, refl, sym, ap, subst, ◌∙◌, true≢false, inl, inr, arith}
 use Rattle.dg_model.specs.Library.{row_of}
 use Rattle.std.specs.Prelude.{◌↔◌, is_some, ◌&&◌, Option, position, replicate, slice_get, slice_set, slice_index_or}
-use Rattle.std.proofs.lemmas.Bool.{cases_lt, cases_eq}
+use Rattle.std.proofs.lemmas.Bool.{cases_lt, cases_eq, and_parts}
 use Rattle.std.proofs.lemmas.Grind.{get_or-set_at}
 use Rattle.std.proofs.lemmas.List.{get_or-set_other, length-set, length-replicate}
 use Rattle.std.proofs.lemmas.List.Elements.{All-replicate}
@@ -23,17 +23,12 @@ use Rattle.dg_rules.specs.declared.standing.Standing.TheVariants.{Unseen, Found,
 use Rattle.dg_rules.specs.inner.Standings.{HasPath, IsFoundBefore, Stands, next_standing, AreStandings, looked_at}
 use Rattle.dg_rules.proofs.PlanLines.{has, found, missing, within, one_line}
 
-both : (a b : Bool) → (a && b) ≡ true → (a ≡ true) × (b ≡ true)
-both true true e = (refl, refl)
-both true false e = absurd (true≢false (sym e))
-both false b e = absurd (true≢false (sym e))
-
 -- registers may stand behind a block exactly where its kind and its period allow it
 pub may_decides : (attributes : Attributes) (place : ℕ) (block : Block) (kind hits : Bool)
     → kind ≡ (row_of block.kind).hardware.pipelines → hits ≡ is_some (attributes.period_at place)
     → ((kind && hits) ≡ true) ↔ MayBePipelined attributes place block
 may_decides attributes place block kind hits kind_is hits_is = (
-  λ e. let t = both kind hits e in record { kind = sym kind_is ∙ t.0; period = sym hits_is ∙ t.1 },
+  λ e. let t = and_parts kind hits e in record { kind = sym kind_is ∙ t.0; period = sym hits_is ∙ t.1 },
   λ may. rw (kind_is, may.kind, hits_is, may.period) refl,
 )
 

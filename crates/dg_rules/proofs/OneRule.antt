@@ -1,5 +1,5 @@
 -- The first broken rule of dimensions, types, rates and loops is one.
-use Rattle.std.proofs.Common.{◌≡◌, ◌≢◌, ℕ, ◌⊎◌, inl, inr, [], ◌∷◌, Option, Some, sym, ◌∙◌, ap, ap₂, arith}
+use Rattle.std.proofs.Common.{◌≡◌, ◌≢◌, ℕ, ◌⊎◌, inl, inr, [], ◌∷◌, sym, ◌∙◌, ap, ap₂, arith}
 use Rattle.std.specs.Prelude.{slice_get}
 use Rattle.std.proofs.lemmas.Bool.{cases_order}
 use Rattle.dg_model.specs.declared.diagram.Block.{Block}
@@ -17,16 +17,14 @@ use Rattle.dg_model.specs.Rate.{KeepsRates, BreaksRate}
 use Rattle.dg_model.specs.Signals.{Attributes}
 use Rattle.dg_model.specs.TypeRule.{KeepsTypes, BreaksType}
 use Rattle.dg_rules.specs.Laws.{told_first}
-
-some_one : {A : Type 0} (a b : A) → ◌≡◌ {A = Option A} (Some a) (Some b) → a ≡ b
-some_one a b e = cc
+use Rattle.std.proofs.lemmas.Option.{same_Some}
 
 -- ---- a part of a rule
 
 one_at : (diagram : Diagram) (rule : Rule) (Keeps : ℕ → Block → Type 0) (shown : ℕ → Block → Shown) (one other : RuleFault) → BreaksAt diagram rule Keeps shown one → BreaksAt diagram rule Keeps shown other → one ≡ other
 one_at diagram rule Keeps shown one other is too = elim (cases_order is.place too.place) [
   | inl same ↦
-      let block : is.block ≡ too.block = some_one is.block too.block (sym is.first.there ∙ ap (slice_get diagram.blocks) same ∙ too.first.there) in
+      let block : is.block ≡ too.block = same_Some is.block too.block (sym is.first.there ∙ ap (slice_get diagram.blocks) same ∙ too.first.there) in
       is.fault_is ∙ ap₂ (λ (place : ℕ) (b : Block). fault_of rule (path_of diagram place) (shown place b)) same block ∙ sym too.fault_is
   | inr differ ↦ elim differ [
     | inl less ↦ absurd (is.first.broken (too.first.before is.place is.block less is.first.there))

@@ -14,15 +14,7 @@ use Rattle.dg_model.specs.PlanNames.{count_of}
 use Rattle.dg_model.specs.PlanRange.{AreDifferent}
 use Rattle.dg_rules.specs.inner.Lines.{AreNumbered, number_of}
 use Rattle.dg_rules.specs.inner.Standings.{count_in}
-
-same_path : (a b : List ℕ) → a ≡ b → bytes_eq a b ≡ true
-same_path a b e = (bytes_eq-Decides a b).1 e
-
-other_path : (a b : List ℕ) → (a ≡ b → ⊥) → bytes_eq a b ≡ false
-other_path a b ne = by (bytes_eq a b) refl where
-  by : (t : Bool) → bytes_eq a b ≡ t → bytes_eq a b ≡ false
-  by true e = absurd (ne ((bytes_eq-Decides a b).0 e))
-  by false e = e
+use Rattle.fx_io.proofs.Tests.{bytes_same, unequal}
 
 -- what holds of all holds of each
 each_of : {X : Type 0} (P : X → Type 0) (xs : List X) (k : ℕ) (x : X) → AllByRecursion P xs → slice_get xs k ≡ Some x → P x
@@ -39,8 +31,8 @@ has path line = bytes_eq path line.path
 turned_eq : (a b : List ℕ) → bytes_eq a b ≡ bytes_eq b a
 turned_eq a b = by (bytes_eq a b) refl where
   by : (t : Bool) → bytes_eq a b ≡ t → t ≡ bytes_eq b a
-  by true e = sym (same_path b a (sym ((bytes_eq-Decides a b).0 e)))
-  by false e = sym (other_path b a (λ same. true≢false (sym (same_path a b (sym same)) ∙ e)))
+  by true e = sym (bytes_same b a (sym ((bytes_eq-Decides a b).0 e)))
+  by false e = sym (unequal b a (λ same. true≢false (sym (bytes_same a b (sym same)) ∙ e)))
 
 -- one more line, whose path is none of those before it
 one_more_from : (i : ℕ) (lines : List Pipeline) (k : ℕ) (line : Pipeline) (path : List ℕ) → AreDifferent lines → slice_get lines k ≡ Some line
@@ -53,7 +45,7 @@ one_more_from i (x ∷ xs) zero line path apart at =
     ∙ ap (λ t. cond t (Some i) None) (turned_eq line.path path ∙ ap (bytes_eq path) (sym same))
 one_more_from i (x ∷ xs) (suc k) line path apart at = by (one_more_from (i + 1) xs k line path apart.1 at) (has path x) refl where
   differs : has path x ≡ true → bytes_eq line.path path ≡ false
-  differs is = other_path line.path path (λ same. each_of (λ (other : Pipeline). x.path ≡ other.path → ⊥) xs k line apart.0 at (sym ((bytes_eq-Decides path x.path).0 is) ∙ sym same))
+  differs is = unequal line.path path (λ same. each_of (λ (other : Pipeline). x.path ≡ other.path → ⊥) xs k line apart.0 at (sym ((bytes_eq-Decides path x.path).0 is) ∙ sym same))
 
   by : cond (bytes_eq line.path path) (Some ((i + 1) + k)) (position_from (has path) (i + 1) (take k xs)) ≡ position_from (has path) (i + 1) (take (suc k) xs)
       → (t : Bool) → has path x ≡ t
@@ -92,7 +84,7 @@ missing_from (x ∷ xs) path none k line at same = by (has path x) refl k at non
   by : (t : Bool) → has path x ≡ t → (k : ℕ) → slice_get (x ∷ xs) k ≡ Some line → suc (length xs) ≤ cond (not t) (1 + position_or_len (has path) xs) 0
       → (length xs ≤ position_or_len (has path) xs → (j : ℕ) → slice_get xs j ≡ Some line → ⊥) → ⊥
   by true is k at none rest = omega arith
-  by false is zero at none rest = true≢false (sym (same_path path x.path (sym (ap (λ (l : Pipeline). l.path) (same_Some x line at) ∙ same))) ∙ is)
+  by false is zero at none rest = true≢false (sym (bytes_same path x.path (sym (ap (λ (l : Pipeline). l.path) (same_Some x line at) ∙ same))) ∙ is)
   by false is (suc k) at none rest = rest (omega arith) k at
 
 pub missing : (lines : List Pipeline) (path : List ℕ) → position (has path) lines ≡ None

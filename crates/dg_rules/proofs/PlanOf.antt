@@ -4,7 +4,7 @@ use Rattle.std.specs.Prelude.{◌≤◌, All, Some, slice_get, slice_index}
 use Rattle.std.specs.List.{AllByRecursion}
 use Rattle.std.proofs.lemmas.List.{length-map}
 use Rattle.std.proofs.lemmas.List.Elements.{All-nil, All-cons}
-use Rattle.std.proofs.lemmas.Option.{none-some, same_Some, get_or_from_slice_get, slice_get_within}
+use Rattle.std.proofs.lemmas.Option.{none-some, same_Some}
 use Rattle.std.proofs.lemmas.Slice.Eq.{bytes_eq-Decides}
 use Rattle.dg_model.specs.declared.diagram.Block.{Block}
 use Rattle.dg_model.specs.declared.diagram.Diagram.{Diagram}
@@ -15,6 +15,7 @@ use Rattle.dg_model.specs.Attributes.{attributes_of}
 use Rattle.dg_model.specs.PlanNames.{IsFound, KeepsPlan, IsResolved, count_of}
 use Rattle.dg_model.specs.PlanOf.{IsPlanOf, StagesAreAllowed, stages_at}
 use Rattle.dg_model.specs.PlanRange.{IsPlanInRange, IsRegisterCount}
+use Rattle.fx_io.proofs.Places.{held}
 
 -- the plan of these lines
 abbrev with_lines : Plan → List Pipeline → Plan
@@ -50,9 +51,6 @@ mapped_index : (f : Block → ℕ) (blocks : List Block) (k : ℕ) (b : Block) �
 mapped_index f [] k b at = absurd (none-some b at)
 mapped_index f (x ∷ blocks) zero b at = ap f (same_Some x b at)
 mapped_index f (x ∷ blocks) (suc k) b at = mapped_index f blocks k b at
-
-held : {A : Type 0} (P : A → Type 0) (xs : List A) (k : ℕ) (x : A) → All P xs → slice_get xs k ≡ Some x → P x
-held P xs k x all at = subst P (get_or_from_slice_get xs k x x at) (all k x (slice_get_within xs k x at))
 
 resolved_are_allowed : (diagram : Diagram) (plan : Plan) (resolved : Resolved) → KeepsPlan diagram (attributes_of diagram) plan → IsResolved diagram plan resolved → StagesAreAllowed diagram resolved
 resolved_are_allowed diagram plan resolved keeps is = record {

@@ -5,7 +5,7 @@ use Rattle.std.proofs.Math.Nat.{mod_self, mod-eq_of_lt, mod-lt}
 use Rattle.std.proofs.Math.ListN.{get_or-append}
 use Rattle.std.proofs.lemmas.Bool.{cases_lt}
 use Rattle.std.proofs.lemmas.List.{get_or_default}
-use Rattle.std.proofs.lemmas.Option.{slice_get_cases, none-some}
+use Rattle.std.proofs.lemmas.Option.{slice_get_cases, none-some, same_Some}
 use Rattle.dg_model.specs.declared.diagram.Block.{Block}
 use Rattle.dg_model.specs.declared.diagram.Diagram.{Diagram}
 use Rattle.dg_model.specs.declared.fault.RuleFault.{RuleFault}
@@ -24,9 +24,6 @@ use Rattle.dg_model.specs.TypeRounds.{types_of}
 use Rattle.dg_model.specs.TypeRule.{IsNotWide, HasTypes, HasAgreeing, KeepsTypes}
 use Rattle.dg_model.specs.Widths.{widths_of}
 use Rattle.dg_model.specs.Wired.{IsWired}
-
-some_one : {A : Type 0} (a b : A) → ◌≡◌ {A = Option A} (Some a) (Some b) → a ≡ b
-some_one a b e = cc
 
 -- ---- a part of a rule
 
@@ -49,7 +46,7 @@ kept_below diagram Keeps none (suc count) never = kept_below diagram Keeps none 
     by None is kept = never (one_more diagram Keeps count kept (λ block there. absurd (none-some block (sym is ∙ there))))
     by (Some b) is kept = none count b (record {
       there = is;
-      broken = λ keeps. never (one_more diagram Keeps count kept (λ block there. subst (λ (x : Block). Keeps count x) (some_one b block (sym is ∙ there)) keeps));
+      broken = λ keeps. never (one_more diagram Keeps count kept (λ block there. subst (λ (x : Block). Keeps count x) (same_Some b block (sym is ∙ there)) keeps));
       before = λ other o less there. kept other o less there;
     })
 

@@ -7,18 +7,17 @@ use Rattle.dg_model.specs.declared.kind.Kind.{Kind}
 use Rattle.dg_model.specs.declared.kind.Kind.TheVariants.{Delay}
 use Rattle.dg_model.specs.Library.{row_of, HasPorts, IsReadable}
 use Rattle.dg_model.specs.Wired.{IsWired}
-use Rattle.dg_tables.proofs.Lists.{get_holds}
 use Rattle.dg_model.specs.declared.diagram.Diagram.{Diagram}
 use Rattle.dg_model.specs.Signals.{Attributes}
 use Rattle.dg_tables.specs.declared.entries.Place.{Place}
 use Rattle.dg_tables.specs.Entries.{AreEntries, IsEntry}
 use Rattle.dg_sim.specs.inner.Building.{IsShownPort}
-use Rattle.dg_sim.proofs.Serving.{get_last}
+use Rattle.fx_io.proofs.Places.{push_cases, held}
 
 pub entries_more : (diagram : Diagram) (attributes : Attributes) (old new : List Place) (block port width element : ℕ) → new ≡ old ++ record { block = block; port = port; element = element } ∷ []
     → IsShownPort diagram attributes block port width → element < width → AreEntries diagram attributes old → AreEntries diagram attributes new
 entries_more diagram attributes old new block port width element e shown below are j place at =
-    go (get_last old (record { block = block; port = port; element = element }) j place (ap (λ (xs : List Place). slice_get xs j) (sym e) ∙ at))
+    go (push_cases old (record { block = block; port = port; element = element }) j place (ap (λ (xs : List Place). slice_get xs j) (sym e) ∙ at))
   where
     go : (slice_get old j ≡ Some place) ⊎ ((j ≡ length old) × (record { block = block; port = port; element = element } ≡ place)) → IsEntry diagram attributes place
     go (inl h) = are j place h
@@ -31,7 +30,7 @@ block_there diagram attributes place list one e entry is =
 
 module _ (diagram : Diagram) (wired : IsWired diagram) (block : ℕ) (b : Block) (block_is : slice_get diagram.blocks block ≡ Some b) where
   readable : IsReadable b
-  readable = get_holds IsReadable diagram.blocks block b wired.blocks block_is
+  readable = held IsReadable diagram.blocks block b wired.blocks block_is
 
   pub ports_are : (kind : Kind) → b.kind ≡ kind → HasPorts kind b.inputs b.outputs
   ports_are kind e = subst (λ (kind : Kind). HasPorts kind b.inputs b.outputs) e readable.ports

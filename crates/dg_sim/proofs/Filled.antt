@@ -13,13 +13,11 @@ use Rattle.dg_tables.specs.declared.roots.Root.{Root}
 use Rattle.dg_model.specs.RootElements.{RootElement, root_outputs}
 use Rattle.dg_sim.specs.Sim.{IsCell, IsProgram}
 use Rattle.dg_tables.specs.Roots.{root_at, roots_of}
-use Rattle.dg_tables.proofs.Lists.{get_some}
-use Rattle.dg_tables.proofs.Edges.{length_map}
-use Rattle.dg_tables.proofs.Ranks.{there_map}
 use Rattle.dg_sim.specs.inner.Building.{IsMade, IsRule, IsFilled, AreShown}
 use Rattle.dg_tables.specs.Entries.{IsEntry}
 use Rattle.dg_sim.proofs.Grown.{rule_grows}
-use Rattle.dg_sim.proofs.Serving.{get_last}
+use Rattle.fx_io.proofs.Places.{push_cases, get_some, there_map}
+use Rattle.std.proofs.lemmas.List.{length-map}
 
 cell_is : (diagram : Diagram) (attributes : Attributes) (program : Program) (k : ℕ) (place : Place) (cell : Cell) → IsEntry diagram attributes place → cell.period ≡ attributes.period_at place.block → IsRule diagram attributes program k place cell.rule → IsCell diagram attributes program k place cell
 cell_is diagram attributes program k place cell entry period is = record {
@@ -57,7 +55,7 @@ module _ (diagram : Diagram) (attributes : Attributes) (old grown : Program) (k 
       size = ap length cells_are ∙ length-append grown.cells (record { period = period; rule = rule } ∷ []) ∙ ap (λ (xs : List Cell). length xs + 1) made.grows.cells ∙ ap (λ (n : ℕ). n + 1) filled.size;
       cells = λ j p cell at_place at_cell.
           let old_place : slice_get old.places j ≡ Some p = ap (λ (xs : List Place). slice_get xs j) (sym made.grows.places) ∙ at_place in
-          go j p cell old_place (get_last grown.cells (record { period = period; rule = rule }) j cell (ap (λ (xs : List Cell). slice_get xs j) (sym cells_are) ∙ at_cell));
+          go j p cell old_place (push_cases grown.cells (record { period = period; rule = rule }) j cell (ap (λ (xs : List Cell). slice_get xs j) (sym cells_are) ∙ at_cell));
     }
       where
         go : (j : ℕ) (p : Place) (cell : Cell) → slice_get old.places j ≡ Some p → (slice_get grown.cells j ≡ Some cell) ⊎ ((j ≡ length grown.cells) × (record { period = period; rule = rule } ≡ cell)) → IsCell diagram attributes new j p cell
@@ -98,4 +96,4 @@ module _ (diagram : Diagram) (attributes : Attributes) (program : Program) (outp
       e_roots = e
 
       many : length outputs ≡ length (root_outputs diagram attributes)
-      many = shown.size ∙ ap length e ∙ length_map (λ (e : RootElement). root_at e.number e.block e.element) (root_outputs diagram attributes)
+      many = shown.size ∙ ap length e ∙ length-map (root_outputs diagram attributes) (λ (e : RootElement). root_at e.number e.block e.element)

@@ -14,7 +14,7 @@ use Rattle.dg_sim.specs.declared.program.Rule.TheVariants.{Input, Fixed, Same, W
 use Rattle.dg_sim.specs.Program.{part, operation_at, Gives, CanGive, IsWithin}
 use Rattle.dg_sim.specs.Sim.{Agrees}
 use Rattle.dg_sim.specs.inner.Building.{Grows, IsAlways, IsMade, IsRule}
-use Rattle.dg_tables.proofs.Ranks.{there_left}
+use Rattle.fx_io.proofs.Places.{get_left}
 use Rattle.dg_sim.proofs.Serving.{part_more, fixed_rule}
 
 pub grows_same : (program : Program) → Grows program program
@@ -95,7 +95,7 @@ module _ (old new : Program) (grows : Grows old new) where
     serves = λ stimulus table t look kept row v agrees keep row_is hit gives.
         is.serves stimulus table t look kept row v
         (subst (λ (places : List Place). Agrees diagram attributes places k look table t) grows.places agrees)
-        (λ m memory b at block_is. keep m memory b (ap (λ (memories : List Memory). slice_get memories m) grows.memories.1 ∙ there_left old.memories grows.memories.0 m memory at) block_is)
+        (λ m memory b at block_is. keep m memory b (ap (λ (memories : List Memory). slice_get memories m) grows.memories.1 ∙ get_left old.memories grows.memories.0 m memory at) block_is)
         row_is hit (gives_back look kept row t v rule is.within gives);
     can = λ table t look agrees in_range. can_forth look rule is.within (is.can table t look (subst (λ (places : List Place). Agrees diagram attributes places k look table t) grows.places agrees) in_range);
   }

@@ -1,6 +1,5 @@
 -- Signals end to end: which element of an input a Mux and a Demux hand on.
-use Rattle.std.proofs.Common.{◌≡◌, ℕ, zero, suc, ◌<◌, ◌≤◌, ◌+◌, ◌-◌, List, [], ◌∷◌, map, take, sum, Some, slice_get, slice_index, sym, ◌∙◌, subst, ap, refl, arith, inl, inr}
-use Rattle.std.proofs.lemmas.List.Sums.{sum_by-append, sum_by-cons}
+use Rattle.std.proofs.Common.{◌≡◌, ℕ, suc, ◌<◌, ◌≤◌, ◌+◌, ◌-◌, List, map, sum, Some, slice_get, ap, arith, inl, inr}
 use Rattle.std.proofs.lemmas.Bool.{cases_lt}
 use Rattle.dg_waves.specs.Rounds.{numbers_from}
 use Rattle.dg_model.specs.declared.diagram.Diagram.{Diagram}
@@ -12,21 +11,6 @@ use Rattle.dg_model.specs.Equation.{IsPart}
 use Rattle.dg_tables.specs.declared.entries.Place.{Place}
 use Rattle.dg_sim.specs.inner.Building.{HandsOn}
 use Rattle.dg_sim.proofs.ByKind.{of_kind}
-use Rattle.dg_tables.proofs.Lists.{get_number, length_numbers, map_last}
-
-take_numbers : (f : ℕ → ℕ) (from n i : ℕ) → i ≤ n → take i (map f (numbers_from from n)) ≡ map f (numbers_from from i)
-take_numbers f from zero zero h = refl
-take_numbers f from zero (suc i) h = absurd (omega (arith, h))
-take_numbers f from (suc n) zero h = refl
-take_numbers f from (suc n) (suc i) h = ap (λ (xs : List ℕ). f from ∷ xs) (take_numbers f (suc from) n i (omega (arith, h)))
-
--- one number more
-pub sum_last : (f : ℕ → ℕ) (n : ℕ) → sum (map f (numbers_from 1 (n + 1))) ≡ sum (map f (numbers_from 1 n)) + f (n + 1)
-sum_last f n =
-    let e = ap (λ (xs : List ℕ). sum xs) (map_last f n) in
-    let split = sum_by-append (λ x. x) (map f (numbers_from 1 n)) (f (n + 1) ∷ []) in
-    let one = sum_by-cons (λ x. x) (f (n + 1)) [] in
-    omega (arith, e, split, one)
 
 -- where the elements of some signals end before one of all, there are more signals
 pub before_end : (f : ℕ → ℕ) (inputs ports before element : ℕ) → ports ≤ inputs → before ≡ sum (map f (numbers_from 1 ports)) → before ≤ element → element < sum (map f (numbers_from 1 inputs)) → ports < inputs
@@ -37,18 +21,6 @@ before_end f inputs ports before element within at low below = elim (cases_lt po
       let all : sum (map f (numbers_from 1 ports)) ≡ sum (map f (numbers_from 1 inputs)) = ap (λ (n : ℕ). sum (map f (numbers_from 1 n))) same in
       absurd (omega (arith, at, low, below, all))
 ]
-
--- the signal in which the elements before end has the element
-pub part_here : (f : ℕ → ℕ) (inputs signal left width element : ℕ) → signal < inputs → width ≡ f (signal + 1) → left < width → element ≡ sum (map f (numbers_from 1 signal)) + left
-    → IsPart (map f (numbers_from 1 inputs)) element signal left
-part_here f inputs signal left width element below width_is within at =
-    let next : 1 + signal ≡ signal + 1 = omega arith in
-    let read : slice_index (map f (numbers_from 1 inputs)) signal ≡ f (signal + 1) = get_number f 1 inputs signal below ∙ ap f next in
-    record {
-      signal_is = subst (λ (n : ℕ). signal < n) (sym (length_numbers f 1 inputs)) below;
-      within = subst (λ (n : ℕ). left < n) (width_is ∙ sym read) within;
-      place = at ∙ ap (λ (xs : List ℕ). sum xs + left) (sym (take_numbers f 1 inputs signal (omega (arith, below))));
-    }
 
 module _ (diagram : Diagram) (attributes : Attributes) (place : Place) (b : Block) (block_is : slice_get diagram.blocks place.block ≡ Some b) where
   pub mux_hands : (sizes : List ℕ) (signal port k : ℕ) → b.kind ≡ Mux sizes → port ≡ suc signal → IsPart (widths_into diagram attributes place.block b.inputs) place.element signal k → HandsOn diagram attributes place port k

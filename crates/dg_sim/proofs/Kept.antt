@@ -23,11 +23,7 @@ use Rattle.dg_tables.specs.Entries.{Reads}
 use Rattle.std.specs.Ordering.{int_eq}
 use Rattle.dg_sim.proofs.Swept.{hit_false}
 use Rattle.dg_sim.proofs.ByKind.{of_kind}
-use Rattle.dg_sim.proofs.Serving.{get_last}
-
-get_end : {A : Type 0} (xs : List A) (x : A) → slice_get (xs ++ x ∷ []) (length xs) ≡ Some x
-get_end [] x = refl
-get_end (y ∷ ys) x = get_end ys x
+use Rattle.fx_io.proofs.Places.{last_at, push_cases}
 
 -- what is kept, or the initial value, is what the equation asks for
 pub kept_match : (o : Option ℤ) (initial v : ℤ) (P : ℤ → Type 0) → P initial → v ≡ unwrap_or o initial → MatchOption o (P v) (λ w. v ≡ w)
@@ -68,9 +64,9 @@ module _ (diagram : Diagram) (attributes : Attributes) (old new : Program) (plac
       signs = ([], signs ∙ sym (append-nil old.signs));
       memories = (memory ∷ [], memories);
     };
-    memories = λ are n one at_n. go are n one (get_last old.memories memory n one (ap (λ (xs : List Memory). slice_get xs n) (sym memories) ∙ at_n));
+    memories = λ are n one at_n. go are n one (push_cases old.memories memory n one (ap (λ (xs : List Memory). slice_get xs n) (sym memories) ∙ at_n));
     memory = memory;
-    there = ap (λ (xs : List Memory). slice_get xs m) memories ∙ ap (slice_get (old.memories ++ memory ∷ [])) at ∙ get_end old.memories memory;
+    there = ap (λ (xs : List Memory). slice_get xs m) memories ∙ ap (slice_get (old.memories ++ memory ∷ [])) at ∙ last_at old.memories memory;
     place_is = place_is;
   }
     where

@@ -7,6 +7,7 @@ use Rattle.dg_sim.specs.declared.program.Program.{Program}
 use Rattle.dg_sim.specs.Ring.{PastValues}
 use Rattle.dg_sim.specs.Program.{value_at, is_on, move_of}
 use Rattle.dg_sim.specs.Sim.{past_moved}
+use Rattle.dg_waves.proofs.Waved.{set_same}
 
 -- what a memory keeps after the sample
 abbrev pub after : Memory → ℕ → List ℤ → PastValues → PastValues
@@ -15,11 +16,6 @@ after memory t row past = past_moved (move_of (is_hit memory.period t) (is_on (v
 -- the memories before m have moved
 abbrev pub AreMoved : Program → ℕ → List ℤ → List PastValues → ℕ → List PastValues → Type 0
 AreMoved program t row old m pasts = (j : ℕ) (memory : Memory) (past : PastValues) → j < m → slice_get program.memories j ≡ Some memory → slice_get old j ≡ Some past → slice_get pasts j ≡ Some (after memory t row past)
-
-get-set_same : {X : Type 0} (xs : List X) (i : ℕ) (x : X) → i < length xs → slice_get (set xs i x) i ≡ Some x
-get-set_same [] i x h = absurd (omega (arith, h))
-get-set_same (y ∷ ys) zero x h = refl
-get-set_same (y ∷ ys) (suc i) x h = get-set_same ys i x (omega (arith, h))
 
 pub get-set_other : {X : Type 0} (xs : List X) (i j : ℕ) (x : X) → (j ≡ i → ⊥) → slice_get (set xs i x) j ≡ slice_get xs j
 get-set_other [] i j x h = refl
@@ -36,6 +32,6 @@ moved_more program t row old pasts m memory past inside here is later done j one
     go (inl e) =
         let same_memory : memory ≡ one = same_Some memory one (sym here ∙ ap (slice_get program.memories) (sym e) ∙ at) in
         let same_past : past ≡ other = same_Some past other (sym is ∙ later m (omega arith) ∙ ap (slice_get old) (sym e) ∙ from) in
-        ap (slice_get (set pasts m (after memory t row past))) e ∙ get-set_same pasts m (after memory t row past) inside
+        ap (slice_get (set pasts m (after memory t row past))) e ∙ set_same pasts m (after memory t row past) inside
         ∙ ap (λ (one : Memory). Some (after one t row past)) same_memory ∙ ap (λ (p : PastValues). Some (after one t row p)) same_past
     go (inr l) = get-set_other pasts m j (after memory t row past) (λ e. absurd (omega (arith, e, l))) ∙ done j one other l at from

@@ -2,7 +2,6 @@
 use Rattle.std.proofs.Common.{◌≡◌, ℕ, suc, ◌<◌, ◌≤◌, ◌+◌, ◌++◌, ℤ, pos, List, [], ◌∷◌, length, map, take, Some, slice_get, sym, ◌∙◌, subst, ap, refl, arith, zero, ◌⊎◌, inl, inr, ap₂, subst₂, false}
 use Rattle.dg_model.specs.declared.diagram.Diagram.{Diagram}
 use Rattle.dg_model.specs.Signals.{Attributes, Stimulus, Table}
-use Rattle.std.proofs.lemmas.Option.{none-some, same_Some}
 use Rattle.fx_type.specs.declared.kind.FxType.TheVariants.{Num}
 use Rattle.fx_type.specs.FxType.{InRange}
 use Rattle.dg_waves.specs.Rounds.{numbers_from}
@@ -20,7 +19,8 @@ use Rattle.dg_tables.specs.Entries.{entry, IsEntry, Reads}
 use Rattle.dg_sim.specs.Program.{part, operation_at, looked_at}
 use Rattle.dg_sim.specs.Sim.{Agrees}
 use Rattle.dg_sim.specs.inner.Building.{IsRule, HandsOn, IsAlways, AreRead, IsElementwise}
-use Rattle.dg_tables.proofs.Lists.{get_some, get_mapped, length_mapped}
+use Rattle.dg_tables.proofs.Lists.{get_mapped, length_mapped}
+use Rattle.fx_io.proofs.Places.{push_cases, get_some}
 
 -- ---- parts of a list that grows
 pub part_more : {A : Type 0} (xs ys : List A) (first count : ℕ) → first + count ≤ length xs → part (xs ++ ys) first count ≡ part xs first count
@@ -39,13 +39,6 @@ pub part_last : {A : Type 0} (xs ys : List A) → part (xs ++ ys) (length xs) (l
 part_last [] ys = take_all ys
 part_last (x ∷ xs) ys = part_last xs ys
 
--- ---- inputs one after another
-pub get_last : {A : Type 0} (xs : List A) (x : A) (i : ℕ) (y : A) → slice_get (xs ++ x ∷ []) i ≡ Some y → (slice_get xs i ≡ Some y) ⊎ ((i ≡ length xs) × (x ≡ y))
-get_last [] x zero y at = inr (refl, same_Some x y at)
-get_last [] x (suc i) y at = absurd (none-some y at)
-get_last (z ∷ xs) x zero y at = inl at
-get_last (z ∷ xs) x (suc i) y at = elim (get_last xs x i y at) [ inl h ↦ inl h | inr h ↦ inr (ap suc h.0, h.1) ]
-
 -- entries by place give the values of a block's input ports
 pub values_same : (look : ℕ → ℤ) (f : ℕ → ℤ) (numbers : List ℕ) (n from : ℕ) → length numbers ≡ n → ((i j : ℕ) → slice_get numbers i ≡ Some j → look j ≡ f (from + i)) → map look numbers ≡ map f (numbers_from from n)
 values_same look f [] zero from size same = refl
@@ -58,7 +51,7 @@ values_same look f (j ∷ numbers) (suc n) from size same =
 
 pub read_more : (diagram : Diagram) (attributes : Attributes) (places : List Place) (block element k : ℕ) (numbers : List ℕ) (number n : ℕ) → length numbers ≡ n → number < k → Reads diagram attributes places block (suc n) element number
     → AreRead diagram attributes places block element k numbers → AreRead diagram attributes places block element k (numbers ++ number ∷ [])
-read_more diagram attributes places block element k numbers number n size below reads are i j at = go (get_last numbers number i j at)
+read_more diagram attributes places block element k numbers number n size below reads are i j at = go (push_cases numbers number i j at)
   where
     go : (slice_get numbers i ≡ Some j) ⊎ ((i ≡ length numbers) × (number ≡ j)) → (j < k) × Reads diagram attributes places block (suc i) element j
     go (inl h) = are i j h

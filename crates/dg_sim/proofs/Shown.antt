@@ -13,7 +13,7 @@ use Rattle.dg_model.specs.Wires.{width_into}
 use Rattle.dg_tables.specs.declared.roots.Root.{Root}
 use Rattle.dg_tables.specs.Entries.{IsEntry, place_at}
 use Rattle.dg_tables.specs.Roots.{root_at, roots_of}
-use Rattle.dg_tables.proofs.Edges.{map_there}
+use Rattle.fx_io.proofs.Places.{map_there}
 use Rattle.dg_model.specs.Solves.{shown_ports, shown_width, ports_of_role, width_of_role}
 
 pub shown_none : (diagram : Diagram) (attributes : Attributes) (kind : Kind) (outputs block port : ℕ) → None ≡ root_output (row_of kind).place.role

@@ -18,9 +18,8 @@ use Rattle.dg_tables.specs.declared.roots.Root.{Root}
 use Rattle.dg_sim.specs.inner.Building.{IsRule}
 use Rattle.dg_tables.specs.Roots.{root_at, roots_of}
 use Rattle.dg_sim.proofs.ByKind.{of_kind}
-use Rattle.dg_tables.proofs.Edges.{map_there}
+use Rattle.fx_io.proofs.Places.{map_there, there_map}
 use Rattle.dg_sim.proofs.Entries.{ports_are}
-use Rattle.dg_tables.proofs.Ranks.{there_map}
 
 pub input_rule : (diagram : Diagram) (program : Program) (k : ℕ) (place : Place) (b : Block) → slice_get diagram.blocks place.block ≡ Some b → IsWired diagram → InputsAreListed
     → (number width column : ℕ) → b.kind ≡ Inport number width → slice_get (roots_of (root_inputs diagram (attributes_of diagram))) column ≡ Some (root_at number place.block place.element)

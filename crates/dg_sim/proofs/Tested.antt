@@ -16,7 +16,8 @@ use Rattle.dg_sim.specs.Program.{part}
 use Rattle.dg_sim.specs.inner.Building.{AreElements, IsMade}
 use Rattle.dg_tables.specs.Entries.{Reads}
 use Rattle.dg_sim.proofs.ByKind.{of_kind}
-use Rattle.dg_sim.proofs.Serving.{get_last, values_same}
+use Rattle.fx_io.proofs.Places.{push_cases}
+use Rattle.dg_sim.proofs.Serving.{values_same}
 use Rattle.dg_sim.proofs.Worked.{part_there, end_there}
 
 any_map : (p : ℤ → Bool) (f : ℕ → ℤ) (xs : List ℕ) → list_any p (map f xs) ≡ list_any (λ x. p (f x)) xs
@@ -25,7 +26,7 @@ any_map p f (x ∷ xs) = ap (λ (b : Bool). p (f x) || b) (any_map p f xs)
 
 pub elements_more : (diagram : Diagram) (attributes : Attributes) (places : List Place) (block k : ℕ) (numbers : List ℕ) (number n : ℕ) → length numbers ≡ n → number < k → Reads diagram attributes places block 1 n number
     → AreElements diagram attributes places block k numbers → AreElements diagram attributes places block k (numbers ++ number ∷ [])
-elements_more diagram attributes places block k numbers number n size below reads are i j at = go (get_last numbers number i j at)
+elements_more diagram attributes places block k numbers number n size below reads are i j at = go (push_cases numbers number i j at)
   where
     go : (slice_get numbers i ≡ Some j) ⊎ ((i ≡ length numbers) × (number ≡ j)) → (j < k) × Reads diagram attributes places block 1 i j
     go (inl h) = are i j h

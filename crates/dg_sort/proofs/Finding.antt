@@ -9,9 +9,7 @@ use Rattle.dg_sort.specs.Rows.{AreKnown}
 use Rattle.dg_sort.specs.inner.Back.{LeadsBackIn, IsOnCycle}
 use Rattle.dg_sort.specs.inner.Search.{Walk}
 use Rattle.dg_sort.specs.inner.State.{IsBelow, IsPlaced, ArePlaced, IsState, IsInOrder, IsFirst, IsFound}
-
-rank_same : (rank other : ℕ) → Some (Placed rank) ≡ Some (Placed other) → rank ≡ other
-rank_same rank other e = cc
+use Rattle.dg_sort.proofs.Placing.{mark_rank}
 
 module _ (rows : List (List ℕ)) (marks : List Mark) (held order : List ℕ) (first : Option ℕ) (places : ArePlaced rows marks held order first) where
   -- back over readings ranks never rise
@@ -29,7 +27,7 @@ module _ (rows : List (List ℕ)) (marks : List Mark) (held order : List ℕ) (f
   below_is_off block rank at below on =
       let one = places.settled block rank on.next at on.reads in
       let round = ranks_fall on.back.steps on.next one.other block one.at on.back.walk in
-      let same = rank_same rank (round.0) (sym at ∙ round.1) in
+      let same = mark_rank rank (round.0) (sym at ∙ round.1) in
       let less = one.lower below in
       let low = round.2 in
       omega (arith, same, less, low)

@@ -14,10 +14,7 @@ use Rattle.dg_sort.specs.inner.State.{IsLooked, IsHeldFrom, IsLeft, IsRead, None
 use Rattle.fx_io.proofs.Places.{get_left, get_take, get_taken, last_at, push_cases}
 use Rattle.dg_sort.proofs.Ways.{ways_join, way_reads, way_closes}
 use Rattle.dg_sort.proofs.Passing.{Popped, still_looked}
-
-floor_under : (is_cycle : Bool) (start n : ℕ) → start < n → floor_of is_cycle start ≤ n
-floor_under true start n below = omega arith
-floor_under false start n below = omega arith
+use Rattle.dg_sort.proofs.Meeting.{floor_low}
 
 floor_over : (is_cycle : Bool) (start n : ℕ) → floor_of is_cycle start ≤ n → start ≤ n
 floor_over true start n above = above
@@ -107,7 +104,7 @@ module _ (rows : List (List ℕ)) (marks : List Mark) (held : List ℕ) (groups 
       let rise = (under k group old.0 old.1).0 in
       let low = join.low in
       still_looked marks groups edges front source other group popped
-      (λ same. inr (record { place = place; at = ap (slice_get marks) (sym same) ∙ marked; from = floor_under group.is_cycle group.start place (omega (arith, rise, low)) }))
+      (λ same. inr (record { place = place; at = ap (slice_get marks) (sym same) ∙ marked; from = floor_low group.is_cycle group.start place (omega (arith, rise, low)) }))
       (reads.looked k at block other group old.1 from here reads_it))
       (λ new. subst (λ (g : Group). IsLooked marks front g other) new.1
       (at_joined (reads.looked join.last at block other join.group join.there (subst (λ (g : Group). g.start ≤ at) (sym new.1) from) here reads_it)))

@@ -8,11 +8,8 @@ use Rattle.dg_model.specs.declared.diagram.Block.{Block}
 use Rattle.dg_model.specs.declared.diagram.Edge.{Edge}
 use Rattle.dg_model.specs.LatencyEdges.{LatencyEdge, signal_edge, asks_ever, enable_edge, enable_edges_from}
 use Rattle.dg_model.specs.Library.{row_of}
-use Rattle.dg_model.specs.Wired.{IsWired, Joins, NamesControl}
-
--- in a wired diagram an edge joins blocks that are there
-pub joins_at : (diagram : Diagram) (k : ℕ) (edge : Edge) → IsWired diagram → slice_get diagram.edges k ≡ Some edge → Joins diagram.blocks edge
-joins_at diagram k edge wired at = subst (λ (e : Edge). Joins diagram.blocks e) (get_or_from_slice_get diagram.edges k edge edge at) (wired.edges k edge (slice_get_within diagram.edges k edge at))
+use Rattle.dg_model.specs.Wired.{IsWired, NamesControl}
+use Rattle.dg_model.proofs.Ports.{joins}
 
 pub matched : {A : Type 0} (o : Option A) (P : A → Type 0) → MatchOption o ⊥ P → (x : A) × (o ≡ Some x) × P x
 matched None P m = absurd m
@@ -20,12 +17,12 @@ matched (Some x) P m = (x, refl, m)
 
 pub from_there : (diagram : Diagram) (k : ℕ) (edge : Edge) → IsWired diagram → slice_get diagram.edges k ≡ Some edge → edge.from < length diagram.blocks
 from_there diagram k edge wired at =
-    let m = matched (slice_get diagram.blocks edge.from) (λ block. (1 ≤ edge.from_port) × (edge.from_port ≤ block.outputs)) (joins_at diagram k edge wired at).source in
+    let m = matched (slice_get diagram.blocks edge.from) (λ block. (1 ≤ edge.from_port) × (edge.from_port ≤ block.outputs)) (joins diagram k edge wired at).source in
     slice_get_within diagram.blocks edge.from (m.0) (m.1)
 
 pub to_there : (diagram : Diagram) (k : ℕ) (edge : Edge) → IsWired diagram → slice_get diagram.edges k ≡ Some edge → edge.to < length diagram.blocks
 to_there diagram k edge wired at =
-    let m = matched (slice_get diagram.blocks edge.to) (λ block. (1 ≤ edge.to_port) × (edge.to_port ≤ block.inputs)) (joins_at diagram k edge wired at).target in
+    let m = matched (slice_get diagram.blocks edge.to) (λ block. (1 ≤ edge.to_port) × (edge.to_port ≤ block.inputs)) (joins diagram k edge wired at).target in
     slice_get_within diagram.blocks edge.to (m.0) (m.1)
 
 pub control_there : (diagram : Diagram) (place control : ℕ) (block : Block) → IsWired diagram → slice_get diagram.blocks place ≡ Some block → block.enable ≡ Some control → control < length diagram.blocks

@@ -83,7 +83,7 @@ module _ (rows : List (List ℕ)) (marks : List Mark) (held order : List ℕ) (f
 abbrev pub new_group : List ℕ → List ℕ → Group
 new_group held front = record { start = length held; edges = length front; is_cycle = false }
 
-floor_low : (is_cycle : Bool) (start n : ℕ) → start < n → floor_of is_cycle start ≤ n
+pub floor_low : (is_cycle : Bool) (start n : ℕ) → start < n → floor_of is_cycle start ≤ n
 floor_low true start n below = omega arith
 floor_low false start n below = omega arith
 

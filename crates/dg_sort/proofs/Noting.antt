@@ -27,7 +27,8 @@ use Rattle.fx_io.specs.Rows.{row_at}
 use Rattle.dg_sort.specs.Control.{control_now}
 use Rattle.dg_sort.specs.inner.Rows.{is_read_now, is_line_instant}
 use Rattle.fx_io.specs.Rows.{noted}
-use Rattle.dg_sort.proofs.Lines.{joins_at, from_there, to_there, lines_from, control_there, controls_from}
+use Rattle.dg_model.proofs.Ports.{joins}
+use Rattle.dg_sort.proofs.Lines.{from_there, to_there, lines_from, control_there, controls_from}
 use Rattle.fx_io.proofs.Places.{get_left, get_right, push_cases, last_at}
 
 -- ---- a source put at the end of a row
@@ -218,7 +219,7 @@ into_is : (diagram : Diagram) (k : ℕ) (edge : Edge) (block : Block) → IsWire
 into_is diagram k edge block wired at there reads =
     let readable = subst (λ (b : Block). (row_of b.kind).ports.inputs b.inputs) (get_or_from_slice_get diagram.blocks edge.to block block there) (wired.blocks edge.to block (slice_get_within diagram.blocks edge.to block there)).ports.0 in
     let one : block.inputs ≡ 1 = one_input block.kind block.inputs reads readable in
-    let ports = MatchOption-at_some ⊥ (λ (b : Block). (1 ≤ edge.to_port) × (edge.to_port ≤ b.inputs)) block there (joins_at diagram k edge wired at).target in
+    let ports = MatchOption-at_some ⊥ (λ (b : Block). (1 ≤ edge.to_port) × (edge.to_port ≤ b.inputs)) block there (joins diagram k edge wired at).target in
     let low = ports.0 in
     let high = ports.1 in
     let port : edge.to_port ≡ 1 = omega (arith, low, high, one) in

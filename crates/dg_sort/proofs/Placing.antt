@@ -92,7 +92,7 @@ closed_first first held group = least_of group.is_cycle (drop group.start held) 
 mark_place : (place other : ℕ) → Some (Held place) ≡ Some (Held other) → place ≡ other
 mark_place place other e = cc
 
-mark_rank : (rank other : ℕ) → Some (Placed rank) ≡ Some (Placed other) → rank ≡ other
+pub mark_rank : (rank other : ℕ) → Some (Placed rank) ≡ Some (Placed other) → rank ≡ other
 mark_rank rank other e = cc
 
 mark_apart : (place rank : ℕ) → Some (Held place) ≡ Some (Placed rank) → ⊥

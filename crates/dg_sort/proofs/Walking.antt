@@ -9,7 +9,7 @@ use Rattle.dg_sort.specs.Rows.{Reads, AreKnown}
 use Rattle.fx_io.specs.Rows.{row_at}
 use Rattle.dg_sort.specs.inner.Back.{LeadsBackIn, IsOnCycle}
 use Rattle.dg_sort.specs.inner.Cycle.{IsReadBy, IsMet, met_count, AreSteps, IsPassed, AreClosed, IsFoundAt, IsLooking, IsReadCycle, IsWalked}
-use Rattle.dg_waves.proofs.Waved.{set_same, set_other}
+use Rattle.dg_waves.proofs.Waved.{set_same, set_other, still_marked}
 use Rattle.fx_io.proofs.Places.{get_left, last_at, push_cases}
 
 -- ---- marks
@@ -35,14 +35,8 @@ count_none (suc count) = count_none count
 read_still : (rows : List (List ℕ)) (steps : List Step) (step : Step) (place block : ℕ) → IsReadBy rows steps place block → IsReadBy rows (steps ++ step ∷ []) place block
 read_still rows steps step place block read = record { step = read.step; at = get_left steps (step ∷ []) place read.step read.at; reads = read.reads }
 
-marked_still : (marks : List Bool) (block other : ℕ) → slice_get marks other ≡ Some true → slice_get (set marks block true) other ≡ Some true
-marked_still marks block other at = ⊎_elim
-    (λ (same : block ≡ other). subst (λ b. slice_get (set marks b true) other ≡ Some true) (sym same) (set_same marks other true (slice_get_within marks other true at)))
-    (λ (differ : block ≡ other → ⊥). set_other marks block other true differ ∙ at)
-    (cases_eq block other)
-
 passed_still : (first block source : ℕ) (marks : List Bool) → IsPassed first marks source → IsPassed first (set marks block true) source
-passed_still first block source marks passed = record { met = marked_still marks block source passed.met; other = passed.other }
+passed_still first block source marks passed = record { met = still_marked marks block source passed.met; other = passed.other }
 
 module _ (rows : List (List ℕ)) (first : ℕ) (steps : List Step) (is_met : List Bool) (at source : ℕ) (are : AreSteps rows first steps is_met) (here : IsReadBy rows steps at source) (unmet : slice_get is_met source ≡ Some false) where
   abbrev new_step : Step
@@ -89,7 +83,7 @@ module _ (rows : List (List ℕ)) (first : ℕ) (steps : List Step) (is_met : Li
         let size = length-append steps (new_step ∷ []) in
         omega (arith, more, count, size);
     there = λ k step there. ⊎_elim
-        (λ (old : slice_get steps k ≡ Some step). marked_still is_met source step.block (are.there k step old))
+        (λ (old : slice_get steps k ≡ Some step). still_marked is_met source step.block (are.there k step old))
         (λ new. subst (λ (s : Step). slice_get (set is_met source true) s.block ≡ Some true) new.1 (set_same is_met source true (slice_get_within is_met source false unmet)))
         (push_cases steps new_step k step there);
     marked = λ block there. ⊎_elim

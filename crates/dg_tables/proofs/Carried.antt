@@ -18,7 +18,8 @@ use Rattle.dg_model.specs.Wires.{width_into, type_into, types_into, value_into, 
 use Rattle.dg_model.specs.Equation.{StoresEntry, IsOpOf, signs_of, is_enabled, IsInputAt, ElementEquation, DelayEquation, MuxEquation, DemuxEquation, RateEquation, EnableEquation, EnOutEquation, KindEquation}
 use Rattle.dg_model.specs.Instant.{reads_now, asks_now}
 use Rattle.dg_tables.proofs.Ground.{IsRanked, HasWidths}
-use Rattle.dg_tables.proofs.Lists.{get_holds, any_same, get_number, length_numbers, sum_before, hits_all, second_hit, filter_same, since_same, counted_below, below_repeated}
+use Rattle.fx_io.proofs.Places.{held}
+use Rattle.dg_tables.proofs.Lists.{any_same, get_number, length_numbers, sum_before, hits_all, second_hit, filter_same, since_same, counted_below, below_repeated}
 use Rattle.dg_tables.proofs.Sources.{IsRead, SourceAgrees, same_into, same_values, control_shown, is_readable}
 
 module _ (diagram : Diagram) (attributes : Attributes) (rank : ℕ → ℕ) (checked : IsRanked diagram attributes rank) (stimulus : Stimulus) (table other : Table)
@@ -72,7 +73,7 @@ module _ (diagram : Diagram) (attributes : Attributes) (rank : ℕ → ℕ) (che
     delay_same delay initial reset element v reads h =
         let hits = counted_hits table b.enable reset (attributes.period_at block) t in
         subst (λ (hits : List ℕ). IsInputAt diagram attributes stimulus other block initial element (slice_get hits (delay - 1)) v) (counted_same reset)
-        (input_same initial element (slice_get hits (delay - 1)) v (λ s e. earlier s (get_holds (λ h. h < t) hits (delay - 1) s (counted_below table b.enable reset (attributes.period_at block) t) e)) reads h)
+        (input_same initial element (slice_get hits (delay - 1)) v (λ s e. earlier s (held (λ h. h < t) hits (delay - 1) s (counted_below table b.enable reset (attributes.period_at block) t) e)) reads h)
 
     rate_same : (initial : List Decimal) (element : ℕ) (v : ℤ) → (not (is_slow_to_fast (period_into diagram attributes block 1) (attributes.period_at block)) ≡ true → Agree t) → IsRead diagram attributes block 1 element
         → RateEquation diagram attributes stimulus table block initial element t v → RateEquation diagram attributes stimulus other block initial element t v
@@ -134,7 +135,7 @@ module _ (diagram : Diagram) (attributes : Attributes) (rank : ℕ → ℕ) (che
           subst (λ (hits : List ℕ). IsInputAt diagram attributes stimulus other block initial element (slice_get hits 0) v)
           (filter_same (is_enabled table b.enable) (is_enabled other b.enable) (attributes.period_at block) (suc t) enabled_same)
           (input_same initial element (slice_get hits 0) v
-          (λ s e. up_to now s (get_holds (λ h. h < suc t) hits 0 s (All-filter (is_enabled table b.enable) (λ h. h < suc t) (hits_before (attributes.period_at block) (suc t)) (hits_all (attributes.period_at block) (suc t))) e)) reads h)
+          (λ s e. up_to now s (held (λ h. h < suc t) hits 0 s (All-filter (is_enabled table b.enable) (λ h. h < suc t) (hits_before (attributes.period_at block) (suc t)) (hits_all (attributes.period_at block) (suc t))) e)) reads h)
       output_same true initial element v now reads h =
           subst (λ (enabled : Bool). MatchBool enabled (v ≡ value_into diagram attributes other block 1 element t) (StoresEntry initial element (attributes.type_at block 1) v)) (enabled_same t (omega arith))
           (go (is_enabled table b.enable t) h)

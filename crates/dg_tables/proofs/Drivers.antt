@@ -9,7 +9,8 @@ use Rattle.dg_model.specs.Checked.{IsChecked}
 use Rattle.dg_model.specs.Widths.{widths_of}
 use Rattle.dg_model.specs.Wires.{driver_of, enters}
 use Rattle.dg_model.specs.Wired.{IsWired, Joins}
-use Rattle.dg_tables.proofs.Lists.{get_holds, find_holds}
+use Rattle.fx_io.proofs.Places.{held}
+use Rattle.dg_tables.proofs.Lists.{find_holds}
 use Rattle.dg_tables.proofs.Fitting.{outputs_there}
 
 abbrev pub unit_if : Bool → ℕ
@@ -24,7 +25,7 @@ some_counted p (y ∷ ys) zero x at passes =
     let here : unit_if (p y) ≡ 1 = ap (λ (b : Bool). unit_if b) (ap p (same_Some y x at) ∙ passes) in omega (arith, here, count_by-cons p y ys)
 some_counted p (y ∷ ys) (suc i) x at passes = omega (arith, count_by-cons p y ys, some_counted p ys i x at passes)
 
-found_one : {X : Type 0} (p : X → Bool) (xs : List X) (i : ℕ) (x : X) → slice_get xs i ≡ Some x → p x ≡ true → count_by p xs ≡ 1 → find p xs ≡ Some x
+pub found_one : {X : Type 0} (p : X → Bool) (xs : List X) (i : ℕ) (x : X) → slice_get xs i ≡ Some x → p x ≡ true → count_by p xs ≡ 1 → find p xs ≡ Some x
 found_one p [] i x at passes one = absurd (none-some x at)
 found_one p (y ∷ ys) zero x at passes one = ap (λ (b : Bool). cond b (Some y) (find p ys)) (ap p (same_Some y x at) ∙ passes) ∙ at
 found_one {X} p (y ∷ ys) (suc i) x at passes one = go (p y) (sym (count_by-cons p y ys) ∙ one) (found_one p ys i x at passes) (some_counted p ys i x at passes)
@@ -35,7 +36,7 @@ found_one {X} p (y ∷ ys) (suc i) x at passes one = go (p y) (sym (count_by-con
 
 module _ (diagram : Diagram) (wired : IsWired diagram) where
   pub driver_is : (i : ℕ) (edge : Edge) → slice_get diagram.edges i ≡ Some edge → driver_of diagram edge.to edge.to_port ≡ Some edge
-  driver_is i edge at = go (slice_get diagram.blocks edge.to) refl (get_holds (Joins diagram.blocks) diagram.edges i edge wired.edges at).target
+  driver_is i edge at = go (slice_get diagram.blocks edge.to) refl (held (Joins diagram.blocks) diagram.edges i edge wired.edges at).target
     where
       go : (o : Option Block) → slice_get diagram.blocks edge.to ≡ o → MatchOption o ⊥ (λ block. (1 ≤ edge.to_port) × (edge.to_port ≤ block.inputs)) → driver_of diagram edge.to edge.to_port ≡ Some edge
       go None e h = absurd h

@@ -1,6 +1,5 @@
 -- The edges into a block by its ports. Crates above may cite this file.
-use Rattle.std.proofs.Common.{◌≡◌, ℕ, zero, suc, ◌+◌, ◌<◌, List, [], ◌∷◌, length, map, slice_get, Option, Some, ap, sym, ◌∙◌, refl, arith}
-use Rattle.std.proofs.lemmas.Option.{none-some, same_Some}
+use Rattle.std.proofs.Common.{◌≡◌, ℕ, suc, ◌+◌, ◌<◌, List, length, map, slice_get, Option, Some, ap, sym, ◌∙◌, arith}
 use Rattle.dg_waves.specs.Rounds.{numbers_from}
 use Rattle.dg_waves.proofs.Waved.{mapped_at}
 use Rattle.dg_model.specs.declared.diagram.Diagram.{Diagram}
@@ -10,21 +9,14 @@ use Rattle.dg_model.specs.Wires.{driver_of, edges_into, at_source}
 use Rattle.dg_model.specs.Wired.{IsWired}
 use Rattle.dg_model.proofs.Ports.{drivers_are_edges}
 use Rattle.dg_tables.proofs.Lists.{length_mapped}
-
-pub map_there : {A B : Type 0} (f : A → B) (xs : List A) (k : ℕ) (y : B) → slice_get (map f xs) k ≡ Some y → (x : A) × (slice_get xs k ≡ Some x) × (f x ≡ y)
-map_there f [] k y e = absurd (none-some y e)
-map_there f (x ∷ xs) zero y e = (x, refl, same_Some (f x) y e)
-map_there f (x ∷ xs) (suc k) y e = map_there f xs k y e
-
-pub length_map : {A B : Type 0} (f : A → B) (xs : List A) → length (map f xs) ≡ length xs
-length_map f [] = refl
-length_map f (x ∷ xs) = ap suc (length_map f xs)
+use Rattle.fx_io.proofs.Places.{map_there}
+use Rattle.std.proofs.lemmas.List.{length-map}
 
 module _ (diagram : Diagram) (wired : IsWired diagram) (block : ℕ) (b : Block) (block_is : slice_get diagram.blocks block ≡ Some b) where
   -- as many as it has input ports
   pub edges_length : length (edges_into diagram block) ≡ b.inputs
   edges_length =
-      sym (length_map {B = Option Edge} (λ edge. Some edge) (edges_into diagram block))
+      sym (length-map {B = Option Edge} (edges_into diagram block) (λ edge. Some edge))
       ∙ ap (λ (drivers : List (Option Edge)). length drivers) (sym (drivers_are_edges diagram block b wired block_is))
       ∙ length_mapped (driver_of diagram block) 1 b.inputs
 

@@ -19,9 +19,10 @@ use Rattle.dg_model.specs.Wires.{width_into, widths_into, edges_into}
 use Rattle.dg_model.specs.Wired.{IsWired}
 use Rattle.dg_model.proofs.Ports.{inputs_are_sources}
 use Rattle.dg_tables.proofs.Ground.{HasWidths, HasLists}
-use Rattle.dg_tables.proofs.Lists.{get_holds, length_mapped}
-use Rattle.dg_tables.proofs.Ranks.{there_map}
-use Rattle.dg_tables.proofs.Edges.{edges_length, edge_at, source_at, length_map}
+use Rattle.fx_io.proofs.Places.{held, there_map}
+use Rattle.dg_tables.proofs.Lists.{length_mapped}
+use Rattle.dg_tables.proofs.Edges.{edges_length, edge_at, source_at}
+use Rattle.std.proofs.lemmas.List.{length-map}
 
 -- a list by its entries
 pub listed : (xs : List ℕ) → map (λ port. slice_index_or xs (port - 1) 0) (numbers_from 1 (length xs)) ≡ xs
@@ -52,7 +53,7 @@ module _ (diagram : Diagram) (wired : IsWired diagram) (dimensions : KeepsDimens
   inputs = input_widths diagram (widths_of diagram) block
 
   inputs_length : length inputs ≡ b.inputs
-  inputs_length = length_map (λ (edge : Edge). width_at (widths_of diagram) edge.from edge.from_port) (edges_into diagram block) ∙ edges_length diagram wired block b block_is
+  inputs_length = length-map (edges_into diagram block) (λ (edge : Edge). width_at (widths_of diagram) edge.from edge.from_port) ∙ edges_length diagram wired block b block_is
 
   -- the width into a port stands in the list
   width_into_at : (i : ℕ) → i < b.inputs → width_into diagram (attributes_of diagram) block (suc i) ≡ slice_index_or inputs i 0
@@ -95,7 +96,7 @@ module _ (diagram : Diagram) (wired : IsWired diagram) (dimensions : KeepsDimens
       sym first ∙ uncut (sum inputs) (omega (arith, first, small)) ∙ ap (λ (list : List ℕ). sum list) (sym widths_listed)
 
   parts_length : (sizes : List ℕ) (kind : Kind) → Settled (Shape.Parted sizes) kind → length own ≡ length sizes
-  parts_length sizes kind e = sym (ap (λ (list : List ℕ). length list) e) ∙ length_map (min most_width) (taken (Shape.Parted sizes) (list_length kind) (width_at (widths_of diagram) block 1) inputs) ∙ go (are_open sizes)
+  parts_length sizes kind e = sym (ap (λ (list : List ℕ). length list) e) ∙ length-map (taken (Shape.Parted sizes) (list_length kind) (width_at (widths_of diagram) block 1) inputs) (min most_width) ∙ go (are_open sizes)
     where
       go : (open_sizes : Bool) → length (if open_sizes then map (share (slice_index_or inputs 0 0) (length sizes)) (numbers_from 0 (length sizes)) else sizes) ≡ length sizes
       go true = length_mapped (share (slice_index_or inputs 0 0) (length sizes)) 0 (length sizes)
@@ -116,7 +117,7 @@ module _ (diagram : Diagram) (wired : IsWired diagram) (dimensions : KeepsDimens
   fits _ ports agrees e = one_output agrees (λ output from to. omega (arith, ports.1, from, to))
 
   pub widths_fit : HasWidths diagram (attributes_of diagram) block b.kind b.inputs b.outputs
-  widths_fit = fits b.kind (get_holds IsReadable diagram.blocks block b wired.blocks block_is).ports keeps.agrees settled
+  widths_fit = fits b.kind (held IsReadable diagram.blocks block b wired.blocks block_is).ports keeps.agrees settled
 
   pub lists_fit : HasLists b.kind ((attributes_of diagram).width_at block 1)
   lists_fit = keeps.lists
@@ -127,4 +128,4 @@ module _ (diagram : Diagram) (wired : IsWired diagram) (dimensions : KeepsDimens
   outputs_by _ ports e = let one = ap (λ (list : List ℕ). length list) e in omega (arith, one, ports.1)
 
   pub outputs_there : b.outputs ≤ length (slice_index_or (widths_of diagram) block [])
-  outputs_there = outputs_by b.kind (get_holds IsReadable diagram.blocks block b wired.blocks block_is).ports settled
+  outputs_there = outputs_by b.kind (held IsReadable diagram.blocks block b wired.blocks block_is).ports settled

@@ -1,4 +1,4 @@
--- The equation of a block gives a number, and it is in range.
+-- The equation of a block gives a number, and it is in range. Crates above may cite this file.
 use Rattle.std.proofs.Common.{◌≡◌, ℕ, suc, ◌+◌, ◌-◌, ◌<◌, ◌≤◌, ◌⊎◌, inl, inr, Bool, true, false, not, MatchBool, List, [], ◌∷◌, map, sum, length, filter, slice_get, Option, Some, None, MatchOption, ℤ, pos, int_lt, All, ap, sym, ◌∙◌, subst, subst₂, refl, arith, eq-or-lt_of_le, le_of_suc-le-suc}
 use Rattle.std.specs.List.{list_any}
 use Rattle.std.proofs.lemmas.Int.{ints}
@@ -30,21 +30,19 @@ use Rattle.dg_blocks.specs.Laws.{OperationGivesOne}
 use Rattle.dg_model.specs.Instant.{reads_now}
 use Rattle.dg_model.specs.Dimension.{IsRepeated}
 use Rattle.dg_tables.proofs.Ground.{IsRanked, IsRunnable, HasLists, KeepsType, HasWidths, operation_at}
-use Rattle.dg_tables.proofs.Lists.{get_holds, get_some, get_mapped, length_mapped, get_number, length_numbers, sum_before, part_some, hits_all, second_hit, counted_below, below_repeated}
+use Rattle.fx_io.proofs.Places.{held, get_some}
+use Rattle.dg_tables.proofs.Lists.{get_mapped, length_mapped, get_number, length_numbers, sum_before, part_some, hits_all, second_hit, counted_below, below_repeated}
 use Rattle.dg_tables.proofs.Sources.{IsRead, source_shown, is_readable, type_into_valid, elements_read}
+use Rattle.dg_blocks.proofs.Exactly.{truth_range}
 
 -- a value of a type that has a property
 abbrev pub Given : FxType → (ℤ → Type 0) → Type 0
 Given type P = (v : ℤ) × P v × InRange type v
 
-zero_range : (type : FxType) → IsType type → InRange type (pos 0)
+pub zero_range : (type : FxType) → IsType type → InRange type (pos 0)
 zero_range Logical t = record { low = omega (arith, ints); high = omega (arith, ints) }
 zero_range (Num true w f) t = record { low = omega (arith, ints); high = omega (arith, ints) }
 zero_range (Num false w f) t = record { low = omega (arith, ints); high = omega (arith, ints) }
-
-truth_range : (truth : Bool) → InRange Logical (stored_truth truth)
-truth_range true = record { low = omega (arith, ints); high = omega (arith, ints) }
-truth_range false = record { low = omega (arith, ints); high = omega (arith, ints) }
 
 -- the entry of a kind's only list
 only_list : (list : List Decimal) (width : ℕ) → All (λ list. IsRepeated width (length list)) (list ∷ []) → IsRepeated width (length list)
@@ -90,7 +88,7 @@ module _ (storing : StoringGivesOne) (exactly : OperationGivesOne) where
               ranges port edge e k.0 edge.from_port (repeated (attributes.width_at edge.from edge.from_port) element) k.1
 
       counted_some : (delay : ℕ) (initial : List Decimal) (reset : Bool) (element : ℕ) (h : ℕ) → slice_get (counted_hits table b.enable reset (attributes.period_at block) t) (delay - 1) ≡ Some h → h < t
-      counted_some delay initial reset element h e = get_holds (λ h. h < t) (counted_hits table b.enable reset (attributes.period_at block) t) (delay - 1) h (counted_below table b.enable reset (attributes.period_at block) t) e
+      counted_some delay initial reset element h e = held (λ h. h < t) (counted_hits table b.enable reset (attributes.period_at block) t) (delay - 1) h (counted_below table b.enable reset (attributes.period_at block) t) e
 
       module _ (element : ℕ) (valid : IsType (attributes.type_at block 1)) where
         -- an input, or the initial value, in the type of the block
@@ -154,7 +152,7 @@ module _ (storing : StoringGivesOne) (exactly : OperationGivesOne) where
         output_some false initial now before list below same reads =
             let hits = filter (is_enabled table b.enable) (hits_before (attributes.period_at block) (suc t)) in
             input_some initial (slice_get hits 0) (attributes.width_at block 1) list below same
-            (λ h e. at h (eq-or-lt_of_le (le_of_suc-le-suc (get_holds (λ h. h < suc t) hits 0 h (All-filter (is_enabled table b.enable) (λ h. h < suc t) (hits_before (attributes.period_at block) (suc t)) (hits_all (attributes.period_at block) (suc t))) e)))) reads
+            (λ h e. at h (eq-or-lt_of_le (le_of_suc-le-suc (held (λ h. h < suc t) hits 0 h (All-filter (is_enabled table b.enable) (λ h. h < suc t) (hits_before (attributes.period_at block) (suc t)) (hits_all (attributes.period_at block) (suc t))) e)))) reads
           where
             at : (h : ℕ) → (h ≡ t) ⊎ (h < t) → InRangeAt h
             at h (inl e) = subst InRangeAt (sym e) now

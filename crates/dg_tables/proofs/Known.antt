@@ -19,10 +19,10 @@ use Rattle.dg_model.specs.TypeRounds.{Types, explicit_type, input_types, type_of
 use Rattle.dg_model.specs.Attributes.{or_logical}
 use Rattle.dg_model.specs.Wires.{edges_into}
 use Rattle.dg_model.specs.Wired.{IsWired}
-use Rattle.dg_tables.proofs.Lists.{get_holds}
-use Rattle.dg_tables.proofs.Edges.{map_there, length_map}
+use Rattle.fx_io.proofs.Places.{held, map_there}
 use Rattle.dg_tables.proofs.Growing.{Grows, known_there, there_known, round_grows, round_known, settled, taken_known}
 use Rattle.dg_tables.proofs.TypeRules.{AreValid, taken_more, taken_valid}
+use Rattle.std.proofs.lemmas.List.{length-map}
 
 -- what is known of inputs is known of a block
 known_source : (types : Types) (edges : List Edge) (i : ℕ) (t : FxType) → known_at (map (λ (edge : Edge). known_at types edge.from) edges) i ≡ Some t → (from : ℕ) × (known_at types from ≡ Some t)
@@ -32,7 +32,7 @@ known_source types (x ∷ xs) (suc i) t e = known_source types xs i t e
 
 inputs_grow : (types later : Types) (edges : List Edge) → Grows types later → Grows (map (λ (edge : Edge). known_at types edge.from) edges) (map (λ (edge : Edge). known_at later edge.from) edges)
 inputs_grow types later edges g = record {
-  same = length_map (λ (edge : Edge). known_at types edge.from) edges ∙ sym (length_map (λ (edge : Edge). known_at later edge.from) edges);
+  same = length-map edges (λ (edge : Edge). known_at types edge.from) ∙ sym (length-map edges (λ (edge : Edge). known_at later edge.from));
   kept = λ k t e. kept edges k t e;
 }
   where
@@ -50,7 +50,7 @@ explicit_is Auto t e = absurd (none-some t e)
 
 module _ (sums : FullSumIsOne) (products : FullProductIsOne) (unions : UnionIsOne) (params : ParamTypeIsOne) (diagram : Diagram) (wired : IsWired diagram) where
   readable : (place : ℕ) (block : Block) → slice_get diagram.blocks place ≡ Some block → IsReadable block
-  readable place block e = get_holds IsReadable diagram.blocks place block wired.blocks e
+  readable place block e = held IsReadable diagram.blocks place block wired.blocks e
 
   -- what the blocks take in a round
   abbrev taken : Types → ℕ → Option FxType
@@ -126,7 +126,7 @@ module _ (sums : FullSumIsOne) (products : FullProductIsOne) (unions : UnionIsOn
   pub type_known : (place : ℕ) (block : Block) (t : FxType) → slice_get diagram.blocks place ≡ Some block → taken_type block.kind block.result (input_types diagram (types_of diagram) place) ≡ Some t
       → (u : FxType) × (known_at (types_of diagram) place ≡ Some u)
   type_known place block t at e =
-      let size : length start ≡ length diagram.blocks = length_map (λ (block : Block). explicit_type block.result) diagram.blocks in
+      let size : length start ≡ length diagram.blocks = length-map diagram.blocks (λ (block : Block). explicit_type block.result) in
       taken_known taken (types_of diagram) place t (settled taken (length diagram.blocks) start size)
       (subst (λ (n : ℕ). place < n) (sym (length_after (next_types diagram) (length diagram.blocks) start ∙ size)) (slice_get_within diagram.blocks place block at))
       (subst (λ (o : Option Block). type_of_next o (input_types diagram (types_of diagram) place) ≡ Some t) (sym at) e)

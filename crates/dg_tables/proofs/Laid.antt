@@ -1,4 +1,4 @@
--- How entries are laid out, one block behind another.
+-- How entries are laid out, one block behind another. Crates above may cite this file.
 use Rattle.std.proofs.Common.{◌≡◌, ℕ, zero, suc, ◌+◌, ◌-◌, ◌^◌, ◌<◌, ◌≤◌, ◌⊎◌, ◌++◌, inl, inr, List, [], ◌∷◌, length, map, Some, slice_get, length-append, length-set, get_or-set_other, get_or-set_same, ap, ap₂, sym, ◌∙◌, subst, subst₂, refl, arith, le_refl}
 use Rattle.std.specs.Prelude.{slice_set}
 use Rattle.std.proofs.lemmas.Bool.{cases_lt}
@@ -17,8 +17,8 @@ use Rattle.dg_tables.specs.declared.reading.Starts.{Starts}
 use Rattle.dg_tables.specs.Entries.{IsEntry, AreEntries, place_at}
 use Rattle.dg_tables.specs.Finding.{AreLines, IsNumbered, Finds}
 use Rattle.dg_tables.specs.inner.Laying.{ArePut, AreLaid}
-use Rattle.dg_tables.proofs.Lists.{get_some, length_mapped}
-use Rattle.dg_tables.proofs.Ranks.{there_left}
+use Rattle.dg_tables.proofs.Lists.{length_mapped}
+use Rattle.fx_io.proofs.Places.{get_left, get_some}
 
 -- ---- one list behind another
 behind : {A : Type 0} (xs ys : List A) (i : ℕ) (y : A) → slice_get ys i ≡ Some y → slice_get (xs ++ ys) (length xs + i) ≡ Some y
@@ -40,7 +40,7 @@ mapped f n i y at =
     (within, same_Some (f i) y (sym (mapped_at f 0 n i within ∙ ap (λ (m : ℕ). Some (f m)) e) ∙ at))
 
 -- ---- a place written
-set_there : {A : Type 0} (xs : List A) (i : ℕ) (x : A) → i < length xs → slice_get (slice_set xs i x) i ≡ Some x
+pub set_there : {A : Type 0} (xs : List A) (i : ℕ) (x : A) → i < length xs → slice_get (slice_set xs i x) i ≡ Some x
 set_there xs i x within = slice_get-get_or (slice_set xs i x) i x (subst (λ (n : ℕ). i < n) (sym (length-set xs i x)) within) ∙ ap (λ y. Some y) (get_or-set_same xs i x x within)
 
 set_other : {A : Type 0} (xs : List A) (i j : ℕ) (x y : A) → (j ≡ i → ⊥) → slice_get xs j ≡ Some y → slice_get (slice_set xs i x) j ≡ Some y
@@ -68,12 +68,12 @@ module _ (diagram : Diagram) (attributes : Attributes) (block : ℕ) (b : Block)
       subst₂ (λ (es : List ℕ) (ps : List Place). ArePut diagram attributes block b (n + 1) before others es ps) (sym entries_are) (sym places_are) (record {
         size = length-append entries (length places ∷ []) ∙ omega (arith, put.size);
         longer = omega (arith, put.longer, length-append places row);
-        starts_stay = λ i from at. there_left entries (length places ∷ []) i from (put.starts_stay i from at);
-        places_stay = λ j place at. there_left places row j place (put.places_stay j place at);
+        starts_stay = λ i from at. get_left entries (length places ∷ []) i from (put.starts_stay i from at);
+        places_stay = λ j place at. get_left places row j place (put.places_stay j place at);
         stands = λ port element from to below. elim (cases_lt port (n + 1)) [
           | inl less ↦
               let s = put.stands port element from (omega (arith, less)) below in
-              (s.0, there_left entries (length places ∷ []) (length before + (port - 1)) s.0 s.1, there_left places row (s.0 + element) (place_at block port element) s.2)
+              (s.0, get_left entries (length places ∷ []) (length before + (port - 1)) s.0 s.1, get_left places row (s.0 + element) (place_at block port element) s.2)
           | inr past ↦
               let same : port ≡ n + 1 = omega (arith, past, to) in
               let start : length before + (port - 1) ≡ length entries + 0 = omega (arith, same, put.size) in

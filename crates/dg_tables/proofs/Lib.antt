@@ -3,12 +3,12 @@ mod Carried
 pub mod Drivers
 pub mod Edges
 pub mod Fitting
-mod Given
+pub mod Given
 pub mod Ground
 pub mod Grounded
 mod Growing
 mod Known
-mod Laid
+pub mod Laid
 mod Lines
 mod Listed
 pub mod Lists

@@ -11,7 +11,7 @@ use Rattle.dg_model.specs.Wired.{IsWired, Joins, StandsBefore}
 use Rattle.dg_tables.specs.Finding.{AreLines}
 use Rattle.dg_tables.specs.inner.Laying.{AreLinesTo, line_put}
 use Rattle.dg_tables.proofs.Drivers.{unit_if, count_by-cons, some_counted, driver_is}
-use Rattle.dg_tables.proofs.Lists.{get_holds, get_some}
+use Rattle.fx_io.proofs.Places.{held, get_some}
 use Rattle.dg_tables.proofs.Ranks.{found_at}
 
 -- ---- one that is counted once
@@ -49,7 +49,7 @@ module _ (diagram : Diagram) (wired : IsWired diagram) where
   ends_at edge block port is = let parts = and_parts (edge.to == block) (edge.to_port == port) is in (eqb-true edge.to block parts.0, eqb-true edge.to_port port parts.1)
 
   pub target : (k : ℕ) (edge : Edge) → slice_get diagram.edges k ≡ Some edge → (b : Block) × (slice_get diagram.blocks edge.to ≡ Some b) × (1 ≤ edge.to_port) × (edge.to_port ≤ b.inputs)
-  target k edge at = go (slice_get diagram.blocks edge.to) refl (get_holds (Joins diagram.blocks) diagram.edges k edge wired.edges at).target
+  target k edge at = go (slice_get diagram.blocks edge.to) refl (held (Joins diagram.blocks) diagram.edges k edge wired.edges at).target
     where
       go : (o : Option Block) → slice_get diagram.blocks edge.to ≡ o → MatchOption o ⊥ (λ block. (1 ≤ edge.to_port) × (edge.to_port ≤ block.inputs)) → (b : Block) × (slice_get diagram.blocks edge.to ≡ Some b) × (1 ≤ edge.to_port) × (edge.to_port ≤ b.inputs)
       go None is h = absurd h

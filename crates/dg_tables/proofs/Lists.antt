@@ -3,7 +3,6 @@ use Rattle.std.proofs.Common.{◌≡◌, ℕ, zero, suc, add-one, ◌+◌, ◌++
 use Rattle.std.proofs.Math.Nat.{mod-le}
 use Rattle.std.specs.List.{list_any}
 use Rattle.std.proofs.lemmas.List.Elements.{All-nil, All-cons, All-head, All-tail, All-weaker, All-filter}
-use Rattle.std.proofs.lemmas.List.Sums.{sum_by-cons}
 use Rattle.std.proofs.lemmas.Bool.{cases_lt}
 use Rattle.std.proofs.lemmas.Option.{none-some, same_Some}
 use Rattle.dg_model.specs.Signals.{Table}
@@ -11,6 +10,9 @@ use Rattle.dg_model.specs.Hits.{Hits, is_hit, last_hit, hits_before, is_enabled_
 use Rattle.dg_waves.specs.Rounds.{numbers_from}
 use Rattle.dg_model.specs.Wires.{repeated}
 use Rattle.dg_model.specs.Equation.{IsPart}
+use Rattle.fx_io.proofs.Places.{held, sum-cons}
+use Rattle.std.proofs.lemmas.List.Sums.{sum_by-append, sum_by-cons}
+use Rattle.dg_waves.proofs.Waved.{numbers_suc, take_numbers}
 
 -- ---- what is found or read has what all have
 pub find_holds : {X : Type 0} (P : X → Type 0) (test : X → Bool) (xs : List X) (x : X) → All P xs → find test xs ≡ Some x → P x
@@ -20,11 +22,6 @@ find_holds {X} P test (y ∷ ys) x all e = go (test y) (find_holds P test ys x (
     go : (b : Bool) → (find test ys ≡ Some x → P x) → cond b (Some y) (find test ys) ≡ Some x → P x
     go true rest e = subst P (same_Some y x e) (All-head P y ys all)
     go false rest e = rest e
-
-pub get_holds : {X : Type 0} (P : X → Type 0) (xs : List X) (i : ℕ) (x : X) → All P xs → slice_get xs i ≡ Some x → P x
-get_holds P [] i x all e = absurd (none-some x e)
-get_holds P (y ∷ ys) zero x all e = subst P (same_Some y x e) (All-head P y ys all)
-get_holds P (y ∷ ys) (suc i) x all e = get_holds P ys i x (All-tail P y ys all) e
 
 -- ---- lists over numbers
 pub map_same : {A : Type 0} (f g : ℕ → A) (k n : ℕ) → ((p : ℕ) → k ≤ p → p < k + n → f p ≡ g p) → map f (numbers_from k n) ≡ map g (numbers_from k n)
@@ -43,9 +40,6 @@ get_number f k (suc n) (suc i) h = get_number f (suc k) n i (omega arith) ∙ ap
 pub length_numbers : (f : ℕ → ℕ) (k n : ℕ) → length (map f (numbers_from k n)) ≡ n
 length_numbers f k zero = refl
 length_numbers f k (suc n) = ap suc (length_numbers f (suc k) n)
-
-sum-cons : (x : ℕ) (xs : List ℕ) → sum (x ∷ xs) ≡ x + sum xs
-sum-cons x xs = sum_by-cons (λ x. x) x xs
 
 -- the numbers before one of them, with it, have no greater sum than all
 pub sum_before : (f : ℕ → ℕ) (k n i : ℕ) → i < n → sum (map f (numbers_from k i)) + f (k + i) ≤ sum (map f (numbers_from k n))
@@ -102,7 +96,7 @@ second_hit period zero k h e = absurd (none-some h e)
 second_hit period (suc t) k h e = go (is_hit period t) e (second_hit period t k h)
   where
     go : (b : Bool) → slice_get (if b then t ∷ hits_before period t else hits_before period t) (suc k) ≡ Some h → (slice_get (hits_before period t) (suc k) ≡ Some h → suc h < t) → suc h < suc t
-    go true e rest = let l : h < t = get_holds (λ h. h < t) (hits_before period t) k h (hits_all period t) e in omega (arith, l)
+    go true e rest = let l : h < t = held (λ h. h < t) (hits_before period t) k h (hits_all period t) e in omega (arith, l)
     go false e rest = let l : suc h < t = rest e in omega (arith, l)
 
 pub filter_same : (f g : ℕ → Bool) (period : Option ℕ) (t : ℕ) → ((s : ℕ) → s < t → f s ≡ g s) → filter f (hits_before period t) ≡ filter g (hits_before period t)
@@ -150,12 +144,6 @@ below_repeated width element (inr h) = go (width == 1) refl
     go true e = omega (arith, h)
     go false e = h
 
--- ---- for values that are there
-pub get_some : {X : Type 0} (xs : List X) (i : ℕ) → i < length xs → (x : X) × (slice_get xs i ≡ Some x)
-get_some [] i h = absurd (omega (arith, h))
-get_some (x ∷ xs) zero h = (x, refl)
-get_some (x ∷ xs) (suc i) h = get_some xs i (omega (arith, h))
-
 pub get_mapped : {A : Type 0} (f : ℕ → A) (d : A) (k n i : ℕ) → i < n → get_or (map f (numbers_from k n)) i d ≡ f (k + i)
 get_mapped f d k zero i h = absurd (omega (arith, h))
 get_mapped f d k (suc n) zero h = ap f (omega arith)
@@ -176,13 +164,28 @@ part_some (w ∷ ws) element h = go (cases_lt element w) (λ l. part_some ws (el
         let r = rest (omega (arith, h, g, sum-cons w ws)) in
         (suc r.0, r.1, record { signal_is = omega (arith, r.2.signal_is); within = r.2.within; place = omega (arith, g, r.2.place, sum-cons w (take r.0 ws)) })
 
--- ---- the last number of a range
-map_end : {A : Type 0} (f : ℕ → A) (from n : ℕ) → map f (numbers_from from (suc n)) ≡ map f (numbers_from from n) ++ f (from + n) ∷ []
-map_end f from zero = let e : from ≡ from + 0 = omega arith in ap (λ (m : ℕ). f m ∷ []) e
-map_end f from (suc n) = let e : suc from + n ≡ from + suc n = omega arith in ap (λ xs. f from ∷ xs) (map_end f (suc from) n ∙ ap (λ (m : ℕ). map f (numbers_from (suc from) n) ++ f m ∷ []) e)
-
 pub map_end_zero : {A : Type 0} (f : ℕ → A) (n : ℕ) → map f (numbers_from 0 (suc n)) ≡ map f (numbers_from 0 n) ++ f n ∷ []
-map_end_zero f n = let e : 0 + n ≡ n = omega arith in map_end f 0 n ∙ ap (λ (m : ℕ). map f (numbers_from 0 n) ++ f m ∷ []) e
+map_end_zero f n = let e : 0 + n ≡ n = omega arith in numbers_suc f 0 n ∙ ap (λ (m : ℕ). map f (numbers_from 0 n) ++ f m ∷ []) e
 
 pub map_last : {A : Type 0} (f : ℕ → A) (n : ℕ) → map f (numbers_from 1 (n + 1)) ≡ map f (numbers_from 1 n) ++ f (n + 1) ∷ []
-map_last f n = rw add-one (map_end f 1 n ∙ (let e : 1 + n ≡ suc n = omega arith in ap (λ (m : ℕ). map f (numbers_from 1 n) ++ f m ∷ []) e))
+map_last f n = rw add-one (numbers_suc f 1 n ∙ (let e : 1 + n ≡ suc n = omega arith in ap (λ (m : ℕ). map f (numbers_from 1 n) ++ f m ∷ []) e))
+
+-- one number more
+pub sum_last : (f : ℕ → ℕ) (n : ℕ) → sum (map f (numbers_from 1 (n + 1))) ≡ sum (map f (numbers_from 1 n)) + f (n + 1)
+sum_last f n =
+    let e = ap (λ (xs : List ℕ). sum xs) (map_last f n) in
+    let split = sum_by-append (λ x. x) (map f (numbers_from 1 n)) (f (n + 1) ∷ []) in
+    let one = sum_by-cons (λ x. x) (f (n + 1)) [] in
+    omega (arith, e, split, one)
+
+-- the signal in which the elements before end has the element
+pub part_here : (f : ℕ → ℕ) (inputs signal left width element : ℕ) → signal < inputs → width ≡ f (signal + 1) → left < width → element ≡ sum (map f (numbers_from 1 signal)) + left
+    → IsPart (map f (numbers_from 1 inputs)) element signal left
+part_here f inputs signal left width element below width_is within at =
+    let next : 1 + signal ≡ signal + 1 = omega arith in
+    let read : slice_index (map f (numbers_from 1 inputs)) signal ≡ f (signal + 1) = get_number f 1 inputs signal below ∙ ap f next in
+    record {
+      signal_is = subst (λ (n : ℕ). signal < n) (sym (length_numbers f 1 inputs)) below;
+      within = subst (λ (n : ℕ). left < n) (width_is ∙ sym read) within;
+      place = at ∙ ap (λ (xs : List ℕ). sum xs + left) (sym (take_numbers f 1 inputs signal (omega (arith, below))));
+    }

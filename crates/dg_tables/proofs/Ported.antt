@@ -15,8 +15,9 @@ use Rattle.dg_model.specs.declared.row.Role.{Role}
 use Rattle.dg_model.specs.Wired.{AreNumbered}
 use Rattle.dg_model.specs.RootElements.{has_number, number_in}
 use Rattle.dg_tables.specs.inner.Ports.{ArePortsTo, IsNumberOf, IsPortNumber, port_put}
-use Rattle.dg_tables.proofs.Lists.{get_holds}
-use Rattle.dg_tables.proofs.Numbered.{IsIn, apart, first_is, in_filter_map, in_later}
+use Rattle.fx_io.proofs.Places.{held}
+use Rattle.dg_model.proofs.Roots.{apart, first_is}
+use Rattle.dg_tables.proofs.Numbered.{IsIn, in_filter_map, in_later}
 
 -- ---- each number is there
 
@@ -76,7 +77,7 @@ module _ (number_of : Role → Option ℕ) (blocks : List Block) (are : AreNumbe
   number_within : (block : ℕ) (b : Block) (number : ℕ) → slice_get blocks block ≡ Some b → number_in number_of b ≡ Some number → IsPortNumber number_of blocks number
   number_within block b number at is =
       let there = in_filter_map (number_in number_of) b number blocks block at is in
-      get_holds (λ (n : ℕ). (1 ≤ n) × (n ≤ length (filter_map (number_in number_of) blocks))) (filter_map (number_in number_of) blocks) there.0 number are.within there.1
+      held (λ (n : ℕ). (1 ≤ n) × (n ≤ length (filter_map (number_in number_of) blocks))) (filter_map (number_in number_of) blocks) there.0 number are.within there.1
 
   -- the port of a number stands in the list
   port_there : (ports : List ℕ) → ArePortsTo number_of blocks (length blocks) ports → (number : ℕ) → IsPortNumber number_of blocks number

@@ -12,21 +12,11 @@ use Rattle.dg_model.specs.Wires.{enters, driver_of}
 use Rattle.dg_model.specs.LatencyEdges.{LatencyEdge, signal_edge, asks_ever, enable_edge, enable_edges_from, latency_edges}
 use Rattle.dg_model.specs.Instant.{reads_now, is_asked_now, asks_now, takes_now_at, is_instant}
 use Rattle.dg_model.specs.Loop.{LeadsNow, IsOrder}
-
--- ---- lists by their places
-pub there_left : {X : Type 0} (xs ys : List X) (k : ℕ) (x : X) → slice_get xs k ≡ Some x → slice_get (xs ++ ys) k ≡ Some x
-there_left [] ys k x e = absurd (none-some x e)
-there_left (y ∷ xs) ys zero x e = e
-there_left (y ∷ xs) ys (suc k) x e = there_left xs ys k x e
+use Rattle.fx_io.proofs.Places.{get_left, there_map}
 
 pub there_right : {X : Type 0} (xs ys : List X) (k : ℕ) (x : X) → slice_get ys k ≡ Some x → (j : ℕ) × (slice_get (xs ++ ys) j ≡ Some x)
 there_right [] ys k x e = (k, e)
 there_right (y ∷ xs) ys k x e = let r = there_right xs ys k x e in (suc r.0, r.1)
-
-pub there_map : {A B : Type 0} (f : A → B) (xs : List A) (k : ℕ) (x : A) → slice_get xs k ≡ Some x → slice_get (map f xs) k ≡ Some (f x)
-there_map f [] k x e = absurd (none-some x e)
-there_map f (y ∷ xs) zero x e = ap (λ z. Some (f z)) (same_Some y x e)
-there_map f (y ∷ xs) (suc k) x e = there_map f xs k x e
 
 pub found_at : {X : Type 0} (test : X → Bool) (xs : List X) (x : X) → find test xs ≡ Some x → (k : ℕ) × (slice_get xs k ≡ Some x) × (test x ≡ true)
 found_at test [] x e = absurd (none-some x e)
@@ -88,7 +78,7 @@ enable_stands place zero (x ∷ xs) b control at same e asks is =
     let here : place ≡ at = omega (arith, same) in
     subst (λ (n : ℕ). (j : ℕ) × (slice_get (enable_edges_from place (x ∷ xs)) j ≡ Some (control_edge control n))) here (
       0,
-      there_left (enable_edge place (asks_ever (row_of x.kind).timing.asks) x.enable) (enable_edges_from (suc place) xs) 0 (control_edge control place)
+      get_left (enable_edge place (asks_ever (row_of x.kind).timing.asks) x.enable) (enable_edges_from (suc place) xs) 0 (control_edge control place)
           (subst (λ (z : Block). slice_get (enable_edge place (asks_ever (row_of z.kind).timing.asks) z.enable) 0 ≡ Some (control_edge control place)) (sym (same_Some x b e)) (own_edge place b control asks is)),
     )
 enable_stands place (suc k) (x ∷ xs) b control at same e asks is =
@@ -109,7 +99,7 @@ module _ (diagram : Diagram) (attributes : Attributes) where
       let instant : takes_now_at diagram attributes (signal_edge edge) (slice_get diagram.blocks edge.to) ≡ true =
       subst (λ (o : Option Block). takes_now_at diagram attributes (signal_edge edge) o ≡ true) (sym at) (subst (λ (n : ℕ). reads_now diagram attributes n b.kind ≡ true) (sym to) now) in
       let lead : LeadsNow diagram attributes edge.from edge.to =
-      leads f.0 (signal_edge edge) (there_left (map signal_edge diagram.edges) (enable_edges_from 0 diagram.blocks) f.0 (signal_edge edge) (there_map signal_edge diagram.edges f.0 edge f.1)) instant in
+      leads f.0 (signal_edge edge) (get_left (map signal_edge diagram.edges) (enable_edges_from 0 diagram.blocks) f.0 (signal_edge edge) (there_map signal_edge diagram.edges f.0 edge f.1)) instant in
       subst (λ (n : ℕ). LeadsNow diagram attributes edge.from n) to lead
 
   -- and from the control of a block that asks in the same sample whether it is enabled

@@ -15,7 +15,7 @@ use Rattle.dg_model.specs.RootElements.{RootElement, root_element, elements_of_p
 use Rattle.dg_tables.specs.declared.roots.Root.{Root}
 use Rattle.dg_tables.specs.Roots.{root_at, roots_of}
 use Rattle.dg_tables.proofs.Drivers.{count_by-cons, unit_if}
-use Rattle.dg_tables.proofs.Lists.{get_holds}
+use Rattle.fx_io.proofs.Places.{held}
 
 pub counted_map : {A B : Type 0} (f : A → Option B) (xs : List A) → count_by (λ x. is_some (f x)) xs ≡ length (filter_map f xs)
 counted_map f [] = refl
@@ -51,7 +51,7 @@ port_roots attributes width_of number block width o e w =
 
 -- a root input port has an output port
 pub input_shows : (diagram : Diagram) → IsWired diagram → (block : ℕ) (b : Block) (number : ℕ) → slice_get diagram.blocks block ≡ Some b → number_in root_input b ≡ Some number → 1 ≤ b.outputs
-input_shows diagram wired block b number at is = by_kind b.kind b.inputs b.outputs (get_holds IsReadable diagram.blocks block b wired.blocks at).ports is
+input_shows diagram wired block b number at is = by_kind b.kind b.inputs b.outputs (held IsReadable diagram.blocks block b wired.blocks at).ports is
   where
     by_kind : (kind : Kind) (inputs outputs : ℕ) → HasPorts kind inputs outputs → root_input (row_of kind).place.role ≡ Some number → 1 ≤ outputs
     by_kind (Inport own width) inputs outputs ports is = omega (arith, ports.1)

@@ -15,7 +15,8 @@ use Rattle.dg_model.specs.Wired.{IsWired, Joins, NamesControl}
 use Rattle.dg_model.specs.Wires.{enters, driver_of, at_source, repeated, width_into, type_into, value_into, values_into}
 pub use Rattle.dg_tables.specs.Finding.{IsRead}
 use Rattle.dg_tables.proofs.Ground.{HasWidths}
-use Rattle.dg_tables.proofs.Lists.{find_holds, get_holds, map_same, below_repeated}
+use Rattle.fx_io.proofs.Places.{held}
+use Rattle.dg_tables.proofs.Lists.{find_holds, map_same, below_repeated}
 
 -- the role of a control
 abbrev is_control : Role → Bool
@@ -38,7 +39,7 @@ port_shown _ inputs outputs port ports from to = to
 
 module _ (diagram : Diagram) (attributes : Attributes) (wired : IsWired diagram) where
   pub is_readable : (block : ℕ) (b : Block) → slice_get diagram.blocks block ≡ Some b → IsReadable b
-  is_readable block b e = get_holds IsReadable diagram.blocks block b wired.blocks e
+  is_readable block b e = held IsReadable diagram.blocks block b wired.blocks e
 
   pub source_shown : (block port : ℕ) (edge : Edge) (element : ℕ) → driver_of diagram block port ≡ Some edge → element < attributes.width_at edge.from edge.from_port
       → (b : Block) × IsShown diagram attributes edge.from b edge.from_port element
@@ -67,7 +68,7 @@ module _ (diagram : Diagram) (attributes : Attributes) (wired : IsWired diagram)
   pub control_shown : (widths : (block : ℕ) (b : Block) → slice_get diagram.blocks block ≡ Some b → HasWidths diagram attributes block b.kind b.inputs b.outputs)
       (block : ℕ) (b : Block) (control : ℕ) → slice_get diagram.blocks block ≡ Some b → b.enable ≡ Some control → (c : Block) × IsShown diagram attributes control c 1 0
   control_shown widths block b control e is =
-      go (slice_get diagram.blocks control) refl (subst (λ (o : Option ℕ). NamesControl diagram.blocks o) is (get_holds (λ (x : Block). NamesControl diagram.blocks x.enable) diagram.blocks block b wired.controls e))
+      go (slice_get diagram.blocks control) refl (subst (λ (o : Option ℕ). NamesControl diagram.blocks o) is (held (λ (x : Block). NamesControl diagram.blocks x.enable) diagram.blocks block b wired.controls e))
     where
       by_kind : (kind : Kind) (inputs outputs : ℕ) → is_control (row_of kind).place.role ≡ true → HasPorts kind inputs outputs → HasWidths diagram attributes control kind inputs outputs
           → (1 ≤ shown_ports kind outputs) × (0 < shown_width diagram attributes kind control 1)

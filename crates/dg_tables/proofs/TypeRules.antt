@@ -4,7 +4,7 @@ use Rattle.std.specs.Ordering.{int_eq}
 use Rattle.std.specs.List.{list_all, list_any}
 use Rattle.std.proofs.lemmas.Int.{ints}
 use Rattle.std.proofs.lemmas.Bool.Decides.{Decides-int_eq}
-use Rattle.std.proofs.lemmas.List.Elements.{All-nil, All-cons, All-head, All-tail}
+use Rattle.std.proofs.lemmas.List.Elements.{All-nil, All-cons}
 use Rattle.std.proofs.lemmas.Option.{none-some, same_Some}
 use Rattle.fx_num.specs.Word.{IsWord}
 use Rattle.fx_type.specs.declared.kind.FxType.{FxType}
@@ -25,6 +25,7 @@ use Rattle.dg_model.specs.GainParam.{ParamTypeIsOne, IsInternalParam, IsGreatest
 use Rattle.dg_model.specs.Periods.{known_at}
 use Rattle.dg_model.specs.TypeRounds.{with_known, all_known, Types, full_type, own_type, taken_type}
 use Rattle.dg_tables.proofs.Growing.{Grows, known_there, there_known, rest_grows}
+use Rattle.dg_model.proofs.SumTerms.{terms-valid}
 
 -- ---- what follows from a known value
 pub with_some : {A B : Type 0} (o : Option A) (next : A → Option B) (z : B) → with_known o next ≡ Some z → (x : A) × (o ≡ Some x) × (next x ≡ Some z)
@@ -90,11 +91,6 @@ all_valid (x ∷ xs) known v e =
     let k = with_some (all_known xs) (λ tail. Some (h.0 ∷ tail)) known h.2 in
     subst (All IsType) (same_Some (h.0 ∷ k.0) known k.2) (All-cons IsType h.0 k.0 (v 0 h.0 h.1) (all_valid xs k.0 (λ i t e. v (suc i) t e) k.1))
 
-pub terms_valid : (negative : List Bool) (known : List FxType) → All IsType known → All (λ (term : Bool × FxType). IsType term.1) (zip negative known)
-terms_valid [] known all = All-nil (λ (term : Bool × FxType). IsType term.1)
-terms_valid (b ∷ bs) [] all = All-nil (λ (term : Bool × FxType). IsType term.1)
-terms_valid (b ∷ bs) (t ∷ ts) all = All-cons (λ (term : Bool × FxType). IsType term.1) (b, t) (zip bs ts) (All-head IsType t ts all) (terms_valid bs ts (All-tail IsType t ts all))
-
 three_true : (a b c : Bool) → a ≡ true → b ≡ true → c ≡ true → (a && (b && c)) ≡ true
 three_true true true true p q r = refl
 three_true true true false p q r = absurd (true≢false (sym r))
@@ -137,7 +133,7 @@ module _ (sums : FullSumIsOne) (products : FullProductIsOne) (unions : UnionIsOn
   full_valid FullRule.NoFull inputs t v e = absurd (none-some t e)
   full_valid (FullRule.FullSum negative) inputs t v e =
       let h = with_some (all_known inputs) (λ known. full_sum_of (zip negative known)) t e in
-      ((sums (zip negative h.0) t (terms_valid negative h.0 (all_valid inputs h.0 v h.1))).1 h.2).valid
+      ((sums (zip negative h.0) t (terms-valid negative h.0 (all_valid inputs h.0 v h.1))).1 h.2).valid
   full_valid (FullRule.FullScaled value param) inputs t v e =
       let h = with_some (known_at inputs 0) (λ input. with_known (param_type_of value param input) (full_product_of input)) t e in
       let k = with_some (param_type_of value param h.0) (full_product_of h.0) t h.2 in

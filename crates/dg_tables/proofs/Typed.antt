@@ -33,13 +33,15 @@ use Rattle.dg_model.specs.Operation.{HasArity, HasSigns, HasParameters, HasResul
 use Rattle.dg_model.specs.Equation.{StoresEntry, IsOpOf, signs_of}
 use Rattle.dg_model.specs.Wires.{type_into, types_into, edges_into, entry_of}
 use Rattle.dg_model.specs.Wired.{IsWired}
-use Rattle.dg_model.proofs.Ports.{inputs_are_sources}
+use Rattle.dg_model.proofs.Ports.{inputs_are_sources, map_twice}
 use Rattle.dg_tables.proofs.Ground.{KeepsType, operation_at}
-use Rattle.dg_tables.proofs.Lists.{get_holds, length_mapped, get_mapped}
-use Rattle.dg_tables.proofs.Ranks.{there_map}
-use Rattle.dg_tables.proofs.Edges.{edges_length, edge_at, source_at, length_map}
-use Rattle.dg_tables.proofs.TypeRules.{with_some, all_valid, terms_valid, param_valid}
+use Rattle.fx_io.proofs.Places.{held, there_map}
+use Rattle.dg_tables.proofs.Lists.{length_mapped, get_mapped}
+use Rattle.dg_tables.proofs.Edges.{edges_length, edge_at, source_at}
+use Rattle.dg_model.proofs.SumTerms.{terms-valid}
+use Rattle.dg_tables.proofs.TypeRules.{with_some, all_valid, param_valid}
 use Rattle.dg_tables.proofs.Known.{inputs_valid, types_valid, types_taken, type_valid, type_known}
+use Rattle.std.proofs.lemmas.List.{length-map}
 
 -- ---- what is known
 known_some : {A : Type 0} (o : Option A) → IsSome o → (x : A) × (o ≡ Some x)
@@ -51,10 +53,6 @@ all_logical [] all = refl
 all_logical (None ∷ xs) all = absurd (true≢false (sym (all 0 None (omega arith))))
 all_logical (Some x ∷ xs) all =
     ap (λ (o : Option (List FxType)). with_known o (λ tail. Some (x ∷ tail))) (all_logical xs (λ k d below. all (suc k) d (omega (arith, below))))
-
-map_twice : {A B C : Type 0} (f : A → B) (g : B → C) (xs : List A) → map g (map f xs) ≡ map (λ (x : A). g (f x)) xs
-map_twice f g [] = refl
-map_twice f g (x ∷ xs) = let tail = map_twice f g xs in cc
 
 one_at : (inputs : Types) → AreOne inputs → (i : ℕ) → i < length inputs → known_at inputs i ≡ known_at inputs 0
 one_at [] one i below = absurd (omega (arith, below))
@@ -80,13 +78,13 @@ module _ (storing : StoringGivesOne) (sums : FullSumIsOne) (products : FullProdu
     result = or_logical (known_at (types_of diagram) block)
 
     readable : IsReadable b
-    readable = get_holds IsReadable diagram.blocks block b wired.blocks block_is
+    readable = held IsReadable diagram.blocks block b wired.blocks block_is
 
     known : All IsSome inputs
     known = (kept.known block b block_is).inputs
 
     inputs_length : length inputs ≡ b.inputs
-    inputs_length = length_map (λ (edge : Edge). known_at (types_of diagram) edge.from) (edges_into diagram block) ∙ edges_length diagram wired block b block_is
+    inputs_length = length-map (edges_into diagram block) (λ (edge : Edge). known_at (types_of diagram) edge.from) ∙ edges_length diagram wired block b block_is
 
     list_length : length list ≡ b.inputs
     list_length = length_mapped (type_into diagram (attributes_of diagram) block) 1 b.inputs
@@ -191,7 +189,7 @@ module _ (storing : StoringGivesOne) (sums : FullSumIsOne) (products : FullProdu
     full_sum negative named =
         let full = known_some (full_type (FullRule.FullSum negative) inputs) named in
         let at : full_sum_of (zip negative list) ≡ Some full.0 = ap (λ (o : Option (List FxType)). with_known o (λ known. full_sum_of (zip negative known))) (sym list_known) ∙ full.1 in
-        (full.0, (sums (zip negative list) full.0 (terms_valid negative list list_valid)).1 at)
+        (full.0, (sums (zip negative list) full.0 (terms-valid negative list list_valid)).1 at)
 
     two : (f : FxType → FxType → Option FxType) (j : ℕ) (t : FxType) → 0 < b.inputs → j < b.inputs → with_known (known_at inputs 0) (λ left. with_known (known_at inputs j) (f left)) ≡ Some t
         → f (type_of list 0) (type_of list j) ≡ Some t

@@ -1,24 +1,24 @@
 -- A wired diagram has what the rounds of widths ask of it.
-use Rattle.std.proofs.Common.{◌≡◌, ℕ, ◌-◌, ◌≤◌, Bool, true, false, List, [], ◌∷◌, length, All, Some, None, Option, get_or, refl, sym, subst, ◌∙◌, inl, inr, arith}
-use Rattle.std.specs.Prelude.{slice_get, MatchOption, ◌⊎◌, if◌then◌else◌}
+use Rattle.std.proofs.Common.{◌≡◌, ℕ, ◌-◌, ◌≤◌, Bool, true, false, List, [], ◌∷◌, length, All, Some, get_or, refl, sym, subst, ◌∙◌, inl, inr, arith}
+use Rattle.std.specs.Prelude.{slice_get, ◌⊎◌, if◌then◌else◌}
 use Rattle.std.proofs.lemmas.Bool.{lt-ltb, cases_lt}
 use Rattle.std.proofs.lemmas.List.{get_or_past}
 use Rattle.std.proofs.lemmas.Option.{same_Some, slice_get_within, get_or_from_slice_get}
 use Rattle.dg_model.specs.declared.diagram.Diagram.{Diagram}
 use Rattle.dg_model.specs.declared.diagram.Block.{Block}
-use Rattle.dg_model.specs.declared.diagram.Edge.{Edge}
 use Rattle.dg_model.specs.declared.kind.Gate.TheVariants.{And, Or, Nand, Nor, Xor, Nxor, Not}
 use Rattle.dg_model.specs.declared.kind.Kind.{Kind}
 use Rattle.dg_model.specs.declared.kind.Kind.TheVariants.{Inport, Outport, Constant, Ground, Sum, Gain, Product, Switch, Relational, Logic, Convert, Delay, Mux, Demux, RateTransition, Pass, EnableTest, EnOut, Terminator}
 use Rattle.dg_model.specs.KindRow.{Shape, IsBetween}
 use Rattle.dg_model.specs.Library.{HasPorts, IsReadable, row_of}
 use Rattle.dg_model.specs.Widths.{are_open, list_length}
-use Rattle.dg_model.specs.Wired.{IsWired, Joins}
+use Rattle.dg_model.specs.Wired.{IsWired}
 use Rattle.dg_types.specs.declared.linked.Share.TheVariants.{Even, Fixed}
 use Rattle.dg_types.specs.inner.Linked.{is_shared_out}
 use Rattle.dg_types.specs.inner.Shown.{shape_of, declared_width, IsPort, HasParts, IsLaid, share_at}
 use Rattle.dg_types.specs.inner.Build.{AreAlike, CanLink, IsPortOf}
 use Rattle.dg_types.specs.inner.Rows.{HasRow}
+use Rattle.dg_model.proofs.Ports.{found, joins}
 
 port_is : (kind : Kind) (inputs outputs port : ℕ) → HasPorts kind inputs outputs → 1 ≤ port → port ≤ outputs → IsPort (shape_of kind) port
 port_is (Inport number width) inputs outputs port has low high = omega (arith, has.1)
@@ -119,15 +119,8 @@ lists_are EnableTest has = omega arith
 lists_are (EnOut reset initial) has = omega (arith, has.1)
 lists_are Terminator has = omega arith
 
-pub found : (o : Option Block) (P : Block → Type 0) → MatchOption o ⊥ P → (block : Block) × (o ≡ Some block) × P block
-found None P is = absurd is
-found (Some block) P is = (block, refl, is)
-
-readable : (diagram : Diagram) (k : ℕ) (block : Block) → IsWired diagram → slice_get diagram.blocks k ≡ Some block → IsReadable block
+pub readable : (diagram : Diagram) (k : ℕ) (block : Block) → IsWired diagram → slice_get diagram.blocks k ≡ Some block → IsReadable block
 readable diagram k block wired at = subst IsReadable (get_or_from_slice_get diagram.blocks k block block at) (wired.blocks k block (slice_get_within diagram.blocks k block at))
-
-pub joins : (diagram : Diagram) (k : ℕ) (edge : Edge) → IsWired diagram → slice_get diagram.edges k ≡ Some edge → Joins diagram.blocks edge
-joins diagram k edge wired at = subst (Joins diagram.blocks) (get_or_from_slice_get diagram.edges k edge edge at) (wired.edges k edge (slice_get_within diagram.edges k edge at))
 
 pub is_laid : (diagram : Diagram) → IsWired diagram → IsLaid diagram
 is_laid diagram wired = record {

@@ -18,6 +18,7 @@ use Rattle.dg_types.specs.inner.Shown.{shape_of, declared_width, outputs_of, sho
 use Rattle.dg_model.specs.KindRow.{Shape}
 use Rattle.dg_model.specs.Widths.{Widths, width_at, input_widths, are_open, share, taken, most_width, list_length, next_of, next_widths, first_of, widths_after}
 use Rattle.dg_model.specs.Wires.{edges_into}
+use Rattle.fx_io.proofs.Places.{get_some}
 
 -- ---- one port
 
@@ -144,11 +145,6 @@ inputs_shown diagram held block laid size =
     source_widths_map held diagram.blocks (edges_into diagram block)
     ∙ mapped_into (λ edge. width_through (source_of diagram.blocks edge).share (get_or held edge.from 0)) (λ edge. width_at (shown diagram.blocks held) edge.from edge.from_port) block diagram.edges (edge_width diagram held laid size)
 
-pub block_at : (blocks : List Block) (k : ℕ) → k < length blocks → (block : Block) × (slice_get blocks k ≡ Some block)
-block_at [] k inside = absurd (omega arith)
-block_at (block ∷ blocks) zero inside = (block, refl)
-block_at (block ∷ blocks) (suc k) inside = block_at blocks k (omega arith)
-
 inputs_cut : (diagram : Diagram) (widths : Widths) (edges : List Edge) → IsCut widths → (k : ℕ) → get_or (map (λ (edge : Edge). width_at widths edge.from edge.from_port) edges) k 0 ≤ 1025
 inputs_cut diagram widths [] is k = omega arith
 inputs_cut diagram widths (x ∷ xs) is zero = is.cut x.from x.from_port
@@ -175,7 +171,7 @@ shown_round diagram forms sources held laid mirrors size is =
     let right_size = length_round (next_widths diagram) (shown blocks held) ∙ length_shown blocks held size in
     same_places (shown blocks (round next held)) (round (next_widths diagram) (shown blocks held)) (left_size ∙ sym right_size) (λ k inside.
     let there : k < length blocks = omega (arith, left_size) in
-    let block = block_at blocks k there in
+    let block = get_some blocks k there in
     let value : get_or (round next held) k 0 ≡ next held k = get_or_from_slice_get (round next held) k (next held k) 0 (round_at next held k (omega (arith, size))) in
     shown_at blocks (round next held) k (block.0) round_size (block.1)
     ∙ ap (λ (v : ℕ). Some (outputs_of (shape_of block.0.kind) v)) value

@@ -18,7 +18,7 @@ use Rattle.fx_type.proofs.Ranges.{lowest_sign, highest_sign, InRange-zero}
 use Rattle.fx_type.proofs.Stored.{Decides-in_range, rounded_rounds, unit_positive}
 use Rattle.dg_model.specs.GainParam.{frac_down}
 use Rattle.dg_types.specs.inner.TypedFit.{is_within, bits_of, at_step, HasSign}
-use Rattle.dg_types.proofs.TypedRanges.{same_test}
+use Rattle.fx_io.proofs.Tests.{same_test}
 
 -- ---- one quotient and its nearest whole number
 

@@ -5,6 +5,7 @@ use Rattle.std.proofs.lemmas.Bool.{cases_lt, cases_Bool, leb-true, le-leb, lt-lt
 use Rattle.std.proofs.lemmas.Nat.{pow-add}
 use Rattle.fx_num.proofs.Arithmetic.{double}
 use Rattle.dg_types.specs.inner.TypedFit.{is_within, is_below}
+use Rattle.fx_io.proofs.Tests.{same_test}
 
 -- ---- a common factor is divided out
 
@@ -32,11 +33,6 @@ within_unscaled a b d x some h = elim (cases_lt (b + d / x) a) [
 ]
 
 -- ---- tests that hold in the same cases are the same
-
-pub same_test : (a b : Bool) → (a ≡ true → b ≡ true) → (b ≡ true → a ≡ true) → a ≡ b
-same_test true b to from = sym (to refl)
-same_test false true to from = from refl
-same_test false false to from = refl
 
 lt_test : (n half bound x y : ℕ) → (n + half < bound → x < y) → (x < y → n + half < bound) → nat_lt n (bound - half) ≡ nat_lt x y
 lt_test n half bound x y to from =

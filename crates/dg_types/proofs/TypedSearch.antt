@@ -1,5 +1,5 @@
 -- The first of a range that passes a test; lists of decimals at one number of steps.
-use Rattle.std.proofs.Common.{◌≡◌, ℕ, zero, suc, ◌+◌, ◌-◌, ◌<◌, ◌≤◌, Bool, true, false, List, [], ◌∷◌, length, take, get_or, Option, Some, None, ap, sym, ◌∙◌, refl, arith, inl, inr, All, cond}
+use Rattle.std.proofs.Common.{◌≡◌, ℕ, zero, suc, ◌+◌, ◌-◌, ◌<◌, ◌≤◌, Bool, true, false, List, [], ◌∷◌, length, take, get_or, Option, Some, None, ap, sym, ◌∙◌, refl, arith, inl, inr, All}
 use Rattle.std.specs.Prelude.{◌&&◌}
 use Rattle.std.specs.List.{find, range_with_len, list_all}
 use Rattle.std.specs.Option.{option_map}
@@ -34,10 +34,6 @@ none_found test n none = go (find test (range_with_len 0 n)) refl where
   go : (o : Option ℕ) → find test (range_with_len 0 n) ≡ o → o ≡ None
   go None e = refl
   go (Some j) e = let other = found test 0 n j e in absurd (true≢false (sym other.passes ∙ none j (omega arith) other.high))
-
--- the search goes on from the next number
-pub search_step : (test : ℕ → Bool) (k n : ℕ) → k < n → find test (range_with_len k (n - k)) ≡ cond (test k) (Some k) (find test (range_with_len (k + 1) (n - (k + 1))))
-search_step test k n inside = let e : n - k ≡ suc (n - (k + 1)) = omega arith in ap (λ (m : ℕ). find test (range_with_len k m)) e
 
 -- ---- lists
 

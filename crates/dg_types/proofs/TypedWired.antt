@@ -1,12 +1,12 @@
 -- A wired diagram has what the rounds of types ask of it, and the code's step is the diagram's.
-use Rattle.std.proofs.Common.{◌≡◌, ℕ, zero, suc, ◌+◌, ◌<◌, ◌++◌, Bool, true, false, List, [], ◌∷◌, length, map, All, Some, get_or, pos, negsuc, inl, inr, refl, sym, ap, subst, ◌∙◌, arith}
+use Rattle.std.proofs.Common.{◌≡◌, ℕ, zero, suc, ◌<◌, Bool, true, false, List, [], ◌∷◌, length, map, All, Some, get_or, pos, negsuc, inl, inr, refl, sym, ap, subst, ◌∙◌, arith}
 use Rattle.std.specs.Prelude.{slice_get, ◌≢◌}
 use Rattle.std.specs.Cmp.Derive.{both_true}
 use Rattle.std.proofs.lemmas.Bool.{le-leb, eq-eqb, cases_Bool, true≢false}
 use Rattle.std.proofs.lemmas.List.{length-map}
-use Rattle.std.proofs.lemmas.Option.{slice_get_within, get_or_from_slice_get}
+use Rattle.std.proofs.lemmas.Option.{slice_get_within}
 use Rattle.dg_waves.specs.Rounds.{after_rounds, numbers_from}
-use Rattle.dg_waves.proofs.Waved.{rounds_agree}
+use Rattle.dg_waves.proofs.Waved.{rounds_agree, length_numbers}
 use Rattle.fx_num.specs.Word.{IsWord}
 use Rattle.fx_type.proofs.Found.{Decides-int_le}
 use Rattle.fx_type.specs.declared.kind.FxType.{FxType}
@@ -35,6 +35,7 @@ use Rattle.dg_types.specs.inner.TypedInputs.{source_types, IsKnownValid, AreRead
 use Rattle.dg_model.proofs.Propagation.{length_types}
 use Rattle.dg_types.specs.inner.TypedLaws.{first_types}
 use Rattle.dg_types.specs.inner.TypedScan.{IsTyped}
+use Rattle.dg_types.proofs.FromWired.{readable}
 
 -- ---- valid types pass the test
 
@@ -85,17 +86,10 @@ full_ready EnableTest inputs outputs ports has = refl
 full_ready (EnOut reset initial) inputs outputs ports has = refl
 full_ready Terminator inputs outputs ports has = refl
 
-length_numbers : (k n : ℕ) → length (numbers_from k n) ≡ n
-length_numbers k zero = refl
-length_numbers k (suc n) = ap suc (length_numbers (suc k) n)
-
 inputs_are : (diagram : Diagram) (place : ℕ) (block : Block) → IsWired diagram → slice_get diagram.blocks place ≡ Some block → length (edges_into diagram place) ≡ block.inputs
 inputs_are diagram place block wired at =
     sym (length-map (edges_into diagram place) (λ (edge : Edge). Some edge)) ∙ ap length (sym (drivers_are_edges diagram place block wired at))
     ∙ length-map (numbers_from 1 block.inputs) (driver_of diagram place) ∙ length_numbers 1 block.inputs
-
-readable : (diagram : Diagram) (k : ℕ) (block : Block) → IsWired diagram → slice_get diagram.blocks k ≡ Some block → IsReadable block
-readable diagram k block wired at = subst IsReadable (get_or_from_slice_get diagram.blocks k block block at) (wired.blocks k block (slice_get_within diagram.blocks k block at))
 
 explicit_valid : (spec : TypeSpec) → IsSpec spec → IsKnownValid (explicit_type spec)
 explicit_valid (Fixed type) valid = valid
@@ -148,16 +142,3 @@ is_typed diagram blocks forms sources types is size mirrors typed valid = record
   types_size = ap length typed ∙ length_types diagram;
   valid = valid;
 }
-
-numbers_suc : {A : Type 0} (f : ℕ → A) (from n : ℕ) → map f (numbers_from from (suc n)) ≡ map f (numbers_from from n) ++ f (from + n) ∷ []
-numbers_suc f from zero = ap (λ (m : ℕ). f m ∷ []) (omega arith)
-numbers_suc {A} f from (suc n) =
-    let next : suc from + n ≡ from + suc n = omega arith in
-    ap (λ (xs : List A). f from ∷ xs) (numbers_suc f (suc from) n ∙ ap (λ (m : ℕ). map f (numbers_from (suc from) n) ++ f m ∷ []) next)
-
--- one more of a list by places
-pub numbers_more : {A : Type 0} (f : ℕ → A) (n : ℕ) → map f (numbers_from 0 (n + 1)) ≡ map f (numbers_from 0 n) ++ f n ∷ []
-numbers_more {A} f n =
-    let next : n + 1 ≡ suc n = omega arith in
-    let same : 0 + n ≡ n = omega arith in
-    ap (λ (m : ℕ). map f (numbers_from 0 m)) next ∙ numbers_suc f 0 n ∙ ap (λ (m : ℕ). map f (numbers_from 0 n) ++ f m ∷ []) same

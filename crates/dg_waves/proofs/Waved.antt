@@ -1,9 +1,9 @@
 -- A wave over all changes is a round. Crates above may cite this file.
-use Rattle.std.proofs.Common.{◌≡◌, ℕ, zero, suc, ◌+◌, ◌<◌, Bool, true, false, Some, inl, inr, List, [], ◌∷◌, ◌++◌, length, map, take, drop, eqb, replicate, All, refl, sym, ap, subst, ◌∙◌, arith}
+use Rattle.std.proofs.Common.{◌≡◌, ℕ, zero, suc, ◌+◌, ◌<◌, Bool, true, false, Some, inl, inr, List, [], ◌∷◌, ◌++◌, length, map, take, drop, eqb, replicate, All, refl, sym, ap, subst, ◌∙◌, arith, ◌≤◌}
 use Rattle.std.specs.Prelude.{set, slice_get}
 use Rattle.std.proofs.lemmas.Bool.{true≢false, false≢true, eqb-true, eqb-false, eq-eqb, or_parts, or_cases, or_left, or_right, or_from, cases_Bool}
 use Rattle.std.proofs.Math.Seq.{take-append_seam}
-use Rattle.std.proofs.lemmas.List.{length-replicate}
+use Rattle.std.proofs.lemmas.List.{length-replicate, length-map}
 use Rattle.std.proofs.lemmas.Option.{none-some, same_Some, slice_get_within, get_or_from_slice_get}
 use Rattle.dg_waves.specs.declared.waves.Change.{Change}
 use Rattle.dg_waves.specs.Rounds.{numbers_from, round, after_rounds}
@@ -44,12 +44,8 @@ pub length_numbers : (k n : ℕ) → length (numbers_from k n) ≡ n
 length_numbers k zero = refl
 length_numbers k (suc n) = ap suc (length_numbers (suc k) n)
 
-length_mapped : {A B : Type 0} (f : A → B) (xs : List A) → length (map f xs) ≡ length xs
-length_mapped f [] = refl
-length_mapped f (x ∷ xs) = ap suc (length_mapped f xs)
-
 pub length_round : {A : Type 0} (next : List A → ℕ → A) (values : List A) → length (round next values) ≡ length values
-length_round next values = length_mapped (next values) (numbers_from 0 (length values)) ∙ length_numbers 0 (length values)
+length_round next values = length-map (numbers_from 0 (length values)) (next values) ∙ length_numbers 0 (length values)
 
 pub mapped_at : {A : Type 0} (f : ℕ → A) (from n k : ℕ) → k < n → slice_get (map f (numbers_from from n)) k ≡ Some (f (from + k))
 mapped_at f from zero k inside = absurd (omega arith)
@@ -135,7 +131,7 @@ waits_more marks waiting block wait = record {
       ];
 }
 
-still_marked : (marks : List Bool) (block other : ℕ) → slice_get marks other ≡ Some true → slice_get (set marks block true) other ≡ Some true
+pub still_marked : (marks : List Bool) (block other : ℕ) → slice_get marks other ≡ Some true → slice_get (set marks block true) other ≡ Some true
 still_marked marks block other is =
     elim (cases_Bool (eqb block other)) [
       | inl e ↦
@@ -270,3 +266,22 @@ rounds_agree f g count same (suc n) start size =
 -- a slice that was borrowed and written over has what was written
 pub written_back : {A : Type 0} (count : ℕ) (new old : List A) → length new ≡ count → take count (new ++ drop (length new) old) ≡ new
 written_back count new old is = ap (λ n. take n (new ++ drop (length new) old)) (sym is) ∙ take-append_seam new (drop (length new) old)
+
+pub numbers_suc : {A : Type 0} (f : ℕ → A) (from n : ℕ) → map f (numbers_from from (suc n)) ≡ map f (numbers_from from n) ++ f (from + n) ∷ []
+numbers_suc f from zero = ap (λ (m : ℕ). f m ∷ []) (omega arith)
+numbers_suc {A} f from (suc n) =
+    let next : suc from + n ≡ from + suc n = omega arith in
+    ap (λ (xs : List A). f from ∷ xs) (numbers_suc f (suc from) n ∙ ap (λ (m : ℕ). map f (numbers_from (suc from) n) ++ f m ∷ []) next)
+
+-- one more of a list by places
+pub numbers_more : {A : Type 0} (f : ℕ → A) (n : ℕ) → map f (numbers_from 0 (n + 1)) ≡ map f (numbers_from 0 n) ++ f n ∷ []
+numbers_more {A} f n =
+    let next : n + 1 ≡ suc n = omega arith in
+    let same : 0 + n ≡ n = omega arith in
+    ap (λ (m : ℕ). map f (numbers_from 0 m)) next ∙ numbers_suc f 0 n ∙ ap (λ (m : ℕ). map f (numbers_from 0 n) ++ f m ∷ []) same
+
+pub take_numbers : (f : ℕ → ℕ) (from n i : ℕ) → i ≤ n → take i (map f (numbers_from from n)) ≡ map f (numbers_from from i)
+take_numbers f from zero zero h = refl
+take_numbers f from zero (suc i) h = absurd (omega (arith, h))
+take_numbers f from (suc n) zero h = refl
+take_numbers f from (suc n) (suc i) h = ap (λ (xs : List ℕ). f from ∷ xs) (take_numbers f (suc from) n i (omega (arith, h)))

@@ -4,6 +4,8 @@ use Rattle.std.specs.Prelude.{◌≢◌, slice_get}
 use Rattle.std.proofs.lemmas.Option.{none-some, same_Some}
 use Rattle.dg_waves.specs.Rounds.{numbers_from}
 use Rattle.hw_arcs.specs.Found.{IsIn}
+use Rattle.dg_model.proofs.SoundRows.{number_at}
+use Rattle.dg_waves.proofs.Waved.{length_numbers}
 
 abbrev without : List ℕ → ℕ → List ℕ
 without [] k = []
@@ -32,17 +34,8 @@ few_among (x ∷ path) all stand differ =
     let less = one_less all own.place x own.at in
     omega (arith, more, less)
 
-number_at : (from n k : ℕ) → k < n → slice_get (numbers_from from n) k ≡ Some (from + k)
-number_at from zero k below = absurd (omega (arith, below))
-number_at from (suc n) zero below = let e : from ≡ from + 0 = omega arith in ap (λ (x : ℕ). Some x) e
-number_at from (suc n) (suc k) below = let e : suc from + k ≡ from + suc k = omega arith in number_at (suc from) n k (omega (arith, below)) ∙ ap (λ (x : ℕ). Some x) e
-
-numbers_length : (from n : ℕ) → length (numbers_from from n) ≡ n
-numbers_length from zero = refl
-numbers_length from (suc n) = ap suc (numbers_length (suc from) n)
-
 pub few_below : (path : List ℕ) (count : ℕ) → ((k x : ℕ) → slice_get path k ≡ Some x → x < count) → ((i j x y : ℕ) → i < j → slice_get path i ≡ Some x → slice_get path j ≡ Some y → x ≢ y) → length path ≤ count
 few_below path count there differ =
     let few = few_among path (numbers_from 0 count) (λ k x at. let e : 0 + x ≡ x = omega arith in record { place = x; at = number_at 0 count x (there k x at) ∙ ap (λ (y : ℕ). Some y) e }) differ in
-    let size = numbers_length 0 count in
+    let size = length_numbers 0 count in
     omega (arith, few, size)

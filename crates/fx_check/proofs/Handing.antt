@@ -1,4 +1,4 @@
--- Bytes are handed over one piece after another.
+-- Bytes are handed over one piece after another. Crates above may cite this file.
 use Rattle.std.proofs.Common.{◌≡◌, ℕ, ◌+◌, ◌<◌, List, [], ◌++◌, length, length-append, take, Option, Some, None, Result, Ok, Err, append_assoc, append-nil, ap, refl, sym, ◌∙◌, subst, arith}
 use Rattle.std.specs.Prelude.{⊤}
 use Rattle.std.proofs.lemmas.List.{take-append-le}
@@ -18,7 +18,7 @@ took_longer before now bytes more part =
     (part.0, (omega (arith, short, size), part.1.1 ∙ ap (also_took before) (sym (take-append-le part.0 bytes more (omega (arith, short))))))
 
 -- and behind what was taken before it
-took_behind : (before mid now : Option (List ℕ)) (front put : List ℕ) → mid ≡ also_took before front → TookProperPrefix mid now put → TookProperPrefix before now (front ++ put)
+pub took_behind : (before mid now : Option (List ℕ)) (front put : List ℕ) → mid ≡ also_took before front → TookProperPrefix mid now put → TookProperPrefix before now (front ++ put)
 took_behind before mid now front put took part =
     let count = part.0 in
     let short : count < length put = part.1.0 in

@@ -1,6 +1,6 @@
 mod Fewer
 mod Followed
-mod Handing
+pub mod Handing
 mod Lines
 mod Listing
 mod Rooms

@@ -16,6 +16,7 @@ use Rattle.dg_sort.proofs.Lines.{control_there}
 use Rattle.hw_arcs.specs.declared.arc.Arc.{Arc}
 use Rattle.hw_latency.specs.Weight.{arc_from, arc_into, arc_of, latency_arcs}
 use Rattle.fx_check.specs.inner.Way.{IsSource}
+use Rattle.fx_io.proofs.Places.{get_front, map_there}
 
 -- ---- enable edges
 
@@ -48,26 +49,16 @@ enabling (block ∷ blocks) from k edge at = elim (own_or_later (asks_ever (row_
 
 -- ---- all edges
 
-get_front : {A : Type 0} (xs ys : List A) (k : ℕ) → k < length xs → slice_get (xs ++ ys) k ≡ slice_get xs k
-get_front [] ys k below = absurd (omega (arith, below))
-get_front (x ∷ xs) ys zero below = refl
-get_front (x ∷ xs) ys (suc k) below = get_front xs ys k (omega (arith, below))
-
 get_behind : {A : Type 0} (xs ys : List A) (k : ℕ) → length xs ≤ k → slice_get (xs ++ ys) k ≡ slice_get ys (k - length xs)
 get_behind [] ys k past = let e : k ≡ k - 0 = omega arith in ap (slice_get ys) e
 get_behind (x ∷ xs) ys zero past = absurd (omega (arith, past))
 get_behind (x ∷ xs) ys (suc k) past = let e : k - length xs ≡ suc k - suc (length xs) = omega arith in get_behind xs ys k (omega (arith, past)) ∙ ap (slice_get ys) e
 
-pub map_from : {A B : Type 0} (f : A → B) (xs : List A) (k : ℕ) (y : B) → slice_get (map f xs) k ≡ Some y → (x : A) × (slice_get xs k ≡ Some x) × (f x ≡ y)
-map_from f [] k y at = absurd (none-some y at)
-map_from f (x ∷ xs) zero y at = (x, refl, same_Some (f x) y at)
-map_from f (x ∷ xs) (suc k) y at = map_from f xs k y at
-
 pub control_source : (diagram : Diagram) (block number source : ℕ) (b : Block) → slice_get diagram.blocks block ≡ Some b → slice_get diagram.edges number ≡ None → ((control : ℕ) → b.enable ≡ Some control → source ≡ control) → IsSource diagram block number source
 control_source diagram block number source b b_at none enables = record {
   is = λ edge edge_at to. elim (cases_lt number (length (map signal_edge diagram.edges))) [
     | inl less ↦
-        let found = map_from signal_edge diagram.edges number edge (sym (get_front (map signal_edge diagram.edges) (enable_edges_from 0 diagram.blocks) number less) ∙ edge_at) in
+        let found = map_there signal_edge diagram.edges number edge (sym (get_front (map signal_edge diagram.edges) (enable_edges_from 0 diagram.blocks) number less) ∙ edge_at) in
         absurd (none-some found.0 (sym none ∙ found.1))
     | inr past ↦
         let more = enabling diagram.blocks 0 (number - length (map signal_edge diagram.edges)) edge (sym (get_behind (map signal_edge diagram.edges) (enable_edges_from 0 diagram.blocks) number past) ∙ edge_at) in
@@ -83,7 +74,7 @@ line_source diagram block number line at = record {
   is = λ edge edge_at to.
       let inside = slice_get_within diagram.edges number line at in
       let less : number < length (map signal_edge diagram.edges) = omega (arith, inside, length-map diagram.edges signal_edge) in
-      let found = map_from signal_edge diagram.edges number edge (sym (get_front (map signal_edge diagram.edges) (enable_edges_from 0 diagram.blocks) number less) ∙ edge_at) in
+      let found = map_there signal_edge diagram.edges number edge (sym (get_front (map signal_edge diagram.edges) (enable_edges_from 0 diagram.blocks) number less) ∙ edge_at) in
       let same : line ≡ found.0 = same_Some line found.0 (sym at ∙ found.1) in
       ap (λ (e : Edge). e.from) same ∙ ap (λ (e : LatencyEdge). e.from) found.2;
 }
@@ -101,7 +92,7 @@ ends_from diagram plan fed from to (Some period) = ends_into from to _ _ period 
 -- the arc of a number into a block leads from the source of the edge
 pub arc_source : (diagram : Diagram) (plan : Resolved) (fed : List Bool) (block number source : ℕ) (arc : Arc) → IsSource diagram block number source → slice_get (latency_arcs diagram plan fed) number ≡ Some arc → arc.to ≡ block → arc.from ≡ source
 arc_source diagram plan fed block number source arc is at to =
-    let edge = map_from (arc_of diagram (attributes_of diagram) plan fed) (latency_edges diagram) number arc at in
+    let edge = map_there (arc_of diagram (attributes_of diagram) plan fed) (latency_edges diagram) number arc at in
     let ends = ends_from diagram plan fed edge.0.from edge.0.to ((attributes_of diagram).period_at edge.0.from) in
     let from_is : arc.from ≡ edge.0.from = sym (ap (λ (a : Arc). a.from) edge.2) ∙ ends.0 in
     let to_is : edge.0.to ≡ block = sym ends.1 ∙ ap (λ (a : Arc). a.to) edge.2 ∙ to in

@@ -16,7 +16,7 @@ use Rattle.hw_names.specs.Names.{AreNames, wanted_names, wanted_of}
 use Rattle.hw_sched.specs.Slots.{Timing}
 use Rattle.fx_check.specs.CheckText.{IsCheckText, blocks_text, front_text, output_line}
 use Rattle.fx_check.specs.inner.Listed.{AddsOutputs}
-use Rattle.fx_check.proofs.Sources.{map_from}
+use Rattle.fx_io.proofs.Places.{map_there}
 
 -- what is left behind so many names
 pub left_behind : (first : ℕ) (names own : List (List ℕ)) → own ≡ names → take (length own - first) (drop first own) ≡ drop first names
@@ -44,7 +44,7 @@ module _ (diagram : Diagram) where
   pub blocks_there : (elements : AreRootElements root_output (λ block. width_into diagram (attributes_of diagram) block 1) diagram (attributes_of diagram) (root_outputs diagram (attributes_of diagram))) (blocks : List ℕ)
       → AreBlocksOf (root_outputs diagram (attributes_of diagram)) blocks → All (λ block. block < length diagram.blocks) blocks
   blocks_there elements blocks are = λ k d within.
-      let found = map_from (λ (e : RootElement). e.block) (root_outputs diagram (attributes_of diagram)) k (slice_index_or blocks k d) (sym (ap (λ (xs : List ℕ). slice_get xs k) are) ∙ slice_get-get_or blocks k d within) in
+      let found = map_there (λ (e : RootElement). e.block) (root_outputs diagram (attributes_of diagram)) k (slice_index_or blocks k d) (sym (ap (λ (xs : List ℕ). slice_get xs k) are) ∙ slice_get-get_or blocks k d within) in
       let of = elements.elements_of k found.0 found.1 in
       subst (λ (x : ℕ). x < length diagram.blocks) found.2 (slice_get_within diagram.blocks found.0.block of.0 of.1)
 

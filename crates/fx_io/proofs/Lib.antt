@@ -1,3 +1,4 @@
 pub mod FaultLines
 pub mod Places
 pub mod Taken
+pub mod Tests

@@ -1,7 +1,11 @@
 -- Elements of lists by their places, after an append, `take` and `drop`. Crates above may cite this file.
-use Rattle.std.proofs.Common.{◌≡◌, ℕ, zero, suc, ◌+◌, ◌-◌, ◌<◌, ◌≤◌, List, [], ◌∷◌, ◌++◌, length, take, drop, inl, inr, ⊎_elim, refl, ap, ◌∙◌, arith}
-use Rattle.std.specs.Prelude.{slice_get, Some, ◌⊎◌}
-use Rattle.std.proofs.lemmas.Option.{none-some}
+use Rattle.std.proofs.Common.{◌≡◌, ℕ, zero, suc, ◌+◌, ◌-◌, ◌<◌, ◌≤◌, List, [], ◌∷◌, ◌++◌, length, take, drop, inl, inr, ⊎_elim, refl, ap, ◌∙◌, arith, subst, map, All, Bool, cond, fold, max, Contains, true, append_assoc}
+use Rattle.std.specs.Prelude.{slice_get, Some, ◌⊎◌, All, count_by}
+use Rattle.std.proofs.lemmas.Option.{none-some, get_or_from_slice_get, slice_get_within, same_Some}
+use Rattle.std.proofs.lemmas.List.Sums.{sum_by-cons}
+use Rattle.std.specs.List.{sum, list_any, find, range_with_len}
+use Rattle.std.proofs.lemmas.List.{append_assoc}
+use Rattle.std.proofs.lemmas.List.Folds.{list_any-from_Any}
 
 pub get_left : {A : Type 0} (xs ys : List A) (k : ℕ) (x : A) → slice_get xs k ≡ Some x → slice_get (xs ++ ys) k ≡ Some x
 get_left [] ys k x at = absurd (none-some x at)
@@ -54,3 +58,60 @@ pub get_drop : {A : Type 0} (n : ℕ) (xs : List A) (k : ℕ) → slice_get (dro
 get_drop zero xs k = let e : k ≡ 0 + k = omega arith in ap (slice_get xs) e
 get_drop (suc n) [] k = refl
 get_drop (suc n) (x ∷ xs) k = let e : suc (n + k) ≡ suc n + k = omega arith in get_drop n xs k ∙ ap (slice_get (x ∷ xs)) e
+
+pub held : {A : Type 0} (P : A → Type 0) (xs : List A) (k : ℕ) (x : A) → All P xs → slice_get xs k ≡ Some x → P x
+held P xs k x all at = subst P (get_or_from_slice_get xs k x x at) (all k x (slice_get_within xs k x at))
+
+pub get_some : {X : Type 0} (xs : List X) (i : ℕ) → i < length xs → (x : X) × (slice_get xs i ≡ Some x)
+get_some [] i h = absurd (omega (arith, h))
+get_some (x ∷ xs) zero h = (x, refl)
+get_some (x ∷ xs) (suc i) h = get_some xs i (omega (arith, h))
+
+pub there_within : {A : Type 0} (xs : List A) (k : ℕ) (x : A) → slice_get xs k ≡ Some x → k < length xs
+there_within [] k x at = absurd (none-some x at)
+there_within (y ∷ xs) zero x at = omega arith
+there_within (y ∷ xs) (suc k) x at = let more = there_within xs k x at in omega (arith, more)
+
+pub there_map : {A B : Type 0} (f : A → B) (xs : List A) (k : ℕ) (x : A) → slice_get xs k ≡ Some x → slice_get (map f xs) k ≡ Some (f x)
+there_map f [] k x e = absurd (none-some x e)
+there_map f (y ∷ xs) zero x e = ap (λ z. Some (f z)) (same_Some y x e)
+there_map f (y ∷ xs) (suc k) x e = there_map f xs k x e
+
+pub map_there : {A B : Type 0} (f : A → B) (xs : List A) (k : ℕ) (y : B) → slice_get (map f xs) k ≡ Some y → (x : A) × (slice_get xs k ≡ Some x) × (f x ≡ y)
+map_there f [] k y e = absurd (none-some y e)
+map_there f (x ∷ xs) zero y e = (x, refl, same_Some (f x) y e)
+map_there f (x ∷ xs) (suc k) y e = map_there f xs k y e
+
+pub all_cons : {Y : Type 0} (P : Y → Type 0) (y : Y) (ys : List Y) → P y → All P ys → All P (y ∷ ys)
+all_cons P y ys here all zero d inside = here
+all_cons P y ys here all (suc j) d inside = all j d (omega (arith, inside))
+
+pub count_cons : {X : Type 0} (p : X → Bool) (x : X) (xs : List X) → count_by p (x ∷ xs) ≡ cond (p x) 1 0 + count_by p xs
+count_cons p x xs = sum_by-cons (λ x. cond (p x) 1 0) x xs
+
+pub sum-cons : (x : ℕ) (xs : List ℕ) → sum (x ∷ xs) ≡ x + sum xs
+sum-cons x xs = sum_by-cons (λ (n : ℕ). n) x xs
+
+pub fold-start : (ns : List ℕ) (a : ℕ) → a ≤ fold max a ns
+fold-start [] a = omega arith
+fold-start (n ∷ ns) a = let r = fold-start ns (max a n) in omega (arith, r)
+
+pub put-next : {A : Type 0} (old items more front : List A) (item : A) → items ≡ old ++ front → more ≡ items ++ item ∷ [] → more ≡ old ++ (front ++ item ∷ [])
+put-next old items more front item are put = put ∙ ap (λ xs. xs ++ item ∷ []) are ∙ append_assoc old front (item ∷ [])
+
+-- a part, and then the rest
+pub put-before : {A : Type 0} (old items more part rest : List A) → items ≡ old ++ part → more ≡ items ++ rest → more ≡ old ++ (part ++ rest)
+put-before old items more part rest are put = put ∙ ap (λ xs. xs ++ rest) are ∙ append_assoc old part rest
+
+pub seen : {A : Type 0} (test : A → Bool) (xs : List A) (x : A) → Contains xs x → test x ≡ true → list_any test xs ≡ true
+seen test xs x h e = list_any-from_Any test xs (h.0, x, h.1, h.2, e)
+
+-- the search goes on from the next number
+pub search_step : (test : ℕ → Bool) (k n : ℕ) → k < n → find test (range_with_len k (n - k)) ≡ cond (test k) (Some k) (find test (range_with_len (k + 1) (n - (k + 1))))
+search_step test k n inside = let e : n - k ≡ suc (n - (k + 1)) = omega arith in ap (λ (m : ℕ). find test (range_with_len k m)) e
+
+pub three_appended : (old a b c one two three : List ℕ) → one ≡ old ++ a → two ≡ one ++ b → three ≡ two ++ c → three ≡ old ++ (a ++ b ++ c)
+three_appended old a b c one two three p q r = rw (r, q, p) (simp append_assoc)
+
+pub five_appended : (old a b c d e one two three four five : List ℕ) → one ≡ old ++ a → two ≡ one ++ b → three ≡ two ++ c → four ≡ three ++ d → five ≡ four ++ e → five ≡ old ++ (a ++ b ++ c ++ d ++ e)
+five_appended old a b c d e one two three four five p q r s t = rw (t, s, r, q, p) (simp append_assoc)

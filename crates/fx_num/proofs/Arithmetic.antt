@@ -1,9 +1,12 @@
 -- Products of a whole number and a natural, division with a rest, congruence, and powers of two. Crates above may cite this module.
-use Rattle.std.proofs.Common.{◌≡◌, ℕ, zero, suc, ◌+◌, ◌-◌, ◌*◌, ◌/◌, ◌%◌, ◌^◌, ◌<◌, ◌≤◌, ℤ, pos, negsuc, ◌+ℤ◌, ◌*ℤ◌, neg_ℤ, ◌≤ℤ◌, ◌<ℤ◌, ap, sym, ◌∙◌, arith, mul_comm, mul_assoc, mul-le-mul_right, pow-suc, mod-lt, div-add-mod'}
+use Rattle.std.proofs.Common.{◌≡◌, ℕ, zero, suc, ◌+◌, ◌-◌, ◌*◌, ◌/◌, ◌%◌, ◌^◌, ◌<◌, ◌≤◌, ℤ, pos, negsuc, ◌+ℤ◌, ◌*ℤ◌, neg_ℤ, ◌≤ℤ◌, ◌<ℤ◌, ap, sym, ◌∙◌, arith, mul_comm, mul_assoc, mul-le-mul_right, pow-suc, mod-lt, div-add-mod', unsigned_abs, pow_pos, inr, inl, ◌⊎◌}
 use Rattle.std.specs.Int.{int_div_euclid}
 use Rattle.std.proofs.lemmas.Int.{ints, by_lt_z}
 use borrow.Author.Differences.{up, down, sum_is_lem, le_out, neg_is}
 use Rattle.fx_num.specs.Word.{IsCongruent}
+use Rattle.std.proofs.Math.Nat.{mul-le-mul}
+use Rattle.std.proofs.lemmas.Nat.{pow-add}
+use Rattle.std.proofs.Math.Pow.{pow-lt, pow_mono}
 
 -- ---- products with a natural
 
@@ -110,3 +113,32 @@ double zero h = absurd (omega arith)
 double (suc w) h =
     let e : suc w - 1 ≡ w = omega arith in
     rw e (pow-suc 2 w ∙ mul_comm (2 ^ w) 2)
+
+pub abs-between : (v : ℤ) (n : ℕ) → neg_ℤ (pos n) ≤ℤ v → v ≤ℤ pos n → unsigned_abs v ≤ n
+abs-between (pos k) n low high = omega (arith, ints)
+abs-between (negsuc k) n low high = omega (arith, ints)
+
+pub abs-below : (v : ℤ) (n : ℕ) → pos 0 ≤ℤ v → v ≤ℤ pos (n - 1) → 0 < n → unsigned_abs v < n
+abs-below (pos k) n low high some = omega (arith, ints)
+abs-below (negsuc k) n low high some = absurd low.le
+
+pub below-power : (m n i j k : ℕ) → m ≤ 2 ^ i → n ≤ 2 ^ j → i + j < k → m * n < 2 ^ k
+below-power m n i j k p q h =
+    let both : m * n ≤ 2 ^ i * 2 ^ j = mul-le-mul p q
+    in let power : 2 ^ i * 2 ^ j ≡ 2 ^ (i + j) = sym (pow-add 2 i j)
+    in let less : 2 ^ (i + j) < 2 ^ k = pow-lt h
+    in omega (arith, both, power, less)
+
+pub below-power-strict : (m n i j k : ℕ) → m ≤ 2 ^ i → n < 2 ^ j → i + j ≤ k → m * n < 2 ^ k
+below-power-strict zero n i j k p q h = omega (arith, pow_pos k)
+below-power-strict (suc m) n i j k p q h =
+    let both : suc m * suc n ≤ 2 ^ i * 2 ^ j = mul-le-mul p q
+    in let power : 2 ^ i * 2 ^ j ≡ 2 ^ (i + j) = sym (pow-add 2 i j)
+    in let less : 2 ^ (i + j) ≤ 2 ^ k = pow_mono h
+    in omega (arith, both, power, less)
+
+-- two numbers are equal or not
+pub int_cases : (x y : ℤ) → (x ≡ y) ⊎ (x ≡ y → ⊥)
+int_cases x y =
+    by_lt_z x y (λ below. inr (λ e. omega (arith, ints)))
+    (λ above. by_lt_z y x (λ below. inr (λ e. omega (arith, ints))) (λ at_most. inl (omega (arith, ints))))

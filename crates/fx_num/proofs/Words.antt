@@ -5,7 +5,7 @@ use Rattle.std.proofs.Math.Arith.{mul_pred}
 use Rattle.std.specs.Int.{w128}
 use Rattle.std.proofs.lemmas.Int.{to_z-of_z}
 use Rattle.std.proofs.lemmas.Int.{ints}
-use Rattle.fx_num.specs.Word.{IsWord, IsCongruent, IsWrapped}
+use Rattle.fx_num.specs.Word.{IsWord, IsCongruent, IsWrapped, InWord}
 use Rattle.fx_num.proofs.Arithmetic.{double, add-scaled, scaled-neg, IsCongruent-refl}
 
 -- the mask of b bits, and one more
@@ -73,3 +73,37 @@ unsigned_word s w e h = (rw e at h).1
 
 pub signed_word : (s : Bool) (w : ℕ) → s ≡ true → IsWord w s → (2 ≤ w) × (w ≤ 128)
 signed_word s w e h = rw e at h
+
+pub word-width : (width : ℕ) (signed : Bool) → IsWord width signed → width ≤ 128
+word-width width true h = h.1
+word-width width false h = omega (arith, h.1)
+
+-- a number of a word has 128 bits
+pub word-fits : (width : ℕ) (signed : Bool) (v : ℤ) → IsWord width signed → InWord width signed v → FitsSigned w128 v
+word-fits width true v word is =
+    let few : width - 1 ≤ 127 = omega (arith, word.1) in
+    let most : 2 ^ (width - 1) ≤ 2 ^ 127 = pow_mono few in
+    omega (arith, ints, most, is.low, is.high)
+word-fits width false v word is =
+    let most : 2 ^ width ≤ 2 ^ 127 = pow_mono word.1 in
+    omega (arith, ints, most, is.low, is.high)
+
+-- the sign: -1 or 0
+abbrev pub sign_of : ℤ → ℤ
+sign_of (pos n) = pos 0
+sign_of (negsuc n) = negsuc 0
+
+-- the absolute value, or one less below 0
+abbrev pub size_of : ℤ → ℕ
+size_of (pos n) = n
+size_of (negsuc n) = n
+
+pub size-below : (width : ℕ) (signed : Bool) (z : ℤ) → IsWord width signed → InWord width signed z → size_of z < 2 ^ width
+size-below width true (pos n) w r = omega (arith, ints, r.high, pow_pos (width - 1), double width (omega (arith, w.0)))
+size-below width true (negsuc n) w r = omega (arith, ints, r.low, pow_pos (width - 1), double width (omega (arith, w.0)))
+size-below width false (pos n) w r = omega (arith, ints, r.high, pow_pos width)
+size-below width false (negsuc n) w r = absurd (omega (arith, ints, r.low))
+
+pub size-half : (width : ℕ) (z : ℤ) → InWord width true z → size_of z < 2 ^ (width - 1)
+size-half width (pos n) r = omega (arith, ints, r.high, pow_pos (width - 1))
+size-half width (negsuc n) r = omega (arith, ints, r.low, pow_pos (width - 1))

@@ -1,4 +1,4 @@
--- Each mode is the whole number below, with a bias added before.
+-- Each mode is the whole number below, with a bias added before. Crates above may cite this file.
 use Rattle.std.proofs.Common.{◌≡◌, ℕ, suc, ◌+◌, ◌-◌, ◌*◌, ◌/◌, ◌%◌, ◌^◌, ◌<◌, ◌≤◌, Bool, true, false, ℤ, pos, negsuc, neg_ℤ, ◌+ℤ◌, ◌-ℤ◌, ◌*ℤ◌, ◌≤ℤ◌, bit_and, to_z, of_z, FitsSigned, cond, int_lt, ap, sym, ◌∙◌, refl, subst, mod-lt, arith, pow_mono, pow_pos}
 use Rattle.std.specs.Int.{w64}
 use Rattle.std.specs.Int.Signed.{shr_z}
@@ -35,7 +35,7 @@ pub shift_floors : (v : ℤ) (by : ℕ) → RoundsDown v (2 ^ by) (shr_z v (2 ^ 
 shift_floors v by = let d = shr-divided v by in record { at_most = omega (arith, ints, d.whole); next_above = omega (arith, ints, d.whole, d.below) }
 
 -- the whole number below is one
-floors_one : (n : ℤ) (d : ℕ) (r s : ℤ) → RoundsDown n d r → RoundsDown n d s → r ≡ s
+pub floors_one : (n : ℤ) (d : ℕ) (r s : ℤ) → RoundsDown n d r → RoundsDown n d s → r ≡ s
 floors_one n d r s a b = by_lt_z r s
     (λ l. absurd (omega (arith, ints, unit_apart r s d l, a.next_above, b.at_most)))
     (λ g. by_lt_z s r (λ l. absurd (omega (arith, ints, unit_apart s r d l, b.next_above, a.at_most))) (λ h. omega (arith, ints, g, h)))

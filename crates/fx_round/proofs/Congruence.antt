@@ -7,9 +7,8 @@ use Rattle.std.proofs.lemmas.Nat.{pow-add}
 use Rattle.fx_num.specs.Word.{IsWord, InWord, IsCongruent, IsWrapped}
 use Rattle.fx_num.proofs.Arithmetic.{add-scaled, scaled-neg, mul-scaled, IsCongruent-trans, IsCongruent-part}
 use Rattle.fx_num.proofs.Shifted.{shl_congruent, read_congruent}
-use Rattle.fx_type.specs.declared.kind.FxType.TheVariants.{Num}
-use Rattle.fx_type.proofs.Ranges.{InRange-fits}
 use Rattle.fx_round.proofs.Shifts.{whole_turns, near_split}
+use Rattle.fx_num.proofs.Words.{word-fits}
 
 pub shift_congruent : (v : ℤ) (by w : ℕ) → w ≤ 128 → FitsSigned w128 v → IsCongruent (to_z w128 ((of_z w128 v * 2 ^ by) % 340282366920938463463374607431768211456)) (v *ℤ pos (2 ^ by)) (2 ^ w)
 shift_congruent v by w h f =
@@ -28,7 +27,7 @@ zero_congruent v by w h =
     cancel : (y : ℤ) → y +ℤ neg_ℤ y ≡ pos 0
     cancel y = omega (arith, ints)
 
-zero_in_word : (w : ℕ) (s : Bool) → InWord w s (pos 0)
+pub zero_in_word : (w : ℕ) (s : Bool) → InWord w s (pos 0)
 zero_in_word w true = record { low = omega (arith, ints); high = omega (arith, ints) }
 zero_in_word w false = record { low = omega (arith, ints); high = omega (arith, ints) }
 
@@ -42,9 +41,6 @@ shift_wrapped v by w s r h f k = record { in_word = k.in_word; congruent = IsCon
 
 pub high_fits : (r : ℤ) → FitsSigned w128 r → FitsSigned w64 (shr_z r (2 ^ 64))
 high_fits r f = let d = near_split r 64 (omega arith) f in omega (arith, ints, f, d.0, d.1)
-
-word_fits : (w : ℕ) (s : Bool) (v : ℤ) → IsWord w s → InWord w s v → FitsSigned w128 v
-word_fits w s v h i = InRange-fits (Num s w (pos 0)) v (h, omega (arith, ints), omega (arith, ints)) (record { low = i.low; high = i.high })
 
 halves_in_word : (kept : ℤ) (low w : ℕ) (s : Bool) → 65 ≤ w → low < 2 ^ 64 → InWord (w - 64) s kept → InWord w s (kept *ℤ pos (2 ^ 64) +ℤ pos low)
 halves_in_word kept low w true many below h =
@@ -78,8 +74,8 @@ wrapped_halves r high kept low w s many below whole h =
 -- both fit in 128 bits
 pub halves_fit : (q kept : ℤ) (low w : ℕ) (s : Bool) → IsWord w s → 65 ≤ w → low < 2 ^ 64 → IsWrapped q (w - 64) s kept → FitsSigned w128 (kept *ℤ pos (2 ^ 64)) × FitsSigned w128 (kept *ℤ pos (2 ^ 64) +ℤ pos low)
 halves_fit q kept low w s word many below h =
-    let up : FitsSigned w128 (kept *ℤ pos (2 ^ 64) +ℤ pos 0) = word_fits w s _ word (halves_in_word kept 0 w s many (omega arith) h.in_word) in
-    let all = word_fits w s _ word (halves_in_word kept low w s many below h.in_word) in
+    let up : FitsSigned w128 (kept *ℤ pos (2 ^ 64) +ℤ pos 0) = word-fits w s _ word (halves_in_word kept 0 w s many (omega arith) h.in_word) in
+    let all = word-fits w s _ word (halves_in_word kept low w s many below h.in_word) in
     let same : kept *ℤ pos (2 ^ 64) +ℤ pos 0 ≡ kept *ℤ pos (2 ^ 64) = omega (arith, ints) in
     (subst (FitsSigned w128) same up, all)
 

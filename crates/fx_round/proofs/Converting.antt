@@ -1,22 +1,13 @@
 -- What the steps of a conversion give together.
-use Rattle.std.proofs.Common.{◌≡◌, ℕ, ◌^◌, ◌<◌, ◌≤◌, Bool, true, false, ℤ, pos, ◌*ℤ◌, sym, refl, subst, subst₂, arith}
+use Rattle.std.proofs.Common.{◌≡◌, ℕ, ◌^◌, ◌<◌, Bool, ℤ, pos, ◌*ℤ◌, sym, refl, subst, subst₂, arith}
 use Rattle.std.specs.Int.{int_gap}
 use Rattle.std.proofs.lemmas.Int.{ints}
-use Rattle.fx_num.specs.Word.{IsWord}
 use Rattle.fx_type.specs.declared.kind.FxType.{FxType}
 use Rattle.fx_type.specs.declared.kind.FxType.TheVariants.{Num, Logical}
 use Rattle.fx_type.specs.declared.rounding.Rounding.{Rounding}
-use Rattle.fx_type.specs.FxType.{IsType, IsNumber, is_signed, width_of, frac_of}
+use Rattle.fx_type.specs.FxType.{IsNumber, is_signed, width_of, frac_of}
 use Rattle.fx_type.specs.Conversion.{Rounds, Settles, StoresQuotient, Converts}
 use Rattle.fx_round.proofs.Rounding.{whole_rounds}
-
-pub type_word : (t : FxType) → IsType t → IsWord (width_of t) (is_signed t)
-type_word (Num s w f) h = h.0
-type_word Logical h = (omega arith, omega arith)
-
-pub word_bound : (w : ℕ) (s : Bool) → IsWord w s → w ≤ 128
-word_bound w true h = h.1
-word_bound w false h = omega (arith, h.1)
 
 -- a whole number is rounded to itself
 pub exact : (mode : Rounding) (q : ℤ) (d : ℕ) → 0 < d → Rounds mode (q *ℤ pos d) d q

@@ -5,7 +5,6 @@ use Rattle.std.proofs.lemmas.Bool.{cases_lt}
 use Rattle.std.proofs.lemmas.Int.{ints, by_lt_z}
 use Rattle.fx_num.specs.Word.{IsWrapped}
 use Rattle.fx_num.proofs.Arithmetic.{IsDivided, divided, next-scaled, scaled-neg, double, IsCongruent-sym, IsCongruent-trans}
-use Rattle.fx_type.specs.declared.kind.FxType.{FxType}
 use Rattle.fx_type.specs.declared.kind.FxType.TheVariants.{Num, Logical}
 use Rattle.fx_type.specs.declared.rounding.Rounding.{Rounding}
 use Rattle.fx_type.specs.declared.rounding.Rounding.TheVariants.{Nearest}
@@ -18,6 +17,7 @@ use Rattle.fx_round.specs.inner.Split.{IsPart, IsSplit, takes_upper}
 use Rattle.fx_round.proofs.Orders.{rounding_monotone, word_only, word_width}
 use Rattle.fx_round.proofs.Rounding.{rounds_upper, rounds_lower}
 use Rattle.fx_round.proofs.Sizes.{ten_positive}
+use Rattle.fx_type.proofs.Stored.{saturates_only}
 
 -- ---- at most one
 rounds_one : (mode : Rounding) (n : ℤ) (d : ℕ) (r s : ℤ) → 0 < d → Rounds mode n d r → Rounds mode n d s → r ≡ s
@@ -28,13 +28,8 @@ rounds_one mode n d r s h a b =
 wrapped_one : (v : ℤ) (w : ℕ) (s : Bool) (a b : ℤ) → 1 ≤ w → IsWrapped v w s a → IsWrapped v w s b → a ≡ b
 wrapped_one v w s a b h p q = word_only w s a b h p.in_word q.in_word (IsCongruent-trans (2 ^ w) p.congruent (IsCongruent-sym (2 ^ w) q.congruent))
 
-saturates_one : (type : FxType) (r a b : ℤ) → Saturates type r a → Saturates type r b → a ≡ b
-saturates_one type r a b p q = by_lt_z r (lowest_of type)
-    (λ h. p.below h ∙ sym (q.below h))
-    (λ low. by_lt_z (highest_of type) r (λ h. p.above h ∙ sym (q.above h)) (λ high. let i : InRange type r = record { low = low; high = high } in p.inside i ∙ sym (q.inside i)))
-
 settles_one : (s : Bool) (w : ℕ) (f : ℤ) (saturate : Bool) (r a b : ℤ) → IsType (Num s w f) → Settles (Num s w f) saturate r a → Settles (Num s w f) saturate r b → a ≡ b
-settles_one s w f true r a b t p q = saturates_one (Num s w f) r a b p q
+settles_one s w f true r a b t p q = saturates_only (Num s w f) r a b p q
 settles_one s w f false r a b t p q = wrapped_one r w s a b (word_width w s f t) p q
 
 stores_quotient_one : (n : ℤ) (d : ℕ) (s : Bool) (w : ℕ) (f : ℤ) (mode : Rounding) (saturate : Bool) (a b : ℤ) → 0 < d → IsType (Num s w f) → StoresQuotient n d (Num s w f) mode saturate a → StoresQuotient n d (Num s w f) mode saturate b → a ≡ b

@@ -1,5 +1,5 @@
-mod Biased
-mod Congruence
+pub mod Biased
+pub mod Congruence
 mod Converting
 mod Exactly
 mod Halves

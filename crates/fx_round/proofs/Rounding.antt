@@ -9,6 +9,7 @@ use Rattle.fx_type.specs.Conversion.{IsEven, RoundsDown, RoundsUp, RoundsTiesUp,
 use Rattle.fx_round.specs.declared.split.Part.{Part}
 use Rattle.fx_round.specs.declared.split.Part.TheVariants.{Whole, BelowHalf, Half, AboveHalf}
 use Rattle.fx_round.specs.inner.Split.{IsPart, IsSplit, takes_upper}
+use Rattle.std.proofs.lemmas.Bool.{not-false, not-true}
 
 module _ (n : ℤ) (d : ℕ) (floor : ℤ) (rest : ℕ) (whole : n ≡ floor *ℤ pos d +ℤ pos rest) (below : rest < d) where
   negative_number : floor <ℤ pos 0 → n <ℤ pos 0
@@ -81,14 +82,6 @@ module _ (n : ℤ) (d : ℕ) (floor : ℤ) (rest : ℕ) (whole : n ≡ floor *�
   whole_rounds Nearest e = ties_up_low n d floor rest whole below (omega arith)
   whole_rounds Round e = record { not_negative = λ _. ties_up_low n d floor rest whole below (omega arith); negative = λ _. ties_down_low n d floor rest whole below (omega arith) }
   whole_rounds Convergent e = even_low n d floor rest whole below (omega arith)
-
-not-true : (b : Bool) → not b ≡ true → b ≡ false
-not-true true e = absurd (true≢false (sym e))
-not-true false e = refl
-
-not-false : (b : Bool) → not b ≡ false → b ≡ true
-not-false true e = refl
-not-false false e = absurd (true≢false e)
 
 module _ (n : ℤ) (d : ℕ) (floor : ℤ) (rest : ℕ) (whole : n ≡ floor *ℤ pos d +ℤ pos rest) (below : rest < d) (negative odd : Bool)
     (is_negative : negative ≡ true → floor <ℤ pos 0) (not_negative : negative ≡ false → pos 0 ≤ℤ floor)

@@ -1,5 +1,5 @@
 -- No line of the plan of a sample is bad.
-use Rattle.std.proofs.Common.{◌≡◌, ℕ, true, false, true≢false, List, [], ◌∷◌, ◌++◌, length, Option, None, Some, is_some, refl, sym, ◌∙◌, ap, subst, arith, codes, length-append}
+use Rattle.std.proofs.Common.{◌≡◌, ℕ, true, false, true≢false, List, [], ◌∷◌, ◌++◌, length, Some, refl, sym, ◌∙◌, ap, subst, arith, codes, length-append}
 use Rattle.std.specs.Option.{option_to_list}
 use Rattle.std.specs.Str.Lines.{lines}
 use Rattle.fx_tables.specs.declared.table.TableFault.{TableFault}
@@ -8,6 +8,7 @@ use Rattle.fx_tables.specs.PlanLines.{Says}
 use Rattle.fx_tables.specs.inner.PlanReading.{entry_of, is_bad_entry}
 use Rattle.fx_tables.proofs.PlanForms.{entry_form, form_entry}
 use Rattle.fx_sample.specs.Stimulus.{sample_plan}
+use Rattle.fx_io.proofs.Tests.{some_of}
 
 abbrev domain : {A B : Type 0} → (A → B) → Type 0
 domain {A} f = A
@@ -15,10 +16,6 @@ domain {A} f = A
 -- what a line of a plan says
 abbrev Entry : Type 0
 Entry = domain cycles_of
-
-found : {E : Type 0} (read : Option E) → is_some read ≡ true → (entry : E) × (read ≡ Some entry)
-found None is = absurd (cc is)
-found (Some entry) is = (entry, refl)
 
 abbrev first : List ℕ
 first = codes "cycles 64"
@@ -30,7 +27,7 @@ no_line : (before : List (List ℕ)) (bad : List ℕ) (after : List (List ℕ)) 
     → ((entry : Entry) → Says bad entry → is_repeated entries entry ≡ true) → ⊥
 no_line [] bad after [] whole say repeats =
     let same : first ≡ bad = cc whole in
-    let own = found (entry_of first) refl in
+    let own = some_of (entry_of first) refl in
     let once : is_repeated [] own.0 ≡ false = ap (is_bad_entry []) (sym own.1) in
     true≢false (sym (repeats own.0 (subst (λ line. Says line own.0) same (entry_form first own.0 own.1))) ∙ once)
 no_line [] bad after (entry ∷ entries) whole say repeats = say
@@ -39,7 +36,7 @@ no_line (line ∷ []) bad after (entry ∷ []) whole say repeats =
     let same : second ≡ bad = cc whole in
     let front : line ≡ first = cc whole in
     let said = form_entry first entry (subst (λ line. Says line entry) front say.0) in
-    let own = found (entry_of second) refl in
+    let own = some_of (entry_of second) refl in
     let once : is_repeated (entry ∷ []) own.0 ≡ false =
     ap (λ read. is_bad_entry (option_to_list read) (Some own.0)) (sym said) ∙ ap (is_bad_entry (option_to_list (entry_of first))) (sym own.1) in
     true≢false (sym (repeats own.0 (subst (λ line. Says line own.0) same (entry_form second own.0 own.1))) ∙ once)

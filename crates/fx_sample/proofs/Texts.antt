@@ -7,12 +7,7 @@ use Rattle.std.proofs.lemmas.List.Sums.{sum_by_push}
 use Rattle.fx_sample.specs.ModelText.{parameter_text, block_head, section_end, source_text, target_text, type_parameter, gain_parameters, model_head, input_text, ends_text, end_lines, line_text, block_text}
 use Rattle.fx_sample.specs.Summary.{number_line, made_lines}
 use Rattle.fx_sample.specs.declared.summing.Made.{Made}
-
-pub three_appended : (old a b c one two three : List ℕ) → one ≡ old ++ a → two ≡ one ++ b → three ≡ two ++ c → three ≡ old ++ (a ++ b ++ c)
-three_appended old a b c one two three p q r = rw (r, q, p) (simp append_assoc)
-
-pub five_appended : (old a b c d e one two three four five : List ℕ) → one ≡ old ++ a → two ≡ one ++ b → three ≡ two ++ c → four ≡ three ++ d → five ≡ four ++ e → five ≡ old ++ (a ++ b ++ c ++ d ++ e)
-five_appended old a b c d e one two three four five p q r s t = rw (t, s, r, q, p) (simp append_assoc)
+use Rattle.fx_io.proofs.Places.{three_appended, five_appended}
 
 pub head_appended : (old word name one two three four five : List ℕ) → one ≡ old ++ codes "    Block {\n" → two ≡ one ++ codes "      BlockType " → three ≡ two ++ word →
     four ≡ three ++ codes "\n" → five ≡ four ++ parameter_text (codes "Name") name → five ≡ old ++ block_head word name

@@ -16,6 +16,7 @@ use Rattle.fx_tables.specs.declared.table.Column.{Column}
 use Rattle.fx_tables.specs.declared.table.TableFault.{TableFault}
 use Rattle.fx_tables.specs.declared.table.TableCause.{TableCause}
 use Rattle.fx_tables.specs.declared.table.TableCause.TheVariants.{TooManyRows, FieldCount, NotWhole, OutOfRange, DashAtHit, NumberOffHit}
+use Rattle.fx_io.proofs.Places.{get_front}
 
 -- what a field without a fault is
 record IsGood (dash hit range : Bool) : Type 0 where
@@ -57,11 +58,6 @@ line_cell sample zero (c ∷ columns) (field ∷ fields) column value is at read
 line_cell sample (suc k) (c ∷ columns) (field ∷ fields) column value is at reads =
     line_cell sample k columns fields column value (second_none (field_fault sample c field) (fields_fault sample columns fields) is) at reads
 
-get_left : {X : Type 0} (xs ys : List X) (k : ℕ) → k < length xs → slice_get (xs ++ ys) k ≡ slice_get xs k
-get_left [] ys k inside = absurd (omega arith)
-get_left (x ∷ xs) ys zero inside = refl
-get_left (x ∷ xs) ys (suc k) inside = get_left xs ys k (omega arith)
-
 get_right : {X : Type 0} (xs ys : List X) (k n : ℕ) → n ≡ length xs + k → slice_get (xs ++ ys) n ≡ slice_get ys k
 get_right [] ys k n is = ap (slice_get ys) (omega arith)
 get_right (x ∷ xs) ys k zero is = absurd (omega arith)
@@ -84,7 +80,7 @@ lines_cell columns outputs first zero k (text ∷ texts) column value is inside 
     let counted : length (fields_of text) ≡ length columns = search (rules, nat_tests, fields.0) in
     let cell_inside : k < length (cells_of text) = omega (arith, length-map (fields_of text) cell_of, slice_get_within columns k column at) in
     let place : 0 * length columns + k ≡ k = omega arith in
-    let read : slice_get (cells_of text) k ≡ Some value = sym (get_left (cells_of text) (flat_map cells_of texts) k cell_inside) ∙ ap (slice_get (cells_of text ++ flat_map cells_of texts)) (sym place) ∙ reads in
+    let read : slice_get (cells_of text) k ≡ Some value = sym (get_front (cells_of text) (flat_map cells_of texts) k cell_inside) ∙ ap (slice_get (cells_of text ++ flat_map cells_of texts)) (sym place) ∙ reads in
     subst (λ (s : ℕ). IsCell column s value) (let same : first ≡ first + 0 = omega arith in same) (line_cell first k columns (fields_of text) column value fields.1 at read)
 lines_cell columns outputs first (suc sample) k (text ∷ texts) column value is inside at reads =
     let here = no_fault_here (line_fault columns outputs first text) (first + 1) (lines_fault columns outputs (first + 1) texts) is in

@@ -4,7 +4,7 @@ use Rattle.std.specs.Prelude.{codes, ◌&&◌, nat_le}
 use Rattle.std.specs.List.{list_all, prefix_len}
 use Rattle.std.specs.Str.{bytes_eq}
 use Rattle.std.specs.Str.Parse.{digits_value}
-use Rattle.std.proofs.lemmas.Bool.{and_parts, and_from, not-true, false≢true, cases_lt, cond-true, cond-false}
+use Rattle.std.proofs.lemmas.Bool.{and_parts, and_from, not-true, false≢true, cases_lt, cond-true, cond-false, not-false}
 use Rattle.std.proofs.lemmas.Bool.Decides.{nat_tests}
 use Rattle.std.proofs.lemmas.Slice.Eq.{bytes_eq-Decides}
 use Rattle.std.proofs.lemmas.List.Sums.{prefix_len-le-length, prefix_len_passes, prefix_len_stops}
@@ -19,14 +19,7 @@ use Rattle.fx_tables.specs.PlanLines.{AreBlanks, IsCount, IsPipelineLine, Says}
 use Rattle.fx_tables.specs.declared.entry.PlanEntry.{PlanEntry}
 use Rattle.fx_tables.specs.declared.entry.PlanEntry.TheVariants.{Passed, Cycles, Multipliers, Pipelined}
 use Rattle.fx_tables.proofs.FieldsLemmas.{IsRunAt, no_field, first_field, fields_of-blank, fields_of-field}
-
-pub cond_cases : {X : Type 0} (t : Bool) (x y z : X) → cond t x y ≡ z → ((t ≡ true) × (x ≡ z)) ⊎ ((t ≡ false) × (y ≡ z))
-cond_cases true x y z h = inl (refl, h)
-cond_cases false x y z h = inr (refl, h)
-
-cond_some : {X : Type 0} (t : Bool) (x : Option X) (z : X) → cond t x None ≡ Some z → (t ≡ true) × (x ≡ Some z)
-cond_some true x z h = (refl, h)
-cond_some false x z h = cc
+use Rattle.fx_io.proofs.Tests.{cond_cases, cond_some}
 
 -- a number that is the only field
 record Sole (low high : ℕ) (fields : List (List ℕ)) (count : ℕ) : Type 0 where
@@ -97,16 +90,12 @@ record FirstField (rest word : List ℕ) : Type 0 where
 abbrev no_blank : ℕ → Bool
 no_blank b = not (is_blank b)
 
-is_true : (t : Bool) → not t ≡ false → t ≡ true
-is_true true h = refl
-is_true false h = cc
-
 run_at : (rest : List ℕ) → (0 < length rest → is_blank (get_or rest 0 0) ≡ false) → IsRunAt rest (prefix_len no_blank rest)
 run_at rest start = record {
   start = start;
   end_within = prefix_len-le-length no_blank rest;
   run = λ k below. not-true (is_blank (get_or rest k 0)) (prefix_len_passes no_blank rest k 0 below);
-  end = λ inside. is_true (is_blank (get_or rest (prefix_len no_blank rest) 0)) (prefix_len_stops no_blank rest 0 inside);
+  end = λ inside. not-false (is_blank (get_or rest (prefix_len no_blank rest) 0)) (prefix_len_stops no_blank rest 0 inside);
 }
 
 run_field : (rest : List ℕ) → (0 < length rest → is_blank (get_or rest 0 0) ≡ false) → FirstField rest (take (prefix_len no_blank rest) rest)

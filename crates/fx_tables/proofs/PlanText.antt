@@ -12,7 +12,8 @@ use Rattle.fx_tables.specs.declared.entry.PlanEntry.{PlanEntry}
 use Rattle.fx_tables.specs.declared.table.TableFault.{TableFault}
 use Rattle.fx_tables.specs.declared.table.TableFault.TheVariants.{Bad}
 use Rattle.fx_tables.specs.declared.table.TableCause.TheVariants.{PlanLine}
-use Rattle.fx_tables.proofs.PlanForms.{cond_cases, entry_form, form_entry}
+use Rattle.fx_io.proofs.Tests.{cond_cases}
+use Rattle.fx_tables.proofs.PlanForms.{entry_form, form_entry}
 
 abbrev Good : List PlanEntry → List (List ℕ) → List PlanEntry → Type 0
 Good earlier lines entries = SayEach lines entries × AreOnce earlier entries

@@ -1,12 +1,11 @@
 -- That what the lines of a plan have said so far is in range.
-use Rattle.std.proofs.Common.{◌≡◌, ◌≢◌, ◌≤◌, ℕ, Bool, true, false, Some, Option, List, [], ◌∷◌, ◌++◌, refl, sym, ap, subst, ◌∙◌}
-use Rattle.std.specs.Prelude.{◌||◌, Vec, IfSome}
+use Rattle.std.proofs.Common.{◌≡◌, ◌≢◌, ◌≤◌, ℕ, true, false, Some, Option, List, [], ◌∷◌, ◌++◌, sym, ap, subst, ◌∙◌}
+use Rattle.std.specs.Prelude.{Vec, IfSome}
 use Rattle.std.specs.Global.{Global}
 use Rattle.std.specs.List.{list_any, AllByRecursion}
 use Rattle.std.specs.Str.{bytes_eq}
 use Rattle.std.specs.BTreeSet.{BTreeSet, Updates}
-use Rattle.std.proofs.lemmas.Bool.{true≢false}
-use Rattle.std.proofs.lemmas.Slice.Eq.{bytes_eq-Decides}
+use Rattle.std.proofs.lemmas.Bool.{or_parts}
 use Rattle.dg_model.specs.declared.plan.Pipeline.{Pipeline}
 use Rattle.dg_model.specs.PlanRange.{AreDifferent, IsRegisterCount}
 use Rattle.fx_tables.specs.inner.Draft.{IsDraftInRange, IsEntryInRange}
@@ -14,26 +13,17 @@ use Rattle.fx_tables.specs.declared.entry.PlanEntry.{PlanEntry}
 use Rattle.fx_tables.specs.declared.entry.PlanEntry.TheVariants.{Cycles, Multipliers}
 use Rattle.fx_tables.specs.declared.draft.Draft.{Draft}
 use Rattle.fx_tables.proofs.DraftLemmas.{path_cmp, more_paths}
+use Rattle.fx_io.proofs.Tests.{differ}
 
 -- one more at the end
 each-more : {X : Type 0} (P : X → Type 0) (xs : List X) (last : X) → AllByRecursion P xs → P last → AllByRecursion P (xs ++ last ∷ [])
 each-more P [] last each one = (one, tt)
 each-more P (x ∷ xs) last each one = (each.0, each-more P xs last each.1 one)
 
-either_false : (a b : Bool) → (a || b) ≡ false → (a ≡ false) × (b ≡ false)
-either_false true b h = absurd (true≢false h)
-either_false false b h = (refl, h)
-
-same_bytes : (xs : List ℕ) → bytes_eq xs xs ≡ true
-same_bytes xs = (bytes_eq-Decides xs xs).1 refl
-
-differ : (path other : List ℕ) → bytes_eq path other ≡ false → path ≢ other
-differ path other h same = true≢false (sym (same_bytes path) ∙ ap (bytes_eq path) same ∙ h)
-
 different-more : (pipelines : List Pipeline) (last : Pipeline) → AreDifferent pipelines → list_any (λ other. bytes_eq other.path last.path) pipelines ≡ false → AreDifferent (pipelines ++ last ∷ [])
 different-more [] last different none = (tt, tt)
 different-more (first ∷ later) last different none =
-    let parts = either_false (bytes_eq first.path last.path) (list_any (λ other. bytes_eq other.path last.path) later) none in (
+    let parts = or_parts (bytes_eq first.path last.path) (list_any (λ other. bytes_eq other.path last.path) later) none in (
       each-more (λ other. first.path ≢ other.path) later last different.0 (differ first.path last.path parts.0),
       different-more later last different.1 parts.1,
     )

@@ -13,7 +13,12 @@ use Rattle.dg_model.specs.Signals.{Attributes, Stimulus, Table}
 use Rattle.dg_model.specs.Solves.{Solves}
 use Rattle.dg_model.specs.Wires.{width_into}
 use Rattle.fx_type.specs.FxType.{width_of}
-use Rattle.fx_top.proofs.Placing.{all-counted, element, first-part, found-at, from-map-at, given-free, got, keep-all, keep-none, kept, map-at, named-at, named-in, named-size, none-found, not-mapped, or-parts, or-true, there, to-named, unequal, within, zip-at}
+use Rattle.vl_ast.proofs.Unstalled.{counted-all}
+use Rattle.std.proofs.lemmas.Bool.{or_parts}
+use Rattle.fx_io.proofs.Tests.{unequal}
+use Rattle.st_wrap.proofs.Columned.{got-in}
+use Rattle.fx_io.proofs.Places.{map_there, get_some, there_within, there_map}
+use Rattle.fx_top.proofs.Placing.{element, first-part, found-at, given-free, keep-all, keep-none, kept, named-at, named-in, named-size, none-found, not-mapped, or-true, to-named, zip-at}
 use Rattle.hw_arcs.specs.Latencies.{latency_at}
 use Rattle.hw_module.specs.Carries.{Carries, IsDrivenRun}
 use Rattle.hw_module.specs.Interface.{NamedElement, input_data, input_elements, output_data, output_elements, step_of}
@@ -149,7 +154,7 @@ module _ {core : Module} {diagram : Diagram} {plan : Resolved} {timing : Timing}
   latency-is : (e : NamedElement) → Contains outs e → lateness_of (out_port e) ≡ declared e
   latency-is e h =
       let lacks : (not (is_control_output true (out_port e)) && (is_none (period_of (out_port e)) || is_none (latency_of (out_port e)))) ≡ false = lacks-none (out_port e) (out-there e h) in
-      let both = or-parts (is_none (period_of (out_port e))) (is_none (latency_of (out_port e)))
+      let both = or_parts (is_none (period_of (out_port e))) (is_none (latency_of (out_port e)))
       (sym (ap (λ b. not b && (is_none (period_of (out_port e)) || is_none (latency_of (out_port e)))) (off-output e h)) ∙ lacks) in
       kept 0 (declared e) (nat_le 0 (declared e) && nat_le (declared e) 16777216) both.1
 
@@ -180,7 +185,7 @@ module _ {core : Module} {diagram : Diagram} {plan : Resolved} {timing : Timing}
     core-many : length c.names ≡ length (wanted_names diagram)
     core-many = given_size own_names (wanted_names diagram) c.names c.are_names.given
 
-    -- there is a name for each column
+    -- get_some is a name for each column
     pub columns-many : length names ≡ length (stimulus_ports core) + length (output_ports core)
     columns-many =
         let size = wanted-size in
@@ -196,7 +201,7 @@ module _ {core : Module} {diagram : Diagram} {plan : Resolved} {timing : Timing}
       ticks place below = record {
         within = below;
         counts = counts place below;
-        number = all-counted (counts_at core f.core_window f.core_inputs) place (λ j less. counts j (omega (arith, less, below)));
+        number = counted-all (counts_at core f.core_window f.core_inputs) place (λ j less. counts j (omega (arith, less, below)));
       }
         where
           counts : (place : ℕ) → row_at f.core_window place < f.core_window.rows → counts_at core f.core_window f.core_inputs place ≡ true
@@ -219,12 +224,12 @@ module _ {core : Module} {diagram : Diagram} {plan : Resolved} {timing : Timing}
         driven = record {
           reset = f.steady.reset;
           shows = λ cycles cycles_is index port at period period_is t less hit clock p low high tick.
-              let e = from-map-at in_port ins index port (sym (ap (λ (ports : List Port). slice_get ports index) stimulus-are) ∙ at) in
+              let e = map_there in_port ins index port (sym (ap (λ (ports : List Port). slice_get ports index) stimulus-are) ∙ at) in
               let root = (named-at c.names (root_inputs diagram A) index e.0 e.1).1 in
-              let one : period ≡ 1 = (let s : Some period ≡ Some 1 = sym period_is ∙ ap period_of (sym e.2) ∙ in-period e.0 (got ins index e.0 e.1) in cc s) in
+              let one : period ≡ 1 = (let s : Some period ≡ Some 1 = sym period_is ∙ ap period_of (sym e.2) ∙ in-period e.0 (got-in ins index e.0 e.1) in cc s) in
               let clocks : clocks_of core ≡ cycles = ap (λ (o : Option ℕ). unwrap_or o 1) cycles_is in
-              let enough : index < length names = (let x = within (root_inputs diagram A) index e.0.root root in let y = wanted-size in omega (arith, x, y, many)) in
-              let n = there names index enough in
+              let enough : index < length names = (let x = there_within (root_inputs diagram A) index e.0.root root in let y = wanted-size in omega (arith, x, y, many)) in
+              let n = get_some names index enough in
               let q = in-at t less in
               let here = clock-is clock p tick in
               let inside : row_at f.core_window clock < f.core_window.rows = subst (λ k. row_at f.core_window k < f.core_window.rows) here tick.within in
@@ -240,7 +245,7 @@ module _ {core : Module} {diagram : Diagram} {plan : Resolved} {timing : Timing}
         -- the clock at which an output shows the sample
         shows-at : (e : NamedElement) (index : ℕ) → slice_get outs index ≡ Some e → f.core_rows (row_at f.core_window (shown_at core number (out_port e))) e.name ≡ bits_of (width_of e.root.type) (table e.root.block 1 e.root.element number)
         shows-at e index at =
-            let h = got outs index e at in
+            let h = got-in outs index e at in
             let lat : ℕ = latency_at timing.lat e.root.block in
             let n : ℕ = shown_at core number (out_port e) in
             let late = late-is e h in
@@ -251,7 +256,7 @@ module _ {core : Module} {diagram : Diagram} {plan : Resolved} {timing : Timing}
             let split : (number + lat + 1) * plan.cycles ≡ number * plan.cycles + lat * plan.cycles + plan.cycles = omega arith in
             let step = out-step e h in
             let hit : number % step_of e.root ≡ 0 = ap (λ s. number % s) step ∙ (let r = mod_below number 1 (omega arith) in omega (arith, r)) in
-            let inside : row_at f.core_window n < f.core_window.rows = f.reached number place is index (out_port e) (ap (λ (ports : List Port). slice_get ports index) outputs-are ∙ map-at out_port outs index e at) in
+            let inside : row_at f.core_window n < f.core_window.rows = f.reached number place is index (out_port e) (ap (λ (ports : List Port). slice_get ports index) outputs-are ∙ there_map out_port outs index e at) in
             let from : number * plan.cycles + declared e ≤ n = omega (arith, n-is, split, less) in
             let until : n < (number + lat + step_of e.root) * plan.cycles = subst (λ s. n < (number + lat + s) * plan.cycles) (sym step) (omega (arith, n-is, split, less)) in
             c.bits (taken_by window rows place) f.core_window stimulus table f.core_rows run index e at number some hit n n from until (ticks n inside)
@@ -263,10 +268,10 @@ module _ {core : Module} {diagram : Diagram} {plan : Resolved} {timing : Timing}
         out-of : (e : NamedElement) (index : ℕ) → slice_get (output_elements names diagram) index ≡ Some e → (o : NamedElement) × (slice_get outs index ≡ Some o) × (o.root ≡ e.root)
         out-of e index at =
             let own = named-at (drop (length (root_inputs diagram A)) names) (root_outputs diagram A) index e at in
-            let low = within (root_outputs diagram A) index e.root own.1 in
+            let low = there_within (root_outputs diagram A) index e.root own.1 in
             let size = wanted-size in
             let rest = length-drop (length (root_inputs diagram A)) c.names in
-            let n = there (drop (length (root_inputs diagram A)) c.names) index (omega (arith, low, size, core-many, rest)) in
+            let n = get_some (drop (length (root_inputs diagram A)) c.names) index (omega (arith, low, size, core-many, rest)) in
             (element n.0 e.root, to-named (drop (length (root_inputs diagram A)) c.names) (root_outputs diagram A) index n.0 e.root n.1 own.1, refl)
 
         -- how many inputs the core has
@@ -280,7 +285,7 @@ module _ {core : Module} {diagram : Diagram} {plan : Resolved} {timing : Timing}
         shown m carried = λ index e at.
             let o = out-of e index at in
             let own = named-at (drop (length (root_inputs diagram A)) names) (root_outputs diagram A) index e at in
-            let port : slice_get (output_ports core) index ≡ Some (out_port o.0) = ap (λ (ports : List Port). slice_get ports index) outputs-are ∙ map-at out_port outs index o.0 o.1 in
+            let port : slice_get (output_ports core) index ≡ Some (out_port o.0) = ap (λ (ports : List Port). slice_get ports index) outputs-are ∙ there_map out_port outs index o.0 o.1 in
             let pair : slice_get (named_outputs core names) index ≡ Some (out_port o.0, e.name) =
             zip-at (output_ports core) (drop (length (stimulus_ports core)) names) index (out_port o.0) e.name port (ap (λ k. slice_get (drop k names) index) ins-size ∙ own.0) in
             carried.at number place is index (out_port o.0, e.name) pair (f.reached number place is index (out_port o.0) port)

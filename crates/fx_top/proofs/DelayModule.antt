@@ -9,7 +9,8 @@ use Rattle.vl_ast.specs.Context.{Net}
 use Rattle.vl_ast.specs.Header.{DataPort, attribute_of, bit_input, input_port, output_port}
 use Rattle.vl_ast.specs.Nets.{Declared, Kind, InputPort, OutputPort, Register, declarations}
 use Rattle.vl_ast.specs.Value.{Bits, bits_of, is_negative, assigned}
-use Rattle.fx_top.proofs.Names.{names_read-name, own_length-name, is_signed-name, value_in-name, register}
+use Rattle.st_wrap.proofs.Reading.{reads-Name}
+use Rattle.fx_top.proofs.Names.{own_length-name, is_signed-name, value_in-name, register}
 
 -- the names of its ports, and what it shows first
 pub record OneDelay : Type 0 where
@@ -60,4 +61,4 @@ bit_net = record { width = 1; signed = false }
 pub declarations-are : (d : OneDelay) → declarations (delay_module d)
     ≡ declared_as (codes "clk") InputPort bit_net ∷ declared_as (codes "reset") InputPort bit_net ∷ declared_as d.input InputPort byte_net
     ∷ declared_as d.output OutputPort byte_net ∷ declared_as register Register byte_net ∷ []
-declarations-are d = simp names_read-name
+declarations-are d = simp reads-Name

@@ -17,7 +17,8 @@ use Rattle.dg_model.specs.Signals.{Attributes}
 use Rattle.dg_model.specs.Widths.{widths_of}
 use Rattle.dg_model.specs.Wired.{Joins, root_input, root_output}
 use Rattle.dg_model.specs.Wires.{at_source, driver_of, enters, width_into}
-use Rattle.dg_tables.proofs.Lists.{find_holds, get_holds}
+use Rattle.fx_io.proofs.Places.{held}
+use Rattle.dg_tables.proofs.Lists.{find_holds}
 use Rattle.fx_top.proofs.Steadied.{placed}
 use Rattle.hw_build.proofs.Named.{want_is}
 use Rattle.hw_build.proofs.Naming.{IsWanted}
@@ -58,7 +59,7 @@ module _ (diagram : Diagram) (is : IsChecked diagram) where
   width-small block port b at some = small-at (slice_index_or (widths_of diagram) block []) (port - 1) ((is.dimensions.blocks block b at).within some)
 
   in-small : (block : ℕ) (b : Block) (number : ℕ) → slice_get diagram.blocks block ≡ Some b → number_in root_input b ≡ Some number → A.width_at block 1 ≤ 1024
-  in-small block b number at port = width-small block 1 b at (one-output b.kind number b.outputs port (get_holds IsReadable diagram.blocks block b is.wired.blocks at).ports.1)
+  in-small block b number at port = width-small block 1 b at (one-output b.kind number b.outputs port (held IsReadable diagram.blocks block b is.wired.blocks at).ports.1)
 
   into-small : (block port : ℕ) → width_into diagram A block port ≤ 1024
   into-small block port = go (driver_of diagram block port) refl

@@ -4,7 +4,8 @@ use Rattle.vl_ast.specs.declared.modules.Port.{Port}
 use Rattle.vl_ast.specs.Conditions.{BreaksNone, undriven, doubly, too_wide, no_reset, lacks_attribute, no_attribute}
 use Rattle.vl_ast.specs.Control.{is_stallable}
 use Rattle.fx_top.proofs.DelayModule.{OneDelay, delay_module}
-use Rattle.fx_top.proofs.Names.{AreDifferent, names_read-name, sound-name, own_length-name}
+use Rattle.st_wrap.proofs.Reading.{reads-Name}
+use Rattle.fx_top.proofs.Names.{AreDifferent, sound-name, own_length-name}
 use Rattle.fx_top.proofs.Bits.{bits-are_number}
 use Rattle.fx_top.proofs.Loop.{no-loop}
 
@@ -18,20 +19,20 @@ unstallable d = neither (bytes_eq d.input (codes "clk_enable")) (bytes_eq d.outp
   neither false false = refl
 
 undriven-none : (d : OneDelay) → AreDifferent d.input d.output → undriven (delay_module d) ≡ None
-undriven-none d n = simp (names_read-name, sound-name, own_length-name, n.clk-u, n.u-clk, n.reset-u, n.u-reset, n.register-u, n.u-register, n.clk-y, n.y-clk, n.reset-y, n.y-reset, n.register-y, n.y-register, n.u-y, n.y-u, n.u-u, n.y-y)
+undriven-none d n = simp (reads-Name, sound-name, own_length-name, n.clk-u, n.u-clk, n.reset-u, n.u-reset, n.register-u, n.u-register, n.clk-y, n.y-clk, n.reset-y, n.y-reset, n.register-y, n.y-register, n.u-y, n.y-u, n.u-u, n.y-y)
 
 doubly-none : (d : OneDelay) → AreDifferent d.input d.output → doubly (delay_module d) ≡ None
-doubly-none d n = simp (names_read-name, sound-name, own_length-name, n.clk-u, n.u-clk, n.reset-u, n.u-reset, n.register-u, n.u-register, n.clk-y, n.y-clk, n.reset-y, n.y-reset, n.register-y, n.y-register, n.u-y, n.y-u, n.u-u, n.y-y)
+doubly-none d n = simp (reads-Name, sound-name, own_length-name, n.clk-u, n.u-clk, n.reset-u, n.u-reset, n.register-u, n.u-register, n.clk-y, n.y-clk, n.reset-y, n.y-reset, n.register-y, n.y-register, n.u-y, n.y-u, n.u-u, n.y-y)
 
 too_wide-none : (d : OneDelay) → AreDifferent d.input d.output → too_wide (delay_module d) ≡ None
-too_wide-none d n = simp (bits-are_number d.initial, names_read-name, sound-name, own_length-name, n.clk-u, n.u-clk, n.reset-u, n.u-reset, n.register-u, n.u-register, n.clk-y, n.y-clk, n.reset-y, n.y-reset, n.register-y, n.y-register, n.u-y, n.y-u, n.u-u, n.y-y)
+too_wide-none d n = simp (bits-are_number d.initial, reads-Name, sound-name, own_length-name, n.clk-u, n.u-clk, n.reset-u, n.u-reset, n.register-u, n.u-register, n.clk-y, n.y-clk, n.reset-y, n.y-reset, n.register-y, n.y-register, n.u-y, n.y-u, n.u-u, n.y-y)
 
 no_reset-none : (d : OneDelay) → AreDifferent d.input d.output → no_reset (delay_module d) ≡ None
-no_reset-none d n = simp (names_read-name, sound-name, own_length-name, n.clk-u, n.u-clk, n.reset-u, n.u-reset, n.register-u, n.u-register, n.clk-y, n.y-clk, n.reset-y, n.y-reset, n.register-y, n.y-register, n.u-y, n.y-u, n.u-u, n.y-y)
+no_reset-none d n = simp (reads-Name, sound-name, own_length-name, n.clk-u, n.u-clk, n.reset-u, n.u-reset, n.register-u, n.u-register, n.clk-y, n.y-clk, n.reset-y, n.y-reset, n.register-y, n.y-register, n.u-y, n.y-u, n.u-u, n.y-y)
 
 no_attribute-none : (d : OneDelay) → AreDifferent d.input d.output → no_attribute (delay_module d) ≡ None
 no_attribute-none d n =
-    ap (λ stalls. option_map (λ (port : Port). port.name) (find (lacks_attribute stalls) (delay_module d).ports)) (unstallable d) ∙ simp (names_read-name, sound-name, own_length-name, n.clk-u, n.u-clk, n.reset-u, n.u-reset, n.register-u, n.u-register, n.clk-y, n.y-clk, n.reset-y, n.y-reset, n.register-y, n.y-register, n.u-y, n.y-u, n.u-u, n.y-y)
+    ap (λ stalls. option_map (λ (port : Port). port.name) (find (lacks_attribute stalls) (delay_module d).ports)) (unstallable d) ∙ simp (reads-Name, sound-name, own_length-name, n.clk-u, n.u-clk, n.reset-u, n.u-reset, n.register-u, n.u-register, n.clk-y, n.y-clk, n.reset-y, n.y-reset, n.register-y, n.y-register, n.u-y, n.y-u, n.u-u, n.y-y)
 
 pub breaks-none : (d : OneDelay) → AreDifferent d.input d.output → BreaksNone (delay_module d)
 breaks-none d n = record {

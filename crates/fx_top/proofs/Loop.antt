@@ -7,7 +7,8 @@ use Rattle.vl_ast.specs.declared.modules.ModItem.TheVariants.{Assign}
 use Rattle.vl_ast.specs.Nets.{names_read}
 use Rattle.vl_ast.specs.Conditions.{IsLoop, AssignmentReads}
 use Rattle.fx_top.proofs.DelayModule.{OneDelay, delay_module}
-use Rattle.fx_top.proofs.Names.{AreDifferent, names_read-name, register}
+use Rattle.st_wrap.proofs.Reading.{reads-Name}
+use Rattle.fx_top.proofs.Names.{AreDifferent, register}
 
 assigned-at : (d : OneDelay) (name : List ℕ) (value : Expr) (k : ℕ) → k < 3
     → slice_index_or (delay_module d).items k (Assign name value) ≡ Assign name value → (d.output ≡ name) × (Name register ≡ value)
@@ -27,7 +28,7 @@ only-one name read (suc k) below e = absurd (omega arith)
 reads-are : (d : OneDelay) (name read : List ℕ) → AssignmentReads (delay_module d) name read → (d.output ≡ name) × (register ≡ read)
 reads-are d name read a =
     let is = assigned-is d name a.value a.assigned in
-    let among : Contains (register ∷ []) read = subst (λ (names : List (List ℕ)). Contains names read) (ap names_read (sym is.1) ∙ names_read-name register) a.reads in
+    let among : Contains (register ∷ []) read = subst (λ (names : List (List ℕ)). Contains names read) (ap names_read (sym is.1) ∙ reads-Name register) a.reads in
     (is.0, only-one register read among.0 among.1 among.2)
 
 pub no-loop : (d : OneDelay) → AreDifferent d.input d.output → (first : List ℕ) (others : List (List ℕ)) → IsLoop (delay_module d) first others → ⊥

@@ -1,11 +1,10 @@
 -- The names of the module of one delay are different, and what a name is as an expression.
-use Rattle.std.proofs.Common.{◌≡◌, List, ℕ, [], ◌∷◌, Bool, true, false, codes, bytes_eq, ap, sym, ◌∙◌}
+use Rattle.std.proofs.Common.{◌≡◌, List, ℕ, Bool, true, false, codes, bytes_eq, ap, sym, ◌∙◌}
 use Rattle.vl_ast.specs.declared.expressions.Expr.TheOpen.{Expr-F}
 use Rattle.vl_ast.specs.declared.expressions.Expr.TheFolds.{fold-roll-Expr, para-roll-Expr}
 use Rattle.vl_ast.specs.declared.expressions.Expr.TheVariants.{Name, rolls-Name}
 use Rattle.vl_ast.specs.Context.{Net, own_length, length_step, is_signed, sign_step}
 use Rattle.vl_ast.specs.Value.{Bits, value_in, meaning_step, extended}
-use Rattle.vl_ast.specs.Nets.{names_read, names_step}
 use Rattle.vl_ast.specs.Conditions.{is_sound_step}
 use Rattle.vl_ast.specs.declared.expressions.Expr.TheFolds.{para-Expr}
 
@@ -30,9 +29,6 @@ pub record AreDifferent (u y : List ℕ) : Type 0 where
   pub y-u : bytes_eq y u ≡ false
   pub u-u : bytes_eq u u ≡ true
   pub y-y : bytes_eq y y ≡ true
-
-pub names_read-name : (x : List ℕ) → names_read (Name x) ≡ x ∷ []
-names_read-name x = ap names_read (sym (rolls-Name x)) ∙ fold-roll-Expr (List (List ℕ)) names_step (Expr-F.Name x)
 
 pub own_length-name : (nets : List ℕ → Net) (x : List ℕ) → own_length nets (Name x) ≡ (nets x).width
 own_length-name nets x = ap (own_length nets) (sym (rolls-Name x)) ∙ fold-roll-Expr ℕ (length_step nets) (Expr-F.Name x)

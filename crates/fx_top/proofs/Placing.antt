@@ -1,9 +1,8 @@
 -- Lists by their places, counts up to a place, names that are given, and numbers that attributes have.
-use Rattle.std.proofs.Common.{◌≡◌, ◌≢◌, ℕ, zero, suc, ◌-◌, ◌<◌, ◌≤◌, ◌⊎◌, ⊎_elim, Bool, true, false, not, ◌||◌, if◌then◌else◌, List, [], ◌∷◌, map, filter, find, length, Contains, bytes_eq, Option, Some, None, refl, sym, ap, subst, ◌∙◌, arith}
+use Rattle.std.proofs.Common.{◌≡◌, ℕ, zero, suc, ◌-◌, ◌<◌, ◌≤◌, ◌⊎◌, ⊎_elim, Bool, true, false, not, ◌||◌, if◌then◌else◌, List, [], ◌∷◌, map, filter, find, length, Contains, Option, Some, None, refl, sym, ap, subst, ◌∙◌, arith}
 use Rattle.std.specs.Prelude.{slice_get, is_none, option_map, unwrap_or}
 use Rattle.std.specs.List.{zip}
 use Rattle.std.proofs.lemmas.Bool.{cases_Bool, cases_eq, cond-false, cond-true}
-use Rattle.std.proofs.lemmas.Slice.Eq.{bytes_eq-Decides}
 use Rattle.dg_model.specs.RootElements.{RootElement}
 use Rattle.hw_module.specs.Interface.{NamedElement, named}
 use Rattle.hw_names.specs.Names.{Given}
@@ -15,31 +14,6 @@ use Rattle.vl_ast.proofs.Places.{cons-cases, head-in, none-in, tail-in}
 
 abbrev pub element : List ℕ → RootElement → NamedElement
 element name root = record { name = name; root = root }
-
-pub got : {X : Type 0} (xs : List X) (k : ℕ) (x : X) → slice_get xs k ≡ Some x → Contains xs x
-got [] k x e = absurd (cc e)
-got (y ∷ xs) zero x e = let same : y ≡ x = cc e in subst (λ z. Contains (y ∷ xs) z) same (head-in y xs)
-got (y ∷ xs) (suc k) x e = tail-in y x xs (got xs k x e)
-
-pub there : {X : Type 0} (xs : List X) (k : ℕ) → k < length xs → (x : X) × (slice_get xs k ≡ Some x)
-there [] k below = absurd (omega (arith, below))
-there (x ∷ xs) zero below = (x, refl)
-there (x ∷ xs) (suc k) below = there xs k (omega (arith, below))
-
-pub within : {X : Type 0} (xs : List X) (k : ℕ) (x : X) → slice_get xs k ≡ Some x → k < length xs
-within [] k x e = absurd (cc e)
-within (y ∷ xs) zero x e = omega arith
-within (y ∷ xs) (suc k) x e = let rest = within xs k x e in omega (arith, rest)
-
-pub map-at : {X Y : Type 0} (f : X → Y) (xs : List X) (k : ℕ) (x : X) → slice_get xs k ≡ Some x → slice_get (map f xs) k ≡ Some (f x)
-map-at f [] k x e = absurd (cc e)
-map-at f (y ∷ xs) zero x e = let same : y ≡ x = cc e in ap (λ v. Some (f v)) same
-map-at f (y ∷ xs) (suc k) x e = map-at f xs k x e
-
-pub from-map-at : {X Y : Type 0} (f : X → Y) (xs : List X) (k : ℕ) (y : Y) → slice_get (map f xs) k ≡ Some y → (x : X) × (slice_get xs k ≡ Some x) × (f x ≡ y)
-from-map-at f [] k y e = absurd (cc e)
-from-map-at f (x ∷ xs) zero y e = let same : f x ≡ y = cc e in (x, refl, same)
-from-map-at f (x ∷ xs) (suc k) y e = from-map-at f xs k y e
 
 pub zip-at : {X Y : Type 0} (xs : List X) (ys : List Y) (k : ℕ) (x : X) (y : Y) → slice_get xs k ≡ Some x → slice_get ys k ≡ Some y → slice_get (zip xs ys) k ≡ Some (x, y)
 zip-at [] ys k x y a b = absurd (cc a)
@@ -99,13 +73,6 @@ none-found p (y ∷ xs) e x c = by (λ rest t. none-found p xs rest x t) (p y) r
 
 -- ---- counts
 
-pub all-counted : (test : ℕ → Bool) (many : ℕ) → ((j : ℕ) → j < many → test j ≡ true) → counted test many ≡ many
-all-counted test zero h = refl
-all-counted test (suc many) h =
-    let here = h many (omega arith) in
-    let rest = all-counted test many (λ j less. h j (omega (arith, less))) in
-    (λ i. if here i then suc (rest i) else rest i)
-
 -- the place of a number
 pub found-at : (test : ℕ → Bool) (bound number : ℕ) → number < counted test bound → (place : ℕ) × (place < bound) × (test place ≡ true) × (counted test place ≡ number)
 found-at test zero number h = absurd (omega (arith, h))
@@ -137,9 +104,6 @@ given-free taken (want ∷ wanted) (name ∷ names) g n c h = ⊎_elim
     (λ t. given-free (name ∷ taken) wanted names g.1 n t (tail-in name n taken h))
     (cons-cases name n names c)
 
-pub unequal : (a b : List ℕ) → a ≢ b → bytes_eq a b ≡ false
-unequal a b other = ⊎_elim (λ t. absurd (other ((bytes_eq-Decides a b).0 t))) (λ f. f) (cases_Bool (bytes_eq a b))
-
 -- ---- numbers of attributes
 
 pub kept : (other v : ℕ) (b : Bool) → is_none (if b then Some v else None) ≡ false → unwrap_or (if b then Some v else None) other ≡ v
@@ -153,10 +117,6 @@ first-part false n rest e = (refl, e)
 pub not-mapped : (o : Option Port) → option_map (λ (port : Port). port.name) o ≡ None → o ≡ None
 not-mapped None e = refl
 not-mapped (Some port) e = absurd (cc e)
-
-pub or-parts : (a b : Bool) → (a || b) ≡ false → (a ≡ false) × (b ≡ false)
-or-parts true b e = absurd (cc e)
-or-parts false b e = (refl, e)
 
 pub or-true : (b : Bool) → not (b || true) ≡ false
 or-true true = refl

@@ -23,9 +23,7 @@ use Rattle.hw_rules.specs.Times.{timing_in}
 use Rattle.hw_sched.specs.Ready.{declared_latency}
 use Rattle.hw_sched.specs.Slots.{Timing}
 use Rattle.vl_ast.specs.declared.modules.Module.{Module}
-
-same_some : (x y : ℕ) → Some x ≡ Some y → x ≡ y
-same_some x y same = cc same
+use Rattle.mdl_build.proofs.SoundTree.{same_Some}
 
 none_some : (y : ℕ) → None ≡ Some y → ⊥
 none_some y same = absurd (cc same)
@@ -33,13 +31,13 @@ none_some y same = absurd (cc same)
 -- the element at a place of the list of blocks
 element_from : (elements : List RootElement) (k y : ℕ) → slice_get (map (λ (e : RootElement). e.block) elements) k ≡ Some y → (e : RootElement) × (slice_get elements k ≡ Some e) × (e.block ≡ y)
 element_from [] k y at = absurd (none_some y at)
-element_from (e ∷ elements) zero y at = (e, refl, same_some e.block y at)
+element_from (e ∷ elements) zero y at = (e, refl, same_Some e.block y at)
 element_from (e ∷ elements) (suc k) y at = element_from elements k y at
 
 -- a number of a block's, at the place of its element, and 0 where there is none
 number_of_some : (f : ℕ → ℕ) (elements : List RootElement) (place block : ℕ) → slice_get (map (λ (e : RootElement). e.block) elements) place ≡ Some block → f block ≡ slice_index_or (map (λ (e : RootElement). f e.block) elements) place 0
 number_of_some f [] place block at = absurd (none_some block at)
-number_of_some f (e ∷ elements) zero block at = ap f (sym (same_some e.block block at))
+number_of_some f (e ∷ elements) zero block at = ap f (sym (same_Some e.block block at))
 number_of_some f (e ∷ elements) (suc place) block at = number_of_some f elements place block at
 
 module _ (diagram : Diagram) where

@@ -1,5 +1,5 @@
 -- Bytes said in two steps or more.
-use Rattle.std.proofs.Common.{◌≡◌, ◌<◌, ◌≤◌, ◌+◌, ℕ, zero, suc, codes, List, ◌∷◌, get_or, ◌++◌, length, length-append, take, Option, None, Some, refl, ap, [], append_assoc, append-nil, ◌∙◌, subst, sym, arith, Vec, Global}
+use Rattle.std.proofs.Common.{◌≡◌, ◌<◌, ◌≤◌, ◌+◌, ℕ, zero, suc, codes, List, ◌∷◌, get_or, ◌++◌, length, length-append, take, Option, ap, [], append_assoc, append-nil, ◌∙◌, subst, sym, arith, Vec, Global}
 use Rattle.std.proofs.lemmas.List.{take-append-le}
 use Rattle.std.proofs.Math.Seq.{take-append-add}
 use Rattle.fx_io.specs.Sink.{TookProperPrefix, also_took}
@@ -7,10 +7,7 @@ use Rattle.fx_io.specs.Cause.{Rose}
 use Rattle.std.specs.List.{flat_map}
 use Rattle.fx_top.specs.Call.{Said, Stream}
 use Rattle.fx_top.specs.Messages.{names_end}
-
-pub took-both : (told : Option (List ℕ)) (first second : List ℕ) → also_took (also_took told first) second ≡ also_took told (first ++ second)
-took-both None first second = refl
-took-both (Some earlier) first second = ap Some (append_assoc earlier first second)
+use Rattle.fx_io.proofs.Taken.{also_took-append}
 
 -- what was said of one piece
 pub said-alone : {stream : Stream} (bytes text : List ℕ) → bytes ≡ text → Said stream (bytes ++ []) → Said stream text
@@ -21,7 +18,7 @@ pub said-more : (told before now : Option (List ℕ)) (f0 f1 f2 : ℕ) (piece mo
     → Said (record { before = told; now = now; failed = Rose f0 f2 }) (piece ++ more)
 said-more told before now f0 f1 f2 piece more took later said =
     let joined : (bytes : List ℕ) → now ≡ also_took before bytes → now ≡ also_took told (piece ++ bytes) =
-    λ bytes is. is ∙ ap (λ (state : Option (List ℕ)). also_took state bytes) took ∙ took-both told piece bytes in
+    λ bytes is. is ∙ ap (λ (state : Option (List ℕ)). also_took state bytes) took ∙ also_took-append told piece bytes in
     record {
       prefix = (length piece + said.prefix.0, joined (take said.prefix.0 more) said.prefix.1 ∙ ap (also_took told) (sym (take-append-add piece more said.prefix.0)));
       whole = λ calm. joined more (said.whole (λ rose. calm (omega arith)));
@@ -37,13 +34,9 @@ took-more told before now done piece rest took part =
       length done + count,
       (
         (let a = length-append done (piece ++ rest) in let b = length-append piece rest in omega (arith, a, b, short)),
-        part.1.1 ∙ ap (λ state. also_took state (take count piece)) took ∙ took-both told done (take count piece) ∙ ap (also_took told) (sym cut),
+        part.1.1 ∙ ap (λ state. also_took state (take count piece)) took ∙ also_took-append told done (take count piece) ∙ ap (also_took told) (sym cut),
       ),
     )
-
-pub took-last : (told before now : Option (List ℕ)) (done piece : List ℕ) → before ≡ also_took told done → TookProperPrefix before now piece → TookProperPrefix told now (done ++ piece)
-took-last told before now done piece took part =
-    subst (λ bytes. TookProperPrefix told now (done ++ bytes)) (append-nil piece) (took-more told before now done piece [] took part)
 
 -- a proper prefix, after a fault
 pub said-cut : (told now : Option (List ℕ)) (f0 f1 f2 : ℕ) (bytes : List ℕ) → f0 ≤ f1 → Rose f1 f2 → TookProperPrefix told now bytes → Said (record { before = told; now = now; failed = Rose f0 f2 }) bytes

@@ -27,7 +27,7 @@ use Rattle.fx_top.specs.Command.{Simulate}
 use Rattle.fx_top.specs.Simulated.{IsBadSimulation, IsSimulationOf, output_periods}
 use Rattle.fx_top.specs.inner.Simulating.{AreLines, HasColumns, IsFaultOf, IsReadyFor, IsRowsFault, IsSimulationIn, IsSimulationTo, Refuses, TookLines, TookPartOfLines}
 use Rattle.fx_top.proofs.Lines.{took-part}
-use Rattle.fx_top.proofs.Sayings.{took-both}
+use Rattle.fx_io.proofs.Taken.{also_took-append}
 
 -- ---- what is ready
 
@@ -124,7 +124,7 @@ module _ (checked : CheckedDiagram) (rows : Rows) (periods : List ℕ) (t : ℕ)
   pub took_line : (own : List ℕ) (numbers : List ℤ) (line : List ℕ) (before mid now : Option (List ℕ)) → own ≡ periods → IsRowAt checked rows t numbers → line ≡ response_line own t numbers
       → TookLines checked rows periods t before mid → now ≡ also_took mid line → TookLines checked rows periods (t + 1) before now
   took_line own numbers line before mid now kept at is took more = record {
-    each = λ lines shown. more ∙ ap (λ (state : Option (List ℕ)). also_took state line) (took.each lines shown) ∙ took-both before (response periods lines t) line
+    each = λ lines shown. more ∙ ap (λ (state : Option (List ℕ)). also_took state line) (took.each lines shown) ∙ also_took-append before (response periods lines t) line
         ∙ ap (λ (xs : List ℕ). also_took before (response periods lines t ++ xs)) (line-of own numbers line kept at is lines shown) ∙ ap (λ (n : ℕ). also_took before (response periods lines n)) (next t);
   }
     where

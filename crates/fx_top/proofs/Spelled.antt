@@ -1,5 +1,5 @@
 -- The module of one delay can be written.
-use Rattle.std.proofs.Common.{◌≡◌, ◌<◌, ◌^◌, ℕ, Bool, true, false, ◌&&◌, List, [], ◌∷◌, ◌++◌, flat_map, codes, refl, ap, sym, ◌∙◌, nat_lt, inl, inr, arith}
+use Rattle.std.proofs.Common.{◌≡◌, ◌<◌, ◌^◌, ℕ, Bool, true, ◌&&◌, List, [], ◌∷◌, ◌++◌, flat_map, codes, refl, ap, sym, ◌∙◌, nat_lt, inl, inr, arith}
 use Rattle.std.specs.List.{list_all}
 use Rattle.std.proofs.lemmas.Bool.{ltb-true, lt-ltb}
 use Rattle.vl_ast.specs.declared.expressions.Sized.{Sized}
@@ -14,6 +14,7 @@ use Rattle.vl_names.specs.Identifiers.{is_identifier}
 use Rattle.fx_top.proofs.DelayModule.{OneDelay, delay_module}
 use Rattle.fx_top.proofs.Names.{register}
 use Rattle.fx_top.proofs.Bits.{bits-fit}
+use Rattle.fx_io.proofs.Tests.{left_true, right_true}
 
 tokens-name : (x : List ℕ) → expr_tokens (Name x) ≡ Identifier x ∷ []
 tokens-name x = ap expr_tokens (sym (rolls-Name x)) ∙ fold-roll-Expr (List Token) tokens_step (Expr-F.Name x)
@@ -87,14 +88,6 @@ is_plain (Identifier name) = is_identifier name
 is_plain (Number number) = nat_lt number 1000000000
 is_plain (Based number) = nat_lt number.width 1000000000 && nat_lt number.bits 256
 
-and-left : (a b : Bool) → (a && b) ≡ true → a ≡ true
-and-left true b e = refl
-and-left false b e = absurd (cc e)
-
-and-right : (a b : Bool) → (a && b) ≡ true → b ≡ true
-and-right true b e = e
-and-right false b e = absurd (cc e)
-
 -- such tokens are writable, by the law on numbers
 module _ (plain : (number : ℕ) → number < 10 ^ 9 → IsWritable (Number number)) (based : (number : Sized) → number.width < 10 ^ 9 → number.bits < 2 ^ 128 → IsWritable (Based number)) where
   token-writable : (token : Token) → is_plain token ≡ true → IsWritable token
@@ -104,13 +97,13 @@ module _ (plain : (number : ℕ) → number < 10 ^ 9 → IsWritable (Number numb
   token-writable (Identifier name) e = (name, (refl, e))
   token-writable (Number number) e = plain number (ltb-true number 1000000000 e)
   token-writable (Based number) e =
-      let width : number.width < 1000000000 = ltb-true number.width 1000000000 (and-left _ _ e) in
-      let bits : number.bits < 256 = ltb-true number.bits 256 (and-right _ _ e) in
+      let width : number.width < 1000000000 = ltb-true number.width 1000000000 (left_true _ _ e) in
+      let bits : number.bits < 256 = ltb-true number.bits 256 (right_true _ _ e) in
       based number width (omega arith)
 
   tokens-writable : (tokens : List Token) → list_all is_plain tokens ≡ true → AreWritable tokens
   tokens-writable [] e = tt
-  tokens-writable (token ∷ tokens) e = (token-writable token (and-left _ _ e), tokens-writable tokens (and-right _ _ e))
+  tokens-writable (token ∷ tokens) e = (token-writable token (left_true _ _ e), tokens-writable tokens (right_true _ _ e))
 
   pub module-writable : (d : OneDelay) → is_identifier d.input ≡ true → is_identifier d.output ≡ true → AreWritable (module_text d)
   unfolding is_plain

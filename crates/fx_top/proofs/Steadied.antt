@@ -1,6 +1,6 @@
 -- A diagram whose root ports have a number in every base sample: the periods of its root elements, and when
 -- its outputs are ready.
-use Rattle.std.proofs.Common.{◌≡◌, ℕ, ◌<◌, Bool, true, false, ◌||◌, List, Contains, Option, Some, refl, ap, ◌∙◌, arith}
+use Rattle.std.proofs.Common.{◌≡◌, ℕ, ◌<◌, true, ◌||◌, List, Contains, Option, Some, ap, ◌∙◌, arith}
 use Rattle.std.specs.Prelude.{is_some, slice_get}
 use Rattle.std.proofs.lemmas.Option.{slice_get-get_or}
 use Rattle.dg_model.specs.declared.diagram.Block.{Block}
@@ -20,16 +20,13 @@ use Rattle.hw_sched.specs.Ready.{ready_of}
 use Rattle.hw_sched.specs.Scheduled.{IsScheduled}
 use Rattle.hw_sched.specs.Slots.{Timing}
 use Rattle.fx_top.specs.Streamed.{KeepsStream, is_root_port}
-
-or-right : (a b : Bool) → b ≡ true → (a || b) ≡ true
-or-right true b e = refl
-or-right false b e = e
+use Rattle.std.proofs.lemmas.Bool.{or_right}
 
 input-port : (b : Block) (number : ℕ) → number_in root_input b ≡ Some number → is_root_port b ≡ true
 input-port b number e = let s = ap is_some e in (λ i. s i || is_some (root_output (row_of b.kind).place.role))
 
 output-port : (b : Block) (number : ℕ) → number_in root_output b ≡ Some number → is_root_port b ≡ true
-output-port b number e = or-right (is_some (root_input (row_of b.kind).place.role)) (is_some (root_output (row_of b.kind).place.role)) (ap is_some e)
+output-port b number e = or_right (is_some (root_input (row_of b.kind).place.role)) (is_some (root_output (row_of b.kind).place.role)) (ap is_some e)
 
 pub placed : (elements : List RootElement) (e : RootElement) (c : Contains elements e) → slice_get elements c.0 ≡ Some e
 placed elements e c = slice_get-get_or elements c.0 e c.1 ∙ ap (λ (x : RootElement). Some x) c.2

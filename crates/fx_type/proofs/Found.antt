@@ -3,12 +3,10 @@ use Rattle.std.proofs.Common.{◌≡◌, ℕ, zero, suc, ◌+◌, ◌<◌, ◌�
 use Rattle.std.specs.Prelude.{◌↔◌, int_lt, int_le, nat_le}
 use Rattle.std.specs.Bool.{Decides}
 use Rattle.std.specs.List.{find, range_with_len}
-use Rattle.std.specs.Option.{is_some, unwrap_or}
+use Rattle.std.specs.Option.{is_some}
 use Rattle.std.proofs.lemmas.Bool.{cases_lt, leb-true, le-leb}
 use Rattle.std.proofs.lemmas.Int.{ints}
-
-pub Some-injective : {A : Type 0} (a b : A) → Some a ≡ Some b → a ≡ b
-Some-injective {A} a b e = ap (λ (o : Option A). unwrap_or o a) e
+use Rattle.std.proofs.lemmas.Option.{same_Some}
 
 pub Some≢None : {A : Type 0} (a : A) → Some a ≡ None → ⊥
 Some≢None {A} a e = true≢false (ap (λ (o : Option A). is_some o) e)
@@ -49,7 +47,7 @@ module _ (test : ℕ → Bool) where
   first_step : (from count k : ℕ) (b : Bool) → test from ≡ b → (find test (range_with_len (from + 1) count) ≡ Some k → IsFirst test (from + 1) count k)
       → cond b (Some from) (find test (range_with_len (from + 1) count)) ≡ Some k → IsFirst test from (suc count) k
   first_step from count k true t later e =
-      let here : from ≡ k = Some-injective from k e in
+      let here : from ≡ k = same_Some from k e in
       record { passes = subst (λ (j : ℕ). test j ≡ true) here t; low = omega (arith, here); high = omega (arith, here); first = λ j p q. absurd (omega (arith, here, p, q)) }
   first_step from count k false t later e =
       let rest = later e in record { passes = rest.passes; low = omega (arith, rest.low); high = omega (arith, rest.high); first = and_after from k t rest.first }

@@ -1,5 +1,5 @@
--- The greatest frac of a list of terms.
-use Rattle.std.proofs.Common.{◌≡◌, ℕ, ◌+◌, ◌<◌, ◌≤◌, Bool, inl, inr, take, length, get_or, ℤ, ◌≤ℤ◌, All, Any, sym, ◌∙◌, subst, arith, take_all}
+-- The greatest frac of a list of terms. Crates above may cite this file.
+use Rattle.std.proofs.Common.{◌≡◌, ℕ, ◌+◌, ◌<◌, ◌≤◌, Bool, inl, inr, take, length, get_or, ℤ, ◌≤ℤ◌, All, Any, sym, ◌∙◌, subst, arith, take_all, List, [], zero, suc, ◌∷◌}
 use Rattle.std.specs.Int.{int_max}
 use Rattle.std.proofs.lemmas.Int.{ints}
 use Rattle.std.proofs.lemmas.List.{get_or_default}
@@ -8,6 +8,7 @@ use Rattle.fx_type.proofs.Ranges.{int_max_cases}
 use Rattle.fx_type.specs.declared.kind.FxType.{FxType}
 use Rattle.fx_type.specs.FxType.{frac_of}
 use Rattle.fx_type.specs.FullType.{Terms, IsGreatestFrac}
+use Rattle.std.specs.Prelude.{zip}
 
 module _ (terms : Terms) (i : ℕ) (d : Bool × FxType) (inside : i < length terms) where
   pub bound_more : (old f new : ℤ) → All (λ term. frac_of term.1 ≤ℤ old) (take i terms) → f ≡ frac_of (get_or terms i d).1 → old ≤ℤ new → f ≤ℤ new → All (λ term. frac_of term.1 ≤ℤ new) (take (i + 1) terms)
@@ -30,3 +31,11 @@ greatest_of_all terms i g h all any = record {
   bound = subst (λ (xs : Terms). All (λ term. frac_of term.1 ≤ℤ g) xs) (take_all i terms h) all;
   reached = any;
 }
+
+-- the greatest frac bounds each type's
+pub bound_at : (frac : ℤ) (signs : List Bool) (types : List FxType) → All (λ (term : Bool × FxType). frac_of term.1 ≤ℤ frac) (zip signs types) → length signs ≡ length types → (k : ℕ) (d : FxType) → k < length types → frac_of (get_or types k d) ≤ℤ frac
+bound_at frac [] [] bound same k d h = absurd (omega arith)
+bound_at frac [] (t ∷ types) bound same k d h = absurd (omega arith)
+bound_at frac (s ∷ signs) [] bound same k d h = absurd (omega arith)
+bound_at frac (s ∷ signs) (t ∷ types) bound same zero d h = bound 0 (s, t) (omega arith)
+bound_at frac (s ∷ signs) (t ∷ types) bound same (suc k) d h = bound_at frac signs types (λ k e h. bound (suc k) e (omega arith)) (omega arith) k d (omega arith)

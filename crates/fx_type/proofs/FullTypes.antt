@@ -1,4 +1,4 @@
--- The full types of sums and unions.
+-- The full types of sums and unions. Crates above may cite this file.
 use Rattle.std.proofs.Common.{◌≡◌, ◌≢◌, ℕ, ◌+◌, ◌-◌, ◌^◌, ◌<◌, ◌≤◌, min, Bool, true, false, ◌||◌, ℤ, pos, ◌+ℤ◌, ◌*ℤ◌, ◌≤ℤ◌, ◌<ℤ◌, ap, sym, ◌∙◌, refl, subst, arith, pow_pos, mul-pos, true≢false, Result, Ok, Err, OnErr}
 use Rattle.std.specs.Int.{int_max, int_min, int_gap}
 use Rattle.std.proofs.lemmas.Int.{ints, clamps}

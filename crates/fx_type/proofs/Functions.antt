@@ -20,7 +20,8 @@ use Rattle.fx_type.specs.Laws.{FullSumIsOne, FullProductIsOne, UnionIsOne}
 use Rattle.fx_type.specs.Span.{least_term, greatest_term, sum_of, IsNarrowest}
 use Rattle.fx_type.proofs.Ends.{least_sign, greatest_sign, sum_of-at_most, sum_of-at_least, least_possible, greatest_possible}
 use Rattle.fx_type.proofs.Ranges.{InRange-lowest, InRange-highest, frac_bounds, int_max_cases}
-use Rattle.fx_type.proofs.Found.{Some-injective, Some≢None, one_answer, Decides-int_le, Decides-int_lt, Decides-nat_le, IsFirst, NonePasses, found, not_found}
+use Rattle.std.proofs.lemmas.Option.{same_Some}
+use Rattle.fx_type.proofs.Found.{Some≢None, one_answer, Decides-int_le, Decides-int_lt, Decides-nat_le, IsFirst, NonePasses, found, not_found}
 use Rattle.fx_type.proofs.FullTypes.{greatest_only, full_sum_is, union_is}
 
 Decides-holds_ends : (least greatest : ℤ) (s : Bool) (w : ℕ) → Decides (holds_ends least greatest s w) ((word_lowest w s ≤ℤ least) × (greatest ≤ℤ word_highest w s))
@@ -90,7 +91,7 @@ module _ (least greatest frac : ℤ) (low : least ≤ℤ pos 0) (high : pos 0 �
   by_width : (s : Bool) (type : FxType) → ((w : ℕ) → find (holds_ends least greatest s) (range_with_len (cond s 2 1) 127) ≡ Some w → IsNarrowest least greatest frac (Num s w frac))
       → (o : Option ℕ) → find (holds_ends least greatest s) (range_with_len (cond s 2 1) 127) ≡ o → option_map (λ width. Num s width frac) o ≡ Some type → IsNarrowest least greatest frac type
   by_width s type is None e m = absurd (Some≢None _ (sym m))
-  by_width s type is (Some w) e m = subst (IsNarrowest least greatest frac) (Some-injective (Num s w frac) type m) (is w e)
+  by_width s type is (Some w) e m = subst (IsNarrowest least greatest frac) (same_Some (Num s w frac) type m) (is w e)
 
   by_sign : (type : FxType) (s : Bool) → int_lt least (pos 0) ≡ s → option_map (λ width. Num s width frac) (find (holds_ends least greatest s) (range_with_len (cond s 2 1) 127)) ≡ Some type → IsNarrowest least greatest frac type
   by_sign type true e m = by_width true type (λ w k. signed_found w ((Decides-int_lt least (pos 0)).0 e) (found (holds_ends least greatest true) 2 127 w k)) _ refl m
@@ -205,7 +206,7 @@ product_some : (a b : FxType) (s : Bool) (w : ℕ) (f : ℤ) → s ≡ (is_signe
     → (type : FxType) → cond valid (Some (Num s w f)) None ≡ Some type → IsFullProduct a b type
 product_some a b s w f p q r false e type m = absurd (Some≢None _ (sym m))
 product_some a b s w f p q r true e type m =
-    subst (IsFullProduct a b) (Some-injective (Num s w f) type m) (record { valid = (Decides-is_valid s w f).0 e; number = tt; width = q; frac = r; sign = p })
+    subst (IsFullProduct a b) (same_Some (Num s w f) type m) (record { valid = (Decides-is_valid s w f).0 e; number = tt; width = q; frac = r; sign = p })
 
 product_none : (a b : FxType) (s : Bool) (w : ℕ) (f : ℤ) → s ≡ (is_signed a || is_signed b) → w ≡ width_of a + width_of b → f ≡ frac_of a +ℤ frac_of b → (valid : Bool) → is_valid s w f ≡ valid
     → cond valid (Some (Num s w f)) None ≡ None → (type : FxType) → ¬ IsFullProduct a b type
@@ -287,7 +288,7 @@ module _ (a b : FxType) (ta : IsType a) (tb : IsType b) where
 
   union_some : (same : Bool) → same_type a b ≡ same → (type : FxType) → cond same (Some a) (narrowest_of least greatest frac) ≡ Some type → IsUnion a b type
   union_some true e type m =
-      let is : a ≡ b = (Decides-same_type a b).0 e in record { same = λ _. sym (Some-injective a type m); different = λ d. absurd (d is) }
+      let is : a ≡ b = (Decides-same_type a b).0 e in record { same = λ _. sym (same_Some a type m); different = λ d. absurd (d is) }
   union_some false e type m = different_some (λ is. true≢false (sym ((Decides-same_type a b).1 is) ∙ e)) type m
 
   union_none : (same : Bool) → same_type a b ≡ same → cond same (Some a) (narrowest_of least greatest frac) ≡ None → (type : FxType) → ¬ IsUnion a b type

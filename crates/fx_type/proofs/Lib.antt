@@ -1,7 +1,7 @@
 mod Ends
 pub mod Found
-mod Fracs
-mod FullTypes
+pub mod Fracs
+pub mod FullTypes
 mod Functions
 mod Narrow
 pub mod Ranges

@@ -4,7 +4,9 @@ use Rattle.std.specs.Int.{w128, int_max, int_gap}
 use Rattle.std.proofs.lemmas.Int.{ints}
 use Rattle.fx_type.specs.declared.kind.FxType.{FxType}
 use Rattle.fx_type.specs.declared.kind.FxType.TheVariants.{Num, Logical}
-use Rattle.fx_type.specs.FxType.{IsType, frac_of, lowest_of, highest_of, InRange}
+use Rattle.fx_type.specs.FxType.{IsType, frac_of, lowest_of, highest_of, InRange, width_of, is_signed}
+use Rattle.fx_num.specs.Word.{IsWord, InWord}
+use Rattle.std.proofs.Math.Dec.{lit≤}
 
 -- 0 lies in every range
 pub lowest_sign : (t : FxType) → lowest_of t ≤ℤ pos 0
@@ -73,3 +75,17 @@ gap_none (pos a) (pos b) h = omega (arith, ints, h)
 gap_none (pos a) (negsuc b) h = refl
 gap_none (negsuc a) (pos b) h = absurd (omega (arith, ints, h))
 gap_none (negsuc a) (negsuc b) h = omega (arith, ints, h)
+
+-- the word of a valid type is one, and has its range
+pub type-word : (type : FxType) → IsType type → IsWord (width_of type) (is_signed type)
+type-word (Num signed width frac) valid = valid.0
+type-word Logical valid = (lit≤ tt, lit≤ tt)
+
+pub range-word : (type : FxType) (v : ℤ) → InRange type v → InWord (width_of type) (is_signed type) v
+range-word (Num signed width frac) v range = record { low = range.low; high = range.high }
+range-word Logical v range = record { low = range.low; high = omega (arith, ints, range.high) }
+
+pub some-width : (type : FxType) → IsType type → 1 ≤ width_of type
+some-width (Num true width frac) valid = omega (arith, valid.0.0)
+some-width (Num false width frac) valid = valid.0.0
+some-width Logical valid = lit≤ tt

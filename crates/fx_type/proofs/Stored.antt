@@ -50,7 +50,7 @@ clamped_saturates type v =
       above = λ h. omega (arith, ints, clamps, h, low, high);
     }
 
-saturates_only : (type : FxType) (r a b : ℤ) → Saturates type r a → Saturates type r b → a ≡ b
+pub saturates_only : (type : FxType) (r a b : ℤ) → Saturates type r a → Saturates type r b → a ≡ b
 saturates_only type r a b p q = by_lt_z r (lowest_of type)
     (λ h. p.below h ∙ sym (q.below h))
     (λ low. by_lt_z (highest_of type) r (λ h. p.above h ∙ sym (q.above h)) (λ high. let i : InRange type r = record { low = low; high = high } in p.inside i ∙ sym (q.inside i)))

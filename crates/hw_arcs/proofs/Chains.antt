@@ -1,9 +1,8 @@
 -- Ways back along the arcs that gave the latencies: what they gain, and the cycle that one makes which closes.
-use Rattle.std.proofs.Common.{◌≡◌, ℕ, zero, suc, ◌+◌, ◌*◌, ◌<◌, ◌≤◌, List, [], ◌∷◌, ◌++◌, length, map, get_or, ⊎_elim, refl, sym, ap, subst, ◌∙◌, arith}
+use Rattle.std.proofs.Common.{◌≡◌, ℕ, suc, ◌+◌, ◌*◌, ◌<◌, ◌≤◌, List, [], ◌∷◌, ◌++◌, length, map, get_or, ⊎_elim, refl, sym, ap, subst, ◌∙◌, arith}
 use Rattle.std.specs.Prelude.{slice_get, slice_index_or, Some, None, Option}
 use Rattle.std.specs.List.{sum_by, All}
 use Rattle.std.proofs.lemmas.Bool.{cases_lt}
-use Rattle.std.proofs.lemmas.List.Elements.{All-append}
 use Rattle.std.proofs.lemmas.List.Sums.{sum_by-cons, sum_by-le}
 use Rattle.std.proofs.lemmas.Option.{same_Some, get_or_from_slice_get}
 use Rattle.hw_arcs.specs.declared.arc.Arc.{Arc}
@@ -11,6 +10,7 @@ use Rattle.hw_arcs.specs.Latencies.{latency_at, IsCountedArc}
 use Rattle.hw_arcs.specs.Found.{AreKnown, most_gain}
 use Rattle.hw_arcs.specs.inner.State.{AreLabels}
 use Rattle.hw_arcs.specs.inner.Walk.{IsChain, of_arc, of_number, gain_into, slack_into, gains_of, slacks_of}
+use Rattle.fx_io.proofs.Places.{all_cons}
 
 -- ---- joining and cutting
 
@@ -107,13 +107,6 @@ pub record HasArcs (arcs : List Arc) (tight : List (Option ℕ)) (first : ℕ) (
   pub from : first ∷ map (λ (arc : Arc). arc.from) edges ≡ xs ++ end ∷ []
   pub gains : sum_by (λ (arc : Arc). arc.gain) edges ≡ gains_of arcs tight xs
   pub slacks : sum_by (λ (arc : Arc). arc.slack) edges ≡ slacks_of arcs tight xs
-
-all_cons : {A : Type 0} (P : A → Type 0) (x : A) (xs : List A) → P x → All P xs → All P (x ∷ xs)
-all_cons P x xs here rest = All-append P (x ∷ []) xs (one P x here) rest
-  where
-    one : {A : Type 0} (P : A → Type 0) (x : A) → P x → All P (x ∷ [])
-    one P x here zero d inside = here
-    one P x here (suc k) d inside = absurd (omega arith)
 
 pub chain_arcs : (arcs : List Arc) (lat : List ℕ) (tight : List (Option ℕ)) → AreLabels arcs lat tight → (first end : ℕ) (xs : List ℕ) → IsChain arcs tight first xs end → HasArcs arcs tight first xs end
 chain_arcs arcs lat tight labels first end [] chain = record {

@@ -13,7 +13,7 @@ use Rattle.dg_tables.specs.Laws.{IsOrdered, TypesAreValid}
 use Rattle.hw_net.specs.Circuit.{Circuit}
 use Rattle.hw_build.specs.inner.HubPlaces.{before, is_input_role, own_hubs, port_size, owner_in, hub_at, HasHubs}
 use Rattle.hw_build.proofs.Beginning.{owner_is, place_other, place_input}
-use Rattle.hw_build.proofs.Started.{both}
+use Rattle.std.proofs.lemmas.Bool.{cases_Bool}
 
 module _ (diagram : Diagram) (order : List ℕ) (earlier later : Circuit) (firsts : List (List ℕ)) (has : HasHubs diagram earlier later firsts) (listed : InputsAreListed) (valid : TypesAreValid) (ordered : IsOrdered diagram order) where
   -- of blocks that are no root inputs
@@ -61,7 +61,7 @@ module _ (diagram : Diagram) (order : List ℕ) (earlier later : Circuit) (first
 
   pub one_hub : (block : ℕ) (b : Block) (port element : ℕ) (other : ℕ) (q : Block) (outer member : ℕ) → IsShown diagram (attributes_of diagram) block b port element → IsShown diagram (attributes_of diagram) other q outer member → is_input_role (row_of b.kind).place.role ≡ false → hub_at firsts other outer member ≡ hub_at firsts block port element
       → (block ≡ other) × (port ≡ outer) × (element ≡ member)
-  one_hub block b port element other q outer member shown also is_other same = elim (both (is_input_role (row_of q.kind).place.role)) [
+  one_hub block b port element other q outer member shown also is_other same = elim (cases_Bool (is_input_role (row_of q.kind).place.role)) [
     | inl input ↦
         let place = place_input diagram order earlier later firsts has listed valid ordered other q outer member also input in
         let k : ℕ = place.0 in

@@ -1,7 +1,7 @@
 -- A netlist that has only the nets that readers name is under way.
 use Rattle.std.proofs.Common.{◌≡◌, ℕ, zero, suc, ◌-◌, ◌<◌, ◌≤◌, inl, inr, true, false, List, [], length, Some, ap, sym, ◌∙◌, subst, arith, refl}
 use Rattle.std.specs.Prelude.{slice_get, nat_lt, get_or}
-use Rattle.std.proofs.lemmas.Bool.{cond-true, cond-false, cases_lt, lt-ltb, le-ltb, false≢true}
+use Rattle.std.proofs.lemmas.Bool.{cond-true, cond-false, cases_lt, lt-ltb, le-ltb, false≢true, cases_Bool}
 use Rattle.std.proofs.lemmas.Option.{none-some, same_Some, slice_get_within, slice_get-get_or}
 use Rattle.fx_type.specs.declared.kind.FxType.{FxType}
 use Rattle.fx_type.specs.FxType.{IsType, is_signed, width_of}
@@ -24,7 +24,6 @@ use Rattle.hw_net.specs.declared.netlist.NetOp.TheVariants.{Input, Resize}
 use Rattle.hw_net.specs.Circuit.{Circuit}
 use Rattle.hw_net.specs.Frames.{CountersDiffer, counted_frame}
 use Rattle.hw_net.specs.Netlist.{HasWord, reads_now}
-use Rattle.hw_sched.proofs.Widths.{some_block}
 use Rattle.hw_sched.proofs.Periods.{readable_at}
 use Rattle.hw_build.specs.Places.{Places}
 use Rattle.hw_build.specs.inner.Facts.{HaveInputs}
@@ -33,8 +32,9 @@ use Rattle.hw_build.specs.inner.Levels.{IsLevelled}
 use Rattle.hw_build.specs.inner.Soundness.{IsSoundNet, AreSound}
 use Rattle.hw_build.specs.inner.UnderWay.{hub_level, HaveHubs}
 use Rattle.hw_build.proofs.Placing.{own_other}
-use Rattle.hw_build.proofs.Started.{both, one_port}
-use Rattle.hw_build.proofs.Words.{word_of}
+use Rattle.hw_build.proofs.Started.{one_port}
+use Rattle.fx_type.proofs.Ranges.{type-word}
+use Rattle.fx_io.proofs.Places.{get_some}
 
 -- ---- sums
 
@@ -81,7 +81,7 @@ module _ (diagram : Diagram) (earlier later : Circuit) (firsts : List (List ℕ)
         let size = has.size in
         let inside = slice_get_within later.nets k net at in
         let found = find_owner (own_hubs diagram) (length diagram.blocks) (k - length roots) (omega (arith, size, inside, past)) in
-        let block = some_block diagram.blocks found.0 found.1 in
+        let block = get_some diagram.blocks found.0 found.1 in
         let low = found.2 in
         let high = found.3 in
         let is = (has.fresh found.0 block.0 k block.1 (omega (arith, low, past)) (omega (arith, high, past))).0 in
@@ -169,7 +169,7 @@ input_width diagram a Role.Plain block port is = refl
 -- a net that shows an input port is sound
 sound_input : (now : Circuit) (inputs k : ℕ) (type : FxType) → IsType type → k < inputs → IsSoundNet now inputs (input_net type k)
 sound_input now inputs k type is below = record {
-  word = word_of type is;
+  word = type-word type is;
   kind = (refl, below);
   there = λ j d within. absurd (omega (arith, within));
   counted = λ frame names. absurd (none-some frame names);
@@ -213,7 +213,7 @@ module _ (diagram : Diagram) (order : List ℕ) (earlier later : Circuit) (first
       → (hub_at firsts block port element < hubs_in_all diagram)
       × HasWord later.nets (hub_at firsts block port element) (width_of ((attributes_of diagram).type_at block port)) (is_signed ((attributes_of diagram).type_at block port))
       × (start_level diagram place_of (hub_at firsts block port element) ≤ hub_level (place_of block))
-  facts_of place_of block b port element shown = elim (both (is_input_role (row_of b.kind).place.role)) [
+  facts_of place_of block b port element shown = elim (cases_Bool (is_input_role (row_of b.kind).place.role)) [
     | inl input ↦
         let place = place_input block b port element shown input in
         let k : ℕ = place.0 in

@@ -1,7 +1,7 @@
 -- The loops over blocks begin with the nets of root inputs, which are elements themselves, and at their end all elements stand.
 use Rattle.std.proofs.Common.{List, ◌≡◌, ℕ, zero, suc, ◌+◌, ◌<◌, ◌≤◌, inl, inr, Bool, true, false, [], ◌∷◌, length, IsTrue, ap, sym, ◌∙◌, subst, refl, length-append, arith}
 use Rattle.std.specs.Prelude.{slice_get, nat_lt, not, ◌&&◌, if◌then◌else◌}
-use Rattle.std.proofs.lemmas.Bool.{cond-true, lt-ltb, false≢true, cases_lt}
+use Rattle.std.proofs.lemmas.Bool.{cond-true, lt-ltb, false≢true, cases_lt, cases_Bool}
 use Rattle.std.proofs.lemmas.Option.{none-some, slice_get_within}
 use Rattle.dg_model.specs.declared.diagram.Diagram.{Diagram}
 use Rattle.dg_model.specs.declared.diagram.Block.{Block}
@@ -35,8 +35,9 @@ use Rattle.hw_build.proofs.Growth.{goes_same}
 use Rattle.hw_build.proofs.Marks.{marked_none}
 use Rattle.hw_build.proofs.Looped.{even_next, own_places, own_fit, own_spotted}
 use Rattle.hw_build.proofs.Resulting.{untold}
-use Rattle.hw_build.proofs.Tallying.{at_front, at_last}
-use Rattle.hw_build.proofs.Started.{both, one_port}
+use Rattle.hw_build.proofs.Placing.{front_read}
+use Rattle.hw_build.proofs.Tallying.{at_last}
+use Rattle.hw_build.proofs.Started.{one_port}
 
 -- a root input has no pipeline
 unpiped_input : (kind : Kind) → is_input_role (row_of kind).place.role ≡ true → IsTrue (row_of kind).hardware.pipelines → ⊥
@@ -66,13 +67,13 @@ module _ (setting : Setting) (listed : InputsAreListed) (valid : TypesAreValid) 
 
   -- what has its argument at first is a root input
   role_input : (block : ℕ) (b : Block) (port element : ℕ) → IsShown drawn (attributes_of drawn) block b port element → hub_at setting.firsts.now block port element < roots → is_input_role (row_of b.kind).place.role ≡ true
-  role_input block b port element shown early = elim (both (is_input_role (row_of b.kind).place.role)) [
+  role_input block b port element shown early = elim (cases_Bool (is_input_role (row_of b.kind).place.role)) [
     | inl input ↦ input
     | inr other ↦ let low = (place_other drawn set.stood.earlier set.stood.later setting.firsts.now set.stood.has block b port element shown other).0 in absurd (omega (arith, low, early))
   ]
 
   role_other : (block : ℕ) (b : Block) (port element : ℕ) → IsShown drawn (attributes_of drawn) block b port element → roots ≤ hub_at setting.firsts.now block port element → is_input_role (row_of b.kind).place.role ≡ false
-  role_other block b port element shown past = elim (both (is_input_role (row_of b.kind).place.role)) [
+  role_other block b port element shown past = elim (cases_Bool (is_input_role (row_of b.kind).place.role)) [
     | inl input ↦
         let place = place_input drawn setting.design.checked.now.order set.stood.earlier set.stood.later setting.firsts.now set.stood.has listed valid ordered block b port element shown input in
         let k : ℕ = place.0 in
@@ -138,7 +139,7 @@ module _ (setting : Setting) (listed : InputsAreListed) (valid : TypesAreValid) 
             way = is.way;
             few = begun.few;
             late = is.late;
-            low = λ block b element slot at below told. elim (both (is_shared drawn (attributes_of drawn) setting.design.plan.now block)) [
+            low = λ block b element slot at below told. elim (cases_Bool (is_shared drawn (attributes_of drawn) setting.design.plan.now block)) [
               | inl shared ↦
                   let has = is.products.each block b element at shared below in
                   (slice_get_within now.nets (places.product block element) has.word.net has.word.is, is.low.each block b element at shared below)
@@ -275,11 +276,11 @@ spots_next spots input number same are =
       even = even_next spots number number number are.even;
       size = omega (arith, sum, size);
       entries = λ k below. elim (cases_lt k input) [
-        | inl less ↦ at_front spots.entries number k (omega (arith, less, size)) ∙ are.entries k less
+        | inl less ↦ front_read spots.entries number k (omega (arith, less, size)) ∙ are.entries k less
         | inr past ↦ at_last spots.entries number k (omega (arith, past, below, size)) ∙ omega (arith, same, past, below)
       ];
       stages = λ k below. elim (cases_lt k input) [
-        | inl less ↦ at_front spots.stages number k (omega (arith, less, size, stages)) ∙ are.stages k less
+        | inl less ↦ front_read spots.stages number k (omega (arith, less, size, stages)) ∙ are.stages k less
         | inr past ↦ at_last spots.stages number k (omega (arith, past, below, size, stages)) ∙ omega (arith, same, past, below)
       ];
     }

@@ -22,12 +22,10 @@ use Rattle.hw_build.specs.inner.Wants.{source_by, AreFolded, IsLinePart, class_r
 use Rattle.hw_build.proofs.Growth.{goes_same, goes_then, goes_appended}
 use Rattle.hw_build.proofs.Levels.{level_stays, levelled_by_call, answer_level, register_level}
 use Rattle.hw_build.proofs.Soundness.{sound_by_call}
+use Rattle.hw_net.proofs.Extending.{word-stays}
+use Rattle.fx_io.proofs.Places.{get_some}
 
 -- ---- one call
-
--- a word is had later where it is had, and was had before where the net stood
-word_on : (before after : Circuit) (number width : ℕ) (signed : Bool) → Extends before after → HasWord before.nets number width signed → HasWord after.nets number width signed
-word_on before after number width signed grown word = record { net = word.net; is = still-there before after number word.net grown word.is; wide = word.wide; sign = word.sign }
 
 word_was : (before after : Circuit) (number width : ℕ) (signed : Bool) → Extends before after → number < length before.nets → HasWord after.nets number width signed → HasWord before.nets number width signed
 word_was before after number width signed grown inside word = record { net = word.net; is = stood-there before after number word.net grown inside word.is; wide = word.wide; sign = word.sign }
@@ -81,7 +79,7 @@ module _ (closed hubs ports : ℕ) (now after : Circuit) (level : ℕ → ℕ) (
         cycles = met.cycles ∙ sym appends.extends.cycles;
         goes = goes_then closed hubs met.next now after met.goes (goes_appended closed hubs now after appends.extends);
         answer = met.answer;
-        word = λ width signed word. word_on now after number width signed appends.extends (met.word width signed (word_was now after feed.hub width signed appends.extends b word));
+        word = λ width signed word. word-stays now after number width signed appends.extends (met.word width signed (word_was now after feed.hub width signed appends.extends b word));
         source_inside = omega (arith, b, more);
         inside = omega (arith, a, more);
         low = omega (arith, x, y, low);
@@ -214,11 +212,6 @@ answered_more before now after classes answers count one own are answered at is 
 
 -- ---- all wants
 
-pub some_at : {A : Type 0} (xs : List A) (k : ℕ) → k < length xs → (x : A) × (slice_get xs k ≡ Some x)
-some_at [] k below = absurd (omega (arith, below))
-some_at (x ∷ xs) zero below = (x, refl)
-some_at (x ∷ xs) (suc k) below = some_at xs k (omega (arith, below))
-
 seat_place : (before now : Circuit) (wants : List Want) (classes : List Class) (answers : List (List ℕ)) (want : Want) (seat : Seat) → AreAnswered before now classes answers (length classes) → IsSeat classes want seat → IsPlace answers seat
 seat_place before now wants classes answers want seat answered is =
     let inside = slice_get_within classes seat.class is.one is.is in
@@ -236,7 +229,7 @@ places_are before now wants classes seats answers seated answered = record {
 }
   where
     wants_at : (k : ℕ) → k < length wants → (want : Want) × (slice_get wants k ≡ Some want)
-    wants_at k inside = some_at wants k inside
+    wants_at k inside = get_some wants k inside
 
     go : (k : ℕ) (seat : Seat) → slice_get seats k ≡ Some seat → ((want : Want) × (slice_get wants k ≡ Some want)) → IsPlace answers seat
     go k seat at (want, here) = seat_place before now wants classes answers want seat answered (seated.each k want seat here at)
@@ -258,7 +251,7 @@ wants_are_met before now wants classes seats answers numbers seated answered tak
         goes = all.goes;
         each = λ k want number here there.
             let below = slice_get_within numbers k number there in
-            let seat_at = some_at seats k (omega (arith, below, taken.size)) in
+            let seat_at = get_some seats k (omega (arith, below, taken.size)) in
             let seat : IsSeat classes want seat_at.0 = seated.each k want seat_at.0 here seat_at.1 in
             let own = taken.each k seat_at.0 number seat_at.1 there in
             let met = (all.each seat_at.0.class seat.one own.0 seat.is own.1).each seat_at.0.place want.to number seat.at own.2 in

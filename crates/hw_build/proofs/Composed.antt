@@ -19,7 +19,6 @@ use Rattle.hw_net.specs.Frames.{counted_frame, is_register, register_count}
 use Rattle.hw_net.specs.Growing.{Extends, IsReopened}
 use Rattle.hw_sched.specs.Chained.{registers_of_lines, uses_in_all}
 use Rattle.hw_sched.specs.Slots.{Timing as Times, shared_operations}
-use Rattle.hw_sched.proofs.Widths.{some_block}
 use Rattle.hw_build.specs.declared.operands.Operands.{Operands}
 use Rattle.hw_build.specs.declared.products.Products.{Products}
 use Rattle.hw_build.specs.Places.{Places}
@@ -37,6 +36,8 @@ use Rattle.hw_build.specs.inner.Wants.{IsLinePart}
 use Rattle.hw_build.proofs.Beginning.{find_owner}
 use Rattle.hw_build.proofs.Framing.{frame_stands, more_goes, registers_then}
 use Rattle.hw_build.proofs.Growth.{goes_appended, still_within}
+use Rattle.hw_share.proofs.Counters.{counter-kind}
+use Rattle.fx_io.proofs.Places.{get_some}
 
 -- ---- lists of nets that go on
 
@@ -54,7 +55,7 @@ same_gathered f (x ∷ xs) (y ∷ ys) kept plain =
 
 -- ---- registers of nets that are none
 
-no_registers : (nets : List Net) → ((k : ℕ) (net : Net) → slice_get nets k ≡ Some net → is_register net.kind ≡ false) → register_count nets ≡ 0
+pub no_registers : (nets : List Net) → ((k : ℕ) (net : Net) → slice_get nets k ≡ Some net → is_register net.kind ≡ false) → register_count nets ≡ 0
 no_registers [] none = refl
 no_registers (net ∷ nets) none = go (is_register net.kind) (none 0 net refl) (no_registers nets (λ k other at. none (suc k) other at))
   where
@@ -76,7 +77,7 @@ module _ (diagram : Diagram) (earlier later : Circuit) (firsts : List (List ℕ)
         let size = has.size in
         let inside = slice_get_within later.nets k net at in
         let found = find_owner (own_hubs diagram) (length diagram.blocks) (k - length (root_inputs diagram (attributes_of diagram))) (omega (arith, size, inside, past)) in
-        let block = some_block diagram.blocks found.0 found.1 in
+        let block = get_some diagram.blocks found.0 found.1 in
         let low = found.2 in
         let high = found.3 in
         let is = (has.fresh found.0 block.0 k block.1 (omega (arith, low, past)) (omega (arith, high, past))).0 in
@@ -110,14 +111,6 @@ line_plain (EnReg frame enable reset first from) is = absurd is
 line_plain (Bridge frame live from) is = (refl, refl)
 line_plain (Unit left right) is = absurd is
 line_plain (Counter frame) is = (refl, refl)
-
-counter_is : (kind : NetKind) (frame : Frame) → counted_frame kind ≡ Some frame → kind ≡ Counter frame
-counter_is (Comb op args) frame counts = absurd (none-some frame counts)
-counter_is (Reg own slot first from) frame counts = absurd (none-some frame counts)
-counter_is (EnReg own enable reset first from) frame counts = absurd (none-some frame counts)
-counter_is (Bridge own live from) frame counts = absurd (none-some frame counts)
-counter_is (Unit left right) frame counts = absurd (none-some frame counts)
-counter_is (Counter own) frame counts = ap (λ (f : Frame). Counter f) (same_Some own frame counts)
 
 -- ---- all steps
 
@@ -187,7 +180,7 @@ module _ (diagram : Diagram) (plan : Resolved) (times : Times) (place_of : ℕ �
 
   lined_more : HasMoreRegisters diagram plan times hubbed lined (registers_of_lines (uses_in_all diagram (attributes_of diagram) plan times))
   lined_more = more_goes diagram plan times 0 0 hubbed lined (registers_of_lines (uses_in_all diagram (attributes_of diagram) plan times)) (goes_appended 0 0 hubbed lined lines.extends) lines.few
-      (λ k net frame low at counts. lines.counted k net frame low at (counter_is net.kind frame counts))
+      (λ k net frame low at counts. lines.counted k net frame low at (counter-kind net.kind frame counts))
 
   shared_more : HasMoreRegisters diagram plan times lined shared (length (shared_operations diagram (attributes_of diagram) plan))
   shared_more = more_goes diagram plan times 0 0 lined shared (length (shared_operations diagram (attributes_of diagram) plan)) (goes_appended 0 0 lined shared multiplied.extends)

@@ -16,8 +16,8 @@ use Rattle.hw_net.specs.Frames.{is_register, register_count}
 use Rattle.hw_net.specs.Growing.{Extends, with_net}
 use Rattle.hw_net.proofs.Growing.{last-of, split-last, longer, still-there, stood-there, appends-self, appends-one, appends-trans, differ-other, count-append, IsNamed}
 use Rattle.hw_build.specs.inner.Factors.{AddsConstants, IsCoefficient, constant_net}
-use Rattle.hw_build.proofs.Listed.{past_first}
-use Rattle.hw_build.proofs.Words.{word_of}
+use Rattle.fx_io.proofs.Places.{get_right}
+use Rattle.fx_type.proofs.Ranges.{type-word}
 
 pub adds_none : (net : Circuit) → AddsConstants net net
 adds_none net = record {
@@ -40,7 +40,7 @@ adds_then a b c p q = record {
 pub adds_one : (a b : Circuit) (type : FxType) (value : ℤ) → IsType type → b ≡ with_net a (constant_net type value) → AddsConstants a b
 adds_one a b type value valid grown = record {
   appends = appends-one a b (constant_net type value) [] grown (record {
-    word = word_of type valid;
+    word = type-word type valid;
     kind = (refl, tt);
     there = λ i d within. absurd (omega (arith, within));
     allowed = λ i d within. absurd (omega (arith, within));
@@ -73,7 +73,7 @@ coefficient_stays a b c d list element type number before after is = record {
 
 -- they are no registers
 no_registers : (nets added : List Net) → ((k : ℕ) (net : Net) → length nets ≤ k → slice_get (nets ++ added) k ≡ Some net → (value : ℤ) × (net.kind ≡ Comb (Const value) [])) → register_count added ≡ 0
-no_registers nets added each = go added (λ k net at. each (length nets + k) net (omega arith) (past_first nets added k ∙ at))
+no_registers nets added each = go added (λ k net at. each (length nets + k) net (omega arith) (get_right nets added k ∙ at))
   where
     go : (xs : List Net) → ((k : ℕ) (net : Net) → slice_get xs k ≡ Some net → (value : ℤ) × (net.kind ≡ Comb (Const value) [])) → register_count xs ≡ 0
     go [] all = refl

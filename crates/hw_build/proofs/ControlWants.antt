@@ -35,7 +35,7 @@ use Rattle.hw_build.specs.inner.HubPlaces.{hub_at}
 use Rattle.hw_build.specs.inner.Lines.{frame_behind}
 use Rattle.hw_build.specs.inner.Seeking.{unasked, hub_from, plain_want, AsksAll}
 use Rattle.hw_build.proofs.Ends.{end, own_some}
-use Rattle.hw_build.proofs.Lines.{no_less}
+use Rattle.hw_lines.proofs.Ended.{part-below}
 use Rattle.hw_build.proofs.Lined.{slack_is, plain_hub}
 use Rattle.hw_build.proofs.Putting.{no_places, timing, seen_by, wants_are, count_is, still_put, IsElement, moving_put, uses_are, use_is}
 use Rattle.hw_build.proofs.Sources.{IsControlOf, control_is, control_shown, enabled_show, repeated_own}
@@ -156,7 +156,7 @@ module _ {diagram : Diagram} {order : List ℕ} {plan : Resolved} {times : Times
           let same : in_time.own ≡ own = same_Some in_time.own own (sym in_time.period ∙ period_is) in
           let plain_edge : IsPlainEdge (timing l) control p block own = subst (λ (o : ℕ). IsPlainEdge (timing l) control p block o) same in_time.edge in
           let some : 0 < own = (let low = own_some diagram (timing l) no_places l.timed block b Enable control p at shows feeds moves in omega (arith, low, same)) in
-          let low = no_less own p plain_edge.divides some in
+          let low = part-below own p plain_edge.divides some in
           let behind = plain_edge.behind in
           let seen = seen_is own period_is in
           (omega (arith, low), omega (arith, seen, behind))

@@ -19,11 +19,12 @@ use Rattle.hw_build.specs.inner.Controls.{IsGate, Tells, any_above, PutsControl,
 use Rattle.hw_build.specs.inner.Grown.{Grows}
 use Rattle.hw_build.specs.inner.Growth.{GoesOn, InLater}
 use Rattle.hw_build.proofs.Adding.{IsNamedIn, comb_grows, grows_then, put_extends, put_size, put_there, put_word}
-use Rattle.hw_build.proofs.Entering.{const_shows, grows_naming, none_named, zero_in_range}
+use Rattle.dg_tables.proofs.Given.{zero_range}
+use Rattle.hw_build.proofs.Entering.{const_shows, grows_naming, none_named}
 use Rattle.hw_build.proofs.Growth.{goes_appended, goes_then, later_on}
 use Rattle.hw_build.proofs.Nets.{constant}
 use Rattle.hw_build.proofs.Tests.{above_shows, either_shows, in_bit}
-use Rattle.hw_build.proofs.Words.{word_of}
+use Rattle.fx_type.proofs.Ranges.{type-word}
 
 -- ---- one more
 
@@ -73,7 +74,7 @@ module _ (before middle after : Circuit) (operands : List ℕ) (type : FxType) (
         record {
           grows =
               grows_then before middle after operands [] IsGate IsGate 0 0 (λ read is. absurd (omega (arith, is.1))) (λ kind is. is)
-              (grows_naming before middle [] operands IsGate 0 (none_named operands) (comb_grows before middle (Const (pos 0)) [] (is_signed type) (width_of type) IsGate zeroed (word_of type is_type) (refl, tt) none_there (λ e. cc)))
+              (grows_naming before middle [] operands IsGate 0 (none_named operands) (comb_grows before middle (Const (pos 0)) [] (is_signed type) (width_of type) IsGate zeroed (type-word type is_type) (refl, tt) none_there (λ e. cc)))
               (comb_grows middle after (Const (pos 0)) [] false 1 IsGate begun one_bit (refl, tt) (λ read is. absurd (omega (arith, is.1))) (λ e. cc));
           word = put_word middle after some_net begun;
           new = omega (arith, size);
@@ -81,7 +82,7 @@ module _ (before middle after : Circuit) (operands : List ℕ) (type : FxType) (
           zero_inside = omega (arith, size, more);
           zeros = λ closed hubs small.
               later_on closed closed hubs middle after (λ n rows. AreSame n (rows (length before.nets)) (steady (pos 0))) (omega arith) (goes_appended closed hubs middle after (put_extends middle after some_net begun))
-              (const_shows before middle type (pos 0) is_type (zero_in_range type is_type) zeroed closed hubs (length before.nets) refl small);
+              (const_shows before middle type (pos 0) is_type (zero_range type is_type) zeroed closed hubs (length before.nets) refl small);
           tells = λ closed hubs small.
               let shows = constant closed hubs after (length middle.nets) (pos 0) some_net (record { at = put_there middle after some_net begun; settled = inr (omega (arith, small, size)) }) refl one_bit (in_bit false) in
               record { holds = λ later goes n inputs rows are. record { at = λ c below. (shows.holds later goes n inputs rows are).at c below } };

@@ -3,7 +3,7 @@ use Rattle.std.proofs.Common.{◌≡◌, ℕ, suc, ◌+◌, ◌-◌, ◌<◌, �
 use Rattle.std.specs.Prelude.{slice_get, nat_lt, not, ◌&&◌, ◌^◌, Bool, if◌then◌else◌}
 use Rattle.std.specs.List.{flat_map}
 use Rattle.std.proofs.lemmas.List.Elements.{Contains-push}
-use Rattle.std.proofs.lemmas.Bool.{cond-false, false≢true, cases_lt, le-ltb}
+use Rattle.std.proofs.lemmas.Bool.{cond-false, false≢true, cases_lt, le-ltb, cases_Bool}
 use Rattle.std.proofs.lemmas.Option.{slice_get_within}
 use Rattle.fx_num.specs.Word.{IsWord}
 use Rattle.fx_type.specs.FxType.{is_signed, width_of}
@@ -45,8 +45,8 @@ use Rattle.hw_build.proofs.Beginning.{owner_is, place_other}
 use Rattle.hw_build.proofs.Ended.{multiplying_shows}
 use Rattle.hw_build.proofs.Labelled.{labelled_next, labelled_wider}
 use Rattle.hw_build.proofs.Piping.{with_labels}
-use Rattle.hw_build.proofs.Started.{both}
-use Rattle.hw_build.proofs.Tallying.{at_front, at_last, piped_over}
+use Rattle.hw_build.proofs.Placing.{front_read}
+use Rattle.hw_build.proofs.Tallying.{at_last, piped_over}
 use Rattle.hw_build.proofs.Turning.{contains_front, pipeline_by_call, pipeline_by_names, there_by_call}
 
 -- a block behind which registers may stand shows one port
@@ -101,7 +101,7 @@ module _ (setting : Setting) (listed : InputsAreListed) (valid : TypesAreValid) 
     -- and such multiply
     one_multiplied : (multiply : Option ℕ) → ((k : ℕ) → multiply ≡ Some k → products_by drawn setting.design.plan.now block ≡ 1) → 1 < port → multiply ≡ None
     one_multiplied None owns many = refl
-    one_multiplied (Some k) owns many = elim (both (multiplies drawn block)) [
+    one_multiplied (Some k) owns many = elim (cases_Bool (multiplies drawn block)) [
       | inl is ↦
           (let one = multiplying_shows b.kind b.inputs b.outputs (sym (ap multiplies_if shown.block_is) ∙ is) (readable_at drawn ordered.checked.wired block b shown.block_is).ports in
           let to = shown.port_to in
@@ -165,7 +165,7 @@ module _ (setting : Setting) (listed : InputsAreListed) (valid : TypesAreValid) 
                     over.kept also member period (slice_index_or spots.stages (hub_at setting.firsts.now also outer member) 0) (omega (arith, size, grown))
                     (elim entered.stands [ inl names ↦ (let h = entered.below start begun since entry.net names in inl (omega (arith, h, past))) | inr new ↦ inr (omega (arith, new, size)) ]) at_middle
                     in
-                    subst (λ (x : ℕ). IsPipelineAt drawn (timing_for setting.design) (length start.nets) after also member period x) (sym (at_front spots.stages piped.begin (hub_at setting.firsts.now also outer member) (omega (arith, less, stages)))) kept
+                    subst (λ (x : ℕ). IsPipelineAt drawn (timing_for setting.design) (length start.nets) after also member period x) (sym (front_read spots.stages piped.begin (hub_at setting.firsts.now also outer member) (omega (arith, less, stages)))) kept
                 | inr past ↦
                     let same : hub_at setting.firsts.now also outer member ≡ hub = omega (arith, past, early, count, here) in
                     let triple = one_hub drawn setting.design.checked.now.order set.stood.earlier set.stood.later setting.firsts.now set.stood.has listed valid ordered block b port element also q outer member shown shows other same in

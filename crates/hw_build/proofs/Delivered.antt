@@ -1,4 +1,4 @@
--- The ports of a netlist are those that it owes, and it can be emitted.
+-- The ports of a netlist are those that it owes, and it can be emitted. Crates above may cite this file.
 use Rattle.std.proofs.Common.{◌≡◌, ℕ, zero, suc, ◌^◌, ◌<◌, List, [], ◌∷◌, ◌++◌, length, Contains, Some, ap, sym, ◌∙◌, subst, refl, arith}
 use Rattle.std.specs.Prelude.{Option, slice_get, get_or, true}
 use Rattle.std.proofs.lemmas.Option.{none-some, slice_get_within, slice_get-get_or}
@@ -37,13 +37,13 @@ use Rattle.hw_build.specs.inner.Porting.{ArePortsFor, AreInputFirsts}
 use Rattle.hw_names.specs.Taken.{AreTaken}
 use Rattle.hw_build.proofs.Finished.{finished}
 use Rattle.hw_build.proofs.Named.{named_both, port_names, port_names_differ, wants_are}
-use Rattle.hw_build.proofs.Outgoing.{most_at}
+use Rattle.hw_slots.proofs.Sums.{greatest_at}
 use Rattle.hw_build.proofs.Ported.{with_ports, way_ported, units_ported, multiplied_ported, output_shown}
 use Rattle.hw_build.proofs.Running.{has_counters}
 
 -- ---- periods
 
-input_moves : (kind : Kind) (number : ℕ) → root_input (row_of kind).place.role ≡ Some number → is_moving (row_of kind).timing.inherits ≡ true
+pub input_moves : (kind : Kind) (number : ℕ) → root_input (row_of kind).place.role ≡ Some number → is_moving (row_of kind).timing.inherits ≡ true
 input_moves (Inport own width) number is = refl
 input_moves _ number is = absurd (none-some number is)
 
@@ -191,7 +191,7 @@ module _ (diagram : Diagram) (plan : Resolved) (times : Times) (firsts : List (L
               let at = place_of_port outputs port has in
               let e = output_at has.0 port at in
               let same = (outs.each has.0 e.0 port e.1 at).latency_is in
-              let latest = most_at (λ (x : RootElement). declared_latency diagram (attributes_of diagram) plan times x.block) (root_outputs diagram (attributes_of diagram)) has.0 e.0 e.1 in
+              let latest = greatest_at (λ (x : RootElement). declared_latency diagram (attributes_of diagram) plan times x.block) (root_outputs diagram (attributes_of diagram)) has.0 e.0 e.1 in
               let most = small.short in
               omega (arith, same, latest, most);
         }

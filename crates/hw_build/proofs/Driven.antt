@@ -20,7 +20,8 @@ use Rattle.hw_shows.specs.Shows.{IsSeen}
 use Rattle.hw_shows.specs.Waves.{AreDriven}
 use Rattle.hw_build.specs.Places.{Places, IsRunOf, waves_of}
 use Rattle.hw_build.specs.inner.Facts.{HaveInputs}
-use Rattle.hw_build.proofs.Words.{wrapped_is, word_of, in_word}
+use Rattle.hw_net.proofs.Numbers.{wrapped-is}
+use Rattle.fx_type.proofs.Ranges.{type-word, range-word}
 
 seen_is_hit : (cycles : ℕ) (period : Option ℕ) (t c : ℕ) → IsSeen cycles period 0 0 t c → Hits period t
 seen_is_hit cycles None t c seen = seen
@@ -39,6 +40,6 @@ inputs_driven diagram places netlist stimulus n clocks inputs rows table listing
       let range : InRange ((attributes_of diagram).type_at block 1) (stimulus number element t) = run.stimulus_is.in_range block b number element t at role below less (seen_is_hit netlist.cycles ((attributes_of diagram).period_at block) t c seen) in
       let wrapped = subst (λ (w : ℕ). IsWrapped (inputs listed.0 c) w (is_signed e.type) (rows (places.input number element) c)) net.wide
       (subst (λ (s : Bool). IsWrapped (inputs listed.0 c) net.net.width s (rows (places.input number element) c)) net.sign (shows c early)) in
-      wrapped_is (stimulus number element t) (width_of e.type) (is_signed e.type) (rows (places.input number element) c) (word_of e.type (valid block b at)) (in_word e.type (stimulus number element t) range)
+      wrapped-is (stimulus number element t) (width_of e.type) (is_signed e.type) (rows (places.input number element) c) (type-word e.type (valid block b at)) (range-word e.type (stimulus number element t) range)
       (subst (λ (v : ℤ). IsWrapped v (width_of e.type) (is_signed e.type) (rows (places.input number element) c)) value wrapped);
 }

@@ -1,5 +1,5 @@
 -- With all elements in place, pipelines and multiplications are what a netlist owes.
-use Rattle.std.proofs.Common.{◌≡◌, ℕ, suc, ◌+◌, ◌-◌, ◌*◌, ◌<◌, Bool, true, List, [], ◌∷◌, length, Contains, Option, slice_index_or, Some, None, IsSome, pos, ap, sym, ◌∙◌, subst, refl, arith}
+use Rattle.std.proofs.Common.{◌≡◌, ℕ, suc, ◌+◌, ◌-◌, ◌*◌, ◌<◌, Bool, true, List, [], ◌∷◌, length, Contains, slice_index_or, Some, pos, ap, sym, ◌∙◌, subst, refl, arith}
 use Rattle.std.specs.Prelude.{slice_get, not, ◌&&◌, if◌then◌else◌}
 use Rattle.std.proofs.lemmas.Bool.{false≢true}
 use Rattle.fx_type.specs.declared.kind.FxType.{FxType}
@@ -20,7 +20,6 @@ use Rattle.hw_net.specs.declared.netlist.NetOp.TheVariants.{Resize}
 use Rattle.hw_net.specs.declared.netlist.NetPort.{NetPort}
 use Rattle.hw_net.specs.Circuit.{Circuit}
 use Rattle.hw_sched.proofs.Periods.{readable_at}
-use Rattle.hw_sched.proofs.Widths.{some_block}
 use Rattle.hw_build.specs.Multiplied.{multiplication_name, AreMultiplied}
 use Rattle.hw_build.specs.Pipelined.{stage_name, ArePipelined}
 use Rattle.hw_build.specs.Places.{Places}
@@ -34,10 +33,8 @@ use Rattle.hw_build.specs.inner.ResultNets.{product_net}
 use Rattle.hw_build.specs.inner.Tally.{IsPipelineAt, products_by}
 use Rattle.hw_build.specs.inner.Unread.{AreReadInTurn}
 use Rattle.hw_build.proofs.Unread.{alone}
-
-some_period : (period : Option ℕ) → IsSome period → (p : ℕ) × (period ≡ Some p)
-some_period None is = absurd (false≢true is)
-some_period (Some p) is = (p, refl)
+use Rattle.fx_io.proofs.Tests.{some_there}
+use Rattle.fx_io.proofs.Places.{get_some}
 
 -- a block that multiplies shows one port, as wide as it is
 pub multiplying_shows : (kind : Kind) (inputs outputs : ℕ) → (row_of kind).hardware.multiplies ≡ true → HasPorts kind inputs outputs → shown_ports kind outputs ≡ 1
@@ -65,7 +62,7 @@ module _ (setting : Setting) (set : IsSet setting) (now : Circuit) (spots : Spot
       begin = slice_index_or spots.stages (hub_at setting.firsts.now block 1 element) 0
 
       period : (p : ℕ) × ((attributes_of drawn).period_at block ≡ Some p)
-      period = some_period ((attributes_of drawn).period_at block) (set.designed.scheduled.planned.allowed.each block b shown.block_is any).period
+      period = some_there ((attributes_of drawn).period_at block) (set.designed.scheduled.planned.allowed.each block b shown.block_is any).period
 
       line : IsPipelineAt drawn (timing_for setting.design) (length has.start.nets) now block element period.0 begin
       line =
@@ -123,7 +120,7 @@ module _ (setting : Setting) (set : IsSet setting) (now : Circuit) (spots : Spot
     pub multiplications_stand : (ordered : IsOrdered drawn setting.design.checked.now.order) → AreMultiplied drawn setting.design.plan.now later
     multiplications_stand ordered = record {
       each = λ block element inside is_multiplying unshared below.
-          let some = some_block drawn.blocks block inside in
+          let some = get_some drawn.blocks block inside in
           let b : Block = some.0 in
           let kind : (row_of b.kind).hardware.multiplies ≡ true = sym (ap multiplies_if some.1) ∙ is_multiplying in
           let ports = multiplying_shows b.kind b.inputs b.outputs kind (readable_at drawn ordered.checked.wired block b some.1).ports in

@@ -1,5 +1,5 @@
 -- An end of a block, as a chain is asked for it by the times of a schedule, is offered what it is to be offered.
-use Rattle.std.proofs.Common.{◌≡◌, ℕ, zero, suc, ◌+◌, ◌*◌, ◌<◌, ◌≤◌, true, ℤ, length, Option, Some, None, subst, refl, arith}
+use Rattle.std.proofs.Common.{◌≡◌, ℕ, ◌+◌, ◌<◌, ◌≤◌, true, ℤ, length, Option, Some, None, subst, refl, arith}
 use Rattle.std.specs.Prelude.{◌^◌, is_some, slice_get}
 use Rattle.dg_model.specs.declared.diagram.Diagram.{Diagram}
 use Rattle.dg_model.specs.declared.diagram.Block.{Block}
@@ -16,10 +16,7 @@ use Rattle.hw_build.specs.inner.Facts.{IsOfferedBy}
 use Rattle.hw_build.specs.inner.Lines.{frame_behind, use_into}
 use Rattle.hw_build.proofs.Calls.{plain_use, late_use}
 use Rattle.hw_build.proofs.Lines.{plain_offered, late_offered}
-
-some_period : (period cycles ready : ℕ) → ready < period * cycles → 0 < period
-some_period zero cycles ready below = absurd (omega (arith, below))
-some_period (suc period) cycles ready below = omega arith
+use Rattle.hw_shows.proofs.Delays.{some_period}
 
 -- the base samples that registers add
 abbrev pub added : Option ℕ → ℕ

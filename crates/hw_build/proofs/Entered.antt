@@ -2,7 +2,7 @@
 use Rattle.std.proofs.Common.{◌≡◌, ℕ, zero, suc, ◌+◌, ◌-◌, ◌<◌, ◌≤◌, ◌⊎◌, ◌++◌, inl, inr, Bool, true, false, List, [], ◌∷◌, length, Contains, Option, Some, None, ap, sym, ◌∙◌, subst, refl, length-append, arith}
 use Rattle.std.specs.Prelude.{slice_get, ◌≢◌, ◌&&◌, not, if◌then◌else◌}
 use Rattle.std.specs.List.{flat_map}
-use Rattle.std.proofs.lemmas.Bool.{false≢true}
+use Rattle.std.proofs.lemmas.Bool.{false≢true, cases_Bool}
 use Rattle.std.proofs.lemmas.Grind.{flat_map-append}
 use Rattle.std.proofs.lemmas.Option.{none-some, same_Some, slice_get_within}
 use Rattle.dg_model.specs.declared.diagram.Diagram.{Diagram}
@@ -36,9 +36,8 @@ use Rattle.hw_build.specs.inner.Looping.{place_in, Fits, IsBegun, IsEntered, IsG
 use Rattle.hw_build.specs.inner.Tally.{IsOwnProduct, products_by}
 use Rattle.hw_build.specs.inner.UnderWay.{own_level}
 use Rattle.hw_build.proofs.Going.{going_by_call}
-use Rattle.hw_build.proofs.Listed.{past_first}
+use Rattle.fx_io.proofs.Places.{get_right}
 use Rattle.hw_build.proofs.Multiplying.{same_listed}
-use Rattle.hw_build.proofs.Started.{both}
 
 -- ---- which nets multiply
 
@@ -110,7 +109,7 @@ own_next before after grown found is new =
     omega (arith, count, sum, added)
   where
     here : (i : ℕ) (z : Net) → slice_get grown.added i ≡ Some z → slice_get after.nets (length before.nets + i) ≡ Some z
-    here i z at = ap (λ (all : List Net). slice_get all (length before.nets + i)) grown.nets ∙ past_first before.nets grown.added i ∙ at
+    here i z at = ap (λ (all : List Net). slice_get all (length before.nets + i)) grown.nets ∙ get_right before.nets grown.added i ∙ at
 
     none : (i : ℕ) (z : Net) → slice_get grown.added i ≡ Some z → found ≢ Some (length before.nets + i) → own_factors z.kind ≡ []
     none i z at other = elim (factors_of z.kind) [
@@ -125,7 +124,7 @@ own_next before after grown found is new =
         let low = new k e in
         let j : ℕ = k - length before.nets in
         let place : length before.nets + j ≡ k = omega (arith, low) in
-        let at : slice_get grown.added j ≡ Some comb.net = sym (ap (λ (all : List Net). slice_get all (length before.nets + j)) grown.nets ∙ past_first before.nets grown.added j) ∙ ap (slice_get after.nets) place ∙ comb.is in
+        let at : slice_get grown.added j ≡ Some comb.net = sym (ap (λ (all : List Net). slice_get all (length before.nets + j)) grown.nets ∙ get_right before.nets grown.added j) ∙ ap (slice_get after.nets) place ∙ comb.is in
         one_among grown.added j comb.net at (ap (λ (kind : NetKind). length (own_factors kind)) comb.kind)
         (λ i z differs there. none i z there (λ f. let same = same_Some k (length before.nets + i) (sym e ∙ f) in differs (omega (arith, same, place))))
         ∙ ap count_some (sym e)
@@ -207,7 +206,7 @@ module _ (setting : Setting) (before after : Circuit) (block : ℕ) (b : Block) 
         shared = same_listed unit_factors before after puts.grows.appends.extends (λ k net past there. part_units drawn (timing_for setting.design) block net.kind (puts.grows.parts k net past there));
         new_product = λ k e. new_told k e;
         product = λ owns. product_told owns;
-        own_number = λ m e. elim (both (row_of b.kind).hardware.multiplies) [
+        own_number = λ m e. elim (cases_Bool (row_of b.kind).hardware.multiplies) [
           | inl is ↦
               (let some = multiply_some (length before.nets) b.kind is in
               let same = same_Some some.0 m (sym (puts.multiply ∙ some.1) ∙ e) in
@@ -236,7 +235,7 @@ module _ (setting : Setting) (before after : Circuit) (block : ℕ) (b : Block) 
       one_if t e = ap (λ (x : Bool). if x && not (is_shared drawn (attributes_of drawn) setting.design.plan.now block) then 1 else 0) (kind_of ∙ e) ∙ ap (λ (x : Bool). if t && not x then 1 else 0) unshared
 
       own_counted : length (others after) ≡ length (others before) + products_by drawn setting.design.plan.now block
-      own_counted = elim (both (row_of b.kind).hardware.multiplies) [
+      own_counted = elim (cases_Bool (row_of b.kind).hardware.multiplies) [
         | inl is ↦
             (let some = multiply_some (length before.nets) b.kind is in
             let told = puts.multiply ∙ some.1 in
@@ -253,7 +252,7 @@ module _ (setting : Setting) (before after : Circuit) (block : ℕ) (b : Block) 
       ]
 
       product_told : products_by drawn setting.design.plan.now block ≡ 1 → IsOwnProduct after entry.multiply
-      product_told owns = elim (both (row_of b.kind).hardware.multiplies) [
+      product_told owns = elim (cases_Bool (row_of b.kind).hardware.multiplies) [
         | inl is ↦
             (let some = multiply_some (length before.nets) b.kind is in
             let told = puts.multiply ∙ some.1 in
@@ -263,7 +262,7 @@ module _ (setting : Setting) (before after : Circuit) (block : ℕ) (b : Block) 
       ]
 
       new_told : (k : ℕ) → entry.multiply ≡ Some k → (length before.nets ≤ k) × (k < length after.nets) × (products_by drawn setting.design.plan.now block ≡ 1)
-      new_told k e = elim (both (row_of b.kind).hardware.multiplies) [
+      new_told k e = elim (cases_Bool (row_of b.kind).hardware.multiplies) [
         | inl is ↦
             (let some = multiply_some (length before.nets) b.kind is in
             let told = puts.multiply ∙ some.1 in

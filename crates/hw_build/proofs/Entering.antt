@@ -1,9 +1,7 @@
 -- Elements that are put in: what holds of them all, by what was put behind the nets.
-use Rattle.std.proofs.Common.{◌≡◌, ℕ, ◌+◌, ◌-◌, ◌≤◌, ◌⊎◌, inl, inr, Bool, true, false, ℤ, pos, List, [], length, Contains, None, ap, sym, ◌∙◌, subst, refl, arith, pow_pos}
+use Rattle.std.proofs.Common.{◌≡◌, ℕ, ◌+◌, ◌-◌, ◌≤◌, ◌⊎◌, inl, inr, true, ℤ, List, [], length, Contains, None, ap, sym, ◌∙◌, subst, refl, arith}
 use Rattle.std.specs.Prelude.{◌≢◌, ⊤}
-use Rattle.std.proofs.lemmas.Int.{ints}
 use Rattle.std.proofs.lemmas.Option.{none-some}
-use Rattle.fx_num.specs.Word.{InWord}
 use Rattle.fx_type.specs.FxType.{IsType, InRange, is_signed, width_of}
 use Rattle.fx_type.specs.declared.kind.FxType.{FxType}
 use Rattle.dg_model.specs.declared.diagram.Diagram.{Diagram}
@@ -27,7 +25,7 @@ use Rattle.hw_build.specs.inner.Grown.{Grows}
 use Rattle.hw_build.specs.inner.Growth.{InLater}
 use Rattle.hw_build.proofs.Adding.{comb_grows, grows_self, grows_then, put_there, put_word}
 use Rattle.hw_build.proofs.Nets.{constant}
-use Rattle.hw_build.proofs.Words.{in_range, in_word, word_of}
+use Rattle.fx_type.proofs.Ranges.{type-word, range-word}
 
 -- ---- no multiplication
 
@@ -86,14 +84,6 @@ typed_net before after word type kind is grown = subst (λ (w : Word). after ≡
 
 -- ---- a constant
 
--- 0 is a number of every type
-zero_in_word : (width : ℕ) (signed : Bool) → InWord width signed (pos 0)
-zero_in_word width true = record { low = omega (arith, ints, pow_pos (width - 1)); high = omega (arith, ints, pow_pos (width - 1)) }
-zero_in_word width false = record { low = omega (arith, ints); high = omega (arith, ints, pow_pos width) }
-
-pub zero_in_range : (type : FxType) → IsType type → InRange type (pos 0)
-zero_in_range type is = in_range type (pos 0) (zero_in_word (width_of type) (is_signed type))
-
 module _ (before after : Circuit) (type : FxType) (value : ℤ) (is_type : IsType type) (range : InRange type value) where
   abbrev pub const_net : Net
   const_net = record { signed = is_signed type; width = width_of type; kind = Comb (Const value) [] }
@@ -102,7 +92,7 @@ module _ (before after : Circuit) (type : FxType) (value : ℤ) (is_type : IsTyp
     pub const_grows : (diagram : Diagram) (timing : Timing) (block : ℕ) (operands : List ℕ) → Grows before after operands (IsQuiet diagram timing block) 0
     const_grows diagram timing block operands =
         grows_naming before after [] operands (IsQuiet diagram timing block) 0 (none_named operands)
-        (comb_grows before after (Const value) [] (is_signed type) (width_of type) (IsQuiet diagram timing block) grown (word_of type is_type) (refl, tt) (λ read is. absurd (omega (arith, is.1))) (tt, λ e. cc))
+        (comb_grows before after (Const value) [] (is_signed type) (width_of type) (IsQuiet diagram timing block) grown (type-word type is_type) (refl, tt) (λ read is. absurd (omega (arith, is.1))) (tt, λ e. cc))
 
     pub const_word : (number : ℕ) → number ≡ length before.nets → HasWord after.nets number (width_of type) (is_signed type)
     const_word number at = subst (λ (n : ℕ). HasWord after.nets n (width_of type) (is_signed type)) (sym at) (put_word before after const_net grown)
@@ -110,4 +100,4 @@ module _ (before after : Circuit) (type : FxType) (value : ℤ) (is_type : IsTyp
     pub const_shows : (closed hubs number : ℕ) → number ≡ length before.nets → hubs ≤ length before.nets → InLater closed hubs after (λ n rows. AreSame n (rows number) (steady value))
     const_shows closed hubs number at small =
         subst (λ (k : ℕ). InLater closed hubs after (λ n rows. AreSame n (rows k) (steady value))) (sym at)
-        (constant closed hubs after (length before.nets) value const_net (record { at = put_there before after const_net grown; settled = inr small }) refl (word_of type is_type) (in_word type value range))
+        (constant closed hubs after (length before.nets) value const_net (record { at = put_there before after const_net grown; settled = inr small }) refl (type-word type is_type) (range-word type value range))

@@ -1,7 +1,7 @@
 -- Elements of blocks that show what they are offered.
-use Rattle.std.proofs.Common.{◌≡◌, ℕ, suc, ◌+◌, ◌-◌, ◌<◌, inl, Bool, true, false, not, List, [], ◌∷◌, length, map, sum, Contains, Option, None, Some, ap, sym, ◌∙◌, subst, refl, arith}
+use Rattle.std.proofs.Common.{◌≡◌, ℕ, suc, ◌+◌, ◌-◌, ◌<◌, inl, true, false, not, List, [], ◌∷◌, length, map, sum, Contains, Option, None, Some, ap, sym, ◌∙◌, subst, refl, arith}
 use Rattle.std.specs.Prelude.{slice_index_or}
-use Rattle.std.proofs.lemmas.Bool.{false≢true}
+use Rattle.std.proofs.lemmas.Bool.{false≢true, not-true}
 use Rattle.std.proofs.lemmas.List.Elements.{Contains-get_or}
 use Rattle.fx_type.specs.declared.kind.FxType.{FxType}
 use Rattle.fx_type.specs.FxType.{is_signed, width_of}
@@ -30,10 +30,6 @@ pub free_is : (enable driver : Option ℕ) → not (keeps_own enable driver) ≡
 free_is (Some control) driver hands = absurd (false≢true hands)
 free_is None None hands = absurd (false≢true hands)
 free_is None (Some source) hands = (refl, source, refl)
-
-keeps_not : (keeps : Bool) → not keeps ≡ true → keeps ≡ false
-keeps_not true hands = absurd (false≢true hands)
-keeps_not false hands = refl
 
 hands_types : (diagram : Diagram) (block : ℕ) (b : Block) (port : ℕ) (kind : Kind) → hands_on b.enable (period_into diagram (attributes_of diagram) block 1) kind ≡ true → operand_types diagram (attributes_of diagram) block b port kind ≡ (attributes_of diagram).type_at block port ∷ []
 hands_types diagram block b port (Inport number width) hands = refl
@@ -89,7 +85,7 @@ hands_keeps enable driver (Switch criterion threshold) hands = absurd (false≢t
 hands_keeps enable driver (Relational operator) hands = absurd (false≢true hands)
 hands_keeps enable driver (Logic operator) hands = absurd (false≢true hands)
 hands_keeps enable driver (Convert stored) hands = absurd (false≢true hands)
-hands_keeps enable driver (Delay delay initial reset) hands = keeps_not (keeps_own enable driver) hands
+hands_keeps enable driver (Delay delay initial reset) hands = not-true (keeps_own enable driver) hands
 hands_keeps enable driver (Mux sizes) hands = refl
 hands_keeps enable driver (Demux sizes) hands = refl
 hands_keeps enable driver (RateTransition period initial) hands = refl

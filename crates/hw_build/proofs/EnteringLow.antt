@@ -1,7 +1,7 @@
 -- What an element reads stands below it: in its own sample what its sources show, or else what reads nothing in its clock.
 use Rattle.std.proofs.Common.{◌≡◌, ℕ, zero, suc, ◌*◌, ◌-◌, ◌<◌, ◌≤◌, ◌⊎◌, inl, inr, Bool, true, false, List, [], ◌∷◌, length, Contains, Option, None, Some, ap, sym, ◌∙◌, subst, refl, arith}
-use Rattle.std.specs.Prelude.{slice_get, min, not}
-use Rattle.std.proofs.lemmas.Bool.{false≢true}
+use Rattle.std.specs.Prelude.{slice_get, min}
+use Rattle.std.proofs.lemmas.Bool.{false≢true, not-false}
 use Rattle.std.proofs.lemmas.Option.{none-some, same_Some, slice_get_within, slice_get-get_or, get_or_from_slice_get}
 use Rattle.dg_model.specs.declared.diagram.Diagram.{Diagram}
 use Rattle.dg_model.specs.declared.diagram.Block.{Block}
@@ -77,10 +77,6 @@ shared_source None None keeps = absurd (false≢true (sym keeps))
 shared_source None (Some source) keeps = (source, refl, refl)
 shared_source (Some control) driver keeps = absurd (false≢true (sym keeps))
 
-not_not : (t : Bool) → not t ≡ false → t ≡ true
-not_not true e = refl
-not_not false e = absurd (false≢true (sym e))
-
 pub late_is : (diagram : Diagram) (places : Places) (block : ℕ) (b : Block) (port element : ℕ) (operands : List ℕ) → HasPorts b.kind b.inputs b.outputs → (kind : Kind) → b.kind ≡ kind → is_now (row_of kind).timing.reads (is_slow_to_fast (period_into diagram (attributes_of diagram) block 1) ((attributes_of diagram).period_at block)) ≡ false
     → keeps_entry b.enable (period_into diagram (attributes_of diagram) block 1) kind ≡ false → AreOffered diagram places block b port element kind operands → IsLate diagram places block b element operands
 late_is diagram places block b port element operands ports (Delay delay initial reset) is before keeps offered =
@@ -96,7 +92,7 @@ late_is diagram places block b port element operands ports (Delay delay initial 
       is = offered ∙ ap (λ (o : Option ℕ). places.offered block 1 element ∷ enables_of places block o) found.2;
     }
 late_is diagram places block b port element operands ports (RateTransition period initial) is before keeps offered =
-    let slower = not_not (is_slow_to_fast (period_into diagram (attributes_of diagram) block 1) ((attributes_of diagram).period_at block)) before in
+    let slower = not-false (is_slow_to_fast (period_into diagram (attributes_of diagram) block 1) ((attributes_of diagram).period_at block)) before in
     let found = slower_source (period_into diagram (attributes_of diagram) block 1) ((attributes_of diagram).period_at block) slower in
     record {
       source = found.0;

@@ -1,6 +1,6 @@
 -- An element of a block goes into the loops over blocks: what its ends offer is there in its words, stands below it, and stood when elements began.
 use Rattle.std.proofs.Common.{◌≡◌, ℕ, ◌<◌, ◌≤◌, inl, inr, true, false, List, [], length, Contains, None, Some, ap, sym, ◌∙◌, subst, arith, refl}
-use Rattle.std.proofs.lemmas.Bool.{false≢true}
+use Rattle.std.proofs.lemmas.Bool.{false≢true, cases_Bool}
 use Rattle.std.proofs.lemmas.Option.{none-some, slice_get_within}
 use Rattle.fx_type.specs.declared.kind.FxType.{FxType}
 use Rattle.fx_type.specs.Laws.{StoredIsOne}
@@ -43,7 +43,6 @@ use Rattle.hw_build.proofs.Levels.{result_level}
 use Rattle.hw_build.proofs.Looped.{own_fit, own_places, own_spotted}
 use Rattle.hw_build.proofs.Ordering.{in_order}
 use Rattle.hw_build.proofs.Resulting.{untold}
-use Rattle.hw_build.proofs.Started.{both}
 use Rattle.hw_build.proofs.Storing.{first_stores}
 use Rattle.hw_build.proofs.Widths.{late_are_wide}
 
@@ -109,13 +108,13 @@ module _ (setting : Setting) (known : IsKnown setting) (before : Circuit) (going
   product_below is = multiplied_below drawn block b.inputs b.outputs port element b.kind is ports_are shown.port_from shown.port_to shown.element_below
 
   pub shared_is : (product : ℕ) → product_at setting.products.now block element ≡ Some product → is_shared drawn (attributes_of drawn) setting.design.plan.now block ≡ true
-  shared_is product told = elim (both (is_shared drawn (attributes_of drawn) setting.design.plan.now block)) [
+  shared_is product told = elim (cases_Bool (is_shared drawn (attributes_of drawn) setting.design.plan.now block)) [
     | inl shared ↦ shared
     | inr other ↦ absurd (none-some product (sym (known.set.products_are.other block element inside other) ∙ told))
   ]
 
   pub unshared_is : product_at setting.products.now block element ≡ None → is_shared drawn (attributes_of drawn) setting.design.plan.now block ≡ false
-  unshared_is none = elim (both (is_shared drawn (attributes_of drawn) setting.design.plan.now block)) [
+  unshared_is none = elim (cases_Bool (is_shared drawn (attributes_of drawn) setting.design.plan.now block)) [
     | inl shared ↦ absurd (none-some (product_net setting.products.now block element) (sym none ∙ known.set.products_are.shared block element inside shared (product_below (shared_multiplies drawn setting.design.plan.now block b shown.block_is shared))))
     | inr other ↦ other
   ]
@@ -194,11 +193,11 @@ module _ (setting : Setting) (known : IsKnown setting) (before : Circuit) (going
 
     module _ (after : Circuit) (entry : Entry) (puts : PutsEntry drawn (timing_for setting.design) before after block b port element operands entry) where
       stand_low : (places : Places) (start : Circuit) (closed : ℕ) (level : ℕ → ℕ) → Fits setting places → IsGoingBy setting places start closed before level → StandLow setting before after level block operands entry
-      stand_low places start closed level fits is = elim (both (reads_now drawn (attributes_of drawn) block b.kind)) [
+      stand_low places start closed level fits is = elim (cases_Bool (reads_now drawn (attributes_of drawn) block b.kind)) [
         | inl now_is ↦
             let low = low_now places fits closed before level is.way now_is in
             record { own = own_level (rank block); some = omega arith; named = low; answer = result_level before after level (own_level (rank block)) entry.net operands low puts.stands }
-        | inr before_is ↦ elim (both (keeps_entry b.enable (period_into drawn (attributes_of drawn) block 1) b.kind)) [
+        | inr before_is ↦ elim (cases_Bool (keeps_entry b.enable (period_into drawn (attributes_of drawn) block 1) b.kind)) [
           | inl keeps ↦
               let zero = held_level before after level (most_of level operands) entry.net (puts.held keeps) in
               record {

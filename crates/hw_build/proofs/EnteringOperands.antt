@@ -32,6 +32,7 @@ use Rattle.hw_build.specs.inner.HubPlaces.{is_input_role}
 use Rattle.hw_build.specs.inner.Lowering.{offered_args}
 use Rattle.hw_build.specs.inner.UnderWay.{HaveOperands, line_level, own_level}
 use Rattle.hw_build.proofs.Searching.{driver_some}
+use Rattle.dg_tables.proofs.Lists.{get_number}
 
 -- ---- lists
 
@@ -70,17 +71,6 @@ part_of_sum f from (suc n) i low high =
       | inl less ↦ let more = part_of_sum f (suc from) n i (omega (arith, less)) (omega (arith, high)) in omega (arith, whole, more)
       | inr same ↦ let e : from ≡ i = omega (arith, low, same) in let own : f from ≡ f i = ap f e in omega (arith, whole, own)
     ]
-
-mapped_at : (f : ℕ → ℕ) (from n k : ℕ) → k < n → slice_index (map f (numbers_from from n)) k ≡ f (from + k)
-mapped_at f from zero k below = absurd (omega (arith, below))
-mapped_at f from (suc n) zero below = ap f e
-  where
-    e : from ≡ from + 0
-    e = omega arith
-mapped_at f from (suc n) (suc k) below = mapped_at f (suc from) n k (omega (arith, below)) ∙ ap f e
-  where
-    e : suc from + k ≡ from + suc k
-    e = omega arith
 
 counted_map : (f : ℕ → ℕ) (n : ℕ) → length (map f (numbers_from 1 n)) ≡ n
 counted_map f n = go 1 n
@@ -201,7 +191,7 @@ module _ (diagram : Diagram) (places : Places) (place_of : ℕ → ℕ) (hubs : 
       operands_are (Mux sizes) operands is other fits keeps offered =
           let signal : ℕ = offered.signal in
           let inside : signal < b.inputs = subst (λ (n : ℕ). signal < n) (counted_map (width_into diagram (attributes_of diagram) block) b.inputs) offered.part.signal_is in
-          let width : slice_index (widths_into diagram (attributes_of diagram) block b.inputs) signal ≡ width_into diagram (attributes_of diagram) block (suc signal) = mapped_at (width_into diagram (attributes_of diagram) block) 1 b.inputs signal inside ∙ ap (width_into diagram (attributes_of diagram) block) (next signal) in
+          let width : slice_index (widths_into diagram (attributes_of diagram) block b.inputs) signal ≡ width_into diagram (attributes_of diagram) block (suc signal) = get_number (width_into diagram (attributes_of diagram) block) 1 b.inputs signal inside ∙ ap (width_into diagram (attributes_of diagram) block) (next signal) in
           let within = offered.part.within in
           subst (AreEach IsOperand ((attributes_of diagram).type_at block port ∷ [])) (sym offered.is)
           (each_more IsOperand ((attributes_of diagram).type_at block port) (places.offered block (suc signal) offered.place) [] []

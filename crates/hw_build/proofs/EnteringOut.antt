@@ -47,7 +47,7 @@ use Rattle.hw_build.proofs.EnteringKept.{quiet_frame, state_is, enabled_shows, f
 use Rattle.hw_build.proofs.Growth.{goes_appended, later_on}
 use Rattle.hw_build.proofs.Making.{IsMadeLater, made_kind, out_held, out_reset}
 use Rattle.hw_build.proofs.Nets.{chosen}
-use Rattle.hw_build.proofs.Words.{word_of}
+use Rattle.fx_type.proofs.Ranges.{type-word}
 
 -- ---- a control
 
@@ -144,7 +144,7 @@ module _ (diagram : Diagram) (timing : Timing) (before middle after : Circuit) (
           let size = put_size middle after Choice grown in
           let much = kept_is in
           let choice : Grows middle after (Enable ∷ From ∷ other ∷ []) (IsQuiet diagram timing block) 0 =
-          comb_grows middle after Choose (Enable ∷ From ∷ other ∷ []) (is_signed type) (width_of type) (IsQuiet diagram timing block) grown (word_of type is_type) (refl, tt)
+          comb_grows middle after Choose (Enable ∷ From ∷ other ∷ []) (is_signed type) (width_of type) (IsQuiet diagram timing block) grown (type-word type is_type) (refl, tt)
           (λ read names. three_are Enable From other read (λ (x : ℕ). x < length middle.nets) (omega (arith, more, old)) (omega (arith, from_there, old)) other_there names) (tt, λ e. cc) in
           quiet_entry diagram timing before after block b port element operands entry (EnOut reset list) ((if reset then 0 else 1) + 0) is
           (grows_then before middle after operands (Enable ∷ From ∷ other ∷ []) (IsQuiet diagram timing block) (IsQuiet diagram timing block) (if reset then 0 else 1) 0
@@ -158,7 +158,7 @@ module _ (diagram : Diagram) (timing : Timing) (before middle after : Circuit) (
           let offer : From ≡ places.offered block 1 element = ap (λ (l : List ℕ). slice_index_or l 0 0) given in
           let enables : Enable ≡ places.enable block = ap (λ (l : List ℕ). slice_index_or l 1 0) given ∙ ap (λ (e : Option ℕ). slice_index_or (places.offered block 1 element ∷ enables_of places block e) 1 0) inside in
           let named : places.entry block port element ≡ length middle.nets = at.net ∙ net in
-          let shows = chosen closed hubs after (length middle.nets) Enable From other (width_of type) (is_signed type) Choice (record { at = put_there middle after Choice grown; settled = inr (omega (arith, small, old)) }) refl refl refl (word_of type is_type)
+          let shows = chosen closed hubs after (length middle.nets) Enable From other (width_of type) (is_signed type) Choice (record { at = put_there middle after Choice grown; settled = inr (omega (arith, small, old)) }) refl refl refl (type-word type is_type)
           (word-stays middle after From (width_of type) (is_signed type) (put_extends middle after Choice grown) (word-stays before middle From (width_of type) (is_signed type) first_part.appends.extends from_word))
           (word-stays middle after other (width_of type) (is_signed type) (put_extends middle after Choice grown) other_word) in
           made_kind diagram timing places closed hubs after block b port element (EnOut reset list) is

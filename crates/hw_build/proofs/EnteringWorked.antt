@@ -1,5 +1,5 @@
 -- Elements that an operation of their block gives.
-use Rattle.std.proofs.Common.{◌≡◌, ℕ, suc, ◌+◌, ◌-◌, ◌≤◌, ◌⊎◌, Bool, true, false, if◌then◌else◌, List, [], ◌∷◌, ◌++◌, length, Contains, Option, None, Some, ap, sym, ◌∙◌, subst, refl, arith}
+use Rattle.std.proofs.Common.{◌≡◌, ℕ, suc, ◌+◌, ◌-◌, ◌≤◌, ◌⊎◌, true, false, List, [], ◌∷◌, ◌++◌, length, Contains, Option, None, Some, ap, sym, ◌∙◌, subst, refl, arith}
 use Rattle.std.specs.Prelude.{slice_get}
 use Rattle.std.proofs.lemmas.Bool.{false≢true}
 use Rattle.std.proofs.lemmas.Option.{none-some, same_Some, slice_get_within}
@@ -33,17 +33,9 @@ use Rattle.hw_build.specs.inner.Growth.{InLater}
 use Rattle.hw_build.specs.inner.Lowering.{IsLoweredIn, offered_args, operation_at}
 use Rattle.hw_build.proofs.Elements.{carried_out, lowered_by_call}
 use Rattle.hw_build.proofs.Making.{IsMadeLater, gain_alone, product_alone}
+use Rattle.hw_build.proofs.Composed.{no_registers}
 
 -- ---- what `lower` puts in
-
--- operations alone are no registers
-none_held : (added : List Net) → ((k : ℕ) (net : Net) → slice_get added k ≡ Some net → is_register net.kind ≡ false) → register_count added ≡ 0
-none_held [] none = refl
-none_held (net ∷ added) none =
-    let first = none 0 net refl in
-    let rest = none_held added (λ k other at. none (suc k) other at) in
-    let e : 0 + register_count added ≡ 0 = omega (arith, rest) in
-    ap (λ (held : Bool). (if held then 1 else 0) + register_count added) first ∙ e
 
 pub behind : (xs ys : List Net) (k : ℕ) → slice_get (xs ++ ys) (length xs + k) ≡ slice_get ys k
 behind [] ys k = ap (slice_get ys) e
@@ -68,7 +60,7 @@ module _ (before after : Circuit) (operation : Operation) (operands : List ℕ) 
         subst (IsEntryPart diagram timing block) (sym comb.kind ∙ kind) tt;
     registers =
         let extends = lowers.appends.extends in
-        let none = none_held extends.added (λ k net at.
+        let none = no_registers extends.added (λ k net at.
         let there : slice_get after.nets (length before.nets + k) ≡ Some net = ap (λ (nets : List Net). slice_get nets (length before.nets + k)) extends.nets ∙ behind before.nets extends.added k ∙ at in
         let comb = (comb_there (length before.nets + k) net (omega arith) there).1 in
         let kind : comb.net.kind ≡ net.kind = ap (λ (n : Net). n.kind) (same_Some comb.net net (sym comb.is ∙ there)) in

@@ -28,12 +28,11 @@ use Rattle.hw_build.specs.inner.Factors.{AddsConstants, OffersWords, IsSecond, I
 use Rattle.hw_build.specs.inner.Owed.{IsMade, AreMade}
 use Rattle.hw_build.specs.inner.ResultNets.{first_operation}
 use Rattle.hw_build.proofs.Constants.{adds_none, adds_then, coefficient_stays}
-use Rattle.hw_sched.proofs.Widths.{some_block}
 use Rattle.hw_build.proofs.FullyTyped.{full_is_there, second_is_valid}
 use Rattle.hw_build.proofs.Numbering.{operations_in_all}
 use Rattle.hw_build.proofs.Operations.{of_shared}
 use Rattle.hw_build.proofs.Serving.{is_product, multiplies_input, product_inputs}
-use Rattle.hw_build.proofs.Widths.{held}
+use Rattle.fx_io.proofs.Places.{held, get_some}
 
 -- ---- what was gathered stays
 
@@ -152,7 +151,7 @@ module _ (storing : StoringGivesOne) (prepare : OperationsPrepare) (valid : Type
     one_made number o one is at =
         let g = gathered.each number o one (omega arith) is at in
         let of = of_shared diagram (attributes_of diagram) plan number o is in
-        let b = some_block diagram.blocks o.block of.there in
+        let b = get_some diagram.blocks o.block of.there in
         let grown = gathered.adds.appends.extends in
         let second = g.right b.0 b.1 in
         let right : ◌≡◌ {A = FxType} (right_of diagram (attributes_of diagram) o.block (Some b.0)) (right_of diagram (attributes_of diagram) o.block (slice_get diagram.blocks o.block)) = ap (right_of diagram (attributes_of diagram) o.block) (sym b.1) in

@@ -1,32 +1,20 @@
 -- The order of feeds tells them apart as they are.
-use Rattle.std.proofs.Common.{◌≡◌, ◌≢◌, inl, inr, ℕ, ℤ, Bool, true, false, cond, ◌==◌, Option, None, Some, ap, sym, ◌∙◌, refl, arith}
-use Rattle.std.specs.Prelude.{◌&&◌, nat_lt}
-use Rattle.std.specs.declared.cmp.Ordering.TheVariants.{Less, Equal, Greater}
+use Rattle.std.proofs.Common.{◌≡◌, ◌≢◌, inl, inr, ℕ, ℤ, Bool, true, false, ◌==◌, Option, None, Some, ap, sym, ◌∙◌, refl}
+use Rattle.std.specs.Prelude.{◌&&◌}
 use Rattle.std.specs.Option.{option_cmp}
 use Rattle.std.specs.Ordering.{nat_cmp, int_cmp, int_eq, is_eq, ordering_then}
 use Rattle.std.specs.Cmp.{tied_then}
-use Rattle.std.proofs.lemmas.Bool.{false≢true, and_from, and_parts, cases_Bool, eq-eqb, eqb-true, ltb-true}
+use Rattle.std.proofs.lemmas.Bool.{false≢true, and_from, and_parts, cases_Bool, eq-eqb, eqb-true}
 use Rattle.std.proofs.lemmas.Bool.Decides.{Decides-int_eq}
 use Rattle.hw_net.specs.declared.netlist.Frame.{Frame}
 use Rattle.hw_net.specs.ByFrame.{is_same_frame, compare_frames}
-use Rattle.hw_net.proofs.Index.{same-frame, same-is}
+use Rattle.hw_net.proofs.Index.{same-frame, same-is, same-self}
 use Rattle.hw_sched.specs.Chained.{is_same_first}
 use Rattle.hw_build.specs.declared.wants.Feed.{Feed}
 use Rattle.hw_build.specs.inner.Feeds.{is_same_feed, compare_feeds}
+use Rattle.hw_slots.proofs.Sums.{tied_number}
 
 -- ---- the order
-
-tied : (x y : ℕ) (less same : Bool) → nat_lt x y ≡ less → (x == y) ≡ same → is_eq (cond less Less (cond same Equal Greater)) ≡ same
-tied x y true true p q =
-    let below = ltb-true x y p in
-    let one = eqb-true x y q in
-    absurd (omega (arith, below, one))
-tied x y true false p q = refl
-tied x y false true p q = refl
-tied x y false false p q = refl
-
-tied_number : (x y : ℕ) → is_eq (nat_cmp x y) ≡ (x == y)
-tied_number x y = tied x y (nat_lt x y) (x == y) refl refl
 
 tied_first : (one other : Option ℤ) → is_eq (option_cmp int_cmp one other) ≡ is_same_first one other
 tied_first None None = refl
@@ -68,12 +56,9 @@ pub first_self : (one : Option ℤ) → is_same_first one one ≡ true
 first_self None = refl
 first_self (Some one) = (Decides-int_eq one one).1 refl
 
-frame_self : (frame : Frame) → is_same_frame frame frame ≡ true
-frame_self frame = and_from (frame.period == frame.period) (frame.latency == frame.latency) (eq-eqb frame.period frame.period refl) (eq-eqb frame.latency frame.latency refl)
-
 feed_self : (feed : Feed) → is_same_feed feed feed ≡ true
 feed_self feed = and_from (feed.hub == feed.hub) (is_same_frame feed.frame feed.frame && is_same_first feed.first feed.first) (eq-eqb feed.hub feed.hub refl)
-    (and_from (is_same_frame feed.frame feed.frame) (is_same_first feed.first feed.first) (frame_self feed.frame) (first_self feed.first))
+    (and_from (is_same_frame feed.frame feed.frame) (is_same_first feed.first feed.first) (same-self feed.frame) (first_self feed.first))
 
 pub feed_is : (one other : Feed) → one ≡ other → is_same_feed one other ≡ true
 feed_is one other same = ap (is_same_feed one) (sym same) ∙ feed_self one

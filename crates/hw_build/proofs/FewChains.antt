@@ -19,13 +19,13 @@ use Rattle.hw_build.specs.inner.EndAsks.{IsLawful, want_for}
 use Rattle.hw_build.specs.inner.Feeds.{is_same_feed}
 use Rattle.hw_build.specs.inner.HubPlaces.{HasHubs}
 use Rattle.hw_build.specs.inner.Wants.{source_by, uses_of_feed, AreFolded, class_registers, registers_below}
-use Rattle.hw_build.proofs.Chaining.{some_at}
 use Rattle.hw_build.proofs.Counting.{Stands}
 use Rattle.hw_build.proofs.Feeding.{first_self, first_same, feed_is, feed_differs}
 use Rattle.hw_build.proofs.Fewer.{asked_of, chain_registers}
 use Rattle.hw_build.proofs.FewLines.{IsRepresented, total, no_more, Every, every_none, every_first, every_more, every_filter, filter_same}
 use Rattle.hw_build.proofs.Injecting.{hubs_differ}
 use Rattle.hw_build.proofs.LineUses.{IsLineUse, every_use}
+use Rattle.fx_io.proofs.Places.{map_there, get_some}
 
 -- ---- what stands for an element among those that differ
 
@@ -57,11 +57,6 @@ module _ {A B : Type 0} (P : A → Type 0) (same : A → A → Bool) (key : A �
             let stays = kept_filtered (λ z. not (same y z)) (distinct same xs) later.stands.place later.one later.stands.at (ap not differs) in
             record { one = later.one; stands = record { place = suc stays.place; at = stays.at }; holds = later.holds; key_is = later.key_is }
       ]
-
-pub mapped_from : {A B : Type 0} (f : A → B) (xs : List A) (k : ℕ) (y : B) → slice_get (map f xs) k ≡ Some y → (x : A) × (slice_get xs k ≡ Some x) × (f x ≡ y)
-mapped_from f [] k y at = absurd (none-some y at)
-mapped_from f (x ∷ xs) zero y at = (x, refl, same_Some (f x) y at)
-mapped_from f (x ∷ xs) (suc k) y at = mapped_from f xs k y at
 
 pub filter_holds : {A : Type 0} (p : A → Bool) (xs : List A) → Every (λ x. p x ≡ true) (filter p xs)
 filter_holds p [] = every_none (λ x. p x ≡ true)
@@ -169,12 +164,12 @@ module _ {diagram : Diagram} {order : List ℕ} {plan : Resolved} {times : Times
     reader_is : (c : ℕ) (one : Class) → slice_get classes c ≡ Some one → IsReader one
     reader_is c one at =
         let fold = folded.each c one at in
-        let from = mapped_from (want_for diagram plan times firsts) all_uses fold.place fold.want fold.at in
+        let from = map_there (want_for diagram plan times firsts) all_uses fold.place fold.want fold.at in
         let keep = kept (IsLineUse l) is_same_line feed_of line_self line_feed all_uses (every_use l) fold.place from.0 from.1 in
         record { reader = keep.one; stands = keep.stands; holds = keep.holds; feed = keep.key_is ∙ ap (λ (w : Want). w.feed) from.2 ∙ fold.same }
 
     abbrev class_at : (c : ℕ) → c < length classes → (one : Class) × (slice_get classes c ≡ Some one)
-    class_at c below = some_at classes c below
+    class_at c below = get_some classes c below
 
     abbrev represented : (c : ℕ) → c < length classes → IsRepresented (distinct is_same_line all_uses) (λ (reader : Use). registers_of (shared reader)) (class_registers (slice_get classes c))
     represented c below = record {

@@ -2,10 +2,10 @@
 use Rattle.std.proofs.Common.{◌≡◌, ◌≢◌, ℕ, zero, suc, ◌+◌, ◌<◌, ◌≤◌, Bool, true, false, cond, List, [], ◌∷◌, ◌++◌, map, filter, Some, ap, sym, ◌∙◌, subst, refl, arith}
 use Rattle.std.specs.Prelude.{slice_get}
 use Rattle.std.specs.List.{sum, flat_map}
-use Rattle.std.proofs.lemmas.List.Sums.{sum_by-cons}
 use Rattle.std.proofs.lemmas.Option.{none-some, same_Some}
 use Rattle.dg_waves.specs.Rounds.{numbers_from}
 use Rattle.hw_build.proofs.Counting.{Stands, without, still_stands}
+use Rattle.fx_io.proofs.Places.{sum-cons}
 
 -- ---- sums over different representatives
 
@@ -13,9 +13,6 @@ pub record IsRepresented {A : Type 0} (ys : List A) (v : A → ℕ) (weight : �
   pub one : A
   pub stands : Stands ys one
   pub low : weight ≤ v one
-
-sum-cons : (n : ℕ) (ns : List ℕ) → sum (n ∷ ns) ≡ n + sum ns
-sum-cons n ns = sum_by-cons (λ (k : ℕ). k) n ns
 
 sum_without : {A : Type 0} (v : A → ℕ) (ys : List A) (k : ℕ) (y : A) → slice_get ys k ≡ Some y → sum (map v ys) ≡ v y + sum (map v (without ys k))
 sum_without v [] k y at = absurd (none-some y at)

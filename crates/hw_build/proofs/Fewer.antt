@@ -1,7 +1,7 @@
 -- A chain has no more registers than are counted for the uses that share it.
 use Rattle.std.proofs.Common.{◌≡◌, ℕ, zero, suc, ◌+◌, ◌/◌, ◌<◌, ◌≤◌, inl, inr, Bool, true, false, cond, List, [], ◌∷◌, ◌++◌, map, filter, length, Some, ap, sym, ◌∙◌, subst, refl, arith}
 use Rattle.std.specs.Prelude.{◌≢◌, ◌||◌, ◌==◌, not, slice_get}
-use Rattle.std.proofs.lemmas.Bool.{false≢true, and_from, and_parts, eq-eqb, eqb-true, cases_Bool}
+use Rattle.std.proofs.lemmas.Bool.{false≢true, and_parts, eqb-true, cases_Bool}
 use Rattle.std.proofs.lemmas.Option.{none-some, same_Some}
 use mathlib.Core.List.{map-map}
 use Rattle.hw_net.specs.declared.netlist.Frame.{Frame}
@@ -12,6 +12,7 @@ use Rattle.hw_lines.specs.Chain.{reader_of, is_among, different_after, different
 use Rattle.dg_model.specs.Widths.{greatest}
 use Rattle.hw_sched.specs.Chained.{Use, distinct, is_same_use, registers_of}
 use Rattle.hw_build.proofs.Counting.{Stands, without, one_less, still_stands}
+use Rattle.hw_net.proofs.Index.{same-self}
 
 -- ---- lists in which nothing stands twice
 
@@ -71,9 +72,6 @@ are_new before (x ∷ xs) k y at = go (is_among x before) refl k at (λ j there.
     go false e zero at rest = record { there = record { place = 0; at = at }; other = subst (λ (f : Frame). is_among f before ≡ false) (same_Some x y at) e }
     go false e (suc k) at rest = later_new before xs x y (rest k at)
 
-same_self : (frame : Frame) → is_same_frame frame frame ≡ true
-same_self frame = and_from (frame.period == frame.period) (frame.latency == frame.latency) (eq-eqb frame.period frame.period refl) (eq-eqb frame.latency frame.latency refl)
-
 once_new : (before xs : List Frame) → StandOnce (news before xs)
 once_new before [] = record { apart = λ j k x y less at there. absurd (none-some x at) }
 once_new before (x ∷ xs) = go (is_among x before) (once_new (before ++ x ∷ []) xs)
@@ -86,7 +84,7 @@ once_new before (x ∷ xs) = go (is_among x before) (once_new (before ++ x ∷ [
         apart_at j zero y z less at there rest = absurd (omega (arith, less))
         apart_at zero (suc k) y z less at there rest =
             let differs = (among_more z x before (are_new (before ++ x ∷ []) xs k z there).other).1 in
-            λ e. false≢true (sym differs ∙ ap (λ (f : Frame). is_same_frame f z) (same_Some x y at ∙ e) ∙ same_self z)
+            λ e. false≢true (sym differs ∙ ap (λ (f : Frame). is_same_frame f z) (same_Some x y at ∙ e) ∙ same-self z)
         apart_at (suc j) (suc k) y z less at there rest = rest.apart j k y z (omega (arith, less)) at there
 
 -- ---- uses

@@ -22,7 +22,7 @@ use Rattle.hw_build.specs.Built.{counter_count}
 use Rattle.hw_build.specs.inner.Framed.{pair_of, IsFramed, IsBlockFrame, HasMoreRegisters}
 use Rattle.hw_build.specs.inner.Growth.{GoesOn}
 use Rattle.hw_build.proofs.Counting.{Stands, few_counters}
-use Rattle.hw_build.proofs.Porting.{mapped}
+use Rattle.fx_io.proofs.Places.{get_left, there_map}
 
 -- ---- lists of different elements
 
@@ -53,11 +53,6 @@ stands_distinct (y ∷ xs) (suc k) x at =
           record { place = suc rest.place; at = rest.at }
     ]
 
-front : {A : Type 0} (xs ys : List A) (k : ℕ) (x : A) → slice_get xs k ≡ Some x → slice_get (xs ++ ys) k ≡ Some x
-front [] ys k x at = absurd (none-some x at)
-front (y ∷ xs) ys zero x at = at
-front (y ∷ xs) ys (suc k) x at = front xs ys k x at
-
 back : {A : Type 0} (xs ys : List A) (x : A) → Stands ys x → Stands (xs ++ ys) x
 back [] ys x stands = stands
 back (y ∷ xs) ys x stands = let rest = back xs ys x stands in record { place = suc rest.place; at = rest.at }
@@ -69,7 +64,7 @@ flat_stands f from (suc n) k x low high stands = elim (cases_lt from k) [
   | inr past ↦
       let same : k ≡ from = omega (arith, low, past) in
       let here : Stands (f from) x = subst (λ (j : ℕ). Stands (f j) x) same stands in
-      record { place = here.place; at = front (f from) (flat_map f (numbers_from (suc from) n)) here.place x here.at }
+      record { place = here.place; at = get_left (f from) (flat_map f (numbers_from (suc from) n)) here.place x here.at }
 ]
 
 -- ---- frames
@@ -126,7 +121,7 @@ module _ (diagram : Diagram) (plan : Resolved) (times : Times) where
       let frames : List Frame = map frame_of_pair (frames_in_all diagram (attributes_of diagram) plan times) in
       let counters = few_counters now.nets frames (λ k frame at.
       let framed = more.counters k frame (let e : length start.nets ≡ 0 = ap (λ (nets : List Net). length nets) none in omega (arith, e)) at in
-      record { place = framed.place; at = mapped frame_of_pair (frames_in_all diagram (attributes_of diagram) plan times) framed.place (pair_of frame) framed.at }) differ in
+      record { place = framed.place; at = there_map frame_of_pair (frames_in_all diagram (attributes_of diagram) plan times) framed.place (pair_of frame) framed.at }) differ in
       let size = length-map (frames_in_all diagram (attributes_of diagram) plan times) frame_of_pair in
       let begun : register_count start.nets ≡ 0 = ap register_count none in
       let few = more.few in

@@ -12,7 +12,7 @@ use Rattle.hw_net.specs.declared.netlist.NetPort.{NetPort}
 use Rattle.hw_net.specs.Circuit.{Circuit}
 use Rattle.hw_net.specs.Netlist.{reads}
 use Rattle.hw_net.proofs.Growing.{still-there, stood-there}
-use Rattle.hw_net.proofs.Places.{at-place}
+use Rattle.fx_io.proofs.Places.{held}
 use Rattle.hw_build.specs.declared.blocks.Setting.{Setting}
 use Rattle.hw_build.specs.Places.{Places}
 use Rattle.hw_build.specs.inner.Building.{IsEmptyFor}
@@ -57,7 +57,7 @@ module _ (setting : Setting) (start hubbed lined shared : Circuit) (order : AreP
           let size = hubs.size in
           elim ((ready_at with_products placed (λ block element. refl)).1.way.sound.each k net at) [
             | inl waits ↦ let high = waits.1 in absurd (omega (arith, high, size, past))
-            | inr is ↦ at-place (λ (r : ℕ). r < length shared.nets) (reads net.kind) i read is.there reads_it
+            | inr is ↦ held (λ (r : ℕ). r < length shared.nets) (reads net.kind) i read is.there reads_it
           ]
     ];
   }

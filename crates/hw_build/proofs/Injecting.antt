@@ -13,7 +13,7 @@ use Rattle.dg_tables.specs.Laws.{IsOrdered}
 use Rattle.hw_net.specs.Circuit.{Circuit}
 use Rattle.hw_build.specs.inner.HubPlaces.{before, is_input_role, port_size, own_hubs, owner_in, owner_of, hub_start, hub_at, HasHubs}
 use Rattle.hw_build.proofs.Beginning.{owner_is, place_other, root_hub}
-use Rattle.hw_build.proofs.Started.{both}
+use Rattle.std.proofs.lemmas.Bool.{cases_Bool}
 
 module _ (diagram : Diagram) (order : List ℕ) (earlier later : Circuit) (firsts : List (List ℕ)) (has : HasHubs diagram earlier later firsts) (listed : InputsAreListed) (ordered : IsOrdered diagram order) where
   abbrev roots : List RootElement
@@ -61,10 +61,10 @@ module _ (diagram : Diagram) (order : List ℕ) (earlier later : Circuit) (first
 
   pub hubs_differ : (block : ℕ) (b : Block) (port element other_block : ℕ) (o : Block) (other_port other_element : ℕ) → IsShown diagram (attributes_of diagram) block b port element → IsShown diagram (attributes_of diagram) other_block o other_port other_element
       → hub_at firsts block port element ≡ hub_at firsts other_block other_port other_element → IsSameElement block port element other_block other_port other_element
-  hubs_differ block b port element other_block o other_port other_element one two equal = elim (both (is_input_role (row_of b.kind).place.role)) [
+  hubs_differ block b port element other_block o other_port other_element one two equal = elim (cases_Bool (is_input_role (row_of b.kind).place.role)) [
     | inl input ↦
         let root = root_hub diagram order earlier later firsts has listed ordered block b port element one input in
-        elim (both (is_input_role (row_of o.kind).place.role)) [
+        elim (cases_Bool (is_input_role (row_of o.kind).place.role)) [
           | inl other_input ↦
               let other_root = root_hub diagram order earlier later firsts has listed ordered other_block o other_port other_element two other_input in
               let same : ◌≡◌ {A = RootElement} (root_element (attributes_of diagram) root.number block element) (root_element (attributes_of diagram) other_root.number other_block other_element) =
@@ -76,7 +76,7 @@ module _ (diagram : Diagram) (order : List ℕ) (earlier later : Circuit) (first
               let high = (place_other diagram earlier later firsts has other_block o other_port other_element two plain).0 in
               absurd (omega (arith, low, high, equal))
         ]
-    | inr plain ↦ elim (both (is_input_role (row_of o.kind).place.role)) [
+    | inr plain ↦ elim (cases_Bool (is_input_role (row_of o.kind).place.role)) [
       | inl other_input ↦
           let root = root_hub diagram order earlier later firsts has listed ordered other_block o other_port other_element two other_input in
           let low = slice_get_within roots (hub_at firsts other_block other_port other_element) (root_element (attributes_of diagram) root.number other_block other_element) root.at in

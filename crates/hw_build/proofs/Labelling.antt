@@ -6,8 +6,7 @@ use Rattle.hw_net.specs.declared.netlist.NetLabel.{NetLabel}
 use Rattle.hw_net.specs.Emittable.{IsLabelName, AreLabels}
 use Rattle.hw_build.specs.inner.Labelled.{Mark, name_by, mark_name, IsMarkBefore, AreLabelled}
 use Rattle.hw_build.proofs.Naming.{stage_labelled, stage_injective, multiplication_labelled, multiplication_injective, labels_apart}
-use Rattle.hw_build.proofs.Porting.{mapped}
-use Rattle.hw_names.proofs.Places.{map_from}
+use Rattle.fx_io.proofs.Places.{map_there, there_map}
 
 -- ---- one label more
 
@@ -79,4 +78,4 @@ labels_are hub_of labels count nets hub stage are up = record {
     place label has = at has.0 label has.1 ∙ ap (λ (l : NetLabel). Some l) has.2
 
     mark_at : (k : ℕ) (label : NetLabel) → slice_get labels k ≡ Some label → (mark : Mark) × (slice_get are.marks k ≡ Some mark) × (mark_name mark ≡ label.name)
-    mark_at k label is = map_from mark_name are.marks k label.name (ap (λ (names : List (List ℕ)). slice_get names k) (sym are.named) ∙ mapped (λ (l : NetLabel). l.name) labels k label is)
+    mark_at k label is = map_there mark_name are.marks k label.name (ap (λ (names : List (List ℕ)). slice_get names k) (sym are.named) ∙ there_map (λ (l : NetLabel). l.name) labels k label is)

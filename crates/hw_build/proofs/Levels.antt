@@ -13,18 +13,19 @@ use Rattle.hw_net.specs.Frames.{counted_frame, IsCounter}
 use Rattle.hw_net.specs.Netlist.{reads, reads_now, IsRanked}
 use Rattle.hw_net.specs.Growing.{Appends, MayReadNow, IsReopened, IsConnected}
 use Rattle.hw_net.proofs.Growing.{longer, stood-there}
-use Rattle.hw_net.proofs.Places.{at-place}
+use Rattle.fx_io.proofs.Places.{held}
 use Rattle.hw_net.specs.Growing.{IsNewReg}
 use Rattle.hw_build.specs.inner.Growth.{GoesOn}
 use Rattle.hw_build.specs.inner.Levels.{IsLevelled, level_of, net_at, level_behind}
+use Rattle.dg_tables.proofs.Laid.{set_there}
 
 -- what is read in the own clock is read
 reads_then : (P : ℕ → Type 0) (kind : NetKind) (i read : ℕ) → All P (reads kind) → slice_get (reads_now kind) i ≡ Some read → P read
-reads_then P (Comb op args) i read all at = at-place P args i read all at
+reads_then P (Comb op args) i read all at = held P args i read all at
 reads_then P (Reg frame slot first from) i read all at = absurd (none-some read at)
 reads_then P (EnReg frame enable reset first from) i read all at = absurd (none-some read at)
-reads_then P (Bridge frame live from) i read all at = at-place P (from ∷ []) i read all at
-reads_then P (Unit left right) i read all at = at-place P (left ∷ right ∷ []) i read all at
+reads_then P (Bridge frame live from) i read all at = held P (from ∷ []) i read all at
+reads_then P (Unit left right) i read all at = held P (left ∷ right ∷ []) i read all at
 reads_then P (Counter frame) i read all at = absurd (none-some read at)
 
 some_read : (own : ℕ) (list : List ℕ) (i read : ℕ) → slice_get list i ≡ Some read → level_of own list ≡ own
@@ -107,7 +108,7 @@ module _ (before after : Circuit) (level : ℕ → ℕ) (own : ℕ) (named : Lis
             (omega (arith, there, more), elim was.1 [ inl lower ↦ inl (omega (arith, lower, here, read_here)) | inr same ↦ let e = same.0 in inr (omega (arith, e, here, read_here), same.1) ])
         | inr past ↦
             let is = appends.each k net past at in
-            (reads_then (λ (x : ℕ). x < length after.nets) net.kind i read is.there reads, new_below k net i read past at reads (at-place (MayReadNow before after named k) (reads_now net.kind) i read is.now reads))
+            (reads_then (λ (x : ℕ). x < length after.nets) net.kind i read is.there reads, new_below k net i read past at reads (held (MayReadNow before after named k) (reads_now net.kind) i read is.now reads))
       ];
       counters = counter_zero;
     }
@@ -121,11 +122,6 @@ set_elsewhere (y ∷ xs) zero (suc k) x differs = refl
 set_elsewhere (y ∷ xs) (suc i) zero x differs = refl
 set_elsewhere (y ∷ xs) (suc i) (suc k) x differs = set_elsewhere xs i k x (λ e. differs (ap suc e))
 
-pub set_here : {A : Type 0} (xs : List A) (i : ℕ) (x : A) → i < length xs → slice_get (slice_set xs i x) i ≡ Some x
-set_here [] i x below = absurd (omega (arith, below))
-set_here (y ∷ xs) zero x below = refl
-set_here (y ∷ xs) (suc i) x below = set_here xs i x (omega (arith, below))
-
 pub set_length : {A : Type 0} (xs : List A) (i : ℕ) (x : A) → length (slice_set xs i x) ≡ length xs
 set_length [] i x = refl
 set_length (y ∷ xs) zero x = refl
@@ -136,7 +132,7 @@ abbrev pub given : Net → ℕ → Net
 given net argument = record net { kind = Comb Resize (argument ∷ []) }
 
 pub connected_here : (before after : Circuit) (number argument : ℕ) (is : IsConnected before after number argument) → slice_get after.nets number ≡ Some (given is.net argument)
-connected_here before after number argument is = ap (λ (c : Circuit). slice_get c.nets number) is.is ∙ set_here before.nets number (given is.net argument) (slice_get_within before.nets number is.net is.was)
+connected_here before after number argument is = ap (λ (c : Circuit). slice_get c.nets number) is.is ∙ set_there before.nets number (given is.net argument) (slice_get_within before.nets number is.net is.was)
 
 pub connected_elsewhere : (before after : Circuit) (number argument k : ℕ) (is : IsConnected before after number argument) → k ≢ number → slice_get after.nets k ≡ slice_get before.nets k
 connected_elsewhere before after number argument k is differs = ap (λ (c : Circuit). slice_get c.nets k) is.is ∙ set_elsewhere before.nets number k (given is.net argument) differs

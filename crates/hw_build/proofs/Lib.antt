@@ -14,7 +14,7 @@ mod ControlWants
 mod Controlling
 mod Counted
 mod Counting
-mod Delivered
+pub mod Delivered
 mod Driven
 mod Elements
 mod Ended

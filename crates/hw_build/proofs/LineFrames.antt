@@ -24,10 +24,12 @@ use Rattle.hw_build.specs.inner.Wants.{source_by, AreFolded}
 use Rattle.hw_build.proofs.Counting.{Stands}
 use Rattle.hw_build.proofs.Fewer.{asked_of}
 use Rattle.hw_build.proofs.FewLines.{every_filter}
-use Rattle.hw_build.proofs.FewChains.{kept, mapped_from, feed_for, uses_are, filter_holds}
+use Rattle.fx_io.proofs.Places.{map_there}
+use Rattle.hw_build.proofs.FewChains.{kept, feed_for, uses_are, filter_holds}
 use Rattle.hw_build.proofs.LineUses.{IsLineUse, every_use}
 use Rattle.hw_build.proofs.Feeding.{feed_same}
-use Rattle.hw_build.proofs.Putting.{timing, none_of}
+use Rattle.fx_io.proofs.Tests.{none_of}
+use Rattle.hw_build.proofs.Putting.{timing}
 
 -- ---- where things stand
 
@@ -101,7 +103,7 @@ module _ {diagram : Diagram} {order : List ℕ} {plan : Resolved} {times : Times
       of_feed : (P : Feed → Type 0) → ((x : Use) → IsLineUse l x → P (feed_for diagram plan times firsts x)) → P one.feed
       of_feed P each =
           let fold = folded.each c one at in
-          let from = mapped_from (want_for diagram plan times firsts) every_one fold.place fold.want fold.at in
+          let from = map_there (want_for diagram plan times firsts) every_one fold.place fold.want fold.at in
           subst P (ap (λ (w : Want). w.feed) from.2 ∙ fold.same) (each from.0 ((every_use l).at fold.place from.0 from.1))
 
       go : (frame ≡ one.feed.frame) ⊎ ((is_some one.feed.first ≡ false) × ((asked : Asked) × (Contains one.uses.items asked × (frame ≡ reader_of (source_by one.feed) asked)))) → IsFramed diagram plan times frame
@@ -112,7 +114,7 @@ module _ {diagram : Diagram} {order : List ℕ} {plan : Resolved} {times : Times
           let own : one.uses.items ≡ map asked_of (filter (λ (x : Use). is_same_feed feed (feed_for diagram plan times firsts x)) every_one) = fold.uses_are ∙ uses_are diagram plan times firsts feed every_one in
           let asked : Asked = late.1.0 in
           let among = contained one.uses.items asked late.1.1.0 in
-          let from = mapped_from asked_of (filter (λ (x : Use). is_same_feed feed (feed_for diagram plan times firsts x)) every_one) among.0 asked (sym (ap (λ (xs : List Asked). slice_get xs among.0) own) ∙ among.1) in
+          let from = map_there asked_of (filter (λ (x : Use). is_same_feed feed (feed_for diagram plan times firsts x)) every_one) among.0 asked (sym (ap (λ (xs : List Asked). slice_get xs among.0) own) ∙ among.1) in
           let reader : Use = from.0 in
           let is_use = (every_filter (IsLineUse l) (λ (x : Use). is_same_feed feed (feed_for diagram plan times firsts x)) every_one (every_use l)).at among.0 reader from.1 in
           let same : feed ≡ feed_for diagram plan times firsts reader = feed_same feed (feed_for diagram plan times firsts reader) ((filter_holds (λ (x : Use). is_same_feed feed (feed_for diagram plan times firsts x)) every_one).at among.0 reader from.1) in

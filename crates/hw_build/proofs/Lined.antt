@@ -4,7 +4,7 @@ use Rattle.std.specs.Prelude.{◌^◌, is_some, slice_get}
 use Rattle.fx_num.specs.Word.{IsWord, InWord}
 use Rattle.fx_type.specs.declared.kind.FxType.{FxType}
 use Rattle.fx_type.specs.FxType.{IsType, InRange, is_signed, width_of}
-use Rattle.fx_type.proofs.Ranges.{InRange-zero}
+use Rattle.fx_type.proofs.Ranges.{InRange-zero, type-word, range-word}
 use Rattle.dg_model.specs.declared.diagram.Diagram.{Diagram}
 use Rattle.dg_model.specs.declared.diagram.Block.{Block}
 use Rattle.dg_model.specs.declared.diagram.Edge.{Edge}
@@ -34,7 +34,6 @@ use Rattle.hw_build.proofs.Ends.{end, added}
 use Rattle.hw_build.proofs.Lagging.{lag_is_slack}
 use Rattle.hw_build.proofs.Limits.{little_late}
 use Rattle.hw_build.proofs.Wanting.{lag_into_small}
-use Rattle.hw_build.proofs.Words.{word_of, in_word}
 
 use_by : (timing : Timing) (from p block own seen : ℕ) (lag : Option ℕ) → seen ≡ timing.latency block + added lag → ◌≡◌ {A = Use} (record { shift = seen - latency_after timing p from; period = own }) (use_into timing from p block own lag)
 use_by timing from p block own seen None e = let same : seen - latency_after timing p from ≡ timing.latency block - latency_after timing p from = omega (arith, e) in ap (λ (n : ℕ). record { shift = n; period = own }) same
@@ -90,8 +89,8 @@ pub hub_net : (now : Circuit) (hub : ℕ) (type : FxType) (v : ℤ) → IsType t
 hub_net now hub type v is range word = record {
   net = word.net;
   is = word.is;
-  word = subst (λ (w : ℕ). IsWord w word.net.signed) (sym word.wide) (subst (λ (sg : Bool). IsWord (width_of type) sg) (sym word.sign) (word_of type is));
-  first_in = subst (λ (w : ℕ). InWord w word.net.signed v) (sym word.wide) (subst (λ (sg : Bool). InWord (width_of type) sg v) (sym word.sign) (in_word type v range));
+  word = subst (λ (w : ℕ). IsWord w word.net.signed) (sym word.wide) (subst (λ (sg : Bool). IsWord (width_of type) sg) (sym word.sign) (type-word type is));
+  first_in = subst (λ (w : ℕ). InWord w word.net.signed v) (sym word.wide) (subst (λ (sg : Bool). InWord (width_of type) sg v) (sym word.sign) (range-word type v range));
 }
 
 pub plain_hub : (now : Circuit) (hub : ℕ) (type : FxType) → IsType type → HasWord now.nets hub (width_of type) (is_signed type) → IsHubNet now hub (pos 0)

@@ -1,7 +1,6 @@
 -- The answers of chains are what the ends of blocks are offered.
-use Rattle.std.proofs.Common.{◌≡◌, ℕ, zero, suc, ◌+◌, ◌*◌, ◌/◌, ◌%◌, ◌<◌, ◌≤◌, ℤ, true, false, Option, Some, None, length, ap, sym, ◌∙◌, subst, arith}
+use Rattle.std.proofs.Common.{◌≡◌, ℕ, ◌+◌, ◌<◌, ◌≤◌, ℤ, true, false, Option, Some, None, length, ap, sym, ◌∙◌, subst, arith}
 use Rattle.std.specs.Prelude.{max}
-use Rattle.std.proofs.lemmas.Nat.{div-add-mod'}
 use Rattle.hw_net.specs.declared.netlist.Frame.{Frame}
 use Rattle.hw_net.specs.Circuit.{Circuit}
 use Rattle.hw_net.specs.Registers.{Wave}
@@ -13,14 +12,7 @@ use Rattle.hw_shows.specs.Series.{IsLineInto, IsOffered}
 use Rattle.hw_build.specs.inner.Growth.{InLater}
 use Rattle.hw_build.specs.inner.Lines.{frame_behind, shift_into, use_into}
 use Rattle.hw_build.proofs.Growth.{in_call}
-
--- a multiple above 0 is no less
-pub no_less : (q p : ℕ) → q % p ≡ 0 → 0 < q → p ≤ q
-no_less q p e some = go (q / p) (omega (arith, div-add-mod' q p, e))
-  where
-    go : (g : ℕ) → q ≡ g * p → p ≤ q
-    go zero e = absurd (omega (arith, e, some))
-    go (suc g) e = omega (arith, e)
+use Rattle.hw_lines.proofs.Ended.{part-below}
 
 -- the frame of a reader as a chain has it, and as it is
 frame_same : (period latency other later : ℕ) → period ≡ other → latency ≡ later → ◌≡◌ {A = Frame} (record { period = period; latency = latency }) (record { period = other; latency = later })
@@ -52,7 +44,7 @@ module _ (closed hubs : ℕ) (before after : Circuit) (small : hubs ≤ length b
         in_call closed hubs before after (λ n rows. IsOffered n timing from source block reader lags first (rows hub) (rows number)) small grown
         (record {
           holds = λ later keeps n inputs rows is.
-              let low = no_less own p edge.divides some in
+              let low = part-below own p edge.divides some in
               let behind = edge.behind in
               let wide : max p own ≡ own = omega (arith, low) in
               let late : latency_after timing p from + shift_into timing from p block None ≡ timing.latency block = omega (arith, behind) in
@@ -71,7 +63,7 @@ module _ (closed hubs : ℕ) (before after : Circuit) (small : hubs ≤ length b
         in_call closed hubs before after (λ n rows. IsOffered n timing from source block reader lags first (rows hub) (rows number)) small grown
         (record {
           holds = λ later keeps n inputs rows is.
-              let low = no_less p own edge.divides some in
+              let low = part-below p own edge.divides some in
               let behind = edge.behind in
               let wide : max p own ≡ p = omega (arith, low) in
               let late : latency_after timing p from + shift_into timing from p block (Some lag) ≡ timing.latency block + lag = omega (arith, behind) in

@@ -6,13 +6,7 @@ use Rattle.std.proofs.lemmas.Option.{none-some, same_Some}
 use Rattle.hw_net.specs.declared.netlist.Net.{Net}
 use Rattle.hw_net.specs.declared.netlist.NetKind.TheVariants.{Unit}
 use Rattle.hw_build.specs.Serving.{Factors, unit_factors}
-
--- past the first of two lists
-pub past_first : {A : Type 0} (xs ys : List A) (k : ℕ) → slice_get (xs ++ ys) (length xs + k) ≡ slice_get ys k
-past_first [] ys k = ap (slice_get ys) (omega arith)
-past_first (x ∷ xs) ys k =
-    let e : length (x ∷ xs) + k ≡ suc (length xs + k) = omega arith in
-    ap (slice_get ((x ∷ xs) ++ ys)) e ∙ past_first xs ys k
+use Rattle.fx_io.proofs.Places.{get_right}
 
 module _ {A B : Type 0} (f : A → List B) where
   -- an element with one stands behind those of the elements before it
@@ -21,7 +15,7 @@ module _ {A B : Type 0} (f : A → List B) where
   listed_at (z ∷ xs) zero x y at is = ap (λ (ys : List B). slice_get (ys ++ flat_map f xs) 0) (ap f (same_Some z x at) ∙ is)
   listed_at (z ∷ xs) (suc k) x y at is =
       let size : length (f z ++ flat_map f (take k xs)) ≡ length (f z) + length (flat_map f (take k xs)) = length-append (f z) (flat_map f (take k xs)) in
-      ap (slice_get (f z ++ flat_map f xs)) size ∙ past_first (f z) (flat_map f xs) (length (flat_map f (take k xs))) ∙ listed_at xs k x y at is
+      ap (slice_get (f z ++ flat_map f xs)) size ∙ get_right (f z) (flat_map f xs) (length (flat_map f (take k xs))) ∙ listed_at xs k x y at is
 
   -- none have any
   pub none_before : (xs : List A) (k : ℕ) → ((j : ℕ) (x : A) → j < k → slice_get xs j ≡ Some x → f x ≡ []) → length (flat_map f (take k xs)) ≡ 0

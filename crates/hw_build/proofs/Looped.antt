@@ -1,7 +1,7 @@
 -- One more element goes in, for all places that fit.
 use Rattle.std.proofs.Common.{◌≡◌, ℕ, zero, suc, ◌+◌, ◌<◌, inl, inr, Bool, true, false, List, [], ◌∷◌, length, slice_index_or, Some, ap, sym, ◌∙◌, subst, refl, length-append, arith}
 use Rattle.std.specs.Prelude.{slice_get, not, ◌==◌, ◌&&◌, ◌^◌, Option, None, IsSome}
-use Rattle.std.proofs.lemmas.Bool.{false≢true, and_parts, eqb-true, eq-eqb, and_from}
+use Rattle.std.proofs.lemmas.Bool.{false≢true, and_parts, eqb-true, eq-eqb, and_from, cases_Bool}
 use Rattle.std.proofs.lemmas.Option.{none-some, same_Some, slice_get_within}
 use Rattle.dg_model.specs.declared.diagram.Diagram.{Diagram}
 use Rattle.dg_model.specs.declared.diagram.Block.{Block}
@@ -39,9 +39,9 @@ use Rattle.hw_build.proofs.Marks.{marked_next}
 use Rattle.hw_build.proofs.Counted.{tallied_next}
 use Rattle.hw_build.proofs.Going.{going_same}
 use Rattle.hw_build.proofs.Piping.{resize_kept, with_labels}
-use Rattle.hw_build.proofs.Started.{both}
-use Rattle.hw_build.proofs.Tallying.{at_front, at_last}
-use Rattle.hw_build.proofs.Words.{word_of}
+use Rattle.hw_build.proofs.Placing.{front_read}
+use Rattle.hw_build.proofs.Tallying.{at_last}
+use Rattle.fx_type.proofs.Ranges.{type-word}
 
 -- the first place at which a test fails
 pub first_not_is : {A : Type 0} (test : A → Bool) (xs : List A) (k : ℕ) (x : A) → slice_get xs k ≡ Some x → test x ≡ false → ((j : ℕ) (y : A) → j < k → slice_get xs j ≡ Some y → test y ≡ true) → first_not test xs ≡ k
@@ -60,13 +60,13 @@ module _ (diagram : Diagram) (firsts : List (List ℕ)) (spots : Spots) (entry s
   spotted_before = record {
     entry = λ block b port element shown below.
         let sum = length-append spots.entries (entry ∷ []) in
-        spotted.entry block b port element shown (omega (arith, sum, below)) ∙ at_front spots.entries entry (hub_at firsts block port element) below;
+        spotted.entry block b port element shown (omega (arith, sum, below)) ∙ front_read spots.entries entry (hub_at firsts block port element) below;
     stage = λ block b port element k shown below.
         let sum = length-append spots.stages (stage ∷ []) in
-        spotted.stage block b port element k shown (omega (arith, sum, below)) ∙ ap (λ (n : ℕ). n + k) (at_front spots.stages stage (hub_at firsts block port element) below);
+        spotted.stage block b port element k shown (omega (arith, sum, below)) ∙ ap (λ (n : ℕ). n + k) (front_read spots.stages stage (hub_at firsts block port element) below);
     state = λ block b port element k shown asks below.
         let sum = length-append spots.states (state ∷ []) in
-        spotted.state block b port element k shown asks (omega (arith, sum, below)) ∙ ap (λ (n : ℕ). n + k) (at_front spots.states state (hub_at firsts block port element) below);
+        spotted.state block b port element k shown asks (omega (arith, sum, below)) ∙ ap (λ (n : ℕ). n + k) (front_read spots.states state (hub_at firsts block port element) below);
     begins = spotted.begins;
   }
 
@@ -120,7 +120,7 @@ module _ (setting : Setting) (listed : InputsAreListed) (ordered : IsOrdered set
       input = λ k e at.
           first_not_is (λ (x : RootElement). not ((x.number == e.number) && (x.element == e.element))) (root_inputs diagram (attributes_of diagram)) k e at
           (ap not (and_from (e.number == e.number) (e.element == e.element) (eq-eqb e.number e.number refl) (eq-eqb e.element e.element refl)))
-          (λ j x below there. elim (both ((x.number == e.number) && (x.element == e.element))) [
+          (λ j x below there. elim (cases_Bool ((x.number == e.number) && (x.element == e.element))) [
             | inl same ↦
                 let parts = and_parts (x.number == e.number) (x.element == e.element) same in
                 let one = (listed diagram (attributes_of diagram) ordered.checked.wired).different j k x e there at (eqb-true x.number e.number parts.0) (eqb-true x.element e.element parts.1) in
@@ -215,7 +215,7 @@ module _ (setting : Setting) (listed : InputsAreListed) (valid : TypesAreValid) 
     next_tally : AreTallied drawn setting.design.plan.now (timing_for setting.design) setting.firsts.now reaches.going.start final (with_spot spots entry.net entry.state put.piped.begin)
     next_tally =
         tallied_next setting listed valid above ordered set block b port element shown other before middle put.closed.middle after reaches.going.start spots entry put.piped reaches.going.even here reaches.going.begun reaches.going.tally entered
-        (word_of ((attributes_of drawn).type_at block 1) (valid drawn setting.design.checked.now.order block b ordered shown.block_is).0) inside put.closed.put
+        (type-word ((attributes_of drawn).type_at block 1) (valid drawn setting.design.checked.now.order block b ordered shown.block_is).0) inside put.closed.put
         (resize_kept drawn (timing_for setting.design) middle put.closed.middle block element entry.net (length spots.entries) put.piped (λ p is. above drawn block p ordered.checked is) put.closed.put
         (element_waits block b port element shown before middle spots entry reaches entered))
         put.closed.connected final names small_block small_element
@@ -270,7 +270,7 @@ module _ (setting : Setting) (listed : InputsAreListed) (valid : TypesAreValid) 
         let is = entered.each places reaches.going.start (length spots.entries) going.0 fits at (reaches.going.begun.each places fits).products going.1 in
         let closes =
         going_closed drawn (timing_for setting.design) places (place_in setting.design.checked.now.order) (length (root_inputs drawn (attributes_of drawn))) reaches.going.start (length spots.entries) (hubs_in_all drawn) middle put.closed.middle after is.next block b port element entry.net put.piped is.going shown
-        (fits.lines.after block b port element shown ∙ here) high (word_of ((attributes_of drawn).type_at block 1) (valid drawn setting.design.checked.now.order block b ordered shown.block_is).0) entered.word is.low is.made entry_is
+        (fits.lines.after block b port element shown ∙ here) high (type-word ((attributes_of drawn).type_at block 1) (valid drawn setting.design.checked.now.order block b ordered shown.block_is).0) entered.word is.low is.made entry_is
         (last_stage drawn setting.firsts.now spots entry.net entry.state put.piped.begin even places spotted block b port element shown here)
         (λ also q outer member shows same.
         one_hub drawn setting.design.checked.now.order set.stood.earlier set.stood.later setting.firsts.now set.stood.has listed valid ordered block b port element also q outer member shown shows other (sym (fits.lines.after also q outer member shows) ∙ same ∙ sym here))

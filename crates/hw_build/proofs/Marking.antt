@@ -13,8 +13,8 @@ use Rattle.hw_build.specs.inner.Marked.{IsMarkOf, AreApart}
 use Rattle.hw_build.specs.inner.Piping.{stage_labels}
 use Rattle.hw_build.specs.inner.Tally.{product_labels}
 use Rattle.hw_build.proofs.Labelling.{name_labelled, name_injective, mark_same}
-use Rattle.hw_build.proofs.Porting.{map_more, mapped}
-use Rattle.hw_names.proofs.Places.{map_from}
+use Rattle.hw_build.proofs.Porting.{map_more}
+use Rattle.fx_io.proofs.Places.{map_there, there_map}
 
 pub apart_none : (hub_of : Mark → ℕ) (count hub begin stages : ℕ) → AreApart hub_of [] count hub begin stages
 apart_none hub_of count hub begin stages = record {
@@ -190,4 +190,4 @@ apart_are hub_of labels count nets hub are up = record {
     place label has = at has.0 label has.1 ∙ ap (λ (l : NetLabel). Some l) has.2
 
     mark_at : (k : ℕ) (label : NetLabel) → slice_get labels k ≡ Some label → (mark : Mark) × (slice_get are.marks k ≡ Some mark) × (mark_name mark ≡ label.name)
-    mark_at k label is = map_from mark_name are.marks k label.name (ap (λ (names : List (List ℕ)). slice_get names k) (sym are.named) ∙ mapped (λ (l : NetLabel). l.name) labels k label is)
+    mark_at k label is = map_there mark_name are.marks k label.name (ap (λ (names : List (List ℕ)). slice_get names k) (sym are.named) ∙ there_map (λ (l : NetLabel). l.name) labels k label is)

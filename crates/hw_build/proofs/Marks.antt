@@ -28,7 +28,7 @@ use Rattle.hw_build.specs.inner.Tally.{product_labels}
 use Rattle.hw_build.proofs.Levels.{given, connected_here, connected_elsewhere, connected_length}
 use Rattle.hw_build.proofs.Marking.{apart_none, apart_stages, apart_product}
 use Rattle.hw_build.proofs.Piping.{with_labels, count_stages}
-use Rattle.hw_names.proofs.Places.{get_behind}
+use Rattle.fx_io.proofs.Places.{get_right}
 
 -- ---- Counters of a pipeline
 
@@ -108,7 +108,7 @@ module _ (timing : Timing) (before after : Circuit) (type : FxType) (block eleme
         | inr beyond ↦
             let j : ℕ = k - length wired in
             let place : length wired + j ≡ k = omega (arith, beyond) in
-            let there = stage_kind type (own_frame timing period block) (period * timing.cycles - 1) begin (timing.stages block) j at.net (sym (get_behind wired staged j) ∙ ap (slice_get (wired ++ staged)) place ∙ whole) in
+            let there = stage_kind type (own_frame timing period block) (period * timing.cycles - 1) begin (timing.stages block) j at.net (sym (get_right wired staged j) ∙ ap (slice_get (wired ++ staged)) place ∙ whole) in
             absurd (none-some frame (ap counted_frame (sym there.1) ∙ at.counts))
       ]
 

@@ -22,7 +22,7 @@ use Rattle.hw_build.specs.Serving.{unit_factors, op_factors, own_factors, others
 use Rattle.hw_build.specs.inner.Factors.{AddsConstants}
 use Rattle.hw_build.specs.inner.Levels.{level_behind, level_of, net_at}
 use Rattle.hw_build.specs.inner.Multiplying.{HasNoUnits}
-use Rattle.hw_build.proofs.Listed.{past_first}
+use Rattle.fx_io.proofs.Places.{get_right}
 use Rattle.hw_build.proofs.Sharing.{no_factors}
 
 -- ---- kinds of nets
@@ -76,7 +76,7 @@ module _ {B : Type 0} (f : NetKind → List B) where
   pub same_listed : (a b : Circuit) → Extends a b → ((k : ℕ) (net : Net) → length a.nets ≤ k → slice_get b.nets k ≡ Some net → f net.kind ≡ []) → flat_map (λ (net : Net). f net.kind) b.nets ≡ flat_map (λ (net : Net). f net.kind) a.nets
   same_listed a b grown none =
       ap (flat_map (λ (net : Net). f net.kind)) grown.nets
-      ∙ none_listed a.nets grown.added (λ k net at. none (length a.nets + k) net (omega arith) (ap (λ (xs : List Net). slice_get xs (length a.nets + k)) grown.nets ∙ past_first a.nets grown.added k ∙ at))
+      ∙ none_listed a.nets grown.added (λ k net at. none (length a.nets + k) net (omega arith) (ap (λ (xs : List Net). slice_get xs (length a.nets + k)) grown.nets ∙ get_right a.nets grown.added k ∙ at))
 
 -- ---- what was put in
 

@@ -14,8 +14,7 @@ use Rattle.hw_names.specs.Names.{own_names, undoubled, element_name, Given, want
 use Rattle.hw_build.specs.inner.Porting.{ArePortsFor}
 use Rattle.hw_names.specs.Taken.{AreTaken, taken_by}
 use Rattle.hw_build.proofs.Naming.{IsWanted, names_are, names_differ, plain_element}
-use Rattle.hw_build.proofs.Porting.{mapped}
-use Rattle.hw_names.proofs.Places.{map_from}
+use Rattle.fx_io.proofs.Places.{map_there, there_map}
 
 abbrev pub name_of : NetPort → List ℕ
 name_of port = port.name
@@ -48,7 +47,7 @@ want_is diagram width_of e small = (element_name (undoubled false (path_of diagr
 -- names by place
 name_at : (ports : List NetPort) (k : ℕ) (d : List ℕ) (port : NetPort) → slice_get ports k ≡ Some port → slice_index_or (map name_of ports) k d ≡ port.name
 name_at ports k d port at =
-    let there = mapped name_of ports k port at in
+    let there = there_map name_of ports k port at in
     same_Some (slice_index_or (map name_of ports) k d) port.name (sym (slice_get-get_or (map name_of ports) k d (slice_get_within (map name_of ports) k port.name there)) ∙ there)
 
 -- the elements of a list of wants
@@ -73,7 +72,7 @@ port_names_differ wanted ports given = λ i j d less low.
 pub wants_are : (diagram : Diagram) (ins outs : List RootElement) (in_width out_width : ℕ → ℕ) → ((k : ℕ) (e : RootElement) → slice_get ins k ≡ Some e → e.element < 2 ^ 64) → ((k : ℕ) (e : RootElement) → slice_get outs k ≡ Some e → e.element < 2 ^ 64)
     → (k : ℕ) (want : List ℕ) → slice_get (map (wanted_of diagram in_width) ins ++ map (wanted_of diagram out_width) outs) k ≡ Some want → IsWanted want
 wants_are diagram [] outs in_width out_width small_in small_out k want at =
-    let found = map_from (wanted_of diagram out_width) outs k want at in
+    let found = map_there (wanted_of diagram out_width) outs k want at in
     subst IsWanted found.2 (want_is diagram out_width found.0 (small_out k found.0 found.1))
 wants_are diagram (e ∷ ins) outs in_width out_width small_in small_out zero want at = subst IsWanted (same_Some (wanted_of diagram in_width e) want at) (want_is diagram in_width e (small_in 0 e refl))
 wants_are diagram (e ∷ ins) outs in_width out_width small_in small_out (suc k) want at = wants_are diagram ins outs in_width out_width (λ j f f_at. small_in (suc j) f f_at) small_out k want at

@@ -1,10 +1,10 @@
 -- The names that are given are such as ports have, and differ. Crates above may cite this file.
 use Prim.Native.Char.{code}
-use Rattle.std.proofs.Common.{◌≡◌, ◌≢◌, ℕ, zero, suc, ◌^◌, ◌<◌, ◌≤◌, inl, inr, Bool, true, false, List, [], ◌∷◌, ◌++◌, length, Contains, codes, decimal, ap, sym, ◌∙◌, subst, refl, arith, if◌then◌else◌}
-use Rattle.std.specs.Prelude.{nat_eq, nat_lt, nat_le, not, map, ◌&&◌, ◌||◌, ◌==◌, slice_index_or, drop}
+use Rattle.std.proofs.Common.{◌≡◌, ◌≢◌, ℕ, zero, suc, ◌^◌, ◌<◌, inl, inr, Bool, true, false, List, [], ◌∷◌, ◌++◌, length, Contains, codes, decimal, ap, sym, ◌∙◌, subst, refl, arith, if◌then◌else◌}
+use Rattle.std.specs.Prelude.{nat_eq, nat_lt, not, map, ◌&&◌, slice_index_or, drop}
 use Rattle.std.specs.List.{starts_with, list_all}
 use Rattle.std.specs.Str.Parse.{AllDigits}
-use Rattle.std.proofs.lemmas.Bool.{and_from, or_left, false≢true, le-leb}
+use Rattle.std.proofs.lemmas.Bool.{and_from, false≢true}
 use Rattle.std.proofs.lemmas.Fmt.{decimal_is_IsNumeral, decimal_injective}
 use Rattle.std.proofs.lemmas.Str.Parse.{digit_from_value}
 use Rattle.std.proofs.lemmas.List.Folds.{list_all-append}
@@ -13,6 +13,7 @@ use Rattle.hw_net.specs.Emittable.{IsPortName, IsLabelName}
 use Rattle.hw_build.specs.Multiplied.{multiplication_name}
 use Rattle.hw_build.specs.Pipelined.{stage_name}
 use Rattle.hw_names.specs.Names.{plain_byte, element_name, port_name, own_names, IsGiven, Given}
+use Rattle.vl_names.proofs.Digits.{digit_plain}
 
 -- letters, digits and underscores
 abbrev pub IsPlain : List ℕ → Type 0
@@ -28,12 +29,6 @@ plain_map (byte ∷ bytes) = and_from (continues_name (plain_byte byte)) (list_a
 
 pub plain_append : (front back : List ℕ) → IsPlain front → IsPlain back → IsPlain (front ++ back)
 plain_append front back f b = list_all-append continues_name front back ∙ and_from (list_all continues_name front) (list_all continues_name back) f b
-
-digit_plain : (byte : ℕ) → 48 ≤ byte → byte ≤ 57 → continues_name byte ≡ true
-digit_plain byte low high =
-    or_left (((nat_le 48 byte && nat_le byte 57) || (nat_le 65 byte && nat_le byte 90)) || (nat_le 97 byte && nat_le byte 122)) (byte == code "_")
-    (or_left ((nat_le 48 byte && nat_le byte 57) || (nat_le 65 byte && nat_le byte 90)) (nat_le 97 byte && nat_le byte 122)
-    (or_left (nat_le 48 byte && nat_le byte 57) (nat_le 65 byte && nat_le byte 90) (and_from (nat_le 48 byte) (nat_le byte 57) (le-leb 48 byte low) (le-leb byte 57 high))))
 
 digits_plain : (digits : List ℕ) → AllDigits 10 digits → IsPlain digits
 digits_plain [] all = refl

@@ -19,7 +19,8 @@ use Rattle.hw_shows.specs.Timing.{Timing}
 use Rattle.hw_shows.specs.Series.{AreSame, steady, span_at, IsSeries, IsEnabledSeries, IsChosen}
 use Rattle.hw_build.specs.inner.Growth.{GoesOn, InLater}
 use Rattle.hw_build.proofs.Growth.{net_later, word_later, shown_later}
-use Rattle.hw_build.proofs.Words.{wrapped_is, shows_word}
+use Rattle.hw_net.proofs.Numbers.{wrapped-is}
+use Rattle.hw_build.proofs.Words.{shows_word}
 
 -- the net stands at its number for good
 pub record IsSettled (closed hubs : ℕ) (now : Circuit) (number : ℕ) (net : Net) : Type 0 where
@@ -43,7 +44,7 @@ module _ (closed hubs : ℕ) (now : Circuit) where
       at = λ c below.
           let wrapped = combined number net Resize (argument ∷ []) is kind later goes n inputs rows are c below in
           let held = shows_word later n inputs rows argument width signed are (word_later closed hubs now later argument width signed goes has) c below in
-          wrapped_is (rows argument c) width signed (rows number c) word held
+          wrapped-is (rows argument c) width signed (rows number c) word held
           (subst (λ (w : ℕ). IsWrapped (rows argument c) w signed (rows number c)) wide (subst (λ (s : Bool). IsWrapped (rows argument c) net.width s (rows number c)) sign wrapped));
     };
   }
@@ -51,7 +52,7 @@ module _ (closed hubs : ℕ) (now : Circuit) where
   -- a constant of its word is shown at each clock
   pub constant : (number : ℕ) (value : ℤ) (net : Net) → IsSettled closed hubs now number net → net.kind ≡ Comb (Const value) [] → IsWord net.width net.signed → InWord net.width net.signed value → InLater closed hubs now (λ n rows. AreSame n (rows number) (steady value))
   constant number value net is kind word has = record {
-    holds = λ later goes n inputs rows are. record { at = λ c below. wrapped_is value net.width net.signed (rows number c) word has (combined number net (Const value) [] is kind later goes n inputs rows are c below) };
+    holds = λ later goes n inputs rows are. record { at = λ c below. wrapped-is value net.width net.signed (rows number c) word has (combined number net (Const value) [] is kind later goes n inputs rows are c below) };
   }
 
   chosen_on : (b : Bool) (x y : ℤ) → b ≡ false → (if not b then x else y) ≡ x
@@ -78,9 +79,9 @@ module _ (closed hubs : ℕ) (now : Circuit) where
         (subst (λ (s : Bool). IsWrapped (if not (int_eq (rows enable c) (pos 0)) then rows passed c else rows other c) net.width s (rows number c)) sign
         (combined number net Choose (enable ∷ passed ∷ other ∷ []) is kind later goes n inputs rows are c below)) in
         record {
-          on = λ c below differs. wrapped_is (rows passed c) width signed (rows number c) word (shows_word later n inputs rows passed width signed are (word_later closed hubs now later passed width signed goes has) c below)
+          on = λ c below differs. wrapped-is (rows passed c) width signed (rows number c) word (shows_word later n inputs rows passed width signed are (word_later closed hubs now later passed width signed goes has) c below)
               (subst (λ (v : ℤ). IsWrapped v width signed (rows number c)) (chosen_on (int_eq (rows enable c) (pos 0)) (rows passed c) (rows other c) (not_same (rows enable c) (pos 0) differs)) (wrapped c below));
-          off = λ c below same. wrapped_is (rows other c) width signed (rows number c) word (shows_word later n inputs rows other width signed are (word_later closed hubs now later other width signed goes has_other) c below)
+          off = λ c below same. wrapped-is (rows other c) width signed (rows number c) word (shows_word later n inputs rows other width signed are (word_later closed hubs now later other width signed goes has_other) c below)
               (subst (λ (v : ℤ). IsWrapped v width signed (rows number c)) (chosen_off (int_eq (rows enable c) (pos 0)) (rows passed c) (rows other c) ((Decides-int_eq (rows enable c) (pos 0)).1 same)) (wrapped c below));
         };
   }

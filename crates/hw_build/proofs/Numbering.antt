@@ -13,7 +13,7 @@ use Rattle.hw_net.proofs.Growing.{front-some}
 use Rattle.hw_sched.specs.Laws.{IsOperation}
 use Rattle.hw_sched.specs.Slots.{Operation, operation, operations_of, shared_operations}
 use Rattle.hw_build.specs.inner.ResultNets.{shared_width, first_operation}
-use Rattle.hw_build.proofs.Listed.{past_first}
+use Rattle.fx_io.proofs.Places.{get_right}
 use Rattle.hw_build.proofs.Operations.{those_from, element_there}
 
 mapped_count : (block from n : ℕ) → length (map (operation block) (numbers_from from n)) ≡ n
@@ -82,7 +82,7 @@ module _ (diagram : Diagram) (plan : Resolved) where
             let same : block ≡ n = omega (arith, inside, past) in
             let place : first_operation diagram plan block + element ≡ length (those 0 n) + element =
             ap (λ (k : ℕ). first_operation diagram plan k + element) same ∙ ap (λ (k : ℕ). k + element) (sym (those_count n)) in
-            ap (slice_get (those 0 n ++ own n)) place ∙ past_first (those 0 n) (own n) element
+            ap (slice_get (those 0 n ++ own n)) place ∙ get_right (those 0 n) (own n) element
             ∙ ap (λ (k : ℕ). slice_get (own k) element) (sym same) ∙ own_at block element shared below
       ]
 

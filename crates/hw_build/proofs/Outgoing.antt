@@ -1,14 +1,13 @@
 -- Root outputs in the order of their columns.
-use Rattle.std.proofs.Common.{◌≡◌, ℕ, zero, suc, ◌+◌, ◌-◌, ◌*◌, ◌^◌, ◌<◌, ◌≤◌, List, [], ◌∷◌, ◌++◌, length, map, Some, ap, sym, ◌∙◌, subst, refl, arith}
+use Rattle.std.proofs.Common.{◌≡◌, ℕ, ◌+◌, ◌-◌, ◌*◌, ◌^◌, ◌<◌, ◌≤◌, List, [], ◌∷◌, ◌++◌, length, Some, ap, sym, ◌∙◌, subst, refl, arith}
 use Rattle.std.specs.Prelude.{slice_get, slice_index_or}
-use Rattle.std.proofs.lemmas.Option.{get_or_from_slice_get, none-some, same_Some, slice_get-get_or}
+use Rattle.std.proofs.lemmas.Option.{get_or_from_slice_get, same_Some, slice_get-get_or}
 use Rattle.dg_model.specs.declared.diagram.Block.{Block}
 use Rattle.dg_model.specs.declared.diagram.Diagram.{Diagram}
 use Rattle.dg_model.specs.Attributes.{attributes_of}
 use Rattle.dg_model.specs.Checked.{IsChecked}
 use Rattle.dg_model.specs.Laws.{OutputsAreListed}
 use Rattle.dg_model.specs.RootElements.{RootElement, root_outputs}
-use Rattle.dg_model.specs.Widths.{greatest}
 use Rattle.hw_net.specs.declared.netlist.NetPort.{NetPort}
 use Rattle.hw_net.specs.Circuit.{Circuit}
 use Rattle.hw_build.specs.declared.design.Design.{Design}
@@ -20,12 +19,7 @@ use Rattle.hw_build.specs.inner.HubPlaces.{hub_at}
 use Rattle.hw_build.specs.inner.Outgoing.{IsSmall, clocks_to, AreOutputBlocks, IsOutputPort, AddsOutputs}
 use Rattle.hw_build.specs.inner.Porting.{AreOutputFirsts}
 use Rattle.hw_build.proofs.Porting.{output_of, output_column, output_ports_more}
-
--- no number is above the greatest
-pub most_at : {A : Type 0} (f : A → ℕ) (xs : List A) (k : ℕ) (x : A) → slice_get xs k ≡ Some x → f x ≤ greatest (map f xs)
-most_at f [] k x at = absurd (none-some x at)
-most_at f (y ∷ xs) zero x at = let e : f y ≡ f x = ap f (same_Some y x at) in omega (arith, e)
-most_at f (y ∷ xs) (suc k) x at = let h = most_at f xs k x at in omega (arith, h)
+use Rattle.hw_slots.proofs.Sums.{greatest_at}
 
 -- what is read at a place that is there
 pub read_at : (xs : List ℕ) (k x : ℕ) → k < length xs → x ≡ slice_index_or xs k x → x ≡ slice_index_or xs k 0
@@ -62,7 +56,7 @@ pub output_here : (design : Design) (firsts : List (List ℕ)) (outputs columns 
     → IsOutputHere design firsts (slice_index_or outputs k 0) (slice_index_or columns (slice_index_or outputs k 0) 0) k
 output_here design firsts outputs columns k checked listed small are of columns_are below =
     let found = output_of design.checked.now.diagram outputs k checked listed are below in
-    let latest = most_at (λ (e : RootElement). clocks_to design e.block) (root_outputs design.checked.now.diagram (attributes_of design.checked.now.diagram)) k found.e found.at in
+    let latest = greatest_at (λ (e : RootElement). clocks_to design e.block) (root_outputs design.checked.now.diagram (attributes_of design.checked.now.diagram)) k found.e found.at in
     let most = small.short in
     let short : clocks_to design found.e.block ≤ 16777216 = omega (arith, latest, most) in
     record {

@@ -1,11 +1,8 @@
 -- Why the shared operations of a schedule can share multipliers.
 use Rattle.std.proofs.Common.{◌≡◌, ◌≢◌, ℕ, suc, ◌*◌, ◌<◌, ◌≤◌, List, [], ◌∷◌, length, Some, slice_get, slice_index_or, ap, sym, ◌∙◌, arith, refl}
-use Rattle.std.proofs.Math.Dec.{lit≤}
 use Rattle.std.proofs.lemmas.Option.{slice_get_within, slice_get-get_or, same_Some}
-use Rattle.fx_num.specs.Word.{IsWord}
 use Rattle.fx_type.specs.declared.kind.FxType.{FxType}
-use Rattle.fx_type.specs.declared.kind.FxType.TheVariants.{Num, Logical}
-use Rattle.fx_type.specs.FxType.{IsType, is_signed, width_of}
+use Rattle.fx_type.specs.FxType.{is_signed, width_of}
 use Rattle.dg_model.specs.declared.diagram.Diagram.{Diagram}
 use Rattle.dg_model.specs.declared.resolved.Resolved.{Resolved}
 use Rattle.dg_model.specs.Attributes.{attributes_of}
@@ -21,11 +18,7 @@ use Rattle.hw_sched.specs.Scheduled.{IsScheduled}
 use Rattle.hw_share.specs.declared.operation.Operation.{Operation}
 use Rattle.hw_share.specs.Operations.{IsOperation, AreApart, IsUsed, CanShare, SameWord, unit_count}
 use Rattle.hw_build.specs.inner.Owed.{IsMade, AreMade}
-
--- the word of a type
-type-word : (type : FxType) → IsType type → IsWord (width_of type) (is_signed type)
-type-word (Num signed width frac) valid = valid.0
-type-word Logical valid = (lit≤ tt, lit≤ tt)
+use Rattle.fx_type.proofs.Ranges.{type-word}
 
 count-within : (operations : List Operation) (most : ℕ) → ((k : ℕ) (one : Operation) → slice_get operations k ≡ Some one → one.unit < most) → unit_count operations ≤ most
 count-within [] most each = omega arith

@@ -2,7 +2,6 @@
 use Rattle.std.proofs.Common.{◌≡◌, ℕ, ◌<◌, ◌≤◌, ◌⊎◌, inl, inr, Bool, true, false, List, [], ◌∷◌, length, All, Option, None, Some, ap, ◌∙◌, subst, arith, refl}
 use Rattle.std.specs.Prelude.{slice_get, slice_index_or, ◌==◌, if◌then◌else◌, IsSome, MatchOption}
 use Rattle.std.proofs.lemmas.Option.{slice_get_within, slice_get-get_or}
-use Rattle.std.proofs.lemmas.Bool.{false≢true}
 use Rattle.fx_type.specs.declared.decimal.Decimal.{Decimal}
 use Rattle.fx_type.specs.declared.kind.FxType.{FxType}
 use Rattle.fx_type.specs.declared.kind.FxType.TheVariants.{Logical}
@@ -20,14 +19,14 @@ use Rattle.dg_model.specs.Wired.{Joins, MayStand}
 use Rattle.dg_model.specs.Wires.{repeated, type_into, types_into}
 use Rattle.dg_tables.specs.Fit.{HasLists}
 use Rattle.hw_net.specs.Circuit.{Circuit}
-use Rattle.hw_net.proofs.Places.{at-place}
+use Rattle.fx_io.proofs.Places.{held}
 use Rattle.hw_lower.specs.Lowered.{AreArgs}
 
 none_is : {A : Type 0} (x : A) (xs : List A) → [] ≡ x ∷ xs → ⊥
 none_is x xs e = cc
 
 pub readable : (diagram : Diagram) (block : ℕ) (b : Block) → IsChecked diagram → slice_get diagram.blocks block ≡ Some b → IsReadable b
-readable diagram block b checked at = at-place IsReadable diagram.blocks block b checked.wired.blocks at
+readable diagram block b checked at = held IsReadable diagram.blocks block b checked.wired.blocks at
 
 first_port : (diagram : Diagram) (block port outputs element : ℕ) → outputs ≡ 1 → 1 ≤ port → port ≤ outputs → element < (attributes_of diagram).width_at block port → element < (attributes_of diagram).width_at block 1
 first_port diagram block port outputs element one from to below =
@@ -63,7 +62,7 @@ pub entry_there : (diagram : Diagram) (block : ℕ) (b : Block) (port element pl
 entry_there diagram block b port element place list checked shown lists is at =
     let ports = (readable diagram block b checked shown.block_is).ports in
     let below = own_width diagram block port b.inputs b.outputs element list b.kind is ports shown.port_from shown.port_to shown.element_below in
-    elim (at-place (λ (l : List Decimal). (length l ≡ 1) ⊎ (length l ≡ (attributes_of diagram).width_at block 1)) (row_of b.kind).signal.lists 0 list lists (ap (λ (l : List (List Decimal)). slice_get l 0) is)) [
+    elim (held (λ (l : List Decimal). (length l ≡ 1) ⊎ (length l ≡ (attributes_of diagram).width_at block 1)) (row_of b.kind).signal.lists 0 list lists (ap (λ (l : List (List Decimal)). slice_get l 0) is)) [
       | inl one ↦ omega (arith, at, one, scalar one)
       | inr same ↦ omega (arith, at, same, below, wide (length list) element)
     ]
@@ -82,18 +81,14 @@ entry_there diagram block b port element place list checked shown lists is at =
 pub some_delay : (diagram : Diagram) (block : ℕ) (b : Block) (delay : ℕ) (initial : List Decimal) (reset : Bool) → IsChecked diagram → slice_get diagram.blocks block ≡ Some b → b.kind ≡ Delay delay initial reset → 1 ≤ delay
 some_delay diagram block b delay initial reset checked at is = (subst (λ (k : Kind). (row_of k).parameters) is (readable diagram block b checked at).parameters).0.0
 
-pub some_control : (enable : Option ℕ) → IsSome enable → (control : ℕ) × (enable ≡ Some control)
-some_control None some = absurd (false≢true some)
-some_control (Some control) some = (control, refl)
-
 -- an output port of an enabled subsystem stands in one
 pub out_enabled : (diagram : Diagram) (block : ℕ) (b : Block) (reset : Bool) (initial : List Decimal) → IsChecked diagram → slice_get diagram.blocks block ≡ Some b → b.kind ≡ EnOut reset initial → IsSome b.enable
 out_enabled diagram block b reset initial checked at is =
-    subst (λ (k : Kind). MayStand (row_of k).place.stands b.enable) is (at-place (λ (one : Block). MayStand (row_of one.kind).place.stands one.enable) diagram.blocks block b checked.wired.enables at)
+    subst (λ (k : Kind). MayStand (row_of k).place.stands b.enable) is (held (λ (one : Block). MayStand (row_of one.kind).place.stands one.enable) diagram.blocks block b checked.wired.enables at)
 
 -- a line comes from a block that is there
 pub source_there : (diagram : Diagram) (number : ℕ) (edge : Edge) → IsChecked diagram → slice_get diagram.edges number ≡ Some edge → edge.from < length diagram.blocks
-source_there diagram number edge checked at = go (slice_get diagram.blocks edge.from) refl (at-place (Joins diagram.blocks) diagram.edges number edge checked.wired.edges at).source
+source_there diagram number edge checked at = go (slice_get diagram.blocks edge.from) refl (held (Joins diagram.blocks) diagram.edges number edge checked.wired.edges at).source
   where
     go : (o : Option Block) → slice_get diagram.blocks edge.from ≡ o → MatchOption o ⊥ (λ b. (1 ≤ edge.from_port) × (edge.from_port ≤ b.outputs)) → edge.from < length diagram.blocks
     go None e is = absurd is

@@ -14,8 +14,10 @@ use Rattle.hw_build.specs.declared.blocks.Setting.{Setting}
 use Rattle.hw_build.specs.inner.Looping.{diagram_of}
 use Rattle.hw_build.specs.inner.Offers.{AreBegins, ArePartsTo, Offer}
 use Rattle.hw_build.specs.inner.Operands.{offered_at}
-use Rattle.hw_build.proofs.EnteringParts.{mux_offered, sum_last}
-use Rattle.hw_build.proofs.Tallying.{at_front, at_last}
+use Rattle.dg_tables.proofs.Lists.{sum_last}
+use Rattle.hw_build.proofs.EnteringParts.{mux_offered}
+use Rattle.hw_build.proofs.Placing.{front_read}
+use Rattle.hw_build.proofs.Tallying.{at_last}
 
 module _ (setting : Setting) (block : ℕ) (b : Block) where
   abbrev pub widths : ℕ → ℕ
@@ -32,7 +34,7 @@ module _ (setting : Setting) (block : ℕ) (b : Block) where
         size = omega (arith, long, size);
         each = λ element inside. elim (cases_lt element (length parts)) [
           | inl less ↦
-              let at : slice_index_or more element 0 ≡ slice_index_or parts element 0 = ap (λ (xs : List ℕ). slice_index_or xs element 0) more_is ∙ at_front parts net element less in
+              let at : slice_index_or more element 0 ≡ slice_index_or parts element 0 = ap (λ (xs : List ℕ). slice_index_or xs element 0) more_is ∙ front_read parts net element less in
               subst (λ (n : ℕ). Offer setting block b 1 element (n ∷ [])) (sym at) (are.each element less)
           | inr past ↦
               let last : element ≡ length parts = omega (arith, inside, long, past) in
@@ -64,7 +66,7 @@ begins_more diagram block b ports total begins more total_is more_is are =
     record {
       size = omega (arith, long, size);
       each = λ k below. elim (cases_lt k ports) [
-        | inl less ↦ ap (λ (xs : List ℕ). slice_index_or xs k 0) more_is ∙ at_front begins total k (omega (arith, less, size)) ∙ are.each k less
+        | inl less ↦ ap (λ (xs : List ℕ). slice_index_or xs k 0) more_is ∙ front_read begins total k (omega (arith, less, size)) ∙ are.each k less
         | inr past ↦
             let last : k ≡ length begins = omega (arith, below, past, size) in
             let here : ports ≡ k = omega (arith, below, past) in

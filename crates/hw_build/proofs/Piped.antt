@@ -1,10 +1,9 @@
 -- What the registers of a plan behind an element show, and what they leave as it was.
-use Rattle.std.proofs.Common.{◌≡◌, ℕ, zero, suc, ◌+◌, ◌-◌, ◌*◌, ◌<◌, ◌≤◌, ◌++◌, inl, inr, Bool, true, false, List, [], ◌∷◌, length, All, Contains, Some, IsSome, pos, ap, sym, ◌∙◌, subst, refl, append_assoc, append-nil, length-append, arith}
-use Rattle.std.proofs.lemmas.Int.{ints}
+use Rattle.std.proofs.Common.{◌≡◌, ℕ, zero, suc, ◌+◌, ◌-◌, ◌*◌, ◌<◌, ◌≤◌, ◌++◌, inl, inr, List, [], ◌∷◌, length, Contains, Some, IsSome, ap, sym, ◌∙◌, subst, refl, append_assoc, append-nil, length-append, arith}
 use Rattle.std.specs.Prelude.{slice_get}
 use Rattle.std.proofs.lemmas.Bool.{cases_lt}
 use Rattle.std.proofs.lemmas.Option.{none-some, same_Some}
-use Rattle.fx_num.specs.Word.{IsWord, InWord}
+use Rattle.fx_num.specs.Word.{IsWord}
 use Rattle.fx_type.specs.declared.kind.FxType.{FxType}
 use Rattle.fx_type.specs.FxType.{is_signed, width_of}
 use Rattle.hw_net.specs.declared.netlist.Frame.{Frame}
@@ -17,19 +16,12 @@ use Rattle.hw_net.proofs.Growing.{last-of, front-of, extends-trans, extends-one,
 use Rattle.hw_shows.specs.Timing.{Timing}
 use Rattle.hw_build.specs.inner.Piping.{own_frame, wire_of, stage_net, stage_nets, stage_labels, AddsPipeline}
 use Rattle.hw_build.proofs.Piping.{with_nets, count_stages}
-
--- 0 is in each word
-zero_in : (width : ℕ) (signed : Bool) → IsWord width signed → InWord width signed (pos 0)
-zero_in width true word = record { low = omega (arith, ints); high = omega (arith, ints) }
-zero_in width false word = record { low = omega (arith, ints); high = omega (arith, ints) }
+use Rattle.hw_share.proofs.Numbers.{zero-in}
+use Rattle.hw_lines.proofs.Parts.{one-all}
 
 pub sole : (x read : ℕ) → Contains (x ∷ []) read → read ≡ x
 sole x read (zero, within, same) = sym same
 sole x read (suc i, within, same) = absurd (omega (arith, within))
-
-only : (P : ℕ → Type 0) (x : ℕ) → P x → All P (x ∷ [])
-only P x is zero d within = is
-only P x is (suc i) d within = absurd (omega (arith, within))
 
 -- ---- the nets one by one
 
@@ -125,9 +117,9 @@ module _ (timing : Timing) (before after : Circuit) (type : FxType) (block eleme
       (record {
         word = word;
         kind = (refl, tt);
-        there = only (λ read. read < length wired.nets) entry (omega (arith, there, more, size, e));
-        allowed = only (MayRead adds.counted wired (entry ∷ [])) entry (inl (0, omega arith, refl));
-        now = only (MayReadNow adds.counted wired (entry ∷ []) (length adds.counted.nets)) entry (inl (0, omega arith, refl));
+        there = one-all (λ read. read < length wired.nets) entry (omega (arith, there, more, size, e));
+        allowed = one-all (MayRead adds.counted wired (entry ∷ [])) entry (inl (0, omega arith, refl));
+        now = one-all (MayReadNow adds.counted wired (entry ∷ []) (length adds.counted.nets)) entry (inl (0, omega arith, refl));
         counted = λ other names. absurd (none-some other names);
       })
       (differ-other adds.counted.nets (wire_of type entry) refl))
@@ -173,9 +165,9 @@ module _ (timing : Timing) (before after : Circuit) (type : FxType) (block eleme
       appends-one (staged count) (staged (suc count)) one ((begin + count) ∷ []) (staged_next count)
       (record {
         word = word;
-        kind = (some, word-stays (staged count) (staged (suc count)) (begin + count) (width_of type) (is_signed type) (staged_extends count) (staged_word count), zero_in (width_of type) (is_signed type) word);
-        there = only (λ read. read < length (staged (suc count)).nets) (begin + count) (omega (arith, next));
-        allowed = only (MayRead (staged count) (staged (suc count)) ((begin + count) ∷ [])) (begin + count) (inl (0, omega arith, refl));
+        kind = (some, word-stays (staged count) (staged (suc count)) (begin + count) (width_of type) (is_signed type) (staged_extends count) (staged_word count), zero-in (width_of type) (is_signed type) word);
+        there = one-all (λ read. read < length (staged (suc count)).nets) (begin + count) (omega (arith, next));
+        allowed = one-all (MayRead (staged count) (staged (suc count)) ((begin + count) ∷ [])) (begin + count) (inl (0, omega arith, refl));
         now = λ i d within. absurd (omega (arith, within));
         counted = λ other names. subst (λ (f : Frame). IsSome (counter_of (staged (suc count)).nets f)) (same_Some frame other names) (staged_found (suc count));
       })

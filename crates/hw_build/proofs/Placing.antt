@@ -48,7 +48,7 @@ fresh_one now later number type at fits grown = record {
 -- ---- of a block
 
 -- what a list with one more has at its places
-front_read : (firsts : List ℕ) (first port : ℕ) → port < length firsts → slice_index_or (firsts ++ first ∷ []) port 0 ≡ slice_index_or firsts port 0
+pub front_read : (firsts : List ℕ) (first port : ℕ) → port < length firsts → slice_index_or (firsts ++ first ∷ []) port 0 ≡ slice_index_or firsts port 0
 front_read firsts first port below =
     get_or_from_slice_get (firsts ++ first ∷ []) port (slice_index_or firsts port 0) 0 (front-of firsts (first ∷ []) port below ∙ slice_get-get_or firsts port 0 below)
 

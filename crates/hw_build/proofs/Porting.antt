@@ -24,8 +24,9 @@ use Rattle.hw_build.specs.inner.Porting.{IsPortOf, IsPortFor, ArePortsFor, AddsI
 use Rattle.dg_model.specs.Checked.{IsChecked}
 use Rattle.dg_model.specs.Laws.{InputsAreListed, OutputsAreListed, AreRootElements}
 use Rattle.dg_tables.specs.Listing.{AreBlocksOf}
-use Rattle.hw_names.proofs.Places.{map_from, place_is}
+use Rattle.hw_names.proofs.Places.{place_is}
 use Rattle.hw_names.proofs.Taking.{given_more, taken_more}
+use Rattle.fx_io.proofs.Places.{there_map, map_there}
 
 pub take_more : {A : Type 0} (xs : List A) (k : ℕ) (x : A) → slice_get xs k ≡ Some x → take (suc k) xs ≡ take k xs ++ x ∷ []
 take_more [] k x at = absurd (none-some x at)
@@ -35,11 +36,6 @@ take_more (y ∷ xs) (suc k) x at = ap (λ zs. y ∷ zs) (take_more xs k x at)
 pub map_more : {A B : Type 0} (f : A → B) (xs : List A) (x : A) → map f (xs ++ x ∷ []) ≡ map f xs ++ f x ∷ []
 map_more f [] x = refl
 map_more f (y ∷ xs) x = ap (λ zs. f y ∷ zs) (map_more f xs x)
-
-pub mapped : {A B : Type 0} (f : A → B) (xs : List A) (k : ℕ) (x : A) → slice_get xs k ≡ Some x → slice_get (map f xs) k ≡ Some (f x)
-mapped f [] k x at = absurd (none-some x at)
-mapped f (y ∷ xs) zero x at = ap (λ z. Some (f z)) (same_Some y x at)
-mapped f (y ∷ xs) (suc k) x at = mapped f xs k x at
 
 module _ (diagram : Diagram) (elements : List RootElement) (width_of : ℕ → ℕ) (number_of : ℕ → RootElement → ℕ) (latency_of : ℕ → ℕ) where
   pub ports_more : (old names new : Names) (ports : List NetPort) (k element : ℕ) (e : RootElement) (port : NetPort) → ArePortsFor diagram elements width_of number_of latency_of old names ports k → slice_get elements k ≡ Some e → element ≡ e.element → e.period ≡ (attributes_of diagram).period_at e.block
@@ -66,7 +62,7 @@ module _ (diagram : Diagram) (elements : List RootElement) (width_of : ℕ → �
         let next = of.named (taken_by list (map (λ (p : NetPort). p.name) ports)) so_far.1 in
         let named : map (λ (p : NetPort). p.name) (ports ++ port ∷ []) ≡ map (λ (p : NetPort). p.name) ports ++ port.name ∷ [] = map_more (λ (p : NetPort). p.name) ports port in
         let wanted : take (k + 1) (map (wanted_of diagram width_of) elements) ≡ take k (map (wanted_of diagram width_of) elements) ++ wanted_of diagram width_of e ∷ [] =
-        ap (λ (n : ℕ). take n (map (wanted_of diagram width_of) elements)) (add-one k) ∙ take_more (map (wanted_of diagram width_of) elements) k (wanted_of diagram width_of e) (mapped (wanted_of diagram width_of) elements k e e_at)
+        ap (λ (n : ℕ). take n (map (wanted_of diagram width_of) elements)) (add-one k) ∙ take_more (map (wanted_of diagram width_of) elements) k (wanted_of diagram width_of e) (there_map (wanted_of diagram width_of) elements k e e_at)
         in
         let given : IsGiven (taken_by list (map (λ (p : NetPort). p.name) ports)) (wanted_of diagram width_of e) port.name =
         subst (λ (n : ℕ). IsGiven (taken_by list (map (λ (p : NetPort). p.name) ports)) (wanted_of diagram width_of (record e { element = n })) port.name) element_is next.0
@@ -112,7 +108,7 @@ pub record AtColumn (diagram : Diagram) (elements : List RootElement) (blocks : 
 
 element_at : (number_of : Role → Option ℕ) (width_of : ℕ → ℕ) (diagram : Diagram) (elements : List RootElement) (blocks : List ℕ) (k : ℕ) → AreRootElements number_of width_of diagram (attributes_of diagram) elements → AreBlocksOf elements blocks → k < length blocks → AtColumn diagram elements blocks k
 element_at number_of width_of diagram elements blocks k all are below =
-    let found = map_from (λ (x : RootElement). x.block) elements k (slice_index_or blocks k 0) (sym (ap (λ (xs : List ℕ). slice_get xs k) are) ∙ slice_get-get_or blocks k 0 below) in
+    let found = map_there (λ (x : RootElement). x.block) elements k (slice_index_or blocks k 0) (sym (ap (λ (xs : List ℕ). slice_get xs k) are) ∙ slice_get-get_or blocks k 0 below) in
     let of = all.elements_of k found.0 found.1 in
     record { e = found.0; at = found.1; block_is = found.2; there = slice_get_within diagram.blocks found.0.block of.0 of.1; period_is = ap (λ (x : RootElement). x.period) of.4 }
 

@@ -23,7 +23,6 @@ use Rattle.hw_net.proofs.Growing.{longer, extends-trans}
 use Rattle.hw_sched.specs.Laws.{IsOperation, OperationsHavePeriods, UnitsAreThere, UnitsAreUsed}
 use Rattle.hw_sched.specs.Ready.{units_in_all}
 use Rattle.hw_sched.specs.Slots.{Timing as Times, Operation, operation, shared_operations, slot_of}
-use Rattle.hw_sched.proofs.Widths.{some_block}
 use Rattle.hw_shows.specs.Series.{span_at}
 use Rattle.hw_share.specs.declared.operation.Operation.{Operation as Asked}
 use Rattle.hw_share.specs.Operations.{operands_of, unit_count}
@@ -52,7 +51,7 @@ use Rattle.hw_build.proofs.ResultNets.{no_asked, are_products, result_there, ope
 use Rattle.hw_build.proofs.Sharing.{IsAskedFor, units_from, in_left, in_right, one_above, units_are_all}
 use Rattle.hw_build.proofs.UnderWay.{by_call}
 use Rattle.hw_build.proofs.Units.{HasAll, product_has, gain_has}
-use Rattle.hw_build.proofs.Widths.{held}
+use Rattle.fx_io.proofs.Places.{held, get_some}
 
 no_member : (read : ℕ) → Contains [] read → ⊥
 no_member read names = let below = names.1 in omega (arith, below)
@@ -142,7 +141,7 @@ module _ (storing : StoringGivesOne) (prepare : OperationsPrepare) (valid : Type
         left_low k one at =
             let is = numbered_at k one at in
             let of = of_shared diagram (attributes_of diagram) plan k (o_at k) is in
-            let b = some_block diagram.blocks (o_at k).block of.there in
+            let b = get_some diagram.blocks (o_at k).block of.there in
             port_low k one b.0 1 one.left at b.1 (omega arith) (multiplies_input b.0.kind b.0.inputs b.0.outputs (ports_at k b.0 b.1) (shared_multiplies diagram plan (o_at k).block b.0 b.1 of.shared)) (gathered.each k (o_at k) one (omega arith) is at).left
 
         second_low : (k : ℕ) (one : Asked) (b : Block) → slice_get operations k ≡ Some one → slice_get diagram.blocks (o_at k).block ≡ Some b → (rule : FullRule) → (is_product rule ≡ true → 2 ≤ b.inputs) → IsSecond diagram offered before mid (o_at k).block (o_at k).element rule one.right
@@ -160,7 +159,7 @@ module _ (storing : StoringGivesOne) (prepare : OperationsPrepare) (valid : Type
         right_low k one at =
             let is = numbered_at k one at in
             let of = of_shared diagram (attributes_of diagram) plan k (o_at k) is in
-            let b = some_block diagram.blocks (o_at k).block of.there in
+            let b = get_some diagram.blocks (o_at k).block of.there in
             second_low k one b.0 at b.1 (row_of b.0.kind).types.full (product_inputs b.0.kind b.0.inputs b.0.outputs (ports_at k b.0 b.1)) ((gathered.each k (o_at k) one (omega arith) is at).right b.0 b.1)
 
         IsLow : ℕ → Type 0

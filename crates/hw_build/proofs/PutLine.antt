@@ -45,13 +45,14 @@ use Rattle.hw_build.specs.inner.Operands.{first_at}
 use Rattle.hw_build.specs.inner.Seeking.{unasked, hub_from, plain_want, hub_spread, late_want, AsksAll}
 use Rattle.hw_build.specs.inner.Wants.{first_of, IsWant}
 use Rattle.hw_build.proofs.Ends.{end, own_some}
-use Rattle.hw_build.proofs.Lines.{no_less}
+use Rattle.hw_lines.proofs.Ended.{part-below}
 use Rattle.hw_build.proofs.Lined.{IsLineAsked, line_asked, hub_net, plain_hub}
 use Rattle.hw_build.proofs.Searching.{IsLineInto, line_into_is}
 use Rattle.hw_build.proofs.Sources.{IsSourceOf, source_is, repeated_own, output_shown, source_element, serves}
 use Rattle.hw_build.proofs.Storing.{first_in_range, first_is_initial}
 use Rattle.hw_build.proofs.Wanting.{end_may_ask}
-use Rattle.hw_build.proofs.Putting.{no_places, timing, period, seen_by, wants_are, none_of, some_of, count_is, still_put, IsElement, moving_put, uses_are, use_is}
+use Rattle.fx_io.proofs.Tests.{some_of, none_of}
+use Rattle.hw_build.proofs.Putting.{no_places, timing, period, seen_by, wants_are, count_is, still_put, IsElement, moving_put, uses_are, use_is}
 
 module _ {diagram : Diagram} {order : List ℕ} {plan : Resolved} {times : Times} {firsts : List (List ℕ)} (l : IsLawful diagram order plan times firsts) where
   -- ---- the end of a line
@@ -273,7 +274,7 @@ module _ {diagram : Diagram} {order : List ℕ} {plan : Resolved} {times : Times
         let same : in_time.own ≡ own = same_Some in_time.own own (sym in_time.period ∙ period_is) in
         let plain_edge : IsPlainEdge (timing l) edge.from p edge.to own = subst (λ (o : ℕ). IsPlainEdge (timing l) edge.from p edge.to o) same (subst (IsEdgeInTime (timing l) edge.from p edge.to in_time.own) none in_time.edge) in
         let some : 0 < own = (let low = own_some diagram (timing l) no_places l.timed edge.to b (Port edge.to_port) edge.from p at shows feeds moves in omega (arith, low, same)) in
-        let low = no_less own p plain_edge.divides some in
+        let low = part-below own p plain_edge.divides some in
         let behind = plain_edge.behind in
         let shift = ap (λ (u : Asked). u.shift) (to_is p moves own period_is ∙ ap (use_into (timing l) edge.from p edge.to own) none) in
         (omega (arith, low), omega (arith, shift, behind))

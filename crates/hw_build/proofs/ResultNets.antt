@@ -43,7 +43,7 @@ use Rattle.hw_build.proofs.Nets.{constant}
 use Rattle.hw_build.proofs.Numbering.{operation_there, operations_in_all}
 use Rattle.hw_build.proofs.Serving.{slot_is_told}
 use Rattle.hw_build.proofs.Sharing.{IsAskedFor, product_kept}
-use Rattle.hw_build.proofs.Words.{word_of, in_word}
+use Rattle.fx_type.proofs.Ranges.{type-word, range-word}
 
 abbrev pub no_asked : Asked
 no_asked = record { frame = record { period = 0; latency = 0 }; slot = 0; unit = 0; left = 0; right = 0 }
@@ -86,7 +86,7 @@ coefficient_fits : OperationsPrepare → (diagram : Diagram) (order : List ℕ) 
 coefficient_fits prepare diagram order ordered block b element at a c number value spec kind is =
     let can = prepare diagram order block b element (OpGain is.value ((attributes_of diagram).param_at block)) ordered at
     (subst (λ (k : Kind). IsOpOf k element ((attributes_of diagram).param_at block) (type_into diagram (attributes_of diagram) block 2) (OpGain is.value ((attributes_of diagram).param_at block))) (sym kind) (is.value, is.stored, refl)) in
-    in_word ((attributes_of diagram).param_at block) is.value can.parameters.1
+    range-word ((attributes_of diagram).param_at block) is.value can.parameters.1
 
 module _ (storing : StoringGivesOne) (prepare : OperationsPrepare) (valid : TypesAreValid) (periods : OperationsHavePeriods) (diagram : Diagram) (order : List ℕ) (ordered : IsOrdered diagram order) (plan : Resolved) (times : Times) (offered : ℕ → ℕ → ℕ → ℕ) (before mid after : Circuit) (words : OffersWords diagram plan offered before)
     (operations : List Asked) (products : Products) (gathered : GathersMore diagram plan times offered before mid [] operations 0 (first_operation diagram plan (length diagram.blocks))) (shared : AreShared mid after operations products.results) (cycles : mid.cycles ≡ plan.cycles)
@@ -127,7 +127,7 @@ module _ (storing : StoringGivesOne) (prepare : OperationsPrepare) (valid : Type
             stored = second.stored;
             same = constant closed hubs after number second.value net
                 (record { at = still-there mid after number net shared.appends.extends second.is; settled = inr (omega (arith, new, small)) }) refl
-                (word_of ((attributes_of diagram).param_at block) (valid diagram order block b ordered at).1)
+                (type-word ((attributes_of diagram).param_at block) (valid diagram order block b ordered at).1)
                 (coefficient_fits prepare diagram order ordered block b element at before mid number value spec kind second);
           }
       second_by block element number b at Product kind second = second ∙ sym (placed.offered_is block 2 element)

@@ -10,8 +10,11 @@ use Rattle.dg_model.specs.declared.diagram.Block.{Block}
 use Rattle.dg_model.specs.declared.diagram.Edge.{Edge}
 use Rattle.dg_model.specs.Wired.{IsWired, StandsBefore}
 use Rattle.dg_model.specs.Wires.{driver_of, enters}
-use Rattle.dg_sort.proofs.Lines.{joins_at, matched}
+use Rattle.dg_model.proofs.Ports.{joins, enters_self}
+use Rattle.dg_sort.proofs.Lines.{matched}
 use Rattle.hw_build.specs.inner.Operands.{is_line_before, first_not, line_number}
+use Rattle.dg_tables.proofs.Drivers.{some_counted, found_one}
+use Rattle.dg_tables.proofs.Ranks.{found_at}
 
 -- ---- a search
 
@@ -77,11 +80,6 @@ unit_if b = cond b 1 0
 count_more : {A : Type 0} (p : A → Bool) (y : A) (ys : List A) → count_by p (y ∷ ys) ≡ unit_if (p y) + count_by p ys
 count_more p y ys = sum_by-cons (λ x. unit_if (p x)) y ys
 
-some_counted : {A : Type 0} (p : A → Bool) (xs : List A) (i : ℕ) (x : A) → slice_get xs i ≡ Some x → p x ≡ true → 1 ≤ count_by p xs
-some_counted p [] i x at passes = absurd (none-some x at)
-some_counted p (y ∷ ys) zero x at passes = let here : unit_if (p y) ≡ 1 = ap (λ (b : Bool). unit_if b) (ap p (same_Some y x at) ∙ passes) in omega (arith, here, count_more p y ys)
-some_counted p (y ∷ ys) (suc i) x at passes = omega (arith, count_more p y ys, some_counted p ys i x at passes)
-
 stands_once : {A : Type 0} (p : A → Bool) (xs : List A) (i j : ℕ) (x y : A) → count_by p xs ≡ 1 → i < j → slice_get xs i ≡ Some x → slice_get xs j ≡ Some y → p x ≡ true → p y ≡ true → ⊥
 stands_once p [] i j x y one less at there is passes = none-some x at
 stands_once p (z ∷ zs) i zero x y one less at there is passes = absurd (omega (arith, less))
@@ -92,28 +90,6 @@ stands_once p (z ∷ zs) (suc i) (suc j) x y one less at there is passes =
     let some = some_counted p zs j y there passes in
     stands_once p zs i j x y (omega (arith, one, count_more p z zs, some)) (omega (arith, less)) at there is passes
 
--- what is found stands there
-pub found_at : {A : Type 0} (p : A → Bool) (xs : List A) (x : A) → find p xs ≡ Some x → (k : ℕ) × (slice_get xs k ≡ Some x) × (p x ≡ true)
-found_at p [] x e = absurd (none-some x e)
-found_at {A} p (y ∷ xs) x e = go (p y) refl (found_at p xs x) e
-  where
-    go : (b : Bool) → p y ≡ b → (find p xs ≡ Some x → (k : ℕ) × (slice_get xs k ≡ Some x) × (p x ≡ true)) → cond b (Some y) (find p xs) ≡ Some x → (k : ℕ) × (slice_get (y ∷ xs) k ≡ Some x) × (p x ≡ true)
-    go true is rest e = (0, e, ap p (sym (same_Some y x e)) ∙ is)
-    go false is rest e = let later = rest e in (suc later.0, later.1, later.2)
-
--- and the only one that passes is found
-found_once : {A : Type 0} (p : A → Bool) (xs : List A) (i : ℕ) (x : A) → slice_get xs i ≡ Some x → p x ≡ true → count_by p xs ≡ 1 → find p xs ≡ Some x
-found_once p [] i x at passes one = absurd (none-some x at)
-found_once p (y ∷ ys) zero x at passes one = ap (λ (b : Bool). cond b (Some y) (find p ys)) (ap p (same_Some y x at) ∙ passes) ∙ at
-found_once {A} p (y ∷ ys) (suc i) x at passes one = go (p y) (sym (count_more p y ys) ∙ one) (found_once p ys i x at passes) (some_counted p ys i x at passes)
-  where
-    go : (b : Bool) → unit_if b + count_by p ys ≡ 1 → (count_by p ys ≡ 1 → find p ys ≡ Some x) → 1 ≤ count_by p ys → cond b (Some y) (find p ys) ≡ Some x
-    go true e rest some = absurd (omega (arith, e, some))
-    go false e rest some = rest (omega (arith, e))
-
-enters_own : (edge : Edge) → enters edge.to edge.to_port edge ≡ true
-enters_own edge = and_from (edge.to == edge.to) (edge.to_port == edge.to_port) (eq-eqb edge.to edge.to refl) (eq-eqb edge.to_port edge.to_port refl)
-
 -- a line has its own number
 pub line_is : (diagram : Diagram) (number : ℕ) (edge : Edge) → IsWired diagram → slice_get diagram.edges number ≡ Some edge → line_number diagram edge.to edge.to_port ≡ number
 line_is diagram number edge wired at = sym (first_is (is_line_before edge.to edge.to_port) diagram.edges number (let inside = slice_get_within diagram.edges number edge at in omega (arith, inside)) before here)
@@ -123,9 +99,9 @@ line_is diagram number edge wired at = sym (first_is (is_line_before edge.to edg
 
     once : (k : ℕ) (other : Edge) → k < number → slice_get diagram.edges k ≡ Some other → other.to ≡ edge.to → other.to_port ≡ edge.to_port → ⊥
     once k other less there to port =
-        let target = matched (slice_get diagram.blocks edge.to) (λ (b : Block). (1 ≤ edge.to_port) × (edge.to_port ≤ b.inputs)) (joins_at diagram number edge wired at).target in
+        let target = matched (slice_get diagram.blocks edge.to) (λ (b : Block). (1 ≤ edge.to_port) × (edge.to_port ≤ b.inputs)) (joins diagram number edge wired at).target in
         stands_once (enters edge.to edge.to_port) diagram.edges k number other edge (wired.driven edge.to edge.to_port target.0 target.1 target.2.0 target.2.1) less there at
-        (and_from (other.to == edge.to) (other.to_port == edge.to_port) (eq-eqb other.to edge.to to) (eq-eqb other.to_port edge.to_port port)) (enters_own edge)
+        (and_from (other.to == edge.to) (other.to_port == edge.to_port) (eq-eqb other.to edge.to to) (eq-eqb other.to_port edge.to_port port)) (enters_self edge)
 
     by : (k : ℕ) (other : Edge) → k < number → slice_get diagram.edges k ≡ Some other → StandsBefore other edge → is_line_before edge.to edge.to_port other ≡ true
     by k other less there (inl under) = stands_before edge.to edge.to_port other (inl under)
@@ -149,13 +125,13 @@ pub record IsLineInto (diagram : Diagram) (edge : Edge) : Type 0 where
 
 pub line_into_is : (diagram : Diagram) (number : ℕ) (edge : Edge) → IsWired diagram → slice_get diagram.edges number ≡ Some edge → IsLineInto diagram edge
 line_into_is diagram number edge wired at =
-    let target = matched (slice_get diagram.blocks edge.to) (λ (b : Block). (1 ≤ edge.to_port) × (edge.to_port ≤ b.inputs)) (joins_at diagram number edge wired at).target in
+    let target = matched (slice_get diagram.blocks edge.to) (λ (b : Block). (1 ≤ edge.to_port) × (edge.to_port ≤ b.inputs)) (joins diagram number edge wired at).target in
     record {
       block = target.0;
       is = target.1;
       from = target.2.0;
       to = target.2.1;
-      drives = found_once (enters edge.to edge.to_port) diagram.edges number edge at (enters_own edge) (wired.driven edge.to edge.to_port target.0 target.1 target.2.0 target.2.1);
+      drives = found_one (enters edge.to edge.to_port) diagram.edges number edge at (enters_self edge) (wired.driven edge.to edge.to_port target.0 target.1 target.2.0 target.2.1);
     }
 
 -- the line that drives a port has the number that is found

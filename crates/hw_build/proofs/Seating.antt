@@ -17,7 +17,8 @@ use Rattle.hw_build.specs.declared.wants.Seat.{Seat}
 use Rattle.hw_build.specs.inner.Feeds.{is_same_feed, number_at_feed}
 use Rattle.hw_build.specs.inner.Wants.{source_by, IsWant, IsClass, AreClasses, HasFeed, AreIndexed, uses_of_feed, IsFolded, AreFolded, IsClassFor, IsSeat, KeepsUses, KeepsClass, KeepsClasses, IsSeated, AreSeated, AreTaken}
 use Rattle.hw_build.proofs.Feeding.{feed_same, feed_is, feed_differs}
-use Rattle.hw_build.proofs.Levels.{set_here, set_elsewhere}
+use Rattle.dg_tables.proofs.Laid.{set_there}
+use Rattle.hw_build.proofs.Levels.{set_elsewhere}
 
 cases_order : (c number : ℕ) → (c ≡ number) ⊎ (c ≢ number)
 cases_order c number = elim (cases_lt c number) [
@@ -74,7 +75,7 @@ indexed_set mid index number one now are at same = record {
 }
   where
     here : slice_get (slice_set mid number now) number ≡ Some now
-    here = set_here mid number now (slice_get_within mid number one at)
+    here = set_there mid number now (slice_get_within mid number one at)
 
     found_at : (feed : Feed) (n : ℕ) (has : HasFeed mid feed n) → (n ≡ number) ⊎ (n ≢ number) → HasFeed (slice_set mid number now) feed n
     found_at feed n has (inl equal) = record { one = now; is = ap (slice_get (slice_set mid number now)) equal ∙ here; same = same ∙ ap (λ (y : Class). y.feed) (same_Some one has.one (sym at ∙ ap (slice_get mid) (sym equal) ∙ has.is)) ∙ has.same }
@@ -150,7 +151,7 @@ module _ (old mid new : List Class) (want : Want) (number place : ℕ) (one now 
     (set : new ≡ slice_set mid number now) (same : now.feed ≡ one.feed) (grown : now.uses.items ≡ one.uses.items ++ want.to ∷ []) (last : place ≡ length one.uses.items)
   where
     here : slice_get new number ≡ Some now
-    here = ap (λ (xs : List Class). slice_get xs number) set ∙ set_here mid number now (slice_get_within mid number one at)
+    here = ap (λ (xs : List Class). slice_get xs number) set ∙ set_there mid number now (slice_get_within mid number one at)
 
     elsewhere : (c : ℕ) → c ≢ number → slice_get new c ≡ slice_get mid c
     elsewhere c differs = ap (λ (xs : List Class). slice_get xs c) set ∙ set_elsewhere mid number c now differs

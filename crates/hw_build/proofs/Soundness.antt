@@ -1,7 +1,7 @@
 -- What running a netlist asks of its nets goes on as it grows.
 use Rattle.std.proofs.Common.{◌≡◌, ℕ, zero, suc, ◌+◌, ◌<◌, ◌≤◌, inl, inr, Bool, true, false, cond, List, [], ◌∷◌, length, All, Option, Some, None, IsSome, ap, sym, ◌∙◌, subst, refl, arith}
 use Rattle.std.specs.Prelude.{slice_get, slice_index_or, ◌==◌}
-use Rattle.std.proofs.lemmas.Bool.{false≢true, cases_lt, and_from, and_parts, eq-eqb, eqb-true}
+use Rattle.std.proofs.lemmas.Bool.{false≢true, cases_lt, and_parts, eqb-true}
 use Rattle.std.proofs.lemmas.Option.{none-some, same_Some, slice_get_within}
 use Rattle.fx_num.specs.Word.{IsWord, InWord}
 use Rattle.hw_net.specs.declared.netlist.Frame.{Frame}
@@ -11,16 +11,16 @@ use Rattle.hw_net.specs.declared.netlist.NetKind.TheVariants.{Comb, Reg, EnReg, 
 use Rattle.hw_net.specs.declared.netlist.NetOp.{NetOp}
 use Rattle.hw_net.specs.declared.netlist.NetOp.TheVariants.{Input, Const, Resize, ShiftUp, ShiftDown, Add, Subtract, Negate, Multiply, And, Or, Xor, Not, Less, Equal, Choose, Slice}
 use Rattle.hw_net.specs.Circuit.{Circuit}
-use Rattle.hw_net.specs.ByFrame.{is_same_frame}
 use Rattle.hw_net.specs.Frames.{counted_frame, is_frame, counter_from, counter_of}
 use Rattle.hw_net.specs.Growing.{Appends, IsReopened, IsConnected}
 use Rattle.hw_net.specs.Netlist.{HasWord, HasBits, HasParts, HoldsProducts, IsKind, reads}
 use Rattle.hw_net.proofs.Growing.{stood-there}
-use Rattle.hw_net.proofs.Places.{at-place}
+use Rattle.fx_io.proofs.Places.{held}
 use Rattle.hw_build.specs.inner.Growth.{GoesOn}
 use Rattle.hw_build.specs.inner.Soundness.{IsSoundNet, AreSound}
 use Rattle.hw_build.proofs.Growth.{goes_appended, still_within, word_later}
 use Rattle.hw_build.proofs.Levels.{given, connected_here, connected_elsewhere, connected_length, goes_connected}
+use Rattle.hw_net.proofs.Index.{same-self}
 
 module _ (closed hubs : ℕ) (now later : Circuit) (goes : GoesOn closed hubs now later) where
   -- a net that is there had its word before
@@ -42,7 +42,7 @@ module _ (closed hubs : ℕ) (now later : Circuit) (goes : GoesOn closed hubs no
   bits_later args high low there has = record {
     ordered = has.ordered;
     within = λ k read net at is.
-        let word = word_before read net (at-place (λ (x : ℕ). x < length now.nets) args k read there at) is in
+        let word = word_before read net (held (λ (x : ℕ). x < length now.nets) args k read there at) is in
         subst (λ (w : ℕ). high < w) word.wide (has.within k read word.net at word.is);
   }
 
@@ -80,7 +80,7 @@ module _ (closed hubs : ℕ) (now later : Circuit) (goes : GoesOn closed hubs no
   kind_later cycles inputs width signed (Reg frame slot first from) there has = (has.0, word_later closed hubs now later from width signed goes has.1, has.2)
   kind_later cycles inputs width signed (EnReg frame enable reset first from) there has = (has.0, word_later closed hubs now later from width signed goes has.1, has.2)
   kind_later cycles inputs width signed (Bridge frame live from) there has = (has.0, has.1, word_later closed hubs now later from width signed goes has.2)
-  kind_later cycles inputs width signed (Unit left right) there has = products_later left right width signed (at-place (λ (x : ℕ). x < length now.nets) (left ∷ right ∷ []) 0 left there refl) (at-place (λ (x : ℕ). x < length now.nets) (left ∷ right ∷ []) 1 right there refl) has
+  kind_later cycles inputs width signed (Unit left right) there has = products_later left right width signed (held (λ (x : ℕ). x < length now.nets) (left ∷ right ∷ []) 0 left there refl) (held (λ (x : ℕ). x < length now.nets) (left ∷ right ∷ []) 1 right there refl) has
   kind_later cycles inputs width signed (Counter frame) there has = has
 
 -- more input ports do no harm
@@ -113,14 +113,10 @@ kind_more nets cycles inputs more width signed (Counter frame) less has = has
 
 -- ---- Counters
 
--- a Counter that stands is found
-same_self : (frame : Frame) → is_same_frame frame frame ≡ true
-same_self frame = and_from (frame.period == frame.period) (frame.latency == frame.latency) (eq-eqb frame.period frame.period refl) (eq-eqb frame.latency frame.latency refl)
-
 counter_found : (nets : List Net) (start k : ℕ) (net : Net) (frame : Frame) → slice_get nets k ≡ Some net → counted_frame net.kind ≡ Some frame → IsSome (counter_from nets start frame)
 counter_found [] start k net frame at counts = absurd (none-some net at)
 counter_found (x ∷ nets) start zero net frame at counts =
-    let is : is_frame frame (counted_frame x.kind) ≡ true = ap (λ (n : Net). is_frame frame (counted_frame n.kind)) (same_Some x net at) ∙ ap (is_frame frame) counts ∙ same_self frame in
+    let is : is_frame frame (counted_frame x.kind) ≡ true = ap (λ (n : Net). is_frame frame (counted_frame n.kind)) (same_Some x net at) ∙ ap (is_frame frame) counts ∙ same-self frame in
     subst (λ (b : Bool). IsSome (cond b (Some start) (counter_from nets (start + 1) frame))) (sym is) refl
 counter_found (x ∷ nets) start (suc k) net frame at counts = go (is_frame frame (counted_frame x.kind)) (counter_found nets (start + 1) k net frame at counts)
   where

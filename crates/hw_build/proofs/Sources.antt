@@ -20,14 +20,15 @@ use Rattle.dg_model.specs.Solves.{width_of_role, shown_ports, shown_width, IsSho
 use Rattle.dg_model.specs.Widths.{widths_of, width_at, input_widths, next_of, taken, list_length, most_width}
 use Rattle.dg_model.specs.Wired.{IsWired, NamesControl}
 use Rattle.dg_model.specs.Wires.{driver_of, enters, repeated}
-use Rattle.dg_sort.proofs.Lines.{joins_at, matched}
+use Rattle.dg_model.proofs.Ports.{joins}
+use Rattle.dg_sort.proofs.Lines.{matched}
 use Rattle.hw_sched.proofs.Periods.{readable_at}
 use Rattle.hw_shows.specs.Timed.{lag_into}
 use Rattle.hw_build.specs.inner.Asks.{SourcesAreShown, EnabledShow}
 use Rattle.hw_build.specs.inner.Facts.{count_by_lag, count_by, line_count, LateAreWide}
 use Rattle.hw_build.specs.inner.HubPlaces.{is_output_role}
 use Rattle.hw_build.proofs.Placing.{plain_ports}
-use Rattle.hw_build.proofs.Searching.{found_at}
+use Rattle.dg_tables.proofs.Ranks.{found_at}
 
 -- ---- elements
 
@@ -81,7 +82,7 @@ pub record IsSourceOf (diagram : Diagram) (edge : Edge) : Type 0 where
 
 pub source_is : (diagram : Diagram) (number : ℕ) (edge : Edge) → IsWired diagram → slice_get diagram.edges number ≡ Some edge → IsSourceOf diagram edge
 source_is diagram number edge wired at =
-    let found = matched (slice_get diagram.blocks edge.from) (λ (b : Block). (1 ≤ edge.from_port) × (edge.from_port ≤ b.outputs)) (joins_at diagram number edge wired at).source in
+    let found = matched (slice_get diagram.blocks edge.from) (λ (b : Block). (1 ≤ edge.from_port) × (edge.from_port ≤ b.outputs)) (joins diagram number edge wired at).source in
     record { source = found.0; is = found.1; port_from = found.2.0; port_to = found.2.1 }
 
 pub source_element : (diagram : Diagram) (edge : Edge) (element : ℕ) → IsWired diagram → (of : IsSourceOf diagram edge) → element < (attributes_of diagram).width_at edge.from edge.from_port → IsShown diagram (attributes_of diagram) edge.from of.source edge.from_port element

@@ -1,7 +1,7 @@
 -- The nets that readers name are all in, and stand where their elements say.
-use Rattle.std.proofs.Common.{◌≡◌, ℕ, ◌+◌, ◌-◌, ◌<◌, ◌⊎◌, inl, inr, Bool, true, false, List, length, Some, ap, sym, ◌∙◌, arith, refl}
+use Rattle.std.proofs.Common.{◌≡◌, ℕ, ◌+◌, ◌-◌, ◌<◌, inl, inr, true, false, List, length, Some, ap, sym, ◌∙◌, arith, refl}
 use Rattle.std.specs.Prelude.{All, slice_get, slice_index_or}
-use Rattle.std.proofs.lemmas.Bool.{false≢true}
+use Rattle.std.proofs.lemmas.Bool.{false≢true, cases_Bool}
 use Rattle.std.proofs.lemmas.Option.{none-some, slice_get_within}
 use Rattle.fx_type.specs.declared.kind.FxType.{FxType}
 use Rattle.dg_model.specs.declared.diagram.Diagram.{Diagram}
@@ -20,7 +20,8 @@ use Rattle.hw_net.specs.Circuit.{Circuit}
 use Rattle.hw_net.proofs.Growing.{extends-trans, still-there}
 use Rattle.hw_sched.proofs.Periods.{readable_at}
 use Rattle.hw_names.specs.Columns.{AreColumnsFrom}
-use Rattle.hw_names.proofs.Places.{map_at, place_is, blocks_there}
+use Rattle.fx_io.proofs.Places.{there_map}
+use Rattle.hw_names.proofs.Places.{place_is, blocks_there}
 use Rattle.hw_build.specs.inner.HubPlaces.{input_net, is_input_role, AddsBlocks, AddsInputs, HasHubs}
 
 pub role_is_input : (role : Role) (number : ℕ) → root_input role ≡ Some number → is_input_role role ≡ true
@@ -34,10 +35,6 @@ role_is_input Role.Plain number is = absurd (none-some number is)
 pub one_port : (kind : Kind) (inputs outputs : ℕ) → HasPorts kind inputs outputs → is_input_role (row_of kind).place.role ≡ true → shown_ports kind outputs ≡ 1
 one_port (Inport number dimension) inputs outputs ports is = ports.1
 one_port _ inputs outputs ports is = absurd (false≢true is)
-
-pub both : (x : Bool) → (x ≡ true) ⊎ (x ≡ false)
-both true = inl refl
-both false = inr refl
 
 module _ (diagram : Diagram) (checked : IsChecked diagram) (listed : InputsAreListed) where
   abbrev roots : List RootElement
@@ -58,12 +55,12 @@ module _ (diagram : Diagram) (checked : IsChecked diagram) (listed : InputsAreLi
     inputs = λ k e at.
         let of = (listed diagram (attributes_of diagram) checked.wired).elements_of k e at in
         let typed : e.type ≡ (attributes_of diagram).type_at e.block 1 = ap (λ (x : RootElement). x.type) of.4 in
-        let block_at : slice_get inputs k ≡ Some e.block = ap (λ (xs : List ℕ). slice_get xs k) blocks ∙ map_at (λ (x : RootElement). x.block) roots k e at in
+        let block_at : slice_get inputs k ≡ Some e.block = ap (λ (xs : List ℕ). slice_get xs k) blocks ∙ there_map (λ (x : RootElement). x.block) roots k e at in
         still-there middle later k (input_net e.type k) adds.extends (ins.each k e.block (slice_get_within inputs k e.block block_at) block_at ∙ ap (λ (t : FxType). Some (input_net t k)) (sym typed));
     fresh = λ block b k at low high. adds.fresh block b k (slice_get_within diagram.blocks block b at) at low high;
     there = λ block b port at from to.
         let firsts_are = adds.are block b (slice_get_within diagram.blocks block b at) at in
-        elim (both (is_input_role (row_of b.kind).place.role)) [
+        elim (cases_Bool (is_input_role (row_of b.kind).place.role)) [
           | inl input ↦
               let one = one_port b.kind b.inputs b.outputs (readable_at diagram checked.wired block b at).ports input in
               let size = ap (λ (xs : List ℕ). length xs) (firsts_are.input input) in

@@ -3,7 +3,7 @@ use Rattle.std.proofs.Common.{◌≡◌, ℕ, zero, suc, ◌+◌, ◌<◌, ◌�
 use Rattle.std.specs.Prelude.{slice_get, slice_set, Bool, if◌then◌else◌}
 use Rattle.std.specs.List.{flat_map}
 use Rattle.std.proofs.lemmas.Bool.{cases_lt}
-use Rattle.std.proofs.lemmas.Option.{none-some, same_Some, slice_get-get_or, get_or_from_slice_get}
+use Rattle.std.proofs.lemmas.Option.{none-some, same_Some, get_or_from_slice_get}
 use Rattle.fx_num.specs.Word.{IsWord}
 use Rattle.fx_type.specs.declared.kind.FxType.{FxType}
 use Rattle.fx_type.specs.FxType.{is_signed, width_of}
@@ -17,7 +17,7 @@ use Rattle.hw_net.specs.declared.netlist.NetOp.TheVariants.{Resize}
 use Rattle.hw_net.specs.Circuit.{Circuit}
 use Rattle.hw_net.specs.Frames.{is_register, register_count}
 use Rattle.hw_net.specs.Growing.{Appends, IsConnected, IsResize}
-use Rattle.hw_net.proofs.Growing.{last-of, front-of, still-there}
+use Rattle.hw_net.proofs.Growing.{last-of, still-there}
 use Rattle.hw_shows.specs.Timing.{Timing}
 use Rattle.hw_build.specs.Pipelined.{stage_name}
 use Rattle.hw_build.specs.Serving.{multipliers, others, own_factors, unit_factors}
@@ -32,9 +32,6 @@ use Rattle.hw_build.proofs.Tallied.{bare_registers, bare_turn, bare_none}
 use Rattle.hw_build.proofs.Turning.{contains_front, pipeline_by_call, pipeline_by_names, pipeline_by_connect, there_by_call, there_by_connect}
 
 -- ---- lists that grow at their end
-
-pub at_front : (xs : List ℕ) (x k : ℕ) → k < length xs → slice_index_or (xs ++ x ∷ []) k 0 ≡ slice_index_or xs k 0
-at_front xs x k below = get_or_from_slice_get (xs ++ x ∷ []) k (slice_index_or xs k 0) 0 (front-of xs (x ∷ []) k below ∙ slice_get-get_or xs k 0 below)
 
 pub at_last : (xs : List ℕ) (x k : ℕ) → k ≡ length xs → slice_index_or (xs ++ x ∷ []) k 0 ≡ x
 at_last xs x k same = get_or_from_slice_get (xs ++ x ∷ []) k x 0 (ap (slice_get (xs ++ x ∷ [])) same ∙ last-of xs x)

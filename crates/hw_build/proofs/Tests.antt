@@ -14,7 +14,7 @@ use Rattle.hw_shows.specs.Series.{AreSame, steady}
 use Rattle.hw_build.specs.inner.Controls.{Tells}
 use Rattle.hw_build.specs.inner.Growth.{InLater}
 use Rattle.hw_build.proofs.Nets.{IsSettled, combined}
-use Rattle.hw_build.proofs.Words.{wrapped_is}
+use Rattle.hw_net.proofs.Numbers.{wrapped-is}
 
 -- a truth in a word of one bit
 pub in_bit : (b : Bool) → InWord 1 false (stored_truth b)
@@ -22,7 +22,7 @@ in_bit true = record { low = omega (arith, ints); high = omega (arith, ints) }
 in_bit false = record { low = omega (arith, ints); high = omega (arith, ints) }
 
 bit_is : (b : Bool) (v r : ℤ) → v ≡ stored_truth b → IsWrapped v 1 false r → r ≡ stored_truth b
-bit_is b v r is wrapped = wrapped_is (stored_truth b) 1 false r (omega arith, omega arith) (in_bit b) (subst (λ (x : ℤ). IsWrapped x 1 false r) is wrapped)
+bit_is b v r is wrapped = wrapped-is (stored_truth b) 1 false r (omega arith, omega arith) (in_bit b) (subst (λ (x : ℤ). IsWrapped x 1 false r) is wrapped)
 
 or_is : (a b : Bool) → pos (bit_or (low_bits 128 (stored_truth a)) (low_bits 128 (stored_truth b))) ≡ stored_truth (a || b)
 or_is true true = refl

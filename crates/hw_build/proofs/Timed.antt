@@ -1,9 +1,9 @@
 -- The times of a schedule are such as waves need: what the laws of a schedule say, in the form in which the laws of waves ask for it.
 use Rattle.std.proofs.Common.{◌≡◌, ℕ, ◌*◌, ◌<◌, ◌≤◌, Bool, true, false, List, refl, sym, ap, subst, ◌∙◌, arith, eqb, get_or}
-use Rattle.std.specs.Prelude.{◌&&◌, not, nat_lt, if◌then◌else◌, slice_get, All, Option, Some, None}
+use Rattle.std.specs.Prelude.{◌&&◌, not, nat_lt, if◌then◌else◌, slice_get, Option, Some, None}
 use Rattle.std.proofs.lemmas.Bool.{false≢true, and_parts, eqb-true}
 use Rattle.std.proofs.lemmas.List.Quantifiers.{position-Some}
-use Rattle.std.proofs.lemmas.Option.{none-some, same_Some, slice_get_within, slice_get-get_or, get_or_from_slice_get}
+use Rattle.std.proofs.lemmas.Option.{none-some, same_Some, slice_get-get_or}
 use Rattle.dg_model.specs.declared.diagram.Diagram.{Diagram}
 use Rattle.dg_model.specs.declared.diagram.Block.{Block}
 use Rattle.dg_model.specs.declared.diagram.Edge.{Edge}
@@ -32,9 +32,7 @@ use Rattle.hw_shows.specs.Timing.{Timing, IsPlainEdge, IsLateEdge, IsEdgeInTime}
 use Rattle.hw_shows.specs.Timed.{lag_of, lag_into, Feeds, IsInTime}
 use Rattle.hw_build.specs.Laws.{SchedulesAreTimed}
 use Rattle.hw_build.specs.Times.{is_element, number_at, slot_by, timing_by}
-
-held : {A : Type 0} (P : A → Type 0) (xs : List A) (k : ℕ) (x : A) → All P xs → slice_get xs k ≡ Some x → P x
-held P xs k x all at = subst P (get_or_from_slice_get xs k x x at) (all k x (slice_get_within xs k x at))
+use Rattle.fx_io.proofs.Places.{held}
 
 -- ---- slots
 

@@ -3,7 +3,7 @@ use Rattle.std.proofs.Common.{◌≡◌, ℕ, zero, suc, ◌+◌, ◌-◌, ◌*�
 use Rattle.std.specs.Prelude.{slice_get, nat_lt, not, ◌&&◌, if◌then◌else◌}
 use Rattle.std.specs.List.{sum}
 use Rattle.std.proofs.Math.Nat.{mul-suc, mul-le-mul_left, mul_comm}
-use Rattle.std.proofs.lemmas.Bool.{and_parts, cond-true, cond-false, cases_lt, lt-ltb, le-ltb, false≢true}
+use Rattle.std.proofs.lemmas.Bool.{and_parts, cond-true, cond-false, cases_lt, lt-ltb, le-ltb, false≢true, cases_Bool}
 use Rattle.dg_waves.specs.Rounds.{numbers_from}
 use Rattle.dg_model.specs.declared.diagram.Diagram.{Diagram}
 use Rattle.dg_model.specs.declared.diagram.Block.{Block}
@@ -22,14 +22,13 @@ use Rattle.hw_latency.specs.Shared.{multiplies, multiplies_if, is_shared}
 use Rattle.hw_sched.specs.Ready.{unshared}
 use Rattle.hw_sched.specs.Storage.{keeps_own, kept_by_role, registers_at, registers_each, registers_in_all}
 use Rattle.hw_sched.proofs.Periods.{readable_at}
-use Rattle.hw_sched.proofs.Widths.{some_block}
-use Rattle.hw_slots.proofs.Sums.{sum-cons, sum_below, sum_below_next}
+use Rattle.fx_io.proofs.Places.{sum-cons, get_some}
+use Rattle.hw_slots.proofs.Sums.{sum_below, sum_below_next}
 use Rattle.hw_build.specs.inner.HubPlaces.{before, hubs_in_all, is_input_role, own_count, own_hubs, owner_of, port_size}
 use Rattle.hw_build.specs.inner.Tally.{hub_products, hub_registers, products_by, registers_by}
 use Rattle.hw_build.proofs.Beginning.{owner_is}
 use Rattle.hw_build.proofs.Ended.{multiplying_shows, multiplying_width}
 use Rattle.hw_build.proofs.Placing.{own_input, own_other}
-use Rattle.hw_build.proofs.Started.{both}
 
 -- ---- sums
 
@@ -134,7 +133,7 @@ module _ (diagram : Diagram) (plan : Resolved) (allowed : StagesAreAllowed diagr
   own_one : (m : ℕ) (b : Block) → slice_get diagram.blocks m ≡ Some b → shown_ports b.kind b.outputs ≡ 1 → shown_width diagram a b.kind m 1 ≡ a.width_at m 1 → own_hubs diagram m ≤ a.width_at m 1
   own_one m b at ports wide =
       let count : own_hubs diagram m ≡ own_count diagram m (Some b) = ap (own_count diagram m) at in
-      elim (both (is_input_role (row_of b.kind).place.role)) [
+      elim (cases_Bool (is_input_role (row_of b.kind).place.role)) [
         | inl input ↦ let none = own_input (is_input_role (row_of b.kind).place.role) (before (port_size diagram m b) (shown_ports b.kind b.outputs)) input in omega (arith, count, none)
         | inr other ↦
             let all = own_other (is_input_role (row_of b.kind).place.role) (before (port_size diagram m b) (shown_ports b.kind b.outputs)) other in
@@ -162,7 +161,7 @@ module _ (diagram : Diagram) (plan : Resolved) (allowed : StagesAreAllowed diagr
 
   registers_one : (m : ℕ) → m < length diagram.blocks → registers_by diagram plan m (slice_get diagram.blocks m) * own_hubs diagram m ≤ registers_at diagram a plan m (slice_get diagram.blocks m)
   registers_one m below =
-      let some = some_block diagram.blocks m below in
+      let some = get_some diagram.blocks m below in
       let b : Block = some.0 in
       let at = some.1 in
       let here : registers_each diagram a plan m b * own_hubs diagram m ≤ registers_at diagram a plan m (Some b) = elim (shows_one diagram a m b.kind b.inputs b.outputs (readable_at diagram ordered.checked.wired m b at).ports) [
@@ -198,7 +197,7 @@ module _ (diagram : Diagram) (plan : Resolved) (allowed : StagesAreAllowed diagr
 
   own_multiplying : (m : ℕ) → m < length diagram.blocks → multiplies diagram m ≡ true → own_hubs diagram m ≡ a.width_at m 1
   own_multiplying m below is =
-      let some = some_block diagram.blocks m below in
+      let some = get_some diagram.blocks m below in
       let b : Block = some.0 in
       let at = some.1 in
       let kind : (row_of b.kind).hardware.multiplies ≡ true = sym (ap multiplies_if at) ∙ is in
@@ -213,7 +212,7 @@ module _ (diagram : Diagram) (plan : Resolved) (allowed : StagesAreAllowed diagr
   owns m = multiplies diagram m && not (is_shared diagram a plan m)
 
   products_one : (m : ℕ) → m < length diagram.blocks → products_by diagram plan m * own_hubs diagram m ≡ (if owns m then a.width_at m 1 else 0)
-  products_one m below = elim (both (owns m)) [
+  products_one m below = elim (cases_Bool (owns m)) [
     | inl is ↦
         (let one : products_by diagram plan m * own_hubs diagram m ≡ 1 * own_hubs diagram m = ap (λ (t : Bool). (if t then 1 else 0) * own_hubs diagram m) is in
         let width : (if owns m then a.width_at m 1 else 0) ≡ a.width_at m 1 = ap (λ (t : Bool). if t then a.width_at m 1 else 0) is in

@@ -13,7 +13,7 @@ use Rattle.hw_net.specs.Frames.{IsCounter, counted_frame}
 use Rattle.hw_net.specs.Growing.{Appends, IsConnected}
 use Rattle.hw_net.specs.Netlist.{reads}
 use Rattle.hw_net.proofs.Growing.{front-of, longer, still-there, stood-there}
-use Rattle.hw_net.proofs.Places.{at-place}
+use Rattle.fx_io.proofs.Places.{held}
 use Rattle.hw_shows.specs.Timing.{Timing}
 use Rattle.hw_build.specs.Pipelined.{stage_name}
 use Rattle.hw_build.specs.inner.Piping.{own_frame, stage_net, wire_of}
@@ -42,7 +42,7 @@ there_by_call before after named appends read = record {
       let more = longer before after appends.extends in
       elim (cases_lt k (length before.nets)) [
         | inl old ↦ let h = read.each k net i r (stood-there before after k net appends.extends old at) reads_it in omega (arith, h, more)
-        | inr new ↦ at-place (λ (x : ℕ). x < length after.nets) (reads net.kind) i r (appends.each k net new at).there reads_it
+        | inr new ↦ held (λ (x : ℕ). x < length after.nets) (reads net.kind) i r (appends.each k net new at).there reads_it
       ];
 }
 

@@ -9,7 +9,7 @@ use Rattle.hw_net.specs.Frames.{IsCounter}
 use Rattle.hw_net.specs.Growing.{Appends, MayRead, IsConnected}
 use Rattle.hw_net.specs.Netlist.{reads}
 use Rattle.hw_net.proofs.Growing.{stood-there}
-use Rattle.hw_net.proofs.Places.{at-place}
+use Rattle.fx_io.proofs.Places.{held}
 use Rattle.hw_build.specs.inner.Unread.{AreReadInTurn}
 use Rattle.hw_build.proofs.Levels.{given, connected_here, connected_elsewhere}
 
@@ -21,7 +21,7 @@ in_turn_by_call before after named first last appends there other none are = rec
     | inl inside ↦ are.by k net i read (stood-there before after k net appends.extends inside at) reads_it low high
     | inr past ↦
         let is = appends.each k net past at in
-        elim (at-place (MayRead before after named) (reads net.kind) i read is.allowed reads_it) [
+        elim (held (MayRead before after named) (reads net.kind) i read is.allowed reads_it) [
           | inl names ↦ elim (other read names) [ inl below ↦ absurd (omega (arith, below, low)) | inr above ↦ absurd (omega (arith, above, high)) ]
           | inr rest ↦ elim rest [ inl new ↦ absurd (omega (arith, new, high, there)) | inr counter ↦ absurd (none read low high counter) ]
         ]

@@ -1,10 +1,9 @@
 -- The widths of a diagram that keeps the rule of dimensions: the inputs of a block that works element by element have one element or as many as the block.
-use Rattle.std.proofs.Common.{◌≡◌, ℕ, zero, suc, ◌+◌, ◌-◌, ◌<◌, ◌≤◌, Bool, true, false, List, [], ◌∷◌, map, length, Option, Some, ap, sym, ◌∙◌, subst, refl, arith, All}
+use Rattle.std.proofs.Common.{◌≡◌, ℕ, ◌+◌, ◌-◌, ◌<◌, ◌≤◌, Bool, true, false, List, [], ◌∷◌, map, length, Option, Some, ap, sym, ◌∙◌, subst, refl, arith}
 use Rattle.std.specs.Prelude.{slice_get, slice_index_or, min, max}
 use Rattle.std.proofs.lemmas.Bool.{false≢true}
-use Rattle.std.proofs.lemmas.Option.{none-some, slice_get_within, get_or_from_slice_get}
+use Rattle.std.proofs.lemmas.Option.{none-some}
 use Rattle.fx_type.specs.declared.decimal.Decimal.{Decimal}
-use Rattle.dg_waves.specs.Rounds.{numbers_from}
 use Rattle.dg_model.specs.declared.diagram.Diagram.{Diagram}
 use Rattle.dg_model.specs.declared.diagram.Block.{Block}
 use Rattle.dg_model.specs.declared.diagram.Edge.{Edge}
@@ -21,21 +20,15 @@ use Rattle.dg_model.specs.Widths.{width_at, widths_of, input_widths, greatest, l
 use Rattle.dg_model.specs.Wires.{at_source, width_into, widths_into}
 use Rattle.hw_shows.specs.Timed.{lag_of}
 use Rattle.hw_build.specs.inner.Facts.{LateAreWide}
-
-pub held : {A : Type 0} (P : A → Type 0) (xs : List A) (k : ℕ) (x : A) → All P xs → slice_get xs k ≡ Some x → P x
-held P xs k x all at = subst P (get_or_from_slice_get xs k x x at) (all k x (slice_get_within xs k x at))
-
-mapped : {A : Type 0} (f : ℕ → A) (from n k : ℕ) → k < n → slice_get (map f (numbers_from from n)) k ≡ Some (f (from + k))
-mapped f from zero k below = absurd (omega (arith, below))
-mapped f from (suc n) zero below = ap (λ (x : ℕ). Some (f x)) (omega arith)
-mapped f from (suc n) (suc k) below = mapped f (suc from) n k (omega (arith, below)) ∙ ap (λ (x : ℕ). Some (f x)) (omega arith)
+use Rattle.dg_waves.proofs.Waved.{mapped_at}
+use Rattle.fx_io.proofs.Places.{held}
 
 -- the width into a port is among those of the inputs
 width_listed : WidthsAreOfEdges → (diagram : Diagram) → IsChecked diagram → (block : ℕ) (b : Block) (port : ℕ) → slice_get diagram.blocks block ≡ Some b → 1 ≤ port → port ≤ b.inputs
     → slice_get (input_widths diagram (widths_of diagram) block) (port - 1) ≡ Some (width_into diagram (attributes_of diagram) block port)
 width_listed law diagram checked block b port at from to =
     let same : widths_into diagram (attributes_of diagram) block b.inputs ≡ input_widths diagram (widths_of diagram) block = law diagram (attributes_of diagram) block b checked.wired at in
-    let here = mapped (width_into diagram (attributes_of diagram) block) 1 b.inputs (port - 1) (omega (arith, from, to)) in
+    let here = mapped_at (width_into diagram (attributes_of diagram) block) 1 b.inputs (port - 1) (omega (arith, from, to)) in
     let number : 1 + (port - 1) ≡ port = omega (arith, from) in
     ap (λ (xs : List ℕ). slice_get xs (port - 1)) (sym same) ∙ here ∙ ap (λ (x : ℕ). Some (width_into diagram (attributes_of diagram) block x)) number
 

@@ -1,5 +1,5 @@
 -- The arcs of a diagram, edge by edge.
-use Rattle.std.proofs.Common.{◌≡◌, ℕ, zero, suc, ◌+◌, ◌<◌, ◌≤◌, Bool, true, false, cond, List, [], ◌∷◌, ◌++◌, length, map, drop, get_or, ⊎_elim, refl, sym, ap, subst, ◌∙◌, arith}
+use Rattle.std.proofs.Common.{◌≡◌, ℕ, ◌+◌, ◌<◌, ◌≤◌, Bool, true, false, cond, List, [], ◌∷◌, ◌++◌, length, map, drop, get_or, ⊎_elim, refl, sym, ap, subst, ◌∙◌}
 use Rattle.std.specs.Prelude.{slice_get, Some, None, Option}
 use Rattle.std.proofs.lemmas.List.{append_assoc, append-nil, drop_all}
 use Rattle.std.proofs.lemmas.Option.{none-some, same_Some, slice_get_within, slice_get-get_or}
@@ -18,7 +18,7 @@ use Rattle.hw_latency.specs.Control.{control_ever}
 use Rattle.hw_latency.specs.Weight.{arc_between, arc_of, latency_arcs}
 use Rattle.hw_latency.specs.inner.Asked.{IsArcPut, IsControlPut, IsPutBy}
 use Rattle.dg_sort.proofs.Lines.{from_there, to_there, control_there, lines_from, controls_from}
-use Rattle.fx_io.proofs.Places.{push_cases}
+use Rattle.fx_io.proofs.Places.{push_cases, get_some}
 
 -- the arcs of all edges but these are listed
 pub record IsListing (diagram : Diagram) (plan : Resolved) (fed : List Bool) (arcs : List Arc) (rest : List LatencyEdge) : Type 0 where
@@ -94,11 +94,6 @@ line_put diagram plan fed arcs after i slice d wired same inside put listing =
     let at : slice_get diagram.edges i ≡ Some (get_or slice i d) = ap (λ (es : List Edge). slice_get es i) (sym same) ∙ slice_get-get_or slice i d inside in
     subst (λ (as_put : List Arc). IsListing diagram plan fed as_put (map signal_edge (drop (i + 1) diagram.edges) ++ enable_edges_from 0 diagram.blocks)) (sym put.put)
     (line_listed diagram plan fed arcs i (get_or slice i d) put.arc wired at put.is put.begins put.ends put.small listing)
-
-get_some : {A : Type 0} (xs : List A) (k : ℕ) → k < length xs → (x : A) × (slice_get xs k ≡ Some x)
-get_some [] k below = absurd (omega (arith, below))
-get_some (x ∷ xs) zero below = (x, refl)
-get_some (x ∷ xs) (suc k) below = get_some xs k (omega (arith, below))
 
 pub control_put : (diagram : Diagram) (plan : Resolved) (fed : List Bool) (arcs after : List Arc) (i : ℕ) → IsWired diagram → i < length diagram.blocks → IsControlPut diagram plan fed arcs after i → IsListing diagram plan fed arcs (enable_edges_from i (drop i diagram.blocks))
     → IsListing diagram plan fed after (enable_edges_from (i + 1) (drop (i + 1) diagram.blocks))

@@ -1,5 +1,5 @@
--- One use after another.
-use Rattle.std.proofs.Common.{◌≡◌, ℕ, zero, suc, ◌+◌, ◌-◌, ◌*◌, ◌/◌, ◌<◌, ◌≤◌, ◌||◌, inl, inr, List, [], ◌∷◌, ◌++◌, map, take, drop, length, All, Contains, Option, None, Some, is_some, slice_get, slice_index_or, Bool, true, false, if◌then◌else◌, ap, sym, ◌∙◌, subst, arith, refl, length-append, mul-le-mul_right}
+-- One use after another. Crates above may cite this file.
+use Rattle.std.proofs.Common.{◌≡◌, ℕ, zero, suc, ◌+◌, ◌-◌, ◌*◌, ◌/◌, ◌<◌, ◌≤◌, ◌||◌, inl, inr, List, [], ◌∷◌, ◌++◌, take, drop, length, All, Contains, Option, None, Some, is_some, slice_get, slice_index_or, Bool, true, false, if◌then◌else◌, ap, sym, ◌∙◌, subst, arith, refl, length-append, mul-le-mul_right}
 use Rattle.std.proofs.Math.Seq.{take-suc, drop-cons}
 use Rattle.std.proofs.lemmas.Option.{slice_get_within, slice_get-get_or, get_or_from_slice_get}
 use Rattle.hw_net.specs.declared.netlist.Frame.{Frame}
@@ -14,6 +14,7 @@ use Rattle.hw_lines.specs.Chain.{IsSource, IsAnswer, AreAnswers, IsChained, IsCo
 use Rattle.hw_lines.specs.inner.Parts.{CanHold, Grows, AreTaps}
 use Rattle.hw_lines.specs.inner.Ends.{IsEndFor, IsDone, frames_of}
 use Rattle.hw_lines.proofs.Steps.{tap-can-hold, taps-stay, answer-stays, grows-wider}
+use Rattle.fx_io.proofs.Places.{there_map}
 
 among-more : (frame : Frame) (frames : List Frame) (one : Frame) → is_among frame (frames ++ one ∷ []) ≡ (is_among frame frames || is_same_frame one frame)
 among-more frame [] one = by (is_same_frame one frame)
@@ -26,21 +27,6 @@ among-more frame (other ∷ frames) one = by (is_same_frame other frame) (among-
     by : (is : Bool) → is_among frame (frames ++ one ∷ []) ≡ (is_among frame frames || is_same_frame one frame) → (is || is_among frame (frames ++ one ∷ [])) ≡ ((is || is_among frame frames) || is_same_frame one frame)
     by true rest = refl
     by false rest = rest
-
-map-get : {A B : Type 0} (f : A → B) (xs : List A) (i : ℕ) (x : A) → slice_get xs i ≡ Some x → slice_get (map f xs) i ≡ Some (f x)
-map-get f [] i x e = absurd (none-some x e)
-  where
-    none-some : {A : Type 0} (x : A) → None ≡ Some x → ⊥
-    none-some x e = cc
-map-get f (y ∷ xs) zero x e = ap Some (ap f (same y x e))
-  where
-    same : {A : Type 0} (x y : A) → Some x ≡ Some y → x ≡ y
-    same x y e = cc
-map-get f (y ∷ xs) (suc i) x e = map-get f xs i x e
-
-map-length : {A B : Type 0} (f : A → B) (xs : List A) → length (map f xs) ≡ length xs
-map-length f [] = refl
-map-length f (x ∷ xs) = ap suc (map-length f xs)
 
 pub most-of : (period : ℕ) (uses : List Use) (i : ℕ) (one : Use) → slice_get uses i ≡ Some one → one.shift / period ≤ most_frames period uses
 most-of period [] i one e = absurd (let f : None ≡ Some one = e in cc)
@@ -80,7 +66,7 @@ module _ (before now new : Circuit) (source : Source) (uses : List Use) (bound :
   frames = frames_of source uses
 
   frame-at : slice_get frames i ≡ Some (reader_of source one)
-  frame-at = map-get (reader_of source) uses i one at
+  frame-at = there_map (reader_of source) uses i one at
 
   inside : i < length frames
   inside = slice_get_within frames i (reader_of source one) frame-at

@@ -1,4 +1,4 @@
--- The end of a line is an answer for its use.
+-- The end of a line is an answer for its use. Crates above may cite this file.
 use Rattle.std.proofs.Common.{◌≡◌, ℕ, zero, suc, Result, Ok, Err, IfOk, OnOk, ◌+◌, ◌-◌, ◌*◌, ◌/◌, ◌%◌, ◌<◌, ◌≤◌, ◌⊎◌, length, inl, inr, List, Some, slice_get, Bool, true, false, ap, sym, ◌∙◌, subst, arith, refl}
 use Rattle.std.proofs.Math.Nat.{mul-mod_left}
 use Rattle.std.proofs.lemmas.Nat.{div-add-mod'}
@@ -26,7 +26,7 @@ longest : (part times all : ℕ) → all ≡ times * part → 0 < all → part �
 longest part zero all e k = absurd (omega arith)
 longest part (suc times) all e k = omega arith
 
-part-below : (all part : ℕ) → all % part ≡ 0 → 0 < all → part ≤ all
+pub part-below : (all part : ℕ) → all % part ≡ 0 → 0 < all → part ≤ all
 part-below all part even some = longest part (all / part) all (omega (arith, div-add-mod' all part, even)) some
 
 true-false : {b : Bool} → b ≡ true → b ≡ false → ⊥

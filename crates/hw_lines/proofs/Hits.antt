@@ -1,4 +1,4 @@
--- From hits in base samples to frames in clocks.
+-- From hits in base samples to frames in clocks. Crates above may cite this file.
 use Rattle.std.proofs.Common.{◌≡◌, ℕ, zero, suc, ◌+◌, ◌-◌, ◌*◌, ◌/◌, ◌%◌, ◌<◌, ◌≤◌, ℤ, ap, ◌∙◌, arith, subst, mul-le-mul_right}
 use Rattle.std.proofs.lemmas.Nat.{div-add-mod', mul-lt}
 use Rattle.hw_net.specs.Registers.{Wave, Span, IsReg, IsBridge}
@@ -9,7 +9,7 @@ use Rattle.hw_lines.specs.Taps.{IsTap, IsShifted}
 use Rattle.hw_lines.proofs.Taps.{reg-shows, reg-begins, bridge-shows}
 
 -- the number of a hit's frame
-hit-number : (t p : ℕ) → t % p ≡ 0 → t ≡ t / p * p
+pub hit-number : (t p : ℕ) → t % p ≡ 0 → t ≡ t / p * p
 hit-number t p e = omega (arith, div-add-mod' t p)
 
 seen-frame : (t L R F p i k r : ℕ) → t ≡ i * p → R ≡ L + (k * p + r) → (t + R) * F ≡ L * F + (i + k) * (p * F) + r * F

@@ -1,7 +1,7 @@
--- A register or a bridge that is put behind a net, after the Counter of its frame.
-use Rattle.std.proofs.Common.{◌≡◌, ℕ, zero, suc, get_or, Result, Ok, Err, IfOk, OnOk, ℤ, ◌+◌, ◌*◌, ◌<◌, ◌≤◌, inl, inr, List, [], ◌∷◌, ◌++◌, length, All, Contains, Option, None, Some, IsSome, slice_get, slice_index_or, true, false, ap, sym, ◌∙◌, subst, arith, refl}
+-- A register or a bridge that is put behind a net, after the Counter of its frame. Crates above may cite this file.
+use Rattle.std.proofs.Common.{◌≡◌, ℕ, zero, suc, Result, Ok, Err, IfOk, OnOk, ℤ, ◌+◌, ◌*◌, ◌<◌, ◌≤◌, inl, inr, [], ◌∷◌, ◌++◌, length, All, Contains, Option, None, Some, IsSome, slice_get, slice_index_or, true, false, ap, sym, ◌∙◌, subst, arith, refl}
 use Rattle.std.proofs.lemmas.Bool.{cases_lt}
-use Rattle.std.proofs.lemmas.Option.{slice_get_within, slice_get_read}
+use Rattle.std.proofs.lemmas.Option.{slice_get_within}
 use Rattle.std.specs.Prelude.{⊤}
 use Rattle.hw_net.specs.Registers.{IsReg, IsBridge}
 use Rattle.fx_num.specs.Word.{IsWord, InWord}
@@ -126,12 +126,7 @@ module _ (a b : Circuit) (frame : Frame) (some : 0 < frame.period) (counted : Is
 same-net : {x y : Net} → Some x ≡ Some y → x ≡ y
 same-net e = cc
 
--- a net that was read by its number is the net that is there
-pub read-net : (nets read : List Net) (from : ℕ) (source result : Net) → read ≡ nets → slice_get nets from ≡ Some source → result ≡ get_or read from result → result ≡ source
-read-net nets read from source result same there is =
-    same-net (sym (slice_get_read nets (length nets) from result refl (slice_get_within nets from source there) (rw same at is)) ∙ there)
-
-one-all : (P : ℕ → Type 0) (from : ℕ) → P from → All P (from ∷ [])
+pub one-all : (P : ℕ → Type 0) (from : ℕ) → P from → All P (from ∷ [])
 one-all P from p k d within =
     let e : from ≡ slice_index_or (from ∷ []) k d = first-of k d within in
     subst P e p

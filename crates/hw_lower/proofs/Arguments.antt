@@ -1,5 +1,5 @@
 -- What a plan gives of its arguments.
-use Rattle.std.proofs.Common.{◌≡◌, ℕ, ◌+◌, ◌<◌, ◌≤◌, inl, inr, Bool, true, false, List, [], ◌∷◌, ◌++◌, length, slice_get, Some, ℤ, pos, negsuc, ◌+ℤ◌, ◌≤ℤ◌, to_z, of_z, FitsSigned, All, Result, Ok, Err, IfOk, OnErr, IsOk, sym, ap, ◌∙◌, subst, arith, refl}
+use Rattle.std.proofs.Common.{◌≡◌, ℕ, ◌+◌, ◌<◌, ◌≤◌, inl, inr, Bool, true, false, List, [], ◌∷◌, ◌++◌, length, slice_get, Some, ℤ, pos, negsuc, ◌+ℤ◌, ◌≤ℤ◌, to_z, of_z, FitsSigned, All, Result, IfOk, sym, ap, ◌∙◌, subst, arith, refl}
 use Rattle.std.specs.Prelude.{MatchBool}
 use Rattle.std.specs.Int.{w16}
 use Rattle.std.proofs.lemmas.Int.{ints}
@@ -20,7 +20,7 @@ use Rattle.hw_lower.specs.inner.Planned.{Numbers, IsSwitched, word_of, step_of}
 use Rattle.hw_lower.specs.inner.Spread.{AreArguments, AreInputs, HasArguments, OfArguments, IsPlanned, IsScaled}
 use Rattle.fx_io.proofs.Places.{last_at}
 use Rattle.hw_lower.proofs.Made.{one-longer, still-at}
-use Rattle.hw_lower.proofs.Products.{type-word}
+use Rattle.fx_type.proofs.Ranges.{type-word}
 
 -- the range of an argument
 pub range-at : (types : List FxType) (numbers : Numbers) (values : List ℤ) (k : ℕ) → AreArguments types numbers values → k < length types → InRange (type_of types k) (numbers k)
@@ -124,8 +124,3 @@ pub plan-typed : {E : Type 0} (old new : List Step) (operation : Operation) (op 
 plan-typed old new operation op type result e f is =
     plan-of old new operation op result e
     (subst (λ (t : FxType). IfOk result (λ made. IsPlanned old new (multiply_of op) (word_of t) (λ numbers. OfArguments operation.types numbers (λ values. Gives op operation operation.types values (numbers made.place))) made)) (sym f) is)
-
--- what is there is found
-pub found-ok : {E : Type 0} (P : FxType → Type 0) (result : Result FxType E) → OnErr result ((type : FxType) → ¬ P type) → (type : FxType) × P type → IsOk result
-found-ok P (Ok type) none some = refl
-found-ok P (Err e) none some = absurd (none some.0 some.1)

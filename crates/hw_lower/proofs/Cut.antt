@@ -11,7 +11,8 @@ use Rattle.hw_lower.specs.declared.plan.Word.{Word}
 use Rattle.hw_lower.specs.inner.Planned.{IsChosen}
 use Rattle.fx_num.specs.Word.{IsWord, InWord, IsWrapped}
 use Rattle.fx_num.proofs.Arithmetic.{add-scaled}
-use Rattle.hw_net.proofs.Numbers.{wrapped-is, is-same, not-same}
+use Rattle.hw_net.proofs.Modular.{is-same, not-same}
+use Rattle.hw_net.proofs.Numbers.{wrapped-is}
 
 -- what a Choose gives
 pub chosen-is : (width : ℕ) (signed : Bool) (test chosen other r : ℤ) → IsWord width signed → InWord width signed chosen → (test ≡ pos 0 → InWord width signed other)

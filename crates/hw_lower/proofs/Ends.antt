@@ -11,6 +11,7 @@ use Rattle.fx_type.specs.Conversion.{Saturates}
 use Rattle.hw_lower.specs.declared.plan.Word.{Word}
 use Rattle.hw_lower.specs.inner.Planned.{IsHeldBelow, IsHeldAbove}
 use Rattle.hw_net.proofs.Numbers.{wrapped-is}
+use Rattle.hw_net.proofs.Words.{lowest-below}
 
 pub up-bound : (high floor : ℤ) (d : ℕ) → IsDivided high d floor → (v : ℤ) → ((v *ℤ pos d) ≤ℤ high) ↔ (v ≤ℤ floor)
 up-bound high floor d is v = (
@@ -38,10 +39,6 @@ none-low low d most more v = (
 pub highest-least : (width : ℕ) (signed : Bool) → pos 0 ≤ℤ word_highest width signed
 highest-least width true = omega (arith, ints)
 highest-least width false = omega (arith, ints)
-
-pub lowest-most : (width : ℕ) (signed : Bool) → word_lowest width signed ≤ℤ pos 0
-lowest-most width true = omega (arith, ints)
-lowest-most width false = omega (arith, ints)
 
 pub highest-small : (width : ℕ) (signed : Bool) → IsWord width signed → word_highest width signed <ℤ pos (2 ^ 127)
 highest-small width true word =
@@ -92,13 +89,13 @@ lowest-large width true up word past =
 lowest-large width false up word past = omega (arith, ints, pow_pos up)
 
 pub least-far : (width : ℕ) (signed : Bool) (up : ℕ) → IsWord width signed → width ≤ up → (v : ℤ) → (word_lowest width signed ≤ℤ (v *ℤ pos (2 ^ up))) ↔ (pos 0 ≤ℤ v)
-least-far width signed up word past = none-low (word_lowest width signed) (2 ^ up) (lowest-most width signed) (lowest-large width signed up word past)
+least-far width signed up word past = none-low (word_lowest width signed) (2 ^ up) (lowest-below width signed) (lowest-large width signed up word past)
 
 -- both ends held
 pub both-held : (word : Word) (frac exact value below made : ℤ) → IsWord word.width word.signed → IsWrapped exact word.width word.signed value → IsHeldBelow word exact value below → IsHeldAbove word exact below made
     → Saturates (Num word.signed word.width frac) exact made
 both-held word frac exact value below made valid wrapped high low =
-    let ends : word_lowest word.width word.signed ≤ℤ word_highest word.width word.signed = omega (arith, ints, lowest-most word.width word.signed, highest-least word.width word.signed) in
+    let ends : word_lowest word.width word.signed ≤ℤ word_highest word.width word.signed = omega (arith, ints, lowest-below word.width word.signed, highest-least word.width word.signed) in
     record {
       inside = λ has.
           low.within has.low ∙ high.within has.high ∙ wrapped-is exact word.width word.signed value valid (record { low = has.low; high = has.high }) wrapped;

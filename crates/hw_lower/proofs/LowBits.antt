@@ -2,11 +2,13 @@
 use Rattle.std.proofs.Common.{◌≡◌, ◌↔◌, ℕ, suc, ◌+◌, ◌-◌, ◌*◌, ◌/◌, ◌%◌, ◌^◌, ◌<◌, ◌≤◌, Bool, true, false, ℤ, pos, negsuc, ◌+ℤ◌, ◌*ℤ◌, ap, sym, ◌∙◌, subst, arith, pow_pos, pow_mono, mod-lt, div-add-mod', true≢false}
 use Rattle.std.proofs.lemmas.Int.{ints}
 use Rattle.std.proofs.lemmas.Nat.{pow-add, mod_below, shr_high, shr_le, mod-pow-add}
-use Rattle.std.proofs.Math.Nat.{mod-eq_of_lt, div-eq_of_lt, add-mul}
+use Rattle.std.proofs.Math.Nat.{mod-eq_of_lt, add-mul}
 use Rattle.fx_num.specs.Word.{IsWord, InWord}
 use Rattle.fx_num.proofs.Arithmetic.{double}
 use Rattle.hw_net.specs.Operation.{low_bits, shifted_down}
 use Rattle.hw_lower.specs.inner.Planned.{bit_of}
+use Rattle.fx_num.proofs.Words.{size-below, size-half}
+use Rattle.hw_net.proofs.Words.{only-sign}
 
 pub low-below : (k : ℕ) (z : ℤ) → low_bits k z < 2 ^ k
 low-below k (pos n) = mod-lt n (pow_pos k)
@@ -44,30 +46,6 @@ bit-small z place = low-below 1 (shifted_down z place)
 pub whole-is : (k : ℕ) (z : ℤ) → z ≡ shifted_down z k *ℤ pos (2 ^ k) +ℤ pos (low_bits k z)
 whole-is k (pos n) = omega (arith, ints, div-add-mod' n (2 ^ k))
 whole-is k (negsuc n) = omega (arith, ints, div-add-mod' n (2 ^ k), mod-lt n (pow_pos k), pow_pos k)
-
--- the sign: -1 or 0
-abbrev pub sign_of : ℤ → ℤ
-sign_of (pos n) = pos 0
-sign_of (negsuc n) = negsuc 0
-
--- the absolute value, or one less below 0
-abbrev pub size_of : ℤ → ℕ
-size_of (pos n) = n
-size_of (negsuc n) = n
-
-pub size-below : (width : ℕ) (signed : Bool) (z : ℤ) → IsWord width signed → InWord width signed z → size_of z < 2 ^ width
-size-below width true (pos n) w r = omega (arith, ints, r.high, pow_pos (width - 1), double width (omega (arith, w.0)))
-size-below width true (negsuc n) w r = omega (arith, ints, r.low, pow_pos (width - 1), double width (omega (arith, w.0)))
-size-below width false (pos n) w r = omega (arith, ints, r.high, pow_pos width)
-size-below width false (negsuc n) w r = absurd (omega (arith, ints, r.low))
-
-pub size-half : (width : ℕ) (z : ℤ) → InWord width true z → size_of z < 2 ^ (width - 1)
-size-half width (pos n) r = omega (arith, ints, r.high, pow_pos (width - 1))
-size-half width (negsuc n) r = omega (arith, ints, r.low, pow_pos (width - 1))
-
-pub only-sign : (z : ℤ) (k : ℕ) → size_of z < 2 ^ k → shifted_down z k ≡ sign_of z
-only-sign (pos n) k h = ap pos (div-eq_of_lt h)
-only-sign (negsuc n) k h = ap negsuc (div-eq_of_lt h)
 
 -- past a signed word each bit is its highest
 pub bit-past : (width place : ℕ) (z : ℤ) → InWord width true z → width ≤ place → bit_of z (width - 1) ≡ bit_of z place

@@ -1,23 +1,16 @@
--- A product is in the word of its full type.
+-- A product is in the word of its full type. Crates above may cite this file.
 use Rattle.std.proofs.Common.{◌≡◌, ℕ, ◌-◌, ◌*◌, ◌^◌, ◌<◌, ◌≤◌, Bool, true, false, true≢false, cond, ◌||◌, ℤ, pos, ◌*ℤ◌, ◌≤ℤ◌, ap, sym, mul_comm, ◌∙◌, arith, pow_pos, unsigned_abs, refl, subst}
 use Rattle.std.proofs.lemmas.Int.{ints}
 use Rattle.std.proofs.Math.Dec.{lit<, lit≤}
-use Rattle.fx_num.specs.Word.{IsWord, InWord, IsWrapped}
+use Rattle.fx_num.specs.Word.{InWord, IsWrapped}
 use Rattle.fx_type.specs.declared.kind.FxType.{FxType}
 use Rattle.fx_type.specs.declared.kind.FxType.TheVariants.{Num, Logical}
 use Rattle.fx_type.specs.FxType.{IsType, InRange, is_signed, width_of}
 use Rattle.fx_type.specs.FullType.{IsFullProduct}
 use Rattle.hw_net.proofs.Numbers.{wrapped-is}
-use Rattle.hw_net.proofs.Magnitudes.{abs-between, abs-below, below-power, below-power-strict, signed-product, unsigned-product}
-
--- the word of a valid type is one, and has its range
-pub type-word : (type : FxType) → IsType type → IsWord (width_of type) (is_signed type)
-type-word (Num signed width frac) valid = valid.0
-type-word Logical valid = (lit≤ tt, lit≤ tt)
-
-pub range-word : (type : FxType) (v : ℤ) → InRange type v → InWord (width_of type) (is_signed type) v
-range-word (Num signed width frac) v range = record { low = range.low; high = range.high }
-range-word Logical v range = record { low = range.low; high = omega (arith, ints, range.high) }
+use Rattle.fx_num.proofs.Arithmetic.{abs-between, abs-below, below-power, below-power-strict}
+use Rattle.hw_net.proofs.Magnitudes.{signed-product, unsigned-product}
+use Rattle.fx_type.proofs.Ranges.{some-width, type-word}
 
 pub word-range : (type : FxType) (v : ℤ) → InWord (width_of type) (is_signed type) v → InRange type v
 word-range (Num signed width frac) v range = record { low = range.low; high = range.high }
@@ -45,11 +38,6 @@ within (Num false width frac) v range =
 within Logical v range =
     let below = abs-below v 2 range.low range.high (lit< tt)
     in record { at_most = omega (arith, below); below = λ e. below; sign = λ e. range.low }
-
-some-width : (type : FxType) → IsType type → 1 ≤ width_of type
-some-width (Num true width frac) valid = omega (arith, valid.0.0)
-some-width (Num false width frac) valid = valid.0.0
-some-width Logical valid = lit≤ tt
 
 signed-exponent : (type : FxType) → is_signed type ≡ true → exponent type ≡ width_of type - 1
 signed-exponent type e = ap (λ b. cond b (width_of type - 1) (width_of type)) e

@@ -8,18 +8,13 @@ use Rattle.fx_type.specs.declared.kind.FxType.{FxType}
 use Rattle.fx_type.specs.declared.kind.FxType.TheVariants.{Num, Logical}
 use Rattle.fx_type.specs.FxType.{IsType, InRange, is_signed, width_of, frac_of, aligned}
 use Rattle.fx_type.specs.FullType.{HoldsType, IsUnion}
-use Rattle.fx_type.proofs.Ranges.{int_max_cases, gap_none}
+use Rattle.fx_type.proofs.Ranges.{int_max_cases, gap_none, type-word, range-word}
 use Rattle.dg_model.specs.declared.kind.Relation.{Relation}
 use Rattle.dg_model.specs.Operation.{compares, compares_values, stored_truth}
 use Rattle.hw_net.proofs.Numbers.{wrapped-is}
-use Rattle.hw_lower.proofs.Truths.{lt-yes, lt-no}
-use Rattle.hw_lower.proofs.Products.{type-word, range-word}
-
--- two types are the same or not
-int-cases : (x y : ℤ) → (x ≡ y) ⊎ (x ≡ y → ⊥)
-int-cases x y =
-    by_lt_z x y (λ below. inr (λ e. omega (arith, ints)))
-    (λ above. by_lt_z y x (λ below. inr (λ e. omega (arith, ints))) (λ at_most. inl (omega (arith, ints))))
+use Rattle.fx_io.proofs.Tests.{lt-yes}
+use Rattle.hw_lower.proofs.Truths.{lt-no}
+use Rattle.fx_num.proofs.Arithmetic.{int_cases}
 
 bool-cases : (a b : Bool) → (a ≡ b) ⊎ (a ≡ b → ⊥)
 bool-cases true true = inl refl
@@ -37,7 +32,7 @@ type-cases (Num signed width frac) Logical = inr (λ e. (let f : Num signed widt
 type-cases (Num s w f) (Num t v g) =
     elim (bool-cases s t) [
       | inl same ↦ elim (cases_eq w v) [
-        | inl alike ↦ elim (int-cases f g) [
+        | inl alike ↦ elim (int_cases f g) [
           | inl equal ↦ inl (same-number s t w v f g same alike equal)
           | inr other ↦ inr (λ e. other (ap frac_of e))
         ]

@@ -9,7 +9,9 @@ use Rattle.fx_type.specs.declared.rounding.Rounding.TheVariants.{Floor, Ceiling,
 use Rattle.fx_type.specs.Conversion.{IsEven, RoundsDown, RoundsUp, RoundsTiesUp, RoundsTiesDown, RoundsTiesEven, Rounds, IsTruthOf}
 use Rattle.hw_net.specs.Operation.{low_bits, shifted_down}
 use Rattle.hw_lower.specs.inner.Planned.{bit_of, IsChosen, IsPastTie}
-use Rattle.hw_lower.proofs.LowBits.{low-below, split-low, whole-is, bit-small, only-sign, size-half}
+use Rattle.fx_num.proofs.Words.{size-half}
+use Rattle.hw_net.proofs.Words.{only-sign}
+use Rattle.hw_lower.proofs.LowBits.{low-below, split-low, whole-is, bit-small}
 
 -- 0 or 1
 pub two-cases : (n : ℕ) → n < 2 → (n ≡ 0) ⊎ (n ≡ 1)

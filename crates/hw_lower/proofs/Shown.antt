@@ -1,4 +1,4 @@
--- What the nets of a plan show.
+-- What the nets of a plan show. Crates above may cite this file.
 use Rattle.std.proofs.Common.{◌≡◌, ℕ, zero, suc, ◌+◌, ◌-◌, ◌^◌, ◌<◌, ◌≤◌, ◌⊎◌, inl, inr, Contains, false, List, [], ◌∷◌, take, map, length, slice_get, slice_index_or, Option, Some, ℤ, pos, ap, sym, ◌∙◌, subst, arith, refl, length-append}
 use Rattle.std.proofs.lemmas.Bool.{cases_lt}
 use Rattle.std.proofs.lemmas.Option.{none-some, same_Some, slice_get_within, slice_get-get_or}
@@ -25,7 +25,7 @@ use Rattle.hw_lower.specs.inner.Planned.{Numbers, Obeys, IsAt, Gives, operands_o
 use Rattle.hw_lower.specs.inner.Spread.{AreInputs, AreArguments, OfArguments, IsInner, Spreads}
 use Rattle.hw_lower.specs.inner.Placed.{number_of, net_of, AreNets, CanPut}
 use Rattle.hw_lower.proofs.Made.{stood-at}
-use Rattle.hw_lower.proofs.Products.{range-word}
+use Rattle.fx_type.proofs.Ranges.{range-word}
 use Rattle.hw_lower.proofs.Numbered.{number-given, number-later, word-at}
 
 -- a step and its net are given the same
@@ -101,7 +101,7 @@ shown before after later args steps nets keeps n given rows is clock below k ste
     (subst (λ (z : ℤ). IsWrapped z step.word.width step.word.signed (rows place clock)) same (shows clock below))
 
 -- an argument's number
-value-in : (rows : Rows) (clock : ℕ) (args : List ℕ) (k number : ℕ) → slice_get args k ≡ Some number → rows number clock ≡ value_of (values_at rows args clock) k
+pub value-in : (rows : Rows) (clock : ℕ) (args : List ℕ) (k number : ℕ) → slice_get args k ≡ Some number → rows number clock ≡ value_of (values_at rows args clock) k
 value-in rows clock [] k number at = absurd (none-some number at)
 value-in rows clock (arg ∷ args) zero number at = ap (λ (x : ℕ). rows x clock) (sym (same_Some arg number at))
 value-in rows clock (arg ∷ args) (suc k) number at = value-in rows clock args k number at

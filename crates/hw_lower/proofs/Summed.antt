@@ -1,12 +1,12 @@
 -- Sums, term after term, in the word of their full type.
-use Rattle.std.proofs.Common.{◌≡◌, ℕ, zero, suc, ◌+◌, ◌^◌, ◌<◌, ◌≤◌, Bool, false, List, [], ◌∷◌, length, get_or, take, ℤ, pos, neg_ℤ, ◌+ℤ◌, ◌-ℤ◌, ◌≤ℤ◌, All, refl, subst, sym, ap, ◌∙◌, arith}
+use Rattle.std.proofs.Common.{◌≡◌, ℕ, zero, suc, ◌+◌, ◌^◌, ◌<◌, ◌≤◌, Bool, false, List, [], ◌∷◌, length, get_or, take, ℤ, neg_ℤ, ◌+ℤ◌, ◌-ℤ◌, refl, subst, sym, ap, ◌∙◌, arith}
 use Rattle.std.specs.Prelude.{zip}
 use Rattle.std.proofs.lemmas.Int.{ints}
 use Rattle.std.proofs.lemmas.List.{take_all}
 use Rattle.std.proofs.lemmas.Slice.Zip.{length-zip}
 use Rattle.std.proofs.Math.IntN.{+ℤ_idl, +ℤ_assoc}
 use Rattle.fx_num.specs.Word.{IsCongruent, IsWrapped}
-use Rattle.fx_num.proofs.Arithmetic.{add-scaled, scaled-neg}
+use Rattle.fx_num.proofs.Arithmetic.{add-scaled, scaled-neg, IsCongruent-refl}
 use Rattle.fx_type.specs.declared.kind.FxType.{FxType}
 use Rattle.fx_type.specs.FxType.{InRange, is_signed, width_of, frac_of, aligned}
 use Rattle.fx_type.specs.FullType.{Terms, negated_if, IsPossibleSum, IsFullSum}
@@ -14,7 +14,7 @@ use Rattle.dg_model.specs.Operation.{signed_sum, type_of, value_of}
 use Rattle.hw_lower.specs.inner.Planned.{Numbers}
 use Rattle.hw_lower.specs.inner.Spread.{OfArguments}
 use Rattle.hw_net.proofs.Numbers.{wrapped-is}
-use Rattle.hw_lower.proofs.Products.{type-word, range-word}
+use Rattle.fx_type.proofs.Ranges.{type-word, range-word}
 
 -- Congruence.
 
@@ -23,9 +23,6 @@ congruent-sum a b c d m p q = record { turns = p.turns +ℤ q.turns; equal = ome
 
 congruent-negative : (a b : ℤ) (m : ℕ) → IsCongruent a b m → IsCongruent (neg_ℤ a) (neg_ℤ b) m
 congruent-negative a b m p = record { turns = neg_ℤ p.turns; equal = omega (arith, ints, p.equal, scaled-neg p.turns m) }
-
-congruent-same : (a : ℤ) (m : ℕ) → IsCongruent a a m
-congruent-same a m = record { turns = pos 0; equal = omega (arith, ints) }
 
 congruent-then : (a b c : ℤ) (m : ℕ) → IsCongruent a b m → IsCongruent b c m → IsCongruent a c m
 congruent-then a b c m p q = record { turns = p.turns +ℤ q.turns; equal = omega (arith, ints, p.equal, q.equal, add-scaled p.turns q.turns m) }
@@ -37,19 +34,19 @@ wrapped-negative v a r width signed p q = record { in_word = q.in_word; congruen
 pub wrapped-difference : (total v a r : ℤ) (width : ℕ) (signed : Bool) → IsWrapped v width signed a → IsWrapped (total -ℤ a) width signed r → IsWrapped (total +ℤ neg_ℤ v) width signed r
 wrapped-difference total v a r width signed p q = record {
   in_word = q.in_word;
-  congruent = congruent-then r (total -ℤ a) (total +ℤ neg_ℤ v) (2 ^ width) q.congruent (congruent-sum total total (neg_ℤ a) (neg_ℤ v) (2 ^ width) (congruent-same total (2 ^ width)) (congruent-negative a v (2 ^ width) p.congruent));
+  congruent = congruent-then r (total -ℤ a) (total +ℤ neg_ℤ v) (2 ^ width) q.congruent (congruent-sum total total (neg_ℤ a) (neg_ℤ v) (2 ^ width) (IsCongruent-refl total (2 ^ width)) (congruent-negative a v (2 ^ width) p.congruent));
 }
 
 pub wrapped-sum : (total v a r : ℤ) (width : ℕ) (signed : Bool) → IsWrapped v width signed a → IsWrapped (total +ℤ a) width signed r → IsWrapped (total +ℤ v) width signed r
 wrapped-sum total v a r width signed p q = record {
   in_word = q.in_word;
-  congruent = congruent-then r (total +ℤ a) (total +ℤ v) (2 ^ width) q.congruent (congruent-sum total total a v (2 ^ width) (congruent-same total (2 ^ width)) p.congruent);
+  congruent = congruent-then r (total +ℤ a) (total +ℤ v) (2 ^ width) q.congruent (congruent-sum total total a v (2 ^ width) (IsCongruent-refl total (2 ^ width)) p.congruent);
 }
 
 wrapped-total : (total sum v r : ℤ) (width : ℕ) (signed : Bool) → IsWrapped sum width signed total → IsWrapped (total +ℤ v) width signed r → IsWrapped (sum +ℤ v) width signed r
 wrapped-total total sum v r width signed p q = record {
   in_word = q.in_word;
-  congruent = congruent-then r (total +ℤ v) (sum +ℤ v) (2 ^ width) q.congruent (congruent-sum total sum v v (2 ^ width) p.congruent (congruent-same v (2 ^ width)));
+  congruent = congruent-then r (total +ℤ v) (sum +ℤ v) (2 ^ width) q.congruent (congruent-sum total sum v v (2 ^ width) p.congruent (IsCongruent-refl v (2 ^ width)));
 }
 
 -- Sums.
@@ -87,14 +84,6 @@ sum-more frac (s ∷ signs) (t ∷ types) (v ∷ inputs) same_signs same zero h 
 sum-more frac (s ∷ signs) (t ∷ types) (v ∷ inputs) same_signs same (suc k) h =
     ap (λ z. term_of frac s t v +ℤ z) (sum-more frac signs types inputs (omega arith) (omega arith) k (omega arith))
     ∙ sym (+ℤ_assoc (term_of frac s t v) (signed_sum frac (take k (zip signs types)) (take k inputs)) (term_of frac (get_or signs k false) (type_of types k) (value_of inputs k)))
-
--- the greatest frac bounds each type's
-pub frac-bound : (frac : ℤ) (signs : List Bool) (types : List FxType) → All (λ (term : Bool × FxType). frac_of term.1 ≤ℤ frac) (zip signs types) → length signs ≡ length types → (k : ℕ) (d : FxType) → k < length types → frac_of (get_or types k d) ≤ℤ frac
-frac-bound frac [] [] bound same k d h = absurd (omega arith)
-frac-bound frac [] (t ∷ types) bound same k d h = absurd (omega arith)
-frac-bound frac (s ∷ signs) [] bound same k d h = absurd (omega arith)
-frac-bound frac (s ∷ signs) (t ∷ types) bound same zero d h = bound 0 (s, t) (omega arith)
-frac-bound frac (s ∷ signs) (t ∷ types) bound same (suc k) d h = frac-bound frac signs types (λ k e h. bound (suc k) e (omega arith)) (omega arith) k d (omega arith)
 
 -- the first terms, cut to the word
 abbrev pub IsTotal : ℤ → List Bool → List FxType → ℕ → Bool → Numbers → ℕ → ℤ → Type 0

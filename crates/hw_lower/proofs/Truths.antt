@@ -7,7 +7,9 @@ use Rattle.fx_num.specs.Word.{IsWrapped}
 use Rattle.dg_model.specs.Operation.{stored_truth}
 use Rattle.hw_net.specs.Operation.{truth}
 use Rattle.hw_lower.specs.inner.Planned.{IsChosen, IsSwitched}
-use Rattle.hw_net.proofs.Numbers.{wrapped-is, is-same}
+use Rattle.hw_net.proofs.Numbers.{wrapped-is}
+use Rattle.hw_net.proofs.Modular.{only-false, is-same}
+use Rattle.fx_io.proofs.Tests.{lt-yes}
 
 pub truth-is : (b : Bool) (r : ℤ) → IsWrapped (truth b) 1 false r → r ≡ stored_truth b
 truth-is true r is = wrapped-is (pos 1) 1 false r (omega arith, omega arith) (record { low = omega (arith, ints); high = omega (arith, ints) }) is
@@ -20,13 +22,6 @@ not-truth false = omega (arith, ints)
 only-true : (b : Bool) → ¬ (b ≡ false) → b ≡ true
 only-true true h = refl
 only-true false h = absurd (h refl)
-
-only-false : (b : Bool) → ¬ (b ≡ true) → b ≡ false
-only-false true h = absurd (h refl)
-only-false false h = refl
-
-pub lt-yes : (a b : ℤ) → a <ℤ b → int_lt a b ≡ true
-lt-yes a b h = grind (arith, ints)
 
 pub lt-no : (a b : ℤ) → b ≤ℤ a → int_lt a b ≡ false
 lt-no a b h = only-false (int_lt a b) (λ e. omega (arith, ints))

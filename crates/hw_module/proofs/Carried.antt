@@ -1,10 +1,8 @@
 -- The module of a netlist that is built for a diagram carries the diagram's table.
-use Rattle.std.proofs.Common.{◌≡◌, ℕ, zero, suc, ◌+◌, ◌-◌, ◌*◌, ◌%◌, ◌<◌, ◌≤◌, List, [], ◌∷◌, ◌++◌, map, length, codes, None, Some, slice_get, ℤ, Option, ap, sym, ◌∙◌, subst, arith}
+use Rattle.std.proofs.Common.{◌≡◌, ℕ, zero, suc, ◌+◌, ◌-◌, ◌*◌, ◌%◌, ◌<◌, ◌≤◌, List, [], ◌∷◌, ◌++◌, map, length, codes, None, Some, slice_get, Option, ap, sym, ◌∙◌, subst, arith}
 use Rattle.std.specs.Option.{unwrap_or}
 use Rattle.fx_num.specs.Word.{InWord}
-use Rattle.fx_type.specs.declared.kind.FxType.{FxType}
-use Rattle.fx_type.specs.declared.kind.FxType.TheVariants.{Num, Logical}
-use Rattle.fx_type.specs.FxType.{InRange, is_signed, width_of}
+use Rattle.fx_type.specs.FxType.{is_signed, width_of}
 use Rattle.dg_model.specs.declared.diagram.Diagram.{Diagram}
 use Rattle.dg_model.specs.declared.resolved.Resolved.{Resolved}
 use Rattle.dg_model.specs.Attributes.{attributes_of}
@@ -37,14 +35,11 @@ use Rattle.hw_module.specs.inner.Steady.{IsSteadyRun, ShowsThroughout}
 use Rattle.hw_module.proofs.Lists.{paired, relabelled, got, get-below}
 use Rattle.hw_module.proofs.Ported.{can-stall, enabled-rows, is-reset, input-shows, output-bits}
 use Rattle.hw_module.proofs.Thinned.{clocks-show, steady-run}
+use Rattle.fx_type.proofs.Ranges.{range-word}
 
 -- each root input takes a value again and again
 abbrev pub InputsHavePeriods : Diagram → Type 0
 InputsHavePeriods diagram = (place : ℕ) (e : RootElement) → slice_get (root_inputs diagram (attributes_of diagram)) place ≡ Some e → (period : ℕ) × (e.period ≡ Some period)
-
-range-word : (type : FxType) (v : ℤ) → InRange type v → InWord (width_of type) (is_signed type) v
-range-word (Num signed width frac) v r = record { low = r.low; high = r.high }
-range-word Logical v r = record { low = r.low; high = r.high }
 
 pub named-get : (names : List (List ℕ)) (roots : List RootElement) (k : ℕ) (e : NamedElement) → slice_get (named names roots) k ≡ Some e → slice_get roots k ≡ Some e.root
 named-get [] roots k e is = absurd (cc is)

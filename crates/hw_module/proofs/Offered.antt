@@ -1,7 +1,7 @@
 -- A netlist that is built for a diagram offers to its module what it needs.
 use Rattle.std.proofs.Common.{◌≡◌, ℕ, zero, suc, ◌+◌, ◌*◌, ◌<◌, ◌≤◌, true, false, List, [], ◌∷◌, ◌++◌, map, length, drop, Option, Some, slice_get, ℤ, refl, ap, sym, ◌∙◌, subst, arith, append-nil, length-append}
 use Rattle.std.proofs.Math.Seq.{drop-append_seam}
-use Rattle.std.proofs.lemmas.List.{map-append}
+use Rattle.std.proofs.lemmas.List.{map-append, length-map}
 use Rattle.std.proofs.lemmas.Option.{get_or_from_slice_get, slice_get-get_or}
 use Rattle.fx_type.specs.FxType.{is_signed, width_of}
 use Rattle.dg_model.specs.declared.diagram.Diagram.{Diagram}
@@ -99,10 +99,6 @@ zipped f g (port ∷ ports) more (root ∷ roots) same each =
     let rest = zipped f g ports more roots (omega (arith, same)) (λ k e other at there. each (suc k) e other at there) in
     λ i. first i ∷ rest i
 
-mapped-length : {X Y : Type 0} (f : X → Y) (xs : List X) → length (map f xs) ≡ length xs
-mapped-length f [] = refl
-mapped-length f (x ∷ xs) = ap suc (mapped-length f xs)
-
 get-at : (nets : List Net) (k : ℕ) → k < length nets → slice_get nets k ≡ Some (net_at nets k)
 get-at nets k below = slice_get-get_or nets k _ below
 
@@ -164,14 +160,14 @@ module _ (listed : OutputsAreListed) (moving : MovingHavePeriods) (have_periods 
   seam : drop (length ins) names ≡ map (λ (port : NetPort). port.name) netlist.outputs
   seam =
       let apart = map-append (λ (port : NetPort). port.name) netlist.inputs netlist.outputs in
-      let size : length ins ≡ length (map (λ (port : NetPort). port.name) netlist.inputs) = sym built.ports.input_count ∙ sym (mapped-length (λ (port : NetPort). port.name) netlist.inputs) in
+      let size : length ins ≡ length (map (λ (port : NetPort). port.name) netlist.inputs) = sym built.ports.input_count ∙ sym (length-map netlist.inputs (λ (port : NetPort). port.name)) in
       ap (λ (n : ℕ). drop n names) size ∙ ap (drop (length (map (λ (port : NetPort). port.name) netlist.inputs))) apart
       ∙ drop-append_seam (map (λ (port : NetPort). port.name) netlist.inputs) (map (λ (port : NetPort). port.name) netlist.outputs)
 
   ports-are : HasPortsOf netlist names diagram plan timing
   ports-are = record {
     cycles = built.ports.cycles;
-    enough = (let a = mapped-length (λ (port : NetPort). port.name) (netlist.inputs ++ netlist.outputs) in
+    enough = (let a = length-map (netlist.inputs ++ netlist.outputs) (λ (port : NetPort). port.name) in
         let b = length-append netlist.inputs netlist.outputs in
         let c = built.ports.input_count in
         omega (arith, a, b, c));

@@ -1,8 +1,7 @@
 -- The ports of a netlist's module: the header, what drives its inputs, and what its outputs show.
-use Rattle.std.proofs.Common.{◌≡◌, ◌≢◌, ℕ, ◌+◌, ◌*◌, ◌%◌, ◌<◌, ◌≤◌, nat_le, Bool, true, false, not, ◌&&◌, ◌||◌, if◌then◌else◌, List, ◌∷◌, ◌++◌, length, filter, Contains, bytes_eq, codes, Some, None, slice_get, refl, ap, sym, ◌∙◌, subst, append-nil}
+use Rattle.std.proofs.Common.{◌≡◌, ℕ, ◌+◌, ◌*◌, ◌%◌, ◌<◌, ◌≤◌, nat_le, Bool, true, false, not, ◌&&◌, ◌||◌, if◌then◌else◌, List, ◌∷◌, ◌++◌, length, filter, Contains, bytes_eq, codes, Some, None, slice_get, refl, ap, sym, ◌∙◌, subst, append-nil}
 use Rattle.std.specs.List.{list_any}
-use Rattle.std.proofs.lemmas.Bool.{false_from_ne_true, le-leb}
-use Rattle.std.proofs.lemmas.Slice.Eq.{bytes_eq-Decides}
+use Rattle.std.proofs.lemmas.Bool.{le-leb}
 use Rattle.std.proofs.lemmas.List.Elements.{All-contains, Contains-append_left, filter-append}
 use Rattle.std.proofs.lemmas.Option.{get_or_from_slice_get}
 use Rattle.fx_num.specs.Word.{IsWord, InWord}
@@ -30,9 +29,7 @@ use Rattle.vl_emit.proofs.Numbers.{number-bits, number-is}
 use Rattle.vl_emit.proofs.Sounds.{word-at}
 use Rattle.hw_module.specs.inner.Emission.{IsEmissionOf}
 use Rattle.hw_module.proofs.Lists.{get-map, filter-all, filter-none, got}
-
-name-differs : (one other : List ℕ) → one ≢ other → bytes_eq one other ≡ false
-name-differs one other h = false_from_ne_true (bytes_eq one other) (λ e. h ((bytes_eq-Decides one other).0 e))
+use Rattle.fx_io.proofs.Tests.{unequal}
 
 pub can-stall : {netlist : Circuit} {m : Module} → IsEmissionOf netlist m → is_stallable m ≡ true
 can-stall made = ap (list_any (is_bit_input (codes "clk_enable"))) made.header.ports
@@ -52,9 +49,9 @@ module _ {netlist : Circuit} {m : Module} (runs : IsNetlist netlist) (emits : Is
   input-is port c =
       let r = of-mapped (input_port netlist) netlist.inputs port c in
       let named = input-named r.0 r.1 in
-      let a : bytes_eq r.0.name (codes "clk") ≡ false = name-differs r.0.name (codes "clk") named.no_clock in
-      let b : bytes_eq r.0.name (codes "reset") ≡ false = name-differs r.0.name (codes "reset") named.no_reset in
-      let d : bytes_eq r.0.name (codes "clk_enable") ≡ false = name-differs r.0.name (codes "clk_enable") named.no_enable in
+      let a : bytes_eq r.0.name (codes "clk") ≡ false = unequal r.0.name (codes "clk") named.no_clock in
+      let b : bytes_eq r.0.name (codes "reset") ≡ false = unequal r.0.name (codes "reset") named.no_reset in
+      let d : bytes_eq r.0.name (codes "clk_enable") ≡ false = unequal r.0.name (codes "clk_enable") named.no_enable in
       subst (λ (p : Port). IsNumberInput true p ≡ true) r.2 (λ i. not (d i || (a i || b i)))
 
   output-isnt : (port : Port) → Contains (output_ports netlist) port → IsNumberInput true port ≡ false

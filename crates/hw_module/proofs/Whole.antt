@@ -1,15 +1,11 @@
 -- The module of a netlist that is built for a diagram is all that is owed of it.
-use Rattle.std.proofs.Common.{◌≡◌, ℕ, true, Some, refl, ap, ◌∙◌}
+use Rattle.std.proofs.Common.{ap, ◌∙◌}
 use Rattle.dg_model.specs.declared.diagram.Diagram.{Diagram}
-use Rattle.dg_model.specs.declared.kind.Kind.{Kind}
-use Rattle.dg_model.specs.declared.kind.Kind.TheVariants.{Inport, Outport, Constant, Ground, Sum, Gain, Product, Switch, Relational, Logic, Convert, Delay, Mux, Demux, RateTransition, Pass, EnableTest, EnOut, Terminator}
 use Rattle.dg_model.specs.declared.resolved.Resolved.{Resolved}
 use Rattle.dg_model.specs.Attributes.{attributes_of}
 use Rattle.dg_model.specs.Laws.{StimulusGivesColumns, InputsAreListed, OutputsAreListed}
-use Rattle.dg_model.specs.Library.{row_of}
 use Rattle.dg_model.specs.RootElements.{RootElement}
-use Rattle.dg_model.specs.Wired.{root_input}
-use Rattle.hw_sched.specs.Laws.{MovingHavePeriods, OperationsAreServed, OperationsHavePeriods, SlotsDiffer, ReadyFits, is_moving}
+use Rattle.hw_sched.specs.Laws.{MovingHavePeriods, OperationsAreServed, OperationsHavePeriods, SlotsDiffer, ReadyFits}
 use Rattle.hw_sched.specs.Scheduled.{IsScheduled}
 use Rattle.hw_sched.specs.Slots.{Timing}
 use Rattle.hw_module.specs.Laws.{BuiltModulesAreOf}
@@ -18,33 +14,12 @@ use Rattle.hw_module.proofs.Multiplied.{names-multiplications}
 use Rattle.hw_module.proofs.Offered.{offers}
 use Rattle.hw_module.proofs.Served.{owed, serves}
 use Rattle.hw_module.proofs.Staged.{pipelined, few-registers}
-
--- a root input moves on
-input-moves : (kind : Kind) (number : ℕ) → root_input (row_of kind).place.role ≡ Some number → is_moving (row_of kind).timing.inherits ≡ true
-input-moves (Inport own width) number e = refl
-input-moves (Outport own) number e = absurd (cc e)
-input-moves (Constant value) number e = absurd (cc e)
-input-moves Ground number e = absurd (cc e)
-input-moves (Sum negative) number e = absurd (cc e)
-input-moves (Gain value param) number e = absurd (cc e)
-input-moves Product number e = absurd (cc e)
-input-moves (Switch criterion threshold) number e = absurd (cc e)
-input-moves (Relational operator) number e = absurd (cc e)
-input-moves (Logic operator) number e = absurd (cc e)
-input-moves (Convert stored) number e = absurd (cc e)
-input-moves (Delay delay initial resets) number e = absurd (cc e)
-input-moves (Mux sizes) number e = absurd (cc e)
-input-moves (Demux sizes) number e = absurd (cc e)
-input-moves (RateTransition period initial) number e = absurd (cc e)
-input-moves (Pass width) number e = absurd (cc e)
-input-moves EnableTest number e = absurd (cc e)
-input-moves (EnOut resets initial) number e = absurd (cc e)
-input-moves Terminator number e = absurd (cc e)
+use Rattle.hw_build.proofs.Delivered.{input_moves}
 
 inputs-have-periods : InputsAreListed → MovingHavePeriods → {diagram : Diagram} {plan : Resolved} {timing : Timing} → IsScheduled diagram plan timing → InputsHavePeriods diagram
 inputs-have-periods listed moving {diagram} scheduled place e is =
     let own = (listed diagram (attributes_of diagram) scheduled.checked.wired).elements_of place e is in
-    let p = moving diagram e.block own.0 scheduled.checked own.1 (input-moves own.0.kind e.number own.2) in
+    let p = moving diagram e.block own.0 scheduled.checked own.1 (input_moves own.0.kind e.number own.2) in
     (p.0, ap (λ (x : RootElement). x.period) own.4 ∙ p.1)
 
 module _ (columns : StimulusGivesColumns) (listed : InputsAreListed) (outputs : OutputsAreListed) (moving : MovingHavePeriods) (served : OperationsAreServed) (have_periods : OperationsHavePeriods) (differ : SlotsDiffer) (fits : ReadyFits) where

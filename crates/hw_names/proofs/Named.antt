@@ -18,7 +18,8 @@ use Rattle.hw_names.specs.Columns.{AreColumnsFrom}
 use Rattle.hw_names.specs.Names.{Given, IsGiven, element_name, port_name, undoubled, wanted_names, wanted_of}
 use Rattle.hw_names.specs.Taken.{AreTaken, taken_by}
 use Rattle.hw_names.specs.inner.Sides.{AddsNames, elements_on, number_on, wanted_on, width_on}
-use Rattle.hw_names.proofs.Places.{blocks_there, map_at, map_from, place_is}
+use Rattle.fx_io.proofs.Places.{map_there, there_map}
+use Rattle.hw_names.proofs.Places.{blocks_there, place_is}
 use Rattle.hw_names.proofs.Taking.{given_more, taken_more}
 
 pub take_more : {A : Type 0} (xs : List A) (k : ℕ) (x : A) → slice_get xs k ≡ Some x → take (k + 1) xs ≡ take k xs ++ x ∷ []
@@ -39,7 +40,7 @@ names_more diagram side old names new earlier now k e name adds at given = recor
       let all : List (List ℕ) = wanted_on side diagram in
       let first = adds.added list wanted taken before in
       let one = given (taken_by list now) first.1 in
-      let more : take (k + 1) all ≡ take k all ++ want ∷ [] = take_more all k want (map_at (wanted_of diagram (width_on side diagram)) (elements_on side diagram) k e at) in
+      let more : take (k + 1) all ≡ take k all ++ want ∷ [] = take_more all k want (there_map (wanted_of diagram (width_on side diagram)) (elements_on side diagram) k e at) in
       let wants : (wanted ++ take k all) ++ want ∷ [] ≡ wanted ++ take (k + 1) all = append_assoc wanted (take k all) (want ∷ []) ∙ ap (λ (ws : List (List ℕ)). wanted ++ ws) (sym more) in (
         subst (λ (ws : List (List ℕ)). Given list ws (now ++ name ∷ [])) wants (given_more list (wanted ++ take k all) now want name first.0 one.0),
         subst (λ (names : List (List ℕ)). AreTaken new names) (sym (taken_more list now name)) one.1,
@@ -63,7 +64,7 @@ pub record AtColumn (diagram : Diagram) (side : Side) (blocks : List ℕ) (k : �
 pub column_on : (diagram : Diagram) (side : Side) (blocks : List ℕ) (k : ℕ) → IsChecked diagram → InputsAreListed → OutputsAreListed → AreBlocksOf (elements_on side diagram) blocks → k < length blocks → AtColumn diagram side blocks k
 column_on diagram side blocks k checked inputs outputs are below =
     let listed = listed_on diagram side checked inputs outputs in
-    let found = map_from (λ (x : RootElement). x.block) (elements_on side diagram) k (slice_index_or blocks k 0) (sym (ap (λ (xs : List ℕ). slice_get xs k) are) ∙ slice_get-get_or blocks k 0 below) in
+    let found = map_there (λ (x : RootElement). x.block) (elements_on side diagram) k (slice_index_or blocks k 0) (sym (ap (λ (xs : List ℕ). slice_get xs k) are) ∙ slice_get-get_or blocks k 0 below) in
     let of = listed.elements_of k found.0 found.1 in
     record {
       e = found.0;

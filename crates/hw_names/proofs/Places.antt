@@ -1,11 +1,11 @@
 -- Where the elements of root ports stand among the columns. Crates above may cite these lemmas.
-use Rattle.std.proofs.Common.{◌≡◌, ◌≢◌, ℕ, zero, suc, ◌+◌, ◌-◌, ◌<◌, ◌≤◌, inl, inr, List, [], ◌∷◌, ◌++◌, length, map, All, Option, None, Some, ap, sym, ◌∙◌, subst, arith, refl}
+use Rattle.std.proofs.Common.{◌≡◌, ◌≢◌, ℕ, suc, ◌+◌, ◌-◌, ◌<◌, ◌≤◌, inl, inr, List, [], ◌∷◌, ◌++◌, length, map, All, Option, None, Some, ap, sym, ◌∙◌, subst, arith, refl}
 use Rattle.std.specs.Prelude.{slice_get, slice_set, slice_index_or}
 use Rattle.std.specs.List.{flat_map, position}
 use Rattle.std.proofs.lemmas.Bool.{cases_lt}
 use Rattle.std.proofs.lemmas.List.{length-map, get_or-set_same, get_or-set_other}
 use Rattle.std.proofs.lemmas.Option.{none-some, same_Some, slice_get_within, slice_get-get_or}
-use Rattle.fx_io.proofs.Places.{get_front}
+use Rattle.fx_io.proofs.Places.{get_front, get_right, map_there, there_map}
 use Rattle.dg_waves.specs.Rounds.{numbers_from}
 use Rattle.dg_waves.proofs.Waved.{length_numbers, mapped_at}
 use Rattle.dg_model.specs.declared.diagram.Diagram.{Diagram}
@@ -42,20 +42,6 @@ columns_more inputs columns left block are at inside = record {
               absurd (differ (same_Some other block (sym k_at ∙ ap (slice_get inputs) same ∙ at)))
         ]
 
-pub get_behind : {A : Type 0} (xs ys : List A) (k : ℕ) → slice_get (xs ++ ys) (length xs + k) ≡ slice_get ys k
-get_behind [] ys k = let e : 0 + k ≡ k = omega arith in ap (slice_get ys) e
-get_behind (x ∷ xs) ys k = let e : suc (length xs) + k ≡ suc (length xs + k) = omega arith in ap (slice_get (x ∷ (xs ++ ys))) e ∙ get_behind xs ys k
-
-pub map_at : {A B : Type 0} (f : A → B) (xs : List A) (k : ℕ) (x : A) → slice_get xs k ≡ Some x → slice_get (map f xs) k ≡ Some (f x)
-map_at f [] k x at = absurd (none-some x at)
-map_at f (y ∷ xs) zero x at = ap (λ z. Some (f z)) (same_Some y x at)
-map_at f (y ∷ xs) (suc k) x at = map_at f xs k x at
-
-pub map_from : {A B : Type 0} (f : A → B) (xs : List A) (k : ℕ) (y : B) → slice_get (map f xs) k ≡ Some y → (x : A) × (slice_get xs k ≡ Some x) × (f x ≡ y)
-map_from f [] k y at = absurd (none-some y at)
-map_from f (x ∷ xs) zero y at = (x, refl, same_Some (f x) y at)
-map_from f (x ∷ xs) (suc k) y at = map_from f xs k y at
-
 element_at : (a : Attributes) (n own wide k : ℕ) → k < wide → slice_get (map (root_element a n own) (numbers_from 0 wide)) k ≡ Some (root_element a n own k)
 element_at a n own wide k below = let e : 0 + k ≡ k = omega arith in mapped_at (root_element a n own) 0 wide k below ∙ ap (λ (x : ℕ). Some (root_element a n own x)) e
 
@@ -83,7 +69,7 @@ module _ (a : Attributes) (width_of : ℕ → ℕ) where
             let j : ℕ = k - length part in
             let split : k ≡ length part + j = omega (arith, past) in
             let later : k + m ≡ length part + (j + m) = omega (arith, split) in
-            ap (slice_get (part ++ rest)) later ∙ get_behind part rest (j + m) ∙ next j (sym (get_behind part rest j) ∙ ap (slice_get (part ++ rest)) (sym split) ∙ at)
+            ap (slice_get (part ++ rest)) later ∙ get_right part rest (j + m) ∙ next j (sym (get_right part rest j) ∙ ap (slice_get (part ++ rest)) (sym split) ∙ at)
       ]
 
   run : (place_of : ℕ → Option ℕ) (ns : List ℕ) (k number block m : ℕ) → slice_get (flat_map (λ n. elements_of_port a width_of n (place_of n)) ns) k ≡ Some (root_element a number block 0) → m < width_of block
@@ -111,9 +97,9 @@ module _ (number_of : Role → Option ℕ) (width_of : ℕ → ℕ) (diagram : D
       let here = run (attributes_of diagram) width_of (λ number. position (has_number number_of number) diagram.blocks) (numbers_from 1 _) first.0 e.number e.block f.element first.1 (omega (arith, low_f, wide)) in
       all.different j (first.0 + f.element) f (root_element (attributes_of diagram) e.number e.block f.element) f_at here number_is refl
       in
-      let block_at : slice_get inputs first.0 ≡ Some e.block = ap (λ (xs : List ℕ). slice_get xs first.0) blocks ∙ map_at (λ (x : RootElement). x.block) elements first.0 (root_element (attributes_of diagram) e.number e.block 0) first.1 in
+      let block_at : slice_get inputs first.0 ≡ Some e.block = ap (λ (xs : List ℕ). slice_get xs first.0) blocks ∙ there_map (λ (x : RootElement). x.block) elements first.0 (root_element (attributes_of diagram) e.number e.block 0) first.1 in
       let least = are.least first.0 e.block block_at (omega arith) in
-      let found = map_from (λ (x : RootElement). x.block) elements (slice_index_or columns e.block 0) e.block (sym (ap (λ (xs : List ℕ). slice_get xs (slice_index_or columns e.block 0)) blocks) ∙ least.0) in
+      let found = map_there (λ (x : RootElement). x.block) elements (slice_index_or columns e.block 0) e.block (sym (ap (λ (xs : List ℕ). slice_get xs (slice_index_or columns e.block 0)) blocks) ∙ least.0) in
       let of_found = all.elements_of (slice_index_or columns e.block 0) found.0 found.1 in
       let same : of_found.0 ≡ of.0 = same_Some of_found.0 of.0 (sym of_found.1 ∙ ap (slice_get diagram.blocks) found.2 ∙ of.1) in
       let number_is : found.0.number ≡ e.number = same_Some found.0.number e.number (sym of_found.2 ∙ ap (number_in number_of) same ∙ of.2) in
@@ -125,6 +111,6 @@ module _ (number_of : Role → Option ℕ) (width_of : ℕ → ℕ) (diagram : D
   -- their blocks are there
   pub blocks_there : (blocks : List ℕ) → AreBlocksOf elements blocks → All (λ block. block < length diagram.blocks) blocks
   blocks_there blocks are = λ k d within.
-      let found = map_from (λ (x : RootElement). x.block) elements k (slice_index_or blocks k d) (sym (ap (λ (xs : List ℕ). slice_get xs k) are) ∙ slice_get-get_or blocks k d within) in
+      let found = map_there (λ (x : RootElement). x.block) elements k (slice_index_or blocks k d) (sym (ap (λ (xs : List ℕ). slice_get xs k) are) ∙ slice_get-get_or blocks k d within) in
       let of = all.elements_of k found.0 found.1 in
       subst (λ (x : ℕ). x < length diagram.blocks) found.2 (slice_get_within diagram.blocks found.0.block of.0 of.1)

@@ -1,8 +1,8 @@
 -- Netlists with nets behind their own: what stood stands, and no frame gets a second Counter. Crates above may cite this file.
-use Rattle.std.proofs.Common.{◌≡◌, ℕ, zero, suc, append-nil, append_assoc, ◌+◌, ◌<◌, ◌≤◌, ◌⊎◌, inl, inr, List, [], ◌∷◌, ◌++◌, length, Option, None, Some, IsSome, slice_get, Result, Ok, Err, IfOk, Bool, true, false, if◌then◌else◌, ap, sym, ◌∙◌, arith, refl, length-append}
+use Rattle.std.proofs.Common.{◌≡◌, ℕ, zero, suc, append-nil, append_assoc, ◌+◌, ◌<◌, ◌≤◌, ◌⊎◌, inl, inr, List, [], ◌∷◌, ◌++◌, length, Option, None, Some, IsSome, slice_get, Result, Ok, Err, IfOk, Bool, true, false, if◌then◌else◌, ap, sym, ◌∙◌, arith, refl, length-append, get_or}
 use Rattle.std.proofs.lemmas.Bool.{cases_lt}
-use Rattle.std.proofs.lemmas.Option.{none-some, same_Some, slice_get_within}
-pub use Rattle.fx_io.proofs.Places.{last_at as last-of, get_front as front-of}
+use Rattle.std.proofs.lemmas.Option.{none-some, same_Some, slice_get_within, slice_get_read}
+pub use Rattle.fx_io.proofs.Places.{last_at as last-of, get_front as front-of, get_left as front-some}
 use Rattle.hw_net.specs.declared.netlist.Frame.{Frame}
 use Rattle.hw_net.specs.declared.netlist.Net.{Net}
 use Rattle.hw_net.specs.Circuit.{Circuit}
@@ -10,11 +10,9 @@ use Rattle.hw_net.specs.Frames.{is_frame, counted_frame, counter_from, counter_o
 use Rattle.hw_net.specs.Netlist.{HasWord}
 use Rattle.hw_net.specs.Growing.{Extends, with_net}
 use Rattle.hw_net.proofs.Index.{same-self}
+use Rattle.fx_io.proofs.Places.{get_left}
 
 -- Lists.
-
-pub front-some : {A : Type 0} (xs ys : List A) (k : ℕ) (x : A) → slice_get xs k ≡ Some x → slice_get (xs ++ ys) k ≡ Some x
-front-some xs ys k x there = front-of xs ys k (slice_get_within xs k x there) ∙ there
 
 -- an element of a list with one more is one of the list or the last
 pub split-last : {A : Type 0} (xs : List A) (x y : A) (k : ℕ) → slice_get (xs ++ x ∷ []) k ≡ Some y → ((k < length xs) × (slice_get xs k ≡ Some y)) ⊎ ((k ≡ length xs) × (x ≡ y))
@@ -68,7 +66,7 @@ one-longer net new one grown = ap (λ (x : Circuit). length x.nets) grown ∙ le
 
 -- a net that stood stands later
 pub still-there : (a b : Circuit) (k : ℕ) (net : Net) → Extends a b → slice_get a.nets k ≡ Some net → slice_get b.nets k ≡ Some net
-still-there a b k net p there = ap (λ (xs : List Net). slice_get xs k) p.nets ∙ front-some a.nets p.added k net there
+still-there a b k net p there = ap (λ (xs : List Net). slice_get xs k) p.nets ∙ get_left a.nets p.added k net there
 
 -- a net of the later netlist at a number of the former stood there
 pub stood-there : (a b : Circuit) (k : ℕ) (net : Net) → Extends a b → k < length a.nets → slice_get b.nets k ≡ Some net → slice_get a.nets k ≡ Some net
@@ -147,3 +145,8 @@ differ-counter nets net frame counts absent differ =
     differ-more nets net differ (λ k other at also.
     let same : frame ≡ other = same_Some frame other (sym counts ∙ also) in
     counter-absent nets 0 k at.net other (ap (counter_of nets) (sym same) ∙ absent) at.is at.counts)
+
+-- a net that was read by its number is the net that is there
+pub read-net : (nets read : List Net) (from : ℕ) (source result : Net) → read ≡ nets → slice_get nets from ≡ Some source → result ≡ get_or read from result → result ≡ source
+read-net nets read from source result same there is =
+    same_Some result source (sym (slice_get_read nets (length nets) from result refl (slice_get_within nets from source there) (rw same at is)) ∙ there)

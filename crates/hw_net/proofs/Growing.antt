@@ -14,7 +14,7 @@ use Rattle.hw_net.specs.Frames.{frame_of, counted_frame, counter_of, CountersDif
 use Rattle.hw_net.specs.Netlist.{IsKind, HasBits, HasParts, reads, reads_now}
 use Rattle.hw_net.specs.NetRows.{Inputs, Rows, NetShows}
 use Rattle.hw_net.specs.Growing.{Extends, Keeps, IsReopened, InRows, Appends, IsAppended, IsCounted, with_net}
-use Rattle.hw_net.proofs.Places.{at-place}
+use Rattle.fx_io.proofs.Places.{held as at-place}
 
 -- What later netlists keep.
 

@@ -1,7 +1,6 @@
 -- The index of Counters, as nets and ports are put in. Crates above may cite this file.
-use Rattle.std.proofs.Common.{◌≡◌, ℕ, zero, suc, Result, Ok, Err, IfOk, OnOk, take, drop, slice_index_or, length-set, IsSome, subst, slice_get, set, ◌+◌, ◌==◌, nat_lt, List, [], ◌∷◌, ◌++◌, length, Option, None, Some, Bool, true, false, cond, refl, if◌then◌else◌, ap, sym, ◌∙◌, arith}
-use Rattle.std.proofs.lemmas.Bool.{eqb-true, eqb-false, ltb-true, and_parts, and_from}
-use Rattle.std.specs.declared.cmp.Ordering.TheVariants.{Less, Equal, Greater}
+use Rattle.std.proofs.Common.{◌≡◌, ℕ, zero, suc, Result, Ok, Err, IfOk, OnOk, take, drop, slice_index_or, length-set, IsSome, subst, slice_get, set, ◌+◌, ◌==◌, nat_lt, List, [], ◌∷◌, ◌++◌, length, Option, None, Some, Bool, true, false, refl, if◌then◌else◌, ap, sym, ◌∙◌, arith}
+use Rattle.std.proofs.lemmas.Bool.{eqb-true, eqb-false, and_parts, and_from}
 use Rattle.std.specs.Ordering.{nat_cmp, is_eq}
 use Rattle.std.specs.Cmp.{tied_then}
 use Rattle.hw_net.specs.declared.netlist.Frame.{Frame}
@@ -15,15 +14,7 @@ use Rattle.hw_net.specs.declared.netlist.Net.{Net}
 use Rattle.hw_net.specs.Frames.{is_frame, counted_frame, counter_from, counter_of}
 use Rattle.hw_net.specs.ByFrame.{is_same_frame, compare_frames, number_at_frame}
 use Rattle.hw_net.specs.inner.Index.{IsIndex}
-
-tied : (x y : ℕ) (less same : Bool) → nat_lt x y ≡ less → (x == y) ≡ same → is_eq (cond less Less (cond same Equal Greater)) ≡ same
-tied x y true true p q =
-    let below = ltb-true x y p in
-    let one = eqb-true x y q in
-    absurd (omega (arith, below, one))
-tied x y true false p q = refl
-tied x y false true p q = refl
-tied x y false false p q = refl
+use Rattle.fx_io.proofs.Tests.{tied}
 
 -- the index tells frames apart as they are
 pub same-frame : (one other : Frame) → is_eq (compare_frames one other) ≡ is_same_frame one other

@@ -1,5 +1,5 @@
 -- Numbers of 128 bits and their bits, modulo 2 to the power 128. Crates above may cite this file.
-use Rattle.std.proofs.Common.{◌≡◌, ℕ, zero, suc, ◌+◌, ◌-◌, ◌*◌, ◌/◌, ◌%◌, ◌^◌, ◌<◌, ◌≤◌, ◌<ℤ◌, ◌≤ℤ◌, ◌≢◌, int_lt, not, if◌then◌else◌, Bool, true, false, ℤ, pos, negsuc, ◌+ℤ◌, ◌-ℤ◌, ◌*ℤ◌, neg_ℤ, ap, sym, ◌∙◌, subst, arith, refl, of_z, to_z, FitsSigned, bit_and, bit_or, bit_xor, mul_comm, mul_assoc, mod-lt, inl, inr, pow_pos, pow_mono}
+use Rattle.std.proofs.Common.{◌≡◌, ℕ, zero, suc, ◌+◌, ◌-◌, ◌*◌, ◌/◌, ◌%◌, ◌^◌, ◌<◌, ◌≤◌, ◌<ℤ◌, ◌≤ℤ◌, ◌≢◌, int_lt, not, if◌then◌else◌, Bool, true, false, ℤ, pos, negsuc, ◌+ℤ◌, ◌-ℤ◌, ◌*ℤ◌, neg_ℤ, ap, sym, ◌∙◌, subst, arith, refl, of_z, to_z, FitsSigned, bit_and, bit_or, bit_xor, mod-lt, inl, inr, pow_pos, pow_mono}
 use Rattle.std.specs.Int.{w128}
 use Rattle.std.proofs.lemmas.Int.{ints, to_z-of_z}
 use Rattle.std.proofs.lemmas.Nat.{pow-add, div-add-mod', mod-mul-add, and_le_l, or_lt, xor_lt, shl-shr, shr-shr, shr_le, div_below}
@@ -7,51 +7,20 @@ use Rattle.std.proofs.lemmas.Bool.{cases_lt}
 use Rattle.std.proofs.lemmas.Bool.Decides.{Decides-int_eq}
 use Rattle.std.proofs.Math.Nat.{div-eq_of_lt, mul-lt-mul_of_pos_right}
 use Rattle.fx_num.specs.Word.{IsWord, InWord, IsCongruent, IsWrapped}
-use Rattle.fx_num.proofs.Arithmetic.{double, add-scaled, IsCongruent-trans}
-use borrow.Author.Differences.{up, down, neg_is}
+use Rattle.fx_num.proofs.Arithmetic.{double, add-scaled, IsCongruent-trans, scaled-neg, mul-scaled, IsCongruent-refl, IsCongruent-times, IsCongruent-part}
 use Rattle.std.proofs.Math.IntN.{*ℤ_comm, *ℤ-negsuc}
 use Rattle.std.specs.Ordering.{int_eq}
 use Rattle.hw_net.specs.Operation.{low_bits, shifted_down, truth}
-
-pub scaled-neg : (a : ℤ) (d : ℕ) → neg_ℤ a *ℤ pos d ≡ neg_ℤ (a *ℤ pos d)
-scaled-neg a d =
-    let p : up (neg_ℤ a) * d ≡ down a * d = ap (λ (n : ℕ). n * d) (neg_is a).0 in
-    let q : down (neg_ℤ a) * d ≡ up a * d = ap (λ (n : ℕ). n * d) (neg_is a).1 in
-    omega (arith, ints)
-
-mul-scaled : (t : ℤ) (a b : ℕ) → (t *ℤ pos a) *ℤ pos b ≡ t *ℤ pos (a * b)
-mul-scaled (pos t) a b = ap pos (mul_assoc t a b)
-mul-scaled (negsuc t) a b = scaled-neg (pos (suc t * a)) b ∙ ap (λ (n : ℕ). neg_ℤ (pos n)) (mul_assoc (suc t) a b)
+use Rattle.fx_num.proofs.Shifted.{remainder_congruent}
 
 congruent-same : {a b c d : ℤ} (m : ℕ) → a ≡ c → b ≡ d → IsCongruent a b m → IsCongruent c d m
 congruent-same m p q h = record { turns = h.turns; equal = sym p ∙ h.equal ∙ ap (λ (z : ℤ). z +ℤ h.turns *ℤ pos m) q }
 
-pub congruent-refl : (a : ℤ) (m : ℕ) → IsCongruent a a m
-congruent-refl a m = record { turns = pos 0; equal = omega (arith, ints) }
-
-congruent-times : {a b : ℤ} (m d : ℕ) → IsCongruent a b m → IsCongruent (a *ℤ pos d) (b *ℤ pos d) m
-congruent-times {a} {b} m d h = record {
-  turns = h.turns *ℤ pos d;
-  equal =
-      let e = mul-scaled h.turns m d ∙ ap (λ (n : ℕ). h.turns *ℤ pos n) (mul_comm m d) ∙ sym (mul-scaled h.turns d m) in
-      ap (λ (z : ℤ). z *ℤ pos d) h.equal ∙ add-scaled b (h.turns *ℤ pos m) d ∙ ap (λ (z : ℤ). b *ℤ pos d +ℤ z) e;
-}
-
-congruent-neg : {a b : ℤ} (m : ℕ) → IsCongruent a b m → IsCongruent (neg_ℤ a) (neg_ℤ b) m
+pub congruent-neg : {a b : ℤ} (m : ℕ) → IsCongruent a b m → IsCongruent (neg_ℤ a) (neg_ℤ b) m
 congruent-neg {a} {b} m h = record {
   turns = neg_ℤ h.turns;
   equal = let e = scaled-neg h.turns m in omega (arith, ints, h.equal, e);
 }
-
--- to a part of the modulus
-pub congruent-part : {a b : ℤ} (k m : ℕ) → IsCongruent a b (k * m) → IsCongruent a b m
-congruent-part {a} {b} k m h = record {
-  turns = h.turns *ℤ pos k;
-  equal = h.equal ∙ ap (λ (z : ℤ). b +ℤ z) (sym (mul-scaled h.turns k m));
-}
-
-pub remainder-congruent : (a m : ℕ) → IsCongruent (pos (a % m)) (pos a) m
-remainder-congruent a m = record { turns = neg_ℤ (pos (a / m)); equal = omega (arith, ints, scaled-neg (pos (a / m)) m, div-add-mod' a m) }
 
 -- bits read as a number with a sign
 pub read-congruent : (n : ℕ) → n < 340282366920938463463374607431768211456 → IsCongruent (to_z w128 n) (pos n) 340282366920938463463374607431768211456
@@ -67,7 +36,7 @@ read-congruent n h = elim (cases_lt n 170141183460469231731687303715884105728) [
 -- a remainder read so
 pub cut-congruent : (n : ℕ) → IsCongruent (to_z w128 (n % 340282366920938463463374607431768211456)) (pos n) 340282366920938463463374607431768211456
 cut-congruent n =
-    IsCongruent-trans 340282366920938463463374607431768211456 (read-congruent (n % 340282366920938463463374607431768211456) (mod-lt n (omega arith))) (remainder-congruent n 340282366920938463463374607431768211456)
+    IsCongruent-trans 340282366920938463463374607431768211456 (read-congruent (n % 340282366920938463463374607431768211456) (mod-lt n (omega arith))) (remainder_congruent n 340282366920938463463374607431768211456)
 
 bits-congruent : (v : ℤ) → FitsSigned w128 v → IsCongruent (pos (of_z w128 v)) v 340282366920938463463374607431768211456
 bits-congruent (pos n) f = record { turns = pos 0; equal = omega (arith, ints) }
@@ -88,15 +57,15 @@ difference-of-bits (negsuc m) (negsuc n) f g = record { turns = pos 1; equal = o
 -- a product with a number of either sign
 times-bits : (a b : ℤ) → FitsSigned w128 b → IsCongruent (a *ℤ pos (of_z w128 b)) (a *ℤ b) 340282366920938463463374607431768211456
 times-bits (pos n) b f =
-    congruent-same 340282366920938463463374607431768211456 (*ℤ_comm (pos (of_z w128 b)) (pos n)) (*ℤ_comm b (pos n)) (congruent-times 340282366920938463463374607431768211456 n (bits-congruent b f))
+    congruent-same 340282366920938463463374607431768211456 (*ℤ_comm (pos (of_z w128 b)) (pos n)) (*ℤ_comm b (pos n)) (IsCongruent-times 340282366920938463463374607431768211456 n (bits-congruent b f))
 times-bits (negsuc n) b f =
     congruent-same 340282366920938463463374607431768211456
     (sym (*ℤ-negsuc (pos (of_z w128 b)) n) ∙ *ℤ_comm (pos (of_z w128 b)) (negsuc n)) (sym (*ℤ-negsuc b n) ∙ *ℤ_comm b (negsuc n))
-    (congruent-neg 340282366920938463463374607431768211456 (congruent-times 340282366920938463463374607431768211456 (suc n) (bits-congruent b f)))
+    (congruent-neg 340282366920938463463374607431768211456 (IsCongruent-times 340282366920938463463374607431768211456 (suc n) (bits-congruent b f)))
 
 product-of-bits : (a b : ℤ) → FitsSigned w128 a → FitsSigned w128 b → IsCongruent (pos (of_z w128 a * of_z w128 b)) (a *ℤ b) 340282366920938463463374607431768211456
 product-of-bits a b f g =
-    IsCongruent-trans 340282366920938463463374607431768211456 (congruent-times 340282366920938463463374607431768211456 (of_z w128 b) (bits-congruent a f)) (times-bits a b g)
+    IsCongruent-trans 340282366920938463463374607431768211456 (IsCongruent-times 340282366920938463463374607431768211456 (of_z w128 b) (bits-congruent a f)) (times-bits a b g)
 
 pub sum-congruent : (a b : ℤ) → FitsSigned w128 a → FitsSigned w128 b → IsCongruent (to_z w128 ((of_z w128 a + of_z w128 b) % 340282366920938463463374607431768211456)) (a +ℤ b) 340282366920938463463374607431768211456
 sum-congruent a b f g = IsCongruent-trans 340282366920938463463374607431768211456 (cut-congruent (of_z w128 a + of_z w128 b)) (sum-of-bits a b f g)
@@ -148,7 +117,7 @@ far-down (negsuc n) places f h =
 
 pub up-congruent : (v : ℤ) (places : ℕ) → FitsSigned w128 v → IsCongruent (to_z w128 (of_z w128 v * 2 ^ places % 340282366920938463463374607431768211456)) (v *ℤ pos (2 ^ places)) 340282366920938463463374607431768211456
 up-congruent v places f =
-    IsCongruent-trans 340282366920938463463374607431768211456 (cut-congruent (of_z w128 v * 2 ^ places)) (congruent-times 340282366920938463463374607431768211456 (2 ^ places) (bits-congruent v f))
+    IsCongruent-trans 340282366920938463463374607431768211456 (cut-congruent (of_z w128 v * 2 ^ places)) (IsCongruent-times 340282366920938463463374607431768211456 (2 ^ places) (bits-congruent v f))
 
 pub far-up : (v : ℤ) (places : ℕ) → 128 ≤ places → IsCongruent (pos 0) (v *ℤ pos (2 ^ places)) 340282366920938463463374607431768211456
 far-up v places h =
@@ -166,7 +135,7 @@ cut-through value exact result width signed h same is =
     let p : 2 ^ (128 - width) * 2 ^ width ≡ 340282366920938463463374607431768211456 = sym (pow-add 2 (128 - width) width) ∙ ap (λ (n : ℕ). 2 ^ n) k in
     record {
       in_word = is.in_word;
-      congruent = IsCongruent-trans (2 ^ width) is.congruent (congruent-part (2 ^ (128 - width)) (2 ^ width) (subst (λ (m : ℕ). IsCongruent value exact m) (sym p) same));
+      congruent = IsCongruent-trans (2 ^ width) is.congruent (IsCongruent-part (2 ^ (128 - width)) (2 ^ width) (subst (λ (m : ℕ). IsCongruent value exact m) (sym p) same));
     }
 
 -- the lowest bits, from all
@@ -207,33 +176,29 @@ slice-congruent v high low within f part is =
     let less : of_z w128 v % 2 ^ (high + 1) / 2 ^ low ≤ of_z w128 v % 2 ^ (high + 1) = shr_le (of_z w128 v % 2 ^ (high + 1)) low in
     subst (λ (i : ℕ). IsCongruent (to_z w128 part) (pos i) 340282366920938463463374607431768211456) e (read-congruent part (omega (arith, mod-lt (of_z w128 v) some)))
 
-pub word-width : (width : ℕ) (signed : Bool) → IsWord width signed → width ≤ 128
-word-width width true h = h.1
-word-width width false h = omega (arith, h.1)
-
 pub kept-congruent : (v : ℤ) → FitsSigned w128 v → IsCongruent (to_z w128 (of_z w128 v)) v 340282366920938463463374607431768211456
-kept-congruent v f = congruent-same 340282366920938463463374607431768211456 (sym (to_z-of_z w128 v f)) refl (congruent-refl v 340282366920938463463374607431768211456)
+kept-congruent v f = congruent-same 340282366920938463463374607431768211456 (sym (to_z-of_z w128 v f)) refl (IsCongruent-refl v 340282366920938463463374607431768211456)
 
 -- a number that is handed on, where it is the number asked for
 pub kept-as : (v exact : ℤ) → FitsSigned w128 v → v ≡ exact → IsCongruent (to_z w128 (of_z w128 v)) exact 340282366920938463463374607431768211456
-kept-as v exact f e = congruent-same 340282366920938463463374607431768211456 (sym (to_z-of_z w128 v f)) e (congruent-refl v 340282366920938463463374607431768211456)
+kept-as v exact f e = congruent-same 340282366920938463463374607431768211456 (sym (to_z-of_z w128 v f)) e (IsCongruent-refl v 340282366920938463463374607431768211456)
 
 -- what the code's tests say of signed numbers
 same-number : (a b : ℤ) → FitsSigned w128 a → FitsSigned w128 b → of_z w128 a ≡ of_z w128 b → a ≡ b
 same-number a b f g e = sym (to_z-of_z w128 a f) ∙ ap (to_z w128) e ∙ to_z-of_z w128 b g
 
-only-false : (b : Bool) → ¬ (b ≡ true) → b ≡ false
+pub only-false : (b : Bool) → ¬ (b ≡ true) → b ≡ false
 only-false true h = absurd (h refl)
 only-false false h = refl
 
-is-same : (a b : ℤ) → a ≡ b → int_eq a b ≡ true
+pub is-same : (a b : ℤ) → a ≡ b → int_eq a b ≡ true
 is-same a b h = (Decides-int_eq a b).1 h
 
-not-same : (a b : ℤ) → a ≢ b → int_eq a b ≡ false
+pub not-same : (a b : ℤ) → a ≢ b → int_eq a b ≡ false
 not-same a b h = only-false (int_eq a b) (λ e. h ((Decides-int_eq a b).0 e))
 
 truth-congruent : (holds value : Bool) → holds ≡ value → IsCongruent (truth value) (truth holds) 340282366920938463463374607431768211456
-truth-congruent holds value e = rw e (congruent-refl (truth value) 340282366920938463463374607431768211456)
+truth-congruent holds value e = rw e (IsCongruent-refl (truth value) 340282366920938463463374607431768211456)
 
 pub below-congruent : (a b : ℤ) (value : Bool) → FitsSigned w128 a → FitsSigned w128 b → int_lt (to_z w128 (of_z w128 a)) (to_z w128 (of_z w128 b)) ≡ value → IsCongruent (truth value) (truth (int_lt a b)) 340282366920938463463374607431768211456
 below-congruent a b value f g e = truth-congruent (int_lt a b) value (rw (to_z-of_z w128 a f, to_z-of_z w128 b g) at e)

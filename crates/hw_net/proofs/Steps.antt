@@ -12,8 +12,10 @@ use Rattle.hw_net.specs.Registers.{Wave, Span, IsLive, IsBridge, IsCounter}
 use Rattle.hw_net.specs.NetRows.{Inputs, Rows, NetShows, span_of, operands_at}
 use Rattle.hw_net.specs.Netlist.{IsKind, HoldsProducts, reads}
 use Rattle.hw_net.specs.Step.{Row, StepsGiveRows, NetStarts, NetSteps, BridgeSteps, CounterSteps}
-use Rattle.hw_net.proofs.Places.{at-place, slice_get_inside}
-use Rattle.hw_net.proofs.Modular.{one-wrapped, congruent-refl}
+use Rattle.fx_io.proofs.Places.{held as at-place}
+use Rattle.hw_net.proofs.Places.{slice_get_inside}
+use Rattle.fx_num.proofs.Arithmetic.{IsCongruent-refl}
+use Rattle.hw_net.proofs.Modular.{one-wrapped}
 use Rattle.hw_net.proofs.Words.{some-or-none, InWordAt, goes-in-word}
 
 -- a remainder above 0 is below the divisor, and so is the one before it
@@ -96,7 +98,7 @@ exact-product nets row left right width signed v word holds one other p q is = b
     by (Some x) e None f = absurd (slice_get_inside nets right other f)
     by (Some x) e (Some y) f =
         one-wrapped (row left *ℤ row right) width signed v (row left *ℤ row right) word is
-        (record { in_word = holds.holds x y e f (row left) (row right) (p x e) (q y f); congruent = congruent-refl (row left *ℤ row right) (2 ^ width) })
+        (record { in_word = holds.holds x y e f (row left) (row right) (p x e) (q y f); congruent = IsCongruent-refl (row left *ℤ row right) (2 ^ width) })
 
 module _ (nets : List Net) (cycles many n : ℕ) (inputs : Inputs) (rows : Rows) (some : 0 < cycles) (words : (c : ℕ) → c < n → (k : ℕ) → InWordAt nets (λ net. rows net c) k) where
   net-shows : (k width : ℕ) (signed : Bool) (kind : NetKind) → IsWord width signed → All (λ read. read < length nets) (reads kind) → IsKind nets cycles many width signed kind

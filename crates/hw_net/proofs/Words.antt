@@ -1,5 +1,5 @@
 -- Numbers stay in their nets' words. Crates above may cite this file.
-use Rattle.std.proofs.Common.{◌≡◌, ◌≢◌, ℕ, zero, suc, ◌+◌, ◌-◌, ◌*◌, ◌%◌, ◌<◌, ◌⊎◌, inl, inr, Bool, true, false, List, length, Some, slice_get, slice_index_or, All, ℤ, pos, negsuc, ◌<ℤ◌, ◌≤ℤ◌, arith, refl}
+use Rattle.std.proofs.Common.{◌≡◌, ◌≢◌, ℕ, zero, suc, ◌+◌, ◌-◌, ◌*◌, ◌%◌, ◌<◌, ◌⊎◌, inl, inr, Bool, true, false, List, length, Some, slice_get, slice_index_or, All, ℤ, pos, negsuc, ◌<ℤ◌, ◌≤ℤ◌, arith, refl, ap, ◌^◌}
 use Rattle.std.proofs.lemmas.Int.{ints}
 use Rattle.std.proofs.lemmas.Bool.{cases_lt, cases_eq}
 use Rattle.fx_num.specs.Word.{InWord, word_lowest}
@@ -11,7 +11,10 @@ use Rattle.hw_net.specs.Registers.{Span, Takes, IsLive}
 use Rattle.hw_net.specs.NetRows.{span_of}
 use Rattle.hw_net.specs.Netlist.{IsNetlist, IsKind, HasWord, reads_now}
 use Rattle.hw_net.specs.Step.{Row, NetStarts, NetSteps, NetGoes, Goes}
-use Rattle.hw_net.proofs.Places.{at-place}
+use Rattle.fx_io.proofs.Places.{held as at-place}
+use Rattle.hw_net.specs.Operation.{shifted_down}
+use Rattle.std.proofs.Math.Nat.{div-eq_of_lt}
+use Rattle.fx_num.proofs.Words.{sign_of, size_of}
 
 pub takes-or-not : (span : Span) (slot c : ℕ) → Takes span slot c ⊎ (¬ Takes span slot c)
 takes-or-not span slot c =
@@ -43,7 +46,7 @@ some-or-none (pos zero) = inl (omega (arith, ints))
 some-or-none (pos (suc n)) = inr (omega (arith, ints))
 some-or-none (negsuc n) = inl (omega (arith, ints))
 
-lowest-below : (width : ℕ) (signed : Bool) → word_lowest width signed ≤ℤ pos 0
+pub lowest-below : (width : ℕ) (signed : Bool) → word_lowest width signed ≤ℤ pos 0
 lowest-below width true = omega (arith, ints)
 lowest-below width false = omega (arith, ints)
 
@@ -134,3 +137,7 @@ module _ (netlist : Circuit) (well : IsNetlist netlist) where
 
   pub goes-in-word : (clock : ℕ) (inputs now next : Row) → Goes netlist clock inputs now next → (0 < clock → (k : ℕ) → InWordAt netlist.nets now k) → (k : ℕ) → InWordAt netlist.nets next k
   goes-in-word clock inputs now next goes before k = in-clock clock inputs now next goes before (suc (well.ranked.0 k)) k (omega arith)
+
+pub only-sign : (z : ℤ) (k : ℕ) → size_of z < 2 ^ k → shifted_down z k ≡ sign_of z
+only-sign (pos n) k h = ap pos (div-eq_of_lt h)
+only-sign (negsuc n) k h = ap negsuc (div-eq_of_lt h)

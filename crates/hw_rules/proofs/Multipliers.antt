@@ -9,7 +9,8 @@ use Rattle.dg_model.specs.declared.diagram.Diagram.{Diagram}
 use Rattle.dg_model.specs.declared.resolved.Resolved.{Resolved}
 use Rattle.dg_model.specs.Attributes.{attributes_of}
 use Rattle.hw_latency.specs.Shared.{multiplies, is_shared}
-use Rattle.hw_slots.proofs.Sums.{sum-cons, sum_below}
+use Rattle.fx_io.proofs.Places.{sum-cons}
+use Rattle.hw_slots.proofs.Sums.{sum_below}
 use Rattle.hw_sched.specs.Answer.{AreUnits}
 use Rattle.hw_sched.specs.Laws.{UnitsAreThere, UnitsAreUsed}
 use Rattle.hw_sched.specs.Ready.{units_in_all, unshared}

@@ -4,7 +4,7 @@ use Rattle.std.proofs.lemmas.Int.{ints}
 use Rattle.std.proofs.lemmas.Nat.{div-add-mod'}
 use Rattle.std.proofs.lemmas.Bool.{cases_lt}
 use Rattle.fx_num.specs.Word.{IsWord, IsCongruent, IsWrapped}
-use Rattle.fx_num.proofs.Arithmetic.{double, add-scaled}
+use Rattle.fx_num.proofs.Arithmetic.{double, add-scaled, scaled-neg}
 use Rattle.hw_net.specs.declared.netlist.Net.{Net}
 use Rattle.hw_net.specs.declared.netlist.NetKind.{NetKind}
 use Rattle.hw_net.specs.declared.netlist.NetKind.TheVariants.{Comb, Reg, EnReg, Bridge, Unit, Counter}
@@ -14,8 +14,8 @@ use Rattle.hw_net.specs.Registers.{Span, Takes, IsLive}
 use Rattle.hw_net.specs.NetRows.{Inputs, RowsAreThere, span_of, operands_at}
 use Rattle.hw_net.specs.Netlist.{IsNetlist, reads_now}
 use Rattle.hw_net.specs.Step.{Row, NetStarts, NetSteps, NetGoes, Goes, RegSteps, EnRegSteps, BridgeSteps, CounterSteps}
-use Rattle.hw_net.proofs.Modular.{remainder-congruent, scaled-neg}
-use Rattle.hw_net.proofs.Places.{at-place}
+use Rattle.fx_num.proofs.Shifted.{remainder_congruent}
+use Rattle.fx_io.proofs.Places.{held}
 use Rattle.hw_net.proofs.Words.{takes-or-not, lives-or-not, zero-or-not, some-or-none}
 use Rattle.hw_run.proofs.Sweep.{Agree, same-operands, goes-same}
 use Rattle.hw_net.proofs.Steps.{steps-give-rows}
@@ -25,7 +25,7 @@ low-below width (pos n) = mod-lt n (pow_pos width)
 low-below width (negsuc n) = omega (arith, pow_pos width)
 
 low-congruent : (width : ℕ) (v : ℤ) → IsCongruent (pos (low_bits width v)) v (2 ^ width)
-low-congruent width (pos n) = remainder-congruent n (2 ^ width)
+low-congruent width (pos n) = remainder_congruent n (2 ^ width)
 low-congruent width (negsuc n) = record {
   turns = pos (n / 2 ^ width + 1);
   equal =
@@ -197,7 +197,7 @@ module _ (netlist : Circuit) (well : IsNetlist netlist) where
   goes-after clock inputs now = record {
     each = λ k net there.
         let given : Row = number_within netlist clock inputs now (well.ranked.0 k) in
-        let word = at-place (λ (one : Net). IsWord one.width one.signed) netlist.nets k net well.words there in
+        let word = held (λ (one : Net). IsWord one.width one.signed) netlist.nets k net well.words there in
         let goes = goes-gone netlist.cycles clock inputs now given net.width net.signed net.kind (now k) word in
         let is : row_after clock inputs now k ≡ gone netlist.cycles clock inputs now given net.width net.signed net.kind (now k) = ap (found_number netlist clock inputs now k given) there in
         rw is (goes-same given (row_after clock inputs now) netlist.cycles clock inputs now net.width net.signed net.kind (now k) (gone netlist.cycles clock inputs now given net.width net.signed net.kind (now k))

@@ -13,7 +13,8 @@ use Rattle.hw_net.specs.declared.netlist.NetKind.{NetKind}
 use Rattle.hw_net.specs.declared.netlist.NetKind.TheVariants.{Comb, Reg, EnReg, Bridge, Unit, Counter}
 use Rattle.hw_net.specs.Netlist.{reads, reads_now, IsRanked}
 use Rattle.hw_run.specs.State.{IsOrder}
-use Rattle.hw_net.proofs.Places.{at-place, slice_get_inside}
+use Rattle.fx_io.proofs.Places.{held}
+use Rattle.hw_net.proofs.Places.{slice_get_inside}
 use Rattle.hw_run.specs.inner.Ordering.{place_of, IsPlaced, IsGrowing, IsClosed, Keeps, Serves, Grows, IsReader, IsLinked, IsLonger}
 
 abbrev rank_or : Option ℕ → ℕ
@@ -217,7 +218,7 @@ module _ (nets : List Net) (order : List ℕ) (ranks : List (Option ℕ)) (growi
       net-of more (Some net) e = closed.each k net inside e (λ n d within.
           let read : ℕ = slice_index_or (reads_now net.kind) n d in
           let below : rank read < rank k = ranked.falls k net e n d within in
-          let known : read < length nets = at-place (λ (one : Net). All (λ (r : ℕ). r < length nets) (reads_now one.kind)) nets k net there e n d within in
+          let known : read < length nets = held (λ (one : Net). All (λ (r : ℕ). r < length nets) (reads_now one.kind)) nets k net there e n d within in
           let is = more read (omega arith) known in
           (is.rank, is.is, (growing.each read is.rank is.is).0))
 

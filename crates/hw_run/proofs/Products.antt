@@ -1,18 +1,12 @@
 -- A word has the products of the numbers of two words exactly where it has those of their ends.
-use Rattle.std.proofs.Common.{◌≡◌, ℕ, suc, ◌+◌, ◌*◌, ◌≤◌, Bool, ℤ, pos, negsuc, ◌*ℤ◌, ◌≤ℤ◌, sym, ◌∙◌, arith, mul-le-mul_right, ◌-◌, ◌^◌, pow_mono, true, false, FitsSigned, List, Some, slice_get, subst}
-use Rattle.std.specs.Int.{w128}
+use Rattle.std.proofs.Common.{◌≡◌, ℕ, suc, ◌*◌, ◌≤◌, Bool, ℤ, pos, negsuc, ◌*ℤ◌, ◌≤ℤ◌, sym, ◌∙◌, arith, ◌-◌, true, false, List, Some, slice_get, subst}
 use Rattle.std.proofs.lemmas.Int.{ints}
 use Rattle.std.proofs.Math.IntN.{*ℤ_comm, *ℤ-negsuc}
 use Rattle.std.proofs.lemmas.Option.{same_Some}
-use borrow.Author.Differences.{up, down, le_out}
-use Rattle.fx_num.specs.Word.{IsWord, InWord, word_lowest, word_highest}
+use Rattle.fx_num.specs.Word.{InWord, word_lowest, word_highest}
 use Rattle.hw_net.specs.declared.netlist.Net.{Net}
 use Rattle.hw_net.specs.Netlist.{HoldsProducts}
-
-scaled-mono : (a b : ℤ) (d : ℕ) → a ≤ℤ b → (a *ℤ pos d) ≤ℤ (b *ℤ pos d)
-scaled-mono a b d h =
-    let e : (up a + down b) * d ≤ (up b + down a) * d = mul-le-mul_right d (le_out a b h) in
-    omega (arith, ints)
+use Rattle.fx_num.proofs.Arithmetic.{scaled-mono}
 
 -- between two products by one number
 product-between : (width : ℕ) (signed : Bool) (a b x y : ℤ) → a ≤ℤ x → x ≤ℤ b → InWord width signed (a *ℤ y) → InWord width signed (b *ℤ y) → InWord width signed (x *ℤ y)
@@ -51,16 +45,6 @@ products-hold nets left right width signed one other there also p q r s = record
       product-in-word width signed (word_lowest one.width one.signed) (word_highest one.width one.signed) (word_lowest other.width other.signed) (word_highest other.width other.signed)
       p q r s x y first.low first.high second.low second.high;
 }
-
--- a number of a word has 128 bits
-pub word-fits : (width : ℕ) (signed : Bool) (v : ℤ) → IsWord width signed → InWord width signed v → FitsSigned w128 v
-word-fits width true v word is =
-    let few : width - 1 ≤ 127 = omega (arith, word.1) in
-    let most : 2 ^ (width - 1) ≤ 2 ^ 127 = pow_mono few in
-    omega (arith, ints, most, is.low, is.high)
-word-fits width false v word is =
-    let most : 2 ^ width ≤ 2 ^ 127 = pow_mono word.1 in
-    omega (arith, ints, most, is.low, is.high)
 
 lowest-in-word : (width : ℕ) (signed : Bool) → InWord width signed (word_lowest width signed)
 lowest-in-word width true = record { low = omega (arith, ints); high = omega (arith, ints) }

@@ -1,5 +1,5 @@
 -- What the nets of a netlist that can be run offer to a step.
-use Rattle.std.proofs.Common.{◌≡◌, ℕ, ◌<◌, ◌≤◌, Bool, true, false, List, [], ◌∷◌, length, Option, None, Some, slice_get, slice_index_or, All, arith, refl}
+use Rattle.std.proofs.Common.{◌≡◌, ℕ, ◌<◌, Bool, List, [], ◌∷◌, length, Option, None, Some, slice_get, slice_index_or, All, arith, refl}
 use Rattle.fx_num.specs.Word.{IsWord}
 use Rattle.hw_net.specs.declared.netlist.Net.{Net}
 use Rattle.hw_net.specs.declared.netlist.NetOp.{NetOp}
@@ -10,11 +10,9 @@ use Rattle.hw_net.specs.Circuit.{Circuit}
 use Rattle.hw_net.specs.Operation.{arity}
 use Rattle.hw_net.specs.Netlist.{IsNetlist, IsKind, HasParts, HasBits, reads}
 use Rattle.hw_run.specs.inner.Running.{CanGive, CanStep}
-use Rattle.hw_net.proofs.Places.{at-place, slice_get_inside}
-
-most-bits : (width : ℕ) (signed : Bool) → IsWord width signed → width ≤ 128
-most-bits width true word = word.1
-most-bits width false word = omega (arith, word.1)
+use Rattle.fx_io.proofs.Places.{held}
+use Rattle.hw_net.proofs.Places.{slice_get_inside}
+use Rattle.fx_num.proofs.Words.{word-width}
 
 within-word : (nets : List Net) (args : List ℕ) (high low : ℕ) → All (λ net. IsWord net.width net.signed) nets → All (λ read. read < length nets) args → length args ≡ 1 → HasBits nets args high low → high < 128
 within-word nets [] high low words there one bits = absurd (omega arith)
@@ -23,8 +21,8 @@ within-word nets (read ∷ args) high low words there one bits = by (slice_get n
     by : (found : Option Net) → slice_get nets read ≡ found → high < 128
     by None e = absurd (slice_get_inside nets read (there 0 0 (omega arith)) e)
     by (Some net) e =
-        let word = at-place (λ (one : Net). IsWord one.width one.signed) nets read net words e in
-        let most = most-bits net.width net.signed word in
+        let word = held (λ (one : Net). IsWord one.width one.signed) nets read net words e in
+        let most = word-width net.width net.signed word in
         let bit = bits.within 0 read net refl e in
         omega arith
 

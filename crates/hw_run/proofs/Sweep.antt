@@ -13,7 +13,7 @@ use Rattle.std.proofs.lemmas.Bool.{cases_lt}
 use Rattle.std.proofs.lemmas.List.{get_or-set_same, get_or-set_other}
 use Rattle.std.proofs.lemmas.Option.{slice_get_within}
 use Rattle.hw_run.specs.inner.Sweep.{IsSwept}
-use Rattle.hw_net.proofs.Places.{at-place}
+use Rattle.fx_io.proofs.Places.{held}
 
 -- where two rows have the same numbers at the nets that a net reads in the same clock, it shows the same
 module _ (row other : Row) where
@@ -22,7 +22,7 @@ module _ (row other : Row) where
 
   same-number : (args : List ℕ) (i : ℕ) (found : Option ℕ) → slice_get args i ≡ found → Agree args → number_at row found ≡ number_at other found
   same-number args i None e agree = refl
-  same-number args i (Some net) e agree = at-place (λ (net : ℕ). row net ≡ other net) args i net agree e
+  same-number args i (Some net) e agree = held (λ (net : ℕ). row net ≡ other net) args i net agree e
 
   pub same-operands : (args : List ℕ) → Agree args → operands_at row args ≡ operands_at other args
   same-operands args agree =

@@ -14,7 +14,8 @@ use Rattle.hw_net.specs.Operation.{Operands, given_by}
 use Rattle.hw_net.specs.Registers.{Wave, Span, IsReg, IsEnReg, IsBridge, IsCounter}
 use Rattle.hw_net.specs.NetRows.{Inputs, Rows, NetRows, NetShows, RowsAreOne, span_of, operands_at}
 use Rattle.hw_net.specs.Netlist.{IsNetlist, IsKind, reads, reads_now}
-use Rattle.hw_net.proofs.Places.{at-place, slice_get_inside}
+use Rattle.fx_io.proofs.Places.{held as at-place}
+use Rattle.hw_net.proofs.Places.{slice_get_inside}
 use Rattle.hw_run.proofs.Ordering.{now-there}
 use Rattle.hw_run.proofs.Sweep.{same-operands}
 

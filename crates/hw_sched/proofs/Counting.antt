@@ -25,7 +25,8 @@ use Rattle.dg_sort.proofs.Lines.{lines_from, controls_from}
 use Rattle.hw_arcs.specs.Latencies.{latency_at}
 use Rattle.hw_latency.specs.Shared.{is_shared}
 use Rattle.hw_latency.specs.declared.latencies.Latencies.{Latencies}
-use Rattle.hw_slots.proofs.Sums.{greatest_at, sum-cons, sums_same, sum_below, sum_below_next}
+use Rattle.fx_io.proofs.Places.{sum-cons}
+use Rattle.hw_slots.proofs.Sums.{greatest_at, sums_same, sum_below, sum_below_next}
 use Rattle.hw_sched.specs.Ready.{AreReady, declared_latency, ready_of}
 use Rattle.hw_sched.specs.Answer.{timing_of}
 use Rattle.hw_sched.specs.Slots.{Timing, operation, operations_of, shared_operations}

@@ -13,7 +13,8 @@ use Rattle.dg_model.specs.Library.{row_of}
 use Rattle.dg_model.specs.Wired.{IsWired, Joins}
 use Rattle.dg_model.specs.Wires.{enters, driver_of}
 use Rattle.hw_sched.specs.Laws.{IsEdge, LinesAreEdges, ControlsAreEdges}
-use Rattle.hw_sched.proofs.Lists.{Stands, stands_either, stands_left, stands_right, stands_later, stands_mapped, some_counted, held}
+use Rattle.fx_io.proofs.Places.{held, there_map}
+use Rattle.hw_sched.proofs.Lists.{Stands, stands_either, stands_left, stands_right, stands_later, some_counted}
 
 -- ---- what is found
 
@@ -53,7 +54,7 @@ lines_are_edges diagram block port line e =
     let ends = and_parts (eqb line.to block) (eqb line.to_port port) found.1 in
     let to : line.to ≡ block = eqb-true line.to block ends.0 in
     let to_port : line.to_port ≡ port = eqb-true line.to_port port ends.1 in
-    let at = stands_mapped signal_edge diagram.edges found.0.place line found.0.at in
+    let at = there_map signal_edge diagram.edges found.0.place line found.0.at in
     let stands = stands_left (map signal_edge diagram.edges) (enable_edges_from 0 diagram.blocks) found.0.place (signal_edge line) at in
     let same : ◌≡◌ {A = LatencyEdge} (signal_edge line) (record { from = line.from; from_port = line.from_port; to = block; target = Port port }) =
     ap (λ (n : ℕ). signal_edge (record line { to = n })) to ∙ ap (λ (n : ℕ). signal_edge (record line { to = block; to_port = n })) to_port in
@@ -62,7 +63,7 @@ lines_are_edges diagram block port line e =
 -- each line is an edge
 pub line_is_edge : (diagram : Diagram) (number : ℕ) (line : Edge) → slice_get diagram.edges number ≡ Some line → (k : ℕ) × IsEdge diagram k (signal_edge line)
 line_is_edge diagram number line at =
-    let stands = stands_left (map signal_edge diagram.edges) (enable_edges_from 0 diagram.blocks) number (signal_edge line) (stands_mapped signal_edge diagram.edges number line at) in
+    let stands = stands_left (map signal_edge diagram.edges) (enable_edges_from 0 diagram.blocks) number (signal_edge line) (there_map signal_edge diagram.edges number line at) in
     (stands.place, stands.at)
 
 -- ---- controls

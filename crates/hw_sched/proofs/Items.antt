@@ -13,9 +13,11 @@ use Rattle.hw_latency.specs.Shared.{is_shared}
 use Rattle.hw_sched.specs.Level.{depth_at, is_same_period}
 use Rattle.hw_sched.specs.inner.Greatest.{IsGreatest, IsFirstInto, IsLineFrom, IsReadLine, IsReadControl, own_depth, IsNextDepth}
 use Rattle.hw_sched.proofs.Standing.{period_is}
-use Rattle.hw_sched.proofs.Paths.{place_taken, take_length}
+use Rattle.hw_sched.proofs.Numbered.{taken_from}
+use Rattle.hw_sched.proofs.Paths.{take_length}
 use Rattle.hw_sched.proofs.Served.{same_period}
 use Rattle.hw_sched.proofs.Reading.{greatest_none, greatest_either, line_counts, line_skips}
+use Rattle.fx_io.proofs.Places.{get_drop}
 
 -- ---- what the code reads
 
@@ -24,19 +26,14 @@ drop_length zero xs = omega arith
 drop_length (suc n) [] = omega arith
 drop_length (suc n) (x ∷ xs) = let more = drop_length n xs in omega (arith, more)
 
-drop_place : {A : Type 0} (n : ℕ) (xs : List A) (k : ℕ) → slice_get (drop n xs) k ≡ slice_get xs (n + k)
-drop_place zero xs k = let e : k ≡ 0 + k = omega arith in ap (slice_get xs) e
-drop_place (suc n) [] k = refl
-drop_place (suc n) (x ∷ xs) k = let e : suc (n + k) ≡ suc n + k = omega arith in drop_place n xs k ∙ ap (slice_get (x ∷ xs)) e
-
 -- the rest of a list from a place on
 pub rest_length : {A : Type 0} (first : ℕ) (xs : List A) → length (take (length xs - first) (drop first xs)) ≡ length xs - first
 rest_length first xs = let size = drop_length first xs in take_length (length xs - first) (drop first xs) (omega (arith, size))
 
 pub rest_read : {A : Type 0} (all xs : List A) (first index : ℕ) (d : A) → xs ≡ all → index < length (take (length xs - first) (drop first xs)) → slice_get all (first + index) ≡ Some (get_or (take (length xs - first) (drop first xs)) index d)
 rest_read {A} all xs first index d same within =
-    ap (λ (ys : List A). slice_get ys (first + index)) (sym same) ∙ sym (drop_place first xs index)
-    ∙ place_taken (length xs - first) (drop first xs) index (get_or (take (length xs - first) (drop first xs)) index d)
+    ap (λ (ys : List A). slice_get ys (first + index)) (sym same) ∙ sym (get_drop first xs index)
+    ∙ taken_from (length xs - first) (drop first xs) index (get_or (take (length xs - first) (drop first xs)) index d)
     (slice_get-get_or (take (length xs - first) (drop first xs)) index d within)
 
 pub item_read : {A : Type 0} (all xs : List A) (index : ℕ) (d : A) → xs ≡ all → index < length xs → slice_get all index ≡ Some (get_or xs index d)

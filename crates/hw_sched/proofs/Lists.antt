@@ -1,15 +1,16 @@
 -- Greatest numbers, sums, counts and elements of lists, beside those of `hw_slots`.
 use Rattle.std.proofs.Common.{◌≡◌, ℕ, zero, suc, ◌+◌, ◌-◌, ◌/◌, ◌<◌, ◌≤◌, Bool, true, false, cond, List, [], ◌∷◌, ◌++◌, map, take, filter, replicate, refl, sym, ap, subst, ◌∙◌, inl, inr, arith}
-use Rattle.std.specs.Prelude.{slice_get, slice_index, Some, count_by, ◌⊎◌, All}
+use Rattle.std.specs.Prelude.{slice_get, slice_index, Some, count_by, ◌⊎◌}
 use Rattle.std.specs.List.{flat_map}
 use Rattle.std.proofs.Math.Nat.{suc-mul}
 use Rattle.std.proofs.lemmas.Bool.{cond-true, cond-false, false≢true, cases_lt}
 use Rattle.std.proofs.lemmas.List.Sums.{sum_by-take-le}
 use Rattle.std.proofs.lemmas.Nat.{div-add-mod', le-div}
-use Rattle.std.proofs.lemmas.Option.{none-some, same_Some, slice_get_within, get_or_from_slice_get}
+use Rattle.std.proofs.lemmas.Option.{none-some, same_Some}
 use Rattle.dg_waves.specs.Rounds.{numbers_from}
 use Rattle.dg_model.specs.Widths.{greatest}
-use Rattle.hw_slots.proofs.Sums.{counted, sum_below, sum_below_next}
+use Rattle.fx_io.proofs.Places.{count_cons}
+use Rattle.hw_slots.proofs.Sums.{sum_below, sum_below_next}
 
 -- ---- zeros
 
@@ -55,10 +56,10 @@ count_rises p [] n m x at is below = absurd (none-some x at)
 count_rises p (y ∷ xs) n zero x at is below = absurd (omega arith)
 count_rises p (y ∷ xs) zero (suc m) x at is below =
     let e = cond-true {A = ℕ} (p y) 1 0 (ap p (same_Some y x at) ∙ is) in
-    omega (arith, counted p y (take m xs), e)
+    omega (arith, count_cons p y (take m xs), e)
 count_rises p (y ∷ xs) (suc n) (suc m) x at is below =
     let more = count_rises p xs n m x at is (omega arith) in
-    omega (arith, counted p y (take n xs), counted p y (take m xs), more)
+    omega (arith, count_cons p y (take n xs), count_cons p y (take m xs), more)
 
 pub count_below : {A : Type 0} (p : A → Bool) (xs : List A) (n : ℕ) (x : A) → slice_get xs n ≡ Some x → p x ≡ true → count_by p (take n xs) < count_by p xs
 count_below p xs n x at is =
@@ -72,17 +73,13 @@ none_counted p [] none = refl
 none_counted p (y ∷ xs) none =
     let e = cond-false {A = ℕ} (p y) 1 0 (none 0 y refl) in
     let more = none_counted p xs (λ k x at. none (suc k) x at) in
-    omega (arith, counted p y xs, e, more)
+    omega (arith, count_cons p y xs, e, more)
 
--- an element is counted where it stands
+-- an element is count_cons where it stands
 pub some_counted : {A : Type 0} (p : A → Bool) (xs : List A) (n : ℕ) (x : A) → slice_get xs n ≡ Some x → p x ≡ true → 0 < count_by p xs
 some_counted p xs n x at is = let less = count_below p xs n x at is in omega (arith, less)
 
 -- ---- elements
-
--- what all elements have
-pub held : {A : Type 0} (P : A → Type 0) (xs : List A) (k : ℕ) (x : A) → All P xs → slice_get xs k ≡ Some x → P x
-held P xs k x all at = subst P (get_or_from_slice_get xs k x x at) (all k x (slice_get_within xs k x at))
 
 -- an element stands in a list
 pub record Stands {A : Type 0} (xs : List A) (x : A) : Type 0 where
@@ -105,11 +102,6 @@ pub stands_either : {A : Type 0} (xs ys : List A) (k : ℕ) (x : A) → slice_ge
 stands_either [] ys k x at = inr (record { place = k; at = at })
 stands_either (y ∷ xs) ys zero x at = inl (record { place = 0; at = at })
 stands_either (y ∷ xs) ys (suc k) x at = elim (stands_either xs ys k x at) [ inl left ↦ inl (stands_later y xs x left) | inr right ↦ inr right ]
-
-pub stands_mapped : {A B : Type 0} (f : A → B) (xs : List A) (k : ℕ) (x : A) → slice_get xs k ≡ Some x → slice_get (map f xs) k ≡ Some (f x)
-stands_mapped f [] k x at = absurd (none-some x at)
-stands_mapped {A} f (y ∷ xs) zero x at = ap (λ (a : A). Some (f a)) (same_Some y x at)
-stands_mapped f (y ∷ xs) (suc k) x at = stands_mapped f xs k x at
 
 kept_later : {A : Type 0} (b : Bool) (y : A) (xs : List A) (x : A) → Stands xs x → Stands (cond b (y ∷ xs) xs) x
 kept_later true y xs x later = stands_later y xs x later

@@ -14,13 +14,14 @@ use Rattle.dg_model.specs.Widths.{greatest}
 use Rattle.hw_latency.specs.Weight.{samples}
 use Rattle.hw_slots.specs.declared.operation.Operation.{Operation as Cell}
 use Rattle.hw_slots.specs.Slots.{count_at as count_in, needed, level_width as width_in, level_after, levels_of as levels_in, base_slot as base_in, need_of as need_in, turn_of as turn_in, slot_of as slot_in, beside, most_at_once as most_in, units_of_kind as units_in, unit_of as unit_in}
-use Rattle.hw_slots.proofs.Sums.{counted, greatest_at, sums_same}
+use Rattle.hw_slots.proofs.Sums.{greatest_at, sums_same}
 use Rattle.hw_sched.specs.Slots.{Timing, Operation, OperationKind, shared_operations, kind_of, is_same_kind, level_of, count_at, shared_out, level_width, start_of, base_slot, levels_of, need_of, turn_of, slot_of, most_at_once, units_of_kind, new_kind, kinds_of, before_kind, unit_of}
 use Rattle.hw_sched.specs.Laws.{IsOperation}
 use Rattle.hw_sched.specs.Numbered.{OperationsAreNumbered, all_kinds, number_of, cell_of, cells_of}
-use Rattle.hw_sched.proofs.Lists.{greatest_within, stands_mapped, stands_filtered, passes}
+use Rattle.hw_sched.proofs.Lists.{greatest_within, stands_filtered, passes}
 use Rattle.hw_sched.proofs.Bases.{same_kind, own_kind, of_shared}
 use Rattle.hw_sched.proofs.Units.{HasKind, own_listed}
+use Rattle.fx_io.proofs.Places.{map_there, there_map, count_cons}
 
 -- ---- lists
 
@@ -29,19 +30,14 @@ counts_same f p q [] same = refl
 counts_same f p q (x ∷ xs) same =
     let more = counts_same f p q xs (λ k y at. same (suc k) y at) in
     let e = ap (λ (b : Bool). cond {A = ℕ} b 1 0) (same 0 x refl) in
-    omega (arith, more, e, counted p x xs, counted q (f x) (map f xs))
+    omega (arith, more, e, count_cons p x xs, count_cons q (f x) (map f xs))
 
 mapped_take : {A B : Type 0} (f : A → B) (n : ℕ) (xs : List A) → take n (map f xs) ≡ map f (take n xs)
 mapped_take f zero xs = refl
 mapped_take f (suc n) [] = refl
 mapped_take {A} {B} f (suc n) (x ∷ xs) = ap (λ (ys : List B). f x ∷ ys) (mapped_take f n xs)
 
-mapped_from : {A B : Type 0} (f : A → B) (xs : List A) (k : ℕ) (y : B) → slice_get (map f xs) k ≡ Some y → (x : A) × (slice_get xs k ≡ Some x) × (f x ≡ y)
-mapped_from f [] k y at = absurd (none-some y at)
-mapped_from f (x ∷ xs) zero y at = (x, refl, same_Some (f x) y at)
-mapped_from f (x ∷ xs) (suc k) y at = mapped_from f xs k y at
-
-taken_from : {A : Type 0} (n : ℕ) (xs : List A) (k : ℕ) (x : A) → slice_get (take n xs) k ≡ Some x → slice_get xs k ≡ Some x
+pub taken_from : {A : Type 0} (n : ℕ) (xs : List A) (k : ℕ) (x : A) → slice_get (take n xs) k ≡ Some x → slice_get xs k ≡ Some x
 taken_from zero xs k x at = absurd (none-some x at)
 taken_from (suc n) [] k x at = at
 taken_from (suc n) (y ∷ xs) zero x at = at
@@ -53,7 +49,7 @@ found_counted {A} p (x ∷ xs) some = elim (cases_Bool (p x)) [
   | inl is ↦ (0, x, refl, is)
   | inr not ↦
       let e = cond-false {A = ℕ} (p x) 1 0 not in
-      let more = found_counted p xs (omega (arith, some, counted p x xs, e)) in
+      let more = found_counted p xs (omega (arith, some, count_cons p x xs, e)) in
       (suc more.0, more.1, more.2, more.3)
 ]
 
@@ -65,7 +61,7 @@ next_same a b false e = ne_eqb (suc a) (suc b) (λ same. eqb-false a b e (omega 
 
 kind_number : (kinds : List OperationKind) (kind other : OperationKind) → HasKind kinds kind → HasKind kinds other → (length (before_kind kind kinds) == length (before_kind other kinds)) ≡ is_same_kind kind other
 kind_number [] kind other has too = absurd (omega (arith, has))
-kind_number (k ∷ kinds) kind other has too = go (λ a b. kind_number kinds kind other a b) (is_same_kind kind k) (is_same_kind other k) refl refl (counted (is_same_kind kind) k kinds) (counted (is_same_kind other) k kinds)
+kind_number (k ∷ kinds) kind other has too = go (λ a b. kind_number kinds kind other a b) (is_same_kind kind k) (is_same_kind other k) refl refl (count_cons (is_same_kind kind) k kinds) (count_cons (is_same_kind other) k kinds)
   where
     one : (b : Bool) → is_same_kind kind other ≡ b → is_same_kind kind k ≡ true → is_same_kind other k ≡ true → b ≡ true
     one b e p q = sym e ∙ subst (λ (o : OperationKind). is_same_kind kind o ≡ true) (same_kind kind k p ∙ sym (same_kind other k q)) (own_kind kind)
@@ -88,7 +84,7 @@ kind_number (k ∷ kinds) kind other has too = go (λ a b. kind_number kinds kin
 -- a kind that is new stands behind all others
 pub none_before : (kinds : List OperationKind) (kind last : OperationKind) → count_by (is_same_kind kind) kinds ≡ 0 → is_same_kind kind last ≡ true → length (before_kind kind (kinds ++ last ∷ [])) ≡ length kinds
 none_before [] kind last none same = ap (λ (b : Bool). length (cond b [] (last ∷ []))) same
-none_before (k ∷ kinds) kind last none same = go (λ none. none_before kinds kind last none same) (is_same_kind kind k) (counted (is_same_kind kind) k kinds)
+none_before (k ∷ kinds) kind last none same = go (λ none. none_before kinds kind last none same) (is_same_kind kind k) (count_cons (is_same_kind kind) k kinds)
   where
     go : (count_by (is_same_kind kind) kinds ≡ 0 → length (before_kind kind (kinds ++ last ∷ [])) ≡ length kinds) → (b : Bool) → count_by (is_same_kind kind) (k ∷ kinds) ≡ cond b 1 0 + count_by (is_same_kind kind) kinds → length (cond b [] (k ∷ before_kind kind (kinds ++ last ∷ []))) ≡ suc (length kinds)
     go rest true e = absurd (omega (arith, none, e))
@@ -155,7 +151,7 @@ module _ (diagram : Diagram) (attributes : Attributes) (plan : Resolved) (timing
           let period_is : is_of period one.1 ≡ true = ap (λ (k : OperationKind). k.period == period) kind ∙ is in
           let need = needed_there period level one.1 one.0 one.2 period_is (eqb-true (level_of timing one.1) level parts.1) in
           let same : needs level one.1 ≡ needs level o = ap (λ (k : OperationKind). shared_out (count_at diagram attributes timing all k level) plan.multipliers) kind in
-          let most = greatest_at (needed cells plan.multipliers period level) cells one.0 (cell one.1) (stands_mapped cell all one.0 one.1 one.2) in
+          let most = greatest_at (needed cells plan.multipliers period level) cells one.0 (cell one.1) (there_map cell all one.0 one.1 one.2) in
           omega (arith, need, same, most)
 
       go : (count : ℕ) → count_at diagram attributes timing all (kind_at o) level ≡ count → needs level o ≤ width_in cells plan.multipliers period level
@@ -178,7 +174,7 @@ module _ (diagram : Diagram) (attributes : Attributes) (plan : Resolved) (timing
   pub widths_as : (period level : ℕ) → width_in cells plan.multipliers period level ≡ level_width diagram attributes plan timing period level
   widths_as period level =
       let low = greatest_within (needed cells plan.multipliers period level) (level_width diagram attributes plan timing period level) cells
-      (λ k c there. let from = mapped_from cell all k c there in
+      (λ k c there. let from = map_there cell all k c there in
       subst (λ (d : Cell). needed cells plan.multipliers period level d ≤ level_width diagram attributes plan timing period level) from.2
       (width_below period level from.0 k ((samples (attributes.period_at from.0.block) == period) && (level_of timing from.0 == level)) from.1 refl)) in
       let high = greatest_within (needs level) (width_in cells plan.multipliers period level) (filter (is_of period) all)
@@ -230,7 +226,7 @@ module _ (diagram : Diagram) (attributes : Attributes) (plan : Resolved) (timing
           let level : level_of timing one.1 ≡ level_of timing x = eqb-true (level_of timing one.1) (level_of timing x) parts.1 in
           let is = beside_as m o one.1 one.0 true at one.2 (numbers_same one.0 m one.1 o one.2 at ∙ parts.0) in
           let same : at_once o one.1 ≡ at_once o x = ap (λ (l : ℕ). count_at diagram attributes timing all (kind_at o) l) level in
-          let most = greatest_at (beside cells (number (kind_at o))) cells one.0 (cell one.1) (stands_mapped cell all one.0 one.1 one.2) in
+          let most = greatest_at (beside cells (number (kind_at o))) cells one.0 (cell one.1) (there_map cell all one.0 one.1 one.2) in
           omega (arith, is, same, most)
 
       go : (count : ℕ) → at_once o x ≡ count → at_once o x ≤ most_in cells (number (kind_at o))
@@ -247,7 +243,7 @@ module _ (diagram : Diagram) (attributes : Attributes) (plan : Resolved) (timing
   pub most_as : (m : ℕ) (o : Operation) → slice_get all m ≡ Some o → most_in cells (number (kind_at o)) ≡ most_at_once diagram attributes plan timing (kind_at o)
   most_as m o at =
       let low = greatest_within (beside cells (number (kind_at o))) (most_at_once diagram attributes plan timing (kind_at o)) cells
-      (λ k c there. let from = mapped_from cell all k c there in
+      (λ k c there. let from = map_there cell all k c there in
       subst (λ (d : Cell). beside cells (number (kind_at o)) d ≤ most_at_once diagram attributes plan timing (kind_at o)) from.2
       (beside_within m o from.0 k (number (kind_at from.0) == number (kind_at o)) at from.1 refl)) in
       let high = greatest_within (at_once o) (most_in cells (number (kind_at o))) all (λ k x there. at_once_within m o x at) in

@@ -7,7 +7,7 @@ use Rattle.std.proofs.lemmas.Option.{none-some, same_Some}
 use Rattle.dg_model.specs.declared.diagram.Diagram.{Diagram}
 use Rattle.dg_model.specs.declared.resolved.Resolved.{Resolved}
 use Rattle.dg_model.specs.Signals.{Attributes}
-use Rattle.hw_slots.proofs.Sums.{counted}
+use Rattle.fx_io.proofs.Places.{count_cons}
 use Rattle.hw_sched.specs.declared.keys.KindKey.{KindKey}
 use Rattle.hw_sched.specs.declared.numbers.KindNumbers.{KindNumbers}
 use Rattle.hw_sched.specs.Slots.{Timing, Operation, OperationKind, kind_of, is_same_kind, with_kind, new_kind, kinds_of, before_kind}
@@ -24,7 +24,7 @@ is_in kinds kind = nat_lt 0 (count_by (is_same_kind kind) kinds)
 
 kept_behind : (kinds : List OperationKind) (kind last : OperationKind) → HasKind kinds kind → length (before_kind kind (kinds ++ last ∷ [])) ≡ length (before_kind kind kinds)
 kept_behind [] kind last has = absurd (omega (arith, has))
-kept_behind (x ∷ kinds) kind last has = go (λ has. kept_behind kinds kind last has) (is_same_kind kind x) (counted (is_same_kind kind) x kinds)
+kept_behind (x ∷ kinds) kind last has = go (λ has. kept_behind kinds kind last has) (is_same_kind kind x) (count_cons (is_same_kind kind) x kinds)
   where
     go : (HasKind kinds kind → length (before_kind kind (kinds ++ last ∷ [])) ≡ length (before_kind kind kinds)) → (b : Bool) → count_by (is_same_kind kind) (x ∷ kinds) ≡ cond b 1 0 + count_by (is_same_kind kind) kinds
         → length (cond b [] (x ∷ before_kind kind (kinds ++ last ∷ []))) ≡ length (cond b [] (x ∷ before_kind kind kinds))
@@ -48,7 +48,7 @@ kept_all diagram attributes plan timing (o ∷ operations) kinds kind has =
 -- a kind of a list has a number below the list's length
 pub number_below : (kinds : List OperationKind) (kind : OperationKind) → HasKind kinds kind → length (before_kind kind kinds) < length kinds
 number_below [] kind has = absurd (omega (arith, has))
-number_below (x ∷ kinds) kind has = go (λ has. number_below kinds kind has) (is_same_kind kind x) (counted (is_same_kind kind) x kinds)
+number_below (x ∷ kinds) kind has = go (λ has. number_below kinds kind has) (is_same_kind kind x) (count_cons (is_same_kind kind) x kinds)
   where
     go : (HasKind kinds kind → length (before_kind kind kinds) < length kinds) → (b : Bool) → count_by (is_same_kind kind) (x ∷ kinds) ≡ cond b 1 0 + count_by (is_same_kind kind) kinds → length (cond b [] (x ∷ before_kind kind kinds)) < suc (length kinds)
     go rest true e = omega arith

@@ -16,7 +16,7 @@ use Rattle.dg_model.specs.declared.diagram.Block.{Block}
 use Rattle.dg_model.specs.declared.diagram.PeriodSpec.{PeriodSpec}
 use Rattle.dg_model.specs.declared.diagram.PeriodSpec.TheVariants.{Inherit, Constant as NeverChanges, Every}
 use Rattle.dg_model.specs.declared.kind.Kind.{Kind}
-use Rattle.dg_model.specs.declared.kind.Kind.TheVariants.{Inport, Outport, Ground, Delay, Mux, Demux, RateTransition, EnableTest, EnOut, Terminator}
+use Rattle.dg_model.specs.declared.kind.Kind.TheVariants.{Inport, Outport, Delay, EnOut}
 use Rattle.dg_model.specs.declared.row.Inherited.{Inherited}
 use Rattle.dg_model.specs.KindRow.{IsPeriod}
 use Rattle.dg_model.specs.Library.{row_of, IsReadable}
@@ -26,7 +26,8 @@ use Rattle.dg_model.specs.Faults.{AllKeep}
 use Rattle.dg_model.specs.Rate.{KeepsDeclared}
 use Rattle.dg_model.specs.Wired.{IsWired}
 use Rattle.hw_sched.specs.Laws.{PeriodsAreAbove, PeriodsAreShort, is_moving, MovingHavePeriods}
-use Rattle.hw_sched.proofs.Lists.{held}
+use Rattle.fx_io.proofs.Places.{held}
+use Rattle.dg_rates.proofs.Declaring.{declared_above}
 
 -- a number that is there is above 0
 abbrev pub IsAbove : Option ℕ → Type 0
@@ -39,15 +40,6 @@ IsLow n None = ⊥
 IsLow n (Some low) = low ≤ n
 
 -- ---- declared periods
-
-declared_above : (kind : Kind) (period : Decimal) → (row_of kind).parameters → (row_of kind).timing.may_be (Every period) → IsPeriod period
-declared_above Ground period has may = absurd (cc may)
-declared_above (Mux sizes) period has may = absurd (cc may)
-declared_above (Demux sizes) period has may = absurd (cc may)
-declared_above (RateTransition own initial) period has may = let same : own ≡ period = cc may in subst IsPeriod same has.0
-declared_above EnableTest period has may = absurd (cc may)
-declared_above Terminator period has may = absurd (cc may)
-declared_above _ period has may = may
 
 units_above : (block : Block) (decimal : Decimal) → IsReadable block → declared_period block.period ≡ Some decimal → 0 < units_of decimal
 units_above block decimal readable e = by block.period readable.period e

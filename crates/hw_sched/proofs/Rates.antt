@@ -23,7 +23,8 @@ use Rattle.dg_model.specs.Wired.{MayStand}
 use Rattle.dg_model.specs.Wires.{driver_of, at_source, edges_into, period_into}
 use Rattle.hw_latency.specs.Weight.{is_free}
 use Rattle.hw_sched.specs.Laws.{JoinsPeriods, EdgesJoinPeriods, is_moving}
-use Rattle.hw_sched.proofs.Lists.{Stands, stands_left, stands_right, stands_mapped, stands_filtered, held}
+use Rattle.fx_io.proofs.Places.{held, there_map}
+use Rattle.hw_sched.proofs.Lists.{Stands, stands_left, stands_right, stands_filtered}
 use Rattle.hw_sched.proofs.Edges.{control_edge, edge_cases, not_found, ends_at, drives}
 use Rattle.hw_sched.proofs.Periods.{readable_at, periods_are_above, moving_have_periods}
 
@@ -120,8 +121,8 @@ module _ (diagram : Diagram) (checked : IsChecked diagram) where
       into = stands_filtered (λ (edge : Edge). edge.to == line.to) diagram.edges place line at (eq-eqb line.to line.to refl)
 
       go : (own : Period) → Stands (asked_of diagram own line.to b) line.from
-      go None = record { place = into.place; at = stands_mapped (λ (edge : Edge). edge.from) (edges_into diagram line.to) into.place line into.at }
-      go (Some own) = stands_left (drivers_of diagram line.to) (control_of b) into.place line.from (stands_mapped (λ (edge : Edge). edge.from) (edges_into diagram line.to) into.place line into.at)
+      go None = record { place = into.place; at = there_map (λ (edge : Edge). edge.from) (edges_into diagram line.to) into.place line into.at }
+      go (Some own) = stands_left (drivers_of diagram line.to) (control_of b) into.place line.from (there_map (λ (edge : Edge). edge.from) (edges_into diagram line.to) into.place line into.at)
 
   -- so is the control, of a block that has a period
   asked_control : (o : Period) (own place control : ℕ) (b : Block) → o ≡ Some own → b.enable ≡ Some control → Stands (asked_of diagram o place b) control

@@ -35,7 +35,7 @@ use Rattle.hw_sched.specs.inner.Cells.{AreCells}
 use Rattle.hw_sched.specs.inner.Spans.{AreSpans, span_of}
 use Rattle.hw_sched.specs.inner.Served.{AreBases, IsServed, IsShortFault}
 use Rattle.hw_sched.specs.declared.cells.Cells.{Cells}
-use Rattle.hw_sched.proofs.Lists.{stands_mapped}
+use Rattle.fx_io.proofs.Places.{there_map}
 use Rattle.hw_sched.proofs.Bases.{of_shared}
 use Rattle.hw_sched.proofs.Served.{have_periods}
 use Rattle.hw_sched.proofs.Units.{own_listed}
@@ -138,7 +138,7 @@ module _ (diagram : Diagram) (plan : Resolved) (timing : Timing) where
       period_below place = spanned.counted.all place
 
       cell_at : (number : ℕ) (o : Operation) → IsOperation diagram attributes plan number o → slice_get cells number ≡ Some (cell_of diagram attributes plan timing o)
-      cell_at number o at = stands_mapped (cell_of diagram attributes plan timing) all number o at
+      cell_at number o at = there_map (cell_of diagram attributes plan timing) all number o at
 
       below : (number : ℕ) (o : Operation) → IsOperation diagram attributes plan number o → number < length cells
       below number o at = slice_get_within cells number (cell_of diagram attributes plan timing o) (cell_at number o at)

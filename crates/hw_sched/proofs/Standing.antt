@@ -17,7 +17,8 @@ use Rattle.hw_sched.specs.Laws.{IsEdge, DepthsAreOne}
 use Rattle.hw_sched.specs.Level.{is_same_period, EndsWith, IsDepth}
 use Rattle.hw_sched.proofs.Bases.{shared_period}
 use Rattle.hw_sched.proofs.Lists.{none_counted}
-use Rattle.hw_sched.proofs.Paths.{ends_later, path_taken, take_place, take_length}
+use Rattle.fx_io.proofs.Places.{get_taken}
+use Rattle.hw_sched.proofs.Paths.{ends_later, path_taken, take_length}
 use Rattle.hw_sched.proofs.Rates.{edges_join_periods}
 use Rattle.hw_sched.proofs.Readiness.{end_of, instant_longer}
 use Rattle.hw_sched.proofs.Served.{ends_alone, same_period}
@@ -133,7 +134,7 @@ module _ (diagram : Diagram) (plan : Resolved) (checked : IsChecked diagram) whe
           leads = path_taken diagram (attributes_of diagram) (suc last) path ends.leads;
           last = last;
           size = let size = ends.size in take_length (suc last) path (omega (arith, size, is));
-          ends = take_place (suc last) path last source (omega arith) at;
+          ends = get_taken (suc last) path last source (omega arith) at;
         }
 
         go : (last : ℕ) → ends.last ≡ last → count_by (counts (period place)) path ≤ best + own_count place

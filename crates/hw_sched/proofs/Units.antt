@@ -11,7 +11,8 @@ use Rattle.dg_model.specs.declared.diagram.Diagram.{Diagram}
 use Rattle.dg_model.specs.declared.resolved.Resolved.{Resolved}
 use Rattle.dg_model.specs.Signals.{Attributes}
 use Rattle.hw_latency.specs.Weight.{samples}
-use Rattle.hw_slots.proofs.Sums.{counted, greatest_at, sum-cons}
+use Rattle.fx_io.proofs.Places.{count_cons, sum-cons}
+use Rattle.hw_slots.proofs.Sums.{greatest_at}
 use Rattle.hw_sched.specs.Slots.{Timing, Operation, OperationKind, shared_operations, kind_of, is_same_kind, level_of, count_at, base_slot, turn_of, slot_of, units_of_kind, new_kind, kinds_of, before_kind}
 use Rattle.hw_sched.specs.Laws.{IsOperation, SlotsDiffer, UnitsAreThere}
 use Rattle.hw_sched.proofs.Lists.{count_rises}
@@ -35,7 +36,7 @@ module _ (units : OperationKind → ℕ) (kind other : OperationKind) (a b : ℕ
   pub one_unit : (kinds : List OperationKind) → HasKind kinds kind → HasKind kinds other → before kind kinds + a ≡ before other kinds + b → IsOneUnit units kinds kind other a b
   one_unit [] has too e = absurd (omega (arith, has))
   one_unit (k ∷ kinds) has too e =
-      go (λ has too e. one_unit kinds has too e) (is_same_kind kind k) (is_same_kind other k) refl refl (counted (is_same_kind kind) k kinds) (counted (is_same_kind other) k kinds) e
+      go (λ has too e. one_unit kinds has too e) (is_same_kind kind k) (is_same_kind other k) refl refl (count_cons (is_same_kind kind) k kinds) (count_cons (is_same_kind other) k kinds) e
     where
       go : (HasKind kinds kind → HasKind kinds other → before kind kinds + a ≡ before other kinds + b → IsOneUnit units kinds kind other a b) → (x y : Bool) → is_same_kind kind k ≡ x → is_same_kind other k ≡ y → count_by (is_same_kind kind) (k ∷ kinds) ≡ cond x 1 0 + count_by (is_same_kind kind) kinds
           → count_by (is_same_kind other) (k ∷ kinds) ≡ cond y 1 0 + count_by (is_same_kind other) kinds
@@ -173,7 +174,7 @@ slots_differ diagram attributes plan timing number other o q differ at too unit 
 -- the multipliers of a kind stand among those of all
 kind_within : (units : OperationKind → ℕ) (kinds : List OperationKind) (kind : OperationKind) (a : ℕ) → HasKind kinds kind → a < units kind → sum (map units (before_kind kind kinds)) + a < sum (map units kinds)
 kind_within units [] kind a has below = absurd (omega (arith, has))
-kind_within units (k ∷ kinds) kind a has below = go (λ later. kind_within units kinds kind a later below) (is_same_kind kind k) refl (counted (is_same_kind kind) k kinds)
+kind_within units (k ∷ kinds) kind a has below = go (λ later. kind_within units kinds kind a later below) (is_same_kind kind k) refl (count_cons (is_same_kind kind) k kinds)
   where
     go : (HasKind kinds kind → sum (map units (before_kind kind kinds)) + a < sum (map units kinds)) → (x : Bool) → is_same_kind kind k ≡ x → count_by (is_same_kind kind) (k ∷ kinds) ≡ cond x 1 0 + count_by (is_same_kind kind) kinds
         → sum (map units (cond x [] (k ∷ before_kind kind kinds))) + a < sum (map units (k ∷ kinds))

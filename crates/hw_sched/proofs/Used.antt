@@ -1,6 +1,6 @@
 -- Each of the multipliers that the kinds have serves an operation.
-use Rattle.std.proofs.Common.{◌≡◌, ℕ, zero, suc, ◌+◌, ◌-◌, ◌%◌, ◌<◌, Bool, true, false, cond, List, [], ◌∷◌, ◌++◌, length, map, take, refl, sym, ap, subst, ◌∙◌, inl, inr, arith}
-use Rattle.std.specs.Prelude.{slice_get, Some, count_by, ◌&&◌, ◌==◌, nat_lt, ◌⊎◌}
+use Rattle.std.proofs.Common.{◌≡◌, ℕ, zero, suc, ◌+◌, ◌-◌, ◌%◌, ◌<◌, Bool, true, false, cond, List, [], ◌∷◌, ◌++◌, map, take, refl, sym, ap, subst, ◌∙◌, inl, inr, arith}
+use Rattle.std.specs.Prelude.{slice_get, Some, count_by, ◌&&◌, ◌==◌, nat_lt}
 use Rattle.std.specs.List.{sum}
 use Rattle.std.proofs.Math.Nat.{mod-eq_of_lt}
 use Rattle.std.proofs.lemmas.Bool.{cases_lt, cond-true, cond-false, ltb-false, and_parts, eqb-true}
@@ -9,11 +9,11 @@ use Rattle.dg_model.specs.declared.diagram.Diagram.{Diagram}
 use Rattle.dg_model.specs.declared.resolved.Resolved.{Resolved}
 use Rattle.dg_model.specs.Signals.{Attributes}
 use Rattle.dg_model.specs.Widths.{greatest}
-use Rattle.hw_slots.proofs.Sums.{counted, sum-cons}
 use Rattle.hw_sched.specs.Slots.{Timing, Operation, OperationKind, shared_operations, kind_of, is_same_kind, level_of, count_at, turn_of, units_of_kind, new_kind, kinds_of, before_kind}
 use Rattle.hw_sched.specs.Laws.{UnitsAreUsed}
 use Rattle.hw_sched.proofs.Lists.{Stands, stands_later}
 use Rattle.hw_sched.proofs.Bases.{same_kind, own_kind}
+use Rattle.fx_io.proofs.Places.{push_cases, there_within, count_cons, sum-cons}
 
 -- ---- lists
 
@@ -40,20 +40,20 @@ pub record IsNth {A : Type 0} (p : A → Bool) (xs : List A) (a : ℕ) : Type 0 
 
 nth : {A : Type 0} (p : A → Bool) (xs : List A) (a : ℕ) → a < count_by p xs → IsNth p xs a
 nth p [] a below = absurd (omega (arith, below))
-nth {A} p (x ∷ xs) a below = go (λ b less. nth p xs b less) (p x) refl (counted p x xs) a below
+nth {A} p (x ∷ xs) a below = go (λ b less. nth p xs b less) (p x) refl (count_cons p x xs) a below
   where
     go : ((b : ℕ) → b < count_by p xs → IsNth p xs b) → (is : Bool) → p x ≡ is → count_by p (x ∷ xs) ≡ cond (p x) 1 0 + count_by p xs → (a : ℕ) → a < count_by p (x ∷ xs) → IsNth p (x ∷ xs) a
     go rest true is sums zero below = record { number = 0; x = x; at = refl; passes = is; before = refl }
     go rest true is sums (suc a) below =
         let one = cond-true {A = ℕ} (p x) 1 0 is in
         let found = rest a (omega (arith, below, sums, one)) in
-        let more = counted p x (take found.number xs) in
+        let more = count_cons p x (take found.number xs) in
         let before = found.before in
         record { number = suc found.number; x = found.x; at = found.at; passes = found.passes; before = omega (arith, more, one, before) }
     go rest false is sums a below =
         let none = cond-false {A = ℕ} (p x) 1 0 is in
         let found = rest a (omega (arith, below, sums, none)) in
-        let more = counted p x (take found.number xs) in
+        let more = count_cons p x (take found.number xs) in
         let before = found.before in
         record { number = suc found.number; x = found.x; at = found.at; passes = found.passes; before = omega (arith, more, none, before) }
 
@@ -65,24 +65,12 @@ pub record AreDistinct (kinds : List OperationKind) : Type 0 where
 
 none_passes : {A : Type 0} (p : A → Bool) (xs : List A) (k : ℕ) (x : A) → count_by p xs ≡ 0 → slice_get xs k ≡ Some x → p x ≡ false
 none_passes p [] k x none at = absurd (none-some x at)
-none_passes {A} p (y ∷ xs) k x none at = go (λ j later there. none_passes p xs j x later there) (p y) refl (counted p y xs) k at
+none_passes {A} p (y ∷ xs) k x none at = go (λ j later there. none_passes p xs j x later there) (p y) refl (count_cons p y xs) k at
   where
     go : ((j : ℕ) → count_by p xs ≡ 0 → slice_get xs j ≡ Some x → p x ≡ false) → (is : Bool) → p y ≡ is → count_by p (y ∷ xs) ≡ cond (p y) 1 0 + count_by p xs → (k : ℕ) → slice_get (y ∷ xs) k ≡ Some x → p x ≡ false
     go rest true is sums k at = let one = cond-true {A = ℕ} (p y) 1 0 is in absurd (omega (arith, none, sums, one))
     go rest false is sums zero at = ap p (sym (same_Some y x at)) ∙ is
     go rest false is sums (suc k) at = rest k (omega (arith, none, sums)) at
-
--- an element of a list with one more
-last_or : {A : Type 0} (xs : List A) (y : A) (k : ℕ) (x : A) → slice_get (xs ++ y ∷ []) k ≡ Some x → (slice_get xs k ≡ Some x) ⊎ ((k ≡ length xs) × (y ≡ x))
-last_or [] y zero x at = inr (refl, same_Some y x at)
-last_or [] y (suc k) x at = absurd (none-some x at)
-last_or (z ∷ xs) y zero x at = inl at
-last_or (z ∷ xs) y (suc k) x at = elim (last_or xs y k x at) [ inl here ↦ inl here | inr last ↦ inr (ap suc last.0, last.1) ]
-
-there_within : {A : Type 0} (xs : List A) (k : ℕ) (x : A) → slice_get xs k ≡ Some x → k < length xs
-there_within [] k x at = absurd (none-some x at)
-there_within (y ∷ xs) zero x at = omega arith
-there_within (y ∷ xs) (suc k) x at = let more = there_within xs k x at in omega (arith, more)
 
 module _ (diagram : Diagram) (attributes : Attributes) (plan : Resolved) (timing : Timing) where
   abbrev kind_at : Operation → OperationKind
@@ -96,12 +84,12 @@ module _ (diagram : Diagram) (attributes : Attributes) (plan : Resolved) (timing
       go false e =
           let none = ltb-false 0 (count_by (is_same_kind (kind_at o)) kinds) e in
           record {
-            apart = λ j k one other less at there. elim (last_or kinds (kind_at o) k other there) [
-              | inl here ↦ elim (last_or kinds (kind_at o) j one at) [
+            apart = λ j k one other less at there. elim (push_cases kinds (kind_at o) k other there) [
+              | inl here ↦ elim (push_cases kinds (kind_at o) j one at) [
                 | inl first ↦ are.apart j k one other less first here
                 | inr last ↦ let within = there_within kinds k other here in let place = last.0 in absurd (omega (arith, within, place, less))
               ]
-              | inr last ↦ elim (last_or kinds (kind_at o) j one at) [
+              | inr last ↦ elim (push_cases kinds (kind_at o) j one at) [
                 | inl first ↦ subst (λ (x : OperationKind). is_same_kind x one ≡ false) last.1 (none_passes (is_same_kind (kind_at o)) kinds j one (omega (arith, none)) first)
                 | inr too ↦ let a = last.0 in let b = too.0 in absurd (omega (arith, a, b, less))
               ]

@@ -1,6 +1,6 @@
 -- Each output port of a checked diagram has a width, and each block one of its own. Crates above may cite this file.
-use Rattle.std.proofs.Common.{◌≡◌, ℕ, zero, suc, ◌-◌, ◌<◌, ◌≤◌, min, Bool, true, false, cond, List, length, map, refl, sym, ap, subst, ◌∙◌, arith}
-use Rattle.std.specs.Prelude.{slice_get, slice_index_or, [], ◌∷◌, Option, Some}
+use Rattle.std.proofs.Common.{◌≡◌, ℕ, ◌-◌, ◌<◌, ◌≤◌, min, Bool, true, false, cond, List, length, map, sym, ap, subst, ◌∙◌, arith}
+use Rattle.std.specs.Prelude.{slice_get, slice_index_or, [], Option, Some}
 use Rattle.std.proofs.lemmas.List.{length-map}
 use Rattle.std.proofs.lemmas.Option.{slice_get_within}
 use Rattle.dg_waves.specs.Rounds.{numbers_from}
@@ -14,10 +14,12 @@ use Rattle.dg_model.specs.Checked.{IsChecked}
 use Rattle.dg_model.specs.Library.{row_of, HasPorts}
 use Rattle.dg_model.specs.Wires.{driver_of, enters}
 use Rattle.dg_model.specs.Widths.{width_at, input_widths, are_open, share, list_length, taken, most_width, next_of, widths_of}
-use Rattle.dg_sort.proofs.Lines.{joins_at, matched, from_there, to_there, control_there}
+use Rattle.dg_model.proofs.Ports.{joins}
+use Rattle.dg_sort.proofs.Lines.{matched, from_there, to_there, control_there}
 use Rattle.hw_sched.specs.inner.Counted.{IsThere}
 use Rattle.hw_sched.proofs.Edges.{found_there}
 use Rattle.hw_sched.proofs.Periods.{readable_at}
+use Rattle.fx_io.proofs.Places.{get_some}
 
 parts_length : (sizes : List ℕ) (width : ℕ) (are_even : Bool) → length (map (min most_width) (cond are_even (map (share width (length sizes)) (numbers_from 0 (length sizes))) sizes)) ≡ length sizes
 parts_length sizes width true =
@@ -37,11 +39,6 @@ widths_by _ inputs outputs lists width sources own ports has settled =
     let many = ports.1 in
     (omega (arith, one, many), omega (arith, one))
 
-pub some_block : (blocks : List Block) (place : ℕ) → place < length blocks → (b : Block) × (slice_get blocks place ≡ Some b)
-some_block [] place below = absurd (omega (arith, below))
-some_block (b ∷ blocks) zero below = (b, refl)
-some_block (b ∷ blocks) (suc place) below = some_block blocks place (omega (arith, below))
-
 module _ (diagram : Diagram) (checked : IsChecked diagram) where
   abbrev own : ℕ → List ℕ
   own place = slice_index_or (widths_of diagram) place []
@@ -54,12 +51,12 @@ module _ (diagram : Diagram) (checked : IsChecked diagram) where
 
   -- the first width of a block
   pub first_there : (place : ℕ) → place < length diagram.blocks → 1 - 1 < length (own place)
-  first_there place inside = let block = some_block diagram.blocks place inside in (widths_at place block.0 block.1).1
+  first_there place inside = let block = get_some diagram.blocks place inside in (widths_at place block.0 block.1).1
 
   -- the source of a line
   pub source_there : (k : ℕ) (line : Edge) → slice_get diagram.edges k ≡ Some line → (1 ≤ line.from_port) × (line.from_port - 1 < length (own line.from))
   source_there k line at =
-      let source = matched (slice_get diagram.blocks line.from) (λ (b : Block). (1 ≤ line.from_port) × (line.from_port ≤ b.outputs)) (joins_at diagram k line checked.wired at).source in
+      let source = matched (slice_get diagram.blocks line.from) (λ (b : Block). (1 ≤ line.from_port) × (line.from_port ≤ b.outputs)) (joins diagram k line checked.wired at).source in
       let many = (widths_at line.from source.0 source.1).0 in
       let low = source.2.0 in
       let high = source.2.1 in

@@ -1,4 +1,4 @@
--- The Counter of a frame, and a test for a clock of the frame by it.
+-- The Counter of a frame, and a test for a clock of the frame by it. Crates above may cite this file.
 use Rattle.std.proofs.Common.{◌≡◌, ℕ, suc, ◌+◌, ◌-◌, ◌<◌, ◌≤◌, inl, inr, Bool, true, false, if◌then◌else◌, List, [], ◌∷◌, length, Option, None, Some, slice_get, pos, ap, sym, ◌∙◌, subst, arith, refl, true≢false}
 use Rattle.std.specs.Ordering.{int_eq}
 use Rattle.std.proofs.lemmas.Option.{slice_get_within, none-some, same_Some}
@@ -17,7 +17,7 @@ use Rattle.hw_net.proofs.Index.{same-is}
 use Rattle.hw_net.proofs.Growing.{split-last, still-there, appends-counter, count-append}
 use Rattle.hw_share.specs.inner.Parts.{Grows}
 use Rattle.hw_share.specs.inner.Choices.{Tests}
-use Rattle.hw_net.proofs.Numbers.{is-same, not-same}
+use Rattle.hw_net.proofs.Modular.{is-same, not-same}
 
 -- the number that is found is that of a Counter of the frame
 pub counter-at : (nets : List Net) (start k : ℕ) (frame : Frame) → counter_from nets start frame ≡ Some k → (i : ℕ) × (k ≡ start + i) × IsCounterAt nets i frame
@@ -44,7 +44,7 @@ counter-of-at nets k frame found =
     let e : at.0 ≡ k = omega (arith, at.1) in
     subst (λ (i : ℕ). IsCounterAt nets i frame) e at.2
 
-counter-kind : (kind : NetKind) (frame : Frame) → counted_frame kind ≡ Some frame → kind ≡ Counter frame
+pub counter-kind : (kind : NetKind) (frame : Frame) → counted_frame kind ≡ Some frame → kind ≡ Counter frame
 counter-kind (Comb op args) frame e = absurd (none-some frame e)
 counter-kind (Reg own slot first from) frame e = absurd (none-some frame e)
 counter-kind (EnReg own enable reset first from) frame e = absurd (none-some frame e)

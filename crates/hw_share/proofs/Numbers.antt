@@ -1,10 +1,11 @@
--- Numbers cut to a word, and tests of them.
+-- Numbers cut to a word, and tests of them. Crates above may cite this file.
 use Rattle.std.proofs.Common.{◌≡◌, ◌≢◌, ℕ, ◌-◌, ◌≤◌, Bool, true, false, not, if◌then◌else◌, ℤ, pos, arith}
 use Rattle.std.specs.Ordering.{int_eq}
 use Rattle.std.proofs.lemmas.Int.{ints}
 use Rattle.fx_num.specs.Word.{IsWord, InWord, IsWrapped}
 use Rattle.hw_net.specs.Operation.{truth}
-use Rattle.hw_net.proofs.Numbers.{wrapped-is, is-same, not-same}
+use Rattle.hw_net.proofs.Modular.{is-same, not-same}
+use Rattle.hw_net.proofs.Numbers.{wrapped-is}
 
 pub bit-word : IsWord 1 false
 bit-word = (omega arith, omega arith)

@@ -1,6 +1,6 @@
 -- One net put behind the others.
-use Rattle.std.proofs.Common.{◌≡◌, ℕ, ◌<◌, inl, inr, Bool, if◌then◌else◌, List, [], ◌∷◌, length, All, Some, None, slice_get, get_or, ap, sym, ◌∙◌, subst, arith, refl}
-use Rattle.std.proofs.lemmas.Option.{slice_get_within, slice_get_read, none-some, same_Some}
+use Rattle.std.proofs.Common.{◌≡◌, ℕ, ◌<◌, inl, inr, Bool, if◌then◌else◌, List, [], ◌∷◌, length, All, Some, None, slice_get, ap, sym, ◌∙◌, subst, arith, refl}
+use Rattle.std.proofs.lemmas.Option.{none-some}
 use Rattle.fx_num.specs.Word.{IsWord}
 use Rattle.hw_net.specs.declared.netlist.Net.{Net}
 use Rattle.hw_net.specs.declared.netlist.NetOp.{NetOp}
@@ -55,8 +55,3 @@ comb-grows a b op args named signed width part grown word kind all own =
       now = λ i d within. (all i d within).1;
       counted = λ frame names. absurd (none-some frame names);
     }) refl own refl
-
--- a net that was read by its number is the net that is there
-pub read-net : (nets read : List Net) (from : ℕ) (source result : Net) → read ≡ nets → slice_get nets from ≡ Some source → result ≡ get_or read from result → result ≡ source
-read-net nets read from source result same there is =
-    same_Some result source (sym (slice_get_read nets (length nets) from result refl (slice_get_within nets from source there) (rw same at is)) ∙ there)

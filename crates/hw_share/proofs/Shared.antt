@@ -7,11 +7,11 @@ use Rattle.hw_net.specs.declared.netlist.NetKind.{NetKind}
 use Rattle.hw_net.specs.declared.netlist.NetKind.TheVariants.{Comb, Reg, EnReg, Bridge, Unit, Counter}
 use Rattle.hw_net.specs.Circuit.{Circuit}
 use Rattle.hw_net.specs.Closed.{RegisterIsClosed, RegShows, frame_start}
-use Rattle.hw_net.specs.Registers.{Wave, Span, Takes, IsReg}
+use Rattle.hw_net.specs.Registers.{Wave, Span, IsReg}
 use Rattle.hw_net.specs.Netlist.{HasWord}
 use Rattle.hw_net.specs.NetRows.{span_of}
 use Rattle.hw_net.specs.Growing.{Extends, InRows}
-use Rattle.hw_net.proofs.Clocks.{place_in}
+use Rattle.hw_net.proofs.Clocks.{takes-at}
 use Rattle.hw_net.proofs.Growing.{longer, still-there, stood-there, extends-trans, in-rows-first, in-rows-last, in-rows-both}
 use Rattle.hw_share.specs.declared.operation.Operation.{Operation}
 use Rattle.hw_share.specs.declared.joining.Ends.{Ends}
@@ -25,10 +25,6 @@ use Rattle.hw_share.proofs.Grown.{grows-then, grows-wider}
 use Rattle.hw_share.proofs.Named.{unit-below}
 use Rattle.hw_share.proofs.Ready.{ends-of-unit}
 use Rattle.hw_share.proofs.Multiplied.{all-reads}
-
--- a slot of a frame is a clock at which a register with the slot takes
-takes-at : (span : Span) (slot k : ℕ) → slot < span.length → Takes span slot (frame_start span k + slot)
-takes-at span slot k h = record { begun = omega arith; at_slot = place_in span k slot (frame_start span k + slot) h refl }
 
 -- what a multiplier is offered, its product, and the register that keeps that
 serves-of : RegisterIsClosed → (n : ℕ) (span : Span) (slot : ℕ) (left right first second unit result : Wave) → slot < span.length

@@ -1,7 +1,6 @@
 -- Each kind of block, from what the blocks show that it reads.
 use Rattle.std.proofs.Common.{◌≡◌, ℕ, suc, ◌-◌, ◌*◌, ◌<◌, ◌≤◌, ℤ, Bool, true, false, true≢false, not, MatchBool, List, filter, Option, Some, None, slice_get, ap, sym, ◌∙◌, subst, refl, arith, le_trans}
 use Rattle.std.proofs.lemmas.Option.{none-some, same_Some}
-use Rattle.std.specs.Prelude.{IsSome}
 use Rattle.fx_type.specs.declared.spec.TypeSpec.{TypeSpec}
 use Rattle.fx_type.specs.declared.decimal.Decimal.{Decimal}
 use Rattle.dg_model.specs.declared.diagram.Diagram.{Diagram}
@@ -27,17 +26,14 @@ use Rattle.hw_shows.specs.Timing.{Timing}
 use Rattle.hw_shows.specs.Timed.{lag_of, lag_into}
 use Rattle.hw_shows.specs.Series.{steady, AreSame}
 use Rattle.hw_shows.specs.Waves.{Waves, IsMadeAs, IsScaled, IsMultiplied, IsDelayed, IsPassedOut}
-use Rattle.dg_tables.proofs.Lists.{get_holds}
+use Rattle.fx_io.proofs.Places.{held}
 use Rattle.dg_tables.proofs.Sources.{IsRead, elements_read}
 use Rattle.hw_shows.proofs.Inputs.{Setting, BlockShows, AreOffered, driver_there, in_time, enabled_now}
 use Rattle.hw_shows.proofs.Elements.{carried_out, multiplied, scaled, joined, parted, tested}
 use Rattle.hw_shows.proofs.Delays.{period_is, delayed, slowed, still_delayed, enabled_delayed, truth, some_own}
 use Rattle.hw_shows.proofs.States.{IsTruth}
 use Rattle.hw_shows.proofs.Outputs.{held_out, reset_out}
-
-some_there : (o : Option ℕ) → IsSome o → (x : ℕ) × (o ≡ Some x)
-some_there None e = absurd (true≢false (sym e))
-some_there (Some x) e = (x, refl)
+use Rattle.fx_io.proofs.Tests.{some_there}
 
 module _ {diagram : Diagram} {attributes : Attributes} {rank : ℕ → ℕ} {stimulus : Stimulus} {timing : Timing} {clocks n : ℕ} {table : Table} {waves : Waves} (s : Setting diagram attributes rank stimulus timing clocks n table waves)
     (k : ℕ) (within : suc k ≤ clocks) (block : ℕ) (all : (other : ℕ) → BlockShows s k other) (lower : (driver : ℕ) → rank driver < rank block → BlockShows s (suc k) driver)
@@ -121,7 +117,7 @@ module _ {diagram : Diagram} {attributes : Attributes} {rank : ℕ → ℕ} {sti
 
           inside : (control : ℕ) × (b.enable ≡ Some control)
           inside = some_there b.enable
-              (subst (λ (kind : Kind). MayStand (row_of kind).place.stands b.enable) is (get_holds (λ (x : Block). MayStand (row_of x.kind).place.stands x.enable) diagram.blocks block b s.checked.wired.enables shown.block_is))
+              (subst (λ (kind : Kind). MayStand (row_of kind).place.stands b.enable) is (held (λ (x : Block). MayStand (row_of x.kind).place.stands x.enable) diagram.blocks block b s.checked.wired.enables shown.block_is))
 
           out_asks : asks_ever (row_of b.kind).timing.asks ≡ true
           out_asks = ap (λ (kind : Kind). asks_ever (row_of kind).timing.asks) is

@@ -4,7 +4,8 @@ use Rattle.hw_net.specs.Registers.{Wave, Span}
 use Rattle.hw_net.specs.Closed.{frame_start, RegShows}
 use Rattle.dg_tables.specs.State.{Move}
 use Rattle.hw_shows.specs.Shows.{Shows}
-use Rattle.hw_shows.proofs.Hits.{frame_number, moved_hits}
+use Rattle.hw_lines.proofs.Hits.{hit-number}
+use Rattle.hw_shows.proofs.Hits.{moved_hits}
 
 abbrev pub span_from : ℕ → ℕ → ℕ → Span
 span_from cycles period latency = record { start = latency * cycles; length = period * cycles }
@@ -22,7 +23,7 @@ module _ (clocks k n cycles p l r : ℕ) (entry : ℕ → ℤ) (stages : ℕ) (f
     stage_shows zero below = record {
       at = λ t c less early seen.
           let i : ℕ = t / p in
-          let e : t ≡ i * p = frame_number t p seen.is_hit in
+          let e : t ≡ i * p = hit-number t p seen.is_hit in
           let from : (t + (l + 1 * p)) * cycles + 0 ≤ c = seen.from in
           let until : c < (t + (l + 1 * p) + p) * cycles = seen.until in
           let start : t * cycles ≡ i * (p * cycles) = ap (λ (x : ℕ). x * cycles) e ∙ omega arith in
@@ -32,7 +33,7 @@ module _ (clocks k n cycles p l r : ℕ) (entry : ℕ → ℤ) (stages : ℕ) (f
     stage_shows (suc j) below = record {
       at = λ t c less early seen.
           let i : ℕ = t / p in
-          let e : t ≡ i * p = frame_number t p seen.is_hit in
+          let e : t ≡ i * p = hit-number t p seen.is_hit in
           let from : (t + (l + suc (suc j) * p)) * cycles + 0 ≤ c = seen.from in
           let until : c < (t + (l + suc (suc j) * p) + p) * cycles = seen.until in
           let start : t * cycles ≡ i * (p * cycles) = ap (λ (x : ℕ). x * cycles) e ∙ omega arith in

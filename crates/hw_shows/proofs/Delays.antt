@@ -1,4 +1,4 @@
--- Blocks that show what their inputs were offered before: Delays, transitions from slow to fast, and output ports of enabled subsystems.
+-- Blocks that show what their inputs were offered before: Delays, transitions from slow to fast, and output ports of enabled subsystems. Crates above may cite this file.
 use Rattle.std.proofs.Common.{◌≡◌, ℕ, zero, suc, ◌+◌, ◌-◌, ◌*◌, ◌/◌, ◌%◌, ◌<◌, ◌≤◌, inl, inr, ℤ, Bool, true, false, true≢false, List, [], Option, Some, None, slice_get, ap, sym, ◌∙◌, subst, refl, arith, mul-le-mul_right}
 use Rattle.std.proofs.Math.Nat.{mul-mod_left}
 use Rattle.std.proofs.lemmas.Nat.{div-add-mod', mod_below}
@@ -22,7 +22,7 @@ use Rattle.dg_model.specs.Wired.{NamesControl}
 use Rattle.dg_model.specs.Operation.{stored_truth}
 use Rattle.dg_model.specs.Equation.{StoresEntry, IsInputAt, KindEquation}
 use Rattle.dg_model.specs.Solves.{IsShown, shown_ports}
-use Rattle.dg_tables.proofs.Lists.{get_holds}
+use Rattle.fx_io.proofs.Places.{held}
 use Rattle.dg_tables.proofs.Sources.{IsRead}
 use Rattle.hw_net.specs.Registers.{Span}
 use Rattle.hw_lines.specs.Line.{IsRegistered}
@@ -31,7 +31,8 @@ use Rattle.hw_shows.specs.Timing.{Timing, latency_after, latency_behind, ready_a
 use Rattle.hw_shows.specs.Timed.{lag_into}
 use Rattle.hw_shows.specs.Series.{span_at, IsSeries, IsEnabledSeries, IsLineInto, IsOffered}
 use Rattle.hw_shows.specs.Waves.{Waves}
-use Rattle.hw_shows.proofs.Hits.{frame_number, multiple_of, hits_after, hits_next, hit_at, no_hit_at, moved_hits, counted_next}
+use Rattle.hw_lines.proofs.Hits.{hit-number}
+use Rattle.hw_shows.proofs.Hits.{multiple_of, hits_after, hits_next, hit_at, no_hit_at, moved_hits, counted_next}
 use Rattle.hw_shows.proofs.Edges.{line_of, registered_shows, registered_begins}
 use Rattle.hw_shows.proofs.Chains.{frame_end, AreMoved, states_hold}
 use Rattle.hw_shows.proofs.States.{IsTruth, series_moves, enabled_moves, move_at}
@@ -56,7 +57,7 @@ control_is_truth : (diagram : Diagram) (attributes : Attributes) (stimulus : Sti
 control_is_truth diagram attributes stimulus table EnableTest b block port element t v is h = stored_is_truth _ v h
 control_is_truth diagram attributes stimulus table _ b block port element t v is h = absurd (true≢false (sym is))
 
-some_period : (p cycles r : ℕ) → r < p * cycles → 0 < p
+pub some_period : (p cycles r : ℕ) → r < p * cycles → 0 < p
 some_period zero cycles r h = absurd (omega arith)
 some_period (suc p) cycles r h = omega arith
 
@@ -136,7 +137,7 @@ module _ {diagram : Diagram} {attributes : Attributes} {rank : ℕ → ℕ} {sti
         delayed delay one same lag_long =
             let i : ℕ = t / p in
             let hit : t % p ≡ 0 = subst (λ (m : ℕ). t % m ≡ 0) same seen.is_hit in
-            let e : t ≡ i * p = frame_number t p hit in
+            let e : t ≡ i * p = hit-number t p hit in
             let from : (t + timing.latency block) * timing.cycles + timing.ready block ≤ c = seen.from in
             let until : c < (t + timing.latency block + p) * timing.cycles = subst (λ (m : ℕ). c < (t + timing.latency block + m) * timing.cycles) same seen.until in
             let hits : slice_get (hits_before (Some q) t) (delay - 1) ≡ slice_get (hits_before (Some p) (i * p)) (delay - 1) = ap (λ (m : ℕ). slice_get (hits_before (Some m) t) (delay - 1)) same ∙ ap (λ (x : ℕ). slice_get (hits_before (Some p) x) (delay - 1)) e in
@@ -230,7 +231,7 @@ module _ {diagram : Diagram} {attributes : Attributes} {rank : ℕ → ℕ} {sti
               → ((i : ℕ) → hits (suc i) ≡ moved_hits (move i) (i * q) (hits i)) → (j : ℕ) → j < count → IsInputAt diagram attributes stimulus table block initial element (slice_get (hits (t / q)) j) (waves.state block element (suc j) c)
           at_hit count move hits moved none next j less =
               let seen : IsSeenAt timing.cycles q (timing.latency block) (timing.ready block) t c = seen_frame t c due in
-              let e : t ≡ t / q * q = frame_number t q seen.is_hit in
+              let e : t ≡ t / q * q = hit-number t q seen.is_hit in
               let from : (t + timing.latency block) * timing.cycles + timing.ready block ≤ c = seen.from in
               let until : c < (t + timing.latency block + q) * timing.cycles = seen.until in
               let start : t * timing.cycles ≡ t / q * (q * timing.cycles) = ap (λ (x : ℕ). x * timing.cycles) e ∙ omega arith in
@@ -242,7 +243,7 @@ module _ {diagram : Diagram} {attributes : Attributes} {rank : ℕ → ℕ} {sti
               → IsInputAt diagram attributes stimulus table block initial element (slice_get (hits_before (Some q) t) (delay - 1)) (waves.state block element delay c)
           still_delayed delay one series =
               let seen : IsSeenAt timing.cycles q (timing.latency block) (timing.ready block) t c = seen_frame t c due in
-              let e : t / q * q ≡ t = sym (frame_number t q seen.is_hit) in
+              let e : t / q * q ≡ t = sym (hit-number t q seen.is_hit) in
               let last : suc (delay - 1) ≡ delay = omega arith in
               let none : 0 * q ≡ 0 = omega arith in
               let zero_hits : hits_before (Some q) (0 * q) ≡ [] = ap (λ (x : ℕ). hits_before (Some q) x) none in
@@ -269,7 +270,7 @@ module _ {diagram : Diagram} {attributes : Attributes} {rank : ℕ → ℕ} {sti
                 role : is_control (row_of origin.0.kind).place.role ≡ true
                 role =
                     ap is_control (MatchOption-at_some ⊥ (λ (x : Block). (row_of x.kind).place.role ≡ Role.Control) origin.0 origin.1.block_is
-                    (subst (λ (o : Option ℕ). NamesControl diagram.blocks o) is (get_holds (λ (x : Block). NamesControl diagram.blocks x.enable) diagram.blocks block b s.checked.wired.controls block_is)))
+                    (subst (λ (o : Option ℕ). NamesControl diagram.blocks o) is (held (λ (x : Block). NamesControl diagram.blocks x.enable) diagram.blocks block b s.checked.wired.controls block_is)))
 
                 at_hits : (m : ℕ) → m < n → Hits (attributes.period_at control) m → IsTruth (table control 1 0 m)
                 at_hits m soon hits =
@@ -284,7 +285,7 @@ module _ {diagram : Diagram} {attributes : Attributes} {rank : ℕ → ℕ} {sti
                 → (j : ℕ) → j < delay → IsInputAt diagram attributes stimulus table block initial element (slice_get (counted_hits table (Some control) reset (Some q) t) j) (waves.state block element (suc j) c)
             enabled_delayed delay reset series j less =
                 let seen : IsSeenAt timing.cycles q (timing.latency block) (timing.ready block) t c = seen_frame t c due in
-                let e : t / q * q ≡ t = sym (frame_number t q seen.is_hit) in
+                let e : t / q * q ≡ t = sym (hit-number t q seen.is_hit) in
                 let none : 0 * q ≡ 0 = omega arith in
                 let zero_hits : counted_hits table (Some control) reset (Some q) (0 * q) ≡ [] = ap (λ (x : ℕ). counted_hits table (Some control) reset (Some q) x) none ∙ empty reset in
                 subst (λ (x : ℕ). IsInputAt diagram attributes stimulus table block initial element (slice_get (counted_hits table (Some control) reset (Some q) x) j) (waves.state block element (suc j) c)) e

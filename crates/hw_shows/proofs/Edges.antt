@@ -1,17 +1,10 @@
 -- What a line shows of the entries at its source.
-use Rattle.std.proofs.Common.{◌≡◌, ℕ, zero, suc, ◌+◌, ◌-◌, ◌*◌, ◌/◌, ◌%◌, ◌<◌, ◌≤◌, ℤ, min, Some, ◌∙◌, arith, mul-le-mul_right}
+use Rattle.std.proofs.Common.{◌≡◌, ℕ, suc, ◌+◌, ◌-◌, ◌*◌, ◌%◌, ◌<◌, ◌≤◌, ℤ, min, Some, ◌∙◌, arith, mul-le-mul_right}
 use Rattle.hw_net.specs.Registers.{Wave}
 use Rattle.hw_lines.specs.Line.{Line, IsLine, IsRegistered}
 use Rattle.hw_shows.specs.Shows.{Shows}
-use Rattle.hw_shows.proofs.Hits.{frame_number, multiple_of}
-
--- a multiple above 0 is no less
-pub no_less : (q p : ℕ) → q % p ≡ 0 → 0 < q → p ≤ q
-no_less q p e some = go (q / p) (frame_number q p e)
-  where
-    go : (g : ℕ) → q ≡ g * p → p ≤ q
-    go zero e = absurd (omega arith)
-    go (suc g) e = omega arith
+use Rattle.hw_shows.proofs.Hits.{multiple_of}
+use Rattle.hw_lines.proofs.Ended.{part-below}
 
 -- the line of a source of period p and latency m to a reader of period q and latency l
 abbrev pub line_of : ℕ → ℕ → ℕ → ℕ → ℕ → Line
@@ -39,7 +32,7 @@ module _ (clocks k n cycles p m q l r : ℕ) (entry : ℕ → ℤ) (source wave 
     -- and at the last clock of the reader's frame whatever comes between
     pub plain_ends : m ≤ l → 0 < q → (t : ℕ) → t < n → t % q ≡ 0 → (t + l + q) * cycles - 1 < k → wave ((t + l + q) * cycles - 1) ≡ entry t
     plain_ends behind some t below hit early =
-        let longer : p ≤ q = no_less q p divides some in
+        let longer : p ≤ q = part-below q p divides some in
         let c : ℕ = (t + l + q) * cycles - 1 in
         let later : m * cycles ≤ l * cycles = mul-le-mul_right cycles behind in
         let long : p * cycles ≤ q * cycles = mul-le-mul_right cycles longer in

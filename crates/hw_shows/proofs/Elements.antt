@@ -24,7 +24,7 @@ use Rattle.hw_shows.specs.Shows.{IsSeenAt, IsSeen}
 use Rattle.hw_shows.specs.Timing.{Timing}
 use Rattle.hw_shows.specs.Series.{steady, span_at, IsProductAt}
 use Rattle.hw_shows.specs.Waves.{Waves, IsCarriedOut, IsServed, IsJoined, operation_of_block}
-use Rattle.hw_shows.proofs.Hits.{frame_number}
+use Rattle.hw_lines.proofs.Hits.{hit-number}
 use Rattle.hw_shows.proofs.Inputs.{Setting, AreOffered}
 
 module _ {diagram : Diagram} {attributes : Attributes} {rank : ℕ → ℕ} {stimulus : Stimulus} {timing : Timing} {clocks n : ℕ} {table : Table} {waves : Waves} (s : Setting diagram attributes rank stimulus timing clocks n table waves)
@@ -63,7 +63,7 @@ module _ {diagram : Diagram} {attributes : Attributes} {rank : ℕ → ℕ} {sti
           let from : (t + timing.latency block) * timing.cycles + timing.ready block ≤ c = seen.from in
           let until : c < (t + timing.latency block + p) * timing.cycles = seen.until in
           let i : ℕ = t / p in
-          let e : t ≡ i * p = frame_number t p seen.is_hit in
+          let e : t ≡ i * p = hit-number t p seen.is_hit in
           let start : t * timing.cycles ≡ i * (p * timing.cycles) = ap (λ (x : ℕ). x * timing.cycles) e ∙ omega arith in
           let sooner : slot < timing.ready block = s.timed.slots block element slot served in
           let a : ℕ = frame_start (span_at timing p block) i + slot in

@@ -27,7 +27,8 @@ use Rattle.hw_shows.specs.Series.{span_at, IsEnabledSeries}
 use Rattle.hw_shows.specs.Waves.{Waves, IsMadeAs, IsPiped, IsOfferedAt, AreBuilt, AreDriven}
 use Rattle.hw_shows.specs.Laws.{IsDesign}
 use Rattle.hw_shows.proofs.Trying.{wave_of, tried_shows, tried_range, tried_line, tried_same}
-use Rattle.hw_shows.proofs.Small.{int8, int16, int16_full, kept, stored, input_of, output, edge_of, each_by}
+use Rattle.dg_model.proofs.Examples.{stores_small}
+use Rattle.hw_shows.proofs.Small.{int8, int16, int16_full, kept, input_of, output, edge_of, each_by}
 use Rattle.hw_shows.proofs.ByPorts.{InTime, port_in_time, no_ports_in_time, one_port_in_time, outside, port_offered, AreOfferedTo, no_ports_offered, one_port_offered}
 use Rattle.hw_shows.proofs.GainChecked.{test, gain, delay, blocks, diagram, order, attributes, propagated, ordered}
 use Rattle.hw_shows.proofs.GainIntoDelay.{gains, controls, delays, stage, control, enable, state, moved, pipeline, states, not_states}
@@ -213,8 +214,8 @@ made = each_by Made blocks
     (λ port element. record { at = λ c below. refl })
     (λ port element. record { at = λ c below. refl })
     (λ port element. tried_same 6 control (λ c. stored_truth (int_lt (pos 0) (control c) || false)) refl)
-    (λ port element. record { op = OpGain (pos 1) int8; is = (pos 1, stored 1 (lit< tt) (lit< tt), refl); gives = λ c below. (int16, int16_full, converted c below) })
-    (λ port element. (stored 9 (lit< tt) (lit< tt), (record { at = λ c below. refl }, λ period is. subst (λ (p : ℕ). IsEnabledSeries 6 (span_at timing p 4) 1 false (pos 9) enable (stage 2) state) (same_Some 1 period is) states)))
+    (λ port element. record { op = OpGain (pos 1) int8; is = (pos 1, stores_small 1 (lit< tt) (lit< tt), refl); gives = λ c below. (int16, int16_full, converted c below) })
+    (λ port element. (stores_small 9 (lit< tt) (lit< tt), (record { at = λ c below. refl }, λ period is. subst (λ (p : ℕ). IsEnabledSeries 6 (span_at timing p 4) 1 false (pos 9) enable (stage 2) state) (same_Some 1 period is) states)))
     (λ port element. record { op = Pass; is = refl; gives = λ c below. refl })
 
 abbrev Piped : ℕ → Block → Type 0
@@ -264,13 +265,13 @@ tests port element (suc (suc zero)) below = refl
 tests port element (suc (suc (suc t))) below = absurd (omega arith)
 
 scales : (port element t : ℕ) → t < 3 → IsRight 3 port element t
-scales port element zero below = (OpGain (pos 1) int8, (pos 1, stored 1 (lit< tt) (lit< tt), refl), (int16, int16_full, kept 5 (lit< tt)))
-scales port element (suc zero) below = (OpGain (pos 1) int8, (pos 1, stored 1 (lit< tt) (lit< tt), refl), (int16, int16_full, kept 6 (lit< tt)))
-scales port element (suc (suc zero)) below = (OpGain (pos 1) int8, (pos 1, stored 1 (lit< tt) (lit< tt), refl), (int16, int16_full, kept 7 (lit< tt)))
+scales port element zero below = (OpGain (pos 1) int8, (pos 1, stores_small 1 (lit< tt) (lit< tt), refl), (int16, int16_full, kept 5 (lit< tt)))
+scales port element (suc zero) below = (OpGain (pos 1) int8, (pos 1, stores_small 1 (lit< tt) (lit< tt), refl), (int16, int16_full, kept 6 (lit< tt)))
+scales port element (suc (suc zero)) below = (OpGain (pos 1) int8, (pos 1, stores_small 1 (lit< tt) (lit< tt), refl), (int16, int16_full, kept 7 (lit< tt)))
 scales port element (suc (suc (suc t))) below = absurd (omega arith)
 
 holds : (port element t : ℕ) → t < 3 → IsRight 4 port element t
-holds port element zero below = stored 9 (lit< tt) (lit< tt)
+holds port element zero below = stores_small 9 (lit< tt) (lit< tt)
 holds port element (suc zero) below = refl
 holds port element (suc (suc zero)) below = refl
 holds port element (suc (suc (suc t))) below = absurd (omega arith)

@@ -1,21 +1,18 @@
 -- The hits of a period, one after another.
 use Rattle.std.proofs.Common.{◌≡◌, ℕ, zero, suc, ◌+◌, ◌-◌, ◌*◌, ◌/◌, ◌%◌, ◌<◌, ◌≤◌, inl, inr, if◌then◌else◌, Bool, true, false, List, [], ◌∷◌, filter, slice_get, Some, None, ap, sym, ◌∙◌, subst, refl, arith, eqb-true, eq-eqb}
 use Rattle.std.proofs.Math.Nat.{mul-mod_left}
-use Rattle.std.proofs.lemmas.Nat.{div-add-mod', mod-mul-add}
+use Rattle.std.proofs.lemmas.Nat.{mod-mul-add}
 use Rattle.std.proofs.lemmas.Bool.{cases_lt}
 use Rattle.dg_model.specs.Signals.{Table}
 use Rattle.dg_model.specs.Hits.{is_hit, hits_before, is_enabled_at, hits_since_enabled, counted_hits}
 use Rattle.dg_tables.specs.State.{Move}
-
--- a multiple of a period, by the number of its frame
-pub frame_number : (t p : ℕ) → t % p ≡ 0 → t ≡ t / p * p
-frame_number t p e = omega (arith, div-add-mod' t p)
+use Rattle.hw_lines.proofs.Hits.{hit-number}
 
 -- a multiple of a multiple
 pub multiple_of : (t p q : ℕ) → t % q ≡ 0 → q % p ≡ 0 → t % p ≡ 0
 multiple_of t p q e f =
-    let a : t ≡ t / q * q = frame_number t q e in
-    let b : q ≡ q / p * p = frame_number q p f in
+    let a : t ≡ t / q * q = hit-number t q e in
+    let b : q ≡ q / p * p = hit-number q p f in
     let c : t ≡ t / q * (q / p) * p = a ∙ ap (λ (x : ℕ). t / q * x) b ∙ omega arith in
     subst (λ (x : ℕ). x % p ≡ 0) (sym c) (mul-mod_left (t / q * (q / p)) p)
 
@@ -29,7 +26,7 @@ module _ (p : ℕ) (f g : ℕ → List ℕ) (steps : (t : ℕ) → f (suc t) ≡
       rest : x % p ≡ x - m
       rest =
           let j : ℕ = x - m in
-          let a : x ≡ m / p * p + j = omega (arith, frame_number m p e) in
+          let a : x ≡ m / p * p + j = omega (arith, hit-number m p e) in
           ap (λ (z : ℕ). z % p) a ∙ mod-mul-add (m / p) p j (omega arith)
 
       go : (b : Bool) → is_hit (Some p) x ≡ b → (if b then g x else f x) ≡ f x

@@ -6,7 +6,7 @@ use Rattle.hw_shows.specs.Shows.{Shows}
 use Rattle.hw_shows.specs.Timing.{Timing, latency_after, latency_behind, ready_behind, ready_after, IsPlainEdge, IsLateEdge}
 use Rattle.hw_shows.specs.Series.{AreSame, IsLineInto, IsOffered}
 use Rattle.std.proofs.lemmas.Bool.{cases_lt}
-use Rattle.hw_shows.proofs.Hits.{frame_number}
+use Rattle.hw_lines.proofs.Hits.{hit-number}
 use Rattle.hw_shows.proofs.Edges.{line_of, plain_shows, plain_ends}
 
 -- a pipeline is ready no later than its block
@@ -88,8 +88,8 @@ late_ready timing from source block own lag edge ready = go (timing.ready from) 
 -- of two multiples the lesser is a whole period less
 pub next_multiple : (q t m : ℕ) → t % q ≡ 0 → m % q ≡ 0 → t < m → t + q ≤ m
 next_multiple q t m e f below =
-    let a : t ≡ t / q * q = frame_number t q e in
-    let b : m ≡ m / q * q = frame_number m q f in
+    let a : t ≡ t / q * q = hit-number t q e in
+    let b : m ≡ m / q * q = hit-number m q f in
     elim (cases_lt (t / q) (m / q)) [
       | inl less ↦ let more : suc (t / q) * q ≤ m / q * q = mul-le-mul_right q less in omega arith
       | inr least ↦ let more : m / q * q ≤ t / q * q = mul-le-mul_right q least in absurd (omega arith)

@@ -22,7 +22,8 @@ use Rattle.dg_model.specs.TypeRule.{IsNotWide, HasTypes, HasAgreeing, KeepsTypes
 use Rattle.dg_model.specs.Widths.{Widths, widths_of}
 use Rattle.dg_model.specs.Wired.{IsWired, Joins, StandsBefore, NamesControl, MayStand}
 use Rattle.dg_tables.specs.Laws.{IsOrdered}
-use Rattle.hw_shows.proofs.Small.{int8, int8_valid, decimal_of, block_of, input_of, output, edge_of, input_readable, output_readable, all_of, pairs_of, each_by, AreDrivenOnce, none_driven, one_driven, one_fits, one_repeats, none_known, one_known, file_order, no_loop, attributes_by, attributes_are}
+use Rattle.dg_model.proofs.Written.{all_of, pairs_of}
+use Rattle.hw_shows.proofs.Small.{int8, int8_valid, decimal_of, block_of, input_of, output, edge_of, input_readable, output_readable, each_by, AreDrivenOnce, none_driven, one_driven, one_fits, one_repeats, none_known, one_known, file_order, no_loop, attributes_by, attributes_are}
 
 abbrev pub initial : List Decimal
 initial = decimal_of 0 (lit< tt) ∷ []

@@ -24,7 +24,8 @@ use Rattle.hw_shows.specs.Series.{span_at, IsProductAt}
 use Rattle.hw_shows.specs.Waves.{Waves, IsMadeAs, IsPiped, AreBuilt, AreDriven}
 use Rattle.hw_shows.specs.Laws.{IsDesign}
 use Rattle.hw_shows.proofs.Trying.{wave_of, tried_shows, tried_range, tried_line, tried_stays}
-use Rattle.hw_shows.proofs.Small.{int8, int16, int16_full, kept, stored, input_of, output, edge_of, each_by}
+use Rattle.dg_model.proofs.Examples.{stores_small}
+use Rattle.hw_shows.proofs.Small.{int8, int16, int16_full, kept, input_of, output, edge_of, each_by}
 use Rattle.hw_shows.proofs.ByPorts.{InTime, port_in_time, no_ports_in_time, one_port_in_time, outside, port_offered, AreOfferedTo, no_ports_offered, one_port_offered}
 use Rattle.hw_shows.proofs.SharedChecked.{multiplied, transition, blocks, diagram, order, attributes, propagated, ordered}
 use Rattle.hw_shows.proofs.SharedProduct.{lefts, rights, products, slower, left, right, product, slowed, wrong, served, lined, not_lined}
@@ -213,7 +214,7 @@ made = each_by Made blocks
       product = λ period is. subst (λ (p : ℕ). IsProductAt 16 (span_at timing p 2) 2 left right product) (same_Some 2 period is) served;
       converts = converted;
     })
-    (λ port element. (stored 0 (lit< tt) (lit< tt), record { at = λ c below. refl }))
+    (λ port element. (stores_small 0 (lit< tt) (lit< tt), record { at = λ c below. refl }))
     (λ port element. record { op = Pass; is = refl; gives = λ c below. refl })
     (λ port element. record { at = λ c below. refl })
 

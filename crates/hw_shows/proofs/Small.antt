@@ -1,13 +1,11 @@
 -- Parts of small diagrams that are worked out by hand, and the order of those whose lines all lead to later blocks. Crates above may cite this file.
 use Rattle.std.proofs.Common.{◌≡◌, ℕ, zero, suc, ◌+◌, ◌-◌, ◌%◌, ◌^◌, ◌<◌, ◌≤◌, inl, pos, Bool, true, false, List, [], ◌∷◌, length, get_or, Option, Some, None, slice_get, All, ap, sym, ◌∙◌, subst, refl, arith}
-use Rattle.std.specs.Prelude.{nat_lt, slice_index, AllPairs, IsSome, count_by, ⊤}
+use Rattle.std.specs.Prelude.{nat_lt, slice_index, IsSome, count_by, ⊤}
 use Rattle.std.specs.List.{AllByRecursion, list_all}
 use Rattle.std.proofs.Math.Dec.{lit≤}
 use Rattle.std.proofs.Math.Nat.{mod_self, mod-eq_of_lt}
 use Rattle.std.proofs.lemmas.Bool.{ltb-true}
 use Rattle.std.proofs.lemmas.Int.{ints}
-use Rattle.std.proofs.lemmas.List.Elements.{All-nil, All-cons}
-use Rattle.std.proofs.lemmas.List.Kept.{AllPairs-cons}
 use Rattle.std.proofs.lemmas.List.Sums.{AllPass-from_list_all}
 use Rattle.std.proofs.lemmas.Option.{none-some, same_Some, slice_get_within, slice_get-get_or, get_or_from_slice_get}
 use lib.Signed.{le_z_yes}
@@ -17,7 +15,7 @@ use Rattle.fx_type.specs.declared.spec.TypeSpec.TheVariants.{Auto, Fixed}
 use Rattle.fx_type.specs.declared.rounding.Rounding.TheVariants.{Floor}
 use Rattle.fx_type.specs.declared.decimal.Decimal.{Decimal}
 use Rattle.fx_type.specs.FullType.{IsFullProduct}
-use Rattle.fx_type.specs.Conversion.{Converts, Stores}
+use Rattle.fx_type.specs.Conversion.{Converts}
 use Rattle.dg_waves.specs.Rounds.{numbers_from}
 use Rattle.dg_model.specs.declared.diagram.Diagram.{Diagram}
 use Rattle.dg_model.specs.declared.diagram.Block.{Block}
@@ -36,6 +34,7 @@ use Rattle.dg_model.specs.Wires.{enters}
 use Rattle.dg_model.specs.Widths.{Widths, width_at, widths_of}
 use Rattle.dg_model.specs.TypeRounds.{Types, types_of}
 use Rattle.dg_model.specs.Periods.{known_at, periods_of, period_at}
+use Rattle.dg_model.proofs.Written.{all_of}
 
 -- ---- types and numbers
 abbrev pub int8 : FxType
@@ -63,14 +62,6 @@ kept v below = record {
 abbrev pub decimal_of : (n : ℕ) → n < 10 ^ 18 → Decimal
 decimal_of n small = record { negative = false; digits = n; exponent = pos 0; eighteen_digits = small; least_exponent = le_z_yes tt; greatest_exponent = le_z_yes tt }
 
--- is stored as it is
-pub stored : (n : ℕ) (small : n < 10 ^ 18) → n < 128 → Stores (decimal_of n small) int8 (pos n)
-stored n small below = record {
-  rounded = pos n;
-  rounds = record { above = omega (arith, ints); at_most = omega (arith, ints) };
-  settles = record { inside = λ h. refl; below = λ h. absurd (omega (arith, ints)); above = λ h. absurd (omega (arith, ints)) };
-}
-
 -- ---- blocks and edges
 abbrev pub block_of : Kind → ℕ → ℕ → Block
 block_of kind inputs outputs = record { path = []; kind = kind; inputs = inputs; outputs = outputs; result = Auto; rounding = Floor; saturate = false; period = Inherit; enable = None }
@@ -92,18 +83,9 @@ input_readable number period small low high some =
 pub output_readable : IsReadable output
 output_readable = record { ports = (refl, refl); parameters = (lit≤ tt, lit≤ tt); types = tt; result = tt; rounding = (refl, refl); period = tt }
 
--- ---- lists written out
-pub all_of : {A : Type 0} (P : A → Type 0) (xs : List A) → AllByRecursion P xs → All P xs
-all_of P [] each = All-nil P
-all_of P (x ∷ xs) each = All-cons P x xs (each.0) (all_of P xs (each.1))
-
 abbrev pub PairsByRecursion : {A : Type 0} → (A → A → Type 0) → List A → Type 0
 PairsByRecursion R [] = ⊤
 PairsByRecursion R (x ∷ xs) = AllByRecursion (R x) xs × PairsByRecursion R xs
-
-pub pairs_of : {A : Type 0} (R : A → A → Type 0) (xs : List A) → PairsByRecursion R xs → AllPairs R xs
-pairs_of R [] each = λ i j d before inside. absurd (omega (arith, inside))
-pairs_of R (x ∷ xs) each = AllPairs-cons R x xs (all_of (R x) xs (each.0)) (pairs_of R xs (each.1))
 
 abbrev EachByRecursion : {A : Type 0} → (ℕ → A → Type 0) → List A → Type 0
 EachByRecursion P [] = ⊤

@@ -10,16 +10,17 @@ use Rattle.hw_slots.specs.declared.tally.Rung.{Rung}
 use Rattle.hw_slots.specs.Slots.{shared_out, needed, level_after, turn_of, beside}
 use Rattle.hw_slots.specs.inner.Tally.{tally_at}
 use Rattle.hw_slots.specs.inner.Made.{AreCounts, AreTurns, AreWidths, AreLevels, AreMost}
-use Rattle.hw_slots.proofs.Sums.{counted, greatest_next}
+use Rattle.fx_io.proofs.Places.{count_cons}
+use Rattle.hw_slots.proofs.Sums.{greatest_next}
 
 -- ---- lists
 
 count_next : {A : Type 0} (p : A → Bool) (xs : List A) (i : ℕ) (x : A) → slice_get xs i ≡ Some x → count_by p (take (suc i) xs) ≡ count_by p (take i xs) + cond (p x) 1 0
 count_next p [] i x at = absurd (none-some x at)
-count_next {A} p (y ∷ xs) zero x at = let e : cond {A = ℕ} (p y) 1 0 ≡ cond (p x) 1 0 = ap (λ (a : A). cond {A = ℕ} (p a) 1 0) (same_Some y x at) in omega (arith, counted p y [], e)
+count_next {A} p (y ∷ xs) zero x at = let e : cond {A = ℕ} (p y) 1 0 ≡ cond (p x) 1 0 = ap (λ (a : A). cond {A = ℕ} (p a) 1 0) (same_Some y x at) in omega (arith, count_cons p y [], e)
 count_next p (y ∷ xs) (suc i) x at =
     let more = count_next p xs i x at in
-    omega (arith, counted p y (take (suc i) xs), counted p y (take i xs), more)
+    omega (arith, count_cons p y (take (suc i) xs), count_cons p y (take i xs), more)
 
 next : (i : ℕ) → suc i ≡ i + 1
 next i = omega arith
@@ -103,9 +104,9 @@ pub grown_size : (xs : List ℕ) (x i : ℕ) → length xs ≡ i → length (xs 
 grown_size xs x i size = omega (arith, size, length-append xs (x ∷ []))
 
 pub turns_more : (operations : List Operation) (i : ℕ) (o : Operation) (turn : ℕ) (counts : List (Rung × ℕ)) (turns : List ℕ) → slice_get operations i ≡ Some o → turn ≡ tally_at counts o.kind o.level → AreCounts (take i operations) counts → AreTurns operations i turns → AreTurns operations (i + 1) (turns ++ turn ∷ [])
-turns_more operations i o turn counts turns at is counted before = record {
+turns_more operations i o turn counts turns at is count_cons before = record {
   size = grown_size turns turn i before.size;
-  are = λ number q below there. grown (λ n p r. r ≡ Some (turn_of operations n p)) operations i o turn turns at before.size (λ n p less is. before.are n p less is) (ap Some (is ∙ counted.are o.kind o.level)) number q below there;
+  are = λ number q below there. grown (λ n p r. r ≡ Some (turn_of operations n p)) operations i o turn turns at before.size (λ n p less is. before.are n p less is) (ap Some (is ∙ count_cons.are o.kind o.level)) number q below there;
 }
 
 pub turns_end : (operations : List Operation) (i : ℕ) (turns : List ℕ) → i ≡ length operations → AreTurns operations i turns → AreTurns operations (length operations) turns
@@ -135,8 +136,8 @@ greatest_end operations f i tally end made = subst (λ (os : List Operation). Ar
 
 pub slots_given : (operations : List Operation) (multipliers : ℕ) (counts : List (Rung × ℕ)) (o : Operation) (count slots : ℕ) → AreCounts operations counts → count ≡ tally_at counts o.kind o.level → slots ≡ shared_out count multipliers
     → (other later : ℕ) → needed operations multipliers other later o ≡ cond ((o.period == other) && (o.level == later)) slots 0
-slots_given operations multipliers counts o count slots counted is shared other later =
-    ap (λ (n : ℕ). cond ((o.period == other) && (o.level == later)) n 0) (ap (λ (n : ℕ). shared_out n multipliers) (sym (counted.are o.kind o.level)) ∙ ap (λ (n : ℕ). shared_out n multipliers) (sym is) ∙ sym shared)
+slots_given operations multipliers counts o count slots count_cons is shared other later =
+    ap (λ (n : ℕ). cond ((o.period == other) && (o.level == later)) n 0) (ap (λ (n : ℕ). shared_out n multipliers) (sym (count_cons.are o.kind o.level)) ∙ ap (λ (n : ℕ). shared_out n multipliers) (sym is) ∙ sym shared)
 
 -- what is told of owners alone stands at level 0
 abbrev pub at_first : (ℕ → Operation → ℕ) → ℕ → ℕ → Operation → ℕ
@@ -166,7 +167,7 @@ pub levels_given : (o : Operation) (after : ℕ) → after ≡ o.level + 1 → (
 levels_given o after is other = ap (λ (n : ℕ). cond (o.period == other) n 0) (sym is)
 
 pub most_given : (operations : List Operation) (counts : List (Rung × ℕ)) (o : Operation) (count : ℕ) → AreCounts operations counts → count ≡ tally_at counts o.kind o.level → (other : ℕ) → beside operations other o ≡ cond (o.kind == other) count 0
-most_given operations counts o count counted is other = ap (λ (n : ℕ). cond (o.kind == other) n 0) (sym (counted.are o.kind o.level) ∙ sym is)
+most_given operations counts o count count_cons is other = ap (λ (n : ℕ). cond (o.kind == other) n 0) (sym (count_cons.are o.kind o.level) ∙ sym is)
 
 pub are_widths : (operations : List Operation) (multipliers : ℕ) (tally : List (Rung × ℕ)) → AreGreatest operations (needed operations multipliers) tally → AreWidths operations multipliers tally
 are_widths operations multipliers tally made = record { are = made.are }

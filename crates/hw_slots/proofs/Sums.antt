@@ -1,14 +1,13 @@
 -- Sums, counts and greatest numbers of lists, and when the order of numbers holds two for one. Crates above may cite this file.
-use Rattle.std.proofs.Common.{◌≡◌, ℕ, zero, suc, ◌+◌, ◌≤◌, Bool, true, false, cond, ◌==◌, nat_lt, max, List, [], ◌∷◌, map, take, refl, sym, ap, ◌∙◌, arith}
-use Rattle.std.specs.Prelude.{slice_get, Some, count_by}
+use Rattle.std.proofs.Common.{◌≡◌, ℕ, zero, suc, ◌+◌, ◌≤◌, ◌==◌, nat_lt, max, List, [], ◌∷◌, map, take, refl, sym, ap, ◌∙◌, arith}
+use Rattle.std.specs.Prelude.{slice_get, Some}
 use Rattle.std.specs.List.{sum}
-use Rattle.std.specs.declared.cmp.Ordering.TheVariants.{Less, Equal, Greater}
 use Rattle.std.specs.Ordering.{nat_cmp, is_eq}
-use Rattle.std.proofs.lemmas.Bool.{eqb-true, ltb-true}
-use Rattle.std.proofs.lemmas.List.Sums.{sum_by-cons}
 use Rattle.std.proofs.lemmas.Option.{none-some, same_Some}
 use Rattle.dg_waves.specs.Rounds.{numbers_from}
 use Rattle.dg_model.specs.Widths.{greatest}
+use Rattle.fx_io.proofs.Places.{sum-cons}
+use Rattle.fx_io.proofs.Tests.{tied}
 
 -- ---- greatest numbers and counts
 
@@ -26,13 +25,7 @@ greatest_next {A} f xs i x at = let e : suc i ≡ i + 1 = omega arith in ap (λ 
     go (y ∷ ys) zero at = let e : f y ≡ f x = ap f (same_Some y x at) in omega (arith, e)
     go (y ∷ ys) (suc k) at = let more = go ys k at in omega (arith, more)
 
-pub counted : {A : Type 0} (p : A → Bool) (x : A) (xs : List A) → count_by p (x ∷ xs) ≡ cond (p x) 1 0 + count_by p xs
-counted p x xs = sum_by-cons (λ x. cond (p x) 1 0) x xs
-
 -- ---- sums
-
-pub sum-cons : (x : ℕ) (xs : List ℕ) → sum (x ∷ xs) ≡ x + sum xs
-sum-cons x xs = sum_by-cons (λ (n : ℕ). n) x xs
 
 pub sums_same : (f g : ℕ → ℕ) (xs : List ℕ) → ((x : ℕ) → f x ≡ g x) → sum (map f xs) ≡ sum (map g xs)
 sums_same f g [] same = refl
@@ -53,15 +46,6 @@ pub sum_below_next : (f : ℕ → ℕ) (n : ℕ) → sum_below f (suc n) ≡ sum
 sum_below_next f n = let e : f (0 + n) ≡ f n = ap f (omega arith) in omega (arith, e, sum_next f 0 n)
 
 -- ---- the order of numbers
-
-tied : (x y : ℕ) (less same : Bool) → nat_lt x y ≡ less → (x == y) ≡ same → is_eq (cond less Less (cond same Equal Greater)) ≡ same
-tied x y true true p q =
-    let below = ltb-true x y p in
-    let one = eqb-true x y q in
-    absurd (omega (arith, below, one))
-tied x y true false p q = refl
-tied x y false true p q = refl
-tied x y false false p q = refl
 
 pub tied_number : (x y : ℕ) → is_eq (nat_cmp x y) ≡ (x == y)
 tied_number x y = tied x y (nat_lt x y) (x == y) refl refl

@@ -6,6 +6,7 @@ use Rattle.std.proofs.lemmas.List.FromFn.{get_or-map-range_with_len, length-map-
 use Rattle.mdl_text.specs.declared.tree.Item.{Item}
 use Rattle.mdl_build.proofs.Ends.{depth_is}
 use Rattle.mdl_build.specs.Sections.{depth_at, last_above, holder_of}
+use Rattle.mdl_build.proofs.SoundTree.{same_Some}
 
 -- where none is less deep than a depth, none is less deep than a lesser one
 none_above : (items : List Item) (low high k : ℕ) → low ≤ high → last_above items high k ≡ None → last_above items low k ≡ None
@@ -19,9 +20,6 @@ none_above items low high (suc k) h none = by_test (none_above items low high k 
         ap (λ (b : Bool). cond b (Some k) (last_above items low k)) not_low
         ∙ before (sym (ap (λ (b : Bool). cond b (Some k) (last_above items high k)) e) ∙ none)
 
-some_one : (a b : ℕ) → ◌≡◌ {A = Option ℕ} (Some a) (Some b) → a ≡ b
-some_one a b e = cc
-
 -- where one is, all behind it can be passed over
 some_above : (items : List Item) (low high k holder : ℕ) → low ≤ high → last_above items high k ≡ Some holder → last_above items low k ≡ last_above items low (suc holder)
 some_above items low high zero holder h some = let bad : ◌≡◌ {A = Option ℕ} None (Some holder) = some in cc
@@ -29,7 +27,7 @@ some_above items low high (suc k) holder h some = by_test (some_above items low 
   where
     by_test : (last_above items high k ≡ Some holder → last_above items low k ≡ last_above items low (suc holder)) → (b : Bool) → nat_lt (depth_at items k) high ≡ b → last_above items low (suc k) ≡ last_above items low (suc holder)
     by_test before true e =
-        let same : k ≡ holder = some_one k holder (sym (ap (λ (b : Bool). cond b (Some k) (last_above items high k)) e) ∙ some) in
+        let same : k ≡ holder = same_Some k holder (sym (ap (λ (b : Bool). cond b (Some k) (last_above items high k)) e) ∙ some) in
         ap (λ (n : ℕ). last_above items low (suc n)) same
     by_test before false e =
         let not_low : nat_lt (depth_at items k) low ≡ false = grind (arith, e, h) in
@@ -56,17 +54,6 @@ leap items depth last holder h is = step ∙ by_holder holder is
     by_holder (Some k) e =
         let plus : suc k ≡ k + 1 = omega arith in
         some_above items depth (depth_at items last) last k h (sym e) ∙ ap (last_above items depth) plus
-
--- the one that is found stands before
-pub above_before : (items : List Item) (depth place holder : ℕ) → last_above items depth place ≡ Some holder → holder < place
-above_before items depth zero holder some = let bad : ◌≡◌ {A = Option ℕ} None (Some holder) = some in cc
-above_before items depth (suc k) holder some = by_test (above_before items depth k holder) (nat_lt (depth_at items k) depth) refl
-  where
-    by_test : (last_above items depth k ≡ Some holder → holder < k) → (b : Bool) → nat_lt (depth_at items k) depth ≡ b → holder < suc k
-    by_test before true e =
-        let same : k ≡ holder = some_one k holder (sym (ap (λ (b : Bool). cond b (Some k) (last_above items depth k)) e) ∙ some) in omega arith
-    by_test before false e =
-        let earlier : holder < k = before (sym (ap (λ (b : Bool). cond b (Some k) (last_above items depth k)) e) ∙ some) in omega arith
 
 -- what is written of the holders
 pub holder_known : (items : List Item) (holders : List (Option ℕ)) (count place : ℕ) → holders ≡ map (holder_of items) (range_with_len 0 count) → place < count → (other : Option ℕ) → get_or holders place other ≡ holder_of items place

@@ -10,6 +10,7 @@ use Rattle.std.proofs.lemmas.List.Sums.{prefix_len-le-length}
 use Rattle.mdl_text.specs.declared.tree.Item.{Item}
 use Rattle.mdl_build.specs.Sections.{item_at, depth_at, first_of, said_at, value_within}
 use Rattle.mdl_build.specs.inner.Layout.{end_behind, end_of, ends_of}
+use Rattle.std.proofs.lemmas.Grind.{same_number_lists}
 
 -- what passes a test that asks less goes on at least as far
 pub prefix_over : {X : Type 0} (P Q : X → Bool) (xs : List X) → ((x : X) → Q x ≡ true → P x ≡ true) → prefix_len P xs ≡ prefix_len Q xs + prefix_len P (drop (prefix_len Q xs) xs)
@@ -55,20 +56,10 @@ end_known items ends place other is within = rw is (get_or-map-range_with_len (e
 pub ends_length : (items : List Item) (ends : List ℕ) → ends ≡ ends_of items → length ends ≡ length items
 ends_length items ends is = rw is (length-map-range_with_len (end_of items) 0 (length items))
 
--- lists of numbers with the same number at each place
-pub same_at_each : (xs ys : List ℕ) → length xs ≡ length ys → ((k : ℕ) → k < length xs → get_or xs k 0 ≡ get_or ys k 0) → xs ≡ ys
-same_at_each [] [] long each = refl
-same_at_each [] (y ∷ ys) long each = absurd (omega (arith, long))
-same_at_each (x ∷ xs) [] long each = absurd (omega (arith, long))
-same_at_each (x ∷ xs) (y ∷ ys) long each =
-    let first : x ≡ y = each 0 (omega arith) in
-    let more : xs ≡ ys = same_at_each xs ys (omega (arith, long)) (λ k below. each (suc k) (omega (arith, below))) in
-    cc
-
 -- the ends, where each is known
 pub ends_are : (items : List Item) (ends : List ℕ) → length ends ≡ length items → ((k : ℕ) → k < length items → get_or ends k 0 ≡ end_of items k) → ends ≡ ends_of items
 ends_are items ends long each =
-    same_at_each ends (ends_of items) (long ∙ sym (length-map-range_with_len (end_of items) 0 (length items)))
+    same_number_lists ends (ends_of items) (long ∙ sym (length-map-range_with_len (end_of items) 0 (length items)))
     (λ k below.
     let within : k < length items = omega (arith, long, below) in
     each k within ∙ sym (get_or-map-range_with_len (end_of items) 0 (length items) k k 0 within (omega arith)))

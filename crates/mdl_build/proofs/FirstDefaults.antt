@@ -8,19 +8,14 @@ use Rattle.mdl_build.specs.declared.roles.Role.{Role}
 use Rattle.mdl_build.specs.Library.{type_name}
 use Rattle.mdl_build.specs.Lookup.{first_defaults, is_in, has_defaults, defaults_of}
 use Rattle.mdl_build.specs.Roles.{role_of, roles_of, says}
-use Rattle.mdl_build.proofs.Places.{known_at, known_length}
-
--- a search over the places from one on
-pub find_step : (P : ℕ → Bool) (from count : ℕ) → from < count → find P (range_with_len from (count - from)) ≡ cond (P from) (Some from) (find P (range_with_len (from + 1) (count - (from + 1))))
-find_step P from count below =
-    let left : count - from ≡ suc (count - (from + 1)) = omega arith in
-    ap (λ (n : ℕ). find P (range_with_len from n)) left
+use Rattle.mdl_build.proofs.Places.{known_at}
+use Rattle.fx_io.proofs.Places.{search_step}
 
 pub find_here : (P : ℕ → Bool) (from count : ℕ) (found : Option ℕ) → from < count → found ≡ find P (range_with_len from (count - from)) → P from ≡ true → Some from ≡ found
-find_here P from count found below same passes = sym (same ∙ find_step P from count below ∙ ap (λ (b : Bool). cond b (Some from) (find P (range_with_len (from + 1) (count - (from + 1))))) passes)
+find_here P from count found below same passes = sym (same ∙ search_step P from count below ∙ ap (λ (b : Bool). cond b (Some from) (find P (range_with_len (from + 1) (count - (from + 1))))) passes)
 
 pub find_behind : (P : ℕ → Bool) (from count : ℕ) (found : Option ℕ) → from < count → found ≡ find P (range_with_len from (count - from)) → P from ≡ false → found ≡ find P (range_with_len (from + 1) (count - (from + 1)))
-find_behind P from count found below same fails = same ∙ find_step P from count below ∙ ap (λ (b : Bool). cond b (Some from) (find P (range_with_len (from + 1) (count - (from + 1))))) fails
+find_behind P from count found below same fails = same ∙ search_step P from count below ∙ ap (λ (b : Bool). cond b (Some from) (find P (range_with_len (from + 1) (count - (from + 1))))) fails
 
 pub find_at_end : (P : ℕ → Bool) (from count : ℕ) (found : Option ℕ) → count ≤ from → found ≡ find P (range_with_len from (count - from)) → None ≡ found
 find_at_end P from count found past same = let left : count - from ≡ 0 = omega arith in sym (same ∙ ap (λ (n : ℕ). find P (range_with_len from n)) left)
@@ -41,10 +36,6 @@ find_within P from (suc count) place found = by_test (find_within P (from + 1) c
 pub find_none : (P : ℕ → Bool) (places : List ℕ) → ((place : ℕ) → P place ≡ false) → None ≡ find P places
 find_none P [] fails = refl
 find_none P (place ∷ places) fails = find_none P places fails ∙ sym (ap (λ (b : Bool). cond b (Some place) (find P places)) (fails place))
-
--- the roles that were found are those of all items
-pub roles_long : (items : List Item) (roles : List Role) → roles ≡ roles_of items → length roles ≡ length items
-roles_long items roles known = known_length (role_of items) roles (length items) known
 
 -- what the code asks of an item
 pub asks : (items : List Item) (roles : List Role) (block_type : BlockType) (section place : ℕ) (other : Role) → roles ≡ roles_of items → first_defaults items ≡ Some section → place < length items → has_defaults items block_type place ≡ (is_in (Some section) (get_or roles place other) && says items place (codes "BlockType") (type_name block_type))

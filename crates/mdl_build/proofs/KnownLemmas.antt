@@ -16,6 +16,7 @@ use Rattle.mdl_build.specs.Rules.{has_root, are_shallow, has_own_name, has_one_s
 use Rattle.mdl_build.specs.inner.Known.{keeps_sizes}
 use Rattle.mdl_build.specs.inner.Lines.{are_joined_before}
 use Rattle.mdl_build.proofs.BlockPlaces.{IsBlockOf, block_of}
+use Rattle.std.proofs.lemmas.Bool.{not-false}
 
 -- what is told where the blocks are looked at
 abbrev pub block_fault : List Item → Option RuleFault
@@ -54,16 +55,12 @@ mapped_none : {X Y : Type 0} (f : X → Y) (found : Option X) → option_map f f
 mapped_none f None e = refl
 mapped_none f (Some x) e = absurd (none-some (f x) (sym e))
 
-not_false : (b : Bool) → not b ≡ false → b ≡ true
-not_false true e = refl
-not_false false e = absurd (true≢false e)
-
 -- a tree that keeps the rule of structure does so at each block
 pub structure_kept : (items : List Item) → structure_fault items ≡ None → (k place : ℕ) → slice_get (blocks_of items) k ≡ Some place → keeps_structure items place ≡ true
 structure_kept items none k place at = by (keeps_model items) none
   where
     by : (b : Bool) → cond b (block_fault items) (Some (fault_of Rule.Structure [] Nothing)) ≡ None → keeps_structure items place ≡ true
-    by true e = not_false (keeps_structure items place) (none_found (λ (p : ℕ). not (keeps_structure items p)) (blocks_of items) k place
+    by true e = not-false (keeps_structure items place) (none_found (λ (p : ℕ). not (keeps_structure items p)) (blocks_of items) k place
         (mapped_none (λ (p : ℕ). fault_of Rule.Structure (path_of items p) Nothing) (find (λ (p : ℕ). not (keeps_structure items p)) (blocks_of items)) e) at)
     by false e = absurd (none-some (fault_of Rule.Structure [] Nothing) (sym e))
 

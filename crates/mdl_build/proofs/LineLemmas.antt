@@ -16,6 +16,7 @@ use Rattle.mdl_build.specs.Lines.{source_of, keeps_line, line_at}
 use Rattle.mdl_build.specs.Roles.{role_of}
 use Rattle.mdl_build.specs.inner.Lines.{branch_of, source_if, sources_before, are_joined_before, lines_before, line_list}
 use Rattle.mdl_build.proofs.Ranges.{range_next}
+use Rattle.fx_io.proofs.Tests.{and_false}
 
 -- ---- what an item is a branch of
 
@@ -65,10 +66,6 @@ joined_next items place before here =
     ∙ list_all-append (λ (other : ℕ). keeps_line items other (role_of items other)) (range_with_len 0 place) (place ∷ [])
     ∙ ap (λ (b : Bool). b && (keeps_line items place (role_of items place) && true)) before
     ∙ ap (λ (b : Bool). b && true) here
-
-and_false : (b : Bool) → (b && false) ≡ false
-and_false true = refl
-and_false false = refl
 
 fails_from : (p : ℕ → Bool) (a n k place : ℕ) → k < n → place ≡ a + k → p place ≡ false → list_all p (range_with_len a n) ≡ false
 fails_from p a zero k place less is fails = absurd (omega (arith, less))

@@ -6,11 +6,8 @@ use Rattle.std.specs.Option.{unwrap_or}
 use Rattle.std.proofs.lemmas.Bool.{cases_lt, cases_eq}
 use Rattle.std.proofs.lemmas.List.{get_or-set_same, get_or-set_other, get_or_default, length-set, length-append, length-map}
 use Rattle.std.proofs.lemmas.Option.{none-some, same_Some, slice_get-map, slice_get-get_or, slice_get_within}
-use Rattle.dg_model.specs.declared.fault.CheckFault.{CheckFault}
-use Rattle.dg_model.specs.declared.fault.CheckFault.TheVariants.{Broken, OutOfMemory}
 use Rattle.dg_model.specs.declared.fault.RuleFault.{RuleFault}
 use Rattle.dg_model.specs.declared.nested.NestedBlock.{NestedBlock}
-use Rattle.dg_model.specs.Faults.{IsRefusal}
 use Rattle.mdl_text.specs.declared.tree.Item.{Item}
 use Rattle.mdl_build.specs.declared.library.BlockType.{BlockType}
 use Rattle.mdl_build.specs.declared.library.BlockType.TheVariants.{Inport, Outport, Constant, Ground, Terminator, Sum, Gain, Product, UnitDelay, Delay, Switch, RelationalOperator, Logic, DataTypeConversion, Mux, Demux, RateTransition, SubSystem, EnablePort}
@@ -27,6 +24,7 @@ use Rattle.mdl_build.specs.inner.Texts.{fallbacks_of}
 use Rattle.mdl_build.proofs.BlockPlaces.{block_of}
 use Rattle.mdl_build.proofs.ReadingLemmas.{read_each}
 use Rattle.mdl_build.proofs.RoleLemmas.{holder_before}
+use Rattle.fx_io.proofs.Places.{last_at}
 
 -- ---- numbers by place
 
@@ -137,18 +135,10 @@ some_text (Some other) text e is = ap Some (sym is)
 
 -- ---- blocks that are made
 
-pub refused_as : (P Q : RuleFault → Type 0) (fault : CheckFault) → ((f : RuleFault) → P f → Q f) → IsRefusal P fault → IsRefusal Q fault
-refused_as P Q (Broken fault) all h = all fault h
-refused_as P Q OutOfMemory all h = h
-
 push_before : {X : Type 0} (xs : List X) (y : X) (k : ℕ) (x : X) → slice_get xs k ≡ Some x → slice_get (xs ++ y ∷ []) k ≡ Some x
 push_before [] y k x at = absurd (none-some x at)
 push_before (z ∷ zs) y zero x at = at
 push_before (z ∷ zs) y (suc k) x at = push_before zs y k x at
-
-push_last : {X : Type 0} (xs : List X) (y : X) → slice_get (xs ++ y ∷ []) (length xs) ≡ Some y
-push_last [] y = refl
-push_last (z ∷ zs) y = push_last zs y
 
 module _ (items : List Item) where
   pub made_next : (count place : ℕ) (blocks : List NestedBlock) (block : NestedBlock) → slice_get (blocks_of items) count ≡ Some place → AreMade items count blocks → IsBlockAt items place block → AreMade items (count + 1) (blocks ++ block ∷ [])
@@ -161,7 +151,7 @@ module _ (items : List Item) where
         let last : k ≡ count = omega (arith, above, less) in
         let same : place ≡ other = same_Some place other (sym at ∙ ap (slice_get (blocks_of items)) (sym last) ∙ there) in
         let end : length blocks ≡ k = before.long ∙ sym last in
-        (block, subst (λ (n : ℕ). slice_get (blocks ++ block ∷ []) n ≡ Some block) end (push_last blocks block), subst (λ (p : ℕ). IsBlockAt items p block) same is))
+        (block, subst (λ (n : ℕ). slice_get (blocks ++ block ∷ []) n ≡ Some block) end (last_at blocks block), subst (λ (p : ℕ). IsBlockAt items p block) same is))
         (cases_lt k count);
   }
 

@@ -1,6 +1,6 @@
 -- The numbers of names, with one more block.
-use Rattle.std.proofs.Common.{◌≡◌, ℕ, Bool, true, false, cond, List, [], ◌∷◌, ◌++◌, length, Option, Some, None, refl, sym, ap, ◌∙◌, true≢false, eqb-true}
-use Rattle.std.specs.Prelude.{◌==◌, ◌&&◌, position, bytes_eq, is_some}
+use Rattle.std.proofs.Common.{◌≡◌, ℕ, Bool, true, false, cond, List, [], ◌∷◌, ◌++◌, length, Option, Some, None, refl, sym, ap, ◌∙◌, eqb-true}
+use Rattle.std.specs.Prelude.{◌==◌, position, bytes_eq}
 use Rattle.std.specs.Cmp.{both_tied, unsigned_ties}
 use Rattle.std.specs.Cmp.Lexicographic.{slice_cmp, texts_ties}
 use Rattle.std.specs.Ordering.{is_eq, nat_cmp}
@@ -10,11 +10,7 @@ use Rattle.mdl_build.specs.declared.names.Key.{Key}
 use Rattle.mdl_build.specs.Blocks.{is_named_in}
 use Rattle.mdl_build.specs.inner.Names.{IsKeyAt, compare_keys, key_eq}
 use Rattle.mdl_build.proofs.Ranges.{pushed, pushed-false, position-push}
-
-both : (a b : Bool) → (a && b) ≡ true → (a ≡ true) × (b ≡ true)
-both true true e = (refl, refl)
-both true false e = absurd (true≢false (sym e))
-both false b e = absurd (true≢false (sym e))
+use Rattle.std.proofs.lemmas.Bool.{and_parts}
 
 -- the order of keys tells them apart as they are
 pub tied_keys : (key other : Key) → is_eq (compare_keys key other) ≡ key_eq key other
@@ -39,7 +35,7 @@ module _ (items : List Item) (places : List ℕ) (place : ℕ) (found : Key → 
     -- equal keys have the same number
     same_key : (key : Key) → key_eq own key ≡ true → found key ≡ found own
     same_key key e =
-        let t = both (own.system == key.system) (bytes_eq own.name.now key.name.now) e in
+        let t = and_parts (own.system == key.system) (bytes_eq own.name.now key.name.now) e in
         let system : own.system ≡ key.system = eqb-true own.system key.system t.0 in
         let name : own.name.now ≡ key.name.now = (bytes_eq-Decides own.name.now key.name.now).0 t.1 in
         old key
@@ -70,11 +66,3 @@ module _ (items : List Item) (places : List ℕ) (place : ℕ) (found : Key → 
         by false e = other_name key (is key.system key.name.now ∙ e)
 
 -- ---- whether a name is known
-
-pub none_known : {A : Type 0} (found : Option A) → is_some found ≡ false → found ≡ None
-none_known None e = refl
-none_known (Some x) e = absurd (true≢false e)
-
-pub one_known : {A : Type 0} (found : Option A) → is_some found ≡ true → (x : A) × (found ≡ Some x)
-one_known None e = absurd (true≢false (sym e))
-one_known (Some x) e = (x, refl)

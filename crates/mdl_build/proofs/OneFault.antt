@@ -3,7 +3,7 @@ use Rattle.std.proofs.Common.{◌≡◌, ℕ, zero, suc, inl, inr, List, [], ◌
 use Rattle.std.specs.Prelude.{slice_get}
 use Rattle.std.specs.List.{AllZip}
 use Rattle.std.proofs.lemmas.Bool.{cases_order}
-use Rattle.std.proofs.lemmas.Option.{none-some}
+use Rattle.std.proofs.lemmas.Option.{none-some, same_Some}
 use Rattle.dg_model.specs.declared.fault.RuleFault.{RuleFault}
 use Rattle.dg_model.specs.declared.fault.Shown.TheVariants.{Word}
 use Rattle.dg_model.specs.declared.nested.Nested.{Nested}
@@ -20,13 +20,10 @@ use Rattle.mdl_build.specs.Roles.{blocks_of}
 use Rattle.mdl_build.specs.Rules.{type_at, IsFirstWrong, IsWrongFirst, Breaks}
 use Rattle.mdl_build.specs.Settings.{unset, with_setting}
 
-some_one : {A : Type 0} (a b : A) → ◌≡◌ {A = Option A} (Some a) (Some b) → a ≡ b
-some_one a b e = cc
-
 one_wrong : (items : List Item) (block_type : BlockType) (place : ℕ) (rows : List ParameterRow) (one other : List ℕ) → IsFirstWrong items block_type place rows one → IsFirstWrong items block_type place rows other → one ≡ other
 one_wrong items block_type place rows one other is too = elim (cases_order is.number too.number) [
   | inl same ↦
-      let row : is.parameter ≡ too.parameter = some_one is.parameter too.parameter (sym is.there ∙ ap (slice_get rows) same ∙ too.there) in
+      let row : is.parameter ≡ too.parameter = same_Some is.parameter too.parameter (sym is.there ∙ ap (slice_get rows) same ∙ too.there) in
       is.name_is ∙ ap (λ (r : ParameterRow). r.name) row ∙ sym too.name_is
   | inr differ ↦ elim differ [
     | inl less ↦ absurd (is.wrong (too.before is.number is.parameter less is.there))
@@ -37,8 +34,8 @@ one_wrong items block_type place rows one other is too = elim (cases_order is.nu
 one_first : (items : List Item) (one other : RuleFault) → IsWrongFirst items one → IsWrongFirst items other → one ≡ other
 one_first items one other is too = elim (cases_order is.number too.number) [
   | inl same ↦
-      let place : is.place ≡ too.place = some_one is.place too.place (sym is.there ∙ ap (slice_get (blocks_of items)) same ∙ too.there) in
-      let type : is.block_type ≡ too.block_type = some_one is.block_type too.block_type (sym is.type_is ∙ ap (type_at items) place ∙ too.type_is) in
+      let place : is.place ≡ too.place = same_Some is.place too.place (sym is.there ∙ ap (slice_get (blocks_of items)) same ∙ too.there) in
+      let type : is.block_type ≡ too.block_type = same_Some is.block_type too.block_type (sym is.type_is ∙ ap (type_at items) place ∙ too.type_is) in
       let here : IsFirstWrong items is.block_type too.place (parameters_of is.block_type) is.name = subst (λ (p : ℕ). IsFirstWrong items is.block_type p (parameters_of is.block_type) is.name) place is.wrong in
       let wrong : IsFirstWrong items too.block_type too.place (parameters_of too.block_type) is.name = subst (λ (t : BlockType). IsFirstWrong items t too.place (parameters_of t) is.name) type here in
       is.fault_is
@@ -54,11 +51,11 @@ told : (fault : RuleFault) (found : Option RuleFault) → found ≡ None → fou
 told fault found none some = none-some fault (sym none ∙ some)
 
 pub one_fault : (tree : Tree) (one other : RuleFault) → Breaks tree one → Breaks tree other → one ≡ other
-one_fault tree one other (inl is) (inl too) = some_one one other (sym is ∙ too)
+one_fault tree one other (inl is) (inl too) = same_Some one other (sym is ∙ too)
 one_fault tree one other (inl is) (inr (inl too)) = absurd (told one _ too.structured is)
 one_fault tree one other (inl is) (inr (inr too)) = absurd (told one _ too.structured is)
 one_fault tree one other (inr (inl is)) (inl too) = absurd (told other _ is.structured too)
-one_fault tree one other (inr (inl is)) (inr (inl too)) = some_one one other (sym is.broken ∙ too.broken)
+one_fault tree one other (inr (inl is)) (inr (inl too)) = same_Some one other (sym is.broken ∙ too.broken)
 one_fault tree one other (inr (inl is)) (inr (inr too)) = absurd (told one _ too.known is.broken)
 one_fault tree one other (inr (inr is)) (inl too) = absurd (told other _ is.structured too)
 one_fault tree one other (inr (inr is)) (inr (inl too)) = absurd (told other _ is.known too.broken)
@@ -69,12 +66,12 @@ one_fault tree one other (inr (inr is)) (inr (inr too)) = one_first tree.items o
 zip_there : {A B : Type 0} (R : A → B → Type 0) (xs : List A) (ys : List B) (k : ℕ) (x : A) → AllZip R xs ys → slice_get xs k ≡ Some x → (y : B) × R x y
 zip_there R [] ys k x zip there = absurd (none-some x there)
 zip_there R (z ∷ xs) [] k x zip there = absurd zip
-zip_there {A} {B} R (z ∷ xs) (y ∷ ys) zero x zip there = (y, subst (λ (a : A). R a y) (some_one z x there) zip.0)
+zip_there {A} {B} R (z ∷ xs) (y ∷ ys) zero x zip there = (y, subst (λ (a : A). R a y) (same_Some z x there) zip.0)
 zip_there R (z ∷ xs) (y ∷ ys) (suc k) x zip there = zip_there R xs ys k x zip.1 there
 
-readable : (items : List Item) (block_type : BlockType) (place : ℕ) (rows : List ParameterRow) (before after : Settings) → AreRead items block_type place rows before after → (k : ℕ) (row : ParameterRow) → slice_get rows k ≡ Some row → IsReadable items block_type place row
+pub readable : (items : List Item) (block_type : BlockType) (place : ℕ) (rows : List ParameterRow) (before after : Settings) → AreRead items block_type place rows before after → (k : ℕ) (row : ParameterRow) → slice_get rows k ≡ Some row → IsReadable items block_type place row
 readable items block_type place [] before after read k row there = absurd (none-some row there)
-readable items block_type place (first ∷ rows) before after read zero row there = subst (λ (r : ParameterRow). IsReadable items block_type place r) (some_one first row there) (read.0, read.1)
+readable items block_type place (first ∷ rows) before after read zero row there = subst (λ (r : ParameterRow). IsReadable items block_type place r) (same_Some first row there) (read.0, read.1)
 readable items block_type place (first ∷ rows) before after read (suc k) row there = readable items block_type place rows (with_setting before read.0) after read.2 k row there
 
 pub not_broken : (tree : Tree) (nested : Nested) (fault : RuleFault) → IsNestedOf tree nested → Breaks tree fault → ⊥
@@ -84,6 +81,6 @@ not_broken tree nested fault is (inr (inr broken)) =
     let first = broken.broken in
     let found = zip_there (IsBlockAt tree.items) (blocks_of tree.items) nested.blocks first.number first.place is.blocks first.there in
     let block = found.1 in
-    let type : block.block_type ≡ first.block_type = some_one block.block_type first.block_type (sym block.type_is ∙ first.type_is) in
+    let type : block.block_type ≡ first.block_type = same_Some block.block_type first.block_type (sym block.type_is ∙ first.type_is) in
     let has : HasSettings tree.items first.block_type first.place block.settings = subst (λ (t : BlockType). HasSettings tree.items t first.place block.settings) type block.has in
     first.wrong.wrong (readable tree.items first.block_type first.place (parameters_of first.block_type) unset block.settings has first.wrong.number first.wrong.parameter first.wrong.there)

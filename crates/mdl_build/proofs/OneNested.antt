@@ -1,6 +1,5 @@
 -- A tree has its blocks and lines in one way.
-use Rattle.std.proofs.Common.{◌≡◌, ℕ, List, [], ◌∷◌, Option, Some, refl, sym, ◌∙◌, ap, subst}
-use Rattle.std.specs.List.{AllZip}
+use Rattle.std.proofs.Common.{◌≡◌, ℕ, List, sym, ◌∙◌, ap, subst}
 use Rattle.dg_model.specs.declared.nested.Nested.{Nested}
 use Rattle.dg_model.specs.declared.nested.NestedBlock.{NestedBlock}
 use Rattle.mdl_text.specs.declared.tree.Item.{Item}
@@ -12,19 +11,9 @@ use Rattle.mdl_build.specs.Blocks.{HasSettings, standing_of}
 use Rattle.mdl_build.specs.Nested.{IsBlockAt, IsNestedOf}
 use Rattle.mdl_build.specs.Parts.{part_of}
 use Rattle.mdl_build.specs.Roles.{blocks_of}
+use Rattle.std.proofs.lemmas.Option.{same_Some}
 use Rattle.mdl_build.proofs.OneSetting.{one_settings}
-
-some_one : {A : Type 0} (a b : A) → ◌≡◌ {A = Option A} (Some a) (Some b) → a ≡ b
-some_one a b e = cc
-
-zip_one : {A B : Type 0} (R : A → B → Type 0) → ((x : A) (y z : B) → R x y → R x z → y ≡ z) → (xs : List A) (ys zs : List B) → AllZip R xs ys → AllZip R xs zs → ys ≡ zs
-zip_one R one [] [] [] first second = refl
-zip_one R one [] (y ∷ ys) zs first second = absurd first
-zip_one R one [] [] (z ∷ zs) first second = absurd second
-zip_one R one (x ∷ xs) [] zs first second = absurd first
-zip_one R one (x ∷ xs) (y ∷ ys) [] first second = absurd second
-zip_one {A} {B} R one (x ∷ xs) (y ∷ ys) (z ∷ zs) first second =
-    ap (λ (w : B). w ∷ ys) (one x y z first.0 second.0) ∙ ap (λ (l : List B). z ∷ l) (zip_one R one xs ys zs first.1 second.1)
+use Rattle.mdl_values.proofs.OneNumber.{zip_one}
 
 block_is : (a b : NestedBlock) → a.name ≡ b.name → a.parent ≡ b.parent → a.part ≡ b.part → a ≡ b
 block_is a b e f g = λ i. record { name = e i; parent = f i; part = g i }
@@ -34,9 +23,9 @@ nested_is a b e f = λ i. record { blocks = e i; lines = f i }
 
 one_block : ValuesAreOne → (items : List Item) (place : ℕ) (one other : NestedBlock) → IsBlockAt items place one → IsBlockAt items place other → one ≡ other
 one_block values items place one other is too =
-    let type : is.block_type ≡ too.block_type = some_one is.block_type too.block_type (sym is.type_is ∙ too.type_is) in
+    let type : is.block_type ≡ too.block_type = same_Some is.block_type too.block_type (sym is.type_is ∙ too.type_is) in
     let settings : is.settings ≡ too.settings = one_settings values items too.block_type place is.settings too.settings (subst (λ (t : BlockType). HasSettings items t place is.settings) type is.has) too.has in
-    block_is one other (some_one one.name other.name (sym is.name ∙ too.name)) (is.parent ∙ sym too.parent)
+    block_is one other (same_Some one.name other.name (sym is.name ∙ too.name)) (is.parent ∙ sym too.parent)
     (is.part ∙ ap (λ (t : BlockType). part_of (standing_of items place) t is.settings) type ∙ ap (λ (s : Settings). part_of (standing_of items place) too.block_type s) settings ∙ sym too.part)
 
 pub one_nested : ValuesAreOne → (tree : Tree) (one other : Nested) → IsNestedOf tree one → IsNestedOf tree other → one ≡ other

@@ -21,9 +21,7 @@ use Rattle.mdl_build.specs.Library.{ParameterRow, parameters_of}
 use Rattle.mdl_build.specs.Lookup.{text_of}
 use Rattle.mdl_build.specs.Settings.{ReadsAs, IsTypeOr, IsTypeOrFirst, IsGivenType, IsCoefficient, IsListOrEmpty, IsPartsText, IsOperands, unset, with_setting}
 use Rattle.mdl_build.proofs.Found.{differ}
-
-some_one : {A : Type 0} (a b : A) → ◌≡◌ {A = Option A} (Some a) (Some b) → a ≡ b
-some_one a b e = cc
+use Rattle.std.proofs.lemmas.Option.{same_Some}
 
 -- ---- words that are no types
 
@@ -204,12 +202,12 @@ module _ (values : ValuesAreOne) where
   reads_one single Reader.Parts default text here one other is too =
       let same = one_parts text is.0 too.0 is.1.0 too.1.0 is.1.1 too.1.1 in
       is.1.2 ∙ ap₂ (λ (count : ℕ) (sizes : List ℕ). Setting.Parts count sizes) same.0 same.1 ∙ sym too.1.2
-  reads_one single Reader.Rounding default text here one other is too = is.2 ∙ ap Setting.Rounding (some_one is.0 too.0 (sym is.1 ∙ too.1)) ∙ sym too.2
-  reads_one single Reader.Saturation default text here one other is too = is.2 ∙ ap Setting.Saturate (some_one is.0 too.0 (sym is.1 ∙ too.1)) ∙ sym too.2
-  reads_one single Reader.Reset default text here one other is too = is.2 ∙ ap Setting.Flag (some_one is.0 too.0 (sym is.1 ∙ too.1)) ∙ sym too.2
-  reads_one single Reader.Criterion default text here one other is too = is.2 ∙ ap Setting.Criterion (some_one is.0 too.0 (sym is.1 ∙ too.1)) ∙ sym too.2
-  reads_one single Reader.Relation default text here one other is too = is.2 ∙ ap Setting.Relation (some_one is.0 too.0 (sym is.1 ∙ too.1)) ∙ sym too.2
-  reads_one single Reader.Gate default text here one other is too = is.2 ∙ ap Setting.Gate (some_one is.0 too.0 (sym is.1 ∙ too.1)) ∙ sym too.2
+  reads_one single Reader.Rounding default text here one other is too = is.2 ∙ ap Setting.Rounding (same_Some is.0 too.0 (sym is.1 ∙ too.1)) ∙ sym too.2
+  reads_one single Reader.Saturation default text here one other is too = is.2 ∙ ap Setting.Saturate (same_Some is.0 too.0 (sym is.1 ∙ too.1)) ∙ sym too.2
+  reads_one single Reader.Reset default text here one other is too = is.2 ∙ ap Setting.Flag (same_Some is.0 too.0 (sym is.1 ∙ too.1)) ∙ sym too.2
+  reads_one single Reader.Criterion default text here one other is too = is.2 ∙ ap Setting.Criterion (same_Some is.0 too.0 (sym is.1 ∙ too.1)) ∙ sym too.2
+  reads_one single Reader.Relation default text here one other is too = is.2 ∙ ap Setting.Relation (same_Some is.0 too.0 (sym is.1 ∙ too.1)) ∙ sym too.2
+  reads_one single Reader.Gate default text here one other is too = is.2 ∙ ap Setting.Gate (same_Some is.0 too.0 (sym is.1 ∙ too.1)) ∙ sym too.2
   reads_one single Reader.Conversion default text here one other is too = one_conversion default text here one other is too
 
   -- ---- the settings of a block

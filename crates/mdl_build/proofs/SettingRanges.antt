@@ -19,9 +19,7 @@ use Rattle.mdl_values.specs.Types.{IsTypeText, named_type}
 use Rattle.mdl_build.specs.declared.settings.Setting.{Setting}
 use Rattle.mdl_build.specs.Settings.{IsTypeOr, IsTypeOrFirst, IsCoefficient, IsListOrEmpty, ReadsAs}
 use Rattle.mdl_build.specs.declared.library.Reader.{Reader}
-
-some_type : (a b : FxType) → ◌≡◌ {A = Option FxType} (Some a) (Some b) → a ≡ b
-some_type a b e = cc
+use Rattle.mdl_values.proofs.OneType.{some_type}
 
 -- of two types the one that is chosen is valid, if both are
 chosen : (b : Bool) (one : FxType) (other : Option FxType) → IsType one → ((type : FxType) → other ≡ Some type → IsType type) → (type : FxType) → cond b (Some one) other ≡ Some type → IsType type

@@ -1,9 +1,8 @@
 -- A tree has blocks and lines, or breaks a rule.
-use Rattle.std.proofs.Common.{◌≡◌, ℕ, zero, suc, ◌+◌, ◌<◌, inl, inr, true, List, [], ◌∷◌, Option, None, Some, refl, sym, ◌∙◌, ap, subst, arith, true≢false}
-use Rattle.std.specs.Prelude.{slice_get, option_map, codes, is_some}
+use Rattle.std.proofs.Common.{◌≡◌, ℕ, zero, suc, ◌+◌, ◌<◌, inl, inr, List, [], ◌∷◌, Option, None, Some, refl, sym, ◌∙◌, ap, subst, arith}
+use Rattle.std.specs.Prelude.{slice_get, option_map, codes}
 use Rattle.std.specs.List.{AllZip}
 use Rattle.std.proofs.lemmas.Bool.{cases_lt}
-use Rattle.std.proofs.lemmas.Option.{none-some}
 use Rattle.dg_model.specs.declared.fault.RuleFault.{RuleFault}
 use Rattle.dg_model.specs.declared.fault.Shown.TheVariants.{Word}
 use Rattle.dg_model.specs.declared.nested.Nested.{Nested}
@@ -25,13 +24,9 @@ use Rattle.mdl_build.specs.Sections.{value_of}
 use Rattle.mdl_build.specs.Settings.{unset, with_setting}
 use Rattle.mdl_build.proofs.Sound.{sound}
 use Rattle.mdl_build.proofs.KnownLemmas.{structure_kept, name_kept, type_kept}
-
-some_one : {A : Type 0} (a b : A) → ◌≡◌ {A = Option A} (Some a) (Some b) → a ≡ b
-some_one a b e = cc
-
-some_of : {A : Type 0} (found : Option A) → is_some found ≡ true → (x : A) × (found ≡ Some x)
-some_of None e = absurd (true≢false (sym e))
-some_of (Some x) e = (x, refl)
+use Rattle.mdl_build.proofs.OneFault.{readable}
+use Rattle.std.proofs.lemmas.Option.{same_Some}
+use Rattle.fx_io.proofs.Tests.{some_of}
 
 type_of : (found : Option BlockType) → (found ≡ None → ⊥) → (x : BlockType) × (found ≡ Some x)
 type_of None not = absurd (not refl)
@@ -51,7 +46,7 @@ module _ (items : List Item) (block_type : BlockType) (place : ℕ) where
     name_is = is.name_is;
   }) where
     before : (k : ℕ) (other : ParameterRow) → k < suc is.number → slice_get (row ∷ rows) k ≡ Some other → IsReadable items block_type place other
-    before zero other less there = subst (λ (r : ParameterRow). IsReadable items block_type place r) (some_one row other there) read
+    before zero other less there = subst (λ (r : ParameterRow). IsReadable items block_type place r) (same_Some row other there) read
     before (suc k) other less there = is.before k other (omega (arith, less)) there
 
   rows_read : (rows : List ParameterRow) (before : Settings) → ((name : List ℕ) → IsFirstWrong items block_type place rows name → ⊥) → ((after : Settings) → AreRead items block_type place rows before after → ⊥) → ⊥
@@ -65,11 +60,6 @@ module _ (items : List Item) (block_type : BlockType) (place : ℕ) where
         before = λ k other less there. absurd (omega (arith, less));
         name_is = refl;
       })
-
-readable : (items : List Item) (block_type : BlockType) (place : ℕ) (rows : List ParameterRow) (before after : Settings) → AreRead items block_type place rows before after → (k : ℕ) (row : ParameterRow) → slice_get rows k ≡ Some row → IsReadable items block_type place row
-readable items block_type place [] before after read k row there = absurd (none-some row there)
-readable items block_type place (first ∷ rows) before after read zero row there = subst (λ (r : ParameterRow). IsReadable items block_type place r) (some_one first row there) (read.0, read.1)
-readable items block_type place (first ∷ rows) before after read (suc k) row there = readable items block_type place rows (with_setting before read.0) after read.2 k row there
 
 -- ---- the blocks
 
@@ -101,8 +91,8 @@ module _ (items : List Item) (structured : structure_fault items ≡ None) (know
         | inl earlier ↦ before k other block_type earlier at_k type_k
         | inr last ↦
             let same : number ≡ k = omega (arith, less, last) in
-            let its : place ≡ other = some_one place other (sym there ∙ ap (slice_get (blocks_of items)) same ∙ at_k) in
-            let own : type.0 ≡ block_type = some_one type.0 block_type (sym type.1 ∙ ap (type_at items) its ∙ type_k) in
+            let its : place ≡ other = same_Some place other (sym there ∙ ap (slice_get (blocks_of items)) same ∙ at_k) in
+            let own : type.0 ≡ block_type = same_Some type.0 block_type (sym type.1 ∙ ap (type_at items) its ∙ type_k) in
             subst (λ (p : ℕ). AllRead items block_type p) its (subst (λ (t : BlockType). AllRead items t place) own (readable items type.0 place (parameters_of type.0) unset settings has))
       ])
       (λ blocks zip. never (record { name = name.0; parent = option_map (number_at items) (parent_of items place); part = part_of (standing_of items place) type.0 settings } ∷ blocks)

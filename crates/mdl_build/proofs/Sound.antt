@@ -1,6 +1,5 @@
 -- The blocks and lines of a tree are well formed.
-use Rattle.std.proofs.Common.{◌≡◌, suc, refl, List, [], ◌∷◌, length, get_or, sym, ap, subst, arith}
-use Rattle.std.specs.List.{AllZip}
+use Rattle.std.proofs.Common.{get_or, sym, subst, arith}
 use Rattle.std.proofs.lemmas.Option.{slice_get-get_or}
 use Rattle.dg_model.specs.declared.nested.Nested.{Nested}
 use Rattle.dg_model.specs.Sound.{IsSound, HasReadable, HasPlainRole}
@@ -15,19 +14,14 @@ use Rattle.mdl_build.proofs.SoundNames.{have_names}
 use Rattle.mdl_build.proofs.SoundParts.{plain_role}
 use Rattle.mdl_build.proofs.SoundPorts.{sound_ins, sound_outs}
 use Rattle.mdl_build.proofs.SoundTree.{kept}
-
-zip_length : {X Y : Type 0} (R : X → Y → Type 0) (xs : List X) (ys : List Y) → AllZip R xs ys → length ys ≡ length xs
-zip_length R [] [] all = refl
-zip_length R [] (y ∷ ys) all = absurd all
-zip_length R (x ∷ xs) [] all = absurd all
-zip_length R (x ∷ xs) (y ∷ ys) all = ap suc (zip_length R xs ys all.1)
+use Rattle.std.proofs.lemmas.Slice.Zip.{AllZip-long}
 
 pub sound : (tree : Tree) (nested : Nested) → IsNestedOf tree nested → IsSound nested
 sound tree nested is =
     let items = tree.items in
     let known = kept items is.structured in
     record {
-      size = omega (arith, zip_length (IsBlockAt items) (blocks_of items) nested.blocks is.blocks, known.few);
+      size = omega (arith, AllZip-long (IsBlockAt items) (blocks_of items) nested.blocks is.blocks, known.few);
       parents = has_parent items nested.blocks is.blocks;
       levels = (level_of items, have_levels items nested.blocks known is.blocks);
       names = have_names items nested.blocks known is.blocks;

@@ -23,22 +23,8 @@ use Rattle.mdl_build.proofs.BlockPlaces.{block_of}
 use Rattle.mdl_build.proofs.RoleLemmas.{system_above}
 use Rattle.mdl_build.proofs.SoundParts.{says_type, type_says, sub_system_type}
 use Rattle.mdl_build.proofs.SoundSearch.{one_counted}
-use Rattle.mdl_build.proofs.SoundTree.{IsKept, Stand, stand}
-
-and_right : (a b : Bool) → (a && b) ≡ true → b ≡ true
-and_right true b e = e
-and_right false b e = absurd (true≢false (sym e))
-
-and_left : (a b : Bool) → (a && b) ≡ true → a ≡ true
-and_left true b e = refl
-and_left false b e = e
-
-both_true : (a b : Bool) → a ≡ true → b ≡ true → (a && b) ≡ true
-both_true true b e f = f
-both_true false b e f = e
-
-same_Some : (a b : ℕ) → ◌≡◌ {A = Option ℕ} (Some a) (Some b) → a ≡ b
-same_Some a b e = cc
+use Rattle.mdl_build.proofs.SoundTree.{IsKept, Stand, stand, same_Some}
+use Rattle.fx_io.proofs.Tests.{left_true, right_true}
 
 -- ---- the block of a number, and the number of a place
 
@@ -172,7 +158,7 @@ have_levels items blocks known zip = record {
       let role_is = sub_role items number block h is in
       let own = level_at items number h.place h.stands.level h.there role_is in
       let all = known.blocks number h.place h.there in
-      let last : has_one_system items h.place (role_of items h.place) ≡ true = and_right (is_some (value_of items h.place (codes "BlockType")) && has_own_name items h.place) _ all in
+      let last : has_one_system items h.place (role_of items h.place) ≡ true = right_true (is_some (value_of items h.place (codes "BlockType")) && has_own_name items h.place) _ all in
       let test : (count_by (is_system_in items h.place) (places_of items) == 1) ≡ true = sym (ap (has_one_system items h.place) role_is) ∙ last in
       let single : count_by (is_system_in items h.place) (range_with_len 0 (length items)) ≡ 1 = grind (arith, nat_tests, test) in
       let inner = one_counted (is_system_in items h.place) 0 (length items) single in
@@ -199,8 +185,8 @@ have_levels items blocks known zip = record {
 
     inner_level : (items : List Item) (place level system : ℕ) → IsKept items → system < length items → role_of items place ≡ SubSystem level → is_system_in items place system ≡ true → suc level ≤ 64
     inner_level items place level system known within role_is inside =
-        let is = system_level (role_of items system) (and_left (is_system (λ l. true) (role_of items system)) _ inside) in
-        let held = held_by (holder_of items system) place (and_right (is_system (λ l. true) (role_of items system)) _ inside) in
+        let is = system_level (role_of items system) (left_true (is_system (λ l. true) (role_of items system)) _ inside) in
+        let held = held_by (holder_of items system) place (right_true (is_system (λ l. true) (role_of items system)) _ inside) in
         let above = system_above items system is.0 is.1 in
         let holder : above.holder ≡ place = same_Some above.holder place (sym above.under.at_holder ∙ held) in
         let most = known.shallow system is.0 within is.1 in

@@ -22,6 +22,7 @@ use Rattle.mdl_build.specs.Lines.{is_port, port_of, to_port, target_of, named_by
 use Rattle.mdl_build.specs.Nested.{IsBlockAt}
 use Rattle.mdl_build.specs.Roles.{role_of, blocks_of, says}
 use Rattle.mdl_build.specs.Sections.{places_of, holder_of, value_of}
+use Rattle.fx_io.proofs.Tests.{left_true, right_true}
 
 -- ---- what a line is made of
 
@@ -113,14 +114,6 @@ named_by_block items line (Some name) number e = by (holder_of items line) refl 
 
 -- ---- ports
 
-and_left : (a b : Bool) → (a && b) ≡ true → a ≡ true
-and_left true b e = refl
-and_left false b e = absurd (true≢false (sym e))
-
-and_right : (a b : Bool) → (a && b) ≡ true → b ≡ true
-and_right true b e = e
-and_right false b e = absurd (true≢false (sym e))
-
 port_between : (text : Option (List ℕ)) (port : ℕ) → port_of text ≡ Some port → IsBetween 1 20000 port
 port_between None port e = let same : 1 ≡ port = same_Some 1 port e in (omega (arith, same), omega (arith, same))
 port_between (Some text) port e = by (is_port text) refl e
@@ -128,8 +121,8 @@ port_between (Some text) port e = by (is_port text) refl e
     by : (b : Bool) → is_port text ≡ b → cond b (Some (digits_value 10 text)) None ≡ Some port → IsBetween 1 20000 port
     by true t f =
         let same : digits_value 10 text ≡ port = same_Some (digits_value 10 text) port f in
-        let high = leb-true (digits_value 10 text) 20000 (and_right (nat_lt 0 (length text) && list_all is_ascii_digit text && nat_le 1 (digits_value 10 text)) (nat_le (digits_value 10 text) 20000) t) in
-        let low = leb-true 1 (digits_value 10 text) (and_right (nat_lt 0 (length text) && list_all is_ascii_digit text) (nat_le 1 (digits_value 10 text)) (and_left (nat_lt 0 (length text) && list_all is_ascii_digit text && nat_le 1 (digits_value 10 text)) (nat_le (digits_value 10 text) 20000) t)) in
+        let high = leb-true (digits_value 10 text) 20000 (right_true (nat_lt 0 (length text) && list_all is_ascii_digit text && nat_le 1 (digits_value 10 text)) (nat_le (digits_value 10 text) 20000) t) in
+        let low = leb-true 1 (digits_value 10 text) (right_true (nat_lt 0 (length text) && list_all is_ascii_digit text) (nat_le 1 (digits_value 10 text)) (left_true (nat_lt 0 (length text) && list_all is_ascii_digit text && nat_le 1 (digits_value 10 text)) (nat_le (digits_value 10 text) 20000) t)) in
         (omega (arith, same, low), omega (arith, same, high))
     by false t f = absurd (none-some port f)
 

@@ -1,5 +1,5 @@
 -- The names of a tree's blocks differ in each System.
-use Rattle.std.proofs.Common.{◌≡◌, ℕ, Bool, true, false, List, get_or, Option, Some, None, refl, sym, ◌∙◌, ap, arith, true≢false}
+use Rattle.std.proofs.Common.{◌≡◌, ℕ, true, false, List, get_or, Option, Some, None, refl, sym, ◌∙◌, ap, arith, true≢false}
 use Rattle.std.specs.Prelude.{◌==◌, ◌&&◌, AllPairs, is_some, bytes_eq, codes}
 use Rattle.std.specs.List.{AllZip}
 use Rattle.std.proofs.lemmas.Bool.Decides.{nat_tests}
@@ -17,18 +17,8 @@ use Rattle.mdl_build.specs.Sections.{holder_of, value_of}
 use Rattle.mdl_build.proofs.SoundBlocks.{block_here}
 use Rattle.mdl_build.proofs.SoundSearch.{first_from}
 use Rattle.mdl_build.proofs.SoundTree.{IsKept, same_system}
-
-and_right : (a b : Bool) → (a && b) ≡ true → b ≡ true
-and_right true b e = e
-and_right false b e = absurd (true≢false (sym e))
-
-and_left : (a b : Bool) → (a && b) ≡ true → a ≡ true
-and_left true b e = refl
-and_left false b e = e
-
-both_true : (a b : Bool) → a ≡ true → b ≡ true → (a && b) ≡ true
-both_true true b e f = f
-both_true false b e f = e
+use Rattle.std.proofs.lemmas.Bool.{and_from}
+use Rattle.fx_io.proofs.Tests.{left_true, right_true}
 
 -- ---- names
 
@@ -40,7 +30,7 @@ number_found number (Some other) e = let same : other ≡ number = grind (arith,
 pub named_here : (items : List Item) (place system : ℕ) (name : List ℕ) → holder_of items place ≡ Some system → value_of items place (codes "Name") ≡ Some name → is_named_in items system name place ≡ true
 named_here items place system name held named =
     ap (λ (f : Option ℕ). at false (λ (h : ℕ). h == system) f && says items place (codes "Name") name) held
-    ∙ both_true (system == system) _ (same_number system) (ap (λ (f : Option (List ℕ)). elim f [ None ↦ false | Some v ↦ bytes_eq v name ]) named ∙ (bytes_eq-Decides name name).1 refl)
+    ∙ and_from (system == system) _ (same_number system) (ap (λ (f : Option (List ℕ)). elim f [ None ↦ false | Some v ↦ bytes_eq v name ]) named ∙ (bytes_eq-Decides name name).1 refl)
   where
     same_number : (n : ℕ) → (n == n) ≡ true
     same_number n = grind (arith, nat_tests)
@@ -56,7 +46,7 @@ have_names items blocks known zip i j d less below parents names =
     let one = block_here items blocks zip i (get_or blocks i d) (slice_get-get_or blocks i d (omega arith)) in
     let other = block_here items blocks zip j (get_or blocks j d) (slice_get-get_or blocks j d below) in
     let systems : one.stands.system ≡ other.stands.system = same_system items known one.place other.place one.within other.within one.stands other.stands (sym one.here.parent ∙ parents ∙ other.here.parent) in
-    let own : has_own_name items other.place ≡ true = and_right (is_some (value_of items other.place (codes "BlockType"))) (has_own_name items other.place) (and_left (is_some (value_of items other.place (codes "BlockType")) && has_own_name items other.place) _ (known.blocks j other.place other.there)) in
+    let own : has_own_name items other.place ≡ true = right_true (is_some (value_of items other.place (codes "BlockType"))) (has_own_name items other.place) (left_true (is_some (value_of items other.place (codes "BlockType")) && has_own_name items other.place) _ (known.blocks j other.place other.there)) in
     let found = own_number items other.place other.stands.system (get_or blocks j d).name own other.stands.in_system other.here.name in
     let first = first_from (is_named_in items other.stands.system (get_or blocks j d).name) 0 (blocks_of items) (number_at items other.place) (sym (position_from-zero (is_named_in items other.stands.system (get_or blocks j d).name) (blocks_of items)) ∙ found) in
     let named = named_here items one.place other.stands.system (get_or blocks j d).name (one.stands.in_system ∙ ap (λ (s : ℕ). Some s) systems) (one.here.name ∙ ap (λ (n : List ℕ). Some n) names) in

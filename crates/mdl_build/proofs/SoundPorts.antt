@@ -19,8 +19,10 @@ use Rattle.mdl_build.specs.Sections.{holder_of}
 use Rattle.mdl_build.specs.inner.Known.{is_enable_in}
 use Rattle.mdl_build.proofs.SoundBlocks.{block_here, block_there}
 use Rattle.mdl_build.proofs.SoundParts.{says_type, type_says, enable_type}
-use Rattle.mdl_build.proofs.SoundSearch.{any_here, any_found}
+use Rattle.std.proofs.lemmas.Map.Keys.{any_passes_from_place}
+use Rattle.mdl_build.proofs.SoundSearch.{any_found}
 use Rattle.mdl_build.proofs.SoundTree.{IsKept, Stand, same_system}
+use Rattle.fx_io.proofs.Tests.{left_true, right_true}
 
 -- ---- by the type of a block
 
@@ -95,14 +97,6 @@ out_role items blocks parent system EnablePort settings same = tt
 
 -- ---- the EnablePort of a System
 
-and_left : (a b : Bool) → (a && b) ≡ true → a ≡ true
-and_left true b e = refl
-and_left false b e = absurd (true≢false (sym e))
-
-and_right : (a b : Bool) → (a && b) ≡ true → b ≡ true
-and_right true b e = e
-and_right false b e = absurd (true≢false (sym e))
-
 held_by : (system : ℕ) (found : Option ℕ) → at false (λ holder. holder == system) found ≡ true → found ≡ Some system
 held_by system None e = absurd (true≢false (sym e))
 held_by system (Some holder) e = ap Some (eqb-true holder system e)
@@ -120,8 +114,8 @@ module _ (items : List Item) (blocks : List NestedBlock) (known : IsKept items) 
   port_on : (place system holder : ℕ) → holder_of items place ≡ Some system → parent_of items place ≡ Some holder → has_enable items system ≡ true → HasEnablePort blocks (Some (number_at items holder))
   port_on place system holder held parent has =
       let found = any_found (is_enable_in items system) (blocks_of items) has in
-      let here : at false (λ h. h == system) (holder_of items found.1) ≡ true = and_left (at false (λ h. h == system) (holder_of items found.1)) (is_of items EnablePort found.1) found.3 in
-      let said : is_of items EnablePort found.1 ≡ true = and_right (at false (λ h. h == system) (holder_of items found.1)) (is_of items EnablePort found.1) found.3 in
+      let here : at false (λ h. h == system) (holder_of items found.1) ≡ true = left_true (at false (λ h. h == system) (holder_of items found.1)) (is_of items EnablePort found.1) found.3 in
+      let said : is_of items EnablePort found.1 ≡ true = right_true (at false (λ h. h == system) (holder_of items found.1)) (is_of items EnablePort found.1) found.3 in
       let b = block_there items blocks all found.0 found.1 found.2 in
       let block = b.0 in
       let is = b.2 in
@@ -141,7 +135,7 @@ module _ (items : List Item) (blocks : List NestedBlock) (known : IsKept items) 
       let kind : h.here.block_type ≡ EnablePort = enable_type (standing_of items h.place) h.here.block_type h.here.settings part_is in
       let said : says items h.place (codes "BlockType") (codes "EnablePort") ≡ true = type_says items h.place EnablePort (h.here.type_is ∙ ap (λ (t : BlockType). Some t) kind) in
       let held : holder_of items h.place ≡ Some s.system = h.stands.in_system ∙ ap Some (sym systems) in
-      true≢false (sym (any_here (is_enable_in items s.system) (blocks_of items) port.0 h.place h.there (is_port_here items s.system h.place held said)) ∙ none)
+      true≢false (sym (any_passes_from_place (is_enable_in items s.system) (blocks_of items) port.0 h.place h.there (is_port_here items s.system h.place held said)) ∙ none)
 
   same_enable : (place : ℕ) → place < length items → (s : Stand items place) → SameEnable items blocks (parent_of items place) s.system
   same_enable place within s = record {

@@ -4,23 +4,6 @@ use Rattle.std.specs.Prelude.{◌||◌, count_by, slice_get}
 use Rattle.std.specs.List.{list_any, range_with_len, position_from}
 use Rattle.mdl_build.proofs.BlockNumbers.{count_cons}
 
--- one of them passes
-pub any_here : {A : Type 0} (P : A → Bool) (xs : List A) (k : ℕ) (x : A) → slice_get xs k ≡ Some x → P x ≡ true → list_any P xs ≡ true
-any_here {A} P [] k x there passes = let bad : ◌≡◌ {A = Option A} None (Some x) = there in absurd (cc)
-any_here {A} P (y ∷ ys) zero x there passes =
-    let first : ◌≡◌ {A = Option A} (Some y) (Some x) = there in
-    let same : y ≡ x = cc in
-    or_left (P y) (list_any P ys) (ap P same ∙ passes)
-  where
-    or_left : (a b : Bool) → a ≡ true → (a || b) ≡ true
-    or_left true b e = refl
-    or_left false b e = absurd (true≢false (sym e))
-any_here {A} P (y ∷ ys) (suc k) x there passes = or_right (P y) (list_any P ys) (any_here P ys k x there passes)
-  where
-    or_right : (a b : Bool) → b ≡ true → (a || b) ≡ true
-    or_right true b e = refl
-    or_right false b e = e
-
 pub any_found : {A : Type 0} (P : A → Bool) (xs : List A) → list_any P xs ≡ true → (k : ℕ) × (x : A) × (slice_get xs k ≡ Some x) × (P x ≡ true)
 any_found P [] some = absurd (true≢false (sym some))
 any_found {A} P (y ∷ ys) some = by_test (any_found P ys) (P y) refl some

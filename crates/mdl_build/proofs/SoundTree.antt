@@ -1,5 +1,5 @@
--- What a tree that keeps the rule of structure has.
-use Rattle.std.proofs.Common.{◌≡◌, ℕ, zero, suc, ◌+◌, ◌<◌, ◌≤◌, Bool, true, false, cond, not, List, [], ◌∷◌, length, map, Option, Some, None, refl, sym, ◌∙◌, ap, inl, inr, arith, true≢false}
+-- What a tree that keeps the rule of structure has. Crates above may cite this file.
+use Rattle.std.proofs.Common.{◌≡◌, ℕ, zero, suc, ◌+◌, ◌<◌, ◌≤◌, Bool, true, false, cond, not, List, [], ◌∷◌, length, map, Option, Some, None, refl, sym, ◌∙◌, ap, inl, inr, arith}
 use Rattle.std.specs.Prelude.{◌==◌, ◌&&◌, ◌⊎◌, nat_le, count_by, slice_get, option_map, is_some, codes}
 use Rattle.std.specs.List.{range_with_len, list_all}
 use Rattle.std.proofs.lemmas.Bool.Decides.{nat_tests}
@@ -14,16 +14,10 @@ use Rattle.mdl_build.specs.Rules.{is_system, is_system_in, has_root, are_shallow
 use Rattle.mdl_build.specs.Sections.{places_of, holder_of, value_of}
 use Rattle.mdl_build.proofs.BlockNumbers.{count_cons, only_one, none_passes, block_at, one_number}
 use Rattle.mdl_build.proofs.RoleLemmas.{BlockAbove, SystemAbove, block_above, system_above, holder_before}
+use Rattle.std.proofs.lemmas.Bool.{not-false, not-true}
+use Rattle.fx_io.proofs.Tests.{left_true, right_true}
 
 -- ---- tests
-
-and_left : (a b : Bool) → (a && b) ≡ true → a ≡ true
-and_left true b e = refl
-and_left false b e = e
-
-and_right : (a b : Bool) → (a && b) ≡ true → b ≡ true
-and_right true b e = e
-and_right false b e = let bad : false ≡ true = e in absurd (true≢false (sym bad))
 
 if_none : (b : Bool) (found : Option RuleFault) (fault : RuleFault) → cond b found (Some fault) ≡ None → (b ≡ true) × (found ≡ None)
 if_none true found fault e = (refl, e)
@@ -33,21 +27,13 @@ map_none : {A : Type 0} (f : A → RuleFault) (found : Option A) → option_map 
 map_none f None e = refl
 map_none f (Some x) e = let bad : ◌≡◌ {A = Option RuleFault} (Some (f x)) None = e in absurd (cc)
 
-not_false : (b : Bool) → not b ≡ false → b ≡ true
-not_false true e = refl
-not_false false e = let bad : true ≡ false = e in absurd (true≢false bad)
-
-not_true : (b : Bool) → not b ≡ true → b ≡ false
-not_true true e = let bad : false ≡ true = e in absurd (true≢false (sym bad))
-not_true false e = refl
-
 -- a test of all places, at one
 all_at : (P : ℕ → Bool) (from count place : ℕ) → list_all P (range_with_len from count) ≡ true → from ≤ place → place < from + count → P place ≡ true
 all_at P from zero place all above below = absurd (omega arith)
-all_at P from (suc count) place all above below = by_place (λ more b. all_at P (from + 1) count place (and_right (P from) (list_all P (range_with_len (from + 1) count)) all) more b) (from == place) refl
+all_at P from (suc count) place all above below = by_place (λ more b. all_at P (from + 1) count place (right_true (P from) (list_all P (range_with_len (from + 1) count)) all) more b) (from == place) refl
   where
     by_place : (from + 1 ≤ place → place < from + 1 + count → P place ≡ true) → (b : Bool) → (from == place) ≡ b → P place ≡ true
-    by_place later true same = let is : from ≡ place = grind (arith, nat_tests) in ap P (sym is) ∙ and_left (P from) (list_all P (range_with_len (from + 1) count)) all
+    by_place later true same = let is : from ≡ place = grind (arith, nat_tests) in ap P (sym is) ∙ left_true (P from) (list_all P (range_with_len (from + 1) count)) all
     by_place later false other = let more : from + 1 ≤ place = grind (arith, nat_tests) in later more (omega arith)
 
 all_map : {A : Type 0} (P : A → Bool) (f : ℕ → A) (xs : List ℕ) → list_all P (map f xs) ≡ list_all (λ x. P (f x)) xs
@@ -70,23 +56,23 @@ pub record IsKept (items : List Item) : Type 0 where
 pub kept : (items : List Item) → structure_fault items ≡ None → IsKept items
 kept items none =
     let parts = if_none (keeps_model items) _ _ none in
-    let fronts = and_left (has_root (roles_of items) && are_shallow (roles_of items) && nat_le (length (blocks_of items)) 20000) _ parts.0 in
-    let root_shallow = and_left (has_root (roles_of items) && are_shallow (roles_of items)) _ fronts in
-    let root = and_right _ (count_by (is_system (λ level. level == 1)) (roles_of items) == 1) (and_left (has_root (roles_of items)) _ root_shallow) in
-    let all_shallow = and_right _ (are_shallow (roles_of items)) root_shallow in
-    let small = and_right _ (nat_le (length (blocks_of items)) 20000) fronts in
-    let joined = and_right _ (list_all (λ place. keeps_line items place (role_of items place)) (places_of items)) parts.0 in
+    let fronts = left_true (has_root (roles_of items) && are_shallow (roles_of items) && nat_le (length (blocks_of items)) 20000) _ parts.0 in
+    let root_shallow = left_true (has_root (roles_of items) && are_shallow (roles_of items)) _ fronts in
+    let root = right_true _ (count_by (is_system (λ level. level == 1)) (roles_of items) == 1) (left_true (has_root (roles_of items)) _ root_shallow) in
+    let all_shallow = right_true _ (are_shallow (roles_of items)) root_shallow in
+    let small = right_true _ (nat_le (length (blocks_of items)) 20000) fronts in
+    let joined = right_true _ (list_all (λ place. keeps_line items place (role_of items place)) (places_of items)) parts.0 in
     let one : count_by (λ (place : ℕ). is_system (λ level. level == 1) (role_of items place)) (range_with_len 0 (length items)) ≡ 1 =
     sym (count_map (is_system (λ level. level == 1)) (role_of items) (range_with_len 0 (length items))) ∙ grind (arith, nat_tests, root) in
     record {
       one_root = λ a b within within' is is'. only_one (λ (place : ℕ). is_system (λ level. level == 1) (role_of items place)) 0 (length items) a b one (omega arith) (omega arith) (ap (is_system (λ level. level == 1)) is) (omega arith) (omega arith) (ap (is_system (λ level. level == 1)) is');
       shallow = λ place level within is.
           let test = all_at (λ (p : ℕ). not (is_system (λ l. nat_le 65 l) (role_of items p))) 0 (length items) place (sym (all_map (λ role. not (is_system (λ l. nat_le 65 l) role)) (role_of items) (range_with_len 0 (length items))) ∙ all_shallow) (omega arith) (omega arith) in
-          let small_level : nat_le 65 level ≡ false = sym (ap (is_system (λ l. nat_le 65 l)) is) ∙ not_true _ test in
+          let small_level : nat_le 65 level ≡ false = sym (ap (is_system (λ l. nat_le 65 l)) is) ∙ not-true _ test in
           grind (arith, nat_tests);
       few = grind (arith, nat_tests, small);
       lines = λ place within. all_at (λ (p : ℕ). keeps_line items p (role_of items p)) 0 (length items) place joined (omega arith) (omega arith);
-      blocks = λ number place there. not_false _ (none_passes (λ (p : ℕ). not (keeps_structure items p)) (blocks_of items) (map_none _ _ parts.1) number place there);
+      blocks = λ number place there. not-false _ (none_passes (λ (p : ℕ). not (keeps_structure items p)) (blocks_of items) (map_none _ _ parts.1) number place there);
     }
 
 -- ---- where a block stands
@@ -152,12 +138,12 @@ pub one_system : (items : List Item) → IsKept items → (holder outer one othe
 one_system items known holder outer one other a b within sub within_one within_other is_one is_other held_one held_other =
     let number = block_at items holder within (ap is_block sub) in
     let all = known.blocks (number_at items holder) holder number in
-    let last : has_one_system items holder (role_of items holder) ≡ true = and_right (is_some (value_of items holder (codes "BlockType")) && has_own_name items holder) _ all in
+    let last : has_one_system items holder (role_of items holder) ≡ true = right_true (is_some (value_of items holder (codes "BlockType")) && has_own_name items holder) _ all in
     let test : (count_by (is_system_in items holder) (places_of items) == 1) ≡ true = sym (ap (has_one_system items holder) sub) ∙ last in
     let single : count_by (is_system_in items holder) (range_with_len 0 (length items)) ≡ 1 = grind (arith, nat_tests, test) in
     only_one (is_system_in items holder) 0 (length items) one other single (omega arith) (omega arith) (in_section items holder one a is_one held_one) (omega arith) (omega arith) (in_section items holder other b is_other held_other)
 
-same_Some : (a b : ℕ) → ◌≡◌ {A = Option ℕ} (Some a) (Some b) → a ≡ b
+pub same_Some : (a b : ℕ) → ◌≡◌ {A = Option ℕ} (Some a) (Some b) → a ≡ b
 same_Some a b e = cc
 
 -- two blocks of one parent stand in one System

@@ -22,7 +22,8 @@ use Rattle.mdl_text.specs.Lines.{IsComment, StartsSection, IsEmptyParameter, Giv
 use Rattle.mdl_text.specs.Stands.{Says, Part, HasForm, Builds}
 use Rattle.mdl_text.specs.Stands.Says.{Nothing, Entry, End}
 use Rattle.mdl_text.specs.inner.Plain.{strings, strings_from, list_from, added, free, reader_strings, opened, closed, listed_by}
-use Rattle.mdl_text.proofs.Classes.{cond_some, newline_no_quote, newline_no_opening, newline_no_closing}
+use Rattle.std.proofs.lemmas.Option.{cond_some}
+use Rattle.mdl_text.proofs.Classes.{newline_no_quote, newline_no_opening, newline_no_closing}
 use Rattle.mdl_text.proofs.Quotes.{strings_sound, open_step, quote_shape}
 use Rattle.mdl_text.proofs.Pieces.{list_sound}
 use Rattle.mdl_text.proofs.LineLaws.{lines_one, lines_next}

@@ -1,20 +1,10 @@
 -- Facts about single bytes, and cases on tests. Crates above may cite this file.
-use Rattle.std.proofs.Common.{◌≡◌, ◌≢◌, ◌<◌, ℕ, Bool, true, false, cond, ◌⊎◌, inl, inr, Some, None, List, map, nat_eq, slice_index_or, refl, sym, ◌∙◌, ap, subst, ⊎_elim, eqb-true, arith}
+use Rattle.std.proofs.Common.{◌≡◌, ◌≢◌, ◌<◌, ℕ, Bool, true, false, cond, ◌⊎◌, inl, inr, List, map, nat_eq, slice_index_or, refl, sym, ◌∙◌, ap, subst, ⊎_elim, eqb-true, arith}
 use Rattle.std.specs.List.{range_with_len}
 use Rattle.std.proofs.lemmas.List.FromFn.{get_or-map-range_with_len}
 use Rattle.std.specs.Prelude.{◌||◌, ◌==◌}
 use Rattle.std.proofs.lemmas.Bool.{or_cases, true≢false}
 use Rattle.mdl_text.specs.Bytes.{is_blank, is_name_byte}
-
--- which case a test takes
-pub cond_cases : {X : Type 0} (t : Bool) (x y z : X) → cond t x y ≡ z → ((t ≡ true) × (x ≡ z)) ⊎ ((t ≡ false) × (y ≡ z))
-cond_cases true x y z h = inl (refl, h)
-cond_cases false x y z h = inr (refl, h)
-
--- an answer that only one case has
-pub cond_some : {X : Type 0} (t : Bool) (x z : X) → cond t (Some x) None ≡ Some z → (t ≡ true) × (x ≡ z)
-cond_some true x z h = (refl, cc)
-cond_some false x z h = cc
 
 -- which of three cases two tests take
 pub two_tests : {X : Type 0} (s t : Bool) (x y z : X) → ((s ≡ true) × (cond s x (cond t y z) ≡ x)) ⊎ (((t ≡ true) × (cond s x (cond t y z) ≡ y)) ⊎ ((s ≡ false) × (t ≡ false) × (cond s x (cond t y z) ≡ z)))

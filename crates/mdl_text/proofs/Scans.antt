@@ -7,14 +7,11 @@ use Rattle.std.proofs.lemmas.List.Folds.{list_all-append}
 use Rattle.std.proofs.lemmas.List.{take_more}
 use Rattle.mdl_text.specs.Bytes.{is_blank, is_name_byte, AreBlanks}
 use Rattle.mdl_text.specs.inner.Plain.{trimmed, unblanked}
+use Rattle.fx_io.proofs.Tests.{and_false}
 
 and_true : (b : Bool) → (b && true) ≡ b
 and_true true = refl
 and_true false = refl
-
-and_false : (b : Bool) → (b && false) ≡ false
-and_false true = refl
-and_false false = refl
 
 all_blank_more : (l : List ℕ) (b : ℕ) → is_blank b ≡ true → list_all is_blank (l ++ b ∷ []) ≡ list_all is_blank l
 all_blank_more l b h = list_all-append is_blank l (b ∷ []) ∙ ap (λ t. list_all is_blank l && (t && true)) h ∙ and_true _

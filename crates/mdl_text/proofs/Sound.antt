@@ -17,7 +17,9 @@ use Rattle.mdl_text.specs.Lines.{GivesParameter}
 use Rattle.mdl_text.specs.Stands.{Part, Builds, Stands}
 use Rattle.mdl_text.specs.Stands.Says.{Entry}
 use Rattle.mdl_text.specs.inner.Plain.{unblanked, trimmed, strings_from, list_from, added, free, reader_strings, opened, closed, listed, valued, after_name, named, fresh_text, fresh, begins_with_quote, step_in, step, if_closed, finish_in, finish, run, start}
-use Rattle.mdl_text.proofs.Classes.{cond_cases, cond_some, two_tests}
+use Rattle.std.proofs.lemmas.Option.{cond_some}
+use Rattle.fx_io.proofs.Tests.{cond_cases}
+use Rattle.mdl_text.proofs.Classes.{two_tests}
 use Rattle.mdl_text.proofs.Scans.{FirstIs, unblanked_split, unblanked_first, name_bytes, trim_split, trim_end, trimmed_first}
 use Rattle.mdl_text.proofs.LineLaws.{first_line, lines_each, lines_front}
 use Rattle.mdl_text.proofs.After.{item, AfterFree, AfterStrings, After, AfterReader, after_part, nothing_sound, closed_sound, opened_sound, bare_sound, further_sound, quoted_sound, listed_sound}

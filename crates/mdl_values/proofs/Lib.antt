@@ -4,8 +4,8 @@ mod DecimalForms
 mod DecimalLemmas
 mod ElementLemmas
 mod ListLemmas
-mod OneNumber
-mod OneType
+pub mod OneNumber
+pub mod OneType
 mod OneValue
 mod PeriodLemmas
 mod PieceLemmas

@@ -1,4 +1,4 @@
--- A text is at most one number, one decimal and one list of them.
+-- A text is at most one number, one decimal and one list of them. Crates above may cite this file.
 use Rattle.std.proofs.Common.{◌≡◌, ℕ, ◌<◌, ◌^◌, inl, inr, Bool, true, false, cond, List, [], ◌∷◌, Option, None, Some, refl, sym, ◌∙◌, ap, ap₂, subst, arith, true≢false, ℤ, eqb-true}
 use Rattle.std.specs.Prelude.{◌==◌, ◌-ℤ◌, ◌≤ℤ◌, pos, negsuc}
 use Rattle.std.specs.List.{AllZip, list_all}
@@ -16,6 +16,7 @@ use Rattle.mdl_values.specs.Pieces.{two_of, pieces_at, only_inside, bracket_elem
 use Rattle.mdl_values.proofs.DecimalForms.{one_numeral, true_is_none, false_is_none}
 use Rattle.mdl_values.proofs.DecimalLemmas.{words_differ}
 use Rattle.mdl_values.proofs.ListLemmas.{some_same}
+use Rattle.std.proofs.lemmas.Option.{none-some}
 
 -- ---- numbers
 
@@ -26,9 +27,6 @@ one_number low high text one other is too = is.value ∙ sym too.value
 pub first_digit : (byte : ℕ) (bytes : List ℕ) (low high number : ℕ) → IsNumberText low high (byte ∷ bytes) number → is_ascii_digit byte ≡ true
 first_digit byte bytes low high number is = (and_parts (is_ascii_digit byte) (list_all is_ascii_digit bytes) is.are_digits).0
 
-none_some : {A : Type 0} (x : A) → None ≡ Some x → ⊥
-none_some x e = cc
-
 -- so it doesn't stand in brackets
 pub no_brackets : (low high : ℕ) (text : List ℕ) (number : ℕ) (elements : List (List ℕ)) → IsNumberText low high text number → bracket_elements text ≡ Some elements → ⊥
 no_brackets low high [] number elements is e = absurd (omega (arith, is.some_digit))
@@ -38,7 +36,7 @@ no_brackets low high (byte ∷ bytes) number elements is e = by (byte == 91) ref
     by true same h =
         let digit : is_ascii_digit 91 ≡ true = ap is_ascii_digit (sym (eqb-true byte 91 same)) ∙ first_digit byte bytes low high number is in
         true≢false (sym digit)
-    by false differs h = none_some elements h
+    by false differs h = none-some elements h
 
 -- ---- decimals
 
@@ -71,7 +69,7 @@ same_decimal text d e (inr (inr v)) (inr (inr w)) =
 
 -- ---- lists
 
-zip_one : {A B : Type 0} (R : A → B → Type 0) → ((x : A) (y z : B) → R x y → R x z → y ≡ z) → (xs : List A) (ys zs : List B) → AllZip R xs ys → AllZip R xs zs → ys ≡ zs
+pub zip_one : {A B : Type 0} (R : A → B → Type 0) → ((x : A) (y z : B) → R x y → R x z → y ≡ z) → (xs : List A) (ys zs : List B) → AllZip R xs ys → AllZip R xs zs → ys ≡ zs
 zip_one R one [] [] [] first second = refl
 zip_one R one [] (y ∷ ys) zs first second = absurd first
 zip_one R one [] [] (z ∷ zs) first second = absurd second

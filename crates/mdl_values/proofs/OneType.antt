@@ -1,4 +1,4 @@
--- A text is at most one type.
+-- A text is at most one type. Crates above may cite this file.
 use Rattle.std.proofs.Common.{◌≡◌, ℕ, inl, inr, Bool, true, false, cond, List, Option, None, Some, refl, sym, ◌∙◌, ap, subst, ℤ}
 use Rattle.std.specs.Prelude.{bytes_eq, codes, pos, neg_ℤ, if◌then◌else◌}
 use Rattle.std.proofs.lemmas.Slice.Eq.{bytes_eq-Decides}
@@ -44,7 +44,7 @@ named_uncut text type e =
 some_bool : (a b : Bool) → ◌≡◌ {A = Option Bool} (Some a) (Some b) → a ≡ b
 some_bool a b e = cc
 
-some_type : (a b : FxType) → ◌≡◌ {A = Option FxType} (Some a) (Some b) → a ≡ b
+pub some_type : (a b : FxType) → ◌≡◌ {A = Option FxType} (Some a) (Some b) → a ≡ b
 some_type a b e = cc
 
 one_sign : (part : List ℕ) (one other : Bool) → IsSignPart part one → IsSignPart part other → one ≡ other

@@ -17,13 +17,14 @@ use Rattle.mdl_values.proofs.DecimalForms.{one_numeral, word_is_none}
 use Rattle.mdl_values.proofs.ListLemmas.{some_same}
 use Rattle.mdl_values.proofs.OneNumber.{one_number, first_digit, no_brackets, same_decimal, one_list}
 use Rattle.mdl_values.proofs.OneType.{one_type}
+use Rattle.mdl_values.proofs.TypeLemmas.{only_same}
 
 -- ---- periods
 
 one_above : (text : List ℕ) (one other : Decimal) → IsAboveZero text one → IsAboveZero text other → one ≡ other
 one_above text one other is too = same_decimal text one other is.read too.read
 
-first_same : (a b x y : List ℕ) → a ∷ b ∷ [] ≡ x ∷ y ∷ [] → a ≡ x
+pub first_same : (a b x y : List ℕ) → a ∷ b ∷ [] ≡ x ∷ y ∷ [] → a ≡ x
 first_same a b x y e = cc
 
 one_offset : (text : List ℕ) (one other : Decimal) → IsWithOffset text one → IsWithOffset text other → one ≡ other
@@ -115,12 +116,9 @@ one_constant text (Every period) (Every other) is too = ap Every (one_period tex
 
 -- ---- widths
 
-only_element : (a b : List ℕ) → a ∷ [] ≡ b ∷ [] → a ≡ b
-only_element a b e = cc
-
 one_bracketed : (text : List ℕ) (one other : ℕ) → IsBracketedNumber text one → IsBracketedNumber text other → one ≡ other
 one_bracketed text one other is too =
-    let same = only_element is.element too.element (some_same (is.element ∷ []) (too.element ∷ []) (sym is.elements ∙ too.elements)) in
+    let same = only_same is.element too.element (some_same (is.element ∷ []) (too.element ∷ []) (sym is.elements ∙ too.elements)) in
     one_number 1 1024 too.element one other (subst (λ (t : List ℕ). IsNumberText 1 1024 t one) same is.read) too.read
 
 one_width_number : (text : List ℕ) (one other : ℕ) → IsWidthNumber text one → IsWidthNumber text other → one ≡ other

@@ -9,6 +9,8 @@ use Rattle.mdl_values.specs.Pieces.{bracket_elements}
 use Rattle.mdl_values.specs.Numbers.{IsNumberText}
 use Rattle.mdl_values.specs.Periods.{IsZeroText, IsAboveZero, IsWithOffset, IsBracketedNumber}
 use Rattle.mdl_values.proofs.DecimalLemmas.{one_decimal}
+use Rattle.mdl_values.proofs.OneValue.{first_same}
+use Rattle.mdl_values.proofs.TypeLemmas.{only_same}
 
 -- a decimal is 0 where its digits are
 pub zero_known : (text : List ℕ) (d : Decimal) → IsDecimal text d → IsTrue (eqb d.digits 0) ↔ IsZeroText text
@@ -30,12 +32,6 @@ not_above text d read small period above =
 
 some_same : (xs ys : List (List ℕ)) → Some xs ≡ Some ys → xs ≡ ys
 some_same xs ys e = cc
-
-first_same : (a b x y : List ℕ) → a ∷ b ∷ [] ≡ x ∷ y ∷ [] → a ≡ x
-first_same a b x y e = cc
-
-only_same : (a x : List ℕ) → a ∷ [] ≡ x ∷ [] → a ≡ x
-only_same a x e = cc
 
 -- a period with its offset, by the two elements
 pub offset_found : (text : List ℕ) (texts : List (List ℕ)) (first second : List ℕ) (found : Option Decimal) → bracket_elements text ≡ Some texts → length texts ≡ 2

@@ -5,13 +5,14 @@ use Rattle.std.proofs.lemmas.Bool.{cases_Bool, cond-false, cond-true, false≢tr
 use Rattle.std.proofs.lemmas.List.{append_assoc}
 use Rattle.std.proofs.lemmas.List.Concat.{flat_map-append}
 use Rattle.std.proofs.lemmas.List.Elements.{Contains-append_left, Contains-append_right, Contains-append_cases}
-use Rattle.std.proofs.lemmas.List.Folds.{list_any-from_Any}
 use Rattle.std.proofs.lemmas.Slice.Eq.{bytes_eq-Decides}
 use Rattle.vl_ast.specs.declared.modules.Module.{Module}
 use Rattle.vl_ast.specs.Nets.{Declared, Mention, Declares, Drives, Reads, Clocks, declared_by, declaration_of, mentions}
 use Rattle.vl_ast.specs.Conditions.{doubly, first_fault, is_declaration_of, is_double, is_driver_of, may_drive_it, mentioned, undriven}
 use Rattle.vl_ast.proofs.Facts.{fault-free, no-earlier-declaration}
 use Rattle.vl_ast.proofs.Places.{Cut, cons-cases, cut-at, flat-in, from-flat, from-map, head-in, map-in, none-in, tail-in}
+use Rattle.fx_io.proofs.Places.{seen}
+use Rattle.fx_io.proofs.Tests.{same_bytes, unequal}
 
 -- nothing stands twice
 abbrev pub Apart : {A : Type 0} → List A → Type 0
@@ -79,12 +80,6 @@ driven_names (Drives clocked name) = name ∷ []
 driven_names (Reads name) = []
 driven_names Clocks = []
 
-pub seen : {A : Type 0} (test : A → Bool) (xs : List A) (x : A) → Contains xs x → test x ≡ true → list_any test xs ≡ true
-seen test xs x h e = list_any-from_Any test xs (h.0, x, h.1, h.2, e)
-
-same : (a : List ℕ) → bytes_eq a a ≡ true
-same a = (bytes_eq-Decides a a).1 refl
-
 -- a name that a test sees stands in the list
 any-declared : (n : List ℕ) (xs : List Mention) → list_any (is_declaration_of n) xs ≡ true → Contains (flat_map declared_names xs) n
 any-declared n [] e = absurd (false≢true e)
@@ -115,9 +110,6 @@ declared-same d e p = ap (λ x. or_this d x) p where
   or_this d (Drives c m) = d
   or_this d (Reads m) = d
   or_this d Clocks = d
-
-unequal : (a b : List ℕ) → a ≢ b → bytes_eq a b ≡ false
-unequal a b other = ⊎_elim (λ t. absurd (other ((bytes_eq-Decides a b).0 t))) (λ f. f) (cases_Bool (bytes_eq a b))
 
 -- the declaration of a name, where each name is declared once
 find-one : (n : List ℕ) (xs : List Mention) (d : Declared) → Apart (flat_map declared_names xs) → Contains xs (Declares d) → d.name ≡ n
@@ -210,7 +202,7 @@ module _ (m : Module) (driven : undriven m ≡ None) (once : doubly m ≡ None) 
         let is = drives-it r.0 n r.2 in
         let k = after-cut before xs (Drives c n) (Drives is.0 n) whole (subst (λ z. Contains xs z) is.1 r.1) in
         let free = or_parts (list_any (is_driver_of n) k.0.before) (not (may_drive_it is.0 (declaration_of m n))) (fault-free (is_double m) (mentions m) (Drives is.0 n) once k.0) in
-        false≢true (sym free.0 ∙ seen (is_driver_of n) k.0.before (Drives c n) k.1 (same n))),
+        false≢true (sym free.0 ∙ seen (is_driver_of n) k.0.before (Drives c n) k.1 (same_bytes n))),
     driven-rest (before ++ Drives c n ∷ []) xs (whole ∙ sym (append_assoc before (Drives c n ∷ []) xs)),
   )
   driven-rest before (Declares d ∷ xs) whole = driven-rest (before ++ Declares d ∷ []) xs (whole ∙ sym (append_assoc before (Declares d ∷ []) xs))

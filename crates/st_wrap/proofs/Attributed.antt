@@ -1,11 +1,10 @@
 -- The wrapper is clocked, and its ports carry what they must.
-use Rattle.std.proofs.Common.{◌≡◌, ◌≢◌, ℕ, ◌==◌, nat_le, ⊎_elim, Bool, true, false, ◌&&◌, ◌||◌, if◌then◌else◌, List, [], ◌∷◌, ◌++◌, map, flat_map, find, Contains, bytes_eq, codes, Some, None, refl, sym, ap, subst, ◌∙◌, arith}
+use Rattle.std.proofs.Common.{◌≡◌, ◌≢◌, ℕ, ◌==◌, nat_le, Bool, true, false, ◌&&◌, ◌||◌, if◌then◌else◌, List, [], ◌∷◌, ◌++◌, map, flat_map, find, Contains, bytes_eq, codes, Some, None, refl, sym, ap, subst, ◌∙◌, arith}
 use Rattle.std.specs.Prelude.{option_map}
 use Rattle.std.specs.List.{list_any, range_with_len}
-use Rattle.std.proofs.lemmas.Bool.{cases_Bool, cond-false, eqb-false}
+use Rattle.std.proofs.lemmas.Bool.{cond-false, eqb-false}
 use Rattle.std.proofs.lemmas.List.Elements.{Contains-append_right}
 use Rattle.std.proofs.lemmas.List.Folds.{list_any-append}
-use Rattle.std.proofs.lemmas.Slice.Eq.{bytes_eq-Decides}
 use Rattle.vl_ast.specs.declared.modules.ModItem.{ModItem}
 use Rattle.vl_ast.specs.declared.modules.ModItem.TheVariants.{Wire, Reg, Assign, Always}
 use Rattle.vl_ast.specs.declared.modules.Port.{Port}
@@ -27,6 +26,7 @@ use Rattle.st_wrap.proofs.Lettered.{inner-letter, inner-same, letter}
 use Rattle.st_wrap.proofs.Named.{input-name, output-name}
 use Rattle.st_wrap.proofs.Placed.{DeclareAlone, declared-alone, late_mentions, mentions-are, output-of}
 use Rattle.st_wrap.proofs.Reading.{control_mentions, held_mentions, renamed_mention, stage_mentions}
+use Rattle.fx_io.proofs.Tests.{and_false, unequal}
 
 abbrev clk : List ℕ
 clk = codes "clk"
@@ -43,9 +43,6 @@ module _ {A : Type 0} (test : A → Bool) where
 
 abbrev clocked_read : Mention → Bool
 clocked_read = is_read_of clk
-
-unequal : (a b : List ℕ) → a ≢ b → bytes_eq a b ≡ false
-unequal a b other = ⊎_elim (λ t. absurd (other ((bytes_eq-Decides a b).0 t))) (λ f. f) (cases_Bool (bytes_eq a b))
 
 ports-none : (ports : List Port) → list_any clocked_read (map (λ port. Declares (port_declared port)) ports) ≡ false
 ports-none [] = refl
@@ -151,19 +148,15 @@ module _ {A : Type 0} (test : A → Bool) where
   found-map g [] each = refl
   found-map g (b ∷ bs) each = found-none (g b) (map g bs) (each b) (found-map g bs each)
 
-and-false : (b : Bool) → (b && false) ≡ false
-and-false true = refl
-and-false false = refl
-
 lacks-clock : (stalls : Bool) → (lacks_attribute stalls (bit_input (codes "clk")) ≡ false) × (lacks_attribute stalls (bit_input (codes "reset")) ≡ false)
 lacks-clock true = (refl, refl)
 lacks-clock false = (refl, refl)
 
 lacks-input : (stalls : Bool) (name : List ℕ) (width : ℕ) (signed : Bool) → lacks_attribute stalls (input_port (row_port name width signed)) ≡ false
-lacks-input stalls name width signed = and-false _
+lacks-input stalls name width signed = and_false _
 
 lacks-output : (stalls : Bool) (name : List ℕ) (width : ℕ) (signed : Bool) → lacks_attribute stalls (output_port (row_port name width signed)) ≡ false
-lacks-output stalls name width signed = and-false _
+lacks-output stalls name width signed = and_false _
 
 pub attributed : (core : Module) (names : List (List ℕ)) (counters : Counters) → no_attribute (wrapped core names counters) ≡ None
 attributed core names counters =

@@ -1,4 +1,4 @@
--- What the wrapper has of each column, and which ports of the core are columns.
+-- What the wrapper has of each column, and which ports of the core are columns. Crates above may cite this file.
 use Rattle.std.proofs.Common.{◌≡◌, ℕ, zero, suc, ◌+◌, ◌<◌, ◌≤◌, max, fold, ⊎_elim, Bool, true, false, not, ◌&&◌, ◌||◌, if◌then◌else◌, List, [], ◌∷◌, map, filter, length, Contains, bytes_eq, codes, Some, refl, sym, ap, subst, ◌∙◌, arith}
 use Rattle.std.specs.Prelude.{slice_get}
 use Rattle.std.specs.List.{range_with_len, zip}
@@ -19,6 +19,7 @@ use Rattle.st_wrap.specs.inner.Wrapped.{made_of}
 use Rattle.st_wrap.proofs.Held.{HasInput}
 use Rattle.st_wrap.proofs.Late.{HasOutput}
 use Rattle.st_wrap.proofs.Structure.{held-there, input-port, input-there, late-there, output-port, output-there, wire-there}
+use Rattle.fx_io.proofs.Places.{fold-start}
 
 -- ---- lists
 
@@ -60,10 +61,6 @@ paired (z ∷ xs) (y ∷ ys) x h c = ⊎_elim
     (λ s. record { place = 0; partner = y; at = (λ i. Some (s i, y)) })
     (λ t. let r = paired xs ys x (omega (arith, h)) t in record { place = suc r.place; partner = r.partner; at = r.at })
     (cons-cases z x xs c)
-
-fold-start : (ns : List ℕ) (a : ℕ) → a ≤ fold max a ns
-fold-start [] a = omega arith
-fold-start (n ∷ ns) a = let r = fold-start ns (max a n) in omega (arith, r)
 
 pub fold-most : (ns : List ℕ) (a n : ℕ) → Contains ns n → n ≤ fold max a ns
 fold-most [] a n c = absurd (none-in n c)

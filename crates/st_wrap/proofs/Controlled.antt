@@ -19,6 +19,7 @@ use Rattle.st_wrap.specs.inner.Columns.{moving}
 use Rattle.st_wrap.specs.inner.Control.{both, control_declared, control_driven, is_due_now, is_last, is_zero, unless}
 use Rattle.st_wrap.specs.inner.Names.{begin_name, end_name, due_name, fed_name, open_name, enable_name, phase_name, wait_name}
 use Rattle.st_wrap.proofs.Signals.{alone-Name, alone-tells, assigned-tells, bit-one, tells-both, tells-either, tells-equal, tells-zero, true-tells, Tells, truth-zero}
+use Rattle.vl_ast.proofs.Gated.{truth-is}
 
 -- a flag of the handshake
 abbrev pub in_flag : Port
@@ -63,9 +64,6 @@ bit = record { width = 1; signed = false }
 twice : (b : Bool) → not (not b) ≡ b
 twice true = refl
 twice false = refl
-
-not-zero : (b : Bool) → not (truth b == 0) ≡ b
-not-zero b = ap not (truth-zero b) ∙ twice b
 
 module _ (m : Module) (counters : Counters) (acyclic : IsAcyclic m) (has : HasControl m counters) where
   abbrev declares : ModItem → Type 0
@@ -142,10 +140,10 @@ module _ (m : Module) (counters : Counters) (acyclic : IsAcyclic m) (has : HasCo
           told due_name is_due_now (not (truth (ends counters row) == 0) && not (truth (row wait_name == 0) == 0)) (2, omega arith, refl) due-net
           (tells-both nets row (Name end_name) (is_zero wait_name) (truth (ends counters row)) (truth (row wait_name == 0))
           (alone-Name nets row end_name ∙ end-is) (alone-tells nets row (is_zero wait_name) (row wait_name == 0) (tells-zero nets row wait_name)))
-          ∙ (λ i. truth (not-zero (ends counters row) i && not-zero (row wait_name == 0) i))
+          ∙ (λ i. truth (truth-is (ends counters row) i && truth-is (row wait_name == 0) i))
 
       zero-of : (name : List ℕ) (b : Bool) → row name ≡ truth b → not (truth (row name == 0) == 0) ≡ not b
-      zero-of name b e = not-zero (row name == 0) ∙ ap (λ n. n == 0) e ∙ truth-zero b
+      zero-of name b e = truth-is (row name == 0) ∙ ap (λ n. n == 0) e ∙ truth-zero b
 
       fed-is : row fed_name ≡ truth (fed counters row)
       fed-is =
@@ -167,7 +165,7 @@ module _ (m : Module) (counters : Counters) (acyclic : IsAcyclic m) (has : HasCo
       both-told name left right a b h net e f =
           told name (both left right) (not (truth a == 0) && not (truth b == 0)) h net
           (tells-both nets row (Name left) (Name right) (truth a) (truth b) (alone-Name nets row left ∙ e) (alone-Name nets row right ∙ f))
-          ∙ (λ i. truth (not-zero a i && not-zero b i))
+          ∙ (λ i. truth (truth-is a i && truth-is b i))
 
       pub enable-is : row enable_name ≡ truth (moves counters row)
       enable-is = both-told enable_name fed_name open_name (fed counters row) (opens counters row) (5, omega arith, refl) enable-net fed-is open-is
@@ -185,7 +183,7 @@ module _ (m : Module) (counters : Counters) (acyclic : IsAcyclic m) (has : HasCo
       moving-is name b e =
           true-tells nets row (moving name) (not (truth (moves counters row) == 0) && not (truth b == 0))
           (tells-both nets row (Name enable_name) (Name name) (truth (moves counters row)) (truth b) (alone-Name nets row enable_name ∙ enable-is) (alone-Name nets row name ∙ e))
-          ∙ (λ i. not-zero (moves counters row) i && not-zero b i)
+          ∙ (λ i. truth-is (moves counters row) i && truth-is b i)
 
       pub begin-moves : is_true nets row (moving begin_name) ≡ (moves counters row && begins counters row)
       begin-moves = moving-is begin_name (begins counters row) begin-is
@@ -194,7 +192,7 @@ module _ (m : Module) (counters : Counters) (acyclic : IsAcyclic m) (has : HasCo
       end-moves = moving-is end_name (ends counters row) end-is
 
       pub enable-true : is_true nets row (Name enable_name) ≡ moves counters row
-      enable-true = ap (λ n. not (n == 0)) (alone-Name nets row enable_name ∙ enable-is) ∙ not-zero (moves counters row)
+      enable-true = ap (λ n. not (n == 0)) (alone-Name nets row enable_name ∙ enable-is) ∙ truth-is (moves counters row)
 
       -- the begin of a sample by its name
       pub begin-told : row begin_name ≡ truth (begins counters row)

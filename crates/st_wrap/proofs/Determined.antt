@@ -24,6 +24,7 @@ use Rattle.vl_ast.proofs.Facts.{ByAlways, Driver, always-drives, assign-drives, 
 use Rattle.vl_ast.proofs.GatedSound.{neither}
 use Rattle.vl_ast.proofs.Layers.{value_by_layer}
 use Rattle.vl_ast.proofs.Thinned.{bit-port}
+use Rattle.fx_io.proofs.Tests.{unequal}
 
 -- the law of a lower crate that a module has one list of rows
 abbrev pub OneRun : Type 0
@@ -32,9 +33,6 @@ OneRun = (m : Module) (count : ℕ) (start : List ℕ → ℕ) (inputs rows othe
 
 abbrev clk : List ℕ
 clk = codes "clk"
-
-unequal : (a b : List ℕ) → a ≢ b → bytes_eq a b ≡ false
-unequal a b other = ⊎_elim (λ t. absurd (other ((bytes_eq-Decides a b).0 t))) (λ f. f) (cases_Bool (bytes_eq a b))
 
 module _ (m : Module) (sound : BreaksNone m) where
   faults : (is_clk_at_fault m ≡ false) × (is_reset_at_fault m ≡ false)

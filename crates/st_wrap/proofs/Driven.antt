@@ -2,7 +2,7 @@
 use Rattle.std.proofs.Common.{◌≡◌, ◌≢◌, ℕ, ◌+◌, ◌≤◌, ◌⊎◌, inl, inr, ⊎_elim, Bool, true, false, not, ◌&&◌, if◌then◌else◌, List, [], ◌∷◌, ◌++◌, map, flat_map, filter, length, Contains, bytes_eq, codes, refl, sym, ap, subst, ◌∙◌, arith}
 use Rattle.std.specs.List.{range_with_len, zip}
 use Rattle.std.proofs.lemmas.Bool.{and_parts, cases_Bool, eqb-false, false≢true, not-true, or_parts}
-use Rattle.std.proofs.lemmas.List.Concat.{flat_map-append}
+use Rattle.std.proofs.lemmas.List.Concat.{flat_map-append, flat_map_single}
 use Rattle.std.proofs.lemmas.List.Elements.{Contains-append_right, Contains-append_cases}
 use Rattle.std.proofs.lemmas.Slice.Eq.{bytes_eq-Decides}
 use Rattle.vl_ast.specs.declared.expressions.Expr.TheVariants.{Name}
@@ -30,7 +30,7 @@ use Rattle.st_wrap.proofs.Apart.{Apart, apart-append, apart-flat, apart-left, ap
 use Rattle.st_wrap.proofs.Columned.{from-filter, number-input, zip-left}
 use Rattle.st_wrap.proofs.Determined.{clk-port}
 use Rattle.st_wrap.proofs.Lettered.{by-letter, column-letter, held-same, inner-letter, inner-same, late-same, letter, off, shared-cases}
-use Rattle.st_wrap.proofs.Named.{apart-range, by-test, columns-apart, driven-renamed, driven_in, flat-empty, flat-single, in-range, items-renamed, late-small, map-twice, names-append, names-flat, names-map, output-name}
+use Rattle.st_wrap.proofs.Named.{apart-range, by-test, columns-apart, driven-renamed, driven_in, flat-empty, in-range, items-renamed, late-small, map-twice, names-append, names-flat, names-map, output-name}
 use Rattle.st_wrap.proofs.Once.{in-late, late_names, port-mentions}
 use Rattle.st_wrap.proofs.Reading.{control-mentions, held-mentions, shown-mentions, stage-mentions}
 
@@ -118,7 +118,7 @@ late-driven : (column : Column) → driven_in (late_driven column) ≡ late_driv
 late-driven column =
     names-append driven_names (map (stage_driven column) (range_with_len 0 column.late)) (Assign column.name (Name (stage_name column column.late)) ∷ [])
     ∙ (λ i. (names-map driven_names (stage_driven column) (λ place. late_name column.name (place + 1) ∷ []) (range_with_len 0 column.late) (λ place. ap (flat_map driven_names) (stage-mentions column place))
-    ∙ flat-single (λ place. late_name column.name (place + 1)) (range_with_len 0 column.late)) i
+    ∙ flat_map_single (λ place. late_name column.name (place + 1)) (range_with_len 0 column.late)) i
     ++ (ap (λ ms. flat_map driven_names (ms ++ [])) (shown-mentions column)) i)
 
 in-late-drives : (column : Column) (n : List ℕ) → Contains (late_drives column) n → (letter n ≡ 108) ⊎ (n ≡ column.name)

@@ -72,13 +72,6 @@ module _ {A : Type 0} (test : A → Bool) (xs : List A) (i : ℕ) (outside : len
 
 -- ---- items more
 
-pub put-next : {A : Type 0} (old items more front : List A) (item : A) → items ≡ old ++ front → more ≡ items ++ item ∷ [] → more ≡ old ++ (front ++ item ∷ [])
-put-next old items more front item are put = put ∙ ap (λ xs. xs ++ item ∷ []) are ∙ append_assoc old front (item ∷ [])
-
--- a part, and then the rest
-pub put-before : {A : Type 0} (old items more part rest : List A) → items ≡ old ++ part → more ≡ items ++ rest → more ≡ old ++ (part ++ rest)
-put-before old items more part rest are put = put ∙ ap (λ xs. xs ++ rest) are ∙ append_assoc old part rest
-
 -- ---- ranges
 
 pub mapped-more : {A : Type 0} (f : ℕ → A) (count : ℕ) (first items more : List A)

@@ -10,6 +10,7 @@ use Rattle.vl_ast.specs.Conditions.{first_fault, is_declaration_of, is_driver_of
 use Rattle.vl_ast.proofs.Places.{head-in, tail-in}
 use Rattle.st_wrap.specs.inner.Names.{inner_name}
 use Rattle.st_wrap.proofs.Reading.{renamed_mention}
+use Rattle.vl_ast.proofs.Opened.{or-true}
 
 -- a place whose name is declared before
 abbrev pub IsKnown : List Mention → Mention → Type 0
@@ -22,10 +23,6 @@ IsKnown before Clocks = Unit {0}
 abbrev pub AreKnown : List Mention → List Mention → Type 0
 AreKnown before [] = Unit {0}
 AreKnown before (x ∷ xs) = IsKnown before x × AreKnown (before ++ x ∷ []) xs
-
-or-true : (b : Bool) → (b || true) ≡ true
-or-true true = refl
-or-true false = refl
 
 pub still-declared : (test : Mention → Bool) (before after : List Mention) → list_any test before ≡ true → list_any test (before ++ after) ≡ true
 still-declared test before after e = list_any-append test before after ∙ ap (λ b. b || list_any test after) e

@@ -1,6 +1,6 @@
 -- An expression over the wrapper's names of the core's means what it means in the core.
 use Rattle.std.proofs.Common.{◌≡◌, ℕ, max, Bool, ◌&&◌, List, [], ◌∷◌, ◌++◌, map, replicate, Contains, flat_map, refl, sym, ap, subst, ◌∙◌, arith}
-use Rattle.std.specs.Prelude.{fold, sum, ◌*◌, ◌%◌, ◌^◌, if◌then◌else◌, ◌==◌, not}
+use Rattle.std.specs.Prelude.{fold, sum, ◌*◌, ◌%◌, ◌^◌, ◌==◌, not}
 use Rattle.std.proofs.lemmas.List.Elements.{Contains-append_left, Contains-append_right}
 use Rattle.vl_ast.specs.declared.expressions.Expr.{Expr}
 use Rattle.vl_ast.specs.declared.expressions.Expr.TheOpen.{Expr-F}
@@ -14,6 +14,7 @@ use Rattle.vl_ast.proofs.Layers.{value_by_layer}
 use Rattle.vl_ast.proofs.Values.{own_length-roll, is_signed-roll}
 use Rattle.st_wrap.specs.inner.Names.{inner_name}
 use Rattle.st_wrap.specs.inner.Renamed.{renamed, renamed_step}
+use Rattle.vl_ast.proofs.NetsAgree.{chosen-same}
 
 -- a layer with the wrapper's names
 abbrev pub relabelled : Expr-F Expr → Expr-F Expr
@@ -60,10 +61,6 @@ right-same nets other xs ys s = record { at = λ name c. s.at name (Contains-app
 
 pub only : (nets other : List ℕ → Net) (name : List ℕ) → Same nets other (name ∷ []) → nets (inner_name name) ≡ other name
 only nets other name s = s.at name (0, omega arith, refl)
-
-chosen-same : (test test' chosen chosen' other other' : Bits) → test ≡ test' → chosen ≡ chosen' → other ≡ other'
-    → (if test.bits == 0 then other.bits else chosen.bits) ≡ (if test'.bits == 0 then other'.bits else chosen'.bits)
-chosen-same test test' chosen chosen' other other' a b c = rw (a, b, c) refl
 
 module _ (nets other : List ℕ → Net) (row : List ℕ → ℕ) where
   abbrev inside : List ℕ → ℕ

@@ -51,10 +51,6 @@ module _ (names_of : Mention → List (List ℕ)) where
   names-map f g [] each = refl
   names-map f g (x ∷ xs) each = flat_map-append names_of (item_mentions (f x)) (flat_map item_mentions (map f xs)) ∙ (λ i. each x i ++ names-map f g xs each i)
 
-pub flat-single : {A B : Type 0} (f : A → B) (xs : List A) → flat_map (λ x. f x ∷ []) xs ≡ map f xs
-flat-single f [] = refl
-flat-single f (x ∷ xs) = ap (λ ys. f x ∷ ys) (flat-single f xs)
-
 pub flat-empty : {A B : Type 0} (xs : List A) → flat_map (λ (x : A). let none : List B = [] in none) xs ≡ []
 flat-empty [] = refl
 flat-empty (x ∷ xs) = flat-empty xs

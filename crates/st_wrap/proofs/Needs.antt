@@ -24,7 +24,8 @@ use Rattle.st_wrap.specs.inner.Columns.{column_port, input_column, stage_driven}
 use Rattle.st_wrap.specs.inner.Control.{control_driven}
 use Rattle.st_wrap.specs.inner.Names.{begin_name, end_name, due_name, fed_name, open_name, enable_name, held_name, inner_name, is_shared, late_name, phase_name, wait_name}
 use Rattle.st_wrap.specs.inner.Wrapped.{declared_items, inputs_of, outputs_of, ports_of, wrapped}
-use Rattle.st_wrap.proofs.Apart.{declared_names, seen}
+use Rattle.fx_io.proofs.Places.{seen}
+use Rattle.st_wrap.proofs.Apart.{declared_names}
 use Rattle.st_wrap.proofs.Columned.{got-in, paired, to-filter}
 use Rattle.st_wrap.proofs.Controlled.{in_flag, out_flag}
 use Rattle.st_wrap.proofs.Drivers.{declared-is, item-mention, port-mention}
@@ -34,6 +35,7 @@ use Rattle.st_wrap.proofs.Once.{declared-list, in-control, in-wire, late_names, 
 use Rattle.st_wrap.proofs.Placed.{are-known, late_mentions, mentions-are}
 use Rattle.st_wrap.proofs.Reading.{control_mentions, held_mentions, renamed_mention}
 use Rattle.st_wrap.proofs.Structure.{front-there, flag-there, input-port, input-there, output-there, signal-there}
+use Rattle.st_wrap.proofs.Worded.{named-mention}
 
 abbrev column_name : Column → List ℕ
 column_name column = column.name
@@ -67,13 +69,6 @@ declares-needs (Always name first condition value) d h =
     ⊎_elim (λ e. absurd (cc e))
     (λ s. ⊎_elim (λ e. absurd (cc e)) (λ t. absurd (no-reads d (condition_names condition ++ names_read value) t)) (cons-cases (Drives true name) (Declares d) (map Reads (condition_names condition ++ names_read value)) s))
     (cons-cases Clocks (Declares d) (Drives true name ∷ map Reads (condition_names condition ++ names_read value)) h)
-
--- a name that is declared, by its place
-declares-it : (x : Mention) (n : List ℕ) → Contains (declared_names x) n → (d : Declared) × (x ≡ Declares d) × (d.name ≡ n)
-declares-it (Declares d) n h = (d, refl, ⊎_elim (λ e. e) (λ t. absurd (none-in n t)) (cons-cases d.name n [] h))
-declares-it (Drives c k) n h = absurd (none-in n h)
-declares-it (Reads k) n h = absurd (none-in n h)
-declares-it Clocks n h = absurd (none-in n h)
 
 module _ (core : Module) (sound : BreaksNone core) (stallable : is_stallable core ≡ true) (names : List (List ℕ)) (named : AreColumnNames core names) (counters : Counters) where
   abbrev Has : List ℕ → Type 0
@@ -256,7 +251,7 @@ module _ (core : Module) (sound : BreaksNone core) (stallable : is_stallable cor
     of-core c =
         let r = from-map inner_name (declared_in core.items) d.name c in
         let x = from-flat declared_names (flat_map item_mentions core.items) r.0 r.1 in
-        let is = declares-it x.0 r.0 x.2 in
+        let is = named-mention x.0 r.0 x.2 in
         let i = from-flat item_mentions core.items x.0 x.1 in
         let inside : Contains (mentions core) (Declares is.0) = subst (λ y. Contains (mentions core) y) is.1
         (Contains-append_right (map (λ port. Declares (port_declared port)) core.ports) (flat_map item_mentions core.items) x.0 x.1) in

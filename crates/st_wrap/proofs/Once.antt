@@ -3,7 +3,7 @@ use Rattle.std.proofs.Common.{◌≡◌, ◌≢◌, ℕ, ◌+◌, ◌⊎◌, inl
 use Rattle.std.specs.List.{range_with_len}
 use Rattle.std.proofs.lemmas.Bool.{cases_Bool, eqb-false}
 use Rattle.std.proofs.lemmas.List.{append-nil, map-append}
-use Rattle.std.proofs.lemmas.List.Concat.{flat_map-append}
+use Rattle.std.proofs.lemmas.List.Concat.{flat_map-append, flat_map_single}
 use Rattle.std.proofs.lemmas.List.Elements.{Contains-append_left, Contains-append_right, Contains-append_cases}
 use Rattle.vl_ast.specs.declared.expressions.Expr.TheVariants.{Name}
 use Rattle.vl_ast.specs.declared.modules.ModItem.TheVariants.{Wire, Assign}
@@ -27,7 +27,7 @@ use Rattle.st_wrap.specs.inner.Wrapped.{declared_items, driven_items, inputs_of,
 use Rattle.st_wrap.proofs.Apart.{Apart, apart-append, apart-between, apart-flat, apart-left, apart-map, apart-right, declared-once, declared_names}
 use Rattle.st_wrap.proofs.Determined.{clk-port}
 use Rattle.st_wrap.proofs.Lettered.{column-letter, held-same, inner-letter, inner-same, late-same, letter, off, shared-cases}
-use Rattle.st_wrap.proofs.Named.{apart-range, by-test, columns-apart, declared-renamed, declared_in, flat-empty, flat-single, in-range, input-name, items-renamed, late-small, map-twice, names-append, names-flat, names-map, output-name}
+use Rattle.st_wrap.proofs.Named.{apart-range, by-test, columns-apart, declared-renamed, declared_in, flat-empty, in-range, input-name, items-renamed, late-small, map-twice, names-append, names-flat, names-map, output-name}
 use Rattle.st_wrap.proofs.Reading.{control-mentions, held-mentions, shown-mentions, stage-mentions}
 
 -- ---- parts, by names
@@ -86,7 +86,7 @@ abbrev held_names : List Column → List (List ℕ)
 held_names inputs = map (λ column. held_name column.name) inputs
 
 helds-are : (inputs : List Column) → declared_in (flat_map held_declared inputs) ≡ held_names inputs
-helds-are inputs = names-flat declared_names held_declared (λ column. held_name column.name ∷ []) inputs (λ column. refl) ∙ flat-single (λ column. held_name column.name) inputs
+helds-are inputs = names-flat declared_names held_declared (λ column. held_name column.name ∷ []) inputs (λ column. refl) ∙ flat_map_single (λ column. held_name column.name) inputs
 
 abbrev pub late_names : Column → List (List ℕ)
 late_names column = map (λ place. late_name column.name (place + 1)) (range_with_len 0 column.late)
@@ -94,7 +94,7 @@ late_names column = map (λ place. late_name column.name (place + 1)) (range_wit
 late-declared : (column : Column) → declared_in (late_declared column) ≡ late_names column
 late-declared column =
     names-map declared_names (stage_declared column) (λ place. late_name column.name (place + 1) ∷ []) (range_with_len 0 column.late) (λ place. refl)
-    ∙ flat-single (λ place. late_name column.name (place + 1)) (range_with_len 0 column.late)
+    ∙ flat_map_single (λ place. late_name column.name (place + 1)) (range_with_len 0 column.late)
 
 lates-are : (outputs : List Column) → declared_in (flat_map late_declared outputs) ≡ flat_map late_names outputs
 lates-are outputs = names-flat declared_names late_declared late_names outputs late-declared

@@ -32,7 +32,7 @@ use Rattle.st_wrap.specs.inner.Control.{control_declared, control_driven}
 use Rattle.st_wrap.specs.inner.Names.{begin_name, end_name, due_name, fed_name, open_name, enable_name, held_name, inner_name, is_shared, late_name, phase_name, wait_name}
 use Rattle.st_wrap.specs.inner.Renamed.{core_items, wires_for, wires_of}
 use Rattle.st_wrap.specs.inner.Wrapped.{declared_items, driven_items, inputs_of, outputs_of, ports_of, wrapped}
-use Rattle.st_wrap.proofs.Apart.{seen}
+use Rattle.fx_io.proofs.Places.{seen}
 use Rattle.st_wrap.proofs.Columned.{from-filter, number-output, range-in, zip-left}
 use Rattle.st_wrap.proofs.Controlled.{in_flag, out_flag}
 use Rattle.st_wrap.proofs.Determined.{clk-port}

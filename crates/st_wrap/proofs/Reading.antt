@@ -1,4 +1,4 @@
--- The names that the wrapper's expressions read, and the places of names in its own items.
+-- The names that the wrapper's expressions read, and the places of names in its own items. Crates above may cite this file.
 use Rattle.std.proofs.Common.{◌≡◌, ℕ, ◌+◌, true, false, List, [], ◌∷◌, ◌++◌, map, flat_map, codes, Option, Some, None, refl, sym, ap, subst, ◌∙◌}
 use Rattle.std.proofs.lemmas.List.{map-append}
 use Rattle.vl_ast.specs.declared.expressions.UnOp.{UnOp}
@@ -8,7 +8,7 @@ use Rattle.vl_ast.specs.declared.expressions.BinOp.TheVariants.{Add, Subtract, E
 use Rattle.vl_ast.specs.declared.expressions.Sized.{Sized}
 use Rattle.vl_ast.specs.declared.expressions.Expr.{Expr}
 use Rattle.vl_ast.specs.declared.expressions.Expr.TheOpen.{Expr-F}
-use Rattle.vl_ast.specs.declared.expressions.Expr.TheVariants.{Name, Literal, Unary, Binary, Choose, rolls-Name, rolls-Literal, rolls-Unary, rolls-Binary, rolls-Choose}
+use Rattle.vl_ast.specs.declared.expressions.Expr.TheVariants.{Name, Literal, Unary, Binary, Choose, rolls-Name, rolls-Literal, rolls-Unary}
 use Rattle.vl_ast.specs.declared.expressions.Expr.TheViews.{roll-Expr}
 use Rattle.vl_ast.specs.declared.expressions.Expr.TheFolds.{map-Expr, fold-roll-Expr, ind-Expr}
 use Rattle.vl_ast.specs.declared.modules.ModItem.{ModItem}
@@ -21,6 +21,7 @@ use Rattle.st_wrap.specs.inner.Control.{both, control_driven, is_due_now, is_zer
 use Rattle.st_wrap.specs.inner.Names.{begin_name, end_name, due_name, fed_name, open_name, enable_name, held_name, inner_name, late_name, phase_name, wait_name}
 use Rattle.st_wrap.specs.inner.Renamed.{renamed, renamed_condition, renamed_item}
 use Rattle.st_wrap.proofs.Meanings.{relabelled, renamed-rolls}
+use Rattle.vl_check.proofs.Reading.{names-binary, names-choose}
 
 abbrev Names : Type 0
 Names = List (List ℕ)
@@ -34,26 +35,20 @@ reads-Literal n = ap names_read (sym (rolls-Literal n)) ∙ fold-roll-Expr (List
 pub reads-Unary : (op : UnOp) (e : Expr) → names_read (Unary op e) ≡ names_read e
 reads-Unary op e = ap names_read (sym (rolls-Unary op e)) ∙ fold-roll-Expr (List (List ℕ)) names_step (Expr-F.Unary op e)
 
-pub reads-Binary : (op : BinOp) (l r : Expr) → names_read (Binary op l r) ≡ names_read l ++ names_read r
-reads-Binary op l r = ap names_read (sym (rolls-Binary op l r)) ∙ fold-roll-Expr (List (List ℕ)) names_step (Expr-F.Binary op l r)
-
-pub reads-Choose : (t c o : Expr) → names_read (Choose t c o) ≡ names_read t ++ (names_read c ++ names_read o)
-reads-Choose t c o = ap names_read (sym (rolls-Choose t c o)) ∙ fold-roll-Expr (List (List ℕ)) names_step (Expr-F.Choose t c o)
-
 pub reads-zero : (x : List ℕ) → names_read (is_zero x) ≡ x ∷ []
 reads-zero x = reads-Unary IsZero (Name x) ∙ reads-Name x
 
 pub reads-both : (x y : List ℕ) → names_read (both x y) ≡ x ∷ y ∷ []
-reads-both x y = reads-Binary Both (Name x) (Name y) ∙ (λ i. reads-Name x i ++ reads-Name y i)
+reads-both x y = names-binary Both (Name x) (Name y) ∙ (λ i. reads-Name x i ++ reads-Name y i)
 
 pub reads-unless : (x y : List ℕ) → names_read (unless x y) ≡ x ∷ y ∷ []
-reads-unless x y = reads-Binary Either (is_zero x) (Name y) ∙ (λ i. reads-zero x i ++ reads-Name y i)
+reads-unless x y = names-binary Either (is_zero x) (Name y) ∙ (λ i. reads-zero x i ++ reads-Name y i)
 
 pub reads-counted : (op : BinOp) (x : List ℕ) (w b : ℕ) → names_read (Binary op (Name x) (number w b)) ≡ x ∷ []
-reads-counted op x w b = reads-Binary op (Name x) (number w b) ∙ (λ i. reads-Name x i ++ reads-Literal (plain w b) i)
+reads-counted op x w b = names-binary op (Name x) (number w b) ∙ (λ i. reads-Name x i ++ reads-Literal (plain w b) i)
 
 pub reads-chosen : (t x y : List ℕ) → names_read (Choose (Name t) (Name x) (Name y)) ≡ t ∷ x ∷ y ∷ []
-reads-chosen t x y = reads-Choose (Name t) (Name x) (Name y) ∙ (λ i. reads-Name t i ++ (reads-Name x i ++ reads-Name y i))
+reads-chosen t x y = names-choose (Name t) (Name x) (Name y) ∙ (λ i. reads-Name t i ++ (reads-Name x i ++ reads-Name y i))
 
 -- ---- the core's expressions
 
@@ -137,15 +132,15 @@ control_mentions =
     ∷ Clocks ∷ Drives true wait_name ∷ Reads enable_name ∷ Reads end_name ∷ Reads wait_name ∷ Reads wait_name ∷ []
 
 pub reads-due : names_read is_due_now ≡ end_name ∷ wait_name ∷ []
-reads-due = reads-Binary Both (Name end_name) (is_zero wait_name) ∙ (λ i. reads-Name end_name i ++ reads-zero wait_name i)
+reads-due = names-binary Both (Name end_name) (is_zero wait_name) ∙ (λ i. reads-Name end_name i ++ reads-zero wait_name i)
 
 pub control-mentions : (counters : Counters) → flat_map item_mentions (control_driven counters) ≡ control_mentions
 control-mentions counters =
     let w = counters.phase.width in
     let v = counters.wait.width in
-    let up = reads-Choose (Name end_name) (number counters.phase.width 0) (Binary Add (Name phase_name) (number counters.phase.width 1))
+    let up = names-choose (Name end_name) (number counters.phase.width 0) (Binary Add (Name phase_name) (number counters.phase.width 1))
     ∙ (λ i. reads-Name end_name i ++ (reads-Literal (plain counters.phase.width 0) i ++ reads-counted Add phase_name counters.phase.width 1 i)) in
-    let down = reads-Choose (Name wait_name) (Binary Subtract (Name wait_name) (number counters.wait.width 1)) (number counters.wait.width 0)
+    let down = names-choose (Name wait_name) (Binary Subtract (Name wait_name) (number counters.wait.width 1)) (number counters.wait.width 0)
     ∙ (λ i. reads-Name wait_name i ++ (reads-counted Subtract wait_name counters.wait.width 1 i ++ reads-Literal (plain counters.wait.width 0) i)) in
     (λ i.
     (Drives false begin_name ∷ map Reads (reads-zero phase_name i))

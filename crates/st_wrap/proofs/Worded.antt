@@ -73,7 +73,7 @@ port_name port = port.name
 abbrev IsWord : List ℕ → Type 0
 IsWord n = is_identifier n ≡ true
 
-named-mention : (x : Mention) (n : List ℕ) → Contains (declared_names x) n → (d : Declared) × (x ≡ Declares d) × (d.name ≡ n)
+pub named-mention : (x : Mention) (n : List ℕ) → Contains (declared_names x) n → (d : Declared) × (x ≡ Declares d) × (d.name ≡ n)
 named-mention (Declares d) n h = (d, refl, ⊎_elim (λ e. e) (λ t. absurd (none-in n t)) (cons-cases d.name n [] h))
 named-mention (Drives c k) n h = absurd (none-in n h)
 named-mention (Reads k) n h = absurd (none-in n h)

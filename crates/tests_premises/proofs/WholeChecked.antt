@@ -20,7 +20,8 @@ use Rattle.dg_model.specs.TypeRounds.{Types, types_of}
 use Rattle.dg_model.specs.TypeRule.{IsNotWide, HasTypes, HasAgreeing, KeepsTypes}
 use Rattle.dg_model.specs.Widths.{Widths, widths_of}
 use Rattle.dg_model.specs.Wired.{AreNumbered, IsWired, Joins, StandsBefore, NamesControl, MayStand}
-use Rattle.hw_shows.proofs.Small.{int8_valid, all_of, pairs_of, each_by, none_driven, one_driven, none_known, no_loop, attributes_by, attributes_are, AreDrivenOnce}
+use Rattle.dg_model.proofs.Written.{all_of, pairs_of}
+use Rattle.hw_shows.proofs.Small.{int8_valid, each_by, none_driven, one_driven, none_known, no_loop, attributes_by, attributes_are, AreDrivenOnce}
 use Rattle.tests_premises.specs.Whole.{diagram, input, gain, output, int8, int16, coefficients}
 
 -- ---- its widths, types and periods

@@ -1,8 +1,7 @@
 -- Each module of the whole model has a run that the stimulus drives, in which every row counts.
-use Rattle.std.proofs.Common.{◌≡◌, ℕ, zero, suc, ◌+◌, ◌-◌, ◌*◌, ◌/◌, ◌^◌, ◌<◌, ◌≤◌, ℤ, pos, negsuc, true, true≢false, if◌then◌else◌, List, [], ◌∷◌, Some, slice_get, Contains, bytes_eq, codes, refl, sym, ap, subst, ◌∙◌, arith}
+use Rattle.std.proofs.Common.{◌≡◌, ℕ, zero, suc, ◌+◌, ◌-◌, ◌*◌, ◌/◌, ◌^◌, ◌<◌, ◌≤◌, ℤ, true, true≢false, if◌then◌else◌, List, [], ◌∷◌, Some, slice_get, Contains, bytes_eq, codes, refl, sym, ap, subst, ◌∙◌, arith}
 use Rattle.std.proofs.Math.Dec.{lit<}
 use Rattle.std.proofs.Math.Nat.{div-lt_iff_lt-mul, le-div_iff_mul-le}
-use Rattle.std.proofs.lemmas.Nat.{mod_below, pow_pos}
 use Rattle.std.proofs.lemmas.Option.{same_Some}
 use Rattle.vl_ast.specs.declared.modules.Attr.{Attr}
 use Rattle.vl_ast.specs.declared.modules.Module.{Module}
@@ -17,9 +16,11 @@ use Rattle.vl_ast.specs.Runs.{Row, Rows}
 use Rattle.vl_ast.specs.Value.{bits_of}
 use Rattle.vl_ast.specs.Windows.{AtHits, Shows, row_at}
 use Rattle.vl_ast.proofs.Unstalled.{enabled-count, shows-clocks}
-use Rattle.hw_shows.proofs.Small.{all_of, each_by}
+use Rattle.dg_model.proofs.Written.{all_of}
+use Rattle.hw_shows.proofs.Small.{each_by}
 use Rattle.tests_premises.specs.Running.{RunsWhole, WholeModulesRun, column, input_of, input_ports, output_of, output_ports, window}
 use Rattle.tests_premises.specs.Whole.{firsts, seconds}
+use Rattle.vl_ast.proofs.Stimulated.{bits-fit}
 
 -- ---- a module with these ports
 abbrev ports : List Port
@@ -107,11 +108,6 @@ module _ (items : List ModItem) where
         (all_given place port (subst (λ (xs : List Port). slice_get xs place ≡ Some port) ports_are at) period period_is t below hit);
   }
 
--- ---- they fit
-bits_fit : (width : ℕ) (number : ℤ) → bits_of width number < 2 ^ width
-bits_fit width (pos n) = mod_below n (2 ^ width) (pow_pos width)
-bits_fit width (negsuc n) = let p = pow_pos width in omega (arith, p)
-
 reset_fits : (k : ℕ) → reset_in k < 2
 reset_fits zero = lit< tt
 reset_fits (suc k) = lit< tt
@@ -128,9 +124,9 @@ room k port (place, below, at) =
         (
           (λ input. lit< tt),
           (
-            (λ input. bits_fit 8 (firsts (sample_of k))),
+            (λ input. bits-fit 8 (firsts (sample_of k))),
             (
-              (λ input. bits_fit 8 (seconds (sample_of k))),
+              (λ input. bits-fit 8 (seconds (sample_of k))),
               ((λ input. absurd (true≢false (sym input))), ((λ input. absurd (true≢false (sym input))), ((λ input. absurd (true≢false (sym input))), tt))),
             ),
           ),

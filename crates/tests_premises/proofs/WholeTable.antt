@@ -17,7 +17,8 @@ use Rattle.dg_model.specs.Library.{row_of}
 use Rattle.dg_model.specs.Signals.{Attributes}
 use Rattle.dg_model.specs.Solves.{IsShown, IsStimulus, Solves}
 use Rattle.dg_model.specs.Wired.{root_input}
-use Rattle.hw_shows.proofs.Small.{int16_full, stored, each_by}
+use Rattle.dg_model.proofs.Examples.{stores_small}
+use Rattle.hw_shows.proofs.Small.{int16_full, each_by}
 use Rattle.tests_premises.specs.Whole.{diagram, int8, int16, given, stimulus, table}
 use Rattle.tests_premises.proofs.WholeChecked.{attributes, attributes_known, gain_block}
 
@@ -33,13 +34,13 @@ abbrev IsRight : ℕ → ℕ → ℕ → ℕ → Type 0
 IsRight block port element t = Equation diagram attributes stimulus table block port element t (table block port element t)
 
 scales : (port element t : ℕ) → element < 2 → t < 3 → IsRight 1 port element t
-scales port zero zero inside below = (Gain (pos 3) int8, (pos 3, stored 3 (lit< tt) (lit< tt), refl), (int16, int16_full, same (pos 3) (record { low = le_z_yes tt; high = le_z_yes tt })))
-scales port zero (suc zero) inside below = (Gain (pos 3) int8, (pos 3, stored 3 (lit< tt) (lit< tt), refl), (int16, int16_full, same (negsuc 5) (record { low = le_z_yes tt; high = le_z_yes tt })))
-scales port zero (suc (suc zero)) inside below = (Gain (pos 3) int8, (pos 3, stored 3 (lit< tt) (lit< tt), refl), (int16, int16_full, same (pos 381) (record { low = le_z_yes tt; high = le_z_yes tt })))
+scales port zero zero inside below = (Gain (pos 3) int8, (pos 3, stores_small 3 (lit< tt) (lit< tt), refl), (int16, int16_full, same (pos 3) (record { low = le_z_yes tt; high = le_z_yes tt })))
+scales port zero (suc zero) inside below = (Gain (pos 3) int8, (pos 3, stores_small 3 (lit< tt) (lit< tt), refl), (int16, int16_full, same (negsuc 5) (record { low = le_z_yes tt; high = le_z_yes tt })))
+scales port zero (suc (suc zero)) inside below = (Gain (pos 3) int8, (pos 3, stores_small 3 (lit< tt) (lit< tt), refl), (int16, int16_full, same (pos 381) (record { low = le_z_yes tt; high = le_z_yes tt })))
 scales port zero (suc (suc (suc t))) inside below = absurd (omega arith)
-scales port (suc zero) zero inside below = (Gain (pos 5) int8, (pos 5, stored 5 (lit< tt) (lit< tt), refl), (int16, int16_full, same (pos 50) (record { low = le_z_yes tt; high = le_z_yes tt })))
-scales port (suc zero) (suc zero) inside below = (Gain (pos 5) int8, (pos 5, stored 5 (lit< tt) (lit< tt), refl), (int16, int16_full, same (pos 100) (record { low = le_z_yes tt; high = le_z_yes tt })))
-scales port (suc zero) (suc (suc zero)) inside below = (Gain (pos 5) int8, (pos 5, stored 5 (lit< tt) (lit< tt), refl), (int16, int16_full, same (negsuc 639) (record { low = le_z_yes tt; high = le_z_yes tt })))
+scales port (suc zero) zero inside below = (Gain (pos 5) int8, (pos 5, stores_small 5 (lit< tt) (lit< tt), refl), (int16, int16_full, same (pos 50) (record { low = le_z_yes tt; high = le_z_yes tt })))
+scales port (suc zero) (suc zero) inside below = (Gain (pos 5) int8, (pos 5, stores_small 5 (lit< tt) (lit< tt), refl), (int16, int16_full, same (pos 100) (record { low = le_z_yes tt; high = le_z_yes tt })))
+scales port (suc zero) (suc (suc zero)) inside below = (Gain (pos 5) int8, (pos 5, stores_small 5 (lit< tt) (lit< tt), refl), (int16, int16_full, same (negsuc 639) (record { low = le_z_yes tt; high = le_z_yes tt })))
 scales port (suc zero) (suc (suc (suc t))) inside below = absurd (omega arith)
 scales port (suc (suc element)) t inside below = absurd (omega arith)
 

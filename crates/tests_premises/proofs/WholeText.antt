@@ -30,7 +30,8 @@ use Rattle.dg_flat.specs.Flat.{IsFlatOf}
 use Rattle.dg_flat.specs.Parts.{in_number, out_number}
 use Rattle.dg_flat.specs.Rules.{AllNestedKeep, KeepsWiring, KeepsEnable, IsNumbered, HasEnd, drivers, is_port}
 use Rattle.fx_model.specs.Model.{IsModelOf}
-use Rattle.hw_shows.proofs.Small.{all_of, each_by, pairs_of}
+use Rattle.dg_model.proofs.Written.{all_of, pairs_of}
+use Rattle.hw_shows.proofs.Small.{each_by}
 use Rattle.tests_premises.specs.Whole.{model_text, diagram, input, gain, output, int8, int16, three, five, coefficients}
 use Rattle.tests_premises.proofs.WholeChecked.{checked}
 

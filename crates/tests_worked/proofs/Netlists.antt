@@ -13,7 +13,8 @@ use Rattle.hw_net.specs.declared.netlist.NetOp.TheVariants.{Input, Add, Choose, 
 use Rattle.hw_net.specs.declared.netlist.NetPort.{NetPort}
 use Rattle.hw_net.specs.Circuit.{Circuit}
 use Rattle.hw_net.specs.Netlist.{IsInput, IsKind, IsNetlist, IsRanked, HoldsProducts, reads, reads_now}
-use Rattle.hw_shows.proofs.Small.{all_of, each_by}
+use Rattle.dg_model.proofs.Written.{all_of}
+use Rattle.hw_shows.proofs.Small.{each_by}
 
 -- ---- the nets
 abbrev pub net : Bool → ℕ → NetKind → Net

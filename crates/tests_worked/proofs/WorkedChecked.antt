@@ -20,7 +20,8 @@ use Rattle.dg_model.specs.TypeRounds.{Types}
 use Rattle.dg_model.specs.TypeRule.{IsNotWide, HasTypes, HasAgreeing, KeepsTypes}
 use Rattle.dg_model.specs.Widths.{Widths}
 use Rattle.dg_model.specs.Wired.{AreNumbered, IsWired, Joins, StandsBefore, NamesControl, MayStand}
-use Rattle.hw_shows.proofs.Small.{PairsByRecursion, int8, int8_valid, all_of, pairs_of, each_by, AreDrivenOnce, none_driven, one_driven, none_known, one_known}
+use Rattle.dg_model.proofs.Written.{all_of, pairs_of}
+use Rattle.hw_shows.proofs.Small.{PairsByRecursion, int8, int8_valid, each_by, AreDrivenOnce, none_driven, one_driven, none_known, one_known}
 use Rattle.tests_worked.proofs.Paths.{no_cycle}
 use Rattle.tests_worked.proofs.Worked.{attributes, blocks, delay, diagram, edges, initial, input, known, output, periods, periods_are, product, transition, types, types_are, widths, widths_are}
 

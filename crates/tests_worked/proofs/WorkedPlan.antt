@@ -22,7 +22,8 @@ use Rattle.hw_sched.specs.Ready.{declared_latency, owed, ready_of}
 use Rattle.hw_sched.specs.Scheduled.{IsScheduled}
 use Rattle.hw_sched.specs.Slots.{Timing, have_of, need_of, operation, slot_of, unit_of}
 use Rattle.hw_sched.specs.Storage.{greatest_latency, storage}
-use Rattle.hw_shows.proofs.Small.{all_of, each_by, pairs_of}
+use Rattle.dg_model.proofs.Written.{all_of, pairs_of}
+use Rattle.hw_shows.proofs.Small.{each_by}
 use Rattle.tests_worked.proofs.Worked.{attributes, diagram, fed, known, plan_in, plan_of, product, timing}
 use Rattle.tests_worked.proofs.WorkedChecked.{checked}
 use Rattle.tests_worked.proofs.WorkedTimes.{SharesAll, are_fed, timed_in_five}

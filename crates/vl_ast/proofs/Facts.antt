@@ -17,6 +17,7 @@ use Rattle.vl_ast.specs.declared.modules.Module.{Module}
 use Rattle.vl_ast.specs.Nets.{PlainWire, Register, Declared, port_declared, Mention, Declares, Drives, Reads, Clocks, mentions, item_mentions, declared_by, declarations, declaration_of, names_read, condition_names}
 use Rattle.vl_ast.specs.Conditions.{first_fault, mentioned, is_declaration_of, is_driver_of, is_undriven, undriven, is_double, doubly, needs_driver, may_drive_it}
 use Rattle.vl_ast.proofs.Places.{cons-cases, head-in, tail-in, none-in, Cut, cut-at, map-in, from-map, flat-in, from-flat, Order, AreOne, Before, After, order-of}
+use Rattle.fx_io.proofs.Tests.{same_bytes}
 
 -- where no place is at fault, the test is false at each
 no-fault : (test : List Mention → Mention → Bool) (before passed : List Mention) (here : Mention) (after : List Mention)
@@ -35,15 +36,12 @@ no-fault test before (first ∷ passed) here after e = by (no-fault test (before
 pub fault-free : (test : List Mention → Mention → Bool) (all : List Mention) (here : Mention) → first_fault test [] all ≡ None → (cut : Cut all here) → test cut.before here ≡ false
 fault-free test all here e cut = no-fault test [] cut.before here cut.after (subst (λ xs. first_fault test [] xs ≡ None) cut.whole e)
 
-same_name : (name : List ℕ) → bytes_eq name name ≡ true
-same_name name = (bytes_eq-Decides name name).1 refl
-
 -- tests of a list of mentions, and what stands in it
 driver-seen : (c : Bool) (name : List ℕ) (xs : List Mention) → Contains xs (Drives c name) → list_any (is_driver_of name) xs ≡ true
-driver-seen c name xs h = list_any-from_Any (is_driver_of name) xs (h.0, Drives c name, h.1, h.2, same_name name)
+driver-seen c name xs h = list_any-from_Any (is_driver_of name) xs (h.0, Drives c name, h.1, h.2, same_bytes name)
 
 declaration-seen : (d : Declared) (xs : List Mention) → Contains xs (Declares d) → list_any (is_declaration_of d.name) xs ≡ true
-declaration-seen d xs h = list_any-from_Any (is_declaration_of d.name) xs (h.0, Declares d, h.1, h.2, same_name d.name)
+declaration-seen d xs h = list_any-from_Any (is_declaration_of d.name) xs (h.0, Declares d, h.1, h.2, same_bytes d.name)
 
 a-driver : (name : List ℕ) (x : Mention) → is_driver_of name x ≡ true → (c : Bool) × (x ≡ Drives c name)
 a-driver name (Declares d) e = absurd (false≢true e)
@@ -148,7 +146,7 @@ module _ (m : Module) (driven : undriven m ≡ None) (once : doubly m ≡ None) 
       let listed = ap (flat_map declared_by) cut.whole ∙ flat_map-append declared_by cut.before (Declares d ∷ cut.after) in
       ap (find (λ (e : Declared). bytes_eq e.name d.name)) listed
       ∙ not-found d.name cut.before free (d ∷ flat_map declared_by cut.after)
-      ∙ cond-true (bytes_eq d.name d.name) (Some d) _ (same_name d.name)
+      ∙ cond-true (bytes_eq d.name d.name) (Some d) _ (same_bytes d.name)
 
   pub has-driver : (d : Declared) → Contains all (Declares d) → needs_driver d.kind ≡ true → (c : Bool) × Contains all (Drives c d.name)
   has-driver d h needs =

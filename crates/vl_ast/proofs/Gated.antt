@@ -26,7 +26,7 @@ use Rattle.vl_ast.proofs.Places.{map-in, from-map}
 abbrev pub enable : List ℕ
 enable = codes "clk_enable"
 
-truth-is : (b : Bool) → not (truth b == 0) ≡ b
+pub truth-is : (b : Bool) → not (truth b == 0) ≡ b
 truth-is true = refl
 truth-is false = refl
 

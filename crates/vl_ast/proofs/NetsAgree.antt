@@ -1,4 +1,4 @@
--- An expression means the same where what is declared of the names that it reads is the same.
+-- An expression means the same where what is declared of the names that it reads is the same. Crates above may cite this file.
 use Rattle.std.proofs.Common.{◌≡◌, ℕ, max, Bool, ◌&&◌, List, [], ◌∷◌, ◌++◌, map, replicate, Contains, flat_map, refl, sym, ap, subst, ◌∙◌, arith}
 use Rattle.std.specs.Prelude.{fold, sum, ◌*◌, ◌%◌, ◌^◌, if◌then◌else◌, ◌==◌, not}
 use Rattle.std.proofs.lemmas.List.Elements.{Contains-append_left, Contains-append_right}
@@ -25,7 +25,7 @@ right-same nets other xs ys s = record { at = λ name c. s.at name (Contains-app
 pub only : (nets other : List ℕ → Net) (name : List ℕ) → Same nets other (name ∷ []) → nets name ≡ other name
 only nets other name s = s.at name (0, omega arith, refl)
 
-chosen-same : (test test' chosen chosen' other other' : Bits) → test ≡ test' → chosen ≡ chosen' → other ≡ other'
+pub chosen-same : (test test' chosen chosen' other other' : Bits) → test ≡ test' → chosen ≡ chosen' → other ≡ other'
     → (if test.bits == 0 then other.bits else chosen.bits) ≡ (if test'.bits == 0 then other'.bits else chosen'.bits)
 chosen-same test test' chosen chosen' other other' a b c = rw (a, b, c) refl
 

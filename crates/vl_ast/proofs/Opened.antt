@@ -5,9 +5,8 @@ use Rattle.std.proofs.lemmas.List.{append_assoc, append-nil, map-append}
 use Rattle.std.proofs.lemmas.List.Concat.{flat_map-append}
 use Rattle.std.proofs.lemmas.List.Elements.{Contains-append_left, Contains-append_right, Contains-append_cases}
 use Rattle.std.proofs.lemmas.List.Folds.{list_any-append}
-use Rattle.std.proofs.lemmas.Bool.{cond-false, cases_Bool, false≢true}
+use Rattle.std.proofs.lemmas.Bool.{cond-false}
 use Rattle.std.proofs.lemmas.Nat.{mod_below}
-use Rattle.std.proofs.lemmas.Slice.Eq.{bytes_eq-Decides}
 use Rattle.vl_ast.specs.declared.expressions.Expr.TheVariants.{Name}
 use Rattle.vl_ast.specs.declared.modules.Port.{Port}
 use Rattle.vl_ast.specs.declared.modules.ModItem.{ModItem}
@@ -22,6 +21,7 @@ use Rattle.vl_ast.proofs.Facts.{mention-listed, read-declared, driven-declared, 
 use Rattle.vl_ast.proofs.Gated.{enable}
 use Rattle.vl_ast.proofs.GatedSound.{enable-reads}
 use Rattle.vl_ast.proofs.Places.{cons-cases, none-in, head-in}
+use Rattle.fx_io.proofs.Tests.{unequal, differ}
 
 abbrev pub out : List ℕ
 out = codes "ce_out"
@@ -32,17 +32,11 @@ enable_d = port_declared (bit_input enable)
 abbrev out_d : Declared
 out_d = port_declared (bit_output out)
 
-differ : (a b : List ℕ) → bytes_eq a b ≡ false → a ≢ b
-differ a b e same = false≢true (sym e ∙ (bytes_eq-Decides a b).1 same)
-
-pub unequal : (a b : List ℕ) → a ≢ b → bytes_eq a b ≡ false
-unequal a b other = ⊎_elim (λ t. absurd (other ((bytes_eq-Decides a b).0 t))) (λ f. f) (cases_Bool (bytes_eq a b))
-
 or-false : (b : Bool) → (b || false) ≡ b
 or-false true = refl
 or-false false = refl
 
-or-true : (b : Bool) → (b || true) ≡ true
+pub or-true : (b : Bool) → (b || true) ≡ true
 or-true true = refl
 or-true false = refl
 

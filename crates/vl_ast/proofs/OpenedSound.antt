@@ -19,7 +19,8 @@ use Rattle.vl_ast.proofs.Agree.{ByLayer}
 use Rattle.vl_ast.proofs.Facts.{in-port, mention-listed, reads-of-assign, reads-of-always}
 use Rattle.vl_ast.proofs.Gated.{enable}
 use Rattle.vl_ast.proofs.GatedSound.{enable-net, sound-enable, soundness_by}
-use Rattle.vl_ast.proofs.Opened.{opened-acyclic, opened-has, out, unequal}
+use Rattle.fx_io.proofs.Tests.{unequal}
+use Rattle.vl_ast.proofs.Opened.{opened-acyclic, opened-has, out}
 use Rattle.vl_ast.proofs.OpenedClocked.{opened-clocked, opened-stallable}
 use Rattle.vl_ast.proofs.Parts.{read-net}
 use Rattle.vl_ast.proofs.Places.{head-in, tail-in}

@@ -23,7 +23,7 @@ use Rattle.vl_ast.proofs.Alone.{reset-port}
 use Rattle.vl_ast.proofs.Thinned.{bit-port}
 use Rattle.vl_ast.proofs.Unstalled.{AllCount, shows-clocks}
 
-bits-fit : (width : ℕ) (number : ℤ) → bits_of width number < 2 ^ width
+pub bits-fit : (width : ℕ) (number : ℤ) → bits_of width number < 2 ^ width
 bits-fit width (pos n) = mod_below n (2 ^ width) (pow_pos width)
 bits-fit width (negsuc n) = let p = pow_pos width in omega (arith, p)
 

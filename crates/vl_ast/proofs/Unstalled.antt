@@ -10,7 +10,7 @@ use Rattle.vl_ast.specs.Value.{bits_of}
 use Rattle.vl_ast.specs.Windows.{PortNumbers, Window, row_at, Shows, counted, counts_at, IsClock}
 use Rattle.vl_ast.proofs.Thin.{counted-yes, counted-above}
 
-counted-all : (test : ℕ → Bool) (many : ℕ) → ((j : ℕ) → j < many → test j ≡ true) → counted test many ≡ many
+pub counted-all : (test : ℕ → Bool) (many : ℕ) → ((j : ℕ) → j < many → test j ≡ true) → counted test many ≡ many
 counted-all test zero all = refl
 counted-all test (suc many) all = counted-yes test many (all many (omega arith)) ∙ ap suc (counted-all test many (λ j below. all j (omega (arith, below))))
 

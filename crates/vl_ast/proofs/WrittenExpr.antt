@@ -1,5 +1,5 @@
 -- The tokens of a sound expression over identifiers can be written, by induction over the expression.
-use Rattle.std.proofs.Common.{◌≡◌, ◌<◌, ◌≤◌, ◌+◌, ◌*◌, ◌^◌, ℕ, max, sum, nat_le, nat_lt, Bool, true, false, ◌&&◌, List, [], ◌∷◌, ◌++◌, map, Contains, flat_map, codes, refl, sym, subst, ◌∙◌, arith}
+use Rattle.std.proofs.Common.{◌≡◌, ◌<◌, ◌≤◌, ◌+◌, ◌*◌, ◌^◌, ℕ, max, sum, nat_le, nat_lt, Bool, true, ◌&&◌, List, [], ◌∷◌, ◌++◌, map, Contains, flat_map, codes, refl, sym, subst, ◌∙◌, arith}
 use Rattle.std.specs.Prelude.{fold}
 use Rattle.std.specs.List.{list_all}
 use Rattle.std.proofs.Math.Nat.{le-mul_of_pos_right, one-le-mul, pow-le-pow_right}
@@ -18,14 +18,11 @@ use Rattle.vl_ast.specs.Operators.{unary_text, binary_text, shift_text}
 use Rattle.vl_ast.specs.Spelling.{joined}
 use Rattle.vl_ast.specs.Tokens.{Token, Key, Sign, Identifier, Based, IsWritable, AreWritable}
 use Rattle.vl_names.specs.Identifiers.{is_identifier}
-use Rattle.vl_ast.proofs.Laid.{left_true, AllWritable-append}
+use Rattle.vl_ast.proofs.Laid.{AllWritable-append}
 use Rattle.vl_ast.proofs.Places.{head-in}
 use Rattle.vl_ast.proofs.Values.{own_length-roll}
 use Rattle.vl_ast.proofs.Written.{number-writable, based-writable}
-
-right_true : (a b : Bool) → (a && b) ≡ true → b ≡ true
-right_true true b e = e
-right_true false b e = absurd (cc e)
+use Rattle.fx_io.proofs.Tests.{right_true, left_true}
 
 pub name-writable : (name : List ℕ) → is_identifier name ≡ true → IsWritable (Identifier name)
 name-writable name e = (name, (refl, e))

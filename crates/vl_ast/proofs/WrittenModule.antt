@@ -1,7 +1,7 @@
 -- The tokens of a module that breaks no condition can be written, where its names are identifiers. Crates above may cite this file.
 use Rattle.std.proofs.Common.{◌≡◌, ◌≤◌, ◌-◌, ⊎_elim, inl, inr, ℕ, nat_le, Bool, true, false, not, ◌&&◌, ◌==◌, if◌then◌else◌, List, [], ◌∷◌, ◌++◌, map, find, flat_map, Contains, codes, Option, Some, None, option_map, refl, sym, ap, subst, ◌∙◌, arith}
 use Rattle.std.specs.List.{AllZip}
-use Rattle.std.proofs.lemmas.Bool.{leb-true, eqb-true}
+use Rattle.std.proofs.lemmas.Bool.{leb-true, eqb-true, and_parts}
 use Rattle.std.proofs.lemmas.List.Elements.{Contains-append_left, Contains-append_right}
 use Rattle.vl_ast.specs.declared.expressions.Expr.{Expr}
 use Rattle.vl_ast.specs.declared.modules.Attr.{Attr}
@@ -27,10 +27,6 @@ use Rattle.vl_ast.proofs.Settled.{net-is}
 use Rattle.vl_ast.proofs.Written.{number-writable}
 use Rattle.vl_ast.proofs.WrittenExpr.{IsKnown, EachWritable, expr-writable, joined-writable, key-writable, literal-of, name-writable, sign-writable}
 
-both_true : (a b : Bool) → (a && b) ≡ true → (a ≡ true) × (b ≡ true)
-both_true true b e = (refl, e)
-both_true false b e = absurd (cc e)
-
 -- none is found that fails
 all-pass : (xs : List (List ℕ × Bool)) → find (λ part. not part.1) xs ≡ None → (x : List ℕ × Bool) → Contains xs x → x.1 ≡ true
 all-pass [] e x c = absurd (none-in x c)
@@ -40,14 +36,14 @@ all-pass (y ∷ xs) e x c = by (y.1) refl e c (all-pass xs) where
   by true is e c others = ⊎_elim (λ same. ap (λ (p : List ℕ × Bool). p.1) (sym same) ∙ is) (λ after. others e x after) (cons-cases y x xs c)
   by false is e c others = absurd (cc e)
 
-unnamed : (found : Option (List ℕ × Bool)) → option_map (λ (part : List ℕ × Bool). part.0) found ≡ None → found ≡ None
+pub unnamed : (found : Option (List ℕ × Bool)) → option_map (λ (part : List ℕ × Bool). part.0) found ≡ None → found ≡ None
 unnamed None e = refl
 unnamed (Some x) e = absurd (cc e)
 
 -- ---- ranges and attributes
 
 width-of : (width : ℕ) → is_width width ≡ true → (1 ≤ width) × (width ≤ 128)
-width-of width e = (let b = both_true (nat_le 1 width) (nat_le width 128) e in (leb-true 1 width b.0, leb-true width 128 b.1))
+width-of width e = (let b = and_parts (nat_le 1 width) (nat_le width 128) e in (leb-true 1 width b.0, leb-true width 128 b.1))
 
 range-by : (width : ℕ) → 1 ≤ width → width ≤ 128 → (b : Bool) → (b ≡ true → width ≡ 1)
     → IsRange width (if b then [] else bounds width) × AreWritable (if b then [] else bounds width)
@@ -175,8 +171,8 @@ module _ (by_layer : ByLayer) (m : Module) (acyclic : IsAcyclic m) (wide : too_w
   item-written (Always name first condition value) c =
       let expr = spellable.items (Always name first condition value) c in
       let e = driven-name true name (always-drives m acyclic.driven acyclic.once name first condition value c) in
-      let sound = both_true (is_number first && is_sound_condition (nets_of m) condition) (is_sound (nets_of m) value) (item-sound (Always name first condition value) c) in
-      let head = both_true (is_number first) (is_sound_condition (nets_of m) condition) sound.0 in
+      let sound = and_parts (is_number first && is_sound_condition (nets_of m) condition) (is_sound (nets_of m) value) (item-sound (Always name first condition value) c) in
+      let head = and_parts (is_number first) (is_sound_condition (nets_of m) condition) sound.0 in
       let read : (n : List ℕ) → Contains (condition_names condition ++ names_read value) n → IsKnown (nets_of m) n =
       λ n r. known n (reads-of-always m acyclic.driven acyclic.once name n first condition value c r) in
       let w = expr-writable (nets_of m) value sound.1 expr.1.1 (λ n r. read n (Contains-append_right (condition_names condition) (names_read value) n r)) in

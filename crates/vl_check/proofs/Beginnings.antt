@@ -20,20 +20,15 @@ use Rattle.vl_check.specs.declared.mentions.Mention.{Mention as MentionHere}
 use Rattle.vl_check.specs.inner.Mentioned.{mention_of, shown}
 use Rattle.vl_check.specs.inner.Looped.{name_of, AreMarked, if_marked, marked_number, marked_at, first_some, AreNamed, IsBeginning}
 use Rattle.vl_check.proofs.Scoped.{at-number, number-at}
-
-same-name : (a b : List ℕ) → a ≡ b → bytes_eq a b ≡ true
-same-name a b e = (bytes_eq-Decides a b).1 e
-
-or-right : (t : Bool) → (t || true) ≡ true
-or-right true = refl
-or-right false = refl
+use Rattle.vl_ast.proofs.Opened.{or-true}
+use Rattle.fx_io.proofs.Tests.{bytes_same}
 
 -- a mention of a name
 pub mentions-it : (name : List ℕ) (x : Mention) → mentioned x ≡ name → is_mention_of name x ≡ true
-mentions-it name (Declares d) e = same-name d.name name e
-mentions-it name (Drives c driven) e = same-name driven name e
-mentions-it name (Reads read) e = same-name read name e
-mentions-it name Clocks e = ap (λ t. t || bytes_eq (codes "reset") name) (same-name (codes "clk") name e)
+mentions-it name (Declares d) e = bytes_same d.name name e
+mentions-it name (Drives c driven) e = bytes_same driven name e
+mentions-it name (Reads read) e = bytes_same read name e
+mentions-it name Clocks e = ap (λ t. t || bytes_eq (codes "reset") name) (bytes_same (codes "clk") name e)
 
 -- how many places stand before the first of a name
 abbrev before-first : List ℕ → List Mention → ℕ
@@ -79,12 +74,12 @@ module _ (scope : Scope) (apart : IsDistinct bytes_eq (names_in scope)) (marks :
   or-none (Some x) b e = absurd (cc e)
 
   at-some : (x : Mention) (k : ℕ) → marked_at scope marks x ≡ Some k → (slice_index_or marks k false ≡ true) × (is_mention_of (name_of scope k) x ≡ true)
-  at-some (Declares d) k e = let r = number-some d.name k e in (r.0, same-name d.name (name_of scope k) (sym r.1))
-  at-some (Drives c name) k e = let r = number-some name k e in (r.0, same-name name (name_of scope k) (sym r.1))
-  at-some (Reads name) k e = let r = number-some name k e in (r.0, same-name name (name_of scope k) (sym r.1))
+  at-some (Declares d) k e = let r = number-some d.name k e in (r.0, bytes_same d.name (name_of scope k) (sym r.1))
+  at-some (Drives c name) k e = let r = number-some name k e in (r.0, bytes_same name (name_of scope k) (sym r.1))
+  at-some (Reads name) k e = let r = number-some name k e in (r.0, bytes_same name (name_of scope k) (sym r.1))
   at-some Clocks k e = ⊎_elim
-      (λ clk. let r = number-some (codes "clk") k clk in (r.0, ap (λ t. t || bytes_eq (codes "reset") (name_of scope k)) (same-name (codes "clk") (name_of scope k) (sym r.1))))
-      (λ reset. let r = number-some (codes "reset") k reset in (r.0, ap (λ t. bytes_eq (codes "clk") (name_of scope k) || t) (same-name (codes "reset") (name_of scope k) (sym r.1)) ∙ or-right (bytes_eq (codes "clk") (name_of scope k))))
+      (λ clk. let r = number-some (codes "clk") k clk in (r.0, ap (λ t. t || bytes_eq (codes "reset") (name_of scope k)) (bytes_same (codes "clk") (name_of scope k) (sym r.1))))
+      (λ reset. let r = number-some (codes "reset") k reset in (r.0, ap (λ t. bytes_eq (codes "clk") (name_of scope k) || t) (bytes_same (codes "reset") (name_of scope k) (sym r.1)) ∙ or-true (bytes_eq (codes "clk") (name_of scope k))))
       (or-cases (marked_number scope marks (codes "clk")) (marked_number scope marks (codes "reset")) k e)
 
   at-none : (x : Mention) (b : ℕ) → Marked b → marked_at scope marks x ≡ None → is_mention_of (name_of scope b) x ≡ false

@@ -16,6 +16,8 @@ use Rattle.vl_check.specs.declared.mentions.Mention.{Mention as MentionHere}
 use Rattle.vl_check.specs.declared.mentions.Mention.TheVariants.{Declares as DeclaresHere, Drives as DrivesHere, Reads as ReadsHere, Clocks as ClocksHere}
 use Rattle.vl_check.specs.inner.Mentioned.{declared_of, mention_of, shown}
 use Rattle.vl_check.specs.inner.Marks.{AreNumbers, Marks, AreFirst, declares, drives, undriven_where, double_where, first_after}
+use Rattle.vl_ast.proofs.Opened.{or-true}
+use Rattle.fx_io.proofs.Tests.{same_bytes, unequal}
 
 -- both tests hold at a place of their kind, of the name that stands there
 pub driver-test : (name : List ℕ) (x : Mention) → is_driver_of name x ≡ (drives x && bytes_eq (mentioned x) name)
@@ -30,15 +32,6 @@ declaration-test name (Drives c driven) = refl
 declaration-test name (Reads read) = refl
 declaration-test name Clocks = refl
 
-same_name : (name : List ℕ) → bytes_eq name name ≡ true
-same_name name = (bytes_eq-Decides name name).1 refl
-
-other_name : (a b : List ℕ) → a ≢ b → bytes_eq a b ≡ false
-other_name a b ne = by (bytes_eq a b) refl where
-  by : (t : Bool) → bytes_eq a b ≡ t → bytes_eq a b ≡ false
-  by true e = absurd (ne ((bytes_eq-Decides a b).0 e))
-  by false e = e
-
 -- equal names or not
 names-cases : (a b : List ℕ) → (P : Type 0) → (a ≡ b → P) → (a ≢ b → P) → P
 names-cases a b P same other = by (bytes_eq a b) refl where
@@ -49,10 +42,6 @@ names-cases a b P same other = by (bytes_eq a b) refl where
 or-false : (t : Bool) → (t || false) ≡ t
 or-false true = refl
 or-false false = refl
-
-or-true : (t : Bool) → (t || true) ≡ true
-or-true true = refl
-or-true false = refl
 
 module _ (test : List ℕ → Mention → Bool) (is_one : Mention → Bool) (holds : (name : List ℕ) (x : Mention) → test name x ≡ (is_one x && bytes_eq (mentioned x) name))
     (names : List (List ℕ)) (numbers : List ℕ) (count : ℕ) (known : AreNumbers names numbers count) where
@@ -83,7 +72,7 @@ module _ (test : List ℕ → Mention → Bool) (is_one : Mention → Bool) (hol
         ap (λ k. slice_index_or (set marks (slice_index numbers at) true) k b) (known.one i at d below within same)
         ∙ get_or-set_same marks (slice_index numbers at) true b (omega (arith, low, long))
         ∙ sym (or-true (list_any (test (slice_index_or names i d)) part))
-        ∙ ap (λ t. list_any (test (slice_index_or names i d)) part || t) (sym (held (slice_index_or names i d) ∙ ap (bytes_eq (mentioned x)) (same ∙ is d) ∙ same_name (mentioned x)))
+        ∙ ap (λ t. list_any (test (slice_index_or names i d)) part || t) (sym (held (slice_index_or names i d) ∙ ap (bytes_eq (mentioned x)) (same ∙ is d) ∙ same_bytes (mentioned x)))
         ∙ sym (list_any-append (test (slice_index_or names i d)) part (x ∷ []))
 
     other : (i : ℕ) (d : List ℕ) (b : Bool) → i < length names → slice_index_or names i d ≢ slice_index_or names at d
@@ -92,7 +81,7 @@ module _ (test : List ℕ → Mention → Bool) (is_one : Mention → Bool) (hol
         get_or-set_other marks (slice_index numbers at) (slice_index numbers i) true b (known.apart i at d below within ne)
         ∙ m.at i d b below ∙ sym (or-false (list_any (test (slice_index_or names i d)) part))
         ∙ ap (λ t. list_any (test (slice_index_or names i d)) part || t)
-        (sym (held (slice_index_or names i d) ∙ other_name (mentioned x) (slice_index_or names i d) (λ e. ne (sym e ∙ sym (is d)))))
+        (sym (held (slice_index_or names i d) ∙ unequal (mentioned x) (slice_index_or names i d) (λ e. ne (sym e ∙ sym (is d)))))
         ∙ sym (list_any-append (test (slice_index_or names i d)) part (x ∷ []))
 
 -- the first declaration of each name
@@ -142,7 +131,7 @@ module _ (names : List (List ℕ)) (numbers : List ℕ) (count : ℕ) (known : A
         let old : find (sought name) (flat_map declared_by part) ≡ None = sym (a.at i d f below) ∙ ap (λ k. option_map declared_of (slice_index_or first k f)) number ∙ ap (option_map declared_of) (none f) in
         ap (λ k. option_map declared_of (slice_index_or (set first (slice_index numbers at) (Some declared)) k f)) number
         ∙ ap (option_map declared_of) (get_or-set_same first (slice_index numbers at) (Some declared) f (omega (arith, low, long)))
-        ∙ sym (alone name true (ap (bytes_eq declared.name.now) (same ∙ is d) ∙ same_name declared.name.now))
+        ∙ sym (alone name true (ap (bytes_eq declared.name.now) (same ∙ is d) ∙ same_bytes declared.name.now))
         ∙ ap (λ o. option_or o (find (sought name) (flat_map declared_by (Declares (declared_of declared) ∷ [])))) (sym old)
         ∙ sym (first-in name part (Declares (declared_of declared) ∷ []))
 
@@ -153,7 +142,7 @@ module _ (names : List (List ℕ)) (numbers : List ℕ) (count : ℕ) (known : A
         ap (option_map declared_of) (get_or-set_other first (slice_index numbers at) (slice_index numbers i) (Some declared) f (known.apart i at d below within ne))
         ∙ a.at i d f below
         ∙ sym (or-none (find (sought name) (flat_map declared_by part)))
-        ∙ ap (option_or (find (sought name) (flat_map declared_by part))) (sym (alone name false (other_name declared.name.now name (λ e. ne (sym e ∙ sym (is d))))))
+        ∙ ap (option_or (find (sought name) (flat_map declared_by part))) (sym (alone name false (unequal declared.name.now name (λ e. ne (sym e ∙ sym (is d))))))
         ∙ sym (first-in name part (Declares (declared_of declared) ∷ []))
 
 -- the first fault, a place further
@@ -261,7 +250,7 @@ first-step text i d below numbers count known first long a =
           (λ same. let y = present (slice_index_or first (slice_index numbers i) None) n in
           let number = known.one j i d' bj (in-names text i d below) (same ∙ sym (name d')) in
           inr (y.0, ap (λ k. slice_index_or first k f) number ∙ get_or_default first (slice_index numbers i) f None low ∙ y.1))
-          (λ other. inl (ap (λ t. if t then Some (declared_of declared) else None) (other_name declared.name.now (slice_index_or (map mentioned (shown text)) j d') (λ e'. other (sym e')))))) a
+          (λ other. inl (ap (λ t. if t then Some (declared_of declared) else None) (unequal declared.name.now (slice_index_or (map mentioned (shown text)) j d') (λ e'. other (sym e')))))) a
     by (DrivesHere c n) e = first-same (map mentioned (shown text)) numbers count known first (take i (shown text)) (Drives c n.now) (λ j d' f bj. inl refl) a
     by (ReadsHere n) e = first-same (map mentioned (shown text)) numbers count known first (take i (shown text)) (Reads n.now) (λ j d' f bj. inl refl) a
     by ClocksHere e = first-same (map mentioned (shown text)) numbers count known first (take i (shown text)) Clocks (λ j d' f bj. inl refl) a

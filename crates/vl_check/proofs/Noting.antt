@@ -14,7 +14,7 @@ use Rattle.vl_check.specs.Scope.{names_in, number_at, number_in}
 use Rattle.vl_check.specs.inner.Mentioned.{texts}
 use Rattle.fx_io.specs.Rows.{row_at}
 use Rattle.vl_check.specs.inner.Assigned.{IsNoted, IsNotedAt, places_after, reads_after, IsEmpty}
-use Rattle.vl_check.proofs.Numbering.{slice_get-front}
+use Rattle.fx_io.proofs.Places.{get_left}
 use Rattle.vl_check.proofs.Scoped.{at-number}
 
 -- the last element, or one before it
@@ -49,7 +49,7 @@ module _ (scope : Scope) where
   still-noted passed item reads v j n = record {
     name = n.name;
     value = n.value;
-    item = slice_get-front passed (item ∷ []) j (Assign n.name n.value) n.item;
+    item = get_left passed (item ∷ []) j (Assign n.name n.value) n.item;
     number = n.number;
     row = n.row;
   }
@@ -108,7 +108,7 @@ module _ (scope : Scope) where
           record {
             name = before.name;
             value = before.value;
-            item = slice_get-front passed (Assign name value ∷ []) j (Assign before.name before.value) before.item;
+            item = get_left passed (Assign name value ∷ []) j (Assign before.name before.value) before.item;
             number = before.number;
             row = get_or-set_other reads v u (map (number_at scope) (names_read value)) [] other ∙ before.row;
           }

@@ -14,13 +14,7 @@ use Rattle.vl_check.specs.inner.Mentioned.{mention_of, shown, texts}
 use Rattle.vl_check.specs.inner.Marks.{AreNumbers}
 use Rattle.vl_check.specs.Names.{with_name}
 use Rattle.vl_check.specs.inner.Names.{Numbered}
-
--- an element of the front stands at the same place in the whole
-pub slice_get-front : {X : Type 0} (xs ys : List X) (k : ℕ) (x : X) → slice_get xs k ≡ Some x → slice_get (xs ++ ys) k ≡ Some x
-slice_get-front xs ys k x e =
-    let below = slice_get_within xs k x e in
-    let longer = length-append xs ys in
-    slice_get-get_or (xs ++ ys) k x (omega (arith, below, longer)) ∙ ap Some (get_or_append_left xs ys x k below) ∙ sym (slice_get-get_or xs k x below) ∙ e
+use Rattle.fx_io.proofs.Places.{get_left}
 
 -- keys after one is put in
 abbrev pub IsGrown : List (List ℕ) → List (List ℕ) → List ℕ → Type 0
@@ -54,7 +48,7 @@ one-place keys apart a b x ea eb = by (cases_lt a b) (cases_lt b a) where
 module _ (names : List (List ℕ)) (keys keys' : List (List ℕ)) (numbers : List ℕ) (number : ℕ) (name : List ℕ) where
   still : Longer keys keys' name → (k : ℕ) (x : List ℕ) → slice_get keys k ≡ Some x → slice_get keys' k ≡ Some x
   still (inl same) k x e = ap (λ ks. slice_get ks k) same ∙ e
-  still (inr more) k x e = ap (λ ks. slice_get ks k) more ∙ slice_get-front keys (name ∷ []) k x e
+  still (inr more) k x e = ap (λ ks. slice_get ks k) more ∙ get_left keys (name ∷ []) k x e
 
   -- the key that is new is that of the number
   last : Longer keys keys' name → IsDistinct bytes_eq keys' → slice_get keys' number ≡ Some name → (k : ℕ) → length keys ≤ k → k < length keys' → number ≡ k

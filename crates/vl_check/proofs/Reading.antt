@@ -1,4 +1,4 @@
--- The names that each form of expression reads, and lists that are gone through.
+-- The names that each form of expression reads, and lists that are gone through. Crates above may cite this file.
 use Rattle.std.proofs.Common.{◌≡◌, ◌<◌, ◌+◌, ◌++◌, [], ◌∷◌, refl, ℕ, List, Bor, length, map, slice_index_or, take, sym, ap, subst, ◌∙◌}
 use Rattle.std.specs.List.{flat_map}
 use Rattle.std.proofs.lemmas.List.{append_assoc, flat_map_more, map-append, map_more, take_more}
@@ -10,10 +10,10 @@ use Rattle.vl_ast.specs.declared.expressions.Expr.TheFolds.{fold-roll-Expr}
 use Rattle.vl_ast.specs.Nets.{Mention, Reads, names_read, names_step}
 use Rattle.vl_check.specs.inner.Mentioned.{texts}
 
-names-binary : (op : BinOp) (l r : Expr) → names_read (Binary op l r) ≡ names_read l ++ names_read r
+pub names-binary : (op : BinOp) (l r : Expr) → names_read (Binary op l r) ≡ names_read l ++ names_read r
 names-binary op l r = ap names_read (sym (rolls-Binary op l r)) ∙ fold-roll-Expr (List (List ℕ)) names_step (Expr-F.Binary op l r)
 
-names-choose : (t c o : Expr) → names_read (Choose t c o) ≡ names_read t ++ (names_read c ++ names_read o)
+pub names-choose : (t c o : Expr) → names_read (Choose t c o) ≡ names_read t ++ (names_read c ++ names_read o)
 names-choose t c o = ap names_read (sym (rolls-Choose t c o)) ∙ fold-roll-Expr (List (List ℕ)) names_step (Expr-F.Choose t c o)
 
 flat-map : (xs : List Expr) → flat_map (λ part. part) (map names_read xs) ≡ flat_map names_read xs

@@ -22,6 +22,7 @@ use Rattle.vl_check.specs.inner.Marks.{AreFirst}
 use Rattle.std.specs.Prelude.{fold}
 use Rattle.vl_check.specs.Names.{with_name}
 use Rattle.vl_check.specs.Scope.{IsScopeOf, declaration_in, names_in, number_in}
+use Rattle.fx_io.proofs.Tests.{bytes_same, unequal}
 
 head-in' : {X : Type 0} (y x : X) (ys : List X) → y ≡ x → Contains (y ∷ ys) x
 head-in' y x ys same = subst (λ z. Contains (y ∷ ys) z) same (head-in y ys)
@@ -33,15 +34,6 @@ found p (y ∷ ys) x e = by (found p ys x) (p y) refl e where
   by : (find p ys ≡ Some x → (p x ≡ true) × Contains ys x) → (t : Bool) → p y ≡ t → (if t then Some y else find p ys) ≡ Some x → (p x ≡ true) × Contains (y ∷ ys) x
   by rest true s f = let same : y ≡ x = cc f in (subst (λ z. p z ≡ true) same s, head-in' y x ys same)
   by rest false s f = let r = rest f in (r.0, tail-in y x ys r.1)
-
-same-name : (a b : List ℕ) → a ≡ b → bytes_eq a b ≡ true
-same-name a b e = (bytes_eq-Decides a b).1 e
-
-other-name : (a b : List ℕ) → (a ≡ b → ⊥) → bytes_eq a b ≡ false
-other-name a b ne = by (bytes_eq a b) refl where
-  by : (t : Bool) → bytes_eq a b ≡ t → bytes_eq a b ≡ false
-  by true e = absurd (ne ((bytes_eq-Decides a b).0 e))
-  by false e = e
 
 module _ (keys : List (Bor (List ℕ))) where
   abbrev is-key : List ℕ → Bor (List ℕ) → Bool
@@ -61,8 +53,8 @@ module _ (keys : List (Bor (List ℕ))) where
       let first = position_or_len_is (is-key name) keys k d (omega (arith, below))
       (λ j less. let low : j < length keys = omega (arith, below) in
       let ne = apart_from_distinct bytes_eq (texts keys) j k [] apart less b in
-      other-name name (slice_index_or keys j d).now (λ same. false≢true (sym ne ∙ (λ i. bytes_eq ((key-at j d [] low ∙ sym same) i) ((key-at k d [] below ∙ here) i)) ∙ same-name name name refl)))
-      (λ _. same-name name (slice_index_or keys k d).now (sym here)) in
+      unequal name (slice_index_or keys j d).now (λ same. false≢true (sym ne ∙ (λ i. bytes_eq ((key-at j d [] low ∙ sym same) i) ((key-at k d [] below ∙ here) i)) ∙ bytes_same name name refl)))
+      (λ _. bytes_same name (slice_index_or keys k d).now (sym here)) in
       ap (λ n. cond (ltb n (length keys)) (Some n) None) first ∙ cond-true (ltb k (length keys)) (Some k) None (lt-ltb k (length keys) below)
 
   -- and a number is the place of its name

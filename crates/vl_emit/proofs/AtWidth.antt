@@ -17,7 +17,10 @@ use Rattle.vl_emit.specs.inner.Spelled.{zeros, fill, inside, piece, at_width}
 use Rattle.vl_emit.specs.inner.Written.{IsWritten, Shows}
 use Rattle.hw_net.specs.Operation.{shifted_down}
 use Rattle.vl_emit.proofs.Layers.{sign-Name, sign-Part, sign-Concat, sign-Literal, length-Name, length-Bit, length-Part, length-Literal, length-Concat, length-Repeat, value-Name, value-Bit, value-Part, value-Literal, value-Concat, value-Repeat}
-use Rattle.vl_emit.proofs.Twos.{bits-below, bits-congruent, bits-unique, bits-mod}
+use Rattle.vl_ast.proofs.Stimulated.{bits-fit}
+use Rattle.vl_emit.proofs.Twos.{bits-congruent, bits-unique, bits-mod}
+use Rattle.fx_num.proofs.Words.{size-below, size-half, sign_of, size_of}
+use Rattle.hw_net.proofs.Words.{only-sign}
 
 -- no extension at the same width
 pub extended-same : (negative : Bool) (bits width : ℕ) → (if negative then bits + (2 ^ width - 2 ^ width) else bits) ≡ bits
@@ -48,7 +51,7 @@ pub field-bits : (v low w : ℕ) (z : ℤ) → low + w ≤ v → bits_of v z / 2
 field-bits v low w z h =
     let k : w + low ≤ v = omega arith in
     sym (field_of (bits_of v z) w low) ∙ ap (λ (m : ℕ). m / 2 ^ low) (cut-bits (w + low) v z k ∙ split-bits w low z)
-    ∙ shr_high (bits_of w (shifted_down z low)) low (bits_of low z) (bits-below low z)
+    ∙ shr_high (bits_of w (shifted_down z low)) low (bits_of low z) (bits-fit low z)
 
 pub down-down : (z : ℤ) (a b : ℕ) → shifted_down (shifted_down z a) b ≡ shifted_down z (a + b)
 down-down (pos n) a b = ap pos (shr-shr n a b)
@@ -57,30 +60,6 @@ down-down (negsuc n) a b = ap negsuc (shr-shr n a b)
 pub down-none : (z : ℤ) → shifted_down z 0 ≡ z
 down-none (pos n) = ap pos (omega arith)
 down-none (negsuc n) = ap negsuc (omega arith)
-
--- the sign: -1 or 0
-abbrev pub sign_of : ℤ → ℤ
-sign_of (pos n) = pos 0
-sign_of (negsuc n) = negsuc 0
-
--- the absolute value, or one less below 0
-abbrev pub size_of : ℤ → ℕ
-size_of (pos n) = n
-size_of (negsuc n) = n
-
-pub size-below : (v : ℕ) (signed : Bool) (z : ℤ) → IsWord v signed → InWord v signed z → size_of z < 2 ^ v
-size-below v true (pos n) w r = omega (arith, ints, r.high, pow_pos (v - 1), double v (omega (arith, w.0)))
-size-below v true (negsuc n) w r = omega (arith, ints, r.low, pow_pos (v - 1), double v (omega (arith, w.0)))
-size-below v false (pos n) w r = omega (arith, ints, r.high, pow_pos v)
-size-below v false (negsuc n) w r = absurd (omega (arith, ints, r.low))
-
-pub size-half : (v : ℕ) (z : ℤ) → InWord v true z → size_of z < 2 ^ (v - 1)
-size-half v (pos n) r = omega (arith, ints, r.high, pow_pos (v - 1))
-size-half v (negsuc n) r = omega (arith, ints, r.low, pow_pos (v - 1))
-
-pub only-sign : (z : ℤ) (k : ℕ) → size_of z < 2 ^ k → shifted_down z k ≡ sign_of z
-only-sign (pos n) k h = ap pos (div-eq_of_lt h)
-only-sign (negsuc n) k h = ap negsuc (div-eq_of_lt h)
 
 pub not-negative : (v : ℕ) (z : ℤ) → InWord v false z → sign_of z ≡ pos 0
 not-negative v (pos n) r = refl

@@ -28,7 +28,7 @@ use Rattle.hw_net.specs.declared.netlist.NetOp.TheVariants as operation
 use Rattle.hw_net.specs.Operation.{arity}
 use Rattle.vl_emit.specs.inner.Operators.{by_sign, compared, signed_width, widened, common_width, test_of, in_width, slice_at, expression_of}
 use Rattle.vl_emit.specs.inner.Spoken.{IsWithin}
-use Rattle.vl_emit.proofs.Twos.{bits-below}
+use Rattle.vl_ast.proofs.Stimulated.{bits-fit}
 use Rattle.vl_emit.specs.inner.Clean.{IsClean}
 use Rattle.vl_emit.proofs.Found.{first-or-later, no-element}
 use Rattle.vl_emit.proofs.Layers.{length-Name, length-Bit, length-Part, length-Literal, length-Concat, length-Repeat, length-AsSigned, length-Unary, length-Binary, length-Shift, length-Choose}
@@ -331,7 +331,7 @@ module _ (nets : List ℕ → Net) (allowed : List ℕ → Type 0) where
     pub op-clean : (op : NetOp) → ((j : ℕ) → j < arity op → Readable (a j)) → ((port : ℕ) → op ≡ operation.Input port → Readable (ports port))
         → IsWithin op (a 0).width → ¬ (op ≡ operation.Multiply) → Clean w (expression_of op ports a w)
     op-clean (operation.Input port) known input within not_product = at-clean w (ports port) some most (input port refl)
-    op-clean (operation.Const number) known input within not_product = literal-clean (record { width = w; signed = false; bits = bits_of w number }) some most (bits-below w number)
+    op-clean (operation.Const number) known input within not_product = literal-clean (record { width = w; signed = false; bits = bits_of w number }) some most (bits-fit w number)
     op-clean operation.Resize known input within not_product = at-clean w (a 0) some most (known 0 (omega arith))
     op-clean (operation.ShiftUp places) known input within not_product =
         cond_both (nat_lt places w) (Shift Left (at_width w (a 0)) (record { width = 8; signed = false; bits = places })) (zeros w) (Clean w)

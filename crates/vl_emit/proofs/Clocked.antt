@@ -26,7 +26,7 @@ use Rattle.hw_net.specs.Products.{net_at}
 use Rattle.vl_emit.specs.Reads.{item_reads}
 use Rattle.vl_emit.specs.inner.Emitted.{naming_of, plain_module}
 use Rattle.vl_emit.proofs.Cleaned.{name-clean}
-use Rattle.vl_emit.proofs.NoDouble.{differ-test}
+use Rattle.fx_io.proofs.Tests.{unequal}
 use Rattle.vl_emit.proofs.Doubly.{emitted-once}
 use Rattle.vl_emit.proofs.Found.{no-element, first-or-later, of-one, of-mapped}
 use Rattle.vl_emit.proofs.Interfaces.{Origin as PortOrigin, OfClock, OfReset, OfInput, OfOutput, port-where, input-name, ports-differ, emitted, only, name-begins, input-there}
@@ -82,7 +82,7 @@ module _ (netlist : Circuit) (runs : IsNetlist netlist) (emits : IsEmittable net
   ]
 
   reads-fine : (names : List (List ℕ)) → ((name : List ℕ) → Contains names name → name ≢ codes "clk") → (x : Mention) → Contains (map Reads names) x → Fine x
-  reads-fine names h x c = (let r = of-mapped Reads names x c in subst Fine r.2 (differ-test r.0 (codes "clk") (h r.0 r.1)))
+  reads-fine names h x c = (let r = of-mapped Reads names x c in subst Fine r.2 (unequal r.0 (codes "clk") (h r.0 r.1)))
 
   mention-fine : (i : ModItem) → ((read : List ℕ) → Contains (item_reads i) read → read ≢ codes "clk") → (x : Mention) → Contains (item_mentions i) x → Fine x
   mention-fine (item.Wire signed width name) h x c = one-fine _ x refl c

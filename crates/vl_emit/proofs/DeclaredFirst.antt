@@ -5,7 +5,6 @@ use Rattle.std.specs.Prelude.{⊤}
 use Rattle.std.specs.List.{list_any}
 use Rattle.std.proofs.lemmas.List.Elements.{Contains-append_left, Contains-append_right, Contains-append_cases}
 use Rattle.std.proofs.lemmas.List.Concat.{flat_map-append}
-use Rattle.std.proofs.lemmas.Bool.{or_left, or_right}
 use Rattle.std.proofs.lemmas.Slice.Eq.{bytes_eq-Decides}
 use Rattle.vl_ast.specs.declared.modules.Port.{Port}
 use Rattle.vl_ast.specs.declared.modules.ModItem.{ModItem}
@@ -17,13 +16,7 @@ use Rattle.vl_emit.specs.Reads.{item_reads}
 use Rattle.vl_emit.proofs.Found.{DeclaredBy, no-element, first-or-later, here, later, in-one, of-one, of-mapped}
 use Rattle.vl_emit.proofs.Ordered.{in-parts, none-at-fault}
 use Rattle.vl_emit.specs.inner.Emitted.{drivers, declarers}
-
-pub any-of : {X : Type 0} (p : X → Bool) (xs : List X) (x : X) → Contains xs x → p x ≡ true → list_any p xs ≡ true
-any-of p [] x c e = absurd (no-element x c)
-any-of p (y ∷ xs) x c e = elim (first-or-later y x xs c) [
-  | inl same ↦ or_left (p y) (list_any p xs) (ap p same ∙ e)
-  | inr after ↦ or_right (p y) (list_any p xs) (any-of p xs x after e)
-]
+use Rattle.fx_io.proofs.Places.{seen}
 
 and-false : (t : Bool) → (t && not true) ≡ false
 and-false true = refl
@@ -81,7 +74,7 @@ module _ (m : Module) (declaring driving : List ModItem) (are : m.items ≡ decl
   driver-found name d =
       let r = drives-mention d.0 name d.2 in
       subst (λ (l : List Mention). list_any (is_driver_of name) l ≡ true) (sym mentions-are)
-      (any-of (is_driver_of name) (before ++ flat_map item_mentions driving) (Drives r.0 name)
+      (seen (is_driver_of name) (before ++ flat_map item_mentions driving) (Drives r.0 name)
       (Contains-append_right before (flat_map item_mentions driving) (Drives r.0 name) (in-one item_mentions driving d.0 (Drives r.0 name) d.1 r.1))
       ((bytes_eq-Decides name name).1 refl))
 
@@ -89,7 +82,7 @@ module _ (m : Module) (declaring driving : List ModItem) (are : m.items ≡ decl
   at = is_undriven (mentions m)
 
   declared-found : (b : List Mention) (name : List ℕ) → ((x : Mention) → Contains before x → Contains b x) → IsDeclaredBefore name → not (list_any (is_declaration_of name) b) ≡ false
-  declared-found b name h d = ap not (any-of (is_declaration_of name) b (Declares d.0) (h (Declares d.0) d.1) ((bytes_eq-Decides d.0.name name).1 d.2))
+  declared-found b name h d = ap not (seen (is_declaration_of name) b (Declares d.0) (h (Declares d.0) d.1) ((bytes_eq-Decides d.0.name name).1 d.2))
 
   -- what a mention of an item that drives is
   abbrev IsFine : Mention → Type 0

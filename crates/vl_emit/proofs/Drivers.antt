@@ -26,7 +26,7 @@ use Rattle.vl_emit.specs.inner.Operators.{test_of}
 use Rattle.vl_emit.specs.inner.Clean.{IsClean, IsCleanItem}
 use Rattle.vl_emit.specs.inner.Emitted.{Naming, wire_of, plain_number, constant, counts, slot_test, live_test, drivers}
 use Rattle.vl_emit.proofs.Found.{first-or-later, no-element}
-use Rattle.vl_emit.proofs.Twos.{bits-below}
+use Rattle.vl_ast.proofs.Stimulated.{bits-fit}
 use Rattle.vl_emit.proofs.Cleaned.{Readable, narrow, sound, literal-clean, binary-clean, binary-sound, binary-reads, choose-clean, at-clean, net-clean, no-bits, test-clean, word-most, op-clean}
 use Rattle.vl_emit.specs.inner.Operators.{expression_of}
 use Rattle.vl_emit.specs.inner.Sound.{NamedBy, IsSound, IsSoundKind, IsCounted}
@@ -184,7 +184,7 @@ module _ (nets : List ℕ → DeclaredNet) (allowed : List ℕ → Type 0) (cycl
     slot-of frame slot c r = slot-clean nets allowed cycles frame (wire (naming.counter frame)) r (counter-fits (naming.counter frame) frame c.there c.is) slot
 
     first-sound : (number : ℤ) → is_number (constant (net k).width number) ≡ true
-    first-sound number = number-sound nets allowed (net k).width (bits_of (net k).width number) low high (bits-below (net k).width number)
+    first-sound number = number-sound nets allowed (net k).width (bits_of (net k).width number) low high (bits-fit (net k).width number)
 
     not-multiply : (op : NetOp) (args : List ℕ) → (net k).kind ≡ Comb op args → ¬ (op ≡ operation.Multiply) → IsCleanItem nets allowed false (item.Assign (naming.net k) (expression_of op naming.port (λ j. wire (get_or args j 0)) (net k).width))
     not-multiply op args is other =
@@ -229,7 +229,7 @@ module _ (nets : List ℕ → DeclaredNet) (allowed : List ℕ → Type 0) (cycl
         (slot-of frame (frame.period * cycles - 1) names.0 (may (EnReg frame enable true first from) is (naming.counter frame) names.0.there (inr (inl refl))))
         (choose-clean nets allowed (net k).width 1 (test_of (wire enable)) (expression.Name (naming.net from)) (expression.Literal (constant (net k).width first)) high (omega arith)
         (test-clean nets allowed (wire enable) (may (EnReg frame enable true first from) is enable names.2 (inr (inr refl)))) (named-clean from (may (EnReg frame enable true first from) is from names.1.of.there (inl refl)) names.1.of.width)
-        (literal-clean nets allowed (constant (net k).width first) low high (bits-below (net k).width first)))) c
+        (literal-clean nets allowed (constant (net k).width first) low high (bits-fit (net k).width first)))) c
     drivers-clean (EnReg frame enable false first from) is i c =
         let names = subst (IsSoundKind cycles count naming net rank k) is (sound.names k h) in
         only false _ i (always-clean nets allowed (naming.net k) (constant (net k).width first) 1 (net k).width _ (expression.Name (naming.net from)) (omega arith) high (first-sound first)

@@ -24,7 +24,7 @@ use Rattle.vl_emit.proofs.AtWidth.{assigned-written}
 use Rattle.vl_emit.proofs.Numbers.{number-in_word, number-bits, number-wrapped, number-is, declaration-there}
 use Rattle.vl_emit.proofs.OfOperations.{width-at-least}
 use Rattle.vl_emit.proofs.Registers.{reset-bits}
-use Rattle.vl_emit.proofs.Twos.{bits-below}
+use Rattle.vl_ast.proofs.Stimulated.{bits-fit}
 
 -- a name that is declared with a word shows its number
 pub wire-shows : (m : Module) (total : ℕ) (start : List ℕ → ℕ) (inputs rows : ℕ → List ℕ → ℕ) → Runs m total start inputs rows → (k : ℕ) → k < total → (wire : Wire)
@@ -90,7 +90,7 @@ module _ {netlist : Circuit} {rank : ℕ → ℕ} {m : Module} {total last : ℕ
   pub value-wrapped : (clock k : ℕ) (z : ℤ) → clock < clocks → k < count → row clock (naming.net k) ≡ bits_of (net k).width z → IsWrapped z (net k).width (net k).signed (value k clock)
   value-wrapped clock k z below h e =
       number-wrapped (net k).width (net k).signed (row clock (naming.net k)) z (run.sound.word k h)
-      (subst (λ (n : ℕ). n < 2 ^ (net k).width) (sym e) (bits-below (net k).width z)) e
+      (subst (λ (n : ℕ). n < 2 ^ (net k).width) (sym e) (bits-fit (net k).width z)) e
 
   -- what an assignment gives
   pub assigned-bits : (clock k : ℕ) (e : Expr) (z : ℤ) → k < count → clock < clocks → Contains m.items (item.Assign (naming.net k) e)

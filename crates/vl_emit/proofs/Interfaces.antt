@@ -22,7 +22,8 @@ use Rattle.vl_emit.specs.inner.Ready.{IsReady}
 use Rattle.vl_emit.specs.inner.Sound.{AreNames, HasPorts, HasOnly, IsEmitted}
 use Rattle.vl_emit.proofs.Drivers.{net-width}
 use Rattle.vl_emit.proofs.Found.{no-element, first-or-later, here, later, mapped, of-mapped, names-differ, holds-differ, net-is-no-hold}
-use Rattle.vl_emit.proofs.Lists.{at-contains, default-free, head-pairs, tail-pairs, same-element, pairs-cons, map-pairs}
+use Rattle.std.proofs.lemmas.List.{get_or_default}
+use Rattle.vl_emit.proofs.Lists.{at-contains, head-pairs, tail-pairs, same-element, pairs-cons, map-pairs}
 use Rattle.vl_emit.proofs.Sounds.{word-at, netlist-ready}
 
 -- a net's name is that of its number, or that of its label
@@ -237,7 +238,7 @@ module _ (netlist : Circuit) (runs : IsNetlist netlist) (emits : IsEmittable net
       where
         input-net : (x : NetPort) → Contains netlist.inputs x → x.net < length netlist.nets
         input-net x c =
-            let got : port_at netlist.inputs c.0 ≡ x = default-free netlist.inputs c.0 _ x c.1 ∙ c.2 in
+            let got : port_at netlist.inputs c.0 ≡ x = get_or_default netlist.inputs c.0 _ x c.1 ∙ c.2 in
             subst (λ (y : NetPort). y.net < length netlist.nets) got ((netlist-ready netlist runs emits.counters).inputs c.0 c.1)
     width-of port (OfOutput x c e) =
         let h = All-contains (λ (p : NetPort). p.net < length netlist.nets) netlist.outputs x runs.outputs c in

@@ -1,6 +1,5 @@
 -- Elements of lists by their places, and lists of which no two elements agree. Crates above may cite this file.
-use Rattle.std.proofs.Common.{◌≡◌, ◌≢◌, inl, inr, ℕ, zero, suc, ◌+◌, ◌<◌, Bool, false, ◌||◌, List, [], ◌∷◌, ◌++◌, map, flat_map, length, get_or, Contains, Option, None, Some, refl, ap, sym, ◌∙◌, subst, arith, append_assoc}
-use Rattle.std.specs.Prelude.{IsSome}
+use Rattle.std.proofs.Common.{◌≡◌, ◌≢◌, inl, inr, ℕ, zero, suc, ◌+◌, ◌<◌, Bool, false, ◌||◌, List, [], ◌∷◌, ◌++◌, map, flat_map, length, get_or, Contains, refl, ap, sym, ◌∙◌, subst, arith, append_assoc}
 use Rattle.std.specs.List.{AllPairs, list_any}
 use Rattle.std.proofs.lemmas.Grind.{flat_map-append}
 use Rattle.std.proofs.lemmas.Option.{slice_get-get_or, get_or_from_slice_get}
@@ -10,14 +9,11 @@ use Rattle.vl_emit.proofs.Found.{no-element, first-or-later, here, later, of-one
 use Rattle.hw_net.specs.declared.netlist.Net.{Net}
 use Rattle.hw_net.specs.declared.netlist.NetKind.{NetKind}
 use Rattle.hw_net.specs.Products.{net_at}
+use Rattle.std.proofs.lemmas.List.{get_or_default}
 
 -- the element at a place
 pub at-contains : {X : Type 0} (xs : List X) (k : ℕ) (d : X) → k < length xs → Contains xs (get_or xs k d)
 at-contains xs k d h = (k, h, get_or_from_slice_get xs k (get_or xs k d) (get_or xs k d) (slice_get-get_or xs k d h))
-
-pub some-of : (o : Option ℕ) → IsSome o → (j : ℕ) × (o ≡ Some j)
-some-of None h = absurd (cc h)
-some-of (Some j) h = (j, refl)
 
 module _ {X : Type 0} (R : X → X → Type 0) where
   pub head-pairs : (x : X) (xs : List X) → AllPairs R (x ∷ xs) → (y : X) → Contains xs y → R x y
@@ -51,10 +47,6 @@ same-element f (x ∷ xs) p a b c d e = elim (first-or-later x a xs c) [
     | inr j ↦ same-element f xs (tail-pairs (λ a b. f a ≢ f b) x xs p) a b i j e
   ]
 ]
-
--- the default has no say where there is an element
-pub default-free : {X : Type 0} (xs : List X) (k : ℕ) (a b : X) → k < length xs → get_or xs k a ≡ get_or xs k b
-default-free xs k a b h = get_or_from_slice_get xs k (get_or xs k b) a (slice_get-get_or xs k b h)
 
 module _ {X : Type 0} (R : X → X → Type 0) where
   pub pairs-cons : (x : X) (xs : List X) → ((y : X) → Contains xs y → R x y) → AllPairs R xs → AllPairs R (x ∷ xs)
@@ -116,16 +108,8 @@ loop-step f start before after n is more =
 
 -- ---- lists that grow at their end
 
--- an item more
-pub put-next : {X : Type 0} (old items more front : List X) (item : X) → items ≡ old ++ front → more ≡ items ++ item ∷ [] → more ≡ old ++ (front ++ item ∷ [])
-put-next old items more front item are put = put ∙ ap (λ xs. xs ++ item ∷ []) are ∙ append_assoc old front (item ∷ [])
-
--- a part, and then the rest
-pub put-before : {X : Type 0} (old items more part rest : List X) → items ≡ old ++ part → more ≡ items ++ rest → more ≡ old ++ (part ++ rest)
-put-before old items more part rest are put = put ∙ ap (λ xs. xs ++ rest) are ∙ append_assoc old part rest
-
 -- the kind of a net that is read
 pub kind-at : (nets read : List Net) (own : ℕ) (default : Net) (kind : NetKind) → read ≡ nets → own < length nets → (get_or read own default).kind ≡ kind → (net_at nets own).kind ≡ kind
 kind-at nets read own default kind same inside is =
-    let net : get_or read own default ≡ net_at nets own = ap (λ (ns : List Net). get_or ns own default) same ∙ default-free nets own default _ inside in
+    let net : get_or read own default ≡ net_at nets own = ap (λ (ns : List Net). get_or ns own default) same ∙ get_or_default nets own default _ inside in
     ap (λ (n : Net). n.kind) (sym net) ∙ is

@@ -3,7 +3,6 @@
 use Rattle.std.proofs.Common.{◌≡◌, ◌≢◌, ℕ, Bool, true, false, not, ◌||◌, List, [], ◌∷◌, ◌++◌, map, flat_map, Contains, bytes_eq, Some, None, refl, ap, sym, ◌∙◌, subst, append_assoc}
 use Rattle.std.specs.Prelude.{⊤}
 use Rattle.std.specs.List.{list_any, AllPairs}
-use Rattle.std.proofs.lemmas.Bool.{false_from_ne_true}
 use Rattle.std.proofs.lemmas.Grind.{flat_map-append}
 use Rattle.std.proofs.lemmas.Slice.Eq.{bytes_eq-Decides}
 use Rattle.vl_ast.specs.declared.modules.Port.{Port}
@@ -16,6 +15,7 @@ use Rattle.vl_emit.proofs.Found.{here, later, in-one, of-one, found, found-is, D
 use Rattle.vl_emit.proofs.Lists.{apart-pairs, same-element, none-of, empty-list}
 use Rattle.vl_emit.proofs.Ordered.{fault-free}
 use Rattle.vl_emit.proofs.DeclaredFirst.{item_drives}
+use Rattle.fx_io.proofs.Tests.{unequal}
 
 abbrev pub driven_by : Mention → List (List ℕ)
 driven_by (Declares declared) = []
@@ -29,9 +29,6 @@ DifferD one other = one.name ≢ other.name
 abbrev pub DifferN : List ℕ → List ℕ → Type 0
 DifferN one other = one ≢ other
 
-pub differ-test : (a b : List ℕ) → a ≢ b → bytes_eq a b ≡ false
-differ-test a b ne = false_from_ne_true (bytes_eq a b) (λ e. ne ((bytes_eq-Decides a b).0 e))
-
 module _ (m : Module) where
   abbrev pub MayBe : Mention → Type 0
   MayBe (Declares declared) = ⊤
@@ -40,14 +37,14 @@ module _ (m : Module) where
   MayBe Clocks = ⊤
 
   declares-other : (d : Declared) (before : List Mention) → ((e : Declared) → Contains (flat_map declared_by before) e → DifferD e d) → (y : Mention) → Contains before y → is_declaration_of d.name y ≡ false
-  declares-other d before new (Declares e) c = differ-test e.name d.name (new e (in-one declared_by before (Declares e) e c (here e [])))
+  declares-other d before new (Declares e) c = unequal e.name d.name (new e (in-one declared_by before (Declares e) e c (here e [])))
   declares-other d before new (Drives clocked name) c = refl
   declares-other d before new (Reads name) c = refl
   declares-other d before new Clocks c = refl
 
   drives-other : (name : List ℕ) (before : List Mention) → ((other : List ℕ) → Contains (flat_map driven_by before) other → other ≢ name) → (y : Mention) → Contains before y → is_driver_of name y ≡ false
   drives-other name before new (Declares e) c = refl
-  drives-other name before new (Drives clocked other) c = differ-test other name (new other (in-one driven_by before (Drives clocked other) other c (here other [])))
+  drives-other name before new (Drives clocked other) c = unequal other name (new other (in-one driven_by before (Drives clocked other) other c (here other [])))
   drives-other name before new (Reads other) c = refl
   drives-other name before new Clocks c = refl
 

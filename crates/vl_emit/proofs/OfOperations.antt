@@ -25,9 +25,10 @@ use Rattle.vl_emit.specs.inner.Operators.{widened, signed_width, by_sign, compar
 use Rattle.vl_emit.specs.inner.Written.{IsWritten, Shows}
 use Rattle.vl_emit.proofs.Bitwise.{low-bits, and-written, or-written, xor-written, invert-written}
 use Rattle.vl_emit.proofs.Layers.{by_itself}
-use Rattle.vl_emit.proofs.AtWidth.{piece-plain, size_of, size-below, size-half, as-name, split-bits, zeros-written, beside-written, piece-written, operand-written, alone-written, cut-bits}
+use Rattle.fx_num.proofs.Words.{size-below, size-half, size_of}
+use Rattle.vl_emit.proofs.AtWidth.{piece-plain, as-name, split-bits, zeros-written, beside-written, piece-written, operand-written, alone-written, cut-bits}
 use Rattle.vl_emit.proofs.Operations.{shift-bits, number-back, less_plain-written, add-written, subtract-written, multiply-written, negate-written, shift-written, literal-written, choose-written, equal-written, not_equal-written, less-written, same-bits}
-use Rattle.vl_emit.proofs.Twos.{bits-below}
+use Rattle.vl_ast.proofs.Stimulated.{bits-fit}
 
 pub truth-number : (t : Bool) → pos (truth t) ≡ truth_number t
 truth-number true = refl
@@ -46,7 +47,7 @@ slice-low : (high low : ℕ) (z : ℤ) → low ≤ high → low_bits (high + 1) 
 slice-low high low z h =
     let e : high + 1 ≡ high + 1 - low + low = omega arith in
     ap (λ (n : ℕ). n / 2 ^ low) (low-bits (high + 1) z ∙ ap (λ (v : ℕ). bits_of v z) e ∙ split-bits (high + 1 - low) low z)
-    ∙ shr_high (bits_of (high + 1 - low) (shifted_down z low)) low (bits_of low z) (bits-below low z)
+    ∙ shr_high (bits_of (high + 1 - low) (shifted_down z low)) low (bits_of low z) (bits-fit low z)
 
 -- a shift of all places
 all-out : (w k : ℕ) (z : ℤ) → w ≤ k → bits_of w (z *ℤ pos (2 ^ k)) ≡ 0
@@ -149,7 +150,7 @@ module _ (nets : List ℕ → Net) (row : List ℕ → ℕ) where
       let y : ℤ = shifted_down z low in
       cond_both (nat_le w count) (piece wire low w) (expression.Concat (zeros (w - count) ∷ piece wire low count ∷ [])) (Written w (pos (bits_of count y)))
       (λ is. renumbered w y (pos (bits_of count y)) (piece wire low w) (low-of-field w count y (leb-true w count is)) (piece-written nets row low w wire z some s))
-      (λ is. zeros-before w count (bits_of count y) (piece wire low count) (leb-false w count is) (bits-below count y)
+      (λ is. zeros-before w count (bits_of count y) (piece wire low count) (leb-false w count is) (bits-fit count y)
       (renumbered count y (pos (bits_of count y)) (piece wire low count) (low-of-field count count y (omega arith)) (piece-written nets row low count wire z h s)))
 
   module _ (ports : ℕ → Wire) (given : ℕ → ℤ) (a : ℕ → Wire) (z : ℕ → ℤ) (w : ℕ) (some : 1 ≤ w) (most : w ≤ 128) where

@@ -18,8 +18,11 @@ use Rattle.vl_ast.specs.Value.{extended, is_negative, number_of, truth, value_in
 use Rattle.vl_ast.specs.Value.{bits_of}
 use Rattle.vl_emit.specs.inner.Written.{IsWritten}
 use Rattle.vl_emit.proofs.Layers.{length-Unary, length-Binary, length-Shift, length-Choose, length-AsSigned, length-Literal, sign-AsSigned, value-Unary, value-Binary, value-Shift, value-Choose, value-AsSigned, value-Literal, by_itself}
-use Rattle.vl_emit.proofs.AtWidth.{alone-written, extended-same, size_of}
-use Rattle.vl_emit.proofs.Twos.{bits-below, bits-congruent, bits-unique, IsCongruent-add, IsCongruent-neg, IsCongruent-mul}
+use Rattle.vl_emit.proofs.AtWidth.{alone-written, extended-same}
+use Rattle.hw_net.proofs.Modular.{congruent-neg}
+use Rattle.vl_ast.proofs.Stimulated.{bits-fit}
+use Rattle.vl_emit.proofs.Twos.{bits-congruent, bits-unique, IsCongruent-add, IsCongruent-mul}
+use Rattle.fx_num.proofs.Words.{size_of}
 
 add-bits : (w : ℕ) (a b : ℤ) → (bits_of w a + bits_of w b) % 2 ^ w ≡ bits_of w (a +ℤ b)
 add-bits w a b = bits-unique w (bits_of w a + bits_of w b) (a +ℤ b) (IsCongruent-add (2 ^ w) (bits-congruent w a) (bits-congruent w b))
@@ -27,8 +30,8 @@ add-bits w a b = bits-unique w (bits_of w a + bits_of w b) (a +ℤ b) (IsCongrue
 -- 2 to the width less the bits of a number
 opposite-congruent : (w : ℕ) (a : ℤ) → IsCongruent (pos (2 ^ w - bits_of w a)) (neg_ℤ a) (2 ^ w)
 opposite-congruent w a = IsCongruent-trans (2 ^ w)
-    (record { turns = pos 1; equal = omega (arith, ints, bits-below w a) })
-    (IsCongruent-neg (2 ^ w) (bits-congruent w a))
+    (record { turns = pos 1; equal = omega (arith, ints, bits-fit w a) })
+    (congruent-neg (2 ^ w) (bits-congruent w a))
 
 subtract-bits : (w : ℕ) (a b : ℤ) → (bits_of w a + (2 ^ w - bits_of w b)) % 2 ^ w ≡ bits_of w (a -ℤ b)
 subtract-bits w a b = bits-unique w (bits_of w a + (2 ^ w - bits_of w b)) (a -ℤ b) (IsCongruent-add (2 ^ w) (bits-congruent w a) (opposite-congruent w b))

@@ -1,6 +1,6 @@
 -- What is emitted nests a few levels deep, and has no empty concatenation.
 use Rattle.std.proofs.Common.{◌≡◌, ℕ, ◌+◌, ◌-◌, ◌*◌, ◌≤◌, ◌==◌, nat_le, nat_lt, Bool, true, false, ◌&&◌, if◌then◌else◌, List, [], ◌∷◌, refl, sym, ◌∙◌, subst, arith}
-use Rattle.std.proofs.lemmas.Bool.{cond_both}
+use Rattle.std.proofs.lemmas.Bool.{cond_both, and_from}
 use Rattle.vl_ast.specs.declared.expressions.UnOp.{UnOp}
 use Rattle.vl_ast.specs.declared.expressions.UnOp.TheVariants as unary
 use Rattle.vl_ast.specs.declared.expressions.BinOp.{BinOp}
@@ -49,15 +49,12 @@ short-part name high low = rolled 0 (Expr-F.Part name high low) (Part name high 
 pub short-literal : (number : Sized) → IsShort 0 (Literal number)
 short-literal number = rolled 0 (Expr-F.Literal number) (Literal number) (rolls-Literal number) (omega arith) refl
 
-both-filled : (a b : Bool) → a ≡ true → b ≡ true → (a && b) ≡ true
-both-filled a b e f = rw (e, f) refl
-
 short-beside : (n : ℕ) (left right : Expr) → IsShort n left → IsShort n right → IsShort (n + 1) (Concat (left ∷ right ∷ []))
 short-beside n left right l r =
     let a = l.deep in
     let b = r.deep in
     rolled (n + 1) (Expr-F.Concat (left ∷ right ∷ [])) (Concat (left ∷ right ∷ [])) (rolls-Concat (left ∷ right ∷ [])) (omega (arith, a, b))
-    (both-filled (is_filled left) (is_filled right && true) l.filled (both-filled (is_filled right) true r.filled refl))
+    (and_from (is_filled left) (is_filled right && true) l.filled (and_from (is_filled right) true r.filled refl))
 
 short-repeat : (n count : ℕ) (part : Expr) → IsShort n part → IsShort (n + 1) (Repeat count part)
 short-repeat n count part p = let a = p.deep in rolled (n + 1) (Expr-F.Repeat count part) (Repeat count part) (rolls-Repeat count part) (omega (arith, a)) p.filled
@@ -75,7 +72,7 @@ pub short-binary : (n : ℕ) (op : BinOp) (left right : Expr) → IsShort n left
 short-binary n op left right l r =
     let a = l.deep in
     let b = r.deep in
-    rolled (n + 1) (Expr-F.Binary op left right) (Binary op left right) (rolls-Binary op left right) (omega (arith, a, b)) (both-filled (is_filled left) (is_filled right) l.filled r.filled)
+    rolled (n + 1) (Expr-F.Binary op left right) (Binary op left right) (rolls-Binary op left right) (omega (arith, a, b)) (and_from (is_filled left) (is_filled right) l.filled r.filled)
 
 pub short-choose : (n : ℕ) (test chosen other : Expr) → IsShort n test → IsShort n chosen → IsShort n other → IsShort (n + 1) (Choose test chosen other)
 short-choose n test chosen other t c o =
@@ -83,7 +80,7 @@ short-choose n test chosen other t c o =
     let b = c.deep in
     let d = o.deep in
     rolled (n + 1) (Expr-F.Choose test chosen other) (Choose test chosen other) (rolls-Choose test chosen other) (omega (arith, a, b, d))
-    (both-filled (is_filled test && is_filled chosen) (is_filled other) (both-filled (is_filled test) (is_filled chosen) t.filled c.filled) o.filled)
+    (and_from (is_filled test && is_filled chosen) (is_filled other) (and_from (is_filled test) (is_filled chosen) t.filled c.filled) o.filled)
 
 -- ---- pieces of nets
 

@@ -1,7 +1,7 @@
 -- In every run with `reset` and then none, the nets' names show the rows of the netlist.
-use Rattle.std.proofs.Common.{◌≡◌, ℕ, zero, suc, ◌+◌, ◌-◌, ◌*◌, ◌<◌, ◌≤◌, Bool, true, false, List, [], length, get_or, slice_get, ℤ, pos, ◌*ℤ◌, Option, Some, ap, sym, ◌∙◌, subst, refl, arith, add-one}
+use Rattle.std.proofs.Common.{◌≡◌, ℕ, zero, suc, ◌+◌, ◌-◌, ◌*◌, ◌<◌, true, false, List, [], length, get_or, slice_get, ℤ, pos, ◌*ℤ◌, Option, Some, ap, sym, ◌∙◌, subst, refl, arith, add-one}
 use Rattle.std.proofs.lemmas.Option.{slice_get-get_or, get_or_from_slice_get, slice_get_within}
-use Rattle.fx_num.specs.Word.{IsWord, IsWrapped}
+use Rattle.fx_num.specs.Word.{IsWrapped}
 use Rattle.vl_ast.specs.declared.expressions.BinOp.TheVariants as binary
 use Rattle.vl_ast.specs.declared.expressions.Expr.{Expr}
 use Rattle.vl_ast.specs.declared.expressions.Expr.TheVariants as expression
@@ -33,10 +33,7 @@ use Rattle.vl_emit.proofs.Operations.{multiply-written}
 use Rattle.vl_emit.proofs.InRun.{Running, known, value-wrapped, assigned-bits, item-of, names-of}
 use Rattle.vl_emit.proofs.Counters.{counter-value}
 use Rattle.vl_emit.proofs.Stepped.{begun, reg-goes, en-goes, bridge-begins, bridge-goes, counter-goes}
-
-width-most : (w : ℕ) (signed : Bool) → IsWord w signed → w ≤ 128
-width-most w true h = h.1
-width-most w false h = omega (arith, h.1)
+use Rattle.fx_num.proofs.Words.{word-width}
 
 module _ {netlist : Circuit} {rank : ℕ → ℕ} {m : Module} {total last : ℕ} {start : List ℕ → ℕ} {inputs rows : ℕ → List ℕ → ℕ}
     (run : Running netlist rank m total last start inputs rows) where
@@ -92,7 +89,7 @@ module _ {netlist : Circuit} {rank : ℕ → ℕ} {m : Module} {total last : ℕ
         value-wrapped run clock k z below h
         (assigned-bits run clock k e z h below (item-of run k h (Comb op args) is (item.Assign (naming.net k) e) (here _ []))
         (op-written (nets_of m) (row clock) naming.port (λ number. given number clock) (λ j. wire (get_or args j 0)) (λ j. number_at (λ number. value number clock) (slice_get args j)) (net k).width
-        (width-at-least (net k).signed (net k).width (run.sound.word k h)) (width-most (net k).width (net k).signed (run.sound.word k h)) op
+        (width-at-least (net k).signed (net k).width (run.sound.word k h)) (word-width (net k).width (net k).signed (run.sound.word k h)) op
         (λ j within. (let same : slice_get args j ≡ Some (get_or args j 0) = slice_get-get_or args j 0 (omega (arith, within, names.2)) in
         subst (λ (o : Option ℕ). Shows (nets_of m) (row clock) (wire (get_or args j 0)) (number_at (λ number. value number clock) o)) (sym same)
         (known run clock (get_or args j 0) below (names.1 j within).there)))

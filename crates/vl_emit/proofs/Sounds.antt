@@ -1,7 +1,6 @@
 -- A netlist that can be run and has its Counters is sound, net by net. Crates above may cite this file.
-use Rattle.std.proofs.Common.{◌≡◌, ℕ, suc, ◌+◌, ◌-◌, ◌*◌, ◌<◌, ◌==◌, Bool, true, false, if◌then◌else◌, List, [], ◌∷◌, length, get_or, slice_get, Contains, Option, Some, pos, refl, ap, sym, ◌∙◌, subst, arith}
+use Rattle.std.proofs.Common.{◌≡◌, ℕ, suc, ◌+◌, ◌-◌, ◌*◌, ◌<◌, Bool, true, false, if◌then◌else◌, List, [], ◌∷◌, length, get_or, slice_get, Contains, Option, Some, pos, refl, ap, sym, ◌∙◌, subst, arith}
 use Rattle.std.specs.Prelude.{All, IsSome, unwrap_or}
-use Rattle.std.proofs.lemmas.Bool.{and_parts, eqb-true}
 use Rattle.std.proofs.lemmas.Option.{slice_get-get_or, get_or_from_slice_get, slice_get_within}
 use Rattle.std.proofs.lemmas.List.Elements.{All-contains}
 use Rattle.std.proofs.Math.Nat.{mul-pos}
@@ -14,7 +13,6 @@ use Rattle.hw_net.specs.declared.netlist.NetOp.TheVariants.{Input, Const, Resize
 use Rattle.hw_net.specs.declared.netlist.NetKind.{NetKind}
 use Rattle.hw_net.specs.declared.netlist.NetKind.TheVariants.{Comb, Reg, EnReg, Bridge, Unit, Counter}
 use Rattle.hw_net.specs.Circuit.{Circuit}
-use Rattle.hw_net.specs.ByFrame.{is_same_frame}
 use Rattle.hw_net.specs.Frames.{frame_of, counted_frame, is_frame, counter_from, counter_of, HasCounters}
 use Rattle.hw_net.specs.Netlist.{reads, reads_now, HasWord, HasParts, IsKind, IsNetlist}
 use Rattle.hw_net.specs.Operation.{arity}
@@ -24,16 +22,10 @@ use Rattle.vl_emit.specs.inner.Emitted.{Naming, naming_of}
 use Rattle.vl_emit.specs.inner.Ready.{IsTimed, IsReady, AreReady}
 use Rattle.vl_emit.specs.inner.Sound.{IsCounted, HasWordOf, IsSoundKind, IsSound}
 use Rattle.vl_emit.specs.inner.Spoken.{IsWithin}
-use Rattle.vl_emit.proofs.AtWidth.{size-below}
-use Rattle.vl_emit.proofs.Lists.{at-contains, some-of}
-
--- the first Counter of a frame
-same-frame : (own frame : Frame) → is_same_frame own frame ≡ true → own ≡ frame
-same-frame own frame e =
-    let parts = and_parts (own.period == frame.period) (own.latency == frame.latency) e in
-    let p : own.period ≡ frame.period = eqb-true own.period frame.period parts.0 in
-    let q : own.latency ≡ frame.latency = eqb-true own.latency frame.latency parts.1 in
-    λ i. record { period = p i; latency = q i }
+use Rattle.fx_num.proofs.Words.{size-below}
+use Rattle.fx_io.proofs.Tests.{some_there}
+use Rattle.vl_emit.proofs.Lists.{at-contains}
+use Rattle.hw_net.proofs.Index.{same-is}
 
 counts-frame : (frame : Frame) (kind : NetKind) → is_frame frame (counted_frame kind) ≡ true → kind ≡ Counter frame
 counts-frame frame (Comb op args) e = absurd (cc e)
@@ -41,7 +33,7 @@ counts-frame frame (Reg own slot first from) e = absurd (cc e)
 counts-frame frame (EnReg own enable reset_too first from) e = absurd (cc e)
 counts-frame frame (Bridge own live from) e = absurd (cc e)
 counts-frame frame (Unit left right) e = absurd (cc e)
-counts-frame frame (Counter own) e = ap Counter (same-frame own frame e)
+counts-frame frame (Counter own) e = ap Counter (same-is own frame e)
 
 abbrev CounterAt : List Net → ℕ → Frame → ℕ → Type 0
 CounterAt nets start frame j = (i : ℕ) × (j ≡ start + i) × (i < length nets) × ((net_at nets i).kind ≡ Counter frame)
@@ -140,7 +132,7 @@ module _ (netlist : Circuit) (runs : IsNetlist netlist) (counted : HasCounters n
 
   timed : (frame : Frame) → 0 < frame.period → IsSome (counter_of netlist.nets frame) → IsTimed netlist frame
   timed frame some h =
-      let f = some-of (counter_of netlist.nets frame) h in
+      let f = some_there (counter_of netlist.nets frame) h in
       record { period = some; number = f.0; counter = f.1; there = (counter-found netlist.nets frame f.0 f.1).0 }
 
   counted-of : (frame : Frame) → IsTimed netlist frame → IsCounted cycles count naming net frame

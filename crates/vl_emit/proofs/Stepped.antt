@@ -34,7 +34,7 @@ use Rattle.vl_emit.proofs.AtWidth.{alone-written, as-name}
 use Rattle.vl_emit.proofs.OfOperations.{test-tells}
 use Rattle.vl_emit.proofs.Operations.{literal-written, choose-written, choice-bits}
 use Rattle.vl_emit.proofs.Registers.{next-value, name-written, condition-told, both-written, no-bit, both-some}
-use Rattle.vl_emit.proofs.Twos.{bits-below}
+use Rattle.vl_ast.proofs.Stimulated.{bits-fit}
 use Rattle.vl_emit.proofs.InRun.{Running, known, bits-of-value, value-is, assigned-bits, first-bits, released, edge, item-of, names-of}
 use Rattle.vl_emit.proofs.Counters.{slot_bit, live_bit, counter-value, counter-counts, slot-written, slot-decides, live-written, live-decides}
 
@@ -81,7 +81,7 @@ module _ {netlist : Circuit} {rank : ℕ → ℕ} {m : Module} {total last : ℕ
         → Contains (drivers cycles naming net k kind) (item.Always (naming.net k) (constant (net k).width first) condition e) → value k 0 ≡ first
     begun kind is first condition e below within c =
         value-is run 0 k first h within
-        (first-bits run (naming.net k) (net k).width (bits_of (net k).width first) (net k).signed condition e (run.has.declared k h) (bits-below (net k).width first) below
+        (first-bits run (naming.net k) (net k).width (bits_of (net k).width first) (net k).signed condition e (run.has.declared k h) (bits-fit (net k).width first) below
         (item-of run k h kind is (item.Always (naming.net k) (constant (net k).width first) condition e) c))
 
     -- a register that takes a number at some clocks, and else keeps its own

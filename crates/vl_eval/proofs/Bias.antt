@@ -5,13 +5,11 @@ use Rattle.std.proofs.lemmas.Int.{ints}
 use Rattle.std.proofs.lemmas.Bool.{cases_lt, lt-ltb, le-ltb, le-leb, lt-leb}
 use Rattle.std.proofs.lemmas.Nat.{pow_pos, xor_block}
 use Rattle.vl_ast.specs.Value.{Bits, number_of}
+use Rattle.fx_io.proofs.Tests.{lt-yes}
 
 is-true : (t : Bool) → T t → t ≡ true
 is-true true h = refl
 is-true false h = absurd h
-
-int-lt-yes : (a b : ℤ) → a <ℤ b → int_lt a b ≡ true
-int-lt-yes a b h = is-true (int_lt a b) h.lt
 
 int-lt-not : (a b : ℤ) → b ≤ℤ a → int_lt a b ≡ false
 int-lt-not a b h = by (int_lt a b) refl where
@@ -22,7 +20,7 @@ int-lt-not a b h = by (int_lt a b) refl where
 -- the order of numbers is that of the words
 same-order : (a b : ℤ) (x y : ℕ) → (x < y → a <ℤ b) → (y ≤ x → b ≤ℤ a) → nat_lt x y ≡ int_lt a b
 same-order a b x y under over = ⊎_elim
-    (λ less. lt-ltb x y less ∙ sym (int-lt-yes a b (under less)))
+    (λ less. lt-ltb x y less ∙ sym (lt-yes a b (under less)))
     (λ more. le-ltb x y more ∙ sym (int-lt-not a b (over more)))
     (cases_lt x y)
 

@@ -20,7 +20,8 @@ use Rattle.vl_eval.specs.declared.ops.Op.{Op}
 use Rattle.vl_eval.specs.declared.ops.Op.TheVariants.{Constant, Extended, Select, Choose, Beside}
 use Rattle.vl_eval.specs.inner.Ops.{op_value, IsSettled}
 use Rattle.vl_eval.specs.inner.Built.{unary_op, binary_op}
-use Rattle.vl_eval.proofs.Words.{unary-gives, whole-gives, together-gives, alone-gives, extension, as-it-is, bit-gives, select-gives, put-beside}
+use Rattle.std.proofs.lemmas.Nat.Bits.{shr_and_one}
+use Rattle.vl_eval.proofs.Words.{unary-gives, whole-gives, together-gives, alone-gives, extension, as-it-is, select-gives, put-beside}
 use Rattle.vl_eval.specs.inner.Shown.{NamesFit, row_of, Shows}
 use Rattle.vl_eval.proofs.Fits.{sound, left-room, right-room, value-fits, beside-fits}
 
@@ -212,7 +213,7 @@ module _ (by_layer : ByLayer) (base : ℕ) (nets : List ℕ → Net) (slot_of : 
   -- a bit and a part of a name
   pub shows-bit : (ops : List Op) (width : ℕ) (signed : Bool) (name : List ℕ) (place : ℕ)
       → Here (ops ++ Select (slot_of name) place 1 ∷ []) (base + length ops) width signed (roll-Expr (Expr-F.Bit name place))
-  shows-bit ops width signed name place = shows-op ops (Select (slot_of name) place 1) width signed (Expr-F.Bit name place) (λ values s room. bit-gives (values (slot_of name)) place)
+  shows-bit ops width signed name place = shows-op ops (Select (slot_of name) place 1) width signed (Expr-F.Bit name place) (λ values s room. shr_and_one (values (slot_of name)) place)
 
   pub shows-part : (ops : List Op) (width : ℕ) (signed : Bool) (name : List ℕ) (high low : ℕ)
       → Here (ops ++ Select (slot_of name) low (2 ^ (high + 1 - low) - 1) ∷ []) (base + length ops) width signed (roll-Expr (Expr-F.Part name high low))

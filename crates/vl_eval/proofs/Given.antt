@@ -1,6 +1,6 @@
 -- The bits that an edge is given, by the places of its ports. Crates above may cite this file.
-use Rattle.std.proofs.Common.{◌≡◌, ◌≢◌, ◌<◌, ◌≤◌, ◌+◌, ◌^◌, inl, inr, ◌⊎◌, ⊎_elim, ℕ, zero, suc, Bool, true, false, List, [], ◌∷◌, ◌++◌, length, filter, slice_get, slice_index, Contains, bytes_eq, Some, refl, sym, ap, subst, ◌∙◌, arith}
-use Rattle.std.proofs.lemmas.Bool.{cond-true, cond-false, cases_Bool, cases_lt}
+use Rattle.std.proofs.Common.{◌≡◌, ◌<◌, ◌≤◌, ◌+◌, ◌^◌, inl, inr, ◌⊎◌, ℕ, zero, suc, Bool, true, false, List, [], ◌∷◌, ◌++◌, length, filter, slice_get, slice_index, Contains, bytes_eq, Some, refl, sym, ap, subst, ◌∙◌, arith}
+use Rattle.std.proofs.lemmas.Bool.{cond-true, cond-false, cases_lt}
 use Rattle.std.proofs.lemmas.List.{get_or_append_left, get_or_at, length-append}
 use Rattle.std.proofs.lemmas.Option.{slice_get_within, slice_get-get_or}
 use Rattle.std.proofs.lemmas.Slice.Eq.{bytes_eq-Decides}
@@ -9,12 +9,10 @@ use Rattle.vl_ast.proofs.Places.{cons-cases, head-in, none-in, tail-in}
 use Rattle.vl_ast.proofs.PortLists.{ApartAt}
 use Rattle.vl_eval.specs.Given.{given}
 use Rattle.vl_eval.specs.Machine.{AreFit}
+use Rattle.fx_io.proofs.Tests.{unequal}
 
 apart-later : (first : Port) (ports : List Port) → ApartAt (first ∷ ports) → ApartAt ports
 apart-later first ports apart = record { at = λ i j one other less ei ej. apart.at (suc i) (suc j) one other (omega (arith, less)) ei ej }
-
-other-name : (a b : List ℕ) → a ≢ b → bytes_eq a b ≡ false
-other-name a b ne = ⊎_elim (λ t. absurd (ne ((bytes_eq-Decides a b).0 t))) (λ f. f) (cases_Bool (bytes_eq a b))
 
 -- a port has the bits at its place
 pub given-at : (ports : List Port) → ApartAt ports → (bits : List ℕ) (k : ℕ) (port : Port) → slice_get ports k ≡ Some port → k < length bits → given ports bits port.name ≡ slice_index bits k
@@ -24,7 +22,7 @@ given-at (first ∷ ports) apart (here ∷ bits) zero port e low =
     let same : first ≡ port = cc e in
     cond-true (bytes_eq first.name port.name) here (given ports bits port.name) ((bytes_eq-Decides first.name port.name).1 (ap (λ (p : Port). p.name) same))
 given-at (first ∷ ports) apart (here ∷ bits) (suc k) port e low =
-    cond-false (bytes_eq first.name port.name) here (given ports bits port.name) (other-name first.name port.name (apart.at zero (suc k) first port (omega arith) refl e))
+    cond-false (bytes_eq first.name port.name) here (given ports bits port.name) (unequal first.name port.name (apart.at zero (suc k) first port (omega arith) refl e))
     ∙ given-at ports (apart-later first ports apart) bits k port e (omega (arith, low))
 
 -- a name of none of the ports has 0

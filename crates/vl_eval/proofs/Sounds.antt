@@ -1,6 +1,5 @@
 -- What the fourth condition says of each item and each name of a module. Crates above may cite this file.
 use Rattle.std.proofs.Common.{◌≡◌, ◌≤◌, ℕ, Bool, true, false, not, ◌&&◌, if◌then◌else◌, nat_le, ◌⊎◌, inl, inr, bytes_eq, List, [], ◌∷◌, map, find, Contains, Option, None, Some, refl, sym, subst, ◌∙◌, arith}
-use Rattle.std.specs.Option.{option_map}
 use Rattle.std.proofs.lemmas.Bool.{and_parts, leb-true, not-false}
 use Rattle.std.proofs.lemmas.List.Elements.{Contains-append_left, Contains-append_right}
 use Rattle.vl_ast.specs.declared.expressions.Sized.{Sized}
@@ -16,6 +15,7 @@ use Rattle.vl_check.specs.declared.scope.Scope.{Scope}
 use Rattle.vl_check.specs.Scope.{IsScopeOf, nets_in}
 use Rattle.vl_ast.proofs.Places.{cons-cases, head-in, none-in, map-in, tail-in}
 use Rattle.vl_ast.proofs.Facts.{Declaration, OfPort, OfWire, OfReg, declaration-by, is-declared, listed-mention, reg-declared, wire-declared}
+use Rattle.vl_ast.proofs.WrittenModule.{unnamed}
 
 abbrev fails : List ℕ × Bool → Bool
 fails part = not part.1
@@ -28,13 +28,9 @@ none-found (y ∷ ys) e x c = by (none-found ys) (fails y) refl e (cons-cases y 
   by rest false s f (inl same) = subst (λ (z : List ℕ × Bool). z.1 ≡ true) same (not-false y.1 s)
   by rest false s f (inr later) = rest f x later
 
-from-none : (o : Option (List ℕ × Bool)) → option_map (λ (part : List ℕ × Bool). part.0) o ≡ None → o ≡ None
-from-none None e = refl
-from-none (Some x) e = absurd (cc e)
-
 module _ (m : Module) (narrow : too_wide m ≡ None) where
   all-sound : (x : List ℕ × Bool) → Contains (soundness m) x → x.1 ≡ true
-  all-sound x c = none-found (soundness m) (from-none (find fails (soundness m)) narrow) x c
+  all-sound x c = none-found (soundness m) (unnamed (find fails (soundness m)) narrow) x c
 
   abbrev ports' : List (List ℕ × Bool)
   ports' = map (λ (port : Port). (port.name, is_width port.width)) m.ports

@@ -1,6 +1,5 @@
 -- Words of 128 bits: what wraps, is masked, shifted and set side by side.
 use Rattle.std.proofs.Common.{◌≡◌, ◌<◌, ◌≤◌, ◌+◌, ◌-◌, ◌*◌, ◌/◌, ◌%◌, ◌^◌, inl, inr, ◌⊎◌, ⊎_elim, min, ℕ, zero, suc, Bool, true, false, not, ◌&&◌, if◌then◌else◌, nat_le, nat_lt, bit_and, zero-add, refl, sym, ap, subst, ◌∙◌, arith}
-use Rattle.std.specs.Int.{bit_at}
 use Rattle.std.proofs.lemmas.Bool.{cases_lt, leb-true, leb-false, ltb-true, ltb-false}
 use Rattle.std.proofs.lemmas.Nat.{pow_pos, pow-add, and_mask}
 use Rattle.std.proofs.Math.Nat.{mod-eq_of_lt, mul-le-mul_right, div-le_self, div-eq_of_lt, add-mul-mod_self_right}
@@ -138,9 +137,6 @@ alone-gives XorOf e a b width mask half lw rw' ls rs values = absurd (cc e)
 -- a select
 pub select-gives : (x low width : ℕ) → bit_and (x / 2 ^ low) (2 ^ width - 1) ≡ x / 2 ^ low % 2 ^ width
 select-gives x low width = and_mask (x / 2 ^ low) width
-
-pub bit-gives : (x place : ℕ) → bit_and (x / 2 ^ place) 1 ≡ bit_at x place
-bit-gives x place = and_mask (x / 2 ^ place) 1
 
 -- bits in a context without sign, or in one that isn't longer
 pub as-it-is : (from to : ℕ) (signed : Bool) (x : ℕ) → (signed ≡ true → from ≡ to) → extended (word from signed x) to ≡ x

@@ -8,7 +8,7 @@ use Rattle.std.proofs.lemmas.Fmt.{decimal_is_IsNumeral}
 use Rattle.std.proofs.lemmas.Str.Parse.{digit_from_value}
 use Rattle.vl_names.specs.Identifiers.{continues_name}
 
-digit_plain : (byte : ℕ) → 48 ≤ byte → byte ≤ 57 → continues_name byte ≡ true
+pub digit_plain : (byte : ℕ) → 48 ≤ byte → byte ≤ 57 → continues_name byte ≡ true
 digit_plain byte low high =
     or_left (((nat_le 48 byte && nat_le byte 57) || (nat_le 65 byte && nat_le byte 90)) || (nat_le 97 byte && nat_le byte 122)) (byte == code "_")
     (or_left ((nat_le 48 byte && nat_le byte 57) || (nat_le 65 byte && nat_le byte 90)) (nat_le 97 byte && nat_le byte 122)

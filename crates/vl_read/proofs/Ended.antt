@@ -24,7 +24,7 @@ use Rattle.vl_read.specs.inner.Plain.{parser_at, goes, parse, start, head_word, 
 use Rattle.vl_read.proofs.LexemeKinds.{name_kind}
 use Rattle.vl_read.proofs.Scanned.{silent}
 use Rattle.vl_read.proofs.Lexed.{identifier_text}
-use Rattle.vl_read.proofs.Written.{same_bytes}
+use Rattle.fx_io.proofs.Tests.{same_bytes}
 use Rattle.vl_read.proofs.ReadItems.{head_step}
 use Rattle.vl_read.proofs.Expressions.{at}
 use Rattle.vl_read.proofs.Live.{IsName, IsLiveGoal, IsLive, reached_live}

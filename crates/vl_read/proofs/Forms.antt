@@ -27,6 +27,7 @@ use Rattle.vl_read.proofs.Expressions.{at, in_frame, IsRead, opened_read, braced
 use Rattle.vl_read.proofs.Written.{Writes, Reads, writes_as, next, sign, key, name, number, based}
 use Rattle.vl_read.proofs.FormTokens.{layer_tokens, unary_tokens, binary_tokens, shift_tokens, choose_tokens, as_signed_tokens, as_unsigned_tokens, repeat_tokens, more_tokens, concat_tokens}
 use Rattle.vl_read.proofs.FormSteps.{index_step, high_step, bit_step, colon_step, low_step, ends_bracket, ends_brace, ends_paren, operand_name, open_step, brace_step, signed_step, unsigned_step, begins_paren, begins_brace, count_step, unary_step, binary_step, shift_step, question_step, amount_step}
+use Rattle.fx_io.proofs.Places.{fold-start}
 
 -- the depth, the filling and the tokens of a layer
 layer_depth : (x : Expr-F Expr) (n : ℕ) → depth (roll-Expr x) + n ≤ 256 → depth_step (map-Expr Expr ℕ depth x) + n ≤ 256
@@ -204,16 +205,11 @@ parts_read (p ∷ ps) draft goal frames done e tokens lexemes parts w =
     (λ l2 w2. let after = parts_read ps draft goal frames (done ++ e ∷ []) p.0 tokens l2 parts.1 w2 in
     subst (λ es. Reads (at draft goal inner (Value p.0)) l2 (at draft goal frames (Value (roll-Expr (Expr-F.Concat es)))) tokens) (append_assoc done (e ∷ []) (p.0 ∷ exprs_of ps)) after))
 
--- each part is no deeper than all
-fold_start : (ns : List ℕ) (a : ℕ) → a ≤ fold max a ns
-fold_start [] a = omega arith
-fold_start (n ∷ ns) a = omega (arith, fold_start ns (max a n))
-
 all_parts : (ps : Parts) (frames : List Frame) (a : ℕ) → fold max a (map depth (exprs_of ps)) + 1 + length frames ≤ 256 → list_all (λ more. more) (map is_filled (exprs_of ps)) ≡ true → ArePart ps frames
 all_parts [] frames a deep filled = tt
 all_parts (p ∷ ps) frames a deep filled =
     let f = and_parts (is_filled p.0) (list_all (λ more. more) (map is_filled (exprs_of ps))) filled in
-    (record { deep = omega (arith, fold_start (map depth (exprs_of ps)) (max a (depth p.0))); filled = f.0 }, all_parts ps frames (max a (depth p.0)) deep f.1)
+    (record { deep = omega (arith, fold-start (map depth (exprs_of ps)) (max a (depth p.0))); filled = f.0 }, all_parts ps frames (max a (depth p.0)) deep f.1)
 
 concat_read : (ps : Parts) → IsRead (roll-Expr (Expr-F.Concat (exprs_of ps)))
 concat_read [] draft goal frames tokens lexemes deep filled w =
@@ -222,7 +218,7 @@ concat_read (p ∷ ps) draft goal frames tokens lexemes deep filled w =
     let x : Expr-F Expr = Expr-F.Concat (p.0 ∷ exprs_of ps) in
     let d : fold max (max 0 (depth p.0)) (map depth (exprs_of ps)) + 1 + length frames ≤ 256 = layer_depth x (length frames) deep in
     let f = and_parts (is_filled p.0) (list_all (λ more. more) (map is_filled (exprs_of ps))) (layer_filled x filled) in
-    let here : depth p.0 + 1 + length frames ≤ 256 = omega (arith, fold_start (map depth (exprs_of ps)) (max 0 (depth p.0))) in
+    let here : depth p.0 + 1 + length frames ≤ 256 = omega (arith, fold-start (map depth (exprs_of ps)) (max 0 (depth p.0))) in
     next _ (at draft goal frames Braced) _ lexemes _ tokens
     (sign _ _ lexemes (codes "{") _ (brace_step draft goal frames (omega arith)) (layer_writes x tokens _ lexemes (concat_tokens p.0 (exprs_of ps) tokens) w))
     (λ l1 w1. next _ (at draft goal (frames ++ InConcat [] ∷ []) (Value p.0)) _ l1 _ tokens (braced_read p.0 p.1 draft goal frames _ l1 here f.0 w1)

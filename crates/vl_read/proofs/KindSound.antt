@@ -11,14 +11,11 @@ use Rattle.vl_read.specs.declared.scan.Kind.{Kind}
 use Rattle.vl_read.specs.declared.scan.Kind.TheVariants.{Name, Count, Constant, Fixed}
 use Rattle.vl_read.specs.inner.Lexemes.{kind_of, kind_by, dec_of, sized_of, sized_in, sized_after, sized_by, sized_as, number_after, around_quote, is_digit, is_nonempty}
 use Rattle.vl_read.proofs.Digits.{number_gives, around_mark}
+use Rattle.fx_io.proofs.Tests.{cond_some}
 
 pub then_some : {A B : Type 0} (o : Option A) (f : A → Option B) (b : B) → option_and_then f o ≡ Some b → (a : A) × (o ≡ Some a) × (f a ≡ Some b)
 then_some None f b e = let no : ⊥ = cc in absurd no
 then_some (Some a) f b e = (a, refl, e)
-
-pub tested : {X : Type 0} (t : Bool) (x : Option X) (z : X) → cond t x None ≡ Some z → (t ≡ true) × (x ≡ Some z)
-tested true x z h = (refl, h)
-tested false x z h = let no : ⊥ = cc in absurd no
 
 as_name : (t : Bool) (o : Option ℕ) (s : Option Sized) → cond t Name (kind_by o s) ≡ Name → t ≡ true
 as_name true o s e = refl
@@ -49,7 +46,7 @@ positive (d ∷ ds) h = omega arith
 pub dec_sound : (digits : List ℕ) (n : ℕ) → dec_of digits ≡ Some n → IsDec n digits
 unfolding dec_of
 dec_sound digits n e =
-    let r = tested (is_nonempty digits && nat_le (length digits) 9) (number_after 10 0 digits) n e in
+    let r = cond_some (is_nonempty digits && nat_le (length digits) 9) (number_after 10 0 digits) n e in
     let both = and_parts (is_nonempty digits) (nat_le (length digits) 9) r.0 in
     let gives = number_gives 10 digits 0 n r.1 in
     record { numeral = (positive digits both.0, gives.0); short = leb-true (length digits) 9 both.1; value = gives.1 }
@@ -62,7 +59,7 @@ count_sound lexeme n e = dec_sound lexeme n (as_count (is_identifier lexeme) (de
 number_fits : (base : ℕ) (digits : List ℕ) (n m : ℕ) → n < 2 ^ 128 → number_after base n digits ≡ Some m → m < 2 ^ 128
 number_fits base [] n m h e = let same : n ≡ m = cc in omega (arith, h, same)
 number_fits base (d ∷ ds) n m h e =
-    let r = tested (is_digit base d && nat_lt (n * base + digit_value d) (2 ^ 128)) (number_after base (n * base + digit_value d) ds) m e in
+    let r = cond_some (is_digit base d && nat_lt (n * base + digit_value d) (2 ^ 128)) (number_after base (n * base + digit_value d) ds) m e in
     number_fits base ds (n * base + digit_value d) m (ltb-true (n * base + digit_value d) (2 ^ 128) (and_parts (is_digit base d) (nat_lt (n * base + digit_value d) (2 ^ 128)) r.0).1) r.1
 
 -- what stands after the mark of a signed number
@@ -87,7 +84,7 @@ after_sound : (width : ℕ) (signed : Bool) (bytes : List ℕ) (s : Sized) → s
 after_sound width signed [] s e = let no : ⊥ = cc in absurd no
 after_sound width signed (letter ∷ digits) s e =
     let b = then_some (base_of letter) (λ base. sized_by width signed base digits) s e in
-    let r = tested (is_nonempty digits && nat_le (length digits) 128) (sized_as width signed (number_after b.0 0 digits)) s b.2 in
+    let r = cond_some (is_nonempty digits && nat_le (length digits) 128) (sized_as width signed (number_after b.0 0 digits)) s b.2 in
     let both = and_parts (is_nonempty digits) (nat_le (length digits) 128) r.0 in
     let g = sized_gives width signed (number_after b.0 0 digits) s r.1 in
     let gives = number_gives b.0 digits 0 g.0 g.1 in

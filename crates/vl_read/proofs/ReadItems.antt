@@ -23,7 +23,8 @@ use Rattle.vl_read.specs.inner.Lexemes.{kind_of, dec_of, sized_of}
 use Rattle.vl_read.specs.inner.Plain.{head_word, after_head, parser_at, goes, step, parse, name_of, goal_step, declared, item_step, attr_step, net_step, compound_step, operand_step, unary_or_left, opened_step, braced_step, left_step, frame_step, spot_step, step_at}
 use Rattle.vl_read.proofs.Expressions.{at, no_index}
 use Rattle.vl_read.proofs.Forms.{expression_read}
-use Rattle.vl_read.proofs.Written.{Writes, Reads, writes_as, same_bytes, next, sign, key, name, based}
+use Rattle.fx_io.proofs.Tests.{same_bytes}
+use Rattle.vl_read.proofs.Written.{Writes, Reads, writes_as, next, sign, key, name, based}
 use Rattle.vl_read.proofs.ModuleTokens.{declaration_is, assign_is, always_tail, always_is, condition_is}
 use Rattle.vl_read.proofs.ReadPorts.{net_read}
 

@@ -28,18 +28,16 @@ use Rattle.vl_read.specs.inner.Plain.{has_room, compound_step, operand_step, una
 use Rattle.vl_read.proofs.KindSound.{IsOfKind}
 use Rattle.vl_read.proofs.Consumed.{cast_word, frame_tokens, frames_tokens, frames_push, frames_depth, is_frame_filled, IsGood, Begun}
 use Rattle.vl_read.proofs.SoundFrames.{same_word, either_way, either_word, nowhere, twice, grow, grow_frame, deep_push, filled_push, begin_operand, length_depth, good_layer, layer_text, Goes, goes_to}
+use Rattle.std.proofs.lemmas.Option.{same_Some}
 
 -- operators
-
-same_some : {A : Type 0} (a b : A) → Some a ≡ Some b → a ≡ b
-same_some a b e = cc
 
 found : {Op : Type 0} (text : Op → List ℕ) (lexeme : List ℕ) (op first : Op) (rest : Option Op) → (rest ≡ Some op → lexeme ≡ text op) →
     cond (bytes_eq lexeme (text first)) (Some first) rest ≡ Some op → lexeme ≡ text op
 found text lexeme op first rest more e = by_test (bytes_eq lexeme (text first)) refl e
   where
     by_test : (t : Bool) → bytes_eq lexeme (text first) ≡ t → cond t (Some first) rest ≡ Some op → lexeme ≡ text op
-    by_test true t e = same_word lexeme (text first) t ∙ ap text (same_some first op e)
+    by_test true t e = same_word lexeme (text first) t ∙ ap text (same_Some first op e)
     by_test false t e = more e
 
 none_found : {Op : Type 0} (text : Op → List ℕ) (lexeme : List ℕ) (op : Op) → None ≡ Some op → lexeme ≡ text op

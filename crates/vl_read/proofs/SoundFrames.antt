@@ -17,7 +17,7 @@ use Rattle.vl_read.specs.inner.Places.Spot.{Operand, Value}
 use Rattle.vl_read.specs.inner.Places.Place.{Expression}
 use Rattle.vl_read.specs.declared.places.Draft.{Draft}
 use Rattle.vl_read.specs.inner.Plain.{parser_at, spot_at}
-use Rattle.vl_read.proofs.KindSound.{tested}
+use Rattle.fx_io.proofs.Tests.{cond_some}
 use Rattle.vl_read.proofs.Consumed.{frame_tokens, frames_tokens, frames_push, frame_depth, frames_depth, depth_push, is_frame_filled, IsGood, Begun}
 
 -- tests of a word
@@ -26,7 +26,7 @@ pub same_word : (lexeme word : List ℕ) → bytes_eq lexeme word ≡ true → l
 same_word lexeme word t = (bytes_eq-Decides lexeme word).0 t
 
 pub expected : (lexeme word : List ℕ) (x : Option Parser) (q : Parser) → cond (bytes_eq lexeme word) x None ≡ Some q → (lexeme ≡ word) × (x ≡ Some q)
-expected lexeme word x q e = let r = tested (bytes_eq lexeme word) x q e in (same_word lexeme word r.0, r.1)
+expected lexeme word x q e = let r = cond_some (bytes_eq lexeme word) x q e in (same_word lexeme word r.0, r.1)
 
 pub either_way : {R : Type 0} (t : Bool) (x y : Option Parser) (q : Parser) → (t ≡ true → x ≡ Some q → R) → (y ≡ Some q → R) → cond t x y ≡ Some q → R
 either_way true x y q first second e = first refl e

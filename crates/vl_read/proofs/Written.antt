@@ -1,6 +1,5 @@
 -- How lexemes that are written for tokens are read.
-use Rattle.std.proofs.Common.{◌≡◌, ℕ, List, [], ◌∷◌, Some, ◌∙◌, ap, option_and_then, subst, true, refl, bytes_eq}
-use Rattle.std.proofs.lemmas.Slice.Eq.{bytes_eq-Decides}
+use Rattle.std.proofs.Common.{◌≡◌, ℕ, List, [], ◌∷◌, Some, ◌∙◌, ap, option_and_then, subst}
 use Rattle.vl_ast.specs.declared.expressions.Sized.{Sized}
 use Rattle.vl_ast.specs.Tokens.{Token, Key, Sign, Identifier, Number, Based, IsWritten}
 use Rattle.vl_read.specs.declared.scan.Kind.TheVariants.{Name, Count, Constant}
@@ -57,7 +56,3 @@ number from to lexemes n tokens goes w = by_step from to lexemes w.each.1 w.each
 
 pub based : (from to : Parser) (lexemes : List (List ℕ)) (n : Sized) (tokens : List Token) → ((lexeme : List ℕ) → kind_of lexeme ≡ Constant n → step from lexeme ≡ Some to) → Writes (Based n ∷ tokens) lexemes → Reads from lexemes to tokens
 based from to lexemes n tokens goes w = by_step from to lexemes w.each.1 w.each.0 tokens w.each.2 (goes w.each.0 (based_kind n w.each.0 w.each.3)) (later _ _ w.each.4)
-
--- a word that is expected
-pub same_bytes : (word : List ℕ) → bytes_eq word word ≡ true
-same_bytes word = (bytes_eq-Decides word word).1 refl

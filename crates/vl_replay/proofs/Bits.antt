@@ -1,7 +1,7 @@
 -- The bits that drivers give the input ports.
-use Rattle.std.proofs.Common.{◌≡◌, ◌<◌, ◌+◌, ◌^◌, inl, inr, ◌⊎◌, ℕ, zero, suc, Bool, true, false, not, ◌&&◌, ◌||◌, nat_le, nat_lt, if◌then◌else◌, List, [], ◌∷◌, length, map, filter, slice_get, slice_index, Contains, bytes_eq, codes, Some, ℤ, pos, negsuc, refl, sym, ap, subst, ◌∙◌, arith}
+use Rattle.std.proofs.Common.{◌≡◌, ◌<◌, ◌+◌, ◌^◌, inl, inr, ◌⊎◌, ℕ, zero, suc, Bool, true, false, not, ◌&&◌, ◌||◌, nat_le, nat_lt, if◌then◌else◌, List, [], ◌∷◌, length, map, filter, slice_get, slice_index, Contains, bytes_eq, codes, Some, refl, sym, ap, subst, ◌∙◌, arith}
 use Rattle.std.proofs.lemmas.Bool.{cond-true, cond-false, and_parts, leb-true, or_right}
-use Rattle.std.proofs.lemmas.Nat.{mod_below, pow_pos}
+use Rattle.std.proofs.lemmas.Nat.{pow_pos}
 use Rattle.std.proofs.Math.Pow.{pow_mono}
 use Rattle.std.proofs.lemmas.Slice.Eq.{bytes_eq-Decides}
 use Rattle.vl_ast.specs.declared.modules.Port.{Port}
@@ -17,6 +17,7 @@ use Rattle.vl_replay.specs.declared.drivers.Driver.{Driver}
 use Rattle.vl_replay.specs.declared.drivers.Driver.TheVariants.{Reset, Enable, Column}
 use Rattle.vl_replay.specs.Sampled.{hit_at}
 use Rattle.vl_replay.specs.inner.Driving.{driver_bits, driver_of, drivers_from, is_own, own_driver, place_after, reset_bits}
+use Rattle.vl_ast.proofs.Stimulated.{bits-fit}
 
 abbrev pub is_reset : Port → Bool
 is_reset port = bytes_eq port.name (codes "reset")
@@ -100,10 +101,6 @@ enabled numbers samples sample place (first ∷ ports) port c named = by (λ c. 
       → (if t then driver_bits numbers samples sample (driver_of true place first) else given ports (map (driver_bits numbers samples sample) (drivers_from true (place_after true place first) ports)) (codes "clk_enable")) ≡ 1
   by rest true e = ap (driver_bits numbers samples sample) (enabling e)
   by rest false e = rest (later e (cons-cases first port ports c))
-
-bits-fit : (width : ℕ) (number : ℤ) → bits_of width number < 2 ^ width
-bits-fit width (pos n) = mod_below n (2 ^ width) (pow_pos width)
-bits-fit width (negsuc n) = let p = pow_pos width in omega (arith, p)
 
 abbrev Narrow : List Port → Type 0
 Narrow ports = (port : Port) → Contains ports port → is_width port.width ≡ true

@@ -15,16 +15,7 @@ use Rattle.vl_replay.specs.inner.Played.{HaveCells}
 use Rattle.vl_ast.proofs.Ranges.{clocks-some, step-some}
 use Rattle.vl_ast.specs.Attributes.{clocks_of, lateness_of, step_of}
 use Rattle.vl_replay.proofs.Times.{apart, below-of, hit-before, hit-below, next-times, same-told}
-
-pub mapped : {A B : Type 0} (f : A → B) (xs : List A) (k : ℕ) (x : A) → slice_get xs k ≡ Some x → slice_get (map f xs) k ≡ Some (f x)
-mapped f [] k x e = absurd (cc e)
-mapped f (y ∷ xs) zero x e = ap (λ z. Some (f z)) (cc e)
-mapped f (y ∷ xs) (suc k) x e = mapped f xs k x e
-
-pub has-place : {A : Type 0} (xs : List A) (k : ℕ) (x : A) → slice_get xs k ≡ Some x → k < length xs
-has-place [] k x e = absurd (cc e)
-has-place (y ∷ xs) zero x e = omega arith
-has-place (y ∷ xs) (suc k) x e = let h = has-place xs k x e in omega (arith, h)
+use Rattle.fx_io.proofs.Places.{there_within, there_map}
 
 pub port-at : (xs : List Port) (i : ℕ) → i < length xs → (port : Port) × (slice_get xs i ≡ Some port)
 port-at [] i below = absurd (omega (arith, below))
@@ -78,7 +69,7 @@ module _ (m : Module) (samples window sample phase : ℕ) (rows later : Rows) (r
     wanted t = port_number port (later (2 + (hit_at period t * f + late)) port.name)
 
     sampled : slice_get samplers place ≡ Some (sampler_of f port)
-    sampled = ap (λ (xs : List Sampler). slice_get xs place) samplers-are ∙ mapped (sampler_of f) outputs place port there
+    sampled = ap (λ (xs : List Sampler). slice_get xs place) samplers-are ∙ there_map (sampler_of f) outputs place port there
 
     earlier : (t : ℕ) → t < samples → t * f + late < now → (t + window < samples → now ≤ (t + window) * f + late) → cell before t ≡ wanted t
     unfolding wanted
@@ -132,7 +123,7 @@ module _ (m : Module) (samples window sample phase : ℕ) (rows later : Rows) (r
     now-is : (t : ℕ) → t < samples → late % f ≡ phase → t + late / f ≡ sample → cell after t ≡ wanted t
     now-is t below p q =
         subst (λ (n : ℕ). slice_index_or after (t % window * n + place) (pos 0) ≡ wanted t) many
-        (put.put place (sampler_of f port) t sampled (subst (λ n. place < n) (sym many) (has-place outputs place port there)) below p q
+        (put.put place (sampler_of f port) t sampled (subst (λ n. place < n) (sym many) (there_within outputs place port there)) below p q
         ∙ subst (λ (n : ℕ). (if hit_at period t == t then number_at m row place else slice_index_or before ((t - 1) % window * n + place) (pos 0)) ≡ wanted t) (sym many) (due t below p q (hit_at period t == t) refl))
 
     after-is : (t : ℕ) → t < samples → t * f + late < now + 1 → (t + window < samples → now + 1 ≤ (t + window) * f + late) → cell after t ≡ wanted t

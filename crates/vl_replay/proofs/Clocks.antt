@@ -16,7 +16,7 @@ use Rattle.vl_replay.specs.inner.Played.{HaveCells, IsPlayed, IsScoreOf}
 use Rattle.vl_replay.proofs.Cells.{cells-more}
 use Rattle.vl_replay.proofs.Rows.{at-place, before-place, steps-more, with_row, zeros}
 use Rattle.vl_replay.proofs.Scores.{bits-of-score, samplers-many}
-use Rattle.vl_replay.proofs.Times.{div-told}
+use Rattle.std.proofs.lemmas.Nat.{div-mul-add}
 
 module _ (m : Module) (score : Score) (window : ℕ) (is : IsScoreOf m score) (first next : Row) (bits : List ℕ) (cells : List ℤ)
     (beginning : IsFirstRow m zeros zeros first) (are : AreBits reset_bits score.drivers.items (length score.drivers.items) bits)
@@ -61,7 +61,7 @@ module _ (m : Module) (score : Score) (window : ℕ) (some-window : 0 < window) 
   clock = sample * score.cycles + phase
 
   in-sample : clock / clocks_of m ≡ sample
-  in-sample = ap (λ f. clock / f) (sym is.cycles) ∙ div-told sample score.cycles phase phase-below
+  in-sample = ap (λ f. clock / f) (sym is.cycles) ∙ div-mul-add sample score.cycles phase phase-below
 
   two : 1 + (1 + clock) ≡ suc (suc clock)
   two = omega arith

@@ -11,7 +11,8 @@ use Rattle.vl_ast.specs.Runs.{Row}
 use Rattle.vl_replay.specs.declared.samplers.Sampler.{Sampler}
 use Rattle.vl_replay.specs.Sampled.{hit_at}
 use Rattle.vl_replay.specs.inner.Sampling.{ArePut, cell_of, number_at, number_or_zero}
-use Rattle.vl_replay.proofs.Cells.{eqb-refl, has-place, port-at}
+use Rattle.fx_io.proofs.Places.{there_within}
+use Rattle.vl_replay.proofs.Cells.{eqb-refl, port-at}
 use Rattle.vl_replay.proofs.Times.{row-room, same-told}
 
 -- what an output shows is the number at its place
@@ -65,13 +66,13 @@ module _ (numbers : ℕ → ℤ) (samplers : List Sampler) (samples window sampl
 
     within : cell_of window outputs place now < length cells
     within =
-        let p = has-place samplers place own there in
+        let p = there_within samplers place own there in
         let r = row-room window outputs (now % window) (mod_below now window some) in
         omega (arith, p, r, room)
 
     elsewhere : (row p : ℕ) → p < outputs → (row ≡ now % window → p ≡ place → ⊥) → slice_index_or later (row * outputs + p) (pos 0) ≡ slice_index_or cells (row * outputs + p) (pos 0)
     elsewhere row p low other = get_or-set_other cells (cell_of window outputs place now) (row * outputs + p) value (pos 0) (λ e.
-        let told = same-told row outputs p (now % window) place low (has-place samplers place own there) e in other told.0 told.1)
+        let told = same-told row outputs p (now % window) place low (there_within samplers place own there) e in other told.0 told.1)
 
     here : slice_index_or later (cell_of window outputs place now) (pos 0)
         ≡ (if hit_at own.period now == now then numbers place else slice_index_or before (cell_of window outputs place (now - 1)) (pos 0))
@@ -84,7 +85,7 @@ module _ (numbers : ℕ → ℤ) (samplers : List Sampler) (samples window sampl
       long = length-set cells (cell_of window outputs place now) value ∙ put.long;
       put = λ p sampler t e low below ep ed. by p sampler t e below ep ed (cases p low);
       kept = λ p sampler row e other.
-          elsewhere row p (has-place samplers p sampler e) (λ r same.
+          elsewhere row p (there_within samplers p sampler e) (λ r same.
           let s = one p sampler e same in
           other now now-below (omega (arith, same)) (ap (λ (x : Sampler). x.phase) (sym s) ∙ own-phase) (ap (λ (x : Sampler). now + x.delay) (sym s) ∙ own-delay) (sym r))
           ∙ put.kept p sampler row e (λ t below low ep ed is. other t below (omega (arith, low)) ep ed is);
@@ -93,7 +94,7 @@ module _ (numbers : ℕ → ℤ) (samplers : List Sampler) (samples window sampl
         by : (p : ℕ) (sampler : Sampler) (t : ℕ) → slice_get samplers p ≡ Some sampler → t < samples → sampler.phase ≡ phase → t + sampler.delay ≡ sample → (p < place) ⊎ (p ≡ place)
             → slice_index_or later (cell_of window outputs p t) (pos 0)
             ≡ (if hit_at sampler.period t == t then numbers p else slice_index_or before (cell_of window outputs p (t - 1)) (pos 0))
-        by p sampler t e below ep ed (inl less) = elsewhere (t % window) p (has-place samplers p sampler e) (λ r same. absurd (omega (arith, less, same))) ∙ put.put p sampler t e less below ep ed
+        by p sampler t e below ep ed (inl less) = elsewhere (t % window) p (there_within samplers p sampler e) (λ r same. absurd (omega (arith, less, same))) ∙ put.put p sampler t e less below ep ed
         by p sampler t e below ep ed (inr same) =
             let s = one p sampler e same in
             let d : t + own.delay ≡ sample = ap (λ (x : Sampler). t + x.delay) s ∙ ed in

@@ -1,5 +1,5 @@
 -- A machine that is driven on while its inputs stay and no output is due.
-use Rattle.std.proofs.Common.{◌≡◌, ◌<◌, ◌≤◌, ◌+◌, ◌-◌, ◌*◌, ◌/◌, ◌%◌, ◌⊎◌, inl, inr, ℕ, suc, nat_lt, List, [], ◌∷◌, length, map, slice_get, Some, ℤ, refl, sym, ap, subst, ◌∙◌, arith}
+use Rattle.std.proofs.Common.{◌≡◌, ◌<◌, ◌≤◌, ◌+◌, ◌-◌, ◌*◌, ◌/◌, ◌%◌, ◌⊎◌, inl, inr, ℕ, suc, nat_lt, List, [], ◌∷◌, length, map, slice_get, Some, ℤ, refl, sym, ap, subst, ◌∙◌, arith, add-mul}
 use Rattle.std.proofs.lemmas.Bool.{cases_lt, cond-false, le-ltb}
 use Rattle.std.proofs.lemmas.Nat.{mod_below}
 use Rattle.std.proofs.Math.Nat.{le-div_iff_mul-le, mul-le-mul_right}
@@ -23,11 +23,12 @@ use Rattle.vl_replay.specs.inner.Driving.{AreBits, IsWithin, driver_bits, inputs
 use Rattle.vl_replay.specs.inner.Sampling.{sampler_of}
 use Rattle.vl_replay.specs.inner.Played.{HaveCells, IsPlayed, IsScoreOf}
 use Rattle.vl_replay.specs.inner.Resting.{IsPast, IsQuiet, Leads}
-use Rattle.vl_replay.proofs.Cells.{clock-of, mapped}
+use Rattle.fx_io.proofs.Places.{there_map}
+use Rattle.vl_replay.proofs.Cells.{clock-of}
 use Rattle.vl_replay.proofs.Rounds.{joined, joined-from, joined-until}
 use Rattle.vl_replay.proofs.Rows.{zeros}
 use Rattle.vl_replay.proofs.Scores.{bits-of-score, within-columns}
-use Rattle.vl_replay.proofs.Times.{below-of, hit-below, next-times, sum-times}
+use Rattle.vl_replay.proofs.Times.{below-of, hit-below, next-times}
 
 -- what a column is past at a sample it is past at later ones
 pub past-later : (samples from later : ℕ) (driver : Driver) → from ≤ later → IsPast samples from driver → IsPast samples later driver
@@ -97,7 +98,7 @@ module _ (m : Module) (score : Score) (is : IsScoreOf m score) (from until : ℕ
   n = (until - from) * score.cycles
 
   whole : c + n ≡ until * score.cycles
-  whole = let e : from + (until - from) ≡ until = omega (arith, ordered) in sym (sum-times from (until - from) score.cycles) ∙ ap (λ k. k * score.cycles) e
+  whole = let e : from + (until - from) ≡ until = omega (arith, ordered) in sym (add-mul from (until - from) score.cycles) ∙ ap (λ k. k * score.cycles) e
 
   drivers-stay : (s : ℕ) → from ≤ s → map (of s) score.drivers.items ≡ map (of from) score.drivers.items
   drivers-stay s later = map-same (of s) (of from) score.drivers.items (λ k driver e.
@@ -167,7 +168,7 @@ module _ (m : Module) (score : Score) (is : IsScoreOf m score) (from until : ℕ
     where
       due : (place : ℕ) (port : Port) → slice_get (output_ports m) place ≡ Some port → lateness_of port / clocks_of m < until → score.stimulus.lines + lateness_of port / clocks_of m ≤ from
       due place port there less = quiet.samplers place (sampler_of (clocks_of m) port)
-          (ap (λ xs. slice_get xs place) is.samplers ∙ mapped (sampler_of (clocks_of m)) (output_ports m) place port there) less
+          (ap (λ xs. slice_get xs place) is.samplers ∙ there_map (sampler_of (clocks_of m)) (output_ports m) place port there) less
 
 -- it has passed the clocks up to the later sample
 pub rested : (score : Score) (window from until : ℕ) (machine later : Machine) (bits : List ℕ) (cells : List ℤ) → IsPlayed score window (from * score.cycles) machine cells → IsQuiet score from until → from ≤ until

@@ -1,5 +1,5 @@
 -- The cells of a sample whose clocks are passed are what is sampled at it.
-use Rattle.std.proofs.Common.{◌≡◌, ◌<◌, ◌≤◌, ◌+◌, ◌*◌, ◌/◌, ◌%◌, ℕ, List, length, take, drop, slice_get, Some, unwrap_or, ℤ, pos, sym, ap, subst, ◌∙◌, arith}
+use Rattle.std.proofs.Common.{◌≡◌, ◌<◌, ◌≤◌, ◌+◌, ◌*◌, ◌/◌, ◌%◌, ℕ, List, length, take, drop, slice_get, Some, unwrap_or, ℤ, pos, sym, ap, subst, ◌∙◌, arith, add-mul}
 use Rattle.std.specs.Prelude.{slice_index_or}
 use Rattle.std.proofs.lemmas.List.{get_or-drop, get_or-take, length-drop, length-take}
 use Rattle.std.proofs.lemmas.Nat.{div-add-mod', mod_below}
@@ -18,14 +18,14 @@ use Rattle.vl_replay.specs.Sampled.{Sampled, hit_at, numbers_of, window_of}
 use Rattle.vl_replay.specs.inner.Driving.{inputs_of}
 use Rattle.vl_replay.specs.inner.Sampling.{sampler_of}
 use Rattle.vl_replay.specs.inner.Played.{HaveCells, IsDelay, IsScoreOf, IsWindow}
-use Rattle.vl_replay.proofs.Cells.{has-place, mapped}
+use Rattle.fx_io.proofs.Places.{there_within, there_map}
 use Rattle.vl_ast.proofs.Ranges.{clocks-some}
 use Rattle.vl_ast.specs.Attributes.{clocks_of, lateness_of, step_of}
 use Rattle.vl_replay.proofs.OneResponse.{ShowRow, one-row}
 use Rattle.vl_replay.proofs.Rows.{zeros}
 use Rattle.vl_replay.proofs.Scores.{samplers-many}
 use Rattle.vl_replay.proofs.Stimulated.{replayed}
-use Rattle.vl_replay.proofs.Times.{hit-below, row-room, sum-times}
+use Rattle.vl_replay.proofs.Times.{hit-below, row-room}
 
 module _ (window outputs row : ℕ) (cells : List ℤ) (long : length cells ≡ window * outputs) (below : row < window) where
   row-long : length (take outputs (drop (row * outputs) cells)) ≡ outputs
@@ -76,7 +76,7 @@ module _ (one_run : (m : Module) (count : ℕ) (start : List ℕ → ℕ) (input
   shown-long = row-long window n (t % window) cells long-cells within ∙ samplers-many m score is
 
   sampled-by : (place : ℕ) (port : Port) → slice_get (output_ports m) place ≡ Some port → slice_get score.samplers.items place ≡ Some (sampler_of (clocks_of m) port)
-  sampled-by place port there = ap (λ xs. slice_get xs place) is.samplers ∙ mapped (sampler_of (clocks_of m)) (output_ports m) place port there
+  sampled-by place port there = ap (λ xs. slice_get xs place) is.samplers ∙ there_map (sampler_of (clocks_of m)) (output_ports m) place port there
 
   near : (place : ℕ) (port : Port) → slice_get (output_ports m) place ≡ Some port → lateness_of port / clocks_of m ≤ delay
   near place port there = late.most place (sampler_of (clocks_of m) port) (sampled-by place port there) (omega (arith, below))
@@ -91,7 +91,7 @@ module _ (one_run : (m : Module) (count : ℕ) (start : List ℕ → ℕ) (input
       let wide = holds.wide place (sampler_of (clocks_of m) port) (sampled-by place port there) (omega (arith, fewer)) in
       let le : (t + 1 + delay) * clocks_of m ≤ (t + window + lateness_of port / clocks_of m) * clocks_of m = mul-le-mul_right (clocks_of m) (omega (arith, wide)) in
       let e : (t + 1 + delay) * score.cycles ≡ (t + 1 + delay) * clocks_of m = ap (λ f. (t + 1 + delay) * f) is.cycles in
-      let both = sum-times (t + window) (lateness_of port / clocks_of m) (clocks_of m) in
+      let both = add-mul (t + window) (lateness_of port / clocks_of m) (clocks_of m) in
       let whole = div-add-mod' (lateness_of port) (clocks_of m) in
       omega (arith, le, e, both, whole)
 
@@ -105,7 +105,7 @@ module _ (one_run : (m : Module) (count : ℕ) (start : List ℕ → ℕ) (input
       let in-time = past place port there in
       let h = hit-below (step_of port) t in
       let le : hit_at (step_of port) t * clocks_of m ≤ t * clocks_of m = mul-le-mul_right (clocks_of m) h in
-      let low : place < n = (let q = has-place (output_ports m) place port there in let s = samplers-many m score is in omega (arith, q, s)) in
+      let low : place < n = (let q = there_within (output_ports m) place port there in let s = samplers-many m score is in omega (arith, q, s)) in
       let row : row_at (window_of count) (hit_at period t * cycles + latency) ≡ 2 + (hit_at (step_of port) t * clocks_of m + lateness_of port) = omega (arith, place-is) in (
         omega (arith, in-time, le, place-is),
         picked window n (t % window) cells long-cells within place low

@@ -24,7 +24,7 @@ use Rattle.vl_replay.specs.declared.drivers.Driver.{Driver}
 use Rattle.vl_replay.specs.Sampled.{HasTable, hit_at, window_of}
 use Rattle.vl_replay.specs.inner.Driving.{driver_bits, driver_of, drivers_from, inputs_of, reset_bits}
 use Rattle.vl_replay.proofs.Bits.{driver-fits, fit-from, is_driven, reset-fits}
-use Rattle.vl_replay.proofs.Cells.{has-place, mapped}
+use Rattle.fx_io.proofs.Places.{there_within, there_map}
 use Rattle.vl_replay.proofs.OneResponse.{place-of}
 use Rattle.vl_replay.proofs.Rows.{zeros}
 use Rattle.vl_replay.proofs.Stimulated.{replayed}
@@ -53,7 +53,7 @@ module _ (some : (m : Module) (count : ℕ) (start : List ℕ → ℕ) (inputs :
     other : bytes_eq port.name (codes "clk") ≡ false → given (driven_ports m) bits port.name < 2 ^ port.width
     other e =
         let found = place-of (driven_ports m) port (filter-has is_driven m.ports port c (rw (input, e) refl)) in
-        let low : found.0 < length bits = (let h = has-place (driven_ports m) found.0 port found.1 in let l = are.count in omega (arith, h, l)) in
+        let low : found.0 < length bits = (let h = there_within (driven_ports m) found.0 port found.1 in let l = are.count in omega (arith, h, l)) in
         subst (λ n. n < 2 ^ port.width) (sym (given-at (driven_ports m) apart-ports bits found.0 port found.1 low)) (are.narrow found.0 port found.1)
 
   drivers-fit : (of : Driver → ℕ) → ((place : ℕ) (port : Port) → is_width port.width ≡ true → of (driver_of (is_stallable m) place port) < 2 ^ port.width)
@@ -96,7 +96,7 @@ module _ (some : (m : Module) (count : ℕ) (start : List ℕ → ℕ) (inputs :
           let few = late-few port in
           let row : row_at (window_of count) (hit_at period t * cycles + latency) ≡ 2 + (hit_at (step_of port) t * f + lateness_of port) = omega (arith, place-is) in (
             omega (arith, le, few, place-is),
-            mapped (number t) (output_ports m) place port there ∙ ap Some (ap (λ k. port_number port (run.0 k port.name)) (sym row)),
+            there_map (number t) (output_ports m) place port there ∙ ap Some (ap (λ k. port_number port (run.0 k port.name)) (sym row)),
           );
     };
   }

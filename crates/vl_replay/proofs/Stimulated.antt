@@ -22,7 +22,7 @@ use Rattle.vl_replay.specs.declared.drivers.Driver.TheVariants.{Column}
 use Rattle.vl_replay.specs.Sampled.{AreReplayed, hit_at, window_of}
 use Rattle.vl_replay.specs.inner.Driving.{driver_bits, drivers_from, inputs_of}
 use Rattle.vl_replay.proofs.Bits.{drivers-long, enabled, is_driven, released, reset-one, reset-others, stimulus-driver}
-use Rattle.vl_replay.proofs.Cells.{has-place, mapped}
+use Rattle.fx_io.proofs.Places.{there_within, there_map}
 
 indexed : (xs : List ℕ) (k x : ℕ) → slice_get xs k ≡ Some x → slice_index xs k ≡ x
 indexed [] k x e = absurd (cc e)
@@ -52,10 +52,10 @@ module _ (m : Module) (sound : BreaksNone m) (numbers : PortNumbers) (samples : 
   shown place clock port there =
       let d = stimulus-driver (is_stallable m) m.ports 0 place port there in
       let of = driver_bits numbers samples (clock / clocks_of m) in
-      let long : d.at < length (map of drivers) = (let a = has-place (driven_ports m) d.at port d.port_is in let b = drivers-long (is_stallable m) 0 (driven_ports m) in let c = length-map drivers of in omega (arith, a, b, c)) in
+      let long : d.at < length (map of drivers) = (let a = there_within (driven_ports m) d.at port d.port_is in let b = drivers-long (is_stallable m) 0 (driven_ports m) in let c = length-map drivers of in omega (arith, a, b, c)) in
       let start : 0 + place ≡ place = omega arith in
       given-at (driven_ports m) apart (map of drivers) d.at port d.port_is long
-      ∙ indexed (map of drivers) d.at (of (Column (0 + place) (step_of port) port.width)) (mapped of drivers d.at (Column (0 + place) (step_of port) port.width) d.driver_is)
+      ∙ indexed (map of drivers) d.at (of (Column (0 + place) (step_of port) port.width)) (there_map of drivers d.at (Column (0 + place) (step_of port) port.width) d.driver_is)
       ∙ ap (λ p. of (Column p (step_of port) port.width)) start
 
   steps : (port : Port) (period : ℕ) → period_of port ≡ Some period → step_of port ≡ period

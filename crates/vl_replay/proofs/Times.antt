@@ -1,25 +1,14 @@
 -- Hits, and clocks of samples.
 use Rattle.std.proofs.Common.{◌≡◌, ◌<◌, ◌≤◌, ◌+◌, ◌-◌, ◌*◌, ◌/◌, ◌%◌, ◌⊎◌, inl, inr, ℕ, sym, ap, ◌∙◌, arith}
 use Rattle.std.proofs.lemmas.Bool.{cases_lt}
-use Rattle.std.proofs.lemmas.Nat.{mod-mul-add, mod_below, div-add-mod'}
-use Rattle.std.proofs.Math.Nat.{div-lt_iff_lt-mul, le-div_iff_mul-le, mul-le-mul_right}
+use Rattle.std.proofs.lemmas.Nat.{mod-mul-add, mod_below, div-add-mod', div-mul-add}
+use Rattle.std.proofs.Math.Nat.{mul-le-mul_right}
 use Rattle.vl_replay.specs.Sampled.{hit_at}
-
--- the quotient and the remainder of a number that is told by them
-pub div-told : (t n p : ℕ) → p < n → (t * n + p) / n ≡ t
-div-told t n p less =
-    let low : t ≤ (t * n + p) / n = (le-div_iff_mul-le {k = n} {x = t} {y = t * n + p} (omega arith)).1 (omega arith) in
-    let next : (t + 1) * n ≡ t * n + n = one-more t n in
-    let high : (t * n + p) / n < t + 1 = (div-lt_iff_lt-mul {k = n} {x = t * n + p} {y = t + 1} (omega arith)).1 (omega (arith, next, less)) in
-    omega arith
-  where
-    one-more : (t n : ℕ) → (t + 1) * n ≡ t * n + n
-    one-more t n = grind arith
 
 -- two such numbers are the same where they are told by the same
 pub same-told : (t n p u q : ℕ) → p < n → q < n → t * n + p ≡ u * n + q → (t ≡ u) × (p ≡ q)
 same-told t n p u q pl ql e = (
-  sym (div-told t n p pl) ∙ ap (λ k. k / n) e ∙ div-told u n q ql,
+  sym (div-mul-add t n p pl) ∙ ap (λ k. k / n) e ∙ div-mul-add u n q ql,
   sym (mod-mul-add t n p pl) ∙ ap (λ k. k % n) e ∙ mod-mul-add u n q ql,
 )
 
@@ -44,9 +33,6 @@ hit-before period t some other =
 
 pub next-times : (a b : ℕ) → (a + 1) * b ≡ a * b + b
 next-times a b = grind arith
-
-pub sum-times : (a b c : ℕ) → (a + b) * c ≡ a * c + b * c
-sum-times a b c = grind arith
 
 -- samples that are less than a ring's rows apart have other rows of it
 pub apart : (window t u : ℕ) → t < u → u < t + window → t % window ≡ u % window → ⊥

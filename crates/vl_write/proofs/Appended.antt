@@ -1,10 +1,6 @@
 -- Lists of bytes put at the end of a text, one after another.
 use Rattle.std.proofs.Common.{◌≡◌, ℕ, List, ◌++◌, append_assoc}
 
-pub five_appended : (old a b c d e one two three four five : List ℕ) → one ≡ old ++ a → two ≡ one ++ b → three ≡ two ++ c → four ≡ three ++ d →
-    five ≡ four ++ e → five ≡ old ++ (a ++ b ++ c ++ d ++ e)
-five_appended old a b c d e one two three four five p q r s t = rw (t, s, r, q, p) (simp append_assoc)
-
 pub clocked_appended : (old a name name' name'' b first c condition value d one two three : List ℕ) → name' ≡ name → name'' ≡ name →
     one ≡ old ++ (a ++ name' ++ b ++ first ++ c) → two ≡ one ++ condition → three ≡ two ++ (name'' ++ b ++ value ++ d) →
     three ≡ old ++ (a ++ name ++ b ++ first ++ c ++ condition ++ name ++ b ++ value ++ d)

@@ -12,9 +12,7 @@ use Rattle.vl_ast.specs.declared.expressions.Expr.TheVariants.{rolls-Name, rolls
 use Rattle.vl_ast.specs.declared.expressions.Expr.TheFolds.{fold-roll-Expr}
 use Rattle.vl_ast.specs.Operators.{unary_text, binary_text, shift_text}
 use Rattle.vl_ast.specs.Spelling.{joined, expr_step, expr_text, sized_text}
-
-concat_appended : (old a b d one two three : List ℕ) → one ≡ old ++ a → two ≡ one ++ b → three ≡ two ++ d → three ≡ old ++ (a ++ b ++ d)
-concat_appended old a b d one two three p q r = rw (r, q, p) (simp append_assoc)
+use Rattle.fx_io.proofs.Places.{three_appended}
 
 repeat_appended : (old a n b part d one two : List ℕ) → one ≡ old ++ (a ++ n ++ b) → two ≡ one ++ (part ++ d) → two ≡ old ++ (a ++ n ++ b ++ part ++ d)
 repeat_appended old a n b part d one two p q = rw (q, p) (simp append_assoc)
@@ -64,7 +62,7 @@ pub wrote-concat : (parts : List Expr) (e : Expr) (old one two three : List ℕ)
     one ≡ old ++ codes "{" → two ≡ one ++ joined (codes ", ") (map expr_text parts) → three ≡ two ++ codes "}" → three ≡ old ++ expr_text e
 wrote-concat parts e old one two three is p q r =
     of-form old three _ e (Concat parts) is (ap expr_text (sym (rolls-Concat parts)) ∙ fold-roll-Expr (List ℕ) expr_step (Expr-F.Concat parts))
-    (concat_appended old (codes "{") (joined (codes ", ") (map expr_text parts)) (codes "}") one two three p q r)
+    (three_appended old (codes "{") (joined (codes ", ") (map expr_text parts)) (codes "}") one two three p q r)
 
 pub wrote-repeat : (count : ℕ) (part : Expr) (e : Expr) (old one two : List ℕ) → e ≡ Repeat count part →
     one ≡ old ++ (codes "{" ++ decimal count ++ codes " {") → two ≡ one ++ (expr_text part ++ codes "}}") → two ≡ old ++ expr_text e

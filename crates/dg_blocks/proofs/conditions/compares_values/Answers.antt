@@ -2,8 +2,7 @@ use Rattle.std.proofs.Common.{◌≡◌, to_z, of_z, ◌∙◌, refl, arith}
 use Rattle.std.specs.Int.{w16, w128, int_max}
 use Rattle.std.proofs.lemmas.Int.{ints, clamps, to_z-of_z}
 use Rattle.fx_type.specs.FxType.{frac_of}
-use Rattle.fx_type.proofs.Ranges.{frac_bounds}
-use Rattle.dg_blocks.proofs.Fracs.{max_high}
+use Rattle.fx_type.proofs.Ranges.{frac_bounds, int_max_most}
 use Rattle.dg_blocks.proofs.Ranges.{left_fits, right_fits}
 use Rattle.dg_blocks.proofs.conditions.compares_values.Goals as goal
 use Rattle.dg_blocks.proofs.conditions.compares_values.Goals.{After-max-frac}
@@ -22,7 +21,7 @@ aligned-requires-clause-fits c =
 
 pub aligned-requires-2-clause-high : goal.aligned-requires-2-clause-high
 aligned-requires-2-clause-high c =
-    rw (max_frac (goal.at.aligned-requires-2-clause-high c).After-max-frac) (max_high (frac_of c.args.a) (frac_of c.args.b) _ (frac_bounds c.args.a c.requires.left).1 (frac_bounds c.args.b c.requires.right).1)
+    rw (max_frac (goal.at.aligned-requires-2-clause-high c).After-max-frac) (int_max_most (frac_of c.args.a) (frac_of c.args.b) _ (frac_bounds c.args.a c.requires.left).1 (frac_bounds c.args.b c.requires.right).1)
 
 pub aligned-requires-2-clause-fits : goal.aligned-requires-2-clause-fits
 aligned-requires-2-clause-fits c =
@@ -37,7 +36,7 @@ aligned-requires-2-clause-valid c = c.requires.right
 
 pub aligned-requires-clause-high : goal.aligned-requires-clause-high
 aligned-requires-clause-high c =
-    rw (max_frac (goal.at.aligned-requires-clause-high c).After-max-frac) (max_high (frac_of c.args.a) (frac_of c.args.b) _ (frac_bounds c.args.a c.requires.left).1 (frac_bounds c.args.b c.requires.right).1)
+    rw (max_frac (goal.at.aligned-requires-clause-high c).After-max-frac) (int_max_most (frac_of c.args.a) (frac_of c.args.b) _ (frac_bounds c.args.a c.requires.left).1 (frac_bounds c.args.b c.requires.right).1)
 
 pub aligned-requires-clause-above : goal.aligned-requires-clause-above
 aligned-requires-clause-above c = rw (max_frac (goal.at.aligned-requires-clause-above c).After-max-frac) (omega (arith, ints, clamps))

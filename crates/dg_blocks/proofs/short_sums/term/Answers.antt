@@ -1,8 +1,9 @@
-use Rattle.std.proofs.Common.{◌≡◌, ◌-ℤ◌, ℤ, pos, neg_ℤ, FitsSigned, ◌∙◌, arith}
+use Rattle.std.proofs.Common.{◌≡◌, ◌-ℤ◌, ℤ, pos, FitsSigned, ◌∙◌, arith}
 use Rattle.std.specs.Int.{w16, w64}
 use Rattle.std.proofs.lemmas.Int.{ints, to_z-of_z}
 use Rattle.fx_type.specs.FxType.{aligned}
 use Rattle.dg_blocks.specs.Narrow.{IsSmall}
+use Rattle.dg_blocks.proofs.Ranges.{minus_is}
 use Rattle.dg_blocks.proofs.short_sums.term.Goals as goal
 
 small_fits : (z : ℤ) → IsSmall z → FitsSigned w64 z
@@ -10,9 +11,6 @@ small_fits z s = omega (arith, ints, s.low, s.high)
 
 minus_fits : (z : ℤ) → IsSmall z → FitsSigned w64 (pos 0 -ℤ z)
 minus_fits z s = omega (arith, ints, s.low, s.high)
-
-minus_is : (z : ℤ) → pos 0 -ℤ z ≡ neg_ℤ z
-minus_is z = omega (arith, ints)
 
 pub aligned-value-requires-clause-fits : goal.aligned-value-requires-clause-fits
 aligned-value-requires-clause-fits c =

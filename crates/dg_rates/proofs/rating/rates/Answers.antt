@@ -2,22 +2,15 @@ use Rattle.std.proofs.Common.{◌≡◌, List, inl, inr, length, map, ap, subst,
 use Rattle.std.specs.Prelude.{codes}
 use Rattle.std.proofs.lemmas.Result.{err_from_is_err_and}
 use Rattle.dg_waves.specs.Rounds.{after_rounds}
-use Rattle.dg_model.specs.declared.fault.CheckFault.{CheckFault}
-use Rattle.dg_model.specs.declared.fault.CheckFault.TheVariants.{Broken, OutOfMemory}
-use Rattle.dg_model.specs.declared.fault.RuleFault.{RuleFault}
 use Rattle.dg_model.specs.declared.fault.Shown.TheVariants.{Word}
 use Rattle.dg_model.specs.declared.rule.Rule.{Rule}
-use Rattle.dg_model.specs.Faults.{AllKeep, BreaksAt, IsRefusal}
+use Rattle.dg_model.specs.Faults.{AllKeep, BreaksAt}
 use Rattle.dg_model.specs.Periods.{Period, next_periods, or_one, periods_of}
 use Rattle.dg_model.specs.Rate.{BreaksRate, KeepsDeclared, KeepsPeriods, shown_periods}
 use Rattle.dg_rates.proofs.Declaring.{all_above}
-use Rattle.dg_rates.proofs.Stepping.{length_periods}
+use Rattle.dg_model.proofs.Propagation.{length_periods}
+use Rattle.dg_model.proofs.Refused.{refused_as}
 use Rattle.dg_rates.proofs.rating.rates.Goals as goal
-
--- what refuses by one rule refuses by any that is broken where this one is
-refused_as : (P Q : RuleFault → Type 0) (fault : CheckFault) → ((f : RuleFault) → P f → Q f) → IsRefusal P fault → IsRefusal Q fault
-refused_as P Q (Broken fault) all is = all fault is
-refused_as P Q OutOfMemory all is = is
 
 pub base_period-base-requires : goal.base_period-base-requires
 base_period-base-requires c = all_above c.args.diagram.now c.requires

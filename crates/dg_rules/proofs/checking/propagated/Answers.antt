@@ -1,21 +1,13 @@
 use Rattle.std.proofs.Common.{inl, inr}
 use Rattle.std.proofs.lemmas.Result.{err_from_is_err_and}
-use Rattle.dg_model.specs.declared.fault.CheckFault.{CheckFault}
-use Rattle.dg_model.specs.declared.fault.CheckFault.TheVariants.{Broken, OutOfMemory}
-use Rattle.dg_model.specs.declared.fault.RuleFault.{RuleFault}
 use Rattle.dg_model.specs.Attributes.{attributes_of}
 use Rattle.dg_model.specs.Checked.{BreaksRule}
 use Rattle.dg_model.specs.Dimension.{BreaksDimension}
-use Rattle.dg_model.specs.Faults.{IsRefusal}
 use Rattle.dg_model.specs.Loop.{BreaksLoop}
 use Rattle.dg_model.specs.Rate.{BreaksRate}
 use Rattle.dg_model.specs.TypeRule.{BreaksType}
+use Rattle.dg_model.proofs.Refused.{refused_as}
 use Rattle.dg_rules.proofs.checking.propagated.Goals as goal
-
--- what refuses by one rule refuses by any that is broken where this one is
-refused_as : (P Q : RuleFault → Type 0) (fault : CheckFault) → ((f : RuleFault) → P f → Q f) → IsRefusal P fault → IsRefusal Q fault
-refused_as P Q (Broken fault) all is = all fault is
-refused_as P Q OutOfMemory all is = is
 
 pub returns-in_err-widths-clause-broken : goal.returns-in_err-widths-clause-broken
 returns-in_err-widths-clause-broken c =

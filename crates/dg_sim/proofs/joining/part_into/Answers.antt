@@ -2,7 +2,8 @@ use Rattle.std.proofs.Common.{◌≡◌, ◌≤◌, ◌+◌, ◌-◌, ◌<◌, �
 use Rattle.dg_waves.specs.Rounds.{numbers_from}
 use Rattle.dg_model.specs.Attributes.{attributes_of}
 use Rattle.dg_model.specs.Wires.{width_into}
-use Rattle.dg_sim.proofs.Joined.{part_here, sum_last, before_end}
+use Rattle.dg_tables.proofs.Lists.{sum_last, part_here}
+use Rattle.dg_sim.proofs.Joined.{before_end}
 use Rattle.dg_sim.proofs.joining.part_into.Goals as goal
 
 pub loop-width-init : goal.loop-width-init

@@ -3,7 +3,7 @@ use Rattle.std.specs.Int.{w128}
 use Rattle.std.proofs.lemmas.Int.{to_z-of_z}
 use Rattle.std.proofs.lemmas.Option.{slice_get-get_or}
 use Rattle.dg_sim.specs.declared.program.Cell.{Cell}
-use Rattle.dg_tables.proofs.Lists.{get_some}
+use Rattle.fx_io.proofs.Places.{get_some}
 use Rattle.dg_sim.proofs.Swept.{can_give, swept_hit, swept_miss}
 use Rattle.dg_sim.proofs.sweeping.sweep.Goals as goal
 use Rattle.dg_sim.proofs.sweeping.sweep.Goals.{then-hits, else-hits}

@@ -3,7 +3,7 @@ use Rattle.std.proofs.lemmas.List.{length-replicate}
 use Rattle.std.proofs.lemmas.Option.{slice_get-get_or}
 use Rattle.dg_model.specs.declared.diagram.Block.{Block}
 use Rattle.dg_model.specs.declared.diagram.Diagram.{Diagram}
-use Rattle.dg_tables.proofs.Lists.{get_holds}
+use Rattle.fx_io.proofs.Places.{held}
 use Rattle.dg_tables.proofs.Laid.{laid_none, laid_more, laid_entries, laid_finds}
 use Rattle.dg_tables.proofs.layout.lay_out.Goals as goal
 
@@ -23,7 +23,7 @@ put_block-requires c =
     let block : ℕ = get_or c.order-block-items.result.now index 0 in
     let turn : slice_get checked.order index ≡ Some block = ap (λ (xs : List ℕ). slice_get xs index) (sym c.order-block-items.ensures) ∙ slice_get-get_or c.order-block-items.result.now index 0 c.loop-block-test.true in
     let list : c.as_slice.result.now ≡ diagram.blocks = c.as_slice.ensures ∙ ap (λ (d : Diagram). d.blocks) c.diagram-in-loop-block.ensures in
-    let there : block < length diagram.blocks = get_holds (λ (place : ℕ). place < length diagram.blocks) checked.order index block c.keeps_rules.ensures.ordered.there turn in
+    let there : block < length diagram.blocks = held (λ (place : ℕ). place < length diagram.blocks) checked.order index block c.keeps_rules.ensures.ordered.there turn in
     let within : block < length c.as_slice.result.now = subst (λ (bs : List Block). block < length bs) (sym list) there in
     record {
       lines = c.loop-block.invariant.lines;
@@ -44,7 +44,7 @@ loop-block-preserved c =
     let new = c.in_ok-put_block.ensures in
     let turn : slice_get checked.order index ≡ Some block = ap (λ (xs : List ℕ). slice_get xs index) (sym c.order-block-items.ensures) ∙ slice_get-get_or c.order-block-items.result.now index 0 c.loop-block-test.true in
     let list : c.as_slice.result.now ≡ diagram.blocks = c.as_slice.ensures ∙ ap (λ (d : Diagram). d.blocks) c.diagram-in-loop-block.ensures in
-    let there : block < length diagram.blocks = get_holds (λ (place : ℕ). place < length diagram.blocks) checked.order index block c.keeps_rules.ensures.ordered.there turn in
+    let there : block < length diagram.blocks = held (λ (place : ℕ). place < length diagram.blocks) checked.order index block c.keeps_rules.ensures.ordered.there turn in
     let within : block < length c.as_slice.result.now = subst (λ (bs : List Block). block < length bs) (sym list) there in
     let block_is : slice_get diagram.blocks block ≡ Some one = ap (λ (bs : List Block). slice_get bs block) (sym list) ∙ slice_get-get_or c.as_slice.result.now block _ within ∙ ap (λ (b : Block). Some b) (sym c.index-as_slice-block.is) in
     laid_more checked c.keeps_rules.ensures.ordered index block one c.loop-block.starts c.put_block.new.starts c.loop-block.places c.put_block.new.places turn block_is new.put c.loop-block.invariant new.ports new.lines

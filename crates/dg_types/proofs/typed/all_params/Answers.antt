@@ -3,7 +3,7 @@ use Rattle.dg_waves.specs.Rounds.{numbers_from}
 use Rattle.fx_type.specs.declared.kind.FxType.{FxType}
 use Rattle.dg_model.specs.Attributes.{or_logical, param_type_at}
 use Rattle.dg_model.specs.TypeRounds.{types_of}
-use Rattle.dg_types.proofs.TypedWired.{numbers_more}
+use Rattle.dg_waves.proofs.Waved.{numbers_more}
 use Rattle.dg_types.proofs.typed.all_params.Goals as goal
 
 pub loop-place-preserved : goal.loop-place-preserved

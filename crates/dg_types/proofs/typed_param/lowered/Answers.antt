@@ -6,7 +6,7 @@ use Rattle.fx_type.specs.declared.kind.FxType.TheVariants.{Num}
 use Rattle.fx_type.specs.StoredOf.{rounded_of, is_in_range}
 use Rattle.dg_model.specs.GainParam.{frac_down}
 use Rattle.dg_types.specs.inner.TypedFit.{at_step}
-use Rattle.dg_types.proofs.TypedSearch.{search_step}
+use Rattle.fx_io.proofs.Places.{search_step}
 use Rattle.dg_types.proofs.typed_param.lowered.Goals as goal
 
 pub returns-then-fits_at : goal.returns-then-fits_at

@@ -2,18 +2,18 @@ use Rattle.std.proofs.Common.{arith}
 use Rattle.std.specs.Int.{w128}
 use Rattle.std.proofs.lemmas.Int.{to_z-of_z}
 use Rattle.fx_round.proofs.Congruence.{shift_wrapped, zero_wrapped}
-use Rattle.fx_round.proofs.Converting.{word_bound}
+use Rattle.fx_num.proofs.Words.{word-width}
 use Rattle.fx_round.proofs.settle.settled_up.Goals as goal
 
 pub returns-then-by-lt128 : goal.returns-then-by-lt128
 returns-then-by-lt128 c frac =
     let e = to_z-of_z w128 c.wrapped.result (record { sfits = c.wrapped.type_inv }) in
-    let h = word_bound c.args.width c.args.signed c.requires in
+    let h = word-width c.args.width c.args.signed c.requires in
     rw (c.if-saturate.false, e) (shift_wrapped c.args.v c.args.by c.args.width c.args.signed c.wrapped.result h c.ranges.v c.wrapped.ensures)
 
 pub returns-else-by-lt128 : goal.returns-else-by-lt128
 returns-else-by-lt128 c frac =
-    let h = word_bound c.args.width c.args.signed c.requires in
+    let h = word-width c.args.width c.args.signed c.requires in
     rw c.if-saturate.false (zero_wrapped c.args.v c.args.by c.args.width c.args.signed (omega (arith, c.if-by-lt128.false)))
 
 pub returns-then-saturate : goal.returns-then-saturate

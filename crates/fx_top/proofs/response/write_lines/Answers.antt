@@ -4,7 +4,7 @@ use Rattle.fx_tables.specs.Response.{response, response_line}
 use Rattle.fx_tables.specs.RowText.{periods_of}
 use Rattle.fx_top.proofs.Lines.{one-line-more, took-part}
 use Rattle.fx_top.proofs.Responses.{moved-table}
-use Rattle.fx_top.proofs.Sayings.{took-both}
+use Rattle.fx_io.proofs.Taken.{also_took-append}
 use Rattle.fx_top.proofs.response.write_lines.Goals as goal
 
 pub returns-in-Err-clause-cut : goal.returns-in-Err-clause-cut
@@ -33,7 +33,7 @@ loop-sample-preserved g c =
           c.in_default.ensures.whole
           ∙ ap (λ (told : Option (List ℕ)). also_took told c.line.result.now) (c.loop-sample.invariant.taken table is)
           ∙ ap (also_took (also_took (g.K.Sink.taken c.args.out.now) (response periods table t))) line
-          ∙ took-both (g.K.Sink.taken c.args.out.now) (response periods table t) (response_line periods t (table t))
+          ∙ also_took-append (g.K.Sink.taken c.args.out.now) (response periods table t) (response_line periods t (table t))
           ∙ ap (also_took (g.K.Sink.taken c.args.out.now)) (one-line-more periods table t);
       later = let now = c.put_all.ensures.later in let then = c.loop-sample.invariant.later in omega (arith, now, then);
     }

@@ -3,7 +3,7 @@ use Rattle.fx_type.specs.declared.kind.FxType.{FxType}
 use Rattle.dg_waves.specs.Rounds.{numbers_from}
 use Rattle.dg_model.specs.Attributes.{attributes_of}
 use Rattle.dg_model.specs.Wires.{type_into, types_into}
-use Rattle.hw_build.proofs.EnteringParts.{map_last}
+use Rattle.dg_tables.proofs.Lists.{map_last}
 use Rattle.hw_build.proofs.block_inputs.types_of.Goals as goal
 
 pub loop-input-preserved : goal.loop-input-preserved

@@ -3,7 +3,7 @@ use Rattle.fx_type.specs.FxType.{IsType}
 use Rattle.dg_model.specs.Library.{IsReadable}
 use Rattle.hw_build.proofs.FullyTyped.{full_is_there, second_is_valid}
 use Rattle.hw_build.proofs.Serving.{multiplies_input}
-use Rattle.hw_build.proofs.Widths.{held}
+use Rattle.fx_io.proofs.Places.{held}
 use Rattle.hw_build.proofs.full_types.full_type.Goals as goal
 
 pub full_of-requires-clause-one : goal.full_of-requires-clause-one

@@ -1,11 +1,11 @@
 use Rattle.std.proofs.Common.{rules, ◌≡◌, ◌<◌, ◌++◌, ◌∷◌, [], List, length, ap, sym, ◌∙◌, subst, arith}
 use Rattle.dg_model.specs.declared.diagram.Diagram.{Diagram}
 use Rattle.dg_model.specs.declared.diagram.Block.{Block}
-use Rattle.hw_sched.proofs.Widths.{some_block}
 use Rattle.hw_build.specs.declared.operands.Span.{Span}
 use Rattle.hw_build.specs.inner.Designed.{times_for}
 use Rattle.hw_build.specs.inner.EndAsks.{AreEndsFor, IsControlPut, IsSpan, controls_left}
 use Rattle.hw_build.proofs.AllEnds.{control_longer, controls_more, controls_end}
+use Rattle.fx_io.proofs.Places.{get_some}
 use Rattle.hw_build.proofs.gathering.gather_controls.Goals as goal
 
 pub loop-block-init : goal.loop-block-init
@@ -28,7 +28,7 @@ span_between-requires c =
     let test = c.loop-block-test.true in
     let inside : c.loop-block.block < length c.args.design.checked.now.diagram.blocks = omega (arith, test, size) in
     let same : c.in-Ok.number ≡ c.loop-block.block = search rules in
-    let b = some_block c.args.design.checked.now.diagram.blocks c.loop-block.block inside in
+    let b = get_some c.args.design.checked.now.diagram.blocks c.loop-block.block inside in
     let put : IsControlPut c.args.design.checked.now.diagram c.args.design.plan.now (times_for c.args.design) c.args.hubs.now c.loop-block.asks c.control_end.new.asks c.loop-block.block = subst (IsControlPut c.args.design.checked.now.diagram c.args.design.plan.now (times_for c.args.design) c.args.hubs.now c.loop-block.asks c.control_end.new.asks) same c.in_ok-control_end.ensures in
     let before : c.len-first.result ≡ length c.loop-block.asks.list.items = search rules in
     let behind : c.len.result ≡ length c.control_end.new.asks.list.items = search rules in
@@ -42,7 +42,7 @@ loop-block-preserved c =
     let test = c.loop-block-test.true in
     let inside : c.loop-block.block < length c.args.design.checked.now.diagram.blocks = omega (arith, test, size) in
     let same : c.in-Ok.number ≡ c.loop-block.block = search rules in
-    let b = some_block c.args.design.checked.now.diagram.blocks c.loop-block.block inside in
+    let b = get_some c.args.design.checked.now.diagram.blocks c.loop-block.block inside in
     let put : IsControlPut c.args.design.checked.now.diagram c.args.design.plan.now (times_for c.args.design) c.args.hubs.now c.loop-block.asks c.control_end.new.asks c.loop-block.block = subst (IsControlPut c.args.design.checked.now.diagram c.args.design.plan.now (times_for c.args.design) c.args.hubs.now c.loop-block.asks c.control_end.new.asks) same c.in_ok-control_end.ensures in
     let before : c.len-first.result ≡ length c.loop-block.asks.list.items = search rules in
     let behind : c.len.result ≡ length c.control_end.new.asks.list.items = search rules in

@@ -14,8 +14,9 @@ use Rattle.hw_build.specs.inner.Designed.{timing_for}
 use Rattle.hw_build.specs.inner.Entries.{enable_types}
 use Rattle.hw_build.specs.inner.Registering.{AreSeries}
 use Rattle.hw_build.proofs.EnteringKept.{first_operand, second_operand, delay_enabled_entry}
-use Rattle.hw_build.proofs.Parameters.{some_control, some_delay}
-use Rattle.hw_build.proofs.Words.{in_word, word_of}
+use Rattle.fx_io.proofs.Tests.{some_there}
+use Rattle.hw_build.proofs.Parameters.{some_delay}
+use Rattle.fx_type.proofs.Ranges.{type-word, range-word}
 use Rattle.dg_model.specs.declared.kind.Kind.{Kind}
 use Rattle.dg_model.specs.Library.{row_of}
 use Rattle.hw_build.proofs.kept.keep_enabled.Goals as goal
@@ -34,7 +35,7 @@ put_enabled_series-requires-clause-some c = some_delay c.args.site.design.checke
 pub put_enabled_series-requires-clause-word : goal.put_enabled_series-requires-clause-word
 put_enabled_series-requires-clause-word c =
     let types = c.operations_prepare.ensures.types c.args.site.design.checked.now.diagram c.args.site.design.checked.now.order c.args.site.place.block c.args.site.one.now (record { checked = c.keeps_rules.ensures.checked; ordered = c.keeps_rules.ensures.ordered }) c.requires.shown.block_is in
-    subst (λ (w : Word). IsWord w.width w.signed) (sym c.word_of-word.ensures) (word_of c.result-kind.result (subst IsType (sym (c.result-kind.ensures 1)) types.0))
+    subst (λ (w : Word). IsWord w.width w.signed) (sym c.word_of-word.ensures) (type-word c.result-kind.result (subst IsType (sym (c.result-kind.ensures 1)) types.0))
 
 pub put_enabled_series-requires-clause-from : goal.put_enabled_series-requires-clause-from
 put_enabled_series-requires-clause-from c =
@@ -45,7 +46,7 @@ put_enabled_series-requires-clause-from c =
 pub put_enabled_series-requires-clause-first : goal.put_enabled_series-requires-clause-first
 put_enabled_series-requires-clause-first c =
     let e = to_z-of_z w128 c.stored-first.result (record { sfits = c.stored-first.type_inv }) in
-    subst (λ (w : Word). InWord w.width w.signed (to_z w128 (of_z w128 c.stored-first.result))) (sym c.word_of-word.ensures) (rw e (in_word c.result-kind.result c.stored-first.result c.stored-first.ensures.range))
+    subst (λ (w : Word). InWord w.width w.signed (to_z w128 (of_z w128 c.stored-first.result))) (sym c.word_of-word.ensures) (rw e (range-word c.result-kind.result c.stored-first.result c.stored-first.ensures.range))
 
 pub put_enabled_series-requires-clause-enable : goal.put_enabled_series-requires-clause-enable
 put_enabled_series-requires-clause-enable c =
@@ -54,7 +55,7 @@ put_enabled_series-requires-clause-enable c =
 pub returns : goal.returns
 returns c =
     let e = to_z-of_z w128 c.stored-first.result (record { sfits = c.stored-first.type_inv }) in
-    let control = some_control c.args.site.one.now.enable c.requires.enable in
+    let control = some_there c.args.site.one.now.enable c.requires.enable in
     delay_enabled_entry c.args.site.design.checked.now.diagram (timing_for c.args.site.design) c.args.net.now c.put_enabled_series.new.net c.args.site.place.block c.args.site.one.now c.args.site.place.port c.args.site.place.element c.args.site.operands.now (record { net = c.in_ok-series.series.last; state = c.in_ok-series.series.first; multiply = None }) c.args.count c.in_ok-series.series.first c.args.initial.now c.args.reset c.stored-first.result c.result-kind.result c.own_frame-frame.result c.word_of-word.result c.requires.kind (some_delay c.args.site.design.checked.now.diagram c.args.site.place.block c.args.site.one.now c.args.count c.args.initial.now c.args.reset c.keeps_rules.ensures.checked c.requires.shown.block_is c.requires.kind) c.result-kind.ensures c.word_of-word.ensures c.own_frame-frame.ensures c.stored-first.ensures.one c.in_ok-series.ensures.last_is refl refl control.0 control.1 c.requires.operands
     (subst (λ (first : ℤ). AreSeries (λ last. EnReg c.own_frame-frame.result (slice_index_or c.args.site.operands.now 1 0) c.args.reset first last) c.args.net.now c.put_enabled_series.new.net (slice_index_or c.args.site.operands.now 1 0 ∷ slice_index_or c.args.site.operands.now 0 0 ∷ []) c.own_frame-frame.result c.word_of-word.result (slice_index_or c.args.site.operands.now 0 0) c.in_ok-series.series.first c.args.count) e c.in_ok-series.ensures.are)
 

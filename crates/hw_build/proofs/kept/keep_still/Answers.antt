@@ -15,7 +15,7 @@ use Rattle.hw_build.specs.inner.Entries.{enable_types}
 use Rattle.hw_build.specs.inner.Registering.{AreSeries}
 use Rattle.hw_build.proofs.EnteringKept.{first_operand, delay_still_entry}
 use Rattle.hw_build.proofs.Parameters.{some_delay}
-use Rattle.hw_build.proofs.Words.{in_word, word_of}
+use Rattle.fx_type.proofs.Ranges.{type-word, range-word}
 use Rattle.dg_model.specs.declared.kind.Kind.{Kind}
 use Rattle.dg_model.specs.Library.{row_of}
 use Rattle.hw_build.proofs.kept.keep_still.Goals as goal
@@ -34,7 +34,7 @@ put_series-requires-clause-some c = some_delay c.args.site.design.checked.now.di
 pub put_series-requires-clause-word : goal.put_series-requires-clause-word
 put_series-requires-clause-word c =
     let types = c.operations_prepare.ensures.types c.args.site.design.checked.now.diagram c.args.site.design.checked.now.order c.args.site.place.block c.args.site.one.now (record { checked = c.keeps_rules.ensures.checked; ordered = c.keeps_rules.ensures.ordered }) c.requires.shown.block_is in
-    subst (λ (w : Word). IsWord w.width w.signed) (sym c.word_of.ensures) (word_of c.result-kind.result (subst IsType (sym (c.result-kind.ensures 1)) types.0))
+    subst (λ (w : Word). IsWord w.width w.signed) (sym c.word_of.ensures) (type-word c.result-kind.result (subst IsType (sym (c.result-kind.ensures 1)) types.0))
 
 pub put_series-requires-clause-from : goal.put_series-requires-clause-from
 put_series-requires-clause-from c =
@@ -45,7 +45,7 @@ put_series-requires-clause-from c =
 pub put_series-requires-clause-first : goal.put_series-requires-clause-first
 put_series-requires-clause-first c =
     let e = to_z-of_z w128 c.stored-first.result (record { sfits = c.stored-first.type_inv }) in
-    subst (λ (w : Word). InWord w.width w.signed (to_z w128 (of_z w128 c.stored-first.result))) (sym c.word_of.ensures) (rw e (in_word c.result-kind.result c.stored-first.result c.stored-first.ensures.range))
+    subst (λ (w : Word). InWord w.width w.signed (to_z w128 (of_z w128 c.stored-first.result))) (sym c.word_of.ensures) (rw e (range-word c.result-kind.result c.stored-first.result c.stored-first.ensures.range))
 
 pub returns : goal.returns
 returns c =

@@ -16,8 +16,8 @@ use Rattle.hw_build.specs.inner.Entries.{enable_types}
 use Rattle.hw_build.specs.inner.Registering.{AreSeries}
 use Rattle.hw_build.proofs.EnteringKept.{first_operand, second_operand}
 use Rattle.hw_build.proofs.EnteringOut.{held_entry}
-use Rattle.hw_build.proofs.Parameters.{some_control}
-use Rattle.hw_build.proofs.Words.{in_word, word_of}
+use Rattle.fx_io.proofs.Tests.{some_there}
+use Rattle.fx_type.proofs.Ranges.{type-word, range-word}
 use Rattle.dg_model.specs.declared.kind.Kind.{Kind}
 use Rattle.dg_model.specs.Library.{row_of}
 use Rattle.std.proofs.lemmas.Option.{slice_get_within}
@@ -34,7 +34,7 @@ put_enabled_series-requires-clause-period c = c.periods_are_above.ensures.above 
 pub put_enabled_series-requires-clause-word : goal.put_enabled_series-requires-clause-word
 put_enabled_series-requires-clause-word c =
     let types = c.operations_prepare.ensures.types c.args.site.design.checked.now.diagram c.args.site.design.checked.now.order c.args.site.place.block c.args.site.one.now (record { checked = c.keeps_rules.ensures.checked; ordered = c.keeps_rules.ensures.ordered }) c.requires.shown.block_is in
-    subst (λ (w : Word). IsWord w.width w.signed) (sym c.word_of-word.ensures) (word_of c.result-kind.result (subst IsType (sym (c.result-kind.ensures 1)) types.0))
+    subst (λ (w : Word). IsWord w.width w.signed) (sym c.word_of-word.ensures) (type-word c.result-kind.result (subst IsType (sym (c.result-kind.ensures 1)) types.0))
 
 pub put_enabled_series-requires-clause-from : goal.put_enabled_series-requires-clause-from
 put_enabled_series-requires-clause-from c =
@@ -45,7 +45,7 @@ put_enabled_series-requires-clause-from c =
 pub put_enabled_series-requires-clause-first : goal.put_enabled_series-requires-clause-first
 put_enabled_series-requires-clause-first c =
     let e = to_z-of_z w128 c.stored-first.result (record { sfits = c.stored-first.type_inv }) in
-    subst (λ (w : Word). InWord w.width w.signed (to_z w128 (of_z w128 c.stored-first.result))) (sym c.word_of-word.ensures) (rw e (in_word c.result-kind.result c.stored-first.result c.stored-first.ensures.range))
+    subst (λ (w : Word). InWord w.width w.signed (to_z w128 (of_z w128 c.stored-first.result))) (sym c.word_of-word.ensures) (rw e (range-word c.result-kind.result c.stored-first.result c.stored-first.ensures.range))
 
 pub put_enabled_series-requires-clause-enable : goal.put_enabled_series-requires-clause-enable
 put_enabled_series-requires-clause-enable c =
@@ -55,7 +55,7 @@ pub returns : goal.returns
 returns c =
     let types = c.operations_prepare.ensures.types c.args.site.design.checked.now.diagram c.args.site.design.checked.now.order c.args.site.place.block c.args.site.one.now (record { checked = c.keeps_rules.ensures.checked; ordered = c.keeps_rules.ensures.ordered }) c.requires.shown.block_is in
     let e = to_z-of_z w128 c.stored-first.result (record { sfits = c.stored-first.type_inv }) in
-    let control = some_control c.args.site.one.now.enable c.requires.enable in
+    let control = some_there c.args.site.one.now.enable c.requires.enable in
     held_entry c.args.site.design.checked.now.diagram (timing_for c.args.site.design) c.args.net.now c.put_enabled_series.new.net c.put_comb.new.net c.args.site.place.block c.args.site.one.now c.args.site.place.port c.args.site.place.element c.args.site.operands.now
     (record { net = c.in_ok-chosen.chosen; state = c.in_ok-series.series.first; multiply = None }) control.0 c.args.initial.now c.stored-first.result c.result-kind.result c.own_frame-frame.result c.word_of-word.result c.in_ok-series.series.last c.requires.kind control.1
     c.result-kind.ensures (subst IsType (sym (c.result-kind.ensures 1)) types.0) c.stored-first.ensures.one c.requires.operands c.word_of-word.ensures c.own_frame-frame.ensures

@@ -8,7 +8,7 @@ use Rattle.hw_net.specs.declared.netlist.NetOp.TheVariants.{Choose, Const}
 use Rattle.hw_build.proofs.Entering.{typed_net}
 use Rattle.hw_build.specs.inner.Designed.{timing_for}
 use Rattle.hw_build.proofs.EnteringOut.{reset_entry}
-use Rattle.hw_build.proofs.Parameters.{some_control}
+use Rattle.fx_io.proofs.Tests.{some_there}
 use Rattle.dg_model.specs.declared.kind.Kind.{Kind}
 use Rattle.dg_model.specs.Library.{row_of}
 use Rattle.dg_model.specs.Attributes.{attributes_of}
@@ -25,7 +25,7 @@ pub returns : goal.returns
 returns c =
     let types = c.operations_prepare.ensures.types c.args.site.design.checked.now.diagram c.args.site.design.checked.now.order c.args.site.place.block c.args.site.one.now (record { checked = c.keeps_rules.ensures.checked; ordered = c.keeps_rules.ensures.ordered }) c.requires.shown.block_is in
     let e = to_z-of_z w128 c.stored-first.result (record { sfits = c.stored-first.type_inv }) in
-    let control = some_control c.args.site.one.now.enable c.requires.enable in
+    let control = some_there c.args.site.one.now.enable c.requires.enable in
     let is_type = subst IsType (sym (c.result-kind.ensures 1)) types.0 in
     reset_entry c.args.site.design.checked.now.diagram (timing_for c.args.site.design) c.args.net.now c.put_const.new.net c.put_comb.new.net c.args.site.place.block c.args.site.one.now c.args.site.place.port c.args.site.place.element c.args.site.operands.now
     (record { net = c.in_ok-chosen.chosen; state = c.in_ok-chosen.chosen; multiply = None }) control.0 c.args.initial.now c.stored-first.result c.result-kind.result c.in_ok-constant.constant c.requires.kind control.1

@@ -1,6 +1,6 @@
 use Rattle.std.proofs.Common.{ℕ, List, ◌++◌, ◌∷◌, [], ◌∙◌, map, ap, sym}
 use Rattle.dg_waves.specs.Rounds.{numbers_from}
-use Rattle.hw_build.proofs.EnteringParts.{map_last}
+use Rattle.dg_tables.proofs.Lists.{map_last}
 use Rattle.hw_build.specs.inner.Operands.{offered_at}
 use Rattle.hw_build.proofs.offers.from_each.Goals as goal
 

@@ -1,6 +1,6 @@
 use Rattle.std.proofs.Common.{ℕ, List, ◌++◌, ◌∷◌, [], ◌∙◌, map, ap, sym}
 use Rattle.dg_waves.specs.Rounds.{numbers_from}
-use Rattle.hw_build.proofs.EnteringParts.{map_first}
+use Rattle.dg_waves.proofs.Waved.{numbers_more}
 use Rattle.hw_build.specs.inner.Operands.{offered_at}
 use Rattle.hw_build.proofs.offers.from_first.Goals as goal
 
@@ -8,4 +8,4 @@ pub loop-element-preserved : goal.loop-element-preserved
 loop-element-preserved c =
     let f : ℕ → ℕ = offered_at c.args.setting.design.checked.now.diagram c.args.setting.operands.now c.args.place.block 1 in
     rw c.in_ok-push.ensures.appended
-    (ap (λ (xs : List ℕ). xs ++ c.at.result ∷ []) c.loop-element.invariant ∙ ap (λ (n : ℕ). map f (numbers_from 0 c.loop-element.element) ++ n ∷ []) c.at.ensures ∙ sym (map_first f c.loop-element.element))
+    (ap (λ (xs : List ℕ). xs ++ c.at.result ∷ []) c.loop-element.invariant ∙ ap (λ (n : ℕ). map f (numbers_from 0 c.loop-element.element) ++ n ∷ []) c.at.ensures ∙ sym (numbers_more f c.loop-element.element))

@@ -1,9 +1,7 @@
 use Rattle.std.proofs.Common.{rules, ℕ, ◌*◌, ◌<◌, ◌≤◌, arith}
 use Rattle.std.proofs.Common.{mul-le-mul_right}
+use Rattle.hw_lines.proofs.Chained.{room}
 use Rattle.hw_build.proofs.pipelines.last_slot.Goals as goal
-
-room : (period cycles : ℕ) → period ≤ 4096 → cycles ≤ 1024 → period * cycles < 4294967296
-room period cycles p c = let e : period * cycles ≤ 4096 * cycles = mul-le-mul_right cycles p in omega arith
 
 some : (period cycles : ℕ) → 0 < period → 1 ≤ cycles → 1 ≤ period * cycles
 some period cycles p c = let e : 1 * cycles ≤ period * cycles = mul-le-mul_right cycles (omega (arith, p)) in omega arith

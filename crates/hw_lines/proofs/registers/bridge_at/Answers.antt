@@ -2,7 +2,8 @@ use Rattle.std.proofs.Common.{◌≡◌, ◌+◌, IfOk, OnOk}
 use Rattle.std.specs.Prelude.{⊤}
 use Rattle.hw_net.specs.Frames.{register_count}
 use Rattle.hw_lines.specs.inner.Parts.{Grows, IsBridged}
-use Rattle.hw_lines.proofs.Parts.{read-net, bridge-part}
+use Rattle.hw_net.proofs.Extending.{read-net}
+use Rattle.hw_lines.proofs.Parts.{bridge-part}
 use Rattle.hw_lines.proofs.registers.bridge_at.Goals as goal
 
 parts : (c : goal.After-add) → IfOk c.add.result (λ number. IsBridged c.args.net.now c.add.new.self c.args.from c.args.frame c.args.live number)

@@ -3,7 +3,8 @@ use Rattle.std.specs.Int.{w128}
 use Rattle.std.proofs.lemmas.Int.{to_z-of_z}
 use Rattle.hw_net.specs.Frames.{register_count}
 use Rattle.hw_lines.specs.inner.Parts.{Grows, IsHeld}
-use Rattle.hw_lines.proofs.Parts.{read-net, register-part}
+use Rattle.hw_net.proofs.Extending.{read-net}
+use Rattle.hw_lines.proofs.Parts.{register-part}
 use Rattle.hw_lines.proofs.registers.register_at.Goals as goal
 
 parts : (c : goal.After-add) → IfOk c.add.result (λ number. IsHeld c.args.net.now c.add.new.self c.args.from c.args.frame c.args.slot c.args.first number)

@@ -7,7 +7,7 @@ use Rattle.hw_lower.specs.inner.Planned.{word_of}
 use Rattle.hw_lower.specs.inner.Spread.{OfArguments, IsScaled, argument_of}
 use Rattle.hw_lower.proofs.Arguments.{range-at, scaled-at}
 use Rattle.hw_lower.proofs.Made.{at-later, constant-made, one-longer}
-use Rattle.hw_lower.proofs.Products.{type-word, range-word}
+use Rattle.fx_type.proofs.Ranges.{type-word, range-word}
 use Rattle.hw_lower.proofs.Spreading.{if-behind}
 use Rattle.hw_lower.proofs.planning.planned_gain.Goals as goal
 

@@ -6,7 +6,7 @@ use Rattle.dg_model.specs.Operation.{operation_of, IsConverted, meets, type_of, 
 use Rattle.hw_lower.specs.inner.Spread.{OfArguments, argument_of}
 use Rattle.hw_lower.proofs.Made.{at-later}
 use Rattle.hw_lower.proofs.Chained.{if-then, made-both}
-use Rattle.hw_lower.proofs.Products.{range-word}
+use Rattle.fx_type.proofs.Ranges.{range-word}
 use Rattle.hw_lower.proofs.Arguments.{switch-is}
 use Rattle.hw_lower.proofs.planning.planned_switch.Goals as goal
 

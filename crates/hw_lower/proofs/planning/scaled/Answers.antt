@@ -3,13 +3,13 @@ use Rattle.std.specs.Int.{w16}
 use Rattle.fx_num.specs.Word.{IsWord}
 use Rattle.fx_type.specs.declared.kind.FxType.{FxType}
 use Rattle.fx_type.specs.FxType.{InRange, frac_of}
-use Rattle.fx_type.proofs.Ranges.{frac_bounds}
+use Rattle.fx_type.proofs.Ranges.{frac_bounds, type-word}
 use Rattle.dg_model.specs.Operation.{operation_of, IsConverted}
 use Rattle.hw_lower.specs.declared.plan.Word.{Word}
 use Rattle.hw_lower.specs.inner.Planned.{word_of}
 use Rattle.hw_lower.specs.inner.Spread.{IsScaled}
 use Rattle.hw_lower.proofs.Arguments.{frac_sum}
-use Rattle.hw_lower.proofs.Products.{type-word, product-is}
+use Rattle.hw_lower.proofs.Products.{product-is}
 use Rattle.hw_lower.proofs.Spreading.{multiplied-put, if-after}
 use Rattle.hw_lower.proofs.planning.scaled.Goals as goal
 use Rattle.hw_lower.proofs.planning.scaled.Goals.{After-frac-2}

@@ -2,9 +2,8 @@ use Rattle.std.proofs.Common.{◌≡◌, ◌∙◌, to_z, of_z}
 use Rattle.std.specs.Int.{w16}
 use Rattle.std.proofs.lemmas.Int.{to_z-of_z}
 use Rattle.fx_type.specs.FxType.{InRange, frac_of, aligned}
-use Rattle.fx_type.proofs.Ranges.{frac_bounds}
+use Rattle.fx_type.proofs.Ranges.{frac_bounds, type-word}
 use Rattle.hw_lower.proofs.Chained.{if-map}
-use Rattle.hw_lower.proofs.Products.{type-word}
 use Rattle.hw_lower.proofs.Related.{held-is}
 use Rattle.hw_lower.proofs.relating.held.Goals as goal
 

@@ -1,5 +1,5 @@
 use Rattle.fx_type.specs.FullType.{IsUnion}
-use Rattle.hw_lower.proofs.Arguments.{found-ok}
+use Rattle.dg_model.proofs.SumTerms.{found-ok}
 use Rattle.hw_lower.proofs.relating.union_of.Goals as goal
 
 pub unwrap-requires : goal.unwrap-requires

@@ -6,7 +6,8 @@ use Rattle.hw_lower.specs.inner.Planned.{IsHeldAbove}
 use Rattle.hw_lower.proofs.Made.{at-later}
 use Rattle.hw_lower.proofs.Chained.{if-then, made-both, made-self}
 use Rattle.hw_lower.proofs.Cut.{less-is}
-use Rattle.hw_lower.proofs.Ends.{falls, highest-least, lowest-most}
+use Rattle.hw_net.proofs.Words.{lowest-below}
+use Rattle.hw_lower.proofs.Ends.{falls, highest-least}
 use Rattle.hw_lower.proofs.settling.held_above.Goals as goal
 
 pub returns-then-bound-lowest : goal.returns-then-bound-lowest
@@ -93,5 +94,5 @@ constant-requires-2-clause-value c =
     let end = to_z-of_z w128 c.lowest-fewest.result (record { sfits = c.lowest-fewest.type_inv }) in
     record {
       low = omega (arith, ints, end, c.lowest-fewest.ensures);
-      high = omega (arith, ints, end, c.lowest-fewest.ensures, lowest-most c.args.value.word.width c.args.value.word.signed, highest-least c.args.value.word.width c.args.value.word.signed);
+      high = omega (arith, ints, end, c.lowest-fewest.ensures, lowest-below c.args.value.word.width c.args.value.word.signed, highest-least c.args.value.word.width c.args.value.word.signed);
     }

@@ -6,7 +6,8 @@ use Rattle.hw_lower.specs.inner.Planned.{IsHeldBelow}
 use Rattle.hw_lower.proofs.Made.{at-later}
 use Rattle.hw_lower.proofs.Chained.{if-then, made-both, made-self}
 use Rattle.hw_lower.proofs.Cut.{less-is}
-use Rattle.hw_lower.proofs.Ends.{passes, lowest-most, highest-least}
+use Rattle.hw_net.proofs.Words.{lowest-below}
+use Rattle.hw_lower.proofs.Ends.{passes, highest-least}
 use Rattle.hw_lower.proofs.settling.held_below.Goals as goal
 
 pub returns-then-bound-highest : goal.returns-then-bound-highest
@@ -66,7 +67,7 @@ constant-requires-clause-value c =
     let bound = to_z-of_z w128 c.greatest-bound.result (record { sfits = c.greatest-bound.type_inv }) in
     let top = to_z-of_z w128 c.highest.result (record { sfits = c.highest.type_inv }) in
     record {
-      low = omega (arith, ints, bound, c.greatest-bound.ensures.least, lowest-most c.args.from.word.width c.args.from.word.signed);
+      low = omega (arith, ints, bound, c.greatest-bound.ensures.least, lowest-below c.args.from.word.width c.args.from.word.signed);
       high = omega (arith, ints, bound, top, c.if-bound-highest.false, c.highest.ensures);
     }
 
@@ -92,6 +93,6 @@ pub constant-requires-2-clause-value : goal.constant-requires-2-clause-value
 constant-requires-2-clause-value c =
     let top = to_z-of_z w128 c.highest-most.result (record { sfits = c.highest-most.type_inv }) in
     record {
-      low = omega (arith, ints, top, c.highest-most.ensures, lowest-most c.args.value.word.width c.args.value.word.signed, highest-least c.args.value.word.width c.args.value.word.signed);
+      low = omega (arith, ints, top, c.highest-most.ensures, lowest-below c.args.value.word.width c.args.value.word.signed, highest-least c.args.value.word.width c.args.value.word.signed);
       high = omega (arith, ints, top, c.highest-most.ensures);
     }

@@ -3,19 +3,19 @@ use Rattle.std.specs.Prelude.{zip}
 use Rattle.std.specs.Int.{w16}
 use Rattle.std.proofs.lemmas.Int.{to_z-of_z}
 use Rattle.fx_type.specs.FxType.{frac_of, width_of, is_signed}
-use Rattle.fx_type.proofs.Ranges.{frac_bounds}
+use Rattle.fx_type.proofs.Ranges.{frac_bounds, type-word}
 use Rattle.dg_model.specs.Operation.{signed_sum}
 use Rattle.hw_lower.specs.inner.Spread.{OfArguments, argument_of}
 use Rattle.hw_lower.proofs.Made.{at-later}
 use Rattle.hw_lower.proofs.Chained.{made-map, made-both}
-use Rattle.hw_lower.proofs.Products.{type-word}
-use Rattle.hw_lower.proofs.Summed.{IsTotal, total-more, total-is, frac-bound}
+use Rattle.fx_type.proofs.Fracs.{bound_at}
+use Rattle.hw_lower.proofs.Summed.{IsTotal, total-more, total-is}
 use Rattle.hw_lower.proofs.sums.summed.Goals as goal
 
 pub term_begun-requires-clause-above : goal.term_begun-requires-clause-above
 term_begun-requires-clause-above c =
     let f : to_z w16 (of_z w16 c.frac-frac.result) ≡ frac_of c.args.full = to_z-of_z w16 c.frac-frac.result (record { sfits = c.frac-frac.type_inv }) ∙ c.frac-frac.ensures in
-    rw f (λ k d h. frac-bound (frac_of c.args.full) c.args.signs.now c.args.types.now c.requires.full.frac.bound c.requires.signs k d h)
+    rw f (λ k d h. bound_at (frac_of c.args.full) c.args.signs.now c.args.types.now c.requires.full.frac.bound c.requires.signs k d h)
 
 pub term_begun-requires-clause-high : goal.term_begun-requires-clause-high
 term_begun-requires-clause-high c =
@@ -39,7 +39,7 @@ pub added-requires-clause-above : goal.added-requires-clause-above
 added-requires-clause-above c =
     let f : to_z w16 (of_z w16 c.frac-frac.result) ≡ frac_of c.args.full = to_z-of_z w16 c.frac-frac.result (record { sfits = c.frac-frac.type_inv }) ∙ c.frac-frac.ensures in
     let inside : c.loop-input.input < length c.args.types.now = omega (arith, c.loop-input-test.true) in
-    rw f (frac-bound (frac_of c.args.full) c.args.signs.now c.args.types.now c.requires.full.frac.bound c.requires.signs c.loop-input.input _ inside)
+    rw f (bound_at (frac_of c.args.full) c.args.signs.now c.args.types.now c.requires.full.frac.bound c.requires.signs c.loop-input.input _ inside)
 
 pub added-requires-clause-high : goal.added-requires-clause-high
 added-requires-clause-high c =

@@ -3,7 +3,8 @@ use Rattle.std.specs.Prelude.{slice_index}
 use Rattle.std.proofs.lemmas.List.{length-replicate}
 use Rattle.dg_model.specs.declared.diagram.Diagram.{Diagram}
 use Rattle.hw_sched.specs.inner.Greatest.{IsNextDepth}
-use Rattle.hw_sched.proofs.Lists.{held, zero_at}
+use Rattle.fx_io.proofs.Places.{held}
+use Rattle.hw_sched.proofs.Lists.{zero_at}
 use Rattle.hw_sched.proofs.Items.{item_read}
 use Rattle.hw_sched.proofs.Reading.{depths_more, depths_end}
 use Rattle.hw_sched.proofs.deepening.depths.Goals as goal

@@ -6,7 +6,8 @@ use Rattle.dg_model.specs.Attributes.{attributes_of}
 use Rattle.hw_sched.specs.Answer.{timing_of}
 use Rattle.hw_sched.proofs.Counting.{beside_control, beside_line, beside_lines, beside_none}
 use Rattle.hw_sched.proofs.Items.{item_read}
-use Rattle.hw_sched.proofs.Widths.{line_there, some_block}
+use Rattle.hw_sched.proofs.Widths.{line_there}
+use Rattle.fx_io.proofs.Places.{get_some}
 use Rattle.hw_sched.proofs.edge_lines.lines_in_all.Goals as goal
 
 abbrev none : Edge
@@ -20,7 +21,7 @@ line_registers-requires-clause-there c =
 pub loop-place-preserved : goal.loop-place-preserved
 loop-place-preserved c =
     let bs = c.as_slice-blocks.ensures ∙ ap (λ (d : Diagram). d.blocks) c.diagram-2.ensures in
-    let block = some_block c.args.checked.now.diagram.blocks c.loop-place.place (subst (λ (blocks : List Block). c.loop-place.place < length blocks) bs c.loop-place-test.true) in
+    let block = get_some c.args.checked.now.diagram.blocks c.loop-place.place (subst (λ (blocks : List Block). c.loop-place.place < length blocks) bs c.loop-place-test.true) in
     beside_control c.args.checked.now.diagram (attributes_of c.args.checked.now.diagram) c.args.plan.now (timing_of c.args.latencies.now []) c.loop-place.all c.in_ok-controls_line.field-0 c.in_ok-all.all c.loop-place.place block.0 block.1
     c.in_ok-controls_line.ensures c.in_ok-all.ensures c.loop-place.invariant
 

@@ -1,5 +1,5 @@
 use Rattle.std.proofs.Common.{◌≡◌, IfOk, OnOk, ◌∷◌, []}
-use Rattle.hw_share.proofs.Put.{read-net}
+use Rattle.hw_net.proofs.Extending.{read-net}
 use Rattle.hw_share.specs.inner.Parts.{Grows, IsKeeping}
 use Rattle.hw_share.specs.inner.Steps.{IsHeld}
 use Rattle.hw_share.proofs.Kept.{register-part}

@@ -1,7 +1,7 @@
 use Rattle.std.proofs.Common.{◌≡◌, ◌+◌, IfOk, OnOk, ◌∷◌, [], length}
 use Rattle.hw_share.specs.inner.Parts.{Grows, IsMultiplying}
 use Rattle.hw_share.specs.inner.Steps.{IsMultiplier}
-use Rattle.hw_share.proofs.Put.{read-net}
+use Rattle.hw_net.proofs.Extending.{read-net}
 use Rattle.hw_share.proofs.Multiplied.{multiply-part}
 use Rattle.hw_share.proofs.multiplying.multiply.Goals as goal
 

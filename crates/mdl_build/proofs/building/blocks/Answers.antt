@@ -8,7 +8,8 @@ use Rattle.mdl_build.specs.inner.Known.{IsWrongAt}
 use Rattle.mdl_build.specs.inner.Makers.{AreMade, items_of}
 use Rattle.mdl_build.proofs.BlockPlaces.{block_here}
 use Rattle.mdl_build.proofs.KnownLemmas.{structure_kept, name_kept, type_kept}
-use Rattle.mdl_build.proofs.MakingLemmas.{made_next, made_all, wrong_first, refused_as}
+use Rattle.dg_model.proofs.Refused.{refused_as}
+use Rattle.mdl_build.proofs.MakingLemmas.{made_next, made_all, wrong_first}
 use Rattle.mdl_build.proofs.building.blocks.Goals as goal
 
 pub type_at-requires : goal.type_at-requires

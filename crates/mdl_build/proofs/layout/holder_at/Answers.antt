@@ -1,5 +1,6 @@
 use Rattle.std.proofs.Common.{◌-◌, ◌<◌, None, Some, sym, ◌∙◌, arith}
-use Rattle.mdl_build.proofs.Above.{leap_from, above_before, holder_known, holders_length}
+use Rattle.mdl_build.proofs.RoleLemmas.{above_before}
+use Rattle.mdl_build.proofs.Above.{leap_from, holder_known, holders_length}
 use Rattle.mdl_build.specs.Sections.{depth_at}
 use Rattle.mdl_build.proofs.layout.holder_at.Goals as goal
 

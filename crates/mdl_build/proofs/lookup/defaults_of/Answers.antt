@@ -1,6 +1,7 @@
 use Rattle.std.proofs.Common.{length, sym, ◌∙◌, ◌≤◌, ◌<◌, arith}
 use Rattle.mdl_build.specs.Lookup.{has_defaults, defaults_of}
-use Rattle.mdl_build.proofs.FirstDefaults.{find_here, find_behind, find_at_end, roles_long, asks}
+use Rattle.mdl_build.proofs.RoleLemmas.{roles_long}
+use Rattle.mdl_build.proofs.FirstDefaults.{find_here, find_behind, find_at_end, asks}
 use Rattle.mdl_build.proofs.lookup.defaults_of.Goals as goal
 
 pub has_defaults-requires : goal.has_defaults-requires

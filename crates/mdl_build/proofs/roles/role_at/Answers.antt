@@ -1,5 +1,5 @@
 use Rattle.std.proofs.Common.{sym, ap, ◌∙◌, arith}
-use Rattle.mdl_build.proofs.Above.{above_before}
+use Rattle.mdl_build.proofs.RoleLemmas.{above_before}
 use Rattle.mdl_build.proofs.Places.{known_at, known_length}
 use Rattle.mdl_build.proofs.RoleSteps.{role_found}
 use Rattle.mdl_build.specs.declared.roles.Role.{Role}

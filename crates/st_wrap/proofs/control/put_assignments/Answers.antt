@@ -3,7 +3,7 @@ use Rattle.std.proofs.lemmas.Result.{on_ok_weaker}
 use Rattle.vl_ast.specs.declared.modules.ModItem.TheVariants.{Assign}
 use Rattle.st_wrap.specs.inner.Control.{is_due_now, is_last, is_zero, unless}
 use Rattle.st_wrap.specs.inner.Names.{begin_name, end_name, due_name, fed_name, open_name, phase_name}
-use Rattle.st_wrap.proofs.Gathered.{put-next}
+use Rattle.fx_io.proofs.Places.{put-next}
 use Rattle.st_wrap.proofs.control.put_assignments.Goals as goal
 
 pub returns : goal.returns

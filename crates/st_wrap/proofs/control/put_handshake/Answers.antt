@@ -3,7 +3,7 @@ use Rattle.std.proofs.lemmas.Result.{on_ok_weaker}
 use Rattle.vl_ast.specs.declared.modules.ModItem.TheVariants.{Assign}
 use Rattle.st_wrap.specs.inner.Control.{both}
 use Rattle.st_wrap.specs.inner.Names.{begin_name, due_name, enable_name, fed_name, open_name}
-use Rattle.st_wrap.proofs.Gathered.{put-next}
+use Rattle.fx_io.proofs.Places.{put-next}
 use Rattle.st_wrap.proofs.control.put_handshake.Goals as goal
 
 pub returns : goal.returns

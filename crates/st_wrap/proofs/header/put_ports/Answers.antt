@@ -4,7 +4,7 @@ use Rattle.vl_ast.specs.declared.modules.Port.{Port}
 use Rattle.vl_ast.specs.Header.{bit_input, input_port, output_port}
 use Rattle.st_wrap.specs.Header.{row_port}
 use Rattle.st_wrap.specs.inner.Columns.{column_port}
-use Rattle.st_wrap.proofs.Gathered.{put-before, put-next}
+use Rattle.fx_io.proofs.Places.{put-next, put-before}
 use Rattle.st_wrap.proofs.header.put_ports.Goals as goal
 
 pub returns : goal.returns

@@ -3,7 +3,7 @@ use Rattle.std.proofs.lemmas.Result.{on_ok_weaker}
 use Rattle.vl_ast.specs.declared.modules.ModItem.{ModItem}
 use Rattle.vl_ast.specs.declared.modules.ModItem.TheVariants.{Assign}
 use Rattle.st_wrap.specs.inner.Names.{held_name, inner_name}
-use Rattle.st_wrap.proofs.Gathered.{put-before}
+use Rattle.fx_io.proofs.Places.{put-before}
 use Rattle.st_wrap.proofs.registers.drive_input.Goals as goal
 
 pub returns : goal.returns

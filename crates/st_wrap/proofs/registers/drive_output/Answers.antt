@@ -4,7 +4,8 @@ use Rattle.std.proofs.lemmas.Result.{on_ok_weaker}
 use Rattle.vl_ast.specs.declared.expressions.Expr.TheVariants.{Name}
 use Rattle.vl_ast.specs.declared.modules.ModItem.TheVariants.{Assign}
 use Rattle.st_wrap.specs.inner.Columns.{stage_driven, stage_name}
-use Rattle.st_wrap.proofs.Gathered.{mapped-more, put-before}
+use Rattle.fx_io.proofs.Places.{put-before}
+use Rattle.st_wrap.proofs.Gathered.{mapped-more}
 use Rattle.st_wrap.proofs.registers.drive_output.Goals as goal
 
 pub loop-place-preserved : goal.loop-place-preserved

@@ -5,7 +5,7 @@ use Rattle.st_wrap.specs.inner.Columns.{held_declared, held_driven, late_declare
 use Rattle.st_wrap.specs.inner.Control.{control_declared, control_driven}
 use Rattle.st_wrap.specs.inner.Renamed.{core_items, wires_of}
 use Rattle.st_wrap.specs.inner.Wrapped.{declared_items, driven_items}
-use Rattle.st_wrap.proofs.Gathered.{put-before}
+use Rattle.fx_io.proofs.Places.{put-before}
 use Rattle.st_wrap.proofs.wrapping.put_items.Goals as goal
 
 pub returns : goal.returns

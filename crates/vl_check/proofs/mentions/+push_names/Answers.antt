@@ -3,7 +3,7 @@ use Rattle.std.specs.List.{flat_map}
 use Rattle.std.proofs.lemmas.List.{take_all}
 use Rattle.vl_ast.specs.Nets.{names_read}
 use Rattle.vl_check.specs.inner.Mentioned.{texts}
-use Rattle.vl_check.proofs.Results.{on-ok}
+use Rattle.std.proofs.lemmas.Result.{on_ok_weaker}
 use Rattle.vl_check.proofs.Reading.{reads-binary, reads-choose, reads-concat}
 use Rattle.vl_check.proofs.mentions.+push_names.Goals as goal
 
@@ -11,7 +11,7 @@ pub returns-in_ok-push_names-in-Binary : goal.returns-in_ok-push_names-in-Binary
 returns-in_ok-push_names-in-Binary t c =
     let l = ap names_read c.get.ensures in
     let r = ap names_read c.get-in-Binary.ensures in
-    on-ok c.push_names-in-Binary-2.result
+    on_ok_weaker c.push_names-in-Binary-2.result
     (λ last. reads-binary c.in-Binary._op c.in-Binary.left c.in-Binary.right c.args.e.now (texts c.args.names.now.items) (texts c.push_names-in-Binary.new.names.items) _ c.in-Binary.is
     (c.in_ok-push_names-in-Binary.ensures ∙ ap (λ xs. texts c.args.names.now.items ++ xs) l) (last ∙ ap (λ xs. texts c.push_names-in-Binary.new.names.items ++ xs) r))
     c.push_names-in-Binary-2.ensures
@@ -21,7 +21,7 @@ returns-in_ok-push_names-in-Choose-2 t c =
     let one = ap names_read c.get-in-Choose.ensures in
     let two = ap names_read c.get-in-Choose-2.ensures in
     let three = ap names_read c.get-in-Choose-3.ensures in
-    on-ok c.push_names-in-Choose-3.result
+    on_ok_weaker c.push_names-in-Choose-3.result
     (λ last. reads-choose c.in-Choose.test c.in-Choose.chosen c.in-Choose.other c.args.e.now (texts c.args.names.now.items) (texts c.push_names-in-Choose.new.names.items) (texts c.push_names-in-Choose-2.new.names.items) _ c.in-Choose.is
     (c.in_ok-push_names-in-Choose.ensures ∙ ap (λ xs. texts c.args.names.now.items ++ xs) one)
     (c.in_ok-push_names-in-Choose-2.ensures ∙ ap (λ xs. texts c.push_names-in-Choose.new.names.items ++ xs) two)

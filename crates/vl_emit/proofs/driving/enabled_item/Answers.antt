@@ -11,7 +11,7 @@ use Rattle.vl_emit.specs.Names.{Wire}
 use Rattle.vl_emit.specs.inner.Emitted.{constant}
 use Rattle.vl_emit.specs.inner.Operators.{test_of}
 use Rattle.vl_emit.specs.inner.Ready.{IsDriver, circuit_of, slot_in, wire_in}
-use Rattle.vl_emit.proofs.Lists.{default-free}
+use Rattle.std.proofs.lemmas.List.{get_or_default}
 use Rattle.vl_emit.proofs.driving.enabled_item.Goals as goal
 
 pub returns-then-reset : goal.returns-then-reset
@@ -20,7 +20,7 @@ returns-then-reset c =
     let frame = c.args.frame in
     let nets = (circuit_of source).nets in
     let read = subst (λ (ns : List Net). c.index-nets-own.result ≡ get_or ns c.args.own c.index-nets-own.result) c.nets.ensures c.index-nets-own.is in
-    let net : c.index-nets-own.result ≡ net_at nets c.args.own = read ∙ default-free nets c.args.own _ _ c.requires.own in
+    let net : c.index-nets-own.result ≡ net_at nets c.args.own = read ∙ get_or_default nets c.args.own _ _ c.requires.own in
     let width = ap (λ (n : Net). n.width) net in
     let same = to_z-of_z w128 c.args.first c.ranges.first in
     let number = c.constant-number.ensures ∙ ap (λ (z : ℤ). constant c.index-nets-own.result.width z) same ∙ ap (λ (w : ℕ). constant w c.args.first) width in
@@ -36,7 +36,7 @@ returns-else-reset c =
     let source = c.args.source in
     let nets = (circuit_of source).nets in
     let read = subst (λ (ns : List Net). c.index-nets-own.result ≡ get_or ns c.args.own c.index-nets-own.result) c.nets.ensures c.index-nets-own.is in
-    let net : c.index-nets-own.result ≡ net_at nets c.args.own = read ∙ default-free nets c.args.own _ _ c.requires.own in
+    let net : c.index-nets-own.result ≡ net_at nets c.args.own = read ∙ get_or_default nets c.args.own _ _ c.requires.own in
     let width = ap (λ (n : Net). n.width) net in
     let same = to_z-of_z w128 c.args.first c.ranges.first in
     let number = c.constant-number.ensures ∙ ap (λ (z : ℤ). constant c.index-nets-own.result.width z) same ∙ ap (λ (w : ℕ). constant w c.args.first) width in

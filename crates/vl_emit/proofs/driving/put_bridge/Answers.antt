@@ -4,7 +4,7 @@ use Rattle.vl_ast.specs.declared.expressions.Expr.TheVariants.{Name}
 use Rattle.vl_emit.specs.Names.{Wire}
 use Rattle.vl_emit.specs.inner.Emitted.{plain_number}
 use Rattle.vl_emit.specs.inner.Ready.{wire_in}
-use Rattle.vl_emit.proofs.Lists.{put-before}
+use Rattle.fx_io.proofs.Places.{put-before}
 use Rattle.vl_emit.proofs.driving.put_bridge.Goals as goal
 
 pub returns : goal.returns

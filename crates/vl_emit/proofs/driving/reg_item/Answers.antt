@@ -8,7 +8,7 @@ use Rattle.hw_net.specs.Products.{net_at}
 use Rattle.vl_emit.specs.Names.{Wire}
 use Rattle.vl_emit.specs.inner.Emitted.{constant}
 use Rattle.vl_emit.specs.inner.Ready.{circuit_of, slot_in}
-use Rattle.vl_emit.proofs.Lists.{default-free}
+use Rattle.std.proofs.lemmas.List.{get_or_default}
 use Rattle.vl_emit.proofs.driving.reg_item.Goals as goal
 
 pub returns : goal.returns
@@ -17,7 +17,7 @@ returns c =
     let frame = c.args.frame in
     let nets = (circuit_of source).nets in
     let read = subst (λ (ns : List Net). c.index-nets-own.result ≡ get_or ns c.args.own c.index-nets-own.result) c.nets.ensures c.index-nets-own.is in
-    let net : c.index-nets-own.result ≡ net_at nets c.args.own = read ∙ default-free nets c.args.own _ _ c.requires.own in
+    let net : c.index-nets-own.result ≡ net_at nets c.args.own = read ∙ get_or_default nets c.args.own _ _ c.requires.own in
     let width = ap (λ (n : Net). n.width) net in
     let same = to_z-of_z w128 c.args.first c.ranges.first in
     let first = c.constant.ensures ∙ ap (λ (z : ℤ). constant c.index-nets-own.result.width z) same ∙ ap (λ (w : ℕ). constant w c.args.first) width in

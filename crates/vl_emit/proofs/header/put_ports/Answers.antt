@@ -3,7 +3,7 @@ use Rattle.std.proofs.lemmas.Result.{on_ok_weaker}
 use Rattle.vl_ast.specs.declared.modules.Port.{Port}
 use Rattle.vl_ast.specs.Header.{bit_input, bit_output}
 use Rattle.vl_emit.specs.Header.{input_ports, output_ports}
-use Rattle.vl_emit.proofs.Lists.{put-before, put-next}
+use Rattle.fx_io.proofs.Places.{put-next, put-before}
 use Rattle.vl_emit.proofs.header.put_ports.Goals as goal
 
 pub returns : goal.returns

@@ -5,7 +5,8 @@ use Rattle.hw_net.specs.declared.netlist.NetKind.{NetKind}
 use Rattle.vl_emit.specs.Names.{Wire, hold_name}
 use Rattle.vl_emit.specs.inner.Emitted.{declarers_at}
 use Rattle.vl_emit.specs.inner.Ready.{circuit_of}
-use Rattle.vl_emit.proofs.Lists.{kind-at, put-before}
+use Rattle.fx_io.proofs.Places.{put-before}
+use Rattle.vl_emit.proofs.Lists.{kind-at}
 use Rattle.vl_emit.proofs.items.declare.Goals as goal
 
 pub returns-in-Comb : goal.returns-in-Comb

@@ -6,7 +6,7 @@ use Rattle.hw_net.specs.declared.netlist.NetPort.{NetPort}
 use Rattle.vl_emit.specs.Names.{Wire}
 use Rattle.vl_emit.specs.inner.Emitted.{naming_of, output_item}
 use Rattle.vl_emit.specs.inner.Ready.{circuit_of}
-use Rattle.vl_emit.proofs.Lists.{put-next}
+use Rattle.fx_io.proofs.Places.{put-next}
 use Rattle.vl_emit.proofs.items.show_outputs.Goals as goal
 
 pub loop-output-preserved : goal.loop-output-preserved

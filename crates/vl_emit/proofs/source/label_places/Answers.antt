@@ -2,7 +2,8 @@ use Rattle.std.proofs.Common.{◌≡◌, ℕ, ◌+◌, ◌-◌, ◌<◌, length,
 use Rattle.hw_net.specs.declared.netlist.NetLabel.{NetLabel}
 use Rattle.vl_emit.specs.inner.Ready.{label_at, IsIndexFrom}
 use Rattle.vl_emit.proofs.Labels.{index-step}
-use Rattle.vl_emit.proofs.Lists.{at-contains, default-free}
+use Rattle.std.proofs.lemmas.List.{get_or_default}
+use Rattle.vl_emit.proofs.Lists.{at-contains}
 use Rattle.vl_emit.proofs.source.label_places.Goals as goal
 
 pub index_mut-requires : goal.index_mut-requires
@@ -19,5 +20,5 @@ loop-left-preserved c =
     let within : (label_at c.args.labels.now (c.loop-left.left - 1)).net < c.args.count =
     c.requires (label_at c.args.labels.now (c.loop-left.left - 1)) (at-contains c.args.labels.now (c.loop-left.left - 1) _ h) in
     let step = index-step c.args.labels.now (c.loop-left.left - 1) c.args.count c.loop-left.places.items h within is in
-    let same : label_at c.args.labels.now (c.loop-left.left - 1) ≡ get_or c.args.labels.now (c.loop-left.left - 1) c.index-labels-left.result = default-free c.args.labels.now (c.loop-left.left - 1) _ _ h in
+    let same : label_at c.args.labels.now (c.loop-left.left - 1) ≡ get_or c.args.labels.now (c.loop-left.left - 1) c.index-labels-left.result = get_or_default c.args.labels.now (c.loop-left.left - 1) _ _ h in
     (omega (arith, h), subst (λ (label : NetLabel). IsIndexFrom c.args.labels.now (drop (c.loop-left.left - 1) c.args.labels.now) c.args.count (set c.loop-left.places.items label.net (Some (c.loop-left.left - 1)))) same step)

@@ -5,7 +5,7 @@ use Rattle.std.proofs.lemmas.Option.{slice_get-get_or}
 use Rattle.vl_replay.specs.declared.drivers.Driver.{Driver}
 use Rattle.vl_replay.specs.declared.drivers.Driver.TheVariants.{Reset}
 use Rattle.vl_replay.specs.inner.Resting.{IsPast}
-use Rattle.vl_replay.proofs.Cells.{has-place}
+use Rattle.fx_io.proofs.Places.{there_within}
 use Rattle.vl_replay.proofs.Rested.{past-later}
 use Rattle.vl_replay.proofs.resting.driven_until.Goals as goal
 
@@ -32,6 +32,6 @@ loop-k-preserved c =
 
 pub returns-clause-past : goal.returns-clause-past
 returns-clause-past c = λ k driver e.
-    let low = has-place c.args.drivers.now k driver e in
+    let low = there_within c.args.drivers.now k driver e in
     let ended = c.loop-k-test.false in
     c.loop-k.invariant.past k driver e (omega (arith, low, ended))

@@ -1,7 +1,7 @@
 use Rattle.std.proofs.Common.{codes}
 use Rattle.std.proofs.lemmas.Result.{on_ok_weaker}
 use Rattle.vl_ast.specs.Spelling.{sized_text}
-use Rattle.vl_write.proofs.Appended.{five_appended}
+use Rattle.fx_io.proofs.Places.{five_appended}
 use Rattle.vl_write.proofs.items.put_reset.Goals as goal
 
 pub returns : goal.returns

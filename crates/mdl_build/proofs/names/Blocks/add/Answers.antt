@@ -4,7 +4,8 @@ use Rattle.std.specs.BTreeMap.{get}
 use Rattle.mdl_build.specs.declared.names.Blocks.{Blocks}
 use Rattle.mdl_build.specs.Blocks.{is_named_in}
 use Rattle.mdl_build.specs.inner.Names.{compare_keys, key_eq}
-use Rattle.mdl_build.proofs.NameNumbers.{other_name, new_name, known_name, none_known, one_known, tied_keys}
+use Rattle.fx_io.proofs.Tests.{some_of, none_of}
+use Rattle.mdl_build.proofs.NameNumbers.{other_name, new_name, known_name, tied_keys}
 use Rattle.mdl_build.proofs.names.Blocks.add.Goals as goal
 use Rattle.mdl_build.proofs.names.Blocks.add.Goals.{in-Some+then-not-contains_key+in_ok-insert, in-Some+else-not-contains_key, in_default}
 
@@ -14,7 +15,7 @@ returns-clause-numbered c = elim c.match-key_of.branch [
       let items = c.args.layout.now.items.now in
       let places = c.args.self.now.places.items in
       let own = w.in-Some.key in
-      let none : get compare_keys c.args.self.now.numbers own ≡ None = none_known (get compare_keys c.args.self.now.numbers own) (sym w.contains_key.ensures ∙ w.if-not-contains_key.true) in
+      let none : get compare_keys c.args.self.now.numbers own ≡ None = none_of (get compare_keys c.args.self.now.numbers own) (sym w.contains_key.ensures ∙ w.if-not-contains_key.true) in
       λ key.
       ap (λ (b : Blocks). get compare_keys b.numbers key) w.self-is
       ∙ w.in_ok-insert.ensures.updates.0 key
@@ -26,7 +27,7 @@ returns-clause-numbered c = elim c.match-key_of.branch [
       let items = c.args.layout.now.items.now in
       let places = c.args.self.now.places.items in
       let own = w.in-Some.key in
-      let some = one_known (get compare_keys c.args.self.now.numbers own) (sym w.contains_key.ensures ∙ w.if-not-contains_key.false) in
+      let some = some_of (get compare_keys c.args.self.now.numbers own) (sym w.contains_key.ensures ∙ w.if-not-contains_key.false) in
       λ key.
       ap (λ (b : Blocks). get compare_keys b.numbers key) w.self-is
       ∙ known_name items places c.args.place (get compare_keys c.args.self.now.numbers) c.requires.numbered own w.in-Some.ensures some.0 some.1 key
