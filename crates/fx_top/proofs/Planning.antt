@@ -1,5 +1,5 @@
 -- What commands of a model and a plan fetch.
-use Rattle.std.proofs.Common.{◌≡◌, ◌⊎◌, inl, inr, ℕ, Bool, true, false, if◌then◌else◌, List, [], ◌∷◌, ◌++◌, All, Contains, None, bytes_eq, codes, refl, ap, sym, ◌∙◌, subst, arith}
+use Rattle.std.proofs.Common.{◌≡◌, ◌⊎◌, inl, inr, ℕ, Bool, true, false, if◌then◌else◌, List, [], ◌∷◌, ◌++◌, All, Contains, None, bytes_eq, codes, refl, ap, sym, subst, arith}
 use Rattle.std.specs.Str.Lines.{lines}
 use Rattle.std.proofs.lemmas.List.Elements.{All-cons, All-nil}
 use Rattle.fx_designed.specs.Design.{IsBadPlan, TellsPlanRule}
@@ -9,15 +9,15 @@ use Rattle.fx_tables.specs.declared.table.TableCause.{TableCause}
 use Rattle.fx_tables.specs.declared.table.TableFault.TheVariants.{Bad}
 use Rattle.fx_tables.specs.Plan.{IsPlanFault}
 use Rattle.fx_top.specs.declared.answer.Answer.{Answer}
-use Rattle.fx_top.specs.Call.{Files, IsUntouched, Stream, file_limit, first_trouble, trouble_or}
+use Rattle.fx_top.specs.Call.{Files, IsUntouched, Stream, file_limit, first_trouble}
 use Rattle.fx_top.specs.Cause.{BreaksSomeRule, HasBadLine}
 use Rattle.fx_top.specs.Caused.{HasCause, HasWritten}
 use Rattle.fx_top.specs.Command.{Command, PlanWord, EmptyPlan, Named, Stream as StreamOf, files_of, plan_files, plan_word}
 use Rattle.fx_top.specs.Output.{IsPlanText}
 use Rattle.fx_top.specs.Streamed.{TellsStreamRule}
-use Rattle.fx_top.specs.inner.Fetching.{IsPlanAnswer}
-use Rattle.fx_top.proofs.Told.{ReadsPlan, streams, untroubled}
-use Rattle.fx_top.proofs.Unfetched.{cause-unfetched, moved, unwritten}
+use Rattle.fx_top.specs.inner.Fetching.{IsPairAnswer, IsPlanAnswer}
+use Rattle.fx_top.proofs.Told.{ReadsPlan, streams}
+use Rattle.fx_top.proofs.Unfetched.{cause-unfetched, moved, pair-unfetched, pair-unwritten, written-unfetched}
 
 pub fetched-all : (held : List ℕ → Told) (model bytes : List ℕ) → Fetched (held model) file_limit bytes → All (λ file. (bytes : List ℕ) × Fetched (held file) file_limit bytes) (model ∷ [])
 fetched-all held model bytes fetched =
@@ -31,14 +31,13 @@ fetched-planned held model (Named file) bytes text fetched says =
     let P : List ℕ → Type 0 = λ file. (bytes : List ℕ) × Fetched (held file) file_limit bytes in
     All-cons P model (file ∷ []) (bytes, fetched) (fetched-all held file text says)
 
--- a plan that was not to be had, behind a model that was fetched
-pub plan-unfetched : (files : Files) (command : Command) (model : List ℕ) (plan : PlanWord) → ReadsPlan command model plan → (bytes : List ℕ) (answer : Answer) → Fetched (files.held model) file_limit bytes → IsPlanAnswer files plan answer → HasCause files command answer
-plan-unfetched files command model EmptyPlan reads bytes answer fetched why = absurd why
-plan-unfetched files command model (Named file) reads bytes answer fetched why =
-    let asked : Contains (files_of command) file = subst (λ (names : List (List ℕ)). Contains names file) (sym reads.are_files) (1, omega arith, refl) in
-    let first : first_trouble files.held (files_of command) ≡ trouble_or file (files.held file) None =
-    ap (first_trouble files.held) reads.are_files ∙ untroubled model (files.held model) bytes fetched (trouble_or file (files.held file) None) in
-    cause-unfetched files command file asked None first answer why
+-- a model or a plan that was not to be had
+pub design-unfetched : (files : Files) (command : Command) (model : List ℕ) (plan : PlanWord) → ReadsPlan command model plan → (answer : Answer) → IsPairAnswer files model (IsPlanAnswer files plan) answer → HasCause files command answer
+design-unfetched files command model EmptyPlan reads answer (inl why) =
+    let asked : Contains (files_of command) model = subst (λ (names : List (List ℕ)). Contains names model) (sym reads.are_files) (0, omega arith, refl) in
+    cause-unfetched files command model asked None (ap (first_trouble files.held) reads.are_files) answer why
+design-unfetched files command model EmptyPlan reads answer (inr none) = absurd none.1.1
+design-unfetched files command model (Named file) reads answer why = pair-unfetched files command model file reads.are_files answer why
 
 -- a plan that was not to be had, later in the call
 pub plan-moved : (before after : Files) (plan : PlanWord) (answer : Answer) → after.held ≡ before.held → (before.steady → after.steady) → (after.failed → before.failed) → (after.met_overlong → before.met_overlong)
@@ -46,9 +45,10 @@ pub plan-moved : (before after : Files) (plan : PlanWord) (answer : Answer) → 
 plan-moved before after EmptyPlan answer held steady failed overlong why = why
 plan-moved before after (Named file) answer held steady failed overlong why = moved before after file answer held steady failed overlong why
 
-pub plan-unwritten : (late files : Files) (out : Stream) (command : Command) (plan : PlanWord) (answer : Answer) → IsUntouched out → IsPlanAnswer late plan answer → HasWritten files out command answer
-plan-unwritten late files out command EmptyPlan answer untouched why = absurd why
-plan-unwritten late files out command (Named file) answer untouched why = unwritten late files out command file answer untouched why
+pub design-unfetched-unwritten : (files : Files) (out : Stream) (command : Command) (model : List ℕ) (plan : PlanWord) (answer : Answer) → IsUntouched out → IsPairAnswer files model (IsPlanAnswer files plan) answer → HasWritten files out command answer
+design-unfetched-unwritten files out command model EmptyPlan answer untouched (inl why) = written-unfetched files out command model answer untouched why
+design-unfetched-unwritten files out command model EmptyPlan answer untouched (inr none) = absurd none.1.1
+design-unfetched-unwritten files out command model (Named file) answer untouched why = pair-unwritten files out command model file answer untouched why
 
 -- a rule of the model or of the plan that is told
 pub plan-rule : (files : Files) (command : Command) (model : List ℕ) (plan : PlanWord) → ReadsPlan command model plan → (bytes text line : List ℕ) → Fetched (files.held model) file_limit bytes → IsPlanText files.held plan text

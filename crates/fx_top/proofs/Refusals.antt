@@ -1,12 +1,15 @@
--- Why the answer to a fault of what was fetched is due.
-use Rattle.std.proofs.Common.{◌≡◌, ℕ, List, All, inl, refl, sym, subst}
+-- Why the answer to a fault of what was fetched, and to how a text was put, is due.
+use Rattle.std.proofs.Common.{◌≡◌, ℕ, List, All, Result, Ok, Err, OnErr, OnOk, inl, refl, sym, subst}
+use Rattle.std.specs.Prelude.{⊤}
 use Rattle.fx_designed.specs.declared.designing.DesignFault.{DesignFault}
 use Rattle.fx_designed.specs.declared.designing.DesignFault.TheVariants as design
 use Rattle.fx_designed.specs.declared.refusal.ModelRefusal.{ModelRefusal}
 use Rattle.fx_designed.specs.declared.refusal.ModelRefusal.TheVariants as refusal
 use Rattle.fx_designed.specs.Design.{IsBadPlan}
 use Rattle.fx_designed.specs.Refused.{IsRefusedDesign, IsRefusedModel}
+use Rattle.fx_io.specs.declared.sink.PutFault.{PutFault}
 use Rattle.fx_io.specs.Shelf.{Fetched}
+use Rattle.fx_io.specs.Sink.{TookProperPrefix, also_took}
 use Rattle.fx_model.specs.Model.{IsNotMdl}
 use Rattle.fx_tables.specs.declared.table.TableCause.{TableCause}
 use Rattle.fx_top.specs.declared.answer.Answer.{Answer}
@@ -16,12 +19,12 @@ use Rattle.fx_top.specs.declared.response.ReplayFault.TheVariants as replaying
 use Rattle.fx_top.specs.declared.simulated.SimulationFault.{SimulationFault}
 use Rattle.fx_top.specs.declared.simulated.SimulationFault.TheVariants as simulating
 use Rattle.fx_top.specs.Call.{Files, IsUntouched, Stream, file_limit}
-use Rattle.fx_top.specs.Cause.{AreFetched, BreaksCondition, BreaksSomeRule, HasBadLine, HasNoTree, HasNoVerilog, IsFetched}
+use Rattle.fx_top.specs.Cause.{AreFetched, BreaksCondition, BreaksSomeRule, HasBadLine, HasNoTree, HasNoVerilog, IsFetched, WroteAll, WrotePart}
 use Rattle.fx_top.specs.Caused.{HasCause, HasWritten}
 use Rattle.fx_top.specs.Command.{Command, Explore, Replay, Simulate, Stream as StreamOf, plan_word}
-use Rattle.fx_top.specs.Output.{IsPlanText}
+use Rattle.fx_top.specs.Output.{IsOutput, IsPlanText}
 use Rattle.fx_top.specs.Replayed.{IsBadStimulus, IsBroken, IsNotVerilog}
-use Rattle.fx_top.specs.inner.Refusing.{Answers, AnswersDesign, AnswersModel, AnswersReplay, AnswersSimulation}
+use Rattle.fx_top.specs.inner.Refusing.{Answers, AnswersDesign, AnswersModel, AnswersPut, AnswersReplay, AnswersSimulation}
 use Rattle.fx_top.specs.inner.Simulating.{IsFaultOf}
 use Rattle.fx_top.specs.inner.Streaming.{IsRefusedStream}
 use Rattle.fx_top.proofs.Planning.{fetched-all, fetched-planned, plan-bad, plan-rule, stream-rule}
@@ -29,6 +32,20 @@ use Rattle.fx_top.proofs.Replayed.{fetched-both}
 use Rattle.fx_top.proofs.Told.{ReadsPlan, streams}
 use Rattle.hw_explore.specs.declared.range.Range.{Range}
 use Rattle.vl_check.specs.declared.fault.VlFault.{VlFault}
+
+-- a text that was put, or a part of it
+pub put-caused : (files : Files) (command : Command) (put : Result ⊤ PutFault) (answer : Answer) → AreFetched files command → AnswersPut put answer → HasCause files command answer
+put-caused files command (Ok whole) answer all is = subst (λ (a : Answer). HasCause files command a) (sym is) all
+put-caused files command (Err fault) answer all is = subst (λ (a : Answer). HasCause files command a) (sym is) all
+
+pub put-written : (files : Files) (out : Stream) (command : Command) (put : Result ⊤ PutFault) (answer : Answer) → OnOk put (WroteAll files out command) → OnErr put (WrotePart files out command) → AnswersPut put answer → HasWritten files out command answer
+put-written files out command (Ok whole) answer all part is = subst (λ (a : Answer). HasWritten files out command a) (sym is) all
+put-written files out command (Err fault) answer all part is = subst (λ (a : Answer). HasWritten files out command a) (sym is) part
+
+pub text-written : (files : Files) (out : Stream) (command : Command) (text : List ℕ) → IsOutput command files.held text → (put : Result ⊤ PutFault) (answer : Answer) → OnOk put (out.now ≡ also_took out.before text)
+    → OnErr put (TookProperPrefix out.before out.now text) → OnErr put out.failed → AnswersPut put answer → HasWritten files out command answer
+text-written files out command text output (Ok whole) answer all part rise is = subst (λ (a : Answer). HasWritten files out command a) (sym is) (record { text = text; output = output; taken = all })
+text-written files out command text output (Err fault) answer all part rise is = subst (λ (a : Answer). HasWritten files out command a) (sym is) (record { rise = rise; text = text; output = output; taken = part })
 
 -- what an answer tells by its parts
 module _ (files : Files) (command : Command) (tree : List ℕ → ℕ → Type 0) (table : List ℕ → ℕ → TableCause → Type 0) (rule : List ℕ → Type 0)

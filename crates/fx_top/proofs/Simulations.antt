@@ -1,5 +1,6 @@
 -- What a response and the writer of its lines are, and a model's fault as it is told.
-use Rattle.std.proofs.Common.{◌≡◌, ◌<◌, ◌+◌, ◌++◌, ℕ, suc, ℤ, List, [], length, map, Option, None, Some, append-nil, refl, sym, ap, subst, ◌∙◌, arith}
+use Rattle.std.proofs.Common.{◌≡◌, ◌<◌, ◌+◌, ◌++◌, ℕ, suc, ℤ, List, [], length, map, Option, None, Some, Result, Ok, Err, OnErr, OnOk, append-nil, refl, sym, ap, subst, ◌∙◌, arith}
+use Rattle.std.specs.Prelude.{⊤}
 use Rattle.std.proofs.lemmas.List.{length-map}
 use Rattle.dg_model.specs.Checked.{CheckedDiagram}
 use Rattle.dg_model.specs.declared.diagram.Diagram.{Diagram}
@@ -8,6 +9,7 @@ use Rattle.dg_response.specs.Laws.{SomeResponds, SomeResponse}
 use Rattle.dg_response.specs.Responding.{IsRowAt}
 use Rattle.dg_response.specs.Response.{IsResponse, input_columns, output_columns}
 use Rattle.dg_tables.specs.Laws.{IsOrdered}
+use Rattle.fx_io.specs.declared.sink.PutFault.{PutFault}
 use Rattle.fx_io.specs.Sink.{TookProperPrefix, also_took}
 use Rattle.fx_model.specs.Model.{IsModelOf}
 use Rattle.fx_tables.specs.declared.table.Column.{Column}
@@ -24,6 +26,7 @@ use Rattle.fx_top.specs.declared.simulated.SimulationFault.TheVariants.{NotMdl, 
 use Rattle.fx_top.specs.Call.{Files, Stream}
 use Rattle.fx_top.specs.Cause.{IsFetched, WroteAll, WrotePart}
 use Rattle.fx_top.specs.Command.{Simulate}
+use Rattle.fx_top.specs.Output.{IsOutput}
 use Rattle.fx_top.specs.Simulated.{IsBadSimulation, IsSimulationOf, output_periods}
 use Rattle.fx_top.specs.inner.Simulating.{AreLines, HasColumns, IsFaultOf, IsReadyFor, IsRowsFault, IsSimulationIn, IsSimulationTo, Refuses, TookLines, TookPartOfLines}
 use Rattle.fx_top.proofs.Lines.{took-part}
@@ -67,40 +70,29 @@ is-simulation checked model stimulus ready accepted is text same = record {
 }
 
 -- the lines that were taken are those of the simulation of what was fetched
-pub wrote-lines : (files : Files) (out : Stream) (model stimulus source numbers : List ℕ) (ready : ModelSimulation) → IsFetched files model source → IsFetched files stimulus numbers → IsSimulationTo source numbers ready
-    → TookLines ready.checked ready.simulation.rows (periods_of ready.simulation.text) ready.simulation.rows.lines out.before out.now → WroteAll files out (Simulate model stimulus)
-wrote-lines files out model stimulus source numbers ready one other is took =
-    let shows = is.simulation.response in
-    let text : List ℕ = response (periods_of ready.simulation.text) shows.lines ready.simulation.rows.lines in
-    record {
-      text = text;
-      output = record {
-        model_bytes = source;
-        stimulus_bytes = numbers;
-        model_fetched = one;
-        stimulus_fetched = other;
-        simulation = is-simulation ready.checked source numbers ready.simulation is.accepted is.simulation text refl;
-      };
-      taken = took.each shows.lines shows.shown;
-    }
+module _ (files : Files) (out : Stream) (model stimulus source numbers : List ℕ) (ready : ModelSimulation)
+    (fetched : IsFetched files model source) (given : IsFetched files stimulus numbers) (is : IsSimulationTo source numbers ready) where
+  abbrev text : List ℕ
+  text = response (periods_of ready.simulation.text) is.simulation.response.lines ready.simulation.rows.lines
 
-pub wrote-part : (files : Files) (out : Stream) (model stimulus source numbers : List ℕ) (ready : ModelSimulation) → IsFetched files model source → IsFetched files stimulus numbers → IsSimulationTo source numbers ready
-    → out.failed → TookPartOfLines ready.checked ready.simulation.rows (periods_of ready.simulation.text) out.before out.now → WrotePart files out (Simulate model stimulus)
-wrote-part files out model stimulus source numbers ready one other is rise took =
-    let shows = is.simulation.response in
-    let text : List ℕ = response (periods_of ready.simulation.text) shows.lines ready.simulation.rows.lines in
-    record {
-      rise = rise;
-      text = text;
-      output = record {
-        model_bytes = source;
-        stimulus_bytes = numbers;
-        model_fetched = one;
-        stimulus_fetched = other;
-        simulation = is-simulation ready.checked source numbers ready.simulation is.accepted is.simulation text refl;
-      };
-      taken = took.each shows.lines shows.shown;
-    }
+  output : IsOutput (Simulate model stimulus) files.held text
+  output = record {
+    model_bytes = source;
+    stimulus_bytes = numbers;
+    model_fetched = fetched;
+    stimulus_fetched = given;
+    simulation = is-simulation ready.checked source numbers ready.simulation is.accepted is.simulation text refl;
+  }
+
+  pub wrote-lines : (put : Result ⊤ PutFault) → OnOk put (TookLines ready.checked ready.simulation.rows (periods_of ready.simulation.text) ready.simulation.rows.lines out.before out.now)
+      → OnOk put (WroteAll files out (Simulate model stimulus))
+  wrote-lines (Ok whole) took = record { text = text; output = output; taken = took.each is.simulation.response.lines is.simulation.response.shown }
+  wrote-lines (Err fault) none = tt
+
+  pub wrote-part : (put : Result ⊤ PutFault) → OnErr put out.failed → OnErr put (TookPartOfLines ready.checked ready.simulation.rows (periods_of ready.simulation.text) out.before out.now)
+      → OnErr put (WrotePart files out (Simulate model stimulus))
+  wrote-part (Ok whole) rise none = tt
+  wrote-part (Err fault) rise took = record { rise = rise; text = text; output = output; taken = took.each is.simulation.response.lines is.simulation.response.shown }
 
 -- ---- lines
 

@@ -6,8 +6,8 @@ ghost use Rattle.fx_top.specs.CheckedText.{IsFoundOf, IsReady, TookCheck, TookPa
 ghost use Rattle.fx_top.specs.Command.{Check, plan_word};
 
 use crate::answer::Answer;
-use crate::fetch::{fetch_file, fetch_plan};
-use crate::refused::design_answer;
+use crate::fetch::fetch_with_plan;
+use crate::refused::{design_answer, put_answer};
 use fx_check::{Gathered, gather, put_check};
 use fx_designed::{DesignFault, Designed, designed_of};
 use fx_io::{OutOfMemory, PutFault, Shelf, Sink};
@@ -63,29 +63,14 @@ pub fn check<'a, S: Shelf, K: Sink>(
     ensures written { HasWritten (files_in S.held S.steady S.faults S.overlong shelf.old shelf.new)
         (stream_in K.taken K.faults out.old out.new) (Check model.now (plan_word plan.now)) result }
 {
-    let source = match fetch_file(alloc, model, shelf) {
-        Ok(source) => source,
+    let texts = match fetch_with_plan(alloc, model, plan, shelf) {
+        Ok(texts) => texts,
         Err(answer) => return answer,
     };
-    let lines = match fetch_plan(alloc, plan, shelf) {
-        Ok(lines) => lines,
-        Err(answer) => {
-            drop(source);
-            return answer;
-        }
-    };
-    let found = match found_of(alloc, source.bytes(), lines.bytes()) {
-        Ok(found) => found,
-        Err(fault) => {
-            drop(lines);
-            drop(source);
-            return design_answer(model, plan, fault);
-        }
-    };
-    drop(lines);
-    drop(source);
-    match put_found(out, found) {
-        Ok(()) => Answer::Done,
-        Err(_) => Answer::CannotWrite,
+    let found = found_of(alloc, texts.first.bytes(), texts.second.bytes());
+    drop(texts);
+    match found {
+        Ok(found) => put_answer(put_found(out, found)),
+        Err(fault) => design_answer(model, plan, fault),
     }
 }

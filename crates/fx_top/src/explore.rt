@@ -8,7 +8,7 @@ ghost use Rattle.hw_explore.specs.Range.{IsRange};
 
 use crate::answer::Answer;
 use crate::fetch::fetch_file;
-use crate::refused::model_answer;
+use crate::refused::{model_answer, put_answer};
 use fx_designed::{ModelRefusal, checked_of};
 use fx_explored::findings_text;
 use fx_io::{OpenGate, OutOfMemory, Shelf, Sink, Text, put_all};
@@ -66,18 +66,14 @@ pub fn explore<'a, R: Threads + Sync, S: Shelf, K: Sink>(
         Ok(bytes) => bytes,
         Err(answer) => return answer,
     };
-    let text = match exploration_of(rt, alloc, bytes.bytes(), range) {
-        Ok(text) => text,
-        Err(fault) => {
-            drop(bytes);
-            return model_answer(model, fault);
-        }
-    };
+    let text = exploration_of(rt, alloc, bytes.bytes(), range);
     drop(bytes);
-    let put = put_all(out, text.bytes());
-    drop(text);
-    match put {
-        Ok(()) => Answer::Done,
-        Err(_) => Answer::CannotWrite,
+    match text {
+        Ok(text) => {
+            let put = put_all(out, text.bytes());
+            drop(text);
+            put_answer(put)
+        }
+        Err(fault) => model_answer(model, fault),
     }
 }

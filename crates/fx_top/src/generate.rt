@@ -3,9 +3,9 @@ ghost use Rattle.fx_top.specs.Caused.{HasCause, HasWritten};
 ghost use Rattle.fx_top.specs.Command.{Generate, plan_word};
 
 use crate::answer::Answer;
-use crate::fetch::{fetch_file, fetch_plan};
+use crate::fetch::fetch_with_plan;
 use crate::parts::put_parts;
-use crate::refused::design_answer;
+use crate::refused::{design_answer, put_answer};
 use crate::verilog::verilog_of;
 use fx_io::{Shelf, Sink};
 use std::alloc::Global;
@@ -26,31 +26,18 @@ pub fn generate<'a, R: Threads + Sync, S: Shelf, K: Sink>(
         (stream_in K.taken K.faults out.old out.new)
         (Generate model.now (plan_word plan.now)) result }
 {
-    let source = match fetch_file(alloc, model, shelf) {
-        Ok(source) => source,
+    let texts = match fetch_with_plan(alloc, model, plan, shelf) {
+        Ok(texts) => texts,
         Err(answer) => return answer,
     };
-    let lines = match fetch_plan(alloc, plan, shelf) {
-        Ok(lines) => lines,
-        Err(answer) => {
-            drop(source);
-            return answer;
+    let verilog = verilog_of(rt, alloc, texts.first.bytes(), texts.second.bytes());
+    drop(texts);
+    match verilog {
+        Ok(verilog) => {
+            let put = put_parts(out, verilog.as_slice());
+            drop(verilog);
+            put_answer(put)
         }
-    };
-    let verilog = match verilog_of(rt, alloc, source.bytes(), lines.bytes()) {
-        Ok(verilog) => verilog,
-        Err(fault) => {
-            drop(lines);
-            drop(source);
-            return design_answer(model, plan, fault);
-        }
-    };
-    drop(lines);
-    drop(source);
-    let put = put_parts(out, verilog.as_slice());
-    drop(verilog);
-    match put {
-        Ok(()) => Answer::Done,
-        Err(_) => Answer::CannotWrite,
+        Err(fault) => design_answer(model, plan, fault),
     }
 }

@@ -1,10 +1,11 @@
-//! The answers to faults of what was fetched.
-ghost use Rattle.fx_top.specs.inner.Refusing.{AnswersDesign, AnswersModel, AnswersReplay, AnswersSimulation};
+//! The answers to faults of what was fetched, and to how a text was put.
+ghost use Rattle.fx_top.specs.inner.Refusing.{AnswersDesign, AnswersModel, AnswersPut, AnswersReplay, AnswersSimulation};
 
 use crate::answer::Answer;
 use crate::response::ReplayFault;
 use crate::simulated::SimulationFault;
 use fx_designed::{DesignFault, ModelRefusal};
+use fx_io::PutFault;
 
 /// The answer to a fault of the texts of a model and of a plan, which have these names.
 pub fn design_answer<'a>(model: &'a str, plan: &'a str, fault: DesignFault) -> Answer<'a>
@@ -72,5 +73,15 @@ pub fn replay_answer<'a>(verilog: &'a str, stimulus: &'a str, fault: ReplayFault
             cause,
         },
         ReplayFault::OutOfMemory => Answer::OutOfMemory,
+    }
+}
+
+/// The answer to how the text of a command was put.
+pub fn put_answer<'a>(put: Result<(), PutFault>) -> Answer<'a>
+    ensures { AnswersPut put result }
+{
+    match put {
+        Ok(()) => Answer::Done,
+        Err(_) => Answer::CannotWrite,
     }
 }

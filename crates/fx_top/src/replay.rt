@@ -3,8 +3,8 @@ ghost use Rattle.fx_top.specs.Caused.{HasCause, HasWritten};
 ghost use Rattle.fx_top.specs.Command.{Replay as ReplayOf};
 
 use crate::answer::Answer;
-use crate::fetch::fetch_file;
-use crate::refused::replay_answer;
+use crate::fetch::fetch_with_stimulus;
+use crate::refused::{put_answer, replay_answer};
 use crate::response::{response_of, write_response};
 use fx_io::{Shelf, Sink};
 use std::alloc::Global;
@@ -23,29 +23,14 @@ pub fn replay<'a, S: Shelf, K: Sink>(
     ensures written { HasWritten (files_in S.held S.steady S.faults S.overlong shelf.old shelf.new)
         (stream_in K.taken K.faults out.old out.new) (ReplayOf verilog.now stimulus.now) result }
 {
-    let source = match fetch_file(alloc, verilog, shelf) {
-        Ok(source) => source,
+    let texts = match fetch_with_stimulus(alloc, verilog, stimulus, shelf) {
+        Ok(texts) => texts,
         Err(answer) => return answer,
     };
-    let numbers = match fetch_file(alloc, stimulus, shelf) {
-        Ok(numbers) => numbers,
-        Err(answer) => {
-            drop(source);
-            return answer;
-        }
-    };
-    let response = match response_of(alloc, source.bytes(), numbers.bytes()) {
-        Ok(response) => response,
-        Err(fault) => {
-            drop(numbers);
-            drop(source);
-            return replay_answer(verilog, stimulus, fault);
-        }
-    };
-    drop(numbers);
-    drop(source);
-    match write_response(response, out) {
-        Ok(()) => Answer::Done,
-        Err(_) => Answer::CannotWrite,
+    let response = response_of(alloc, texts.first.bytes(), texts.second.bytes());
+    drop(texts);
+    match response {
+        Ok(response) => put_answer(write_response(response, out)),
+        Err(fault) => replay_answer(verilog, stimulus, fault),
     }
 }

@@ -3,8 +3,8 @@ ghost use Rattle.fx_top.specs.Caused.{HasCause, HasWritten};
 ghost use Rattle.fx_top.specs.Command.{Simulate as SimulateOf};
 
 use crate::answer::Answer;
-use crate::fetch::fetch_file;
-use crate::refused::simulation_answer;
+use crate::fetch::fetch_with_stimulus;
+use crate::refused::{put_answer, simulation_answer};
 use crate::simulated::{simulation_of, write_simulation};
 use fx_io::{Shelf, Sink};
 use std::alloc::Global;
@@ -23,29 +23,14 @@ pub fn simulate<'a, S: Shelf, K: Sink>(
     ensures written { HasWritten (files_in S.held S.steady S.faults S.overlong shelf.old shelf.new)
         (stream_in K.taken K.faults out.old out.new) (SimulateOf model.now stimulus.now) result }
 {
-    let source = match fetch_file(alloc, model, shelf) {
-        Ok(source) => source,
+    let texts = match fetch_with_stimulus(alloc, model, stimulus, shelf) {
+        Ok(texts) => texts,
         Err(answer) => return answer,
     };
-    let numbers = match fetch_file(alloc, stimulus, shelf) {
-        Ok(numbers) => numbers,
-        Err(answer) => {
-            drop(source);
-            return answer;
-        }
-    };
-    let ready = match simulation_of(alloc, source.bytes(), numbers.bytes()) {
-        Ok(ready) => ready,
-        Err(fault) => {
-            drop(numbers);
-            drop(source);
-            return simulation_answer(model, stimulus, fault);
-        }
-    };
-    drop(numbers);
-    drop(source);
-    match write_simulation(ready, out) {
-        Ok(()) => Answer::Done,
-        Err(_) => Answer::CannotWrite,
+    let ready = simulation_of(alloc, texts.first.bytes(), texts.second.bytes());
+    drop(texts);
+    match ready {
+        Ok(ready) => put_answer(write_simulation(ready, out)),
+        Err(fault) => simulation_answer(model, stimulus, fault),
     }
 }

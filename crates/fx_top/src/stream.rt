@@ -3,8 +3,8 @@ ghost use Rattle.fx_top.specs.Caused.{HasCause, HasWritten};
 ghost use Rattle.fx_top.specs.Command.{Stream, plan_word};
 
 use crate::answer::Answer;
-use crate::fetch::{fetch_file, fetch_plan};
-use crate::refused::design_answer;
+use crate::fetch::fetch_with_plan;
+use crate::refused::{design_answer, put_answer};
 use crate::streamed::streamed_of;
 use fx_io::{Shelf, Sink, put_all};
 use std::alloc::Global;
@@ -25,31 +25,18 @@ pub fn stream<'a, R: Threads + Sync, S: Shelf, K: Sink>(
         (stream_in K.taken K.faults out.old out.new)
         (Stream model.now (plan_word plan.now)) result }
 {
-    let source = match fetch_file(alloc, model, shelf) {
-        Ok(source) => source,
+    let texts = match fetch_with_plan(alloc, model, plan, shelf) {
+        Ok(texts) => texts,
         Err(answer) => return answer,
     };
-    let lines = match fetch_plan(alloc, plan, shelf) {
-        Ok(lines) => lines,
-        Err(answer) => {
-            drop(source);
-            return answer;
+    let text = streamed_of(rt, alloc, texts.first.bytes(), texts.second.bytes());
+    drop(texts);
+    match text {
+        Ok(text) => {
+            let put = put_all(out, text.bytes());
+            drop(text);
+            put_answer(put)
         }
-    };
-    let text = match streamed_of(rt, alloc, source.bytes(), lines.bytes()) {
-        Ok(text) => text,
-        Err(fault) => {
-            drop(lines);
-            drop(source);
-            return design_answer(model, plan, fault);
-        }
-    };
-    drop(lines);
-    drop(source);
-    let put = put_all(out, text.bytes());
-    drop(text);
-    match put {
-        Ok(()) => Answer::Done,
-        Err(_) => Answer::CannotWrite,
+        Err(fault) => design_answer(model, plan, fault),
     }
 }

@@ -1,7 +1,7 @@
 -- Why a file could not be fetched, as an answer.
 use Rattle.std.specs.Prelude.{◌≡◌, ℕ, ◌⊎◌, List, length, None, Some}
 use Rattle.std.specs.Borrow.{Bor}
-use Rattle.fx_io.specs.Shelf.{IsOverlong}
+use Rattle.fx_io.specs.Shelf.{Fetched, IsOverlong}
 use Rattle.fx_top.specs.declared.answer.Answer.{Answer}
 use Rattle.fx_top.specs.declared.answer.Answer.TheVariants.{OutOfMemory, CannotRead, TooLong}
 use Rattle.fx_top.specs.Call.{Files, file_limit}
@@ -33,3 +33,8 @@ IsFetchAnswer files file answer =
 abbrev pub IsPlanAnswer : Files → PlanWord → Answer → Type 0
 IsPlanAnswer files EmptyPlan answer = ⊥
 IsPlanAnswer files (Named file) answer = IsFetchAnswer files file answer
+
+-- of two files: the first was not to be had, or it was and this is the answer of the second
+abbrev pub IsPairAnswer : Files → List ℕ → (Answer → Type 0) → Answer → Type 0
+IsPairAnswer files first second answer =
+    IsFetchAnswer files first answer ⊎ ((bytes : List ℕ) × (Fetched (files.held first) file_limit bytes × second answer))

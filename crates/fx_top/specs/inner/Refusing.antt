@@ -1,9 +1,10 @@
--- Which fault an answer tells, and of which file.
-use Rattle.std.specs.Prelude.{◌≡◌, ⊤, ℕ, List}
+-- Which fault an answer tells, and of which file, and how a text was put.
+use Rattle.std.specs.Prelude.{◌≡◌, ⊤, ℕ, List, Result, Ok, Err}
 use Rattle.fx_designed.specs.declared.designing.DesignFault.{DesignFault}
 use Rattle.fx_designed.specs.declared.designing.DesignFault.TheVariants as design
 use Rattle.fx_designed.specs.declared.refusal.ModelRefusal.{ModelRefusal}
 use Rattle.fx_designed.specs.declared.refusal.ModelRefusal.TheVariants as refusal
+use Rattle.fx_io.specs.declared.sink.PutFault.{PutFault}
 use Rattle.fx_tables.specs.declared.table.TableCause.{TableCause}
 use Rattle.fx_top.specs.declared.answer.Answer.{Answer}
 use Rattle.fx_top.specs.declared.answer.Answer.TheVariants.{Done, OutOfMemory, Usage, CannotRead, CannotWrite, NotMdl, BadTable, BreaksRule, NotVerilog, Broken, TooLong}
@@ -54,3 +55,8 @@ AnswersReplay verilog stimulus fault =
     Answers (λ file line. ⊥) (λ file line cause. (file ≡ stimulus) × (fault ≡ replaying.BadTable line cause)) (λ line. ⊥)
     (λ file line. (file ≡ verilog) × (fault ≡ replaying.NotVerilog line))
     (λ file broken. (file ≡ verilog) × (fault ≡ replaying.Broken broken))
+
+-- it tells whether a text was put whole
+abbrev pub AnswersPut : Result ⊤ PutFault → Answer → Type 0
+AnswersPut (Ok whole) answer = answer ≡ Done
+AnswersPut (Err fault) answer = answer ≡ CannotWrite

@@ -1,81 +1,39 @@
-use Rattle.std.proofs.Common.{ℕ, List, refl, subst, arith}
-use Rattle.fx_io.specs.Cause.{Rose}
-use Rattle.fx_io.specs.Shelf.{Told}
+use Rattle.std.proofs.Common.{refl}
 use Rattle.fx_top.specs.Call.{files_in, stream_in}
 use Rattle.fx_top.specs.Command.{Stream, plan_word}
-use Rattle.fx_top.specs.Output.{IsPlanText}
-use Rattle.fx_top.proofs.Planning.{fetched-planned, plan-moved, plan-unfetched, plan-unwritten}
-use Rattle.fx_top.proofs.Refusals.{design-unwritten, stream-caused}
+use Rattle.fx_top.proofs.Planning.{design-unfetched, design-unfetched-unwritten, fetched-planned}
+use Rattle.fx_top.proofs.Refusals.{design-unwritten, put-caused, stream-caused, text-written}
 use Rattle.fx_top.proofs.Told.{streams}
 use Rattle.fx_top.proofs.stream.stream.Goals as goal
 
-pub returns-in-Err-fetch_plan-clause-cause : goal.returns-in-Err-fetch_plan-clause-cause
-returns-in-Err-fetch_plan-clause-cause g c =
-    let files = (files_in g.S.Shelf.held g.S.Shelf.steady g.S.Shelf.faults g.S.Shelf.overlong c.args.shelf.now c.fetch_plan.new.shelf) in
-    let old = c.args.shelf.now in
-    let mid = c.fetch_file.new.shelf in
-    let new = c.fetch_plan.new.shelf in
-    let failed : Rose (g.S.Shelf.faults mid) (g.S.Shelf.faults new) → Rose (g.S.Shelf.faults old) (g.S.Shelf.faults new) = λ r. (let l = c.in-Ok.ensures.later in omega (arith, r, l)) in
-    let overlong : Rose (g.S.Shelf.overlong mid) (g.S.Shelf.overlong new) → Rose (g.S.Shelf.overlong old) (g.S.Shelf.overlong new) = λ r. (let l = c.in-Ok.ensures.overlong_later in omega (arith, r, l)) in
-    plan-unfetched files (Stream c.args.model.now (plan_word c.args.plan.now)) c.args.model.now (plan_word c.args.plan.now) (streams c.args.model.now (plan_word c.args.plan.now)) c.in-Ok.source c.in-Err-fetch_plan.answer c.in-Ok.ensures.found
-    (plan-moved files (files_in g.S.Shelf.held g.S.Shelf.steady g.S.Shelf.faults g.S.Shelf.overlong mid new) (plan_word c.args.plan.now) c.in-Err-fetch_plan.answer c.in-Ok.ensures.kept c.in-Ok.ensures.stays_steady failed overlong c.in-Err-fetch_plan.ensures.refused)
+pub returns-in-Err-clause-cause : goal.returns-in-Err-clause-cause
+returns-in-Err-clause-cause g c = design-unfetched (files_in g.S.Shelf.held g.S.Shelf.steady g.S.Shelf.faults g.S.Shelf.overlong c.args.shelf.now c.fetch_with_plan.new.shelf)
+    (Stream c.args.model.now (plan_word c.args.plan.now)) c.args.model.now (plan_word c.args.plan.now) (streams c.args.model.now (plan_word c.args.plan.now)) c.in-Err.answer c.in-Err.ensures.refused
 
-pub returns-in-Err-fetch_plan-clause-written : goal.returns-in-Err-fetch_plan-clause-written
-returns-in-Err-fetch_plan-clause-written g c = plan-unwritten
-    (files_in g.S.Shelf.held g.S.Shelf.steady g.S.Shelf.faults g.S.Shelf.overlong c.fetch_file.new.shelf c.fetch_plan.new.shelf)
-    (files_in g.S.Shelf.held g.S.Shelf.steady g.S.Shelf.faults g.S.Shelf.overlong c.args.shelf.now c.fetch_plan.new.shelf)
-    (stream_in g.K.Sink.taken g.K.Sink.faults c.args.out.now c.args.out.now)
-    (Stream c.args.model.now (plan_word c.args.plan.now)) (plan_word c.args.plan.now) c.in-Err-fetch_plan.answer refl c.in-Err-fetch_plan.ensures.refused
+pub returns-in-Err-clause-written : goal.returns-in-Err-clause-written
+returns-in-Err-clause-written g c = design-unfetched-unwritten (files_in g.S.Shelf.held g.S.Shelf.steady g.S.Shelf.faults g.S.Shelf.overlong c.args.shelf.now c.fetch_with_plan.new.shelf)
+    (stream_in g.K.Sink.taken g.K.Sink.faults c.args.out.now c.args.out.now) (Stream c.args.model.now (plan_word c.args.plan.now)) c.args.model.now (plan_word c.args.plan.now) c.in-Err.answer refl c.in-Err.ensures.refused
 
-pub returns-in-Err-streamed_of-clause-cause : goal.returns-in-Err-streamed_of-clause-cause
-returns-in-Err-streamed_of-clause-cause g c =
-    let says = subst (λ (held : List ℕ → Told). IsPlanText held (plan_word c.args.plan.now) c.in-Ok-fetch_plan.lines) c.in-Ok.ensures.kept c.in-Ok-fetch_plan.ensures.says in
-    stream-caused (files_in g.S.Shelf.held g.S.Shelf.steady g.S.Shelf.faults g.S.Shelf.overlong c.args.shelf.now c.fetch_plan.new.shelf) c.args.model.now c.args.plan.now
-    c.in-Ok.source c.in-Ok-fetch_plan.lines c.in-Ok.ensures.found says c.in-Err-streamed_of.fault c.design_answer.result (rw (c.bytes.ensures, c.bytes-2.ensures) at c.in-Err-streamed_of.ensures.refused) c.design_answer.ensures
+pub returns-in-Err-text-clause-cause : goal.returns-in-Err-text-clause-cause
+returns-in-Err-text-clause-cause g c = stream-caused (files_in g.S.Shelf.held g.S.Shelf.steady g.S.Shelf.faults g.S.Shelf.overlong c.args.shelf.now c.fetch_with_plan.new.shelf) c.args.model.now c.args.plan.now
+    c.in-Ok.texts.first c.in-Ok.texts.second c.in-Ok.ensures.found c.in-Ok.ensures.says c.in-Err-text.fault c.design_answer.result (rw (c.bytes.ensures, c.bytes-2.ensures) at c.in-Err-text.ensures.refused) c.design_answer.ensures
 
-pub returns-in-Err-streamed_of-clause-written : goal.returns-in-Err-streamed_of-clause-written
-returns-in-Err-streamed_of-clause-written g c = design-unwritten
-    (files_in g.S.Shelf.held g.S.Shelf.steady g.S.Shelf.faults g.S.Shelf.overlong c.args.shelf.now c.fetch_plan.new.shelf)
-    (stream_in g.K.Sink.taken g.K.Sink.faults c.args.out.now c.args.out.now) (Stream c.args.model.now (plan_word c.args.plan.now)) c.args.model.now c.args.plan.now
-    c.in-Err-streamed_of.fault c.design_answer.result refl c.design_answer.ensures
+pub returns-in-Err-text-clause-written : goal.returns-in-Err-text-clause-written
+returns-in-Err-text-clause-written g c = design-unwritten (files_in g.S.Shelf.held g.S.Shelf.steady g.S.Shelf.faults g.S.Shelf.overlong c.args.shelf.now c.fetch_with_plan.new.shelf)
+    (stream_in g.K.Sink.taken g.K.Sink.faults c.args.out.now c.args.out.now) (Stream c.args.model.now (plan_word c.args.plan.now)) c.args.model.now c.args.plan.now c.in-Err-text.fault c.design_answer.result refl c.design_answer.ensures
 
-pub returns-in-Ok-put-clause-cause : goal.returns-in-Ok-put-clause-cause
-returns-in-Ok-put-clause-cause g c =
-    let says = subst (λ (held : List ℕ → Told). IsPlanText held (plan_word c.args.plan.now) c.in-Ok-fetch_plan.lines) c.in-Ok.ensures.kept c.in-Ok-fetch_plan.ensures.says in
-    fetched-planned (g.S.Shelf.held c.args.shelf.now) c.args.model.now (plan_word c.args.plan.now) c.in-Ok.source c.in-Ok-fetch_plan.lines c.in-Ok.ensures.found says
+pub returns-in-Ok-text-clause-cause : goal.returns-in-Ok-text-clause-cause
+returns-in-Ok-text-clause-cause g c = put-caused (files_in g.S.Shelf.held g.S.Shelf.steady g.S.Shelf.faults g.S.Shelf.overlong c.args.shelf.now c.fetch_with_plan.new.shelf) (Stream c.args.model.now (plan_word c.args.plan.now)) c.put_all-put.result c.put_answer.result
+    (fetched-planned (g.S.Shelf.held c.args.shelf.now) c.args.model.now (plan_word c.args.plan.now) c.in-Ok.texts.first c.in-Ok.texts.second c.in-Ok.ensures.found c.in-Ok.ensures.says) c.put_answer.ensures
 
-pub returns-in-Err-put-clause-cause : goal.returns-in-Err-put-clause-cause
-returns-in-Err-put-clause-cause g c =
-    let says = subst (λ (held : List ℕ → Told). IsPlanText held (plan_word c.args.plan.now) c.in-Ok-fetch_plan.lines) c.in-Ok.ensures.kept c.in-Ok-fetch_plan.ensures.says in
-    fetched-planned (g.S.Shelf.held c.args.shelf.now) c.args.model.now (plan_word c.args.plan.now) c.in-Ok.source c.in-Ok-fetch_plan.lines c.in-Ok.ensures.found says
-
-pub returns-in-Ok-put-clause-written : goal.returns-in-Ok-put-clause-written
-returns-in-Ok-put-clause-written g c =
-    let says = subst (λ (held : List ℕ → Told). IsPlanText held (plan_word c.args.plan.now) c.in-Ok-fetch_plan.lines) c.in-Ok.ensures.kept c.in-Ok-fetch_plan.ensures.says in
-    record {
-      text = c.in-Ok-streamed_of.text;
-      output = record {
-        model_bytes = c.in-Ok.source;
-        plan_bytes = c.in-Ok-fetch_plan.lines;
-        model_fetched = c.in-Ok.ensures.found;
-        plan_says = says;
-        stream = rw (c.bytes.ensures, c.bytes-2.ensures) at c.in-Ok-streamed_of.ensures.made;
-      };
-      taken = rw c.bytes-3.ensures at c.in-Ok-put.ensures.whole;
-    }
-
-pub returns-in-Err-put-clause-written : goal.returns-in-Err-put-clause-written
-returns-in-Err-put-clause-written g c =
-    let says = subst (λ (held : List ℕ → Told). IsPlanText held (plan_word c.args.plan.now) c.in-Ok-fetch_plan.lines) c.in-Ok.ensures.kept c.in-Ok-fetch_plan.ensures.says in
-    record {
-      rise = c.in-Err-put.ensures.cause;
-      text = c.in-Ok-streamed_of.text;
-      output = record {
-        model_bytes = c.in-Ok.source;
-        plan_bytes = c.in-Ok-fetch_plan.lines;
-        model_fetched = c.in-Ok.ensures.found;
-        plan_says = says;
-        stream = rw (c.bytes.ensures, c.bytes-2.ensures) at c.in-Ok-streamed_of.ensures.made;
-      };
-      taken = rw c.bytes-3.ensures at c.in-Err-put.ensures.cut;
-    }
+pub returns-in-Ok-text-clause-written : goal.returns-in-Ok-text-clause-written
+returns-in-Ok-text-clause-written g c =
+    text-written (files_in g.S.Shelf.held g.S.Shelf.steady g.S.Shelf.faults g.S.Shelf.overlong c.args.shelf.now c.fetch_with_plan.new.shelf) (stream_in g.K.Sink.taken g.K.Sink.faults c.args.out.now c.put_all-put.new.sink) (Stream c.args.model.now (plan_word c.args.plan.now)) c.in-Ok-text.text
+    (record {
+      model_bytes = c.in-Ok.texts.first;
+      plan_bytes = c.in-Ok.texts.second;
+      model_fetched = c.in-Ok.ensures.found;
+      plan_says = c.in-Ok.ensures.says;
+      stream = rw (c.bytes.ensures, c.bytes-2.ensures) at c.in-Ok-text.ensures.made;
+    })
+    c.put_all-put.result c.put_answer.result (rw c.bytes-in-Ok-text.ensures at c.put_all-put.ensures.whole) (rw c.bytes-in-Ok-text.ensures at c.put_all-put.ensures.cut) c.put_all-put.ensures.cause c.put_answer.ensures

@@ -24,10 +24,10 @@ use Rattle.fx_top.specs.Call.{Files}
 use Rattle.fx_top.specs.Cause.{IsFetched}
 use Rattle.fx_top.specs.Caused.{Ends}
 use Rattle.fx_top.specs.Simulated.{IsSimulationOf, output_periods}
-use Rattle.fx_top.proofs.DelayDiagram.{attributes, attributes-are, wired, checked}
-use Rattle.fx_top.proofs.DelayModel.{diagram, enables, inport, int8, is-flat, is-nested, model_text, nested, stands, tree, wiring}
-use Rattle.fx_top.proofs.Outcomes.{took, said}
-use Rattle.fx_top.proofs.ReplayedDelay.{both, both-fetched, fetched, numbers, response_text, stimulus_text}
+use Rattle.tests_top.proofs.DelayDiagram.{attributes, attributes-are, wired, checked}
+use Rattle.tests_top.proofs.DelayModel.{diagram, enables, inport, int8, is-flat, is-nested, model_text, nested, stands, tree, wiring}
+use Rattle.tests_top.proofs.Outcomes.{took, said}
+use Rattle.tests_top.proofs.ReplayedDelay.{both, both-fetched, fetched, numbers, response_text, stimulus_text}
 
 -- ---- the text is the model of the diagram
 

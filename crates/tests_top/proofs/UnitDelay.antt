@@ -17,8 +17,8 @@ use Rattle.vl_ast.specs.Value.{bits_of, assigned, assigned_number}
 use Rattle.vl_ast.specs.Windows.{PortNumbers, Window}
 use Rattle.vl_ast.proofs.Unstalled.{AllCount, shows-clocks, unstallable-count}
 use Rattle.vl_ast.specs.Header.{input_port}
-use Rattle.fx_top.proofs.DelayModule.{OneDelay, assigned-byte, bit_net, byte_net, byte_port, declarations-are, declared_as, delay_module}
-use Rattle.fx_top.proofs.Names.{register}
+use Rattle.tests_top.proofs.DelayModule.{OneDelay, assigned-byte, bit_net, byte_net, byte_port, declarations-are, declared_as, delay_module}
+use Rattle.tests_top.proofs.Names.{register}
 
 abbrev pub delay : OneDelay
 delay = record { input = codes "u"; output = codes "y"; initial = pos 3 }

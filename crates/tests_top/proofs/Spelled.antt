@@ -11,9 +11,9 @@ use Rattle.vl_ast.specs.Grammar.{comma, expr_tokens, tokens_step, depth, depth_s
 use Rattle.vl_ast.specs.Spelling.{joined}
 use Rattle.vl_ast.specs.Tokens.{Token, Key, Sign, Identifier, Number, Based, IsWritable, AreWritable}
 use Rattle.vl_names.specs.Identifiers.{is_identifier}
-use Rattle.fx_top.proofs.DelayModule.{OneDelay, delay_module}
-use Rattle.fx_top.proofs.Names.{register}
-use Rattle.fx_top.proofs.Bits.{bits-fit}
+use Rattle.tests_top.proofs.DelayModule.{OneDelay, delay_module}
+use Rattle.tests_top.proofs.Names.{register}
+use Rattle.tests_top.proofs.Bits.{bits-fit}
 use Rattle.fx_io.proofs.Tests.{left_true, right_true}
 
 tokens-name : (x : List ℕ) → expr_tokens (Name x) ≡ Identifier x ∷ []

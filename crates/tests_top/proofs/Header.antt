@@ -3,11 +3,11 @@ use Rattle.std.proofs.Common.{◌≡◌, ◌&&◌, ◌||◌, Bool, true, false, 
 use Rattle.vl_ast.specs.declared.modules.Port.{Port}
 use Rattle.vl_ast.specs.Conditions.{BreaksNone, undriven, doubly, too_wide, no_reset, lacks_attribute, no_attribute}
 use Rattle.vl_ast.specs.Control.{is_stallable}
-use Rattle.fx_top.proofs.DelayModule.{OneDelay, delay_module}
+use Rattle.tests_top.proofs.DelayModule.{OneDelay, delay_module}
 use Rattle.st_wrap.proofs.Reading.{reads-Name}
-use Rattle.fx_top.proofs.Names.{AreDifferent, sound-name, own_length-name}
-use Rattle.fx_top.proofs.Bits.{bits-are_number}
-use Rattle.fx_top.proofs.Loop.{no-loop}
+use Rattle.tests_top.proofs.Names.{AreDifferent, sound-name, own_length-name}
+use Rattle.tests_top.proofs.Bits.{bits-are_number}
+use Rattle.tests_top.proofs.Loop.{no-loop}
 
 -- neither a signed input nor an output is a clock enable
 pub unstallable : (d : OneDelay) → is_stallable (delay_module d) ≡ false

@@ -6,9 +6,9 @@ use Rattle.vl_ast.specs.declared.expressions.Expr.TheVariants.{Name}
 use Rattle.vl_ast.specs.declared.modules.ModItem.TheVariants.{Assign}
 use Rattle.vl_ast.specs.Nets.{names_read}
 use Rattle.vl_ast.specs.Conditions.{IsLoop, AssignmentReads}
-use Rattle.fx_top.proofs.DelayModule.{OneDelay, delay_module}
+use Rattle.tests_top.proofs.DelayModule.{OneDelay, delay_module}
 use Rattle.st_wrap.proofs.Reading.{reads-Name}
-use Rattle.fx_top.proofs.Names.{AreDifferent, register}
+use Rattle.tests_top.proofs.Names.{AreDifferent, register}
 
 assigned-at : (d : OneDelay) (name : List ℕ) (value : Expr) (k : ℕ) → k < 3
     → slice_index_or (delay_module d).items k (Assign name value) ≡ Assign name value → (d.output ≡ name) × (Name register ≡ value)

@@ -23,7 +23,7 @@ use Rattle.dg_model.specs.TypeRule.{IsNotWide, HasTypes, HasAgreeing, KeepsTypes
 use Rattle.dg_model.specs.Widths.{Widths, width_at, widths_of}
 use Rattle.dg_model.specs.Wired.{AreNumbered, IsWired, Joins, StandsBefore, NamesControl, MayStand}
 use Rattle.dg_model.specs.Wires.{enters}
-use Rattle.fx_top.proofs.DelayModel.{diagram, inport, delay, outport, int8, three}
+use Rattle.tests_top.proofs.DelayModel.{diagram, inport, delay, outport, int8, three}
 use Rattle.dg_model.proofs.Written.{all_of, each_of, pairs_of}
 
 -- ---- its widths, types and periods

@@ -20,7 +20,7 @@ use Rattle.fx_tables.specs.declared.table.Rows.{Rows as Table}
 use Rattle.fx_tables.specs.Response.{response}
 use Rattle.vl_replay.specs.Sampled.{AreReplayed, Sampled, hit_at, numbers_of, window_of}
 use Rattle.vl_ast.specs.Header.{output_port}
-use Rattle.fx_top.proofs.DelayModule.{byte_port}
+use Rattle.tests_top.proofs.DelayModule.{byte_port}
 use Rattle.fx_top.specs.Replayed.{AreRowsFor, IsReplayOf, IsSoundText}
 use Rattle.fx_top.specs.declared.answer.Answer.TheVariants.{Done}
 use Rattle.fx_top.specs.Call.{Files, file_limit}
@@ -29,11 +29,11 @@ use Rattle.fx_top.specs.Caused.{Ends}
 use Rattle.fx_top.specs.Command.{Replay}
 use Rattle.fx_top.specs.Outcome.{CanReplay, IsComplete}
 use Rattle.fx_io.specs.Shelf.{Fetched}
-use Rattle.fx_top.proofs.Header.{breaks-none}
-use Rattle.fx_top.proofs.Names.{AreDifferent}
-use Rattle.fx_top.proofs.Outcomes.{took, said}
-use Rattle.fx_top.proofs.Spelled.{is-module-text, module_text, module-writable}
-use Rattle.fx_top.proofs.UnitDelay.{all, delay, m, stimulus, inputs, rows, driven, shown-by, runs}
+use Rattle.tests_top.proofs.Header.{breaks-none}
+use Rattle.tests_top.proofs.Names.{AreDifferent}
+use Rattle.tests_top.proofs.Outcomes.{took, said}
+use Rattle.tests_top.proofs.Spelled.{is-module-text, module_text, module-writable}
+use Rattle.tests_top.proofs.UnitDelay.{all, delay, m, stimulus, inputs, rows, driven, shown-by, runs}
 
 abbrev pub verilog_text : List ℕ
 verilog_text = codes "(* fx_cycles = 1 *)\nmodule fx_model (\n  input wire clk,\n  input wire reset,\n  (* fx_period = 1 *)\n  input wire signed [7:0] u,\n  (* fx_period = 1, fx_latency = 0 *)\n  output wire signed [7:0] y\n);\nreg signed [7:0] fx_delay;\nalways @ (posedge clk) begin if (reset) fx_delay <= 8'sd3; else fx_delay <= u; end\nassign y = fx_delay;\nendmodule\n"

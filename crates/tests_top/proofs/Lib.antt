@@ -1,0 +1,12 @@
+mod Bits
+mod DelayDiagram
+mod DelayModel
+mod DelayModule
+mod Header
+mod Loop
+mod Names
+mod Outcomes
+mod ReplayedDelay
+mod SimulatedDelay
+mod Spelled
+mod UnitDelay
