@@ -18,10 +18,10 @@ use Rattle.dg_model.specs.RootElements.{RootElement, root_element, number_in, is
 
 -- ---- what stands in a list
 
-abbrev IsIn : {A : Type 0} → A → List A → Type 0
+abbrev pub IsIn : {A : Type 0} → A → List A → Type 0
 IsIn x xs = (k : ℕ) × (slice_get xs k ≡ Some x)
 
-in_later : {A : Type 0} (x y : A) (xs : List A) → IsIn x xs → IsIn x (y ∷ xs)
+pub in_later : {A : Type 0} (x y : A) (xs : List A) → IsIn x xs → IsIn x (y ∷ xs)
 in_later x y xs is = (suc is.0, is.1)
 
 in_right : {A : Type 0} (x : A) (xs ys : List A) → IsIn x ys → IsIn x (xs ++ ys)
@@ -51,7 +51,7 @@ in_numbers from (suc n) k low high = elim (cases_eq k from) [
   | inr other ↦ in_later k from (numbers_from (suc from) n) (in_numbers (suc from) n k (omega (arith, low, other)) (omega (arith, high)))
 ]
 
-in_filter_map : {A B : Type 0} (h : A → Option B) (x : A) (y : B) (xs : List A) (k : ℕ) → slice_get xs k ≡ Some x → h x ≡ Some y → IsIn y (filter_map h xs)
+pub in_filter_map : {A B : Type 0} (h : A → Option B) (x : A) (y : B) (xs : List A) (k : ℕ) → slice_get xs k ≡ Some x → h x ≡ Some y → IsIn y (filter_map h xs)
 in_filter_map h x y [] k is gives = absurd (none-some x is)
 in_filter_map h x y (z ∷ xs) zero is gives =
     subst (λ o. IsIn y (cons_option o (filter_map h xs))) (sym (ap h (same_Some z x is) ∙ gives)) (0, refl)

@@ -56,22 +56,7 @@ impl Kind {
                 sizes: sizes.as_slice(),
             },
             Kind::EnableTest => Shape::Single,
-            Kind::Inport { .. }
-            | Kind::Outport { .. }
-            | Kind::Constant { .. }
-            | Kind::Ground
-            | Kind::Sum { .. }
-            | Kind::Gain { .. }
-            | Kind::Product
-            | Kind::Switch { .. }
-            | Kind::Relational { .. }
-            | Kind::Logic { .. }
-            | Kind::Convert { .. }
-            | Kind::Delay { .. }
-            | Kind::RateTransition { .. }
-            | Kind::Pass { .. }
-            | Kind::EnOut { .. }
-            | Kind::Terminator => Shape::Elementwise,
+            _ => Shape::Elementwise,
         }
     }
 
@@ -90,20 +75,7 @@ impl Kind {
             Kind::Product => FullRule::FullProduct,
             Kind::Relational { .. } => FullRule::UnionOfTwo,
             Kind::Switch { .. } => FullRule::UnionOfEnds,
-            Kind::Inport { .. }
-            | Kind::Outport { .. }
-            | Kind::Constant { .. }
-            | Kind::Ground
-            | Kind::Logic { .. }
-            | Kind::Convert { .. }
-            | Kind::Delay { .. }
-            | Kind::Mux { .. }
-            | Kind::Demux { .. }
-            | Kind::RateTransition { .. }
-            | Kind::Pass { .. }
-            | Kind::EnableTest
-            | Kind::EnOut { .. }
-            | Kind::Terminator => FullRule::NoFull,
+            _ => FullRule::NoFull,
         }
     }
 
@@ -113,11 +85,7 @@ impl Kind {
     {
         match self.full() {
             FullRule::FullSum { negative } => negative,
-            FullRule::NoFull
-            | FullRule::FullScaled { .. }
-            | FullRule::FullProduct
-            | FullRule::UnionOfTwo
-            | FullRule::UnionOfEnds => &[],
+            _ => &[],
         }
     }
 
@@ -133,19 +101,7 @@ impl Kind {
             Kind::Delay { initial, .. } => Some(initial.as_slice()),
             Kind::RateTransition { initial, .. } => Some(initial.as_slice()),
             Kind::EnOut { initial, .. } => Some(initial.as_slice()),
-            Kind::Inport { .. }
-            | Kind::Outport { .. }
-            | Kind::Ground
-            | Kind::Sum { .. }
-            | Kind::Product
-            | Kind::Relational { .. }
-            | Kind::Logic { .. }
-            | Kind::Convert { .. }
-            | Kind::Mux { .. }
-            | Kind::Demux { .. }
-            | Kind::Pass { .. }
-            | Kind::EnableTest
-            | Kind::Terminator => None,
+            _ => None,
         }
     }
 
@@ -156,22 +112,7 @@ impl Kind {
         match self {
             Kind::Inport { width, .. } | Kind::Pass { width } => *width as usize,
             Kind::Constant { value } => value.as_slice().len(),
-            Kind::Outport { .. }
-            | Kind::Ground
-            | Kind::Sum { .. }
-            | Kind::Gain { .. }
-            | Kind::Product
-            | Kind::Switch { .. }
-            | Kind::Relational { .. }
-            | Kind::Logic { .. }
-            | Kind::Convert { .. }
-            | Kind::Delay { .. }
-            | Kind::Mux { .. }
-            | Kind::Demux { .. }
-            | Kind::RateTransition { .. }
-            | Kind::EnableTest
-            | Kind::EnOut { .. }
-            | Kind::Terminator => 0,
+            _ => 0,
         }
     }
 }

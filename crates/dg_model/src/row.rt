@@ -30,11 +30,7 @@ impl Role {
     {
         match self {
             Role::RootInput { number } => Some(number),
-            Role::RootOutput { .. }
-            | Role::InnerPort { .. }
-            | Role::EnabledOutput
-            | Role::Control
-            | Role::Plain => None,
+            _ => None,
         }
     }
 
@@ -44,11 +40,7 @@ impl Role {
     {
         match self {
             Role::RootOutput { number } => Some(number),
-            Role::RootInput { .. }
-            | Role::InnerPort { .. }
-            | Role::EnabledOutput
-            | Role::Control
-            | Role::Plain => None,
+            _ => None,
         }
     }
 }
@@ -251,20 +243,7 @@ impl Kind {
             Kind::Pass { width } => Role::InnerPort { width: *width },
             Kind::EnableTest => Role::Control,
             Kind::EnOut { .. } => Role::EnabledOutput,
-            Kind::Constant { .. }
-            | Kind::Ground
-            | Kind::Sum { .. }
-            | Kind::Gain { .. }
-            | Kind::Product
-            | Kind::Switch { .. }
-            | Kind::Relational { .. }
-            | Kind::Logic { .. }
-            | Kind::Convert { .. }
-            | Kind::Delay { .. }
-            | Kind::Mux { .. }
-            | Kind::Demux { .. }
-            | Kind::RateTransition { .. }
-            | Kind::Terminator => Role::Plain,
+            _ => Role::Plain,
         }
     }
 
@@ -274,24 +253,7 @@ impl Kind {
     {
         match self {
             Kind::Delay { length, .. } => *length,
-            Kind::Inport { .. }
-            | Kind::Outport { .. }
-            | Kind::Constant { .. }
-            | Kind::Ground
-            | Kind::Sum { .. }
-            | Kind::Gain { .. }
-            | Kind::Product
-            | Kind::Switch { .. }
-            | Kind::Relational { .. }
-            | Kind::Logic { .. }
-            | Kind::Convert { .. }
-            | Kind::Mux { .. }
-            | Kind::Demux { .. }
-            | Kind::RateTransition { .. }
-            | Kind::Pass { .. }
-            | Kind::EnableTest
-            | Kind::EnOut { .. }
-            | Kind::Terminator => 0,
+            _ => 0,
         }
     }
 
