@@ -1,6 +1,6 @@
 //! Exact sums, products and alignments, and their one conversion.
-ghost use Rattle.std.specs.Prelude.{◌≡◌, ℕ, ◌^◌, ◌<◌, ◌≤◌, pos, negsuc, ◌*ℤ◌, ◌≤ℤ◌, All, Any, length, zip, FitsSigned};
-ghost use Rattle.std.specs.Int.{w128};
+ghost use Rattle.std.specs.Prelude.{◌≡◌, ℕ, ◌^◌, ◌<◌, ◌≤◌, pos, negsuc, ◌+ℤ◌, ◌*ℤ◌, ◌≤ℤ◌, All, Any, length, zip, FitsSigned};
+ghost use Rattle.std.specs.Int.{int_gap, w128};
 ghost use Rattle.fx_type.specs.declared.kind.FxType.{FxType};
 ghost use Rattle.fx_type.specs.FxType.{IsType, InRange, frac_of, aligned as aligned_of};
 ghost use Rattle.fx_type.specs.FullType.{negated_if, IsFullSum, IsFullProduct};
@@ -21,6 +21,25 @@ fn shifted(v: i128, gap: u32) -> i128
     }
 }
 
+/// How many bits more than the type `frac` has behind the point.
+pub fn gap_above(frac: i16, kind: FxType) -> u32
+    requires valid { IsType kind }
+    requires above { frac_of kind ≤ℤ frac }
+    requires high { frac ≤ℤ pos 128 }
+    ensures { result ≡ int_gap (frac_of kind) frac }
+{
+    (frac - kind.frac()) as u32
+}
+
+/// The frac of the product of two types.
+pub fn product_frac(a: FxType, b: FxType) -> i16
+    requires left { IsType a }
+    requires right { IsType b }
+    ensures { result ≡ frac_of a +ℤ frac_of b }
+{
+    a.frac() + b.frac()
+}
+
 /// The stored integer `v` of the type, written with `frac` bits behind the point.
 pub fn aligned(frac: i16, kind: FxType, v: i128) -> i128
     requires valid { IsType kind }
@@ -29,7 +48,7 @@ pub fn aligned(frac: i16, kind: FxType, v: i128) -> i128
     requires fits { FitsSigned w128 (aligned_of frac kind v) }
     ensures { result ≡ aligned_of frac kind v }
 {
-    shifted(v, (frac - kind.frac()) as u32)
+    shifted(v, gap_above(frac, kind))
 }
 
 /// A term of a sum: the stored integer with its sign, written with `frac` bits behind the point.

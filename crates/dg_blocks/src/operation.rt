@@ -7,7 +7,7 @@ ghost use Rattle.fx_type.specs.Conversion.{Converts};
 ghost use Rattle.dg_model.specs.Operation.{operation_of, without_frac as without_frac_of, IsConverted, CanCarryOut, OpGives};
 
 use crate::conditions::{compares_values, gate, meets};
-use crate::exact::{greatest_frac, product, settled, signed_sum};
+use crate::exact::{greatest_frac, product, product_frac, settled, signed_sum};
 use dg_model::{Op, OpCall};
 use fx_type::FxType;
 
@@ -67,7 +67,7 @@ fn times(call: &OpCall, a: FxType, b: FxType, x: i128, y: i128) -> i128
     ensures { (full : FxType) × IsFullProduct a b full
         × IsConverted (operation_of call.now) (x *ℤ y) full result }
 {
-    settled(call, product(a, b, x, y), a.frac() + b.frac())
+    settled(call, product(a, b, x, y), product_frac(a, b))
 }
 
 /// A stored integer converted to the result type of the call.

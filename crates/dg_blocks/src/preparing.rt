@@ -8,6 +8,7 @@ ghost use Rattle.dg_model.specs.declared.op.Op.TheVariants.{Sum, Gain, Product, 
 ghost use Rattle.dg_model.specs.Operation.{operation_of, CanPrepare};
 ghost use Rattle.dg_blocks.specs.Prepared.{IsReady, IsPrepared};
 
+use crate::exact::product_frac;
 use crate::narrow::{Narrow, short};
 use crate::prepared::Prepared;
 use crate::short_sums::are_short;
@@ -24,7 +25,7 @@ fn product_narrow(call: &OpCall, a: FxType, b: FxType) -> Option<Narrow>
         (width_of a + width_of b) (frac_of a +ℤ frac_of b)) }
 {
     let bits = u32::from(a.width()) + u32::from(b.width());
-    let frac = a.frac() + b.frac();
+    let frac = product_frac(a, b);
     Narrow::new(bits, frac, call.result, call.rounding, call.saturate)
 }
 

@@ -8,6 +8,7 @@ ghost use Rattle.dg_model.specs.Operation.{signed_sum as signed_sum_of};
 ghost use Rattle.dg_blocks.specs.Narrow.{IsSmall};
 ghost use Rattle.dg_blocks.specs.Prepared.{IsShort, IsSummable};
 
+use crate::exact::gap_above;
 use crate::narrow::{gap, short};
 use fx_type::FxType;
 
@@ -57,7 +58,7 @@ fn aligned(frac: i16, kind: FxType, v: i64) -> i64
     requires fits { FitsSigned w64 (aligned_of frac kind v) }
     ensures { result ≡ aligned_of frac kind v }
 {
-    shifted(v, (frac - kind.frac()) as u32)
+    shifted(v, gap_above(frac, kind))
 }
 
 /// A term of a sum: the stored integer with its sign, written with `frac` bits behind the point.
