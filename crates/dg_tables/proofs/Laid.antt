@@ -1,6 +1,6 @@
 -- How entries are laid out, one block behind another. Crates above may cite this file.
 use Rattle.std.proofs.Common.{◌≡◌, ℕ, zero, suc, ◌+◌, ◌-◌, ◌^◌, ◌<◌, ◌≤◌, ◌⊎◌, ◌++◌, inl, inr, List, [], ◌∷◌, length, map, Some, slice_get, length-append, length-set, get_or-set_other, get_or-set_same, ap, ap₂, sym, ◌∙◌, subst, subst₂, refl, arith, le_refl}
-use Rattle.std.specs.Prelude.{slice_set}
+use Rattle.std.specs.Prelude.{slice_set, slice_index_or}
 use Rattle.std.proofs.lemmas.Bool.{cases_lt}
 use Rattle.std.proofs.lemmas.Option.{none-some, same_Some, slice_get_within, slice_get-get_or, get_or_from_slice_get}
 use Rattle.dg_waves.specs.Rounds.{numbers_from}
@@ -205,3 +205,18 @@ module _ (checked : CheckedDiagram) (is_order : IsOrder checked.diagram (attribu
         let r = is_order.after t.1 target.block source.block t.3 lead in
         laid.ranked j k r.0 t.1 source target at_j at_k r.2 t.3 r.1;
   }
+
+-- ---- what is read where the lists say
+
+-- a number that is written down is read
+pub read_there : (list slice : List ℕ) (at value read : ℕ) → slice ≡ list → read ≡ slice_index_or slice at 0 → slice_get list at ≡ Some value → read ≡ value
+read_there list slice at value read same is there = is ∙ ap (λ (xs : List ℕ). slice_index_or xs at 0) same ∙ get_or_from_slice_get list at value 0 there
+
+-- an entry stands where the code reads that those of its port begin, as far as its element
+pub entry_read : {ports entries own others : List ℕ} {places : List Place} {place : Place} {first from : ℕ} → IsNumbered ports entries places place
+    → own ≡ ports → first ≡ slice_index_or own place.block 0 → others ≡ entries → from ≡ slice_index_or others (first + (place.port - 1)) 0 → slice_get places (from + place.element) ≡ Some place
+entry_read {ports} {entries} {own} {others} {places} {place} {first} {from} is ports_are first_is entries_are from_is =
+    let begun = read_there ports own place.block is.first first ports_are first_is is.first_is in
+    let there = ap (λ (n : ℕ). slice_get entries (n + (place.port - 1))) begun ∙ is.from_is in
+    let read = read_there entries others (first + (place.port - 1)) is.from from entries_are from_is there in
+    ap (λ (n : ℕ). slice_get places (n + place.element)) read ∙ is.stands

@@ -13,7 +13,6 @@ mod Lines
 mod Listed
 pub mod Lists
 mod Moved
-mod Numbered
 mod Offered
 mod Ported
 pub mod Ranks

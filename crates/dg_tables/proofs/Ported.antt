@@ -16,8 +16,7 @@ use Rattle.dg_model.specs.Wired.{AreNumbered}
 use Rattle.dg_model.specs.RootElements.{has_number, number_in}
 use Rattle.dg_tables.specs.inner.Ports.{ArePortsTo, IsNumberOf, IsPortNumber, port_put}
 use Rattle.fx_io.proofs.Places.{held}
-use Rattle.dg_model.proofs.Roots.{apart, first_is}
-use Rattle.dg_tables.proofs.Numbered.{IsIn, in_filter_map, in_later}
+use Rattle.dg_model.proofs.Roots.{IsIn, apart, first_is, in_filter_map, in_later}
 
 -- ---- each number is there
 

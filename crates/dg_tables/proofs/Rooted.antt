@@ -25,6 +25,14 @@ counted_map {A} {B} f (x ∷ xs) = count_by-cons (λ x. is_some (f x)) x xs ∙ 
     go None rest = omega (arith, rest)
     go (Some y) rest = omega (arith, rest)
 
+pub filtered_at_most : {A B : Type 0} (f : A → Option B) (xs : List A) → length (filter_map f xs) ≤ length xs
+filtered_at_most f [] = omega arith
+filtered_at_most {A} {B} f (x ∷ xs) = go (f x) (filtered_at_most f xs)
+  where
+    go : (o : Option B) → length (filter_map f xs) ≤ length xs → length (cons_option o (filter_map f xs)) ≤ suc (length xs)
+    go None rest = omega (arith, rest)
+    go (Some y) rest = omega (arith, rest)
+
 pub roots_port : (attributes : Attributes) (number block width : ℕ) → roots_of (map (root_element attributes number block) (numbers_from 0 width)) ≡ map (root_at number block) (numbers_from 0 width)
 roots_port attributes number block width = go 0 width
   where

@@ -19,7 +19,7 @@ use Rattle.fx_io.proofs.Places.{held}
 use Rattle.dg_tables.proofs.Lists.{find_holds, map_same, below_repeated}
 
 -- the role of a control
-abbrev is_control : Role → Bool
+abbrev pub is_control : Role → Bool
 is_control (Role.RootInput number) = false
 is_control (Role.RootOutput number) = false
 is_control (Role.InnerPort width) = false

@@ -5,7 +5,7 @@ ghost use Rattle.dg_model.specs.Attributes.{attributes_of};
 ghost use Rattle.dg_model.specs.Library.{row_of};
 ghost use Rattle.dg_model.specs.Wired.{AreNumbered, root_input, root_output};
 ghost use Rattle.dg_model.specs.RootElements.{number_in, has_number, elements_of_port, root_inputs, root_outputs};
-ghost use Rattle.dg_tables.specs.inner.Ports.{ArePortsTo, IsNumberOf, IsPortNumber, port_put};
+ghost use Rattle.dg_tables.specs.inner.Ports.{ArePortsTo, IsNumberOf, IsPortNumber, port_put, root_on};
 ghost use Rattle.dg_tables.specs.Roots.{root_at, roots_of};
 ghost use Rattle.dg_tables.specs.Finding.{AreLines};
 ghost use Rattle.dg_model.specs.Wires.{width_into};
@@ -25,11 +25,11 @@ pub struct Root {
 
 pub type Roots = Sequence<Root>;
 
-/// The number of a root input port.
-fn input_number(kind: &Kind) -> Option<u32>
-    ensures { result ≡ root_input (row_of kind.now).place.role }
-{
-    kind.row().role.input_number()
+/// Whether a port of the root is an input or an output.
+#[derive(Clone, Copy)]
+enum Side {
+    Inputs,
+    Outputs,
 }
 
 /// The number of a root output port.
@@ -39,42 +39,23 @@ pub fn output_number(kind: &Kind) -> Option<u32>
     kind.row().role.output_number()
 }
 
-/// Whether a block is a root input port.
-fn is_input(block: &Block) -> bool
-    ensures { result ≡ is_some (number_in root_input block.now) }
+/// The number of a root port of a side.
+fn number_on(side: Side, kind: &Kind) -> Option<u32>
+    ensures { result ≡ root_on side (row_of kind.now).place.role }
 {
-    input_number(&block.kind).is_some()
-}
-
-/// How many root input ports there are.
-fn count_inputs(blocks: &[Block]) -> usize
-    ensures count { result ≡ count_by (λ block. is_some (number_in root_input block)) blocks.now }
-    ensures few { result ≤ length blocks.now }
-{
-    let mut count: usize = 0;
-    for block in blocks {
-        if is_input(block) {
-            count += 1;
-        }
+    match side {
+        Side::Inputs => kind.row().role.input_number(),
+        Side::Outputs => output_number(kind),
     }
-    count
 }
 
-/// Whether a block is a root output port.
-fn is_output(block: &Block) -> bool
-    ensures { result ≡ is_some (number_in root_output block.now) }
-{
-    output_number(&block.kind).is_some()
-}
-
-/// How many root output ports there are.
-fn count_outputs(blocks: &[Block]) -> usize
-    ensures count { result ≡ count_by (λ block. is_some (number_in root_output block)) blocks.now }
-    ensures few { result ≤ length blocks.now }
+/// How many root ports of a side there are.
+fn count_on(side: Side, blocks: &[Block]) -> usize
+    ensures { result ≡ count_by (λ block. is_some (number_in (root_on side) block)) blocks.now }
 {
     let mut count: usize = 0;
     for block in blocks {
-        if is_output(block) {
+        if number_on(side, &block.kind).is_some() {
             count += 1;
         }
     }
@@ -91,32 +72,16 @@ fn put_number(ports: &mut Vec<u32>, number: Option<u32>, block: u32)
     }
 }
 
-/// The blocks of the root input ports by their numbers, from 1.
-fn input_ports(alloc: Global, blocks: &[Block], count: usize) -> Result<Vec<u32>, OutOfMemory>
-    requires ports { AreNumbered (filter_map (number_in root_input) blocks.now) }
-    requires count { count ≡ length (filter_map (number_in root_input) blocks.now) }
+/// The blocks of the root ports of a side by their numbers, from 1.
+fn ports_on(alloc: Global, side: Side, blocks: &[Block]) -> Result<Vec<u32>, OutOfMemory>
+    requires ports { AreNumbered (filter_map (number_in (root_on side)) blocks.now) }
     requires few { length blocks.now ≤ 20000 }
     ensures { IfOk result (λ ports.
-        ArePortsTo root_input blocks.now (length blocks.now) ports.items) }
+        ArePortsTo (root_on side) blocks.now (length blocks.now) ports.items) }
 {
-    let mut ports: Vec<u32> = vec![in alloc; 0; count]?;
+    let mut ports: Vec<u32> = vec![in alloc; 0; count_on(side, blocks)]?;
     for (i, block) in blocks.iter().enumerate() {
-        put_number(&mut ports, input_number(&block.kind), i as u32);
-    }
-    Ok(ports)
-}
-
-/// The blocks of the root output ports by their numbers, from 1.
-fn output_ports(alloc: Global, blocks: &[Block], count: usize) -> Result<Vec<u32>, OutOfMemory>
-    requires ports { AreNumbered (filter_map (number_in root_output) blocks.now) }
-    requires count { count ≡ length (filter_map (number_in root_output) blocks.now) }
-    requires few { length blocks.now ≤ 20000 }
-    ensures { IfOk result (λ ports.
-        ArePortsTo root_output blocks.now (length blocks.now) ports.items) }
-{
-    let mut ports: Vec<u32> = vec![in alloc; 0; count]?;
-    for (i, block) in blocks.iter().enumerate() {
-        put_number(&mut ports, output_number(&block.kind), i as u32);
+        put_number(&mut ports, number_on(side, &block.kind), i as u32);
     }
     Ok(ports)
 }
@@ -190,9 +155,8 @@ pub fn input_roots(alloc: Global, checked: &Checked) -> Result<Roots, OutOfMemor
     let mut roots = Roots::new(alloc);
     checked.keeps_rules();
     let blocks = checked.diagram().blocks.as_slice();
-    let count = count_inputs(blocks);
-    let ports = input_ports(alloc, blocks, count)?;
-    for i in 0..count as u32 {
+    let ports = ports_on(alloc, Side::Inputs, blocks)?;
+    for i in 0..ports.len() as u32 {
         put_input_port(&mut roots, checked, ports.as_slice(), i + 1)?;
     }
     Ok(roots)
@@ -207,9 +171,8 @@ pub fn output_roots(alloc: Global, checked: &Checked, starts: &Starts) -> Result
     let mut roots = Roots::new(alloc);
     checked.keeps_rules();
     let blocks = checked.diagram().blocks.as_slice();
-    let count = count_outputs(blocks);
-    let ports = output_ports(alloc, blocks, count)?;
-    for i in 0..count as u32 {
+    let ports = ports_on(alloc, Side::Outputs, blocks)?;
+    for i in 0..ports.len() as u32 {
         put_output_port(&mut roots, checked, starts, ports.as_slice(), i + 1)?;
     }
     Ok(roots)

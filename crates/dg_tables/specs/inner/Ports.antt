@@ -3,6 +3,14 @@ use Rattle.std.specs.Prelude.{◌≡◌, ℕ, ◌<◌, ◌≤◌, ◌-◌, List,
 use Rattle.dg_model.specs.declared.diagram.Block.{Block}
 use Rattle.dg_model.specs.declared.row.Role.{Role}
 use Rattle.dg_model.specs.RootElements.{number_in}
+use Rattle.dg_model.specs.Wired.{root_input, root_output}
+use Rattle.dg_tables.specs.declared.roots.Side.{Side}
+use Rattle.dg_tables.specs.declared.roots.Side.TheVariants.{Inputs, Outputs}
+
+-- the number of a root port of a side
+abbrev pub root_on : Side → Role → Option ℕ
+root_on Inputs = root_input
+root_on Outputs = root_output
 
 -- of the first blocks, each root port stands in a list at its number
 pub record ArePortsTo (number_of : Role → Option ℕ) (blocks : List Block) (count : ℕ) (ports : List ℕ) : Type 0 where

@@ -8,7 +8,7 @@ use Rattle.dg_model.specs.RootElements.{RootElement, has_number, number_in, elem
 use Rattle.dg_model.specs.Wired.{AreNumbered, root_input}
 use Rattle.dg_tables.specs.declared.roots.Root.{Root}
 use Rattle.dg_tables.specs.Roots.{roots_of}
-use Rattle.dg_tables.proofs.Rooted.{roots_more, counted_map}
+use Rattle.dg_tables.proofs.Rooted.{filtered_at_most, roots_more}
 use Rattle.dg_tables.proofs.roots.input_roots.Goals as goal
 
 pub loop-i-preserved : goal.loop-i-preserved
@@ -20,22 +20,26 @@ pub returns : goal.returns
 returns c =
     let part : ℕ → List RootElement = λ number. elements_of_port (attributes_of c.args.checked.now.diagram) (λ (block : ℕ). (attributes_of c.args.checked.now.diagram).width_at block 1) number (position (has_number root_input number) c.args.checked.now.diagram.blocks) in
     let blocks : c.as_slice-blocks.result.now ≡ c.args.checked.now.diagram.blocks = c.as_slice-blocks.ensures ∙ ap (λ (d : Diagram). d.blocks) c.diagram.ensures in
-    let all : c.count_inputs-count.result ≡ length (filter_map (number_in root_input) c.args.checked.now.diagram.blocks) =
-    c.count_inputs-count.ensures.count ∙ counted_map (number_in root_input) c.as_slice-blocks.result.now ∙ ap (λ (xs : List Block). length (filter_map (number_in root_input) xs)) blocks in
-    let last : c.loop-i.i ≡ c.count_inputs-count.result = omega arith in
+    let all : length c.in_ok-ports.ports.items ≡ length (filter_map (number_in root_input) c.args.checked.now.diagram.blocks) =
+    c.in_ok-ports.ensures.size ∙ ap (λ (xs : List Block). length (filter_map (number_in root_input) xs)) blocks in
+    let last : c.loop-i.i ≡ length c.in_ok-ports.ports.items = omega arith in
     c.loop-i.invariant ∙ ap (λ (n : ℕ). roots_of (flat_map part (numbers_from 1 n))) (last ∙ all)
 
-pub input_ports-requires-clause-ports : goal.input_ports-requires-clause-ports
-input_ports-requires-clause-ports c =
+pub ports_on-requires-clause-ports : goal.ports_on-requires-clause-ports
+ports_on-requires-clause-ports c =
     let blocks : c.as_slice-blocks.result.now ≡ c.args.checked.now.diagram.blocks = c.as_slice-blocks.ensures ∙ ap (λ (d : Diagram). d.blocks) c.diagram.ensures in
     subst (λ (list : List Block). AreNumbered (filter_map (number_in root_input) list)) (sym blocks) c.keeps_rules.ensures.checked.wired.inports
-
-pub input_ports-requires-clause-count : goal.input_ports-requires-clause-count
-input_ports-requires-clause-count c = c.count_inputs-count.ensures.count ∙ counted_map (number_in root_input) c.as_slice-blocks.result.now
 
 pub put_input_port-requires-clause-number : goal.put_input_port-requires-clause-number
 put_input_port-requires-clause-number c =
     let blocks : c.as_slice-blocks.result.now ≡ c.args.checked.now.diagram.blocks = c.as_slice-blocks.ensures ∙ ap (λ (d : Diagram). d.blocks) c.diagram.ensures in
-    let all : c.count_inputs-count.result ≡ length (filter_map (number_in root_input) c.args.checked.now.diagram.blocks) =
-    c.count_inputs-count.ensures.count ∙ counted_map (number_in root_input) c.as_slice-blocks.result.now ∙ ap (λ (xs : List Block). length (filter_map (number_in root_input) xs)) blocks in
+    let all : length c.in_ok-ports.ports.items ≡ length (filter_map (number_in root_input) c.args.checked.now.diagram.blocks) =
+    c.in_ok-ports.ensures.size ∙ ap (λ (xs : List Block). length (filter_map (number_in root_input) xs)) blocks in
     (omega arith, omega (arith, all))
+
+pub overflow_cast-i-end : goal.overflow_cast-i-end
+overflow_cast-i-end c =
+    let blocks : c.as_slice-blocks.result.now ≡ c.args.checked.now.diagram.blocks = c.as_slice-blocks.ensures ∙ ap (λ (d : Diagram). d.blocks) c.diagram.ensures in
+    let many = ap (λ (xs : List Block). length xs) blocks in
+    let few = filtered_at_most (number_in root_input) c.as_slice-blocks.result.now in
+    record { fits = omega (arith, c.in_ok-ports.ensures.size, few, many, c.keeps_rules.ensures.checked.wired.size) }
