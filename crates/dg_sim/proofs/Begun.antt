@@ -1,5 +1,5 @@
 -- A simulator before its first sample.
-use Rattle.std.proofs.Common.{◌≡◌, ℕ, zero, suc, ◌<◌, Bool, true, false, ℤ, List, [], length, map, take, Option, Some, None, slice_get, ap, sym, ◌∙◌, subst, refl, arith}
+use Rattle.std.proofs.Common.{◌≡◌, ℕ, zero, suc, ◌+◌, ◌<◌, ◌⊎◌, inl, inr, Bool, true, false, ℤ, List, [], ◌∷◌, ◌++◌, length, length-append, map, take, Option, Some, None, slice_get, ap, sym, ◌∙◌, subst, refl, arith}
 use Rattle.std.proofs.lemmas.Option.{same_Some, slice_get_within}
 use Rattle.dg_model.specs.declared.diagram.Diagram.{Diagram}
 use Rattle.dg_model.specs.declared.diagram.Block.{Block}
@@ -18,7 +18,7 @@ use Rattle.dg_sim.specs.Ring.{PastValues}
 use Rattle.dg_tables.specs.State.{kept_count, kept_hits}
 use Rattle.dg_sim.specs.Sim.{values_of, IsProgram, IsSimOf, Stands}
 use Rattle.dg_sim.specs.inner.Building.{AreRooms}
-use Rattle.fx_io.proofs.Places.{get_some}
+use Rattle.fx_io.proofs.Places.{get_some, push_cases}
 
 take_none : (n : ℕ) → let none : List ℤ = [] in take n none ≡ none
 take_none zero = refl
@@ -34,6 +34,20 @@ no_hits diagram attributes table block enable (Delay delay initial reset) = no_c
 no_hits diagram attributes table block enable (RateTransition period initial) = refl
 no_hits diagram attributes table block enable (EnOut reset initial) = refl
 no_hits diagram attributes table block enable _ = refl
+
+-- one more memory has its room
+pub rooms_more : (memories : List Memory) (pasts : List PastValues) (n : ℕ) (memory : Memory) (past : PastValues) → slice_get memories n ≡ Some memory → past ≡ record { room = memory.room; values = [] }
+    → AreRooms memories pasts n → AreRooms memories (pasts ++ past ∷ []) (n + 1)
+rooms_more memories pasts n memory past here is rooms = record {
+  size = length-append pasts (past ∷ []) ∙ omega (arith, rooms.size);
+  each = λ m one other at_memory at_past. go m one other at_memory (push_cases pasts past m other at_past);
+}
+  where
+    go : (m : ℕ) (one : Memory) (other : PastValues) → slice_get memories m ≡ Some one → (slice_get pasts m ≡ Some other) ⊎ ((m ≡ length pasts) × (past ≡ other)) → other ≡ record { room = one.room; values = [] }
+    go m one other at_memory (inl old) = rooms.each m one other at_memory old
+    go m one other at_memory (inr new) =
+        let same : memory ≡ one = same_Some memory one (sym here ∙ ap (slice_get memories) (sym (new.0 ∙ rooms.size)) ∙ at_memory) in
+        sym new.1 ∙ is ∙ ap (λ (memory : Memory). record { room = memory.room; values = [] }) same
 
 module _ (checked : CheckedDiagram) (program : Program) (row : List ℤ) (pasts : List PastValues) (prepared : List Prepared) (is : IsProgram checked.diagram (attributes_of checked.diagram) program)
     (rooms : AreRooms program.memories pasts (length program.memories))

@@ -3,49 +3,18 @@ ghost use Rattle.std.specs.Prelude.{◌≡◌, ◌<◌, ◌++◌, ◌∷◌, [],
 ghost use Rattle.fx_type.specs.declared.kind.FxType.{FxType};
 ghost use Rattle.dg_model.specs.Attributes.{attributes_of};
 ghost use Rattle.dg_model.specs.Wires.{width_into};
-ghost use Rattle.dg_tables.specs.Entries.{Reads};
 ghost use Rattle.dg_sim.specs.inner.Building.{AreElements};
-ghost use Rattle.dg_tables.specs.Finding.{Finds, IsRead, ReadsNow};
+ghost use Rattle.dg_tables.specs.Finding.{Finds, ReadsNow};
 ghost use Rattle.dg_sim.specs.inner.Turns.{IsMadeFor, IsTurnOf};
 ghost use Rattle.dg_model.specs.declared.kind.Kind.{Kind};
 
 use crate::program::{Program, Rule};
 use crate::turn::Turn;
+use crate::working::put_argument;
 use dg_model::FxTypes;
-use dg_tables::{Places, input, width_of_input};
+use dg_tables::{Places, width_of_input};
 use fx_io::{OutOfMemory, Sizes};
 use fx_type::FxType;
-
-/// Puts an element that input port 1 of the block offers behind the arguments.
-fn put_element<'a>(
-    turn: Turn<'a>,
-    places: &Places,
-    element: u32,
-    args: &mut Sizes,
-    types: &mut FxTypes,
-) -> Result<(), OutOfMemory>
-    requires finds { Finds turn.checked.now turn.starts.now places.now }
-    requires now { ReadsNow turn.checked.now places.now turn.cell turn.place.block }
-    requires read { IsRead turn.checked.now.diagram (attributes_of turn.checked.now.diagram)
-        turn.place.block 1 element }
-    ensures { OnOk result ((number : ℕ) × (args.new ≡ args.old ++ number ∷ [])
-        × (number < turn.entry.cell) × Reads turn.entry.checked.now.diagram
-        (attributes_of turn.entry.checked.now.diagram) places.now turn.entry.place.block 1 element
-        number × (types.new ≡ types.old ++ FxType.Logical ∷ [])) }
-{
-    let block = turn.place.block;
-    let number = input(
-        turn.checked,
-        turn.starts,
-        places.as_slice(),
-        block,
-        1,
-        element,
-    );
-    args.push(number)?;
-    types.push(FxType::Logical)?;
-    Ok(())
-}
 
 /// Puts all elements that input port 1 of the block offers behind the arguments.
 fn put_elements<'a>(
@@ -67,7 +36,7 @@ fn put_elements<'a>(
         × (length more ≡ width)) }
 {
     for element in 0..width {
-        put_element(turn, places, element, args, types)?;
+        put_argument(turn, places, 1, element, FxType::Logical, args, types)?;
     }
     Ok(())
 }

@@ -12,9 +12,9 @@ ghost use Rattle.dg_sim.specs.inner.Turns.{IsMadeFor, IsTurnOf};
 ghost use Rattle.dg_tables.specs.Entries.{place_at};
 
 use crate::program::{Memory, Program, Rule};
-use crate::rules::stored;
+use crate::rules::own_stored;
 use crate::turn::Turn;
-use dg_tables::{Place, input, kept_moves, look_up, operations_prepare};
+use dg_tables::{Place, input, kept_moves, look_up};
 use fx_io::OutOfMemory;
 use fx_type::Decimal;
 
@@ -103,15 +103,10 @@ pub fn delayed<'a>(
     requires some { 1 ≤ length }
     ensures { IfOk result (IsMadeFor turn.entry program.old program.new) }
 {
-    operations_prepare();
     kept_moves();
     turn.checked.keeps_rules();
     let control = control_of(program, turn);
-    let first = stored(
-        initial,
-        turn.place.element,
-        turn.checked.result(turn.place.block),
-    );
+    let first = own_stored(turn, initial);
     let period = turn.checked.period(turn.place.block);
     let memory = remember(program, turn, period, control, reset, length)?;
     Ok(Rule::Past {
@@ -137,14 +132,9 @@ pub fn slowed<'a>(
         ((attributes_of turn.checked.now.diagram).period_at turn.place.block) ≡ true }
     ensures { IfOk result (IsMadeFor turn.entry program.old program.new) }
 {
-    operations_prepare();
     kept_moves();
     turn.checked.keeps_rules();
-    let first = stored(
-        initial,
-        turn.place.element,
-        turn.checked.result(turn.place.block),
-    );
+    let first = own_stored(turn, initial);
     let memory = remember(program, turn, slow, None, false, 2)?;
     Ok(Rule::Slower {
         memory,
@@ -164,7 +154,6 @@ pub fn gated<'a>(
     requires kind { turn.block.now.kind ≡ Kind.EnOut reset initial.now }
     ensures { IfOk result (IsMadeFor turn.entry program.old program.new) }
 {
-    operations_prepare();
     kept_moves();
     turn.checked.keeps_rules();
     let Some(enable) = turn.block.enable else {
@@ -181,7 +170,7 @@ pub fn gated<'a>(
         1,
         place.element,
     );
-    let first = stored(initial, place.element, turn.checked.result(place.block));
+    let first = own_stored(turn, initial);
     if reset {
         return Ok(Rule::Reset {
             from,

@@ -1,12 +1,12 @@
 //! The rules of cells, kind by kind.
-ghost use Rattle.std.specs.Prelude.{◌≡◌, ℕ, Some, length, slice_get, true, IfOk};
+ghost use Rattle.std.specs.Prelude.{◌≡◌, ℕ, Some, length, slice_get, IfOk};
 ghost use Rattle.fx_type.specs.FxType.{IsType};
 ghost use Rattle.fx_type.specs.declared.kind.FxType.{FxType};
 ghost use Rattle.fx_type.specs.declared.decimal.Decimal.{Decimal};
 ghost use Rattle.dg_model.specs.Attributes.{attributes_of};
 ghost use Rattle.dg_model.specs.Equation.{StoresEntry};
 ghost use Rattle.dg_model.specs.Wires.{repeated};
-ghost use Rattle.dg_sim.specs.inner.Building.{IsMade, is_kept, is_worked};
+ghost use Rattle.dg_sim.specs.inner.Building.{IsMade};
 ghost use Rattle.dg_tables.specs.Entries.{AreEntries, IsEntry};
 ghost use Rattle.dg_sim.specs.inner.Cursors.{AreCursors};
 ghost use Rattle.dg_tables.specs.Finding.{Finds};
@@ -22,7 +22,7 @@ use crate::joining::{Cursors, joined, parted};
 use crate::memories::{delayed, gated};
 use crate::program::{Program, Rule};
 use crate::turn::Turn;
-use crate::working::{op_of, works};
+use crate::working::works;
 use dg_model::{Checked, Kind};
 use dg_tables::{Place, Root, Starts, operations_prepare};
 use fx_io::OutOfMemory;
@@ -45,20 +45,32 @@ pub fn stored(list: &[Decimal], element: u32, kind: FxType) -> i128
     fx_round::to_stored(list[at], kind)
 }
 
+/// The entry of a list parameter of the turn's block for its element, stored in the block's type.
+pub fn own_stored<'a>(turn: Turn<'a>, list: &[Decimal]) -> i128
+    requires there { slice_get turn.checked.now.diagram.blocks turn.place.block
+        ≡ Some turn.block.now }
+    requires entry { HasEntry list.now turn.place.element }
+    ensures { StoresEntry list.now turn.entry.place.element
+        ((attributes_of turn.entry.checked.now.diagram).type_at turn.entry.place.block 1) result }
+{
+    operations_prepare();
+    turn.checked.keeps_rules();
+    stored(
+        list,
+        turn.place.element,
+        turn.checked.result(turn.place.block),
+    )
+}
+
 /// The rule of a Constant.
 fn constant<'a>(program: &Program, turn: Turn<'a>, value: &[Decimal]) -> Rule
     requires turn { IsTurnOf turn program.now.places }
     requires kind { turn.block.now.kind ≡ Kind.Constant value.now }
     ensures { IsMadeFor turn.entry program.now program.now result }
 {
-    operations_prepare();
     turn.checked.keeps_rules();
-    let first = stored(
-        value,
-        turn.place.element,
-        turn.checked.result(turn.place.block),
-    );
-    Rule::Fixed { value: first }
+    let value = own_stored(turn, value);
+    Rule::Fixed { value }
 }
 
 /// The rule of a root input port.
@@ -147,45 +159,19 @@ fn rule_by_kind<'a>(
         Kind::Demux { .. } => Ok(parted(cursors, program, turn)),
         Kind::RateTransition { initial, .. } => transition(program, turn, initial.as_slice()),
         Kind::EnableTest => above(program, turn),
-        Kind::Delay { .. } | Kind::EnOut { .. } => kept_rule(program, turn),
-        Kind::Sum { .. }
-        | Kind::Gain { .. }
-        | Kind::Product
-        | Kind::Switch { .. }
-        | Kind::Relational { .. }
-        | Kind::Logic { .. }
-        | Kind::Convert { .. } => worked(program, turn),
-        Kind::Terminator => unreachable!(),
-    }
-}
-
-/// The rule of a block that keeps values from hit to hit.
-fn kept_rule<'a>(program: &mut Program, turn: Turn<'a>) -> Result<Rule, OutOfMemory>
-    requires turn { IsTurnOf turn program.old.places }
-    requires kept { is_kept turn.block.now.kind ≡ true }
-    ensures { IfOk result (IsMadeFor turn.entry program.old program.new) }
-{
-    turn.checked.keeps_rules();
-    match &turn.block.kind {
         Kind::Delay {
             length,
             initial,
             reset,
         } => delayed(program, turn, *length, initial.as_slice(), *reset),
         Kind::EnOut { reset, initial } => gated(program, turn, *reset, initial.as_slice()),
-        _ => unreachable!(),
+        Kind::Sum { .. }
+        | Kind::Gain { .. }
+        | Kind::Product
+        | Kind::Switch { .. }
+        | Kind::Relational { .. }
+        | Kind::Logic { .. }
+        | Kind::Convert { .. } => works(program, turn),
+        Kind::Terminator => unreachable!(),
     }
-}
-
-/// The rule of a block that works element by element.
-fn worked<'a>(program: &mut Program, turn: Turn<'a>) -> Result<Rule, OutOfMemory>
-    requires turn { IsTurnOf turn program.old.places }
-    requires entries { AreEntries turn.checked.now.diagram
-        (attributes_of turn.checked.now.diagram) program.old.places }
-    requires paired { length program.old.types ≡ length program.old.args }
-    requires worked { is_worked turn.block.now.kind ≡ true }
-    ensures { IfOk result (IsMadeFor turn.entry program.old program.new) }
-{
-    let op = op_of(turn);
-    works(program, turn, op)
 }

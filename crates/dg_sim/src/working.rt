@@ -15,6 +15,41 @@ use crate::turn::Turn;
 use dg_model::{FxTypes, Kind, Op};
 use dg_tables::{Places, input, operations_prepare, type_of_input};
 use fx_io::{Flags, OutOfMemory, Sizes};
+use fx_type::FxType;
+
+/// Puts the entry of an element that an input port of the block offers, with its type, behind the
+/// arguments.
+pub fn put_argument<'a>(
+    turn: Turn<'a>,
+    places: &Places,
+    port: u32,
+    element: u32,
+    kind: FxType,
+    args: &mut Sizes,
+    types: &mut FxTypes,
+) -> Result<(), OutOfMemory>
+    requires finds { Finds turn.checked.now turn.starts.now places.now }
+    requires now { ReadsNow turn.checked.now places.now turn.cell turn.place.block }
+    requires read { IsRead turn.checked.now.diagram (attributes_of turn.checked.now.diagram)
+        turn.place.block port element }
+    ensures { OnOk result ((number : ℕ) × (args.new ≡ args.old ++ number ∷ [])
+        × (number < turn.entry.cell) × Reads turn.entry.checked.now.diagram
+        (attributes_of turn.entry.checked.now.diagram) places.now turn.entry.place.block port
+        element number × (types.new ≡ types.old ++ kind ∷ [])) }
+{
+    let block = turn.place.block;
+    let number = input(
+        turn.checked,
+        turn.starts,
+        places.as_slice(),
+        block,
+        port,
+        element,
+    );
+    args.push(number)?;
+    types.push(kind)?;
+    Ok(())
+}
 
 /// Puts what the input ports of the block offer to the entry's element behind the arguments, with
 /// their types.
@@ -39,43 +74,9 @@ fn put_inputs<'a>(
         turn.entry.block.now.inputs)) }
 {
     for i in 0..turn.block.inputs {
-        put_input(turn, places, i + 1, args, types)?;
+        let kind = type_of_input(turn.checked, turn.starts, turn.place.block, i + 1);
+        put_argument(turn, places, i + 1, turn.place.element, kind, args, types)?;
     }
-    Ok(())
-}
-
-/// The same of one input port.
-fn put_input<'a>(
-    turn: Turn<'a>,
-    places: &Places,
-    port: u32,
-    args: &mut Sizes,
-    types: &mut FxTypes,
-) -> Result<(), OutOfMemory>
-    requires finds { Finds turn.checked.now turn.starts.now places.now }
-    requires now { ReadsNow turn.checked.now places.now turn.cell turn.place.block }
-    requires read { IsRead turn.checked.now.diagram (attributes_of turn.checked.now.diagram)
-        turn.place.block port turn.place.element }
-    ensures { OnOk result ((number : ℕ) × (args.new ≡ args.old ++ number ∷ [])
-        × (number < turn.entry.cell) × Reads turn.entry.checked.now.diagram
-        (attributes_of turn.entry.checked.now.diagram) places.now turn.entry.place.block port
-        turn.entry.place.element number
-        × (types.new ≡ types.old ++ type_into turn.entry.checked.now.diagram
-        (attributes_of turn.entry.checked.now.diagram) turn.entry.place.block port ∷ [])) }
-{
-    let place = turn.place;
-    let places = places.as_slice();
-    let kind = type_of_input(turn.checked, turn.starts, place.block, port);
-    let number = input(
-        turn.checked,
-        turn.starts,
-        places,
-        place.block,
-        port,
-        place.element,
-    );
-    args.push(number)?;
-    types.push(kind)?;
     Ok(())
 }
 
@@ -90,7 +91,7 @@ fn put_signs(signs: &mut Flags, negative: &[bool]) -> Result<(), OutOfMemory>
 }
 
 /// The operation of a block that works element by element.
-pub fn op_of<'a>(turn: Turn<'a>) -> Op
+fn op_of<'a>(turn: Turn<'a>) -> Op
     requires lines { AreLines turn.checked.now.diagram turn.starts.now.lines.items }
     requires shown { IsShown turn.checked.now.diagram (attributes_of turn.checked.now.diagram)
         turn.place.block turn.block.now turn.place.port turn.place.element }
@@ -129,19 +130,17 @@ pub fn op_of<'a>(turn: Turn<'a>) -> Op
 }
 
 /// The rule of a block that works element by element.
-pub fn works<'a>(program: &mut Program, turn: Turn<'a>, op: Op) -> Result<Rule, OutOfMemory>
+pub fn works<'a>(program: &mut Program, turn: Turn<'a>) -> Result<Rule, OutOfMemory>
     requires turn { IsTurnOf turn program.old.places }
     requires entries { AreEntries turn.checked.now.diagram
         (attributes_of turn.checked.now.diagram) program.old.places }
     requires paired { length program.old.types ≡ length program.old.args }
-    requires op { IsOpOf turn.block.now.kind turn.place.element
-        ((attributes_of turn.checked.now.diagram).param_at turn.place.block)
-        (type_into turn.checked.now.diagram (attributes_of turn.checked.now.diagram)
-        turn.place.block 2) op }
+    requires worked { is_worked turn.block.now.kind ≡ true }
     ensures { IfOk result (IsMadeFor turn.entry program.old program.new) }
 {
     operations_prepare();
     turn.checked.keeps_rules();
+    let op = op_of(turn);
     let block = turn.block;
     let negative = block.kind.signs();
     let Ok(first) = u32::try_from(program.args.as_slice().len()) else {

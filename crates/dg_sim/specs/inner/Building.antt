@@ -144,25 +144,3 @@ is_worked (Pass width) = false
 is_worked EnableTest = false
 is_worked (EnOut reset initial) = false
 is_worked Terminator = false
-
--- a kind whose rule is made of what its block keeps from hit to hit, whatever the periods are
-abbrev pub is_kept : Kind → Bool
-is_kept (Inport number width) = false
-is_kept (Outport number) = false
-is_kept (Constant value) = false
-is_kept Ground = false
-is_kept (Sum negative) = false
-is_kept (Gain value param) = false
-is_kept Product = false
-is_kept (Switch criterion threshold) = false
-is_kept (Relational operator) = false
-is_kept (Logic operator) = false
-is_kept (Convert stored) = false
-is_kept (Delay length initial reset) = true
-is_kept (Mux sizes) = false
-is_kept (Demux sizes) = false
-is_kept (RateTransition period initial) = false
-is_kept (Pass width) = false
-is_kept EnableTest = false
-is_kept (EnOut reset initial) = true
-is_kept Terminator = false

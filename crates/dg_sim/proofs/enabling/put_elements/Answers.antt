@@ -10,7 +10,7 @@ use Rattle.dg_sim.proofs.enabling.put_elements.Goals as goal
 pub loop-element-preserved : goal.loop-element-preserved
 loop-element-preserved c =
     let inv = c.loop-element.invariant in
-    let new = c.in_ok-put_element.ensures in
+    let new = c.in_ok-put_argument.ensures in
     let diagram = c.args.turn.checked.now.diagram in (
       inv.0 ++ new.0 ∷ [],
       length-append inv.0 (new.0 ∷ []) ∙ omega (arith, inv.1),
@@ -21,8 +21,8 @@ loop-element-preserved c =
       length-append inv.4 (Logical ∷ []) ∙ omega (arith, inv.6),
     )
 
-pub put_element-requires-clause-read : goal.put_element-requires-clause-read
-put_element-requires-clause-read c =
+pub put_argument-requires-clause-read : goal.put_argument-requires-clause-read
+put_argument-requires-clause-read c =
     let diagram = c.args.turn.checked.now.diagram in
     below_read diagram (attributes_of diagram) c.args.turn.place.block 1 c.loop-element.element (subst (λ (n : ℕ). c.loop-element.element < n) c.requires.width c.loop-element-test.true)
 

@@ -1,22 +1,16 @@
-use Rattle.std.proofs.Common.{ap, sym, subst, FitsSigned}
+use Rattle.std.proofs.Common.{ap, sym, FitsSigned}
 use Rattle.std.specs.Int.{w128}
 use Rattle.std.proofs.lemmas.Int.{to_z-of_z}
 use Rattle.std.proofs.lemmas.Option.{slice_get_within}
-use Rattle.fx_type.specs.FxType.{IsType}
-use Rattle.fx_type.specs.declared.kind.FxType.{FxType}
 use Rattle.dg_model.specs.Attributes.{attributes_of}
-use Rattle.dg_model.specs.Equation.{StoresEntry}
 use Rattle.dg_tables.specs.State.{kept_count}
 use Rattle.dg_sim.proofs.Kept.{delay_made, delay_move_is}
 use Rattle.dg_sim.proofs.Turns.{delay_reads}
 use Rattle.dg_sim.proofs.ListEntries.{delay_entry}
 use Rattle.dg_sim.proofs.memories.delayed.Goals as goal
 
-pub stored-first-requires-clause-kind : goal.stored-first-requires-clause-kind
-stored-first-requires-clause-kind c =
-    let checked = c.args.turn.checked.now in
-    let valid = c.operations_prepare.ensures.types checked.diagram checked.order c.args.turn.place.block c.args.turn.block.now (record { checked = c.keeps_rules.ensures.checked; ordered = c.keeps_rules.ensures.ordered }) c.requires.turn.shown.block_is in
-    subst IsType (sym (c.result.ensures 1)) valid.0
+pub own_stored-first-requires-clause-there : goal.own_stored-first-requires-clause-there
+own_stored-first-requires-clause-there c = c.requires.turn.shown.block_is
 
 pub remember-requires-clause-moves : goal.remember-requires-clause-moves
 remember-requires-clause-moves c =
@@ -26,23 +20,20 @@ remember-requires-clause-moves c =
 pub returns : goal.returns
 returns c =
     let diagram = c.args.turn.checked.now.diagram in
-    let fits : FitsSigned w128 c.stored-first.result = record { sfits = c.stored-first.type_inv } in
-    let stores = subst (λ (kind : FxType). StoresEntry c.args.initial.now c.args.turn.place.element kind c.stored-first.result) (c.result.ensures 1) c.stored-first.ensures in
-    rw (to_z-of_z w128 c.stored-first.result fits)
-    (delay_made diagram (attributes_of diagram) c.args.program.now c.remember.new.program c.args.turn.place c.args.turn.block.now c.requires.turn.shown.block_is c.kept_moves.ensures.read c.args.turn.cell c.in_ok-memory.memory c.args.length c.args.initial.now c.args.reset c.stored-first.result
+    let fits : FitsSigned w128 c.own_stored-first.result = record { sfits = c.own_stored-first.type_inv } in
+    let stores = c.own_stored-first.ensures in
+    rw (to_z-of_z w128 c.own_stored-first.result fits)
+    (delay_made diagram (attributes_of diagram) c.args.program.now c.remember.new.program c.args.turn.place c.args.turn.block.now c.requires.turn.shown.block_is c.kept_moves.ensures.read c.args.turn.cell c.in_ok-memory.memory c.args.length c.args.initial.now c.args.reset c.own_stored-first.result
     c.requires.kind c.requires.some stores c.in_ok-memory.ensures)
 
 pub remember-requires-clause-read : goal.remember-requires-clause-read
 remember-requires-clause-read c = delay_reads c.args.turn.checked.now c.args.turn.starts.now c.args.program.now.places c.args.turn.cell c.args.turn.place c.args.turn.block.now c.requires.turn c.keeps_rules.ensures.checked c.args.length c.args.initial.now c.args.reset c.requires.kind
 
-pub stored-first-requires-clause-entry : goal.stored-first-requires-clause-entry
-stored-first-requires-clause-entry c = delay_entry c.args.turn.checked.now.diagram c.keeps_rules.ensures.checked c.args.turn.place.block c.args.turn.place.port c.args.turn.place.element c.args.turn.block.now c.requires.turn.shown c.args.length c.args.initial.now c.args.reset c.requires.kind
+pub own_stored-first-requires-clause-entry : goal.own_stored-first-requires-clause-entry
+own_stored-first-requires-clause-entry c = delay_entry c.args.turn.checked.now.diagram c.keeps_rules.ensures.checked c.args.turn.place.block c.args.turn.place.port c.args.turn.place.element c.args.turn.block.now c.requires.turn.shown c.args.length c.args.initial.now c.args.reset c.requires.kind
 
 pub control_of-control-requires : goal.control_of-control-requires
 control_of-control-requires c = c.requires.turn
-
-pub result-requires : goal.result-requires
-result-requires c = slice_get_within c.args.turn.checked.now.diagram.blocks c.args.turn.place.block c.args.turn.block.now c.requires.turn.shown.block_is
 
 pub period-period-requires : goal.period-period-requires
 period-period-requires c = slice_get_within c.args.turn.checked.now.diagram.blocks c.args.turn.place.block c.args.turn.block.now c.requires.turn.shown.block_is

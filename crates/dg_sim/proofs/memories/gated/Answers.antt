@@ -2,11 +2,8 @@ use Rattle.std.proofs.Common.{◌∙◌, List, Bool, ap, sym, subst, ◌<◌, Fi
 use Rattle.std.specs.Int.{w128}
 use Rattle.std.proofs.lemmas.Int.{to_z-of_z}
 use Rattle.std.proofs.lemmas.Option.{slice_get_within}
-use Rattle.fx_type.specs.FxType.{IsType}
-use Rattle.fx_type.specs.declared.kind.FxType.{FxType}
 use Rattle.dg_model.specs.declared.kind.Kind.TheVariants.{EnOut}
 use Rattle.dg_model.specs.Attributes.{attributes_of}
-use Rattle.dg_model.specs.Equation.{StoresEntry}
 use Rattle.dg_tables.specs.declared.entries.Place.{Place}
 use Rattle.dg_tables.specs.Entries.{Reads}
 use Rattle.dg_tables.specs.State.{kept_count}
@@ -18,27 +15,24 @@ use Rattle.dg_sim.proofs.Kept.{gated_moves, reset_rule, held_rule}
 use Rattle.dg_sim.proofs.ListEntries.{output_entry_there}
 use Rattle.dg_sim.proofs.memories.gated.Goals as goal
 
-pub stored-first-requires-clause-kind : goal.stored-first-requires-clause-kind
-stored-first-requires-clause-kind c =
-    let checked = c.args.turn.checked.now in
-    let valid = c.operations_prepare.ensures.types checked.diagram checked.order c.args.turn.place.block c.args.turn.block.now (record { checked = c.keeps_rules.ensures.checked; ordered = c.keeps_rules.ensures.ordered }) c.requires.turn.shown.block_is in
-    subst IsType (sym (c.result.ensures 1)) valid.0
+pub own_stored-first-requires-clause-there : goal.own_stored-first-requires-clause-there
+own_stored-first-requires-clause-there c = c.requires.turn.shown.block_is
 
 pub returns-then-reset : goal.returns-then-reset
 returns-then-reset c =
     let diagram = c.args.turn.checked.now.diagram in
-    let fits : FitsSigned w128 c.stored-first.result = record { sfits = c.stored-first.type_inv } in
-    let stores = subst (λ (kind : FxType). StoresEntry c.args.initial.now c.args.turn.place.element kind c.stored-first.result) (c.result.ensures 1) c.stored-first.ensures in
+    let fits : FitsSigned w128 c.own_stored-first.result = record { sfits = c.own_stored-first.type_inv } in
+    let stores = c.own_stored-first.ensures in
     let reads = subst (λ (places : List Place). Reads diagram (attributes_of diagram) places c.args.turn.place.block 1 c.args.turn.place.element c.input-from.result) c.as_slice-places.ensures c.input-from.ensures.reads in
     let kind = c.requires.kind ∙ ap (λ (reset : Bool). EnOut reset c.args.initial.now) c.if-reset.true in
     let below : c.control_cell-cell.result < c.args.turn.cell =
     control_before c.args.turn.checked.now c.args.turn.starts.now c.args.program.now.places c.args.turn.cell c.args.turn.place c.args.turn.block.now c.requires.turn c.control_cell-cell.result c.in-Some.enable c.args.reset c.args.initial.now c.requires.kind c.in-Some.is c.control_cell-cell.ensures in
     let now = turn_now c.args.turn.checked.now c.args.turn.starts.now c.args.program.now.places c.args.turn.cell c.args.turn.place c.args.turn.block.now c.requires.turn (EnOut c.args.reset c.args.initial.now) c.requires.kind refl in
     let from_below : c.input-from.result < c.args.turn.cell = c.input-from.ensures.before c.args.turn.cell (subst (λ (places : List Place). ReadsNow c.args.turn.checked.now places c.args.turn.cell c.args.turn.place.block) (sym c.as_slice-places.ensures) now) in
-    rw (to_z-of_z w128 c.stored-first.result fits) (record {
+    rw (to_z-of_z w128 c.own_stored-first.result fits) (record {
       grows = grows_same c.args.program.now;
       memories = λ are. are;
-      made = reset_rule diagram (attributes_of diagram) c.args.program.now c.args.program.now c.args.turn.place c.args.turn.block.now c.requires.turn.shown.block_is c.args.turn.cell c.control_cell-cell.result c.input-from.result c.args.initial.now c.stored-first.result below from_below (c.in-Some.enable, c.in-Some.is, c.control_cell-cell.ensures) reads stores kind;
+      made = reset_rule diagram (attributes_of diagram) c.args.program.now c.args.program.now c.args.turn.place c.args.turn.block.now c.requires.turn.shown.block_is c.args.turn.cell c.control_cell-cell.result c.input-from.result c.args.initial.now c.own_stored-first.result below from_below (c.in-Some.enable, c.in-Some.is, c.control_cell-cell.ensures) reads stores kind;
     })
 
 pub period-period-requires : goal.period-period-requires
@@ -52,8 +46,8 @@ remember-requires-clause-moves c =
 pub returns : goal.returns
 returns c =
     let diagram = c.args.turn.checked.now.diagram in
-    let fits : FitsSigned w128 c.stored-first.result = record { sfits = c.stored-first.type_inv } in
-    let stores = subst (λ (kind : FxType). StoresEntry c.args.initial.now c.args.turn.place.element kind c.stored-first.result) (c.result.ensures 1) c.stored-first.ensures in
+    let fits : FitsSigned w128 c.own_stored-first.result = record { sfits = c.own_stored-first.type_inv } in
+    let stores = c.own_stored-first.ensures in
     let is = c.in_ok-memory.ensures in
     let reads = subst (λ (places : List Place). Reads diagram (attributes_of diagram) places c.args.turn.place.block 1 c.args.turn.place.element c.input-from.result) (c.as_slice-places.ensures ∙ sym is.grows.places) c.input-from.ensures.reads in
     let control = subst (λ (places : List Place). IsControlCell places c.args.turn.block.now.enable c.control_cell-cell.result) (sym is.grows.places) (c.in-Some.enable, c.in-Some.is, c.control_cell-cell.ensures) in
@@ -62,10 +56,10 @@ returns c =
     control_before c.args.turn.checked.now c.args.turn.starts.now c.args.program.now.places c.args.turn.cell c.args.turn.place c.args.turn.block.now c.requires.turn c.control_cell-cell.result c.in-Some.enable c.args.reset c.args.initial.now c.requires.kind c.in-Some.is c.control_cell-cell.ensures in
     let now = turn_now c.args.turn.checked.now c.args.turn.starts.now c.args.program.now.places c.args.turn.cell c.args.turn.place c.args.turn.block.now c.requires.turn (EnOut c.args.reset c.args.initial.now) c.requires.kind refl in
     let from_below : c.input-from.result < c.args.turn.cell = c.input-from.ensures.before c.args.turn.cell (subst (λ (places : List Place). ReadsNow c.args.turn.checked.now places c.args.turn.cell c.args.turn.place.block) (sym c.as_slice-places.ensures) now) in
-    rw (to_z-of_z w128 c.stored-first.result fits) (record {
+    rw (to_z-of_z w128 c.own_stored-first.result fits) (record {
       grows = is.grows;
       memories = is.memories;
-      made = held_rule diagram (attributes_of diagram) c.args.program.now c.remember.new.program c.args.turn.place c.args.turn.block.now c.requires.turn.shown.block_is c.args.turn.cell c.control_cell-cell.result c.input-from.result c.args.initial.now c.stored-first.result below from_below control reads stores c.kept_moves.ensures.read c.in_ok-memory.memory kind is;
+      made = held_rule diagram (attributes_of diagram) c.args.program.now c.remember.new.program c.args.turn.place c.args.turn.block.now c.requires.turn.shown.block_is c.args.turn.cell c.control_cell-cell.result c.input-from.result c.args.initial.now c.own_stored-first.result below from_below control reads stores c.kept_moves.ensures.read c.in_ok-memory.memory kind is;
     })
 
 pub input-from-requires-clause-read : goal.input-from-requires-clause-read
@@ -74,8 +68,8 @@ input-from-requires-clause-read c = output_reads c.args.turn.checked.now c.args.
 pub remember-requires-clause-read : goal.remember-requires-clause-read
 remember-requires-clause-read c = output_reads c.args.turn.checked.now c.args.turn.starts.now c.args.program.now.places c.args.turn.cell c.args.turn.place c.args.turn.block.now c.requires.turn c.keeps_rules.ensures.checked c.args.reset c.args.initial.now c.requires.kind
 
-pub stored-first-requires-clause-entry : goal.stored-first-requires-clause-entry
-stored-first-requires-clause-entry c = output_entry_there c.args.turn.checked.now.diagram c.keeps_rules.ensures.checked c.args.turn.place.block c.args.turn.place.port c.args.turn.place.element c.args.turn.block.now c.requires.turn.shown c.args.reset c.args.initial.now c.requires.kind
+pub own_stored-first-requires-clause-entry : goal.own_stored-first-requires-clause-entry
+own_stored-first-requires-clause-entry c = output_entry_there c.args.turn.checked.now.diagram c.keeps_rules.ensures.checked c.args.turn.place.block c.args.turn.place.port c.args.turn.place.element c.args.turn.block.now c.requires.turn.shown c.args.reset c.args.initial.now c.requires.kind
 
 pub control_cell-cell-requires-clause-turn : goal.control_cell-cell-requires-clause-turn
 control_cell-cell-requires-clause-turn c = c.requires.turn
@@ -85,9 +79,6 @@ control_cell-cell-requires-clause-enable c = c.in-Some.is
 
 pub input-from-requires-clause-finds : goal.input-from-requires-clause-finds
 input-from-requires-clause-finds c = rw c.as_slice-places.ensures c.requires.turn.finds
-
-pub result-requires : goal.result-requires
-result-requires c = slice_get_within c.args.turn.checked.now.diagram.blocks c.args.turn.place.block c.args.turn.block.now c.requires.turn.shown.block_is
 
 pub remember-requires-clause-turn : goal.remember-requires-clause-turn
 remember-requires-clause-turn c = c.requires.turn

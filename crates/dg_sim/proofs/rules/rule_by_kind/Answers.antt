@@ -1,9 +1,9 @@
 use Rattle.std.proofs.Common.{◌∙◌, List, ap, sym, refl, arith}
 use Rattle.fx_type.specs.declared.decimal.Decimal.{Decimal}
-use Rattle.dg_model.specs.declared.kind.Kind.TheVariants.{Constant, Outport, Pass, RateTransition}
+use Rattle.dg_model.specs.declared.kind.Kind.TheVariants.{Constant, Delay, EnOut, Outport, Pass, RateTransition}
 use Rattle.dg_model.specs.Attributes.{attributes_of}
 use Rattle.dg_sim.proofs.ByKind.{outport_hands, pass_hands, ground_always}
-use Rattle.dg_sim.proofs.Entries.{ports_are}
+use Rattle.dg_sim.proofs.Entries.{delay_some, ports_are}
 use Rattle.dg_sim.proofs.Grown.{fixed_made}
 use Rattle.dg_sim.proofs.Turns.{turn_now, turn_read}
 use Rattle.dg_sim.proofs.rules.rule_by_kind.Goals as goal
@@ -76,10 +76,29 @@ pub returns-in-EnableTest-clause-made : goal.returns-in-EnableTest-clause-made
 returns-in-EnableTest-clause-made c = c.above.ensures
 
 pub returns-in-Sum-clause-made : goal.returns-in-Sum-clause-made
-returns-in-Sum-clause-made c = c.worked.ensures
+returns-in-Sum-clause-made c = c.works.ensures
 
 pub returns-in-Delay-clause-made : goal.returns-in-Delay-clause-made
-returns-in-Delay-clause-made c = c.kept_rule.ensures
+returns-in-Delay-clause-made c = c.delayed.ensures
+
+pub returns-in-EnOut-clause-made : goal.returns-in-EnOut-clause-made
+returns-in-EnOut-clause-made c = c.gated.ensures
+
+pub delayed-requires-clause-some : goal.delayed-requires-clause-some
+delayed-requires-clause-some c =
+    delay_some c.args.turn.checked.now.diagram c.keeps_rules.ensures.checked.wired c.args.turn.place.block c.args.turn.block.now c.requires.turn.shown.block_is c.in-Delay.length _ c.in-Delay.reset c.in-Delay.is
+
+pub delayed-requires-clause-turn : goal.delayed-requires-clause-turn
+delayed-requires-clause-turn c = c.requires.turn
+
+pub delayed-requires-clause-kind : goal.delayed-requires-clause-kind
+delayed-requires-clause-kind c = c.in-Delay.is ∙ ap (λ (initial : List Decimal). Delay c.in-Delay.length initial c.in-Delay.reset) (sym c.as_slice-in-Delay.ensures)
+
+pub gated-requires-clause-turn : goal.gated-requires-clause-turn
+gated-requires-clause-turn c = c.requires.turn
+
+pub gated-requires-clause-kind : goal.gated-requires-clause-kind
+gated-requires-clause-kind c = c.in-EnOut.is ∙ ap (λ (initial : List Decimal). EnOut c.in-EnOut.reset initial) (sym c.as_slice-in-EnOut.ensures)
 
 pub from_row-requires-clause-roots : goal.from_row-requires-clause-roots
 from_row-requires-clause-roots c = c.requires.roots
@@ -108,17 +127,17 @@ transition-requires-clause-turn c = c.requires.turn
 pub above-requires-clause-turn : goal.above-requires-clause-turn
 above-requires-clause-turn c = c.requires.turn
 
-pub kept_rule-requires-clause-turn : goal.kept_rule-requires-clause-turn
-kept_rule-requires-clause-turn c = c.requires.turn
-
-pub worked-requires-clause-turn : goal.worked-requires-clause-turn
-worked-requires-clause-turn c = c.requires.turn
+pub works-requires-clause-turn : goal.works-requires-clause-turn
+works-requires-clause-turn c = c.requires.turn
 
 pub returns-in-Constant-clause-cursors : goal.returns-in-Constant-clause-cursors
 returns-in-Constant-clause-cursors c = c.requires.cursors
 
 pub returns-in-Delay-clause-cursors : goal.returns-in-Delay-clause-cursors
 returns-in-Delay-clause-cursors c = c.requires.cursors
+
+pub returns-in-EnOut-clause-cursors : goal.returns-in-EnOut-clause-cursors
+returns-in-EnOut-clause-cursors c = c.requires.cursors
 
 pub returns-in-EnableTest-clause-cursors : goal.returns-in-EnableTest-clause-cursors
 returns-in-EnableTest-clause-cursors c = c.requires.cursors
@@ -141,8 +160,8 @@ returns-in-RateTransition-clause-cursors c = c.requires.cursors
 pub returns-in-Sum-clause-cursors : goal.returns-in-Sum-clause-cursors
 returns-in-Sum-clause-cursors c = c.requires.cursors
 
-pub worked-requires-clause-entries : goal.worked-requires-clause-entries
-worked-requires-clause-entries c = c.requires.entries
+pub works-requires-clause-entries : goal.works-requires-clause-entries
+works-requires-clause-entries c = c.requires.entries
 
-pub worked-requires-clause-paired : goal.worked-requires-clause-paired
-worked-requires-clause-paired c = c.requires.paired
+pub works-requires-clause-paired : goal.works-requires-clause-paired
+works-requires-clause-paired c = c.requires.paired
