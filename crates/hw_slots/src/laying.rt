@@ -8,27 +8,8 @@ use crate::tally::{Tally, total};
 use fx_io::OutOfMemory;
 use std::alloc::Global;
 
-/// Puts the first slot of each level of a period, and returns the first behind all of them.
-fn lay_levels(
-    bases: &mut Tally,
-    widths: &Tally,
-    period: u64,
-    levels: u64,
-    start: u64,
-) -> Result<u64, OutOfMemory>
-    ensures need { IfOk result (λ need. need ≡ base_by widths.now start period levels) }
-    ensures bases { OnOk result (AreBasesBy widths.now start period levels bases.new) }
-    ensures elsewhere { OnOk result (IsElsewhere period bases.old bases.new) }
-{
-    let mut slot = start;
-    for level in 0..levels {
-        bases.put(period, level, slot)?;
-        slot = total(slot, widths.get(period, level))?;
-    }
-    Ok(slot)
-}
-
-/// The same with the first slot behind all levels.
+/// Puts the first slot of each level of a period and the first behind all of them, and returns the
+/// last.
 fn lay_out(
     bases: &mut Tally,
     widths: &Tally,
@@ -40,7 +21,11 @@ fn lay_out(
     ensures bases { OnOk result (AreBasesBy widths.now start period (levels + 1) bases.new) }
     ensures elsewhere { OnOk result (IsElsewhere period bases.old bases.new) }
 {
-    let slot = lay_levels(bases, widths, period, levels, start)?;
+    let mut slot = start;
+    for level in 0..levels {
+        bases.put(period, level, slot)?;
+        slot = total(slot, widths.get(period, level))?;
+    }
     bases.put(period, levels, slot)?;
     Ok(slot)
 }

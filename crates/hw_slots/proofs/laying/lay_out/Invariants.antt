@@ -1,6 +1,6 @@
 use Rattle.std.proofs.Common.{◌≡◌}
 use Rattle.hw_slots.specs.inner.Made.{AreBasesBy, IsElsewhere, base_by}
-use Rattle.hw_slots.proofs.laying.lay_levels.Given as goal
+use Rattle.hw_slots.proofs.laying.lay_out.Given as goal
 
 abbrev pub invariant-loop-level : goal.invariant-loop-level
 invariant-loop-level l = record {
