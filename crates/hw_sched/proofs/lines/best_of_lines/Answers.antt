@@ -15,9 +15,7 @@ none = record { from = 0; from_port = 0; to = 0; to_port = 0 }
 pub returns-then-edge-place : goal.returns-then-edge-place
 returns-then-edge-place c =
     let es = c.as_slice-edges.ensures ∙ ap (λ (d : Diagram). d.edges) c.diagram.ensures in
-    let test = c.loop-edge-test.true in
-    let size = rest_length c.first_into-first.result c.as_slice-edges.result.now in
-    let at = rest_read c.args.checked.now.diagram.edges c.as_slice-edges.result.now c.first_into-first.result c.loop-edge.edge-index none es (omega (arith, test, size)) in
+    let at = rest_read c.args.checked.now.diagram.edges c.as_slice-edges.result.now c.first_into-first.result c.loop-edge.edge-index none es c.loop-edge-test.true in
     lines_stop c.args.checked.now.diagram c.args.place c.args.depths.now c.first_into-first.result (c.first_into-first.result + c.loop-edge.edge-index) c.loop-edge.best _ c.keeps_rules.ensures.checked.wired.ordered
     (first_as c.args.checked.now.diagram.edges c.as_slice-edges.result.now c.args.place c.first_into-first.result es c.first_into-first.ensures) (omega arith) at
     (λ e. let differs = c.if-edge-place.true in omega (arith, differs, e)) c.loop-edge.invariant
@@ -25,17 +23,13 @@ returns-then-edge-place c =
 pub period-requires : goal.period-requires
 period-requires c =
     let es = c.as_slice-edges.ensures ∙ ap (λ (d : Diagram). d.edges) c.diagram.ensures in
-    let test = c.loop-edge-test.true in
-    let size = rest_length c.first_into-first.result c.as_slice-edges.result.now in
-    let at = rest_read c.args.checked.now.diagram.edges c.as_slice-edges.result.now c.first_into-first.result c.loop-edge.edge-index none es (omega (arith, test, size)) in
+    let at = rest_read c.args.checked.now.diagram.edges c.as_slice-edges.result.now c.first_into-first.result c.loop-edge.edge-index none es c.loop-edge-test.true in
     from_there c.args.checked.now.diagram c.args.place (c.first_into-first.result + c.loop-edge.edge-index) _ c.keeps_rules.ensures.checked.wired at
 
 pub bounds-depths-edge : goal.bounds-depths-edge
 bounds-depths-edge c =
     let es = c.as_slice-edges.ensures ∙ ap (λ (d : Diagram). d.edges) c.diagram.ensures in
-    let test = c.loop-edge-test.true in
-    let size = rest_length c.first_into-first.result c.as_slice-edges.result.now in
-    let at = rest_read c.args.checked.now.diagram.edges c.as_slice-edges.result.now c.first_into-first.result c.loop-edge.edge-index none es (omega (arith, test, size)) in
+    let at = rest_read c.args.checked.now.diagram.edges c.as_slice-edges.result.now c.first_into-first.result c.loop-edge.edge-index none es c.loop-edge-test.true in
     let inside = from_there c.args.checked.now.diagram c.args.place (c.first_into-first.result + c.loop-edge.edge-index) _ c.keeps_rules.ensures.checked.wired at in
     let many = c.requires.size in
     omega (arith, inside, many)
@@ -43,9 +37,7 @@ bounds-depths-edge c =
 pub loop-edge-preserved : goal.loop-edge-preserved
 loop-edge-preserved c =
     let es = c.as_slice-edges.ensures ∙ ap (λ (d : Diagram). d.edges) c.diagram.ensures in
-    let test = c.loop-edge-test.true in
-    let size = rest_length c.first_into-first.result c.as_slice-edges.result.now in
-    let at = rest_read c.args.checked.now.diagram.edges c.as_slice-edges.result.now c.first_into-first.result c.loop-edge.edge-index none es (omega (arith, test, size)) in
+    let at = rest_read c.args.checked.now.diagram.edges c.as_slice-edges.result.now c.first_into-first.result c.loop-edge.edge-index none es c.loop-edge-test.true in
     elim c.if-is_same_period.branch [
       | then-is_same_period w ↦
           rw (w.best-is, w.max-best.ensures)
