@@ -23,7 +23,7 @@ use Rattle.dg_model.specs.Operation.{stored_truth}
 use Rattle.dg_model.specs.Equation.{StoresEntry, IsInputAt, KindEquation}
 use Rattle.dg_model.specs.Solves.{IsShown, shown_ports}
 use Rattle.fx_io.proofs.Places.{held}
-use Rattle.dg_tables.proofs.Sources.{IsRead}
+use Rattle.dg_tables.proofs.Sources.{IsRead, is_control}
 use Rattle.hw_net.specs.Registers.{Span}
 use Rattle.hw_lines.specs.Line.{IsRegistered}
 use Rattle.hw_shows.specs.Shows.{IsSeenAt, IsSeen, Shows}
@@ -38,15 +38,6 @@ use Rattle.hw_shows.proofs.Chains.{frame_end, AreMoved, states_hold}
 use Rattle.hw_shows.proofs.States.{IsTruth, series_moves, enabled_moves, move_at}
 use Rattle.hw_shows.proofs.Offers.{after_less, late_ready, next_multiple}
 use Rattle.hw_shows.proofs.Inputs.{Setting, BlockShows, in_time, place, source_value, source, line, offered_at_end, control_source, enabled_at_end, control_hits, still_entry}
-
--- a kind that is a control
-abbrev is_control : Role → Bool
-is_control (Role.RootInput number) = false
-is_control (Role.RootOutput number) = false
-is_control (Role.InnerPort width) = false
-is_control Role.EnabledOutput = false
-is_control Role.Control = true
-is_control Role.Plain = false
 
 stored_is_truth : (truth : Bool) (v : ℤ) → v ≡ stored_truth truth → IsTruth v
 stored_is_truth true v e = IsTruth.IsOn e

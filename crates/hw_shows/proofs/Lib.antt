@@ -11,6 +11,7 @@ pub mod GainIntoDelay
 pub mod Hits
 pub mod Induction
 pub mod Inputs
+pub mod KeptRules
 pub mod Offers
 pub mod Outputs
 pub mod SharedChecked

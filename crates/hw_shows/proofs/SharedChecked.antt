@@ -1,5 +1,5 @@
 -- The diagram of the shared product: two inputs of period 2, their product, a transition to period 4 and an output; beside them an input of the base period, which nothing reads. It keeps the rules.
-use Rattle.std.proofs.Common.{◌≡◌, ◌≢◌, ℕ, zero, suc, ◌≤◌, true, true≢false, List, [], ◌∷◌, length, Option, Some, slice_get, inl, inr, sym, subst, refl, arith}
+use Rattle.std.proofs.Common.{◌≡◌, ◌≢◌, ℕ, zero, suc, ◌≤◌, true, true≢false, List, [], ◌∷◌, length, Option, Some, slice_get, inl, sym, refl, arith}
 use Rattle.std.specs.Prelude.{IsSome}
 use Rattle.std.proofs.Math.Dec.{lit<, lit≤}
 use Rattle.fx_type.specs.declared.kind.FxType.{FxType}
@@ -11,19 +11,18 @@ use Rattle.dg_model.specs.declared.diagram.Edge.{Edge}
 use Rattle.dg_model.specs.declared.diagram.PeriodSpec.TheVariants.{Every}
 use Rattle.dg_model.specs.declared.kind.Kind.TheVariants.{Product, RateTransition}
 use Rattle.dg_model.specs.Attributes.{attributes_of}
-use Rattle.dg_model.specs.Dimension.{IsRepeated, KeepsDimension, KeepsDimensions, IsBounded}
+use Rattle.dg_model.specs.Dimension.{IsRepeated, KeepsDimension, KeepsDimensions}
 use Rattle.dg_model.specs.Faults.{AllKeep}
 use Rattle.dg_model.specs.Library.{row_of, IsReadable}
-use Rattle.dg_model.specs.Periods.{periods_of}
 use Rattle.dg_model.specs.Rate.{KeepsDeclared, KeepsPeriods, KeepsRates}
 use Rattle.dg_model.specs.Signals.{Attributes}
-use Rattle.dg_model.specs.TypeRounds.{Types, types_of}
-use Rattle.dg_model.specs.TypeRule.{IsNotWide, HasTypes, HasAgreeing, KeepsTypes}
-use Rattle.dg_model.specs.Widths.{Widths, widths_of}
-use Rattle.dg_model.specs.Wired.{IsWired, Joins, StandsBefore, NamesControl, MayStand}
+use Rattle.dg_model.specs.TypeRounds.{Types}
+use Rattle.dg_model.specs.TypeRule.{IsNotWide, HasTypes, HasAgreeing}
+use Rattle.dg_model.specs.Wired.{IsWired, NamesControl, MayStand}
 use Rattle.dg_tables.specs.Laws.{IsOrdered}
-use Rattle.dg_model.proofs.Written.{all_of, pairs_of}
-use Rattle.hw_shows.proofs.Small.{int8, int8_valid, decimal_of, block_of, input_of, output, edge_of, input_readable, output_readable, each_by, AreDrivenOnce, none_driven, one_driven, one_fits, one_repeats, none_known, one_known, file_order, no_loop, attributes_by, attributes_are}
+use Rattle.dg_model.proofs.Written.{all_of}
+use Rattle.hw_shows.proofs.Small.{int8, int8_valid, decimal_of, block_of, input_of, output, edge_of, input_readable, output_readable, each_by, AreDrivenOnce, none_driven, one_driven, one_fits, one_repeats, none_known, one_known, file_order, no_loop, attributes_by, attributes_are, widths_of_six, order_of_six}
+use Rattle.hw_shows.proofs.KeptRules.{all_join, in_order, one_number, three_numbers, dimensions_kept, types_kept, rates_kept}
 
 abbrev pub initial : List Decimal
 initial = decimal_of 0 (lit< tt) ∷ []
@@ -43,13 +42,7 @@ edges = edge_of 0 2 1 ∷ edge_of 1 2 2 ∷ edge_of 2 3 1 ∷ edge_of 3 4 1 ∷ 
 abbrev pub diagram : Diagram
 diagram = record { blocks = blocks; edges = edges }
 
-abbrev pub order : List ℕ
-order = 0 ∷ 1 ∷ 2 ∷ 3 ∷ 4 ∷ 5 ∷ []
-
--- ---- its widths, types and periods
-abbrev widths : Widths
-widths = (1 ∷ []) ∷ (1 ∷ []) ∷ (1 ∷ []) ∷ (1 ∷ []) ∷ (1 ∷ []) ∷ (1 ∷ []) ∷ []
-
+-- ---- its types and periods
 abbrev types : Types
 types = Some int8 ∷ Some int8 ∷ Some int8 ∷ Some int8 ∷ Some int8 ∷ Some int8 ∷ []
 
@@ -57,19 +50,10 @@ abbrev periods : List (Option ℕ)
 periods = Some 2 ∷ Some 2 ∷ Some 2 ∷ Some 4 ∷ Some 4 ∷ Some 1 ∷ []
 
 abbrev pub attributes : Attributes
-attributes = attributes_by diagram widths types periods
-
-widths_are : widths_of diagram ≡ widths
-widths_are = refl
-
-types_are : types_of diagram ≡ types
-types_are = refl
-
-periods_are : periods_of diagram ≡ periods
-periods_are = refl
+attributes = attributes_by diagram widths_of_six types periods
 
 pub propagated : attributes_of diagram ≡ attributes
-propagated = attributes_are diagram widths types periods widths_are types_are periods_are
+propagated = attributes_are diagram widths_of_six types periods refl refl refl
 
 -- ---- it is well formed
 two_driven : AreDrivenOnce edges 2 2
@@ -82,14 +66,6 @@ driven : (block : ℕ) (b : Block) → slice_get blocks block ≡ Some b → Are
 driven = each_by (λ (k : ℕ) (x : Block). AreDrivenOnce edges k x.inputs) blocks
     (none_driven edges 0) (none_driven edges 1) two_driven (one_driven edges 3 refl) (one_driven edges 4 refl) (none_driven edges 5)
 
-joins : Joins blocks (edge_of 0 2 1) × Joins blocks (edge_of 1 2 2) × Joins blocks (edge_of 2 3 1) × Joins blocks (edge_of 3 4 1)
-joins = (
-  record { source = (lit≤ tt, lit≤ tt); target = (lit≤ tt, lit≤ tt) },
-  record { source = (lit≤ tt, lit≤ tt); target = (lit≤ tt, lit≤ tt) },
-  record { source = (lit≤ tt, lit≤ tt); target = (lit≤ tt, lit≤ tt) },
-  record { source = (lit≤ tt, lit≤ tt); target = (lit≤ tt, lit≤ tt) },
-)
-
 product_readable : IsReadable multiplied
 product_readable = record { ports = (refl, refl); parameters = tt; types = int8_valid; result = tt; rounding = tt; period = tt }
 
@@ -99,22 +75,19 @@ transition_readable = record { ports = (refl, refl); parameters = (record { sign
 wired : IsWired diagram
 wired = record {
   size = lit≤ tt;
-  edges = all_of (Joins blocks) edges (joins.0, (joins.1, (joins.2, (joins.3, tt))));
+  edges = all_join blocks edges refl;
   driven = λ block port b at. driven block b at port;
-  ordered = pairs_of StandsBefore edges ((inr (refl, lit≤ tt), (inl (lit< tt), (inl (lit< tt), tt))), ((inl (lit< tt), (inl (lit< tt), tt)), ((inl (lit< tt), tt), (tt, tt))));
+  ordered = in_order edges refl;
   blocks = all_of IsReadable blocks (input_readable 1 2 (lit< tt) (lit≤ tt) (lit≤ tt) (lit< tt), (input_readable 2 2 (lit< tt) (lit≤ tt) (lit≤ tt) (lit< tt), (product_readable, (transition_readable, (output_readable, (input_readable 3 1 (lit< tt) (lit≤ tt) (lit≤ tt) (lit< tt), tt))))));
   controls = all_of (λ (block : Block). NamesControl blocks block.enable) blocks (tt, (tt, (tt, (tt, (tt, (tt, tt))))));
   enables = all_of (λ (block : Block). MayStand (row_of block.kind).place.stands block.enable) blocks (tt, (tt, (tt, (refl, (tt, (tt, tt))))));
-  inports = record {
-    within = all_of (λ (number : ℕ). (1 ≤ number) × (number ≤ 3)) (1 ∷ 2 ∷ 3 ∷ []) ((lit≤ tt, lit≤ tt), ((lit≤ tt, lit≤ tt), ((lit≤ tt, lit≤ tt), tt)));
-    distinct = pairs_of (λ (number other : ℕ). number ≢ other) (1 ∷ 2 ∷ 3 ∷ []) ((λ e. absurd (omega (arith, e)), (λ e. absurd (omega (arith, e)), tt)), ((λ e. absurd (omega (arith, e)), tt), (tt, tt)));
-  };
-  outports = record { within = all_of (λ (number : ℕ). (1 ≤ number) × (number ≤ 1)) (1 ∷ []) ((lit≤ tt, lit≤ tt), tt); distinct = pairs_of (λ (number other : ℕ). number ≢ other) (1 ∷ []) (tt, tt) };
+  inports = three_numbers;
+  outports = one_number;
 }
 
 -- ---- dimensions
-dimensions_by : AllKeep diagram (KeepsDimension diagram widths)
-dimensions_by = each_by (KeepsDimension diagram widths) blocks
+dimensions_by : AllKeep diagram (KeepsDimension diagram widths_of_six)
+dimensions_by = each_by (KeepsDimension diagram widths_of_six) blocks
     (record { settled = refl; within = λ some. one_fits; agrees = λ k d below. absurd (omega arith); lists = λ k d below. absurd (omega arith); declared = inl refl })
     (record { settled = refl; within = λ some. one_fits; agrees = λ k d below. absurd (omega arith); lists = λ k d below. absurd (omega arith); declared = inl refl })
     (record { settled = refl; within = λ some. one_fits; agrees = all_of (IsRepeated 1) (1 ∷ 1 ∷ []) (inl refl, (inl refl, tt)); lists = λ k d below. absurd (omega arith); declared = inl refl })
@@ -122,14 +95,8 @@ dimensions_by = each_by (KeepsDimension diagram widths) blocks
     (record { settled = refl; within = λ some. one_fits; agrees = one_repeats; lists = λ k d below. absurd (omega arith); declared = inl refl })
     (record { settled = refl; within = λ some. one_fits; agrees = λ k d below. absurd (omega arith); lists = λ k d below. absurd (omega arith); declared = inl refl })
 
-bounded_by : IsBounded diagram widths
-bounded_by = record { outputs = omega arith; inputs = omega arith; delays = omega arith }
-
 dimensions : KeepsDimensions diagram
-dimensions = record {
-  blocks = subst (λ (w : Widths). AllKeep diagram (KeepsDimension diagram w)) (sym widths_are) dimensions_by;
-  bounded = subst (λ (w : Widths). IsBounded diagram w) (sym widths_are) bounded_by;
-}
+dimensions = dimensions_kept diagram widths_of_six refl dimensions_by (record { outputs = omega arith; inputs = omega arith; delays = omega arith })
 
 -- ---- types
 narrow_by : AllKeep diagram (IsNotWide diagram types)
@@ -159,24 +126,15 @@ agree_by = each_by (HasAgreeing diagram types) blocks
     (record { written = tt; inside = tt })
     (record { written = tt; inside = tt })
 
-types_kept : KeepsTypes diagram
-types_kept = record {
-  narrow = subst (λ (t : Types). AllKeep diagram (IsNotWide diagram t)) (sym types_are) narrow_by;
-  known = subst (λ (t : Types). AllKeep diagram (HasTypes diagram t)) (sym types_are) known_by;
-  agree = subst (λ (t : Types). AllKeep diagram (HasAgreeing diagram t)) (sym types_are) agree_by;
-}
-
 -- ---- rates
 rates : KeepsRates diagram
-rates = record {
-  declared = each_by (KeepsDeclared diagram) blocks
-      ((2, lit≤ tt, refl)) ((2, lit≤ tt, refl)) tt ((4, lit≤ tt, refl)) tt ((1, lit≤ tt, refl));
-  periods = subst (λ (p : List (Option ℕ)). AllKeep diagram (KeepsPeriods diagram p)) (sym periods_are) (each_by (KeepsPeriods diagram periods) blocks refl refl refl refl refl refl);
-}
+rates = rates_kept diagram periods refl
+    (each_by (KeepsDeclared diagram) blocks (2, lit≤ tt, refl) (2, lit≤ tt, refl) tt (4, lit≤ tt, refl) tt (1, lit≤ tt, refl))
+    (each_by (KeepsPeriods diagram periods) blocks refl refl refl refl refl refl)
 
 -- ---- all rules
-pub ordered : IsOrdered diagram order
+pub ordered : IsOrdered diagram order_of_six
 ordered = record {
-  checked = record { wired = wired; dimensions = dimensions; types = types_kept; rates = rates; loops = no_loop diagram (attributes_of diagram) refl };
+  checked = record { wired = wired; dimensions = dimensions; types = types_kept diagram types refl narrow_by known_by agree_by; rates = rates; loops = no_loop diagram (attributes_of diagram) refl };
   ordered = file_order diagram (attributes_of diagram) refl;
 }

@@ -25,9 +25,9 @@ use Rattle.hw_shows.specs.Waves.{Waves, IsMadeAs, IsPiped, AreBuilt, AreDriven}
 use Rattle.hw_shows.specs.Laws.{IsDesign}
 use Rattle.hw_shows.proofs.Trying.{wave_of, tried_shows, tried_range, tried_line, tried_stays}
 use Rattle.dg_model.proofs.Examples.{stores_small}
-use Rattle.hw_shows.proofs.Small.{int8, int16, int16_full, kept, input_of, output, edge_of, each_by}
+use Rattle.hw_shows.proofs.Small.{int8, int16, int16_full, kept, input_of, output, edge_of, each_by, order_of_six}
 use Rattle.hw_shows.proofs.ByPorts.{InTime, port_in_time, no_ports_in_time, one_port_in_time, outside, port_offered, AreOfferedTo, no_ports_offered, one_port_offered}
-use Rattle.hw_shows.proofs.SharedChecked.{multiplied, transition, blocks, diagram, order, attributes, propagated, ordered}
+use Rattle.hw_shows.proofs.SharedChecked.{multiplied, transition, blocks, diagram, attributes, propagated, ordered}
 use Rattle.hw_shows.proofs.SharedProduct.{lefts, rights, products, slower, left, right, product, slowed, wrong, served, lined, not_lined}
 
 abbrev timing : Timing
@@ -339,7 +339,7 @@ pub given : IsStimulus diagram attributes stimulus 8
 given = record { in_range = λ block b number element t e is inside below hit. fits block b e number element t is below }
 
 -- ---- all of it
-pub design : IsDesign diagram order stimulus timing 16 8 table (waves slowed)
+pub design : IsDesign diagram order_of_six stimulus timing 16 8 table (waves slowed)
 design = record {
   ordered = ordered;
   timed = subst (λ (a : Attributes). IsTimed diagram a timing) (sym propagated) timed;
@@ -349,5 +349,5 @@ design = record {
 }
 
 -- and with the wrong number it is none
-pub no_design : ¬ IsDesign diagram order stimulus timing 16 8 table (waves wrong)
+pub no_design : ¬ IsDesign diagram order_of_six stimulus timing 16 8 table (waves wrong)
 no_design is = not_built (subst (λ (a : Attributes). AreBuilt diagram a timing 16 (waves wrong)) propagated is.built)

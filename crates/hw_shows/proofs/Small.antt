@@ -1,7 +1,7 @@
 -- Parts of small diagrams that are worked out by hand, and the order of those whose lines all lead to later blocks. Crates above may cite this file.
 use Rattle.std.proofs.Common.{◌≡◌, ℕ, zero, suc, ◌+◌, ◌-◌, ◌%◌, ◌^◌, ◌<◌, ◌≤◌, inl, pos, Bool, true, false, List, [], ◌∷◌, length, get_or, Option, Some, None, slice_get, All, ap, sym, ◌∙◌, subst, refl, arith}
-use Rattle.std.specs.Prelude.{nat_lt, slice_index, IsSome, count_by, ⊤}
-use Rattle.std.specs.List.{AllByRecursion, list_all}
+use Rattle.std.specs.Prelude.{nat_lt, slice_index, IsSome, count_by}
+use Rattle.std.specs.List.{list_all}
 use Rattle.std.proofs.Math.Dec.{lit≤}
 use Rattle.std.proofs.Math.Nat.{mod_self, mod-eq_of_lt}
 use Rattle.std.proofs.lemmas.Bool.{ltb-true}
@@ -34,7 +34,7 @@ use Rattle.dg_model.specs.Wires.{enters}
 use Rattle.dg_model.specs.Widths.{Widths, width_at, widths_of}
 use Rattle.dg_model.specs.TypeRounds.{Types, types_of}
 use Rattle.dg_model.specs.Periods.{known_at, periods_of, period_at}
-use Rattle.dg_model.proofs.Written.{all_of}
+use Rattle.dg_model.proofs.Written.{EachByRecursion, all_of, each_of}
 
 -- ---- types and numbers
 abbrev pub int8 : FxType
@@ -83,20 +83,7 @@ input_readable number period small low high some =
 pub output_readable : IsReadable output
 output_readable = record { ports = (refl, refl); parameters = (lit≤ tt, lit≤ tt); types = tt; result = tt; rounding = (refl, refl); period = tt }
 
-abbrev pub PairsByRecursion : {A : Type 0} → (A → A → Type 0) → List A → Type 0
-PairsByRecursion R [] = ⊤
-PairsByRecursion R (x ∷ xs) = AllByRecursion (R x) xs × PairsByRecursion R xs
-
-abbrev EachByRecursion : {A : Type 0} → (ℕ → A → Type 0) → List A → Type 0
-EachByRecursion P [] = ⊤
-EachByRecursion P (x ∷ xs) = P 0 x × EachByRecursion (λ k. P (suc k)) xs
-
-each_of : {A : Type 0} (P : ℕ → A → Type 0) (xs : List A) → EachByRecursion P xs → (k : ℕ) (x : A) → slice_get xs k ≡ Some x → P k x
-each_of P [] each k x at = absurd (none-some x at)
-each_of P (y ∷ xs) each zero x at = subst (P 0) (same_Some y x at) (each.0)
-each_of P (y ∷ xs) each (suc k) x at = each_of (λ k. P (suc k)) xs (each.1) k x at
-
--- the same with a fact after the other
+-- what holds of each place and element, with a fact after the other
 abbrev pub AfterEach : {A : Type 0} → (ℕ → A → Type 0) → List A → Type 0 → Type 0
 AfterEach P [] Goal = Goal
 AfterEach P (x ∷ xs) Goal = P 0 x → AfterEach (λ k. P (suc k)) xs Goal
@@ -198,6 +185,14 @@ module _ (diagram : Diagram) (attributes : Attributes) (all : list_all leads_up 
           omega (arith, far, less)
 
 -- ---- attributes written out
+
+-- six blocks in the order of the file, each with one output of one element
+abbrev pub order_of_six : List ℕ
+order_of_six = 0 ∷ 1 ∷ 2 ∷ 3 ∷ 4 ∷ 5 ∷ []
+
+abbrev pub widths_of_six : Widths
+widths_of_six = (1 ∷ []) ∷ (1 ∷ []) ∷ (1 ∷ []) ∷ (1 ∷ []) ∷ (1 ∷ []) ∷ (1 ∷ []) ∷ []
+
 abbrev pub attributes_by : Diagram → Widths → Types → List (Option ℕ) → Attributes
 attributes_by diagram widths types periods = record {
   width_at = width_at widths;

@@ -1,7 +1,7 @@
 -- The diagram of the whole model keeps the rules.
-use Rattle.std.proofs.Common.{◌≡◌, ◌≢◌, ℕ, ◌≤◌, true≢false, List, [], ◌∷◌, length, All, Option, Some, slice_get, inl, inr, codes, sym, subst, refl, arith}
+use Rattle.std.proofs.Common.{◌≡◌, ◌≢◌, ℕ, ◌≤◌, true≢false, List, [], ◌∷◌, length, All, Option, Some, slice_get, inl, inr, codes, sym, refl, arith}
 use Rattle.std.specs.Prelude.{IsSome}
-use Rattle.std.proofs.Math.Dec.{lit<, lit≤}
+use Rattle.std.proofs.Math.Dec.{lit≤}
 use lib.Signed.{le_z_yes}
 use Rattle.fx_type.specs.declared.decimal.Decimal.{Decimal}
 use Rattle.fx_type.specs.declared.kind.FxType.{FxType}
@@ -9,19 +9,19 @@ use Rattle.fx_type.specs.declared.spec.TypeSpec.TheVariants.{Fixed}
 use Rattle.dg_model.specs.declared.diagram.Block.{Block}
 use Rattle.dg_model.specs.Attributes.{attributes_of}
 use Rattle.dg_model.specs.Checked.{IsChecked}
-use Rattle.dg_model.specs.Dimension.{IsRepeated, KeepsDimension, KeepsDimensions, IsBounded}
+use Rattle.dg_model.specs.Dimension.{IsRepeated, KeepsDimension, KeepsDimensions}
 use Rattle.dg_model.specs.Faults.{AllKeep}
 use Rattle.dg_model.specs.KindRow.{IsSpec}
 use Rattle.dg_model.specs.Library.{row_of, IsReadable}
-use Rattle.dg_model.specs.Periods.{periods_of}
 use Rattle.dg_model.specs.Rate.{KeepsDeclared, KeepsPeriods, KeepsRates}
 use Rattle.dg_model.specs.Signals.{Attributes}
-use Rattle.dg_model.specs.TypeRounds.{Types, types_of}
-use Rattle.dg_model.specs.TypeRule.{IsNotWide, HasTypes, HasAgreeing, KeepsTypes}
-use Rattle.dg_model.specs.Widths.{Widths, widths_of}
-use Rattle.dg_model.specs.Wired.{AreNumbered, IsWired, Joins, StandsBefore, NamesControl, MayStand}
-use Rattle.dg_model.proofs.Written.{all_of, pairs_of}
+use Rattle.dg_model.specs.TypeRounds.{Types}
+use Rattle.dg_model.specs.TypeRule.{IsNotWide, HasTypes, HasAgreeing}
+use Rattle.dg_model.specs.Widths.{Widths}
+use Rattle.dg_model.specs.Wired.{IsWired, NamesControl, MayStand}
+use Rattle.dg_model.proofs.Written.{all_of}
 use Rattle.hw_shows.proofs.Small.{int8_valid, each_by, none_driven, one_driven, none_known, no_loop, attributes_by, attributes_are, AreDrivenOnce}
+use Rattle.hw_shows.proofs.KeptRules.{all_join, in_order, one_number, dimensions_kept, types_kept, rates_kept}
 use Rattle.tests_premises.specs.Whole.{diagram, input, gain, output, int8, int16, coefficients}
 
 -- ---- its widths, types and periods
@@ -37,17 +37,8 @@ periods = Some 1 ∷ Some 1 ∷ Some 1 ∷ []
 abbrev pub attributes : Attributes
 attributes = attributes_by diagram widths types periods
 
-widths_are : widths_of diagram ≡ widths
-widths_are = refl
-
-types_are : types_of diagram ≡ types
-types_are = refl
-
-periods_are : periods_of diagram ≡ periods
-periods_are = refl
-
 pub attributes_known : attributes_of diagram ≡ attributes
-attributes_known = attributes_are diagram widths types periods widths_are types_are periods_are
+attributes_known = attributes_are diagram widths types periods refl refl refl
 
 -- ---- it is well formed
 abbrev pub in_block : Block
@@ -74,23 +65,17 @@ gain_readable = record { ports = (refl, refl); parameters = ((lit≤ tt, lit≤ 
 out_readable : IsReadable out_block
 out_readable = record { ports = (refl, refl); parameters = (lit≤ tt, lit≤ tt); types = tt; result = tt; rounding = (refl, refl); period = tt }
 
-numbered_once : AreNumbered (1 ∷ [])
-numbered_once = record {
-  within = all_of (λ (number : ℕ). (1 ≤ number) × (number ≤ 1)) (1 ∷ []) ((lit≤ tt, lit≤ tt), tt);
-  distinct = pairs_of (λ (number other : ℕ). number ≢ other) (1 ∷ []) (tt, tt);
-}
-
 wired : IsWired diagram
 wired = record {
   size = lit≤ tt;
-  edges = all_of (Joins diagram.blocks) diagram.edges (record { source = (lit≤ tt, lit≤ tt); target = (lit≤ tt, lit≤ tt) }, (record { source = (lit≤ tt, lit≤ tt); target = (lit≤ tt, lit≤ tt) }, tt));
+  edges = all_join diagram.blocks diagram.edges refl;
   driven = λ block port b at. driven block b at port;
-  ordered = pairs_of StandsBefore diagram.edges ((inl (lit< tt), tt), (tt, tt));
+  ordered = in_order diagram.edges refl;
   blocks = all_of IsReadable diagram.blocks (in_readable, (gain_readable, (out_readable, tt)));
   controls = all_of (λ (block : Block). NamesControl diagram.blocks block.enable) diagram.blocks (tt, (tt, (tt, tt)));
   enables = all_of (λ (block : Block). MayStand (row_of block.kind).place.stands block.enable) diagram.blocks (tt, (tt, (tt, tt)));
-  inports = numbered_once;
-  outports = numbered_once;
+  inports = one_number;
+  outports = one_number;
 }
 
 -- ---- dimensions
@@ -106,14 +91,8 @@ dimensions_by = each_by (KeepsDimension diagram widths) diagram.blocks
     (record { settled = refl; within = λ some. two_fit; agrees = two_agree; lists = all_of (λ (list : List Decimal). IsRepeated 2 (length list)) (coefficients ∷ []) (inr refl, tt); declared = inl refl })
     (record { settled = refl; within = λ some. two_fit; agrees = two_agree; lists = λ k d below. absurd (omega arith); declared = inl refl })
 
-bounded_by : IsBounded diagram widths
-bounded_by = record { outputs = omega arith; inputs = omega arith; delays = omega arith }
-
 dimensions : KeepsDimensions diagram
-dimensions = record {
-  blocks = subst (λ (w : Widths). AllKeep diagram (KeepsDimension diagram w)) (sym widths_are) dimensions_by;
-  bounded = subst (λ (w : Widths). IsBounded diagram w) (sym widths_are) bounded_by;
-}
+dimensions = dimensions_kept diagram widths refl dimensions_by (record { outputs = omega arith; inputs = omega arith; delays = omega arith })
 
 -- ---- types
 one_known : (type : FxType) → All {X = Option FxType} IsSome (Some type ∷ [])
@@ -137,20 +116,10 @@ agree_by = each_by (HasAgreeing diagram types) diagram.blocks
     (record { written = tt; inside = tt })
     (record { written = tt; inside = tt })
 
-types_kept : KeepsTypes diagram
-types_kept = record {
-  narrow = subst (λ (t : Types). AllKeep diagram (IsNotWide diagram t)) (sym types_are) narrow_by;
-  known = subst (λ (t : Types). AllKeep diagram (HasTypes diagram t)) (sym types_are) known_by;
-  agree = subst (λ (t : Types). AllKeep diagram (HasAgreeing diagram t)) (sym types_are) agree_by;
-}
-
 -- ---- rates
 rates : KeepsRates diagram
-rates = record {
-  declared = each_by (KeepsDeclared diagram) diagram.blocks tt tt tt;
-  periods = subst (λ (p : List (Option ℕ)). AllKeep diagram (KeepsPeriods diagram p)) (sym periods_are) (each_by (KeepsPeriods diagram periods) diagram.blocks refl refl refl);
-}
+rates = rates_kept diagram periods refl (each_by (KeepsDeclared diagram) diagram.blocks tt tt tt) (each_by (KeepsPeriods diagram periods) diagram.blocks refl refl refl)
 
 -- ---- all rules
 pub checked : IsChecked diagram
-checked = record { wired = wired; dimensions = dimensions; types = types_kept; rates = rates; loops = no_loop diagram (attributes_of diagram) refl }
+checked = record { wired = wired; dimensions = dimensions; types = types_kept diagram types refl narrow_by known_by agree_by; rates = rates; loops = no_loop diagram (attributes_of diagram) refl }

@@ -12,10 +12,9 @@ use Rattle.dg_model.specs.declared.kind.Kind.{Kind}
 use Rattle.dg_model.specs.declared.kind.Kind.TheVariants.{Inport, Outport, Product, RateTransition, Delay}
 use Rattle.dg_model.specs.declared.resolved.Resolved.{Resolved}
 use Rattle.dg_model.specs.Attributes.{attributes_of}
-use Rattle.dg_model.specs.Periods.{periods_of}
 use Rattle.dg_model.specs.Signals.{Attributes}
-use Rattle.dg_model.specs.TypeRounds.{Types, types_of}
-use Rattle.dg_model.specs.Widths.{Widths, widths_of}
+use Rattle.dg_model.specs.TypeRounds.{Types}
+use Rattle.dg_model.specs.Widths.{Widths}
 use Rattle.hw_sched.specs.Slots.{Timing}
 use Rattle.hw_shows.proofs.Small.{int8, decimal_of, edge_of, attributes_by, attributes_are}
 
@@ -67,17 +66,8 @@ periods = Some 1 ∷ Some 1 ∷ Some 1 ∷ Some 1 ∷ Some 2 ∷ Some 2 ∷ Some
 abbrev pub attributes : Attributes
 attributes = attributes_by diagram widths types periods
 
-pub widths_are : widths_of diagram ≡ widths
-widths_are = refl
-
-pub types_are : types_of diagram ≡ types
-types_are = refl
-
-pub periods_are : periods_of diagram ≡ periods
-periods_are = refl
-
 pub known : attributes_of diagram ≡ attributes
-known = attributes_are diagram widths types periods widths_are types_are periods_are
+known = attributes_are diagram widths types periods refl refl refl
 
 -- ---- plans, by their clocks, multipliers and the registers behind P, Q and S
 abbrev pub plan_of : ℕ → ℕ → ℕ → ℕ → ℕ → Resolved

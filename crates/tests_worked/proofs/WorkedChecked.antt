@@ -1,58 +1,25 @@
 -- The diagram of the worked design keeps the rules.
-use Rattle.std.proofs.Common.{◌≡◌, ◌≢◌, ℕ, zero, suc, ◌≤◌, Bool, true, false, true≢false, ◌&&◌, cond, List, [], ◌∷◌, length, All, Option, Some, slice_get, inl, inr, codes, sym, subst, refl, arith}
-use Rattle.std.specs.Prelude.{◌==◌, IsSome, nat_le, nat_lt}
-use Rattle.std.specs.List.{AllByRecursion}
+use Rattle.std.proofs.Common.{◌≡◌, ◌≢◌, ℕ, zero, suc, ◌≤◌, true, false, true≢false, List, [], ◌∷◌, length, All, Option, Some, slice_get, inl, inr, codes, sym, subst, refl, arith}
+use Rattle.std.specs.Prelude.{IsSome}
 use Rattle.std.proofs.Math.Dec.{lit<, lit≤}
-use Rattle.std.proofs.lemmas.Bool.{and_parts, eqb-true, leb-true, ltb-true}
 use Rattle.fx_type.specs.declared.decimal.Decimal.{Decimal}
 use Rattle.fx_type.specs.declared.kind.FxType.{FxType}
 use Rattle.dg_model.specs.declared.diagram.Block.{Block}
-use Rattle.dg_model.specs.declared.diagram.Edge.{Edge}
 use Rattle.dg_model.specs.Attributes.{attributes_of}
 use Rattle.dg_model.specs.Checked.{IsChecked}
-use Rattle.dg_model.specs.Dimension.{IsRepeated, KeepsDimension, KeepsDimensions, IsBounded}
+use Rattle.dg_model.specs.Dimension.{IsRepeated, KeepsDimension, KeepsDimensions}
 use Rattle.dg_model.specs.Faults.{AllKeep}
 use Rattle.dg_model.specs.Library.{row_of, IsReadable}
 use Rattle.dg_model.specs.Loop.{KeepsLoop}
 use Rattle.dg_model.specs.Rate.{KeepsDeclared, KeepsPeriods, KeepsRates}
 use Rattle.dg_model.specs.Signals.{Attributes}
-use Rattle.dg_model.specs.TypeRounds.{Types}
-use Rattle.dg_model.specs.TypeRule.{IsNotWide, HasTypes, HasAgreeing, KeepsTypes}
-use Rattle.dg_model.specs.Widths.{Widths}
-use Rattle.dg_model.specs.Wired.{AreNumbered, IsWired, Joins, StandsBefore, NamesControl, MayStand}
-use Rattle.dg_model.proofs.Written.{all_of, pairs_of}
-use Rattle.hw_shows.proofs.Small.{PairsByRecursion, int8, int8_valid, each_by, AreDrivenOnce, none_driven, one_driven, none_known, one_known}
+use Rattle.dg_model.specs.TypeRule.{IsNotWide, HasTypes, HasAgreeing}
+use Rattle.dg_model.specs.Wired.{IsWired, NamesControl, MayStand}
+use Rattle.dg_model.proofs.Written.{all_of}
+use Rattle.hw_shows.proofs.Small.{int8, int8_valid, each_by, AreDrivenOnce, none_driven, one_driven, none_known, one_known}
+use Rattle.hw_shows.proofs.KeptRules.{all_join, in_order, two_numbers, dimensions_kept, types_kept, rates_kept}
 use Rattle.tests_worked.proofs.Paths.{no_cycle}
-use Rattle.tests_worked.proofs.Worked.{attributes, blocks, delay, diagram, edges, initial, input, known, output, periods, periods_are, product, transition, types, types_are, widths, widths_are}
-
--- ---- edges in order, by a test
-abbrev is_before : Edge → Edge → Bool
-is_before edge later = cond (nat_lt edge.to later.to) true ((edge.to == later.to) && nat_le edge.to_port later.to_port)
-
-before_by : (edge later : Edge) → is_before edge later ≡ true → StandsBefore edge later
-before_by edge later is = by (nat_lt edge.to later.to) refl is where
-  by : (b : Bool) → nat_lt edge.to later.to ≡ b → cond b true ((edge.to == later.to) && nat_le edge.to_port later.to_port) ≡ true → StandsBefore edge later
-  by true less is = inl (ltb-true edge.to later.to less)
-  by false not is = let parts = and_parts (edge.to == later.to) (nat_le edge.to_port later.to_port) is in inr (eqb-true edge.to later.to parts.0, leb-true edge.to_port later.to_port parts.1)
-
-abbrev all_before : Edge → List Edge → Bool
-all_before edge [] = true
-all_before edge (later ∷ edges) = is_before edge later && all_before edge edges
-
-abbrev are_ordered : List Edge → Bool
-are_ordered [] = true
-are_ordered (edge ∷ edges) = all_before edge edges && are_ordered edges
-
-each_before : (edge : Edge) (edges : List Edge) → all_before edge edges ≡ true → AllByRecursion (StandsBefore edge) edges
-each_before edge [] is = tt
-each_before edge (later ∷ edges) is = let parts = and_parts (is_before edge later) (all_before edge edges) is in (before_by edge later parts.0, each_before edge edges parts.1)
-
-ordered_by : (edges : List Edge) → are_ordered edges ≡ true → PairsByRecursion StandsBefore edges
-ordered_by [] is = tt
-ordered_by (edge ∷ edges) is = let parts = and_parts (all_before edge edges) (are_ordered edges) is in (each_before edge edges parts.0, ordered_by edges parts.1)
-
-in_order : are_ordered edges ≡ true
-in_order = refl
+use Rattle.tests_worked.proofs.Worked.{attributes, blocks, delay, diagram, edges, initial, input, known, output, periods, product, transition, types, widths}
 
 -- ---- it is well formed
 p_driven : AreDrivenOnce edges 2 2
@@ -93,49 +60,12 @@ delay_readable = record { ports = (refl, refl); parameters = ((lit≤ tt, lit≤
 output_readable : (path : List ℕ) (number : ℕ) → 1 ≤ number → number ≤ 20000 → IsReadable (output path number)
 output_readable path number low high = record { ports = (refl, refl); parameters = (low, high); types = tt; result = tt; rounding = (refl, refl); period = tt }
 
--- the numbers 1 and 2, each once
-one_and_two : AreNumbered (1 ∷ 2 ∷ [])
-one_and_two = record {
-  within = all_of (λ (number : ℕ). (1 ≤ number) × (number ≤ 2)) (1 ∷ 2 ∷ []) ((lit≤ tt, lit≤ tt), ((lit≤ tt, lit≤ tt), tt));
-  distinct = pairs_of (λ (number other : ℕ). number ≢ other) (1 ∷ 2 ∷ []) ((λ e. absurd (omega (arith, e)), tt), (tt, tt));
-}
-
 wired : IsWired diagram
 wired = record {
   size = lit≤ tt;
-  edges = all_of (Joins blocks) edges (
-    record { source = (lit≤ tt, lit≤ tt); target = (lit≤ tt, lit≤ tt) },
-    (
-      record { source = (lit≤ tt, lit≤ tt); target = (lit≤ tt, lit≤ tt) },
-      (
-        record { source = (lit≤ tt, lit≤ tt); target = (lit≤ tt, lit≤ tt) },
-        (
-          record { source = (lit≤ tt, lit≤ tt); target = (lit≤ tt, lit≤ tt) },
-          (
-            record { source = (lit≤ tt, lit≤ tt); target = (lit≤ tt, lit≤ tt) },
-            (
-              record { source = (lit≤ tt, lit≤ tt); target = (lit≤ tt, lit≤ tt) },
-              (
-                record { source = (lit≤ tt, lit≤ tt); target = (lit≤ tt, lit≤ tt) },
-                (
-                  record { source = (lit≤ tt, lit≤ tt); target = (lit≤ tt, lit≤ tt) },
-                  (
-                    record { source = (lit≤ tt, lit≤ tt); target = (lit≤ tt, lit≤ tt) },
-                    (
-                      record { source = (lit≤ tt, lit≤ tt); target = (lit≤ tt, lit≤ tt) },
-                      tt,
-                    ),
-                  ),
-                ),
-              ),
-            ),
-          ),
-        ),
-      ),
-    ),
-  );
+  edges = all_join blocks edges refl;
   driven = λ block port b at. driven block b at port;
-  ordered = pairs_of StandsBefore edges (ordered_by edges in_order);
+  ordered = in_order edges refl;
   blocks = all_of IsReadable blocks (
     input_readable (codes "a") 1 (lit≤ tt) (lit≤ tt),
     (
@@ -166,8 +96,8 @@ wired = record {
   );
   controls = all_of (λ (block : Block). NamesControl blocks block.enable) blocks (tt, (tt, (tt, (tt, (tt, (tt, (tt, (tt, (tt, tt)))))))));
   enables = all_of (λ (block : Block). MayStand (row_of block.kind).place.stands block.enable) blocks (tt, (tt, (tt, (tt, (refl, (tt, (tt, (tt, (tt, tt)))))))));
-  inports = one_and_two;
-  outports = one_and_two;
+  inports = two_numbers;
+  outports = two_numbers;
 }
 
 -- ---- dimensions
@@ -195,14 +125,8 @@ dimensions_by = each_by (KeepsDimension diagram widths) blocks
     (record { settled = refl; within = λ some. three_fit; agrees = one_agrees; lists = λ k d below. absurd (omega arith); declared = inl refl })
     (record { settled = refl; within = λ some. three_fit; agrees = one_agrees; lists = λ k d below. absurd (omega arith); declared = inl refl })
 
-bounded_by : IsBounded diagram widths
-bounded_by = record { outputs = omega arith; inputs = omega arith; delays = omega arith }
-
 dimensions : KeepsDimensions diagram
-dimensions = record {
-  blocks = subst (λ (w : Widths). AllKeep diagram (KeepsDimension diagram w)) (sym widths_are) dimensions_by;
-  bounded = subst (λ (w : Widths). IsBounded diagram w) (sym widths_are) bounded_by;
-}
+dimensions = dimensions_kept diagram widths refl dimensions_by (record { outputs = omega arith; inputs = omega arith; delays = omega arith })
 
 -- ---- types
 two_known : All {X = Option FxType} IsSome (Some int8 ∷ Some int8 ∷ [])
@@ -244,19 +168,11 @@ agree_by = each_by (HasAgreeing diagram types) blocks
     (record { written = tt; inside = tt })
     (record { written = tt; inside = tt })
 
-types_kept : KeepsTypes diagram
-types_kept = record {
-  narrow = subst (λ (t : Types). AllKeep diagram (IsNotWide diagram t)) (sym types_are) narrow_by;
-  known = subst (λ (t : Types). AllKeep diagram (HasTypes diagram t)) (sym types_are) known_by;
-  agree = subst (λ (t : Types). AllKeep diagram (HasAgreeing diagram t)) (sym types_are) agree_by;
-}
-
 -- ---- rates: R has two base samples
 rates : KeepsRates diagram
-rates = record {
-  declared = each_by (KeepsDeclared diagram) blocks (1, lit≤ tt, refl) (1, lit≤ tt, refl) tt tt (2, lit≤ tt, refl) tt tt tt tt;
-  periods = subst (λ (p : List (Option ℕ)). AllKeep diagram (KeepsPeriods diagram p)) (sym periods_are) (each_by (KeepsPeriods diagram periods) blocks refl refl refl refl refl refl refl refl refl);
-}
+rates = rates_kept diagram periods refl
+    (each_by (KeepsDeclared diagram) blocks (1, lit≤ tt, refl) (1, lit≤ tt, refl) tt tt (2, lit≤ tt, refl) tt tt tt tt)
+    (each_by (KeepsPeriods diagram periods) blocks refl refl refl refl refl refl refl refl refl)
 
 -- ---- loops: all lines but the one into D, which reads before, lead to later blocks
 loops : KeepsLoop diagram (attributes_of diagram)
@@ -264,4 +180,4 @@ loops = subst (λ (a : Attributes). KeepsLoop diagram a) (sym known) (no_cycle d
 
 -- ---- all rules
 pub checked : IsChecked diagram
-checked = record { wired = wired; dimensions = dimensions; types = types_kept; rates = rates; loops = loops }
+checked = record { wired = wired; dimensions = dimensions; types = types_kept diagram types refl narrow_by known_by agree_by; rates = rates; loops = loops }
