@@ -41,7 +41,9 @@ pub fn accept(alloc: Global, bytes: &[u8]) -> Result<Checked, ModelFault>
         Err(MdlFault::Syntax { line }) => return Err(ModelFault::NotMdl { line }),
         Err(MdlFault::OutOfMemory) => return Err(ModelFault::OutOfMemory),
     };
-    let diagram = match diagram_of(alloc, &tree) {
+    let flat = diagram_of(alloc, &tree);
+    drop(tree);
+    let diagram = match flat {
         Ok(diagram) => diagram,
         Err(fault) => return Err(model_fault(fault, Blocks::new(alloc))),
     };
@@ -68,5 +70,7 @@ fn diagram_of(alloc: Global, tree: &Tree) -> Result<Diagram, CheckFault>
         ⊎ BreaksLines tree.now fault [])) }
 {
     let nested = build(alloc, tree)?;
-    flatten(alloc, &nested)
+    let flat = flatten(alloc, &nested);
+    drop(nested);
+    flat
 }
