@@ -94,8 +94,14 @@ fn judge_size(
 {
     match check_size(checked, plan, latencies, slots.ready.as_slice()) {
         Ok(sizing) => judge_good(alloc, checked, plan, latencies, slots, sizing),
-        Err(SizeFault::Size { storage, latency }) => Ok(too_large(storage, latency)),
-        Err(SizeFault::OutOfMemory) => Err(OutOfMemory),
+        Err(SizeFault::Size { storage, latency }) => {
+            drop(slots);
+            Ok(too_large(storage, latency))
+        }
+        Err(SizeFault::OutOfMemory) => {
+            drop(slots);
+            Err(OutOfMemory)
+        }
     }
 }
 
@@ -159,10 +165,11 @@ pub fn found(
     let cycles = range.cycles(place);
     let multipliers = range.multipliers(place);
     let plan = without_pipelines(alloc, checked, cycles, multipliers)?;
-    let verdict = judge(alloc, checked, &plan, timed.at(cycles, multipliers))?;
+    let verdict = judge(alloc, checked, &plan, timed.at(cycles, multipliers));
+    drop(plan);
     Ok(Finding {
         cycles,
         multipliers,
-        verdict,
+        verdict: verdict?,
     })
 }

@@ -57,8 +57,9 @@ fn timed_by(
         (IsTimed checked.now.diagram (plain_plan checked.now.diagram cycles multipliers)) }
 {
     let plan = without_pipelines(alloc, checked, cycles, multipliers)?;
-    let timed = timed_of(alloc, checked, &plan)?;
-    Ok(timed)
+    let timed = timed_of(alloc, checked, &plan);
+    drop(plan);
+    timed
 }
 
 impl BySharing {

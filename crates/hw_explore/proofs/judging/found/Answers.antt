@@ -3,6 +3,6 @@ use Rattle.dg_model.specs.declared.resolved.Resolved.{Resolved}
 use Rattle.hw_explore.specs.inner.Timed.{IsTimed}
 use Rattle.hw_explore.proofs.judging.found.Goals as goal
 
-pub judge-requires-clause-timed : goal.judge-requires-clause-timed
-judge-requires-clause-timed c =
+pub judge-verdict-requires-clause-timed : goal.judge-verdict-requires-clause-timed
+judge-verdict-requires-clause-timed c =
     subst (λ (plan : Resolved). IsTimed c.args.checked.now.diagram plan c.at.result.now) (sym c.in_ok-plan.ensures.is) (c.at.ensures c.args.checked.now.diagram c.requires.timed)
