@@ -2,7 +2,7 @@ use Rattle.std.proofs.Common.{◌≡◌, ◌<◌, Bool, true, false, MatchBool, 
 use Rattle.std.specs.Int.{w128}
 use Rattle.std.proofs.lemmas.Int.{to_z-of_z}
 use Rattle.fx_type.specs.declared.kind.FxType.{FxType}
-use Rattle.fx_type.specs.FxType.{IsType}
+use Rattle.fx_type.specs.FxType.{IsType, InRange}
 use Rattle.fx_type.proofs.Ranges.{InRange-fits}
 use Rattle.dg_model.specs.declared.op.Op.{Op}
 use Rattle.dg_model.specs.Operation.{operation_of, type_of, value_of, HasArity, HasParameters, HasFullType, AreInRange, IsConverted, meets, Gives}
@@ -12,85 +12,62 @@ use Rattle.dg_blocks.proofs.operation.output.Goals as goal
 own : (types : List FxType) (inputs : List ℤ) (input : ℕ) → All IsType types → AreInRange types inputs → input < length types → to_z w128 (of_z w128 (value_of inputs input)) ≡ value_of inputs input
 own types inputs input valid values inside = to_z-of_z w128 _ (InRange-fits (type_of types input) (value_of inputs input) (valid input _ inside) (values.in_range input inside))
 
+-- its type and the number itself are those of an input
+read : (types : List FxType) (inputs : List ℤ) (input : ℕ) → All IsType types → AreInRange types inputs → input < length types → IsType (type_of types input) × InRange (type_of types input) (to_z w128 (of_z w128 (value_of inputs input)))
+read types inputs input valid values inside = (valid input _ inside, rw (own types inputs input valid values inside) (values.in_range input inside))
+
 pub times-requires : goal.times-requires
 times-requires c =
-    let types = c.args.call.now.types.now in
-    let inputs = c.args.inputs.now in
-    let one : length types ≡ 1 = subst (λ (op : Op). HasArity op (length types)) c.in-Gain.is c.requires.prepared.arity in
-    let x = own types inputs 0 c.requires.prepared.types c.requires.values (omega (arith, one)) in
-    let parameters = subst (λ (op : Op). HasParameters op types) c.in-Gain.is c.requires.prepared.parameters in
+    let one : length c.args.call.now.types.now ≡ 1 = subst (λ (op : Op). HasArity op (length c.args.call.now.types.now)) c.in-Gain.is c.requires.prepared.arity in
+    let x = read c.args.call.now.types.now c.args.inputs.now 0 c.requires.prepared.types c.requires.values (omega (arith, one)) in
+    let parameters = subst (λ (op : Op). HasParameters op c.args.call.now.types.now) c.in-Gain.is c.requires.prepared.parameters in
     let y = to_z-of_z w128 c.in-Gain.coefficient (InRange-fits c.in-Gain.param c.in-Gain.coefficient parameters.0 parameters.1) in
     record {
-      left = c.requires.prepared.types 0 _ (omega (arith, one));
+      left = x.0;
       right = parameters.0;
-      x_in_range = rw x (c.requires.values.in_range 0 (omega (arith, one)));
+      x_in_range = x.1;
       y_in_range = rw y parameters.1;
-      full = subst (λ (op : Op). HasFullType op c.args.call.now.signs.now types) c.in-Gain.is c.requires.prepared.full_type;
+      full = subst (λ (op : Op). HasFullType op c.args.call.now.signs.now c.args.call.now.types.now) c.in-Gain.is c.requires.prepared.full_type;
       result = c.requires.prepared.result;
     }
 
 pub times-requires-in-Product : goal.times-requires-in-Product
 times-requires-in-Product c =
-    let types = c.args.call.now.types.now in
-    let inputs = c.args.inputs.now in
-    let two : length types ≡ 2 = subst (λ (op : Op). HasArity op (length types)) c.in-Product.is c.requires.prepared.arity in
-    let x = own types inputs 0 c.requires.prepared.types c.requires.values (omega (arith, two)) in
-    let y = own types inputs 1 c.requires.prepared.types c.requires.values (omega (arith, two)) in
-    record {
-      left = c.requires.prepared.types 0 _ (omega (arith, two));
-      right = c.requires.prepared.types 1 _ (omega (arith, two));
-      x_in_range = rw x (c.requires.values.in_range 0 (omega (arith, two)));
-      y_in_range = rw y (c.requires.values.in_range 1 (omega (arith, two)));
-      full = subst (λ (op : Op). HasFullType op c.args.call.now.signs.now types) c.in-Product.is c.requires.prepared.full_type;
-      result = c.requires.prepared.result;
-    }
+    let two : length c.args.call.now.types.now ≡ 2 = subst (λ (op : Op). HasArity op (length c.args.call.now.types.now)) c.in-Product.is c.requires.prepared.arity in
+    let x = read c.args.call.now.types.now c.args.inputs.now 0 c.requires.prepared.types c.requires.values (omega (arith, two)) in
+    let y = read c.args.call.now.types.now c.args.inputs.now 1 c.requires.prepared.types c.requires.values (omega (arith, two)) in
+    record { left = x.0; right = y.0; x_in_range = x.1; y_in_range = y.1; full = subst (λ (op : Op). HasFullType op c.args.call.now.signs.now c.args.call.now.types.now) c.in-Product.is c.requires.prepared.full_type; result = c.requires.prepared.result }
 
 pub compares_values-requires : goal.compares_values-requires
 compares_values-requires c =
-    let types = c.args.call.now.types.now in
-    let inputs = c.args.inputs.now in
-    let two : length types ≡ 2 = subst (λ (op : Op). HasArity op (length types)) c.in-Relational.is c.requires.prepared.arity in
-    let x = own types inputs 0 c.requires.prepared.types c.requires.values (omega (arith, two)) in
-    let y = own types inputs 1 c.requires.prepared.types c.requires.values (omega (arith, two)) in
-    record {
-      left = c.requires.prepared.types 0 _ (omega (arith, two));
-      right = c.requires.prepared.types 1 _ (omega (arith, two));
-      x_in_range = rw x (c.requires.values.in_range 0 (omega (arith, two)));
-      y_in_range = rw y (c.requires.values.in_range 1 (omega (arith, two)));
-      union = subst (λ (op : Op). HasFullType op c.args.call.now.signs.now types) c.in-Relational.is c.requires.prepared.full_type;
-    }
+    let two : length c.args.call.now.types.now ≡ 2 = subst (λ (op : Op). HasArity op (length c.args.call.now.types.now)) c.in-Relational.is c.requires.prepared.arity in
+    let x = read c.args.call.now.types.now c.args.inputs.now 0 c.requires.prepared.types c.requires.values (omega (arith, two)) in
+    let y = read c.args.call.now.types.now c.args.inputs.now 1 c.requires.prepared.types c.requires.values (omega (arith, two)) in
+    record { left = x.0; right = y.0; x_in_range = x.1; y_in_range = y.1; union = subst (λ (op : Op). HasFullType op c.args.call.now.signs.now c.args.call.now.types.now) c.in-Relational.is c.requires.prepared.full_type }
 
 pub converted-requires : goal.converted-requires
 converted-requires c =
-    let types = c.args.call.now.types.now in
-    let inputs = c.args.inputs.now in
-    let three : length types ≡ 3 = subst (λ (op : Op). HasArity op (length types)) c.in-Switch.is c.requires.prepared.arity in
-    let x = own types inputs 0 c.requires.prepared.types c.requires.values (omega (arith, three)) in
-    record { from = c.requires.prepared.types 0 _ (omega (arith, three)); in_range = rw x (c.requires.values.in_range 0 (omega (arith, three))); result = c.requires.prepared.result }
+    let three : length c.args.call.now.types.now ≡ 3 = subst (λ (op : Op). HasArity op (length c.args.call.now.types.now)) c.in-Switch.is c.requires.prepared.arity in
+    let x = read c.args.call.now.types.now c.args.inputs.now 0 c.requires.prepared.types c.requires.values (omega (arith, three)) in
+    record { from = x.0; in_range = x.1; result = c.requires.prepared.result }
 
 pub converted-requires-else-meets : goal.converted-requires-else-meets
 converted-requires-else-meets c =
-    let types = c.args.call.now.types.now in
-    let inputs = c.args.inputs.now in
-    let three : length types ≡ 3 = subst (λ (op : Op). HasArity op (length types)) c.in-Switch.is c.requires.prepared.arity in
-    let x = own types inputs 2 c.requires.prepared.types c.requires.values (omega (arith, three)) in
-    record { from = c.requires.prepared.types 2 _ (omega (arith, three)); in_range = rw x (c.requires.values.in_range 2 (omega (arith, three))); result = c.requires.prepared.result }
+    let three : length c.args.call.now.types.now ≡ 3 = subst (λ (op : Op). HasArity op (length c.args.call.now.types.now)) c.in-Switch.is c.requires.prepared.arity in
+    let x = read c.args.call.now.types.now c.args.inputs.now 2 c.requires.prepared.types c.requires.values (omega (arith, three)) in
+    record { from = x.0; in_range = x.1; result = c.requires.prepared.result }
 
 pub converted-requires-in-Convert-false : goal.converted-requires-in-Convert-false
 converted-requires-in-Convert-false c =
-    let types = c.args.call.now.types.now in
-    let inputs = c.args.inputs.now in
-    let one : length types ≡ 1 = subst (λ (op : Op). HasArity op (length types)) c.in-Convert-false.is c.requires.prepared.arity in
-    let x = own types inputs 0 c.requires.prepared.types c.requires.values (omega (arith, one)) in
-    record { from = c.requires.prepared.types 0 _ (omega (arith, one)); in_range = rw x (c.requires.values.in_range 0 (omega (arith, one))); result = c.requires.prepared.result }
+    let one : length c.args.call.now.types.now ≡ 1 = subst (λ (op : Op). HasArity op (length c.args.call.now.types.now)) c.in-Convert-false.is c.requires.prepared.arity in
+    let x = read c.args.call.now.types.now c.args.inputs.now 0 c.requires.prepared.types c.requires.values (omega (arith, one)) in
+    record { from = x.0; in_range = x.1; result = c.requires.prepared.result }
 
 pub stored_converted-requires : goal.stored_converted-requires
 stored_converted-requires c =
-    let types = c.args.call.now.types.now in
-    let inputs = c.args.inputs.now in
-    let one : length types ≡ 1 = subst (λ (op : Op). HasArity op (length types)) c.in-Convert-true.is c.requires.prepared.arity in
-    let x = own types inputs 0 c.requires.prepared.types c.requires.values (omega (arith, one)) in
-    record { from = c.requires.prepared.types 0 _ (omega (arith, one)); in_range = rw x (c.requires.values.in_range 0 (omega (arith, one))); result = c.requires.prepared.result }
+    let one : length c.args.call.now.types.now ≡ 1 = subst (λ (op : Op). HasArity op (length c.args.call.now.types.now)) c.in-Convert-true.is c.requires.prepared.arity in
+    let x = read c.args.call.now.types.now c.args.inputs.now 0 c.requires.prepared.types c.requires.values (omega (arith, one)) in
+    record { from = x.0; in_range = x.1; result = c.requires.prepared.result }
 
 pub returns-in-Sum : goal.returns-in-Sum
 returns-in-Sum c =
