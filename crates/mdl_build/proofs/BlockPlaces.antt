@@ -24,6 +24,8 @@ block_of items number place at =
     }
 
 -- the same, of the list that the code keeps
+pub listed : (items : List Item) (places : List ℕ) (number d : ℕ) → places ≡ blocks_of items → number < length places → slice_get (blocks_of items) number ≡ Some (get_or places number d)
+listed items places number d e below = ap (λ (list : List ℕ). slice_get list number) (sym e) ∙ slice_get-get_or places number d below
+
 pub block_here : (items : List Item) (places : List ℕ) (number d : ℕ) → places ≡ blocks_of items → number < length places → IsBlockOf items number (get_or places number d)
-block_here items places number d e below =
-    block_of items number (get_or places number d) (ap (λ (list : List ℕ). slice_get list number) (sym e) ∙ slice_get-get_or places number d below)
+block_here items places number d e below = block_of items number (get_or places number d) (listed items places number d e below)

@@ -255,3 +255,7 @@ pub role_here : (items : List Item) (roles : List Role) (place : ℕ) (d : Role)
 role_here items roles place d e below =
     let f : 0 + place ≡ place = omega arith in
     sym (ap (λ (list : List Role). get_or list place d) e ∙ get_or-map-range_with_len (role_of items) 0 (length items) place place d below f)
+
+-- an item has the role that stands at its place in the list
+pub role_listed : (items : List Item) (roles : List Role) (place : ℕ) (d : Role) → roles ≡ roles_of items → place < length roles → role_of items place ≡ get_or roles place d
+role_listed items roles place d e inside = role_here items roles place d e (omega (arith, inside, roles_long items roles e))

@@ -105,7 +105,10 @@ pub fn read_block<'a>(
     let mut settings = Settings::unset(alloc);
     for (number, parameter) in parameters(block_type).iter().enumerate() {
         match read_parameter(alloc, layout, place, single, *parameter, defaults[number])? {
-            None => return Ok(Reading::Wrong(parameter.name())),
+            None => {
+                drop(settings);
+                return Ok(Reading::Wrong(parameter.name()));
+            }
             Some(setting) => settings.put(setting),
         }
     }

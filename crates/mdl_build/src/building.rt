@@ -1,15 +1,15 @@
 //! The blocks and lines of a tree, or the first broken rule.
-ghost use Rattle.std.specs.Prelude.{◌≡◌, None, IfOk, IfErr};
+ghost use Rattle.std.specs.Prelude.{◌≡◌, None, IfOk, IfErr, OnOk};
 ghost use Rattle.std.specs.List.{AllZip};
 ghost use Rattle.dg_model.specs.Faults.{IsRefusal};
 ghost use Rattle.dg_model.specs.Sound.{IsSound};
 ghost use Rattle.mdl_build.specs.Nested.{IsBlockAt, IsNestedOf};
 ghost use Rattle.mdl_build.specs.Roles.{blocks_of};
 ghost use Rattle.mdl_build.specs.Rules.{structure_fault, library_fault, IsWrongFirst, Breaks};
-ghost use Rattle.mdl_build.specs.inner.Known.{IsKnown};
+ghost use Rattle.mdl_build.specs.inner.Known.{IsKnown, BreaksNext};
 ghost use Rattle.mdl_build.specs.inner.Makers.{IsMaker, items_of};
 
-use crate::known::{Known, structure_of};
+use crate::known::{Known, Structured, structure_of};
 use crate::making::{Maker, text_or_empty};
 use crate::structure::{first_unknown, type_at};
 use dg_model::{CheckFault, Nested, NestedBlocks, Rule, RuleFault};
@@ -50,6 +50,24 @@ fn blocks(alloc: Global, maker: &Maker) -> Result<NestedBlocks, CheckFault>
     Ok(blocks)
 }
 
+/// The blocks of a tree that keeps the rule of structure.
+fn known_blocks(alloc: Global, known: &Known) -> Result<NestedBlocks, CheckFault>
+    requires known { IsKnown known.now }
+    requires structured { structure_fault known.now.layout.items.now ≡ None }
+    ensures known { OnOk result (library_fault known.now.layout.items.now ≡ None) }
+    ensures ok { IfOk result (AllZip (IsBlockAt known.now.layout.items.now)
+        (blocks_of known.now.layout.items.now)) }
+    ensures err { IfErr result (IsRefusal (BreaksNext known.now.layout.items.now)) }
+{
+    if let Some(fault) = library_fault(alloc, known)? {
+        return Err(CheckFault::Broken(fault));
+    }
+    let maker = Maker::new(alloc, known)?;
+    let blocks = blocks(alloc, &maker);
+    drop(maker);
+    blocks
+}
+
 /// The blocks and lines of a tree. Source: Simulink reference, model files.
 ///
 /// # Errors
@@ -59,15 +77,11 @@ pub fn build(alloc: Global, tree: &Tree) -> Result<Nested, CheckFault>
     ensures ok { IfOk result (λ nested. IsNestedOf tree.now nested × IsSound nested) }
     ensures err { IfErr result (IsRefusal (Breaks tree.now)) }
 {
-    let structured = structure_of(alloc, tree.items.as_slice())?;
-    if let Some(fault) = library_fault(alloc, &structured.known)? {
-        return Err(CheckFault::Broken(fault));
-    }
-    let maker = Maker::new(alloc, &structured.known)?;
-    let blocks = blocks(alloc, &maker)?;
-    drop(maker);
+    let Structured { known, lines } = structure_of(alloc, tree.items.as_slice())?;
+    let blocks = known_blocks(alloc, &known);
+    drop(known);
     Ok(Nested {
-        blocks,
-        lines: structured.lines,
+        blocks: blocks?,
+        lines,
     })
 }

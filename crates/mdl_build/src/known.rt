@@ -67,10 +67,7 @@ fn known_of<'a>(alloc: Global, items: &'a [Item]) -> Result<Option<Known<'a>>, O
 {
     let layout = Layout::new(alloc, items)?;
     let roles = roles(alloc, &layout)?;
-    if !has_root(&roles) {
-        return Ok(None);
-    }
-    if !are_shallow(&roles) {
+    if !has_root(&roles) || !are_shallow(&roles) {
         return Ok(None);
     }
     match Blocks::new(alloc, &layout, &roles)? {

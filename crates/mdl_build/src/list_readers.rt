@@ -8,60 +8,14 @@ use crate::settings::Setting;
 use dg_model::Decimals;
 use fx_io::{OutOfMemory, Sizes};
 use fx_type::Decimal;
-use mdl_values::{
-    read_constant_time, read_list, read_number, read_period, read_sample_time, read_signs,
-    read_sizes, read_width,
-};
+use mdl_values::{read_list, read_number, read_signs, read_sizes};
 use std::alloc::Global;
-
-/// A declared width.
-pub fn width(alloc: Global, text: &[u8]) -> Result<Option<Setting>, OutOfMemory>
-    ensures { IfOk result (λ found. Finds (ReadsAs false Reader.Width [] text.now) found) }
-{
-    match read_width(alloc, text)? {
-        None => Ok(None),
-        Some(width) => Ok(Some(Setting::Width(width))),
-    }
-}
-
-/// A sample time.
-pub fn sample_time(alloc: Global, text: &[u8]) -> Result<Option<Setting>, OutOfMemory>
-    ensures { IfOk result (λ found. Finds (ReadsAs false Reader.SampleTime [] text.now) found) }
-{
-    match read_sample_time(alloc, text)? {
-        None => Ok(None),
-        Some(period) => Ok(Some(Setting::Period(period))),
-    }
-}
-
-/// The sample time of a constant.
-pub fn constant_time(alloc: Global, text: &[u8]) -> Result<Option<Setting>, OutOfMemory>
-    ensures { IfOk result (λ found. Finds (ReadsAs false Reader.ConstantTime [] text.now) found) }
-{
-    match read_constant_time(alloc, text)? {
-        None => Ok(None),
-        Some(period) => Ok(Some(Setting::Period(period))),
-    }
-}
-
-/// A period alone.
-pub fn rate(alloc: Global, text: &[u8]) -> Result<Option<Setting>, OutOfMemory>
-    ensures { IfOk result (λ found. Finds (ReadsAs false Reader.Period [] text.now) found) }
-{
-    match read_period(alloc, text)? {
-        None => Ok(None),
-        Some(period) => Ok(Some(Setting::Rate(period))),
-    }
-}
 
 /// A list.
 pub fn list(alloc: Global, text: &[u8]) -> Result<Option<Setting>, OutOfMemory>
     ensures { IfOk result (λ found. Finds (ReadsAs false Reader.List [] text.now) found) }
 {
-    match read_list(alloc, text)? {
-        None => Ok(None),
-        Some(list) => Ok(Some(Setting::List(list))),
-    }
+    Ok(read_list(alloc, text)?.map(Setting::List))
 }
 
 /// A list, or `[]`, which is 0.

@@ -57,8 +57,7 @@ fn in_part(standing: Standing, said: Said) -> Part
     let width = said.width;
     let block = match standing {
         Standing::Root => block_with(said, Kind::Inport { number, width }, 0, 1),
-        Standing::Plain => block_with(said, Kind::Pass { width }, 1, 1),
-        Standing::Enabled => block_with(said, Kind::Pass { width }, 1, 1),
+        Standing::Plain | Standing::Enabled => block_with(said, Kind::Pass { width }, 1, 1),
     };
     Part::In(block, number)
 }

@@ -6,10 +6,7 @@ ghost use Rattle.mdl_build.specs.Settings.{ReadsAs, IsTypeOr, IsTypeOrFirst};
 
 use crate::settings::Setting;
 use fx_type::TypeSpec;
-use mdl_values::{
-    read_criterion, read_gate, read_number, read_relation, read_reset, read_rounding, read_switch,
-    read_type,
-};
+use mdl_values::{read_number, read_type};
 
 /// The default alone.
 pub fn default_alone(text: &[u8], default: &[u8]) -> Option<Setting>
@@ -22,26 +19,6 @@ pub fn default_alone(text: &[u8], default: &[u8]) -> Option<Setting>
     }
 }
 
-/// A port's number.
-pub fn port(text: &[u8]) -> Option<Setting>
-    ensures { Finds (ReadsAs false Reader.Port [] text.now) result }
-{
-    match read_number(text, 1, 20000) {
-        None => None,
-        Some(number) => Some(Setting::Number(number)),
-    }
-}
-
-/// A length.
-pub fn length(text: &[u8]) -> Option<Setting>
-    ensures { Finds (ReadsAs false Reader.Length [] text.now) result }
-{
-    match read_number(text, 1, 1024) {
-        None => None,
-        Some(number) => Some(Setting::Number(number)),
-    }
-}
-
 /// A number of operands, which a gate of one input doesn't look at.
 pub fn operands(single: bool, text: &[u8]) -> Option<Setting>
     ensures { Finds (ReadsAs single Reader.Operands [] text.now) result }
@@ -49,10 +26,7 @@ pub fn operands(single: bool, text: &[u8]) -> Option<Setting>
     if single {
         return Some(Setting::Number(1));
     }
-    match read_number(text, 2, 32) {
-        None => None,
-        Some(number) => Some(Setting::Number(number)),
-    }
+    read_number(text, 2, 32).map(Setting::Number)
 }
 
 /// A type alone.
@@ -127,66 +101,6 @@ pub fn factors(text: &[u8]) -> Option<Setting>
         return Some(Setting::Unsaid);
     }
     None
-}
-
-/// A rounding.
-pub fn rounding(text: &[u8]) -> Option<Setting>
-    ensures { Finds (ReadsAs false Reader.Rounding [] text.now) result }
-{
-    match read_rounding(text) {
-        None => None,
-        Some(read) => Some(Setting::Rounding(read)),
-    }
-}
-
-/// `on` or `off`.
-pub fn saturation(text: &[u8]) -> Option<Setting>
-    ensures { Finds (ReadsAs false Reader.Saturation [] text.now) result }
-{
-    match read_switch(text) {
-        None => None,
-        Some(read) => Some(Setting::Saturate(read)),
-    }
-}
-
-/// `held` or `reset`.
-pub fn reset(text: &[u8]) -> Option<Setting>
-    ensures { Finds (ReadsAs false Reader.Reset [] text.now) result }
-{
-    match read_reset(text) {
-        None => None,
-        Some(read) => Some(Setting::Flag(read)),
-    }
-}
-
-/// What a Switch asks.
-pub fn criterion(text: &[u8]) -> Option<Setting>
-    ensures { Finds (ReadsAs false Reader.Criterion [] text.now) result }
-{
-    match read_criterion(text) {
-        None => None,
-        Some(read) => Some(Setting::Criterion(read)),
-    }
-}
-
-/// A relation.
-pub fn relation(text: &[u8]) -> Option<Setting>
-    ensures { Finds (ReadsAs false Reader.Relation [] text.now) result }
-{
-    match read_relation(text) {
-        None => None,
-        Some(read) => Some(Setting::Relation(read)),
-    }
-}
-
-/// A gate.
-pub fn gate(text: &[u8]) -> Option<Setting>
-    ensures { Finds (ReadsAs false Reader.Gate [] text.now) result }
-{
-    match read_gate(text) {
-        None => None,
-        Some(read) => Some(Setting::Gate(read)),
-    }
 }
 
 /// The default, or `Stored Integer (SI)`.

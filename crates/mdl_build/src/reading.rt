@@ -5,16 +5,18 @@ ghost use Rattle.mdl_build.specs.Library.{row_of};
 ghost use Rattle.mdl_build.specs.Settings.{ReadsAs};
 
 use crate::library::{Parameter, Reader};
-use crate::list_readers::{
-    constant_time, list, list_or_empty, parts, rate, sample_time, signs, width,
-};
+use crate::list_readers::{list, list_or_empty, parts, signs};
 use crate::plain_readers::{
-    coefficient, conversion, criterion, default_alone, factors, gate, length, operands, port,
-    relation, reset, rounding, saturation, truth, type_alone, type_or, type_or_first,
+    coefficient, conversion, default_alone, factors, operands, truth, type_alone, type_or,
+    type_or_first,
 };
 use crate::settings::Setting;
 use fx_io::OutOfMemory;
 use fx_type::TypeSpec;
+use mdl_values::{
+    read_constant_time, read_criterion, read_gate, read_number, read_period, read_relation,
+    read_reset, read_rounding, read_sample_time, read_switch, read_width,
+};
 use std::alloc::Global;
 
 /// Reads the value of a parameter. `single` says that the block is a gate of one input, which doesn't
@@ -31,9 +33,9 @@ pub fn read_setting(
     let default = parameter.default().as_bytes();
     match parameter.reader() {
         Reader::Default => Ok(default_alone(text, default)),
-        Reader::Port => Ok(port(text)),
-        Reader::Width => width(alloc, text),
-        Reader::Length => Ok(length(text)),
+        Reader::Port => Ok(read_number(text, 1, 20000).map(Setting::Number)),
+        Reader::Width => Ok(read_width(alloc, text)?.map(Setting::Width)),
+        Reader::Length => Ok(read_number(text, 1, 1024).map(Setting::Number)),
         Reader::Operands => Ok(operands(single, text)),
         Reader::TypeOrAuto => Ok(type_or(text, default, TypeSpec::Auto)),
         Reader::TypeOrFirst => Ok(type_or_first(text, default, b"Inherit: Same as first input")),
@@ -41,20 +43,20 @@ pub fn read_setting(
         Reader::CoefficientType => Ok(coefficient(text, default)),
         Reader::Type => Ok(type_alone(text)),
         Reader::Truth => Ok(truth(text, default)),
-        Reader::SampleTime => sample_time(alloc, text),
-        Reader::ConstantTime => constant_time(alloc, text),
-        Reader::Period => rate(alloc, text),
+        Reader::SampleTime => Ok(read_sample_time(alloc, text)?.map(Setting::Period)),
+        Reader::ConstantTime => Ok(read_constant_time(alloc, text)?.map(Setting::Period)),
+        Reader::Period => Ok(read_period(alloc, text)?.map(Setting::Rate)),
         Reader::List => list(alloc, text),
         Reader::ListOrEmpty => list_or_empty(alloc, text),
         Reader::Signs => signs(alloc, text),
         Reader::Factors => Ok(factors(text)),
         Reader::Parts => parts(alloc, text),
-        Reader::Rounding => Ok(rounding(text)),
-        Reader::Saturation => Ok(saturation(text)),
-        Reader::Reset => Ok(reset(text)),
-        Reader::Criterion => Ok(criterion(text)),
-        Reader::Relation => Ok(relation(text)),
-        Reader::Gate => Ok(gate(text)),
+        Reader::Rounding => Ok(read_rounding(text).map(Setting::Rounding)),
+        Reader::Saturation => Ok(read_switch(text).map(Setting::Saturate)),
+        Reader::Reset => Ok(read_reset(text).map(Setting::Flag)),
+        Reader::Criterion => Ok(read_criterion(text).map(Setting::Criterion)),
+        Reader::Relation => Ok(read_relation(text).map(Setting::Relation)),
+        Reader::Gate => Ok(read_gate(text).map(Setting::Gate)),
         Reader::Conversion => Ok(conversion(text, default)),
     }
 }

@@ -125,15 +125,8 @@ impl Settings {
     pub fn into_said(self) -> Said
         ensures { result ≡ self.said }
     {
-        let Settings {
-            said,
-            list,
-            signs,
-            sizes,
-        } = self;
-        drop(list);
-        drop(signs);
-        drop(sizes);
+        let said = self.said;
+        drop(self);
         said
     }
 

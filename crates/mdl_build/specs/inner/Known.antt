@@ -1,5 +1,5 @@
 -- What is known of the items of a tree (own).
-use Rattle.std.specs.Prelude.{◌≡◌, ℕ, ◌<◌, ◌≤◌, ◌==◌, ◌&&◌, nat_le, Bool, true, false, List, length, slice_get, slice_index, slice_index_or, Some, None}
+use Rattle.std.specs.Prelude.{◌≡◌, ℕ, ◌<◌, ◌≤◌, ◌==◌, ◌&&◌, ◌⊎◌, nat_le, Bool, true, false, List, length, slice_get, slice_index, slice_index_or, Some, None}
 use Rattle.std.specs.List.{list_any}
 use Rattle.dg_model.specs.declared.fault.RuleFault.{RuleFault}
 use Rattle.dg_model.specs.declared.fault.Shown.TheVariants.{Word}
@@ -14,7 +14,7 @@ use Rattle.mdl_build.specs.Blocks.{at, is_of, number_at, path_of}
 use Rattle.mdl_build.specs.Library.{parameters_of}
 use Rattle.mdl_build.specs.Lines.{lines_of}
 use Rattle.mdl_build.specs.Roles.{role_of, roles_of, is_block, blocks_of}
-use Rattle.mdl_build.specs.Rules.{has_root, are_shallow, structure_fault, IsFirstWrong}
+use Rattle.mdl_build.specs.Rules.{has_root, are_shallow, structure_fault, library_fault, IsFirstWrong, IsWrongFirst}
 use Rattle.mdl_build.specs.Sections.{holder_of}
 use Rattle.mdl_build.specs.inner.Names.{AreBlocks}
 
@@ -59,3 +59,7 @@ pub record IsWrongAt (items : List Item) (block_type : BlockType) (place : ℕ) 
   pub name : List ℕ
   pub wrong : IsFirstWrong items block_type place (parameters_of block_type) name
   pub fault_is : fault ≡ fault_of Rule.Parameter (path_of items place) (Word name)
+
+-- the first broken rule of items that keep the rule of structure
+abbrev pub BreaksNext : List Item → RuleFault → Type 0
+BreaksNext items fault = (library_fault items ≡ Some fault) ⊎ ((library_fault items ≡ None) × IsWrongFirst items fault)

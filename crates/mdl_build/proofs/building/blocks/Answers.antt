@@ -1,12 +1,9 @@
-use Rattle.std.proofs.Common.{◌≡◌, ℕ, ◌+◌, subst, List, length, get_or, Some, sym, ap, ◌∙◌, arith}
-use Rattle.std.specs.Prelude.{slice_get}
-use Rattle.std.proofs.lemmas.Option.{slice_get-get_or}
+use Rattle.std.proofs.Common.{◌≡◌, ◌+◌, subst, length, get_or, Some, sym, ap, ◌∙◌, arith}
 use Rattle.std.proofs.lemmas.Result.{err_from_is_err_and}
-use Rattle.mdl_build.specs.Roles.{blocks_of}
 use Rattle.mdl_build.specs.Rules.{IsWrongFirst, type_at}
 use Rattle.mdl_build.specs.inner.Known.{IsWrongAt}
 use Rattle.mdl_build.specs.inner.Makers.{AreMade, items_of}
-use Rattle.mdl_build.proofs.BlockPlaces.{block_here}
+use Rattle.mdl_build.proofs.BlockPlaces.{listed, block_here}
 use Rattle.mdl_build.proofs.KnownLemmas.{structure_kept, name_kept, type_kept}
 use Rattle.dg_model.proofs.Refused.{refused_as}
 use Rattle.mdl_build.proofs.MakingLemmas.{made_next, made_all, wrong_first}
@@ -21,8 +18,7 @@ returns-in_default-clause-ok c =
     let items = items_of c.args.maker.now in
     let k = c.loop-place.place-index in
     let places = c.places-place-items.result.now in
-    let at : slice_get (blocks_of items) k ≡ Some (get_or places k 0) =
-    ap (λ (list : List ℕ). slice_get list k) (sym (c.places-place-items.ensures ∙ c.requires.maker.known.blocks.places)) ∙ slice_get-get_or places k 0 c.loop-place-test.true in
+    let at = listed items places k 0 (c.places-place-items.ensures ∙ c.requires.maker.known.blocks.places) c.loop-place-test.true in
     absurd (type_kept items c.requires.known k (get_or places k 0) at (sym c.type_at.ensures ∙ c.in_default.is))
 
 pub block-requires-clause-counts : goal.block-requires-clause-counts
@@ -34,8 +30,7 @@ block-requires-clause-named c =
     let items = items_of c.args.maker.now in
     let k = c.loop-place.place-index in
     let places = c.places-place-items.result.now in
-    let at : slice_get (blocks_of items) k ≡ Some (get_or places k 0) =
-    ap (λ (list : List ℕ). slice_get list k) (sym (c.places-place-items.ensures ∙ c.requires.maker.known.blocks.places)) ∙ slice_get-get_or places k 0 c.loop-place-test.true in
+    let at = listed items places k 0 (c.places-place-items.ensures ∙ c.requires.maker.known.blocks.places) c.loop-place-test.true in
     name_kept items (get_or places k 0) (structure_kept items c.requires.structured k (get_or places k 0) at)
 
 pub returns-in_err-block-clause-err : goal.returns-in_err-block-clause-err
@@ -43,8 +38,7 @@ returns-in_err-block-clause-err c =
     let items = items_of c.args.maker.now in
     let k = c.loop-place.place-index in
     let places = c.places-place-items.result.now in
-    let at : slice_get (blocks_of items) k ≡ Some (get_or places k 0) =
-    ap (λ (list : List ℕ). slice_get list k) (sym (c.places-place-items.ensures ∙ c.requires.maker.known.blocks.places)) ∙ slice_get-get_or places k 0 c.loop-place-test.true in
+    let at = listed items places k 0 (c.places-place-items.ensures ∙ c.requires.maker.known.blocks.places) c.loop-place-test.true in
     let typed : type_at items (get_or places k 0) ≡ Some c.in-Some.block_type = sym c.type_at.ensures ∙ c.in-Some.is in
     let p = err_from_is_err_and c.from_residual.result c.from_residual.ensures.1 in
     rw (p.1, p.2) (refused_as (IsWrongAt items c.in-Some.block_type (get_or places k 0)) (IsWrongFirst items) c.in_err-block.field-0.0
@@ -55,8 +49,7 @@ loop-place-preserved c =
     let items = items_of c.args.maker.now in
     let k = c.loop-place.place-index in
     let places = c.places-place-items.result.now in
-    let at : slice_get (blocks_of items) k ≡ Some (get_or places k 0) =
-    ap (λ (list : List ℕ). slice_get list k) (sym (c.places-place-items.ensures ∙ c.requires.maker.known.blocks.places)) ∙ slice_get-get_or places k 0 c.loop-place-test.true in
+    let at = listed items places k 0 (c.places-place-items.ensures ∙ c.requires.maker.known.blocks.places) c.loop-place-test.true in
     subst (AreMade items (k + 1)) (sym c.in_ok-push.ensures.appended) (made_next items k (get_or places k 0) c.loop-place.blocks c.in_ok-block.block at c.loop-place.invariant c.in_ok-block.ensures.ok)
 
 pub returns-clause-ok : goal.returns-clause-ok
@@ -64,3 +57,10 @@ returns-clause-ok c =
     let items = items_of c.args.maker.now in
     made_all items c.loop-place.place-index c.loop-place.blocks
     (omega (arith, c.loop-place-test.false, c.loop-place.auto.place-index-end, ap length (c.places-place-items.ensures ∙ c.requires.maker.known.blocks.places))) c.loop-place.invariant
+
+pub block-requires-clause-within : goal.block-requires-clause-within
+block-requires-clause-within c =
+    (block_here (items_of c.args.maker.now) c.places-place-items.result.now c.loop-place.place-index 0 (c.places-place-items.ensures ∙ c.requires.maker.known.blocks.places) c.loop-place-test.true).within
+
+pub block-requires-clause-typed : goal.block-requires-clause-typed
+block-requires-clause-typed c = sym c.type_at.ensures ∙ c.in-Some.is

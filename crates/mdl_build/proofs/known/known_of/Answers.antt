@@ -12,7 +12,7 @@ returns-clause-sizes c =
     let roles_are = c.in_ok-roles.ensures ∙ ap roles_of c.in_ok-layout.ensures in
     sizes_kept c.args.items.now
     (ap has_root (sym (c.deref.ensures.value ∙ roles_are)) ∙ sym c.has_root.ensures ∙ c.if-not-has_root.false)
-    (ap are_shallow (sym (c.deref-2.ensures.value ∙ roles_are)) ∙ sym c.are_shallow.ensures ∙ c.if-not-are_shallow.false)
+    (ap are_shallow (sym (c.deref-else-not-has_root.ensures.value ∙ roles_are)) ∙ sym c.are_shallow.ensures ∙ c.if-not-are_shallow.false)
     (subst (λ (items : List Item). length (blocks_of items) ≤ 20000) c.in_ok-layout.ensures are.few)
 
 pub returns-clause-known : goal.returns-clause-known

@@ -4,7 +4,7 @@ use Rattle.mdl_build.specs.declared.roles.Role.TheVariants.{Other}
 use Rattle.mdl_build.specs.Lines.{keeps_line, line_at}
 use Rattle.mdl_build.specs.inner.Lines.{are_joined_before, lines_before, line_list}
 use Rattle.mdl_build.proofs.LineLemmas.{lines_next, joined_next, joined_fails}
-use Rattle.mdl_build.proofs.RoleLemmas.{roles_long, role_here}
+use Rattle.mdl_build.proofs.RoleLemmas.{roles_long, role_listed}
 use Rattle.mdl_build.proofs.lines.lines.Goals as goal
 
 pub add_line-requires-clause-within : goal.add_line-requires-clause-within
@@ -12,23 +12,21 @@ add_line-requires-clause-within c = omega (arith, c.loop-place-test.true, roles_
 
 pub add_line-requires-clause-role : goal.add_line-requires-clause-role
 add_line-requires-clause-role c =
-    role_here c.args.layout.now.items.now c.args.roles.now c.loop-place.place Other c.requires.roles
-    (omega (arith, c.loop-place-test.true, roles_long c.args.layout.now.items.now c.args.roles.now c.requires.roles))
+    role_listed c.args.layout.now.items.now c.args.roles.now c.loop-place.place Other c.requires.roles c.loop-place-test.true
 
 pub returns-then-not-branch-clause-joined : goal.returns-then-not-branch-clause-joined
 returns-then-not-branch-clause-joined c =
     let items = c.args.layout.now.items.now in
     let place = c.loop-place.place in
     let below : place < length items = omega (arith, c.loop-place-test.true, roles_long items c.args.roles.now c.requires.roles) in
-    let role_is = role_here items c.args.roles.now place Other c.requires.roles below in
+    let role_is = role_listed items c.args.roles.now place Other c.requires.roles c.loop-place-test.true in
     joined_fails items place below (ap (keeps_line items place) role_is ∙ sym c.in_ok-add_line.ensures.joined ∙ c.if-not-branch.true)
 
 pub loop-place-preserved : goal.loop-place-preserved
 loop-place-preserved c =
     let items = c.args.layout.now.items.now in
     let place = c.loop-place.place in
-    let below : place < length items = omega (arith, c.loop-place-test.true, roles_long items c.args.roles.now c.requires.roles) in
-    let role_is = role_here items c.args.roles.now place Other c.requires.roles below in
+    let role_is = role_listed items c.args.roles.now place Other c.requires.roles c.loop-place-test.true in
     record {
       joined = joined_next items place c.loop-place.invariant.joined (ap (keeps_line items place) role_is ∙ sym c.in_ok-add_line.ensures.joined ∙ c.if-not-branch.false);
       lines =

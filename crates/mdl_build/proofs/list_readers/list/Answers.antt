@@ -1,4 +1,7 @@
+use Rattle.mdl_values.specs.Lists.{IsListText}
+use Rattle.mdl_build.specs.declared.settings.Setting.{Setting}
+use Rattle.mdl_build.proofs.Found.{found_in}
 use Rattle.mdl_build.proofs.list_readers.list.Goals as goal
 
-pub returns-in-None : goal.returns-in-None
-returns-in-None c = λ value given. (rw c.in-None.is at c.in_ok-read_list.ensures) given.0 given.1
+pub returns : goal.returns
+returns c = found_in (IsListText c.args.text.now) Setting.List c.in_ok-read_list.field-0 c.map.result c.map.ensures.cases c.in_ok-read_list.ensures

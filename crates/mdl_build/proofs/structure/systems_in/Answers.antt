@@ -1,7 +1,7 @@
 use Rattle.std.proofs.Common.{◌≡◌, length, subst, arith}
 use Rattle.mdl_build.specs.declared.roles.Role.TheVariants.{Other}
 use Rattle.mdl_build.specs.inner.Structure.{AreCounts}
-use Rattle.mdl_build.proofs.RoleLemmas.{roles_long, role_here}
+use Rattle.mdl_build.proofs.RoleLemmas.{roles_long, role_listed}
 use Rattle.mdl_build.proofs.structure.systems_in.Goals as goal
 
 pub add_system-requires-clause-within : goal.add_system-requires-clause-within
@@ -9,8 +9,7 @@ add_system-requires-clause-within c = omega (arith, c.loop-place-test.true, role
 
 pub add_system-requires-clause-role : goal.add_system-requires-clause-role
 add_system-requires-clause-role c =
-    role_here c.args.layout.now.items.now c.args.roles.now c.loop-place.place Other c.requires
-    (omega (arith, c.loop-place-test.true, roles_long c.args.layout.now.items.now c.args.roles.now c.requires))
+    role_listed c.args.layout.now.items.now c.args.roles.now c.loop-place.place Other c.requires c.loop-place-test.true
 
 pub returns : goal.returns
 returns c =
