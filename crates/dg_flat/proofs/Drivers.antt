@@ -14,6 +14,10 @@ use Rattle.dg_flat.proofs.Cells.{rows_set, rows_same}
 use Rattle.fx_io.proofs.Tests.{and_false}
 use Rattle.dg_flat.proofs.Firsts.{count_push}
 
+-- what is read where no line stands
+abbrev pub no_line : NestedLine
+no_line = record { from = 0; from_port = 0; to = 0; target = Port 0 }
+
 -- ---- drivers
 
 more_two : (n : ℕ) → one_more (min 2 n) ≡ min 2 (n + 1)

@@ -7,7 +7,6 @@ use Rattle.std.proofs.lemmas.List.Elements.{filter_map-append}
 use Rattle.dg_model.specs.declared.diagram.Block.{Block}
 use Rattle.dg_model.specs.declared.nested.NestedBlock.{NestedBlock}
 use Rattle.dg_model.specs.declared.nested.Part.{Part}
-use Rattle.dg_model.specs.declared.nested.Part.TheVariants.{Plain, In, Out}
 use Rattle.dg_flat.specs.Flat.{flat_block, flat_place, placed, resets_under}
 use Rattle.dg_flat.specs.Parts.{nested_path}
 use Rattle.dg_flat.specs.Flat.{placed_as}
@@ -17,20 +16,10 @@ placed_is : (blocks : List NestedBlock) (place : ℕ) (control : Option ℕ) (bl
 placed_is blocks place control block path found flat is same held =
     is ∙ ap (λ (p : List ℕ). placed_as p (resets_under blocks found) (option_map (flat_place blocks) found) block) same ∙ ap (λ (o : Option ℕ). placed blocks place o block) held
 
-pub flat_plain : (blocks : List NestedBlock) (place : ℕ) (control : Option ℕ) (part : Part) (block : Block) (path : List ℕ) (found : Option ℕ) (flat : Block) →
-    flat ≡ placed_as path (resets_under blocks found) (option_map (flat_place blocks) found) block → path ≡ nested_path blocks place → found ≡ control → part ≡ Plain block →
+pub flat_is : (blocks : List NestedBlock) (place : ℕ) (control : Option ℕ) (part : Part) (block : Block) (path : List ℕ) (found : Option ℕ) (flat : Block) →
+    flat ≡ placed_as path (resets_under blocks found) (option_map (flat_place blocks) found) block → path ≡ nested_path blocks place → found ≡ control → flat_block blocks place control part ≡ Some (placed blocks place control block) →
     Some flat ≡ flat_block blocks place control part
-flat_plain blocks place control part block path found flat is same held e = ap (λ (b : Block). Some b) (placed_is blocks place control block path found flat is same held) ∙ sym (ap (flat_block blocks place control) e)
-
-pub flat_in : (blocks : List NestedBlock) (place number : ℕ) (control : Option ℕ) (part : Part) (block : Block) (path : List ℕ) (found : Option ℕ) (flat : Block) →
-    flat ≡ placed_as path (resets_under blocks found) (option_map (flat_place blocks) found) block → path ≡ nested_path blocks place → found ≡ control → part ≡ In block number →
-    Some flat ≡ flat_block blocks place control part
-flat_in blocks place number control part block path found flat is same held e = ap (λ (b : Block). Some b) (placed_is blocks place control block path found flat is same held) ∙ sym (ap (flat_block blocks place control) e)
-
-pub flat_out : (blocks : List NestedBlock) (place number : ℕ) (control : Option ℕ) (part : Part) (block : Block) (path : List ℕ) (found : Option ℕ) (flat : Block) →
-    flat ≡ placed_as path (resets_under blocks found) (option_map (flat_place blocks) found) block → path ≡ nested_path blocks place → found ≡ control → part ≡ Out block number →
-    Some flat ≡ flat_block blocks place control part
-flat_out blocks place number control part block path found flat is same held e = ap (λ (b : Block). Some b) (placed_is blocks place control block path found flat is same held) ∙ sym (ap (flat_block blocks place control) e)
+flat_is blocks place control part block path found flat is same held e = ap (λ (b : Block). Some b) (placed_is blocks place control block path found flat is same held) ∙ sym e
 
 -- ---- one block more
 

@@ -139,16 +139,8 @@ fn flat_block(
     let path = path_in(alloc, paths, block.parent, &block.name)?;
     let control = systems.control(blocks, block.parent);
     match &block.part {
-        Part::Plain(plain) => {
-            let flat = placed_under(alloc, blocks, places, plain, path, control)?;
-            Ok(Some(flat))
-        }
-        Part::In(inner, _) => {
-            let flat = placed_under(alloc, blocks, places, inner, path, control)?;
-            Ok(Some(flat))
-        }
-        Part::Out(outer, _) => {
-            let flat = placed_under(alloc, blocks, places, outer, path, control)?;
+        Part::Plain(own) | Part::In(own, _) | Part::Out(own, _) => {
+            let flat = placed_under(alloc, blocks, places, own, path, control)?;
             Ok(Some(flat))
         }
         Part::SubSystem => Ok(None),

@@ -70,19 +70,22 @@ fn check(
     Ok(())
 }
 
-/// The flat diagram of nested blocks and lines that keep the rule of wiring.
+/// The flat diagram of nested blocks and lines, or the first broken rule.
 fn diagram_of(
     alloc: Global,
     nested: &Nested,
     systems: &Systems,
     paths: &[SystemPath],
-) -> Result<Diagram, OutOfMemory>
+) -> Result<Diagram, CheckFault>
     requires sound { IsSound nested.now }
-    requires wiring { AllNestedKeep nested.now KeepsWiring }
     requires systems { AreSystems nested.now.blocks systems.now }
     requires paths { ArePaths nested.now.blocks (length nested.now.blocks) paths.now }
-    ensures { IfOk result (IsFlatOf nested.now) }
+    ensures flat { IfOk result (IsFlatOf nested.now) }
+    ensures wiring { OnOk result (AllNestedKeep nested.now KeepsWiring) }
+    ensures enables { OnOk result (AllNestedKeep nested.now KeepsEnable) }
+    ensures refused { IfErr result (IsRefusal (BreaksWiringOrEnable nested.now)) }
 {
+    check(alloc, nested, systems, paths)?;
     let blocks = nested.blocks.as_slice();
     let lines = nested.lines.as_slice();
     let places = flat_places(alloc, blocks)?;
@@ -112,7 +115,5 @@ pub fn flatten(alloc: Global, nested: &Nested) -> Result<Diagram, CheckFault>
     let blocks = nested.blocks.as_slice();
     let paths = system_paths(alloc, blocks)?;
     let systems = Systems::of(alloc, blocks)?;
-    check(alloc, nested, &systems, paths.as_slice())?;
-    let diagram = diagram_of(alloc, nested, &systems, paths.as_slice())?;
-    Ok(diagram)
+    diagram_of(alloc, nested, &systems, paths.as_slice())
 }

@@ -1,9 +1,8 @@
-use Rattle.std.proofs.Common.{length, Some, sym, ap, ◌∙◌}
+use Rattle.std.proofs.Common.{◌≡◌, length, Some, inl, inr, sym, ap, ◌∙◌}
 use Rattle.std.proofs.lemmas.Option.{get_or_from_slice_get}
-use Rattle.dg_flat.specs.Flat.{flat_block}
+use Rattle.dg_flat.specs.Flat.{flat_block, control_as, placed}
 use Rattle.dg_flat.specs.Parts.{control_of}
-use Rattle.dg_flat.specs.Flat.{control_as}
-use Rattle.dg_flat.proofs.FlatBlock.{flat_plain, flat_in, flat_out}
+use Rattle.dg_flat.proofs.FlatBlock.{flat_is}
 use Rattle.dg_flat.proofs.Found.{control_inside}
 use Rattle.dg_flat.proofs.PathTable.{path_is}
 use Rattle.dg_flat.proofs.PortReads.{some_inside}
@@ -11,12 +10,6 @@ use Rattle.dg_flat.proofs.blocks.flat_block.Goals as goal
 
 pub placed_under-requires-clause-inside : goal.placed_under-requires-clause-inside
 placed_under-requires-clause-inside c = rw c.control-control.ensures (control_inside c.args.blocks.now c.args.block.now.parent)
-
-pub placed_under-requires-in-In-clause-inside : goal.placed_under-requires-in-In-clause-inside
-placed_under-requires-in-In-clause-inside c = rw c.control-control.ensures (control_inside c.args.blocks.now c.args.block.now.parent)
-
-pub placed_under-requires-in-Out-clause-inside : goal.placed_under-requires-in-Out-clause-inside
-placed_under-requires-in-Out-clause-inside c = rw c.control-control.ensures (control_inside c.args.blocks.now c.args.block.now.parent)
 
 pub returns-in-Enable : goal.returns-in-Enable
 returns-in-Enable c = λ place at.
@@ -29,19 +22,12 @@ pub returns-in_ok-flat-in-Plain : goal.returns-in_ok-flat-in-Plain
 returns-in_ok-flat-in-Plain c = λ place at.
     let blocks = c.args.blocks.now in
     let block = c.args.block.now in
+    let own = c.in-Plain.own in
+    let control = control_of blocks block.parent in
     let path = c.in_ok-path.ensures ∙ path_is blocks (length blocks) place block c.args.paths.now c.requires.parents c.requires.paths c.requires.within (some_inside blocks place block at) (get_or_from_slice_get blocks place block block at) in
-    flat_plain blocks place (control_of blocks block.parent) block.part c.in-Plain.plain c.in_ok-path.path c.control-control.result c.in_ok-flat-in-Plain.flat c.in_ok-flat-in-Plain.ensures path c.control-control.ensures c.in-Plain.is
-
-pub returns-in_ok-flat-in-In : goal.returns-in_ok-flat-in-In
-returns-in_ok-flat-in-In c = λ place at.
-    let blocks = c.args.blocks.now in
-    let block = c.args.block.now in
-    let path = c.in_ok-path.ensures ∙ path_is blocks (length blocks) place block c.args.paths.now c.requires.parents c.requires.paths c.requires.within (some_inside blocks place block at) (get_or_from_slice_get blocks place block block at) in
-    flat_in blocks place _ (control_of blocks block.parent) block.part c.in-In.inner c.in_ok-path.path c.control-control.result c.in_ok-flat-in-In.flat c.in_ok-flat-in-In.ensures path c.control-control.ensures c.in-In.is
-
-pub returns-in_ok-flat-in-Out : goal.returns-in_ok-flat-in-Out
-returns-in_ok-flat-in-Out c = λ place at.
-    let blocks = c.args.blocks.now in
-    let block = c.args.block.now in
-    let path = c.in_ok-path.ensures ∙ path_is blocks (length blocks) place block c.args.paths.now c.requires.parents c.requires.paths c.requires.within (some_inside blocks place block at) (get_or_from_slice_get blocks place block block at) in
-    flat_out blocks place _ (control_of blocks block.parent) block.part c.in-Out.outer c.in_ok-path.path c.control-control.result c.in_ok-flat-in-Out.flat c.in_ok-flat-in-Out.ensures path c.control-control.ensures c.in-Out.is
+    let part : flat_block blocks place control block.part ≡ Some (placed blocks place control own) =
+    elim c.in-Plain.is [
+      | inl plain ↦ ap (flat_block blocks place control) plain
+      | inr port ↦ elim port [ inl inner ↦ ap (flat_block blocks place control) inner.1 | inr outer ↦ ap (flat_block blocks place control) outer.1 ]
+    ] in
+    flat_is blocks place control block.part own c.in_ok-path.path c.control-control.result c.in_ok-flat-in-Plain.flat c.in_ok-flat-in-Plain.ensures path c.control-control.ensures part

@@ -1,4 +1,4 @@
-use Rattle.std.proofs.Common.{◌≡◌, ◌<◌, ◌+◌, length, take, get_or, true, false, cond, add-zero, sym, ap, subst, ◌∙◌, arith, ℕ}
+use Rattle.std.proofs.Common.{◌≡◌, ◌+◌, length, take, true, false, cond, add-zero, sym, ap, subst, ◌∙◌, arith, ℕ}
 use Rattle.std.proofs.lemmas.List.Sums.{count_by-le-length}
 use Rattle.std.specs.Prelude.{not, count_by}
 use Rattle.dg_model.specs.declared.nested.NestedBlock.{NestedBlock}
@@ -15,11 +15,9 @@ loop-block-preserved c =
     let blocks = c.args.blocks.now in
     let i = c.loop-block.block-index in
     let block = c.block-item.result in
-    let at : get_or blocks i block ≡ block = sym c.block-item.is in
-    let inside : i < length blocks = c.loop-block-test.true in
     let stands = λ (other : NestedBlock). not (is_subsystem other.part) in
     let more : flat_place blocks (i + 1) ≡ flat_place blocks i + cond (stands block) 1 0 =
-    ap (count_by stands) (take_block blocks i block inside at) ∙ count_push stands (take i blocks) block in
+    ap (count_by stands) (take_block blocks i block c.loop-block-test.true (sym c.block-item.is)) ∙ count_push stands (take i blocks) block in
     let places : IsTable (i + 1) (flat_place blocks) c.push.new.self.items = rw c.in_ok-push.ensures.items (table_push i (flat_place blocks) c.loop-block.places.items c.loop-block.next c.loop-block.invariant.next c.loop-block.invariant.places) in
     elim c.if-not-is_subsystem.branch [
       | then-not-is_subsystem w ↦

@@ -1,7 +1,18 @@
-use Rattle.std.proofs.lemmas.Result.{err_from_is_err_and}
+use Rattle.std.proofs.Common.{Result, Ok, Err}
+use Rattle.std.specs.Prelude.{IfOk, OnOk}
+use Rattle.dg_model.specs.declared.diagram.Diagram.{Diagram}
+use Rattle.dg_model.specs.declared.nested.Nested.{Nested}
+use Rattle.dg_model.specs.Sound.{IsSound}
+use Rattle.dg_model.specs.Wired.{IsWired}
+use Rattle.dg_flat.specs.Flat.{IsFlatOf}
+use Rattle.dg_flat.specs.Rules.{AllNestedKeep, KeepsWiring, KeepsEnable}
 use Rattle.dg_flat.proofs.FromSound.{have_parents}
 use Rattle.dg_flat.proofs.Law.{wired}
 use Rattle.dg_flat.proofs.flattening.flatten.Goals as goal
+
+wired_if : {E : Type 0} (nested : Nested) (made : Result Diagram E) → IsSound nested → OnOk made (AllNestedKeep nested KeepsWiring) → OnOk made (AllNestedKeep nested KeepsEnable) → IfOk made (IsFlatOf nested) → IfOk made IsWired
+wired_if nested (Ok diagram) sound wiring enables flat = wired nested diagram sound wiring enables flat
+wired_if nested (Err fault) sound wiring enables flat = tt
 
 pub of-requires-clause-parents : goal.of-requires-clause-parents
 of-requires-clause-parents c = rw c.as_slice-blocks.ensures (have_parents c.args.nested.now c.requires)
@@ -10,33 +21,22 @@ pub system_paths-requires : goal.system_paths-requires
 system_paths-requires c = rw c.as_slice-blocks.ensures (have_parents c.args.nested.now c.requires)
 
 pub returns-clause-wired : goal.returns-clause-wired
-returns-clause-wired c = wired c.args.nested.now c.in_ok-diagram.diagram c.requires c.in_ok-check.ensures.wiring c.in_ok-check.ensures.enables c.in_ok-diagram.ensures
+returns-clause-wired c = wired_if c.args.nested.now c.diagram_of.result c.requires c.diagram_of.ensures.wiring c.diagram_of.ensures.enables c.diagram_of.ensures.flat
 
 pub returns-clause-flat : goal.returns-clause-flat
-returns-clause-flat c = c.in_ok-diagram.ensures
+returns-clause-flat c = c.diagram_of.ensures.flat
 
 pub returns-clause-wiring : goal.returns-clause-wiring
-returns-clause-wiring c = c.in_ok-check.ensures.wiring
+returns-clause-wiring c = c.diagram_of.ensures.wiring
 
 pub returns-clause-enables : goal.returns-clause-enables
-returns-clause-enables c = c.in_ok-check.ensures.enables
+returns-clause-enables c = c.diagram_of.ensures.enables
 
-pub returns-in_err-check-clause-refused : goal.returns-in_err-check-clause-refused
-returns-in_err-check-clause-refused c =
-    let p = err_from_is_err_and c.from_residual-in_err-check.result c.from_residual-in_err-check.ensures.1 in
-    rw (p.1, p.2) c.in_err-check.ensures.refused
-
-pub check-requires-clause-paths : goal.check-requires-clause-paths
-check-requires-clause-paths c = rw (c.as_slice.ensures, ← c.as_slice-blocks.ensures) c.in_ok-paths.ensures
-
-pub check-requires-clause-systems : goal.check-requires-clause-systems
-check-requires-clause-systems c = rw (← c.as_slice-blocks.ensures) c.in_ok-systems.ensures
+pub returns-clause-refused : goal.returns-clause-refused
+returns-clause-refused c = c.diagram_of.ensures.refused
 
 pub diagram_of-requires-clause-paths : goal.diagram_of-requires-clause-paths
-diagram_of-requires-clause-paths c = rw (c.as_slice-2.ensures, ← c.as_slice-blocks.ensures) c.in_ok-paths.ensures
+diagram_of-requires-clause-paths c = rw (c.as_slice.ensures, ← c.as_slice-blocks.ensures) c.in_ok-paths.ensures
 
 pub diagram_of-requires-clause-systems : goal.diagram_of-requires-clause-systems
 diagram_of-requires-clause-systems c = rw (← c.as_slice-blocks.ensures) c.in_ok-systems.ensures
-
-pub diagram_of-requires-clause-wiring : goal.diagram_of-requires-clause-wiring
-diagram_of-requires-clause-wiring c = c.in_ok-check.ensures.wiring

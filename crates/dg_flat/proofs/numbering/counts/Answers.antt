@@ -1,4 +1,4 @@
-use Rattle.std.proofs.Common.{◌≡◌, ◌<◌, ◌≤◌, suc, [], refl, length, take, get_or, sym, ap, subst, ◌∙◌, arith, List}
+use Rattle.std.proofs.Common.{◌≤◌, suc, [], refl, length, take, sym, ap, subst, ◌∙◌, arith, List}
 use Rattle.std.proofs.lemmas.List.{take_all}
 use Rattle.std.specs.Option.{is_some}
 use Rattle.dg_flat.specs.inner.Slots.{system_of}
@@ -15,12 +15,11 @@ overflow_add-index_mut c =
     let blocks = c.args.blocks.now in
     let i = c.loop-block.block-index in
     let block = c.block-item.result in
-    let inside : i < length blocks = c.loop-block-test.true in
-    let slot = slot_inside blocks i block c.requires.parents inside (sym c.block-item.is) in
+    let slot = slot_inside blocks i block c.requires.parents c.loop-block-test.true (sym c.block-item.is) in
     let old = c.index_mut.result.now in
     let value = c.index_mut.ensures.value ∙ c.loop-block.invariant.at c.slot.result old (omega (arith, slot, c.slot.ensures)) in
-    let few = count_few blocks (system_of c.slot.result) (λ part. is_some (number_on c.args.side part)) i inside in
-    let small : old ≤ 20000 = omega (arith, value, few, inside, c.requires.few) in
+    let few = count_few blocks (system_of c.slot.result) (λ part. is_some (number_on c.args.side part)) i c.loop-block-test.true in
+    let small : old ≤ 20000 = omega (arith, value, few, c.loop-block-test.true, c.requires.few) in
     omega arith
 
 pub loop-block-preserved : goal.loop-block-preserved
@@ -28,10 +27,8 @@ loop-block-preserved c =
     let blocks = c.args.blocks.now in
     let i = c.loop-block.block-index in
     let block = c.block-item.result in
-    let at : get_or blocks i block ≡ block = sym c.block-item.is in
-    let inside : i < length blocks = c.loop-block-test.true in
-    let more = take_block blocks i block inside at in
-    let slot = slot_inside blocks i block c.requires.parents inside at in
+    let more = take_block blocks i block c.loop-block-test.true (sym c.block-item.is) in
+    let slot = slot_inside blocks i block c.requires.parents c.loop-block-test.true (sym c.block-item.is) in
     let known = ap is_some (sym c.number_of.ensures) ∙ sym c.is_some.ensures in
     elim c.if-is_some.branch [
       | then-is_some w ↦

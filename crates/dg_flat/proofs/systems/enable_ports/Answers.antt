@@ -1,4 +1,4 @@
-use Rattle.std.proofs.Common.{[], refl, None, ◌≡◌, ◌<◌, true, suc, List, length, take, get_or, sym, ap, subst, arith, rules}
+use Rattle.std.proofs.Common.{[], refl, None, ◌≡◌, true, suc, List, length, take, sym, ap, subst, arith, rules}
 use Rattle.std.proofs.lemmas.List.{take_all}
 use Rattle.dg_model.specs.declared.nested.NestedBlock.{NestedBlock}
 use Rattle.dg_flat.specs.Parts.{first_in, is_enable_port}
@@ -14,15 +14,13 @@ loop-place-preserved c =
     let blocks = c.args.blocks.now in
     let i = c.loop-place.place in
     let block = c.index-blocks-place.result in
-    let at : get_or blocks i block ≡ block = sym c.index-blocks-place.is in
-    let inside : i < length blocks = c.loop-place-test.true in
-    let more = take_block blocks i block inside at in
-    let slot = slot_inside blocks i block c.requires.parents inside at in
+    let more = take_block blocks i block c.loop-place-test.true (sym c.index-blocks-place.is) in
+    let slot = slot_inside blocks i block c.requires.parents c.loop-place-test.true (sym c.index-blocks-place.is) in
     elim c.match-block.branch [
       | in-Enable w ↦
           let such : is_enable_port block.part ≡ true = ap is_enable_port w.in-Enable.is in
           rw (more, w.ports-is, w.note_first.ensures)
-          (noted_more (take i blocks) block is_enable_port (suc (length blocks)) i w.slot.result c.loop-place.ports.items (length_done blocks i inside) w.slot.ensures such slot c.loop-place.invariant)
+          (noted_more (take i blocks) block is_enable_port (suc (length blocks)) i w.slot.result c.loop-place.ports.items (length_done blocks i c.loop-place-test.true) w.slot.ensures such slot c.loop-place.invariant)
       | in_default w ↦
           rw (more, w.ports-is) (noted_same (take i blocks) block is_enable_port (suc (length blocks)) c.loop-place.ports.items (not_enable_port block.part w.in_default.not-Enable) c.loop-place.invariant)
     ]

@@ -1,16 +1,12 @@
-use Rattle.std.proofs.Common.{◌≡◌, ◌<◌, List, [], length, take, get_or, replicate, refl, subst, arith}
+use Rattle.std.proofs.Common.{◌≡◌, List, [], take, get_or, replicate, refl, subst, arith}
 use Rattle.std.proofs.lemmas.List.{take_more, take_all}
 use Rattle.dg_model.specs.declared.nested.NestedLine.{NestedLine}
-use Rattle.dg_model.specs.declared.nested.Target.TheVariants.{Port}
 use Rattle.dg_flat.specs.inner.Ports.{port_drivers}
 use Rattle.dg_flat.specs.inner.Tables.{IsRowTable}
 use Rattle.dg_flat.proofs.Cells.{rows_filled}
-use Rattle.dg_flat.proofs.Drivers.{port_more, port_past, port_none, not_to_port}
+use Rattle.dg_flat.proofs.Drivers.{no_line, port_more, port_past, port_none, not_to_port}
 use Rattle.dg_flat.proofs.tally.port_drivers.Goals as goal
 use Rattle.dg_flat.proofs.tally.port_drivers.Goals.{in-Port+in-Some, in-Port+in_default-cell, in_default}
-
-abbrev none : NestedLine
-none = record { from = 0; from_port = 0; to = 0; target = Port 0 }
 
 pub loop-line-init : goal.loop-line-init
 loop-line-init c =
@@ -22,9 +18,8 @@ pub loop-line-preserved : goal.loop-line-preserved
 loop-line-preserved c =
     let lines = c.args.lines.now in
     let i = c.loop-line.line-index in
-    let line = get_or lines i none in
-    let inside : i < length lines = c.loop-line-test.true in
-    let more = take_more lines i none inside in
+    let line = get_or lines i no_line in
+    let more = take_more lines i no_line c.loop-line-test.true in
     let lengths = c.args.rows.now.lengths.items in
     elim c.match-line.branch [
       | in-Port+in-Some w ↦

@@ -1,4 +1,4 @@
-use Rattle.std.proofs.Common.{◌≡◌, ◌<◌, [], length, take, get_or, replicate, None, refl, ap, sym, subst, ◌∙◌, arith, rules, List}
+use Rattle.std.proofs.Common.{◌≡◌, [], length, take, replicate, None, refl, ap, sym, subst, ◌∙◌, arith, rules, List}
 use Rattle.std.proofs.lemmas.List.{take_all}
 use Rattle.dg_model.specs.declared.nested.NestedBlock.{NestedBlock}
 use Rattle.dg_flat.specs.inner.Numbering.{numbered_at}
@@ -20,15 +20,13 @@ loop-place-preserved c =
     let blocks = c.args.blocks.now in
     let i = c.loop-place.place in
     let block = c.index-blocks-place.result in
-    let at : get_or blocks i block ≡ block = sym c.index-blocks-place.is in
-    let inside : i < length blocks = c.loop-place-test.true in
-    let more = take_block blocks i block inside at in
+    let more = take_block blocks i block c.loop-place-test.true (sym c.index-blocks-place.is) in
     let lengths = c.in_ok-rows.rows.lengths.items in
     elim c.match-number_of.branch [
       | in-Some+in-Some-cell w ↦
           let cell = w.in-Some-cell.ensures in
           rw (more, w.ports-is, w.note_first.ensures)
-          (numbered_more (take i blocks) block c.args.side lengths w.in-Some.number i w.slot.result w.in-Some-cell.cell c.loop-place.ports.items (length_done blocks i inside) w.slot.ensures
+          (numbered_more (take i blocks) block c.args.side lengths w.in-Some.number i w.slot.result w.in-Some-cell.cell c.loop-place.ports.items (length_done blocks i c.loop-place-test.true) w.slot.ensures
           (sym c.number_of.ensures ∙ w.in-Some.is) cell.0 cell.1 c.loop-place.invariant)
       | in-Some+in_default-cell w ↦
           rw (more, w.ports-is)
