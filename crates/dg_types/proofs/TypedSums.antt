@@ -1,6 +1,7 @@
 -- Functions that give a relation's one answer; the terms of a sum, gathered one by one.
-use Rattle.std.proofs.Common.{◌≡◌, ℕ, zero, suc, ◌+◌, ◌<◌, ◌≤◌, Bool, List, [], ◌∷◌, ◌++◌, length, take, drop, set, get_or, Option, Some, None, ap, sym, ◌∙◌, refl, arith, append_assoc}
-use Rattle.std.specs.Prelude.{zip, All}
+use Rattle.std.proofs.Common.{◌≡◌, ℕ, zero, suc, ◌+◌, ◌<◌, ◌≤◌, Bool, List, [], ◌∷◌, ◌++◌, length, take, drop, set, get_or, Option, Some, None, Result, Ok, Err, ap, sym, ◌∙◌, refl, arith, append_assoc}
+use Rattle.std.specs.Prelude.{zip, All, IfOk, OnErr}
+use Rattle.std.specs.Result.{result_ok}
 use Rattle.std.proofs.lemmas.List.{drop_more, drop_all, take_more_set, append-nil}
 use Rattle.std.proofs.lemmas.List.Elements.{All-append}
 use Rattle.fx_type.specs.declared.kind.FxType.{FxType}
@@ -13,9 +14,14 @@ use Rattle.dg_model.specs.TypeRounds.{Types, with_known, all_known, full_type}
 use Rattle.dg_types.specs.inner.TypedInputs.{joined, terms_of}
 
 -- none is given where nothing that is given would do
-pub none_given : (o : Option FxType) (P : FxType → Type 0) → ((type : FxType) → o ≡ Some type → P type) → ((type : FxType) → ¬ P type) → None ≡ o
+none_given : (o : Option FxType) (P : FxType → Type 0) → ((type : FxType) → o ≡ Some type → P type) → ((type : FxType) → ¬ P type) → None ≡ o
 none_given None P is none = refl
 none_given (Some type) P is none = absurd (none type (is type refl))
+
+-- what a function that keeps a relation gives is the relation's one answer, or none
+pub given_is : {E : Type 0} (o : Option FxType) (P : FxType → Type 0) (given : Result FxType E) → ((type : FxType) → P type → o ≡ Some type) → ((type : FxType) → o ≡ Some type → P type) → IfOk given P → OnErr given ((type : FxType) → ¬ P type) → result_ok given ≡ o
+given_is o P (Ok type) to is ok none = sym (to type ok)
+given_is o P (Err fault) to is ok none = none_given o P is none
 
 -- what follows from a type that is known
 pub known_step : {A B : Type 0} (o : Option A) (x : A) (next : A → Option B) → o ≡ Some x → with_known o next ≡ next x

@@ -36,10 +36,7 @@ fn sum_of(terms: &[(bool, FxType)]) -> Option<FxType>
     ensures { result ≡ full_sum_of terms.now }
 {
     fx_type::full_sum_is_one();
-    match full_sum(terms) {
-        Ok(kind) => Some(kind),
-        Err(_) => None,
-    }
+    full_sum(terms).ok()
 }
 
 /// The type of a product, where it is valid.
@@ -49,10 +46,7 @@ fn product_of(left: FxType, right: FxType) -> Option<FxType>
     ensures { result ≡ full_product_of left right }
 {
     fx_type::full_product_is_one();
-    match full_product(left, right) {
-        Ok(kind) => Some(kind),
-        Err(_) => None,
-    }
+    full_product(left, right).ok()
 }
 
 /// The type of a choice between two, where it is valid.
@@ -62,10 +56,7 @@ fn union_of(left: FxType, right: FxType) -> Option<FxType>
     ensures { result ≡ union_of_types left right }
 {
     fx_type::union_is_one();
-    match union(left, right) {
-        Ok(kind) => Some(kind),
-        Err(_) => None,
-    }
+    union(left, right).ok()
 }
 
 /// The full sum of all inputs.

@@ -1,12 +1,11 @@
-use Rattle.std.proofs.Common.{sym}
+use Rattle.std.proofs.Common.{◌∙◌}
+use Rattle.fx_type.specs.declared.kind.FxType.{FxType}
 use Rattle.fx_type.specs.FullType.{IsUnion}
 use Rattle.fx_type.specs.FullTypeOf.{union_of}
-use Rattle.dg_types.proofs.TypedSums.{none_given}
+use Rattle.dg_types.proofs.TypedSums.{given_is}
 use Rattle.dg_types.proofs.typed_step.union_of.Goals as goal
 
-pub returns-in-Err : goal.returns-in-Err
-returns-in-Err c =
-    none_given (union_of c.args.left c.args.right) (IsUnion c.args.left c.args.right) (λ type e. (c.union_is_one.ensures c.args.left c.args.right type c.requires.left c.requires.right).1 e) c.in-Err.ensures.too_wide
-
-pub returns-in-Ok : goal.returns-in-Ok
-returns-in-Ok c = sym ((c.union_is_one.ensures c.args.left c.args.right c.in-Ok.kind c.requires.left c.requires.right).0 c.in-Ok.ensures.ok)
+pub returns : goal.returns
+returns c =
+    let law = λ (type : FxType). c.union_is_one.ensures c.args.left c.args.right type c.requires.left c.requires.right in
+    c.ok.ensures.value ∙ given_is (union_of c.args.left c.args.right) (IsUnion c.args.left c.args.right) c.union.result (λ type. (law type).0) (λ type. (law type).1) c.union.ensures.ok c.union.ensures.too_wide
