@@ -1,10 +1,11 @@
-use Rattle.std.proofs.Common.{None, length, ◌≡◌, ◌∙◌, arith, sym, ap, true, Some}
+use Rattle.std.proofs.Common.{ℕ, List, [], ◌++◌, length, eqb, ◌≡◌, ◌∙◌, arith, refl, sym, ap, true, Some}
+use Rattle.std.proofs.lemmas.Bool.{eqb-true}
 use Rattle.std.proofs.lemmas.Bool.Decides.{nat_tests}
-use Rattle.std.specs.Prelude.{nat_le}
+use Rattle.std.proofs.lemmas.List.{append-nil, nil_from_length}
+use Rattle.std.specs.Prelude.{ℤ, nat_le}
 use Rattle.std.specs.List.{flat_map}
 use Rattle.std.specs.Str.Lines.{lines}
-use Rattle.std.proofs.lemmas.Grind.{common_steps}
-use Rattle.fx_tables.specs.Stimulus.{stimulus_fault, cells_of}
+use Rattle.fx_tables.specs.Stimulus.{cells_of, lines_fault}
 use Rattle.fx_tables.proofs.CellsLemmas.{stimulus_cell}
 use Rattle.fx_tables.proofs.StimulusLemmas.{lines_fault-too_many}
 use Rattle.fx_tables.proofs.rows.read_rows.Goals as goal
@@ -18,10 +19,33 @@ returns-then-lines-most-clause-refused c other =
     (c.most_rows-most.ensures.above c.loop-rest.lines ∙ at_bound)
     ∙ ap Some (sym c.bad.ensures)
 
+pub loop-rest-init : goal.loop-rest-init
+loop-rest-init c = record {
+  counted = omega arith;
+  faults = refl;
+  numbers = ap (λ (cells : List ℤ). cells ++ flat_map cells_of (lines c.args.bytes.now)) c.new-cells.ensures;
+  full = omega (arith, ap length c.new-cells.ensures);
+  few = omega arith;
+}
+
+-- nothing is left behind the last line
+none_left : (rest : List ℕ) → true ≡ eqb (length rest) 0 → rest ≡ []
+none_left rest empty = nil_from_length rest (eqb-true (length rest) 0 (sym empty))
+
+pub returns-clause-rows : goal.returns-clause-rows
+returns-clause-rows c =
+    let none = none_left c.loop-rest.rest.now c.loop-rest-test.ensures in
+    record {
+      no_fault = sym c.loop-rest.invariant.faults ∙ ap (λ (rest : List ℕ). lines_fault c.args.columns.now c.args.outputs c.loop-rest.lines (lines rest)) none;
+      line_count = omega (arith, c.loop-rest.invariant.counted, ap (λ (rest : List ℕ). length (lines rest)) none);
+      column_count = refl;
+      numbers = sym (append-nil c.loop-rest.cells) ∙ ap (λ (rest : List ℕ). c.loop-rest.cells ++ flat_map cells_of (lines rest)) (sym none) ∙ c.loop-rest.invariant.numbers;
+    }
+
+pub returns-clause-few : goal.returns-clause-few
+returns-clause-few c = omega (arith, c.loop-rest.invariant.few, c.most_rows-most.ensures.bound)
+
 pub returns-clause-fits : goal.returns-clause-fits
 returns-clause-fits c sample k column value inside at reads =
-    let bytes = c.args.bytes.now in
-    let fault : stimulus_fault c.args.columns.now c.args.outputs bytes ≡ None = grind (arith, common_steps) in
-    let count : c.loop-rest.lines ≡ length (lines bytes) = grind (arith, common_steps) in
-    let numbers : c.loop-rest.cells ≡ flat_map cells_of (lines bytes) = grind (arith, common_steps) in
-    stimulus_cell c.args.columns.now c.args.outputs c.loop-rest.lines sample k bytes c.loop-rest.cells column value fault count numbers inside at reads
+    let rows = returns-clause-rows c in
+    stimulus_cell c.args.columns.now c.args.outputs c.loop-rest.lines sample k c.args.bytes.now c.loop-rest.cells column value rows.no_fault rows.line_count rows.numbers inside at reads

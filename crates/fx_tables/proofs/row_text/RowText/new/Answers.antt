@@ -1,6 +1,6 @@
-use Rattle.std.proofs.Common.{ℕ, ◌<◌, List, ◌∷◌, [], ◌++◌, length, get_or, sym, subst, ap, ◌∙◌, arith}
+use Rattle.std.proofs.Common.{ℕ, ◌<◌, List, ◌∷◌, [], ◌++◌, length, map, get_or, sym, subst, ap, ◌∙◌, arith}
 use Rattle.std.specs.Prelude.{All}
-use Rattle.std.proofs.lemmas.List.{map_more, length-append}
+use Rattle.std.proofs.lemmas.List.{map_more, length-append, take_all}
 use Rattle.std.proofs.lemmas.List.Elements.{All-push, All-get_or}
 use Rattle.fx_tables.specs.declared.table.Column.{Column}
 use Rattle.fx_tables.proofs.row_text.RowText.new.Goals as goal
@@ -17,3 +17,6 @@ loop-column-preserved c =
       counted = omega (arith, c.push.new.self.ok.0, ap length pushed, length-append old.items (period ∷ []), old.ok.0, c.loop-column.invariant.counted);
       hits = subst (All (λ (p : ℕ). 0 < p)) (sym pushed) (All-push (λ (p : ℕ). 0 < p) old.items period c.loop-column.invariant.hits (All-get_or (λ (column : Column). 0 < column.period) columns i _ c.loop-column-test.true c.requires.periods));
     }
+
+pub returns : goal.returns
+returns c = c.loop-column.invariant.copied ∙ ap (map (λ (column : Column). column.period)) (take_all c.loop-column.column-index c.args.columns.now c.loop-column-test.false)
