@@ -1,4 +1,4 @@
-use Rattle.std.proofs.Common.{◌≡◌, ℕ, ◌+◌, eqb, ◌∙◌, None, Some, List, get_or, drop, sym, ap, arith, rules}
+use Rattle.std.proofs.Common.{◌≡◌, ℕ, ◌+◌, Bool, true, false, cond, eqb, ◌∙◌, refl, None, Some, List, get_or, drop, sym, ap, arith, rules}
 use Rattle.std.proofs.lemmas.Bool.{cond-true}
 use Rattle.std.proofs.lemmas.Bool.Decides.{nat_tests}
 use Rattle.std.proofs.lemmas.List.{drop-drop, take_rest}
@@ -19,3 +19,18 @@ returns-in-Some-clause-value c =
     c.read_count_of.ensures.value
     ∙ entry_at quote _ _ c.in-Some.field-0.content c.in-Some.field-0.length (take_rest quote 1) (take_rest quote (1 + c.in-Some.field-0.length)) (omega (arith, c.if-quote-ne34.false)) piece.1
     ∙ ap pipeline_entry c.skip_blanks-quote.ensures.rest
+
+entry_none : (quote : List ℕ) → string_behind (drop 1 quote) ≡ None → None ≡ pipeline_entry quote
+entry_none quote none = sym (ap (λ found. cond (eqb (get_or quote 0 0) 34) (counted_entry found) None) none ∙ either (eqb (get_or quote 0 0) 34)) where
+  either : (b : Bool) → cond b (counted_entry None) None ≡ None
+  either true = refl
+  either false = refl
+
+pub returns-in-None-clause-value : goal.returns-in-None-clause-value
+returns-in-None-clause-value c =
+    let quote = c.skip_blanks-quote.result.now in
+    let none = rw c.in-None.is at c.in_ok-read_string.ensures in
+    entry_none quote (ap string_behind (sym (take_rest quote 1)) ∙ none) ∙ ap pipeline_entry c.skip_blanks-quote.ensures.rest
+
+pub returns-in-Some-clause-in_range : goal.returns-in-Some-clause-in_range
+returns-in-Some-clause-in_range c = c.read_count_of.ensures.in_range

@@ -1,5 +1,12 @@
-use Rattle.std.proofs.Common.{◌≡◌, ◌+◌, ◌∙◌, Bool, true, false, not, refl, sym, arith}
-use Rattle.std.proofs.lemmas.Bool.{OnTrue_at, false≢true}
+use Rattle.std.proofs.Common.{◌≡◌, ℕ, ◌+◌, List, [], ◌++◌, length, ◌∙◌, Bool, true, false, not, refl, sym, ap, arith}
+use Rattle.std.specs.Prelude.{slice_index_or}
+use Rattle.std.specs.List.{filter_map}
+use Rattle.std.specs.Str.Lines.{lines}
+use Rattle.std.proofs.lemmas.Bool.{OnTrue_at, false≢true, eqb-true}
+use Rattle.std.proofs.lemmas.List.{append-nil, nil_from_length}
+use Rattle.fx_tables.specs.declared.entry.PlanEntry.{PlanEntry}
+use Rattle.fx_tables.specs.Plan.{cycles_of, multipliers_of, pipeline_of}
+use Rattle.fx_tables.specs.inner.PlanReading.{entry_of, entries_fault}
 use Rattle.fx_tables.proofs.PlanLemmas.{entries_fault-bad, entries_fault-good, entries-more}
 use Rattle.fx_tables.proofs.plan.read_lines.Goals as goal
 
@@ -34,4 +41,20 @@ loop-rest-preserved c =
         sym (entries_fault-good read.0 (c.loop-rest.line + 1) cut.result.head.now _ _ cut.ensures.line (good_from _ (sym c.if-not-branch.false ∙ line.0)))
             ∙ read.3,
       );
+    }
+
+pub loop-rest-init : goal.loop-rest-init
+loop-rest-init c = record { counted = omega arith; in_range = c.new-draft.ensures.in_range; read = ([], c.new-draft.ensures.empty, refl, refl) }
+
+pub returns-clause-plan : goal.returns-clause-plan
+returns-clause-plan c =
+    let none = nil_from_length c.loop-rest.rest.now (eqb-true (length c.loop-rest.rest.now) 0 (sym c.loop-rest-test.ensures)) in
+    let read = c.loop-rest.invariant.read in
+    let all = sym (append-nil read.0) ∙ ap (λ (rest : List ℕ). read.0 ++ filter_map entry_of (lines rest)) (sym none) ∙ read.2 in
+    let said = c.finish.ensures.said read.0 read.1 in
+    record {
+      no_fault = sym read.3 ∙ ap (λ (rest : List ℕ). entries_fault read.0 (c.loop-rest.line + 1) (lines rest)) none;
+      clocks = said.0 ∙ ap (λ (entries : List PlanEntry). slice_index_or (filter_map cycles_of entries) 0 1) all;
+      shared = said.1 ∙ ap (λ (entries : List PlanEntry). slice_index_or (filter_map multipliers_of entries) 0 0) all;
+      registers = said.2 ∙ ap (filter_map pipeline_of) all;
     }
