@@ -1,9 +1,9 @@
 -- One more place of a text: its marks, its first declarations, and the first fault.
-use Rattle.std.proofs.Common.{◌≡◌, ◌≢◌, ◌<◌, ◌+◌, ⊎_elim, ℕ, Bool, true, false, not, ◌&&◌, ◌||◌, if◌then◌else◌, List, [], ◌∷◌, ◌++◌, length, map, flat_map, find, take, drop, set, slice_index, slice_index_or, bytes_eq, Option, Some, None, refl, sym, ap, subst, ◌∙◌, arith, inl, inr, ◌⊎◌, suc, is_none}
+use Rattle.std.proofs.Common.{◌≡◌, ◌≢◌, ◌<◌, ◌≤◌, ◌+◌, ⊎_elim, ℕ, Bool, true, false, not, ◌&&◌, ◌||◌, if◌then◌else◌, List, [], ◌∷◌, ◌++◌, length, map, flat_map, find, replicate, take, drop, set, slice_index, slice_index_or, bytes_eq, Option, Some, None, refl, sym, ap, subst, ◌∙◌, arith, inl, inr, ◌⊎◌, suc, is_none}
 use Rattle.std.specs.List.{list_any}
 use Rattle.std.specs.Option.{option_map, option_or}
 use Rattle.std.proofs.lemmas.Bool.{false≢true}
-use Rattle.std.proofs.lemmas.List.{get_or-set_same, get_or-set_other, get_or-map, length-map, take_more, get_or_default, length-set}
+use Rattle.std.proofs.lemmas.List.{get_or-replicate, get_or-set_same, get_or-set_other, get_or-map, length-map, take_more, get_or_default, length-set}
 use Rattle.std.proofs.Math.Seq.{drop-cons}
 use Rattle.std.proofs.lemmas.List.Concat.{flat_map-append}
 use Rattle.std.proofs.lemmas.List.Folds.{list_any-append, find-append}
@@ -45,9 +45,6 @@ or-false false = refl
 
 module _ (test : List ℕ → Mention → Bool) (is_one : Mention → Bool) (holds : (name : List ℕ) (x : Mention) → test name x ≡ (is_one x && bytes_eq (mentioned x) name))
     (names : List (List ℕ)) (numbers : List ℕ) (count : ℕ) (known : AreNumbers names numbers count) where
-  pub none-marked : (marks : List Bool) → ((k : ℕ) (m : Bool) → k < count → slice_index_or marks k m ≡ false) → Marks test names numbers marks []
-  none-marked marks f = record { at = λ i d m below. f (slice_index numbers i) m (known.below i below) }
-
   pub marked-same : (marks : List Bool) (part : List Mention) (x : Mention) → is_one x ≡ false → Marks test names numbers marks part → Marks test names numbers marks (part ++ x ∷ [])
   marked-same marks part x other m = record {
     at = λ i d b below.
@@ -95,9 +92,6 @@ module _ (names : List (List ℕ)) (numbers : List ℕ) (count : ℕ) (known : A
   or-none : {X : Type 0} (o : Option X) → option_or o None ≡ o
   or-none None = refl
   or-none (Some x) = refl
-
-  pub none-first : (first : List (Option DeclaredHere)) → ((k : ℕ) (f : Option DeclaredHere) → k < count → slice_index_or first k f ≡ None) → AreFirst names numbers first []
-  none-first first f = record { at = λ i d o below. ap (option_map declared_of) (f (slice_index numbers i) o (known.below i below)) }
 
   -- a place that declares none of the names that have no declaration yet
   pub first-same : (first : List (Option DeclaredHere)) (part : List Mention) (x : Mention)
@@ -290,3 +284,11 @@ pub number-below : (text : List MentionHere) (numbers : List ℕ) (count : ℕ) 
 number-below text numbers count known i below =
     let long = length-map (shown text) mentioned ∙ length-map text mention_of in
     known.below i (omega (arith, long, below))
+
+pub past-all : (text : List MentionHere) (i : ℕ) → length text ≤ i → length (shown text) ≤ i
+past-all text i past = let long = length-map text mention_of in omega (arith, long, past)
+
+pub none-marked : (test : List ℕ → Mention → Bool) (names : List (List ℕ)) (numbers : List ℕ) (count : ℕ) → AreNumbers names numbers count → (marks : List Bool) → marks ≡ replicate count false → Marks test names numbers marks []
+none-marked test names numbers count known marks is = record {
+  at = λ i d m inside. ap (λ (ms : List Bool). slice_index_or ms (slice_index numbers i) m) is ∙ get_or-replicate count (slice_index numbers i) false m (known.below i inside);
+}

@@ -1,4 +1,4 @@
-ghost use Rattle.std.specs.Prelude.{◌≡◌, find, option_map};
+ghost use Rattle.std.specs.Prelude.{◌≡◌, ◌&&◌, bytes_eq, codes, find, not, option_map};
 ghost use Rattle.vl_ast.specs.Conditions.{lacks_attribute, no_attribute};
 ghost use Rattle.vl_ast.specs.Control.{is_clock_or_reset, is_control_input, is_control_output};
 ghost use Rattle.vl_ast.specs.Control.{is_number_input, is_number_output, is_stallable};
@@ -29,6 +29,13 @@ fn is_control_output(port: &Port, stalls: bool) -> bool
     ensures { result ≡ is_control_output stalls port.now }
 {
     stalls && port.name.bytes() == b"ce_out".as_slice() && !port.signed && port.width == 1
+}
+
+/// Whether the port is an input, and not `clk`.
+pub fn is_driven_input(port: &Port) -> bool
+    ensures { result ≡ (port.now.input && not (bytes_eq port.now.name (codes "clk"))) }
+{
+    port.input && port.name.bytes() != b"clk".as_slice()
 }
 
 /// Whether the port of a module that stalls or doesn't is an input that carries numbers: none of

@@ -1,10 +1,9 @@
-use Rattle.std.proofs.Common.{◌≡◌, ◌<◌, ◌≤◌, ℕ, Bool, false, List, [], length, replicate, slice_index, slice_index_or, take, Some, None, refl, sym, ap, subst, ◌∙◌, arith, rules}
-use Rattle.std.proofs.lemmas.List.{get_or-replicate, length-map}
+use Rattle.std.proofs.Common.{◌<◌, ℕ, [], length, slice_index, take, Some, None, refl, sym, ap, subst, ◌∙◌, arith, rules}
 use Rattle.std.proofs.Math.ListN.{drop_of_length-le}
-use Rattle.vl_ast.specs.Conditions.{first_fault, is_declaration_of, is_double, is_driver_of, mentioned}
-use Rattle.vl_check.specs.inner.Mentioned.{shown, mention_of}
+use Rattle.vl_ast.specs.Conditions.{first_fault, is_declaration_of, is_double, is_driver_of}
+use Rattle.vl_check.specs.inner.Mentioned.{shown}
 use Rattle.vl_check.specs.inner.Marks.{declares, drives}
-use Rattle.vl_check.proofs.Marking.{number-below, number-there, driver-test, declaration-test, marks-step, fault-step, fault-found, mark-here, declared-here, double-here, marks-long}
+use Rattle.vl_check.proofs.Marking.{number-below, number-there, driver-test, declaration-test, marks-step, fault-step, fault-found, mark-here, declared-here, double-here, marks-long, none-marked, past-all}
 use Rattle.vl_check.proofs.driving.doubly.Goals as goal
 
 pub returns-then-is_double : goal.returns-then-is_double
@@ -20,9 +19,7 @@ returns-then-is_double c m whole =
 pub returns : goal.returns
 returns c m whole =
     let text = c.args.text.now in
-    let past : length text ≤ c.loop-i.i = c.loop-i-test.false in
-    let long = length-map text mention_of in
-    sym (ap (first_fault (is_double m) (take c.loop-i.i (shown text))) (drop_of_length-le (shown text) (omega (arith, long, past)))) ∙ c.loop-i.invariant.fault m whole ∙ ap (first_fault (is_double m) []) whole
+    sym (ap (first_fault (is_double m) (take c.loop-i.i (shown text))) (drop_of_length-le (shown text) (past-all text c.loop-i.i c.loop-i-test.false))) ∙ c.loop-i.invariant.fault m whole ∙ ap (first_fault (is_double m) []) whole
 
 pub loop-i-preserved : goal.loop-i-preserved
 loop-i-preserved c =
@@ -42,38 +39,23 @@ loop-i-preserved c =
     }
 
 pub loop-i-init : goal.loop-i-init
-loop-i-init c =
-    let numbers = c.args.numbers.now in
-    let count = length c.args.first.now in
-    let declared : c.in_ok-declared.declared.items ≡ replicate count false = c.in_ok-declared.ensures.items_if_clones_equal (search rules) in
-    let driven : c.in_ok-driven.driven.items ≡ replicate count false = c.in_ok-driven.ensures.items_if_clones_equal (search rules) in
-    record {
-      long = sym c.in_ok-declared.declared.ok.0 ∙ c.in_ok-declared.ensures.len;
-      driven_long = sym c.in_ok-driven.driven.ok.0 ∙ c.in_ok-driven.ensures.len;
-      marks = record {
-        at = λ i d m inside. ap (λ (marks : List Bool). slice_index_or marks (slice_index numbers i) m) declared ∙ get_or-replicate count (slice_index numbers i) false m (c.requires.numbers.below i inside);
-      };
-      driven_marks = record {
-        at = λ i d m inside. ap (λ (marks : List Bool). slice_index_or marks (slice_index numbers i) m) driven ∙ get_or-replicate count (slice_index numbers i) false m (c.requires.numbers.below i inside);
-      };
-      fault = λ m whole. refl;
-    }
+loop-i-init c = record {
+  long = sym c.in_ok-declared.declared.ok.0 ∙ c.in_ok-declared.ensures.len;
+  driven_long = sym c.in_ok-driven.driven.ok.0 ∙ c.in_ok-driven.ensures.len;
+  marks = none-marked is_declaration_of _ _ _ c.requires.numbers _ (c.in_ok-declared.ensures.items_if_clones_equal (search rules));
+  driven_marks = none-marked is_driver_of _ _ _ c.requires.numbers _ (c.in_ok-driven.ensures.items_if_clones_equal (search rules));
+  fault = λ m whole. refl;
+}
 
 pub mark-requires : goal.mark-requires
 mark-requires c =
-    let text = c.args.text.now in
-    let long = length-map (shown text) mentioned ∙ length-map text mention_of in
-    let inside : c.loop-i.i < length text = c.loop-i-test.true in
-    let below = c.requires.numbers.below c.loop-i.i (omega (arith, long, inside)) in
-    subst (λ (n : ℕ). slice_index c.args.numbers.now c.loop-i.i < n) (sym c.loop-i.invariant.long) below
+    subst (λ (n : ℕ). slice_index c.args.numbers.now c.loop-i.i < n) (sym c.loop-i.invariant.long)
+    (number-below c.args.text.now c.args.numbers.now _ c.requires.numbers c.loop-i.i c.loop-i-test.true)
 
 pub mark-requires-in-loop-i : goal.mark-requires-in-loop-i
 mark-requires-in-loop-i c =
-    let text = c.args.text.now in
-    let long = length-map (shown text) mentioned ∙ length-map text mention_of in
-    let inside : c.loop-i.i < length text = c.loop-i-test.true in
-    let below = c.requires.numbers.below c.loop-i.i (omega (arith, long, inside)) in
-    subst (λ (n : ℕ). slice_index c.args.numbers.now c.loop-i.i < n) (sym c.loop-i.invariant.driven_long) below
+    subst (λ (n : ℕ). slice_index c.args.numbers.now c.loop-i.i < n) (sym c.loop-i.invariant.driven_long)
+    (number-below c.args.text.now c.args.numbers.now _ c.requires.numbers c.loop-i.i c.loop-i-test.true)
 
 pub bounds-text-i : goal.bounds-text-i
 bounds-text-i c = c.loop-i-test.true

@@ -1,22 +1,16 @@
-use Rattle.std.proofs.Common.{◌≡◌, ◌<◌, ◌≤◌, ℕ, Bool, false, List, length, map, replicate, slice_index, slice_index_or, sym, ap, subst, ◌∙◌, arith, rules}
-use Rattle.std.proofs.lemmas.List.{get_or-replicate, length-map, take_all}
+use Rattle.std.proofs.Common.{◌<◌, ℕ, length, map, slice_index, sym, subst, ◌∙◌, arith, rules}
+use Rattle.std.proofs.lemmas.List.{take_all}
 use Rattle.vl_ast.specs.Conditions.{is_driver_of, mentioned}
-use Rattle.vl_check.specs.inner.Mentioned.{mention_of, shown}
+use Rattle.vl_check.specs.inner.Mentioned.{shown}
 use Rattle.vl_check.specs.inner.Marks.{Marks, drives}
-use Rattle.vl_check.proofs.Marking.{driver-test, marks-step, marks-long, number-below, number-there}
+use Rattle.vl_check.proofs.Marking.{driver-test, marks-step, marks-long, none-marked, number-below, number-there, past-all}
 use Rattle.vl_check.proofs.driving.driven_names.Goals as goal
 
 pub loop-i-init : goal.loop-i-init
-loop-i-init c =
-    let numbers = c.args.numbers.now in
-    let count = c.args.count in
-    let driven : c.in_ok-driven.driven.items ≡ replicate count false = c.in_ok-driven.ensures.items_if_clones_equal (search rules) in
-    record {
-      long = sym c.in_ok-driven.driven.ok.0 ∙ c.in_ok-driven.ensures.len;
-      marks = record {
-        at = λ i d m inside. ap (λ (marks : List Bool). slice_index_or marks (slice_index numbers i) m) driven ∙ get_or-replicate count (slice_index numbers i) false m (c.requires.below i inside);
-      };
-    }
+loop-i-init c = record {
+  long = sym c.in_ok-driven.driven.ok.0 ∙ c.in_ok-driven.ensures.len;
+  marks = none-marked is_driver_of _ _ _ c.requires _ (c.in_ok-driven.ensures.items_if_clones_equal (search rules));
+}
 
 pub bounds-text-i : goal.bounds-text-i
 bounds-text-i c = c.loop-i-test.true
@@ -46,9 +40,7 @@ loop-i-smaller c = let here : c.loop-i.i < length c.args.text.now = c.loop-i-tes
 pub returns : goal.returns
 returns c =
     let text = c.args.text.now in
-    let past : length text ≤ c.loop-i.i = c.loop-i-test.false in
-    let long = length-map text mention_of in
     record {
       long = c.loop-i.invariant.long;
-      marks = subst (λ part. Marks is_driver_of (map mentioned (shown text)) c.args.numbers.now c.loop-i.driven.items part) (take_all c.loop-i.i (shown text) (omega (arith, long, past))) c.loop-i.invariant.marks;
+      marks = subst (λ part. Marks is_driver_of (map mentioned (shown text)) c.args.numbers.now c.loop-i.driven.items part) (take_all c.loop-i.i (shown text) (past-all text c.loop-i.i c.loop-i-test.false)) c.loop-i.invariant.marks;
     }

@@ -1,9 +1,9 @@
-use Rattle.std.proofs.Common.{◌≤◌, ◌<◌, length, arith, ℕ, slice_index, ◌+◌, map, take, sym, subst, ◌∙◌}
-use Rattle.std.proofs.lemmas.List.{length-map, take_all}
+use Rattle.std.proofs.Common.{◌<◌, length, arith, ℕ, slice_index, ◌+◌, map, take, sym, subst, ◌∙◌}
+use Rattle.std.proofs.lemmas.List.{take_all}
 use Rattle.vl_ast.specs.Conditions.{mentioned}
-use Rattle.vl_check.specs.inner.Mentioned.{mention_of, shown}
+use Rattle.vl_check.specs.inner.Mentioned.{shown}
 use Rattle.vl_check.specs.inner.Marks.{AreFirst}
-use Rattle.vl_check.proofs.Marking.{number-below, number-there, first-step, first-long}
+use Rattle.vl_check.proofs.Marking.{number-below, number-there, first-step, first-long, past-all}
 use Rattle.vl_check.proofs.driving.first_declarations.Goals as goal
 
 pub loop-i-preserved : goal.loop-i-preserved
@@ -35,9 +35,7 @@ loop-i-smaller c = let here : c.loop-i.i < length c.args.text.now = c.loop-i-tes
 pub returns : goal.returns
 returns c =
     let text = c.args.text.now in
-    let past : length text ≤ c.loop-i.i = c.loop-i-test.false in
-    let long = length-map text mention_of in
     record {
       long = c.loop-i.invariant.long;
-      first = subst (λ part. AreFirst (map mentioned (shown text)) c.args.numbers.now c.loop-i.first.items part) (take_all c.loop-i.i (shown text) (omega (arith, long, past))) c.loop-i.invariant.first;
+      first = subst (λ part. AreFirst (map mentioned (shown text)) c.args.numbers.now c.loop-i.first.items part) (take_all c.loop-i.i (shown text) (past-all text c.loop-i.i c.loop-i-test.false)) c.loop-i.invariant.first;
     }

@@ -1,10 +1,9 @@
-use Rattle.std.proofs.Common.{◌≤◌, ◌≡◌, ◌<◌, ℕ, Bool, false, List, length, replicate, slice_index, slice_index_or, take, Some, refl, sym, ap, subst, ◌∙◌, arith, rules}
+use Rattle.std.proofs.Common.{◌<◌, ℕ, length, slice_index, take, Some, refl, sym, ap, subst, ◌∙◌, arith, rules}
 use Rattle.std.proofs.Math.ListN.{drop_of_length-le}
-use Rattle.std.proofs.lemmas.List.{get_or-replicate, length-map}
-use Rattle.vl_ast.specs.Conditions.{first_fault, is_declaration_of, is_driver_of, is_undriven, mentioned}
-use Rattle.vl_check.specs.inner.Mentioned.{mention_of, shown}
+use Rattle.vl_ast.specs.Conditions.{first_fault, is_declaration_of, is_driver_of, is_undriven}
+use Rattle.vl_check.specs.inner.Mentioned.{shown}
 use Rattle.vl_check.specs.inner.Marks.{declares}
-use Rattle.vl_check.proofs.Marking.{number-below, number-there, declaration-test, marks-step, fault-step, fault-found, mark-here, undriven-here, marks-long}
+use Rattle.vl_check.proofs.Marking.{number-below, number-there, declaration-test, marks-step, fault-step, fault-found, mark-here, undriven-here, marks-long, none-marked, past-all}
 use Rattle.vl_check.proofs.driving.undriven.Goals as goal
 
 pub returns-then-is_undriven : goal.returns-then-is_undriven
@@ -29,25 +28,16 @@ loop-i-preserved c =
     }
 
 pub loop-i-init : goal.loop-i-init
-loop-i-init c =
-    let numbers = c.args.numbers.now in
-    let count = c.args.count in
-    let declared : c.in_ok-declared.declared.items ≡ replicate count false = c.in_ok-declared.ensures.items_if_clones_equal (search rules) in
-    record {
-      long = sym c.in_ok-declared.declared.ok.0 ∙ c.in_ok-declared.ensures.len;
-      marks = record {
-        at = λ i d m inside. ap (λ (marks : List Bool). slice_index_or marks (slice_index numbers i) m) declared ∙ get_or-replicate count (slice_index numbers i) false m (c.requires.below i inside);
-      };
-      fault = refl;
-    }
+loop-i-init c = record {
+  long = sym c.in_ok-declared.declared.ok.0 ∙ c.in_ok-declared.ensures.len;
+  marks = none-marked is_declaration_of _ _ _ c.requires _ (c.in_ok-declared.ensures.items_if_clones_equal (search rules));
+  fault = refl;
+}
 
 pub mark-requires : goal.mark-requires
 mark-requires c =
-    let text = c.args.text.now in
-    let long = length-map (shown text) mentioned ∙ length-map text mention_of in
-    let inside : c.loop-i.i < length text = c.loop-i-test.true in
-    let below = c.requires.below c.loop-i.i (omega (arith, long, inside)) in
-    subst (λ (n : ℕ). slice_index c.args.numbers.now c.loop-i.i < n) (sym c.loop-i.invariant.long) below
+    subst (λ (n : ℕ). slice_index c.args.numbers.now c.loop-i.i < n) (sym c.loop-i.invariant.long)
+    (number-below c.args.text.now c.args.numbers.now _ c.requires c.loop-i.i c.loop-i-test.true)
 
 pub bounds-text-i : goal.bounds-text-i
 bounds-text-i c = c.loop-i-test.true
@@ -77,6 +67,4 @@ driven_names-requires c = c.requires
 pub returns : goal.returns
 returns c =
     let text = c.args.text.now in
-    let past : length text ≤ c.loop-i.i = c.loop-i-test.false in
-    let long = length-map text mention_of in
-    sym (ap (first_fault (is_undriven (shown text)) (take c.loop-i.i (shown text))) (drop_of_length-le (shown text) (omega (arith, long, past)))) ∙ c.loop-i.invariant.fault
+    sym (ap (first_fault (is_undriven (shown text)) (take c.loop-i.i (shown text))) (drop_of_length-le (shown text) (past-all text c.loop-i.i c.loop-i-test.false))) ∙ c.loop-i.invariant.fault
