@@ -11,7 +11,7 @@ use Rattle.vl_ast.specs.declared.expressions.Expr.{Expr}
 use Rattle.vl_ast.specs.declared.modules.Port.{Port}
 use Rattle.vl_ast.specs.declared.modules.ModItem.TheVariants.{Always}
 use Rattle.vl_ast.specs.declared.modules.Module.{Module}
-use Rattle.vl_ast.specs.Conditions.{BreaksNone, IsLoop, doubly, undriven}
+use Rattle.vl_ast.specs.Conditions.{BreaksNone}
 use Rattle.vl_ast.specs.Context.{Net}
 use Rattle.vl_ast.specs.Nets.{Declared, declarations, nets_of, port_declared}
 use Rattle.vl_ast.specs.Runs.{takes_value}
@@ -51,15 +51,6 @@ takes-same m row None = refl
 takes-same m row (Some e) = refl
 
 module _ (by_layer : ByLayer) (m : Module) (b : BreaksNone m) (scope : Scope) (s : IsScopeOf m scope) (plan : Plan) (p : IsPlan m scope plan) where
-  abbrev driven' : undriven m ≡ None
-  driven' = b.acyclic.driven
-
-  abbrev once' : doubly m ≡ None
-  once' = b.acyclic.once
-
-  abbrev loopless : (first : List ℕ) (others : List (List ℕ)) → IsLoop m first others → ⊥
-  loopless = b.acyclic.acyclic
-
   abbrev nets : List ℕ → Net
   nets = nets_in scope
 
@@ -89,7 +80,7 @@ module _ (by_layer : ByLayer) (m : Module) (b : BreaksNone m) (scope : Scope) (s
       by (inr (c, inside, to, same)) =
           let r = p.captured.only c inside in
           let named : r.0 ≡ name = one-slot by_layer m b scope s plan p r.0 name (register-known by_layer m b scope s plan p r.0 r.1 r.2 r.3 r.4) (register-known by_layer m b scope s plan p name first condition value h) (register-fixed by_layer m b scope s plan p r.0 r.1 r.2 r.3 r.4) (register-fixed by_layer m b scope s plan p name first condition value h) (sym r.5.to ∙ to) in
-          let one = one-always m driven' once' name r.1 first r.2 condition r.3 value (subst (λ n. Contains m.items (Always n r.1 r.2 r.3)) named r.4) h in
+          let one = one-always m b.acyclic.driven b.acyclic.once name r.1 first r.2 condition r.3 value (subst (λ n. Contains m.items (Always n r.1 r.2 r.3)) named r.4) h in
           same ∙ r.5.is (λ k. slice_index v0 k) (settled-all by_layer m b scope s plan p v0 st) f ∙ (λ i. next_in nets (row v0) (named i) (one i).first (one i).condition (one i).value)
 
     register-put : (name : List ℕ) (first : Sized) (condition : Option Expr) (value : Expr) → Contains m.items (Always name first condition value) → row v2 name ≡ row v1 name
@@ -154,7 +145,7 @@ module _ (by_layer : ByLayer) (m : Module) (b : BreaksNone m) (scope : Scope) (s
           let place : slot_in scope slots port.name ≡ slice_index plan.inputs.items k = sym (a.2 ∙ ap (λ (x : Port). slot_in scope slots x.name) port-is) in
           let shown : row v2 port.name ≡ slice_index bits k = ap (λ n. slice_index v2 n) place ∙ put.each k low in
           let within : k < length bits = (let below = c.1 in let n = fit.count in omega (arith, n, below)) in
-          let apart = filtered-apart (λ (x : Port). x.input && not (bytes_eq x.name (codes "clk"))) m.ports (ports-apart m driven' once') in
+          let apart = filtered-apart (λ (x : Port). x.input && not (bytes_eq x.name (codes "clk"))) m.ports (ports-apart m b.acyclic.driven b.acyclic.once) in
           (shown ∙ sym (given-at (driven_ports m) apart bits k port e within), subst (λ n. n < 2 ^ port.width) (sym shown) (fit.narrow k port e))
         where
           one : {x y : Port} → Some x ≡ Some y → x ≡ y
@@ -196,7 +187,7 @@ module _ (by_layer : ByLayer) (m : Module) (b : BreaksNone m) (scope : Scope) (s
         edge-fits = record { at = λ d listed fixed. by d listed (origin by_layer m b scope s plan p d listed fixed) } where
           by : (d : Declared) → Contains (declarations m) d → Origin by_layer m b scope s plan p d → row v3 d.name < 2 ^ (nets d.name).width
           by d listed (IsInput port h i same) =
-              let w = width-is by_layer m b scope s plan p (port_declared port) (mention-listed m driven' once' (port_declared port) (in-port m driven' once' port h)) in
+              let w = width-is by_layer m b scope s plan p (port_declared port) (mention-listed m b.acyclic.driven b.acyclic.once (port_declared port) (in-port m b.acyclic.driven b.acyclic.once port h)) in
               subst (λ n. row v3 n < 2 ^ (nets n).width) same (subst (λ n. row v3 port.name < 2 ^ n) (sym w) (input-shown port h i).1)
           by d listed (IsStored first condition value h) =
               let w = (nets d.name).width in
@@ -230,7 +221,7 @@ module _ (by_layer : ByLayer) (m : Module) (b : BreaksNone m) (scope : Scope) (s
     first-is = record {
       row_is = row-is by_layer m b scope s plan p v3 (λ name. 0) st3 first-fits first-still;
       starts = λ signed width name h.
-          let a = stored by_layer m driven' once' loopless b.clocked signed width name h in
+          let a = stored by_layer m b.acyclic.driven b.acyclic.once b.acyclic.acyclic b.clocked signed width name h in
           fixed-zero name (register-known by_layer m b scope s plan p name a.first a.condition a.value a.item) (register-fixed by_layer m b scope s plan p name a.first a.condition a.value a.item);
     }
 

@@ -1,5 +1,5 @@
 -- The places of names that no item assigns, which a capture or a put may change, and the rows of settled values.
-use Rattle.std.proofs.Common.{◌≡◌, ◌≢◌, ◌<◌, ◌≤◌, ◌+◌, ◌^◌, ℕ, Bool, true, false, not, ◌&&◌, if◌then◌else◌, List, [], length, slice_get, slice_index, slice_index_or, codes, bytes_eq, Contains, Option, None, Some, refl, sym, ap, subst, ◌∙◌, arith}
+use Rattle.std.proofs.Common.{◌≡◌, ◌≢◌, ◌<◌, ◌≤◌, ◌+◌, ◌^◌, ℕ, Bool, true, false, not, ◌&&◌, if◌then◌else◌, List, [], length, slice_get, slice_index, slice_index_or, codes, bytes_eq, Contains, Option, Some, refl, sym, ap, subst, ◌∙◌, arith}
 use Rattle.std.proofs.lemmas.Bool.{and_parts, not-true}
 use Rattle.std.proofs.lemmas.Option.{slice_get_within, slice_get-get_or}
 use Rattle.std.proofs.lemmas.List.{get_or-map, length-map}
@@ -8,7 +8,7 @@ use Rattle.vl_ast.specs.declared.expressions.Expr.{Expr}
 use Rattle.vl_ast.specs.declared.modules.Port.{Port}
 use Rattle.vl_ast.specs.declared.modules.ModItem.TheVariants.{Always}
 use Rattle.vl_ast.specs.declared.modules.Module.{Module}
-use Rattle.vl_ast.specs.Conditions.{BreaksNone, IsLoop, doubly, may_drive, needs_driver, undriven}
+use Rattle.vl_ast.specs.Conditions.{BreaksNone, may_drive, needs_driver}
 use Rattle.vl_ast.specs.Context.{Net}
 use Rattle.vl_ast.specs.Nets.{Kind, InputPort, OutputPort, Declared, Declares, Drives, declarations, mentions, net_or_none, nets_of, port_declared}
 use Rattle.vl_ast.specs.Steps.{IsRow}
@@ -39,15 +39,6 @@ pub any-port : Port
 any-port = record { attrs = []; input = false; signed = false; width = 0; name = [] }
 
 module _ (by_layer : ByLayer) (m : Module) (b : BreaksNone m) (scope : Scope) (s : IsScopeOf m scope) (plan : Plan) (p : IsPlan m scope plan) where
-  abbrev driven' : undriven m ≡ None
-  driven' = b.acyclic.driven
-
-  abbrev once' : doubly m ≡ None
-  once' = b.acyclic.once
-
-  abbrev loopless : (first : List ℕ) (others : List (List ℕ)) → IsLoop m first others → ⊥
-  loopless = b.acyclic.acyclic
-
   abbrev nets : List ℕ → Net
   nets = nets_in scope
 
@@ -55,7 +46,7 @@ module _ (by_layer : ByLayer) (m : Module) (b : BreaksNone m) (scope : Scope) (s
   nets-same = λ i name. net_or_none (s.declares name i)
 
   pub few : (name : List ℕ) → (nets name).width ≤ 128
-  few name = subst (λ (f : List ℕ → Net). (f name).width ≤ 128) (sym nets-same) (width-few m b.narrow driven' once' name)
+  few name = subst (λ (f : List ℕ → Net). (f name).width ≤ 128) (sym nets-same) (width-few m b.narrow b.acyclic.driven b.acyclic.once name)
 
   abbrev slots : List ℕ
   slots = plan.slots.items
@@ -82,10 +73,10 @@ module _ (by_layer : ByLayer) (m : Module) (b : BreaksNone m) (scope : Scope) (s
   settled-wires values st = settled-later by_layer count scope slots p.wires ops p.captured.grows (λ k. slice_index values k) (settled-all values st)
 
   pub width-is : (d : Declared) → Contains (declarations m) d → (nets d.name).width ≡ d.net.width
-  width-is d listed = ap (λ (f : List ℕ → Net). (f d.name).width) nets-same ∙ ap (λ (n : Net). n.width) (net-is by_layer m driven' once' loopless d (listed-mention m driven' once' d listed))
+  width-is d listed = ap (λ (f : List ℕ → Net). (f d.name).width) nets-same ∙ ap (λ (n : Net). n.width) (net-is by_layer m b.acyclic.driven b.acyclic.once b.acyclic.acyclic d (listed-mention m b.acyclic.driven b.acyclic.once d listed))
 
   pub fits-known : (values : List ℕ) → Settled' values → FixedFit m scope (row values) → (name : List ℕ) → Known name → row values name < 2 ^ (nets name).width
-  fits-known values st f name known = known-fits by_layer m scope s driven' once' few slots p.wires p.wired name known (λ k. slice_index values k) (settled-wires values st) f
+  fits-known values st f name known = known-fits by_layer m scope s b.acyclic.driven b.acyclic.once few slots p.wires p.wired name known (λ k. slice_index values k) (settled-wires values st) f
 
   -- values that are settled are a row
   pub row-is : (values : List ℕ) (inputs : List ℕ → ℕ) → Settled' values → FixedFit m scope (row values)
@@ -105,26 +96,26 @@ module _ (by_layer : ByLayer) (m : Module) (b : BreaksNone m) (scope : Scope) (s
 
   unwired : (d : Declared) → Contains (mentions m) (Declares d) → IsFixed m d.name → (kind : Kind) → d.kind ≡ kind → needs_driver kind ≡ true → may_drive true kind ≡ false → Origin d
   unwired d there fixed kind is needs may =
-      let a = wired by_layer m driven' once' loopless b.clocked d there (ap needs_driver is ∙ needs) (ap (may_drive true) is ∙ may) in absurd (fixed a.0 a.1)
+      let a = wired by_layer m b.acyclic.driven b.acyclic.once b.acyclic.acyclic b.clocked d there (ap needs_driver is ∙ needs) (ap (may_drive true) is ∙ may) in absurd (fixed a.0 a.1)
 
   of-port : (d : Declared) → Contains (mentions m) (Declares d) → IsFixed m d.name → (port : Port) → Contains m.ports port → port_declared port ≡ d → (input : Bool) → port.input ≡ input → Origin d
   of-port d there fixed port h e true i = IsInput port h i (ap (λ (x : Declared). x.name) e)
   of-port d there fixed port h e false i = unwired d there fixed OutputPort (sym (ap (λ (x : Declared). x.kind) e) ∙ ap kind_of i) refl refl
 
   pub origin : (d : Declared) → Contains (declarations m) d → IsFixed m d.name → Origin d
-  origin d listed fixed = by (declaration-by m driven' once' d there) where
+  origin d listed fixed = by (declaration-by m b.acyclic.driven b.acyclic.once d there) where
     there : Contains (mentions m) (Declares d)
-    there = listed-mention m driven' once' d listed
+    there = listed-mention m b.acyclic.driven b.acyclic.once d listed
 
-    by : Declaration m driven' once' d → Origin d
+    by : Declaration m b.acyclic.driven b.acyclic.once d → Origin d
     by (OfPort port h e) = of-port d there fixed port h e port.input refl
     by (OfWire signed width h kind) = unwired d there fixed d.kind refl (ap needs_driver kind) (ap (may_drive true) kind)
-    by (OfReg signed width h kind) = let a = stored by_layer m driven' once' loopless b.clocked signed width d.name h in IsStored a.first a.condition a.value a.item
+    by (OfReg signed width h kind) = let a = stored by_layer m b.acyclic.driven b.acyclic.once b.acyclic.acyclic b.clocked signed width d.name h in IsStored a.first a.condition a.value a.item
 
   -- such a name has its number as its place
   pub fixed-slot : (name : List ℕ) → Known name → IsFixed m name → (k : ℕ) × (number_in scope name ≡ Some k) × (slot_in scope slots name ≡ k) × (k < count)
   fixed-slot name known fixed =
-      let k = number-of by_layer m scope s driven' once' few slots p.wires p.wired name known in
+      let k = number-of by_layer m scope s b.acyclic.driven b.acyclic.once few slots p.wires p.wired name known in
       (k.0, k.1, ap (slot_at slots) k.1 ∙ p.wired.fixed name k.0 k.1 fixed, slice_get_within (names_in scope) k.0 name (at-number scope.names.items k.0 name k.1))
 
   same-name : (one other : List ℕ) (k : ℕ) → number_in scope one ≡ Some k → number_in scope other ≡ Some k → one ≡ other
@@ -141,22 +132,22 @@ module _ (by_layer : ByLayer) (m : Module) (b : BreaksNone m) (scope : Scope) (s
 
   pub register-known : (name : List ℕ) (first : Sized) (condition : Option Expr) (value : Expr) → Contains m.items (Always name first condition value) → Known name
   register-known name first condition value h =
-      let d = driven-declared m driven' once' true name (always-drives m driven' once' name first condition value h) in
-      (d.0, mention-listed m driven' once' d.0 d.1, d.2)
+      let d = driven-declared m b.acyclic.driven b.acyclic.once true name (always-drives m b.acyclic.driven b.acyclic.once name first condition value h) in
+      (d.0, mention-listed m b.acyclic.driven b.acyclic.once d.0 d.1, d.2)
 
   pub register-fixed : (name : List ℕ) (first : Sized) (condition : Option Expr) (value : Expr) → Contains m.items (Always name first condition value) → IsFixed m name
-  register-fixed name first condition value h other h' = not-both m driven' once' name other first condition value h' h
+  register-fixed name first condition value h other h' = not-both m b.acyclic.driven b.acyclic.once name other first condition value h' h
 
   pub input-known : (port : Port) → Contains m.ports port → Known port.name
-  input-known port h = (port_declared port, mention-listed m driven' once' (port_declared port) (in-port m driven' once' port h), refl)
+  input-known port h = (port_declared port, mention-listed m b.acyclic.driven b.acyclic.once (port_declared port) (in-port m b.acyclic.driven b.acyclic.once port h), refl)
 
   pub input-fixed : (port : Port) → Contains m.ports port → port.input ≡ true → IsFixed m port.name
-  input-fixed port h i value h' = may-not by_layer m driven' once' loopless false (port_declared port) (in-port m driven' once' port h) (ap (λ t. may_drive false (kind_of t)) i) (assign-drives m driven' once' port.name value h')
+  input-fixed port h i value h' = may-not by_layer m b.acyclic.driven b.acyclic.once b.acyclic.acyclic false (port_declared port) (in-port m b.acyclic.driven b.acyclic.once port h) (ap (λ t. may_drive false (kind_of t)) i) (assign-drives m b.acyclic.driven b.acyclic.once port.name value h')
 
   pub no-register : (port : Port) → Contains m.ports port → port.input ≡ true → (name : List ℕ) (first : Sized) (condition : Option Expr) (value : Expr) → Contains m.items (Always name first condition value) → name ≢ port.name
   no-register port h i name first condition value h' same =
-      may-not by_layer m driven' once' loopless true (port_declared port) (in-port m driven' once' port h) (ap (λ t. may_drive true (kind_of t)) i)
-      (subst (λ n. Contains (mentions m) (Drives true n)) same (always-drives m driven' once' name first condition value h'))
+      may-not by_layer m b.acyclic.driven b.acyclic.once b.acyclic.acyclic true (port_declared port) (in-port m b.acyclic.driven b.acyclic.once port h) (ap (λ t. may_drive true (kind_of t)) i)
+      (subst (λ n. Contains (mentions m) (Drives true n)) same (always-drives m b.acyclic.driven b.acyclic.once name first condition value h'))
 
   -- the port at each place that is put
   pub place-at : (k : ℕ) → k < length plan.inputs.items → (port : Port) × (slice_get (driven_ports m) k ≡ Some port) × (slice_index plan.inputs.items k ≡ slot_in scope slots port.name)
@@ -177,7 +168,7 @@ module _ (by_layer : ByLayer) (m : Module) (b : BreaksNone m) (scope : Scope) (s
       let other = place-at j low in
       let d = driven-in i one.0 one.1 in
       let d' = driven-in j other.0 other.1 in
-      (filtered-apart (λ (x : Port). x.input && not (bytes_eq x.name (codes "clk"))) m.ports (ports-apart m driven' once')).at i j one.0 other.0 less one.1 other.1
+      (filtered-apart (λ (x : Port). x.input && not (bytes_eq x.name (codes "clk"))) m.ports (ports-apart m b.acyclic.driven b.acyclic.once)).at i j one.0 other.0 less one.1 other.1
       (one-slot one.0.name other.0.name (input-known one.0 d.0) (input-known other.0 d'.0) (input-fixed one.0 d.0 d.1) (input-fixed other.0 d'.0 d'.1) (sym one.2 ∙ same ∙ other.2))
 
   pub places-within : (values : List ℕ) → length values ≡ plan.base + length ops → (k : ℕ) → k < length plan.inputs.items → slice_index plan.inputs.items k < length values

@@ -1,12 +1,12 @@
 -- What a machine hands out of an output's place is what the row shows of its port.
-use Rattle.std.proofs.Common.{◌≡◌, ◌<◌, ◌≤◌, ◌+◌, ◌^◌, ℕ, Bool, true, false, ◌||◌, List, length, slice_get, slice_index, slice_index_or, bytes_eq, Contains, None, Some, refl, sym, ap, subst, ◌∙◌, arith}
+use Rattle.std.proofs.Common.{◌≡◌, ◌<◌, ◌≤◌, ◌+◌, ◌^◌, ℕ, Bool, true, false, ◌||◌, List, length, slice_get, slice_index, slice_index_or, bytes_eq, Contains, Some, refl, sym, ap, subst, ◌∙◌, arith}
 use Rattle.std.proofs.lemmas.Bool.{eq-eqb}
 use Rattle.std.specs.List.{position}
 use Rattle.std.proofs.lemmas.Option.{slice_get_within, slice_get-get_or}
 use Rattle.std.proofs.lemmas.List.{get_or-map, get_or_default}
 use Rattle.vl_ast.specs.declared.modules.Port.{Port}
 use Rattle.vl_ast.specs.declared.modules.Module.{Module}
-use Rattle.vl_ast.specs.Conditions.{BreaksNone, doubly, undriven}
+use Rattle.vl_ast.specs.Conditions.{BreaksNone}
 use Rattle.vl_ast.specs.Control.{is_number_output, is_stallable}
 use Rattle.vl_ast.specs.Driven.{output_ports, port_number}
 use Rattle.vl_ast.specs.Context.{Net}
@@ -30,12 +30,6 @@ use Rattle.vl_eval.proofs.FixedPlaces.{any-port, few, width-is, input-known}
 use Rattle.vl_eval.proofs.Edges.{named-row}
 
 module _ (by_layer : ByLayer) (m : Module) (b : BreaksNone m) (scope : Scope) (s : IsScopeOf m scope) (plan : Plan) (p : IsPlan m scope plan) where
-  abbrev driven' : undriven m ≡ None
-  driven' = b.acyclic.driven
-
-  abbrev once' : doubly m ≡ None
-  once' = b.acyclic.once
-
   abbrev nets : List ℕ → Net
   nets = nets_in scope
 
@@ -77,7 +71,7 @@ module _ (by_layer : ByLayer) (m : Module) (b : BreaksNone m) (scope : Scope) (s
 
   slot-within : (name : List ℕ) → Known name → slot_in scope slots name < plan.base + length ops
   slot-within name known =
-      let k = number-of by_layer m scope s driven' once' (few by_layer m b scope s plan p) slots p.wires p.wired name known in
+      let k = number-of by_layer m scope s b.acyclic.driven b.acyclic.once (few by_layer m b scope s plan p) slots p.wires p.wired name known in
       let low = slice_get_within (names_in scope) k.0 name (at-number scope.names.items k.0 name k.1) in
       let b = p.wired.below k.0 low in
       let e : slot_in scope slots name ≡ slice_index slots k.0 = ap (slot_at slots) k.1 in
@@ -99,7 +93,7 @@ module _ (by_layer : ByLayer) (m : Module) (b : BreaksNone m) (scope : Scope) (s
     slot-below = let e = ap (λ (x : Output). x.slot) output-is in let w = slot-within here.name port-known in omega (arith, e, w)
 
     width-here : (nets here.name).width ≡ here.width
-    width-here = width-is by_layer m b scope s plan p (port_declared here) (mention-listed m driven' once' (port_declared here) (in-port m driven' once' here (out-at place below).inside))
+    width-here = width-is by_layer m b scope s plan p (port_declared here) (mention-listed m b.acyclic.driven b.acyclic.once (port_declared here) (in-port m b.acyclic.driven b.acyclic.once here (out-at place below).inside))
 
     pub output-few : o.width ≤ 128
     output-few = let e = ap (λ (x : Output). x.width) output-is in let w = width-here in let f = few by_layer m b scope s plan p here.name in omega (arith, e, w, f)
@@ -121,7 +115,7 @@ module _ (by_layer : ByLayer) (m : Module) (b : BreaksNone m) (scope : Scope) (s
 
       pub output-fits : FitsNamed values → bits < 2 ^ o.width
       output-fits fits =
-          let f = fits (port_declared here) (mention-listed m driven' once' (port_declared here) (in-port m driven' once' here (out-at place below).inside)) in
+          let f = fits (port_declared here) (mention-listed m b.acyclic.driven b.acyclic.once (port_declared here) (in-port m b.acyclic.driven b.acyclic.once here (out-at place below).inside)) in
           subst (λ n. bits < 2 ^ n) (sym (ap (λ (x : Output). x.width) output-is)) (subst (λ n. n < 2 ^ here.width) (sym bits-are) f)
 
       pub output-shows : (port : Port) → slice_get (output_ports m) place ≡ Some port → number_of (record { width = o.width; signed = o.signed; bits = bits }) ≡ port_number port (named values port.name)

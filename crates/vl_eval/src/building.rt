@@ -1,10 +1,9 @@
-ghost use Rattle.std.specs.Prelude.{◌≡◌, ◌≤◌, ℕ, Bool, true, IfOk};
+ghost use Rattle.std.specs.Prelude.{◌≡◌, ℕ, Bool, true, IfOk};
 ghost use Rattle.vl_ast.specs.declared.expressions.Expr.TheVariants.{AsSigned, AsUnsigned, Binary, Choose, Concat, Repeat, Shift, Unary};
 ghost use Rattle.vl_ast.specs.Conditions.{is_sound};
-ghost use Rattle.vl_ast.specs.Context.{own_length};
 ghost use Rattle.vl_ast.specs.Nets.{names_read};
 ghost use Rattle.vl_check.specs.Scope.{nets_in};
-ghost use Rattle.vl_eval.specs.inner.Site.{ArePlaced, Built, BuiltAlone};
+ghost use Rattle.vl_eval.specs.inner.Site.{ArePlaced, BuiltAlone, CanBuild, IsBuilt};
 
 use crate::adding::{beside, extend, push};
 use crate::code::Code;
@@ -25,13 +24,8 @@ fn build_unary(
     width: u32,
     signed: bool,
 ) -> Result<usize, OutOfMemory>
-    requires sound { is_sound (nets_in site.now.scope.now) (Unary op part.now) ≡ true }
-    requires longer { own_length (nets_in site.now.scope.now) (Unary op part.now) ≤ width }
-    requires most { width ≤ 128 }
-    requires placed { ArePlaced site.now.base site.now.scope.now site.now.slots.now ops.old
-        (names_read (Unary op part.now)) }
-    ensures { IfOk result (λ slot. Built site.now.base site.now.scope.now site.now.slots.now
-        ops.old ops.new slot width signed (Unary op part.now)) }
+    requires { CanBuild site.now ops.old width (Unary op part.now) }
+    ensures { IfOk result (IsBuilt site.now ops.old ops.new width signed (Unary op part.now)) }
 {
     meaning_by_layer();
     let context = unary_context(site, op, part, width, signed);
@@ -49,14 +43,9 @@ fn build_binary(
     width: u32,
     signed: bool,
 ) -> Result<usize, OutOfMemory>
-    requires sound { is_sound (nets_in site.now.scope.now) (Binary op left.now right.now) ≡ true }
-    requires longer { own_length (nets_in site.now.scope.now) (Binary op left.now right.now)
-        ≤ width }
-    requires most { width ≤ 128 }
-    requires placed { ArePlaced site.now.base site.now.scope.now site.now.slots.now ops.old
-        (names_read (Binary op left.now right.now)) }
-    ensures { IfOk result (λ slot. Built site.now.base site.now.scope.now site.now.slots.now
-        ops.old ops.new slot width signed (Binary op left.now right.now)) }
+    requires { CanBuild site.now ops.old width (Binary op left.now right.now) }
+    ensures { IfOk result (IsBuilt site.now ops.old ops.new width signed
+        (Binary op left.now right.now)) }
 {
     meaning_by_layer();
     let on_left = left_context(site, op, left, right, width, signed);
@@ -80,14 +69,9 @@ fn build_shift(
     width: u32,
     signed: bool,
 ) -> Result<usize, OutOfMemory>
-    requires sound { is_sound (nets_in site.now.scope.now) (Shift op part.now amount.now) ≡ true }
-    requires longer { own_length (nets_in site.now.scope.now) (Shift op part.now amount.now)
-        ≤ width }
-    requires most { width ≤ 128 }
-    requires placed { ArePlaced site.now.base site.now.scope.now site.now.slots.now ops.old
-        (names_read (Shift op part.now amount.now)) }
-    ensures { IfOk result (λ slot. Built site.now.base site.now.scope.now site.now.slots.now
-        ops.old ops.new slot width signed (Shift op part.now amount.now)) }
+    requires { CanBuild site.now ops.old width (Shift op part.now amount.now) }
+    ensures { IfOk result (IsBuilt site.now ops.old ops.new width signed
+        (Shift op part.now amount.now)) }
 {
     meaning_by_layer();
     let slot = build(ops, site, part, width, signed)?;
@@ -108,15 +92,9 @@ fn build_choice(
     width: u32,
     signed: bool,
 ) -> Result<usize, OutOfMemory>
-    requires sound { is_sound (nets_in site.now.scope.now) (Choose test.now chosen.now other.now)
-        ≡ true }
-    requires longer { own_length (nets_in site.now.scope.now) (Choose test.now chosen.now other.now)
-        ≤ width }
-    requires most { width ≤ 128 }
-    requires placed { ArePlaced site.now.base site.now.scope.now site.now.slots.now ops.old
-        (names_read (Choose test.now chosen.now other.now)) }
-    ensures { IfOk result (λ slot. Built site.now.base site.now.scope.now site.now.slots.now
-        ops.old ops.new slot width signed (Choose test.now chosen.now other.now)) }
+    requires { CanBuild site.now ops.old width (Choose test.now chosen.now other.now) }
+    ensures { IfOk result (IsBuilt site.now ops.old ops.new width signed
+        (Choose test.now chosen.now other.now)) }
 {
     meaning_by_layer();
     let context = shape_of(site, test);
@@ -142,13 +120,8 @@ fn build_as_signed(
     width: u32,
     signed: bool,
 ) -> Result<usize, OutOfMemory>
-    requires sound { is_sound (nets_in site.now.scope.now) (AsSigned part.now) ≡ true }
-    requires longer { own_length (nets_in site.now.scope.now) (AsSigned part.now) ≤ width }
-    requires most { width ≤ 128 }
-    requires placed { ArePlaced site.now.base site.now.scope.now site.now.slots.now ops.old
-        (names_read (AsSigned part.now)) }
-    ensures { IfOk result (λ slot. Built site.now.base site.now.scope.now site.now.slots.now
-        ops.old ops.new slot width signed (AsSigned part.now)) }
+    requires { CanBuild site.now ops.old width (AsSigned part.now) }
+    ensures { IfOk result (IsBuilt site.now ops.old ops.new width signed (AsSigned part.now)) }
 {
     meaning_by_layer();
     let context = shape_of(site, part);
@@ -167,13 +140,8 @@ fn build_as_unsigned(
     width: u32,
     signed: bool,
 ) -> Result<usize, OutOfMemory>
-    requires sound { is_sound (nets_in site.now.scope.now) (AsUnsigned part.now) ≡ true }
-    requires longer { own_length (nets_in site.now.scope.now) (AsUnsigned part.now) ≤ width }
-    requires most { width ≤ 128 }
-    requires placed { ArePlaced site.now.base site.now.scope.now site.now.slots.now ops.old
-        (names_read (AsUnsigned part.now)) }
-    ensures { IfOk result (λ slot. Built site.now.base site.now.scope.now site.now.slots.now
-        ops.old ops.new slot width signed (AsUnsigned part.now)) }
+    requires { CanBuild site.now ops.old width (AsUnsigned part.now) }
+    ensures { IfOk result (IsBuilt site.now ops.old ops.new width signed (AsUnsigned part.now)) }
 {
     meaning_by_layer();
     let context = shape_of(site, part);
@@ -187,9 +155,8 @@ fn build_parts(ops: &mut Code, site: &Site<'_, '_>, parts: &[Expr]) -> Result<Al
         (names_read (Concat parts.now)) }
     ensures own { IfOk result (λ alone. BuiltAlone site.now.base site.now.scope.now
         site.now.slots.now ops.old ops.new alone (Concat parts.now)) }
-    ensures built { IfOk result (λ alone. (width : ℕ) → (signed : Bool) → Built site.now.base
-        site.now.scope.now site.now.slots.now ops.old ops.new alone.slot width signed
-        (Concat parts.now)) }
+    ensures built { IfOk result (λ alone. (width : ℕ) → (signed : Bool) → IsBuilt site.now ops.old
+        ops.new width signed (Concat parts.now) alone.slot) }
 {
     meaning_by_layer();
     let mut joined = 0;
@@ -218,9 +185,8 @@ fn build_copies(
         (names_read (Repeat count part.now)) }
     ensures own { IfOk result (λ alone. BuiltAlone site.now.base site.now.scope.now
         site.now.slots.now ops.old ops.new alone (Repeat count part.now)) }
-    ensures built { IfOk result (λ alone. (width : ℕ) → (signed : Bool) → Built site.now.base
-        site.now.scope.now site.now.slots.now ops.old ops.new alone.slot width signed
-        (Repeat count part.now)) }
+    ensures built { IfOk result (λ alone. (width : ℕ) → (signed : Bool) → IsBuilt site.now ops.old
+        ops.new width signed (Repeat count part.now) alone.slot) }
 {
     meaning_by_layer();
     let own = build_alone(ops, site, part)?;
@@ -273,13 +239,8 @@ pub fn build(
     width: u32,
     signed: bool,
 ) -> Result<usize, OutOfMemory>
-    requires sound { is_sound (nets_in site.now.scope.now) e.now ≡ true }
-    requires longer { own_length (nets_in site.now.scope.now) e.now ≤ width }
-    requires most { width ≤ 128 }
-    requires placed { ArePlaced site.now.base site.now.scope.now site.now.slots.now ops.old
-        (names_read e.now) }
-    ensures { IfOk result (λ slot. Built site.now.base site.now.scope.now site.now.slots.now
-        ops.old ops.new slot width signed e.now) }
+    requires { CanBuild site.now ops.old width e.now }
+    ensures { IfOk result (IsBuilt site.now ops.old ops.new width signed e.now) }
 {
     match e {
         Expr::Name(name) => build_name(ops, site, name.bytes(), width, signed),

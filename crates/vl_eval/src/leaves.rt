@@ -1,10 +1,6 @@
-ghost use Rattle.std.specs.Prelude.{◌≡◌, ◌≤◌, true, IfOk};
+ghost use Rattle.std.specs.Prelude.{IfOk};
 ghost use Rattle.vl_ast.specs.declared.expressions.Expr.TheVariants.{Bit, Literal, Name, Part};
-ghost use Rattle.vl_ast.specs.Conditions.{is_sound};
-ghost use Rattle.vl_ast.specs.Context.{own_length};
-ghost use Rattle.vl_ast.specs.Nets.{names_read};
-ghost use Rattle.vl_check.specs.Scope.{nets_in};
-ghost use Rattle.vl_eval.specs.inner.Site.{ArePlaced, Built};
+ghost use Rattle.vl_eval.specs.inner.Site.{CanBuild, IsBuilt};
 
 use crate::adding::{extend, push};
 use crate::code::Code;
@@ -23,13 +19,8 @@ pub fn build_name(
     width: u32,
     signed: bool,
 ) -> Result<usize, OutOfMemory>
-    requires sound { is_sound (nets_in site.now.scope.now) (Name name.now) ≡ true }
-    requires longer { own_length (nets_in site.now.scope.now) (Name name.now) ≤ width }
-    requires most { width ≤ 128 }
-    requires placed { ArePlaced site.now.base site.now.scope.now site.now.slots.now ops.old
-        (names_read (Name name.now)) }
-    ensures { IfOk result (λ slot. Built site.now.base site.now.scope.now site.now.slots.now
-        ops.old ops.new slot width signed (Name name.now)) }
+    requires { CanBuild site.now ops.old width (Name name.now) }
+    ensures { IfOk result (IsBuilt site.now ops.old ops.new width signed (Name name.now)) }
 {
     meaning_by_layer();
     let part = slot(site, name);
@@ -48,13 +39,8 @@ pub fn build_bit(
     width: u32,
     signed: bool,
 ) -> Result<usize, OutOfMemory>
-    requires sound { is_sound (nets_in site.now.scope.now) (Bit name.now low) ≡ true }
-    requires longer { own_length (nets_in site.now.scope.now) (Bit name.now low) ≤ width }
-    requires most { width ≤ 128 }
-    requires placed { ArePlaced site.now.base site.now.scope.now site.now.slots.now ops.old
-        (names_read (Bit name.now low)) }
-    ensures { IfOk result (λ slot. Built site.now.base site.now.scope.now site.now.slots.now
-        ops.old ops.new slot width signed (Bit name.now low)) }
+    requires { CanBuild site.now ops.old width (Bit name.now low) }
+    ensures { IfOk result (IsBuilt site.now ops.old ops.new width signed (Bit name.now low)) }
 {
     meaning_by_layer();
     let part = slot(site, name);
@@ -71,13 +57,8 @@ pub fn build_part(
     width: u32,
     signed: bool,
 ) -> Result<usize, OutOfMemory>
-    requires sound { is_sound (nets_in site.now.scope.now) (Part name.now high low) ≡ true }
-    requires longer { own_length (nets_in site.now.scope.now) (Part name.now high low) ≤ width }
-    requires most { width ≤ 128 }
-    requires placed { ArePlaced site.now.base site.now.scope.now site.now.slots.now ops.old
-        (names_read (Part name.now high low)) }
-    ensures { IfOk result (λ slot. Built site.now.base site.now.scope.now site.now.slots.now
-        ops.old ops.new slot width signed (Part name.now high low)) }
+    requires { CanBuild site.now ops.old width (Part name.now high low) }
+    ensures { IfOk result (IsBuilt site.now ops.old ops.new width signed (Part name.now high low)) }
 {
     meaning_by_layer();
     let part = slot(site, name);
@@ -93,13 +74,8 @@ pub fn build_literal(
     width: u32,
     signed: bool,
 ) -> Result<usize, OutOfMemory>
-    requires sound { is_sound (nets_in site.now.scope.now) (Literal number.now) ≡ true }
-    requires longer { own_length (nets_in site.now.scope.now) (Literal number.now) ≤ width }
-    requires most { width ≤ 128 }
-    requires placed { ArePlaced site.now.base site.now.scope.now site.now.slots.now ops.old
-        (names_read (Literal number.now)) }
-    ensures { IfOk result (λ slot. Built site.now.base site.now.scope.now site.now.slots.now
-        ops.old ops.new slot width signed (Literal number.now)) }
+    requires { CanBuild site.now ops.old width (Literal number.now) }
+    ensures { IfOk result (IsBuilt site.now ops.old ops.new width signed (Literal number.now)) }
 {
     meaning_by_layer();
     push(ops, site.base, Op::Constant(literal(number, width, signed)))

@@ -14,7 +14,7 @@ use crate::site::{Site, slot};
 use fx_io::OutOfMemory;
 use std::alloc::Global;
 use vl_ast::{Expr, ModItem, Module, meaning_by_layer};
-use vl_check::{Scope, VlFault, check, is_number_output, is_stallable, net};
+use vl_check::{Scope, VlFault, check, is_driven_input, is_number_output, is_stallable, net};
 
 /// What a register takes at an edge: the value at a place, into its own.
 #[derive(Clone, Copy)]
@@ -162,7 +162,7 @@ fn inputs(alloc: Global, site: &Site<'_, '_>, source: &Module) -> Result<Vec<usi
 {
     let mut places = Vec::new(alloc);
     for port in source.ports.as_slice() {
-        if port.input && port.name.bytes() != b"clk".as_slice() {
+        if is_driven_input(port) {
             places.push(slot(site, port.name.bytes()))?;
         }
     }

@@ -1,11 +1,14 @@
 -- What is built for the expressions of a module, whose names have places by their numbers.
-use Rattle.std.specs.Prelude.{◌≡◌, ℕ, ◌+◌, ◌≤◌, ◌<◌, Bool, List, length, slice_index, Contains, Option, Some, None}
+use Rattle.std.specs.Prelude.{◌≡◌, ℕ, ◌+◌, ◌≤◌, ◌<◌, Bool, true, List, length, slice_index, Contains, Option, Some, None}
 use Rattle.vl_ast.specs.declared.expressions.Expr.{Expr}
+use Rattle.vl_ast.specs.Conditions.{is_sound}
 use Rattle.vl_ast.specs.Context.{own_length, is_signed}
+use Rattle.vl_ast.specs.Nets.{names_read}
 use Rattle.vl_check.specs.declared.scope.Scope.{Scope}
 use Rattle.vl_check.specs.Scope.{nets_in, number_in}
 use Rattle.vl_eval.specs.declared.ops.Op.{Op}
 use Rattle.vl_eval.specs.declared.site.Alone.{Alone}
+use Rattle.vl_eval.specs.declared.site.Site.{Site}
 use Rattle.vl_eval.specs.inner.Shown.{Grows, Shows}
 
 -- the place of a name
@@ -32,3 +35,14 @@ pub record BuiltAlone (base : ℕ) (scope : Scope) (slots : List ℕ) (before af
 pub record ArePlaced (base : ℕ) (scope : Scope) (slots : List ℕ) (ops : List Op) (names : List (List ℕ)) : Type 0 where
   pub below : (name : List ℕ) → Contains names name → slot_in scope slots name < base + length ops
   pub few : (name : List ℕ) → Contains names name → (nets_in scope name).width ≤ 128
+
+-- what building an expression in a context asks for
+pub record CanBuild (site : Site) (ops : List Op) (width : ℕ) (e : Expr) : Type 0 where
+  pub sound : is_sound (nets_in site.scope.now) e ≡ true
+  pub longer : own_length (nets_in site.scope.now) e ≤ width
+  pub most : width ≤ 128
+  pub placed : ArePlaced site.base site.scope.now site.slots.now ops (names_read e)
+
+-- and what it gives
+abbrev pub IsBuilt : Site → List Op → List Op → ℕ → Bool → Expr → ℕ → Type 0
+IsBuilt site before after width signed e slot = Built site.base site.scope.now site.slots.now before after slot width signed e

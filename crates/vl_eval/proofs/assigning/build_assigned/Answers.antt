@@ -1,8 +1,16 @@
-use Rattle.std.proofs.Common.{subst}
+use Rattle.std.proofs.Common.{subst, arith}
 use Rattle.vl_eval.specs.inner.Site.{Built}
 use Rattle.vl_eval.proofs.Assigns.{assigns-cut, assigns-whole}
 use Rattle.std.proofs.lemmas.Result.{IfOk-weaker}
 use Rattle.vl_eval.proofs.assigning.build_assigned.Goals as goal
+
+pub build-requires : goal.build-requires
+build-requires c = record {
+  sound = c.requires.sound;
+  longer = omega (arith, c.shape_of-shape.ensures.length, c.max.ensures);
+  most = omega (arith, c.shape_of-shape.ensures.few, c.requires.most, c.max.ensures);
+  placed = c.requires.placed;
+}
 
 pub returns-then-shape-width : goal.returns-then-shape-width
 returns-then-shape-width c =

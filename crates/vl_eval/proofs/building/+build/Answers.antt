@@ -1,7 +1,6 @@
-use Rattle.std.proofs.Common.{◌≡◌, ◌≤◌, ◌+◌, [], ◌++◌, ℕ, true, List, IfOk, take, refl, sym, ap, subst, ◌∙◌, arith}
+use Rattle.std.proofs.Common.{◌≡◌, ◌+◌, [], ◌++◌, ℕ, true, List, IfOk, take, refl, sym, ap, subst, ◌∙◌, arith}
 use Rattle.vl_ast.specs.declared.expressions.Expr.{Expr}
 use Rattle.vl_ast.specs.declared.expressions.Expr.TheVariants.{Name, Bit, Part, Concat, Repeat, AsSigned, Unary, Binary, Shift, Choose}
-use Rattle.vl_ast.specs.Conditions.{is_sound}
 use Rattle.vl_ast.specs.Context.{own_length}
 use Rattle.vl_ast.specs.Nets.{names_read}
 use Rattle.vl_check.specs.Scope.{nets_in}
@@ -9,9 +8,9 @@ use Rattle.vl_eval.specs.declared.ops.Op.{Op}
 use Rattle.vl_eval.specs.declared.site.Site.{Site}
 use Rattle.vl_eval.specs.inner.Built.{shift_op}
 use Rattle.vl_eval.specs.inner.Shown.{Pushed}
-use Rattle.vl_eval.specs.inner.Site.{ArePlaced, Built}
+use Rattle.vl_eval.specs.inner.Site.{ArePlaced, Built, CanBuild, IsBuilt}
 use Rattle.std.proofs.lemmas.Result.{IfOk-weaker}
-use Rattle.vl_eval.proofs.Operands.{sound-unary, names-unary, sound-as-signed, names-as-signed, sound-as-unsigned, names-as-unsigned, sound-binary, names-binary, sound-shift, length-shift, names-shift, sound-choose, length-choose, names-choose, sound-repeat, length-repeat, sign-repeat, names-repeat, sound-concat, length-concat, sign-concat, names-concat}
+use Rattle.vl_eval.proofs.Operands.{sound-unary, names-unary, sound-as-signed, length-as-signed, names-as-signed, sound-as-unsigned, names-as-unsigned, sound-binary, names-binary, sound-shift, length-shift, names-shift, sound-choose, length-choose, names-choose, sound-repeat, length-repeat, sign-repeat, names-repeat, sound-concat, length-concat, sign-concat, names-concat}
 use Rattle.vl_eval.proofs.Rooms.{room-in, unary-room, left-context-room, right-context-room}
 use Rattle.std.proofs.lemmas.List.{take_all}
 use Rattle.vl_eval.proofs.SideBySide.{Copied, Joined, beside-grows, built-copies, built-no-parts, built-parts, copied-more, copied-one, copies-few, joined-more, lengths-more, one-copy, part-in, part-placed, part-size, part-sound, parts-few, parts-more, shows-alone-too, value-at}
@@ -32,7 +31,10 @@ build_unary-build-requires t c =
     let nets = nets_in site.scope.now in
     let room = room-in (own_length nets c.args.part.now) _ _ c.unary_context-context.ensures (unary-room nets c.args.op c.args.part.now c.args.width c.args.signed c.requires.sound c.requires.longer c.requires.most) in
     let names = placed site c.args.ops.now _ _ (names-unary nets c.args.op c.args.part.now) c.requires.placed in
-    (omega arith, (sound-unary nets c.args.op c.args.part.now c.requires.sound, (room.0, (room.1, names))))
+    (omega arith, record { sound = sound-unary nets c.args.op c.args.part.now c.requires.sound; longer = room.0; most = room.1; placed = names })
+
+pub build_unary-mask_of-requires : goal.build_unary-mask_of-requires
+build_unary-mask_of-requires t c = c.requires.most
 
 pub build_unary-returns : goal.build_unary-returns
 build_unary-returns t c =
@@ -49,12 +51,18 @@ build_as_signed-build-requires t c =
     let site = c.args.site.now in
     let nets = nets_in site.scope.now in
     let names = placed site c.args.ops.now _ _ (names-as-signed nets c.args.part.now) c.requires.placed in
-    (omega arith, (sound-as-signed nets c.args.part.now c.requires.sound, (omega (arith, c.shape_of-context.ensures.length), (c.shape_of-context.ensures.few, names))))
+    (omega arith, record { sound = sound-as-signed nets c.args.part.now c.requires.sound; longer = omega (arith, c.shape_of-context.ensures.length); most = c.shape_of-context.ensures.few; placed = names })
 
 pub build_as_signed-returns-then-not-signed : goal.build_as_signed-returns-then-not-signed
 build_as_signed-returns-then-not-signed t c =
     let site = c.args.site.now in
     built-as-signed-plain c.meaning_by_layer.ensures.value site.base site.scope.now site.slots.now c.args.part.now c.args.ops.now c.build.new.ops c.in_ok-slot.slot c.args.width c.args.signed c.shape_of-context.result c.shape_of-context.ensures.length c.shape_of-context.ensures.sign c.if-not-signed.true c.in_ok-slot.ensures
+
+pub build_as_signed-extend-requires-clause-longer : goal.build_as_signed-extend-requires-clause-longer
+build_as_signed-extend-requires-clause-longer t c = let l = length-as-signed (nets_in c.args.site.now.scope.now) c.args.part.now in omega (arith, l, c.shape_of-context.ensures.length, c.requires.longer)
+
+pub build_as_signed-extend-requires-clause-most : goal.build_as_signed-extend-requires-clause-most
+build_as_signed-extend-requires-clause-most t c = c.requires.most
 
 pub build_as_signed-returns : goal.build_as_signed-returns
 build_as_signed-returns t c =
@@ -70,7 +78,7 @@ build_as_unsigned-build-requires t c =
     let site = c.args.site.now in
     let nets = nets_in site.scope.now in
     let names = placed site c.args.ops.now _ _ (names-as-unsigned nets c.args.part.now) c.requires.placed in
-    (omega arith, (sound-as-unsigned nets c.args.part.now c.requires.sound, (omega (arith, c.shape_of-context.ensures.length), (c.shape_of-context.ensures.few, names))))
+    (omega arith, record { sound = sound-as-unsigned nets c.args.part.now c.requires.sound; longer = omega (arith, c.shape_of-context.ensures.length); most = c.shape_of-context.ensures.few; placed = names })
 
 pub build_as_unsigned-returns : goal.build_as_unsigned-returns
 build_as_unsigned-returns t c =
@@ -96,7 +104,7 @@ build_binary-build-requires t c =
     let room = room-in (own_length nets c.args.left.now) _ _ c.left_context-on_left.ensures (left-context-room nets c.args.op c.args.left.now c.args.right.now c.args.width c.args.signed c.requires.sound c.requires.longer c.requires.most) in
     let all = placed site c.args.ops.now _ _ (names-binary nets c.args.op c.args.left.now c.args.right.now) c.requires.placed in
     let names = placed-left c.meaning_by_layer.ensures.value site.base site.scope.now site.slots.now c.args.ops.now (names_read c.args.left.now) (names_read c.args.right.now) all in
-    (omega arith, ((sound-binary nets c.args.op c.args.left.now c.args.right.now c.requires.sound).0, (room.0, (room.1, names))))
+    (omega arith, record { sound = (sound-binary nets c.args.op c.args.left.now c.args.right.now c.requires.sound).0; longer = room.0; most = room.1; placed = names })
 
 pub build_binary-build-requires-2 : goal.build_binary-build-requires-2
 build_binary-build-requires-2 t c =
@@ -106,7 +114,7 @@ build_binary-build-requires-2 t c =
     let all = placed site c.args.ops.now _ _ (names-binary nets c.args.op c.args.left.now c.args.right.now) c.requires.placed in
     let right = placed-right c.meaning_by_layer.ensures.value site.base site.scope.now site.slots.now c.args.ops.now (names_read c.args.left.now) (names_read c.args.right.now) all in
     let names = placed-later c.meaning_by_layer.ensures.value site.base site.scope.now site.slots.now c.args.ops.now c.build.new.ops (names_read c.args.right.now) c.in_ok-first.ensures.grows right in
-    (omega arith, ((sound-binary nets c.args.op c.args.left.now c.args.right.now c.requires.sound).1, (room.0, (room.1, names))))
+    (omega arith, record { sound = (sound-binary nets c.args.op c.args.left.now c.args.right.now c.requires.sound).1; longer = room.0; most = room.1; placed = names })
 
 pub build_binary-half_in-requires : goal.build_binary-half_in-requires
 build_binary-half_in-requires t c =
@@ -114,6 +122,9 @@ build_binary-half_in-requires t c =
     let nets = nets_in site.scope.now in
     let room = left-context-room nets c.args.op c.args.left.now c.args.right.now c.args.width c.args.signed c.requires.sound c.requires.longer c.requires.most in
     (room-in (own_length nets c.args.left.now) _ _ c.left_context-on_left.ensures room).1
+
+pub build_binary-mask_of-requires : goal.build_binary-mask_of-requires
+build_binary-mask_of-requires t c = c.requires.most
 
 pub build_binary-returns : goal.build_binary-returns
 build_binary-returns t c =
@@ -130,7 +141,7 @@ build_choice-build-requires t c =
     let site = c.args.site.now in
     let nets = nets_in site.scope.now in
     let all = placed site c.args.ops.now _ _ (names-choose nets c.args.test.now c.args.chosen.now c.args.other.now) c.requires.placed in
-    (omega arith, ((sound-choose nets c.args.test.now c.args.chosen.now c.args.other.now c.requires.sound).0, (omega (arith, c.shape_of-context.ensures.length), (c.shape_of-context.ensures.few, placed-left c.meaning_by_layer.ensures.value site.base site.scope.now site.slots.now c.args.ops.now (names_read c.args.test.now) (names_read c.args.chosen.now ++ names_read c.args.other.now) all))))
+    (omega arith, record { sound = (sound-choose nets c.args.test.now c.args.chosen.now c.args.other.now c.requires.sound).0; longer = omega (arith, c.shape_of-context.ensures.length); most = c.shape_of-context.ensures.few; placed = placed-left c.meaning_by_layer.ensures.value site.base site.scope.now site.slots.now c.args.ops.now (names_read c.args.test.now) (names_read c.args.chosen.now ++ names_read c.args.other.now) all })
 
 pub build_choice-build-requires-2 : goal.build_choice-build-requires-2
 build_choice-build-requires-2 t c =
@@ -140,7 +151,7 @@ build_choice-build-requires-2 t c =
     let rest = placed-right c.meaning_by_layer.ensures.value site.base site.scope.now site.slots.now c.args.ops.now (names_read c.args.test.now) (names_read c.args.chosen.now ++ names_read c.args.other.now) all in
     let mine = placed-left c.meaning_by_layer.ensures.value site.base site.scope.now site.slots.now c.args.ops.now (names_read c.args.chosen.now) (names_read c.args.other.now) rest in
     let l = length-choose nets c.args.test.now c.args.chosen.now c.args.other.now in
-    (omega arith, ((sound-choose nets c.args.test.now c.args.chosen.now c.args.other.now c.requires.sound).1, (omega (arith, l, c.requires.longer), (c.requires.most, placed-later c.meaning_by_layer.ensures.value site.base site.scope.now site.slots.now c.args.ops.now c.build.new.ops (names_read c.args.chosen.now) c.in_ok-tested.ensures.grows mine))))
+    (omega arith, record { sound = (sound-choose nets c.args.test.now c.args.chosen.now c.args.other.now c.requires.sound).1; longer = omega (arith, l, c.requires.longer); most = c.requires.most; placed = placed-later c.meaning_by_layer.ensures.value site.base site.scope.now site.slots.now c.args.ops.now c.build.new.ops (names_read c.args.chosen.now) c.in_ok-tested.ensures.grows mine })
 
 pub build_choice-build-requires-3 : goal.build_choice-build-requires-3
 build_choice-build-requires-3 t c =
@@ -150,7 +161,7 @@ build_choice-build-requires-3 t c =
     let rest = placed-right c.meaning_by_layer.ensures.value site.base site.scope.now site.slots.now c.args.ops.now (names_read c.args.test.now) (names_read c.args.chosen.now ++ names_read c.args.other.now) all in
     let mine = placed-right c.meaning_by_layer.ensures.value site.base site.scope.now site.slots.now c.args.ops.now (names_read c.args.chosen.now) (names_read c.args.other.now) rest in
     let l = length-choose nets c.args.test.now c.args.chosen.now c.args.other.now in
-    (omega arith, ((sound-choose nets c.args.test.now c.args.chosen.now c.args.other.now c.requires.sound).2, (omega (arith, l, c.requires.longer), (c.requires.most, placed-later c.meaning_by_layer.ensures.value site.base site.scope.now site.slots.now c.build.new.ops c.build-2.new.ops (names_read c.args.other.now) c.in_ok-first.ensures.grows (placed-later c.meaning_by_layer.ensures.value site.base site.scope.now site.slots.now c.args.ops.now c.build.new.ops (names_read c.args.other.now) c.in_ok-tested.ensures.grows mine)))))
+    (omega arith, record { sound = (sound-choose nets c.args.test.now c.args.chosen.now c.args.other.now c.requires.sound).2; longer = omega (arith, l, c.requires.longer); most = c.requires.most; placed = placed-later c.meaning_by_layer.ensures.value site.base site.scope.now site.slots.now c.build.new.ops c.build-2.new.ops (names_read c.args.other.now) c.in_ok-first.ensures.grows (placed-later c.meaning_by_layer.ensures.value site.base site.scope.now site.slots.now c.args.ops.now c.build.new.ops (names_read c.args.other.now) c.in_ok-tested.ensures.grows mine) })
 
 pub build_choice-returns : goal.build_choice-returns
 build_choice-returns t c =
@@ -165,7 +176,10 @@ build_shift-build-requires t c =
     let l = length-shift nets c.args.op c.args.part.now c.args.amount.now in
     let ok = sound-shift nets c.args.op c.args.part.now c.args.amount.now c.requires.sound in
     let names = placed site c.args.ops.now _ _ (names-shift nets c.args.op c.args.part.now c.args.amount.now) c.requires.placed in
-    (omega arith, (ok.0, (omega (arith, l, c.requires.longer), (c.requires.most, names))))
+    (omega arith, record { sound = ok.0; longer = omega (arith, l, c.requires.longer); most = c.requires.most; placed = names })
+
+pub build_shift-shift_op-requires : goal.build_shift-shift_op-requires
+build_shift-shift_op-requires t c = c.requires.most
 
 pub build_shift-returns : goal.build_shift-returns
 build_shift-returns t c =
@@ -354,45 +368,41 @@ build-returns-in_ok-alone-in-Repeat t c =
     subst (λ e. Built site.base site.scope.now site.slots.now c.args.ops.now c.build_copies.new.ops c.in_ok-alone-in-Repeat.alone.slot c.args.width c.args.signed e) (ap (Repeat c.in-Repeat.count) c.get.ensures ∙ sym c.in-Repeat.is)
     (c.in_ok-alone-in-Repeat.ensures.built c.args.width c.args.signed)
 
--- what a call asks for of an expression
-abbrev Fits : Site → List Op → ℕ → Expr → Type 0
-Fits site ops width e = (is_sound (nets_in site.scope.now) e ≡ true) × (own_length (nets_in site.scope.now) e ≤ width) × ArePlaced site.base site.scope.now site.slots.now ops (names_read e)
-
 pub build-build_name-requires : goal.build-build_name-requires
-build-build_name-requires t c =
-    let fits = subst (Fits c.args.site.now c.args.ops.now c.args.width) (c.in-Name.is ∙ ap Name (sym c.bytes.ensures)) (c.requires.sound, c.requires.longer, c.requires.placed) in
-    record { sound = fits.0; longer = fits.1; most = c.requires.most; placed = fits.2 }
+build-build_name-requires t c = subst (CanBuild c.args.site.now c.args.ops.now c.args.width) (c.in-Name.is ∙ ap Name (sym c.bytes.ensures)) c.requires
 
 pub build-returns-in-Name : goal.build-returns-in-Name
-build-returns-in-Name t c = subst (λ e. IfOk c.build_name.result (λ slot. Built c.args.site.now.base c.args.site.now.scope.now c.args.site.now.slots.now c.args.ops.now c.build_name.new.ops slot c.args.width c.args.signed e)) (sym (c.in-Name.is ∙ ap Name (sym c.bytes.ensures))) c.build_name.ensures
+build-returns-in-Name t c = subst (λ e. IfOk c.build_name.result (IsBuilt c.args.site.now c.args.ops.now c.build_name.new.ops c.args.width c.args.signed e)) (sym (c.in-Name.is ∙ ap Name (sym c.bytes.ensures))) c.build_name.ensures
 
 pub build-build_bit-requires : goal.build-build_bit-requires
-build-build_bit-requires t c =
-    let fits = subst (Fits c.args.site.now c.args.ops.now c.args.width) (c.in-Bit.is ∙ ap (λ name. Bit name c.in-Bit.place) (sym c.bytes-in-Bit.ensures)) (c.requires.sound, c.requires.longer, c.requires.placed) in
-    record { sound = fits.0; longer = fits.1; most = c.requires.most; placed = fits.2 }
+build-build_bit-requires t c = subst (CanBuild c.args.site.now c.args.ops.now c.args.width) (c.in-Bit.is ∙ ap (λ name. Bit name c.in-Bit.place) (sym c.bytes-in-Bit.ensures)) c.requires
 
 pub build-returns-in-Bit : goal.build-returns-in-Bit
-build-returns-in-Bit t c = subst (λ e. IfOk c.build_bit.result (λ slot. Built c.args.site.now.base c.args.site.now.scope.now c.args.site.now.slots.now c.args.ops.now c.build_bit.new.ops slot c.args.width c.args.signed e)) (sym (c.in-Bit.is ∙ ap (λ name. Bit name c.in-Bit.place) (sym c.bytes-in-Bit.ensures))) c.build_bit.ensures
+build-returns-in-Bit t c = subst (λ e. IfOk c.build_bit.result (IsBuilt c.args.site.now c.args.ops.now c.build_bit.new.ops c.args.width c.args.signed e)) (sym (c.in-Bit.is ∙ ap (λ name. Bit name c.in-Bit.place) (sym c.bytes-in-Bit.ensures))) c.build_bit.ensures
 
 pub build-build_part-requires : goal.build-build_part-requires
-build-build_part-requires t c =
-    let fits = subst (Fits c.args.site.now c.args.ops.now c.args.width) (c.in-Part.is ∙ ap (λ name. Part name c.in-Part.high c.in-Part.low) (sym c.bytes-in-Part.ensures)) (c.requires.sound, c.requires.longer, c.requires.placed) in
-    record { sound = fits.0; longer = fits.1; most = c.requires.most; placed = fits.2 }
+build-build_part-requires t c = subst (CanBuild c.args.site.now c.args.ops.now c.args.width) (c.in-Part.is ∙ ap (λ name. Part name c.in-Part.high c.in-Part.low) (sym c.bytes-in-Part.ensures)) c.requires
 
 pub build-returns-in-Part : goal.build-returns-in-Part
-build-returns-in-Part t c = subst (λ e. IfOk c.build_part.result (λ slot. Built c.args.site.now.base c.args.site.now.scope.now c.args.site.now.slots.now c.args.ops.now c.build_part.new.ops slot c.args.width c.args.signed e)) (sym (c.in-Part.is ∙ ap (λ name. Part name c.in-Part.high c.in-Part.low) (sym c.bytes-in-Part.ensures))) c.build_part.ensures
+build-returns-in-Part t c = subst (λ e. IfOk c.build_part.result (IsBuilt c.args.site.now c.args.ops.now c.build_part.new.ops c.args.width c.args.signed e)) (sym (c.in-Part.is ∙ ap (λ name. Part name c.in-Part.high c.in-Part.low) (sym c.bytes-in-Part.ensures))) c.build_part.ensures
 
 pub build-returns-in-AsSigned : goal.build-returns-in-AsSigned
-build-returns-in-AsSigned t c = subst (λ e. IfOk c.build_as_signed.result (λ slot. Built c.args.site.now.base c.args.site.now.scope.now c.args.site.now.slots.now c.args.ops.now c.build_as_signed.new.ops slot c.args.width c.args.signed e)) (sym (c.in-AsSigned.is ∙ ap AsSigned (sym c.get-in-AsSigned.ensures))) c.build_as_signed.ensures
+build-returns-in-AsSigned t c = subst (λ e. IfOk c.build_as_signed.result (IsBuilt c.args.site.now c.args.ops.now c.build_as_signed.new.ops c.args.width c.args.signed e)) (sym (c.in-AsSigned.is ∙ ap AsSigned (sym c.get-in-AsSigned.ensures))) c.build_as_signed.ensures
 
 pub build-returns-in-Unary : goal.build-returns-in-Unary
-build-returns-in-Unary t c = subst (λ e. IfOk c.build_unary.result (λ slot. Built c.args.site.now.base c.args.site.now.scope.now c.args.site.now.slots.now c.args.ops.now c.build_unary.new.ops slot c.args.width c.args.signed e)) (sym (c.in-Unary.is ∙ ap (Unary c.in-Unary.op) (sym c.get-in-Unary.ensures))) c.build_unary.ensures
+build-returns-in-Unary t c = subst (λ e. IfOk c.build_unary.result (IsBuilt c.args.site.now c.args.ops.now c.build_unary.new.ops c.args.width c.args.signed e)) (sym (c.in-Unary.is ∙ ap (Unary c.in-Unary.op) (sym c.get-in-Unary.ensures))) c.build_unary.ensures
 
 pub build-returns-in-Binary : goal.build-returns-in-Binary
-build-returns-in-Binary t c = subst (λ e. IfOk c.build_binary.result (λ slot. Built c.args.site.now.base c.args.site.now.scope.now c.args.site.now.slots.now c.args.ops.now c.build_binary.new.ops slot c.args.width c.args.signed e)) (sym (c.in-Binary.is ∙ ap (λ left. Binary c.in-Binary.op left c.in-Binary.right) (sym c.get-in-Binary.ensures) ∙ ap (Binary c.in-Binary.op c.get-in-Binary.result.now) (sym c.get-in-Binary-2.ensures))) c.build_binary.ensures
+build-returns-in-Binary t c = subst (λ e. IfOk c.build_binary.result (IsBuilt c.args.site.now c.args.ops.now c.build_binary.new.ops c.args.width c.args.signed e)) (sym (c.in-Binary.is ∙ ap (λ left. Binary c.in-Binary.op left c.in-Binary.right) (sym c.get-in-Binary.ensures) ∙ ap (Binary c.in-Binary.op c.get-in-Binary.result.now) (sym c.get-in-Binary-2.ensures))) c.build_binary.ensures
 
 pub build-returns-in-Shift : goal.build-returns-in-Shift
-build-returns-in-Shift t c = subst (λ e. IfOk c.build_shift.result (λ slot. Built c.args.site.now.base c.args.site.now.scope.now c.args.site.now.slots.now c.args.ops.now c.build_shift.new.ops slot c.args.width c.args.signed e)) (sym (c.in-Shift.is ∙ ap (λ part. Shift c.in-Shift.op part c.in-Shift.amount) (sym c.get-in-Shift.ensures))) c.build_shift.ensures
+build-returns-in-Shift t c = subst (λ e. IfOk c.build_shift.result (IsBuilt c.args.site.now c.args.ops.now c.build_shift.new.ops c.args.width c.args.signed e)) (sym (c.in-Shift.is ∙ ap (λ part. Shift c.in-Shift.op part c.in-Shift.amount) (sym c.get-in-Shift.ensures))) c.build_shift.ensures
 
 pub build-returns-in-Choose : goal.build-returns-in-Choose
-build-returns-in-Choose t c = subst (λ e. IfOk c.build_choice.result (λ slot. Built c.args.site.now.base c.args.site.now.scope.now c.args.site.now.slots.now c.args.ops.now c.build_choice.new.ops slot c.args.width c.args.signed e)) (sym (c.in-Choose.is ∙ ap (λ test. Choose test c.in-Choose.chosen c.in-Choose.other) (sym c.get-in-Choose.ensures) ∙ ap (λ chosen. Choose c.get-in-Choose.result.now chosen c.in-Choose.other) (sym c.get-in-Choose-2.ensures) ∙ ap (Choose c.get-in-Choose.result.now c.get-in-Choose-2.result.now) (sym c.get-in-Choose-3.ensures))) c.build_choice.ensures
+build-returns-in-Choose t c = subst (λ e. IfOk c.build_choice.result (IsBuilt c.args.site.now c.args.ops.now c.build_choice.new.ops c.args.width c.args.signed e)) (sym (c.in-Choose.is ∙ ap (λ test. Choose test c.in-Choose.chosen c.in-Choose.other) (sym c.get-in-Choose.ensures) ∙ ap (λ chosen. Choose c.get-in-Choose.result.now chosen c.in-Choose.other) (sym c.get-in-Choose-2.ensures) ∙ ap (Choose c.get-in-Choose.result.now c.get-in-Choose-2.result.now) (sym c.get-in-Choose-3.ensures))) c.build_choice.ensures
+
+pub build-build_literal-requires : goal.build-build_literal-requires
+build-build_literal-requires t c = subst (CanBuild c.args.site.now c.args.ops.now c.args.width) c.in-Literal.is c.requires
+
+pub build_alone-build-requires : goal.build_alone-build-requires
+build_alone-build-requires t c = (omega arith, record { sound = c.requires.sound; longer = omega (arith, c.shape_of-shape.ensures.length); most = c.shape_of-shape.ensures.few; placed = c.requires.placed })

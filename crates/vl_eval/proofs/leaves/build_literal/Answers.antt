@@ -11,6 +11,9 @@ literal-requires-clause-number c = sound-literal (nets_in c.args.site.now.scope.
 pub literal-requires-clause-longer : goal.literal-requires-clause-longer
 literal-requires-clause-longer c = let l = length-literal (nets_in c.args.site.now.scope.now) c.args.number.now in omega (arith, l, c.requires.longer)
 
+pub literal-requires-clause-most : goal.literal-requires-clause-most
+literal-requires-clause-most c = c.requires.most
+
 pub returns : goal.returns
 returns c =
     let site = c.args.site.now in

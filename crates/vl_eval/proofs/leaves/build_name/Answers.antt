@@ -21,6 +21,9 @@ extend-requires-clause-longer c =
     let e = ap (λ (n : Net). n.width) c.net.ensures in
     omega (arith, l, e, c.requires.longer)
 
+pub extend-requires-clause-most : goal.extend-requires-clause-most
+extend-requires-clause-most c = c.requires.most
+
 pub returns : goal.returns
 returns c =
     let site = c.args.site.now in

@@ -1,10 +1,10 @@
-use Rattle.std.proofs.Common.{◌++◌, ◌∷◌, [], ◌&&◌, not, ℕ, Bool, true, false, bytes_eq, codes, filter, map, take, Vec, Global, refl, sym, ap, ◌∙◌, rules}
+use Rattle.std.proofs.Common.{◌++◌, ◌∷◌, [], ◌&&◌, not, ℕ, Bool, bytes_eq, codes, filter, map, take, Vec, Global, refl, sym, ap, ◌∙◌}
 use Rattle.vl_ast.specs.declared.modules.Port.{Port}
 use Rattle.vl_eval.specs.inner.Planned.{slot_of_port}
 use Rattle.vl_eval.specs.inner.Site.{slot_in}
 use Rattle.vl_eval.proofs.Capturing.{items-more}
 use Rattle.vl_eval.proofs.Listing.{kept-none, kept-one}
-use Rattle.vl_eval.proofs.plan.inputs.Goals.{then-port+then-ne+in_ok-push, else-port, else-port-via-then-port+else-ne, else-port-via-else-port}
+use Rattle.vl_eval.proofs.plan.inputs.Goals.{then-is_driven_input+in_ok-push, else-is_driven_input}
 use Rattle.vl_eval.proofs.plan.inputs.Goals as goal
 
 abbrev is_driven : Port → Bool
@@ -21,18 +21,14 @@ loop-port-preserved c =
     let i = c.loop-port.port-index in
     let port = c.port-item.result in
     let more = items-more c.as_slice-port-items.result.now ports i port port c.as_slice-port-items.ensures c.loop-port-test.true c.port-item.is refl in
-    elim c.if-port.branch [
-      | then-port+then-ne+in_ok-push w ↦ (
+    elim c.if-is_driven_input.branch [
+      | then-is_driven_input+in_ok-push w ↦ (
           ap (λ (places : Vec ℕ Global). places.items) w.places-is ∙ w.in_ok-push.ensures.items
-          ∙ (λ j. c.loop-port.invariant j ++ (w.slot.ensures ∙ ap (slot_in scope slots) w.bytes-then-ne.ensures) j ∷ [])
-          ∙ kept-one (slot_of_port scope slots) is_driven (take i ports) port (search rules)
+          ∙ (λ j. c.loop-port.invariant j ++ (w.slot.ensures ∙ ap (slot_in scope slots) w.bytes.ensures) j ∷ [])
+          ∙ kept-one (slot_of_port scope slots) is_driven (take i ports) port (sym c.is_driven_input.ensures ∙ w.if-is_driven_input.true)
           ∙ ap (λ xs. map (slot_of_port scope slots) (filter is_driven xs)) (sym more))
-      | else-port w ↦ (
+      | else-is_driven_input w ↦ (
           ap (λ (places : Vec ℕ Global). places.items) w.places-is ∙ c.loop-port.invariant
-          ∙ kept-none (slot_of_port scope slots) is_driven (take i ports) port
-          (elim w.else-port.branch [
-            | else-port-via-then-port+else-ne w' ↦ search rules
-            | else-port-via-else-port w' ↦ ap (λ b. b && not (bytes_eq port.name (codes "clk"))) w'.if-port.false
-          ])
+          ∙ kept-none (slot_of_port scope slots) is_driven (take i ports) port (sym c.is_driven_input.ensures ∙ w.if-is_driven_input.false)
           ∙ ap (λ xs. map (slot_of_port scope slots) (filter is_driven xs)) (sym more))
     ]
