@@ -1,10 +1,10 @@
-ghost use Rattle.std.specs.Prelude.{◌≡◌, true, false, bytes_eq, codes, IfOk};
+ghost use Rattle.std.specs.Prelude.{◌≡◌, true, false, bytes_eq, codes, IfOk, None};
 ghost use Rattle.vl_read.specs.declared.scan.Kind.TheVariants.{Fixed};
 ghost use Rattle.vl_read.specs.declared.places.NetSpot.TheVariants.{Signed, Ranged, Bound, Named};
 ghost use Rattle.vl_read.specs.inner.Lexemes.{kind_of};
-ghost use Rattle.vl_read.specs.inner.Places.{Net, AttrName, AttrValue, More};
-ghost use Rattle.vl_read.specs.inner.Plain.{attr_step, has_none, is_name, declared, net_step, expect};
-ghost use Rattle.vl_read.specs.inner.Seen.{seen, attr_spot_seen, net_seen};
+ghost use Rattle.vl_read.specs.inner.Places.{Net, AttrValue, More};
+ghost use Rattle.vl_read.specs.inner.Plain.{attr_step, has_none, is_name, declared, net_step, expect, goes, on_name};
+ghost use Rattle.vl_read.specs.inner.Seen.{seen, attr_spot_seen, net_seen, place_seen};
 ghost use Rattle.vl_read.specs.inner.Turns.{stepped};
 
 use crate::numbers::{count_of, is_name};
@@ -32,6 +32,25 @@ fn is_signed(lexeme: &[u8]) -> bool
 }
 
 impl Reader {
+    /// A name, which is held.
+    pub fn name_step(
+        &mut self,
+        alloc: Global,
+        lexeme: &[u8],
+        place: Place,
+    ) -> Result<bool, OutOfMemory>
+        ensures { IfOk result (λ said. stepped said (seen self.new)
+            ≡ on_name (kind_of lexeme.now)
+            (goes self.old.draft
+            (place_seen (record self.old.held { name = lexeme.now }) place)) None) }
+    {
+        if !is_name(lexeme) {
+            return Ok(false);
+        }
+        self.hold_name(Text::copy(alloc, lexeme)?);
+        Ok(self.goes(place))
+    }
+
     /// After an attribute.
     #[tactic(auto, unfolding(crate::specs::inner::Plain::attr_step))]
     fn after_attribute(&mut self, alloc: Global, of_port: bool, lexeme: &[u8]) -> bool
@@ -47,26 +66,6 @@ impl Reader {
             self.draft.attrs = mem::replace(&mut self.held.attrs, Attrs::new(alloc));
             self.expect("*)", lexeme, Place::Start)
         }
-    }
-
-    /// The name of an attribute.
-    #[tactic(auto, unfolding(crate::specs::inner::Plain::attr_step))]
-    fn attribute_name(
-        &mut self,
-        alloc: Global,
-        of_port: bool,
-        lexeme: &[u8],
-    ) -> Result<bool, OutOfMemory>
-        ensures { IfOk result (λ said. stepped said (seen self.new)
-            ≡ attr_step self.old.draft of_port self.old.held.attrs AttrName
-            (kind_of lexeme.now) lexeme.now) }
-    {
-        if !is_name(lexeme) {
-            return Ok(false);
-        }
-        self.hold_name(Text::copy(alloc, lexeme)?);
-        let at = AttrSpot::AttrSign;
-        Ok(self.goes(Place::Attributes { of_port, at }))
     }
 
     /// The number of an attribute.
@@ -102,7 +101,10 @@ impl Reader {
             (attr_spot_seen self.old.held.name at) (kind_of lexeme.now) lexeme.now) }
     {
         match at {
-            AttrSpot::AttrName => self.attribute_name(alloc, of_port, lexeme),
+            AttrSpot::AttrName => {
+                let at = AttrSpot::AttrSign;
+                self.name_step(alloc, lexeme, Place::Attributes { of_port, at })
+            }
             AttrSpot::AttrSign => {
                 let at = AttrSpot::AttrValue;
                 Ok(self.expect("=", lexeme, Place::Attributes { of_port, at }))
@@ -200,10 +202,8 @@ impl Reader {
         if is_signed(lexeme) {
             let at = NetSpot::Ranged { signed: true };
             Ok(self.goes(Place::Net { kind: net, at }))
-        } else if is_name(lexeme) {
-            self.declared(alloc, net, false, 1, lexeme)
         } else {
-            Ok(self.fixed(net, "[", lexeme, NetSpot::Bound { signed: false }))
+            self.range_or_name(alloc, net, false, lexeme)
         }
     }
 

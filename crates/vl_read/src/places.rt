@@ -163,6 +163,47 @@ pub enum HeadSpot {
     CloseTest,
 }
 
+impl HeadSpot {
+    ghost use Rattle.std.specs.Prelude.{◌≡◌};
+    ghost use Rattle.vl_read.specs.declared.places.Held.{Held};
+    ghost use Rattle.vl_read.specs.inner.Plain.{after_head, head_word};
+    ghost use Rattle.vl_read.specs.inner.Seen.{place_seen};
+
+    /// The word itself.
+    pub fn word(self) -> &'static str
+        ensures { result.now ≡ head_word self }
+    {
+        match self {
+            HeadSpot::Event => "@",
+            HeadSpot::OpenEvent | HeadSpot::OpenTest => "(",
+            HeadSpot::Posedge => "posedge",
+            HeadSpot::Clock => "clk",
+            HeadSpot::CloseEvent | HeadSpot::CloseTest => ")",
+            HeadSpot::Begin => "begin",
+            HeadSpot::Test => "if",
+            HeadSpot::Reset => "reset",
+        }
+    }
+
+    /// What is next after it.
+    pub fn next(self) -> Place
+        ensures { (held : Held) → place_seen held result ≡ after_head self }
+    {
+        match self {
+            HeadSpot::Event => Place::Head(HeadSpot::OpenEvent),
+            HeadSpot::OpenEvent => Place::Head(HeadSpot::Posedge),
+            HeadSpot::Posedge => Place::Head(HeadSpot::Clock),
+            HeadSpot::Clock => Place::Head(HeadSpot::CloseEvent),
+            HeadSpot::CloseEvent => Place::Head(HeadSpot::Begin),
+            HeadSpot::Begin => Place::Head(HeadSpot::Test),
+            HeadSpot::Test => Place::Head(HeadSpot::OpenTest),
+            HeadSpot::OpenTest => Place::Head(HeadSpot::Reset),
+            HeadSpot::Reset => Place::Head(HeadSpot::CloseTest),
+            HeadSpot::CloseTest => Place::ClockedName,
+        }
+    }
+}
+
 /// Where in a list of attributes the reading is.
 #[derive(Clone, Copy)]
 pub enum AttrSpot {

@@ -20,13 +20,7 @@ const MOST_ITEMS: usize = 4_000_000;
 fn line_at(bytes: &[u8]) -> u64
     ensures { result ≡ line_at bytes.now }
 {
-    let mut line = 1;
-    for byte in bytes {
-        if *byte == b'\n' {
-            line += 1;
-        }
-    }
-    line
+    1 + bytes.iter().filter(|byte| **byte == b'\n').count() as u64
 }
 
 /// Whether a lexeme has begun.

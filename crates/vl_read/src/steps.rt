@@ -1,9 +1,9 @@
-ghost use Rattle.std.specs.Prelude.{◌≡◌, [], IfOk, None};
+ghost use Rattle.std.specs.Prelude.{◌≡◌, [], IfOk};
 ghost use Rattle.vl_ast.specs.declared.modules.ModItem.TheVariants.{Wire, Reg, Always};
 ghost use Rattle.vl_read.specs.declared.scan.Kind.TheVariants.{Fixed};
 ghost use Rattle.vl_read.specs.inner.Lexemes.{kind_of};
-ghost use Rattle.vl_read.specs.inner.Places.{Items, Start, Port, AfterPort, Title, Head, Branch, First, Expression, Operand, End, Semicolon};
-ghost use Rattle.vl_read.specs.inner.Plain.{expect, step, step_at, item_step, again_step, on_name, goes};
+ghost use Rattle.vl_read.specs.inner.Places.{Items, Start, Port, AfterPort, Title, Branch, First, Expression, Operand, End, Semicolon};
+ghost use Rattle.vl_read.specs.inner.Plain.{expect, step, step_at, item_step, again_step};
 ghost use Rattle.vl_read.specs.inner.Seen.{seen, place_seen, goal_of};
 ghost use Rattle.vl_read.specs.inner.Turns.{stepped};
 
@@ -133,40 +133,6 @@ impl Reader {
         Ok(self.goes(Place::Ports))
     }
 
-    /// A name, which is held.
-    fn name_step(&mut self, alloc: Global, lexeme: &[u8], place: Place) -> Result<bool, OutOfMemory>
-        ensures { IfOk result (λ said. stepped said (seen self.new)
-            ≡ on_name (kind_of lexeme.now)
-            (goes self.old.draft
-            (place_seen (record self.old.held { name = lexeme.now }) place)) None) }
-    {
-        if !is_name(lexeme) {
-            return Ok(false);
-        }
-        self.hold_name(Text::copy(alloc, lexeme)?);
-        Ok(self.goes(place))
-    }
-
-    /// A word of the head of an item with a clock.
-    #[tactic(auto, unfolding(crate::specs::inner::Plain::step_at))]
-    fn head_step(&mut self, at: HeadSpot, lexeme: &[u8]) -> bool
-        ensures { stepped result (seen self.new)
-            ≡ step_at self.old.draft (Head at) Fixed lexeme.now }
-    {
-        match at {
-            HeadSpot::Event => self.expect("@", lexeme, Place::Head(HeadSpot::OpenEvent)),
-            HeadSpot::OpenEvent => self.expect("(", lexeme, Place::Head(HeadSpot::Posedge)),
-            HeadSpot::Posedge => self.expect("posedge", lexeme, Place::Head(HeadSpot::Clock)),
-            HeadSpot::Clock => self.expect("clk", lexeme, Place::Head(HeadSpot::CloseEvent)),
-            HeadSpot::CloseEvent => self.expect(")", lexeme, Place::Head(HeadSpot::Begin)),
-            HeadSpot::Begin => self.expect("begin", lexeme, Place::Head(HeadSpot::Test)),
-            HeadSpot::Test => self.expect("if", lexeme, Place::Head(HeadSpot::OpenTest)),
-            HeadSpot::OpenTest => self.expect("(", lexeme, Place::Head(HeadSpot::Reset)),
-            HeadSpot::Reset => self.expect("reset", lexeme, Place::Head(HeadSpot::CloseTest)),
-            HeadSpot::CloseTest => self.expect(")", lexeme, Place::ClockedName),
-        }
-    }
-
     /// The same name again.
     fn again_step(&mut self, lexeme: &[u8]) -> bool
         ensures { stepped result (seen self.new)
@@ -285,7 +251,7 @@ impl Reader {
             Place::Items => Ok(self.items_step(lexeme)),
             Place::AssignName => self.name_step(alloc, lexeme, Place::AssignSign),
             Place::AssignSign => Ok(self.expression("=", lexeme, Goal::Assigned)),
-            Place::Head(at) => Ok(self.head_step(at, lexeme)),
+            Place::Head(at) => Ok(self.expect(at.word(), lexeme, at.next())),
             Place::ClockedName => self.name_step(alloc, lexeme, Place::ClockedSign),
             Place::ClockedSign => Ok(self.expect("<=", lexeme, Place::First)),
             Place::First => Ok(self.first_step(lexeme)),

@@ -3,7 +3,7 @@ use Rattle.vl_read.proofs.places.Reader.attr_step.Goals as goal
 
 pub returns-in-AttrName : goal.returns-in-AttrName
 unfolding attr_step
-returns-in-AttrName c = rw c.in-AttrName.is c.attribute_name.ensures
+returns-in-AttrName c = rw c.in-AttrName.is c.name_step.ensures
 
 pub returns-in-AttrSign : goal.returns-in-AttrSign
 unfolding attr_step

@@ -1,3 +1,4 @@
+use Rattle.std.proofs.Common.{sym}
 use Rattle.vl_read.specs.inner.Plain.{step_at}
 use Rattle.vl_read.proofs.places.Reader.step_at.Goals as goal
 
@@ -47,7 +48,7 @@ returns-in-AssignSign c = rw c.in-AssignSign.is c.expression.ensures
 
 pub returns-in-Head : goal.returns-in-Head
 unfolding step_at
-returns-in-Head c = rw c.in-Head.is c.head_step.ensures
+returns-in-Head c = rw (c.in-Head.is, sym c.word.ensures, sym (c.next.ensures c.args.self.now.held)) c.expect-in-Head.ensures
 
 pub returns-in-ClockedName : goal.returns-in-ClockedName
 unfolding step_at
