@@ -135,3 +135,9 @@ module _ (m : Module) (inputs : Row) where
 pub edge-of : (m : Module) (bits : List ℕ) (machine later : Machine) → source_of machine ≡ m → IsEdge (source_of machine) (row_of machine) (given (driven_ports (source_of machine)) bits) (row_of later)
     → IsEdge m (row_of machine) (given (driven_ports m) bits) (row_of later)
 edge-of m bits machine later same edge = subst (λ (n : Module). IsEdge n (row_of machine) (given (driven_ports n) bits) (row_of later)) same edge
+
+-- one such edge more
+pub since-edge : (m : Module) (bits : List ℕ) (first : Row) (count since : ℕ) (machine : Machine) (snapshot : Snapshot) → IsSince m (given (driven_ports m) bits) first count since machine snapshot → (later : Machine) → source_of machine ≡ m
+    → IsEdge (source_of machine) (row_of machine) (given (driven_ports (source_of machine)) bits) (row_of later) → ((row : Row) → IsKept machine snapshot row → IsKept later snapshot row)
+    → IsSince m (given (driven_ports m) bits) first (count + 1) (since + 1) later snapshot
+since-edge m bits first count since machine snapshot is later same edge stays = since-more m (given (driven_ports m) bits) first count since machine snapshot is later (edge-of m bits machine later same edge) stays

@@ -11,7 +11,7 @@ use fx_io::OutOfMemory;
 use fx_tables::Rows;
 use std::alloc::Global;
 use vl_ast::{Module, Port, mask_of, step_of};
-use vl_check::is_stallable;
+use vl_check::{is_driven_input, is_stallable};
 
 /// How an input port but `clk` is driven.
 #[derive(Clone, Copy)]
@@ -55,7 +55,7 @@ pub fn drivers_of(alloc: Global, source: &Module) -> Result<Vec<Driver>, OutOfMe
     let mut drivers = Vec::new(alloc);
     let mut place: u32 = 0;
     for port in source.ports.as_slice() {
-        if port.input && port.name.bytes() != b"clk".as_slice() {
+        if is_driven_input(port) {
             if is_own(port, stalls) {
                 drivers.push(own_driver(port))?;
             } else {

@@ -3,7 +3,7 @@ use Rattle.vl_eval.specs.Given.{driven_ports, given}
 use Rattle.vl_eval.specs.Machine.{row_of, source_of}
 use Rattle.vl_eval.specs.declared.machine.Snapshot.{Snapshot}
 use Rattle.vl_replay.specs.inner.Resting.{IsSince, Leads}
-use Rattle.vl_replay.proofs.Rounds.{edge-of, since-all, since-anew, since-back, since-more, since-none}
+use Rattle.vl_replay.proofs.Rounds.{since-all, since-anew, since-back, since-edge, since-none}
 use Rattle.vl_replay.proofs.resting.come_back.Goals.{then-since-most, else-since-most}
 use Rattle.vl_replay.proofs.resting.come_back.Goals as goal
 
@@ -23,12 +23,10 @@ returns-then-is_at-clause-leads c =
     let inputs = given (driven_ports m) c.args.bits.now in
     let first = row_of c.args.machine.now in
     let loop = c.loop-clock in
-    let later = c.edge.new.self in
-    let edge = edge-of m c.args.bits.now loop.machine later loop.invariant.source c.edge.ensures.row in
-    let is = since-more m inputs first loop.clock loop.since loop.machine loop.kept loop.invariant.is later edge (c.edge.ensures.kept loop.kept) in
+    let is = since-edge m c.args.bits.now first loop.clock loop.since loop.machine loop.kept loop.invariant.is c.edge.new.self loop.invariant.source c.edge.ensures.row (c.edge.ensures.kept loop.kept) in
     let back = c.is_at.ensures c.if-is_at.true is.row is.kept in
     let below = c.loop-clock-test.true in
-    since-back m inputs first (loop.clock + 1) (loop.since + 1) later loop.kept is c.args.clocks _ (omega (arith, below)) back
+    since-back m inputs first (loop.clock + 1) (loop.since + 1) c.edge.new.self loop.kept is c.args.clocks _ (omega (arith, below)) back
 
 pub keep-requires-then-since-most-clause-room : goal.keep-requires-then-since-most-clause-room
 keep-requires-then-since-most-clause-room c =
@@ -44,8 +42,7 @@ loop-clock-preserved c =
     let first = row_of c.args.machine.now in
     let loop = c.loop-clock in
     let later = c.edge.new.self in
-    let edge = edge-of m c.args.bits.now loop.machine later loop.invariant.source c.edge.ensures.row in
-    let is = since-more m inputs first loop.clock loop.since loop.machine loop.kept loop.invariant.is later edge (c.edge.ensures.kept loop.kept) in
+    let is = since-edge m c.args.bits.now first loop.clock loop.since loop.machine loop.kept loop.invariant.is later loop.invariant.source c.edge.ensures.row (c.edge.ensures.kept loop.kept) in
     let few = loop.invariant.few in
     record {
       ready = c.edge.ensures.ready;

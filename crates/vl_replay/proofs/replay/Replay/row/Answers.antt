@@ -6,43 +6,34 @@ use Rattle.vl_replay.proofs.Scores.{samplers-many}
 use Rattle.vl_replay.proofs.Shown.{shown-is, shown-long}
 use Rattle.vl_replay.proofs.replay.Replay.row.Goals as goal
 
-pub returns-clause-sampled : goal.returns-clause-sampled
-returns-clause-sampled c = λ table is.
-    let replay = c.args.self.now in
-    let score = replay.score in
-    let stands = c.requires.stands in
-    let played = stands.played in
-    let n = length score.samplers.items in
-    let start = c.start_of-start.result in
-    let many-outputs : c.len-outputs.result ≡ n = c.len-outputs.ensures ∙ replay.score.samplers.ok.0 in
-    let many : start + c.len-outputs.result - start ≡ c.len-outputs.result = omega arith in
-    let start-is : start ≡ c.args.sample % replay.window * n = c.start_of-start.ensures.start ∙ ap (λ k. c.args.sample % replay.window * k) many-outputs in
-    ap (λ k. take k (drop start c.deref.result.now)) (many ∙ many-outputs)
-    ∙ ap (λ k. take n (drop k c.deref.result.now)) start-is
-    ∙ ap (λ (cells : List ℤ). take n (drop (c.args.sample % replay.window * n) cells)) c.deref.ensures.value
-    ∙ shown-is c.one_run.ensures.one c.steps_run.ensures (source_of replay.machine) score replay.window replay.delay c.args.sample played.score_is stands.delay stands.window played.rows replay.cells.items
-    c.requires.within played.steps played.have table is
+-- what is lent is the sample's row of the ring
+row-of : (replay : Replay) (sample start outputs : ℕ) (cells : List ℤ) → outputs ≡ length replay.score.samplers.items → start ≡ sample % replay.window * outputs → cells ≡ replay.cells.items
+    → take (start + outputs - start) (drop start cells) ≡ take (length replay.score.samplers.items) (drop (sample % replay.window * length replay.score.samplers.items) replay.cells.items)
+row-of replay sample start outputs cells many begins is =
+    let all : start + outputs - start ≡ outputs = omega arith in
+    λ i. take ((all ∙ many) i) (drop ((begins ∙ ap (λ k. sample % replay.window * k) many) i) (is i))
 
 -- the ring has its rows
 rows-long : (replay : Replay) (sample : ℕ) → StandsBefore replay sample → (cells : List ℤ) (outputs : ℕ) → cells ≡ replay.cells.items → outputs ≡ length replay.score.samplers.items → length cells ≡ replay.window * outputs
 rows-long replay sample stands cells outputs is many =
     ap length is ∙ stands.played.have.long ∙ ap (λ (n : ℕ). replay.window * n) (sym (many ∙ samplers-many (source_of replay.machine) replay.score stands.played.score_is))
 
+pub returns-clause-sampled : goal.returns-clause-sampled
+returns-clause-sampled c = λ table is.
+    let replay = c.args.self.now in
+    let stands = c.requires.stands in
+    let played = stands.played in
+    row-of replay c.args.sample c.start_of-start.result c.len-outputs.result c.deref.result.now (c.len-outputs.ensures ∙ replay.score.samplers.ok.0) c.start_of-start.ensures.start c.deref.ensures.value
+    ∙ shown-is c.one_run.ensures.one c.steps_run.ensures (source_of replay.machine) replay.score replay.window replay.delay c.args.sample played.score_is stands.delay stands.window played.rows replay.cells.items
+    c.requires.within played.steps played.have table is
+
 pub returns-clause-long : goal.returns-clause-long
 returns-clause-long c =
     let replay = c.args.self.now in
-    let score = replay.score in
     let stands = c.requires.stands in
     let played = stands.played in
-    let n = length score.samplers.items in
-    let start = c.start_of-start.result in
-    let many-outputs : c.len-outputs.result ≡ n = c.len-outputs.ensures ∙ replay.score.samplers.ok.0 in
-    let many : start + c.len-outputs.result - start ≡ c.len-outputs.result = omega arith in
-    let start-is : start ≡ c.args.sample % replay.window * n = c.start_of-start.ensures.start ∙ ap (λ k. c.args.sample % replay.window * k) many-outputs in
-    ap (λ k. length (take k (drop start c.deref.result.now))) (many ∙ many-outputs)
-    ∙ ap (λ k. length (take n (drop k c.deref.result.now))) start-is
-    ∙ ap (λ (cells : List ℤ). length (take n (drop (c.args.sample % replay.window * n) cells))) c.deref.ensures.value
-    ∙ shown-long c.one_run.ensures.one c.steps_run.ensures (source_of replay.machine) score replay.window replay.delay c.args.sample played.score_is stands.delay stands.window played.rows replay.cells.items
+    ap length (row-of replay c.args.sample c.start_of-start.result c.len-outputs.result c.deref.result.now (c.len-outputs.ensures ∙ replay.score.samplers.ok.0) c.start_of-start.ensures.start c.deref.ensures.value)
+    ∙ shown-long c.one_run.ensures.one c.steps_run.ensures (source_of replay.machine) replay.score replay.window replay.delay c.args.sample played.score_is stands.delay stands.window played.rows replay.cells.items
     c.requires.within played.steps played.have
 
 pub start_of-start-requires-clause-some : goal.start_of-start-requires-clause-some
