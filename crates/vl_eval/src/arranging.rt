@@ -1,4 +1,4 @@
-ghost use Rattle.std.specs.Prelude.{◌≡◌, ◌<◌, ◌≤◌, ◌+◌, ◌^◌, ℕ, IfOk, length, map, slice_index};
+ghost use Rattle.std.specs.Prelude.{◌≡◌, ◌<◌, ◌≤◌, ◌+◌, ◌*◌, ◌^◌, ℕ, IfOk, length, map, slice_index};
 ghost use Rattle.vl_eval.specs.inner.Arranged.{AreEntries, ArePlaces, IsArranged, moved, moved_capture, number_of, op_at, renamed};
 ghost use Rattle.vl_eval.specs.inner.Ops.{IsOrdered};
 
@@ -23,7 +23,17 @@ pub struct Arranged {
     pub captures: Vec<Capture>,
 }
 
-/// The level, the kind and the number of each operation, in one number that is sorted by them in turn.
+/// The level, the kind and the number of an operation, in one number that is sorted by them in turn.
+fn entry_of(level: usize, kind: u64, number: usize) -> u64
+    requires level { level < 2 ^ 29 }
+    requires kind { kind < 32 }
+    requires number { number < 2 ^ 29 }
+    ensures { result ≡ (level * 32 + kind) * 2 ^ 29 + number }
+{
+    (level as u64 * 32 + kind) * (1 << 29) + number as u64
+}
+
+/// The entries of operations.
 fn entries(alloc: Global, ops: &Code, base: usize) -> Result<Vec<u64>, OutOfMemory>
     requires ordered { IsOrdered base ops.now }
     requires few { length ops.now ≤ 2 ^ 29 }
@@ -35,7 +45,7 @@ fn entries(alloc: Global, ops: &Code, base: usize) -> Result<Vec<u64>, OutOfMemo
         let op = ops.get(number);
         let level = level_of(op, base, levels.as_slice());
         levels.push(level)?;
-        entries.push((level as u64 * 32 + kind_of(op)) * (1 << 29) + number as u64)?;
+        entries.push(entry_of(level, kind_of(op), number))?;
     }
     Ok(entries)
 }

@@ -41,6 +41,15 @@ fn product(left: u128, right: u128, mask: u64) -> u128
     u128::from(low(left).wrapping_mul(low(right)) & mask)
 }
 
+/// The words at two places.
+fn words(values: &[u128], left: u32, right: u32) -> (u128, u128)
+    requires { (left < length values.now) × (right < length values.now) }
+    ensures left { result.0 ≡ slice_index values.now left }
+    ensures right { result.1 ≡ slice_index values.now right }
+{
+    both(values, left as usize, right as usize)
+}
+
 /// What an operation gives, by its step.
 fn value_by(step: Step, wide: &[Op], values: &[u128]) -> u128
     requires within { IsWithin (length wide.now) step }
@@ -52,53 +61,53 @@ fn value_by(step: Step, wide: &[Op], values: &[u128]) -> u128
         Step::Extended { part, half, fill } => extended(values[part as usize], half, fill),
         Step::Select { part, low, mask } => (values[part as usize] >> low) & mask as u128,
         Step::Add { left, right, mask } => {
-            let (left, right) = both(values, left as usize, right as usize);
+            let (left, right) = words(values, left, right);
             sum(left, right, mask)
         }
         Step::Subtract { left, right, mask } => {
-            let (left, right) = both(values, left as usize, right as usize);
+            let (left, right) = words(values, left, right);
             difference(left, right, mask)
         }
         Step::Multiply { left, right, mask } => {
-            let (left, right) = both(values, left as usize, right as usize);
+            let (left, right) = words(values, left, right);
             product(left, right, mask)
         }
         Step::And { left, right } => {
-            let (left, right) = both(values, left as usize, right as usize);
+            let (left, right) = words(values, left, right);
             left & right
         }
         Step::Or { left, right } => {
-            let (left, right) = both(values, left as usize, right as usize);
+            let (left, right) = words(values, left, right);
             left | right
         }
         Step::Xor { left, right } => {
-            let (left, right) = both(values, left as usize, right as usize);
+            let (left, right) = words(values, left, right);
             left ^ right
         }
         Step::Equal { left, right } => {
-            let (left, right) = both(values, left as usize, right as usize);
+            let (left, right) = words(values, left, right);
             (left == right) as u128
         }
         Step::NotEqual { left, right } => {
-            let (left, right) = both(values, left as usize, right as usize);
+            let (left, right) = words(values, left, right);
             (left != right) as u128
         }
         Step::Less { left, right, half } => {
-            let (left, right) = both(values, left as usize, right as usize);
+            let (left, right) = words(values, left, right);
             let half = half as u128;
             (left ^ half < right ^ half) as u128
         }
         Step::LessEqual { left, right, half } => {
-            let (left, right) = both(values, left as usize, right as usize);
+            let (left, right) = words(values, left, right);
             let half = half as u128;
             (left ^ half <= right ^ half) as u128
         }
         Step::Both { left, right } => {
-            let (left, right) = both(values, left as usize, right as usize);
+            let (left, right) = words(values, left, right);
             ((left != 0) & (right != 0)) as u128
         }
         Step::Either { left, right } => {
-            let (left, right) = both(values, left as usize, right as usize);
+            let (left, right) = words(values, left, right);
             ((left != 0) | (right != 0)) as u128
         }
         Step::Negate { part, mask } => 0u128.wrapping_sub(values[part as usize]) & mask as u128,
@@ -126,7 +135,7 @@ fn value_by(step: Step, wide: &[Op], values: &[u128]) -> u128
             right,
             places,
         } => {
-            let (left, right) = both(values, left as usize, right as usize);
+            let (left, right) = words(values, left, right);
             (left << places).wrapping_add(right)
         }
         Step::Next {

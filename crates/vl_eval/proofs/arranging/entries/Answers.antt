@@ -1,5 +1,5 @@
 use Rattle.std.proofs.Common.{◌≡◌, ◌<◌, ◌+◌, ◌*◌, ◌^◌, ◌++◌, ◌∷◌, [], length, take, sym, ap, subst, ◌∙◌, arith}
-use Rattle.std.proofs.lemmas.List.{get_or_default, length-take-le, take_more}
+use Rattle.std.proofs.lemmas.List.{get_or_default, length-take-le, take_all, take_more}
 use Rattle.vl_eval.specs.declared.ops.Op.TheVariants.{Constant}
 use Rattle.vl_eval.specs.inner.Arranged.{AreEntered, AreLow, IsAbove, each_of, reads_of}
 use Rattle.vl_eval.proofs.Sorting.{entered-more, entered-none, reads-levelled}
@@ -16,6 +16,18 @@ level_of-level-requires-clause-within c =
 
 pub level_of-level-requires-clause-low : goal.level_of-level-requires-clause-low
 level_of-level-requires-clause-low c = subst (λ xs. AreLow xs) (sym c.as_slice.ensures.value) c.loop-number.invariant.low
+
+pub entry_of-requires-clause-level : goal.entry_of-requires-clause-level
+entry_of-requires-clause-level c =
+    let ops = c.args.ops.now in
+    let k = c.loop-number.number in
+    let below : k < length ops = omega (arith, c.loop-number-test.true, c.len-number-end.ensures) in
+    let long = length-take-le k ops (omega (arith, below)) in
+    let levels = ap length c.as_slice.ensures.value ∙ c.loop-number.invariant.levels_long ∙ long in
+    omega (arith, c.level_of-level.ensures.low, levels, below, c.requires.few)
+
+pub entry_of-requires-clause-number : goal.entry_of-requires-clause-number
+entry_of-requires-clause-number c = omega (arith, c.loop-number-test.true, c.len-number-end.ensures, c.requires.few)
 
 pub loop-number-init : goal.loop-number-init
 loop-number-init c =
@@ -38,5 +50,11 @@ loop-number-preserved c =
     subst (λ os. AreEntered base os c.push.new.self.items c.push-in-loop-number.new.self.items) (sym more)
     (subst (λ ls. AreEntered base (take k ops ++ op ∷ []) ls c.push-in-loop-number.new.self.items) (sym c.in_ok-push.ensures.items)
     (subst (λ es. AreEntered base (take k ops ++ op ∷ []) (c.loop-number.levels.items ++ level ∷ []) es) (sym c.in_ok-push-2.ensures.items)
-    (entered-more base (take k ops) op c.loop-number.levels.items c.loop-number.entries.items level c.kind_of.result ((level * 32 + c.kind_of.result) * 2 ^ 29 + k) c.kind_of.ensures
-    (ap (λ n. (level * 32 + c.kind_of.result) * 2 ^ 29 + n) (sym long)) (omega (arith, small, levels)) above c.loop-number.invariant)))
+    (entered-more base (take k ops) op c.loop-number.levels.items c.loop-number.entries.items level c.kind_of.result c.entry_of.result c.kind_of.ensures
+    (c.entry_of.ensures ∙ ap (λ n. (level * 32 + c.kind_of.result) * 2 ^ 29 + n) (sym long)) (omega (arith, small, levels)) above c.loop-number.invariant)))
+
+pub returns : goal.returns
+returns c = record {
+  levels = c.loop-number.levels.items;
+  are = subst (λ os. AreEntered c.args.base os c.loop-number.levels.items c.loop-number.entries.items) (take_all c.loop-number.number c.args.ops.now (omega (arith, c.loop-number-test.false, c.len-number-end.ensures))) c.loop-number.invariant;
+}

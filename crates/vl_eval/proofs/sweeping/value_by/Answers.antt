@@ -13,65 +13,65 @@ gives wide values step = op_value (op_in wide step) (λ k. slice_index values k)
 abbrev reads : List Op → List ℕ → Step → Type 0
 reads wide values step = reads_below (op_in wide step) (length values)
 
-pub both-left-requires : goal.both-left-requires
-both-left-requires c = subst (reads c.args.wide.now c.args.values.now) c.in-Add.is c.requires.reads
+pub words-left-requires : goal.words-left-requires
+words-left-requires c = subst (reads c.args.wide.now c.args.values.now) c.in-Add.is c.requires.reads
 
 pub returns-in-Add : goal.returns-in-Add
-returns-in-Add c = c.sum.ensures ∙ (λ i. bit_and ((c.both-left.ensures.left i + c.both-left.ensures.right i) % 2 ^ 128) c.in-Add.mask) ∙ ap (gives c.args.wide.now c.args.values.now) (sym c.in-Add.is)
+returns-in-Add c = c.sum.ensures ∙ (λ i. bit_and ((c.words-left.ensures.left i + c.words-left.ensures.right i) % 2 ^ 128) c.in-Add.mask) ∙ ap (gives c.args.wide.now c.args.values.now) (sym c.in-Add.is)
 
-pub both-left-requires-in-Subtract : goal.both-left-requires-in-Subtract
-both-left-requires-in-Subtract c = subst (reads c.args.wide.now c.args.values.now) c.in-Subtract.is c.requires.reads
+pub words-left-requires-in-Subtract : goal.words-left-requires-in-Subtract
+words-left-requires-in-Subtract c = subst (reads c.args.wide.now c.args.values.now) c.in-Subtract.is c.requires.reads
 
 pub returns-in-Subtract : goal.returns-in-Subtract
-returns-in-Subtract c = c.difference.ensures ∙ (λ i. bit_and ((c.both-left-in-Subtract.ensures.left i + (2 ^ 128 - c.both-left-in-Subtract.ensures.right i)) % 2 ^ 128) c.in-Subtract.mask) ∙ ap (gives c.args.wide.now c.args.values.now) (sym c.in-Subtract.is)
+returns-in-Subtract c = c.difference.ensures ∙ (λ i. bit_and ((c.words-left-in-Subtract.ensures.left i + (2 ^ 128 - c.words-left-in-Subtract.ensures.right i)) % 2 ^ 128) c.in-Subtract.mask) ∙ ap (gives c.args.wide.now c.args.values.now) (sym c.in-Subtract.is)
 
-pub both-left-requires-in-Multiply : goal.both-left-requires-in-Multiply
-both-left-requires-in-Multiply c = subst (reads c.args.wide.now c.args.values.now) c.in-Multiply.is c.requires.reads
+pub words-left-requires-in-Multiply : goal.words-left-requires-in-Multiply
+words-left-requires-in-Multiply c = subst (reads c.args.wide.now c.args.values.now) c.in-Multiply.is c.requires.reads
 
 pub returns-in-Multiply : goal.returns-in-Multiply
-returns-in-Multiply c = c.product.ensures ∙ (λ i. bit_and ((c.both-left-in-Multiply.ensures.left i) * (c.both-left-in-Multiply.ensures.right i) % 2 ^ 128) c.in-Multiply.mask) ∙ ap (gives c.args.wide.now c.args.values.now) (sym c.in-Multiply.is)
+returns-in-Multiply c = c.product.ensures ∙ (λ i. bit_and ((c.words-left-in-Multiply.ensures.left i) * (c.words-left-in-Multiply.ensures.right i) % 2 ^ 128) c.in-Multiply.mask) ∙ ap (gives c.args.wide.now c.args.values.now) (sym c.in-Multiply.is)
 
-pub both-left-requires-in-And : goal.both-left-requires-in-And
-both-left-requires-in-And c = subst (reads c.args.wide.now c.args.values.now) c.in-And.is c.requires.reads
+pub words-left-requires-in-And : goal.words-left-requires-in-And
+words-left-requires-in-And c = subst (reads c.args.wide.now c.args.values.now) c.in-And.is c.requires.reads
 
 pub returns-in-And : goal.returns-in-And
-returns-in-And c = (λ i. bit_and (c.both-left-in-And.ensures.left i) (c.both-left-in-And.ensures.right i)) ∙ ap (gives c.args.wide.now c.args.values.now) (sym c.in-And.is)
+returns-in-And c = (λ i. bit_and (c.words-left-in-And.ensures.left i) (c.words-left-in-And.ensures.right i)) ∙ ap (gives c.args.wide.now c.args.values.now) (sym c.in-And.is)
 
-pub both-left-requires-in-Or : goal.both-left-requires-in-Or
-both-left-requires-in-Or c = subst (reads c.args.wide.now c.args.values.now) c.in-Or.is c.requires.reads
+pub words-left-requires-in-Or : goal.words-left-requires-in-Or
+words-left-requires-in-Or c = subst (reads c.args.wide.now c.args.values.now) c.in-Or.is c.requires.reads
 
 pub returns-in-Or : goal.returns-in-Or
-returns-in-Or c = (λ i. bit_or (c.both-left-in-Or.ensures.left i) (c.both-left-in-Or.ensures.right i)) ∙ ap (gives c.args.wide.now c.args.values.now) (sym c.in-Or.is)
+returns-in-Or c = (λ i. bit_or (c.words-left-in-Or.ensures.left i) (c.words-left-in-Or.ensures.right i)) ∙ ap (gives c.args.wide.now c.args.values.now) (sym c.in-Or.is)
 
-pub both-left-requires-in-Xor : goal.both-left-requires-in-Xor
-both-left-requires-in-Xor c = subst (reads c.args.wide.now c.args.values.now) c.in-Xor.is c.requires.reads
+pub words-left-requires-in-Xor : goal.words-left-requires-in-Xor
+words-left-requires-in-Xor c = subst (reads c.args.wide.now c.args.values.now) c.in-Xor.is c.requires.reads
 
 pub returns-in-Xor : goal.returns-in-Xor
-returns-in-Xor c = (λ i. bit_xor (c.both-left-in-Xor.ensures.left i) (c.both-left-in-Xor.ensures.right i)) ∙ ap (gives c.args.wide.now c.args.values.now) (sym c.in-Xor.is)
+returns-in-Xor c = (λ i. bit_xor (c.words-left-in-Xor.ensures.left i) (c.words-left-in-Xor.ensures.right i)) ∙ ap (gives c.args.wide.now c.args.values.now) (sym c.in-Xor.is)
 
-pub both-left-requires-in-Equal : goal.both-left-requires-in-Equal
-both-left-requires-in-Equal c = subst (reads c.args.wide.now c.args.values.now) c.in-Equal.is c.requires.reads
+pub words-left-requires-in-Equal : goal.words-left-requires-in-Equal
+words-left-requires-in-Equal c = subst (reads c.args.wide.now c.args.values.now) c.in-Equal.is c.requires.reads
 
-pub both-left-requires-in-NotEqual : goal.both-left-requires-in-NotEqual
-both-left-requires-in-NotEqual c = subst (reads c.args.wide.now c.args.values.now) c.in-NotEqual.is c.requires.reads
+pub words-left-requires-in-NotEqual : goal.words-left-requires-in-NotEqual
+words-left-requires-in-NotEqual c = subst (reads c.args.wide.now c.args.values.now) c.in-NotEqual.is c.requires.reads
 
-pub both-left-requires-in-Less : goal.both-left-requires-in-Less
-both-left-requires-in-Less c = subst (reads c.args.wide.now c.args.values.now) c.in-Less.is c.requires.reads
+pub words-left-requires-in-Less : goal.words-left-requires-in-Less
+words-left-requires-in-Less c = subst (reads c.args.wide.now c.args.values.now) c.in-Less.is c.requires.reads
 
-pub both-left-requires-in-LessEqual : goal.both-left-requires-in-LessEqual
-both-left-requires-in-LessEqual c = subst (reads c.args.wide.now c.args.values.now) c.in-LessEqual.is c.requires.reads
+pub words-left-requires-in-LessEqual : goal.words-left-requires-in-LessEqual
+words-left-requires-in-LessEqual c = subst (reads c.args.wide.now c.args.values.now) c.in-LessEqual.is c.requires.reads
 
-pub both-left-requires-in-Both : goal.both-left-requires-in-Both
-both-left-requires-in-Both c = subst (reads c.args.wide.now c.args.values.now) c.in-Both.is c.requires.reads
+pub words-left-requires-in-Both : goal.words-left-requires-in-Both
+words-left-requires-in-Both c = subst (reads c.args.wide.now c.args.values.now) c.in-Both.is c.requires.reads
 
-pub both-left-requires-in-Either : goal.both-left-requires-in-Either
-both-left-requires-in-Either c = subst (reads c.args.wide.now c.args.values.now) c.in-Either.is c.requires.reads
+pub words-left-requires-in-Either : goal.words-left-requires-in-Either
+words-left-requires-in-Either c = subst (reads c.args.wide.now c.args.values.now) c.in-Either.is c.requires.reads
 
-pub both-left-requires-in-Beside : goal.both-left-requires-in-Beside
-both-left-requires-in-Beside c = let below = subst (reads c.args.wide.now c.args.values.now) c.in-Beside.is c.requires.reads in (below.0, below.1)
+pub words-left-requires-in-Beside : goal.words-left-requires-in-Beside
+words-left-requires-in-Beside c = let below = subst (reads c.args.wide.now c.args.values.now) c.in-Beside.is c.requires.reads in (below.0, below.1)
 
 pub returns-in-Beside : goal.returns-in-Beside
-returns-in-Beside c = (λ i. ((c.both-left-in-Beside.ensures.left i) * 2 ^ c.in-Beside.places % 2 ^ 128 + c.both-left-in-Beside.ensures.right i) % 2 ^ 128) ∙ ap (gives c.args.wide.now c.args.values.now) (sym c.in-Beside.is)
+returns-in-Beside c = (λ i. ((c.words-left-in-Beside.ensures.left i) * 2 ^ c.in-Beside.places % 2 ^ 128 + c.words-left-in-Beside.ensures.right i) % 2 ^ 128) ∙ ap (gives c.args.wide.now c.args.values.now) (sym c.in-Beside.is)
 
 pub returns-in-Constant : goal.returns-in-Constant
 returns-in-Constant c = ap (gives c.args.wide.now c.args.values.now) (sym c.in-Constant.is)
