@@ -24,7 +24,7 @@ use Rattle.st_wrap.specs.inner.Wrapped.{declared_items, inputs_of, outputs_of, p
 use Rattle.st_wrap.proofs.Determined.{clk-unread}
 use Rattle.st_wrap.proofs.Lettered.{inner-letter, inner-same, letter}
 use Rattle.st_wrap.proofs.Named.{input-name, output-name}
-use Rattle.st_wrap.proofs.Placed.{DeclareAlone, declared-alone, late_mentions, mentions-are, output-of}
+use Rattle.st_wrap.proofs.Placed.{DeclareAlone, core_part, declared-alone, declared_part, helds, late_mentions, lates, mentions-are, output-of, ports_part}
 use Rattle.st_wrap.proofs.Reading.{control_mentions, held_mentions, renamed_mention, stage_mentions}
 use Rattle.fx_io.proofs.Tests.{and_false, unequal}
 
@@ -88,36 +88,21 @@ module _ (core : Module) (sound : BreaksNone core) (stallable : is_stallable cor
     by true = inner
     by false = lettered (late_name column.name k) 108 refl refl
 
-  late-none : (column : Column) → Contains (outputs_of core names) column → list_any clocked_read (late_mentions core sound stallable names named counters column) ≡ false
+  late-none : (column : Column) → Contains (outputs_of core names) column → list_any clocked_read (late_mentions column) ≡ false
   late-none column c =
       none-append clocked_read (flat_map (stage_mentions column) (range_with_len 0 column.late)) (Drives false column.name ∷ Reads (stage_name column column.late) ∷ [])
       (none-flat clocked_read (stage_mentions column) (range_with_len 0 column.late) (λ place h. let e = stage-other column c place in (λ i. e i || false)))
       (let e = stage-other column c column.late in (λ i. e i || false))
 
-  abbrev ports_part : List Mention
-  ports_part = map (λ port. Declares (port_declared port)) (ports_of (inputs_of core names) (outputs_of core names))
-
-  abbrev declared_part : List Mention
-  declared_part = flat_map item_mentions (declared_items core counters (inputs_of core names) (outputs_of core names))
-
-  abbrev core_part : List Mention
-  core_part = map renamed_mention (flat_map item_mentions core.items)
-
-  abbrev helds : List Mention
-  helds = flat_map held_mentions (inputs_of core names)
-
-  abbrev lates : List Mention
-  lates = flat_map (late_mentions core sound stallable names named counters) (outputs_of core names)
-
   reads-none : list_any clocked_read (mentions (wrapped core names counters)) ≡ false
   reads-none = ap (list_any clocked_read) (mentions-are core sound stallable names named counters)
-      ∙ none-append clocked_read ports_part (declared_part ++ (core_part ++ (control_mentions ++ (helds ++ lates)))) (ports-none (ports_of (inputs_of core names) (outputs_of core names)))
-      (none-append clocked_read declared_part (core_part ++ (control_mentions ++ (helds ++ lates)))
+      ∙ none-append clocked_read (ports_part core names) (declared_part core names counters ++ (core_part core ++ (control_mentions ++ (helds core names ++ lates core names)))) (ports-none (ports_of (inputs_of core names) (outputs_of core names)))
+      (none-append clocked_read (declared_part core names counters) (core_part core ++ (control_mentions ++ (helds core names ++ lates core names)))
       (alone-none (declared_items core counters (inputs_of core names) (outputs_of core names)) (declared-alone core sound stallable names named counters))
-      (none-append clocked_read core_part (control_mentions ++ (helds ++ lates)) (renamed-none (flat_map item_mentions core.items) (λ n h. clk-unread core sound n (in-core n h)))
-      (none-append clocked_read control_mentions (helds ++ lates) refl
-      (none-append clocked_read helds lates (none-flat clocked_read held_mentions (inputs_of core names) held-none)
-      (none-flat clocked_read (late_mentions core sound stallable names named counters) (outputs_of core names) late-none)))))
+      (none-append clocked_read (core_part core) (control_mentions ++ (helds core names ++ lates core names)) (renamed-none (flat_map item_mentions core.items) (λ n h. clk-unread core sound n (in-core n h)))
+      (none-append clocked_read control_mentions (helds core names ++ lates core names) refl
+      (none-append clocked_read (helds core names) (lates core names) (none-flat clocked_read held_mentions (inputs_of core names) held-none)
+      (none-flat clocked_read late_mentions (outputs_of core names) late-none)))))
     where
       in-core : (n : List ℕ) → Contains (flat_map item_mentions core.items) (Reads n) → Contains (mentions core) (Reads n)
       in-core n h = Contains-append_right (map (λ port. Declares (port_declared port)) core.ports) (flat_map item_mentions core.items) (Reads n) h

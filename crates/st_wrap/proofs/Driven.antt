@@ -30,15 +30,9 @@ use Rattle.st_wrap.proofs.Apart.{Apart, apart-append, apart-flat, apart-left, ap
 use Rattle.st_wrap.proofs.Columned.{from-filter, number-input, zip-left}
 use Rattle.st_wrap.proofs.Determined.{clk-port}
 use Rattle.st_wrap.proofs.Lettered.{by-letter, column-letter, held-same, inner-letter, inner-same, late-same, letter, off, shared-cases}
-use Rattle.st_wrap.proofs.Named.{apart-range, by-test, columns-apart, driven-renamed, driven_in, flat-empty, in-range, items-renamed, late-small, map-twice, names-append, names-flat, names-map, output-name}
-use Rattle.st_wrap.proofs.Once.{in-late, late_names, port-mentions}
+use Rattle.st_wrap.proofs.Named.{apart-range, by-test, column_name, columns-apart, driven-renamed, driven_in, flat-empty, in-each, in-range, items-renamed, late-small, map-twice, names-append, names-flat, names-map, output-name}
+use Rattle.st_wrap.proofs.Once.{in-late, late_names, port-mentions, port_name}
 use Rattle.st_wrap.proofs.Reading.{control-mentions, held-mentions, shown-mentions, stage-mentions}
-
-abbrev column_name : Column → List ℕ
-column_name column = column.name
-
-abbrev port_name : Port → List ℕ
-port_name port = port.name
 
 -- two names for each of a list
 module _ {A B : Type 0} (f g : A → B) where
@@ -80,27 +74,7 @@ control_drives =
 
 pub in-drives : (P : List ℕ → Type 0) (n : List ℕ) → Contains control_drives n → P begin_name → P end_name → P due_name → P fed_name → P open_name → P enable_name
     → P (codes "in_ready") → P (codes "out_valid") → P phase_name → P wait_name → P n
-in-drives P n h p1 p2 p3 p4 p5 p6 p7 p8 p9 p10 =
-    ⊎_elim (λ e. subst P e p1) (λ h1.
-    ⊎_elim (λ e. subst P e p2) (λ h2.
-    ⊎_elim (λ e. subst P e p3) (λ h3.
-    ⊎_elim (λ e. subst P e p4) (λ h4.
-    ⊎_elim (λ e. subst P e p5) (λ h5.
-    ⊎_elim (λ e. subst P e p6) (λ h6.
-    ⊎_elim (λ e. subst P e p7) (λ h7.
-    ⊎_elim (λ e. subst P e p8) (λ h8.
-    ⊎_elim (λ e. subst P e p9) (λ h9.
-    ⊎_elim (λ e. subst P e p10) (λ h10. absurd (none-in n h10))
-    (cons-cases wait_name n [] h9))
-    (cons-cases phase_name n (wait_name ∷ []) h8))
-    (cons-cases (codes "out_valid") n (phase_name ∷ wait_name ∷ []) h7))
-    (cons-cases (codes "in_ready") n (codes "out_valid" ∷ phase_name ∷ wait_name ∷ []) h6))
-    (cons-cases enable_name n (codes "in_ready" ∷ codes "out_valid" ∷ phase_name ∷ wait_name ∷ []) h5))
-    (cons-cases open_name n (enable_name ∷ codes "in_ready" ∷ codes "out_valid" ∷ phase_name ∷ wait_name ∷ []) h4))
-    (cons-cases fed_name n (open_name ∷ enable_name ∷ codes "in_ready" ∷ codes "out_valid" ∷ phase_name ∷ wait_name ∷ []) h3))
-    (cons-cases due_name n (fed_name ∷ open_name ∷ enable_name ∷ codes "in_ready" ∷ codes "out_valid" ∷ phase_name ∷ wait_name ∷ []) h2))
-    (cons-cases end_name n (due_name ∷ fed_name ∷ open_name ∷ enable_name ∷ codes "in_ready" ∷ codes "out_valid" ∷ phase_name ∷ wait_name ∷ []) h1))
-    (cons-cases begin_name n (end_name ∷ due_name ∷ fed_name ∷ open_name ∷ enable_name ∷ codes "in_ready" ∷ codes "out_valid" ∷ phase_name ∷ wait_name ∷ []) h)
+in-drives P n h p1 p2 p3 p4 p5 p6 p7 p8 p9 p10 = in-each P control_drives (p1, (p2, (p3, (p4, (p5, (p6, (p7, (p8, (p9, (p10, tt)))))))))) n h
 
 abbrev pub inner_of : Column → List ℕ
 inner_of column = inner_name column.inner

@@ -25,8 +25,8 @@ use Rattle.st_wrap.proofs.Apart.{doubly-none, one-declaration}
 use Rattle.st_wrap.proofs.Columned.{range-in}
 use Rattle.st_wrap.proofs.Driven.{all-driven-once, column-port}
 use Rattle.st_wrap.proofs.Once.{all-declared-once}
-use Rattle.st_wrap.proofs.Placed.{EachDrives, declared-alone, drives-alone, drives-append, drives-at, drives-flat, drives-ports, drives-renamed, late_mentions, mentions-are, output-unshared}
-use Rattle.st_wrap.proofs.Reading.{control_mentions, held_mentions, renamed_mention, stage_mentions}
+use Rattle.st_wrap.proofs.Placed.{EachDrives, core_part, declared-alone, declared_part, drives-alone, drives-append, drives-at, drives-flat, drives-ports, drives-renamed, helds, late_mentions, lates, mentions-are, output-unshared, ports_part}
+use Rattle.st_wrap.proofs.Reading.{control_mentions, held_mentions, stage_mentions}
 use Rattle.st_wrap.proofs.Structure.{control-there, core-there, flag-there, held-there, late-there, output-port, wire-of, wire-there}
 
 module _ (core : Module) (sound : BreaksNone core) (stallable : is_stallable core ≡ true) (names : List (List ℕ)) (named : AreColumnNames core names) (counters : Counters) where
@@ -106,7 +106,7 @@ module _ (core : Module) (sound : BreaksNone core) (stallable : is_stallable cor
   stage-in : (column : Column) (place : ℕ) → place < column.late → Contains (range_with_len 0 column.late) place
   stage-in column place low = let e : 0 + place ≡ place = omega arith in subst (λ n. Contains (range_with_len 0 column.late) n) e (range-in 0 column.late place low)
 
-  late-may : (column : Column) → Contains (outputs_of core names) column → EachDrives May (late_mentions core sound stallable names named counters column)
+  late-may : (column : Column) → Contains (outputs_of core names) column → EachDrives May (late_mentions column)
   late-may column c =
       drives-append May (flat_map (stage_mentions column) (range_with_len 0 column.late)) (Drives false column.name ∷ Reads (stage_name column column.late) ∷ [])
       (drives-flat May (stage_mentions column) (range_with_len 0 column.late) (λ place h.
@@ -146,30 +146,15 @@ module _ (core : Module) (sound : BreaksNone core) (stallable : is_stallable cor
           (wire-kind c (sym (ap (λ (b : Bool). may_drive c (if b then InputPort else OutputPort)) off) ∙ kind))))
           (cases_Bool port.input)
 
-  abbrev ports_part : List Mention
-  ports_part = map (λ port. Declares (port_declared port)) (ports_of (inputs_of core names) (outputs_of core names))
-
-  abbrev declared_part : List Mention
-  declared_part = flat_map item_mentions (declared_items core counters (inputs_of core names) (outputs_of core names))
-
-  abbrev core_part : List Mention
-  core_part = map renamed_mention (flat_map item_mentions core.items)
-
-  abbrev helds : List Mention
-  helds = flat_map held_mentions (inputs_of core names)
-
-  abbrev lates : List Mention
-  lates = flat_map (late_mentions core sound stallable names named counters) (outputs_of core names)
-
   all-may : (c : Bool) (n : List ℕ) → Contains (mentions (wrapped core names counters)) (Drives c n) → May c n
   all-may = drives-at May (mentions (wrapped core names counters)) (subst (λ xs. EachDrives May xs) (sym (mentions-are core sound stallable names named counters))
-      (drives-append May ports_part (declared_part ++ (core_part ++ (control_mentions ++ (helds ++ lates)))) (drives-ports May (ports_of (inputs_of core names) (outputs_of core names)))
-      (drives-append May declared_part (core_part ++ (control_mentions ++ (helds ++ lates)))
+      (drives-append May (ports_part core names) (declared_part core names counters ++ (core_part core ++ (control_mentions ++ (helds core names ++ lates core names)))) (drives-ports May (ports_of (inputs_of core names) (outputs_of core names)))
+      (drives-append May (declared_part core names counters) (core_part core ++ (control_mentions ++ (helds core names ++ lates core names)))
       (drives-alone May (declared_items core counters (inputs_of core names) (outputs_of core names)) (declared-alone core sound stallable names named counters))
-      (drives-append May core_part (control_mentions ++ (helds ++ lates)) (drives-renamed May (flat_map item_mentions core.items) core-may)
-      (drives-append May control_mentions (helds ++ lates) control-may
-      (drives-append May helds lates (drives-flat May held_mentions (inputs_of core names) held-may)
-      (drives-flat May (late_mentions core sound stallable names named counters) (outputs_of core names) late-may)))))))
+      (drives-append May (core_part core) (control_mentions ++ (helds core names ++ lates core names)) (drives-renamed May (flat_map item_mentions core.items) core-may)
+      (drives-append May control_mentions (helds core names ++ lates core names) control-may
+      (drives-append May (helds core names) (lates core names) (drives-flat May held_mentions (inputs_of core names) held-may)
+      (drives-flat May late_mentions (outputs_of core names) late-may)))))))
 
   pub once : doubly (wrapped core names counters) ≡ None
   once = doubly-none (wrapped core names counters) (all-declared-once core sound stallable names named counters) (all-driven-once core sound stallable names named counters) all-may

@@ -13,7 +13,7 @@ use Rattle.vl_ast.specs.Conditions.{is_narrow, is_number, is_sound, is_sound_ste
 use Rattle.vl_ast.specs.Context.{Net, binary_place, length_at, own_length}
 use Rattle.st_wrap.specs.inner.Columns.{plain}
 use Rattle.st_wrap.specs.inner.Control.{both, is_zero, number}
-use Rattle.st_wrap.proofs.Layers.{length-Binary, length-Choose, length-Literal, length-Name}
+use Rattle.vl_ast.proofs.Forms.{length-Binary, length-Choose, length-Literal, length-Name}
 use Rattle.vl_ast.proofs.Values.{own_length-roll}
 
 -- a width that a net may have

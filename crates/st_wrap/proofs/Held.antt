@@ -22,7 +22,7 @@ use Rattle.st_wrap.specs.Transfers.{IsTransfer, in_side}
 use Rattle.st_wrap.specs.inner.Columns.{column_port, moving, plain}
 use Rattle.st_wrap.specs.inner.Names.{begin_name, held_name, inner_name}
 use Rattle.st_wrap.proofs.Controlled.{begin-moves, begin-told, begins, moves}
-use Rattle.st_wrap.proofs.Layers.{length-Choose, length-Name, value-Choose, value-Name}
+use Rattle.vl_ast.proofs.Forms.{length-Choose, length-Name, value-Choose, value-Name}
 use Rattle.st_wrap.proofs.Moving.{Setting, begins-is, begun-first, in-transfer, ins-are}
 use Rattle.st_wrap.proofs.Samples.{next-first, next-same, zero-phase}
 use Rattle.st_wrap.proofs.Shaking.{some-cycles}

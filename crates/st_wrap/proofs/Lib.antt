@@ -9,7 +9,6 @@ pub mod Headed
 pub mod Held
 pub mod Known
 pub mod Late
-pub mod Layers
 pub mod Lettered
 pub mod Meanings
 pub mod Moving

@@ -105,6 +105,16 @@ apart-distinct (x ∷ xs) d = (not-in xs d.0, apart-distinct xs d.1) where
   not-in [] a h = none-in x h
   not-in (y ∷ ys) a h = ⊎_elim (λ s. false≢true (sym a.0 ∙ (bytes_eq-Decides x y).1 (sym s))) (λ t. not-in ys a.1 t) (cons-cases y x ys h)
 
+-- ---- a fact of each element of a list that is written out
+
+abbrev pub Each : {A : Type 0} → (A → Type 0) → List A → Type 0
+Each P [] = Unit {0}
+Each P (x ∷ xs) = P x × Each P xs
+
+pub in-each : {A : Type 0} (P : A → Type 0) (xs : List A) → Each P xs → (x : A) → Contains xs x → P x
+in-each P [] e x h = absurd (none-in x h)
+in-each P (y ∷ ys) e x h = ⊎_elim (λ s. subst P s e.0) (λ t. in-each P ys e.1 x t) (cons-cases y x ys h)
+
 -- ---- ranges
 
 pub in-range : (start count k : ℕ) → Contains (range_with_len start count) k → (start ≤ k) × (k < start + count)
@@ -120,7 +130,7 @@ apart-range start (suc count) = ((λ h. let r = in-range (start + 1) count start
 
 -- ---- columns
 
-abbrev column_name : Column → List ℕ
+abbrev pub column_name : Column → List ℕ
 column_name column = column.name
 
 seconds : {A B : Type 0} (xs : List A) (ys : List B) → length xs ≤ length ys → map (λ (p : A × B). p.1) (zip xs ys) ≡ take (length xs) ys

@@ -23,25 +23,19 @@ use Rattle.st_wrap.specs.Names.{AreColumnNames}
 use Rattle.st_wrap.specs.inner.Columns.{column_port, input_column, stage_driven}
 use Rattle.st_wrap.specs.inner.Control.{control_driven}
 use Rattle.st_wrap.specs.inner.Names.{begin_name, end_name, due_name, fed_name, open_name, enable_name, held_name, inner_name, is_shared, late_name, phase_name, wait_name}
-use Rattle.st_wrap.specs.inner.Wrapped.{declared_items, inputs_of, outputs_of, ports_of, wrapped}
+use Rattle.st_wrap.specs.inner.Wrapped.{inputs_of, outputs_of, ports_of, wrapped}
 use Rattle.fx_io.proofs.Places.{seen}
 use Rattle.st_wrap.proofs.Apart.{declared_names}
 use Rattle.st_wrap.proofs.Columned.{got-in, paired, to-filter}
 use Rattle.st_wrap.proofs.Controlled.{in_flag, out_flag}
 use Rattle.st_wrap.proofs.Drivers.{declared-is, item-mention, port-mention}
 use Rattle.st_wrap.proofs.Known.{undriven-none}
-use Rattle.st_wrap.proofs.Named.{declared_in}
-use Rattle.st_wrap.proofs.Once.{declared-list, in-control, in-wire, late_names, wire_names}
-use Rattle.st_wrap.proofs.Placed.{are-known, late_mentions, mentions-are}
-use Rattle.st_wrap.proofs.Reading.{control_mentions, held_mentions, renamed_mention}
+use Rattle.st_wrap.proofs.Named.{column_name, declared_in, in-each}
+use Rattle.st_wrap.proofs.Once.{control_names, declared-list, flag_names, front_names, held_names, in-control, in-wire, in_names, late_names, out_names, own_declared, port_name, wire_names, wires}
+use Rattle.st_wrap.proofs.Placed.{are-known, core_part, declared_part, mentions-are, own_part, ports_part}
+use Rattle.st_wrap.proofs.Reading.{renamed_mention}
 use Rattle.st_wrap.proofs.Structure.{front-there, flag-there, input-port, input-there, output-there, signal-there}
 use Rattle.st_wrap.proofs.Worded.{named-mention}
-
-abbrev column_name : Column → List ℕ
-column_name column = column.name
-
-abbrev port_name : Port → List ℕ
-port_name port = port.name
 
 declared-kind : (d e : Declared) → Declares d ≡ Declares e → d.kind ≡ e.kind
 declared-kind d e p = ap (λ x. (or_this d x).kind) p where
@@ -86,18 +80,6 @@ module _ (core : Module) (sound : BreaksNone core) (stallable : is_stallable cor
   enable-has : Has enable_name
   enable-has = signal-has _ false enable_name (5, omega arith, refl) (head-in _ _)
 
-  abbrev ports_part : List Mention
-  ports_part = map (λ port. Declares (port_declared port)) (ports_of (inputs_of core names) (outputs_of core names))
-
-  abbrev declared_part : List Mention
-  declared_part = flat_map item_mentions (declared_items core counters (inputs_of core names) (outputs_of core names))
-
-  abbrev core_part : List Mention
-  core_part = map renamed_mention (flat_map item_mentions core.items)
-
-  abbrev own_part : List Mention
-  own_part = control_mentions ++ (flat_map held_mentions (inputs_of core names) ++ flat_map (late_mentions core sound stallable names named counters) (outputs_of core names))
-
   -- what drives a name of the core drives it in the wrapper
   core-has : (d : Declared) → Contains (mentions core) (Declares d) → needs_driver d.kind ≡ true → Has (inner_name d.name)
   core-has d h needs =
@@ -109,8 +91,8 @@ module _ (core : Module) (sound : BreaksNone core) (stallable : is_stallable cor
       let renamed : Contains (map renamed_mention (flat_map item_mentions core.items)) (Drives r.0 (inner_name d.name)) = map-in renamed_mention (flat_map item_mentions core.items) (Drives r.0 d.name) inside in
       let x : Mention = Drives r.0 (inner_name d.name) in
       has-by r.0 (inner_name d.name) (subst (λ xs. Contains xs (Drives r.0 (inner_name d.name))) (sym (mentions-are core sound stallable names named counters))
-      (Contains-append_right ports_part (declared_part ++ (core_part ++ own_part)) x
-      (Contains-append_right declared_part (core_part ++ own_part) x (Contains-append_left core_part own_part x renamed))))
+      (Contains-append_right (ports_part core names) (declared_part core names counters ++ (core_part core ++ own_part core names)) x
+      (Contains-append_right (declared_part core names counters) (core_part core ++ own_part core names) x (Contains-append_left (core_part core) (own_part core names) x renamed))))
 
   input-has : (column : Column) → Contains (inputs_of core names) column → Has (inner_name column.inner)
   input-has column c = has-by false (inner_name column.inner) (item-mention core sound stallable names named counters _ (Drives false (inner_name column.inner))
@@ -163,65 +145,37 @@ module _ (core : Module) (sound : BreaksNone core) (stallable : is_stallable cor
       let none : needs_driver d.kind ≡ false = ap (λ (x : Declared). needs_driver x.kind) one ∙ ap (λ (b : Bool). needs_driver (if b then InputPort else OutputPort)) on in
       false≢true (sym none ∙ needs)
 
-  abbrev front_names : List (List ℕ)
-  front_names = codes "clk" ∷ codes "reset" ∷ codes "in_valid" ∷ []
-
-  abbrev flag_names : List (List ℕ)
-  flag_names = codes "out_ready" ∷ codes "in_ready" ∷ codes "out_valid" ∷ []
-
-  abbrev in_names : List (List ℕ)
-  in_names = map column_name (inputs_of core names)
-
-  abbrev out_names : List (List ℕ)
-  out_names = map column_name (outputs_of core names)
-
-  abbrev wires : List (List ℕ)
-  wires = flat_map wire_names (map port_name core.ports)
-
-  abbrev held_names : List (List ℕ)
-  held_names = map (λ (column : Column). held_name column.name) (inputs_of core names)
-
-  abbrev control_names : List (List ℕ)
-  control_names = begin_name ∷ end_name ∷ due_name ∷ fed_name ∷ open_name ∷ phase_name ∷ wait_name ∷ []
-
-  abbrev own_declared : List (List ℕ)
-  own_declared = control_names ++ (held_names ++ flat_map late_names (outputs_of core names))
-
   module _ (d : Declared) (h : Contains (mentions (wrapped core names counters)) (Declares d)) (needs : needs_driver d.kind ≡ true) where
     of-front : Contains front_names d.name → Has d.name
-    of-front c = absurd (⊎_elim
-        (λ e. no-need d h needs (bit_input (codes "clk")) (front-there core counters (inputs_of core names) (outputs_of core names) _ (0, omega arith, refl)) refl e)
-        (λ c1. ⊎_elim
-        (λ e. no-need d h needs (bit_input (codes "reset")) (front-there core counters (inputs_of core names) (outputs_of core names) _ (1, omega arith, refl)) refl e)
-        (λ c2. ⊎_elim
-        (λ e. no-need d h needs in_flag (front-there core counters (inputs_of core names) (outputs_of core names) _ (2, omega arith, refl)) refl e)
-        (λ c3. none-in d.name c3)
-        (cons-cases (codes "in_valid") d.name [] c2))
-        (cons-cases (codes "reset") d.name (codes "in_valid" ∷ []) c1))
-        (cons-cases (codes "clk") d.name (codes "reset" ∷ codes "in_valid" ∷ []) c))
+    of-front c = absurd (in-each (λ n. n ≡ d.name → ⊥) front_names (
+      no-need d h needs (bit_input (codes "clk")) (front-there core counters (inputs_of core names) (outputs_of core names) _ (0, omega arith, refl)) refl,
+      (
+        no-need d h needs (bit_input (codes "reset")) (front-there core counters (inputs_of core names) (outputs_of core names) _ (1, omega arith, refl)) refl,
+        (no-need d h needs in_flag (front-there core counters (inputs_of core names) (outputs_of core names) _ (2, omega arith, refl)) refl, tt),
+      ),
+    )
+        d.name c refl)
 
     of-flags : Contains flag_names d.name → Has d.name
-    of-flags c = ⊎_elim
-        (λ e. absurd (no-need d h needs out_flag (flag-there core counters (inputs_of core names) (outputs_of core names) out_flag (0, omega arith, refl)) refl e))
-        (λ c1. ⊎_elim
-        (λ e. subst Has e (signal-has _ false (codes "in_ready") (6, omega arith, refl) (head-in _ _)))
-        (λ c2. ⊎_elim
-        (λ e. subst Has e (signal-has _ false (codes "out_valid") (7, omega arith, refl) (head-in _ _)))
-        (λ c3. absurd (none-in d.name c3))
-        (cons-cases (codes "out_valid") d.name [] c2))
-        (cons-cases (codes "in_ready") d.name (codes "out_valid" ∷ []) c1))
-        (cons-cases (codes "out_ready") d.name (codes "in_ready" ∷ codes "out_valid" ∷ []) c)
+    of-flags c = in-each (λ n. n ≡ d.name → Has d.name) flag_names (
+      λ e. absurd (no-need d h needs out_flag (flag-there core counters (inputs_of core names) (outputs_of core names) out_flag (0, omega arith, refl)) refl e),
+      (
+        λ e. subst Has e (signal-has _ false (codes "in_ready") (6, omega arith, refl) (head-in _ _)),
+        (λ e. subst Has e (signal-has _ false (codes "out_valid") (7, omega arith, refl) (head-in _ _)), tt),
+      ),
+    )
+        d.name c refl
 
-    of-port : Contains (front_names ++ (in_names ++ (flag_names ++ out_names))) d.name → Has d.name
+    of-port : Contains (front_names ++ (in_names core names ++ (flag_names ++ out_names core names))) d.name → Has d.name
     of-port c = ⊎_elim (λ a. of-front a)
         (λ c1. ⊎_elim
         (λ a. let r = from-map column_name (inputs_of core names) d.name a in
         absurd (no-need d h needs (input_port (column_port r.0)) (input-port core counters (inputs_of core names) (outputs_of core names) r.0 r.1) refl r.2))
-        (λ c2. ⊎_elim (λ a. of-flags a) (λ b. let r = from-map column_name (outputs_of core names) d.name b in subst Has r.2 (output-has r.0 r.1)) (Contains-append_cases flag_names out_names d.name c2))
-        (Contains-append_cases in_names (flag_names ++ out_names) d.name c1))
-        (Contains-append_cases front_names (in_names ++ (flag_names ++ out_names)) d.name c)
+        (λ c2. ⊎_elim (λ a. of-flags a) (λ b. let r = from-map column_name (outputs_of core names) d.name b in subst Has r.2 (output-has r.0 r.1)) (Contains-append_cases flag_names (out_names core names) d.name c2))
+        (Contains-append_cases (in_names core names) (flag_names ++ out_names core names) d.name c1))
+        (Contains-append_cases front_names (in_names core names ++ (flag_names ++ out_names core names)) d.name c)
 
-    of-own : Contains own_declared d.name → Has d.name
+    of-own : Contains (own_declared core names) d.name → Has d.name
     of-own c = ⊎_elim
         (λ a. in-control Has d.name a
         (signal-has _ false begin_name (0, omega arith, refl) (head-in _ _))
@@ -237,10 +191,10 @@ module _ (core : Module) (sound : BreaksNone core) (stallable : is_stallable cor
         let r = from-flat late_names (outputs_of core names) d.name l in
         let k = from-map (λ place. late_name r.0.name (place + 1)) (range_with_len 0 r.0.late) d.name r.2 in
         subst Has k.2 (late-has r.0 r.1 k.0 k.1))
-        (Contains-append_cases held_names (flat_map late_names (outputs_of core names)) d.name b))
-        (Contains-append_cases control_names (held_names ++ flat_map late_names (outputs_of core names)) d.name c)
+        (Contains-append_cases (held_names (inputs_of core names)) (flat_map late_names (outputs_of core names)) d.name b))
+        (Contains-append_cases control_names (held_names (inputs_of core names) ++ flat_map late_names (outputs_of core names)) d.name c)
 
-    of-wires : Contains wires d.name → Has d.name
+    of-wires : Contains (wires core) d.name → Has d.name
     of-wires c =
         let r = from-flat wire_names (map port_name core.ports) d.name c in
         let w = in-wire r.0 d.name r.2 in
@@ -263,10 +217,10 @@ module _ (core : Module) (sound : BreaksNone core) (stallable : is_stallable cor
         (flat-in declared_names (mentions (wrapped core names counters)) (Declares d) d.name h (head-in d.name [])) in
         ⊎_elim (λ p. of-port p)
         (λ b. ⊎_elim
-        (λ e. ⊎_elim (λ w. of-wires w) (λ own. of-own own) (Contains-append_cases wires own_declared d.name e))
+        (λ e. ⊎_elim (λ w. of-wires w) (λ own. of-own own) (Contains-append_cases (wires core) (own_declared core names) d.name e))
         (λ k. of-core (subst (λ xs. Contains xs d.name) (append-nil (map inner_name (declared_in core.items))) k))
-        (Contains-append_cases (wires ++ own_declared) (map inner_name (declared_in core.items) ++ []) d.name b))
-        (Contains-append_cases (front_names ++ (in_names ++ (flag_names ++ out_names))) ((wires ++ own_declared) ++ (map inner_name (declared_in core.items) ++ [])) d.name all)
+        (Contains-append_cases (wires core ++ own_declared core names) (map inner_name (declared_in core.items) ++ []) d.name b))
+        (Contains-append_cases (front_names ++ (in_names core names ++ (flag_names ++ out_names core names))) ((wires core ++ own_declared core names) ++ (map inner_name (declared_in core.items) ++ [])) d.name all)
 
   pub driven : undriven (wrapped core names counters) ≡ None
   driven = undriven-none (wrapped core names counters) (λ d h needs. has-one d h needs) (are-known core sound stallable names named counters)

@@ -27,19 +27,16 @@ use Rattle.st_wrap.specs.inner.Wrapped.{declared_items, driven_items, inputs_of,
 use Rattle.st_wrap.proofs.Apart.{Apart, apart-append, apart-between, apart-flat, apart-left, apart-map, apart-right, declared-once, declared_names}
 use Rattle.st_wrap.proofs.Determined.{clk-port}
 use Rattle.st_wrap.proofs.Lettered.{column-letter, held-same, inner-letter, inner-same, late-same, letter, off, shared-cases}
-use Rattle.st_wrap.proofs.Named.{apart-range, by-test, columns-apart, declared-renamed, declared_in, flat-empty, in-range, input-name, items-renamed, late-small, map-twice, names-append, names-flat, names-map, output-name}
+use Rattle.st_wrap.proofs.Named.{apart-range, by-test, column_name, columns-apart, declared-renamed, declared_in, flat-empty, in-each, in-range, input-name, items-renamed, late-small, map-twice, names-append, names-flat, names-map, output-name}
 use Rattle.st_wrap.proofs.Reading.{control-mentions, held-mentions, shown-mentions, stage-mentions}
 
 -- ---- parts, by names
-
-abbrev column_name : Column → List ℕ
-column_name column = column.name
 
 -- the wire of a port by its name
 abbrev pub wire_names : List ℕ → List (List ℕ)
 wire_names n = if is_shared n then [] else inner_name n ∷ []
 
-abbrev port_name : Port → List ℕ
+abbrev pub port_name : Port → List ℕ
 port_name port = port.name
 
 wire-part : (port : Port) → declared_in (wires_for port) ≡ wire_names port.name
@@ -76,13 +73,13 @@ wires-apart : (ns : List (List ℕ)) → Apart ns → Apart (flat_map wire_names
 wires-apart ns a = apart-flat wire_names (λ n. n) ns (λ n c. wire-apart n)
     (λ x y b c d e f. inner-same x y (sym (in-wire x b e).1 ∙ (in-wire y b f).1)) (subst (λ xs. Apart xs) (sym (map-self ns)) a)
 
-abbrev control_names : List (List ℕ)
+abbrev pub control_names : List (List ℕ)
 control_names = begin_name ∷ end_name ∷ due_name ∷ fed_name ∷ open_name ∷ phase_name ∷ wait_name ∷ []
 
 control-apart : Apart control_names
 control-apart = by-test control_names refl
 
-abbrev held_names : List Column → List (List ℕ)
+abbrev pub held_names : List Column → List (List ℕ)
 held_names inputs = map (λ column. held_name column.name) inputs
 
 helds-are : (inputs : List Column) → declared_in (flat_map held_declared inputs) ≡ held_names inputs
@@ -103,21 +100,7 @@ lates-are outputs = names-flat declared_names late_declared late_names outputs l
 
 pub in-control : (P : List ℕ → Type 0) (n : List ℕ) → Contains control_names n
     → P begin_name → P end_name → P due_name → P fed_name → P open_name → P phase_name → P wait_name → P n
-in-control P n h p1 p2 p3 p4 p5 p6 p7 =
-    ⊎_elim (λ e. subst P e p1) (λ h1.
-    ⊎_elim (λ e. subst P e p2) (λ h2.
-    ⊎_elim (λ e. subst P e p3) (λ h3.
-    ⊎_elim (λ e. subst P e p4) (λ h4.
-    ⊎_elim (λ e. subst P e p5) (λ h5.
-    ⊎_elim (λ e. subst P e p6) (λ h6.
-    ⊎_elim (λ e. subst P e p7) (λ h7. absurd (none-in n h7))
-    (cons-cases wait_name n [] h6))
-    (cons-cases phase_name n (wait_name ∷ []) h5))
-    (cons-cases open_name n (phase_name ∷ wait_name ∷ []) h4))
-    (cons-cases fed_name n (open_name ∷ phase_name ∷ wait_name ∷ []) h3))
-    (cons-cases due_name n (fed_name ∷ open_name ∷ phase_name ∷ wait_name ∷ []) h2))
-    (cons-cases end_name n (due_name ∷ fed_name ∷ open_name ∷ phase_name ∷ wait_name ∷ []) h1))
-    (cons-cases begin_name n (end_name ∷ due_name ∷ fed_name ∷ open_name ∷ phase_name ∷ wait_name ∷ []) h)
+in-control P n h p1 p2 p3 p4 p5 p6 p7 = in-each P control_names (p1, (p2, (p3, (p4, (p5, (p6, (p7, tt))))))) n h
 
 in-held : (inputs : List Column) (n : List ℕ) → Contains (held_names inputs) n → letter n ≡ 104
 in-held inputs n h = let r = from-map (λ (column : Column). held_name column.name) inputs n h in subst (λ x. letter x ≡ 104) r.2 refl
@@ -127,6 +110,26 @@ in-late column n h = let r = from-map (λ place. late_name column.name (place + 
 
 in-lates : (outputs : List Column) (n : List ℕ) → Contains (flat_map late_names outputs) n → letter n ≡ 108
 in-lates outputs n h = let r = from-flat late_names outputs n h in in-late r.0 n r.2
+
+-- ---- the names that are declared, part by part
+
+abbrev pub front_names : List (List ℕ)
+front_names = codes "clk" ∷ codes "reset" ∷ codes "in_valid" ∷ []
+
+abbrev pub flag_names : List (List ℕ)
+flag_names = codes "out_ready" ∷ codes "in_ready" ∷ codes "out_valid" ∷ []
+
+abbrev pub in_names : Module → List (List ℕ) → List (List ℕ)
+in_names core names = map column_name (inputs_of core names)
+
+abbrev pub out_names : Module → List (List ℕ) → List (List ℕ)
+out_names core names = map column_name (outputs_of core names)
+
+abbrev pub wires : Module → List (List ℕ)
+wires core = flat_map wire_names (map port_name core.ports)
+
+abbrev pub own_declared : Module → List (List ℕ) → List (List ℕ)
+own_declared core names = control_names ++ (held_names (inputs_of core names) ++ flat_map late_names (outputs_of core names))
 
 module _ (core : Module) (sound : BreaksNone core) (stallable : is_stallable core ≡ true) (names : List (List ℕ)) (named : AreColumnNames core names) (counters : Counters) where
   abbrev inputs : List Column
@@ -156,26 +159,14 @@ module _ (core : Module) (sound : BreaksNone core) (stallable : is_stallable cor
 
   -- ---- the ports
 
-  abbrev in_names : List (List ℕ)
-  in_names = map column_name (inputs_of core names)
-
-  abbrev out_names : List (List ℕ)
-  out_names = map column_name (outputs_of core names)
-
-  abbrev flag_names : List (List ℕ)
-  flag_names = codes "out_ready" ∷ codes "in_ready" ∷ codes "out_valid" ∷ []
-
-  abbrev front_names : List (List ℕ)
-  front_names = codes "clk" ∷ codes "reset" ∷ codes "in_valid" ∷ []
-
   abbrev all_port_names : List (List ℕ)
-  all_port_names = front_names ++ (in_names ++ (flag_names ++ out_names))
+  all_port_names = front_names ++ (in_names core names ++ (flag_names ++ out_names core names))
 
   pub port-mentions : (ports : List Port) → flat_map declared_names (map (λ port. Declares (port_declared port)) ports) ≡ map port_name ports
   port-mentions [] = refl
   port-mentions (port ∷ ports) = ap (λ xs. port.name ∷ xs) (port-mentions ports)
 
-  ports-are : map port_name (ports_of (inputs_of core names) (outputs_of core names)) ≡ front_names ++ (in_names ++ (flag_names ++ out_names))
+  ports-are : map port_name (ports_of (inputs_of core names) (outputs_of core names)) ≡ front_names ++ (in_names core names ++ (flag_names ++ out_names core names))
   ports-are =
       let ins : List Port = map (λ column. input_port (column_port column)) (inputs_of core names) in
       let outs : List Port = map (λ column. output_port (column_port column)) (outputs_of core names) in
@@ -191,62 +182,40 @@ module _ (core : Module) (sound : BreaksNone core) (stallable : is_stallable cor
       (Contains-append_cases (map column_name (inputs_of core names)) (map column_name (outputs_of core names)) n h)
 
   in-own : (n : List ℕ) → Contains front_names n ⊎ Contains flag_names n → Contains own_names n
-  in-own n (inl h) =
-      ⊎_elim (λ e. subst (λ x. Contains own_names x) e (0, omega arith, refl)) (λ h1.
-      ⊎_elim (λ e. subst (λ x. Contains own_names x) e (1, omega arith, refl)) (λ h2.
-      ⊎_elim (λ e. subst (λ x. Contains own_names x) e (4, omega arith, refl)) (λ h3. absurd (none-in n h3))
-      (cons-cases (codes "in_valid") n [] h2)) (cons-cases (codes "reset") n (codes "in_valid" ∷ []) h1)) (cons-cases (codes "clk") n (codes "reset" ∷ codes "in_valid" ∷ []) h)
-  in-own n (inr h) =
-      ⊎_elim (λ e. subst (λ x. Contains own_names x) e (5, omega arith, refl)) (λ h1.
-      ⊎_elim (λ e. subst (λ x. Contains own_names x) e (6, omega arith, refl)) (λ h2.
-      ⊎_elim (λ e. subst (λ x. Contains own_names x) e (7, omega arith, refl)) (λ h3. absurd (none-in n h3))
-      (cons-cases (codes "out_valid") n [] h2)) (cons-cases (codes "in_ready") n (codes "out_valid" ∷ []) h1)) (cons-cases (codes "out_ready") n (codes "in_ready" ∷ codes "out_valid" ∷ []) h)
+  in-own n (inl h) = in-each (λ x. Contains own_names x) front_names ((0, omega arith, refl), ((1, omega arith, refl), ((4, omega arith, refl), tt))) n h
+  in-own n (inr h) = in-each (λ x. Contains own_names x) flag_names ((5, omega arith, refl), ((6, omega arith, refl), ((7, omega arith, refl), tt))) n h
 
-  ports-apart : Apart (front_names ++ (in_names ++ (flag_names ++ out_names)))
+  ports-apart : Apart (front_names ++ (in_names core names ++ (flag_names ++ out_names core names)))
   ports-apart =
       let both = columns-apart core names named in
-      apart-append front_names (in_names ++ (flag_names ++ out_names)) (by-test front_names refl)
-      (apart-append in_names (flag_names ++ out_names) (apart-left in_names out_names both)
-      (apart-append flag_names out_names (by-test flag_names refl) (apart-right in_names out_names both)
-      (λ n f c. (of-columns n (Contains-append_right in_names out_names n c)).free (in-own n (inr f))))
-      (λ n a b. ⊎_elim (λ f. (of-columns n (Contains-append_left in_names out_names n a)).free (in-own n (inr f))) (λ c. apart-between in_names out_names n both a c) (Contains-append_cases flag_names out_names n b)))
+      apart-append front_names (in_names core names ++ (flag_names ++ out_names core names)) (by-test front_names refl)
+      (apart-append (in_names core names) (flag_names ++ out_names core names) (apart-left (in_names core names) (out_names core names) both)
+      (apart-append flag_names (out_names core names) (by-test flag_names refl) (apart-right (in_names core names) (out_names core names) both)
+      (λ n f c. (of-columns n (Contains-append_right (in_names core names) (out_names core names) n c)).free (in-own n (inr f))))
+      (λ n a b. ⊎_elim (λ f. (of-columns n (Contains-append_left (in_names core names) (out_names core names) n a)).free (in-own n (inr f))) (λ c. apart-between (in_names core names) (out_names core names) n both a c) (Contains-append_cases flag_names (out_names core names) n b)))
       (λ n f h. ⊎_elim
-      (λ a. (of-columns n (Contains-append_left in_names out_names n a)).free (in-own n (inl f)))
-      (λ b. ⊎_elim (λ g. flags-differ n f g) (λ c. (of-columns n (Contains-append_right in_names out_names n c)).free (in-own n (inl f))) (Contains-append_cases flag_names out_names n b))
-      (Contains-append_cases in_names (flag_names ++ out_names) n h))
+      (λ a. (of-columns n (Contains-append_left (in_names core names) (out_names core names) n a)).free (in-own n (inl f)))
+      (λ b. ⊎_elim (λ g. flags-differ n f g) (λ c. (of-columns n (Contains-append_right (in_names core names) (out_names core names) n c)).free (in-own n (inl f))) (Contains-append_cases flag_names (out_names core names) n b))
+      (Contains-append_cases (in_names core names) (flag_names ++ out_names core names) n h))
     where
       flags-differ : (n : List ℕ) → Contains front_names n → Contains flag_names n → ⊥
       flags-differ n f g = apart-between front_names flag_names n (by-test (front_names ++ flag_names) refl) f g
 
   -- a port's name has no letter
-  port-letter : (n : List ℕ) → Contains (front_names ++ (in_names ++ (flag_names ++ out_names))) n → letter n ≡ 0
+  port-letter : (n : List ℕ) → Contains (front_names ++ (in_names core names ++ (flag_names ++ out_names core names))) n → letter n ≡ 0
   port-letter n h = ⊎_elim
       (λ f. own-letter n (inl f))
       (λ h1. ⊎_elim
-      (λ a. column-letter n (of-columns n (Contains-append_left in_names out_names n a)))
-      (λ h2. ⊎_elim (λ g. own-letter n (inr g)) (λ c. column-letter n (of-columns n (Contains-append_right in_names out_names n c))) (Contains-append_cases flag_names out_names n h2))
-      (Contains-append_cases in_names (flag_names ++ out_names) n h1))
-      (Contains-append_cases front_names (in_names ++ (flag_names ++ out_names)) n h)
+      (λ a. column-letter n (of-columns n (Contains-append_left (in_names core names) (out_names core names) n a)))
+      (λ h2. ⊎_elim (λ g. own-letter n (inr g)) (λ c. column-letter n (of-columns n (Contains-append_right (in_names core names) (out_names core names) n c))) (Contains-append_cases flag_names (out_names core names) n h2))
+      (Contains-append_cases (in_names core names) (flag_names ++ out_names core names) n h1))
+      (Contains-append_cases front_names (in_names core names ++ (flag_names ++ out_names core names)) n h)
     where
       own-letter : (n : List ℕ) → Contains front_names n ⊎ Contains flag_names n → letter n ≡ 0
-      own-letter n (inl h) =
-          ⊎_elim (λ e. subst (λ x. letter x ≡ 0) e refl) (λ h1.
-          ⊎_elim (λ e. subst (λ x. letter x ≡ 0) e refl) (λ h2.
-          ⊎_elim (λ e. subst (λ x. letter x ≡ 0) e refl) (λ h3. absurd (none-in n h3))
-          (cons-cases (codes "in_valid") n [] h2)) (cons-cases (codes "reset") n (codes "in_valid" ∷ []) h1)) (cons-cases (codes "clk") n (codes "reset" ∷ codes "in_valid" ∷ []) h)
-      own-letter n (inr h) =
-          ⊎_elim (λ e. subst (λ x. letter x ≡ 0) e refl) (λ h1.
-          ⊎_elim (λ e. subst (λ x. letter x ≡ 0) e refl) (λ h2.
-          ⊎_elim (λ e. subst (λ x. letter x ≡ 0) e refl) (λ h3. absurd (none-in n h3))
-          (cons-cases (codes "out_valid") n [] h2)) (cons-cases (codes "in_ready") n (codes "out_valid" ∷ []) h1)) (cons-cases (codes "out_ready") n (codes "in_ready" ∷ codes "out_valid" ∷ []) h)
+      own-letter n (inl h) = in-each (λ x. letter x ≡ 0) front_names (refl, (refl, (refl, tt))) n h
+      own-letter n (inr h) = in-each (λ x. letter x ≡ 0) flag_names (refl, (refl, (refl, tt))) n h
 
   -- ---- all that is declared
-
-  abbrev wires : List (List ℕ)
-  wires = flat_map wire_names (map port_name core.ports)
-
-  abbrev own_declared : List (List ℕ)
-  own_declared = control_names ++ (held_names (inputs_of core names) ++ flat_map late_names (outputs_of core names))
 
   abbrev pub core_declared : List (List ℕ)
   core_declared = map inner_name (declared_in core.items)
@@ -268,14 +237,14 @@ module _ (core : Module) (sound : BreaksNone core) (stallable : is_stallable cor
   core-letter : (n : List ℕ) → Contains core_declared n → letter n ≡ 99
   core-letter n h = let r = from-map inner_name (declared_in core.items) n h in subst (λ x. letter x ≡ 99) r.2 (inner-letter r.0 (item-unshared r.0 r.1))
 
-  wire-letter : (n : List ℕ) → Contains wires n → letter n ≡ 99
+  wire-letter : (n : List ℕ) → Contains (wires core) n → letter n ≡ 99
   wire-letter n h =
       let r = from-flat wire_names (map port_name core.ports) n h in
       let w = in-wire r.0 n r.2 in
       subst (λ x. letter x ≡ 99) (sym w.1) (inner-letter r.0 w.0)
 
   -- a name of the wrapper's own has another letter
-  own-other : (n : List ℕ) → Contains own_declared n → (letter n ≢ 0) × (letter n ≢ 99)
+  own-other : (n : List ℕ) → Contains (own_declared core names) n → (letter n ≢ 0) × (letter n ≢ 99)
   own-other n h = ⊎_elim
       (λ c. in-control (λ n. (letter n ≢ 0) × (letter n ≢ 99)) n c
       (off begin_name 0 refl, off begin_name 99 refl) (off end_name 0 refl, off end_name 99 refl) (off due_name 0 refl, off due_name 99 refl) (off fed_name 0 refl, off fed_name 99 refl) (off open_name 0 refl, off open_name 99 refl) (off phase_name 0 refl, off phase_name 99 refl) (off wait_name 0 refl, off wait_name 99 refl))
@@ -289,7 +258,7 @@ module _ (core : Module) (sound : BreaksNone core) (stallable : is_stallable cor
   control-letter n c = in-control (λ n. (letter n ≢ 104) × (letter n ≢ 108)) n c
       (off begin_name 104 refl, off begin_name 108 refl) (off end_name 104 refl, off end_name 108 refl) (off due_name 104 refl, off due_name 108 refl) (off fed_name 104 refl, off fed_name 108 refl) (off open_name 104 refl, off open_name 108 refl) (off phase_name 104 refl, off phase_name 108 refl) (off wait_name 104 refl, off wait_name 108 refl)
 
-  own-apart : Apart own_declared
+  own-apart : Apart (own_declared core names)
   own-apart =
       apart-append control_names (held_names (inputs_of core names) ++ flat_map late_names (outputs_of core names)) control-apart
       (apart-append (held_names (inputs_of core names)) (flat_map late_names (outputs_of core names)) helds-apart lates-apart
@@ -300,7 +269,7 @@ module _ (core : Module) (sound : BreaksNone core) (stallable : is_stallable cor
       (Contains-append_cases (held_names (inputs_of core names)) (flat_map late_names (outputs_of core names)) n h))
 
   abbrev all_declared : List (List ℕ)
-  all_declared = (front_names ++ (in_names ++ (flag_names ++ out_names))) ++ ((wires ++ own_declared) ++ (core_declared ++ []))
+  all_declared = (front_names ++ (in_names core names ++ (flag_names ++ out_names core names))) ++ ((wires core ++ own_declared core names) ++ (core_declared ++ []))
 
   driven-part : declared_in (driven_items counters (inputs_of core names) (outputs_of core names)) ≡ []
   driven-part =
@@ -321,41 +290,41 @@ module _ (core : Module) (sound : BreaksNone core) (stallable : is_stallable cor
       flat_map-append declared_names (map (λ port. Declares (port_declared port)) (ports_of (inputs_of core names) (outputs_of core names))) (flat_map item_mentions (items_of core counters (inputs_of core names) (outputs_of core names)))
       ∙ (λ i. (port-mentions (ports_of (inputs_of core names) (outputs_of core names)) ∙ ports-are) i
       ++ names-append declared_names (declared_items core counters (inputs_of core names) (outputs_of core names)) (core_items core ++ driven_items counters (inputs_of core names) (outputs_of core names)) i)
-      ∙ (λ i. (front_names ++ (in_names ++ (flag_names ++ out_names)))
+      ∙ (λ i. (front_names ++ (in_names core names ++ (flag_names ++ out_names core names)))
       ++ (d-part i ++ names-append declared_names (core_items core) (driven_items counters (inputs_of core names) (outputs_of core names)) i))
-      ∙ (λ i. (front_names ++ (in_names ++ (flag_names ++ out_names)))
-      ++ ((wires ++ own_declared) ++ ((ap (flat_map declared_names) (items-renamed core.items) ∙ declared-renamed (flat_map item_mentions core.items)) i ++ driven-part i)))
+      ∙ (λ i. (front_names ++ (in_names core names ++ (flag_names ++ out_names core names)))
+      ++ ((wires core ++ own_declared core names) ++ ((ap (flat_map declared_names) (items-renamed core.items) ∙ declared-renamed (flat_map item_mentions core.items)) i ++ driven-part i)))
     where
-      d-part : declared_in (declared_items core counters (inputs_of core names) (outputs_of core names)) ≡ wires ++ own_declared
+      d-part : declared_in (declared_items core counters (inputs_of core names) (outputs_of core names)) ≡ wires core ++ own_declared core names
       d-part =
           names-append declared_names (wires_of core) (control_declared counters ++ (flat_map held_declared (inputs_of core names) ++ flat_map late_declared (outputs_of core names)))
           ∙ (λ i. wires-are core i ++ names-append declared_names (control_declared counters) (flat_map held_declared (inputs_of core names) ++ flat_map late_declared (outputs_of core names)) i)
-          ∙ (λ i. wires ++ (control_names ++ names-append declared_names (flat_map held_declared (inputs_of core names)) (flat_map late_declared (outputs_of core names)) i))
-          ∙ (λ i. wires ++ (control_names ++ (helds-are (inputs_of core names) i ++ lates-are (outputs_of core names) i)))
+          ∙ (λ i. wires core ++ (control_names ++ names-append declared_names (flat_map held_declared (inputs_of core names)) (flat_map late_declared (outputs_of core names)) i))
+          ∙ (λ i. wires core ++ (control_names ++ (helds-are (inputs_of core names) i ++ lates-are (outputs_of core names) i)))
 
   pub all-declared-once : Apart (flat_map declared_names (mentions (wrapped core names counters)))
   all-declared-once = subst (λ xs. Apart xs) (sym declared-list)
-      (apart-append (front_names ++ (in_names ++ (flag_names ++ out_names))) ((wires ++ own_declared) ++ (core_declared ++ [])) ports-apart
-      (subst (λ xs. Apart ((wires ++ own_declared) ++ xs)) (sym (append-nil core_declared)) behind)
-      (λ n p h. not-port n (port-letter n p) (subst (λ xs. Contains ((wires ++ own_declared) ++ xs) n) (append-nil core_declared) h)))
+      (apart-append (front_names ++ (in_names core names ++ (flag_names ++ out_names core names))) ((wires core ++ own_declared core names) ++ (core_declared ++ [])) ports-apart
+      (subst (λ xs. Apart ((wires core ++ own_declared core names) ++ xs)) (sym (append-nil core_declared)) behind)
+      (λ n p h. not-port n (port-letter n p) (subst (λ xs. Contains ((wires core ++ own_declared core names) ++ xs) n) (append-nil core_declared) h)))
     where
-      not-port : (n : List ℕ) → letter n ≡ 0 → Contains ((wires ++ own_declared) ++ core_declared) n → ⊥
+      not-port : (n : List ℕ) → letter n ≡ 0 → Contains ((wires core ++ own_declared core names) ++ core_declared) n → ⊥
       not-port n l h = ⊎_elim
-          (λ d. ⊎_elim (λ w. eqb-false 99 0 refl (sym (wire-letter n w) ∙ l)) (λ o. (own-other n o).0 l) (Contains-append_cases wires own_declared n d))
+          (λ d. ⊎_elim (λ w. eqb-false 99 0 refl (sym (wire-letter n w) ∙ l)) (λ o. (own-other n o).0 l) (Contains-append_cases (wires core) (own_declared core names) n d))
           (λ c. eqb-false 99 0 refl (sym (core-letter n c) ∙ l))
-          (Contains-append_cases (wires ++ own_declared) core_declared n h)
+          (Contains-append_cases (wires core ++ own_declared core names) core_declared n h)
 
-      wire-core : (n : List ℕ) → Contains wires n → Contains core_declared n → ⊥
+      wire-core : (n : List ℕ) → Contains (wires core) n → Contains core_declared n → ⊥
       wire-core n w c =
           let r = from-flat wire_names (map port_name core.ports) n w in
           let s = from-map inner_name (declared_in core.items) n c in
           let same : r.0 ≡ s.0 = inner-same r.0 s.0 (sym (in-wire r.0 n r.2).1 ∙ sym s.2) in
           apart-between (map port_name core.ports) (declared_in core.items) s.0 core-apart (subst (λ x. Contains (map port_name core.ports) x) same r.1) s.1
 
-      behind : Apart ((wires ++ own_declared) ++ core_declared)
+      behind : Apart ((wires core ++ own_declared core names) ++ core_declared)
       behind =
-          apart-append (wires ++ own_declared) core_declared
-          (apart-append wires own_declared (wires-apart (map port_name core.ports) (apart-left (map port_name core.ports) (declared_in core.items) core-apart)) own-apart
+          apart-append (wires core ++ own_declared core names) core_declared
+          (apart-append (wires core) (own_declared core names) (wires-apart (map port_name core.ports) (apart-left (map port_name core.ports) (declared_in core.items) core-apart)) own-apart
           (λ n w o. (own-other n o).1 (wire-letter n w)))
           (apart-map inner_name (declared_in core.items) (λ x y c d e. inner-same x y e) (apart-right (map port_name core.ports) (declared_in core.items) core-apart))
-          (λ n d c. ⊎_elim (λ w. wire-core n w c) (λ o. (own-other n o).1 (core-letter n c)) (Contains-append_cases wires own_declared n d))
+          (λ n d c. ⊎_elim (λ w. wire-core n w c) (λ o. (own-other n o).1 (core-letter n c)) (Contains-append_cases (wires core) (own_declared core names) n d))

@@ -157,33 +157,30 @@ drives-renamed P (Drives b m ∷ xs) each = (each b m (head-in (Drives b m) xs),
 drives-renamed P (Reads m ∷ xs) each = drives-renamed P xs (λ c n h. each c n (tail-in _ _ xs h))
 drives-renamed P (Clocks ∷ xs) each = drives-renamed P xs (λ c n h. each c n (tail-in _ _ xs h))
 
+-- ---- the places of names, part by part
+
+abbrev pub ports_part : Module → List (List ℕ) → List Mention
+ports_part core names = map (λ port. Declares (port_declared port)) (ports_of (inputs_of core names) (outputs_of core names))
+
+abbrev pub declared_part : Module → List (List ℕ) → Counters → List Mention
+declared_part core names counters = flat_map item_mentions (declared_items core counters (inputs_of core names) (outputs_of core names))
+
+abbrev pub core_part : Module → List Mention
+core_part core = map renamed_mention (flat_map item_mentions core.items)
+
+abbrev pub late_mentions : Column → List Mention
+late_mentions column = flat_map (stage_mentions column) (range_with_len 0 column.late) ++ (Drives false column.name ∷ Reads (stage_name column column.late) ∷ [])
+
+abbrev pub helds : Module → List (List ℕ) → List Mention
+helds core names = flat_map held_mentions (inputs_of core names)
+
+abbrev pub lates : Module → List (List ℕ) → List Mention
+lates core names = flat_map late_mentions (outputs_of core names)
+
+abbrev pub own_part : Module → List (List ℕ) → List Mention
+own_part core names = control_mentions ++ (helds core names ++ lates core names)
+
 module _ (core : Module) (sound : BreaksNone core) (stallable : is_stallable core ≡ true) (names : List (List ℕ)) (named : AreColumnNames core names) (counters : Counters) where
-  abbrev o : Module
-  o = wrapped core names counters
-
-  abbrev inputs : List Column
-  inputs = inputs_of core names
-
-  abbrev outputs : List Column
-  outputs = outputs_of core names
-
-  -- ---- the places of names, part by part
-
-  abbrev ports_part : List Mention
-  ports_part = map (λ port. Declares (port_declared port)) (ports_of (inputs_of core names) (outputs_of core names))
-
-  abbrev declared_part : List Mention
-  declared_part = flat_map item_mentions (declared_items core counters (inputs_of core names) (outputs_of core names))
-
-  abbrev core_part : List Mention
-  core_part = map renamed_mention (flat_map item_mentions core.items)
-
-  abbrev pub late_mentions : Column → List Mention
-  late_mentions column = flat_map (stage_mentions column) (range_with_len 0 column.late) ++ (Drives false column.name ∷ Reads (stage_name column column.late) ∷ [])
-
-  abbrev own_part : List Mention
-  own_part = control_mentions ++ (flat_map held_mentions (inputs_of core names) ++ flat_map late_mentions (outputs_of core names))
-
   mentions-flat : {A : Type 0} (f : A → List ModItem) (g : A → List Mention) (xs : List A) → ((x : A) → flat_map item_mentions (f x) ≡ g x) → flat_map item_mentions (flat_map f xs) ≡ flat_map g xs
   mentions-flat f g [] each = refl
   mentions-flat f g (x ∷ xs) each = flat_map-append item_mentions (f x) (flat_map f xs) ∙ (λ i. each x i ++ mentions-flat f g xs each i)
@@ -197,14 +194,14 @@ module _ (core : Module) (sound : BreaksNone core) (stallable : is_stallable cor
       flat_map-append item_mentions (map (stage_driven column) (range_with_len 0 column.late)) (Assign column.name (Name (stage_name column column.late)) ∷ [])
       ∙ (λ i. mentions-map (stage_driven column) (stage_mentions column) (range_with_len 0 column.late) (stage-mentions column) i ++ (shown-mentions column i ++ []))
 
-  pub mentions-are : mentions (wrapped core names counters) ≡ ports_part ++ (declared_part ++ (core_part ++ own_part))
-  mentions-are = ap (λ xs. ports_part ++ xs)
+  pub mentions-are : mentions (wrapped core names counters) ≡ ports_part core names ++ (declared_part core names counters ++ (core_part core ++ own_part core names))
+  mentions-are = ap (λ xs. ports_part core names ++ xs)
       (flat_map-append item_mentions (declared_items core counters (inputs_of core names) (outputs_of core names)) (core_items core ++ driven_items counters (inputs_of core names) (outputs_of core names))
-      ∙ ap (λ xs. declared_part ++ xs)
+      ∙ ap (λ xs. declared_part core names counters ++ xs)
       (flat_map-append item_mentions (core_items core) (driven_items counters (inputs_of core names) (outputs_of core names))
       ∙ (λ i. items-renamed core.items i ++ driven-are i)))
     where
-      driven-are : flat_map item_mentions (driven_items counters (inputs_of core names) (outputs_of core names)) ≡ own_part
+      driven-are : flat_map item_mentions (driven_items counters (inputs_of core names) (outputs_of core names)) ≡ own_part core names
       driven-are =
           flat_map-append item_mentions (control_driven counters) (flat_map held_driven (inputs_of core names) ++ flat_map late_driven (outputs_of core names))
           ∙ (λ i. control-mentions counters i ++ flat_map-append item_mentions (flat_map held_driven (inputs_of core names)) (flat_map late_driven (outputs_of core names)) i)
@@ -213,7 +210,7 @@ module _ (core : Module) (sound : BreaksNone core) (stallable : is_stallable cor
   -- ---- what is declared first
 
   abbrev base : List Mention
-  base = ports_part ++ declared_part
+  base = ports_part core names ++ declared_part core names counters
 
   pub declared-alone : DeclareAlone (declared_items core counters (inputs_of core names) (outputs_of core names))
   declared-alone =
@@ -228,18 +225,18 @@ module _ (core : Module) (sound : BreaksNone core) (stallable : is_stallable cor
         by true = tt
         by false = (tt, tt)
 
-  in-base : (d : Declared) → Contains (ports_part ++ declared_part) (Declares d) → (n : List ℕ) → d.name ≡ n → list_any (is_declaration_of n) (ports_part ++ declared_part) ≡ true
-  in-base d h n e = seen (is_declaration_of n) (ports_part ++ declared_part) (Declares d) h ((bytes_eq-Decides d.name n).1 e)
+  in-base : (d : Declared) → Contains (ports_part core names ++ declared_part core names counters) (Declares d) → (n : List ℕ) → d.name ≡ n → list_any (is_declaration_of n) (ports_part core names ++ declared_part core names counters) ≡ true
+  in-base d h n e = seen (is_declaration_of n) (ports_part core names ++ declared_part core names counters) (Declares d) h ((bytes_eq-Decides d.name n).1 e)
 
-  port-base : (port : Port) → Contains (ports_of (inputs_of core names) (outputs_of core names)) port → list_any (is_declaration_of port.name) (ports_part ++ declared_part) ≡ true
-  port-base port h = in-base (port_declared port) (Contains-append_left ports_part declared_part (Declares (port_declared port))
+  port-base : (port : Port) → Contains (ports_of (inputs_of core names) (outputs_of core names)) port → list_any (is_declaration_of port.name) (ports_part core names ++ declared_part core names counters) ≡ true
+  port-base port h = in-base (port_declared port) (Contains-append_left (ports_part core names) (declared_part core names counters) (Declares (port_declared port))
       (map-in (λ port. Declares (port_declared port)) (ports_of (inputs_of core names) (outputs_of core names)) port h)) port.name refl
 
   item-base : (i : ModItem) → Contains (declared_items core counters (inputs_of core names) (outputs_of core names)) i → (d : Declared) → Contains (item_mentions i) (Declares d)
-      → list_any (is_declaration_of d.name) (ports_part ++ declared_part) ≡ true
-  item-base i h d c = in-base d (Contains-append_right ports_part declared_part (Declares d) (flat-in item_mentions (declared_items core counters (inputs_of core names) (outputs_of core names)) i (Declares d) h c)) d.name refl
+      → list_any (is_declaration_of d.name) (ports_part core names ++ declared_part core names counters) ≡ true
+  item-base i h d c = in-base d (Contains-append_right (ports_part core names) (declared_part core names counters) (Declares d) (flat-in item_mentions (declared_items core counters (inputs_of core names) (outputs_of core names)) i (Declares d) h c)) d.name refl
 
-  wire-base : (port : Port) → Contains core.ports port → is_shared port.name ≡ false → list_any (is_declaration_of (inner_name port.name)) (ports_part ++ declared_part) ≡ true
+  wire-base : (port : Port) → Contains core.ports port → is_shared port.name ≡ false → list_any (is_declaration_of (inner_name port.name)) (ports_part core names ++ declared_part core names counters) ≡ true
   wire-base port h off = item-base (Wire port.signed port.width (inner_name port.name))
       (Contains-append_left (wires_of core) (control_declared counters ++ (flat_map held_declared (inputs_of core names) ++ flat_map late_declared (outputs_of core names))) _
       (wire-of core counters (inputs_of core names) (outputs_of core names) port h off)) _ (head-in _ [])
@@ -247,11 +244,11 @@ module _ (core : Module) (sound : BreaksNone core) (stallable : is_stallable cor
   abbrev behind_wires : List ModItem
   behind_wires = control_declared counters ++ (flat_map held_declared (inputs_of core names) ++ flat_map late_declared (outputs_of core names))
 
-  control-base : (i : ModItem) → Contains (control_declared counters) i → (d : Declared) → Contains (item_mentions i) (Declares d) → list_any (is_declaration_of d.name) (ports_part ++ declared_part) ≡ true
+  control-base : (i : ModItem) → Contains (control_declared counters) i → (d : Declared) → Contains (item_mentions i) (Declares d) → list_any (is_declaration_of d.name) (ports_part core names ++ declared_part core names counters) ≡ true
   control-base i h d c = item-base i (Contains-append_right (wires_of core) behind_wires i
       (Contains-append_left (control_declared counters) (flat_map held_declared (inputs_of core names) ++ flat_map late_declared (outputs_of core names)) i h)) d c
 
-  held-base : (column : Column) → Contains (inputs_of core names) column → list_any (is_declaration_of (held_name column.name)) (ports_part ++ declared_part) ≡ true
+  held-base : (column : Column) → Contains (inputs_of core names) column → list_any (is_declaration_of (held_name column.name)) (ports_part core names ++ declared_part core names counters) ≡ true
   held-base column c =
       let i : ModItem = Reg column.signed column.width (held_name column.name) in
       item-base i (Contains-append_right (wires_of core) behind_wires i
@@ -259,7 +256,7 @@ module _ (core : Module) (sound : BreaksNone core) (stallable : is_stallable cor
       (Contains-append_left (flat_map held_declared (inputs_of core names)) (flat_map late_declared (outputs_of core names)) i
       (flat-in held_declared (inputs_of core names) column i c (head-in i []))))) _ (head-in _ [])
 
-  late-base : (column : Column) → Contains (outputs_of core names) column → (place : ℕ) → place < column.late → list_any (is_declaration_of (late_name column.name (place + 1))) (ports_part ++ declared_part) ≡ true
+  late-base : (column : Column) → Contains (outputs_of core names) column → (place : ℕ) → place < column.late → list_any (is_declaration_of (late_name column.name (place + 1))) (ports_part core names ++ declared_part core names counters) ≡ true
   late-base column c place low =
       let i : ModItem = stage_declared column place in
       let e : 0 + place ≡ place = omega arith in
@@ -269,10 +266,10 @@ module _ (core : Module) (sound : BreaksNone core) (stallable : is_stallable cor
       (flat-in late_declared (outputs_of core names) column i c
       (map-in (stage_declared column) (range_with_len 0 column.late) place (subst (λ n. Contains (range_with_len 0 column.late) n) e (range-in 0 column.late place low))))))) _ (head-in _ [])
 
-  enable-base : list_any (is_declaration_of enable_name) (ports_part ++ declared_part) ≡ true
+  enable-base : list_any (is_declaration_of enable_name) (ports_part core names ++ declared_part core names counters) ≡ true
   enable-base =
       let p = bit-port (codes "clk_enable") core.ports stallable in
-      subst (λ n. list_any (is_declaration_of (inner_name n)) (ports_part ++ declared_part) ≡ true) p.2 (wire-base p.0 p.1 (ap is_shared p.2))
+      subst (λ n. list_any (is_declaration_of (inner_name n)) (ports_part core names ++ declared_part core names counters) ≡ true) p.2 (wire-base p.0 p.1 (ap is_shared p.2))
 
   -- an output of the core isn't shared
   pub output-unshared : (port : Port) → Contains core.ports port → port.input ≡ false → is_shared port.name ≡ false
@@ -303,23 +300,23 @@ module _ (core : Module) (sound : BreaksNone core) (stallable : is_stallable cor
       let off = number-output core r.0.0 f.1 in
       (r.0.0, f.0, output-unshared r.0.0 f.0 off, ap (λ (x : Column). x.inner) r.2)
 
-  inner-base : (column : Column) → Contains (outputs_of core names) column → list_any (is_declaration_of (inner_name column.inner)) (ports_part ++ declared_part) ≡ true
-  inner-base column c = let p = output-of column c in subst (λ n. list_any (is_declaration_of (inner_name n)) (ports_part ++ declared_part) ≡ true) p.3 (wire-base p.0 p.1 p.2)
+  inner-base : (column : Column) → Contains (outputs_of core names) column → list_any (is_declaration_of (inner_name column.inner)) (ports_part core names ++ declared_part core names counters) ≡ true
+  inner-base column c = let p = output-of column c in subst (λ n. list_any (is_declaration_of (inner_name n)) (ports_part core names ++ declared_part core names counters) ≡ true) p.3 (wire-base p.0 p.1 p.2)
 
-  stage-base : (column : Column) → Contains (outputs_of core names) column → (k : ℕ) → k ≤ column.late → list_any (is_declaration_of (stage_name column k)) (ports_part ++ declared_part) ≡ true
+  stage-base : (column : Column) → Contains (outputs_of core names) column → (k : ℕ) → k ≤ column.late → list_any (is_declaration_of (stage_name column k)) (ports_part core names ++ declared_part core names counters) ≡ true
   stage-base column c k low = ⊎_elim
-      (λ z. subst (λ n. list_any (is_declaration_of (stage_name column n)) (ports_part ++ declared_part) ≡ true) (sym z) (inner-base column c))
+      (λ z. subst (λ n. list_any (is_declaration_of (stage_name column n)) (ports_part core names ++ declared_part core names counters) ≡ true) (sym z) (inner-base column c))
       (λ some.
       let e : k - 1 + 1 ≡ k = omega (arith, some) in
       let name : stage_name column k ≡ late_name column.name (k - 1 + 1) =
       cond-false (k == 0) (inner_name column.inner) (late_name column.name k) (ne_eqb k 0 some) ∙ ap (late_name column.name) (sym e) in
-      subst (λ n. list_any (is_declaration_of n) (ports_part ++ declared_part) ≡ true) (sym name) (late-base column c (k - 1) (omega (arith, low, some))))
+      subst (λ n. list_any (is_declaration_of n) (ports_part core names ++ declared_part core names counters) ≡ true) (sym name) (late-base column c (k - 1) (omega (arith, low, some))))
       (cases_eq k 0)
 
   -- ---- the first condition
 
   abbrev Here : List ℕ → Type 0
-  Here n = list_any (is_declaration_of n) (ports_part ++ declared_part) ≡ true
+  Here n = list_any (is_declaration_of n) (ports_part core names ++ declared_part core names counters) ≡ true
 
   control-known : EachIn Here control_mentions
   control-known =
@@ -358,7 +355,7 @@ module _ (core : Module) (sound : BreaksNone core) (stallable : is_stallable cor
       (late-base column c place (omega (arith, low)), (n, (e, (stage-base column c place (omega (arith, low)), tt))))))
       (y, (stage-base column c column.late (omega arith), tt))
 
-  own-known : EachIn Here own_part
+  own-known : EachIn Here (own_part core names)
   own-known =
       each-append Here control_mentions (flat_map held_mentions (inputs_of core names) ++ flat_map late_mentions (outputs_of core names)) control-known
       (each-append Here (flat_map held_mentions (inputs_of core names)) (flat_map late_mentions (outputs_of core names))
@@ -368,17 +365,17 @@ module _ (core : Module) (sound : BreaksNone core) (stallable : is_stallable cor
   core_ports = map (λ port. Declares (port_declared port)) core.ports
 
   -- the core's ports are declared in the wrapper
-  ports-renamed : Renames core_ports (ports_part ++ declared_part)
+  ports-renamed : Renames core_ports (ports_part core names ++ declared_part core names counters)
   ports-renamed = record {
     at = λ n e.
         let a = Any-from_list_any (is_declaration_of n) core_ports e in
         let p = from-map (λ port. Declares (port_declared port)) core.ports a.1 (a.0, a.2, a.3) in
         let name : p.0.name ≡ n = (bytes_eq-Decides p.0.name n).0 (subst (λ x. is_declaration_of n x ≡ true) (sym p.2) a.4) in
-        subst (λ n. list_any (is_declaration_of (inner_name n)) (ports_part ++ declared_part) ≡ true) name (of-port p.0 p.1);
+        subst (λ n. list_any (is_declaration_of (inner_name n)) (ports_part core names ++ declared_part core names counters) ≡ true) name (of-port p.0 p.1);
   } where
-    of-port : (port : Port) → Contains core.ports port → list_any (is_declaration_of (inner_name port.name)) (ports_part ++ declared_part) ≡ true
+    of-port : (port : Port) → Contains core.ports port → list_any (is_declaration_of (inner_name port.name)) (ports_part core names ++ declared_part core names counters) ≡ true
     of-port port h = ⊎_elim
-        (λ t. shared-cases (λ n. list_any (is_declaration_of (inner_name n)) (ports_part ++ declared_part) ≡ true) port.name t
+        (λ t. shared-cases (λ n. list_any (is_declaration_of (inner_name n)) (ports_part core names ++ declared_part core names counters) ≡ true) port.name t
         (port-base (bit_input (codes "clk")) (front-there core counters (inputs_of core names) (outputs_of core names) _ (0, omega arith, refl)))
         (port-base (bit_input (codes "reset")) (front-there core counters (inputs_of core names) (outputs_of core names) _ (1, omega arith, refl))))
         (λ f. wire-base port h f)
@@ -386,12 +383,12 @@ module _ (core : Module) (sound : BreaksNone core) (stallable : is_stallable cor
 
   pub are-known : AreKnown [] (mentions (wrapped core names counters))
   are-known = subst (λ xs. AreKnown [] xs) (sym mentions-are)
-      (known-append [] ports_part (declared_part ++ (core_part ++ own_part)) (known-ports [] (ports_of (inputs_of core names) (outputs_of core names)))
-      (known-append ports_part declared_part (core_part ++ own_part) (known-alone ports_part (declared_items core counters (inputs_of core names) (outputs_of core names)) declared-alone)
-      (known-append (ports_part ++ declared_part) core_part own_part
-      (known-renamed one-name core_ports (ports_part ++ declared_part) (flat_map item_mentions core.items) ports-renamed
+      (known-append [] (ports_part core names) (declared_part core names counters ++ (core_part core ++ own_part core names)) (known-ports [] (ports_of (inputs_of core names) (outputs_of core names)))
+      (known-append (ports_part core names) (declared_part core names counters) (core_part core ++ own_part core names) (known-alone (ports_part core names) (declared_items core counters (inputs_of core names) (outputs_of core names)) declared-alone)
+      (known-append (ports_part core names ++ declared_part core names counters) (core_part core) (own_part core names)
+      (known-renamed one-name core_ports (ports_part core names ++ declared_part core names counters) (flat_map item_mentions core.items) ports-renamed
       (known-right [] core_ports (flat_map item_mentions core.items) (known-of (mentions core) [] (mentions core) sound.acyclic.driven)))
-      (known-in (ports_part ++ declared_part) core_part own_part own-known))))
+      (known-in (ports_part core names ++ declared_part core names counters) (core_part core) (own_part core names) own-known))))
     where
       one-name : (d : Declared) (n : List ℕ) → is_declaration_of n (Declares d) ≡ true → is_declaration_of (inner_name n) (renamed_mention (Declares d)) ≡ true
       one-name d n e = (bytes_eq-Decides (inner_name d.name) (inner_name n)).1 (ap inner_name ((bytes_eq-Decides d.name n).0 e))

@@ -9,7 +9,7 @@ use Rattle.vl_ast.specs.Context.{Net, own_length, is_signed}
 use Rattle.vl_ast.specs.Value.{assigned, assigned_number, extended, is_true, truth, value_in}
 use Rattle.st_wrap.specs.inner.Columns.{plain}
 use Rattle.st_wrap.specs.inner.Control.{is_zero, number}
-use Rattle.st_wrap.proofs.Layers.{length-Name, length-Literal, length-Binary, length-Choose, sign-Name, sign-Literal, sign-Binary, sign-Choose, alone_bits, value-Name, value-Literal, value-Unary, value-Binary, value-Choose}
+use Rattle.vl_ast.proofs.Forms.{length-Name, length-Literal, length-Binary, length-Choose, sign-Name, sign-Literal, sign-Binary, sign-Choose, value-Name, value-Literal, value-Unary, value-Binary, value-Choose}
 
 -- ---- truth
 
@@ -41,6 +41,10 @@ extended-same w false b = refl
 
 pub one-width : (w : ℕ) → max w w ≡ w
 one-width w = omega arith
+
+-- the bits of an expression that stands alone
+abbrev alone_bits : (List ℕ → Net) → (List ℕ → ℕ) → Expr → ℕ
+alone_bits nets row e = value_in nets row (own_length nets e) (is_signed nets e) e
 
 module _ (nets : List ℕ → Net) (row : List ℕ → ℕ) where
   pub alone-Name : (x : List ℕ) → alone_bits nets row (Name x) ≡ row x

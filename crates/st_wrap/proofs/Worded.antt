@@ -5,7 +5,6 @@ use Rattle.std.specs.List.{list_all, list_any, range_with_len}
 use Rattle.std.proofs.lemmas.Bool.{and_from, and_parts}
 use Rattle.std.proofs.lemmas.List.{append-nil}
 use Rattle.std.proofs.lemmas.List.Elements.{Contains-append_left, Contains-append_right, Contains-append_cases}
-use Rattle.vl_ast.specs.declared.modules.Port.{Port}
 use Rattle.vl_ast.specs.declared.modules.Module.{Module}
 use Rattle.vl_ast.specs.Conditions.{BreaksNone}
 use Rattle.vl_ast.specs.Control.{is_stallable}
@@ -17,12 +16,12 @@ use Rattle.vl_names.proofs.Digits.{number_plain}
 use Rattle.st_wrap.specs.declared.columns.Column.{Column}
 use Rattle.st_wrap.specs.declared.pace.Counters.{Counters}
 use Rattle.st_wrap.specs.Names.{AreColumnNames}
-use Rattle.st_wrap.specs.inner.Names.{begin_name, end_name, due_name, fed_name, open_name, held_name, inner_name, is_shared, late_name, phase_name, wait_name}
+use Rattle.st_wrap.specs.inner.Names.{held_name, inner_name, is_shared, late_name}
 use Rattle.st_wrap.specs.inner.Wrapped.{inputs_of, outputs_of, wrapped}
 use Rattle.st_wrap.proofs.Apart.{declared_names}
 use Rattle.st_wrap.proofs.Lettered.{inner-plain, inner-shared}
-use Rattle.st_wrap.proofs.Named.{declared_in, in-range, input-name, late-small, output-name}
-use Rattle.st_wrap.proofs.Once.{declared-list, in-control, in-wire, late_names, wire_names}
+use Rattle.st_wrap.proofs.Named.{column_name, declared_in, in-each, in-range, input-name, late-small, output-name}
+use Rattle.st_wrap.proofs.Once.{control_names, declared-list, flag_names, front_names, held_names, in-control, in-wire, in_names, late_names, out_names, own_declared, port_name, wire_names, wires}
 
 -- ---- bytes of names
 
@@ -64,12 +63,6 @@ inner-word n e = by (is_shared n) refl where
 
 -- ---- what is declared
 
-abbrev column_name : Column → List ℕ
-column_name column = column.name
-
-abbrev port_name : Port → List ℕ
-port_name port = port.name
-
 abbrev IsWord : List ℕ → Type 0
 IsWord n = is_identifier n ≡ true
 
@@ -95,46 +88,17 @@ from-declarations m d h =
     by Clocks c k = absurd (none-in d k)
 
 module _ (core : Module) (sound : BreaksNone core) (stallable : is_stallable core ≡ true) (names : List (List ℕ)) (named : AreColumnNames core names) (counters : Counters) (words : (d : Declared) → Contains (declarations core) d → is_identifier d.name ≡ true) where
-  abbrev front_names : List (List ℕ)
-  front_names = codes "clk" ∷ codes "reset" ∷ codes "in_valid" ∷ []
-
-  abbrev flag_names : List (List ℕ)
-  flag_names = codes "out_ready" ∷ codes "in_ready" ∷ codes "out_valid" ∷ []
-
-  abbrev in_names : List (List ℕ)
-  in_names = map column_name (inputs_of core names)
-
-  abbrev out_names : List (List ℕ)
-  out_names = map column_name (outputs_of core names)
-
-  abbrev wires : List (List ℕ)
-  wires = flat_map wire_names (map port_name core.ports)
-
-  abbrev held_names : List (List ℕ)
-  held_names = map (λ (column : Column). held_name column.name) (inputs_of core names)
-
-  abbrev control_names : List (List ℕ)
-  control_names = begin_name ∷ end_name ∷ due_name ∷ fed_name ∷ open_name ∷ phase_name ∷ wait_name ∷ []
-
-  abbrev own_declared : List (List ℕ)
-  own_declared = control_names ++ (held_names ++ flat_map late_names (outputs_of core names))
-
-  three : (a b c n : List ℕ) → IsWord a → IsWord b → IsWord c → Contains (a ∷ b ∷ c ∷ []) n → IsWord n
-  three a b c n x y z h = ⊎_elim (λ e. subst IsWord e x)
-      (λ h1. ⊎_elim (λ e. subst IsWord e y) (λ h2. ⊎_elim (λ e. subst IsWord e z) (λ h3. absurd (none-in n h3)) (cons-cases c n [] h2)) (cons-cases b n (c ∷ []) h1))
-      (cons-cases a n (b ∷ c ∷ []) h)
-
-  port-word : (n : List ℕ) → Contains (front_names ++ (in_names ++ (flag_names ++ out_names))) n → IsWord n
-  port-word n c = ⊎_elim (λ a. three (codes "clk") (codes "reset") (codes "in_valid") n refl refl refl a)
+  port-word : (n : List ℕ) → Contains (front_names ++ (in_names core names ++ (flag_names ++ out_names core names))) n → IsWord n
+  port-word n c = ⊎_elim (λ a. in-each IsWord front_names (refl, (refl, (refl, tt))) n a)
       (λ c1. ⊎_elim
       (λ a. let r = from-map column_name (inputs_of core names) n a in subst IsWord r.2 (input-name core names named r.0 r.1).identifier)
-      (λ c2. ⊎_elim (λ a. three (codes "out_ready") (codes "in_ready") (codes "out_valid") n refl refl refl a)
+      (λ c2. ⊎_elim (λ a. in-each IsWord flag_names (refl, (refl, (refl, tt))) n a)
       (λ b. let r = from-map column_name (outputs_of core names) n b in subst IsWord r.2 (output-name core names named r.0 r.1).identifier)
-      (Contains-append_cases flag_names out_names n c2))
-      (Contains-append_cases in_names (flag_names ++ out_names) n c1))
-      (Contains-append_cases front_names (in_names ++ (flag_names ++ out_names)) n c)
+      (Contains-append_cases flag_names (out_names core names) n c2))
+      (Contains-append_cases (in_names core names) (flag_names ++ out_names core names) n c1))
+      (Contains-append_cases front_names (in_names core names ++ (flag_names ++ out_names core names)) n c)
 
-  wire-word : (n : List ℕ) → Contains wires n → IsWord n
+  wire-word : (n : List ℕ) → Contains (wires core) n → IsWord n
   wire-word n c =
       let r = from-flat wire_names (map port_name core.ports) n c in
       let w = in-wire r.0 n r.2 in
@@ -152,15 +116,15 @@ module _ (core : Module) (sound : BreaksNone core) (stallable : is_stallable cor
       let small = late-small core names named column c in
       subst IsWord k.2 (late-word column.name (k.0 + 1) (omega (arith, below, small)) (plain-of column.name (output-name core names named column c).identifier))
 
-  own-word : (n : List ℕ) → Contains own_declared n → IsWord n
+  own-word : (n : List ℕ) → Contains (own_declared core names) n → IsWord n
   own-word n c = ⊎_elim
       (λ a. in-control IsWord n a refl refl refl refl refl refl refl)
       (λ b. ⊎_elim
       (λ a. let r = from-map (λ (column : Column). held_name column.name) (inputs_of core names) n a in
       subst IsWord r.2 (held-word r.0.name (plain-of r.0.name (input-name core names named r.0 r.1).identifier)))
       (λ l. let r = from-flat late_names (outputs_of core names) n l in late-names r.0 n r.1 r.2)
-      (Contains-append_cases held_names (flat_map late_names (outputs_of core names)) n b))
-      (Contains-append_cases control_names (held_names ++ flat_map late_names (outputs_of core names)) n c)
+      (Contains-append_cases (held_names (inputs_of core names)) (flat_map late_names (outputs_of core names)) n b))
+      (Contains-append_cases control_names (held_names (inputs_of core names) ++ flat_map late_names (outputs_of core names)) n c)
 
   item-word : (n : List ℕ) → Contains (map inner_name (declared_in core.items)) n → IsWord n
   item-word n c =
@@ -177,7 +141,7 @@ module _ (core : Module) (sound : BreaksNone core) (stallable : is_stallable cor
       (flat-in declared_names (mentions (wrapped core names counters)) (Declares d) d.name (from-declarations (wrapped core names counters) d h) (head-in d.name [])) in
       ⊎_elim (λ p. port-word d.name p)
       (λ b. ⊎_elim
-      (λ e. ⊎_elim (λ w. wire-word d.name w) (λ own. own-word d.name own) (Contains-append_cases wires own_declared d.name e))
+      (λ e. ⊎_elim (λ w. wire-word d.name w) (λ own. own-word d.name own) (Contains-append_cases (wires core) (own_declared core names) d.name e))
       (λ k. item-word d.name (subst (λ xs. Contains xs d.name) (append-nil (map inner_name (declared_in core.items))) k))
-      (Contains-append_cases (wires ++ own_declared) (map inner_name (declared_in core.items) ++ []) d.name b))
-      (Contains-append_cases (front_names ++ (in_names ++ (flag_names ++ out_names))) ((wires ++ own_declared) ++ (map inner_name (declared_in core.items) ++ [])) d.name all)
+      (Contains-append_cases (wires core ++ own_declared core names) (map inner_name (declared_in core.items) ++ []) d.name b))
+      (Contains-append_cases (front_names ++ (in_names core names ++ (flag_names ++ out_names core names))) ((wires core ++ own_declared core names) ++ (map inner_name (declared_in core.items) ++ [])) d.name all)

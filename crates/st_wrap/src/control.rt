@@ -5,14 +5,12 @@ ghost use Rattle.vl_ast.specs.declared.modules.ModItem.TheVariants.{Wire, Reg};
 ghost use Rattle.st_wrap.specs.inner.Control.{control_declared, control_driven, handshake_driven, signals_driven};
 ghost use Rattle.st_wrap.specs.inner.Control.{is_due_now, next_phase, next_wait, number, phase_item, unless, wait_item};
 
-use crate::expressions::{
-    binary, boxed, choose, is_zero, joined, moving, name_of, named, number, plain,
-};
-use crate::items::{assign, register};
+use crate::expressions::{is_zero, joined, moving, name_of, named, number, plain};
+use crate::items::assign;
 use crate::pace::{Counter, Counters};
 use fx_io::{OutOfMemory, Text};
 use std::alloc::Global;
-use vl_ast::{BinOp, Expr, ModItem, ModItems};
+use vl_ast::{BinOp, Expr, ModItem, ModItems, binary, boxed, choose, register};
 
 fn declare_wire(alloc: Global, name: &[u8], items: &mut ModItems) -> Result<(), OutOfMemory>
     ensures { OnOk result (items.new ≡ items.old ++ Wire false 1 name.now ∷ []) }

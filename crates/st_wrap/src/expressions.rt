@@ -1,45 +1,12 @@
 //! Expressions from their parts.
 ghost use Rattle.std.specs.Prelude.{◌≡◌, ℕ, List, IfOk};
-ghost use Rattle.vl_ast.specs.declared.expressions.Expr.{Expr};
-ghost use Rattle.vl_ast.specs.declared.expressions.Expr.TheVariants.{Name, Binary, Choose};
+ghost use Rattle.vl_ast.specs.declared.expressions.Expr.TheVariants.{Name, Binary};
 ghost use Rattle.st_wrap.specs.inner.Columns.{moving, plain};
 ghost use Rattle.st_wrap.specs.inner.Control.{is_zero, number};
 
 use fx_io::{Boxed, OutOfMemory, Text};
 use std::alloc::Global;
-use vl_ast::{BinOp, Bits128, Expr, Sized, UnOp};
-
-/// An expression in its box, which may have wanted memory.
-pub fn boxed(alloc: Global, e: Result<Expr, OutOfMemory>) -> Result<Boxed<Expr>, OutOfMemory>
-    ensures { (is : Expr) → IfOk e (λ made. made ≡ is) → IfOk result (λ made. made ≡ is) }
-{
-    Boxed::new(alloc, e?)
-}
-
-/// An operator between operands, each of which may have wanted memory.
-pub fn binary(
-    op: BinOp,
-    left: Result<Boxed<Expr>, OutOfMemory>,
-    right: Result<Boxed<Expr>, OutOfMemory>,
-) -> Result<Expr, OutOfMemory>
-    ensures { (one other : Expr) → IfOk left (λ e. e ≡ one) → IfOk right (λ e. e ≡ other)
-        → IfOk result (λ e. e ≡ Binary op one other) }
-{
-    Ok(Expr::Binary(op, left?, right?))
-}
-
-/// A choice between operands, each of which may have wanted memory.
-pub fn choose(
-    test: Result<Boxed<Expr>, OutOfMemory>,
-    chosen: Result<Boxed<Expr>, OutOfMemory>,
-    other: Result<Boxed<Expr>, OutOfMemory>,
-) -> Result<Expr, OutOfMemory>
-    ensures { (first second third : Expr) → IfOk test (λ e. e ≡ first)
-        → IfOk chosen (λ e. e ≡ second) → IfOk other (λ e. e ≡ third)
-        → IfOk result (λ e. e ≡ Choose first second third) }
-{
-    Ok(Expr::Choose(test?, chosen?, other?))
-}
+use vl_ast::{BinOp, Bits128, Expr, Sized, UnOp, binary};
 
 /// A name, which may have wanted memory.
 pub fn name_of(name: Result<Text, OutOfMemory>) -> Result<Expr, OutOfMemory>

@@ -6,12 +6,12 @@ ghost use Rattle.st_wrap.specs.inner.Columns.{held_declared, held_driven, late_d
 ghost use Rattle.st_wrap.specs.inner.Columns.{stage_declared, stage_driven, stage_name};
 
 use crate::columns::Column;
-use crate::expressions::{choose, moving, name_of, named, plain};
-use crate::items::{assign, register};
+use crate::expressions::{moving, name_of, named, plain};
+use crate::items::assign;
 use crate::names::{held_name, inner_name, late_name};
 use fx_io::{Boxed, OutOfMemory, Text};
 use std::alloc::Global;
-use vl_ast::{Expr, ModItem, ModItems};
+use vl_ast::{Expr, ModItem, ModItems, assigned, choose, reg, register};
 
 /// Declares what holds each input.
 pub fn declare_held(
@@ -48,9 +48,8 @@ fn fresh_or_held(alloc: Global, column: &Column) -> Result<Expr, OutOfMemory>
 fn drive_input(alloc: Global, column: &Column, items: &mut ModItems) -> Result<(), OutOfMemory>
     ensures { OnOk result (items.new ≡ items.old ++ held_driven column.now) }
 {
-    let name = inner_name(alloc, column.inner.bytes())?;
-    let value = fresh_or_held(alloc, column)?;
-    items.push(ModItem::Assign { name, value })?;
+    let name = inner_name(alloc, column.inner.bytes());
+    items.push(assigned(name, fresh_or_held(alloc, column))?)?;
     let fresh = name_of(Text::copy(alloc, column.name.bytes()));
     items.push(register(
         held_name(alloc, column.name.bytes()),
@@ -88,11 +87,8 @@ fn stage_declared(alloc: Global, column: &Column, place: u64) -> Result<ModItem,
     requires { place + 1 < 2 ^ 64 }
     ensures { IfOk result (λ item. item ≡ stage_declared column.now place) }
 {
-    Ok(ModItem::Reg {
-        signed: column.signed,
-        width: column.width,
-        name: late_name(alloc, column.name.bytes(), place + 1)?,
-    })
+    let name = late_name(alloc, column.name.bytes(), place + 1);
+    reg(column.signed, column.width, name)
 }
 
 fn stage_driven(alloc: Global, column: &Column, place: u64) -> Result<ModItem, OutOfMemory>

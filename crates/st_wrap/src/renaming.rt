@@ -1,14 +1,14 @@
 //! The core's items and ports in the wrapper.
 ghost use Rattle.std.specs.Prelude.{◌≡◌, ◌++◌, map, IfOk, OnOk};
-ghost use Rattle.vl_ast.specs.declared.modules.ModItem.TheVariants.{Always};
 ghost use Rattle.st_wrap.specs.inner.Names.{inner_name};
 ghost use Rattle.st_wrap.specs.inner.Renamed.{core_items, renamed, renamed_condition, renamed_item, wires_of};
 
-use crate::expressions::{binary, boxed, choose};
 use crate::names::{inner_name, is_shared};
 use fx_io::{Boxed, OutOfMemory};
 use std::alloc::Global;
-use vl_ast::{Expr, Exprs, ModItem, ModItems, Module, Sized};
+use vl_ast::{
+    Expr, Exprs, ModItem, ModItems, Module, assigned, binary, boxed, choose, clocked, reg, wire,
+};
 
 /// An expression over the names that the core's have in the wrapper. The recursion is as deep as the
 /// expression nests.
@@ -79,56 +79,24 @@ fn renamed_item(alloc: Global, item: &ModItem) -> Result<ModItem, OutOfMemory>
             signed,
             width,
             name,
-        } => Ok(ModItem::Wire {
-            signed: *signed,
-            width: *width,
-            name: inner_name(alloc, name.bytes())?,
-        }),
+        } => wire(*signed, *width, inner_name(alloc, name.bytes())),
         ModItem::Reg {
             signed,
             width,
             name,
-        } => Ok(ModItem::Reg {
-            signed: *signed,
-            width: *width,
-            name: inner_name(alloc, name.bytes())?,
-        }),
+        } => reg(*signed, *width, inner_name(alloc, name.bytes())),
         ModItem::Assign { name, value } => {
-            let name = inner_name(alloc, name.bytes())?;
-            let value = renamed(alloc, value)?;
-            Ok(ModItem::Assign { name, value })
+            assigned(inner_name(alloc, name.bytes()), renamed(alloc, value))
         }
         ModItem::Always {
             name,
             first,
             condition,
             value,
-        } => { renamed_always(alloc, name.bytes(), *first, condition, value) }
-    }
-}
-
-fn renamed_always(
-    alloc: Global,
-    name: &[u8],
-    first: Sized,
-    condition: &Option<Expr>,
-    value: &Expr,
-) -> Result<ModItem, OutOfMemory>
-    ensures { IfOk result (λ item. item ≡ Always (inner_name name.now) first
-        (renamed_condition condition.now) (renamed value.now)) }
-{
-    let name = inner_name(alloc, name)?;
-    let condition = renamed_condition(alloc, condition)?;
-    match renamed(alloc, value) {
-        Ok(value) => Ok(ModItem::Always {
-            name,
-            first,
-            condition,
-            value,
-        }),
-        Err(wanting) => {
-            drop(condition);
-            Err(wanting)
+        } => {
+            let name = inner_name(alloc, name.bytes());
+            let condition = renamed_condition(alloc, condition);
+            clocked(name, *first, condition, renamed(alloc, value))
         }
     }
 }

@@ -3,6 +3,7 @@ pub mod Alone
 pub mod Chains
 pub mod Facts
 mod Faults
+pub mod Forms
 pub mod Gated
 pub mod GatedSound
 mod Header

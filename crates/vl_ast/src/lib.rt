@@ -1,7 +1,7 @@
 //! The Verilog subset: modules as data, and what they mean.
 //!
-//! The crate holds types, definitions, what a module and its ports say as attributes, and laws as
-//! functions that do nothing.
+//! The crate holds types, definitions, what a module and its ports say as attributes, what makes
+//! expressions, items and ports from their parts, and laws as functions that do nothing.
 //! The definitions are in `specs/`, by subject: `Operators` (how they are written), `Spelling` (the one
 //! written text of a module), `Tokens` and `Grammar` (which bytes spell a module), `Spellable` (what some
 //! text spells), `Context` (length and sign of an expression), `Value` (its value), `Nets` (what is
@@ -15,6 +15,7 @@
 mod attributes;
 mod expressions;
 mod laws;
+mod making;
 mod modules;
 mod operators;
 mod words;
@@ -25,6 +26,10 @@ pub use laws::{
     agreement, can_be_driven, counted_rows_run, counted_rows_show, gated_modules, gated_rows_run,
     meaning_by_layer, numbers_are_writable, one_run, opened_modules, parts_run, rows_are_clocks,
     sound_modules_spell, spelling_spells, steps_run, tokens_spell,
+};
+pub use making::{
+    assigned, binary, boxed, choose, clocked, put_attribute, put_bit_port, put_data_port, reg,
+    register, wire,
 };
 pub use modules::{Attr, Attrs, ModItem, ModItems, Module, Port, Ports};
 pub use words::{Bits128, mask_of};

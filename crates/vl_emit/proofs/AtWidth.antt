@@ -16,7 +16,7 @@ use Rattle.vl_emit.specs.Names.{Wire}
 use Rattle.vl_emit.specs.inner.Spelled.{zeros, fill, inside, piece, at_width}
 use Rattle.vl_emit.specs.inner.Written.{IsWritten, Shows}
 use Rattle.hw_net.specs.Operation.{shifted_down}
-use Rattle.vl_emit.proofs.Layers.{sign-Name, sign-Part, sign-Concat, sign-Literal, length-Name, length-Bit, length-Part, length-Literal, length-Concat, length-Repeat, value-Name, value-Bit, value-Part, value-Literal, value-Concat, value-Repeat}
+use Rattle.vl_ast.proofs.Forms.{sign-Name, sign-Part, sign-Concat, sign-Literal, length-Name, length-Bit, length-Part, length-Literal, length-Concat, length-Repeat, value-Name, value-Bit, value-Part, value-Literal, value-Concat, value-Repeat}
 use Rattle.vl_ast.proofs.Stimulated.{bits-fit}
 use Rattle.vl_emit.proofs.Twos.{bits-congruent, bits-unique, bits-mod}
 use Rattle.fx_num.proofs.Words.{size-below, size-half, sign_of, size_of}

@@ -31,7 +31,7 @@ use Rattle.vl_emit.specs.inner.Spoken.{IsWithin}
 use Rattle.vl_ast.proofs.Stimulated.{bits-fit}
 use Rattle.vl_emit.specs.inner.Clean.{IsClean}
 use Rattle.vl_emit.proofs.Found.{first-or-later, no-element}
-use Rattle.vl_emit.proofs.Layers.{length-Name, length-Bit, length-Part, length-Literal, length-Concat, length-Repeat, length-AsSigned, length-Unary, length-Binary, length-Shift, length-Choose}
+use Rattle.vl_ast.proofs.Forms.{length-Name, length-Bit, length-Part, length-Literal, length-Concat, length-Repeat, length-AsSigned, length-Unary, length-Binary, length-Shift, length-Choose}
 
 module _ (nets : List ℕ → Net) (allowed : List ℕ → Type 0) where
   abbrev pub sound : Expr → Bool

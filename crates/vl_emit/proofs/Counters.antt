@@ -1,5 +1,5 @@
 -- In a run a counter counts its frame, and its tests tell slots and the first clocks of the frame.
-use Rattle.std.proofs.Common.{◌≡◌, ◌⊎◌, inl, inr, ℕ, zero, suc, ◌+◌, ◌-◌, ◌*◌, ◌^◌, ◌<◌, ◌≤◌, ◌==◌, nat_lt, Bool, true, false, not, if◌then◌else◌, List, [], length, ℤ, pos, ◌-ℤ◌, ◌≤ℤ◌, None, ap, sym, ◌∙◌, subst, refl, arith, pow_pos, pow_mono, mul_comm}
+use Rattle.std.proofs.Common.{◌≡◌, ◌⊎◌, inl, inr, ℕ, zero, suc, ◌+◌, ◌-◌, ◌*◌, ◌^◌, ◌<◌, ◌≤◌, ◌==◌, nat_lt, Bool, true, false, not, if◌then◌else◌, List, [], ℤ, pos, ◌-ℤ◌, ◌≤ℤ◌, None, ap, sym, ◌∙◌, subst, refl, arith, pow_pos, pow_mono, mul_comm}
 use Rattle.std.proofs.lemmas.Int.{ints}
 use Rattle.std.proofs.lemmas.Bool.{cases_lt, ltb-true, ltb-false, eqb-true, eqb-false, ne_eqb, false_from_ne_true}
 use Rattle.std.proofs.lemmas.Bool.Decides.{Decides-int_eq}
@@ -16,19 +16,18 @@ use Rattle.vl_ast.specs.Value.{truth}
 use Rattle.vl_ast.specs.Nets.{nets_of}
 use Rattle.vl_ast.specs.Value.{bits_of}
 use Rattle.hw_net.specs.declared.netlist.Frame.{Frame}
-use Rattle.hw_net.specs.declared.netlist.Net.{Net}
 use Rattle.hw_net.specs.declared.netlist.NetKind.TheVariants.{Counter}
 use Rattle.hw_net.specs.Circuit.{Circuit}
 use Rattle.hw_net.specs.Closed.{CounterTells, CounterIsTelling}
 use Rattle.hw_net.specs.NetRows.{span_of}
 use Rattle.hw_net.specs.Registers.{Takes as TakesAt, IsLive, IsCounter}
-use Rattle.vl_emit.specs.Names.{Wire, shown}
-use Rattle.hw_net.specs.Products.{net_at}
+use Rattle.vl_emit.specs.Names.{Wire}
 use Rattle.vl_emit.specs.inner.Spelled.{zeros}
 use Rattle.vl_emit.specs.inner.Operators.{test_of}
 use Rattle.vl_emit.specs.inner.Written.{IsWritten, Shows}
-use Rattle.vl_emit.specs.inner.Emitted.{Naming, wire_of, plain_number, counts, slot_test, live_test, naming_of}
+use Rattle.vl_emit.specs.inner.Emitted.{plain_number, counts, slot_test, live_test}
 use Rattle.vl_emit.specs.inner.Sound.{IsCounted}
+use Rattle.vl_emit.proofs.Sections.{Run, run_of}
 use Rattle.vl_emit.proofs.Counting.{count_of, count-most, counts-down}
 use Rattle.vl_emit.proofs.Found.{here}
 use Rattle.vl_emit.proofs.AtWidth.{as-name, zeros-written}
@@ -54,30 +53,10 @@ live_bit cycles frame count live = not (nat_lt count ((frame.period - live) * cy
 
 module _ {netlist : Circuit} {rank : ℕ → ℕ} {m : Module} {total last : ℕ} {start : List ℕ → ℕ} {inputs rows : ℕ → List ℕ → ℕ}
     (run : Running netlist rank m total last start inputs rows) where
-  abbrev cycles : ℕ
-  cycles = netlist.cycles
+  abbrev parts : Run
+  parts = run_of netlist total last rows
 
-  abbrev count : ℕ
-  count = length netlist.nets
-
-  abbrev net : ℕ → Net
-  net = net_at netlist.nets
-
-  abbrev naming : Naming
-  naming = naming_of netlist
-
-  abbrev wire : ℕ → Wire
-  wire = wire_of naming net
-
-  abbrev row : ℕ → List ℕ → ℕ
-  row clock = rows (last + 1 + clock)
-
-  abbrev value : ℕ → ℕ → ℤ
-  value k clock = shown (row clock) (wire k)
-
-  -- so many clocks the run has
-  abbrev clocks : ℕ
-  clocks = total - (last + 1)
+  open parts use {cycles, count, net, naming, wire, clocks, row, value}
 
   module _ (k : ℕ) (h : k < count) where
     -- a number up to the first of a counter is in its word

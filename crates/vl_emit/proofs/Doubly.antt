@@ -19,7 +19,8 @@ use Rattle.hw_net.specs.declared.netlist.NetKind.TheVariants.{Comb, Reg, EnReg, 
 use Rattle.hw_net.specs.Products.{places}
 use Rattle.vl_emit.specs.inner.Emitted.{Naming, drivers, declarers, unit_drivers, other_drivers, output_item, module_items}
 use Rattle.vl_emit.specs.inner.Sound.{IsEmitted}
-use Rattle.vl_emit.proofs.Found.{no-element, first-or-later, here, later, in-one, of-one, of-mapped, DeclaredBy, declared-item, declared-port, place-below, below-place}
+use Rattle.vl_emit.proofs.Sections.{Items, items_in}
+use Rattle.vl_emit.proofs.Found.{no-element, first-or-later, here, later, in-one, of-one, of-mapped, DeclaredBy, declared-item, declared-port, place-below, below-place, one-of, two-of}
 use Rattle.vl_emit.proofs.Lists.{pairs-cons, pairs-append, pairs-places, map-pairs, empty-list, flat_map-twice, flat_map-same}
 use Rattle.vl_emit.proofs.NetItems.{drivers-silent, units-drive, others-drive, hold_driver, hold_declarer}
 use Rattle.vl_emit.proofs.DeclaredFirst.{item_drives}
@@ -37,17 +38,10 @@ module _ (cycles count : ℕ) (naming : Naming) (net : ℕ → Net) (outputs : L
   abbrev declared_at : ℕ → NetKind → List Declared
   declared_at k kind = flat_map item_declared (declarers naming net k kind)
 
-  abbrev declaring : List ModItem
-  declaring = flat_map (λ k. declarers naming net k (net k).kind) (places count)
+  abbrev items : Items
+  items = items_in cycles count naming net outputs
 
-  abbrev units : List ModItem
-  units = flat_map (λ k. unit_drivers cycles naming net k (net k).kind) (places count)
-
-  abbrev others : List ModItem
-  others = flat_map (λ k. other_drivers cycles naming net k (net k).kind) (places count)
-
-  abbrev showing : List ModItem
-  showing = map (output_item naming) outputs
+  open items use {declaring, units, others, showing}
 
   abbrev IsOf : ℕ → List ℕ → Type 0
   IsOf k name = (name ≡ naming.net k) ⊎ (name ≡ naming.hold k)
@@ -58,18 +52,6 @@ module _ (cycles count : ℕ) (naming : Naming) (net : ℕ → Net) (outputs : L
   of-differ j k p q ne a b (inl e) (inr f) same = emitted.names.apart j k p q (sym e ∙ same ∙ f)
   of-differ j k p q ne a b (inr e) (inl f) same = emitted.names.apart k j q p (sym f ∙ sym same ∙ e)
   of-differ j k p q ne a b (inr e) (inr f) same = ne (emitted.names.holds j k p q (sym e ∙ same ∙ f))
-
-  one-of : {X : Type 0} (P : X → Type 0) (x y : X) → P x → Contains (x ∷ []) y → P y
-  one-of P x y p c = elim (first-or-later x y [] c) [
-    | inl e ↦ subst P e p
-    | inr after ↦ absurd (no-element y after)
-  ]
-
-  two-of : {X : Type 0} (P : X → Type 0) (x z y : X) → P x → P z → Contains (x ∷ z ∷ []) y → P y
-  two-of P x z y p q c = elim (first-or-later x y (z ∷ []) c) [
-    | inl e ↦ subst P e p
-    | inr after ↦ one-of P z y q after
-  ]
 
   abbrev OfD : ℕ → Declared → Type 0
   OfD k d = IsOf k d.name

@@ -30,7 +30,7 @@ use Rattle.vl_ast.proofs.Stimulated.{bits-fit}
 use Rattle.vl_emit.proofs.Cleaned.{Readable, narrow, sound, literal-clean, binary-clean, binary-sound, binary-reads, choose-clean, at-clean, net-clean, no-bits, test-clean, word-most, op-clean}
 use Rattle.vl_emit.specs.inner.Operators.{expression_of}
 use Rattle.vl_emit.specs.inner.Sound.{NamedBy, IsSound, IsSoundKind, IsCounted}
-use Rattle.vl_emit.proofs.Layers.{length-Binary}
+use Rattle.vl_ast.proofs.Forms.{length-Binary}
 use Rattle.vl_emit.proofs.OfOperations.{width-at-least}
 use Rattle.vl_emit.proofs.Registers.{both-some}
 

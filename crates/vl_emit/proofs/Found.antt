@@ -24,6 +24,19 @@ module _ {X : Type 0} where
   first-or-later x y xs (zero, below, e) = inl e
   first-or-later x y xs (suc k, below, e) = inr (k, omega arith, e)
 
+  -- what holds of each of one element, or of two
+  pub one-of : (P : X → Type 0) (x y : X) → P x → Contains (x ∷ []) y → P y
+  one-of P x y p c = elim (first-or-later x y [] c) [
+    | inl e ↦ subst P e p
+    | inr after ↦ absurd (no-element y after)
+  ]
+
+  pub two-of : (P : X → Type 0) (x z y : X) → P x → P z → Contains (x ∷ z ∷ []) y → P y
+  two-of P x z y p q c = elim (first-or-later x y (z ∷ []) c) [
+    | inl e ↦ subst P e p
+    | inr after ↦ one-of P z y q after
+  ]
+
   pub here : (x : X) (xs : List X) → Contains (x ∷ xs) x
   here x xs = (0, omega arith, refl)
 

@@ -1,5 +1,5 @@
 -- What a run of a netlist's module gives of a net: its bits after assignments, after `reset` and after edges.
-use Rattle.std.proofs.Common.{◌≡◌, ℕ, suc, ◌+◌, ◌-◌, ◌^◌, ◌<◌, Bool, List, length, Contains, ℤ, Option, codes, ap, sym, ◌∙◌, subst, arith}
+use Rattle.std.proofs.Common.{◌≡◌, ℕ, suc, ◌+◌, ◌^◌, ◌<◌, Bool, List, length, Contains, ℤ, Option, codes, ap, sym, ◌∙◌, subst, arith}
 use Rattle.fx_num.specs.Word.{InWord, IsWord, IsWrapped}
 use Rattle.vl_ast.specs.declared.expressions.Sized.{Sized}
 use Rattle.vl_ast.specs.declared.expressions.Expr.{Expr}
@@ -11,15 +11,15 @@ use Rattle.vl_ast.specs.Value.{assigned}
 use Rattle.vl_ast.specs.Nets.{nets_of}
 use Rattle.vl_ast.specs.Value.{bits_of}
 use Rattle.vl_ast.specs.Runs.{Runs, next_bits}
-use Rattle.hw_net.specs.declared.netlist.Net.{Net}
 use Rattle.hw_net.specs.declared.netlist.NetKind.{NetKind}
 use Rattle.hw_net.specs.Circuit.{Circuit}
 use Rattle.vl_emit.specs.Names.{Wire, shown}
 use Rattle.hw_net.specs.Products.{net_at}
 use Rattle.vl_emit.specs.Shown.{IsReset}
 use Rattle.vl_emit.specs.inner.Written.{IsWritten, Shows}
-use Rattle.vl_emit.specs.inner.Emitted.{Naming, wire_of, plain_number, drivers, naming_of}
+use Rattle.vl_emit.specs.inner.Emitted.{plain_number, drivers, naming_of}
 use Rattle.vl_emit.specs.inner.Sound.{IsSoundKind, IsSound, HasNets}
+use Rattle.vl_emit.proofs.Sections.{Run, run_of}
 use Rattle.vl_emit.proofs.AtWidth.{assigned-written}
 use Rattle.vl_emit.proofs.Numbers.{number-in_word, number-bits, number-wrapped, number-is, declaration-there}
 use Rattle.vl_emit.proofs.OfOperations.{width-at-least}
@@ -49,30 +49,10 @@ pub record Running (netlist : Circuit) (rank : ℕ → ℕ) (m : Module) (total 
 
 module _ {netlist : Circuit} {rank : ℕ → ℕ} {m : Module} {total last : ℕ} {start : List ℕ → ℕ} {inputs rows : ℕ → List ℕ → ℕ}
     (run : Running netlist rank m total last start inputs rows) where
-  abbrev cycles : ℕ
-  cycles = netlist.cycles
+  abbrev parts : Run
+  parts = run_of netlist total last rows
 
-  abbrev count : ℕ
-  count = length netlist.nets
-
-  abbrev net : ℕ → Net
-  net = net_at netlist.nets
-
-  abbrev naming : Naming
-  naming = naming_of netlist
-
-  abbrev wire : ℕ → Wire
-  wire = wire_of naming net
-
-  abbrev row : ℕ → List ℕ → ℕ
-  row clock = rows (last + 1 + clock)
-
-  abbrev value : ℕ → ℕ → ℤ
-  value k clock = shown (row clock) (wire k)
-
-  -- so many clocks the run has
-  abbrev clocks : ℕ
-  clocks = total - (last + 1)
+  open parts use {cycles, count, net, naming, wire, clocks, row, value}
 
   in-run : (clock : ℕ) → clock < clocks → last + 1 + clock < total
   in-run clock h = omega (arith, h)

@@ -3,13 +3,14 @@ pub mod Bitwise
 pub mod Cleaned
 pub mod Drivers
 pub mod Found
-pub mod Layers
 pub mod NetItems
 pub mod NoLoop
 pub mod OfOperations
 pub mod Operations
 pub mod Ordered
+pub mod Pieces
 pub mod Ports
+pub mod Sections
 pub mod Registers
 pub mod Twos
 pub mod DeclaredFirst

@@ -109,6 +109,9 @@ loop-step f start before after n is more =
 -- ---- lists that grow at their end
 
 -- the kind of a net that is read
+pub net-read : (nets read : List Net) (own : ℕ) (net : Net) → read ≡ nets → net ≡ get_or read own net → own < length nets → net ≡ net_at nets own
+net-read nets read own net same is inside = is ∙ ap (λ (ns : List Net). get_or ns own net) same ∙ get_or_default nets own net _ inside
+
 pub kind-at : (nets read : List Net) (own : ℕ) (default : Net) (kind : NetKind) → read ≡ nets → own < length nets → (get_or read own default).kind ≡ kind → (net_at nets own).kind ≡ kind
 kind-at nets read own default kind same inside is =
     let net : get_or read own default ≡ net_at nets own = ap (λ (ns : List Net). get_or ns own default) same ∙ get_or_default nets own default _ inside in

@@ -15,7 +15,6 @@ use Rattle.vl_ast.specs.Context.{Net as DeclaredNet, own_length, is_signed}
 use Rattle.vl_ast.specs.Gated.{gated_condition, gated_item, shows_enable}
 use Rattle.vl_ast.specs.Multiplications.{Multiplication, multiplications, multiplications_in, multiplications_step, item_multiplications, condition_multiplications, value_multiplications}
 use Rattle.vl_ast.specs.Nets.{nets_of}
-use Rattle.hw_net.specs.declared.netlist.Net.{Net}
 use Rattle.hw_net.specs.declared.netlist.NetPort.{NetPort}
 use Rattle.hw_net.specs.declared.netlist.NetOp.TheVariants.{Input, Const, Resize, ShiftUp, ShiftDown, Add, Subtract, Negate, Multiply, And, Or, Xor, Not, Less, Equal, Choose, Slice}
 use Rattle.hw_net.specs.declared.netlist.NetKind.{NetKind}
@@ -29,14 +28,15 @@ use Rattle.vl_emit.specs.Products.{HasFactor, IsProduct}
 use Rattle.hw_net.specs.Products.{Product, unit_product, comb_product, products_of}
 use Rattle.vl_emit.specs.Registers.{declared_register, register_name, RegistersAre}
 use Rattle.vl_emit.specs.inner.Clean.{IsClean}
-use Rattle.vl_emit.specs.inner.Emitted.{Naming, wire_of, drivers, declarers, unit_drivers, other_drivers, output_item, naming_of, items_of, first_declared, plain_module, module_of}
+use Rattle.vl_emit.specs.inner.Emitted.{wire_of, drivers, declarers, unit_drivers, other_drivers, output_item, naming_of, items_of, first_declared, plain_module, module_of}
 use Rattle.vl_emit.specs.inner.Sound.{IsSound, IsSoundKind}
 use Rattle.vl_emit.specs.inner.Spelled.{at_width}
+use Rattle.vl_emit.proofs.Sections.{Items, Parts, items_in, parts_of}
 use Rattle.vl_emit.proofs.AtWidth.{operand-written}
 use Rattle.vl_emit.proofs.Cleaned.{Readable, at-clean, name-clean, word-most, binary-products}
 use Rattle.vl_emit.proofs.Drivers.{multiplies, assign-clean, drivers-clean}
 use Rattle.vl_emit.proofs.Found.{no-element, of-one, of-mapped, one-more}
-use Rattle.vl_emit.proofs.Layers.{length-Binary}
+use Rattle.vl_ast.proofs.Forms.{length-Binary}
 use Rattle.vl_emit.proofs.Lists.{empty-list, flat_map-twice, flat_map-same}
 use Rattle.vl_emit.proofs.NetItems.{others-drive}
 use Rattle.vl_emit.proofs.OfOperations.{width-at-least}
@@ -131,17 +131,10 @@ with-enable f same none is =
     ∙ ap (λ (l : List _). flat_map f is ++ (l ++ [])) none ∙ append-nil (flat_map f is)
 
 module _ (netlist : Circuit) (runs : IsNetlist netlist) (emits : IsEmittable netlist) (few : length netlist.nets < 2 ^ 64) where
-  abbrev cycles : ℕ
-  cycles = netlist.cycles
+  abbrev parts : Parts
+  parts = parts_of netlist
 
-  abbrev count : ℕ
-  count = length netlist.nets
-
-  abbrev net : ℕ → Net
-  net = net_at netlist.nets
-
-  abbrev naming : Naming
-  naming = naming_of netlist
+  open parts use {cycles, count, net, naming}
 
   abbrev m : Module
   m = module_of netlist
@@ -280,17 +273,10 @@ module _ (netlist : Circuit) (runs : IsNetlist netlist) (emits : IsEmittable net
       (λ left right is. tt)
       (λ kind none bare is. subst (λ (l : List Product). AllZip (IsProduct netlist m) l (flat_map (item_multiplications nets) (other_drivers cycles naming net k kind))) (sym (bare (net k).width)) (no-zip _ (others-none k h kind is none)))
 
-  abbrev declaring : List ModItem
-  declaring = flat_map (λ k. declarers naming net k (net k).kind) (places count)
+  abbrev items : Items
+  items = items_in cycles count naming net netlist.outputs
 
-  abbrev units : List ModItem
-  units = flat_map (λ k. unit_drivers cycles naming net k (net k).kind) (places count)
-
-  abbrev others : List ModItem
-  others = flat_map (λ k. other_drivers cycles naming net k (net k).kind) (places count)
-
-  abbrev showing : List ModItem
-  showing = map (output_item naming) netlist.outputs
+  open items use {declaring, units, others, showing}
 
   -- a function of items that gives nothing of any of a list
   none-of-list : {X : Type 0} (f : ModItem → List X) (is : List ModItem) → ((i : ModItem) → Contains is i → f i ≡ []) → flat_map f is ≡ []

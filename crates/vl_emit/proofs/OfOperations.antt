@@ -24,7 +24,7 @@ use Rattle.vl_emit.specs.inner.Spelled.{zeros, piece, at_width}
 use Rattle.vl_emit.specs.inner.Operators.{widened, signed_width, by_sign, compared, common_width, test_of, in_width, slice_at, expression_of}
 use Rattle.vl_emit.specs.inner.Written.{IsWritten, Shows}
 use Rattle.vl_emit.proofs.Bitwise.{low-bits, and-written, or-written, xor-written, invert-written}
-use Rattle.vl_emit.proofs.Layers.{by_itself}
+use Rattle.vl_ast.proofs.Forms.{by_itself}
 use Rattle.fx_num.proofs.Words.{size-below, size-half, size_of}
 use Rattle.vl_emit.proofs.AtWidth.{piece-plain, as-name, split-bits, zeros-written, beside-written, piece-written, operand-written, alone-written, cut-bits}
 use Rattle.vl_emit.proofs.Operations.{shift-bits, number-back, less_plain-written, add-written, subtract-written, multiply-written, negate-written, shift-written, literal-written, choose-written, equal-written, not_equal-written, less-written, same-bits}

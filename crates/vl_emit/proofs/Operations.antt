@@ -17,7 +17,7 @@ use Rattle.vl_ast.specs.Context.{Net, own_length, is_signed}
 use Rattle.vl_ast.specs.Value.{extended, is_negative, number_of, truth, value_in}
 use Rattle.vl_ast.specs.Value.{bits_of}
 use Rattle.vl_emit.specs.inner.Written.{IsWritten}
-use Rattle.vl_emit.proofs.Layers.{length-Unary, length-Binary, length-Shift, length-Choose, length-AsSigned, length-Literal, sign-AsSigned, value-Unary, value-Binary, value-Shift, value-Choose, value-AsSigned, value-Literal, by_itself}
+use Rattle.vl_ast.proofs.Forms.{length-Unary, length-Binary, length-Shift, length-Choose, length-AsSigned, length-Literal, sign-AsSigned, value-Unary, value-Binary, value-Shift, value-Choose, value-AsSigned, value-Literal, by_itself}
 use Rattle.vl_emit.proofs.AtWidth.{alone-written, extended-same}
 use Rattle.hw_net.proofs.Modular.{congruent-neg}
 use Rattle.vl_ast.proofs.Stimulated.{bits-fit}

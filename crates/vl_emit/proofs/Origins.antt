@@ -11,7 +11,6 @@ use Rattle.vl_ast.specs.Context.{Net as DeclaredNet}
 use Rattle.vl_ast.specs.Conditions.{item_name}
 use Rattle.vl_ast.specs.Nets.{nets_of}
 use Rattle.hw_net.specs.declared.netlist.Frame.{Frame}
-use Rattle.hw_net.specs.declared.netlist.Net.{Net}
 use Rattle.hw_net.specs.declared.netlist.NetPort.{NetPort}
 use Rattle.hw_net.specs.declared.netlist.NetOp.{NetOp}
 use Rattle.hw_net.specs.declared.netlist.NetOp.TheVariants.{Input}
@@ -26,12 +25,13 @@ use Rattle.vl_emit.specs.Names.{name_of, hold_name, input_wire}
 use Rattle.hw_net.specs.Products.{net_at, places}
 use Rattle.vl_emit.specs.Reads.{item_reads, IsNamed, IsCounterName, MayRead}
 use Rattle.vl_emit.specs.inner.Clean.{IsCleanItem}
-use Rattle.vl_emit.specs.inner.Emitted.{Naming, drivers, declarers, unit_drivers, other_drivers, output_item, naming_of, plain_module, items_of}
+use Rattle.vl_emit.specs.inner.Emitted.{drivers, declarers, unit_drivers, other_drivers, output_item, naming_of, plain_module, items_of}
 use Rattle.vl_emit.specs.inner.Ready.{IsReady, IsTimed}
 use Rattle.vl_emit.specs.inner.Sound.{IsSound, HasNets, IsEmitted, NamedBy}
+use Rattle.vl_emit.proofs.Sections.{Parts, parts_of}
 use Rattle.vl_emit.proofs.Cleaned.{name-clean}
 use Rattle.vl_emit.proofs.Drivers.{multiplies, drivers-clean}
-use Rattle.vl_emit.proofs.Found.{no-element, first-or-later, here, later, of-one, of-mapped, below-place}
+use Rattle.vl_emit.proofs.Found.{no-element, first-or-later, here, later, of-one, of-mapped, below-place, one-of, two-of}
 use Rattle.vl_emit.proofs.Interfaces.{emitted}
 use Rattle.vl_emit.proofs.Lists.{at-contains, same-element}
 use Rattle.vl_emit.proofs.NetItems.{units-drive, others-drive, hold_driver, hold_declarer, has-nets}
@@ -39,17 +39,10 @@ use Rattle.vl_emit.proofs.Ports.{named-net}
 use Rattle.vl_emit.proofs.Sounds.{netlist-sound, netlist-ready}
 
 module _ (netlist : Circuit) (runs : IsNetlist netlist) (emits : IsEmittable netlist) (few : length netlist.nets < 2 ^ 64) where
-  abbrev cycles : ℕ
-  cycles = netlist.cycles
+  abbrev parts : Parts
+  parts = parts_of netlist
 
-  abbrev count : ℕ
-  count = length netlist.nets
-
-  abbrev net : ℕ → Net
-  net = net_at netlist.nets
-
-  abbrev naming : Naming
-  naming = naming_of netlist
+  open parts use {cycles, count, net, naming}
 
   abbrev is_emitted : IsEmitted netlist.cycles (length netlist.nets) (naming_of netlist) (net_at netlist.nets) netlist.outputs (plain_module netlist)
   is_emitted = emitted netlist runs emits few
@@ -86,18 +79,6 @@ module _ (netlist : Circuit) (runs : IsNetlist netlist) (emits : IsEmittable net
 
   abbrev IsOf : ℕ → List ℕ → Type 0
   IsOf k name = (name ≡ name_of netlist k) ⊎ (name ≡ hold_name k)
-
-  one-of : (P : ModItem → Type 0) (x y : ModItem) → P x → Contains (x ∷ []) y → P y
-  one-of P x y p c = elim (first-or-later x y [] c) [
-    | inl e ↦ subst P e p
-    | inr after ↦ absurd (no-element y after)
-  ]
-
-  two-of : (P : ModItem → Type 0) (x z y : ModItem) → P x → P z → Contains (x ∷ z ∷ []) y → P y
-  two-of P x z y p q c = elim (first-or-later x y (z ∷ []) c) [
-    | inl e ↦ subst P e p
-    | inr after ↦ one-of P z y q after
-  ]
 
   -- a declaration reads nothing, and is of its net
   abbrev Declares : ℕ → ModItem → Type 0

@@ -1,5 +1,5 @@
 -- In every run with `reset` and then none, the nets' names show the rows of the netlist.
-use Rattle.std.proofs.Common.{◌≡◌, ℕ, zero, suc, ◌+◌, ◌-◌, ◌*◌, ◌<◌, true, false, List, [], length, get_or, slice_get, ℤ, pos, ◌*ℤ◌, Option, Some, ap, sym, ◌∙◌, subst, refl, arith, add-one}
+use Rattle.std.proofs.Common.{◌≡◌, ℕ, zero, suc, ◌+◌, ◌-◌, ◌*◌, ◌<◌, true, false, List, [], get_or, slice_get, ℤ, pos, ◌*ℤ◌, Option, Some, ap, sym, ◌∙◌, subst, refl, arith, add-one}
 use Rattle.std.proofs.lemmas.Option.{slice_get-get_or, get_or_from_slice_get, slice_get_within}
 use Rattle.fx_num.specs.Word.{IsWrapped}
 use Rattle.vl_ast.specs.declared.expressions.BinOp.TheVariants as binary
@@ -19,13 +19,13 @@ use Rattle.hw_net.specs.NetRows.{NetRows, span_of, number_at, operands_at}
 use Rattle.hw_net.specs.Netlist.{IsNetlist}
 use Rattle.hw_net.specs.Operation.{given_by}
 use Rattle.hw_net.specs.Step.{BridgeSteps, NetStarts, NetSteps, NetGoes, StepsGiveRows}
-use Rattle.vl_emit.specs.Names.{Wire, shown, input_wire}
-use Rattle.hw_net.specs.Products.{net_at, no_net}
+use Rattle.vl_emit.specs.Names.{input_wire}
+use Rattle.hw_net.specs.Products.{no_net}
 use Rattle.vl_emit.specs.Shown.{inputs_from, rows_from}
 use Rattle.vl_emit.specs.inner.Spelled.{at_width}
 use Rattle.vl_emit.specs.inner.Operators.{expression_of}
 use Rattle.vl_emit.specs.inner.Written.{Shows}
-use Rattle.vl_emit.specs.inner.Emitted.{Naming, wire_of, naming_of}
+use Rattle.vl_emit.proofs.Sections.{Run, run_of}
 use Rattle.vl_emit.proofs.Found.{here}
 use Rattle.vl_emit.proofs.AtWidth.{operand-written}
 use Rattle.vl_emit.proofs.OfOperations.{op-written, width-at-least}
@@ -37,33 +37,13 @@ use Rattle.fx_num.proofs.Words.{word-width}
 
 module _ {netlist : Circuit} {rank : ℕ → ℕ} {m : Module} {total last : ℕ} {start : List ℕ → ℕ} {inputs rows : ℕ → List ℕ → ℕ}
     (run : Running netlist rank m total last start inputs rows) where
-  abbrev cycles : ℕ
-  cycles = netlist.cycles
+  abbrev parts : Run
+  parts = run_of netlist total last rows
 
-  abbrev count : ℕ
-  count = length netlist.nets
-
-  abbrev net : ℕ → Net
-  net = net_at netlist.nets
-
-  abbrev naming : Naming
-  naming = naming_of netlist
-
-  abbrev wire : ℕ → Wire
-  wire = wire_of naming net
-
-  abbrev row : ℕ → List ℕ → ℕ
-  row clock = rows (last + 1 + clock)
-
-  abbrev value : ℕ → ℕ → ℤ
-  value k clock = shown (row clock) (wire k)
+  open parts use {cycles, count, net, naming, wire, clocks, row, value}
 
   abbrev given : ℕ → ℕ → ℤ
   given = inputs_from netlist last rows
-
-  -- so many clocks the run has
-  abbrev clocks : ℕ
-  clocks = total - (last + 1)
 
   module _ (telling : CounterIsTelling) (k : ℕ) (h : k < count) where
     unit-goes : (clock left right : ℕ) → (net k).kind ≡ Unit left right → clock < clocks → IsWrapped (value left clock *ℤ value right clock) (net k).width (net k).signed (value k clock)

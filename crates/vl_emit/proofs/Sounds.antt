@@ -18,12 +18,13 @@ use Rattle.hw_net.specs.Netlist.{reads, reads_now, HasWord, HasParts, IsKind, Is
 use Rattle.hw_net.specs.Operation.{arity}
 use Rattle.vl_emit.specs.Names.{port_at}
 use Rattle.hw_net.specs.Products.{net_at, no_net}
-use Rattle.vl_emit.specs.inner.Emitted.{Naming, naming_of}
+use Rattle.vl_emit.specs.inner.Emitted.{naming_of}
 use Rattle.vl_emit.specs.inner.Ready.{IsTimed, IsReady, AreReady}
 use Rattle.vl_emit.specs.inner.Sound.{IsCounted, HasWordOf, IsSoundKind, IsSound}
 use Rattle.vl_emit.specs.inner.Spoken.{IsWithin}
 use Rattle.fx_num.proofs.Words.{size-below}
 use Rattle.fx_io.proofs.Tests.{some_there}
+use Rattle.vl_emit.proofs.Sections.{Parts, parts_of}
 use Rattle.vl_emit.proofs.Lists.{at-contains}
 use Rattle.hw_net.proofs.Index.{same-is}
 
@@ -82,17 +83,10 @@ input-of : (nets : List Net) (inputs : ℕ) (args : List ℕ) (op : NetOp) → H
 input-of nets inputs args op p input e = let q = subst (HasParts nets inputs args) e p in q
 
 module _ (netlist : Circuit) (runs : IsNetlist netlist) (counted : HasCounters netlist.nets) where
-  abbrev cycles : ℕ
-  cycles = netlist.cycles
+  abbrev parts : Parts
+  parts = parts_of netlist
 
-  abbrev count : ℕ
-  count = length netlist.nets
-
-  abbrev net : ℕ → Net
-  net = net_at netlist.nets
-
-  abbrev naming : Naming
-  naming = naming_of netlist
+  open parts use {cycles, count, net, naming}
 
   abbrev pub rank : ℕ → ℕ
   rank = runs.ranked.0

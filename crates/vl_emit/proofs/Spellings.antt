@@ -34,7 +34,7 @@ use Rattle.vl_emit.specs.Header.{input_port, input_ports, output_port, output_po
 use Rattle.vl_emit.specs.Names.{Wire, name_by, net_name, hold_name}
 use Rattle.hw_net.specs.Products.{net_at}
 use Rattle.vl_emit.specs.inner.Emitted.{wire_of, declarers, drivers, items_of, module_of, naming_of, opened_module}
-use Rattle.vl_emit.proofs.Found.{DeclaredBy, declared-where, first-or-later, here, later, no-element, of-mapped}
+use Rattle.vl_emit.proofs.Found.{DeclaredBy, declared-where, first-or-later, here, later, no-element, of-mapped, one-of, two-of}
 use Rattle.vl_emit.proofs.NetItems.{hold_declarer, hold_driver}
 use Rattle.vl_emit.proofs.Opened.{IsGated, IsOf, gated-breaks, item-where}
 use Rattle.vl_emit.proofs.Origins.{Origin, Declaring, Driving, Showing, origin, declarer-of, driver-of}
@@ -82,18 +82,6 @@ gated-short (item.Always name first (Some condition) value) s = (
 )
 
 module _ (netlist : Circuit) (runs : IsNetlist netlist) (emits : IsEmittable netlist) (few : length netlist.nets < 2 ^ 64) where
-  one-of : (P : ModItem → Type 0) (x y : ModItem) → P x → Contains (x ∷ []) y → P y
-  one-of P x y p c = elim (first-or-later x y [] c) [
-    | inl e ↦ subst P e p
-    | inr after ↦ absurd (no-element y after)
-  ]
-
-  two-of : (P : ModItem → Type 0) (x z y : ModItem) → P x → P z → Contains (x ∷ z ∷ []) y → P y
-  two-of P x z y p q c = elim (first-or-later x y (z ∷ []) c) [
-    | inl e ↦ subst P e p
-    | inr after ↦ one-of P z y q after
-  ]
-
   declarer-short : (k : ℕ) (kind : NetKind) (i : ModItem) → Contains (declarers (naming_of netlist) (net_at netlist.nets) k kind) i → AreShort i
   declarer-short k (Comb op args) i c = one-of AreShort _ i tt c
   declarer-short k (Unit left right) i c = one-of AreShort _ i tt c

@@ -1,5 +1,5 @@
 -- In a run registers, bridges and counters go on as the netlist says.
-use Rattle.std.proofs.Common.{◌≡◌, ◌≢◌, ◌⊎◌, inl, inr, ℕ, suc, ◌+◌, ◌-◌, ◌*◌, ◌%◌, ◌<◌, ◌==◌, Bool, true, false, not, ◌&&◌, if◌then◌else◌, List, [], ◌∷◌, length, Contains, ℤ, pos, ◌+ℤ◌, ◌≤ℤ◌, Option, Some, None, ap, sym, ◌∙◌, subst, refl, arith, add-one, pow_pos}
+use Rattle.std.proofs.Common.{◌≡◌, ◌≢◌, ◌⊎◌, inl, inr, ℕ, suc, ◌+◌, ◌-◌, ◌*◌, ◌%◌, ◌<◌, ◌==◌, Bool, true, false, not, ◌&&◌, if◌then◌else◌, List, [], ◌∷◌, Contains, ℤ, pos, ◌+ℤ◌, ◌≤ℤ◌, Option, Some, None, ap, sym, ◌∙◌, subst, refl, arith, add-one, pow_pos}
 use Rattle.std.proofs.lemmas.Int.{ints}
 use Rattle.std.proofs.lemmas.Bool.Decides.{Decides-int_eq}
 use Rattle.std.proofs.Math.Nat.{mod-eq_of_lt}
@@ -14,7 +14,6 @@ use Rattle.vl_ast.specs.Value.{truth}
 use Rattle.vl_ast.specs.Nets.{nets_of}
 use Rattle.vl_ast.specs.Value.{bits_of}
 use Rattle.hw_net.specs.declared.netlist.Frame.{Frame}
-use Rattle.hw_net.specs.declared.netlist.Net.{Net}
 use Rattle.hw_net.specs.declared.netlist.NetKind.{NetKind}
 use Rattle.hw_net.specs.declared.netlist.NetKind.TheVariants.{Reg, EnReg, Bridge, Counter}
 use Rattle.hw_net.specs.Circuit.{Circuit}
@@ -22,12 +21,12 @@ use Rattle.hw_net.specs.Closed.{CounterIsTelling}
 use Rattle.hw_net.specs.NetRows.{span_of}
 use Rattle.hw_net.specs.Registers.{Takes as TakesAt, IsLive}
 use Rattle.hw_net.specs.Step.{RegSteps, EnRegSteps, BridgeSteps, CounterSteps}
-use Rattle.vl_emit.specs.Names.{Wire, shown}
-use Rattle.hw_net.specs.Products.{net_at}
+use Rattle.vl_emit.specs.Names.{Wire}
 use Rattle.vl_emit.specs.inner.Operators.{test_of}
 use Rattle.vl_emit.specs.inner.Written.{IsWritten}
-use Rattle.vl_emit.specs.inner.Emitted.{Naming, wire_of, plain_number, constant, slot_test, live_test, drivers, naming_of}
+use Rattle.vl_emit.specs.inner.Emitted.{plain_number, constant, slot_test, live_test, drivers}
 use Rattle.vl_emit.specs.inner.Sound.{HasWordOf}
+use Rattle.vl_emit.proofs.Sections.{Run, run_of}
 use Rattle.vl_emit.proofs.Counting.{count_of}
 use Rattle.vl_emit.proofs.Found.{here, later}
 use Rattle.vl_emit.proofs.AtWidth.{alone-written, as-name}
@@ -40,30 +39,10 @@ use Rattle.vl_emit.proofs.Counters.{slot_bit, live_bit, counter-value, counter-c
 
 module _ {netlist : Circuit} {rank : ℕ → ℕ} {m : Module} {total last : ℕ} {start : List ℕ → ℕ} {inputs rows : ℕ → List ℕ → ℕ}
     (run : Running netlist rank m total last start inputs rows) where
-  abbrev cycles : ℕ
-  cycles = netlist.cycles
+  abbrev parts : Run
+  parts = run_of netlist total last rows
 
-  abbrev count : ℕ
-  count = length netlist.nets
-
-  abbrev net : ℕ → Net
-  net = net_at netlist.nets
-
-  abbrev naming : Naming
-  naming = naming_of netlist
-
-  abbrev wire : ℕ → Wire
-  wire = wire_of naming net
-
-  abbrev row : ℕ → List ℕ → ℕ
-  row clock = rows (last + 1 + clock)
-
-  abbrev value : ℕ → ℕ → ℤ
-  value k clock = shown (row clock) (wire k)
-
-  -- so many clocks the run has
-  abbrev clocks : ℕ
-  clocks = total - (last + 1)
+  open parts use {cycles, count, net, naming, wire, clocks, row, value}
 
   module _ (telling : CounterIsTelling) (k : ℕ) (h : k < count) where
     -- the number of a net of the same word

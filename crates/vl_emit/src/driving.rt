@@ -1,12 +1,9 @@
 //! What drives each net.
-ghost use Rattle.std.specs.Prelude.{◌≡◌, ◌++◌, ◌<◌, ◌∷◌, [], ℕ, List, Some, true, false, length, get_or};
+ghost use Rattle.std.specs.Prelude.{◌≡◌, ◌++◌, ◌<◌, ◌∷◌, [], ℕ, List, length, get_or};
 ghost use Rattle.std.specs.Prelude.{IfOk, OnOk};
 ghost use Rattle.vl_ast.specs.declared.expressions.BinOp.TheVariants.{Subtract};
-ghost use Rattle.vl_ast.specs.declared.expressions.Expr.{Expr};
-ghost use Rattle.vl_ast.specs.declared.expressions.Sized.{Sized};
 ghost use Rattle.vl_ast.specs.declared.expressions.Expr.TheVariants.{Name, Literal, Binary, Choose};
 ghost use Rattle.vl_ast.specs.declared.modules.ModItem.{ModItem};
-ghost use Rattle.vl_ast.specs.declared.modules.ModItem.TheVariants.{Always, Assign};
 ghost use Rattle.hw_net.specs.declared.netlist.NetOp.TheVariants.{Input};
 ghost use Rattle.hw_net.specs.declared.netlist.NetKind.TheVariants.{Comb, Reg, EnReg, Bridge};
 ghost use Rattle.hw_net.specs.declared.netlist.NetKind.TheVariants.{Unit, Counter};
@@ -25,7 +22,7 @@ use crate::source::{Source, input_operand, operand};
 use fx_io::{OutOfMemory, Text};
 use hw_net::{Frame, NetOp};
 use std::alloc::Global;
-use vl_ast::{BinOp, Expr, ModItem, ModItems, Sized};
+use vl_ast::{BinOp, Expr, ModItem, ModItems, Sized, assigned, register};
 
 /// An argument by its place, or the net itself where there is none.
 fn argument<'a>(source: Source<'a>, args: &[u32], place: usize, own: usize) -> Operand<'a>
@@ -77,31 +74,6 @@ fn operation(
     let second = argument(source, args, 1, own);
     let third = argument(source, args, 2, own);
     expression(alloc, op, port, first, second, third, word)
-}
-
-/// The item of a wire of these parts, each of which may have wanted memory.
-pub fn assigned(
-    name: Result<Text, OutOfMemory>,
-    value: Result<Expr, OutOfMemory>,
-) -> Result<ModItem, OutOfMemory>
-    ensures { (text : List ℕ) (shown : Expr) → IfOk name (λ made. made ≡ text)
-        → IfOk value (λ made. made ≡ shown)
-        → IfOk result (λ item. item ∷ [] ≡ Assign text shown ∷ []) }
-{
-    let name = match name {
-        Ok(name) => name,
-        Err(wanting) => {
-            drop(value);
-            return Err(wanting);
-        }
-    };
-    match value {
-        Ok(value) => Ok(ModItem::Assign { name, value }),
-        Err(wanting) => {
-            drop(name);
-            Err(wanting)
-        }
-    }
 }
 
 /// Puts an item behind the others, which may have wanted memory.
@@ -160,49 +132,6 @@ fn counted(alloc: Global, net: Operand, greatest: Sized) -> Result<Expr, OutOfMe
     let less = binary(alloc, BinOp::Subtract, named(alloc, net), Ok(one));
     let greatest = Expr::Literal(greatest);
     choose(alloc, test_of(alloc, net), less, Ok(greatest))
-}
-
-/// The item of a register of these parts, each of which may have wanted memory.
-fn register(
-    name: Result<Text, OutOfMemory>,
-    first: Sized,
-    condition: Result<Expr, OutOfMemory>,
-    value: Result<Expr, OutOfMemory>,
-) -> Result<ModItem, OutOfMemory>
-    ensures { (text : List ℕ) (number : Sized) (test taken : Expr) → first ≡ number
-        → IfOk name (λ made. made ≡ text) → IfOk condition (λ made. made ≡ test)
-        → IfOk value (λ made. made ≡ taken)
-        → IfOk result (λ item. item ∷ [] ≡ Always text number (Some test) taken ∷ []) }
-{
-    let name = match name {
-        Ok(name) => name,
-        Err(wanting) => {
-            drop(condition);
-            drop(value);
-            return Err(wanting);
-        }
-    };
-    let condition = match condition {
-        Ok(condition) => Some(condition),
-        Err(wanting) => {
-            drop(name);
-            drop(value);
-            return Err(wanting);
-        }
-    };
-    match value {
-        Ok(value) => Ok(ModItem::Always {
-            name,
-            first,
-            condition,
-            value,
-        }),
-        Err(wanting) => {
-            drop(name);
-            drop(condition);
-            Err(wanting)
-        }
-    }
 }
 
 /// The item of a Counter.

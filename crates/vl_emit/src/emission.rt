@@ -17,13 +17,13 @@ ghost use Rattle.vl_emit.specs.Shown.{NetsAreShown, NetsFit, OutputsAreShown};
 ghost use Rattle.vl_emit.specs.inner.Emitted.{module_of};
 ghost use Rattle.vl_emit.specs.inner.Ready.{HaveNets};
 
-use crate::header::{put_attribute, put_ports};
+use crate::header::put_ports;
 use crate::items::put_items;
 use crate::source::{Source, label_places};
 use fx_io::{OutOfMemory, Text};
 use hw_net::{Netlist, counter_is_telling, steps_give_rows};
 use std::alloc::Global;
-use vl_ast::{Attrs, ModItems, Module, Ports};
+use vl_ast::{Attrs, ModItems, Module, Ports, put_attribute};
 
 /// The module of a netlist: a wire or a register for each net, and a port for each of its ports
 /// (own). Its time is linear in the nets. The only error is want of memory.

@@ -1,8 +1,6 @@
 //! The items of a netlist's module: declarations, then the drivers of Unit nets, then the other
 //! drivers, then the output ports, then `ce_out`.
-ghost use Rattle.std.specs.Prelude.{◌≡◌, ◌++◌, ◌<◌, ◌∷◌, [], ℕ, List, map, IfOk, OnOk};
-ghost use Rattle.vl_ast.specs.declared.modules.ModItem.{ModItem};
-ghost use Rattle.vl_ast.specs.declared.modules.ModItem.TheVariants.{Wire, Reg};
+ghost use Rattle.std.specs.Prelude.{◌≡◌, ◌++◌, ◌<◌, ◌∷◌, [], map, OnOk};
 ghost use Rattle.vl_ast.specs.Gated.{gated_item, shows_enable};
 ghost use Rattle.vl_emit.specs.inner.Emitted.{items_of};
 ghost use Rattle.vl_emit.specs.inner.Ready.{IsSource, circuit_of, net_count};
@@ -10,39 +8,13 @@ ghost use Rattle.vl_emit.specs.inner.Ready.{declarers_in, units_in, others_in};
 ghost use Rattle.vl_emit.specs.inner.Ready.{all_declared, all_units, all_others, all_shown};
 
 use crate::conditions::enable;
-use crate::driving::{
-    assigned, comb_item, counter_item, enabled_item, put, put_bridge, reg_item, unit_item,
-};
-use crate::operands::{Operand, hold_text, named, text_of};
+use crate::driving::{comb_item, counter_item, enabled_item, put, put_bridge, reg_item, unit_item};
+use crate::operands::{hold_text, named, text_of};
 use crate::source::{Source, operand};
 use fx_io::{OutOfMemory, Text};
 use hw_net::NetKind;
 use std::alloc::Global;
-use vl_ast::{ModItem, ModItems};
-
-/// The declaration of a wire, whose name may have wanted memory.
-fn wire(net: Operand, name: Result<Text, OutOfMemory>) -> Result<ModItem, OutOfMemory>
-    ensures { (text : List ℕ) → IfOk name (λ made. made ≡ text)
-        → IfOk result (λ item. item ∷ [] ≡ Wire net.entry.signed net.entry.width text ∷ []) }
-{
-    Ok(ModItem::Wire {
-        signed: net.signed,
-        width: net.width,
-        name: name?,
-    })
-}
-
-/// The declaration of a register, whose name may have wanted memory.
-fn reg(net: Operand, name: Result<Text, OutOfMemory>) -> Result<ModItem, OutOfMemory>
-    ensures { (text : List ℕ) → IfOk name (λ made. made ≡ text)
-        → IfOk result (λ item. item ∷ [] ≡ Reg net.entry.signed net.entry.width text ∷ []) }
-{
-    Ok(ModItem::Reg {
-        signed: net.signed,
-        width: net.width,
-        name: name?,
-    })
-}
+use vl_ast::{ModItems, assigned, reg, wire};
 
 /// The declarations of a net.
 fn declare(
@@ -58,13 +30,16 @@ fn declare(
     let net = operand(source, own);
     let name = text_of(alloc, net.called);
     match source.netlist.nets()[own].kind {
-        NetKind::Comb { .. } | NetKind::Unit { .. } => put(items, wire(net, name)),
+        NetKind::Comb { .. } | NetKind::Unit { .. } => put(
+            items,
+            wire(net.signed, net.width, name),
+        ),
         NetKind::Reg { .. } | NetKind::EnReg { .. } | NetKind::Counter { .. } => {
-            put(items, reg(net, name))
+            put(items, reg(net.signed, net.width, name))
         }
         NetKind::Bridge { .. } => {
-            put(items, wire(net, name))?;
-            put(items, reg(net, hold_text(alloc, own)))
+            put(items, wire(net.signed, net.width, name))?;
+            put(items, reg(net.signed, net.width, hold_text(alloc, own)))
         }
     }
 }

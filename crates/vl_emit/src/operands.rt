@@ -1,5 +1,6 @@
 //! Nets and ports as operands of expressions, each written at the width at which it is used.
-ghost use Rattle.std.specs.Prelude.{◌≡◌, ◌+◌, ◌≤◌, ◌<◌, [], ◌∷◌, IfOk};
+ghost use Rattle.std.specs.Prelude.{◌≡◌, ◌+◌, ◌≤◌, ◌<◌, [], ◌∷◌, ◌++◌, IfOk, OnOk};
+ghost use Rattle.vl_ast.specs.declared.expressions.Expr.{Expr};
 ghost use Rattle.vl_ast.specs.declared.expressions.Expr.TheVariants.{Name, Concat};
 ghost use Rattle.vl_emit.specs.Names.{net_name, hold_name};
 ghost use Rattle.vl_emit.specs.inner.Spelled.{zeros, fill, inside, piece, at_width};
@@ -95,13 +96,26 @@ fn inside(alloc: Global, operand: Operand, low: u32, width: u32) -> Result<Expr,
     Ok(Expr::Part(name, low + width - 1, low))
 }
 
-/// Two expressions side by side.
-pub fn beside(alloc: Global, left: Expr, right: Expr) -> Result<Expr, OutOfMemory>
-    ensures { IfOk result (λ e. e ≡ Concat (left ∷ right ∷ [])) }
+/// Puts an expression behind the others, which may have wanted memory.
+fn put(parts: &mut Exprs, part: Result<Expr, OutOfMemory>) -> Result<(), OutOfMemory>
+    ensures { (is : Expr) → IfOk part (λ e. e ≡ is)
+        → OnOk result (parts.new ≡ parts.old ++ is ∷ []) }
+{
+    parts.push(part?)
+}
+
+/// Two expressions side by side, each of which may have wanted memory.
+pub fn beside(
+    alloc: Global,
+    left: Result<Expr, OutOfMemory>,
+    right: Result<Expr, OutOfMemory>,
+) -> Result<Expr, OutOfMemory>
+    ensures { (one other : Expr) → IfOk left (λ e. e ≡ one) → IfOk right (λ e. e ≡ other)
+        → IfOk result (λ e. e ≡ Concat (one ∷ other ∷ [])) }
 {
     let mut parts = Exprs::new(alloc);
-    let first = parts.push(left);
-    let second = parts.push(right);
+    let first = put(&mut parts, left);
+    let second = put(&mut parts, right);
     first?;
     second?;
     Ok(Expr::Concat(parts))
@@ -121,14 +135,9 @@ pub fn piece(alloc: Global, operand: Operand, low: u32, width: u32) -> Result<Ex
     if low + width <= operand.width {
         return inside(alloc, operand, low, width);
     }
-    let left = fill(alloc, operand, low + width - operand.width)?;
-    match inside(alloc, operand, low, operand.width - low) {
-        Ok(right) => beside(alloc, left, right),
-        Err(wanting) => {
-            drop(left);
-            Err(wanting)
-        }
-    }
+    let left = fill(alloc, operand, low + width - operand.width);
+    let right = inside(alloc, operand, low, operand.width - low);
+    beside(alloc, left, right)
 }
 
 /// An operand at the width at which it is used.

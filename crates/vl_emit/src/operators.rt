@@ -11,10 +11,10 @@ ghost use Rattle.vl_emit.specs.inner.Spoken.{wire_at, CanBeWritten, HasRoom, IsW
 ghost use Rattle.vl_emit.specs.inner.Spoken.{both_at, comparison_at, choice_at, operation_at};
 
 use crate::operands::{Operand, at_width, beside, named, piece, zeros};
-use fx_io::{Boxed, OutOfMemory};
+use fx_io::OutOfMemory;
 use hw_net::NetOp;
 use std::alloc::Global;
-use vl_ast::{BinOp, Bits128, Expr, ShiftOp, Sized, UnOp};
+use vl_ast::{BinOp, Bits128, Expr, ShiftOp, Sized, UnOp, boxed};
 
 /// So many bits without sign.
 pub fn plain(width: u32, bits: u128) -> Sized
@@ -32,11 +32,7 @@ pub fn constant(width: u8, signed: bool, number: i128) -> Sized
     requires { IsWord width signed }
     ensures { result ≡ constant width number }
 {
-    Sized {
-        width: width as u32,
-        signed: false,
-        bits: Bits128::new(fx_num::to_bits(number, width, signed)),
-    }
+    plain(width as u32, fx_num::to_bits(number, width, signed))
 }
 
 fn unary(alloc: Global, op: UnOp, operand: Operand, width: u32) -> Result<Expr, OutOfMemory>
@@ -44,15 +40,8 @@ fn unary(alloc: Global, op: UnOp, operand: Operand, width: u32) -> Result<Expr, 
     requires width { HasRoom width }
     ensures { IfOk result (λ e. e ≡ Unary op (at_width width (wire_at operand.entry))) }
 {
-    let part = at_width(alloc, operand, width)?;
-    Ok(Expr::Unary(op, Boxed::new(alloc, part)?))
-}
-
-/// An expression in its box, if memory wasn't wanting for it.
-fn boxed(alloc: Global, made: Result<Expr, OutOfMemory>) -> Result<Boxed<Expr>, OutOfMemory>
-    ensures { (part : Expr) → IfOk made (λ e. e ≡ part) → IfOk result (λ e. e ≡ part) }
-{
-    Boxed::new(alloc, made?)
+    let part = boxed(alloc, at_width(alloc, operand, width))?;
+    Ok(Expr::Unary(op, part))
 }
 
 /// `left op right`, of operands each of which may have wanted memory.
@@ -65,9 +54,7 @@ pub fn binary(
     ensures { (one other : Expr) → IfOk left (λ e. e ≡ one) → IfOk right (λ e. e ≡ other)
         → IfOk result (λ e. e ≡ Binary op one other) }
 {
-    let left = boxed(alloc, left);
-    let right = boxed(alloc, right);
-    Ok(Expr::Binary(op, left?, right?))
+    vl_ast::binary(op, boxed(alloc, left), boxed(alloc, right))
 }
 
 /// `test ? chosen : other`, of operands each of which may have wanted memory.
@@ -83,8 +70,7 @@ pub fn choose(
 {
     let test = boxed(alloc, test);
     let chosen = boxed(alloc, chosen);
-    let other = boxed(alloc, other);
-    Ok(Expr::Choose(test?, chosen?, other?))
+    vl_ast::choose(test, chosen, boxed(alloc, other))
 }
 
 /// An operand at the width at which it is compared.
@@ -93,11 +79,11 @@ fn compared(alloc: Global, signed: bool, operand: Operand, width: u32) -> Result
     requires width { HasRoom width }
     ensures { IfOk result (λ e. e ≡ compared signed (at_width width (wire_at operand.entry))) }
 {
-    let part = at_width(alloc, operand, width)?;
+    let part = at_width(alloc, operand, width);
     if !signed {
-        return Ok(part);
+        return part;
     }
-    Ok(Expr::AsSigned(Boxed::new(alloc, part)?))
+    Ok(Expr::AsSigned(boxed(alloc, part)?))
 }
 
 /// `left op right`, each at the width.
@@ -118,14 +104,15 @@ pub fn in_width(
     binary(alloc, op, left, right)
 }
 
-fn widened(alloc: Global, width: u32, bit: Expr) -> Result<Expr, OutOfMemory>
+/// A bit, which may have wanted memory, at a width.
+fn widened(alloc: Global, width: u32, bit: Result<Expr, OutOfMemory>) -> Result<Expr, OutOfMemory>
     requires { 1 ≤ width }
-    ensures { IfOk result (λ e. e ≡ widened width bit) }
+    ensures { (is : Expr) → IfOk bit (λ e. e ≡ is) → IfOk result (λ e. e ≡ widened width is) }
 {
     if width == 1 {
-        return Ok(bit);
+        return bit;
     }
-    beside(alloc, zeros(width - 1), bit)
+    beside(alloc, Ok(zeros(width - 1)), bit)
 }
 
 fn signed_width(operand: Operand) -> u32
@@ -175,8 +162,7 @@ fn less(alloc: Global, left: Operand, right: Operand, width: u32) -> Result<Expr
     let signed = left.signed || right.signed;
     let one = compared(alloc, signed, left, common);
     let other = compared(alloc, signed, right, common);
-    let bit = binary(alloc, BinOp::Less, one, other)?;
-    widened(alloc, width, bit)
+    widened(alloc, width, binary(alloc, BinOp::Less, one, other))
 }
 
 fn equal(alloc: Global, left: Operand, right: Operand, width: u32) -> Result<Expr, OutOfMemory>
@@ -185,8 +171,12 @@ fn equal(alloc: Global, left: Operand, right: Operand, width: u32) -> Result<Exp
     requires width { HasRoom width }
     ensures { IfOk result (λ e. e ≡ comparison_at Equal width left.entry right.entry) }
 {
-    let bit = in_width(alloc, BinOp::Equal, left, right, common_width(left, right))?;
-    widened(alloc, width, bit)
+    let common = common_width(left, right);
+    widened(
+        alloc,
+        width,
+        in_width(alloc, BinOp::Equal, left, right, common),
+    )
 }
 
 fn choice(
@@ -216,13 +206,9 @@ fn shifted_up(alloc: Global, operand: Operand, places: u8, width: u32) -> Result
     if width <= u32::from(places) {
         return Ok(zeros(width));
     }
-    let part = at_width(alloc, operand, width)?;
-    let amount = Sized {
-        width: 8,
-        signed: false,
-        bits: Bits128::new(u128::from(places)),
-    };
-    Ok(Expr::Shift(ShiftOp::Left, Boxed::new(alloc, part)?, amount))
+    let part = boxed(alloc, at_width(alloc, operand, width))?;
+    let amount = plain(8, u128::from(places));
+    Ok(Expr::Shift(ShiftOp::Left, part, amount))
 }
 
 fn slice_at(
@@ -242,8 +228,8 @@ fn slice_at(
     if width <= count {
         return piece(alloc, operand, low, width);
     }
-    let kept = piece(alloc, operand, low, count)?;
-    beside(alloc, zeros(width - count), kept)
+    let kept = piece(alloc, operand, low, count);
+    beside(alloc, Ok(zeros(width - count)), kept)
 }
 
 /// An operation on up to three operands, at the width of its result.

@@ -1,7 +1,6 @@
 use Rattle.std.proofs.Common.{◌≡◌, ◌∙◌, ◌++◌, ◌∷◌, [], IfOk, ℕ, List, ap, subst}
 use Rattle.std.proofs.lemmas.Result.{on_ok_weaker}
 use Rattle.vl_ast.specs.declared.modules.ModItem.{ModItem}
-use Rattle.vl_ast.specs.declared.modules.ModItem.TheVariants.{Assign}
 use Rattle.st_wrap.specs.inner.Names.{held_name, inner_name}
 use Rattle.fx_io.proofs.Places.{put-before}
 use Rattle.st_wrap.proofs.registers.drive_input.Goals as goal
@@ -9,8 +8,8 @@ use Rattle.st_wrap.proofs.registers.drive_input.Goals as goal
 pub returns : goal.returns
 returns c =
     let old : List ModItem = c.args.items.now in
-    let name = c.in_ok-name.ensures ∙ ap inner_name c.bytes.ensures in
-    let shown = c.in_ok-push.ensures.appended ∙ (λ i. old ++ Assign (name i) (c.in_ok-value.ensures i) ∷ []) in
+    let name = subst (λ (name : List ℕ). IfOk c.inner_name-name.result (λ text. text ≡ inner_name name)) c.bytes.ensures c.inner_name-name.ensures in
+    let shown = c.in_ok-push.ensures.appended ∙ ap (λ item. old ++ item ∷ []) (c.in_ok-assigned.ensures _ _ name c.fresh_or_held.ensures) in
     let held = subst (λ (name : List ℕ). IfOk c.held_name.result (λ text. text ≡ held_name name)) c.bytes-3.ensures c.held_name.ensures in
     let fresh = subst (λ (name : List ℕ). IfOk c.copy.result (λ text. text ≡ name)) c.bytes-2.ensures c.copy.ensures in
     let made = c.in_ok-register.ensures _ _ _ _ c.plain.ensures held c.moving.ensures (c.name_of-fresh.ensures _ fresh) in

@@ -8,6 +8,7 @@ use Rattle.vl_emit.specs.Names.{Wire}
 use Rattle.vl_emit.specs.inner.Emitted.{plain_number}
 use Rattle.vl_emit.specs.inner.Operators.{test_of}
 use Rattle.vl_emit.specs.inner.Ready.{circuit_of, wire_in, cycles_in}
+use Rattle.vl_emit.proofs.Returned.{if-alone}
 use Rattle.vl_emit.proofs.driving.counter_item.Goals as goal
 
 pub returns : goal.returns
@@ -22,4 +23,4 @@ returns c =
     let counted = subst (λ (w : Wire). IfOk c.counted.result (λ e. e ≡ Choose (test_of w) (Binary Subtract (Name w.name) (Literal (plain_number w.width 1))) (Literal c.plain-2.result))) c.operand-net.ensures.wire c.counted.ensures in
     let own = wire_in source c.args.own in
     let taken = subst (λ (b : Sized). IfOk c.counted.result (λ e. e ≡ Choose (test_of own) (Binary Subtract (Name own.name) (Literal (plain_number own.width 1))) (Literal b))) greatest counted in
-    c.register.ensures _ _ _ _ first name c.enable.ensures taken
+    if-alone c.register.result _ (c.register.ensures _ _ _ _ first name c.enable.ensures taken)

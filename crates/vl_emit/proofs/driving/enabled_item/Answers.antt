@@ -1,49 +1,42 @@
-use Rattle.std.proofs.Common.{ℤ, ◌≡◌, ◌∙◌, ℕ, Bool, List, Some, IfOk, get_or, subst, ap, sym}
+use Rattle.std.proofs.Common.{◌≡◌, ◌∙◌, ℕ, Bool, Some, IfOk, subst, sym}
 use Rattle.std.specs.Int.{w128}
 use Rattle.std.proofs.lemmas.Int.{to_z-of_z}
 use Rattle.vl_ast.specs.Gated.{gated_condition}
 use Rattle.vl_ast.specs.declared.expressions.Expr.TheVariants.{Name, Literal, Choose}
 use Rattle.vl_ast.specs.declared.expressions.Sized.{Sized}
-use Rattle.hw_net.specs.declared.netlist.Net.{Net}
 use Rattle.hw_net.specs.declared.netlist.NetKind.TheVariants.{EnReg}
-use Rattle.hw_net.specs.Products.{net_at}
 use Rattle.vl_emit.specs.Names.{Wire}
 use Rattle.vl_emit.specs.inner.Emitted.{constant}
 use Rattle.vl_emit.specs.inner.Operators.{test_of}
 use Rattle.vl_emit.specs.inner.Ready.{IsDriver, circuit_of, slot_in, wire_in}
-use Rattle.std.proofs.lemmas.List.{get_or_default}
+use Rattle.vl_emit.proofs.Lists.{net-read}
+use Rattle.vl_emit.proofs.Returned.{if-alone}
 use Rattle.vl_emit.proofs.driving.enabled_item.Goals as goal
 
 pub returns-then-reset : goal.returns-then-reset
 returns-then-reset c =
     let source = c.args.source in
     let frame = c.args.frame in
-    let nets = (circuit_of source).nets in
-    let read = subst (λ (ns : List Net). c.index-nets-own.result ≡ get_or ns c.args.own c.index-nets-own.result) c.nets.ensures c.index-nets-own.is in
-    let net : c.index-nets-own.result ≡ net_at nets c.args.own = read ∙ get_or_default nets c.args.own _ _ c.requires.own in
-    let width = ap (λ (n : Net). n.width) net in
+    let net = net-read (circuit_of source).nets _ c.args.own _ c.nets.ensures c.index-nets-own.is c.requires.own in
     let same = to_z-of_z w128 c.args.first c.ranges.first in
-    let number = c.constant-number.ensures ∙ ap (λ (z : ℤ). constant c.index-nets-own.result.width z) same ∙ ap (λ (w : ℕ). constant w c.args.first) width in
-    let begun = c.constant-begun.ensures ∙ ap (λ (z : ℤ). constant c.index-nets-own.result.width z) same ∙ ap (λ (w : ℕ). constant w c.args.first) width in
+    let number = c.constant-number.ensures ∙ (λ i. constant (net i).width (same i)) in
+    let begun = c.constant-begun.ensures ∙ (λ i. constant (net i).width (same i)) in
     let name = subst (λ (w : Wire). IfOk c.text_of-name.result (λ text. text ≡ w.name)) c.operand.ensures.wire c.text_of-name.ensures in
     let test = subst (λ (slot : ℕ). IfOk c.enabled_slot-slot.result (λ e. e ≡ gated_condition (Some (slot_in source frame slot)))) c.last_slot.ensures c.enabled_slot-slot.ensures in
     let taken = subst (λ (b : Sized). IfOk c.renewed.result (λ e. e ≡ Choose (test_of (wire_in source c.args.enable)) (Name (wire_in source c.args.from).name) (Literal b))) begun c.renewed.ensures in
     subst (λ (reset : Bool). IfOk c.register.result (IsDriver source c.args.own (EnReg frame c.args.enable reset c.args.first c.args.from))) (sym c.if-reset.true)
-    (c.register.ensures _ _ _ _ number name test taken)
+    (if-alone c.register.result _ (c.register.ensures _ _ _ _ number name test taken))
 
 pub returns-else-reset : goal.returns-else-reset
 returns-else-reset c =
     let source = c.args.source in
-    let nets = (circuit_of source).nets in
-    let read = subst (λ (ns : List Net). c.index-nets-own.result ≡ get_or ns c.args.own c.index-nets-own.result) c.nets.ensures c.index-nets-own.is in
-    let net : c.index-nets-own.result ≡ net_at nets c.args.own = read ∙ get_or_default nets c.args.own _ _ c.requires.own in
-    let width = ap (λ (n : Net). n.width) net in
+    let net = net-read (circuit_of source).nets _ c.args.own _ c.nets.ensures c.index-nets-own.is c.requires.own in
     let same = to_z-of_z w128 c.args.first c.ranges.first in
-    let number = c.constant-number.ensures ∙ ap (λ (z : ℤ). constant c.index-nets-own.result.width z) same ∙ ap (λ (w : ℕ). constant w c.args.first) width in
+    let number = c.constant-number.ensures ∙ (λ i. constant (net i).width (same i)) in
     let name = subst (λ (w : Wire). IfOk c.text_of-name.result (λ text. text ≡ w.name)) c.operand.ensures.wire c.text_of-name.ensures in
     let taken = subst (λ (w : Wire). IfOk c.named.result (λ e. e ≡ Name w.name)) c.operand-else-reset.ensures.wire c.named.ensures in
     subst (λ (reset : Bool). IfOk c.register-else-reset.result (IsDriver source c.args.own (EnReg c.args.frame c.args.enable reset c.args.first c.args.from))) (sym c.if-reset.false)
-    (c.register-else-reset.ensures _ _ _ _ number name c.enabled_taking-taking.ensures taken)
+    (if-alone c.register-else-reset.result _ (c.register-else-reset.ensures _ _ _ _ number name c.enabled_taking-taking.ensures taken))
 
 pub operand-requires-clause-source : goal.operand-requires-clause-source
 operand-requires-clause-source c = c.requires.source

@@ -1,11 +1,11 @@
-use Rattle.std.proofs.Common.{◌≡◌, IfOk, get_or, ap, arith, subst, ◌∙◌}
+use Rattle.std.proofs.Common.{◌≡◌, IfOk, ap, arith, subst, ◌∙◌}
 use Rattle.hw_net.specs.declared.netlist.Net.{Net}
 use Rattle.hw_net.specs.Products.{net_at}
 use Rattle.vl_ast.specs.declared.expressions.Expr.{Expr}
 use Rattle.vl_emit.specs.inner.Ready.{circuit_of, argument_in, input_in}
 use Rattle.vl_emit.specs.inner.Spoken.{operation_at, wire_at}
 use Rattle.vl_emit.proofs.Agree.{same-expression, within-first}
-use Rattle.std.proofs.lemmas.List.{get_or_default}
+use Rattle.vl_emit.proofs.Lists.{net-read}
 use Rattle.vl_emit.proofs.driving.operation.Goals as goal
 
 pub expression-requires-clause-bounds : goal.expression-requires-clause-bounds
@@ -15,8 +15,7 @@ expression-requires-clause-bounds c =
 pub returns : goal.returns
 returns c =
     let nets = (circuit_of c.args.source).nets in
-    let read = subst (λ ns. c.index-nets-own.result ≡ get_or ns c.args.own c.index-nets-own.result) c.nets.ensures c.index-nets-own.is in
-    let net : c.index-nets-own.result ≡ net_at (circuit_of c.args.source).nets c.args.own = read ∙ get_or_default nets c.args.own _ _ c.requires.own in
+    let net = net-read nets _ c.args.own _ c.nets.ensures c.index-nets-own.is c.requires.own in
     let wide = ap (λ (n : Net). operation_at c.args.op n.width c.port-port.result c.argument-first.result c.argument-second.result c.argument-third.result) net in
     let is =
     same-expression (net_at nets c.args.own).width (input_in c.args.source) (wire_at c.port-port.result) (argument_in c.args.source c.args.args.now) (wire_at c.argument-first.result)

@@ -1,30 +1,26 @@
 use Rattle.std.proofs.lemmas.Int.{to_z-of_z}
 use Rattle.std.specs.Int.{w128}
-use Rattle.std.proofs.Common.{ℤ, ◌≡◌, ◌∙◌, ℕ, List, Some, IfOk, get_or, subst, ap}
+use Rattle.std.proofs.Common.{◌≡◌, ◌∙◌, ℕ, Some, IfOk, subst}
 use Rattle.vl_ast.specs.Gated.{gated_condition}
 use Rattle.vl_ast.specs.declared.expressions.Expr.TheVariants.{Name}
-use Rattle.hw_net.specs.declared.netlist.Net.{Net}
-use Rattle.hw_net.specs.Products.{net_at}
 use Rattle.vl_emit.specs.Names.{Wire}
 use Rattle.vl_emit.specs.inner.Emitted.{constant}
 use Rattle.vl_emit.specs.inner.Ready.{circuit_of, slot_in}
-use Rattle.std.proofs.lemmas.List.{get_or_default}
+use Rattle.vl_emit.proofs.Lists.{net-read}
+use Rattle.vl_emit.proofs.Returned.{if-alone}
 use Rattle.vl_emit.proofs.driving.reg_item.Goals as goal
 
 pub returns : goal.returns
 returns c =
     let source = c.args.source in
     let frame = c.args.frame in
-    let nets = (circuit_of source).nets in
-    let read = subst (λ (ns : List Net). c.index-nets-own.result ≡ get_or ns c.args.own c.index-nets-own.result) c.nets.ensures c.index-nets-own.is in
-    let net : c.index-nets-own.result ≡ net_at nets c.args.own = read ∙ get_or_default nets c.args.own _ _ c.requires.own in
-    let width = ap (λ (n : Net). n.width) net in
+    let net = net-read (circuit_of source).nets _ c.args.own _ c.nets.ensures c.index-nets-own.is c.requires.own in
     let same = to_z-of_z w128 c.args.first c.ranges.first in
-    let first = c.constant.ensures ∙ ap (λ (z : ℤ). constant c.index-nets-own.result.width z) same ∙ ap (λ (w : ℕ). constant w c.args.first) width in
+    let first = c.constant.ensures ∙ (λ i. constant (net i).width (same i)) in
     let name = subst (λ (w : Wire). IfOk c.text_of.result (λ text. text ≡ w.name)) c.operand.ensures.wire c.text_of.ensures in
     let test = subst (λ (slot : ℕ). IfOk c.enabled_slot.result (λ e. e ≡ gated_condition (Some (slot_in source frame slot)))) c.from.ensures c.enabled_slot.ensures in
     let taken = subst (λ (w : Wire). IfOk c.named.result (λ e. e ≡ Name w.name)) c.operand-2.ensures.wire c.named.ensures in
-    c.register.ensures _ _ _ _ first name test taken
+    if-alone c.register.result _ (c.register.ensures _ _ _ _ first name test taken)
 
 pub operand-requires-clause-source : goal.operand-requires-clause-source
 operand-requires-clause-source c = c.requires.source

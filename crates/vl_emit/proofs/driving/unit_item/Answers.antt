@@ -5,6 +5,7 @@ use Rattle.vl_emit.specs.Names.{Wire}
 use Rattle.vl_emit.specs.inner.Ready.{wire_in}
 use Rattle.vl_emit.specs.inner.Spelled.{at_width}
 use Rattle.vl_emit.specs.inner.Spoken.{wire_at}
+use Rattle.vl_emit.proofs.Returned.{if-alone}
 use Rattle.vl_emit.proofs.driving.unit_item.Goals as goal
 
 pub returns : goal.returns
@@ -13,4 +14,4 @@ returns c =
     let wide = subst (λ (w : Wire). IfOk c.in_width-value.result (λ e. e ≡ Binary Multiply (at_width w.width (wire_at c.operand-left.result)) (at_width w.width (wire_at c.operand-right.result)))) c.operand-net.ensures.wire c.in_width-value.ensures in
     let first = subst (λ (w : Wire). IfOk c.in_width-value.result (λ e. e ≡ Binary Multiply (at_width (wire_in c.args.source c.args.own).width w) (at_width (wire_in c.args.source c.args.own).width (wire_at c.operand-right.result)))) c.operand-left.ensures.wire wide in
     let both = subst (λ (w : Wire). IfOk c.in_width-value.result (λ e. e ≡ Binary Multiply (at_width (wire_in c.args.source c.args.own).width (wire_in c.args.source c.args.left)) (at_width (wire_in c.args.source c.args.own).width w))) c.operand-right.ensures.wire first in
-    c.assigned.ensures _ _ name both
+    if-alone c.assigned.result _ (c.assigned.ensures _ _ name both)

@@ -16,8 +16,8 @@ returns c =
     let outs : List Port = output_ports c.args.netlist.now in
     let old : List Port = c.args.ports.now in
     let mid : List Port = c.put_inputs.new.ports in
-    let two = put-next old c.put_bit.new.ports c.put_bit-2.new.ports (clk ∷ []) reset c.in_ok-put_bit.ensures c.in_ok-put_bit-2.ensures in
-    let three = put-next old c.put_bit-2.new.ports c.put_bit-3.new.ports (clk ∷ reset ∷ []) enable two c.in_ok-put_bit-3.ensures in
-    let front : mid ≡ old ++ (clk ∷ reset ∷ enable ∷ ins) = put-before old c.put_bit-3.new.ports mid (clk ∷ reset ∷ enable ∷ []) ins three c.in_ok-put_inputs.ensures in
+    let two = put-next old c.put_bit_port.new.ports c.put_bit_port-2.new.ports (clk ∷ []) reset c.in_ok-put_bit_port.ensures c.in_ok-put_bit_port-2.ensures in
+    let three = put-next old c.put_bit_port-2.new.ports c.put_bit_port-3.new.ports (clk ∷ reset ∷ []) enable two c.in_ok-put_bit_port-3.ensures in
+    let front : mid ≡ old ++ (clk ∷ reset ∷ enable ∷ ins) = put-before old c.put_bit_port-3.new.ports mid (clk ∷ reset ∷ enable ∷ []) ins three c.in_ok-put_inputs.ensures in
     on_ok_weaker c.put_outputs.result (λ put. put-before old mid c.put_outputs.new.ports (clk ∷ reset ∷ enable ∷ ins) (shows ∷ outs) front
-    (put-before mid c.put_bit-4.new.ports c.put_outputs.new.ports (shows ∷ []) outs c.in_ok-put_bit-4.ensures put)) c.put_outputs.ensures
+    (put-before mid c.put_bit_port-4.new.ports c.put_outputs.new.ports (shows ∷ []) outs c.in_ok-put_bit_port-4.ensures put)) c.put_outputs.ensures

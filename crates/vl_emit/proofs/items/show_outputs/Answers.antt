@@ -7,6 +7,7 @@ use Rattle.vl_emit.specs.Names.{Wire}
 use Rattle.vl_emit.specs.inner.Emitted.{naming_of, output_item}
 use Rattle.vl_emit.specs.inner.Ready.{circuit_of}
 use Rattle.fx_io.proofs.Places.{put-next}
+use Rattle.vl_emit.proofs.Returned.{if-alone}
 use Rattle.vl_emit.proofs.items.show_outputs.Goals as goal
 
 pub loop-output-preserved : goal.loop-output-preserved
@@ -19,6 +20,6 @@ loop-output-preserved c =
     let below : i < length outs = subst (λ (os : List NetPort). i < length os) c.outputs-output-items.ensures c.loop-output-test.true in
     let value = subst (λ (w : Wire). IfOk c.named-value.result (λ e. e ≡ Name w.name)) c.operand.ensures.wire c.named-value.ensures in
     let name = subst (λ (text : List ℕ). IfOk c.copy-name.result (λ made. made ≡ text)) c.bytes.ensures c.copy-name.ensures in
-    let put = c.in_ok-put.ensures _ (c.assigned.ensures _ _ name value) in
+    let put = c.in_ok-put.ensures _ (if-alone c.assigned.result _ (c.assigned.ensures _ _ name value)) in
     let more : map f (take (i + 1) outs) ≡ map f (take i outs) ++ f x ∷ [] = ap (map f) (take_more outs i x below ∙ ap (λ (y : NetPort). take i outs ++ y ∷ []) (sym is)) ∙ map-append f (take i outs) (x ∷ []) in
     put-next c.args.items.now c.loop-output.items c.put.new.items (map f (take i outs)) (f x) c.loop-output.invariant put ∙ ap (λ (xs : List ModItem). c.args.items.now ++ xs) (sym more)

@@ -1,15 +1,14 @@
-use Rattle.std.proofs.Common.{◌≡◌, ◌∙◌, ℕ, IfOk, ap, subst}
+use Rattle.std.proofs.Common.{◌≡◌, ℕ, IfOk, subst}
 use Rattle.vl_ast.specs.declared.expressions.BinOp.TheVariants as binary
-use Rattle.vl_ast.specs.declared.expressions.Expr.{Expr}
 use Rattle.vl_emit.specs.inner.Operators.{widened}
 use Rattle.vl_emit.specs.inner.Spoken.{both_at}
 use Rattle.vl_emit.proofs.operators.equal.Goals as goal
 
-pub common_width-requires-clause-left : goal.common_width-requires-clause-left
-common_width-requires-clause-left c = c.requires.left
+pub common_width-common-requires-clause-left : goal.common_width-common-requires-clause-left
+common_width-common-requires-clause-left c = c.requires.left
 
-pub common_width-requires-clause-right : goal.common_width-requires-clause-right
-common_width-requires-clause-right c = c.requires.right
+pub common_width-common-requires-clause-right : goal.common_width-common-requires-clause-right
+common_width-common-requires-clause-right c = c.requires.right
 
 pub in_width-requires-clause-left : goal.in_width-requires-clause-left
 in_width-requires-clause-left c = c.requires.left
@@ -18,12 +17,12 @@ pub in_width-requires-clause-right : goal.in_width-requires-clause-right
 in_width-requires-clause-right c = c.requires.right
 
 pub in_width-requires-clause-width : goal.in_width-requires-clause-width
-in_width-requires-clause-width c = c.common_width.ensures.room
+in_width-requires-clause-width c = c.common_width-common.ensures.room
 
 pub widened-requires : goal.widened-requires
 widened-requires c = c.requires.width.0
 
 pub returns : goal.returns
 returns c =
-    let bit = c.in_ok-bit.ensures ∙ ap (λ (n : ℕ). both_at binary.Equal n c.args.left c.args.right) c.common_width.ensures.is in
-    subst (λ (e : Expr). IfOk c.widened.result (λ made. made ≡ widened c.args.width e)) bit c.widened.ensures
+    subst (λ (n : ℕ). IfOk c.widened.result (λ made. made ≡ widened c.args.width (both_at binary.Equal n c.args.left c.args.right))) c.common_width-common.ensures.is
+    (c.widened.ensures _ c.in_width.ensures)

@@ -38,6 +38,6 @@ returns c =
       | else-left w ↦ w.signed-is ∙ sym (ap (λ (b : Bool). b || c.args.right.signed) w.if-left.false)
     ] in
     let width = c.common_width-common.ensures.is in
-    let bit = c.in_ok-bit.ensures _ _ c.compared-one.ensures c.compared-other.ensures
-    ∙ (λ i. Binary binary.Less (compared (sign i) (at_width (width i) one)) (compared (sign i) (at_width (width i) other))) in
-    subst (λ (e : Expr). IfOk c.widened.result (λ made. made ≡ widened c.args.width e)) bit c.widened.ensures
+    subst (λ (e : Expr). IfOk c.widened.result (λ made. made ≡ widened c.args.width e))
+    (λ i. Binary binary.Less (compared (sign i) (at_width (width i) one)) (compared (sign i) (at_width (width i) other)))
+    (c.widened.ensures _ (c.binary.ensures _ _ c.compared-one.ensures c.compared-other.ensures))

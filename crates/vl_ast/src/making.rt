@@ -1,0 +1,261 @@
+//! Expressions, items and ports from their parts, each of which may have wanted memory.
+ghost use Rattle.std.specs.Prelude.{◌≡◌, ◌++◌, ◌∷◌, [], ℕ, List, Option, Some, IfOk, OnOk};
+ghost use Rattle.std.specs.Prelude.{codes, false, if◌then◌else◌};
+ghost use Rattle.vl_ast.specs.declared.expressions.Expr.{Expr};
+ghost use Rattle.vl_ast.specs.declared.expressions.Expr.TheVariants.{Binary, Choose};
+ghost use Rattle.vl_ast.specs.declared.expressions.Sized.{Sized};
+ghost use Rattle.vl_ast.specs.declared.modules.ModItem.TheVariants.{Always, Assign, Reg, Wire};
+ghost use Rattle.vl_ast.specs.Header.{DataPort, attribute_of, input_port, output_port};
+
+use crate::expressions::{BinOp, Expr, Sized};
+use crate::modules::{Attr, Attrs, ModItem, Port, Ports};
+use fx_io::{Boxed, OutOfMemory, Text};
+use std::alloc::Global;
+
+/// An expression in its box. The only error is want of memory.
+pub fn boxed(alloc: Global, made: Result<Expr, OutOfMemory>) -> Result<Boxed<Expr>, OutOfMemory>
+    ensures { (is : Expr) → IfOk made (λ e. e ≡ is) → IfOk result (λ e. e ≡ is) }
+{
+    Boxed::new(alloc, made?)
+}
+
+/// `left op right`. The only error is want of memory.
+pub fn binary(
+    op: BinOp,
+    left: Result<Boxed<Expr>, OutOfMemory>,
+    right: Result<Boxed<Expr>, OutOfMemory>,
+) -> Result<Expr, OutOfMemory>
+    ensures { (one other : Expr) → IfOk left (λ e. e ≡ one) → IfOk right (λ e. e ≡ other)
+        → IfOk result (λ e. e ≡ Binary op one other) }
+{
+    Ok(Expr::Binary(op, left?, right?))
+}
+
+/// `test ? chosen : other`. The only error is want of memory.
+pub fn choose(
+    test: Result<Boxed<Expr>, OutOfMemory>,
+    chosen: Result<Boxed<Expr>, OutOfMemory>,
+    other: Result<Boxed<Expr>, OutOfMemory>,
+) -> Result<Expr, OutOfMemory>
+    ensures { (first second third : Expr) → IfOk test (λ e. e ≡ first)
+        → IfOk chosen (λ e. e ≡ second) → IfOk other (λ e. e ≡ third)
+        → IfOk result (λ e. e ≡ Choose first second third) }
+{
+    Ok(Expr::Choose(test?, chosen?, other?))
+}
+
+/// The declaration of a wire. The only error is want of memory.
+pub fn wire(
+    signed: bool,
+    width: u32,
+    name: Result<Text, OutOfMemory>,
+) -> Result<ModItem, OutOfMemory>
+    ensures { (text : List ℕ) → IfOk name (λ made. made ≡ text)
+        → IfOk result (λ item. item ≡ Wire signed width text) }
+{
+    Ok(ModItem::Wire {
+        signed,
+        width,
+        name: name?,
+    })
+}
+
+/// The declaration of a register. The only error is want of memory.
+pub fn reg(
+    signed: bool,
+    width: u32,
+    name: Result<Text, OutOfMemory>,
+) -> Result<ModItem, OutOfMemory>
+    ensures { (text : List ℕ) → IfOk name (λ made. made ≡ text)
+        → IfOk result (λ item. item ≡ Reg signed width text) }
+{
+    Ok(ModItem::Reg {
+        signed,
+        width,
+        name: name?,
+    })
+}
+
+/// What assigns a value to a name. The only error is want of memory.
+pub fn assigned(
+    name: Result<Text, OutOfMemory>,
+    value: Result<Expr, OutOfMemory>,
+) -> Result<ModItem, OutOfMemory>
+    ensures { (text : List ℕ) (shown : Expr) → IfOk name (λ made. made ≡ text)
+        → IfOk value (λ made. made ≡ shown) → IfOk result (λ item. item ≡ Assign text shown) }
+{
+    let name = match name {
+        Ok(name) => name,
+        Err(wanting) => {
+            drop(value);
+            return Err(wanting);
+        }
+    };
+    match value {
+        Ok(value) => Ok(ModItem::Assign { name, value }),
+        Err(wanting) => {
+            drop(name);
+            Err(wanting)
+        }
+    }
+}
+
+/// What a register takes, and on which condition, if there is one. The only error is want of memory.
+pub fn clocked(
+    name: Result<Text, OutOfMemory>,
+    first: Sized,
+    condition: Result<Option<Expr>, OutOfMemory>,
+    value: Result<Expr, OutOfMemory>,
+) -> Result<ModItem, OutOfMemory>
+    ensures { (text : List ℕ) (number : Sized) (test : Option Expr) (taken : Expr)
+        → first ≡ number → IfOk name (λ made. made ≡ text)
+        → IfOk condition (λ made. made ≡ test) → IfOk value (λ made. made ≡ taken)
+        → IfOk result (λ item. item ≡ Always text number test taken) }
+{
+    let name = match name {
+        Ok(name) => name,
+        Err(wanting) => {
+            drop(condition);
+            drop(value);
+            return Err(wanting);
+        }
+    };
+    let condition = match condition {
+        Ok(condition) => condition,
+        Err(wanting) => {
+            drop(name);
+            drop(value);
+            return Err(wanting);
+        }
+    };
+    match value {
+        Ok(value) => Ok(ModItem::Always {
+            name,
+            first,
+            condition,
+            value,
+        }),
+        Err(wanting) => {
+            drop(name);
+            drop(condition);
+            Err(wanting)
+        }
+    }
+}
+
+fn stated(condition: Result<Expr, OutOfMemory>) -> Result<Option<Expr>, OutOfMemory>
+    ensures { (test : Expr) → IfOk condition (λ made. made ≡ test)
+        → IfOk result (λ made. made ≡ Some test) }
+{
+    Ok(Some(condition?))
+}
+
+/// What a register takes on a condition. The only error is want of memory.
+pub fn register(
+    name: Result<Text, OutOfMemory>,
+    first: Sized,
+    condition: Result<Expr, OutOfMemory>,
+    value: Result<Expr, OutOfMemory>,
+) -> Result<ModItem, OutOfMemory>
+    ensures { (text : List ℕ) (number : Sized) (test taken : Expr) → first ≡ number
+        → IfOk name (λ made. made ≡ text) → IfOk condition (λ made. made ≡ test)
+        → IfOk value (λ made. made ≡ taken)
+        → IfOk result (λ item. item ≡ Always text number (Some test) taken) }
+{
+    clocked(name, first, stated(condition), value)
+}
+
+/// Puts an attribute with its number behind the others. The only error is want of memory.
+pub fn put_attribute(
+    alloc: Global,
+    attrs: &mut Attrs,
+    name: &[u8],
+    value: u64,
+) -> Result<(), OutOfMemory>
+    ensures { OnOk result (attrs.new ≡ attrs.old ++ attribute_of name.now value ∷ []) }
+{
+    let name = Text::copy(alloc, name)?;
+    attrs.push(Attr { name, value })
+}
+
+/// Puts an unsigned port of one bit without attributes behind the others. The only error is want of
+/// memory.
+pub fn put_bit_port(
+    alloc: Global,
+    ports: &mut Ports,
+    name: &[u8],
+    input: bool,
+) -> Result<(), OutOfMemory>
+    ensures { OnOk result (ports.new ≡ ports.old ++ record {
+      attrs = [];
+      input = input;
+      signed = false;
+      width = 1;
+      name = name.now;
+    } ∷ []) }
+{
+    let name = Text::copy(alloc, name)?;
+    ports.push(Port {
+        attrs: Attrs::new(alloc),
+        input,
+        signed: false,
+        width: 1,
+        name,
+    })
+}
+
+/// Puts the period of a port, and of an output its latency.
+fn put_timing(
+    alloc: Global,
+    attrs: &mut Attrs,
+    input: bool,
+    period: u64,
+    latency: u64,
+) -> Result<(), OutOfMemory>
+    ensures { OnOk result (attrs.new ≡ attrs.old ++ attribute_of (codes "fx_period") period
+        ∷ (if input then [] else attribute_of (codes "fx_latency") latency ∷ [])) }
+{
+    put_attribute(alloc, attrs, b"fx_period", period)?;
+    if input {
+        return Ok(());
+    }
+    put_attribute(alloc, attrs, b"fx_latency", latency)
+}
+
+/// Puts a port that carries numbers behind the others. Its word is its width and whether it has a
+/// sign; its period is that of `fx_period`, and its latency that of `fx_latency`, which an input lacks.
+/// The only error is want of memory.
+pub fn put_data_port(
+    alloc: Global,
+    ports: &mut Ports,
+    name: &[u8],
+    input: bool,
+    word: (u32, bool),
+    period: u64,
+    latency: u64,
+) -> Result<(), OutOfMemory>
+    ensures { let port : DataPort = record {
+      name = name.now;
+      width = word.0;
+      signed = word.1;
+      period = period;
+      latency = latency;
+    } in OnOk result (ports.new
+        ≡ ports.old ++ (if input then input_port port else output_port port) ∷ []) }
+{
+    let name = Text::copy(alloc, name)?;
+    let mut port = Port {
+        attrs: Attrs::new(alloc),
+        input,
+        signed: word.1,
+        width: word.0,
+        name,
+    };
+    match put_timing(alloc, &mut port.attrs, input, period, latency) {
+        Ok(()) => ports.push(port),
+        Err(wanting) => {
+            drop(port);
+            Err(wanting)
+        }
+    }
+}
