@@ -1,24 +1,26 @@
 -- For each net the place of its label.
-use Rattle.std.proofs.Common.{◌≡◌, ℕ, zero, suc, ◌+◌, ◌<◌, ◌==◌, Bool, true, false, if◌then◌else◌, List, [], ◌∷◌, ◌++◌, length, get_or, set, drop, Option, None, Some, refl, ap, sym, ◌∙◌, arith, add-one}
-use Rattle.std.proofs.lemmas.List.{length-set, get_or-set_same, get_or-set_other}
+use Rattle.std.proofs.Common.{◌≡◌, ℕ, zero, suc, ◌+◌, ◌<◌, ◌==◌, Bool, true, false, if◌then◌else◌, List, ◌∷◌, length, get_or, replicate, set, drop, Option, None, Some, refl, ap, sym, ◌∙◌, arith, add-one}
+use Rattle.std.proofs.lemmas.List.{drop_all, length-replicate, length-set, get_or-set_same, get_or-set_other}
 use Rattle.std.proofs.Math.Seq.{drop-cons}
 use Rattle.std.proofs.lemmas.Bool.{eqb-true, eqb-false}
 use Rattle.hw_net.specs.declared.netlist.NetLabel.{NetLabel}
 use Rattle.vl_emit.specs.Names.{name_by}
 use Rattle.vl_emit.specs.inner.Ready.{label_at, label_text, IsIndexFrom}
 
-pub none-pushed : (places : List (Option ℕ)) → ((k : ℕ) → get_or places k None ≡ None) → (k : ℕ) → get_or (places ++ None ∷ []) k None ≡ None
-none-pushed [] h zero = refl
-none-pushed [] h (suc k) = refl
-none-pushed (p ∷ places) h zero = h zero
-none-pushed (p ∷ places) h (suc k) = none-pushed places (λ j. h (suc j)) k
+same-there : {X : Type 0} (x : X) (count k : ℕ) → get_or (replicate count x) k x ≡ x
+same-there x zero zero = refl
+same-there x zero (suc k) = refl
+same-there x (suc count) zero = refl
+same-there x (suc count) (suc k) = same-there x count k
 
-pub index-start : (labels : List NetLabel) (count : ℕ) (places : List (Option ℕ)) → length places ≡ count → ((k : ℕ) → get_or places k None ≡ None) → IsIndexFrom labels [] count places
-index-start labels count places e none = record {
-  size = e;
+pub index-start : (labels : List NetLabel) (count : ℕ) (places : List (Option ℕ)) → places ≡ replicate count None → IsIndexFrom labels (drop (length labels) labels) count places
+index-start labels count places is = record {
+  size = ap (λ (os : List (Option ℕ)). length os) is ∙ length-replicate count None;
   there = λ k i f. (let g : None ≡ Some i = sym (none k) ∙ f in absurd (cc g));
-  names = λ k h. ap (λ (o : Option ℕ). label_text labels o k) (none k);
-}
+  names = λ k h. ap (λ (o : Option ℕ). label_text labels o k) (none k) ∙ ap (λ (others : List NetLabel). name_by others k) (sym (drop_all (length labels) labels (omega arith)));
+} where
+  none : (k : ℕ) → get_or places k None ≡ None
+  none k = ap (λ (os : List (Option ℕ)). get_or os k None) is ∙ same-there None count k
 
 module _ (labels : List NetLabel) (n count : ℕ) (places : List (Option ℕ)) (h : n < length labels) (within : (label_at labels n).net < count)
     (is : IsIndexFrom labels (drop (n + 1) labels) count places) where

@@ -1,5 +1,5 @@
 //! The nets and the ports of a netlist as operands, each by its name.
-ghost use Rattle.std.specs.Prelude.{◌≡◌, ◌<◌, ℕ, length, Contains, IfOk, None, slice_index_or};
+ghost use Rattle.std.specs.Prelude.{◌≡◌, ◌<◌, Contains, IfOk};
 ghost use Rattle.hw_net.specs.declared.netlist.NetLabel.{NetLabel};
 ghost use Rattle.vl_emit.specs.inner.Spoken.{wire_at, CanBeWritten};
 ghost use Rattle.vl_emit.specs.inner.Ready.{IsIndex, IsSource, net_count, input_count, wire_in};
@@ -26,22 +26,11 @@ pub fn label_places(
     requires { (label : NetLabel) → Contains labels.now label → label.net < count }
     ensures { IfOk result (λ places. IsIndex labels.now count places.items) }
 {
-    let mut places = no_places(alloc, count)?;
+    let mut places: Vec<Option<usize>> = vec![in alloc; None; count]?;
     let mut left = labels.len();
     while left > 0 {
         left -= 1;
         places[labels[left].net as usize] = Some(left);
-    }
-    Ok(places)
-}
-
-fn no_places(alloc: Global, count: usize) -> Result<Vec<Option<usize>>, OutOfMemory>
-    ensures size { IfOk result (λ places. length places.items ≡ count) }
-    ensures none { IfOk result (λ places. (k : ℕ) → slice_index_or places.items k None ≡ None) }
-{
-    let mut places = Vec::new(alloc);
-    for _ in 0..count {
-        places.push(None)?;
     }
     Ok(places)
 }

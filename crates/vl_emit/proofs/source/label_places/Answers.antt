@@ -1,10 +1,13 @@
-use Rattle.std.proofs.Common.{◌≡◌, ℕ, ◌+◌, ◌-◌, ◌<◌, length, get_or, drop, set, Some, arith, subst}
+use Rattle.std.proofs.Common.{◌≡◌, ℕ, ◌+◌, ◌-◌, ◌<◌, length, get_or, drop, set, Some, arith, rules, subst}
 use Rattle.hw_net.specs.declared.netlist.NetLabel.{NetLabel}
 use Rattle.vl_emit.specs.inner.Ready.{label_at, IsIndexFrom}
-use Rattle.vl_emit.proofs.Labels.{index-step}
+use Rattle.vl_emit.proofs.Labels.{index-start, index-step}
 use Rattle.std.proofs.lemmas.List.{get_or_default}
 use Rattle.vl_emit.proofs.Lists.{at-contains}
 use Rattle.vl_emit.proofs.source.label_places.Goals as goal
+
+pub loop-left-init : goal.loop-left-init
+loop-left-init c = (omega arith, index-start c.args.labels.now c.args.count c.in_ok-places.places.items (c.in_ok-places.ensures.items_if_clones_equal (search rules)))
 
 pub index_mut-requires : goal.index_mut-requires
 index_mut-requires c =
