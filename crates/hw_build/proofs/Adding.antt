@@ -1,5 +1,5 @@
 -- Netlists to which parts are put.
-use Rattle.std.proofs.Common.{◌≡◌, ℕ, ◌+◌, ◌<◌, ◌≤◌, ◌⊎◌, inl, inr, Bool, if◌then◌else◌, List, [], ◌∷◌, length, Contains, None, Some, ap, sym, ◌∙◌, subst, arith, refl}
+use Rattle.std.proofs.Common.{◌≡◌, ℕ, ◌+◌, ◌<◌, ◌≤◌, ◌⊎◌, inl, inr, Bool, if◌then◌else◌, List, length, Contains, None, Some, ap, ◌∙◌, arith, refl}
 use Rattle.std.specs.Prelude.{slice_get, slice_index_or}
 use Rattle.std.proofs.lemmas.Bool.{cases_lt}
 use Rattle.std.proofs.lemmas.List.Elements.{Contains-get_or}
@@ -10,10 +10,11 @@ use Rattle.hw_net.specs.declared.netlist.NetOp.{NetOp}
 use Rattle.hw_net.specs.declared.netlist.NetKind.{NetKind}
 use Rattle.hw_net.specs.declared.netlist.NetKind.TheVariants.{Comb}
 use Rattle.hw_net.specs.Circuit.{Circuit}
-use Rattle.hw_net.specs.Frames.{counted_frame, is_register, register_count}
+use Rattle.hw_net.specs.Frames.{counted_frame, is_register}
 use Rattle.hw_net.specs.Netlist.{IsKind, HasWord}
 use Rattle.hw_net.specs.Growing.{Extends, IsAppended, with_net}
-use Rattle.hw_net.proofs.Growing.{last-of, split-last, extends-one, one-longer, stood-there, appends-self, appends-one, appends-trans, differ-other, count-append}
+use Rattle.hw_net.proofs.Growing.{last-of, extends-one, one-longer, stood-there, appends-self, appends-trans}
+use Rattle.hw_share.proofs.Put.{put-grows}
 use Rattle.hw_build.specs.inner.Grown.{Grows}
 
 -- what a call names that follows another, or what that put in
@@ -61,15 +62,9 @@ module _ (a b : Circuit) (one : Net) (grown : b ≡ with_net a one) where
   put_word = record { net = one; is = put_there; wide = refl; sign = refl }
 
   pub put_grows : (named : List ℕ) (part : NetKind → Type 0) (count : ℕ) → IsAppended a b named (length a.nets) one → counted_frame one.kind ≡ None → part one.kind → (if is_register one.kind then 1 else 0) ≡ count → Grows a b named part count
-  put_grows named part count is counts own counted = record {
-    appends = appends-one a b one named grown is (differ-other a.nets one counts);
-    parts = λ k net past there.
-        elim (split-last a.nets one net k (ap (λ (x : Circuit). slice_get x.nets k) (sym grown) ∙ there)) [
-          | inl front ↦ absurd (omega (arith, front.0, past))
-          | inr last ↦ subst part (ap (λ (x : Net). x.kind) last.1) own
-        ];
-    registers = ap (λ (x : Circuit). register_count x.nets) grown ∙ count-append a.nets (one ∷ []) ∙ omega (arith, counted);
-  }
+  put_grows named part count is counts own counted =
+      let grows = put-grows a b one grown named part count is counts own counted in
+      record { appends = grows.appends; parts = grows.parts; registers = grows.registers }
 
 -- an operation
 pub comb_grows : (a b : Circuit) (op : NetOp) (args : List ℕ) (signed : Bool) (width : ℕ) (part : NetKind → Type 0) → b ≡ with_net a (record { signed = signed; width = width; kind = Comb op args }) → IsWord width signed

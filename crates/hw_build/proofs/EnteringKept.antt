@@ -1,9 +1,10 @@
 -- Registers in series as the state of an element.
-use Rattle.std.proofs.Common.{◌≡◌, ℕ, zero, suc, ◌+◌, ◌-◌, ◌*◌, ◌<◌, ◌≤◌, inl, inr, Bool, true, if◌then◌else◌, ℤ, Option, None, List, [], ◌∷◌, length, Contains, Some, ap, sym, ◌∙◌, subst, refl, arith}
+use Rattle.std.proofs.Common.{◌≡◌, ℕ, zero, suc, ◌+◌, ◌-◌, ◌*◌, ◌<◌, ◌≤◌, inl, inr, Bool, true, if◌then◌else◌, ℤ, Option, None, List, [], ◌∷◌, length, All, Contains, Some, ap, sym, ◌∙◌, subst, refl, arith}
 use Rattle.std.specs.Prelude.{slice_get, slice_index_or, IsSome}
 use Rattle.std.proofs.lemmas.Bool.{false≢true}
-use Rattle.std.proofs.lemmas.List.Elements.{Contains-get_or, Contains-push_cases}
+use Rattle.std.proofs.lemmas.List.Elements.{All-cons, All-nil, Contains-get_or, Contains-push_cases}
 use Rattle.std.proofs.lemmas.Option.{same_Some, slice_get_within, slice_get-get_or}
+use Rattle.fx_io.proofs.Tests.{some_there}
 use Rattle.fx_type.specs.declared.decimal.Decimal.{Decimal}
 use Rattle.fx_type.specs.declared.kind.FxType.{FxType}
 use Rattle.fx_type.specs.FxType.{is_signed, width_of}
@@ -29,9 +30,14 @@ use Rattle.hw_shows.specs.Series.{span_at, IsSeries, IsEnabledSeries}
 use Rattle.hw_build.specs.Places.{Places}
 use Rattle.hw_build.specs.declared.entries.Entry.{Entry}
 use Rattle.hw_build.specs.declared.parts.Word.{Word}
+use Rattle.hw_build.specs.declared.site.Site.{Site}
+use Rattle.hw_build.specs.declared.states.Enabled.{Enabled}
+use Rattle.hw_build.specs.declared.states.Series.{Series}
+use Rattle.hw_build.specs.inner.Designed.{timing_for}
 use Rattle.hw_build.specs.inner.Entries.{AreOffered, HasFirst, IsFrameOf, IsHeldAt, IsMadeBy, PutsEntry, enable_types, enables_of, kept_each}
 use Rattle.hw_build.specs.inner.Growth.{InLater}
-use Rattle.hw_build.specs.inner.Registering.{taken_by, IsOfFrame, AreSeries}
+use Rattle.hw_build.specs.inner.Registering.{enables_by, taken_by, IsOfFrame, AreSeries}
+use Rattle.hw_build.specs.inner.Sites.{HasEnabledOperands, IsKept, Puts, TakesAs}
 use Rattle.hw_build.proofs.Adding.{grows_wider}
 use Rattle.hw_build.proofs.Entering.{IsQuiet, grows_naming, quiet_entry}
 use Rattle.hw_build.proofs.Making.{made_kind, delay_alone, delay_enabled}
@@ -201,3 +207,22 @@ module _ (diagram : Diagram) (timing : Timing) (before after : Circuit) (block :
         let shows = series_shows diagram timing before after block frame word (From ∷ []) From begin delay own closed hubs small cycles (places.state block element) numbers period is_period slot value last are in
         subst (λ (v : ℤ). InLater closed hubs after (λ n rows. IsSeries n (span_at timing period block) delay v (rows (places.offered block 1 element)) (λ k. rows (places.state block element k)))) (sym (first_is places first))
         (subst (λ (f : ℕ). InLater closed hubs after (λ n rows. IsSeries n (span_at timing period block) delay value (rows f) (λ k. rows (places.state block element k)))) offer shows))))
+
+-- with the registers that were put in for it
+module _ (site : Site) (count : ℕ) (list : List Decimal) (reset : Bool) (before after : Circuit) (series : Series) (is : site.one.now.kind ≡ Delay count list reset) (some : 1 ≤ count) (args : HasEnabledOperands before site) where
+  pub delay_entry : (enabled : Option Enabled) → TakesAs site reset enabled → IsKept site list count enabled before after series → Puts site before after (record { net = series.last; state = series.first; multiply = None })
+  delay_entry None takes kept =
+      delay_still_entry site.design.checked.now.diagram (timing_for site.design) before after site.place.block site.one.now site.place.port site.place.element site.operands.now (record { net = series.last; state = series.first; multiply = None }) count series.first list reset kept.begun.first kept.initial.kind kept.frame kept.begun.word
+      is some kept.initial.kind_is kept.initial.word_is kept.own kept.initial.one kept.put.last_is refl refl (kept.frame.period * site.design.plan.now.cycles - 1) refl takes.0 takes.1 args kept.put.are
+  delay_entry (Some by) takes kept =
+      let control = some_there site.one.now.enable takes.0 in
+      delay_enabled_entry site.design.checked.now.diagram (timing_for site.design) before after site.place.block site.one.now site.place.port site.place.element site.operands.now (record { net = series.last; state = series.first; multiply = None }) count series.first list reset kept.begun.first kept.initial.kind kept.frame kept.begun.word
+      is some kept.initial.kind_is kept.initial.word_is kept.own kept.initial.one kept.put.last_is refl refl control.0 control.1 args
+      (subst (λ (by : Enabled). AreSeries (λ last. EnReg kept.frame by.enable by.reset kept.begun.first last) before after (by.enable ∷ slice_index_or site.operands.now 0 0 ∷ []) kept.frame kept.begun.word (slice_index_or site.operands.now 0 0) series.first count) takes.1 kept.put.are)
+
+-- what enables them is there
+pub delay_enables : (site : Site) (reset : Bool) (net : Circuit) (enabled : Option Enabled) → TakesAs site reset enabled → HasEnabledOperands net site → All (λ read. read < length net.nets) (enables_by enabled)
+delay_enables site reset net None takes args = All-nil (λ read. read < length net.nets)
+delay_enables site reset net (Some by) takes args =
+    let second = second_operand site.design.checked.now.diagram net ((attributes_of site.design.checked.now.diagram).type_at site.place.block site.place.port) site.operands.now site.one.now.enable takes.0 args in
+    All-cons (λ read. read < length net.nets) by.enable [] (subst (λ (by : Enabled). by.enable < length net.nets) (sym takes.1) second.1) (All-nil (λ read. read < length net.nets))

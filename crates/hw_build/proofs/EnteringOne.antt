@@ -3,24 +3,20 @@ use Rattle.std.proofs.Common.{◌≡◌, ℕ, ◌<◌, ◌≤◌, inl, inr, true
 use Rattle.std.proofs.lemmas.Bool.{false≢true, cases_Bool}
 use Rattle.std.proofs.lemmas.Option.{none-some, slice_get_within}
 use Rattle.fx_type.specs.declared.kind.FxType.{FxType}
-use Rattle.fx_type.specs.Laws.{StoredIsOne}
 use Rattle.dg_model.specs.declared.diagram.Diagram.{Diagram}
 use Rattle.dg_model.specs.declared.diagram.Block.{Block}
 use Rattle.dg_model.specs.declared.kind.Kind.{Kind}
 use Rattle.dg_model.specs.declared.kind.Kind.TheVariants.{Inport, Outport, Constant, Ground, Sum, Gain, Product, Switch, Relational, Logic, Convert, Delay, Mux, Demux, RateTransition, Pass, EnableTest, EnOut, Terminator}
 use Rattle.dg_model.specs.Attributes.{attributes_of}
 use Rattle.dg_model.specs.Instant.{reads_now}
-use Rattle.dg_model.specs.Laws.{InputsAreListed, WidthsAreOfEdges}
 use Rattle.dg_model.specs.Library.{row_of, HasPorts}
 use Rattle.dg_model.specs.Solves.{IsShown, shown_ports, shown_width}
 use Rattle.dg_model.specs.Wires.{period_into}
 use Rattle.dg_tables.specs.Fit.{HasLists}
-use Rattle.dg_tables.specs.Laws.{IsOrdered, SignalsFit, TypesAreValid}
 use Rattle.hw_latency.specs.Shared.{is_shared}
 use Rattle.hw_net.specs.Circuit.{Circuit}
 use Rattle.hw_lower.specs.Lowered.{AreArgs}
 use Rattle.hw_sched.proofs.Periods.{readable_at}
-use Rattle.hw_sched.specs.Laws.{ControlsAreEdges, LinesAreEdges}
 use Rattle.hw_build.specs.Places.{Places}
 use Rattle.hw_build.specs.declared.blocks.Setting.{Setting}
 use Rattle.hw_build.specs.declared.entries.Entry.{Entry}
@@ -29,7 +25,7 @@ use Rattle.hw_build.specs.inner.ElementsPut.{ArePlacedInOrder}
 use Rattle.hw_build.specs.inner.Entries.{HasFirst, PutsEntry, keeps_entry, operand_types}
 use Rattle.hw_build.specs.inner.Facts.{LateAreWide}
 use Rattle.hw_build.specs.inner.HubPlaces.{hubs_in_all, is_input_role}
-use Rattle.hw_build.specs.inner.Looping.{place_in, Fits, IsBegun, IsEntered, IsGoingBy, IsSet, Stands}
+use Rattle.hw_build.specs.inner.Looping.{place_in, Fits, IsBegun, IsEntered, IsGoingBy, IsKnown, Stands}
 use Rattle.hw_build.specs.inner.Offers.{Offer}
 use Rattle.hw_build.specs.inner.Operands.{first_at}
 use Rattle.hw_build.specs.inner.ResultNets.{product_at, product_net}
@@ -45,18 +41,6 @@ use Rattle.hw_build.proofs.Ordering.{in_order}
 use Rattle.hw_build.proofs.Resulting.{untold}
 use Rattle.hw_build.proofs.Storing.{first_stores}
 use Rattle.hw_build.proofs.Widths.{late_are_wide}
-
--- what is known of the diagram
-pub record IsKnown (setting : Setting) : Type 0 where
-  pub listed : InputsAreListed
-  pub fit : SignalsFit
-  pub valid : TypesAreValid
-  pub widths : WidthsAreOfEdges
-  pub storing : StoredIsOne
-  pub lines : LinesAreEdges
-  pub controls : ControlsAreEdges
-  pub ordered : IsOrdered setting.design.checked.now.diagram setting.design.checked.now.order
-  pub set : IsSet setting
 
 -- a block that multiplies has one port, and shows there as many elements as it has
 multiplied_below : (diagram : Diagram) (block : ℕ) (inputs outputs port element : ℕ) (kind : Kind) → (row_of kind).hardware.multiplies ≡ true → HasPorts kind inputs outputs → 1 ≤ port → port ≤ shown_ports kind outputs → element < shown_width diagram (attributes_of diagram) kind block port

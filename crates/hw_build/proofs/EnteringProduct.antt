@@ -28,13 +28,13 @@ use Rattle.hw_build.specs.inner.Designed.{timing_for, times_for}
 use Rattle.hw_build.specs.inner.Entries.{HasProductAs, PutsShared}
 use Rattle.hw_build.specs.inner.HubPlaces.{hubs_in_all}
 use Rattle.hw_build.specs.inner.Levels.{level_behind}
-use Rattle.hw_build.specs.inner.Looping.{Fits, IsBegun, IsEntered, Stands}
+use Rattle.hw_build.specs.inner.Looping.{Fits, IsBegun, IsEntered, IsKnown, Stands}
 use Rattle.hw_build.specs.inner.ResultNets.{product_at, number_or_zero, HasProduct}
 use Rattle.hw_build.specs.inner.Tally.{products_by}
 use Rattle.hw_build.specs.inner.UnderWay.{own_level}
 use Rattle.hw_build.proofs.Entered.{own_next, part_frame, part_units}
 use Rattle.hw_build.proofs.EnteringLow.{only_one}
-use Rattle.hw_build.proofs.EnteringOne.{rank, fit_now, going_now, places_now, product_below, shared_is, IsKnown}
+use Rattle.hw_build.proofs.EnteringOne.{rank, fit_now, going_now, places_now, product_below, shared_is}
 use Rattle.hw_build.proofs.Factoring.{shared_multiplies}
 use Rattle.hw_build.proofs.Going.{going_by_call}
 use Rattle.hw_build.proofs.Levels.{result_level}

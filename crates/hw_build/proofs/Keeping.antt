@@ -1,5 +1,5 @@
 -- Registers one behind another, as they are put in.
-use Rattle.std.proofs.Common.{◌≡◌, ℕ, zero, suc, ◌+◌, ◌<◌, ◌≤◌, inl, inr, Bool, true, false, ℤ, List, [], ◌∷◌, ◌++◌, length, All, Contains, Option, None, Some, IsSome, ap, sym, ◌∙◌, subst, arith, refl}
+use Rattle.std.proofs.Common.{◌≡◌, ℕ, zero, suc, ◌+◌, ◌<◌, ◌≤◌, inl, inr, Bool, true, ℤ, List, [], ◌∷◌, ◌++◌, length, All, Contains, Option, None, Some, IsSome, sym, ◌∙◌, subst, arith, refl}
 use Rattle.std.specs.Prelude.{slice_get, slice_index_or}
 use Rattle.std.proofs.lemmas.Bool.{cases_lt}
 use Rattle.std.proofs.lemmas.List.Elements.{All-contains, Contains-append_left, Contains-get_or, Contains-push, Contains-push_cases}
@@ -8,45 +8,24 @@ use Rattle.fx_num.specs.Word.{IsWord, InWord}
 use Rattle.hw_net.specs.declared.netlist.Frame.{Frame}
 use Rattle.hw_net.specs.declared.netlist.Net.{Net}
 use Rattle.hw_net.specs.declared.netlist.NetKind.{NetKind}
-use Rattle.hw_net.specs.declared.netlist.NetKind.TheVariants.{Reg, EnReg, Counter}
 use Rattle.hw_net.specs.Circuit.{Circuit}
-use Rattle.hw_net.specs.Frames.{frame_of, counted_frame, counter_of, is_register, register_count}
+use Rattle.hw_net.specs.Frames.{frame_of, counted_frame, counter_of, is_register}
 use Rattle.hw_net.specs.Netlist.{IsKind, HasWord, reads, reads_now}
-use Rattle.hw_net.specs.Growing.{IsCounted, AddsCounter, with_net}
-use Rattle.hw_net.proofs.Growing.{split-last, longer, still-there, word-stays, appends-counter, counter-stays, count-append}
+use Rattle.hw_net.specs.Growing.{IsCounted, with_net}
+use Rattle.hw_net.proofs.Growing.{longer, still-there, word-stays, counter-stays}
+use Rattle.hw_share.proofs.Counters.{counter-grows}
 use Rattle.hw_build.specs.declared.parts.Word.{Word}
+use Rattle.hw_build.specs.declared.states.Enabled.{Enabled}
 use Rattle.hw_build.specs.inner.Grown.{Grows}
-use Rattle.hw_build.specs.inner.Registering.{taken_by, IsOfFrame, AreSeries}
+use Rattle.hw_build.specs.inner.Registering.{enables_by, register_of, taken_by, IsOfFrame, AreSeries}
 use Rattle.hw_build.proofs.Adding.{IsNamedIn, grows_then, put_extends, put_there, put_size, put_word, put_grows}
 
 -- ---- the Counter
 
 counter_grows : (a b : Circuit) (named : List ℕ) (frame : Frame) → 0 < frame.period → IsCounted a b frame → Grows a b named (IsOfFrame frame) 0
-counter_grows a b named frame some counted = record {
-  appends = appends-counter a b named frame some counted;
-  parts = λ k net past there. part (counter_of a.nets frame) refl k net past there;
-  registers = count (counter_of a.nets frame) refl;
-}
-  where
-    part : (found : Option ℕ) → counter_of a.nets frame ≡ found → (k : ℕ) (net : Net) → length a.nets ≤ k → slice_get b.nets k ≡ Some net → IsOfFrame frame net.kind
-    part (Some number) e k net past there =
-        let same : b ≡ a = counted.stays (rw e refl) in
-        absurd (omega (arith, past, slice_get_within a.nets k net (ap (λ (x : Circuit). slice_get x.nets k) (sym same) ∙ there)))
-    part None e k net past there =
-        let added : AddsCounter a b frame = counted.grows e in
-        elim (split-last a.nets added.net net k (ap (λ (x : Circuit). slice_get x.nets k) (sym added.grown) ∙ there)) [
-          | inl front ↦ absurd (omega (arith, front.0, past))
-          | inr last ↦
-              let kind : Counter frame ≡ net.kind = sym added.counter.kind ∙ ap (λ (x : Net). x.kind) last.1 in
-              subst (IsOfFrame frame) kind refl
-        ]
-
-    count : (found : Option ℕ) → counter_of a.nets frame ≡ found → register_count b.nets ≡ register_count a.nets + 0
-    count (Some number) e = ap (λ (x : Circuit). register_count x.nets) (counted.stays (rw e refl)) ∙ omega arith
-    count None e =
-        let added : AddsCounter a b frame = counted.grows e in
-        let none : is_register added.net.kind ≡ false = ap is_register added.counter.kind in
-        ap (λ (x : Circuit). register_count x.nets) added.grown ∙ count-append a.nets (added.net ∷ []) ∙ rw none (omega arith)
+counter_grows a b named frame some counted =
+    let grows = counter-grows a b frame some counted named (IsOfFrame frame) refl in
+    record { appends = grows.appends; parts = grows.parts; registers = grows.registers }
 
 -- ---- what is put in of one form
 
@@ -60,8 +39,8 @@ pub record IsForm (make : ℕ → NetKind) (frame : Frame) (others : List ℕ) (
   pub alone : (x : ℕ) → reads_now (make x) ≡ []
   pub fits : (c : Circuit) (x : ℕ) → HasWord c.nets x width signed → IsKind c.nets c.cycles (length c.inputs) width signed (make x)
 
-pub register_form : (frame : Frame) (slot : ℕ) (first : ℤ) (width : ℕ) (signed : Bool) → 0 < frame.period → InWord width signed first → IsForm (λ last. Reg frame slot first last) frame [] width signed
-register_form frame slot first width signed some has = record {
+pub register_form : (enabled : Option Enabled) (frame : Frame) (slot : ℕ) (first : ℤ) (width : ℕ) (signed : Bool) → 0 < frame.period → InWord width signed first → IsForm (register_of enabled frame slot first) frame (enables_by enabled) width signed
+register_form None frame slot first width signed some has = record {
   frame_is = λ x. refl;
   counts = λ x. refl;
   holds = λ x. refl;
@@ -70,9 +49,7 @@ register_form frame slot first width signed some has = record {
   alone = λ x. refl;
   fits = λ c x word. (some, word, has);
 }
-
-pub enabled_form : (frame : Frame) (enable : ℕ) (reset : Bool) (first : ℤ) (width : ℕ) (signed : Bool) → 0 < frame.period → InWord width signed first → IsForm (λ last. EnReg frame enable reset first last) frame (enable ∷ []) width signed
-enabled_form frame enable reset first width signed some has = record {
+register_form (Some by) frame slot first width signed some has = record {
   frame_is = λ x. refl;
   counts = λ x. refl;
   holds = λ x. refl;

@@ -13,7 +13,6 @@ use Rattle.hw_net.specs.NetRows.{Inputs, Rows, NetRows}
 use Rattle.hw_lower.specs.Lowered.{AreArgs, values_at}
 use Rattle.hw_lower.proofs.Products.{word-range}
 use Rattle.hw_lower.proofs.Shown.{value-in}
-use Rattle.fx_type.proofs.Ranges.{range-word}
 
 -- ---- ranges
 

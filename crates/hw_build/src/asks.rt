@@ -1,5 +1,5 @@
 //! What the elements of ends ask: nets as they are, or shown later.
-ghost use Rattle.std.specs.Prelude.{◌≡◌, ◌+◌, ◌<◌, ◌≤◌, ◌^◌, None, Some, IfOk, OnOk, length};
+ghost use Rattle.std.specs.Prelude.{◌+◌, ◌<◌, ◌≤◌, ◌^◌, None, Some, IfOk, OnOk, length};
 ghost use Rattle.hw_build.specs.inner.Seeking.{AreNets, AreNumbered, AsksAll, AsksOne, IsNetFor, IsNumber};
 ghost use Rattle.hw_build.specs.inner.Seeking.{hub_from, plain_want, unasked};
 
@@ -86,17 +86,6 @@ pub fn ask_plain(
     Ok(())
 }
 
-/// A source that registers show later, which have this first.
-fn late_feed(hub: u32, frame: Frame, first: i128) -> Feed
-    ensures { result ≡ record { hub = hub; frame = frame; first = Some first } }
-{
-    Feed {
-        hub,
-        frame,
-        first: Some(first),
-    }
-}
-
 /// Asks for a net that registers show later, which have this first.
 pub fn ask_registered(
     asks: &mut Asks,
@@ -111,7 +100,11 @@ pub fn ask_registered(
           to = to;
         }))) }
 {
-    let feed = late_feed(hub, frame, first);
+    let feed = Feed {
+        hub,
+        frame,
+        first: Some(first),
+    };
     ask_later(asks, Want { feed, to })
 }
 

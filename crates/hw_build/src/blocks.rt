@@ -6,7 +6,7 @@ ghost use Rattle.dg_model.specs.Solves.{IsShown, shown_ports as shown_ports_of};
 ghost use Rattle.hw_build.specs.inner.HubPlaces.{hub_at, hub_start, hubs_in_all, is_input_role};
 ghost use Rattle.hw_build.specs.inner.Offers.{AreReadBy};
 ghost use Rattle.hw_build.specs.inner.Tally.{product_labels};
-ghost use Rattle.hw_build.specs.inner.Looping.{AreInputSpots, HasElements, IsBegun, IsEntered, IsSet, Reaches, Stands, port_start, roots_of};
+ghost use Rattle.hw_build.specs.inner.Looping.{AreInputSpots, HasElements, IsBegun, IsEntered, IsKnown, IsSet, Reaches, Stands, port_start, roots_of};
 
 use crate::block_inputs::{BlockInputs, inputs_of};
 use crate::closing::close;
@@ -28,13 +28,26 @@ use hw_net::Netlist;
 use hw_sched::{lines_are_edges, periods_are_above};
 use std::alloc::Global;
 
-/// What is known when elements are put in.
+/// What elements are put in by.
 #[derive(Clone, Copy)]
 pub struct Setting<'a> {
     pub design: Design<'a>,
     pub firsts: &'a PortWidths,
     pub operands: &'a Operands,
     pub products: &'a Products,
+}
+
+/// What is known when elements are put in.
+fn setting_is_known<'a>(setting: Setting<'a>)
+    requires { IsSet setting }
+    ensures { IsKnown setting.entry }
+{
+    setting.design.checked.keeps_rules();
+    dg_model::root_elements_are_listed();
+    dg_model::edges_stand_by_port();
+    operations_prepare();
+    fx_type::stored_is_one();
+    lines_are_edges();
 }
 
 /// Puts in an element of a block, before its pipeline.
@@ -56,14 +69,9 @@ fn put_one<'a>(
     ensures { IfOk result (λ entry. IsEntered setting.entry net.old net.new place.block one.now
         place.port place.element entry) }
 {
-    dg_model::root_elements_are_listed();
-    dg_model::edges_stand_by_port();
-    operations_prepare();
-    fx_type::stored_is_one();
-    lines_are_edges();
+    setting_is_known(setting);
     fx_type::full_product_is_one();
     let design = setting.design;
-    design.checked.keeps_rules();
     if let Some(product) = setting.products.at(place.block, place.element) {
         let full = full_type(design.checked, place.block, one);
         return put_shared(alloc, net, design, place, one, full, product);
@@ -119,10 +127,8 @@ fn put_element<'a>(
     ensures { OnOk result (Reaches setting.entry net.new spots.new
         (suc (hub_at setting.entry.firsts.now place.block place.port place.element))) }
 {
-    dg_model::root_elements_are_listed();
-    operations_prepare();
+    setting_is_known(setting);
     periods_are_above();
-    setting.design.checked.keeps_rules();
     let entry = put_one(alloc, net, setting, place, one, inputs)?;
     close(
         alloc,
@@ -212,11 +218,7 @@ pub fn put_blocks<'a>(
 {
     let blocks = setting.design.checked.diagram().blocks.as_slice();
     for block in 0..blocks.len() {
-        let Ok(number) = u32::try_from(block) else {
-            // word: the number of a block, of 32 bits
-            return Err(OutOfMemory);
-        };
-        put_block(alloc, net, spots, setting, number, &blocks[block])?;
+        put_block(alloc, net, spots, setting, block as u32, &blocks[block])?;
     }
     Ok(())
 }
@@ -249,9 +251,7 @@ pub fn put_elements<'a>(
     requires begun { IsBegun setting net.old }
     ensures { IfOk result (HasElements setting.entry net.new) }
 {
-    dg_model::root_elements_are_listed();
-    operations_prepare();
-    setting.design.checked.keeps_rules();
+    setting_is_known(setting);
     let mut spots = input_spots(alloc, inputs)?;
     put_blocks(alloc, net, &mut spots, setting)?;
     Ok(spots)

@@ -1,8 +1,8 @@
 //! One chain of registers for all readers of a source.
-ghost use Rattle.std.specs.Prelude.{◌≡◌, ◌<◌, ◌≤◌, IfOk, length};
+ghost use Rattle.std.specs.Prelude.{◌<◌, ◌≤◌, IfOk, length};
 ghost use Rattle.hw_build.specs.inner.Wants.{AreAnswered, AreClasses, AreMet, ArePlaces, AreTaken, AreWants};
 ghost use Rattle.hw_build.specs.inner.Seeking.{AreAsked, AreNumbered};
-ghost use Rattle.hw_build.specs.inner.Wants.{IsClass, IsClassAnswered, first_of};
+ghost use Rattle.hw_build.specs.inner.Wants.{IsClass, IsClassAnswered};
 
 use crate::asks::{Asks, nets_of};
 use crate::feed_index::FeedIndex;
@@ -11,16 +11,6 @@ use fx_io::{OutOfMemory, Sizes};
 use hw_lines::chain;
 use hw_net::Netlist;
 use std::alloc::Global;
-
-/// What a chain has first, if its readers have registers.
-fn chain_first(first: Option<i128>) -> i128
-    ensures { result ≡ first_of first }
-{
-    match first {
-        Some(first) => first,
-        None => 0,
-    }
-}
 
 /// The chain of a class: a net for each of its uses.
 fn put_class(alloc: Global, net: &mut Netlist, class: &Class) -> Result<Sizes, OutOfMemory>
@@ -35,7 +25,7 @@ fn put_class(alloc: Global, net: &mut Netlist, class: &Class) -> Result<Sizes, O
         net,
         feed.hub,
         feed.frame,
-        chain_first(feed.first),
+        feed.first.unwrap_or(0),
         feed.first.is_some(),
         class.uses.as_slice(),
     )

@@ -8,7 +8,7 @@ ghost use Rattle.hw_build.specs.inner.Entries.{hands_on};
 ghost use Rattle.hw_build.specs.inner.Sites.{HasOperands, IsSite, Puts, types_at};
 
 use crate::kept::{delayed, passed_out};
-use crate::lowering::stored;
+use crate::lowering::initial;
 use crate::parts::{put_const, word_of};
 use crate::site::Site;
 use crate::worked::{put_worked, scaled, switched, tested};
@@ -64,11 +64,8 @@ fn constant<'a>(
     requires kind { site.one.now.kind ≡ Kind.Constant value.now }
     ensures { IfOk result (Puts site.entry net.old net.new) }
 {
-    site.design.checked.keeps_rules();
-    operations_prepare();
-    let kind = site.design.checked.result(site.place.block);
-    let first = stored(site, value, kind);
-    let number = put_const(alloc, net, word_of(kind), first)?;
+    let begun = initial(site, value);
+    let number = put_const(alloc, net, begun.word, begun.first)?;
     Ok(plain(number))
 }
 

@@ -4,15 +4,16 @@ ghost use Rattle.hw_build.specs.declared.operands.Span.{Span};
 ghost use Rattle.hw_build.specs.inner.Designed.{IsDesigned, times_for};
 ghost use Rattle.hw_build.specs.inner.EndAsks.{AreEndsFor, AreHubPlaces, IsControlPut, IsLawful, IsLineThere, IsLinePut, IsSpan, controls_left};
 
-use crate::asks::{Asks, ask_signal};
-use crate::design::Design;
+use crate::asks::{Asks, ask_plain, ask_signal};
+use crate::design::{Design, frame_after, line_use};
 use crate::hubs::shown_ports;
 use crate::laws::schedules_are_timed;
-use crate::line_ends::{enable_end, late_end, plain_end};
+use crate::line_ends::ask_late;
 use crate::operands::{Span, Spans};
 use dg_model::{Edge, PortWidths};
 use fx_io::OutOfMemory;
 use hw_latency::{block_at, control_of, is_registered, latencies_are_small, samples};
+use hw_lines::Use;
 use hw_sched::{edges_join_periods, lines_are_edges, periods_are_above};
 
 /// What is known where ends ask.
@@ -59,10 +60,12 @@ fn line_end<'a>(
         return ask_signal(asks, first, width);
     };
     let own = samples(checked.period(edge.to));
+    let frame = frame_after(design, edge.from, period);
+    let to = line_use(design, edge.from, edge.to, frame, own);
     if is_registered(one, own, period) {
-        late_end(asks, design, edge, one, first, width, period, own)
+        ask_late(asks, checked, edge.to, one, first, width, frame, to)
     } else {
-        plain_end(asks, design, edge, first, width, period, own)
+        ask_plain(asks, first, width, frame, to)
     }
 }
 
@@ -88,8 +91,13 @@ fn control_end<'a>(
     let Some(period) = checked.period(control) else {
         return ask_signal(asks, hub, 1);
     };
-    let own = samples(checked.period(block));
-    enable_end(asks, design, control, block, hub, period, own)
+    let frame = frame_after(design, control, period);
+    let lat = design.latencies.lat.as_slice()[block as usize];
+    let to = Use {
+        shift: lat - frame.latency,
+        period: samples(checked.period(block)),
+    };
+    ask_plain(asks, hub, 1, frame, to)
 }
 
 /// The span between two numbers.
@@ -157,12 +165,8 @@ pub fn gather_controls<'a>(
 {
     let count = design.checked.diagram().blocks.as_slice().len();
     for block in 0..count {
-        let Ok(number) = u32::try_from(block) else {
-            // word: the number of a block, of 32 bits
-            return Err(OutOfMemory);
-        };
         let first = asks.list.len();
-        control_end(asks, design, hubs, number)?;
+        control_end(asks, design, hubs, block as u32)?;
         let span = span_between(first, asks.list.len())?;
         controls.push(span)?;
     }

@@ -52,8 +52,7 @@ fn output_of<'a>(
         net: hub_at(firsts, block, 1, element),
         latency: latency_of(design, block),
     };
-    let port = port_of(alloc, names, design.checked, block, width, element, showing)?;
-    Ok(port)
+    port_of(alloc, names, design.checked, block, width, element, showing)
 }
 
 /// Puts in a port for each root output element, whose blocks these are. By block, the firsts are
@@ -76,7 +75,6 @@ pub fn put_outputs<'a>(
         (length outputs.now)) }
 {
     let checked = design.checked;
-    checked.keeps_rules();
     dg_model::root_elements_are_listed();
     let columns = columns_of(alloc, checked.diagram().blocks.as_slice().len(), outputs)?;
     for column in 0..outputs.len() {

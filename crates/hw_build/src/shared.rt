@@ -134,7 +134,6 @@ pub fn gather<'a>(
         operations.new.items 0
         (first_for design.entry (length design.entry.checked.now.diagram.blocks))) }
 {
-    design.checked.keeps_rules();
     let mut firsts = Vec::new(alloc);
     for place in 0..design.checked.diagram().blocks.as_slice().len() {
         let first = gather_block(alloc, net, design, operands, operations, place as u32)?;

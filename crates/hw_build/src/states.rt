@@ -1,27 +1,61 @@
 //! Registers one behind another, in which elements are kept.
-ghost use Rattle.std.specs.Prelude.{◌∷◌, ◌<◌, ◌≤◌, [], IfOk, length};
+ghost use Rattle.std.specs.Prelude.{◌≡◌, ◌∷◌, ◌++◌, ◌<◌, ◌≤◌, [], All, IfOk, length};
 ghost use Rattle.fx_num.specs.Word.{InWord, IsWord};
-ghost use Rattle.hw_net.specs.declared.netlist.NetKind.TheVariants.{EnReg, Reg};
 ghost use Rattle.hw_net.specs.Netlist.{HasWord};
-ghost use Rattle.hw_build.specs.inner.Registering.{PutsSeries};
+ghost use Rattle.hw_build.specs.inner.Registering.{PutsSeries, enables_by, register_of};
 
 use crate::parts::Word;
 use fx_io::OutOfMemory;
 use hw_net::{Frame, Net, NetKind, Netlist};
 
-/// Registers one behind another: the number of the first and that of the last.
+/// Registers one behind another: their word, the number of the first and that of the last.
 #[derive(Clone, Copy)]
 pub struct Series {
+    pub word: Word,
     pub first: u32,
     pub last: u32,
 }
 
-/// Puts in registers that take at a slot of their frames, from a net on.
+/// What enables registers, and whether they have their first number where it doesn't.
+#[derive(Clone, Copy)]
+pub struct Enabled {
+    pub enable: u32,
+    pub reset: bool,
+}
+
+/// A register that takes a net in this slot of its frames, or at their ends where it is enabled.
+fn register(frame: Frame, slot: u32, enabled: Option<Enabled>, first: i128, from: u32) -> NetKind
+    ensures { result ≡ register_of enabled frame slot first from }
+{
+    match enabled {
+        None => {
+            NetKind::Reg {
+                frame,
+                slot,
+                first,
+                from,
+            }
+        }
+        Some(by) => {
+            NetKind::EnReg {
+                frame,
+                enable: by.enable,
+                reset: by.reset,
+                first,
+                from,
+            }
+        }
+    }
+}
+
+/// Puts in registers from a net on, which take in this slot of their frames, or at the ends of these
+/// where they are enabled.
 pub fn put_series(
     net: &mut Netlist,
     word: Word,
     frame: Frame,
     slot: u32,
+    enabled: Option<Enabled>,
     count: u32,
     first: i128,
     from: u32,
@@ -31,9 +65,10 @@ pub fn put_series(
     requires some { 1 ≤ count }
     requires word { IsWord word.width word.signed }
     requires from { HasWord net.old.nets from word.width word.signed }
+    requires enabled { All (λ read. read < length net.old.nets) (enables_by enabled) }
     requires first { InWord word.width word.signed first }
-    ensures { IfOk result (PutsSeries (λ last. Reg frame slot first last) net.old net.new
-        (from ∷ []) frame word from count) }
+    ensures { IfOk result (PutsSeries (register_of enabled frame slot first) net.old net.new
+        (enables_by enabled ++ from ∷ []) frame word from count) }
 {
     let counter = net.counter(frame)?;
     let _ = counter;
@@ -43,60 +78,16 @@ pub fn put_series(
     };
     let mut last = from;
     for _step in 0..count {
+        let kind = register(frame, slot, enabled, first, last);
         last = net.add(Net {
             signed: word.signed,
             width: word.width,
-            kind: NetKind::Reg {
-                frame,
-                slot,
-                first,
-                from: last,
-            },
+            kind,
         })?;
     }
-    Ok(Series { first: begin, last })
-}
-
-/// Puts in registers that take at the ends of their frames where they are enabled, from a net on.
-pub fn put_enabled_series(
-    net: &mut Netlist,
-    word: Word,
-    frame: Frame,
-    count: u32,
-    enable: u32,
-    reset: bool,
-    first: i128,
-    from: u32,
-) -> Result<Series, OutOfMemory>
-    requires cycles { 0 < net.old.cycles }
-    requires period { 0 < frame.period }
-    requires some { 1 ≤ count }
-    requires word { IsWord word.width word.signed }
-    requires from { HasWord net.old.nets from word.width word.signed }
-    requires enable { enable < length net.old.nets }
-    requires first { InWord word.width word.signed first }
-    ensures { IfOk result (PutsSeries (λ last. EnReg frame enable reset first last) net.old net.new
-        (enable ∷ from ∷ []) frame word from count) }
-{
-    let counter = net.counter(frame)?;
-    let _ = counter;
-    let Ok(begin) = u32::try_from(net.nets().len()) else {
-        // word: the number of a net, of 32 bits
-        return Err(OutOfMemory);
-    };
-    let mut last = from;
-    for _step in 0..count {
-        last = net.add(Net {
-            signed: word.signed,
-            width: word.width,
-            kind: NetKind::EnReg {
-                frame,
-                enable,
-                reset,
-                first,
-                from: last,
-            },
-        })?;
-    }
-    Ok(Series { first: begin, last })
+    Ok(Series {
+        word,
+        first: begin,
+        last,
+    })
 }

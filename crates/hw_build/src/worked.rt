@@ -17,12 +17,13 @@ ghost use Rattle.hw_build.specs.inner.Sites.{HasOperands, IsOpAt, IsSite, Puts, 
 use crate::controls::some_above;
 use crate::design::Design;
 use crate::entries::{Entry, plain};
-use crate::lowering::{converted, multiply_behind, stored, worked};
+use crate::lowering::{multiply_behind, stored};
 use crate::site::Site;
-use dg_model::{Block, Criterion, Kind, Op};
+use dg_model::{Block, Criterion, Kind, Op, OpCall};
 use dg_tables::{Place, operations_prepare};
 use fx_io::OutOfMemory;
 use fx_type::{Decimal, FxType};
+use hw_lower::lower;
 use hw_net::Netlist;
 use std::alloc::Global;
 
@@ -43,10 +44,20 @@ pub fn carried<'a>(
     requires signs { signs.now ≡ signs_of site.one.now.kind }
     ensures { IfOk result (Puts site.entry net.old net.new) }
 {
-    let kind = site.design.checked.result(site.place.block);
-    let _ = kind;
+    let checked = site.design.checked;
+    checked.keeps_rules();
+    operations_prepare();
     let multiply = multiply_behind(net, op)?;
-    let number = worked(alloc, net, site, types, op, signs)?;
+    let kind = checked.result(site.place.block);
+    let call = OpCall {
+        op,
+        signs,
+        types,
+        result: kind,
+        rounding: site.one.rounding,
+        saturate: site.one.saturate,
+    };
+    let number = lower(alloc, net, &call, site.operands)?;
     Ok(Entry {
         net: number,
         state: number,
@@ -185,8 +196,16 @@ pub fn put_shared<'a>(
         net.old net.new place.block one.now place.port place.element product) }
 {
     design.checked.keeps_rules();
+    operations_prepare();
     let own = design.checked.result(place.block);
-    let _ = own;
-    let number = converted(alloc, net, design.checked, place.block, one, full, product)?;
+    let call = OpCall {
+        op: Op::Convert { stored: false },
+        signs: &[],
+        types: &[full],
+        result: own,
+        rounding: one.rounding,
+        saturate: one.saturate,
+    };
+    let number = lower(alloc, net, &call, &[product])?;
     Ok(plain(number))
 }

@@ -1,20 +1,24 @@
 -- The netlist while the elements of blocks are put in, for all places that the nets so far allow (own).
 use Rattle.std.specs.Prelude.{◌≡◌, ℕ, zero, suc, ◌+◌, ◌<◌, ◌≤◌, ◌==◌, ◌&&◌, ◌⊎◌, not, List, length, Contains, [], slice_get, slice_index_or, Some, false, true}
 use Rattle.fx_type.specs.FxType.{is_signed, width_of}
+use Rattle.fx_type.specs.Laws.{StoredIsOne}
 use Rattle.dg_model.specs.declared.diagram.Diagram.{Diagram}
 use Rattle.dg_model.specs.declared.diagram.Block.{Block}
 use Rattle.dg_model.specs.declared.diagram.Edge.{Edge}
 use Rattle.dg_model.specs.declared.nested.Target.TheVariants.{Port}
 use Rattle.dg_model.specs.Attributes.{attributes_of}
+use Rattle.dg_model.specs.Laws.{InputsAreListed, WidthsAreOfEdges}
 use Rattle.dg_model.specs.Library.{row_of}
 use Rattle.dg_model.specs.RootElements.{root_inputs}
 use Rattle.dg_model.specs.Solves.{IsShown, shown_ports}
 use Rattle.dg_model.specs.Wires.{driver_of}
+use Rattle.dg_tables.specs.Laws.{IsOrdered, SignalsFit, TypesAreValid}
 use Rattle.hw_net.specs.declared.netlist.Frame.{Frame}
 use Rattle.hw_net.specs.Circuit.{Circuit}
 use Rattle.hw_net.specs.Frames.{register_count, IsCounterAt}
 use Rattle.hw_net.specs.Growing.{Appends}
 use Rattle.hw_net.specs.Netlist.{HasWord}
+use Rattle.hw_sched.specs.Laws.{ControlsAreEdges, LinesAreEdges}
 use Rattle.hw_shows.specs.Timed.{lag_into}
 use Rattle.hw_build.specs.Places.{Places}
 use Rattle.hw_build.specs.Serving.{multipliers, others}
@@ -86,6 +90,18 @@ pub record IsSet (setting : Setting) : Type 0 where
   pub designed : IsDesigned setting.design
   pub stood : StoodHubs setting.design.checked.now.diagram setting.firsts.now
   pub products_are : AreProducts setting.design.checked.now.diagram setting.design.plan.now setting.products.now
+
+-- and of diagrams
+pub record IsKnown (setting : Setting) : Type 0 where
+  pub listed : InputsAreListed
+  pub fit : SignalsFit
+  pub valid : TypesAreValid
+  pub widths : WidthsAreOfEdges
+  pub storing : StoredIsOne
+  pub lines : LinesAreEdges
+  pub controls : ControlsAreEdges
+  pub ordered : IsOrdered setting.design.checked.now.diagram setting.design.checked.now.order
+  pub set : IsSet setting
 
 module _ (setting : Setting) where
   abbrev pub diagram_of : Diagram

@@ -1,5 +1,5 @@
 -- Registers one behind another, as they are put in (own).
-use Rattle.std.specs.Prelude.{◌≡◌, ℕ, zero, suc, ◌+◌, ◌<◌, ◌≤◌, List, length, IsSome, Some, slice_get}
+use Rattle.std.specs.Prelude.{◌≡◌, ℕ, zero, suc, ◌+◌, ◌<◌, ◌≤◌, ℤ, List, [], ◌∷◌, length, IsSome, Option, None, Some, slice_get}
 use Rattle.hw_net.specs.declared.netlist.Frame.{Frame}
 use Rattle.hw_net.specs.declared.netlist.NetKind.{NetKind}
 use Rattle.hw_net.specs.declared.netlist.NetKind.TheVariants.{Comb, Reg, EnReg, Bridge, Unit, Counter}
@@ -7,6 +7,7 @@ use Rattle.hw_net.specs.Circuit.{Circuit}
 use Rattle.hw_net.specs.Frames.{counter_of}
 use Rattle.hw_net.specs.Netlist.{HasWord}
 use Rattle.hw_build.specs.declared.parts.Word.{Word}
+use Rattle.hw_build.specs.declared.states.Enabled.{Enabled}
 use Rattle.hw_build.specs.declared.states.Series.{Series}
 use Rattle.hw_build.specs.inner.Grown.{Grows}
 
@@ -14,6 +15,16 @@ use Rattle.hw_build.specs.inner.Grown.{Grows}
 abbrev pub taken_by : ℕ → ℕ → ℕ → ℕ
 taken_by from begin zero = from
 taken_by from begin (suc k) = begin + k
+
+-- a register that takes a net in this slot of its frames, or at their ends where it is enabled
+abbrev pub register_of : Option Enabled → Frame → ℕ → ℤ → ℕ → NetKind
+register_of None frame slot first = λ from. Reg frame slot first from
+register_of (Some by) frame slot first = λ from. EnReg frame by.enable by.reset first from
+
+-- what it reads beside that net
+abbrev pub enables_by : Option Enabled → List ℕ
+enables_by None = []
+enables_by (Some by) = by.enable ∷ []
 
 -- registers and a Counter of this frame
 abbrev pub IsOfFrame : Frame → NetKind → Type 0
@@ -37,3 +48,4 @@ pub record AreSeries (make : ℕ → NetKind) (before after : Circuit) (named : 
 pub record PutsSeries (make : ℕ → NetKind) (before after : Circuit) (named : List ℕ) (frame : Frame) (word : Word) (from count : ℕ) (series : Series) : Type 0 where
   pub are : AreSeries make before after named frame word from series.first count
   pub last_is : series.last ≡ taken_by from series.first count
+  pub word_is : series.word ≡ word

@@ -3,4 +3,4 @@ use Rattle.std.proofs.lemmas.Int.{to_z-of_z}
 use Rattle.hw_build.proofs.asks.ask_registered.Goals as goal
 
 pub returns : goal.returns
-returns c = rw (to_z-of_z w128 c.args.first c.ranges.first) at (rw c.late_feed-feed.ensures at c.ask_later.ensures)
+returns c = rw (to_z-of_z w128 c.args.first c.ranges.first) at c.ask_later.ensures

@@ -12,7 +12,7 @@ close-requires-clause-cycles c = c.in_ok-entry.ensures.appends.extends.cycles �
 
 pub close-requires-clause-waits : goal.close-requires-clause-waits
 close-requires-clause-waits c =
-    element_waits c.args.setting c.root_elements_are_listed.ensures.inputs c.operations_prepare.ensures.types c.periods_are_above.ensures.above (record { checked = c.keeps_rules.ensures.checked; ordered = c.keeps_rules.ensures.ordered }) c.requires.set
+    element_waits c.args.setting c.setting_is_known.ensures.listed c.setting_is_known.ensures.valid c.periods_are_above.ensures.above c.setting_is_known.ensures.ordered c.requires.set
     c.args.place.block c.args.one.now c.args.place.port c.args.place.element c.requires.shown c.args.net.now c.put_one.new.net c.args.spots.now c.in_ok-entry.entry c.requires.before c.in_ok-entry.ensures
 
 pub returns : goal.returns
@@ -20,6 +20,6 @@ returns c =
     let small_block : c.args.place.block < 2 ^ 64 = search rules in
     let small_element : c.args.place.element < 2 ^ 64 = search rules in
     on_ok_weaker c.name_product.result
-    (λ named. element_reached c.args.setting c.root_elements_are_listed.ensures.inputs c.operations_prepare.ensures.types c.periods_are_above.ensures.above (record { checked = c.keeps_rules.ensures.checked; ordered = c.keeps_rules.ensures.ordered }) c.requires.set
+    (λ named. element_reached c.args.setting c.setting_is_known.ensures.listed c.setting_is_known.ensures.valid c.periods_are_above.ensures.above c.setting_is_known.ensures.ordered c.requires.set
     c.args.place.block c.args.one.now c.args.place.port c.args.place.element c.requires.shown c.requires.other c.args.net.now c.put_one.new.net c.close.new.net c.name_product.new.net c.args.spots.now c.close.new.spots c.in_ok-entry.entry c.requires.before c.in_ok-entry.ensures c.in_ok-close.ensures named small_block small_element)
     c.name_product.ensures

@@ -5,8 +5,8 @@ use Rattle.hw_build.proofs.blocks.put_elements.Goals as goal
 
 pub put_blocks-requires-clause-before : goal.put_blocks-requires-clause-before
 put_blocks-requires-clause-before c =
-    begun_reaches c.args.setting c.root_elements_are_listed.ensures.inputs c.operations_prepare.ensures.types (record { checked = c.keeps_rules.ensures.checked; ordered = c.keeps_rules.ensures.ordered }) c.requires.set c.args.net.now c.requires.begun c.in_ok-spots.spots
+    begun_reaches c.args.setting c.setting_is_known.ensures.listed c.setting_is_known.ensures.valid c.setting_is_known.ensures.ordered c.requires.set c.args.net.now c.requires.begun c.in_ok-spots.spots
     (subst (λ (n : ℕ). AreInputSpots c.in_ok-spots.spots n) c.requires.inputs c.in_ok-spots.ensures)
 
 pub returns : goal.returns
-returns c = all_stand c.args.setting c.root_elements_are_listed.ensures.inputs (record { checked = c.keeps_rules.ensures.checked; ordered = c.keeps_rules.ensures.ordered }) c.requires.set c.put_blocks.new.net c.put_blocks.new.spots c.in_ok-put_blocks.ensures
+returns c = all_stand c.args.setting c.setting_is_known.ensures.listed c.setting_is_known.ensures.ordered c.requires.set c.put_blocks.new.net c.put_blocks.new.spots c.in_ok-put_blocks.ensures

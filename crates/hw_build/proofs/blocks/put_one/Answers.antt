@@ -1,6 +1,6 @@
 use Rattle.std.proofs.Common.{sym, subst, ◌∙◌, arith}
 use Rattle.hw_build.specs.inner.Offers.{Offer}
-use Rattle.hw_build.proofs.EnteringOne.{args_are, one_entered, IsKnown}
+use Rattle.hw_build.proofs.EnteringOne.{args_are, one_entered}
 use Rattle.hw_build.proofs.EnteringProduct.{product_word, shared_entered, multiplying}
 use Rattle.std.proofs.lemmas.Option.{slice_get_within}
 use Rattle.std.proofs.lemmas.Result.{IfOk-weaker}
@@ -8,63 +8,19 @@ use Rattle.hw_build.proofs.blocks.put_one.Goals as goal
 
 pub put_shared-requires-clause-word : goal.put_shared-requires-clause-word
 put_shared-requires-clause-word c =
-    let known : IsKnown c.args.setting = record {
-      listed = c.root_elements_are_listed.ensures.inputs;
-      fit = c.operations_prepare.ensures.fit;
-      valid = c.operations_prepare.ensures.types;
-      widths = c.edges_stand_by_port.ensures.widths;
-      storing = c.stored_is_one.ensures;
-      lines = c.lines_are_edges.ensures.lines;
-      controls = c.lines_are_edges.ensures.controls;
-      ordered = record { checked = c.keeps_rules.ensures.checked; ordered = c.keeps_rules.ensures.ordered };
-      set = c.requires.set;
-    } in
-    product_word c.args.setting known c.args.net.now c.requires.going c.args.place.block c.args.one.now c.args.place.port c.args.place.element c.requires.shown c.in-Some.product (sym c.at.ensures ∙ c.in-Some.is) c.full_product_is_one.ensures c.full_type-full.result c.full_type-full.ensures
+    product_word c.args.setting c.setting_is_known.ensures c.args.net.now c.requires.going c.args.place.block c.args.one.now c.args.place.port c.args.place.element c.requires.shown c.in-Some.product (sym c.at.ensures ∙ c.in-Some.is) c.full_product_is_one.ensures c.full_type-full.result c.full_type-full.ensures
 
 pub returns-in-Some : goal.returns-in-Some
 returns-in-Some c =
-    let known : IsKnown c.args.setting = record {
-      listed = c.root_elements_are_listed.ensures.inputs;
-      fit = c.operations_prepare.ensures.fit;
-      valid = c.operations_prepare.ensures.types;
-      widths = c.edges_stand_by_port.ensures.widths;
-      storing = c.stored_is_one.ensures;
-      lines = c.lines_are_edges.ensures.lines;
-      controls = c.lines_are_edges.ensures.controls;
-      ordered = record { checked = c.keeps_rules.ensures.checked; ordered = c.keeps_rules.ensures.ordered };
-      set = c.requires.set;
-    } in
-    IfOk-weaker c.put_shared.result _ _ (λ entry put. shared_entered c.args.setting known c.args.net.now c.requires.going c.args.place.block c.args.one.now c.args.place.port c.args.place.element c.requires.shown c.in-Some.product (sym c.at.ensures ∙ c.in-Some.is) c.put_shared.new.net entry put) c.put_shared.ensures
+    IfOk-weaker c.put_shared.result _ _ (λ entry put. shared_entered c.args.setting c.setting_is_known.ensures c.args.net.now c.requires.going c.args.place.block c.args.one.now c.args.place.port c.args.place.element c.requires.shown c.in-Some.product (sym c.at.ensures ∙ c.in-Some.is) c.put_shared.new.net entry put) c.put_shared.ensures
 
 pub put_entry-entry-requires-clause-operands : goal.put_entry-entry-requires-clause-operands
 put_entry-entry-requires-clause-operands c =
-    let known : IsKnown c.args.setting = record {
-      listed = c.root_elements_are_listed.ensures.inputs;
-      fit = c.operations_prepare.ensures.fit;
-      valid = c.operations_prepare.ensures.types;
-      widths = c.edges_stand_by_port.ensures.widths;
-      storing = c.stored_is_one.ensures;
-      lines = c.lines_are_edges.ensures.lines;
-      controls = c.lines_are_edges.ensures.controls;
-      ordered = record { checked = c.keeps_rules.ensures.checked; ordered = c.keeps_rules.ensures.ordered };
-      set = c.requires.set;
-    } in
-    args_are c.args.setting known c.args.net.now c.requires.going c.args.place.block c.args.one.now c.args.place.port c.args.place.element c.requires.shown c.as_slice.result.now c.requires.other (subst (Offer c.args.setting c.args.place.block c.args.one.now c.args.place.port c.args.place.element) (sym c.as_slice.ensures) c.in_ok-operands.ensures)
+    args_are c.args.setting c.setting_is_known.ensures c.args.net.now c.requires.going c.args.place.block c.args.one.now c.args.place.port c.args.place.element c.requires.shown c.as_slice.result.now c.requires.other (subst (Offer c.args.setting c.args.place.block c.args.one.now c.args.place.port c.args.place.element) (sym c.as_slice.ensures) c.in_ok-operands.ensures)
 
 pub returns : goal.returns
 returns c =
-    let known : IsKnown c.args.setting = record {
-      listed = c.root_elements_are_listed.ensures.inputs;
-      fit = c.operations_prepare.ensures.fit;
-      valid = c.operations_prepare.ensures.types;
-      widths = c.edges_stand_by_port.ensures.widths;
-      storing = c.stored_is_one.ensures;
-      lines = c.lines_are_edges.ensures.lines;
-      controls = c.lines_are_edges.ensures.controls;
-      ordered = record { checked = c.keeps_rules.ensures.checked; ordered = c.keeps_rules.ensures.ordered };
-      set = c.requires.set;
-    } in
-    IfOk-weaker c.put_entry-entry.result _ _ (λ entry put. one_entered c.args.setting known c.args.net.now c.requires.going c.args.place.block c.args.one.now c.args.place.port c.args.place.element c.requires.shown c.as_slice.result.now c.requires.other (subst (Offer c.args.setting c.args.place.block c.args.one.now c.args.place.port c.args.place.element) (sym c.as_slice.ensures) c.in_ok-operands.ensures) c.put_entry-entry.new.net entry put (sym c.at.ensures ∙ c.in_default.is)) c.put_entry-entry.ensures
+    IfOk-weaker c.put_entry-entry.result _ _ (λ entry put. one_entered c.args.setting c.setting_is_known.ensures c.args.net.now c.requires.going c.args.place.block c.args.one.now c.args.place.port c.args.place.element c.requires.shown c.as_slice.result.now c.requires.other (subst (Offer c.args.setting c.args.place.block c.args.one.now c.args.place.port c.args.place.element) (sym c.as_slice.ensures) c.in_ok-operands.ensures) c.put_entry-entry.new.net entry put (sym c.at.ensures ∙ c.in_default.is)) c.put_entry-entry.ensures
 
 pub at-requires : goal.at-requires
 at-requires c =
@@ -76,18 +32,7 @@ full_type-full-requires-clause-block c = c.requires.shown.block_is
 
 pub full_type-full-requires-clause-multiplies : goal.full_type-full-requires-clause-multiplies
 full_type-full-requires-clause-multiplies c =
-    let known : IsKnown c.args.setting = record {
-      listed = c.root_elements_are_listed.ensures.inputs;
-      fit = c.operations_prepare.ensures.fit;
-      valid = c.operations_prepare.ensures.types;
-      widths = c.edges_stand_by_port.ensures.widths;
-      storing = c.stored_is_one.ensures;
-      lines = c.lines_are_edges.ensures.lines;
-      controls = c.lines_are_edges.ensures.controls;
-      ordered = record { checked = c.keeps_rules.ensures.checked; ordered = c.keeps_rules.ensures.ordered };
-      set = c.requires.set;
-    } in
-    multiplying c.args.setting known c.args.net.now c.requires.going c.args.place.block c.args.one.now c.args.place.port c.args.place.element c.requires.shown c.in-Some.product (sym c.at.ensures ∙ c.in-Some.is)
+    multiplying c.args.setting c.setting_is_known.ensures c.args.net.now c.requires.going c.args.place.block c.args.one.now c.args.place.port c.args.place.element c.requires.shown c.in-Some.product (sym c.at.ensures ∙ c.in-Some.is)
 
 pub put_shared-requires-clause-block : goal.put_shared-requires-clause-block
 put_shared-requires-clause-block c = c.requires.shown.block_is

@@ -26,27 +26,28 @@ returns-in_default-period c =
     (sym c.period.ensures ∙ c.in_default-period.is) c.at-hub.ensures put))
     c.ask_signal.ensures
 
-pub enable_end-requires-clause-control : goal.enable_end-requires-clause-control
-enable_end-requires-clause-control c =
+pub frame_after-frame-requires-clause-there : goal.frame_after-frame-requires-clause-there
+frame_after-frame-requires-clause-there c =
     let feeds = control_feeds c.args.design.checked.now.diagram c.args.block c.block_at.result.now c.in-Some.control (sym c.control_of.ensures ∙ c.in-Some.is) in
     control_inside c.ends_are_lawful.ensures c.args.block c.in-Some.control c.block_at.result.now c.block_at.ensures feeds
 
-pub enable_end-requires-clause-behind : goal.enable_end-requires-clause-behind
-enable_end-requires-clause-behind c =
+pub overflow_sub-to : goal.overflow_sub-to
+overflow_sub-to c =
     let feeds = control_feeds c.args.design.checked.now.diagram c.args.block c.block_at.result.now c.in-Some.control (sym c.control_of.ensures ∙ c.in-Some.is) in
-    control_behind c.ends_are_lawful.ensures c.args.block c.in-Some.control c.block_at.result.now c.block_at.ensures feeds c.in-Some-period.period (sym c.period.ensures ∙ c.in-Some-period.is)
+    rw (c.frame_after-frame.ensures, c.as_slice.ensures)
+    (control_behind c.ends_are_lawful.ensures c.args.block c.in-Some.control c.block_at.result.now c.block_at.ensures feeds c.in-Some-period.period (sym c.period.ensures ∙ c.in-Some-period.is))
 
 pub returns : goal.returns
 returns c =
     let is : control_ever c.block_at.result.now ≡ Some c.in-Some.control = sym c.control_of.ensures ∙ c.in-Some.is in
     let feeds = control_feeds c.args.design.checked.now.diagram c.args.block c.block_at.result.now c.in-Some.control is in
     let moves : (attributes_of c.args.design.checked.now.diagram).period_at c.in-Some.control ≡ Some c.in-Some-period.period = sym c.period.ensures ∙ c.in-Some-period.is in
-    let own = control_period c.ends_are_lawful.ensures c.args.block c.in-Some.control c.block_at.result.now c.block_at.ensures feeds c.in-Some-period.period moves c.samples-own.result (c.samples-own.ensures ∙ ap samples c.period-2.ensures) in
-    on_ok_weaker c.enable_end.result
-    (λ put. control_put c.ends_are_lawful.ensures c.args.block c.block_at.result.now c.block_at.ensures c.args.asks.now c.enable_end.new.asks (Some c.in-Some.control) is
-    (moving_control c.ends_are_lawful.ensures c.args.block c.in-Some.control c.block_at.result.now c.block_at.ensures feeds c.in-Some-period.period moves c.args.asks.now.list.items c.enable_end.new.asks.list.items c.args.asks.now.wants.items c.enable_end.new.asks.wants.items
-    c.at-hub.result c.samples-own.result own c.at-hub.ensures put))
-    c.enable_end.ensures
+    let own = control_period c.ends_are_lawful.ensures c.args.block c.in-Some.control c.block_at.result.now c.block_at.ensures feeds c.in-Some-period.period moves c.samples.result (c.samples.ensures ∙ ap samples c.period-2.ensures) in
+    on_ok_weaker c.ask_plain.result
+    (λ put. control_put c.ends_are_lawful.ensures c.args.block c.block_at.result.now c.block_at.ensures c.args.asks.now c.ask_plain.new.asks (Some c.in-Some.control) is
+    (moving_control c.ends_are_lawful.ensures c.args.block c.in-Some.control c.block_at.result.now c.block_at.ensures feeds c.in-Some-period.period moves c.args.asks.now.list.items c.ask_plain.new.asks.list.items c.args.asks.now.wants.items c.ask_plain.new.asks.wants.items
+    c.at-hub.result c.samples.result own c.at-hub.ensures put))
+    (rw (c.frame_after-frame.ensures, c.as_slice.ensures) at c.ask_plain.ensures)
 
 pub ends_are_lawful-requires-clause-designed : goal.ends_are_lawful-requires-clause-designed
 ends_are_lawful-requires-clause-designed c = c.requires.designed
@@ -60,11 +61,8 @@ block_at-requires c = c.requires.there
 pub period-requires-2 : goal.period-requires-2
 period-requires-2 c = c.requires.there
 
-pub enable_end-requires-clause-designed : goal.enable_end-requires-clause-designed
-enable_end-requires-clause-designed c = c.requires.designed
+pub frame_after-frame-requires-clause-designed : goal.frame_after-frame-requires-clause-designed
+frame_after-frame-requires-clause-designed c = c.requires.designed
 
-pub enable_end-requires-clause-block : goal.enable_end-requires-clause-block
-enable_end-requires-clause-block c = c.requires.there
-
-pub enable_end-requires-clause-period : goal.enable_end-requires-clause-period
-enable_end-requires-clause-period c = sym c.period.ensures ∙ c.in-Some-period.is
+pub frame_after-frame-requires-clause-period : goal.frame_after-frame-requires-clause-period
+frame_after-frame-requires-clause-period c = sym c.period.ensures ∙ c.in-Some-period.is

@@ -1,59 +1,52 @@
-use Rattle.std.proofs.Common.{rules, ◌≡◌, ◌<◌, ◌++◌, ◌∷◌, [], List, length, ap, sym, ◌∙◌, subst, arith}
+use Rattle.std.proofs.Common.{rules, ◌≡◌, ◌++◌, ◌∷◌, [], List, length, ap, sym, ◌∙◌, subst, arith}
 use Rattle.dg_model.specs.declared.diagram.Diagram.{Diagram}
 use Rattle.dg_model.specs.declared.diagram.Block.{Block}
 use Rattle.hw_build.specs.declared.operands.Span.{Span}
 use Rattle.hw_build.specs.inner.Designed.{times_for}
-use Rattle.hw_build.specs.inner.EndAsks.{AreEndsFor, IsControlPut, IsSpan, controls_left}
+use Rattle.hw_build.specs.inner.EndAsks.{AreEndsFor, IsSpan, controls_left}
 use Rattle.hw_build.proofs.AllEnds.{control_longer, controls_more, controls_end}
 use Rattle.fx_io.proofs.Places.{get_some}
 use Rattle.hw_build.proofs.gathering.gather_controls.Goals as goal
+
+size_of : (slice : List Block) (same diagram : Diagram) → slice ≡ same.blocks → ◌≡◌ {A = Diagram} same diagram → length slice ≡ length diagram.blocks
+size_of slice same diagram at is = ap (λ (bs : List Block). length bs) (at ∙ ap (λ (d : Diagram). d.blocks) is)
 
 pub loop-block-init : goal.loop-block-init
 loop-block-init c =
     λ lines lined are. subst (λ (xs : List Span). AreEndsFor c.args.design.checked.now.diagram c.args.design.plan.now (times_for c.args.design) c.args.hubs.now c.args.asks.now lines xs lined 0 (controls_left c.args.design.checked.now.diagram 0)) (sym c.requires.controls) are
 
+pub overflow_cast-block : goal.overflow_cast-block
+overflow_cast-block c =
+    let size = size_of c.as_slice-count.result.now c.diagram.result.now c.args.design.checked.now.diagram c.as_slice-count.ensures c.diagram.ensures in
+    record { fits = omega (arith, size, c.loop-block-test.true, c.requires.designed.scheduled.checked.wired.size) }
+
 pub control_end-requires-clause-there : goal.control_end-requires-clause-there
 control_end-requires-clause-there c =
-    let bs : c.as_slice-count.result.now ≡ c.args.design.checked.now.diagram.blocks = c.as_slice-count.ensures ∙ ap (λ (d : Diagram). d.blocks) c.diagram.ensures in
-    let size = ap (λ (xs : List Block). length xs) bs in
-    let test = c.loop-block-test.true in
-    let inside : c.loop-block.block < length c.args.design.checked.now.diagram.blocks = omega (arith, test, size) in
-    let same : c.in-Ok.number ≡ c.loop-block.block = search rules in
-    omega (arith, same, inside)
+    let size = size_of c.as_slice-count.result.now c.diagram.result.now c.args.design.checked.now.diagram c.as_slice-count.ensures c.diagram.ensures in
+    omega (arith, c.loop-block-test.true, size)
 
 pub span_between-requires : goal.span_between-requires
 span_between-requires c =
-    let bs : c.as_slice-count.result.now ≡ c.args.design.checked.now.diagram.blocks = c.as_slice-count.ensures ∙ ap (λ (d : Diagram). d.blocks) c.diagram.ensures in
-    let size = ap (λ (xs : List Block). length xs) bs in
-    let test = c.loop-block-test.true in
-    let inside : c.loop-block.block < length c.args.design.checked.now.diagram.blocks = omega (arith, test, size) in
-    let same : c.in-Ok.number ≡ c.loop-block.block = search rules in
-    let b = get_some c.args.design.checked.now.diagram.blocks c.loop-block.block inside in
-    let put : IsControlPut c.args.design.checked.now.diagram c.args.design.plan.now (times_for c.args.design) c.args.hubs.now c.loop-block.asks c.control_end.new.asks c.loop-block.block = subst (IsControlPut c.args.design.checked.now.diagram c.args.design.plan.now (times_for c.args.design) c.args.hubs.now c.loop-block.asks c.control_end.new.asks) same c.in_ok-control_end.ensures in
+    let size = size_of c.as_slice-count.result.now c.diagram.result.now c.args.design.checked.now.diagram c.as_slice-count.ensures c.diagram.ensures in
+    let b = get_some c.args.design.checked.now.diagram.blocks c.loop-block.block (omega (arith, c.loop-block-test.true, size)) in
     let before : c.len-first.result ≡ length c.loop-block.asks.list.items = search rules in
     let behind : c.len.result ≡ length c.control_end.new.asks.list.items = search rules in
-    let longer = control_longer c.args.design.checked.now.diagram c.args.design.plan.now (times_for c.args.design) c.args.hubs.now c.loop-block.asks c.control_end.new.asks c.loop-block.block b.0 b.1 put in
+    let longer = control_longer c.args.design.checked.now.diagram c.args.design.plan.now (times_for c.args.design) c.args.hubs.now c.loop-block.asks c.control_end.new.asks c.loop-block.block b.0 b.1 c.in_ok-control_end.ensures in
     omega (arith, before, behind, longer)
 
 pub loop-block-preserved : goal.loop-block-preserved
 loop-block-preserved c =
-    let bs : c.as_slice-count.result.now ≡ c.args.design.checked.now.diagram.blocks = c.as_slice-count.ensures ∙ ap (λ (d : Diagram). d.blocks) c.diagram.ensures in
-    let size = ap (λ (xs : List Block). length xs) bs in
-    let test = c.loop-block-test.true in
-    let inside : c.loop-block.block < length c.args.design.checked.now.diagram.blocks = omega (arith, test, size) in
-    let same : c.in-Ok.number ≡ c.loop-block.block = search rules in
-    let b = get_some c.args.design.checked.now.diagram.blocks c.loop-block.block inside in
-    let put : IsControlPut c.args.design.checked.now.diagram c.args.design.plan.now (times_for c.args.design) c.args.hubs.now c.loop-block.asks c.control_end.new.asks c.loop-block.block = subst (IsControlPut c.args.design.checked.now.diagram c.args.design.plan.now (times_for c.args.design) c.args.hubs.now c.loop-block.asks c.control_end.new.asks) same c.in_ok-control_end.ensures in
+    let size = size_of c.as_slice-count.result.now c.diagram.result.now c.args.design.checked.now.diagram c.as_slice-count.ensures c.diagram.ensures in
+    let b = get_some c.args.design.checked.now.diagram.blocks c.loop-block.block (omega (arith, c.loop-block-test.true, size)) in
     let before : c.len-first.result ≡ length c.loop-block.asks.list.items = search rules in
     let behind : c.len.result ≡ length c.control_end.new.asks.list.items = search rules in
     let span : IsSpan (length c.loop-block.asks.list.items) (length c.control_end.new.asks.list.items) c.in_ok-span.span = rw (before, behind) at c.in_ok-span.ensures in
     let more : c.push.new.self ≡ c.loop-block.controls ++ c.in_ok-span.span ∷ [] = search rules in
     λ lines lined are.
-    rw more (controls_more c.args.design.checked.now.diagram c.args.design.plan.now (times_for c.args.design) c.args.hubs.now c.loop-block.asks c.control_end.new.asks lines c.loop-block.controls c.in_ok-span.span lined c.loop-block.block b.0 b.1 (c.loop-block.invariant lines lined are) span put)
+    rw more (controls_more c.args.design.checked.now.diagram c.args.design.plan.now (times_for c.args.design) c.args.hubs.now c.loop-block.asks c.control_end.new.asks lines c.loop-block.controls c.in_ok-span.span lined c.loop-block.block b.0 b.1 (c.loop-block.invariant lines lined are) span c.in_ok-control_end.ensures)
 
 pub returns : goal.returns
 returns c =
-    let bs : c.as_slice-count.result.now ≡ c.args.design.checked.now.diagram.blocks = c.as_slice-count.ensures ∙ ap (λ (d : Diagram). d.blocks) c.diagram.ensures in
-    let size = ap (λ (xs : List Block). length xs) bs in
+    let size = size_of c.as_slice-count.result.now c.diagram.result.now c.args.design.checked.now.diagram c.as_slice-count.ensures c.diagram.ensures in
     let here : c.loop-block.block ≡ length c.args.design.checked.now.diagram.blocks = (let low = c.loop-block.auto.block-end in let high = c.loop-block-test.false in omega (arith, low, high, size)) in
     λ lines lined are. controls_end c.args.design.checked.now.diagram c.args.design.plan.now (times_for c.args.design) c.args.hubs.now c.loop-block.asks lines c.loop-block.controls lined c.loop-block.block here (c.loop-block.invariant lines lined are)

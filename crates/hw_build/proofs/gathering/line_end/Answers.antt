@@ -50,53 +50,33 @@ returns-in_default c =
 pub period-requires-2 : goal.period-requires-2
 period-requires-2 c = slice_get_within c.args.design.checked.now.diagram.blocks c.args.edge.to c.block_at-one.result.now c.block_at-one.ensures
 
-pub late_end-requires-clause-from : goal.late_end-requires-clause-from
-late_end-requires-clause-from c = from_there c.args.design.checked.now.diagram c.requires.line.0 c.args.edge c.requires.designed.scheduled.checked.wired c.requires.line.1
+pub frame_after-frame-requires-clause-there : goal.frame_after-frame-requires-clause-there
+frame_after-frame-requires-clause-there c = from_there c.args.design.checked.now.diagram c.requires.line.0 c.args.edge c.requires.designed.scheduled.checked.wired c.requires.line.1
 
-pub late_end-requires-clause-behind : goal.late_end-requires-clause-behind
-late_end-requires-clause-behind c =
+pub line_use-to-requires-clause-behind : goal.line_use-to-requires-clause-behind
+line_use-to-requires-clause-behind c =
     let differs = c.if-shown_ports-eq0.false in
     let is = c.shown_ports.ensures in
     let moves : (attributes_of c.args.design.checked.now.diagram).period_at c.args.edge.from ≡ Some c.in-Some.period = sym c.period.ensures ∙ c.in-Some.is in
-    (asked c.ends_are_lawful.ensures c.requires.line.0 c.args.edge c.block_at-one.result.now c.requires.line.1 c.block_at-one.ensures (omega (arith, differs, is)) c.in-Some.period moves).late
+    rw c.frame_after-frame.ensures (asked c.ends_are_lawful.ensures c.requires.line.0 c.args.edge c.block_at-one.result.now c.requires.line.1 c.block_at-one.ensures (omega (arith, differs, is)) c.in-Some.period moves).late
 
-pub late_end-requires-clause-near : goal.late_end-requires-clause-near
-late_end-requires-clause-near c =
+pub line_use-to-requires-clause-near : goal.line_use-to-requires-clause-near
+line_use-to-requires-clause-near c =
     let differs = c.if-shown_ports-eq0.false in
     let is = c.shown_ports.ensures in
     let moves : (attributes_of c.args.design.checked.now.diagram).period_at c.args.edge.from ≡ Some c.in-Some.period = sym c.period.ensures ∙ c.in-Some.is in
     (asked c.ends_are_lawful.ensures c.requires.line.0 c.args.edge c.block_at-one.result.now c.requires.line.1 c.block_at-one.ensures (omega (arith, differs, is)) c.in-Some.period moves).near
 
-pub late_end-requires-clause-fits : goal.late_end-requires-clause-fits
-late_end-requires-clause-fits c =
+pub ask_late-requires-clause-fits : goal.ask_late-requires-clause-fits
+ask_late-requires-clause-fits c =
     let differs = c.if-shown_ports-eq0.false in
     let is = c.shown_ports.ensures in
     let moves : (attributes_of c.args.design.checked.now.diagram).period_at c.args.edge.from ≡ Some c.in-Some.period = sym c.period.ensures ∙ c.in-Some.is in
     let own : (attributes_of c.args.design.checked.now.diagram).period_at c.args.edge.to ≡ Some c.samples-own.result = period_by c.ends_are_lawful.ensures c.requires.line.0 c.args.edge c.block_at-one.result.now c.requires.line.1 c.block_at-one.ensures (omega (arith, differs, is)) c.in-Some.period c.samples-own.result moves (c.samples-own.ensures ∙ ap samples c.period-2.ensures) in
     λ element below. late_fits c.ends_are_lawful.ensures c.requires.line.0 c.args.edge c.block_at-one.result.now c.requires.line.1 c.block_at-one.ensures (omega (arith, differs, is)) c.in-Some.period c.samples-own.result c.at-first.result c.width-width.result element moves own (sym c.is_registered.ensures ∙ c.if-is_registered.true) c.at-first.ensures c.width-width.ensures below
 
-pub plain_end-requires-clause-from : goal.plain_end-requires-clause-from
-plain_end-requires-clause-from c = from_there c.args.design.checked.now.diagram c.requires.line.0 c.args.edge c.requires.designed.scheduled.checked.wired c.requires.line.1
-
-pub plain_end-requires-clause-to : goal.plain_end-requires-clause-to
-plain_end-requires-clause-to c = slice_get_within c.args.design.checked.now.diagram.blocks c.args.edge.to c.block_at-one.result.now c.block_at-one.ensures
-
-pub plain_end-requires-clause-behind : goal.plain_end-requires-clause-behind
-plain_end-requires-clause-behind c =
-    let differs = c.if-shown_ports-eq0.false in
-    let is = c.shown_ports.ensures in
-    let moves : (attributes_of c.args.design.checked.now.diagram).period_at c.args.edge.from ≡ Some c.in-Some.period = sym c.period.ensures ∙ c.in-Some.is in
-    (asked c.ends_are_lawful.ensures c.requires.line.0 c.args.edge c.block_at-one.result.now c.requires.line.1 c.block_at-one.ensures (omega (arith, differs, is)) c.in-Some.period moves).late
-
-pub plain_end-requires-clause-near : goal.plain_end-requires-clause-near
-plain_end-requires-clause-near c =
-    let differs = c.if-shown_ports-eq0.false in
-    let is = c.shown_ports.ensures in
-    let moves : (attributes_of c.args.design.checked.now.diagram).period_at c.args.edge.from ≡ Some c.in-Some.period = sym c.period.ensures ∙ c.in-Some.is in
-    (asked c.ends_are_lawful.ensures c.requires.line.0 c.args.edge c.block_at-one.result.now c.requires.line.1 c.block_at-one.ensures (omega (arith, differs, is)) c.in-Some.period moves).near
-
-pub plain_end-requires-clause-fits : goal.plain_end-requires-clause-fits
-plain_end-requires-clause-fits c =
+pub ask_plain-requires : goal.ask_plain-requires
+ask_plain-requires c =
     let differs = c.if-shown_ports-eq0.false in
     let is = c.shown_ports.ensures in
     hubs_fit c.ends_are_lawful.ensures c.requires.line.0 c.args.edge c.block_at-one.result.now c.requires.line.1 c.block_at-one.ensures (omega (arith, differs, is)) c.at-first.result c.width-width.result c.at-first.ensures c.width-width.ensures c.at-first.type_inv
@@ -107,10 +87,10 @@ returns-then-is_registered c =
     let is = c.shown_ports.ensures in
     let moves : (attributes_of c.args.design.checked.now.diagram).period_at c.args.edge.from ≡ Some c.in-Some.period = sym c.period.ensures ∙ c.in-Some.is in
     let own : (attributes_of c.args.design.checked.now.diagram).period_at c.args.edge.to ≡ Some c.samples-own.result = period_by c.ends_are_lawful.ensures c.requires.line.0 c.args.edge c.block_at-one.result.now c.requires.line.1 c.block_at-one.ensures (omega (arith, differs, is)) c.in-Some.period c.samples-own.result moves (c.samples-own.ensures ∙ ap samples c.period-2.ensures) in
-    on_ok_weaker c.late_end.result
-    (λ put. line_put c.ends_are_lawful.ensures c.args.edge c.block_at-one.result.now c.block_at-one.ensures c.args.asks.now c.late_end.new.asks
-    (late_line c.ends_are_lawful.ensures c.requires.line.0 c.args.edge c.block_at-one.result.now c.requires.line.1 c.block_at-one.ensures (omega (arith, differs, is)) c.in-Some.period moves c.args.asks.now.list.items c.late_end.new.asks.list.items c.args.asks.now.wants.items c.late_end.new.asks.wants.items c.at-first.result c.width-width.result c.samples-own.result own (sym c.is_registered.ensures ∙ c.if-is_registered.true) c.at-first.ensures c.width-width.ensures put))
-    c.late_end.ensures
+    on_ok_weaker c.ask_late.result
+    (λ put. line_put c.ends_are_lawful.ensures c.args.edge c.block_at-one.result.now c.block_at-one.ensures c.args.asks.now c.ask_late.new.asks
+    (late_line c.ends_are_lawful.ensures c.requires.line.0 c.args.edge c.block_at-one.result.now c.requires.line.1 c.block_at-one.ensures (omega (arith, differs, is)) c.in-Some.period moves c.args.asks.now.list.items c.ask_late.new.asks.list.items c.args.asks.now.wants.items c.ask_late.new.asks.wants.items c.at-first.result c.width-width.result c.samples-own.result own (sym c.is_registered.ensures ∙ c.if-is_registered.true) c.at-first.ensures c.width-width.ensures put))
+    (rw (c.line_use-to.ensures, c.frame_after-frame.ensures) at c.ask_late.ensures)
 
 pub returns-else-is_registered : goal.returns-else-is_registered
 returns-else-is_registered c =
@@ -118,10 +98,10 @@ returns-else-is_registered c =
     let is = c.shown_ports.ensures in
     let moves : (attributes_of c.args.design.checked.now.diagram).period_at c.args.edge.from ≡ Some c.in-Some.period = sym c.period.ensures ∙ c.in-Some.is in
     let own : (attributes_of c.args.design.checked.now.diagram).period_at c.args.edge.to ≡ Some c.samples-own.result = period_by c.ends_are_lawful.ensures c.requires.line.0 c.args.edge c.block_at-one.result.now c.requires.line.1 c.block_at-one.ensures (omega (arith, differs, is)) c.in-Some.period c.samples-own.result moves (c.samples-own.ensures ∙ ap samples c.period-2.ensures) in
-    on_ok_weaker c.plain_end.result
-    (λ put. line_put c.ends_are_lawful.ensures c.args.edge c.block_at-one.result.now c.block_at-one.ensures c.args.asks.now c.plain_end.new.asks
-    (plain_line c.ends_are_lawful.ensures c.requires.line.0 c.args.edge c.block_at-one.result.now c.requires.line.1 c.block_at-one.ensures (omega (arith, differs, is)) c.in-Some.period moves c.args.asks.now.list.items c.plain_end.new.asks.list.items c.args.asks.now.wants.items c.plain_end.new.asks.wants.items c.at-first.result c.width-width.result c.samples-own.result own (sym c.is_registered.ensures ∙ c.if-is_registered.false) c.at-first.ensures c.width-width.ensures put))
-    c.plain_end.ensures
+    on_ok_weaker c.ask_plain.result
+    (λ put. line_put c.ends_are_lawful.ensures c.args.edge c.block_at-one.result.now c.block_at-one.ensures c.args.asks.now c.ask_plain.new.asks
+    (plain_line c.ends_are_lawful.ensures c.requires.line.0 c.args.edge c.block_at-one.result.now c.requires.line.1 c.block_at-one.ensures (omega (arith, differs, is)) c.in-Some.period moves c.args.asks.now.list.items c.ask_plain.new.asks.list.items c.args.asks.now.wants.items c.ask_plain.new.asks.wants.items c.at-first.result c.width-width.result c.samples-own.result own (sym c.is_registered.ensures ∙ c.if-is_registered.false) c.at-first.ensures c.width-width.ensures put))
+    (rw (c.line_use-to.ensures, c.frame_after-frame.ensures) at c.ask_plain.ensures)
 
 pub ends_are_lawful-requires-clause-designed : goal.ends_are_lawful-requires-clause-designed
 ends_are_lawful-requires-clause-designed c = c.requires.designed
@@ -135,17 +115,20 @@ block_at-one-requires c = to_there c.args.design.checked.now.diagram c.requires.
 pub at-first-requires-clause-port : goal.at-first-requires-clause-port
 at-first-requires-clause-port c = (source_there c.args.design.checked.now.diagram c.requires.designed.scheduled.checked c.requires.line.0 c.args.edge c.requires.line.1).0
 
-pub late_end-requires-clause-designed : goal.late_end-requires-clause-designed
-late_end-requires-clause-designed c = c.requires.designed
+pub frame_after-frame-requires-clause-designed : goal.frame_after-frame-requires-clause-designed
+frame_after-frame-requires-clause-designed c = c.requires.designed
 
-pub late_end-requires-clause-is : goal.late_end-requires-clause-is
-late_end-requires-clause-is c = c.block_at-one.ensures
+pub frame_after-frame-requires-clause-period : goal.frame_after-frame-requires-clause-period
+frame_after-frame-requires-clause-period c = sym c.period.ensures ∙ c.in-Some.is
 
-pub late_end-requires-clause-period : goal.late_end-requires-clause-period
-late_end-requires-clause-period c = sym c.period.ensures ∙ c.in-Some.is
+pub line_use-to-requires-clause-designed : goal.line_use-to-requires-clause-designed
+line_use-to-requires-clause-designed c = c.requires.designed
 
-pub plain_end-requires-clause-designed : goal.plain_end-requires-clause-designed
-plain_end-requires-clause-designed c = c.requires.designed
+pub line_use-to-requires-clause-from : goal.line_use-to-requires-clause-from
+line_use-to-requires-clause-from c = from_there c.args.design.checked.now.diagram c.requires.line.0 c.args.edge c.requires.designed.scheduled.checked.wired c.requires.line.1
 
-pub plain_end-requires-clause-period : goal.plain_end-requires-clause-period
-plain_end-requires-clause-period c = sym c.period.ensures ∙ c.in-Some.is
+pub line_use-to-requires-clause-to : goal.line_use-to-requires-clause-to
+line_use-to-requires-clause-to c = slice_get_within c.args.design.checked.now.diagram.blocks c.args.edge.to c.block_at-one.result.now c.block_at-one.ensures
+
+pub ask_late-requires-clause-is : goal.ask_late-requires-clause-is
+ask_late-requires-clause-is c = c.block_at-one.ensures

@@ -11,7 +11,7 @@ pub pass_reset-requires-clause-kind : goal.pass_reset-requires-clause-kind
 pass_reset-requires-clause-kind c = c.requires.kind ∙ ap (λ (reset : Bool). EnOut reset c.args.initial.now) c.if-reset.true
 
 pub pass_reset-requires-clause-enable : goal.pass_reset-requires-clause-enable
-pass_reset-requires-clause-enable c = out_enabled c.args.site.design.checked.now.diagram c.args.site.place.block c.args.site.one.now c.args.reset c.args.initial.now c.keeps_rules.ensures.checked c.requires.shown.block_is c.requires.kind
+pass_reset-requires-clause-enable c = out_enabled c.args.site.design.checked.now.diagram c.args.site.place.block c.args.site.one.now c.args.reset c.args.initial.now c.requires.designed.scheduled.checked c.requires.shown.block_is c.requires.kind
 
 pub pass_reset-requires-clause-operands : goal.pass_reset-requires-clause-operands
 pass_reset-requires-clause-operands c =
@@ -22,7 +22,7 @@ pub pass_held-requires-clause-kind : goal.pass_held-requires-clause-kind
 pass_held-requires-clause-kind c = c.requires.kind ∙ ap (λ (reset : Bool). EnOut reset c.args.initial.now) c.if-reset.false
 
 pub pass_held-requires-clause-enable : goal.pass_held-requires-clause-enable
-pass_held-requires-clause-enable c = out_enabled c.args.site.design.checked.now.diagram c.args.site.place.block c.args.site.one.now c.args.reset c.args.initial.now c.keeps_rules.ensures.checked c.requires.shown.block_is c.requires.kind
+pass_held-requires-clause-enable c = out_enabled c.args.site.design.checked.now.diagram c.args.site.place.block c.args.site.one.now c.args.reset c.args.initial.now c.requires.designed.scheduled.checked c.requires.shown.block_is c.requires.kind
 
 pub pass_held-requires-clause-operands : goal.pass_held-requires-clause-operands
 pass_held-requires-clause-operands c =

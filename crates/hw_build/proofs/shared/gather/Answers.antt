@@ -37,7 +37,7 @@ loop-place-preserved c =
 pub overflow_cast-place : goal.overflow_cast-place
 overflow_cast-place c =
     let blocks : length c.as_slice-place-end.result.now ≡ length c.args.design.checked.now.diagram.blocks = ap (λ (bs : List Block). length bs) (c.as_slice-place-end.ensures ∙ ap (λ (d : Diagram). d.blocks) c.diagram.ensures) in
-    record { fits = omega (arith, blocks, c.loop-place-test.true, c.keeps_rules.ensures.checked.wired.size) }
+    record { fits = omega (arith, blocks, c.loop-place-test.true, c.requires.designed.scheduled.checked.wired.size) }
 
 pub gather_block-requires-clause-designed : goal.gather_block-requires-clause-designed
 gather_block-requires-clause-designed c = c.requires.designed

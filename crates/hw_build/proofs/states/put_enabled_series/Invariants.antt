@@ -1,7 +1,0 @@
-use Rattle.std.proofs.Common.{◌≡◌, ◌∷◌, []}
-use Rattle.hw_net.specs.declared.netlist.NetKind.TheVariants.{EnReg}
-use Rattle.hw_build.specs.inner.Registering.{AreSeries, taken_by}
-use Rattle.hw_build.proofs.states.put_enabled_series.Given as goal
-
-abbrev pub invariant-loop-step : goal.invariant-loop-step
-invariant-loop-step l = AreSeries (λ last. EnReg l.fn.frame l.fn.enable l.fn.reset l.fn.first last) l.fn.net l.net (l.fn.enable ∷ l.fn.from ∷ []) l.fn.frame l.fn.word l.fn.from l.begin l._step × (l.last ≡ taken_by l.fn.from l.begin l._step)
