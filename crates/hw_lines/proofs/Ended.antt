@@ -9,7 +9,7 @@ use Rattle.hw_net.specs.NetRows.{Rows, span_of}
 use Rattle.hw_net.specs.Registers.{IsReg, IsBridge}
 use Rattle.hw_net.specs.Growing.{Extends}
 use Rattle.hw_net.specs.Frames.{register_count}
-use Rattle.hw_net.proofs.Growing.{longer, extends-self, in-rows-first, in-rows-last, in-rows-map, in-rows-both}
+use Rattle.hw_net.proofs.Growing.{longer, in-rows-first, in-rows-last, in-rows-map, in-rows-both}
 use Rattle.hw_lines.specs.declared.source.Source.{Source}
 use Rattle.hw_lines.specs.declared.source.Use.{Use}
 use Rattle.hw_lines.specs.Line.{ShowsLater}
@@ -139,10 +139,6 @@ module _ (source : Source) (one : Use) (some : 0 < source.frame.period) (use_is 
         holds = λ yes. reg-earlier before now new number p held.new;
         stands = inr (omega (arith, held.new.new, longer before now p));
       }
-
--- what was put in for the end
-pub no-ends : (now : Circuit) (source : Source) (taps : List ℕ) (one : Use) → Ends now now source taps one
-no-ends now source taps one = record { extends = extends-self now; grown = λ before uses among are grown. grown; few = omega arith }
 
 pub held-ends : (now new : Circuit) (source : Source) (taps : List ℕ) (one : Use) (k tap : ℕ) → slice_get taps k ≡ Some tap → Grows now new tap ⊥ (λ (other : Frame). other ≡ source.frame)
     → register_count new.nets ≡ register_count now.nets + 1 → Ends now new source taps one

@@ -16,7 +16,7 @@ use Rattle.hw_net.specs.Closed.{CounterIsTelling}
 use Rattle.hw_net.specs.Frames.{counter_of, IsCounterAt}
 use Rattle.hw_net.specs.Registers.{IsCounter}
 use Rattle.hw_net.specs.Netlist.{HasWord}
-use Rattle.hw_net.specs.NetRows.{Rows, span_of}
+use Rattle.hw_net.specs.NetRows.{span_of}
 use Rattle.hw_net.specs.Growing.{Extends, InRows, IsCounted, MayReadNow, with_net}
 use Rattle.hw_net.proofs.Growing.{longer, still-there, extends-trans, is-counter-stays, in-rows-first, in-rows-last, in-rows-both, in-rows-one}
 use Rattle.hw_share.specs.inner.Parts.{IsNamed, Grows, IsChoosing, IsThere}
@@ -152,9 +152,6 @@ module _ (a b : Circuit) (test chosen other number : ℕ) (there : IsThere a tes
 
   chosen-in : InRows a b (λ n rows. (c : ℕ) → c < n → InWord one.there.net.width one.there.net.signed (rows chosen c))
   chosen-in = in-word-later a b chosen one.there.net (put-extends a b choice grown) one.there.is
-
-  abbrev cut : ℕ → Rows → Type 0
-  cut n rows = (c : ℕ) → c < n → IsWrapped (if not (int_eq (rows test c) (pos 0)) then rows chosen c else rows other c) one.there.net.width one.there.net.signed (rows number c)
 
   choice-cut : InRows a b (λ n rows. (c : ℕ) → c < n → IsWrapped (if not (int_eq (rows test c) (pos 0)) then rows chosen c else rows other c) one.there.net.width one.there.net.signed (rows number c))
   choice-cut = in-rows-one a b choice number (λ n rows. (c : ℕ) → c < n → IsWrapped (if not (int_eq (rows test c) (pos 0)) then rows chosen c else rows other c) one.there.net.width one.there.net.signed (rows number c)) last grown

@@ -1,4 +1,4 @@
--- One net put behind the others.
+-- One net put behind the others. Crates above may cite this file.
 use Rattle.std.proofs.Common.{◌≡◌, ℕ, ◌<◌, inl, inr, Bool, if◌then◌else◌, List, [], ◌∷◌, length, All, Some, None, slice_get, ap, sym, ◌∙◌, subst, arith, refl}
 use Rattle.std.proofs.lemmas.Option.{none-some}
 use Rattle.fx_num.specs.Word.{IsWord}
@@ -19,9 +19,6 @@ module _ (a b : Circuit) (one : Net) (grown : b ≡ with_net a one) where
 
   pub put-there : slice_get b.nets (length a.nets) ≡ Some one
   put-there = ap (λ (x : Circuit). slice_get x.nets (length a.nets)) grown ∙ last-of a.nets one
-
-  pub put-within : length a.nets < length b.nets
-  put-within = omega (arith, one-longer a b one grown)
 
   pub put-grows : (named : List ℕ) (part : NetKind → Type 0) (count : ℕ) → IsAppended a b named (length a.nets) one → counted_frame one.kind ≡ None → part one.kind
       → (if is_register one.kind then 1 else 0) ≡ count → Grows a b named part count
