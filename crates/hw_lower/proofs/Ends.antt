@@ -52,9 +52,6 @@ highest-small width false word =
 pub greatest-near : (width : ℕ) (signed : Bool) (up : ℕ) (v : ℤ) → ((v *ℤ pos (2 ^ up)) ≤ℤ word_highest width signed) ↔ (v ≤ℤ shr_z (word_highest width signed) (2 ^ up))
 greatest-near width signed up = up-bound (word_highest width signed) (shr_z (word_highest width signed) (2 ^ up)) (2 ^ up) (shr-divided (word_highest width signed) up)
 
-pub greatest-least : (width : ℕ) (signed : Bool) (up : ℕ) → pos 0 ≤ℤ shr_z (word_highest width signed) (2 ^ up)
-greatest-least width signed up = (greatest-near width signed up (pos 0)).0 (omega (arith, ints, highest-least width signed))
-
 pub greatest-far : (width : ℕ) (signed : Bool) (up : ℕ) → IsWord width signed → 127 ≤ up → (v : ℤ) → ((v *ℤ pos (2 ^ up)) ≤ℤ word_highest width signed) ↔ (v ≤ℤ pos 0)
 greatest-far width signed up word past =
     let more : 2 ^ 127 ≤ 2 ^ up = pow_mono past in
@@ -74,12 +71,6 @@ least-near width signed up less v =
     let exact = lowest-exact width signed up less in
     let same : shr_z (word_lowest width signed) (2 ^ up) ≡ exact.0 = ap (λ (z : ℤ). shr_z z (2 ^ up)) exact.1.0 ∙ shr_exact exact.0 up in
     subst (λ (z : ℤ). (word_lowest width signed ≤ℤ (v *ℤ pos (2 ^ up))) ↔ (z ≤ℤ v)) (sym same) (low-bound (word_lowest width signed) exact.0 (2 ^ up) (pow_pos up) exact.1.0 v)
-
-pub least-most : (width : ℕ) (signed : Bool) (up : ℕ) → up < width → shr_z (word_lowest width signed) (2 ^ up) ≤ℤ pos 0
-least-most width signed up less =
-    let exact = lowest-exact width signed up less in
-    let same : shr_z (word_lowest width signed) (2 ^ up) ≡ exact.0 = ap (λ (z : ℤ). shr_z z (2 ^ up)) exact.1.0 ∙ shr_exact exact.0 up in
-    omega (arith, ints, same, exact.1.1)
 
 lowest-large : (width : ℕ) (signed : Bool) (up : ℕ) → IsWord width signed → width ≤ up → neg_ℤ (pos (2 ^ up)) <ℤ word_lowest width signed
 lowest-large width true up word past =

@@ -11,7 +11,7 @@ use Rattle.hw_net.proofs.Numbers.{wrapped-is}
 use Rattle.hw_lower.specs.declared.plan.Word.{Word}
 use Rattle.hw_lower.specs.declared.plan.Step.{Step}
 use Rattle.hw_lower.specs.declared.plan.Operand.{Operand}
-use Rattle.hw_lower.specs.inner.Planned.{Numbers, Obeys, IsAt, HasParts, CanRead, IsPlain, IsSound, Grows, Gives, IsMade, IsPut, reads_of, operands_of, three, no_inputs, step_of}
+use Rattle.hw_lower.specs.inner.Planned.{Numbers, Obeys, IsAt, HasParts, CanRead, IsPlain, IsSound, Grows, IsMade, IsPut, reads_of, operands_of, three, no_inputs, step_of}
 
 -- Lists.
 
@@ -23,17 +23,11 @@ still-at old added new k step is there = ap (λ (xs : List Step). slice_get xs k
 pub stood-at : (old added new : List Step) (k : ℕ) (step : Step) → new ≡ old ++ added → k < length old → slice_get new k ≡ Some step → slice_get old k ≡ Some step
 stood-at old added new k step is inside there = sym (get_front old added k inside) ∙ ap (λ (xs : List Step). slice_get xs k) (sym is) ∙ there
 
-pub grown-size : (old new : List Step) → Grows old new → length old ≤ length new
-grown-size old new g = omega (arith, ap length g.is, length-append old g.added)
-
 pub at-later : (old new : List Step) (one : Operand) → Grows old new → IsAt old one → IsAt new one
 at-later old new one g at = record { step = at.step; is = still-at old g.added new one.place at.step g.is at.is; word = at.word; valid = at.valid }
 
 pub obeys-before : (old new : List Step) (inputs numbers : Numbers) → Grows old new → Obeys new inputs numbers → Obeys old inputs numbers
 obeys-before old new inputs numbers g obeys = record { each = λ k step there. obeys.each k step (still-at old g.added new k step g.is there) }
-
-pub gives-later : (old new : List Step) (P : Numbers → Type 0) → Grows old new → Gives old P → Gives new P
-gives-later old new P g gives = record { holds = λ inputs numbers obeys. gives.holds inputs numbers (obeys-before old new inputs numbers g obeys) }
 
 pub grows-self : (plan : List Step) → Grows plan plan
 grows-self plan = record {
@@ -71,20 +65,24 @@ sound-later old added new k step is inside sound = record {
   parts = parts-later old added new step.op step.first step.second step.third is (λ i d within. omega (arith, sound.before i d within, inside)) sound.parts;
 }
 
+-- what is so of each step behind one plan and, in a third, of each behind a second is so of all behind the first
+pub each-trans : (a b added c : List Step) (P Q : ℕ → Step → Type 0) → c ≡ b ++ added → ((k : ℕ) (step : Step) → k < length b → P k step → Q k step) → ((k : ℕ) (step : Step) → length a ≤ k → slice_get b k ≡ Some step → P k step)
+    → ((k : ℕ) (step : Step) → length b ≤ k → slice_get c k ≡ Some step → Q k step) → (k : ℕ) (step : Step) → length a ≤ k → slice_get c k ≡ Some step → Q k step
+each-trans a b added c P Q is keeps before behind k step past there = elim (cases_lt k (length b)) [
+  | inl less ↦ keeps k step less (before k step past (stood-at b added c k step is less there))
+  | inr more ↦ behind k step more there
+]
+
+pub sound-trans : (a b added c : List Step) → c ≡ b ++ added → ((k : ℕ) (step : Step) → length a ≤ k → slice_get b k ≡ Some step → IsSound b k step) → ((k : ℕ) (step : Step) → length b ≤ k → slice_get c k ≡ Some step → IsSound c k step)
+    → (k : ℕ) (step : Step) → length a ≤ k → slice_get c k ≡ Some step → IsSound c k step
+sound-trans a b added c is = each-trans a b added c (IsSound b) (IsSound c) is (λ k step less sound. sound-later b added c k step is less sound)
+
 pub grows-trans : (a b c : List Step) → Grows a b → Grows b c → Grows a c
 grows-trans a b c p q = record {
   added = p.added ++ q.added;
   is = q.is ∙ ap (λ (xs : List Step). xs ++ q.added) p.is ∙ append_assoc a p.added q.added;
-  sound = λ k step past there.
-      elim (cases_lt k (length b)) [
-        | inl less ↦ sound-later b q.added c k step q.is less (p.sound k step past (stood-at b q.added c k step q.is less there))
-        | inr more ↦ q.sound k step more there
-      ];
-  plain = λ k step past there.
-      elim (cases_lt k (length b)) [
-        | inl less ↦ p.plain k step past (stood-at b q.added c k step q.is less there)
-        | inr more ↦ q.plain k step more there
-      ];
+  sound = sound-trans a b q.added c q.is p.sound q.sound;
+  plain = each-trans a b q.added c (λ k step. IsPlain step.op) (λ k step. IsPlain step.op) q.is (λ k step less plain. plain) p.plain q.plain;
 }
 
 -- one step more

@@ -1,7 +1,7 @@
 -- A product is in the word of its full type. Crates above may cite this file.
 use Rattle.std.proofs.Common.{◌≡◌, ℕ, ◌-◌, ◌*◌, ◌^◌, ◌<◌, ◌≤◌, Bool, true, false, true≢false, cond, ◌||◌, ℤ, pos, ◌*ℤ◌, ◌≤ℤ◌, ap, sym, mul_comm, ◌∙◌, arith, pow_pos, unsigned_abs, refl, subst}
 use Rattle.std.proofs.lemmas.Int.{ints}
-use Rattle.std.proofs.Math.Dec.{lit<, lit≤}
+use Rattle.std.proofs.Math.Dec.{lit<}
 use Rattle.fx_num.specs.Word.{InWord, IsWrapped}
 use Rattle.fx_type.specs.declared.kind.FxType.{FxType}
 use Rattle.fx_type.specs.declared.kind.FxType.TheVariants.{Num, Logical}
@@ -78,9 +78,3 @@ module _ (a b full : FxType) (x y : ℤ) (valid_a : IsType a) (valid_b : IsType 
   -- cut to the word of the full type it stays
   pub product-is : (r : ℤ) → IsWrapped (x *ℤ y) (width_of full) (is_signed full) r → r ≡ x *ℤ y
   product-is r is = wrapped-is (x *ℤ y) (width_of full) (is_signed full) r (type-word full is_full.valid) product-in-word is
-
--- no type is wider than 128 bits
-pub width-most : (type : FxType) → IsType type → width_of type ≤ 128
-width-most (Num true width frac) valid = valid.0.1
-width-most (Num false width frac) valid = omega (arith, valid.0.1)
-width-most Logical valid = lit≤ tt

@@ -11,7 +11,7 @@ use Rattle.hw_lower.specs.declared.plan.Operand.{Operand}
 use Rattle.hw_lower.specs.inner.Planned.{Numbers, IsAt, IsPlain, IsSound, Grows, Gives, IsMade, IsPut, step_of, Obeys}
 use Rattle.hw_lower.specs.inner.Spread.{IsInner, IsMultiplyAt, Spreads, IsPlanned}
 use Rattle.fx_io.proofs.Places.{last_at}
-use Rattle.hw_lower.proofs.Made.{last-is, still-at, stood-at, sound-later, obeys-before, below-taken}
+use Rattle.hw_lower.proofs.Made.{last-is, still-at, stood-at, each-trans, sound-trans, obeys-before, below-taken}
 use Rattle.hw_lower.proofs.Chained.{InWords, in-words}
 
 plain-inner : (op : NetOp) → IsPlain op → IsInner op
@@ -76,16 +76,8 @@ pub spreads-then : (a b c : List Step) (m : Option ℕ) → Spreads a b m → Gr
 spreads-then a b c m p q = record {
   added = p.added ++ q.added;
   is = q.is ∙ ap (λ (xs : List Step). xs ++ q.added) p.is ∙ append_assoc a p.added q.added;
-  sound = λ k step past there.
-      elim (cases_lt k (length b)) [
-        | inl less ↦ sound-later b q.added c k step q.is less (p.sound k step past (stood-at b q.added c k step q.is less there))
-        | inr more ↦ q.sound k step more there
-      ];
-  inner = λ k step past there.
-      elim (cases_lt k (length b)) [
-        | inl less ↦ p.inner k step past (stood-at b q.added c k step q.is less there)
-        | inr more ↦ plain-inner step.op (q.plain k step more there)
-      ];
+  sound = sound-trans a b q.added c q.is p.sound q.sound;
+  inner = each-trans a b q.added c (λ k step. IsInner step.op) (λ k step. IsInner step.op) q.is (λ k step less inner. inner) p.inner (λ k step more there. plain-inner step.op (q.plain k step more there));
   multiplies = λ place e.
       let at = p.multiplies place e in
       record { step = at.step; is = still-at b q.added c (length a + place) at.step q.is at.is; multiplies = at.multiplies };
@@ -101,16 +93,8 @@ pub spreads-after : (a b c : List Step) → Grows a b → length b ≡ length a 
 spreads-after a b c p size q = record {
   added = p.added ++ q.added;
   is = q.is ∙ ap (λ (xs : List Step). xs ++ q.added) p.is ∙ append_assoc a p.added q.added;
-  sound = λ k step past there.
-      elim (cases_lt k (length b)) [
-        | inl less ↦ sound-later b q.added c k step q.is less (p.sound k step past (stood-at b q.added c k step q.is less there))
-        | inr more ↦ q.sound k step more there
-      ];
-  inner = λ k step past there.
-      elim (cases_lt k (length b)) [
-        | inl less ↦ plain-inner step.op (p.plain k step past (stood-at b q.added c k step q.is less there))
-        | inr more ↦ q.inner k step more there
-      ];
+  sound = sound-trans a b q.added c q.is p.sound q.sound;
+  inner = each-trans a b q.added c (λ k step. IsPlain step.op) (λ k step. IsInner step.op) q.is (λ k step less plain. plain-inner step.op plain) p.plain q.inner;
   multiplies = λ place e.
       let one : place ≡ 1 = sym (same_Some 1 place e) in
       let at = q.multiplies 0 refl in
@@ -130,9 +114,6 @@ spreads-after a b c p size q = record {
 -- the plan that was there obeyed, too
 pub obeys-spread : (old new : List Step) (m : Option ℕ) (inputs numbers : Numbers) → Spreads old new m → Obeys new inputs numbers → Obeys old inputs numbers
 obeys-spread old new m inputs numbers p obeys = record { each = λ k step there. obeys.each k step (still-at old p.added new k step p.is there) }
-
-pub at-spread : (old new : List Step) (m : Option ℕ) (one : Operand) → Spreads old new m → IsAt old one → IsAt new one
-at-spread old new m one p at = record { step = at.step; is = still-at old p.added new one.place at.step p.is at.is; word = at.word; valid = at.valid }
 
 -- a plan with no Multiply
 pub if-plain : {E : Type 0} (old new : List Step) (word : Word) (P Q : Operand → Numbers → Type 0) (result : Result Operand E)

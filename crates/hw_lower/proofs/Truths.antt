@@ -19,10 +19,6 @@ pub not-truth : (b : Bool) → pos 1 -ℤ stored_truth b ≡ stored_truth (not b
 not-truth true = omega (arith, ints)
 not-truth false = omega (arith, ints)
 
-only-true : (b : Bool) → ¬ (b ≡ false) → b ≡ true
-only-true true h = refl
-only-true false h = absurd (h refl)
-
 pub lt-no : (a b : ℤ) → b ≤ℤ a → int_lt a b ≡ false
 lt-no a b h = only-false (int_lt a b) (λ e. omega (arith, ints))
 
