@@ -7,6 +7,7 @@ ghost use Rattle.hw_build.specs.inner.Designed.{IsDesigned};
 ghost use Rattle.hw_build.specs.inner.Entries.{hands_on};
 ghost use Rattle.hw_build.specs.inner.Sites.{HasOperands, IsSite, Puts, types_at};
 
+use crate::firsts::list_of;
 use crate::kept::{delayed, passed_out};
 use crate::lowering::initial;
 use crate::parts::{put_const, word_of};
@@ -98,25 +99,17 @@ pub fn put_entry<'a>(
     requires operands { HasOperands net.old site site.one.now.kind }
     ensures { IfOk result (Puts site.entry net.old net.new) }
 {
+    let list = list_of(&site.one.kind);
     match &site.one.kind {
         Kind::Inport { .. } | Kind::Mux { .. } | Kind::Demux { .. } | Kind::RateTransition { .. } =>
             Ok(handed(net, site)),
-        Kind::Constant { value } => constant(alloc, net, site, value.as_slice()),
+        Kind::Constant { .. } => constant(alloc, net, site, list),
         Kind::Ground => ground(alloc, net, site),
-        Kind::Gain { value, .. } => scaled(alloc, net, site, types, value.as_slice()),
-        Kind::Switch {
-            criterion,
-            threshold,
-        } => switched(alloc, net, site, types, *criterion, threshold.as_slice()),
+        Kind::Gain { .. } => scaled(alloc, net, site, types, list),
+        Kind::Switch { criterion, .. } => { switched(alloc, net, site, types, *criterion, list) }
         Kind::EnableTest => tested(alloc, net, site, types),
-        Kind::Delay {
-            length,
-            initial,
-            reset,
-        } => delayed(net, site, *length, initial.as_slice(), *reset),
-        Kind::EnOut { reset, initial } => {
-            passed_out(alloc, net, site, initial.as_slice(), *reset)
-        }
+        Kind::Delay { length, reset, .. } => delayed(net, site, *length, list, *reset),
+        Kind::EnOut { reset, .. } => passed_out(alloc, net, site, list, *reset),
         Kind::Sum { .. }
         | Kind::Product
         | Kind::Relational { .. }

@@ -19,7 +19,7 @@ pub fn place_in(width: usize, element: u32) -> usize
 }
 
 /// The list parameter of a block of this kind, empty where it has none.
-fn list_of(kind: &Kind) -> &[Decimal]
+pub fn list_of(kind: &Kind) -> &[Decimal]
     ensures { result.now ≡ first_list (row_of kind.now).signal.lists }
 {
     match kind.list() {

@@ -1,11 +1,18 @@
-use Rattle.std.proofs.Common.{inl, inr, List, sym, ap, ◌∙◌}
+use Rattle.std.proofs.Common.{◌≡◌, inl, inr, List, sym, ap, ◌∙◌}
 use Rattle.fx_type.specs.declared.decimal.Decimal.{Decimal}
+use Rattle.dg_model.specs.declared.kind.Kind.{Kind}
 use Rattle.dg_model.specs.declared.kind.Kind.TheVariants.{Constant, Gain, Switch, Delay, EnOut}
 use Rattle.dg_model.specs.Attributes.{attributes_of}
+use Rattle.dg_model.specs.Library.{row_of}
 use Rattle.dg_model.specs.Wires.{period_into}
+use Rattle.hw_sched.specs.Chained.{first_list}
 use Rattle.hw_build.specs.inner.Entries.{hands_on, works_plainly}
 use Rattle.hw_build.proofs.Parameters.{shows_none}
 use Rattle.hw_build.proofs.entries.put_entry.Goals as goal
+
+-- what is read as the list of a kind is the list of the kind that it is
+list_is : (kind same : Kind) (list : List Decimal) → list ≡ first_list (row_of kind).signal.lists → kind ≡ same → first_list (row_of same).signal.lists ≡ list
+list_is kind same list read is = sym (read ∙ ap (λ (k : Kind). first_list (row_of k).signal.lists) is)
 
 pub handed-requires-clause-hands : goal.handed-requires-clause-hands
 handed-requires-clause-hands c =
@@ -27,7 +34,7 @@ pub constant-requires-clause-shown : goal.constant-requires-clause-shown
 constant-requires-clause-shown c = c.requires.shown
 
 pub constant-requires-clause-kind : goal.constant-requires-clause-kind
-constant-requires-clause-kind c = c.in-Constant.is ∙ ap Constant (sym c.as_slice.ensures)
+constant-requires-clause-kind c = c.in-Constant.is ∙ ap Constant (list_is c.args.site.one.now.kind (Constant c.in-Constant.value) c.list_of-list.result.now c.list_of-list.ensures c.in-Constant.is)
 
 pub ground-requires-clause-shown : goal.ground-requires-clause-shown
 ground-requires-clause-shown c = c.requires.shown
@@ -45,7 +52,7 @@ pub scaled-requires-clause-operands : goal.scaled-requires-clause-operands
 scaled-requires-clause-operands c = c.requires.operands
 
 pub scaled-requires-clause-kind : goal.scaled-requires-clause-kind
-scaled-requires-clause-kind c = (c.in-Gain.param, c.in-Gain.is ∙ ap (λ (list : List Decimal). Gain list c.in-Gain.param) (sym c.as_slice-in-Gain.ensures))
+scaled-requires-clause-kind c = (c.in-Gain.param, c.in-Gain.is ∙ ap (λ (list : List Decimal). Gain list c.in-Gain.param) (list_is c.args.site.one.now.kind (Gain c.in-Gain.value c.in-Gain.param) c.list_of-list.result.now c.list_of-list.ensures c.in-Gain.is))
 
 pub switched-requires-clause-shown : goal.switched-requires-clause-shown
 switched-requires-clause-shown c = c.requires.shown
@@ -57,7 +64,7 @@ pub switched-requires-clause-operands : goal.switched-requires-clause-operands
 switched-requires-clause-operands c = c.requires.operands
 
 pub switched-requires-clause-kind : goal.switched-requires-clause-kind
-switched-requires-clause-kind c = c.in-Switch.is ∙ ap (Switch c.in-Switch.criterion) (sym c.as_slice-in-Switch.ensures)
+switched-requires-clause-kind c = c.in-Switch.is ∙ ap (Switch c.in-Switch.criterion) (list_is c.args.site.one.now.kind (Switch c.in-Switch.criterion c.in-Switch.threshold) c.list_of-list.result.now c.list_of-list.ensures c.in-Switch.is)
 
 pub tested-requires-clause-shown : goal.tested-requires-clause-shown
 tested-requires-clause-shown c = c.requires.shown
@@ -84,7 +91,7 @@ pub delayed-requires-clause-operands : goal.delayed-requires-clause-operands
 delayed-requires-clause-operands c = c.requires.operands
 
 pub delayed-requires-clause-kind : goal.delayed-requires-clause-kind
-delayed-requires-clause-kind c = c.in-Delay.is ∙ ap (λ (list : List Decimal). Delay c.in-Delay.length list c.in-Delay.reset) (sym c.as_slice-in-Delay.ensures)
+delayed-requires-clause-kind c = c.in-Delay.is ∙ ap (λ (list : List Decimal). Delay c.in-Delay.length list c.in-Delay.reset) (list_is c.args.site.one.now.kind (Delay c.in-Delay.length c.in-Delay.initial c.in-Delay.reset) c.list_of-list.result.now c.list_of-list.ensures c.in-Delay.is)
 
 pub passed_out-requires-clause-designed : goal.passed_out-requires-clause-designed
 passed_out-requires-clause-designed c = c.requires.designed
@@ -99,7 +106,7 @@ pub passed_out-requires-clause-operands : goal.passed_out-requires-clause-operan
 passed_out-requires-clause-operands c = c.requires.operands
 
 pub passed_out-requires-clause-kind : goal.passed_out-requires-clause-kind
-passed_out-requires-clause-kind c = c.in-EnOut.is ∙ ap (EnOut c.in-EnOut.reset) (sym c.as_slice-in-EnOut.ensures)
+passed_out-requires-clause-kind c = c.in-EnOut.is ∙ ap (EnOut c.in-EnOut.reset) (list_is c.args.site.one.now.kind (EnOut c.in-EnOut.reset c.in-EnOut.initial) c.list_of-list.result.now c.list_of-list.ensures c.in-EnOut.is)
 
 pub put_worked-requires-clause-shown : goal.put_worked-requires-clause-shown
 put_worked-requires-clause-shown c = c.requires.shown
