@@ -1,7 +1,18 @@
-use Rattle.std.proofs.Common.{◌≡◌, ◌+◌, ◌*◌, ℤ, ℕ, List, length, ap, sym, subst, ◌∙◌, arith}
+use Rattle.std.proofs.Common.{◌≡◌, ◌≤◌, ◌+◌, ◌*◌, ℤ, ℕ, List, length, refl, ap, sym, subst, ◌∙◌, arith}
+use Rattle.std.proofs.Math.Nat.{mul-le-mul_right}
 use Rattle.std.proofs.lemmas.List.{with_items_is}
+use Rattle.vl_eval.specs.Machine.{source_of}
 use Rattle.vl_replay.specs.inner.Played.{IsPlayed}
+use Rattle.vl_replay.proofs.Scores.{samplers-many}
 use Rattle.vl_replay.proofs.replay.Replay.begin.Goals as goal
+
+pub overflow_mul-self : goal.overflow_mul-self
+overflow_mul-self c =
+    let replay = c.args.self.now in
+    let many = c.len-2.ensures ∙ replay.score.samplers.ok.0 ∙ samplers-many (source_of replay.machine) replay.score c.requires.score in
+    let few = c.requires.outputs in
+    let le : replay.window * c.len-2.result ≤ 16777217 * c.len-2.result = mul-le-mul_right c.len-2.result c.requires.window.few in
+    omega (arith, le, many, few)
 
 pub play_ahead-requires : goal.play_ahead-requires
 play_ahead-requires c =
@@ -35,3 +46,9 @@ returns-clause-stands c =
       played = subst (λ (items : List ℤ). IsPlayed score replay.window ((0 + replay.delay) * score.cycles) c.play_ahead.new.machine items) (sym (with_items_is cells c.play_ahead.new.cells long))
           (subst (λ (n : ℕ). IsPlayed score replay.window (n * score.cycles) c.play_ahead.new.machine c.play_ahead.new.cells) first c.in_ok-play_ahead.ensures.played);
     }
+
+pub returns-clause-source : goal.returns-clause-source
+returns-clause-source c = c.play_ahead.ensures.source
+
+pub returns-clause-stimulus : goal.returns-clause-stimulus
+returns-clause-stimulus c = refl

@@ -13,10 +13,11 @@ row-of replay sample start outputs cells many begins is =
     let all : start + outputs - start ≡ outputs = omega arith in
     λ i. take ((all ∙ many) i) (drop ((begins ∙ ap (λ k. sample % replay.window * k) many) i) (is i))
 
--- the ring has its rows
-rows-long : (replay : Replay) (sample : ℕ) → StandsBefore replay sample → (cells : List ℤ) (outputs : ℕ) → cells ≡ replay.cells.items → outputs ≡ length replay.score.samplers.items → length cells ≡ replay.window * outputs
-rows-long replay sample stands cells outputs is many =
-    ap length is ∙ stands.played.have.long ∙ ap (λ (n : ℕ). replay.window * n) (sym (many ∙ samplers-many (source_of replay.machine) replay.score stands.played.score_is))
+-- and stands in it
+row-within : (replay : Replay) (sample : ℕ) → StandsBefore replay sample → (cells : List ℤ) (start outputs : ℕ) → cells ≡ replay.cells.items → outputs ≡ length replay.score.samplers.items → start + outputs ≤ replay.window * outputs → start + outputs ≤ length cells
+row-within replay sample stands cells start outputs is many within =
+    let long = ap length is ∙ stands.played.have.long ∙ ap (λ (n : ℕ). replay.window * n) (sym (many ∙ samplers-many (source_of replay.machine) replay.score stands.played.score_is)) in
+    omega (arith, long, within)
 
 pub returns-clause-sampled : goal.returns-clause-sampled
 returns-clause-sampled c = λ table is.
@@ -42,18 +43,23 @@ start_of-start-requires-clause-some c = c.requires.stands.window.some
 pub slice_bounds-result-count : goal.slice_bounds-result-count
 slice_bounds-result-count c = omega arith
 
+pub slice_bounds-result-start : goal.slice_bounds-result-start
+slice_bounds-result-start c = omega arith
+
+pub slice_bounds-result-end : goal.slice_bounds-result-end
+slice_bounds-result-end c =
+    let replay = c.args.self.now in
+    row-within replay (c.args.sample + 1) c.requires.stands c.deref.result.now c.start_of-start.result c.len-outputs.result c.deref.ensures.value (c.len-outputs.ensures ∙ replay.score.samplers.ok.0) c.start_of-start.ensures.within
+
 pub offset_bounds-deref-start : goal.offset_bounds-deref-start
 offset_bounds-deref-start c =
     let replay = c.args.self.now in
-    let long = rows-long replay (c.args.sample + 1) c.requires.stands c.deref.result.now c.len-outputs.result c.deref.ensures.value (c.len-outputs.ensures ∙ replay.score.samplers.ok.0) in
-    let within = c.start_of-start.ensures.within in
-    let low : c.start_of-start.result ≤ length c.deref.result.now = omega (arith, long, within) in
+    let within = row-within replay (c.args.sample + 1) c.requires.stands c.deref.result.now c.start_of-start.result c.len-outputs.result c.deref.ensures.value (c.len-outputs.ensures ∙ replay.score.samplers.ok.0) c.start_of-start.ensures.within in
+    let low : c.start_of-start.result ≤ length c.deref.result.now = omega (arith, within) in
     omega arith
 
 pub overflow_add-result : goal.overflow_add-result
 overflow_add-result c =
     let replay = c.args.self.now in
-    let long = rows-long replay (c.args.sample + 1) c.requires.stands c.deref.result.now c.len-outputs.result c.deref.ensures.value (c.len-outputs.ensures ∙ replay.score.samplers.ok.0) in
-    let within = c.start_of-start.ensures.within in
-    let low : c.start_of-start.result + c.len-outputs.result ≤ length c.deref.result.now = omega (arith, long, within) in
+    let within = row-within replay (c.args.sample + 1) c.requires.stands c.deref.result.now c.start_of-start.result c.len-outputs.result c.deref.ensures.value (c.len-outputs.ensures ∙ replay.score.samplers.ok.0) c.start_of-start.ensures.within in
     omega arith
