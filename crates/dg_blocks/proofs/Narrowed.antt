@@ -1,9 +1,9 @@
 -- A prepared conversion in 64 bits gives the conversion.
-use Rattle.std.proofs.Common.{◌≡◌, ℕ, zero, suc, ◌+◌, ◌-◌, ◌^◌, ◌≤◌, Bool, true, false, ℤ, pos, negsuc, neg_ℤ, ◌*ℤ◌, ◌≤ℤ◌, ◌<ℤ◌, FitsSigned, ap, sym, ◌∙◌, refl, subst, subst₂, arith, pow_pos, pow_mono, mul-le-mul, unsigned_abs, to_z, ◌*◌, ◌%◌, cond, int_lt}
-use Rattle.std.specs.Int.{w64}
+use Rattle.std.proofs.Common.{◌≡◌, ℕ, zero, suc, ◌+◌, ◌-◌, ◌^◌, ◌≤◌, Bool, true, false, ℤ, pos, negsuc, neg_ℤ, ◌*ℤ◌, ◌≤ℤ◌, ◌<ℤ◌, FitsSigned, ap, sym, ◌∙◌, refl, subst, subst₂, arith, pow_pos, pow_mono, mul-le-mul, unsigned_abs, to_z, of_z, ◌*◌, ◌%◌, cond, int_lt}
+use Rattle.std.specs.Int.{w64, w128}
 use Rattle.std.proofs.lemmas.Nat.{one_shl, pow-add}
 use Rattle.fx_num.proofs.Arithmetic.{scaled-mono, scaled-neg, double}
-use Rattle.std.proofs.lemmas.Int.{ints, to_z_pos, unsigned_abs-mul}
+use Rattle.std.proofs.lemmas.Int.{ints, to_z-of_z, to_z_pos, unsigned_abs-mul}
 use Rattle.fx_num.specs.Word.{IsWrapped, word_lowest, word_highest}
 use Rattle.fx_type.specs.declared.kind.FxType.{FxType}
 use Rattle.fx_type.specs.declared.kind.FxType.TheVariants.{Num, Logical}
@@ -88,6 +88,15 @@ half_bounds down low high = let k : down - 1 ≤ 60 = omega arith in (double dow
 pub ends_fit : (w : ℕ) (s : Bool) → w ≤ 60 → FitsSigned w64 (word_lowest w s) × FitsSigned w64 (word_highest w s)
 ends_fit w true h = let k : w - 1 ≤ 60 = omega arith in let p : 2 ^ (w - 1) ≤ 2 ^ 60 = pow_mono k in (omega (arith, ints, p), omega (arith, ints, p))
 ends_fit w false h = let p : 2 ^ w ≤ 2 ^ 60 = pow_mono h in (omega (arith, ints, p), omega (arith, ints, p))
+
+-- and stay what they are there
+pub ends_kept : (width : ℕ) (signed : Bool) (low high : ℤ) → width ≤ 60 → FitsSigned w128 low → FitsSigned w128 high → low ≡ word_lowest width signed → high ≡ word_highest width signed
+    → (to_z w64 (of_z w64 (to_z w128 (of_z w128 low))) ≡ word_lowest width signed) × (to_z w64 (of_z w64 (to_z w128 (of_z w128 high))) ≡ word_highest width signed)
+ends_kept width signed low high small low_fits high_fits low_is high_is =
+    let fits = ends_fit width signed small in (
+      ap (λ (z : ℤ). to_z w64 (of_z w64 z)) (to_z-of_z w128 low low_fits ∙ low_is) ∙ to_z-of_z w64 (word_lowest width signed) fits.0,
+      ap (λ (z : ℤ). to_z w64 (of_z w64 z)) (to_z-of_z w128 high high_fits ∙ high_is) ∙ to_z-of_z w64 (word_highest width signed) fits.1,
+    )
 
 -- ---- room
 pub room_up : (bits up : ℕ) (v : ℤ) → bits + up ≤ 61 → IsWithin bits v → IsSmall (v *ℤ pos (2 ^ up))

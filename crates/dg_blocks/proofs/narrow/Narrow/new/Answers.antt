@@ -1,24 +1,21 @@
-use Rattle.std.proofs.Common.{◌≡◌, ◌^◌, ◌≤◌, ◌+◌, ℕ, ℤ, pos, to_z, of_z, ap, sym, ◌∙◌, refl, arith}
+use Rattle.std.proofs.Common.{◌≡◌, ◌^◌, ◌≤◌, ◌+◌, ℕ, pos, to_z, of_z, ap, sym, ◌∙◌, refl, arith}
 use Rattle.std.specs.Int.{w16, w64, w128}
 use Rattle.std.proofs.lemmas.Int.{ints, to_z-of_z}
-use Rattle.fx_num.specs.Word.{word_lowest, word_highest}
 use Rattle.fx_type.specs.declared.kind.FxType.TheVariants.{Num}
 use Rattle.fx_type.specs.FxType.{IsType}
-use Rattle.dg_blocks.proofs.Narrowed.{one_shifted, ends_fit, room_up, room_down}
+use Rattle.dg_blocks.proofs.Narrowed.{one_shifted, ends_fit, ends_kept, room_up, room_down}
 use Rattle.dg_blocks.proofs.narrow.Narrow.new.Goals as goal
 
 pub returns-in-Some-clause-is : goal.returns-in-Some-clause-is
 returns-in-Some-clause-is c =
     let valid : IsType (Num c.in-Num.signed c.in-Num.width c.in-Num.to_frac) = rw c.in-Num.is at c.requires.to in
     let small : c.in-Num.width ≤ 60 = omega (arith, c.if-width-gt60.false) in
-    let fits = ends_fit c.in-Num.width c.in-Num.signed small in
-    let low = ap (λ (z : ℤ). to_z w64 (of_z w64 z)) (to_z-of_z w128 c.lowest-low.result (record { sfits = c.lowest-low.type_inv }) ∙ c.lowest-low.ensures) ∙ to_z-of_z w64 (word_lowest c.in-Num.width c.in-Num.signed) fits.0 in
-    let high = ap (λ (z : ℤ). to_z w64 (of_z w64 z)) (to_z-of_z w128 c.highest-high.result (record { sfits = c.highest-high.type_inv }) ∙ c.highest-high.ensures) ∙ to_z-of_z w64 (word_highest c.in-Num.width c.in-Num.signed) fits.1 in
+    let ends = ends_kept c.in-Num.width c.in-Num.signed c.lowest-low.result c.highest-high.result small (record { sfits = c.lowest-low.type_inv }) (record { sfits = c.highest-high.type_inv }) c.lowest-low.ensures c.highest-high.ensures in
     let f = to_z-of_z w16 c.args.frac c.ranges.frac in
     let t : to_z w16 (of_z w16 c.in-Num.to_frac) ≡ c.in-Num.to_frac = omega (arith, ints, valid.1, valid.2) in
     let g = rw (f, t) at c.in-Some.ensures in
     rw c.in-Num.is (record {
-      ends = record { valid = valid; number = tt; saturate_is = refl; width_is = refl; signed_is = refl; low_is = low; high_is = high };
+      ends = record { valid = valid; number = tt; saturate_is = refl; width_is = refl; signed_is = refl; low_is = ends.0; high_is = ends.1 };
       shifts = record {
         scale = one_shifted c.in-Some.up g.0 ∙ ap (λ (k : ℕ). pos (2 ^ k)) g.1;
         down = sym g.2;
@@ -36,9 +33,7 @@ pub returns-clause-is : goal.returns-clause-is
 returns-clause-is c =
     let valid : IsType (Num c.in-Num.signed c.in-Num.width c.in-Num.to_frac) = rw c.in-Num.is at c.requires.to in
     let small : c.in-Num.width ≤ 60 = omega (arith, c.if-width-gt60.false) in
-    let fits = ends_fit c.in-Num.width c.in-Num.signed small in
-    let low = ap (λ (z : ℤ). to_z w64 (of_z w64 z)) (to_z-of_z w128 c.lowest-low.result (record { sfits = c.lowest-low.type_inv }) ∙ c.lowest-low.ensures) ∙ to_z-of_z w64 (word_lowest c.in-Num.width c.in-Num.signed) fits.0 in
-    let high = ap (λ (z : ℤ). to_z w64 (of_z w64 z)) (to_z-of_z w128 c.highest-high.result (record { sfits = c.highest-high.type_inv }) ∙ c.highest-high.ensures) ∙ to_z-of_z w64 (word_highest c.in-Num.width c.in-Num.signed) fits.1 in
+    let ends = ends_kept c.in-Num.width c.in-Num.signed c.lowest-low.result c.highest-high.result small (record { sfits = c.lowest-low.type_inv }) (record { sfits = c.highest-high.type_inv }) c.lowest-low.ensures c.highest-high.ensures in
     let f = to_z-of_z w16 c.args.frac c.ranges.frac in
     let t : to_z w16 (of_z w16 c.in-Num.to_frac) ≡ c.in-Num.to_frac = omega (arith, ints, valid.1, valid.2) in
     let g = rw (f, t) at c.in-Some-gap.ensures in
@@ -46,7 +41,7 @@ returns-clause-is c =
     let e : to_z w64 (of_z w64 c.bias_of-bias.result.bias) ≡ c.bias_of-bias.result.bias = omega (arith, ints, b.bias.0, b.bias.1) in
     let d : to_z w64 (of_z w64 c.bias_of-bias.result.below) ≡ c.bias_of-bias.result.below = omega (arith, ints, b.below.0, b.below.1) in
     rw (c.in-Num.is, e, d) (record {
-      ends = record { valid = valid; number = tt; saturate_is = refl; width_is = refl; signed_is = refl; low_is = low; high_is = high };
+      ends = record { valid = valid; number = tt; saturate_is = refl; width_is = refl; signed_is = refl; low_is = ends.0; high_is = ends.1 };
       shifts = record {
         scale = ap (λ (k : ℕ). pos (2 ^ k)) (sym g.2);
         down = g.1;
