@@ -142,6 +142,10 @@ module _ (v : ℤ) (k : ℕ) where
   pub zero-down : (width : ℕ) (result : ℤ) → InWord width false v → result ≡ shifted_down v k → Rounds Zero v (2 ^ k) result
   zero-down width result has is = record { not_negative = λ h. floor-rounds result is; negative = λ h. absurd (omega (arith, ints, has.low, h)) }
 
+  -- ties away from 0, of a number that isn't negative
+  pub nearest-round : (result : ℤ) → pos 0 ≤ℤ v → Rounds Nearest v (2 ^ k) result → Rounds Round v (2 ^ k) result
+  nearest-round result least nearest = record { not_negative = λ h. nearest; negative = λ h. absurd (omega (arith, ints, least, h)) }
+
   module _ (some : 1 ≤ k) where
     twice : 2 ^ k ≡ 2 * 2 ^ (k - 1)
     twice = double k some
@@ -161,10 +165,6 @@ module _ (v : ℤ) (k : ℕ) where
               let rest : low_bits k v ≡ 1 * 2 ^ (k - 1) + low_bits (k - 1) v = lost some ∙ ap (λ (i : ℕ). i * 2 ^ (k - 1) + low_bits (k - 1) v) e in
               subst (Rounds Nearest v (2 ^ k)) (sym same) (ties-up-high v (2 ^ k) (shifted_down v k) (low_bits k v) whole below (omega (arith, rest, twice)))
         ]
-
-    -- ties away from 0, of a number that isn't negative
-    pub round-up : (half result : ℤ) → pos 0 ≤ℤ v → half ≡ pos (bit_of v (k - 1)) → result ≡ shifted_down v k +ℤ half → Rounds Round v (2 ^ k) result
-    round-up half result least halves is = record { not_negative = λ h. nearest-rounds half result halves is; negative = λ h. absurd (omega (arith, ints, least, h)) }
 
     pub round-rounds : (width : ℕ) (half sign tie carry result : ℤ) → InWord width true v → half ≡ pos (bit_of v (k - 1)) → sign ≡ pos (bit_of v (width - 1)) → IsChosen sign (pos 0) half tie
         → IsPastTie (low_bits (k - 1) v) half tie carry → result ≡ shifted_down v k +ℤ carry → Rounds Round v (2 ^ k) result

@@ -1,7 +1,6 @@
 //! Gates over the truth of the arguments.
 ghost use Rattle.std.specs.Prelude.{◌≡◌, ◌≤◌, pos, ◌-ℤ◌, not, length, IfOk};
 ghost use Rattle.dg_model.specs.Operation.{gate_of, stored_truth};
-ghost use Rattle.dg_model.specs.declared.kind.Gate.TheVariants.{Nxor};
 ghost use Rattle.hw_lower.specs.inner.Planned.{IsAt, IsMade, IsChosen, bit_word};
 ghost use Rattle.hw_lower.specs.inner.Spread.{HasArguments, OfArguments, IsJoined, truth_of};
 
@@ -100,19 +99,6 @@ fn joined_not(plan: &mut Plan, joining: Joining, types: &[FxType]) -> Result<Ope
     inverse(plan, bit)
 }
 
-/// Whether an even count of the arguments is other than 0.
-fn even_true(plan: &mut Plan, types: &[FxType]) -> Result<Operand, OutOfMemory>
-    requires arguments { HasArguments plan.old types.now }
-    requires some { 1 ≤ length types.now }
-    requires few { length types.now ≤ 32 }
-    ensures { IfOk result (λ made. IsMade plan.old plan.new bit_word (λ numbers.
-        OfArguments types.now numbers (λ values.
-        numbers made.place ≡ stored_truth (gate_of Nxor values))) made) }
-{
-    let odd = joined_all(plan, Joining::Odd, types)?;
-    inverse(plan, odd)
-}
-
 /// The gate over the truth of the arguments, of which there is one.
 pub fn gate(plan: &mut Plan, operator: Gate, types: &[FxType]) -> Result<Operand, OutOfMemory>
     requires arguments { HasArguments plan.old types.now }
@@ -129,6 +115,6 @@ pub fn gate(plan: &mut Plan, operator: Gate, types: &[FxType]) -> Result<Operand
         Gate::Nor => joined_not(plan, Joining::Any, types),
         Gate::Not => joined_not(plan, Joining::Any, types),
         Gate::Xor => joined_all(plan, Joining::Odd, types),
-        Gate::Nxor => even_true(plan, types),
+        Gate::Nxor => joined_not(plan, Joining::Odd, types),
     }
 }

@@ -6,12 +6,12 @@ ghost use Rattle.hw_lower.specs.inner.Planned.{reads_of};
 ghost use Rattle.hw_lower.specs.inner.Spread.{AreInputs};
 ghost use Rattle.hw_lower.specs.inner.Placed.{AreNumbers, AreNets, CanPut, net_by};
 
-use crate::plan::{Plan, Step, argument, word_of};
+use crate::plan::{Plan, Step, put_alone, word_of};
 use crate::planning::planned;
 use dg_model::OpCall;
 use fx_io::{OutOfMemory, Sequence, Sizes};
 use fx_type::FxType;
-use hw_net::{Net, NetKind, Netlist, arity};
+use hw_net::{Net, NetKind, NetOp, Netlist, arity};
 use std::alloc::Global;
 
 /// The net of a step, where the numbers of the steps before are known.
@@ -40,7 +40,7 @@ fn inputs_of(alloc: Global, types: &[FxType]) -> Result<Plan, OutOfMemory>
     let mut plan: Plan = Sequence::new(alloc);
     for (input, kind) in types.iter().enumerate() {
         let word = word_of(*kind);
-        let made = argument(&mut plan, input as u32, word)?;
+        let made = put_alone(&mut plan, NetOp::Input(input as u32), word)?;
         let _ = made;
     }
     Ok(plan)

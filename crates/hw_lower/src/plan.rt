@@ -2,7 +2,7 @@
 ghost use Rattle.std.specs.Prelude.{◌≡◌, IfOk};
 ghost use Rattle.fx_num.specs.Word.{IsWord, InWord, IsWrapped};
 ghost use Rattle.fx_type.specs.declared.kind.FxType.{FxType};
-ghost use Rattle.hw_net.specs.declared.netlist.NetOp.TheVariants.{Input, Const, Multiply};
+ghost use Rattle.hw_net.specs.declared.netlist.NetOp.TheVariants.{Multiply};
 ghost use Rattle.hw_net.specs.Operation.{given_by, low_bits};
 ghost use Rattle.hw_lower.specs.inner.Planned.{IsAt, IsPlain, IsPut, IsMade, CanRead, word_of};
 ghost use Rattle.hw_lower.specs.inner.Planned.{IsChosen, step_of, no_inputs, three};
@@ -62,8 +62,8 @@ fn put(plan: &mut Plan, step: Step) -> Result<Operand, OutOfMemory>
     Ok(Operand { place, word })
 }
 
-/// An operation that reads none.
-fn put_alone(plan: &mut Plan, op: NetOp, word: Word) -> Result<Operand, OutOfMemory>
+/// An operation that reads none: an argument of the plan, or a number of a word.
+pub fn put_alone(plan: &mut Plan, op: NetOp, word: Word) -> Result<Operand, OutOfMemory>
     ensures { IfOk result (λ made. IsPut plan.old plan.new (step_of op 0 0 0 word) made) }
 {
     put(
@@ -76,22 +76,6 @@ fn put_alone(plan: &mut Plan, op: NetOp, word: Word) -> Result<Operand, OutOfMem
             word,
         },
     )
-}
-
-/// An argument of the plan.
-pub fn argument(plan: &mut Plan, number: u32, word: Word) -> Result<Operand, OutOfMemory>
-    ensures { IfOk result (λ made.
-        IsPut plan.old plan.new (step_of (Input number) 0 0 0 word) made) }
-{
-    put_alone(plan, NetOp::Input(number), word)
-}
-
-/// The factor of a Gain, as the first step of its plan.
-pub fn factor(plan: &mut Plan, value: i128, word: Word) -> Result<Operand, OutOfMemory>
-    ensures { IfOk result (λ made.
-        IsPut plan.old plan.new (step_of (Const value) 0 0 0 word) made) }
-{
-    put_alone(plan, NetOp::Const(value), word)
 }
 
 /// The product of two steps, cut to a word: the one Multiply of a Product or a Gain.

@@ -15,13 +15,14 @@ ghost use Rattle.hw_lower.specs.Lowered.{multiply_of};
 use crate::aligning::{Side, argument_of};
 use crate::comparing::switched;
 use crate::gates::gate;
-use crate::plan::{Operand, Plan, Word, factor, multiply, word_of};
+use crate::plan::{Operand, Plan, Word, multiply, put_alone, word_of};
 use crate::relating::compared;
 use crate::settling::converted;
 use crate::sums::summed;
 use dg_model::{Criterion, Op, OpCall, sum_type};
 use fx_io::OutOfMemory;
 use fx_type::FxType;
+use hw_net::NetOp;
 
 /// A number with `frac` bits behind the point, converted to the result type of the call.
 fn settled(plan: &mut Plan, call: &OpCall, from: Operand, frac: i16) -> Result<Operand, OutOfMemory>
@@ -126,7 +127,7 @@ fn planned_gain(
         IsScaled (operation_of call.now) (type_of call.now.types.now 0) param
         (value_of values 0) coefficient (numbers made.place))) made) }
 {
-    let from = factor(plan, coefficient, word_of(param))?;
+    let from = put_alone(plan, NetOp::Const(coefficient), word_of(param))?;
     let first = argument_of(call.types, 0);
     let one = Side {
         kind: call.types[0],

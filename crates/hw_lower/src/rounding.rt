@@ -1,11 +1,11 @@
 //! A number divided by a power of two and rounded, in its own word: the quotient rounded down, and
 //! a carry of one bit.
-ghost use Rattle.std.specs.Prelude.{◌≡◌, ◌≤◌, ◌-◌, ◌^◌, true, false, pos, ◌+ℤ◌, IfOk};
+ghost use Rattle.std.specs.Prelude.{◌≡◌, ◌≤◌, ◌-◌, ◌^◌, ◌+ℤ◌, IfOk};
 ghost use Rattle.fx_type.specs.Conversion.{Rounds};
 ghost use Rattle.fx_type.specs.declared.rounding.Rounding.TheVariants.{Ceiling, Zero, Round};
 ghost use Rattle.fx_type.specs.declared.rounding.Rounding.TheVariants.{Nearest, Convergent};
 ghost use Rattle.hw_net.specs.Operation.{shifted_down, low_bits};
-ghost use Rattle.hw_lower.specs.inner.Planned.{IsAt, IsMade, IsPastTie, bit_word, bit_of};
+ghost use Rattle.hw_lower.specs.inner.Planned.{IsAt, IsMade, IsPastTie, bit_word};
 
 use crate::bits::{bit, bit_word, both, lowest, truth};
 use crate::plan::{Operand, Plan, binary, choose, constant, unary};
@@ -69,15 +69,6 @@ fn up(plan: &mut Plan, from: Operand, by: u8) -> Result<Operand, OutOfMemory>
     raised(plan, from, by, carry)
 }
 
-/// The sign of a number of a signed word, as a bit.
-fn sign(plan: &mut Plan, from: Operand) -> Result<Operand, OutOfMemory>
-    requires { IsAt plan.old from }
-    ensures { IfOk result (λ made. IsMade plan.old plan.new bit_word (λ numbers.
-        numbers made.place ≡ pos (bit_of (numbers from.place) (from.word.width - 1))) made) }
-{
-    bit(plan, from, from.word.width - 1)
-}
-
 /// Rounded to 0: up where the number is negative and bits are lost.
 fn to_zero(plan: &mut Plan, from: Operand, by: u8) -> Result<Operand, OutOfMemory>
     requires at { IsAt plan.old from }
@@ -86,23 +77,12 @@ fn to_zero(plan: &mut Plan, from: Operand, by: u8) -> Result<Operand, OutOfMemor
         Rounds Zero (numbers from.place) (2 ^ by) (numbers made.place)) made) }
 {
     if from.word.signed {
-        return signed_to_zero(plan, from, by);
+        let low = lowest(plan, from, by)?;
+        let sign = bit(plan, from, from.word.width - 1)?;
+        let carry = both(plan, low, sign)?;
+        return raised(plan, from, by, carry);
     }
     down(plan, from, by)
-}
-
-/// The same of a number of a signed word.
-fn signed_to_zero(plan: &mut Plan, from: Operand, by: u8) -> Result<Operand, OutOfMemory>
-    requires at { IsAt plan.old from }
-    requires some { 1 ≤ by }
-    requires signed { from.word.signed ≡ true }
-    ensures { IfOk result (λ made. IsMade plan.old plan.new from.word (λ numbers.
-        Rounds Zero (numbers from.place) (2 ^ by) (numbers made.place)) made) }
-{
-    let low = lowest(plan, from, by)?;
-    let sign = sign(plan, from)?;
-    let carry = both(plan, low, sign)?;
-    raised(plan, from, by, carry)
 }
 
 /// Rounded to the nearest, ties up: where the highest lost bit is set.
@@ -125,37 +105,14 @@ fn from_zero(plan: &mut Plan, from: Operand, by: u8) -> Result<Operand, OutOfMem
         Rounds Round (numbers from.place) (2 ^ by) (numbers made.place)) made) }
 {
     if from.word.signed {
-        return signed_from_zero(plan, from, by);
+        let half = bit(plan, from, by - 1)?;
+        let sign = bit(plan, from, from.word.width - 1)?;
+        let zero = constant(plan, 0, bit_word())?;
+        let tie = choose(plan, sign, zero, half, bit_word())?;
+        let carry = past_tie(plan, from, by, half, tie)?;
+        return raised(plan, from, by, carry);
     }
-    unsigned_from_zero(plan, from, by)
-}
-
-/// The same of a number of a signed word.
-fn signed_from_zero(plan: &mut Plan, from: Operand, by: u8) -> Result<Operand, OutOfMemory>
-    requires at { IsAt plan.old from }
-    requires some { 1 ≤ by }
-    requires signed { from.word.signed ≡ true }
-    ensures { IfOk result (λ made. IsMade plan.old plan.new from.word (λ numbers.
-        Rounds Round (numbers from.place) (2 ^ by) (numbers made.place)) made) }
-{
-    let half = bit(plan, from, by - 1)?;
-    let sign = sign(plan, from)?;
-    let zero = constant(plan, 0, bit_word())?;
-    let tie = choose(plan, sign, zero, half, bit_word())?;
-    let carry = past_tie(plan, from, by, half, tie)?;
-    raised(plan, from, by, carry)
-}
-
-/// The same of a number that can't be negative.
-fn unsigned_from_zero(plan: &mut Plan, from: Operand, by: u8) -> Result<Operand, OutOfMemory>
-    requires at { IsAt plan.old from }
-    requires some { 1 ≤ by }
-    requires unsigned { from.word.signed ≡ false }
-    ensures { IfOk result (λ made. IsMade plan.old plan.new from.word (λ numbers.
-        Rounds Round (numbers from.place) (2 ^ by) (numbers made.place)) made) }
-{
-    let half = bit(plan, from, by - 1)?;
-    raised(plan, from, by, half)
+    to_nearest(plan, from, by)
 }
 
 /// Rounded to the nearest, ties to even: up where the highest lost bit is set, but not from a tie

@@ -13,30 +13,6 @@ use fx_io::OutOfMemory;
 use fx_type::FxType;
 use hw_net::NetOp;
 
-/// The first term of a sum.
-fn begun(
-    plan: &mut Plan,
-    negative: bool,
-    side: Side,
-    frac: i16,
-    word: Word,
-) -> Result<Operand, OutOfMemory>
-    requires at { IsAt plan.old side.from }
-    requires kind { IsType side.kind }
-    requires above { frac_of side.kind ≤ℤ frac }
-    requires high { frac ≤ℤ pos 128 }
-    requires word { IsWord word.width word.signed }
-    ensures { IfOk result (λ made. IsMade plan.old plan.new word (λ numbers.
-        IsWrapped (negated_if negative (aligned_of frac side.kind (numbers side.from.place)))
-        word.width word.signed (numbers made.place)) made) }
-{
-    let value = aligned(plan, side, frac, word)?;
-    if negative {
-        return unary(plan, NetOp::Negate, value, word);
-    }
-    Ok(value)
-}
-
 /// A sum with one more term.
 fn added(
     plan: &mut Plan,
@@ -117,5 +93,10 @@ fn term_begun(
 {
     let from = argument_of(types, 0);
     let kind = types[0];
-    begun(plan, signs[0], Side { kind, from }, frac, word)
+    let negative = signs[0];
+    let value = aligned(plan, Side { kind, from }, frac, word)?;
+    if negative {
+        return unary(plan, NetOp::Negate, value, word);
+    }
+    Ok(value)
 }

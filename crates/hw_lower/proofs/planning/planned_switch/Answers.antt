@@ -10,6 +10,33 @@ use Rattle.fx_type.proofs.Ranges.{range-word}
 use Rattle.hw_lower.proofs.Arguments.{switch-is}
 use Rattle.hw_lower.proofs.planning.planned_switch.Goals as goal
 
+pub argument_settled-requires-clause-arguments : goal.argument_settled-requires-clause-arguments
+argument_settled-requires-clause-arguments c = c.requires.arguments
+
+pub argument_settled-requires-clause-inside : goal.argument_settled-requires-clause-inside
+argument_settled-requires-clause-inside c = omega (arith, c.requires.three)
+
+pub argument_settled-requires-clause-few : goal.argument_settled-requires-clause-few
+argument_settled-requires-clause-few c = omega (arith, c.requires.three)
+
+pub argument_settled-requires-2-clause-arguments : goal.argument_settled-requires-2-clause-arguments
+argument_settled-requires-2-clause-arguments c = record { each = λ input inside. at-later _ _ (argument_of c.args.call.now.types.now input) c.in_ok-first.ensures.grows (c.requires.arguments.each input inside) }
+
+pub argument_settled-requires-2-clause-inside : goal.argument_settled-requires-2-clause-inside
+argument_settled-requires-2-clause-inside c = omega (arith, c.requires.three)
+
+pub argument_settled-requires-2-clause-few : goal.argument_settled-requires-2-clause-few
+argument_settled-requires-2-clause-few c = omega (arith, c.requires.three)
+
+pub argument_of-control-requires-clause-inside : goal.argument_of-control-requires-clause-inside
+argument_of-control-requires-clause-inside c = omega (arith, c.requires.three)
+
+pub argument_of-control-requires-clause-few : goal.argument_of-control-requires-clause-few
+argument_of-control-requires-clause-few c = omega (arith, c.requires.three)
+
+pub switched-requires-clause-other : goal.switched-requires-clause-other
+switched-requires-clause-other c = c.in_ok-other.ensures.at
+
 pub switched-requires-clause-control : goal.switched-requires-clause-control
 switched-requires-clause-control c =
     rw c.argument_of-control.ensures (at-later _ _ (argument_of c.args.call.now.types.now 1) c.in_ok-other.ensures.grows (at-later _ _ (argument_of c.args.call.now.types.now 1) c.in_ok-first.ensures.grows (c.requires.arguments.each 1 (omega (arith, c.requires.three)))))
