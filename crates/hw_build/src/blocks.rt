@@ -3,6 +3,7 @@ ghost use Rattle.std.specs.Prelude.{◌≡◌, ◌++◌, ◌+◌, ◌-◌, ◌<�
 ghost use Rattle.dg_model.specs.Attributes.{attributes_of};
 ghost use Rattle.dg_model.specs.Library.{row_of};
 ghost use Rattle.dg_model.specs.Solves.{IsShown, shown_ports as shown_ports_of};
+ghost use Rattle.hw_build.specs.declared.spots.Spots.{Spots};
 ghost use Rattle.hw_build.specs.inner.HubPlaces.{hub_at, hub_start, hubs_in_all, is_input_role};
 ghost use Rattle.hw_build.specs.inner.Offers.{AreReadBy};
 ghost use Rattle.hw_build.specs.inner.Tally.{product_labels};
@@ -198,8 +199,15 @@ fn put_block<'a>(
     }
     let inputs = inputs_of(alloc, setting, block, one)?;
     for port in 0..shown_ports(one) {
-        put_port(alloc, net, spots, setting, block, one, &inputs, port + 1)?;
+        match put_port(alloc, net, spots, setting, block, one, &inputs, port + 1) {
+            Ok(()) => {}
+            Err(wanting) => {
+                drop(inputs);
+                return Err(wanting);
+            }
+        }
     }
+    drop(inputs);
     Ok(())
 }
 
@@ -238,21 +246,21 @@ fn input_spots(alloc: Global, inputs: usize) -> Result<Spots, OutOfMemory>
     Ok(spots)
 }
 
-/// Puts in the elements of all blocks, where so many are those of root inputs, and gives where they
-/// stand.
+/// Puts in the elements of all blocks, where so many are those of root inputs.
 pub fn put_elements<'a>(
     alloc: Global,
     net: &mut Netlist,
     setting: Setting<'a>,
     inputs: usize,
-) -> Result<Spots, OutOfMemory>
+) -> Result<(), OutOfMemory>
     requires set { IsSet setting }
     requires inputs { inputs ≡ roots_of setting }
     requires begun { IsBegun setting net.old }
-    ensures { IfOk result (HasElements setting.entry net.new) }
+    ensures { OnOk result ((spots : Spots) × HasElements setting.entry net.new spots) }
 {
     setting_is_known(setting);
     let mut spots = input_spots(alloc, inputs)?;
-    put_blocks(alloc, net, &mut spots, setting)?;
-    Ok(spots)
+    let put = put_blocks(alloc, net, &mut spots, setting);
+    drop(spots);
+    put
 }

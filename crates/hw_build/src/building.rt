@@ -4,9 +4,10 @@ ghost use Rattle.dg_model.specs.PlanOf.{IsPlanOf};
 ghost use Rattle.hw_latency.specs.Latency.{AreLatencies};
 ghost use Rattle.hw_sched.specs.Answer.{AreSlots};
 ghost use Rattle.hw_build.specs.Built.{IsBuiltBy, IsBuildFault};
-ghost use Rattle.hw_build.specs.inner.Building.{AreInputBlocks, IsBuiltFor, IsDoneFor, IsEmptyFor, IsFilledFor};
+ghost use Rattle.hw_build.specs.inner.Building.{AreInputBlocks, IsBuiltFor, IsDoneFor, IsEmptyFor, IsFilledFor, empty_circuit};
 ghost use Rattle.hw_build.specs.inner.Designed.{IsDesigned};
 ghost use Rattle.hw_build.specs.inner.Factors.{HasSlots};
+ghost use Rattle.hw_build.specs.inner.HubPlaces.{HasHubs};
 ghost use Rattle.hw_build.specs.inner.Outgoing.{AreOutputBlocks, IsSmall};
 
 use crate::blocks::{Setting, put_elements};
@@ -26,59 +27,44 @@ use hw_net::Netlist;
 use hw_sched::{SizeFault, Slots, check_size};
 use std::alloc::Global;
 
-/// Puts in all nets, and gives where those begin that readers name. These are the blocks of the root
+/// Puts in all nets behind those that readers name, which begin here. These are the blocks of the root
 /// inputs.
 fn put_nets<'a>(
     alloc: Global,
     net: &mut Netlist,
     design: Design<'a>,
+    firsts: &PortWidths,
     inputs: &[u32],
-) -> Result<PortWidths, OutOfMemory>
+) -> Result<(), OutOfMemory>
     requires designed { IsDesigned design }
     requires slots { HasSlots design }
-    requires empty { IsEmptyFor design net.old }
+    requires hubs { HasHubs design.checked.now.diagram (empty_circuit design.plan.now.cycles) net.old
+        firsts.now }
     requires inputs { AreInputBlocks design inputs.now }
-    ensures { IfOk result (IsFilledFor design.entry net.new) }
+    ensures { OnOk result (IsFilledFor design.entry net.new firsts.now) }
 {
     design.checked.keeps_rules();
     dg_model::columns_are_a_stimulus();
     dg_model::edges_stand_by_port();
     dg_model::root_elements_are_listed();
-    let firsts = hubs_of(alloc, net, design.checked, inputs)?;
-    let operands = match put_lines(alloc, net, design, &firsts) {
-        Ok(operands) => operands,
-        Err(wanting) => {
-            drop(firsts);
-            return Err(wanting);
-        }
-    };
+    let operands = put_lines(alloc, net, design, firsts)?;
     let products = match products_of(alloc, net, design, &operands) {
         Ok(products) => products,
         Err(wanting) => {
             drop(operands);
-            drop(firsts);
             return Err(wanting);
         }
     };
     let setting = Setting {
         design,
-        firsts: &firsts,
+        firsts,
         operands: &operands,
         products: &products,
     };
-    let spots = put_elements(alloc, net, setting, inputs.len());
+    let put = put_elements(alloc, net, setting, inputs.len());
     drop(products);
     drop(operands);
-    match spots {
-        Ok(spots) => {
-            drop(spots);
-            Ok(firsts)
-        }
-        Err(wanting) => {
-            drop(firsts);
-            Err(wanting)
-        }
-    }
+    put
 }
 
 /// Puts in all ports, whose blocks these are. By block, the firsts are where the nets begin that
@@ -131,10 +117,18 @@ fn put_netlist<'a>(
     requires outputs { AreOutputBlocks design outputs.now }
     ensures { OnOk result (IsDoneFor design.entry net.new) }
 {
-    let firsts = put_nets(alloc, net, design, inputs)?;
-    let put = put_ports(alloc, net, design, &firsts, inputs, outputs);
-    drop(firsts);
-    put
+    let firsts = hubs_of(alloc, net, design.checked, inputs)?;
+    match put_nets(alloc, net, design, &firsts, inputs) {
+        Ok(()) => {
+            let put = put_ports(alloc, net, design, &firsts, inputs, outputs);
+            drop(firsts);
+            put
+        }
+        Err(wanting) => {
+            drop(firsts);
+            Err(wanting)
+        }
+    }
 }
 
 /// Puts all nets and ports into an empty netlist.

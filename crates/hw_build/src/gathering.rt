@@ -1,5 +1,5 @@
 //! What all ends ask: first those of the lines, then those of what enables blocks.
-ghost use Rattle.std.specs.Prelude.{◌≡◌, ◌-◌, ◌<◌, ◌≤◌, ℕ, [], IfOk, List, OnOk, length};
+ghost use Rattle.std.specs.Prelude.{◌≡◌, ◌++◌, ◌-◌, ◌<◌, ◌≤◌, ◌∷◌, ℕ, [], List, OnOk, length};
 ghost use Rattle.hw_build.specs.declared.operands.Span.{Span};
 ghost use Rattle.hw_build.specs.inner.Designed.{IsDesigned, times_for};
 ghost use Rattle.hw_build.specs.inner.EndAsks.{AreEndsFor, AreHubPlaces, IsControlPut, IsLawful, IsLineThere, IsLinePut, IsSpan, controls_left};
@@ -100,10 +100,11 @@ fn control_end<'a>(
     ask_plain(asks, hub, 1, frame, to)
 }
 
-/// The span between two numbers.
-fn span_between(first: usize, end: usize) -> Result<Span, OutOfMemory>
+/// Puts the span between two numbers behind the others.
+fn put_span(spans: &mut Spans, first: usize, end: usize) -> Result<(), OutOfMemory>
     requires { first ≤ end }
-    ensures { IfOk result (IsSpan first end) }
+    ensures { OnOk result ((span : Span)
+        × (IsSpan first end span × (spans.new ≡ spans.old ++ span ∷ []))) }
 {
     let Ok(start) = u32::try_from(first) else {
         // word: the number of an ask, of 32 bits
@@ -113,7 +114,7 @@ fn span_between(first: usize, end: usize) -> Result<Span, OutOfMemory>
         // word: how many asks an end has, of 32 bits
         return Err(OutOfMemory);
     };
-    Ok(Span {
+    spans.push(Span {
         first: start,
         count,
     })
@@ -139,8 +140,7 @@ pub fn gather_lines<'a>(
     for edge in design.checked.diagram().edges.as_slice() {
         let first = asks.list.len();
         line_end(asks, design, hubs, *edge)?;
-        let span = span_between(first, asks.list.len())?;
-        lines.push(span)?;
+        put_span(lines, first, asks.list.len())?;
     }
     Ok(())
 }
@@ -167,8 +167,7 @@ pub fn gather_controls<'a>(
     for block in 0..count {
         let first = asks.list.len();
         control_end(asks, design, hubs, block as u32)?;
-        let span = span_between(first, asks.list.len())?;
-        controls.push(span)?;
+        put_span(controls, first, asks.list.len())?;
     }
     Ok(())
 }

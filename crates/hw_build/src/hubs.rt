@@ -5,7 +5,7 @@ ghost use Rattle.dg_model.specs.Library.{row_of};
 ghost use Rattle.dg_model.specs.RootElements.{root_inputs};
 ghost use Rattle.dg_model.specs.Solves.{shown_ports as shown_ports_of, shown_width as shown_width_of};
 ghost use Rattle.dg_tables.specs.Listing.{AreBlocksOf};
-ghost use Rattle.hw_build.specs.inner.HubPlaces.{is_input_role, is_output_role, port_size, hub_start, hub_at as hub_at_of, AddsFresh, AddsPorts, AddsBlock, AddsBlocks, AddsInputs, HasHubs};
+ghost use Rattle.hw_build.specs.inner.HubPlaces.{is_input_role, is_output_role, hub_start, hub_at as hub_at_of, AddsFresh, AddsBlock, AddsBlocks, AddsInputs, HasHubs};
 
 use crate::parts::{put_comb, word_of};
 use dg_model::{Block, Checked, Kind, PortWidths, Role};
@@ -84,30 +84,6 @@ fn put_port(alloc: Global, net: &mut Netlist, kind: FxType, width: u32) -> Resul
     Ok(first)
 }
 
-/// Puts in the nets of the ports of a block, and gives the first of each port.
-fn put_ports(
-    alloc: Global,
-    net: &mut Netlist,
-    checked: &Checked,
-    block: u32,
-    one: &Block,
-) -> Result<Sizes, OutOfMemory>
-    requires { slice_get checked.now.diagram.blocks block ≡ Some one.now }
-    ensures { IfOk result (λ firsts. AddsPorts net.old net.new
-        ((attributes_of checked.now.diagram).type_at block 1)
-        (port_size checked.now.diagram block one.now) firsts
-        (shown_ports_of one.now.kind one.now.outputs)) }
-{
-    let kind = checked.result(block);
-    let mut firsts = Sizes::new(alloc);
-    for port in 0..shown_ports(one) {
-        let width = shown_width(checked, block, one, port + 1);
-        let first = put_port(alloc, net, kind, width)?;
-        firsts.push(first)?;
-    }
-    Ok(firsts)
-}
-
 /// Puts in the nets of a block, and gives the first of each port. Those of a root input port are its
 /// inputs, from this column on.
 fn put_block(
@@ -122,12 +98,18 @@ fn put_block(
     ensures { IfOk result (λ firsts.
         AddsBlock checked.now.diagram net.old net.new column block one.now firsts) }
 {
+    let mut firsts = Sizes::new(alloc);
     if is_input(&one.kind) {
-        let mut firsts = Sizes::new(alloc);
         firsts.push(column)?;
         return Ok(firsts);
     }
-    put_ports(alloc, net, checked, block, one)
+    let kind = checked.result(block);
+    for port in 0..shown_ports(one) {
+        let width = shown_width(checked, block, one, port + 1);
+        let first = put_port(alloc, net, kind, width)?;
+        firsts.push(first)?;
+    }
+    Ok(firsts)
 }
 
 /// Puts in the nets of all blocks, behind those of the root inputs, and gives the first of each port.

@@ -2,7 +2,7 @@
 ghost use Rattle.std.specs.Prelude.{◌≡◌, ◌+◌, ◌-◌, ◌*◌, ◌<◌, ◌++◌, ◌^◌, IfOk, OnOk, Some, length};
 ghost use Rattle.dg_model.specs.Attributes.{attributes_of};
 ghost use Rattle.hw_build.specs.inner.Designed.{IsDesigned, timing_for};
-ghost use Rattle.hw_build.specs.inner.Piping.{own_frame, stage_labels, stage_net, stage_nets, AddsPipeline, IsPipedBy};
+ghost use Rattle.hw_build.specs.inner.Piping.{own_frame, stage_labels, stage_net, stage_nets, IsPipedBy};
 
 use crate::design::Design;
 use crate::labels::label_stage;
@@ -104,38 +104,6 @@ fn name_registers(
     Ok(())
 }
 
-/// Puts in the registers behind an element of a block that has a period.
-fn put_stages<'a>(
-    alloc: Global,
-    net: &mut Netlist,
-    design: Design<'a>,
-    block: u32,
-    element: u32,
-    entry: u32,
-    period: u32,
-) -> Result<Piped, OutOfMemory>
-    requires designed { IsDesigned design }
-    requires there { block < length design.checked.now.diagram.blocks }
-    requires cycles { net.old.cycles ≡ design.plan.now.cycles }
-    requires period { (attributes_of design.checked.now.diagram).period_at block ≡ Some period }
-    ensures adds { IfOk result (λ piped. AddsPipeline (timing_for design.entry) net.old net.new
-        ((attributes_of design.entry.checked.now.diagram).type_at block 1)
-        block element period entry piped.begin) }
-    ensures end { IfOk result (λ piped.
-        piped.end ≡ piped.begin + (timing_for design.entry).stages block) }
-{
-    periods_are_above();
-    let frame = own_frame_of(design, block, period);
-    let slot = last_slot(design, block, period);
-    let kind = design.checked.result(block);
-    let stages = design.plan.stages.as_slice()[block as usize];
-    let _ = net.counter(frame)?;
-    let begin = put_comb(alloc, net, word_of(kind), NetOp::Resize, &[entry])?;
-    let end = put_registers(net, kind, frame, slot, begin, stages)?;
-    name_registers(alloc, net, block, element, begin, stages)?;
-    Ok(Piped { begin, end })
-}
-
 /// Puts in the registers of the plan behind an element. Where memory is wanting the netlist is of
 /// no more use.
 pub fn put_pipeline<'a>(
@@ -163,6 +131,13 @@ pub fn put_pipeline<'a>(
     let Some(period) = design.checked.period(block) else {
         return Ok(alone);
     };
-    let piped = put_stages(alloc, net, design, block, element, entry, period)?;
-    Ok(piped)
+    periods_are_above();
+    let frame = own_frame_of(design, block, period);
+    let slot = last_slot(design, block, period);
+    let kind = design.checked.result(block);
+    let _ = net.counter(frame)?;
+    let begin = put_comb(alloc, net, word_of(kind), NetOp::Resize, &[entry])?;
+    let end = put_registers(net, kind, frame, slot, begin, stages)?;
+    name_registers(alloc, net, block, element, begin, stages)?;
+    Ok(Piped { begin, end })
 }

@@ -16,7 +16,7 @@ put_port-requires-clause-before c =
     subst (λ (n : ℕ). Reaches c.args.setting c.loop-port.net c.loop-port.spots (port_start c.args.setting.design.checked.now.diagram c.args.block c.args.one.now n)) same c.loop-port.invariant
 
 pub loop-port-preserved : goal.loop-port-preserved
-loop-port-preserved c = c.in_ok-put_port.ensures
+loop-port-preserved c = c.in-Ok.ensures
 
 pub returns-then-is_input : goal.returns-then-is_input
 returns-then-is_input c =

@@ -1,4 +1,4 @@
-use Rattle.std.proofs.Common.{rules, ◌≡◌, ◌++◌, ◌∷◌, [], List, length, ap, sym, ◌∙◌, subst, arith}
+use Rattle.std.proofs.Common.{rules, ◌≡◌, List, length, ap, sym, ◌∙◌, subst, arith}
 use Rattle.dg_model.specs.declared.diagram.Diagram.{Diagram}
 use Rattle.dg_model.specs.declared.diagram.Block.{Block}
 use Rattle.hw_build.specs.declared.operands.Span.{Span}
@@ -25,8 +25,8 @@ control_end-requires-clause-there c =
     let size = size_of c.as_slice-count.result.now c.diagram.result.now c.args.design.checked.now.diagram c.as_slice-count.ensures c.diagram.ensures in
     omega (arith, c.loop-block-test.true, size)
 
-pub span_between-requires : goal.span_between-requires
-span_between-requires c =
+pub put_span-requires : goal.put_span-requires
+put_span-requires c =
     let size = size_of c.as_slice-count.result.now c.diagram.result.now c.args.design.checked.now.diagram c.as_slice-count.ensures c.diagram.ensures in
     let b = get_some c.args.design.checked.now.diagram.blocks c.loop-block.block (omega (arith, c.loop-block-test.true, size)) in
     let before : c.len-first.result ≡ length c.loop-block.asks.list.items = search rules in
@@ -40,10 +40,10 @@ loop-block-preserved c =
     let b = get_some c.args.design.checked.now.diagram.blocks c.loop-block.block (omega (arith, c.loop-block-test.true, size)) in
     let before : c.len-first.result ≡ length c.loop-block.asks.list.items = search rules in
     let behind : c.len.result ≡ length c.control_end.new.asks.list.items = search rules in
-    let span : IsSpan (length c.loop-block.asks.list.items) (length c.control_end.new.asks.list.items) c.in_ok-span.span = rw (before, behind) at c.in_ok-span.ensures in
-    let more : c.push.new.self ≡ c.loop-block.controls ++ c.in_ok-span.span ∷ [] = search rules in
+    let put = c.in_ok-put_span.ensures in
+    let span : IsSpan (length c.loop-block.asks.list.items) (length c.control_end.new.asks.list.items) put.0 = rw (before, behind) at put.1.0 in
     λ lines lined are.
-    rw more (controls_more c.args.design.checked.now.diagram c.args.design.plan.now (times_for c.args.design) c.args.hubs.now c.loop-block.asks c.control_end.new.asks lines c.loop-block.controls c.in_ok-span.span lined c.loop-block.block b.0 b.1 (c.loop-block.invariant lines lined are) span c.in_ok-control_end.ensures)
+    rw put.1.1 (controls_more c.args.design.checked.now.diagram c.args.design.plan.now (times_for c.args.design) c.args.hubs.now c.loop-block.asks c.control_end.new.asks lines c.loop-block.controls put.0 lined c.loop-block.block b.0 b.1 (c.loop-block.invariant lines lined are) span c.in_ok-control_end.ensures)
 
 pub returns : goal.returns
 returns c =

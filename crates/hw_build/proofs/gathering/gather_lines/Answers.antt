@@ -1,4 +1,4 @@
-use Rattle.std.proofs.Common.{rules, ◌≡◌, ◌≤◌, ◌++◌, ◌∷◌, [], List, Some, length, ap, sym, ◌∙◌, subst, arith}
+use Rattle.std.proofs.Common.{rules, ◌≡◌, ◌≤◌, [], List, Some, length, ap, sym, ◌∙◌, subst, arith}
 use Rattle.std.specs.Prelude.{slice_get, slice_index_or}
 use Rattle.std.proofs.lemmas.Option.{slice_get-get_or}
 use Rattle.dg_model.specs.declared.diagram.Diagram.{Diagram}
@@ -27,8 +27,8 @@ line_end-requires-clause-line c =
     let at : slice_get c.args.design.checked.now.diagram.edges c.loop-edge.edge-index ≡ Some edge = ap (λ (xs : List Edge). slice_get xs c.loop-edge.edge-index) (sym es) ∙ slice_get-get_or c.as_slice-edge-items.result.now c.loop-edge.edge-index no_edge c.loop-edge-test.true in
     (c.loop-edge.edge-index, at)
 
-pub span_between-requires : goal.span_between-requires
-span_between-requires c =
+pub put_span-requires : goal.put_span-requires
+put_span-requires c =
     let es : c.as_slice-edge-items.result.now ≡ c.args.design.checked.now.diagram.edges = c.as_slice-edge-items.ensures ∙ ap (λ (d : Diagram). d.edges) c.diagram.ensures in
     let edge : Edge = slice_index_or c.as_slice-edge-items.result.now c.loop-edge.edge-index no_edge in
     let at : slice_get c.args.design.checked.now.diagram.edges c.loop-edge.edge-index ≡ Some edge = ap (λ (xs : List Edge). slice_get xs c.loop-edge.edge-index) (sym es) ∙ slice_get-get_or c.as_slice-edge-items.result.now c.loop-edge.edge-index no_edge c.loop-edge-test.true in
@@ -44,9 +44,9 @@ loop-edge-preserved c =
     let at : slice_get c.args.design.checked.now.diagram.edges c.loop-edge.edge-index ≡ Some edge = ap (λ (xs : List Edge). slice_get xs c.loop-edge.edge-index) (sym es) ∙ slice_get-get_or c.as_slice-edge-items.result.now c.loop-edge.edge-index no_edge c.loop-edge-test.true in
     let before : c.len-first.result ≡ length c.loop-edge.asks.list.items = search rules in
     let behind : c.len.result ≡ length c.line_end.new.asks.list.items = search rules in
-    let span : IsSpan (length c.loop-edge.asks.list.items) (length c.line_end.new.asks.list.items) c.in_ok-span.span = rw (before, behind) at c.in_ok-span.ensures in
-    let more : c.push.new.self ≡ c.loop-edge.lines ++ c.in_ok-span.span ∷ [] = search rules in
-    rw more (lines_more c.args.design.checked.now.diagram c.args.design.plan.now (times_for c.args.design) c.args.hubs.now c.requires.designed.scheduled.checked.wired c.loop-edge.asks c.line_end.new.asks c.loop-edge.lines c.in_ok-span.span c.loop-edge.edge-index edge c.loop-edge.invariant at c.in_ok-line_end.ensures span)
+    let put = c.in_ok-put_span.ensures in
+    let span : IsSpan (length c.loop-edge.asks.list.items) (length c.line_end.new.asks.list.items) put.0 = rw (before, behind) at put.1.0 in
+    rw put.1.1 (lines_more c.args.design.checked.now.diagram c.args.design.plan.now (times_for c.args.design) c.args.hubs.now c.requires.designed.scheduled.checked.wired c.loop-edge.asks c.line_end.new.asks c.loop-edge.lines put.0 c.loop-edge.edge-index edge c.loop-edge.invariant at c.in_ok-line_end.ensures span)
 
 pub returns : goal.returns
 returns c =

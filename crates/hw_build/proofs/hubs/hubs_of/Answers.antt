@@ -1,4 +1,7 @@
-use Rattle.std.proofs.Common.{◌≡◌, ◌<◌, ℕ, List, All, length, ap, sym, ◌∙◌, subst}
+use Rattle.std.proofs.Common.{◌≡◌, ◌<◌, ℕ, List, All, length, ap, sym, ◌∙◌, subst, arith}
+use Rattle.std.proofs.lemmas.List.{length-map}
+use Rattle.dg_model.specs.Attributes.{attributes_of}
+use Rattle.dg_model.specs.RootElements.{RootElement, root_inputs}
 use Rattle.dg_model.specs.declared.diagram.Block.{Block}
 use Rattle.dg_model.specs.declared.diagram.Diagram.{Diagram}
 use Rattle.hw_names.specs.Columns.{AreColumnsFrom}
@@ -6,6 +9,14 @@ use Rattle.hw_build.specs.inner.HubPlaces.{HasHubs}
 use Rattle.hw_build.proofs.Started.{hubs_are, inputs_there}
 use Rattle.std.proofs.lemmas.Result.{IfOk-weaker}
 use Rattle.hw_build.proofs.hubs.hubs_of.Goals as goal
+
+pub put_inputs-requires-clause-none : goal.put_inputs-requires-clause-none
+put_inputs-requires-clause-none c = c.requires.none
+
+pub put_blocks-requires-clause-size : goal.put_blocks-requires-clause-size
+put_blocks-requires-clause-size c =
+    let count = ap (λ (xs : List ℕ). length xs) c.requires.are ∙ length-map (root_inputs c.args.checked.now.diagram (attributes_of c.args.checked.now.diagram)) (λ (e : RootElement). e.block) in
+    omega (arith, c.in_ok-put_inputs.ensures.size, count)
 
 pub put_inputs-requires-clause-there : goal.put_inputs-requires-clause-there
 put_inputs-requires-clause-there c = inputs_there c.args.checked.now.diagram c.keeps_rules.ensures.checked c.root_elements_are_listed.ensures.inputs c.args.inputs.now c.requires.are

@@ -1,0 +1,28 @@
+use Rattle.std.proofs.Common.{ap, length, subst}
+use Rattle.hw_net.specs.Circuit.{Circuit}
+use Rattle.hw_build.specs.inner.HubPlaces.{HasHubs}
+use Rattle.hw_build.proofs.building.put_netlist.Goals as goal
+
+pub hubs_of-requires-clause-none : goal.hubs_of-requires-clause-none
+hubs_of-requires-clause-none c = ap (λ (netlist : Circuit). length netlist.nets) c.requires.empty
+
+pub hubs_of-requires-clause-are : goal.hubs_of-requires-clause-are
+hubs_of-requires-clause-are c = c.requires.inputs
+
+pub put_nets-requires-clause-designed : goal.put_nets-requires-clause-designed
+put_nets-requires-clause-designed c = c.requires.designed
+
+pub put_nets-requires-clause-slots : goal.put_nets-requires-clause-slots
+put_nets-requires-clause-slots c = c.requires.slots
+
+pub put_nets-requires-clause-hubs : goal.put_nets-requires-clause-hubs
+put_nets-requires-clause-hubs c = subst (λ (earlier : Circuit). HasHubs c.args.design.checked.now.diagram earlier c.hubs_of.new.net c.in_ok-firsts.firsts) c.requires.empty c.in_ok-firsts.ensures
+
+pub put_nets-requires-clause-inputs : goal.put_nets-requires-clause-inputs
+put_nets-requires-clause-inputs c = c.requires.inputs
+
+pub put_ports-put-requires-clause-filled : goal.put_ports-put-requires-clause-filled
+put_ports-put-requires-clause-filled c = c.in-Ok.ensures
+
+pub returns-in-Ok : goal.returns-in-Ok
+returns-in-Ok c = c.put_ports-put.ensures
