@@ -3,7 +3,7 @@ ghost use Rattle.std.specs.Prelude.{◌≡◌, ◌<◌, IfOk, length};
 ghost use Rattle.hw_net.specs.Circuit.{Circuit};
 ghost use Rattle.hw_net.specs.Growing.{Extends};
 ghost use Rattle.hw_share.specs.Operations.{CanShare, unit_count};
-ghost use Rattle.hw_share.specs.inner.Joined.{AreEnds, CanJoin, HasJoined, IsJoined};
+ghost use Rattle.hw_share.specs.inner.Joined.{AreEnds, CanJoin, IsJoined};
 ghost use Rattle.hw_share.specs.inner.KnownTests.{AreTests};
 
 use crate::choosing::choose;
@@ -21,29 +21,7 @@ pub struct Ends {
     pub right: u32,
 }
 
-/// The ends of a multiplier's chains with one operation more.
-fn joined(
-    alloc: Global,
-    net: &mut Netlist,
-    moments: &mut Moments,
-    ends: Ends,
-    one: Operation,
-) -> Result<Ends, OutOfMemory>
-    requires can { CanJoin net.old ends one }
-    requires tests { (before : Circuit) × Extends before net.old
-        × AreTests before net.old moments.old.list.items }
-    ensures { IfOk result (λ end. (before : Circuit) → Extends before net.old
-        → AreTests before net.old moments.old.list.items
-        → HasJoined before net.old net.new ends one end
-        × AreTests before net.new moments.new.list.items) }
-{
-    let test = test_for(alloc, net, moments, one.frame, one.slot)?;
-    let left = choose(alloc, net, test, one.left, ends.left)?;
-    let right = choose(alloc, net, test, one.right, ends.right)?;
-    Ok(Ends { left, right })
-}
-
-/// The same, where the first operation of a multiplier has its operands as ends.
+/// The ends of a multiplier's chains with one operation more. The first has its operands as ends.
 fn join(
     alloc: Global,
     net: &mut Netlist,
@@ -59,13 +37,16 @@ fn join(
         → IsJoined before net.old net.new known one end
         × AreTests before net.new moments.new.list.items) }
 {
-    match known {
-        Some(ends) => joined(alloc, net, moments, ends, one),
-        None => Ok(Ends {
+    let Some(ends) = known else {
+        return Ok(Ends {
             left: one.left,
             right: one.right,
-        }),
-    }
+        });
+    };
+    let test = test_for(alloc, net, moments, one.frame, one.slot)?;
+    let left = choose(alloc, net, test, one.left, ends.left)?;
+    let right = choose(alloc, net, test, one.right, ends.right)?;
+    Ok(Ends { left, right })
 }
 
 /// How many multipliers operations have.

@@ -1,9 +1,37 @@
-use Rattle.std.proofs.Common.{◌≡◌, ◌+◌, IfOk, OnOk, ◌∷◌, [], length}
+use Rattle.std.proofs.Common.{◌≡◌, ◌+◌, ◌≤◌, IfOk, OnOk, ◌∷◌, [], List, ℕ, Bool, true, false, ap, arith, length}
+use Rattle.std.proofs.lemmas.Option.{slice_get_within}
+use Rattle.fx_num.specs.Word.{IsWord}
+use Rattle.hw_net.specs.declared.netlist.Net.{Net}
 use Rattle.hw_share.specs.inner.Parts.{Grows, IsMultiplying}
 use Rattle.hw_share.specs.inner.Steps.{IsMultiplier}
 use Rattle.hw_net.proofs.Extending.{read-net}
 use Rattle.hw_share.proofs.Multiplied.{multiply-part}
 use Rattle.hw_share.proofs.multiplying.multiply.Goals as goal
+
+narrow : (width : ℕ) (signed : Bool) → IsWord width signed → width ≤ 128
+narrow width true is = is.1
+narrow width false is = omega (arith, is.1)
+
+pub bounds-nets-left : goal.bounds-nets-left
+bounds-nets-left c =
+    let can = c.requires in
+    let size = ap (λ (nets : List Net). length nets) c.nets.ensures in
+    omega (arith, size, slice_get_within c.args.net.now.nets c.args.ends.left can.left.net can.left.is)
+
+pub bounds-nets-right : goal.bounds-nets-right
+bounds-nets-right c =
+    let can = c.requires in
+    let size = ap (λ (nets : List Net). length nets) c.nets-2.ensures in
+    omega (arith, size, slice_get_within c.args.net.now.nets c.args.ends.right can.right.net can.right.is)
+
+pub overflow_add-width : goal.overflow_add-width
+overflow_add-width c =
+    let can = c.requires in
+    let left = read-net c.args.net.now.nets c.nets.result.now c.args.ends.left can.left.net c.index-nets-left.result c.nets.ensures can.left.is c.index-nets-left.is in
+    let right = read-net c.args.net.now.nets c.nets-2.result.now c.args.ends.right can.right.net c.index-nets-right.result c.nets-2.ensures can.right.is c.index-nets-right.is in
+    let one = ap (λ (net : Net). net.width) left in
+    let other = ap (λ (net : Net). net.width) right in
+    record { fits = omega (arith, one, other, narrow _ _ can.product) }
 
 parts : (c : goal.After-add) → IfOk c.add.result (IsMultiplier c.args.net.now c.add.new.self c.args.ends) × OnOk c.add.result (length c.add.new.self.nets ≡ length c.args.net.now.nets + 1)
     × OnOk c.add.result (Grows c.args.net.now c.add.new.self (c.args.ends.left ∷ c.args.ends.right ∷ []) IsMultiplying 0)
