@@ -58,3 +58,6 @@ returns-clause-ends c =
     on-both (Grows now new tap ⊤ (λ (other : Frame). other ≡ reader_of source one)) (register_count new.nets ≡ register_count now.nets + 1) (Ends now new source c.args.taps.now one) c.bridge_at.result
     (rw (c.from-own.ensures, c.reader_of-reader.ensures) at c.bridge_at.ensures.grown) c.bridge_at.ensures.few
     (λ grown few. bridged-ends now new source c.args.taps.now one k tap there c.requires.plain grown few)
+
+pub bounds-taps-one : goal.bounds-taps-one
+bounds-taps-one c = rw c.from-own.ensures c.requires.can.size

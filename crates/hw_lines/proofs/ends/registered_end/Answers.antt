@@ -1,4 +1,5 @@
-use Rattle.std.proofs.Common.{rules, ◌≡◌, ◌+◌, ◌-◌, ◌*◌, ◌/◌, ◌%◌, ℕ, Some, slice_get, slice_index_or, ap, sym, arith, FitsSigned}
+use Rattle.std.proofs.Common.{rules, ◌≡◌, ◌+◌, ◌-◌, ◌*◌, ◌/◌, ◌%◌, ◌<◌, ◌≤◌, ℕ, Some, slice_get, slice_index_or, ap, sym, arith, FitsSigned, mul-le-mul_right}
+use Rattle.std.specs.Prelude.{◌^◌}
 use Rattle.std.specs.Int.{w128}
 use Rattle.std.proofs.lemmas.Int.{to_z-of_z}
 use Rattle.std.proofs.lemmas.Nat.{div-add-mod', mod_below}
@@ -71,3 +72,27 @@ returns-clause-ends c =
     on-both (Grows now new tap ⊥ (λ (other : Frame). other ≡ source.frame)) (register_count new.nets ≡ register_count now.nets + 1) (Ends now new source c.args.taps.now one) c.register_at.result
     (rw c.from-own.ensures at c.register_at.ensures.grown) c.register_at.ensures.few
     (λ grown few. held-ends now new source c.args.taps.now one k tap there grown few)
+
+pub register_at-requires-clause-cycles : goal.register_at-requires-clause-cycles
+register_at-requires-clause-cycles c = c.requires.can.cycles
+
+pub register_at-requires-clause-period : goal.register_at-requires-clause-period
+register_at-requires-clause-period c = c.requires.can.some
+
+pub bounds-taps-one : goal.bounds-taps-one
+bounds-taps-one c = rw c.from-own.ensures c.requires.can.size
+
+pub overflow_mul-slot : goal.overflow_mul-slot
+overflow_mul-slot c =
+    let r : ℕ = c.args.one.shift % c.args.source.frame.period in
+    let below = mod_below c.args.one.shift c.args.source.frame.period c.requires.can.some in
+    let most : r * c.args.net.now.cycles ≤ c.args.source.frame.period * c.args.net.now.cycles = mul-le-mul_right c.args.net.now.cycles (omega (arith, below)) in
+    let few : r * c.args.net.now.cycles < 2 ^ 32 = omega (arith, most, c.requires.can.room) in
+    rw (c.from-own.ensures, c.cycles.ensures) (record { fits = few })
+
+pub overflow_sub-slot : goal.overflow_sub-slot
+overflow_sub-slot c =
+    let r : ℕ = c.args.one.shift % c.args.source.frame.period in
+    let some = rw c.from-own.ensures at c.if-rest-eq0.false in
+    let least : 1 * c.args.net.now.cycles ≤ r * c.args.net.now.cycles = mul-le-mul_right c.args.net.now.cycles (omega (arith, some)) in
+    rw (c.from-own.ensures, c.cycles.ensures) (omega (arith, least, c.requires.can.cycles))

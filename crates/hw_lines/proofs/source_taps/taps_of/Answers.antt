@@ -50,3 +50,23 @@ loop-step-preserved c =
           (tap-named c.args.net.now now c.args.source c.loop-step.step c.loop-step.last tap) inv.grown grown;
       few = omega (arith, c.in_ok-last.ensures.few, inv.few);
     })
+
+pub register_at-requires-clause-cycles : goal.register_at-requires-clause-cycles
+register_at-requires-clause-cycles c =
+    let cycles : c.loop-step.net.cycles ≡ c.args.net.now.cycles = c.loop-step.invariant.grown.appends.extends.cycles in
+    omega (arith, cycles, c.requires.cycles)
+
+pub register_at-requires-clause-period : goal.register_at-requires-clause-period
+register_at-requires-clause-period c = c.requires.source.some
+
+pub returns-clause-size : goal.returns-clause-size
+returns-clause-size c = omega (arith, c.loop-step.invariant.size, c.loop-step-test.false, c.loop-step.auto.step-end)
+
+pub returns-clause-taps : goal.returns-clause-taps
+returns-clause-taps c = c.loop-step.invariant.are
+
+pub returns-clause-grown : goal.returns-clause-grown
+returns-clause-grown c = c.loop-step.invariant.grown
+
+pub returns-clause-few : goal.returns-clause-few
+returns-clause-few c = omega (arith, c.loop-step.invariant.few, c.loop-step-test.false, c.loop-step.auto.step-end)
