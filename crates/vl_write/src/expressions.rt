@@ -1,7 +1,7 @@
 ghost use Rattle.std.specs.Prelude.{◌≡◌, ◌++◌, OnOk, map, codes, decimal};
 ghost use Rattle.vl_ast.specs.Spelling.{joined, expr_text, sized_text};
 
-use crate::parts::{put, put_number, put_sized};
+use crate::parts::{put, put_between, put_sized};
 use fx_io::OutOfMemory;
 use vl_ast::{Expr, Sized};
 
@@ -10,9 +10,7 @@ fn put_bit(out: &mut Vec<u8>, name: &[u8], place: u32) -> Result<(), OutOfMemory
         ≡ out.old.items ++ (name.now ++ codes " [" ++ decimal place ++ codes "]")) }
 {
     put(out, name)?;
-    put(out, b" [")?;
-    put_number(out, u128::from(place))?;
-    put(out, b"]")
+    put_between(out, b" [", place, b"]")
 }
 
 fn put_part(out: &mut Vec<u8>, name: &[u8], high: u32, low: u32) -> Result<(), OutOfMemory>
@@ -21,20 +19,8 @@ fn put_part(out: &mut Vec<u8>, name: &[u8], high: u32, low: u32) -> Result<(), O
         (name.now ++ codes " [" ++ decimal high ++ codes ":" ++ decimal low ++ codes "]")) }
 {
     put(out, name)?;
-    put(out, b" [")?;
-    put_number(out, u128::from(high))?;
-    put(out, b":")?;
-    put_number(out, u128::from(low))?;
-    put(out, b"]")
-}
-
-fn put_count(out: &mut Vec<u8>, count: u32) -> Result<(), OutOfMemory>
-    ensures { OnOk result (out.new.items
-        ≡ out.old.items ++ (codes "{" ++ decimal count ++ codes " {")) }
-{
-    put(out, b"{")?;
-    put_number(out, u128::from(count))?;
-    put(out, b" {")
+    put_between(out, b" [", high, b":")?;
+    put_between(out, b"", low, b"]")
 }
 
 fn put_opened(out: &mut Vec<u8>, operator: &[u8]) -> Result<(), OutOfMemory>
@@ -70,7 +56,7 @@ pub fn put_expr(out: &mut Vec<u8>, e: &Expr) -> Result<(), OutOfMemory>
             put(out, b"}")
         }
         Expr::Repeat(count, part) => {
-            put_count(out, *count)?;
+            put_between(out, b"{", *count, b" {")?;
             put_within(out, b"", part.get(), b"}}")
         }
         Expr::AsSigned(part) => put_within(out, b"$signed (", part.get(), b")"),

@@ -22,12 +22,26 @@ pub fn put_number(out: &mut Vec<u8>, number: u128) -> Result<(), OutOfMemory>
     put(out, digits.format(number).as_bytes())
 }
 
+/// Puts a number of 32 bits between two texts.
+pub fn put_between(
+    out: &mut Vec<u8>,
+    before: &[u8],
+    number: u32,
+    after: &[u8],
+) -> Result<(), OutOfMemory>
+    ensures { OnOk result (out.new.items
+        ≡ out.old.items ++ (before.now ++ decimal number ++ after.now)) }
+{
+    put(out, before)?;
+    put_number(out, u128::from(number))?;
+    put(out, after)
+}
+
 /// Puts a based number, as `16'sd7`.
 pub fn put_sized(out: &mut Vec<u8>, number: &Sized) -> Result<(), OutOfMemory>
     ensures { OnOk result (out.new.items ≡ out.old.items ++ sized_text number.now) }
 {
-    put_number(out, u128::from(number.width))?;
-    put(out, b"'")?;
+    put_between(out, b"", number.width, b"'")?;
     if number.signed {
         put(out, b"s")?;
     }
@@ -49,7 +63,5 @@ pub fn put_range(out: &mut Vec<u8>, width: u32) -> Result<(), OutOfMemory>
     if width == 1 {
         return Ok(());
     }
-    put(out, b"[")?;
-    put_number(out, u128::from(width.saturating_sub(1)))?;
-    put(out, b":0] ")
+    put_between(out, b"[", width.saturating_sub(1), b":0] ")
 }

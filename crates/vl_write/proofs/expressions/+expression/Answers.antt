@@ -54,11 +54,11 @@ put_expr-returns-in_ok-put_parts-in-Concat t c =
     (λ ends. wrote-concat c.in-Concat.parts c.args.e.now c.args.out.now.items _ _ _ c.in-Concat.is c.in_ok-put-in-Concat.ensures (c.in_ok-put_parts-in-Concat.ensures ∙ parts) ends)
     c.put-in-Concat-2.ensures
 
-pub put_expr-returns-in_ok-put_count-in-Repeat : goal.put_expr-returns-in_ok-put_count-in-Repeat
-put_expr-returns-in_ok-put_count-in-Repeat t c =
-    let part = ap (λ x. c.put_count.new.out.items ++ (expr_text x ++ codes "}}")) c.get.ensures in
+pub put_expr-returns-in_ok-put_between-in-Repeat : goal.put_expr-returns-in_ok-put_between-in-Repeat
+put_expr-returns-in_ok-put_between-in-Repeat t c =
+    let part = ap (λ x. c.put_between.new.out.items ++ (expr_text x ++ codes "}}")) c.get.ensures in
     on_ok_weaker c.put_within.result
-    (λ ends. wrote-repeat c.in-Repeat.count c.in-Repeat.part c.args.e.now c.args.out.now.items _ _ c.in-Repeat.is c.in_ok-put_count-in-Repeat.ensures (ends ∙ part))
+    (λ ends. wrote-repeat c.in-Repeat.count c.in-Repeat.part c.args.e.now c.args.out.now.items _ _ c.in-Repeat.is c.in_ok-put_between-in-Repeat.ensures (ends ∙ part))
     c.put_within.ensures
 
 pub put_expr-returns-in_ok-put_opened-in-Unary : goal.put_expr-returns-in_ok-put_opened-in-Unary
