@@ -292,3 +292,8 @@ pub none-marked : (test : List ℕ → Mention → Bool) (names : List (List ℕ
 none-marked test names numbers count known marks is = record {
   at = λ i d m inside. ap (λ (ms : List Bool). slice_index_or ms (slice_index numbers i) m) is ∙ get_or-replicate count (slice_index numbers i) false m (known.below i inside);
 }
+
+pub none-first : (names : List (List ℕ)) (numbers : List ℕ) (count : ℕ) → AreNumbers names numbers count → (first : List (Option DeclaredHere)) → first ≡ replicate count None → AreFirst names numbers first []
+none-first names numbers count known first is = record {
+  at = λ i d f inside. ap (λ (fs : List (Option DeclaredHere)). option_map declared_of (slice_index_or fs (slice_index numbers i) f)) is ∙ ap (option_map declared_of) (get_or-replicate count (slice_index numbers i) None f (known.below i inside));
+}

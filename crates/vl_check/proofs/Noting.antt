@@ -13,7 +13,7 @@ use Rattle.vl_check.specs.declared.scope.Scope.{Scope}
 use Rattle.vl_check.specs.Scope.{names_in, number_at, number_in}
 use Rattle.vl_check.specs.inner.Mentioned.{texts}
 use Rattle.fx_io.specs.Rows.{row_at}
-use Rattle.vl_check.specs.inner.Assigned.{IsNoted, IsNotedAt, places_after, reads_after, IsEmpty}
+use Rattle.vl_check.specs.inner.Assigned.{IsNoted, IsNotedAt, places_after, reads_after}
 use Rattle.fx_io.proofs.Places.{get_left}
 use Rattle.vl_check.proofs.Scoped.{at-number}
 
@@ -36,12 +36,12 @@ module _ (scope : Scope) where
   number-is name v e = ap (λ o. unwrap_or o (length (names_in scope))) e
 
   pub noted-none : (places : List (Option ℕ)) (reads : List (List ℕ)) → length places ≡ length (names_in scope) → length reads ≡ length (names_in scope)
-      → ((v : ℕ) → slice_index_or places v None ≡ None) → IsEmpty reads → IsNoted scope [] places reads
+      → ((v : ℕ) → slice_index_or places v None ≡ None) → ((v : ℕ) → row_at reads v ≡ []) → IsNoted scope [] places reads
   noted-none places reads pl rl none empty = record {
     places_long = pl;
     reads_long = rl;
     noted = λ v j e. absurd (cc (none v, e));
-    none = λ v e. empty.at v;
+    none = λ v e. empty v;
     some = λ j v name value e n. let b = slice_get_within [] j (Assign name value) e in absurd (omega (arith, b));
   }
 
@@ -161,19 +161,6 @@ module _ (scope : Scope) where
         subst (λ ps. IsNoted scope (passed ++ Assign name value ∷ []) ps (set reads (number_at scope name) (map (number_at scope) (names_read value)))) (sym (set_past places (number_at scope name) (Some (length passed)) (omega (arith, count, pl))))
         (subst (λ rs. IsNoted scope (passed ++ Assign name value ∷ []) places rs) (sym (set_past reads (number_at scope name) (map (number_at scope) (names_read value)) (omega (arith, count, rl))))
         (unnumbered passed name value places reads e n))
-
--- empty lists, and one more
-pub empty-none : IsEmpty []
-empty-none = record { at = λ v. refl }
-
-pub empty-more : (lists : List (List ℕ)) → IsEmpty lists → IsEmpty (lists ++ [] ∷ [])
-empty-more lists e = record {
-  at = λ v.
-      let l = length-append lists ([] ∷ []) in
-      ⊎_elim (λ old. get_or_append_left lists ([] ∷ []) [] v old ∙ e.at v)
-      (λ new. ⊎_elim (λ past. get_or-eq_default (lists ++ [] ∷ []) [] (omega (arith, l, past))) (λ here. let at : length lists ≡ v = omega arith in get_or_at lists [] [] [] v at) (cases_lt (length lists) v))
-      (cases_lt v (length lists));
-}
 
 -- numbers of names, a name further
 pub numbers-more : (scope : Scope) (names : List (Bor (List ℕ))) (i : ℕ) (d : Bor (List ℕ)) → i < length names

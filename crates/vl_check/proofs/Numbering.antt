@@ -102,9 +102,6 @@ no-names keys numbers e f =
     subst (λ ns. Numbered [] (texts keys) ns) (sym f) (subst (λ ks. Numbered [] (texts ks) []) (sym e)
     (record { long = refl; at = λ i d below. absurd (omega arith); used = λ k below. absurd (omega arith); different = IsDistinct-from_apart bytes_eq [] (λ i j e less below. absurd (omega arith)); whole = refl }))
 
-pub names-long : (text : List MentionHere) → length (map mentioned (shown text)) ≡ length text
-names-long text = length-map (shown text) mentioned ∙ length-map text mention_of
-
 -- the name at a place
 pub name-at : (text : List MentionHere) (i : ℕ) (e : List ℕ) (d : MentionHere) → i < length text → slice_index_or (map mentioned (shown text)) i e ≡ mentioned (mention_of (slice_index_or text i d))
 name-at text i e d below =

@@ -1,15 +1,10 @@
--- Facts under an answer.
-use Rattle.std.proofs.Common.{Result, Ok, Err, IfOk}
+-- What a fault of the last conditions says of all.
 use Rattle.vl_ast.specs.declared.modules.Module.{Module}
 use Rattle.vl_ast.specs.Conditions.{IsAcyclic}
 use Rattle.vl_check.specs.Cause.{IsCause}
 use Rattle.vl_check.specs.declared.fault.VlFault.{VlFault}
 use Rattle.vl_check.specs.declared.fault.VlFault.TheVariants.{Undriven, Doubly, CombLoop, TooWide, NoReset, NoAttribute, OutOfMemory}
 use Rattle.vl_check.specs.inner.Rest.{IsCauseOfRest}
-
-pub if-both : {A E : Type 0} (r : Result A E) (P Q G : A → Type 0) → ((a : A) → P a → Q a → G a) → IfOk r P → IfOk r Q → IfOk r G
-if-both (Ok a) P Q G f p q = f a p q
-if-both (Err e) P Q G f p q = tt
 
 -- a fault of the last three conditions, where the first three hold
 pub rest-cause : (m : Module) (fault : VlFault) → IsAcyclic m → IsCauseOfRest m fault → IsCause m fault

@@ -71,9 +71,6 @@ module _ (nets : List ℕ → Net) where
     by true s h = absurd (cc h)
     by false s h = s
 
-  pub shaped : (e : Expr) (s : Shape) → Known e s → shape_in nets e ≡ Some s
-  shaped e s k = (λ i. when (k.sound i) (k.length i) (k.sign i))
-
 and-true : (c : Bool) → (c && true) ≡ c
 and-true true = refl
 and-true false = refl

@@ -3,10 +3,7 @@ use Rattle.std.specs.Prelude.{◌≡◌, ◌≢◌, ℕ, ◌<◌, List, length, 
 use Rattle.vl_ast.specs.declared.expressions.Expr.{Expr}
 use Rattle.vl_ast.specs.declared.modules.ModItem.TheVariants.{Assign}
 use Rattle.vl_ast.specs.declared.modules.Module.{Module}
-use Rattle.vl_ast.specs.Conditions.{IsLoop, IsLoopList}
 use Rattle.vl_ast.specs.Nets.{names_read}
-use Rattle.vl_check.specs.declared.ordering.Assignments.{Assignments}
-use Rattle.vl_check.specs.declared.ordering.Assignments.TheVariants.{InOrder, InLoop}
 use Rattle.vl_check.specs.declared.scope.Scope.{Scope}
 use Rattle.vl_check.specs.Scope.{names_in, number_in}
 
@@ -21,8 +18,3 @@ pub record IsOrdering (m : Module) (scope : Scope) (order : List ℕ) (places : 
   -- what an assignment reads stands before it
   pub earlier : (p j v : ℕ) (name read : List ℕ) (value : Expr) → p < length order → slice_index_or places (slice_index order p) None ≡ Some j → slice_get m.items j ≡ Some (Assign name value)
       → Contains (names_read value) read → number_in scope read ≡ Some v → (q : ℕ) × (q < p) × (slice_index order q ≡ v)
-
--- an order, where no assignments read each other in a cycle; or such a cycle
-abbrev pub IsInOrder : Module → Scope → Assignments → Type 0
-IsInOrder m scope (InOrder order places) = ((first : List ℕ) (others : List (List ℕ)) → ¬ IsLoop m first others) × IsOrdering m scope order.items places.items
-IsInOrder m scope (InLoop names) = IsLoopList m names

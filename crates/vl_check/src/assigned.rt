@@ -1,11 +1,11 @@
-ghost use Rattle.std.specs.Prelude.{◌≡◌, ◌<◌, IfOk, OnOk, None, length, map};
+ghost use Rattle.std.specs.Prelude.{◌≡◌, IfOk, OnOk, map};
 ghost use Rattle.vl_ast.specs.Nets.{names_read};
 ghost use Rattle.vl_check.specs.Scope.{number_at};
-ghost use Rattle.vl_check.specs.inner.Assigned.{IsEmpty, IsNoted, places_after, reads_after};
+ghost use Rattle.vl_check.specs.inner.Assigned.{IsNoted, places_after, reads_after};
 
 use crate::mentions::push_names;
 use crate::scope::Scope;
-use fx_io::{OutOfMemory, Sequence};
+use fx_io::{OutOfMemory, Sequence, empty_rows};
 use std::alloc::Global;
 use vl_ast::{Expr, ModItem};
 
@@ -28,18 +28,6 @@ fn numbers_read(alloc: Global, scope: &Scope<'_>, e: &Expr) -> Result<Sequence<u
         numbers.push(scope.number_or_count(name))?;
     }
     Ok(numbers)
-}
-
-/// So many empty lists.
-fn empty_lists(alloc: Global, count: usize) -> Result<Vec<Sequence<usize>>, OutOfMemory>
-    ensures long { IfOk result (λ lists. length lists.items ≡ count) }
-    ensures empty { IfOk result (λ lists. IsEmpty lists.items) }
-{
-    let mut lists = Vec::new(alloc);
-    for _number in 0..count {
-        lists.push(Sequence::new(alloc))?;
-    }
-    Ok(lists)
 }
 
 /// Notes the place of an item, and what it reads, where it is an assignment.
@@ -78,7 +66,7 @@ pub fn assignments_of(
         assigned.reads.items) }
 {
     let mut places = vec![in alloc; None; scope.count()]?;
-    let mut reads = empty_lists(alloc, scope.count())?;
+    let mut reads = empty_rows(alloc, scope.count())?;
     for (at, item) in items.iter().enumerate() {
         note(alloc, scope, at, item, &mut places, &mut reads)?;
     }

@@ -15,7 +15,7 @@ use crate::driving::{doubly, first_declarations, undriven};
 use crate::fault::VlFault;
 use crate::mentions::{Mention, mentions_of};
 use crate::names::{Numbers, numbers_of};
-use crate::ordering::{Assignments, ordered};
+use crate::ordering::{Found, ordered};
 use crate::scope::Scope;
 use crate::widths::too_wide;
 use fx_io::{OutOfMemory, Text};
@@ -38,13 +38,6 @@ pub struct Checked<'a> {
 struct Known<'a> {
     scope: Scope<'a>,
     numbers: Vec<usize>,
-}
-
-/// The order of a module's assignments, as in `Checked`.
-#[derive(Drop)]
-struct Found {
-    order: Vec<usize>,
-    places: Vec<Option<usize>>,
 }
 
 fn known_of<'a>(alloc: Global, text: &[Mention<'a>]) -> Result<Known<'a>, OutOfMemory>
@@ -80,9 +73,10 @@ pub fn check<'a>(alloc: Global, source: &'a Module) -> Result<Checked<'a>, VlFau
         IsOrdering source.now checked.scope checked.order.items checked.places.items) }
     ensures fault { IfErr result (IsCause source.now) }
 {
-    let text = mentions_of(alloc, source)?;
-    let known = known_of(alloc, text.as_slice())?;
-    let Found { order, places } = order_of(alloc, source, text.as_slice(), &known)?;
+    let mentions = mentions_of(alloc, source)?;
+    let text = mentions.as_slice();
+    let known = known_of(alloc, text)?;
+    let Found { order, places } = order_of(alloc, source, text, &known)?;
     let Known { scope, numbers } = known;
     drop(numbers);
     Ok(Checked {
@@ -121,17 +115,12 @@ fn order_of(
             name: Text::copy(alloc, name)?,
         });
     }
-    match ordered(alloc, text, &known.scope, source)? {
-        Assignments::InLoop(names) => Err(VlFault::CombLoop { names }),
-        Assignments::InOrder { order, places } => {
-            let found = Found { order, places };
-            match check_rest(alloc, source, text, &known.scope) {
-                Ok(()) => Ok(found),
-                Err(fault) => {
-                    drop(found);
-                    Err(fault)
-                }
-            }
+    let found = ordered(alloc, text, &known.scope, source)?;
+    match check_rest(alloc, source, text, &known.scope) {
+        Ok(()) => Ok(found),
+        Err(fault) => {
+            drop(found);
+            Err(fault)
         }
     }
 }

@@ -1,5 +1,5 @@
-ghost use Rattle.std.specs.Prelude.{◌≡◌, ◌++◌, ◌∷◌, [], map, IfOk, OnOk};
-ghost use Rattle.vl_ast.specs.Nets.{condition_names, item_mentions, mentions, names_read, port_declared, Declares, Drives, Reads};
+ghost use Rattle.std.specs.Prelude.{◌≡◌, ◌++◌, ◌∷◌, [], map, if◌then◌else◌, IfOk, OnOk};
+ghost use Rattle.vl_ast.specs.Nets.{condition_names, item_mentions, mentions, names_read, Declares, Drives, InputPort, OutputPort, Reads};
 ghost use Rattle.vl_check.specs.inner.Mentioned.{kind_of, mention_of, net_declared, shown, texts};
 
 use fx_io::OutOfMemory;
@@ -113,18 +113,13 @@ fn push_condition<'a>(
     }
 }
 
-fn port_declared<'a>(port: &'a Port) -> Declared<'a>
-    ensures { mention_of (Mention.Declares result) ≡ Declares (port_declared port.now) }
+fn port_kind(port: &Port) -> Kind
+    ensures { kind_of result ≡ (if port.now.input then InputPort else OutputPort) }
 {
-    Declared {
-        name: port.name.bytes(),
-        kind: if port.input {
-            Kind::InputPort
-        } else {
-            Kind::OutputPort
-        },
-        width: port.width,
-        signed: port.signed,
+    if port.input {
+        Kind::InputPort
+    } else {
+        Kind::OutputPort
     }
 }
 
@@ -203,7 +198,13 @@ pub fn mentions_of(alloc: Global, source: &Module) -> Result<Vec<Mention<'_>>, O
 {
     let mut mentions = Vec::new(alloc);
     for port in source.ports.as_slice() {
-        push(&mut mentions, Mention::Declares(port_declared(port)))?;
+        push_net(
+            &mut mentions,
+            port_kind(port),
+            port.name.bytes(),
+            port.width,
+            port.signed,
+        )?;
     }
     for item in source.items.as_slice() {
         push_item(alloc, &mut mentions, item)?;

@@ -1,13 +1,15 @@
-ghost use Rattle.std.specs.Prelude.{◌≡◌, ◌<◌, ◌+◌, ◌%◌, IfOk, None, true, ℕ, length, slice_index};
+ghost use Rattle.std.specs.Prelude.{◌≡◌, ◌<◌, IfErr, IfOk, None, ℕ, length, slice_index};
 ghost use Rattle.vl_ast.specs.declared.modules.Module.{Module};
-ghost use Rattle.vl_ast.specs.Conditions.{doubly, undriven};
+ghost use Rattle.vl_ast.specs.Conditions.{IsAcyclic, doubly, undriven};
 ghost use Rattle.vl_ast.specs.Nets.{mentions};
-ghost use Rattle.vl_check.specs.Ordering.{IsInOrder};
+ghost use Rattle.vl_check.specs.Cause.{IsCause};
+ghost use Rattle.vl_check.specs.Ordering.{IsOrdering};
 ghost use Rattle.vl_check.specs.Scope.{IsScopeOf, names_in};
 ghost use Rattle.vl_check.specs.inner.Looped.{AreMarked, AreNamed, IsBeginning, IsTurned, first_some, marked_at, marked_number};
 ghost use Rattle.vl_check.specs.inner.Mentioned.{mention_of, shown};
 
 use crate::assigned::{Assigned, assignments_of};
+use crate::fault::VlFault;
 use crate::mentions::Mention;
 use crate::scope::Scope;
 use crate::sorting::{Sorted, place_of, sort};
@@ -15,17 +17,13 @@ use fx_io::{OutOfMemory, Sequence, Text, Texts};
 use std::alloc::Global;
 use vl_ast::Module;
 
-/// The assignments of a module: in an order in which each stands behind those whose names it reads, or
-/// some that read each other in a cycle.
+/// An order of a module's assignments.
 #[derive(Drop)]
-pub enum Assignments {
-    /// The numbers of the names in this order, and by number the place of the item that assigns it.
-    InOrder {
-        order: Vec<usize>,
-        places: Vec<Option<usize>>,
-    },
-    /// The names of a cycle, begun with the first in the text.
-    InLoop(Texts),
+pub struct Found {
+    /// The numbers of the names that they give, each behind those that its assignment reads.
+    pub order: Vec<usize>,
+    /// By the number of each name, the place of the item that assigns it.
+    pub places: Vec<Option<usize>>,
 }
 
 /// By number, whether it is one of these.
@@ -120,31 +118,34 @@ fn turned_names(
     Ok(names)
 }
 
-/// The assignments in an order, or a cycle of them.
+/// An order of the assignments. The fault is a cycle of them, begun with the first in the text.
 pub fn ordered(
     alloc: Global,
     text: &[Mention<'_>],
     scope: &Scope<'_>,
     source: &Module,
-) -> Result<Assignments, OutOfMemory>
+) -> Result<Found, VlFault>
     ghost of: { Module }
     requires of { of ≡ source.now }
     requires whole { shown text.now ≡ mentions of }
     requires scope { IsScopeOf of scope.now }
     requires driven { undriven of ≡ None }
     requires once { doubly of ≡ None }
-    ensures { IfOk result (λ found. IsInOrder of scope.now found) }
+    ensures acyclic { IfOk result (λ found. IsAcyclic of) }
+    ensures order { IfOk result (λ found.
+        IsOrdering of scope.now found.order.items found.places.items) }
+    ensures fault { IfErr result (IsCause of) }
 {
     let Assigned { places, reads } = assignments_of(alloc, scope, source.items.as_slice())?;
     let sorted = sort(alloc, reads.as_slice());
     drop(reads);
     match sorted? {
-        Sorted::Order(order) => Ok(Assignments::InOrder { order, places }),
+        Sorted::Order(order) => Ok(Found { order, places }),
         Sorted::Cycle(cycle) => {
             drop(places);
             let at = beginning(alloc, text, scope, cycle.as_slice())?;
             let names = turned_names(alloc, scope, cycle.as_slice(), at)?;
-            Ok(Assignments::InLoop(names))
+            Err(VlFault::CombLoop { names })
         }
     }
 }

@@ -1,4 +1,4 @@
-ghost use Rattle.std.specs.Prelude.{◌≡◌, ◌<◌, ◌≤◌, ◌+◌, ◌-◌, ◌^◌, ℕ, [], IfOk, length, drop, option_map, slice_index};
+ghost use Rattle.std.specs.Prelude.{◌≡◌, ◌<◌, ◌+◌, ◌-◌, ◌^◌, ℕ, [], IfOk, length, option_map, slice_index};
 ghost use Rattle.vl_check.specs.inner.Order.{AreKnown};
 ghost use Rattle.fx_io.specs.Rows.{row_at};
 ghost use Rattle.vl_check.specs.inner.Sorted.{IsSorted};
@@ -12,16 +12,6 @@ use std::alloc::Global;
 pub enum Sorted {
     Order(Vec<usize>),
     Cycle(Vec<usize>),
-}
-
-/// The numbers from a place on.
-fn rest_from(alloc: Global, stack: &[usize], at: usize) -> Result<Vec<usize>, OutOfMemory>
-    requires { at ≤ length stack.now }
-    ensures { IfOk result (λ rest. rest.items ≡ drop at stack.now) }
-{
-    let mut rest = Vec::new(alloc);
-    rest.extend_from_slice(&stack[at..])?;
-    Ok(rest)
 }
 
 /// Where the number stands.
@@ -114,7 +104,7 @@ fn search(
     stage[root] = 1;
     while !stack.as_slice().is_empty() {
         if let Some(at) = turn(reads, stage, &mut stack, order)? {
-            return Ok(Some(rest_from(alloc, stack.as_slice(), at)?));
+            return Ok(Some(stack.split_off(at)?));
         }
     }
     Ok(None)

@@ -8,9 +8,6 @@ use Rattle.vl_check.specs.declared.scope.Scope.{Scope}
 use Rattle.vl_check.specs.Scope.{names_in, number_at, number_in}
 use Rattle.fx_io.specs.Rows.{row_at}
 
-pub record IsEmpty (lists : List (List ℕ)) : Type 0 where
-  pub at : (v : ℕ) → row_at lists v ≡ []
-
 abbrev pub places_after : Scope → List (Option ℕ) → ℕ → ModItem → List (Option ℕ)
 places_after scope places at (Wire signed width name) = places
 places_after scope places at (Reg signed width name) = places

@@ -1,5 +1,6 @@
 use Rattle.std.proofs.Common.{◌≡◌, ◌≤◌, ◌+◌, ◌++◌, ◌∷◌, [], ℕ, List, Option, None, length, replicate, slice_index_or, take, sym, ap, subst, ◌∙◌, arith, rules}
-use Rattle.std.proofs.lemmas.List.{length-take-le, take_all, take_more}
+use Rattle.std.proofs.lemmas.List.{length-replicate, length-take-le, take_all, take_more}
+use Rattle.fx_io.specs.Rows.{row_at}
 use Rattle.vl_check.specs.inner.Assigned.{IsNoted, places_after}
 use Rattle.vl_check.proofs.Noting.{noted-none, noted-step, replicated}
 use Rattle.vl_check.proofs.assigned.assignments_of.Goals as goal
@@ -22,9 +23,10 @@ pub loop-at-init : goal.loop-at-init
 loop-at-init c =
     let count = c.count.result in
     let places : c.in_ok-places.places.items ≡ replicate count None = c.in_ok-places.ensures.items_if_clones_equal (search rules) in
+    let reads : c.in_ok-reads.reads.items ≡ replicate c.count-2.result [] = c.in_ok-reads.ensures in
     noted-none c.args.scope.now c.in_ok-places.places.items c.in_ok-reads.reads.items
-    (sym c.in_ok-places.places.ok.0 ∙ c.in_ok-places.ensures.len ∙ c.count.ensures) (c.in_ok-reads.ensures.long ∙ c.count-2.ensures)
-    (λ v. ap (λ (ps : List (Option ℕ)). slice_index_or ps v None) places ∙ replicated None count v) c.in_ok-reads.ensures.empty
+    (sym c.in_ok-places.places.ok.0 ∙ c.in_ok-places.ensures.len ∙ c.count.ensures) (ap length reads ∙ length-replicate c.count-2.result [] ∙ c.count-2.ensures)
+    (λ v. ap (λ (ps : List (Option ℕ)). slice_index_or ps v None) places ∙ replicated None count v) (λ v. ap (λ (rs : List (List ℕ)). row_at rs v) reads ∙ replicated [] c.count-2.result v)
 
 pub returns : goal.returns
 returns c =

@@ -1,8 +1,6 @@
-use Rattle.std.proofs.Common.{ℕ, List, Option, Bor, Some, [], length, map, option_map, ap, subst, sym, ◌∙◌}
+use Rattle.std.proofs.Common.{ℕ, List, Option, Bor, Some, [], length, map, option_map, refl, ap, subst, sym, ◌∙◌}
 use Rattle.vl_ast.specs.Nets.{Mention}
 use Rattle.vl_ast.specs.Conditions.{first_fault, is_undriven, mentioned}
-use Rattle.vl_check.specs.Ordering.{IsInOrder}
-use Rattle.vl_check.specs.declared.ordering.Assignments.{Assignments}
 use Rattle.vl_check.specs.inner.Mentioned.{shown}
 use Rattle.vl_check.specs.inner.Marks.{AreNumbers}
 use Rattle.vl_check.proofs.Results.{rest-cause}
@@ -27,34 +25,33 @@ doubly-requires-clause-numbers c =
     subst (λ (numbers : List ℕ). AreNumbers names numbers (length c.as_slice.result.now)) (sym c.as_slice-numbers.ensures.value)
     (subst (λ (n : ℕ). AreNumbers names c.args.known.now.numbers.items n) (sym (ap length c.as_slice.ensures.value)) c.requires.numbers)
 
-pub returns-in-InLoop-clause-fault : goal.returns-in-InLoop-clause-fault
-returns-in-InLoop-clause-fault c = (
-  sym (c.in_ok-name.ensures ∙ ap (λ (all : List Mention). first_fault (is_undriven all) [] all) c.requires.whole) ∙ ap names_of c.in_default.is,
-  sym (c.in_ok-name-2.ensures c.args.source.now c.requires.whole) ∙ ap names_of c.in_default-2.is,
-  subst (λ (found : Assignments). IsInOrder c.args.source.now c.args.known.now.scope found) c.in-InLoop.is c.in_ok-names.ensures,
+pub ordered-requires : goal.ordered-requires
+ordered-requires c = (
+  refl,
+  (
+    c.requires.whole,
+    (
+      c.requires.scope,
+      (
+        sym (c.in_ok-name.ensures ∙ ap (λ (all : List Mention). first_fault (is_undriven all) [] all) c.requires.whole) ∙ ap names_of c.in_default.is,
+        sym (c.in_ok-name-2.ensures c.args.source.now c.requires.whole) ∙ ap names_of c.in_default-2.is,
+      ),
+    ),
+  ),
 )
 
 pub returns-in-Err-clause-fault : goal.returns-in-Err-clause-fault
-returns-in-Err-clause-fault c =
-    rest-cause c.args.source.now c.in-Err.fault (record {
-      driven = sym (c.in_ok-name.ensures ∙ ap (λ (all : List Mention). first_fault (is_undriven all) [] all) c.requires.whole) ∙ ap names_of c.in_default.is;
-      once = sym (c.in_ok-name-2.ensures c.args.source.now c.requires.whole) ∙ ap names_of c.in_default-2.is;
-      acyclic = (subst (λ (found : Assignments). IsInOrder c.args.source.now c.args.known.now.scope found) c.in-InOrder.is c.in_ok-names.ensures).0;
-    }) c.in-Err.ensures.fault
+returns-in-Err-clause-fault c = rest-cause c.args.source.now c.in-Err.fault c.in_ok-found.ensures.acyclic c.in-Err.ensures.fault
 
 pub returns-in-Ok-clause-sound : goal.returns-in-Ok-clause-sound
 returns-in-Ok-clause-sound c =
     let rest = c.in-Ok.ensures.sound in
     record {
-      acyclic = record {
-        driven = sym (c.in_ok-name.ensures ∙ ap (λ (all : List Mention). first_fault (is_undriven all) [] all) c.requires.whole) ∙ ap names_of c.in_default.is;
-        once = sym (c.in_ok-name-2.ensures c.args.source.now c.requires.whole) ∙ ap names_of c.in_default-2.is;
-        acyclic = (subst (λ (found : Assignments). IsInOrder c.args.source.now c.args.known.now.scope found) c.in-InOrder.is c.in_ok-names.ensures).0;
-      };
+      acyclic = c.in_ok-found.ensures.acyclic;
       narrow = rest.narrow;
       clocked = rest.clocked;
       attributed = rest.attributed;
     }
 
 pub returns-in-Ok-clause-order : goal.returns-in-Ok-clause-order
-returns-in-Ok-clause-order c = (subst (λ (found : Assignments). IsInOrder c.args.source.now c.args.known.now.scope found) c.in-InOrder.is c.in_ok-names.ensures).1
+returns-in-Ok-clause-order c = c.in_ok-found.ensures.order

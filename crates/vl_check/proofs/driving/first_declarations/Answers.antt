@@ -1,10 +1,16 @@
-use Rattle.std.proofs.Common.{◌<◌, length, arith, ℕ, slice_index, ◌+◌, map, take, sym, subst, ◌∙◌}
+use Rattle.std.proofs.Common.{◌<◌, length, arith, ℕ, slice_index, ◌+◌, map, take, sym, subst, ◌∙◌, rules}
 use Rattle.std.proofs.lemmas.List.{take_all}
 use Rattle.vl_ast.specs.Conditions.{mentioned}
 use Rattle.vl_check.specs.inner.Mentioned.{shown}
 use Rattle.vl_check.specs.inner.Marks.{AreFirst}
-use Rattle.vl_check.proofs.Marking.{number-below, number-there, first-step, first-long, past-all}
+use Rattle.vl_check.proofs.Marking.{number-below, number-there, first-step, first-long, none-first, past-all}
 use Rattle.vl_check.proofs.driving.first_declarations.Goals as goal
+
+pub loop-i-init : goal.loop-i-init
+loop-i-init c = record {
+  long = sym c.in_ok-first.first.ok.0 ∙ c.in_ok-first.ensures.len;
+  first = none-first _ _ _ c.requires _ (c.in_ok-first.ensures.items_if_clones_equal (search rules));
+}
 
 pub loop-i-preserved : goal.loop-i-preserved
 loop-i-preserved c =

@@ -3,12 +3,13 @@ use Rattle.std.specs.List.{flat_map}
 use Rattle.std.proofs.lemmas.List.{append-nil, take_all}
 use Rattle.vl_ast.specs.declared.modules.Port.{Port}
 use Rattle.vl_ast.specs.Nets.{port_declared, Declares, item_mentions}
+use Rattle.vl_check.specs.inner.Mentioned.{net_declared}
 use Rattle.vl_check.proofs.Reading.{joined-further, mapped-further}
 use Rattle.vl_check.proofs.mentions.mentions_of.Goals as goal
 
 pub loop-port-preserved : goal.loop-port-preserved
 loop-port-preserved c =
-    c.in_ok-push.ensures ∙ (λ i. c.loop-port.invariant i ++ c.port_declared.ensures i ∷ [])
+    c.in_ok-push_net.ensures ∙ (λ i. c.loop-port.invariant i ++ Declares (net_declared (c.port_kind.ensures i) (c.bytes.ensures i) c.port-item.result.width c.port-item.result.signed) ∷ [])
     ∙ sym (mapped-further (λ (port : Port). Declares (port_declared port)) c.as_slice-port-items.result.now c.args.source.now.ports c.loop-port.port-index c.port-item.result c.as_slice-port-items.ensures c.loop-port-test.true c.port-item.is)
 
 pub loop-item-init : goal.loop-item-init
