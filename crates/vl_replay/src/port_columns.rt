@@ -1,10 +1,10 @@
 ghost use Rattle.std.specs.Prelude.{◌≡◌, ◌<◌, ◌^◌, All, Contains, IfOk, filter, length, true};
 ghost use Rattle.vl_ast.specs.declared.modules.Port.{Port};
 ghost use Rattle.vl_ast.specs.Conditions.{BreaksNone, is_width};
-ghost use Rattle.vl_ast.specs.Control.{is_number_input, is_number_output};
 ghost use Rattle.vl_ast.specs.Driven.{output_ports, stimulus_ports};
 ghost use Rattle.vl_eval.specs.Machine.{source_of};
 ghost use Rattle.vl_replay.specs.Columns.{column_of, columns_of};
+ghost use Rattle.vl_replay.specs.inner.Sampling.{carries};
 
 use fx_io::{OutOfMemory, Sequence};
 use fx_tables::{Column, Columns};
@@ -51,34 +51,39 @@ fn column(port: &Port) -> Column
     }
 }
 
-/// The columns of the inputs that carry numbers, in order.
-fn input_columns(alloc: Global, ports: &[Port], stalls: bool) -> Result<Columns, OutOfMemory>
+/// Whether the port is an input that carries numbers, or else an output that does.
+fn carries(port: &Port, stalls: bool, inputs: bool) -> bool
+    ensures { result ≡ carries inputs stalls port.now }
+{
+    if inputs {
+        is_number_input(port, stalls)
+    } else {
+        is_number_output(port, stalls)
+    }
+}
+
+/// The columns of the inputs that carry numbers, or else of the outputs, in order.
+fn columns_where(
+    alloc: Global,
+    ports: &[Port],
+    stalls: bool,
+    inputs: bool,
+) -> Result<Columns, OutOfMemory>
     requires { (port : Port) → Contains ports.now port → is_width port.width ≡ true }
     ensures columns { IfOk result (λ columns.
-        columns ≡ columns_of (filter (is_number_input stalls) ports.now)) }
+        columns ≡ columns_of (filter (carries inputs stalls) ports.now)) }
     ensures periods { IfOk result (All (λ column. 0 < column.period)) }
+    ensures few { IfOk result (λ columns. length columns < 2 ^ 32) }
 {
     let mut columns = Sequence::new(alloc);
     for port in ports {
-        if is_number_input(port, stalls) {
+        if carries(port, stalls, inputs) {
             columns.push(column(port))?;
         }
     }
-    Ok(columns)
-}
-
-/// The columns of the outputs that carry numbers, in order.
-fn output_columns(alloc: Global, ports: &[Port], stalls: bool) -> Result<Columns, OutOfMemory>
-    requires { (port : Port) → Contains ports.now port → is_width port.width ≡ true }
-    ensures columns { IfOk result (λ columns.
-        columns ≡ columns_of (filter (is_number_output stalls) ports.now)) }
-    ensures periods { IfOk result (All (λ column. 0 < column.period)) }
-{
-    let mut columns = Sequence::new(alloc);
-    for port in ports {
-        if is_number_output(port, stalls) {
-            columns.push(column(port))?;
-        }
+    if columns.as_slice().len() >= MOST_COLUMNS {
+        // word: columns are numbered in 32 bits
+        return Err(OutOfMemory);
     }
     Ok(columns)
 }
@@ -103,11 +108,7 @@ pub fn columns(alloc: Global, machine: &Machine) -> Result<PortColumns, OutOfMem
     let source = machine.module();
     let ports = source.ports.as_slice();
     let stalls = is_stallable(source);
-    let inputs = input_columns(alloc, ports, stalls)?;
-    let outputs = output_columns(alloc, ports, stalls)?;
-    if inputs.as_slice().len() >= MOST_COLUMNS || outputs.as_slice().len() >= MOST_COLUMNS {
-        // word: columns are numbered in 32 bits
-        return Err(OutOfMemory);
-    }
+    let inputs = columns_where(alloc, ports, stalls, true)?;
+    let outputs = columns_where(alloc, ports, stalls, false)?;
     Ok(PortColumns { inputs, outputs })
 }

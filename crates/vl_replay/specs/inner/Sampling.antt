@@ -1,13 +1,18 @@
--- When the outputs are sampled, and the cells of a table in which their numbers stand.
-use Rattle.std.specs.Prelude.{◌≡◌, ℕ, ◌+◌, ◌-◌, ◌*◌, ◌/◌, ◌%◌, ◌<◌, ◌==◌, if◌then◌else◌, List, length, slice_get, slice_index_or, Option, None, Some, ℤ, pos}
+-- The ports that carry numbers, when the outputs are sampled, and the cells of a table in which their numbers stand.
+use Rattle.std.specs.Prelude.{◌≡◌, ℕ, ◌+◌, ◌-◌, ◌*◌, ◌/◌, ◌%◌, ◌<◌, ◌==◌, Bool, if◌then◌else◌, List, length, slice_get, slice_index_or, Option, None, Some, ℤ, pos}
 use Rattle.vl_ast.specs.declared.modules.Port.{Port}
 use Rattle.vl_ast.specs.declared.modules.Module.{Module}
 use Rattle.vl_ast.specs.Attributes.{lateness_of, step_of}
+use Rattle.vl_ast.specs.Control.{is_number_input, is_number_output}
 use Rattle.vl_ast.specs.Driven.{output_ports, port_number}
 use Rattle.vl_ast.specs.Windows.{Sample}
 use Rattle.vl_ast.specs.Runs.{Row}
 use Rattle.vl_replay.specs.declared.samplers.Sampler.{Sampler}
 use Rattle.vl_replay.specs.Sampled.{hit_at}
+
+-- a port is an input that carries numbers, or else an output that does
+abbrev pub carries : Bool → Bool → Port → Bool
+carries inputs stalls = if inputs then is_number_input stalls else is_number_output stalls
 
 -- when an output is sampled, with so many clocks per sample
 abbrev pub sampler_of : ℕ → Port → Sampler

@@ -5,12 +5,12 @@ use Rattle.vl_eval.specs.Machine.{source_of}
 use Rattle.vl_eval.proofs.Sounds.{port-narrow}
 use Rattle.vl_replay.proofs.port_columns.columns.Goals as goal
 
-pub input_columns-requires : goal.input_columns-requires
-input_columns-requires c =
+pub columns_where-requires : goal.columns_where-requires
+columns_where-requires c =
     let ports = c.as_slice-ports.ensures ∙ ap (λ (m : Module). m.ports) c.module-source.ensures in
     λ port there. port-narrow (source_of c.args.machine.now) c.requires.sound.narrow port (subst (λ (xs : List Port). Contains xs port) ports there)
 
-pub output_columns-requires : goal.output_columns-requires
-output_columns-requires c =
+pub columns_where-requires-2 : goal.columns_where-requires-2
+columns_where-requires-2 c =
     let ports = c.as_slice-ports.ensures ∙ ap (λ (m : Module). m.ports) c.module-source.ensures in
     λ port there. port-narrow (source_of c.args.machine.now) c.requires.sound.narrow port (subst (λ (xs : List Port). Contains xs port) ports there)
