@@ -72,9 +72,6 @@ module _ (core : Module) (sound : BreaksNone core) (stallable : is_stallable cor
   input-other : (column : Column) → Contains (inputs_of core names) column → bytes_eq column.name clk ≡ false
   input-other column c = unequal column.name clk (λ e. (input-name core names named column c).free (subst (λ n. Contains own_names n) (sym e) (0, omega arith, refl)))
 
-  output-other : (column : Column) → Contains (outputs_of core names) column → bytes_eq column.name clk ≡ false
-  output-other column c = unequal column.name clk (λ e. (output-name core names named column c).free (subst (λ n. Contains own_names n) (sym e) (0, omega arith, refl)))
-
   held-none : (column : Column) → Contains (inputs_of core names) column → list_any clocked_read (held_mentions column) ≡ false
   held-none column c = let e = input-other column c in (λ i. e i || (e i || false))
 

@@ -92,9 +92,6 @@ module _ (nets : List ℕ → Net) where
   always-none : (name : List ℕ) (first : Sized) (c e : Expr) → IsBare c → IsBare e → item_multiplications nets (Always name first (Some c) e) ≡ []
   always-none name first c e p q = (λ i. p.none (own_length nets c) (is_signed nets c) i ++ q.none (max (nets name).width (own_length nets e)) (is_signed nets e) i)
 
-  abbrev m-of : ModItem → List Multiplication
-  m-of = item_multiplications nets
-
   control-none : (counters : Counters) → flat_map (item_multiplications nets) (control_driven counters) ≡ []
   control-none counters =
       let a1 = assign-none begin_name (is_zero phase_name) (bare-zero phase_name) in

@@ -61,14 +61,7 @@ module _ (counters : Counters) (row : Row) where
 abbrev bit : Net
 bit = record { width = 1; signed = false }
 
-twice : (b : Bool) → not (not b) ≡ b
-twice true = refl
-twice false = refl
-
 module _ (m : Module) (counters : Counters) (acyclic : IsAcyclic m) (has : HasControl m counters) where
-  abbrev declares : ModItem → Type 0
-  declares i = Contains (control_declared counters) i
-
   pub net-wire : (name : List ℕ) → Contains m.items (Wire false 1 name) → nets_of m name ≡ bit
   net-wire name h = ap net_or_none (is-declared m acyclic.driven acyclic.once _ (wire-declared m acyclic.driven acyclic.once false 1 name h))
 

@@ -103,9 +103,6 @@ module _ (core : Module) (sound : BreaksNone core) (stallable : is_stallable cor
       subst (λ n. May false (inner_name n)) p.4 (may-by false _ (item-mention _ _ (wire-there core counters (inputs_of core names) (outputs_of core names) _ w) (head-in _ [])) refl) in
       (inner, (may-by true _ (item-mention _ _ (held-there core counters (inputs_of core names) (outputs_of core names) column c _ (head-in _ [])) (head-in _ [])) refl, tt))
 
-  stage-in : (column : Column) (place : ℕ) → place < column.late → Contains (range_with_len 0 column.late) place
-  stage-in column place low = let e : 0 + place ≡ place = omega arith in subst (λ n. Contains (range_with_len 0 column.late) n) e (range-in 0 column.late place low)
-
   late-may : (column : Column) → Contains (outputs_of core names) column → EachDrives May (late_mentions column)
   late-may column c =
       drives-append May (flat_map (stage_mentions column) (range_with_len 0 column.late)) (Drives false column.name ∷ Reads (stage_name column column.late) ∷ [])

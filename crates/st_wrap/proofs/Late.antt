@@ -44,12 +44,6 @@ module _ {core m : Module} {counters : Counters} {window : Window} {start : Row}
   abbrev word : Net
   word = record { width = column.width; signed = column.signed }
 
-  abbrev stage : ℕ → List ℕ
-  stage samples = stage_name column samples
-
-  stage-first : stage_name column 0 ≡ inner_name column.inner
-  stage-first = refl
-
   stage-later : (place : ℕ) → stage_name column (place + 1) ≡ late_name column.name (place + 1)
   stage-later place = cond-false (place + 1 == 0) (inner_name column.inner) (late_name column.name (place + 1)) (ne_eqb (place + 1) 0 (λ e. omega (arith, e)))
 

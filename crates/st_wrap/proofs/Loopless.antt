@@ -42,9 +42,6 @@ module _ (core : Module) (sound : BreaksNone core) (stallable : is_stallable cor
   abbrev o : Module
   o = wrapped core names counters
 
-  abbrev around : List (List ℕ)
-  around = first ∷ others
-
   abbrev name_at : ℕ → List ℕ
   name_at k = slice_index_or (first ∷ others) k []
 

@@ -34,9 +34,6 @@ abbrev pub driven_in : List ModItem → List (List ℕ)
 driven_in items = flat_map driven_names (flat_map item_mentions items)
 
 module _ (names_of : Mention → List (List ℕ)) where
-  abbrev in_items : List ModItem → List (List ℕ)
-  in_items items = flat_map names_of (flat_map item_mentions items)
-
   pub names-append : (xs ys : List ModItem) → flat_map names_of (flat_map item_mentions (xs ++ ys)) ≡ flat_map names_of (flat_map item_mentions xs) ++ flat_map names_of (flat_map item_mentions ys)
   names-append xs ys = ap (flat_map names_of) (flat_map-append item_mentions xs ys) ∙ flat_map-append names_of (flat_map item_mentions xs) (flat_map item_mentions ys)
 

@@ -159,9 +159,6 @@ module _ (core : Module) (sound : BreaksNone core) (stallable : is_stallable cor
 
   -- ---- the ports
 
-  abbrev all_port_names : List (List ℕ)
-  all_port_names = front_names ++ (in_names core names ++ (flag_names ++ out_names core names))
-
   pub port-mentions : (ports : List Port) → flat_map declared_names (map (λ port. Declares (port_declared port)) ports) ≡ map port_name ports
   port-mentions [] = refl
   port-mentions (port ∷ ports) = ap (λ xs. port.name ∷ xs) (port-mentions ports)

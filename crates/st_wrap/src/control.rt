@@ -6,7 +6,7 @@ ghost use Rattle.st_wrap.specs.inner.Control.{control_declared, control_driven, 
 ghost use Rattle.st_wrap.specs.inner.Control.{is_due_now, next_phase, next_wait, number, phase_item, unless, wait_item};
 
 use crate::expressions::{is_zero, joined, moving, name_of, named, number, plain};
-use crate::items::assign;
+use crate::items::{assign, put};
 use crate::pace::{Counter, Counters};
 use fx_io::{OutOfMemory, Text};
 use std::alloc::Global;
@@ -145,23 +145,25 @@ fn put_phase(alloc: Global, phase: Counter, items: &mut ModItems) -> Result<(), 
     ensures { OnOk result (items.new ≡ items.old ++ phase_item phase ∷ []) }
 {
     let moves = name_of(Text::copy(alloc, b"fx_core_clk_enable"));
-    items.push(register(
+    let taken = register(
         Text::copy(alloc, b"fx_phase"),
         plain(phase.width, 0),
         moves,
         next_phase(alloc, phase),
-    )?)
+    );
+    put(items, taken)
 }
 
 fn put_wait(alloc: Global, wait: Counter, items: &mut ModItems) -> Result<(), OutOfMemory>
     ensures { OnOk result (items.new ≡ items.old ++ wait_item wait ∷ []) }
 {
-    items.push(register(
+    let taken = register(
         Text::copy(alloc, b"fx_wait"),
         plain(wait.width, wait.most),
         moving(alloc, b"fx_end"),
         next_wait(alloc, wait),
-    )?)
+    );
+    put(items, taken)
 }
 
 /// Drives the signals and the counters.

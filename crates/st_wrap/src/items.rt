@@ -1,11 +1,20 @@
 //! Items put behind others.
 ghost use Rattle.std.specs.Prelude.{◌≡◌, ◌++◌, ◌∷◌, [], IfOk, OnOk};
 ghost use Rattle.vl_ast.specs.declared.expressions.Expr.{Expr};
+ghost use Rattle.vl_ast.specs.declared.modules.ModItem.{ModItem};
 ghost use Rattle.vl_ast.specs.declared.modules.ModItem.TheVariants.{Assign};
 
 use fx_io::{OutOfMemory, Text};
 use std::alloc::Global;
-use vl_ast::{Expr, ModItems, assigned};
+use vl_ast::{Expr, ModItem, ModItems, assigned};
+
+/// Puts an item, which may have wanted memory.
+pub fn put(items: &mut ModItems, made: Result<ModItem, OutOfMemory>) -> Result<(), OutOfMemory>
+    ensures { (item : ModItem) → IfOk made (λ it. it ≡ item)
+        → OnOk result (items.new ≡ items.old ++ item ∷ []) }
+{
+    items.push(made?)
+}
 
 /// Puts the assignment of a value, which may have wanted memory.
 pub fn assign(
@@ -17,5 +26,5 @@ pub fn assign(
     ensures { (taken : Expr) → IfOk value (λ made. made ≡ taken)
         → OnOk result (items.new ≡ items.old ++ Assign name.now taken ∷ []) }
 {
-    items.push(assigned(Text::copy(alloc, name), value)?)
+    put(items, assigned(Text::copy(alloc, name), value))
 }

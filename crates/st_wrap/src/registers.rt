@@ -7,7 +7,7 @@ ghost use Rattle.st_wrap.specs.inner.Columns.{stage_declared, stage_driven, stag
 
 use crate::columns::Column;
 use crate::expressions::{moving, name_of, named, plain};
-use crate::items::assign;
+use crate::items::{assign, put};
 use crate::names::{held_name, inner_name, late_name};
 use fx_io::{Boxed, OutOfMemory, Text};
 use std::alloc::Global;
@@ -49,14 +49,15 @@ fn drive_input(alloc: Global, column: &Column, items: &mut ModItems) -> Result<(
     ensures { OnOk result (items.new ≡ items.old ++ held_driven column.now) }
 {
     let name = inner_name(alloc, column.inner.bytes());
-    items.push(assigned(name, fresh_or_held(alloc, column))?)?;
+    put(items, assigned(name, fresh_or_held(alloc, column)))?;
     let fresh = name_of(Text::copy(alloc, column.name.bytes()));
-    items.push(register(
+    let held = register(
         held_name(alloc, column.name.bytes()),
         plain(column.width, 0),
         moving(alloc, b"fx_begin"),
         fresh,
-    )?)
+    );
+    put(items, held)
 }
 
 /// Drives each input of the core, and what holds it.
@@ -108,7 +109,7 @@ fn declare_output(alloc: Global, column: &Column, items: &mut ModItems) -> Resul
     ensures { OnOk result (items.new ≡ items.old ++ late_declared column.now) }
 {
     for place in 0..column.late {
-        items.push(stage_declared(alloc, column, place)?)?;
+        put(items, stage_declared(alloc, column, place))?;
     }
     Ok(())
 }
@@ -131,7 +132,7 @@ fn drive_output(alloc: Global, column: &Column, items: &mut ModItems) -> Result<
     ensures { OnOk result (items.new ≡ items.old ++ late_driven column.now) }
 {
     for place in 0..column.late {
-        items.push(stage_driven(alloc, column, place)?)?;
+        put(items, stage_driven(alloc, column, place))?;
     }
     let shown = name_of(stage_name(alloc, column, column.late));
     assign(alloc, column.name.bytes(), shown, items)

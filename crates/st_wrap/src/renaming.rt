@@ -3,6 +3,7 @@ ghost use Rattle.std.specs.Prelude.{◌≡◌, ◌++◌, map, IfOk, OnOk};
 ghost use Rattle.st_wrap.specs.inner.Names.{inner_name};
 ghost use Rattle.st_wrap.specs.inner.Renamed.{core_items, renamed, renamed_condition, renamed_item, wires_of};
 
+use crate::items::put;
 use crate::names::{inner_name, is_shared};
 use fx_io::{Boxed, OutOfMemory};
 use std::alloc::Global;
@@ -122,7 +123,7 @@ pub fn put_core(alloc: Global, core: &Module, items: &mut ModItems) -> Result<()
     ensures { OnOk result (items.new ≡ items.old ++ core_items core.now) }
 {
     for item in core.items.as_slice() {
-        items.push(renamed_item(alloc, item)?)?;
+        put(items, renamed_item(alloc, item))?;
     }
     Ok(())
 }

@@ -1,5 +1,5 @@
 //! The module with valid and ready round a core.
-ghost use Rattle.std.specs.Prelude.{◌≡◌, ◌++◌, List, ℕ, true, IfOk, OnOk, length};
+ghost use Rattle.std.specs.Prelude.{◌≡◌, ◌++◌, [], codes, List, ℕ, true, IfOk, OnOk, length};
 ghost use Rattle.vl_ast.specs.Conditions.{BreaksNone};
 ghost use Rattle.vl_ast.specs.Control.{is_stallable};
 ghost use Rattle.vl_ast.specs.Grammar.{Spells};
@@ -13,13 +13,15 @@ ghost use Rattle.st_wrap.specs.inner.Wrapped.{items_of, made_of, IsWrapped};
 
 use crate::columns::{Column, input_columns, output_columns, output_names};
 use crate::control::{declare_control, drive_control};
-use crate::header::{module_attrs, module_ports};
+use crate::header::put_ports;
 use crate::pace::{Counters, counters_for};
 use crate::registers::{declare_held, declare_late, drive_inputs, drive_outputs};
 use crate::renaming::{put_core, put_wires};
 use fx_io::{OutOfMemory, Text};
 use std::alloc::Global;
-use vl_ast::{ModItems, Module, counted_rows_run, one_run, sound_modules_spell};
+use vl_ast::{
+    Attrs, ModItems, Module, Ports, counted_rows_run, one_run, put_attribute, sound_modules_spell,
+};
 
 /// The module `fx_stream` with valid and ready round a core. It takes a sample of all inputs where
 /// `in_valid` and `in_ready` are 1, and hands over a sample of all outputs where `out_valid` and
@@ -59,6 +61,28 @@ fn module_of(alloc: Global, core: &Module, names: &[Text]) -> Result<Module, Out
     made_of(alloc, core, counters, inputs.as_slice(), outputs.as_slice())
 }
 
+/// Puts the attribute, the ports and the items of the wrapper into a module that has none.
+fn fill(
+    alloc: Global,
+    core: &Module,
+    counters: Counters,
+    inputs: &[Column],
+    outputs: &[Column],
+    made: &mut Module,
+) -> Result<(), OutOfMemory>
+    requires { made.old ≡ record {
+      name = codes "fx_stream";
+      attrs = [];
+      ports = [];
+      items = [];
+    } }
+    ensures { OnOk result (made.new ≡ made_of core.now counters inputs.now outputs.now) }
+{
+    put_attribute(alloc, &mut made.attrs, b"fx_cycles", 1)?;
+    put_ports(alloc, inputs, outputs, &mut made.ports)?;
+    put_items(alloc, core, counters, inputs, outputs, &mut made.items)
+}
+
 fn made_of(
     alloc: Global,
     core: &Module,
@@ -68,26 +92,19 @@ fn made_of(
 ) -> Result<Module, OutOfMemory>
     ensures { IfOk result (λ made. made ≡ made_of core.now counters inputs.now outputs.now) }
 {
-    Ok(Module {
+    let mut made = Module {
         name: Text::copy(alloc, b"fx_stream")?,
-        attrs: module_attrs(alloc)?,
-        ports: module_ports(alloc, inputs, outputs)?,
-        items: module_items(alloc, core, counters, inputs, outputs)?,
-    })
-}
-
-fn module_items(
-    alloc: Global,
-    core: &Module,
-    counters: Counters,
-    inputs: &[Column],
-    outputs: &[Column],
-) -> Result<ModItems, OutOfMemory>
-    ensures { IfOk result (λ items. items ≡ items_of core.now counters inputs.now outputs.now) }
-{
-    let mut items = ModItems::new(alloc);
-    put_items(alloc, core, counters, inputs, outputs, &mut items)?;
-    Ok(items)
+        attrs: Attrs::new(alloc),
+        ports: Ports::new(alloc),
+        items: ModItems::new(alloc),
+    };
+    match fill(alloc, core, counters, inputs, outputs, &mut made) {
+        Ok(()) => Ok(made),
+        Err(wanting) => {
+            drop(made);
+            Err(wanting)
+        }
+    }
 }
 
 fn put_items(

@@ -1,5 +1,5 @@
 -- The columns of the core, and what the wrapper has of each (own).
-use Rattle.std.specs.Prelude.{ℕ, ◌+◌, ◌-◌, ◌==◌, false, if◌then◌else◌, List, [], ◌∷◌, ◌++◌, map, Some}
+use Rattle.std.specs.Prelude.{ℕ, Bool, ◌+◌, ◌-◌, ◌==◌, false, if◌then◌else◌, List, [], ◌∷◌, ◌++◌, map, Some}
 use Rattle.std.specs.List.{range_with_len}
 use Rattle.vl_ast.specs.declared.expressions.BinOp.TheVariants.{Both}
 use Rattle.vl_ast.specs.declared.expressions.Sized.{Sized}
@@ -8,7 +8,7 @@ use Rattle.vl_ast.specs.declared.expressions.Expr.TheVariants.{Name, Binary, Cho
 use Rattle.vl_ast.specs.declared.modules.ModItem.{ModItem}
 use Rattle.vl_ast.specs.declared.modules.ModItem.TheVariants.{Reg, Assign, Always}
 use Rattle.vl_ast.specs.declared.modules.Port.{Port}
-use Rattle.vl_ast.specs.Header.{DataPort}
+use Rattle.vl_ast.specs.Header.{DataPort, input_port, output_port}
 use Rattle.st_wrap.specs.declared.columns.Column.{Column}
 use Rattle.st_wrap.specs.Header.{row_port}
 use Rattle.st_wrap.specs.Pace.{samples_late}
@@ -30,6 +30,10 @@ output_column cycles latest named = column_of (latest - samples_late cycles name
 -- the port of a column
 abbrev pub column_port : Column → DataPort
 column_port column = row_port column.name column.width column.signed
+
+-- it is an input or an output
+abbrev pub port_of : Bool → Column → Port
+port_of input column = if input then input_port (column_port column) else output_port (column_port column)
 
 -- so many bits without sign
 abbrev pub plain : ℕ → ℕ → Sized

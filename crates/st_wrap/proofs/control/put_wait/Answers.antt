@@ -1,8 +1,4 @@
-use Rattle.std.proofs.Common.{◌∙◌, ◌++◌, ◌∷◌, [], ap}
-use Rattle.std.proofs.lemmas.Result.{on_ok_weaker}
 use Rattle.st_wrap.proofs.control.put_wait.Goals as goal
 
 pub returns : goal.returns
-returns c =
-    let made = c.in_ok-register.ensures _ _ _ _ c.plain.ensures c.copy.ensures c.moving.ensures c.next_wait.ensures in
-    on_ok_weaker c.push.result (λ put. put ∙ ap (λ item. c.args.items.now ++ item ∷ []) made) c.push.ensures.appended
+returns c = c.put.ensures _ (c.register-taken.ensures _ _ _ _ c.plain.ensures c.copy.ensures c.moving.ensures c.next_wait.ensures)
