@@ -5,7 +5,7 @@ use fx_io::OutOfMemory;
 use thiserror::Error;
 
 /// Why there is no module (own).
-#[derive(Clone, Copy, Debug, PartialEq, Eq, Error)]
+#[derive(Clone, Copy, Debug, Error)]
 pub enum VlSyntax {
     /// The bytes are no text of the subset. They stop being the beginning of one at this line, counted from 1.
     #[error("line {line}: not in the Verilog subset")]

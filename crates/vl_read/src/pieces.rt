@@ -84,7 +84,7 @@ pub fn unary(alloc: Global, op: UnOp, part: Expr) -> Result<Expr, OutOfMemory>
 pub fn binary(alloc: Global, op: BinOp, left: Boxed<Expr>, right: Expr) -> Result<Expr, OutOfMemory>
     ensures { IfOk result (λ e. e ≡ roll-Expr (Expr-F.Binary op left right)) }
 {
-    Ok(Expr::Binary(op, left, Boxed::new(alloc, right)?))
+    vl_ast::binary(op, Ok(left), Boxed::new(alloc, right))
 }
 
 /// A shift.
@@ -103,7 +103,7 @@ pub fn choose(
 ) -> Result<Expr, OutOfMemory>
     ensures { IfOk result (λ e. e ≡ roll-Expr (Expr-F.Choose test chosen other)) }
 {
-    Ok(Expr::Choose(test, chosen, Boxed::new(alloc, other)?))
+    vl_ast::choose(Ok(test), Ok(chosen), Boxed::new(alloc, other))
 }
 
 /// Takes the innermost frame off.

@@ -36,10 +36,12 @@ fn last(reader: Reader, mode: Mode) -> Option<Module>
     requires { IsBeyond mode }
     ensures { result ≡ option_and_then (parse (seen reader)) (last_lexemes mode []) }
 {
-    let module = reader.finish();
     match mode {
-        Mode::Between | Mode::LineComment => module,
-        Mode::Word | Mode::Mark | Mode::Slash | Mode::BlockComment | Mode::Star => None,
+        Mode::Between | Mode::LineComment => reader.finish(),
+        Mode::Word | Mode::Mark | Mode::Slash | Mode::BlockComment | Mode::Star => {
+            drop(reader);
+            None
+        }
     }
 }
 
