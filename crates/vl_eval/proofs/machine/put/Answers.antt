@@ -1,7 +1,7 @@
 use Rattle.std.proofs.Common.{◌≡◌, ◌<◌, ◌++◌, ◌∷◌, [], length, set, take, slice_index, sym, subst, ◌∙◌, arith}
-use Rattle.std.proofs.lemmas.List.{get_or-take, length-take-le, take_more}
+use Rattle.std.proofs.lemmas.List.{get_or-take, length-take-le, take_all, take_more}
 use Rattle.vl_eval.specs.inner.Edges.{IsPut}
-use Rattle.vl_eval.proofs.Taking.{put-more}
+use Rattle.vl_eval.proofs.Taking.{put-more, put-none}
 use Rattle.vl_eval.proofs.machine.put.Goals as goal
 
 pub loop-k-preserved : goal.loop-k-preserved
@@ -17,3 +17,9 @@ loop-k-preserved c =
     (put-more (take k places) place c.args.bits.now c.args.values.now c.loop-k.values (omega (arith, within, c.loop-k.auto.values))
     (λ j low same. let less : j < k = omega (arith, low, long) in c.requires.apart j k less below (sym (get_or-take k places j 0 less) ∙ same))
     c.loop-k.invariant))
+
+pub loop-k-init : goal.loop-k-init
+loop-k-init c = put-none c.args.bits.now c.args.values.now
+
+pub returns : goal.returns
+returns c = subst (λ ps. IsPut ps c.args.bits.now c.args.values.now c.loop-k.values) (take_all c.loop-k.k c.args.places.now c.loop-k-test.false) c.loop-k.invariant

@@ -1,4 +1,5 @@
-use Rattle.std.proofs.Common.{◌++◌, ◌∷◌, [], ◌&&◌, not, ℕ, Bool, bytes_eq, codes, filter, map, take, Vec, Global, refl, sym, ap, ◌∙◌}
+use Rattle.std.proofs.Common.{◌≤◌, ◌++◌, ◌∷◌, [], ◌&&◌, not, ℕ, Bool, List, bytes_eq, codes, filter, length, map, take, Vec, Global, refl, sym, ap, subst, ◌∙◌}
+use Rattle.std.proofs.lemmas.List.{take_all}
 use Rattle.vl_ast.specs.declared.modules.Port.{Port}
 use Rattle.vl_eval.specs.inner.Planned.{slot_of_port}
 use Rattle.vl_eval.specs.inner.Site.{slot_in}
@@ -32,3 +33,12 @@ loop-port-preserved c =
           ∙ kept-none (slot_of_port scope slots) is_driven (take i ports) port (sym c.is_driven_input.ensures ∙ w.if-is_driven_input.false)
           ∙ ap (λ xs. map (slot_of_port scope slots) (filter is_driven xs)) (sym more))
     ]
+
+pub returns : goal.returns
+returns c =
+    let scope = c.args.site.now.scope.now in
+    let slots = c.args.site.now.slots.now in
+    let ports = c.args.source.now.ports in
+    let i = c.loop-port.port-index in
+    let end = subst (λ (xs : List Port). length xs ≤ i) c.as_slice-port-items.ensures c.loop-port-test.false in
+    c.loop-port.invariant ∙ ap (λ (xs : List Port). map (slot_of_port scope slots) (filter is_driven xs)) (take_all i ports end)
