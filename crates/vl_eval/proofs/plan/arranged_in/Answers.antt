@@ -1,14 +1,41 @@
-use Rattle.std.proofs.Common.{◌<◌, length, codes, subst, arith}
+use Rattle.std.proofs.Common.{◌<◌, length, codes, subst, sym, arith}
 use Rattle.std.proofs.lemmas.Option.{slice_get_within}
 use Rattle.vl_check.proofs.Scoped.{at-number}
 use Rattle.vl_check.specs.Scope.{names_in}
 use Rattle.vl_eval.specs.inner.Arranged.{IsArranged}
-use Rattle.vl_eval.specs.inner.Planned.{AreCaptured}
+use Rattle.vl_eval.specs.inner.Planned.{AreCaptured, AreNumbers, AreWired}
 use Rattle.vl_eval.proofs.Capturing.{number-of, reset-known}
 use Rattle.vl_eval.proofs.Rearranged.{arranged-captured, arranged-wired}
 use Rattle.std.proofs.lemmas.Result.{IfOk-weaker}
 use Rattle.vl_eval.proofs.Sounds.{scope-few}
 use Rattle.vl_eval.proofs.plan.arranged_in.Goals as goal
+
+pub wires-requires-clause-sound : goal.wires-requires-clause-sound
+wires-requires-clause-sound c = c.requires.sound
+
+pub wires-requires-clause-scope : goal.wires-requires-clause-scope
+wires-requires-clause-scope c = c.requires.scope
+
+pub wires-requires-clause-order : goal.wires-requires-clause-order
+wires-requires-clause-order c = c.requires.order
+
+pub wires-requires-clause-numbers : goal.wires-requires-clause-numbers
+wires-requires-clause-numbers c = subst (λ n. AreNumbers n c.in_ok-slots.slots.items) c.count-base.ensures c.in_ok-slots.ensures
+
+pub wires-requires-clause-none : goal.wires-requires-clause-none
+wires-requires-clause-none c = c.new-ops.ensures
+
+pub captures-requires-clause-sound : goal.captures-requires-clause-sound
+captures-requires-clause-sound c = c.requires.sound
+
+pub captures-requires-clause-scope : goal.captures-requires-clause-scope
+captures-requires-clause-scope c = c.requires.scope
+
+pub captures-requires-clause-base : goal.captures-requires-clause-base
+captures-requires-clause-base c = c.count-base.ensures
+
+pub captures-requires-clause-wired : goal.captures-requires-clause-wired
+captures-requires-clause-wired c = subst (λ xs. AreWired c.args.source.now c.args.scope.now xs c.wires.new.ops) (sym c.as_slice.ensures.value) c.in_ok-wires.ensures
 
 pub returns : goal.returns
 returns c =

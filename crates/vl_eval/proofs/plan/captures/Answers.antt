@@ -1,4 +1,6 @@
-use Rattle.std.proofs.Common.{◌≡◌, ◌++◌, ◌∷◌, [], List, length, take, Vec, Global, refl, sym, subst, ap, ◌∙◌}
+use Rattle.std.proofs.Common.{◌≡◌, ◌≤◌, ◌++◌, ◌∷◌, [], List, length, take, Vec, Global, refl, sym, subst, ap, ◌∙◌}
+use Rattle.std.proofs.lemmas.List.{take_all}
+use Rattle.vl_ast.specs.declared.modules.ModItem.{ModItem}
 use Rattle.vl_ast.specs.declared.modules.ModItem.TheVariants.{Always}
 use Rattle.vl_check.specs.Scope.{names_in}
 use Rattle.vl_eval.specs.inner.Assigning.{Captures, next_names}
@@ -6,7 +8,7 @@ use Rattle.vl_eval.specs.declared.ops.Op.{Op}
 use Rattle.vl_eval.specs.declared.plan.Capture.{Capture}
 use Rattle.vl_eval.specs.inner.Planned.{AreCaptured}
 use Rattle.vl_eval.specs.inner.Site.{ArePlaced, slot_in}
-use Rattle.vl_eval.proofs.Capturing.{captured-more, captured-same, item-there, items-more, known-placed, next-known, reset-known}
+use Rattle.vl_eval.proofs.Capturing.{captured-more, captured-none, captured-same, item-there, items-more, known-placed, next-known, reset-known}
 use Rattle.vl_eval.proofs.Sounds.{scope-always, scope-few}
 use Rattle.vl_eval.proofs.plan.captures.Goals as goal
 use Rattle.vl_eval.proofs.plan.captures.Goals.{in-Always+in_ok-from+in_ok-push, in_default}
@@ -80,3 +82,21 @@ loop-item-preserved c =
           (captured-same c.meaning_by_layer.ensures.value m scope c.requires.scope q.driven q.once few slots wired c.requires.wired reset (take i m.items) c.item-item.result c.loop-item.ops c.loop-item.captures.items
           (λ name first condition value e. w.in_default.not-Always name first condition value e) c.loop-item.invariant))))
     ]
+
+pub loop-item-init : goal.loop-item-init
+loop-item-init c =
+    let m = c.args.source.now in
+    let site = c.args.site.now in
+    let q = c.requires.sound.acyclic in
+    let few = scope-few m c.requires.sound.narrow q.driven q.once site.scope.now c.requires.scope in
+    let reset = reset-known c.meaning_by_layer.ensures.value m site.scope.now c.requires.scope q.driven q.once few site.slots.now c.args.ops.now c.requires.wired c.requires.sound.clocked in
+    subst (λ (cs : List Capture). AreCaptured m site.scope.now site.slots.now [] c.args.ops.now c.args.ops.now cs) (sym c.new-captures.ensures.items)
+    (captured-none c.meaning_by_layer.ensures.value m site.scope.now c.requires.scope q.driven q.once few site.slots.now c.args.ops.now c.requires.wired reset)
+
+pub returns : goal.returns
+returns c =
+    let m = c.args.source.now in
+    let site = c.args.site.now in
+    let i = c.loop-item.item-index in
+    let end = subst (λ (xs : List ModItem). length xs ≤ i) c.as_slice-item-items.ensures c.loop-item-test.false in
+    subst (λ (xs : List ModItem). AreCaptured m site.scope.now site.slots.now xs c.args.ops.now c.loop-item.ops c.loop-item.captures.items) (take_all i m.items end) c.loop-item.invariant
