@@ -1,5 +1,6 @@
 pub mod PlainRuns
 pub mod After
+pub mod Bounded
 pub mod Classes
 pub mod Complete
 pub mod LineLaws

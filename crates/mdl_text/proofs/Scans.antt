@@ -1,5 +1,5 @@
 -- Blanks at the end of a value.
-use Rattle.std.proofs.Common.{◌≡◌, ℕ, ◌+◌, ◌<◌, ◌-◌, ◌≤◌, length, get_or, take, drop, Bool, true, false, cond, List, [], ◌∷◌, ◌++◌, refl, sym, ◌∙◌, ap, arith, one-add, append-nil, true≢false}
+use Rattle.std.proofs.Common.{◌≡◌, ℕ, ◌+◌, ◌<◌, ◌-◌, ◌≤◌, length, get_or, take, Bool, true, false, cond, List, [], ◌∷◌, ◌++◌, refl, sym, ◌∙◌, ap, arith, one-add, append-nil, true≢false}
 use Rattle.std.specs.Prelude.{◌&&◌}
 use Rattle.std.specs.List.{list_all, prefix_len}
 use Rattle.std.proofs.lemmas.Bool.{and_parts}
@@ -110,14 +110,6 @@ name_length_of [] (b ∷ bs) h stop = ap (λ t. cond t (1 + prefix_len is_name_b
 name_length_of (n ∷ ns) rest h stop =
     let parts = and_parts (is_name_byte n) (list_all is_name_byte ns) h in
     ap (λ t. cond t (1 + prefix_len is_name_byte (ns ++ rest)) 0) parts.0 ∙ ap (λ m. 1 + m) (name_length_of ns rest parts.1 stop) ∙ one-add (length ns)
-
--- where the name stops
-pub name_stops : (text : List ℕ) → FirstIs (λ b. is_name_byte b ≡ false) (drop (prefix_len is_name_byte text) text)
-name_stops [] = tt
-name_stops (b ∷ bs) = elim (is_name_byte b) as (λ t. is_name_byte b ≡ t → FirstIs (λ b. is_name_byte b ≡ false) (drop (cond t (1 + prefix_len is_name_byte bs) 0) (b ∷ bs))) [
-  | true ↦ λ e. rw (one-add) (name_stops bs)
-  | false ↦ λ e. e
-] refl
 
 -- blanks alone leave nothing
 trimmed_none : (bytes : List ℕ) → AreBlanks bytes → trimmed bytes ≡ []

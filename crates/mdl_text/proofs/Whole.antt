@@ -1,9 +1,8 @@
 -- How far a text was read, what that says of it, and where it stops.
-use Rattle.std.proofs.Common.{◌≡◌, ℕ, zero, suc, ◌+◌, ◌-◌, ◌<◌, ◌≤◌, Bool, true, false, not, List, [], ◌∷◌, ◌++◌, length, take, drop, get_or, Some, None, inl, inr, refl, sym, ◌∙◌, ap, subst, append_assoc, append-nil, eqb-true, flat_map, arith, add-one, option_and_then, length-append, length-drop, count_by, take-append-drop, drop-cons}
+use Rattle.std.proofs.Common.{◌≡◌, ℕ, zero, suc, ◌+◌, ◌-◌, ◌<◌, ◌≤◌, Bool, true, false, not, List, [], ◌∷◌, ◌++◌, length, take, drop, get_or, Some, None, inl, inr, refl, sym, ◌∙◌, ap, subst, append_assoc, append-nil, eqb-true, flat_map, arith, add-one, option_and_then, length-drop, count_by, take-append-drop, drop-cons}
 use Rattle.std.specs.Prelude.{◌==◌}
 use Rattle.std.specs.List.{list_all}
 use Rattle.std.proofs.lemmas.Bool.{and_from}
-use Rattle.std.proofs.lemmas.List.Sums.{count_by-le-length}
 use Rattle.std.proofs.Math.Seq.{take-length}
 use Rattle.fx_io.specs.FaultLine.{IsOneLine, IsPrefix, AreWholeLines}
 use Rattle.fx_io.proofs.FaultLines.{count_append, count_none}
@@ -100,18 +99,11 @@ pub record Reached (bytes rest : List ℕ) (reader : Reader) (line : ℕ) : Type
   pub number : line ≡ 1 + count_by newline before
   pub reads : (more : List ℕ) → run start (lines_of (before ++ more)) ≡ run reader (lines_of more)
 
-pub reached_start : (bytes : List ℕ) (reader : Reader) → reader ≡ start → Reached bytes bytes reader 1
-reached_start bytes reader is = record { before = []; whole = refl; lines = inl refl; number = refl; reads = λ more. ap (λ r. run r (lines_of more)) (sym is) }
-
 module _ (bytes rest : List ℕ) (reader : Reader) (line : ℕ) (reached : Reached bytes rest reader line) where
   begins : IsPrefix IsMdl reached.before
   begins =
       let end = closable reader in
       record { rest = end.rest; is_text = (record { items = end.items }, reading_stands (reached.before ++ end.rest) end.items (reached.reads end.rest ∙ end.reads)) }
-
-  -- the line is not past the bytes before it
-  pub line_within : line + length rest ≤ 1 + length bytes
-  line_within = omega (arith, reached.number, count_by-le-length newline reached.before, ap length reached.whole, length-append reached.before rest)
 
   module _ (next after : List ℕ) (one : IsOneLine next) (split : rest ≡ next ++ 10 ∷ after) where
     reads_line : (more : List ℕ) → run start (lines_of ((reached.before ++ (next ++ 10 ∷ [])) ++ more)) ≡ run reader (next ∷ lines_of more)

@@ -1,4 +1,4 @@
-ghost use Rattle.std.specs.Prelude.{◌≡◌, ◌≤◌, [], ◌++◌, codes, length, IfOk, OnOk, IsTrue};
+ghost use Rattle.std.specs.Prelude.{◌≡◌, ◌≤◌, [], ◌++◌, codes, length, IfOk, OnOk};
 ghost use Rattle.mdl_text.specs.declared.reader.Pending.TheVariants.{Nothing};
 ghost use Rattle.mdl_text.specs.inner.Content.{value_of};
 ghost use Rattle.mdl_text.specs.inner.Plain.{IsBounded, goes_on, reader_strings, added, opened, closed, listed, valued, after_name, named, fresh_text, if_closed, unblanked, strings_from, start, step, finish};
@@ -103,9 +103,8 @@ impl<'a> Reader<'a> {
     #[tactic(auto, unfolding(crate::specs::inner::Plain::opened))]
     fn open(&mut self, alloc: Global, name: &[u8], after: &[u8]) -> Result<bool, OutOfMemory>
         requires { self.old.pending ≡ Nothing }
-        ensures value { IfOk result (λ good.
+        ensures { IfOk result (λ good.
             opened self.old.draft name.now after.now ≡ goes_on good self.new) }
-        ensures bounded { IfOk result (λ good. IsTrue good → IsBounded self.new.pending) }
     {
         if !are_blanks(after) || self.draft.depth >= DEEPEST {
             return Ok(false);
@@ -119,8 +118,7 @@ impl<'a> Reader<'a> {
     #[tactic(auto, unfolding(crate::specs::inner::Plain::closed))]
     fn close(&mut self, after: &[u8]) -> bool
         requires { self.old.pending ≡ Nothing }
-        ensures value { closed self.old.draft after.now ≡ goes_on result self.new }
-        ensures bounded { IsTrue result → IsBounded self.new.pending }
+        ensures { closed self.old.draft after.now ≡ goes_on result self.new }
     {
         if !are_blanks(after) || self.draft.depth == 0 {
             return false;
@@ -141,9 +139,8 @@ impl<'a> Reader<'a> {
     ) -> Result<bool, OutOfMemory>
         requires free { self.old.pending ≡ Nothing }
         requires within { nesting ≤ length said }
-        ensures value { IfOk result (λ good.
+        ensures { IfOk result (λ good.
             listed self.old.draft name.now said.entry nesting line.now ≡ goes_on good self.new) }
-        ensures bounded { IfOk result (λ good. IsTrue good → IsBounded self.new.pending) }
     {
         match list_end(nesting, line) {
             ListEnd::Closed { taken } => {
@@ -182,9 +179,8 @@ impl<'a> Reader<'a> {
     ) -> Result<bool, OutOfMemory>
         requires free { self.old.pending ≡ Nothing }
         requires bracket { value.now ≡ codes "[" ++ after.now }
-        ensures value { IfOk result (λ good.
+        ensures { IfOk result (λ good.
             listed self.old.draft name.now (codes "[") 0 after.now ≡ goes_on good self.new) }
-        ensures bounded { IfOk result (λ good. IsTrue good → IsBounded self.new.pending) }
     {
         match list_end(0, after) {
             ListEnd::Closed { taken } => {
@@ -217,10 +213,9 @@ impl<'a> Reader<'a> {
         bytes: &'a [u8],
     ) -> Result<bool, OutOfMemory>
         requires { self.old.pending ≡ Nothing }
-        ensures value { IfOk result (λ good.
+        ensures { IfOk result (λ good.
             reader_strings self.old.draft name.now (strings_from said.entry bytes.now)
             ≡ goes_on good self.new) }
-        ensures bounded { IfOk result (λ good. IsTrue good → IsBounded self.new.pending) }
     {
         match joined(alloc, said, bytes)? {
             None => Ok(false),
@@ -240,10 +235,9 @@ impl<'a> Reader<'a> {
         value: &'a [u8],
     ) -> Result<bool, OutOfMemory>
         requires { self.old.pending ≡ Nothing }
-        ensures value { IfOk result (λ good.
+        ensures { IfOk result (λ good.
             reader_strings self.old.draft name.now (strings_from [] value.now)
             ≡ goes_on good self.new) }
-        ensures bounded { IfOk result (λ good. IsTrue good → IsBounded self.new.pending) }
     {
         match plain_string(value) {
             None => self.quoted(alloc, name, Said::lent(b""), value),
@@ -260,9 +254,8 @@ impl<'a> Reader<'a> {
     #[tactic(auto, unfolding(crate::specs::inner::Plain::valued))]
     fn value(&mut self, alloc: Global, name: &'a [u8], value: &'a [u8]) -> Result<bool, OutOfMemory>
         requires { self.old.pending ≡ Nothing }
-        ensures value { IfOk result (λ good.
+        ensures { IfOk result (λ good.
             valued self.old.draft name.now value.now ≡ goes_on good self.new) }
-        ensures bounded { IfOk result (λ good. IsTrue good → IsBounded self.new.pending) }
     {
         match value {
             [] => Ok(false),
@@ -284,10 +277,9 @@ impl<'a> Reader<'a> {
         rest: &'a [u8],
     ) -> Result<bool, OutOfMemory>
         requires { self.old.pending ≡ Nothing }
-        ensures value { IfOk result (λ good.
+        ensures { IfOk result (λ good.
             after_name self.old.draft name.now rest.now (unblanked rest.now)
             ≡ goes_on good self.new) }
-        ensures bounded { IfOk result (λ good. IsTrue good → IsBounded self.new.pending) }
     {
         let value = unblanked(rest);
         match value {
@@ -306,9 +298,8 @@ impl<'a> Reader<'a> {
     #[tactic(auto, unfolding(crate::specs::inner::Plain::named))]
     fn named(&mut self, alloc: Global, text: &'a [u8]) -> Result<bool, OutOfMemory>
         requires { self.old.pending ≡ Nothing }
-        ensures value { IfOk result (λ good.
+        ensures { IfOk result (λ good.
             named self.old.draft text.now ≡ goes_on good self.new) }
-        ensures bounded { IfOk result (λ good. IsTrue good → IsBounded self.new.pending) }
     {
         let count = name_length(text);
         if count == 0 {
@@ -320,9 +311,8 @@ impl<'a> Reader<'a> {
     /// A line that goes on with nothing, from its first byte that is no blank.
     fn fresh(&mut self, alloc: Global, text: &'a [u8]) -> Result<bool, OutOfMemory>
         requires { self.old.pending ≡ Nothing }
-        ensures value { IfOk result (λ good.
+        ensures { IfOk result (λ good.
             fresh_text self.old.draft text.now ≡ goes_on good self.new) }
-        ensures bounded { IfOk result (λ good. IsTrue good → IsBounded self.new.pending) }
     {
         match text {
             [] | [b'#', ..] => Ok(true),
@@ -336,8 +326,7 @@ impl<'a> Reader<'a> {
     #[tactic(auto, unfolding(crate::specs::inner::Plain::step, crate::specs::inner::Plain::fresh))]
     pub fn step(&mut self, alloc: Global, line: &'a [u8]) -> Result<bool, OutOfMemory>
         requires { IsBounded self.old.pending }
-        ensures value { IfOk result (λ good. step self.old line.now ≡ goes_on good self.new) }
-        ensures bounded { IfOk result (λ good. IsTrue good → IsBounded self.new.pending) }
+        ensures { IfOk result (λ good. step self.old line.now ≡ goes_on good self.new) }
     {
         let text = line_text(line);
         if let Pending::Nothing = self.pending {
@@ -358,8 +347,7 @@ impl<'a> Reader<'a> {
     ) -> Result<bool, OutOfMemory>
         requires bounded { IsBounded self.old.pending }
         requires text { text.now ≡ unblanked line.now }
-        ensures value { IfOk result (λ good. step self.old line.now ≡ goes_on good self.new) }
-        ensures bounded { IfOk result (λ good. IsTrue good → IsBounded self.new.pending) }
+        ensures { IfOk result (λ good. step self.old line.now ≡ goes_on good self.new) }
     {
         match mem::replace(&mut self.pending, Pending::Nothing) {
             Pending::Nothing => self.fresh(alloc, text),

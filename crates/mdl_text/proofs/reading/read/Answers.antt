@@ -1,15 +1,17 @@
 use Rattle.std.proofs.Common.{Option, Some, None, cond, sym, ◌∙◌, ap}
 use Rattle.mdl_text.specs.declared.reader.Reader.{Reader}
+use Rattle.mdl_text.proofs.Bounded.{step_bounded}
 use Rattle.mdl_text.proofs.Whole.{reached_next, refused_line, fault_line, found_end, refused_end, fault_end}
 use Rattle.mdl_text.proofs.reading.read.Goals as goal
 
 pub loop-next-preserved : goal.loop-next-preserved
 loop-next-preserved c =
     let split = c.in-Some.ensures in
-    let read : Option Reader = Some c.step.new.self in record {
-      reached = reached_next c.args.bytes.now c.loop-next.rest.now c.loop-next.reader c.loop-next.line c.loop-next.invariant.reached c.in-Some.next.now c.in-Some.after.now split.0 split.1 c.step.new.self
-          (c.in_ok-step.ensures.value ∙ ap (λ t. cond t read None) c.if-not-branch.false);
-      bounded = c.in_ok-step.ensures.bounded c.if-not-branch.false;
+    let read : Option Reader = Some c.step.new.self in
+    let goes_on = c.in_ok-step.ensures ∙ ap (λ t. cond t read None) c.if-not-branch.false in
+    record {
+      reached = reached_next c.args.bytes.now c.loop-next.rest.now c.loop-next.reader c.loop-next.line c.loop-next.invariant.reached c.in-Some.next.now c.in-Some.after.now split.0 split.1 c.step.new.self goes_on;
+      bounded = step_bounded c.loop-next.reader c.step.new.self c.in-Some.next.now c.loop-next.invariant.bounded goes_on;
     }
 
 pub returns-then-not-branch-clause-refused : goal.returns-then-not-branch-clause-refused
@@ -17,14 +19,14 @@ returns-then-not-branch-clause-refused c =
     let split = c.in-Some.ensures in
     let read : Option Reader = Some c.step.new.self in
     refused_line c.args.bytes.now c.loop-next.rest.now c.loop-next.reader c.loop-next.line c.loop-next.invariant.reached c.in-Some.next.now c.in-Some.after.now split.0 split.1
-    (c.in_ok-step.ensures.value ∙ ap (λ t. cond t read None) c.if-not-branch.true)
+    (c.in_ok-step.ensures ∙ ap (λ t. cond t read None) c.if-not-branch.true)
 
 pub returns-then-not-branch-clause-line : goal.returns-then-not-branch-clause-line
 returns-then-not-branch-clause-line c =
     let split = c.in-Some.ensures in
     let read : Option Reader = Some c.step.new.self in
     fault_line c.args.bytes.now c.loop-next.rest.now c.loop-next.reader c.loop-next.line c.loop-next.invariant.reached c.in-Some.next.now c.in-Some.after.now split.0 split.1
-    (c.in_ok-step.ensures.value ∙ ap (λ t. cond t read None) c.if-not-branch.true)
+    (c.in_ok-step.ensures ∙ ap (λ t. cond t read None) c.if-not-branch.true)
 
 pub returns-in-None-clause-refused : goal.returns-in-None-clause-refused
 returns-in-None-clause-refused c =
