@@ -6,6 +6,7 @@ ghost use Rattle.dg_model.specs.Widths.{are_open as are_open_of, list_length as 
 
 use crate::kinds::list_length;
 use crate::linked::{Form, Share, Source, WidthRound};
+use crate::rows::one;
 use dg_model::{Block, Diagram, Edge, Kind, Shape};
 use fx_io::{OutOfMemory, Sequence, Sizes, empty_rows, push_at};
 use std::alloc::Global;
@@ -84,9 +85,7 @@ fn own_rows(alloc: Global, count: usize) -> Result<Vec<Sizes>, OutOfMemory>
 {
     let mut rows: Vec<Sizes> = Vec::new(alloc);
     for k in 0..count {
-        let mut own = Sizes::new(alloc);
-        own.push(k as u32)?;
-        rows.push(own)?;
+        rows.push(one(alloc, k as u32)?)?;
     }
     Ok(rows)
 }

@@ -3,7 +3,6 @@ ghost use Rattle.dg_model.specs.Dimension.{IsBounded};
 ghost use Rattle.dg_types.specs.inner.Elements.{outputs_from, delays_from, inputs_of, elements_of as elements_of_block, delayed as delayed_of};
 
 use crate::fitting::{first_of, total};
-use crate::kinds::delay_length;
 use crate::rows::edge_width;
 use dg_model::{Block, Diagram, Edge};
 use fx_io::Sizes;
@@ -51,7 +50,7 @@ fn all_inputs(edges: &[Edge], widths: &[Sizes]) -> u64
 fn delayed(block: &Block, row: &[u32]) -> u64
     ensures { result ≡ min (2 ^ 64 - 1) (delayed_of block.now row.now) }
 {
-    u64::from(delay_length(&block.kind)).saturating_mul(u64::from(first_of(row)))
+    u64::from(block.kind.row().delay).saturating_mul(u64::from(first_of(row)))
 }
 
 /// How many samples all Delays keep of all of their elements, saturating.

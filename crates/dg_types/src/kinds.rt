@@ -1,6 +1,5 @@
 ghost use Rattle.std.specs.Prelude.{◌≡◌};
 ghost use Rattle.dg_model.specs.Widths.{are_open as are_open_of, list_length as list_length_of};
-ghost use Rattle.dg_types.specs.inner.Elements.{delay_length as delay_length_of};
 
 use dg_model::Kind;
 
@@ -19,11 +18,4 @@ pub fn list_length(kind: &Kind) -> usize
         Some(list) => list.len(),
         None => 0,
     }
-}
-
-/// How many samples a block of this kind keeps of each element.
-pub fn delay_length(kind: &Kind) -> u32
-    ensures { result ≡ delay_length_of kind.now }
-{
-    kind.row().delay
 }

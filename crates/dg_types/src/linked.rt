@@ -113,7 +113,7 @@ fn sum_of_widths(values: &[u32], sources: &[Source]) -> u32
 
 impl WidthRound {
     /// What the inputs of a block read.
-    fn sources_of(&self, block: u32) -> &[Source]
+    pub fn sources_of(&self, block: u32) -> &[Source]
         requires inside { block < length self.now.sources }
         ensures value { result.now ≡ slice_index_or self.now.sources block [] }
         ensures there { All (λ source. source.block < length self.now.sources) result.now }

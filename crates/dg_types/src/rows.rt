@@ -16,11 +16,7 @@ use std::alloc::Global;
 fn ones(alloc: Global, sizes: &[u32]) -> Result<Sizes, OutOfMemory>
     ensures { IfOk result (λ row. row ≡ map (λ (size : ℕ). 1) sizes.now) }
 {
-    let mut row = Sizes::new(alloc);
-    for _size in sizes {
-        row.push(1)?;
-    }
-    Ok(row)
+    Ok(Sizes::from_vec(vec![in alloc; 1; sizes.len()]?))
 }
 
 /// The parts of a width, as even as can be.
@@ -35,14 +31,6 @@ fn shares(alloc: Global, width: u32, parts: u32) -> Result<Sizes, OutOfMemory>
     Ok(row)
 }
 
-/// A copy of a row.
-fn copy_of(alloc: Global, row: &[u32]) -> Result<Sizes, OutOfMemory>
-    ensures { IfOk result (λ copy. copy ≡ row.now) }
-{
-    let items = Vec::from_slice(alloc, row)?;
-    Ok(Sizes::from_vec(items))
-}
-
 /// The widths at the outputs of a Demux of these sizes that holds this.
 fn parts_of(alloc: Global, sizes: &[u32], held: u32) -> Result<Sizes, OutOfMemory>
     requires few { length sizes.now ≤ 1024 }
@@ -54,12 +42,12 @@ fn parts_of(alloc: Global, sizes: &[u32], held: u32) -> Result<Sizes, OutOfMemor
     } else if are_open(sizes) {
         shares(alloc, held - 1, sizes.len() as u32)
     } else {
-        copy_of(alloc, sizes)
+        Ok(Sizes::from_vec(Vec::from_slice(alloc, sizes)?))
     }
 }
 
 /// A row of one entry.
-fn one(alloc: Global, width: u32) -> Result<Sizes, OutOfMemory>
+pub fn one(alloc: Global, width: u32) -> Result<Sizes, OutOfMemory>
     ensures { IfOk result (λ row. row ≡ width ∷ []) }
 {
     let mut row = Sizes::new(alloc);

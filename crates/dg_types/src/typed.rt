@@ -9,6 +9,7 @@ ghost use Rattle.dg_model.specs.Faults.{AllKeep, BreaksAt, IsRefusal, fault_of};
 ghost use Rattle.dg_model.specs.TypeRounds.{types_of};
 ghost use Rattle.dg_model.specs.TypeRule.{KeepsTypes, BreaksType};
 ghost use Rattle.dg_model.specs.Wired.{IsWired};
+ghost use Rattle.dg_types.specs.inner.Shown.{Mirrors};
 ghost use Rattle.dg_types.specs.inner.TypedScan.{IsTyped, keeps_part, word_of as word_of_part, KeepBelow};
 
 use crate::typed_round::{TypeRound, known_types, round_of};
@@ -66,7 +67,7 @@ fn keeps(
         (result ≡ true) ↔ keeps_part part diagram.now (types_of diagram.now) place block }
 {
     let block = &round.blocks[place as usize];
-    let sources = round.sources_of(place);
+    let sources = round.links.sources_of(place);
     match part {
         Part::Narrow => is_narrow(block, types, sources),
         Part::Known => has_types(block, types[place as usize], types, sources),
@@ -169,7 +170,7 @@ fn param_at(
     ensures { result ≡ or_logical (param_type_at diagram.now (types_of diagram.now) place) }
 {
     let block = &round.blocks[place as usize];
-    kind_or_logical(coefficient_type(&block.kind, types, round.sources_of(place)))
+    kind_or_logical(coefficient_type(&block.kind, types, round.links.sources_of(place)))
 }
 
 /// The types of the coefficients of all blocks.
@@ -191,27 +192,28 @@ fn all_params(
     Ok(params)
 }
 
-/// The types of a diagram of which these are known, where it keeps all parts of the rule.
+/// The types of a diagram by its rounds, where it keeps all parts of the rule.
 fn types_by(
     alloc: Global,
     diagram: &Diagram,
     round: &TypeRound<'_>,
-    known: &[Option<FxType>],
 ) -> Result<BlockTypes, CheckFault>
     requires wired { IsWired diagram.now }
-    requires typed { IsTyped diagram.now round.now.blocks.now round.now.links.forms
-        round.now.links.sources known.now }
+    requires blocks { round.now.blocks.now ≡ diagram.now.blocks }
+    requires mirrors { Mirrors diagram.now round.now.links.forms round.now.links.sources }
     ensures results { IfOk result (λ types.
         types.results ≡ map or_logical (types_of diagram.now)) }
     ensures params { IfOk result (λ types. types.params ≡ params_of diagram.now) }
     ensures kept { OnOk result (KeepsTypes diagram.now) }
     ensures refused { IfErr result (IsRefusal (BreaksType diagram.now)) }
 {
-    check(alloc, Part::Narrow, diagram, round, known)?;
-    check(alloc, Part::Known, diagram, round, known)?;
-    check(alloc, Part::Agree, diagram, round, known)?;
-    let results = results_of(alloc, known)?;
-    let params = all_params(alloc, diagram, round, known)?;
+    let known = known_types(alloc, diagram, round)?;
+    let types = known.as_slice();
+    check(alloc, Part::Narrow, diagram, round, types)?;
+    check(alloc, Part::Known, diagram, round, types)?;
+    check(alloc, Part::Agree, diagram, round, types)?;
+    let results = results_of(alloc, types)?;
+    let params = all_params(alloc, diagram, round, types)?;
     Ok(BlockTypes { results, params })
 }
 
@@ -239,6 +241,7 @@ pub fn types(
     ensures refused { IfErr result (IsRefusal (BreaksType diagram.now)) }
 {
     let round = round_of(alloc, diagram)?;
-    let known = known_types(alloc, diagram, &round)?;
-    types_by(alloc, diagram, &round, known.as_slice())
+    let types = types_by(alloc, diagram, &round);
+    drop(round);
+    types
 }

@@ -1,14 +1,15 @@
 //! The rounds of types: in each round every block whose type isn't known takes what it can from the
 //! types of the round before.
-ghost use Rattle.std.specs.Prelude.{◌≡◌, ◌<◌, All, [], length, slice_index_or, Some, IfOk};
-ghost use Rattle.dg_model.specs.TypeRounds.{explicit_type as explicit_type_of, types_of};
+ghost use Rattle.std.specs.Prelude.{◌≡◌, [], length, slice_index_or, IfOk};
+ghost use Rattle.dg_model.specs.TypeRounds.{explicit_type as explicit_type_of};
 ghost use Rattle.dg_model.specs.Wired.{IsWired};
 ghost use Rattle.dg_types.specs.inner.Shown.{Mirrors};
 ghost use Rattle.dg_types.specs.inner.TypedInputs.{IsKnownValid, AreReady, FullTypesAreValid, next_typed};
+ghost use Rattle.dg_types.specs.inner.TypedScan.{IsTyped};
 ghost use Rattle.dg_types.specs.inner.TypedLaws.{first_types, typed_is_local, typed_stays};
 
 use crate::build::linked;
-use crate::linked::{Source, WidthRound};
+use crate::linked::WidthRound;
 use crate::typed_step::taken_type;
 use dg_model::{Block, Diagram};
 use dg_waves::Round;
@@ -23,17 +24,6 @@ pub struct TypeRound<'a> {
     pub links: WidthRound,
     pub ghost ready: { AreReady blocks.now links.sources },
     pub ghost valid: { FullTypesAreValid },
-}
-
-impl TypeRound<'_> {
-    /// What the inputs of a block read.
-    pub fn sources_of(&self, block: u32) -> &[Source]
-        requires { block < length self.now.links.sources }
-        ensures value { result.now ≡ slice_index_or self.now.links.sources block [] }
-        ensures there { All (λ source. source.block < length self.now.links.sources) result.now }
-    {
-        self.links.sources.as_slice()[block as usize].as_slice()
-    }
 }
 
 impl Round for TypeRound<'_> {
@@ -60,12 +50,16 @@ impl Round for TypeRound<'_> {
     fn next(&self, values: &[Option<FxType>], block: u32) -> Option<FxType> {
         match values[block as usize] {
             Some(kind) => Some(kind),
-            None => taken_type(&self.blocks[block as usize], values, self.sources_of(block)),
+            None => taken_type(
+                &self.blocks[block as usize],
+                values,
+                self.links.sources_of(block),
+            ),
         }
     }
 
     fn readers(&self, block: u32) -> &[u32] {
-        self.links.readers.as_slice()[block as usize].as_slice()
+        self.links.readers(block)
     }
 
     fn is_same(&self, left: Option<FxType>, right: Option<FxType>) -> bool {
@@ -119,8 +113,8 @@ pub fn known_types(
     requires wired { IsWired diagram.now }
     requires blocks { round.now.blocks.now ≡ diagram.now.blocks }
     requires mirrors { Mirrors diagram.now round.now.links.forms round.now.links.sources }
-    ensures types { IfOk result (λ types. types.items ≡ types_of diagram.now) }
-    ensures valid { IfOk result (λ types. All IsKnownValid types.items) }
+    ensures { IfOk result (λ types. IsTyped diagram.now round.now.blocks.now
+        round.now.links.forms round.now.links.sources types.items) }
 {
     let first = all_explicit(alloc, round.blocks)?;
     let rounds = round.blocks.len() as u32;

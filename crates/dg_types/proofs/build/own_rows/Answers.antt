@@ -1,4 +1,4 @@
-use Rattle.std.proofs.Common.{◌≡◌, ℕ, List, [], ◌∷◌, ◌++◌, length, ap, ◌∙◌, arith}
+use Rattle.std.proofs.Common.{◌≡◌, [], ◌∷◌, length, ap, ◌∙◌, arith}
 use Rattle.std.proofs.lemmas.List.{length-append}
 use Rattle.dg_types.proofs.Built.{known_none, own_more}
 use Rattle.dg_types.proofs.build.own_rows.Goals as goal
@@ -9,11 +9,11 @@ loop-k-init c = record { size = ap length c.new-rows.ensures.items; own = λ k b
 pub loop-k-preserved : goal.loop-k-preserved
 loop-k-preserved c =
     let rows = c.loop-k.rows.items in
-    let own : c.push.new.self ≡ c.loop-k.k ∷ [] = c.in_ok-push.ensures.appended ∙ ap (λ (xs : List ℕ). xs ++ c.loop-k.k ∷ []) c.new-own.ensures in
+    let own = c.in_ok-one.field-0 in
     let before = c.loop-k.invariant in
     record {
-      size = ap length c.in_ok-push-2.ensures.items ∙ omega (arith, before.size, length-append rows (c.push.new.self ∷ []));
-      own = rw c.in_ok-push-2.ensures.items (own_more rows c.loop-k.k c.push.new.self before.size own before.own);
+      size = ap length c.in_ok-push.ensures.items ∙ omega (arith, before.size, length-append rows (own ∷ []));
+      own = rw c.in_ok-push.ensures.items (own_more rows c.loop-k.k own before.size c.in_ok-one.ensures before.own);
     }
 
 pub returns : goal.returns

@@ -1,8 +1,6 @@
-use Rattle.std.proofs.Common.{ℕ, List, [], ◌∷◌, ◌++◌, sym, ap, ◌∙◌}
-use Rattle.std.proofs.lemmas.List.{map_more}
+use Rattle.std.proofs.Common.{length, refl, ◌∙◌}
+use Rattle.std.proofs.lemmas.Simd.{splat_is_map}
 use Rattle.dg_types.proofs.rows.ones.Goals as goal
 
-pub loop-size-preserved : goal.loop-size-preserved
-loop-size-preserved c =
-    c.in_ok-push.ensures.appended ∙ ap (λ (row : List ℕ). row ++ 1 ∷ []) c.loop-size.invariant
-    ∙ sym (map_more {X = ℕ} {Y = ℕ} (λ size. 1) c.args.sizes.now c.loop-size._size-index 0 c.loop-size-test.true)
+pub returns : goal.returns
+returns c = c.from_vec.ensures ∙ c.in_ok-vec.ensures.items_if_clones_equal (λ y same. same) ∙ splat_is_map c.args.sizes.now (length c.args.sizes.now) 1 refl

@@ -25,7 +25,7 @@ refused_by part diagram OutOfMemory all is = is
 
 pub returns-in_err-check-clause-refused : goal.returns-in_err-check-clause-refused
 returns-in_err-check-clause-refused c =
-    let p = err_from_is_err_and c.from_residual.result c.from_residual.ensures.1 in
+    let p = err_from_is_err_and c.from_residual-in_err-check.result c.from_residual-in_err-check.ensures.1 in
     rw (p.1, p.2) (refused_by Narrow c.args.diagram.now c.in_err-check.field-0.0 (λ fault broken. inl broken) c.in_err-check.ensures.refused)
 
 pub returns-in_err-check-2-clause-refused : goal.returns-in_err-check-2-clause-refused
@@ -46,7 +46,10 @@ pub returns-clause-kept : goal.returns-clause-kept
 returns-clause-kept c = record { narrow = c.in_ok-check.ensures.kept; known = c.in_ok-check-2.ensures.kept; agree = c.in_ok-check-3.ensures.kept }
 
 pub returns-clause-results : goal.returns-clause-results
-returns-clause-results c = c.in_ok-results.ensures ∙ ap (map or_logical) c.requires.typed.types_are
+returns-clause-results c = c.in_ok-results.ensures ∙ ap (map or_logical) (c.as_slice-types.ensures.value ∙ c.in_ok-known.ensures.types_are)
 
 pub returns-clause-params : goal.returns-clause-params
 returns-clause-params c = c.in_ok-params.ensures
+
+pub check-requires-clause-typed : goal.check-requires-clause-typed
+check-requires-clause-typed c = rw c.as_slice-types.ensures.value c.in_ok-known.ensures

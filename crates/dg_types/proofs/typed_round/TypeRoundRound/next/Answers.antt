@@ -19,7 +19,7 @@ taken_type-requires-clause-ready c =
     (ready.ready c.args.block _ (slice_get-get_or c.args.self.now.blocks.now c.args.block _ (subst (λ (n : ℕ). c.args.block < n) ready.size c.requires.there)))
 
 pub sources_of-requires : goal.sources_of-requires
-sources_of-requires c = c.requires.there
+sources_of-requires c = record { inside = c.requires.there }
 
 pub bounds-self-block : goal.bounds-self-block
 bounds-self-block c = subst (λ (n : ℕ). c.args.block < n) c.args.self.now.ready.size c.requires.there
