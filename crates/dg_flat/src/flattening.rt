@@ -35,10 +35,11 @@ fn broken(
 {
     let block = &blocks[place as usize];
     let path = path_in(alloc, paths, block.parent, &block.name)?;
-    let place = path.text(alloc)?;
+    let place = path.text(alloc);
+    drop(path);
     Ok(RuleFault {
         rule,
-        place,
+        place: place?,
         shown: Shown::Nothing,
     })
 }
@@ -89,12 +90,9 @@ fn diagram_of(
     let blocks = nested.blocks.as_slice();
     let lines = nested.lines.as_slice();
     let places = flat_places(alloc, blocks)?;
-    let flat = flat_blocks(alloc, systems, blocks, &places, paths)?;
     let edges = flat_edges(alloc, systems, blocks, &places, lines)?;
-    Ok(Diagram {
-        blocks: flat,
-        edges,
-    })
+    let blocks = flat_blocks(alloc, systems, blocks, &places, paths)?;
+    Ok(Diagram { blocks, edges })
 }
 
 /// The flat diagram of nested blocks and lines, or the first broken rule of wiring and of enabled
