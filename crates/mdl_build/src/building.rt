@@ -42,7 +42,7 @@ fn blocks(alloc: Global, maker: &Maker) -> Result<NestedBlocks, CheckFault>
     let mut blocks = NestedBlocks::new(alloc);
     for place in maker.known.blocks.places() {
         let Some(block_type) = type_at(&maker.known.layout, *place) else {
-            return Ok(blocks);
+            unreachable!()
         };
         let block = maker.block(alloc, *place, block_type)?;
         blocks.push(block)?;

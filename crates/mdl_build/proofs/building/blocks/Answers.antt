@@ -13,13 +13,13 @@ pub type_at-requires : goal.type_at-requires
 type_at-requires c =
     (block_here (items_of c.args.maker.now) c.places-place-items.result.now c.loop-place.place-index 0 (c.places-place-items.ensures ∙ c.requires.maker.known.blocks.places) c.loop-place-test.true).within
 
-pub returns-in_default-clause-ok : goal.returns-in_default-clause-ok
-returns-in_default-clause-ok c =
+pub unreachable-requires : goal.unreachable-requires
+unreachable-requires c =
     let items = items_of c.args.maker.now in
     let k = c.loop-place.place-index in
     let places = c.places-place-items.result.now in
     let at = listed items places k 0 (c.places-place-items.ensures ∙ c.requires.maker.known.blocks.places) c.loop-place-test.true in
-    absurd (type_kept items c.requires.known k (get_or places k 0) at (sym c.type_at.ensures ∙ c.in_default.is))
+    type_kept items c.requires.known k (get_or places k 0) at (sym c.type_at.ensures ∙ c.in_default.is)
 
 pub block-requires-clause-counts : goal.block-requires-clause-counts
 block-requires-clause-counts c =
