@@ -1,6 +1,6 @@
 -- What the calls tell: the way back that ends or closes, and the least latencies.
 use Rattle.std.proofs.Common.{◌≡◌, ℕ, ◌+◌, ◌*◌, ◌<◌, ◌≤◌, List, length, drop, sym, subst, arith}
-use Rattle.std.specs.Prelude.{Some, None, Option, MatchOption}
+use Rattle.std.specs.Prelude.{Some, None, Option, MatchOption, Result, Ok, Err, IfNone, IfOk, IfSome, OnOk}
 use Rattle.std.proofs.lemmas.Option.{none-some, same_Some, slice_get_within}
 use Rattle.hw_arcs.specs.declared.arc.Arc.{Arc}
 use Rattle.hw_arcs.specs.declared.found.Gaining.{Gaining}
@@ -54,6 +54,13 @@ gaining_is arcs lat tight slice ring blocks total known few labels same is turne
       begins = begins_least ring blocks turned;
       small = omega (arith, few, size, short, small, sum);
     }
+
+-- where a latency is greater than any way without a cycle could make it, there is a cycle
+pub cycle_there : {P E : Type 0} (arcs : List Arc) (lat : List ℕ) (latency most : ℕ) (result : Result (Option Gaining) E) → P → most < latency → IfOk result (λ found. IfSome found (IsGaining arcs)) → IfOk result (λ found. IfNone found (latency ≤ most))
+    → OnOk result P × IfOk result (λ found. MatchOption found (IsFeasible arcs lat) (IsGaining arcs))
+cycle_there arcs lat latency most (Ok None) p above gains none = absurd (omega (arith, above, none))
+cycle_there arcs lat latency most (Ok (Some cycle)) p above gains none = (p, gains)
+cycle_there arcs lat latency most (Err e) p above gains none = (tt, tt)
 
 pub found_is : (arcs : List Arc) (count many : ℕ) (s : State) (gaining : Option Gaining) (told : Found) → many ≡ count → IsState arcs many s → MatchOption gaining (IsFeasible arcs s.lat) (IsGaining arcs)
     → MatchOption gaining (told ≡ Least s.lat s.tight) (λ cycle. told ≡ Gains cycle) → IsFound arcs count told

@@ -3,7 +3,7 @@ use Rattle.std.proofs.Common.{◌≡◌, ℕ, zero, suc, ◌+◌, ◌*◌, ◌<�
 use Rattle.std.specs.Prelude.{Option, ◌==◌}
 use Rattle.std.specs.List.{sum_by, count_by, All}
 use Rattle.std.proofs.lemmas.Bool.{eq-eqb}
-use Rattle.std.proofs.lemmas.List.{take-append-drop, reverse-append, drop_more, length-drop}
+use Rattle.std.proofs.lemmas.List.{take-append-drop, reverse-append, drop_more, length-drop, take_more}
 use Rattle.std.proofs.lemmas.List.Elements.{All-append, All-take, All-drop}
 use Rattle.std.proofs.lemmas.List.Sorted.{IsPermutation-reverse, sum_by-IsPermutation}
 use Rattle.std.proofs.lemmas.List.Sums.{sum_by-append, sum_by-cons}
@@ -109,6 +109,14 @@ all_rest P x xs all k d inside = all (suc k) d (omega (arith, inside))
 all_back : {A : Type 0} (P : A → Type 0) (xs : List A) → All P xs → All P (reverse xs)
 all_back P [] all = all
 all_back P (x ∷ xs) all = subst (λ ys. All P ys) (sym (reverse-append (x ∷ []) xs)) (All-append P (reverse xs) (x ∷ []) (all_back P xs (all_rest P x xs all)) (all_first P x xs all))
+
+-- a ring that begins behind a place, in the other direction
+pub back_around : (ring : List ℕ) (place : ℕ) → place < length ring → reverse (drop (place + 1) ring ++ take (place + 1) ring) ≡ back_from ring place
+back_around ring place inside =
+    let block = get_or ring place 0 in
+    let x = take place ring in
+    let y = drop (place + 1) ring in
+    reverse-append y (take (place + 1) ring) ∙ ap (λ bs. bs ++ reverse y) (ap reverse (take_more ring place 0 inside) ∙ reverse-append x (block ∷ []))
 
 -- what is summed over a ring is summed over the cycle
 summed_turned : (f : ℕ → ℕ) (ring : List ℕ) (place : ℕ) → place < length ring → sum_by f (back_from ring place) ≡ sum_by f ring

@@ -38,15 +38,11 @@ impl Relaxing {
     pub fn begin(alloc: Global, order: &[u32], count: usize) -> Result<Relaxing, OutOfMemory>
         ensures { IfOk result (λ state. seen state ≡ begun order.now count) }
     {
-        let mut queue = VecDeque::new(alloc);
-        for block in order {
-            queue.push_back(*block)?;
-        }
         Ok(Relaxing {
             lat: vec![in alloc; 0; count]?,
             tight: vec![in alloc; None; count]?,
             pending: vec![in alloc; true; count]?,
-            queue,
+            queue: VecDeque::from_vec(Vec::from_slice(alloc, order)?),
         })
     }
 
@@ -61,13 +57,14 @@ impl Relaxing {
     {
         let reach = self.lat[arc.from as usize] + arc.gain;
         let label = reach.saturating_sub(arc.slack);
-        if self.lat[arc.to as usize] < label {
-            self.lat[arc.to as usize] = label;
-            self.tight[arc.to as usize] = Some(number);
-            if !self.pending[arc.to as usize] {
+        let to = arc.to as usize;
+        if self.lat[to] < label {
+            self.lat[to] = label;
+            self.tight[to] = Some(number);
+            if !self.pending[to] {
                 self.queue.push_back(arc.to)?;
             }
-            self.pending[arc.to as usize] = true;
+            self.pending[to] = true;
         }
         Ok(())
     }

@@ -1,8 +1,6 @@
-ghost use Rattle.std.specs.Prelude.{◌≡◌, ◌+◌, ◌≤◌, ◌<◌, ◌++◌, All, IfOk, OnOk, length};
-ghost use Rattle.std.specs.Prelude.{reverse, slice_index};
+ghost use Rattle.std.specs.Prelude.{◌≡◌, ◌+◌, ◌≤◌, ◌<◌, All, IfOk, length, slice_index};
 ghost use Rattle.hw_arcs.specs.Found.{AreKnown, most_gain};
-ghost use Rattle.hw_arcs.specs.inner.Walk.{AreGiven, IsRing, IsTurnedBack, gains_of, slacks_of};
-ghost use Rattle.hw_arcs.specs.inner.Walk.{gain_into as gain_into_of, slack_into as slack_into_of};
+ghost use Rattle.hw_arcs.specs.inner.Walk.{AreGiven, IsRing, IsTurnedBack, gain_into, gains_of, slack_into, slacks_of};
 
 use crate::arc::Arc;
 use fx_io::{OutOfMemory, Sizes};
@@ -23,51 +21,33 @@ fn least_place(blocks: &[u32]) -> usize
     place
 }
 
-/// Puts blocks at the end of a list, the last first.
-fn put_back(alloc: Global, blocks: &[u32], list: &mut Vec<u32>) -> Result<(), OutOfMemory>
-    ensures { OnOk result (list.new.items ≡ list.old.items ++ reverse blocks.now) }
-{
-    let backwards: Vec<u32> = blocks.iter().rev().copied().collect(alloc)?;
-    list.extend_from_slice(backwards.as_slice())?;
-    Ok(())
-}
-
 /// The blocks of a ring in the other direction, from the least on.
 pub fn turn_back(alloc: Global, ring: &[u32]) -> Result<Sizes, OutOfMemory>
     requires some { 0 < length ring.now }
     ensures { IfOk result (IsTurnedBack ring.now) }
 {
     let place = least_place(ring);
-    let mut cycle = Vec::new(alloc);
-    cycle.push(ring[place])?;
-    put_back(alloc, &ring[..place], &mut cycle)?;
-    put_back(alloc, &ring[place + 1..], &mut cycle)?;
+    let mut cycle = Vec::from_slice(alloc, ring)?;
+    cycle.rotate_left(place + 1);
+    cycle.reverse();
     Ok(Sizes::from_vec(cycle))
 }
 
-/// The gain of the arc that gave a block its latency.
-fn gain_into(arcs: &[Arc], tight: &[Option<u32>], block: u32) -> u64
+/// The gain and the slack of the arc that gave a block its latency.
+fn asked_into(arcs: &[Arc], tight: &[Option<u32>], block: u32) -> (u64, u64)
     requires known { AreKnown arcs.now (length tight.now) }
     requires given { AreGiven arcs.now tight.now }
     requires there { block < length tight.now }
-    ensures is { result ≡ gain_into_of arcs.now tight.now block }
-    ensures small { result ≤ most_gain }
+    ensures gain { result.0 ≡ gain_into arcs.now tight.now block }
+    ensures small { result.0 ≤ most_gain }
+    ensures slack { result.1 ≡ slack_into arcs.now tight.now block }
 {
     match tight[block as usize] {
-        Some(number) => arcs[number as usize].gain,
-        None => 0,
-    }
-}
-
-/// The slack of the arc that gave a block its latency.
-fn slack_into(arcs: &[Arc], tight: &[Option<u32>], block: u32) -> u64
-    requires given { AreGiven arcs.now tight.now }
-    requires there { block < length tight.now }
-    ensures { result ≡ slack_into_of arcs.now tight.now block }
-{
-    match tight[block as usize] {
-        Some(number) => arcs[number as usize].slack,
-        None => 0,
+        Some(number) => {
+            let arc = arcs[number as usize];
+            (arc.gain, arc.slack)
+        }
+        None => (0, 0),
     }
 }
 
@@ -83,8 +63,9 @@ pub fn total_of(arcs: &[Arc], tight: &[Option<u32>], ring: &[u32]) -> u64
     let mut gains: u128 = 0;
     let mut slacks: u128 = 0;
     for block in ring {
-        gains += u128::from(gain_into(arcs, tight, *block));
-        slacks += u128::from(slack_into(arcs, tight, *block));
+        let (gain, slack) = asked_into(arcs, tight, *block);
+        gains += u128::from(gain);
+        slacks += u128::from(slack);
     }
     (gains - slacks) as u64
 }

@@ -58,26 +58,6 @@ fn cycle_behind(
     Ok(Some(Gaining { blocks, total }))
 }
 
-/// The same where the latency is greater than any way without a cycle could make it.
-fn cycle_above(
-    alloc: Global,
-    arcs: &[Arc],
-    state: &Relaxing,
-    first: u32,
-) -> Result<Gaining, OutOfMemory>
-    requires known { AreKnown arcs.now (length state.now.lat.items) }
-    requires few { length state.now.lat.items ≤ 20000 }
-    requires state { IsState arcs.now (length state.now.lat.items) (seen state.now) }
-    requires there { first < length state.now.lat.items }
-    requires above { length state.now.lat.items * most_gain < latency_at state.now.lat.items first }
-    ensures { IfOk result (IsGaining arcs.now) }
-{
-    let Some(gaining) = cycle_behind(alloc, arcs, state, first)? else {
-        unreachable!()
-    };
-    Ok(gaining)
-}
-
 /// Looks at blocks until each arc is kept, or a cycle is found that gains. After as many steps as
 /// there are blocks, and twice as many each time, a cycle is looked for.
 fn relax_all(
@@ -102,10 +82,8 @@ fn relax_all(
     'relax: loop {
         match state.step(arcs, rows, limit)? {
             Step::Done => return Ok(None),
-            Step::Above { block } => {
-                let gaining = cycle_above(alloc, arcs, state, block)?;
-                return Ok(Some(gaining));
-            }
+            // a latency that is greater than any way without a cycle could make it: there is one
+            Step::Above { block } => return cycle_behind(alloc, arcs, state, block),
             Step::Settled { block } => {
                 if left > 0 {
                     left -= 1;

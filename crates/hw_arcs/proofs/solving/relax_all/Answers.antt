@@ -4,6 +4,8 @@ use Rattle.hw_arcs.specs.declared.found.Gaining.{Gaining}
 use Rattle.hw_arcs.specs.declared.relaxing.Step.{Step}
 use Rattle.hw_arcs.specs.Found.{AreKnown, IsGaining, most_gain}
 use Rattle.hw_arcs.specs.inner.State.{AreRows, IsAbove, IsState, IsStepEnd, IsStepOn, seen}
+use Rattle.hw_arcs.specs.Latencies.{latency_at}
+use Rattle.hw_arcs.proofs.Closing.{cycle_there}
 use Rattle.hw_arcs.proofs.solving.relax_all.Goals as goal
 
 pub relax-init : goal.relax-init
@@ -28,8 +30,8 @@ step-requires c =
       settled = c.relax.invariant.settled;
     }
 
-pub cycle_above-requires : goal.cycle_above-requires
-cycle_above-requires c =
+pub cycle_behind-requires : goal.cycle_behind-requires
+cycle_behind-requires c =
     let before : ℕ = length c.relax.state.lat.items in
     let limit : ℕ = length c.args.rows.now * most_gain in
     let end : IsAbove limit (seen c.step.new.self) c.in-Above.block before =
@@ -37,19 +39,16 @@ cycle_above-requires c =
     let size = c.in_ok-step.ensures.size in
     let first = c.relax.invariant.size in
     let few = c.requires.few in
-    let rows = c.requires.rows.size in
     let there = end.there in
-    let above = end.above in
     record {
       known = subst (λ (count : ℕ). AreKnown c.args.arcs.now count) (sym (size ∙ first)) c.requires.known;
       few = omega (arith, size, first, few);
       state = subst (λ (count : ℕ). IsState c.args.arcs.now count (seen c.step.new.self)) (sym size) c.in_ok-step.ensures.state;
       there = omega (arith, there, size);
-      above = omega (arith, above, rows, first, size);
     }
 
-pub cycle_behind-requires : goal.cycle_behind-requires
-cycle_behind-requires c =
+pub cycle_behind-requires-else-left-gt0 : goal.cycle_behind-requires-else-left-gt0
+cycle_behind-requires-else-left-gt0 c =
     let before : ℕ = length c.relax.state.lat.items in
     let limit : ℕ = length c.args.rows.now * most_gain in
     let end : IsStepOn c.args.arcs.now before limit (seen c.relax.state) (seen c.step.new.self) c.in-Settled.block =
@@ -123,7 +122,16 @@ returns-in-Some c = record {
 }
 
 pub returns-in-Above : goal.returns-in-Above
-returns-in-Above c = record {
-  state = subst (λ (count : ℕ). IsState c.args.arcs.now count (seen c.step.new.self)) c.relax.invariant.size c.in_ok-step.ensures.state;
-  found = c.in_ok-gaining-in-Above.ensures;
-}
+returns-in-Above c =
+    let before : ℕ = length c.relax.state.lat.items in
+    let limit : ℕ = length c.args.rows.now * most_gain in
+    let end : IsAbove limit (seen c.step.new.self) c.in-Above.block before =
+    subst (λ (step : Step). IsStepEnd c.args.arcs.now before limit (seen c.relax.state) (seen c.step.new.self) step) c.in-Above.is c.in_ok-step.ensures.end in
+    let size = c.in_ok-step.ensures.size in
+    let first = c.relax.invariant.size in
+    let rows = c.requires.rows.size in
+    let above = end.above in
+    let state = subst (λ (count : ℕ). IsState c.args.arcs.now count (seen c.step.new.self)) c.relax.invariant.size c.in_ok-step.ensures.state in
+    let told = cycle_there c.args.arcs.now c.step.new.self.lat.items (latency_at c.step.new.self.lat.items c.in-Above.block) (length c.step.new.self.lat.items * most_gain) c.cycle_behind.result state
+    (omega (arith, above, rows, first, size)) c.cycle_behind.ensures.gaining c.cycle_behind.ensures.none in
+    record { state = told.0; found = told.1 }
