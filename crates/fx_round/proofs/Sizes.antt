@@ -4,6 +4,8 @@ use Rattle.std.proofs.lemmas.Int.{ints}
 use Rattle.std.proofs.lemmas.Nat.{pow-add, le-div}
 use Rattle.std.proofs.Math.Nat.{one-le-pow, pow-le-pow_right}
 use Rattle.std.proofs.lemmas.Bool.{cases_lt}
+use Rattle.std.specs.Prelude.{Option}
+use Rattle.std.specs.Int.{int_gap}
 use Rattle.fx_type.specs.declared.kind.FxType.{FxType}
 use Rattle.fx_type.specs.declared.rounding.Rounding.TheVariants.{Nearest}
 use Rattle.fx_type.specs.declared.kind.FxType.TheVariants.{Num, Logical}
@@ -11,7 +13,8 @@ use Rattle.fx_type.specs.FxType.{IsType, lowest_of, highest_of}
 use Rattle.fx_type.specs.Conversion.{Saturates, StoresQuotient}
 use Rattle.fx_round.specs.declared.split.Part.{Part}
 use Rattle.fx_round.specs.declared.split.Part.TheVariants.{Whole, BelowHalf, Half, AboveHalf}
-use Rattle.fx_round.specs.inner.Split.{IsPart, IsSplit, IsMagnitude}
+use Rattle.fx_round.specs.declared.split.Split.{Split}
+use Rattle.fx_round.specs.inner.Split.{IsPart, IsSplit, IsMagnitude, IsSize}
 use Rattle.fx_num.proofs.Arithmetic.{add-scaled, scaled-neg}
 use Rattle.fx_round.proofs.Rounding.{ties_up_low, ties_up_high}
 
@@ -70,7 +73,37 @@ past_whole half low unit rest h p q e =
     let z : low * unit ≡ 0 * unit = ap (λ (x : ℕ). x * unit) e in
     (omega arith, omega arith)
 
+-- ---- scales
+pub up_gap : (e : ℤ) (n : ℕ) → pos 0 ≤ℤ e → pos n ≡ e → n ≡ int_gap (pos 0) e
+up_gap (pos b) n h is = omega (arith, ints, is)
+up_gap (negsuc b) n h is = absurd (omega (arith, ints, h))
+
+pub down_gap : (e : ℤ) (n : ℕ) → e ≤ℤ pos 0 → pos n ≡ neg_ℤ e → n ≡ int_gap e (pos 0)
+down_gap (pos b) n h is = omega (arith, ints, h, is)
+down_gap (negsuc b) n h is = omega (arith, ints, is)
+
+pub size_up : (count unit by up down : ℕ) (size : Option Split) → up ≡ by → down ≡ 0 → IsSize (count * 2 ^ by) unit size → IsSize (count * 2 ^ up) (unit * 2 ^ down) size
+size_up count unit by up down size raised none is = rw (raised, none) (subst (λ (u : ℕ). IsSize (count * 2 ^ by) u size) (omega arith) is)
+
+pub size_down : (count unit by up down : ℕ) (split : Split) → up ≡ 0 → down ≡ by → IsMagnitude count (unit * 2 ^ by) split → IsMagnitude (count * 2 ^ up) (unit * 2 ^ down) split
+size_down count unit by up down split none lowered is = rw (none, lowered) (subst (λ (n : ℕ). IsMagnitude n (unit * 2 ^ by) split) (omega arith) is)
+
+pub whole_size : (whole count tens up down : ℕ) (size : Option Split) → whole ≡ count → tens ≡ 0 → IsSize ((whole * 1 + 0) * 2 ^ up) (1 * 2 ^ down) size → IsSize (count * 2 ^ up) (10 ^ tens * 2 ^ down) size
+whole_size whole count tens up down size same none is = rw none (subst (λ (n : ℕ). IsSize (n * 2 ^ up) (1 * 2 ^ down) size) (omega (arith, same)) is)
+
+pub part_size : (whole rest power digits tens ups up down : ℕ) (size : Option Split) → whole * power + rest ≡ digits → power ≡ 10 ^ tens → ups ≡ 0 → IsSize ((whole * power + rest) * 2 ^ up) (power * 2 ^ down) size
+    → IsSize (digits * 10 ^ ups * 2 ^ up) (10 ^ tens * 2 ^ down) size
+part_size whole rest power digits tens ups up down size same unit none is = rw (none, sym unit) (subst (λ (n : ℕ). IsSize (n * 2 ^ up) (power * 2 ^ down) size) (omega (arith, same)) is)
+
 -- ---- mirrors
+pub mirror_whole : (n floor floor' : ℤ) (d : ℕ) → floor' ≡ neg_ℤ floor → IsSplit n d floor Whole → IsSplit (neg_ℤ n) d floor' Whole
+mirror_whole n floor floor' d e s = record {
+  rest = 0;
+  whole = let k : floor' *ℤ pos d ≡ neg_ℤ (floor *ℤ pos d) = ap (λ (z : ℤ). z *ℤ pos d) e ∙ scaled-neg floor d in omega (arith, ints, k, s.whole, s.is_part);
+  below = omega (arith, s.below);
+  is_part = refl;
+}
+
 pub mirror_split : (n floor floor' : ℤ) (d : ℕ) (part part' : Part) → floor' ≡ negsuc 0 +ℤ neg_ℤ floor → (s : IsSplit n d floor part) → 0 < s.rest → IsPart d (d - s.rest) part' → IsSplit (neg_ℤ n) d floor' part'
 mirror_split n floor floor' d part part' e s h p = record {
   rest = d - s.rest;

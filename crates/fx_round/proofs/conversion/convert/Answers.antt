@@ -2,6 +2,7 @@ use Rattle.std.proofs.Common.{◌≡◌, ◌^◌, pos, ◌-ℤ◌, ◌*ℤ◌, �
 use Rattle.std.specs.Int.{w16, w128}
 use Rattle.std.proofs.lemmas.Int.{ints, to_z-of_z}
 use Rattle.fx_num.specs.Word.{InWord}
+use Rattle.fx_num.proofs.Words.{word_width}
 use Rattle.fx_type.specs.declared.kind.FxType.TheVariants.{Num, Logical}
 use Rattle.fx_type.specs.FxType.{IsType, InRange}
 use Rattle.fx_type.specs.Conversion.{Settles, StoresQuotient}
@@ -90,3 +91,45 @@ lowered-requires-clause-number c =
     let range : InRange (Num from.from_signed from.bits from.point) c.args.v = rw from.is at c.requires.in_range in
     let number : InWord from.bits from.from_signed c.args.v = record { low = range.low; high = range.high } in
     rw (to_z-of_z w128 c.args.v c.ranges.v) (from.from_signed, number)
+
+pub overflow_sub-up : goal.overflow_sub-up
+overflow_sub-up c =
+    let to_type : IsType (Num c.in-Num.signed c.in-Num.width c.in-Num.frac) = rw c.in-Num.is at c.requires.to in
+    let from_type : IsType (Num c.in-Num-from.from_signed c.in-Num-from.bits c.in-Num-from.point) = rw c.in-Num-from.is at c.requires.from in
+    omega (arith, ints, to_type.1, to_type.2, from_type.1, from_type.2)
+
+pub raised-requires-clause-some : goal.raised-requires-clause-some
+raised-requires-clause-some c =
+    let from_type : IsType (Num c.in-Num-from.from_signed c.in-Num-from.bits c.in-Num-from.point) = rw c.in-Num-from.is at c.requires.from in
+    (word_width c.in-Num-from.bits c.in-Num-from.from_signed from_type.0).0
+
+pub raised-requires-clause-shift : goal.raised-requires-clause-shift
+raised-requires-clause-shift c =
+    let to_type : IsType (Num c.in-Num.signed c.in-Num.width c.in-Num.frac) = rw c.in-Num.is at c.requires.to in
+    let from_type : IsType (Num c.in-Num-from.from_signed c.in-Num-from.bits c.in-Num-from.point) = rw c.in-Num-from.is at c.requires.from in
+    omega (arith, ints, to_type.1, to_type.2, from_type.1, from_type.2, c.if-up-ge0.true)
+
+pub raised-requires-clause-word : goal.raised-requires-clause-word
+raised-requires-clause-word c =
+    let to_type : IsType (Num c.in-Num.signed c.in-Num.width c.in-Num.frac) = rw c.in-Num.is at c.requires.to in
+    to_type.0
+
+pub lowered-requires-clause-word : goal.lowered-requires-clause-word
+lowered-requires-clause-word c =
+    let to_type : IsType (Num c.in-Num.signed c.in-Num.width c.in-Num.frac) = rw c.in-Num.is at c.requires.to in
+    to_type.0
+
+pub settled_up-requires : goal.settled_up-requires
+settled_up-requires c =
+    let to_type : IsType (Num c.in-Num.signed c.in-Num.width c.in-Num.frac) = rw c.in-Num.is at c.requires.to in
+    to_type.0
+
+pub lowered_far-requires-clause-some : goal.lowered_far-requires-clause-some
+lowered_far-requires-clause-some c =
+    let to_type : IsType (Num c.in-Num.signed c.in-Num.width c.in-Num.frac) = rw c.in-Num.is at c.requires.to in
+    omega (arith, ints, to_type.1, to_type.2, c.if-frac-ge0.false)
+
+pub lowered_far-requires-clause-word : goal.lowered_far-requires-clause-word
+lowered_far-requires-clause-word c =
+    let to_type : IsType (Num c.in-Num.signed c.in-Num.width c.in-Num.frac) = rw c.in-Num.is at c.requires.to in
+    to_type.0

@@ -1,6 +1,8 @@
-use Rattle.std.proofs.Common.{◌*◌, ◌<◌, ◌≤◌, arith, mul-le-mul_left, mod-lt}
-use Rattle.std.proofs.lemmas.Int.{ints}
-use Rattle.fx_round.proofs.Sizes.{ten_bound, ten_positive}
+use Rattle.std.proofs.Common.{◌≡◌, ◌∙◌, ℕ, ◌*◌, ◌^◌, ◌<◌, ◌≤◌, pos, neg_ℤ, ◌≤ℤ◌, ap, ap₂, arith, mul-le-mul_left, mod-lt, div-add-mod'}
+use Rattle.std.specs.Int.{w16, int_gap}
+use Rattle.std.proofs.lemmas.Int.{ints, to_z-of_z}
+use Rattle.fx_type.proofs.Ranges.{gap_none}
+use Rattle.fx_round.proofs.Sizes.{down_gap, part_size, ten_bound, ten_positive, up_gap, whole_size}
 use Rattle.fx_round.proofs.stored.magnitude.Goals as goal
 
 pub pow-power-requires : goal.pow-power-requires
@@ -30,3 +32,21 @@ pub scaled-requires-else-decimal-ge0-clause-unit : goal.scaled-requires-else-dec
 scaled-requires-else-decimal-ge0-clause-unit c =
     let h : c.from.result ≤ 36 = omega (arith, ints, c.from.ensures, c.unsigned_abs.ensures.value, c.args.decimal.least_exponent, c.args.decimal.greatest_exponent) in
     omega (arith, ten_bound c.from.result 36 h, c.pow-power.ensures)
+
+pub returns-then-decimal-ge0 : goal.returns-then-decimal-ge0
+returns-then-decimal-ge0 c =
+    let e = c.args.decimal.exponent in
+    let order : pos 0 ≤ℤ e = omega (arith, ints, c.args.decimal.least_exponent, c.args.decimal.greatest_exponent, c.if-decimal-ge0.true) in
+    let power : pos c.from.result ≡ e = omega (arith, ints, c.from.ensures, c.unsigned_abs.ensures.value, c.args.decimal.least_exponent, c.args.decimal.greatest_exponent, c.if-decimal-ge0.true) in
+    let tens = c.pow-power.ensures ∙ ap (λ (n : ℕ). 10 ^ n) (up_gap e c.from.result order power) in
+    let count : c.from-digits.result * c.pow-power.result ≡ c.args.decimal.digits * 10 ^ int_gap (pos 0) e = ap₂ (λ (a b : ℕ). a * b) c.from-digits.ensures tens in
+    whole_size _ _ _ _ _ c.scaled.result count (gap_none e (pos 0) order) (rw (to_z-of_z w16 c.args.frac c.ranges.frac) at c.scaled.ensures)
+
+pub returns-else-decimal-ge0 : goal.returns-else-decimal-ge0
+returns-else-decimal-ge0 c =
+    let e = c.args.decimal.exponent in
+    let order : e ≤ℤ pos 0 = omega (arith, ints, c.args.decimal.least_exponent, c.args.decimal.greatest_exponent, c.if-decimal-ge0.false) in
+    let power : pos c.from.result ≡ neg_ℤ e = omega (arith, ints, c.from.ensures, c.unsigned_abs.ensures.value, c.args.decimal.least_exponent, c.args.decimal.greatest_exponent, c.if-decimal-ge0.false) in
+    let tens = c.pow-power.ensures ∙ ap (λ (n : ℕ). 10 ^ n) (down_gap e c.from.result order power) in
+    part_size _ _ c.pow-power.result _ _ _ _ _ c.scaled-else-decimal-ge0.result (div-add-mod' c.from-digits.result c.pow-power.result ∙ c.from-digits.ensures) tens (gap_none (pos 0) e order)
+    (rw (to_z-of_z w16 c.args.frac c.ranges.frac) at c.scaled-else-decimal-ge0.ensures)
