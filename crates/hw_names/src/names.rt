@@ -110,7 +110,7 @@ impl Names {
         ensures { IfOk result (λ names. AreTaken names own_names) }
     {
         let mut names = Names::empty(alloc);
-        names.take_own(alloc)?;
+        names.take_all(alloc, &[b"clk", b"reset", b"clk_enable", b"ce_out"])?;
         Ok(names)
     }
 
@@ -119,46 +119,32 @@ impl Names {
         ensures { IfOk result (λ names. AreTaken names (handshake_names ++ own_names)) }
     {
         let mut names = Names::new(alloc)?;
-        names.take_handshake(alloc)?;
+        names.take_all(
+            alloc,
+            &[b"in_valid", b"out_ready", b"in_ready", b"out_valid"],
+        )?;
         Ok(names)
     }
 
-    /// Takes the names that every module has.
-    fn take_own(&mut self, alloc: Global) -> Result<(), OutOfMemory>
-        ensures { OnOk result (AreTaken self.old [] → AreTaken self.new own_names) }
+    /// Takes the names of these bytes, the last first.
+    fn take_all(&mut self, alloc: Global, names: &[&[u8]]) -> Result<(), OutOfMemory>
+        ensures { OnOk result ((list : List (List ℕ)) → AreTaken self.old list →
+            AreTaken self.new (map (λ name. name.now) names.now ++ list)) }
     {
-        self.take_bytes(alloc, b"ce_out")?;
-        self.take_bytes(alloc, b"clk_enable")?;
-        self.take_bytes(alloc, b"reset")?;
-        self.take_bytes(alloc, b"clk")
-    }
-
-    /// Takes those that a module has beside them with valid and ready.
-    fn take_handshake(&mut self, alloc: Global) -> Result<(), OutOfMemory>
-        ensures { OnOk result (AreTaken self.old own_names
-            → AreTaken self.new (handshake_names ++ own_names)) }
-    {
-        self.take_bytes(alloc, b"out_valid")?;
-        self.take_bytes(alloc, b"in_ready")?;
-        self.take_bytes(alloc, b"out_ready")?;
-        self.take_bytes(alloc, b"in_valid")
+        let Some((name, others)) = names.split_first() else {
+            return Ok(());
+        };
+        self.take_all(alloc, others)?;
+        self.take(alloc, name)
     }
 
     /// Takes the name of these bytes.
-    fn take_bytes(&mut self, alloc: Global, name: &[u8]) -> Result<(), OutOfMemory>
+    fn take(&mut self, alloc: Global, name: &[u8]) -> Result<(), OutOfMemory>
         ensures { OnOk result ((list : List (List ℕ)) → AreTaken self.old list →
             AreTaken self.new (name.now ∷ list)) }
     {
         let own = Vec::from_slice(alloc, name)?;
-        self.take(own)
-    }
-
-    /// Takes a name.
-    fn take(&mut self, name: Vec<u8>) -> Result<(), OutOfMemory>
-        ensures { OnOk result ((list : List (List ℕ)) → AreTaken self.old list →
-            AreTaken self.new (name.items ∷ list)) }
-    {
-        let _ = self.taken.insert(name)?;
+        let _ = self.taken.insert(own)?;
         Ok(())
     }
 
@@ -214,8 +200,7 @@ impl Names {
         ensures taken { OnOk result ((list : List (List ℕ)) → AreTaken self.old list →
             AreTaken self.new (name.items ∷ list)) }
     {
-        let copy = Vec::from_slice(alloc, name.as_slice())?;
-        self.take(copy)?;
+        self.take(alloc, name.as_slice())?;
         let text = Text::from_vec(alloc, name)?;
         Ok(text)
     }
