@@ -1,8 +1,9 @@
-use Rattle.std.proofs.Common.{◌≡◌, to_z, of_z, ◌∙◌, refl, arith}
+use Rattle.std.proofs.Common.{◌≡◌, ℤ, to_z, of_z, ap₂, ◌∙◌, refl, arith}
 use Rattle.std.specs.Int.{w16, w128, int_max}
 use Rattle.std.proofs.lemmas.Int.{ints, clamps, to_z-of_z}
 use Rattle.fx_type.specs.FxType.{frac_of}
 use Rattle.fx_type.proofs.Ranges.{frac_bounds, int_max_most}
+use Rattle.dg_model.specs.Operation.{compares}
 use Rattle.dg_blocks.proofs.Ranges.{left_fits, right_fits}
 use Rattle.dg_blocks.proofs.conditions.compares_values.Goals as goal
 use Rattle.dg_blocks.proofs.conditions.compares_values.Goals.{After-max-frac}
@@ -43,3 +44,12 @@ aligned-requires-clause-above c = rw (max_frac (goal.at.aligned-requires-clause-
 
 pub aligned-requires-2-clause-above : goal.aligned-requires-2-clause-above
 aligned-requires-2-clause-above c = rw (max_frac (goal.at.aligned-requires-2-clause-above c).After-max-frac) (omega (arith, ints, clamps))
+
+pub returns : goal.returns
+returns c =
+    let frac = max_frac (goal.at.returns c).After-max-frac in
+    let one = to_z-of_z w128 c.aligned.result (record { sfits = c.aligned.type_inv }) in
+    let two = to_z-of_z w128 c.aligned-2.result (record { sfits = c.aligned-2.type_inv }) in
+    let left = rw (frac, to_z-of_z w128 c.args.x c.ranges.x) at c.aligned.ensures in
+    let right = rw (frac, to_z-of_z w128 c.args.y c.ranges.y) at c.aligned-2.ensures in
+    (rw (one, two) at c.compares.ensures) ∙ ap₂ (λ (x y : ℤ). compares c.args.operator x y) left right

@@ -1,4 +1,4 @@
-use Rattle.std.proofs.Common.{to_z, of_z, ◌∙◌}
+use Rattle.std.proofs.Common.{to_z, of_z, ◌∙◌, arith}
 use Rattle.std.specs.Int.{w16}
 use Rattle.std.proofs.lemmas.Int.{to_z-of_z}
 use Rattle.dg_blocks.proofs.Fracs.{bound_more, reached_more}
@@ -19,3 +19,9 @@ loop-kind-preserved c =
       bound = bound_more types i _ inside old f new (k ∙ c.frac.ensures) c.loop-kind.invariant.bound value.self_bound value.other_bound;
       reached = reached_more types i _ inside old f new (k ∙ c.frac.ensures) c.loop-kind.invariant.reached value.value;
     })
+
+pub returns-clause-bound : goal.returns-clause-bound
+returns-clause-bound c k d inside = c.loop-kind.invariant.bound k d (omega (arith, inside, c.loop-kind-test.false))
+
+pub returns-clause-reached : goal.returns-clause-reached
+returns-clause-reached c = c.loop-kind.invariant.reached
