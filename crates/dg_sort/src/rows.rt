@@ -1,5 +1,5 @@
 ghost use Rattle.std.specs.Prelude.{◌≡◌, ◌<◌, IfOk, length};
-ghost use Rattle.dg_model.specs.Instant.{is_now, asks_now as asks_now_of};
+ghost use Rattle.dg_model.specs.Instant.{is_now};
 ghost use Rattle.dg_model.specs.Library.{row_of};
 ghost use Rattle.dg_model.specs.Periods.{periods_of};
 ghost use Rattle.dg_model.specs.Wired.{IsWired};
@@ -22,16 +22,6 @@ pub fn reads_now(kind: &Kind, slower: bool) -> bool
     }
 }
 
-/// Whether a block of this kind asks in its own sample whether it is enabled.
-fn asks_now(kind: &Kind) -> bool
-    ensures { result ≡ asks_now_of kind.now }
-{
-    match kind.row().asks {
-        Asking::Now => true,
-        Asking::Never | Asking::Before => false,
-    }
-}
-
 /// Whether an edge's end is read in the sample of its source.
 fn is_instant(blocks: &[Block], periods: &[Option<u32>], edge: Edge) -> bool
     requires from { edge.from < length periods.now }
@@ -47,10 +37,9 @@ fn is_instant(blocks: &[Block], periods: &[Option<u32>], edge: Edge) -> bool
 pub fn control_now(block: &Block) -> Option<u32>
     ensures { result ≡ control_now_of block.now }
 {
-    if asks_now(&block.kind) {
-        block.enable
-    } else {
-        None
+    match block.kind.row().asks {
+        Asking::Now => block.enable,
+        Asking::Never | Asking::Before => None,
     }
 }
 

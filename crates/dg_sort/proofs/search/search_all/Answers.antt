@@ -1,10 +1,18 @@
-use Rattle.std.proofs.Common.{◌<◌, length, arith}
+use Rattle.std.proofs.Common.{◌<◌, length, ap, sym, subst, arith}
 use Rattle.dg_sort.specs.declared.search.Mark.TheVariants.{Unmet}
-use Rattle.dg_sort.specs.inner.Search.{seen}
+use Rattle.dg_sort.specs.inner.Search.{Walk, seen}
+use Rattle.dg_sort.specs.inner.State.{IsState}
 use Rattle.dg_sort.proofs.Finding.{found}
-use Rattle.dg_sort.proofs.Stepping.{mark_is, roots_more, roots_same}
+use Rattle.dg_sort.proofs.Stepping.{begun_state, mark_is, roots_more, roots_same}
 use Rattle.dg_sort.proofs.search.search_all.Goals.{in-Unmet+in_ok-search_from, in_default}
 use Rattle.dg_sort.proofs.search.search_all.Goals as goal
+
+pub loop-root-init : goal.loop-root-init
+loop-root-init c = record {
+  state = subst (λ (walk : Walk). IsState c.args.rows.now walk) (sym c.in_ok-search.ensures) (begun_state c.args.rows.now);
+  free = ap (λ (walk : Walk). walk.groups) c.in_ok-search.ensures;
+  met = λ block inside at. omega arith;
+}
 
 pub loop-root-preserved : goal.loop-root-preserved
 loop-root-preserved c =
