@@ -1,5 +1,5 @@
 -- What the code of depths reads: items of slices, lines and controls.
-use Rattle.std.proofs.Common.{◌≡◌, ℕ, zero, suc, ◌+◌, ◌-◌, ◌<◌, max, Bool, true, false, List, [], ◌∷◌, length, take, drop, get_or, refl, sym, ap, subst, ◌∙◌, inr, arith}
+use Rattle.std.proofs.Common.{◌≡◌, ℕ, zero, suc, ◌+◌, ◌-◌, ◌^◌, ◌<◌, max, Bool, true, false, List, [], ◌∷◌, length, take, drop, get_or, refl, sym, ap, subst, ◌∙◌, inl, inr, arith}
 use Rattle.std.specs.Prelude.{slice_get, Option, Some}
 use Rattle.std.proofs.lemmas.Bool.{false≢true}
 use Rattle.std.proofs.lemmas.Option.{same_Some, slice_get-get_or}
@@ -77,10 +77,16 @@ module _ (diagram : Diagram) (place control : ℕ) (b : Block) (depths : List �
 
 -- ---- the next depth
 
-pub unshared_next : (diagram : Diagram) (plan : Resolved) (depths : List ℕ) (place lines control best : ℕ) (shared : Bool) → IsGreatest (IsReadLine diagram place) depths lines → IsGreatest (IsReadControl diagram place) depths control → best ≡ max lines control
-    → shared ≡ is_shared diagram (attributes_of diagram) plan place → shared ≡ false → IsNextDepth diagram plan depths place best
-unshared_next diagram plan depths place lines control best shared first second best_is shared_is unshared = record {
+pub next_is : (diagram : Diagram) (plan : Resolved) (depths : List ℕ) (place lines control best depth : ℕ) (shared told : Bool) → IsGreatest (IsReadLine diagram place) depths lines → IsGreatest (IsReadControl diagram place) depths control → best ≡ max lines control
+    → shared ≡ is_shared diagram (attributes_of diagram) plan place → shared ≡ told → depth ≡ own_depth told best → IsNextDepth diagram plan depths place depth
+next_is diagram plan depths place lines control best depth shared told first second best_is shared_is told_is depth_is = record {
   best = max lines control;
   greatest = greatest_either (IsReadLine diagram place) (IsReadControl diagram place) depths lines control first second;
-  is = best_is ∙ ap (λ (s : Bool). own_depth s (max lines control)) (sym unshared ∙ shared_is);
+  is = depth_is ∙ ap (own_depth told) best_is ∙ ap (λ (s : Bool). own_depth s (max lines control)) (sym told_is ∙ shared_is);
 }
+
+pub greatest_small : (IsRead : ℕ → Type 0) (depths : List ℕ) (best : ℕ) → ((other : ℕ) → depth_at depths other < 2 ^ 63) → IsGreatest IsRead depths best → best < 2 ^ 63
+greatest_small IsRead depths best small greatest = elim greatest.reached [
+  | inl none ↦ omega (arith, none)
+  | inr some ↦ let below = small some.0 in let is = some.2 in omega (arith, below, is)
+]
