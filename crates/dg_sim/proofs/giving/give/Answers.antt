@@ -1,4 +1,4 @@
-use Rattle.std.proofs.Common.{sym, subst}
+use Rattle.std.proofs.Common.{sym, subst, refl, rules}
 use Rattle.std.specs.Int.{w128}
 use Rattle.std.proofs.lemmas.Int.{to_z-of_z}
 use Rattle.dg_sim.specs.declared.program.Rule.{Rule}
@@ -34,3 +34,27 @@ pub returns-in-Same : goal.returns-in-Same
 returns-in-Same c =
     rw (to_z-of_z w128 c.read.result (record { sfits = c.read.type_inv }))
     (subst (λ (rule : Rule). Gives c.args.program.now (value_at c.args.row.now) (kept_at c.args.pasts.now) c.args.numbers.now c.args.t rule c.read.result) (sym c.in-Same.is) c.read.ensures)
+
+pub returns-in-Fixed : goal.returns-in-Fixed
+returns-in-Fixed c =
+    rw (to_z-of_z w128 c.in-Fixed.value (search rules))
+    (subst (λ (rule : Rule). Gives c.args.program.now (value_at c.args.row.now) (kept_at c.args.pasts.now) c.args.numbers.now c.args.t rule c.in-Fixed.value) (sym c.in-Fixed.is) refl)
+
+pub returns-in-Past : goal.returns-in-Past
+returns-in-Past c =
+    let kept = rw (to_z-of_z w128 c.in-Past.initial (search rules)) at c.recalled.ensures in
+    rw (to_z-of_z w128 c.recalled.result (record { sfits = c.recalled.type_inv }))
+    (subst (λ (rule : Rule). Gives c.args.program.now (value_at c.args.row.now) (kept_at c.args.pasts.now) c.args.numbers.now c.args.t rule c.recalled.result) (sym c.in-Past.is) kept)
+
+pub returns-in-Held : goal.returns-in-Held
+returns-in-Held c =
+    let kept = rw (to_z-of_z w128 c.in-Held.initial (search rules)) at c.recalled-in-Held.ensures in
+    let given = rw (to_z-of_z w128 c.recalled-in-Held.result (record { sfits = c.recalled-in-Held.type_inv }), kept) at c.read_where_on.ensures in
+    rw (to_z-of_z w128 c.read_where_on.result (record { sfits = c.read_where_on.type_inv }))
+    (subst (λ (rule : Rule). Gives c.args.program.now (value_at c.args.row.now) (kept_at c.args.pasts.now) c.args.numbers.now c.args.t rule c.read_where_on.result) (sym c.in-Held.is) given)
+
+pub returns-in-Reset : goal.returns-in-Reset
+returns-in-Reset c =
+    let given = rw (to_z-of_z w128 c.in-Reset.initial (search rules)) at c.read_where_on-in-Reset.ensures in
+    rw (to_z-of_z w128 c.read_where_on-in-Reset.result (record { sfits = c.read_where_on-in-Reset.type_inv }))
+    (subst (λ (rule : Rule). Gives c.args.program.now (value_at c.args.row.now) (kept_at c.args.pasts.now) c.args.numbers.now c.args.t rule c.read_where_on-in-Reset.result) (sym c.in-Reset.is) given)

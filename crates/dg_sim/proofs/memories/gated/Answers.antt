@@ -1,8 +1,14 @@
-use Rattle.std.proofs.Common.{◌∙◌, List, Bool, ap, sym, subst, ◌<◌, FitsSigned, refl}
+use Rattle.std.proofs.Common.{◌∙◌, ℕ, List, Bool, Option, ap, sym, subst, ◌<◌, FitsSigned, refl}
 use Rattle.std.specs.Int.{w128}
 use Rattle.std.proofs.lemmas.Int.{to_z-of_z}
+use Rattle.std.proofs.lemmas.Bool.{false≢true}
 use Rattle.std.proofs.lemmas.Option.{slice_get_within}
+use Rattle.dg_model.specs.declared.diagram.Block.{Block}
+use Rattle.dg_model.specs.declared.kind.Kind.{Kind}
 use Rattle.dg_model.specs.declared.kind.Kind.TheVariants.{EnOut}
+use Rattle.dg_model.specs.Library.{row_of}
+use Rattle.dg_model.specs.Wired.{MayStand}
+use Rattle.fx_io.proofs.Places.{held}
 use Rattle.dg_model.specs.Attributes.{attributes_of}
 use Rattle.dg_tables.specs.declared.entries.Place.{Place}
 use Rattle.dg_tables.specs.Entries.{Reads}
@@ -85,3 +91,10 @@ remember-requires-clause-turn c = c.requires.turn
 
 pub remember-requires-clause-room : goal.remember-requires-clause-room
 remember-requires-clause-room c = sym (ap kept_count c.requires.kind)
+
+pub unreachable-unreachable : goal.unreachable-unreachable
+unreachable-unreachable c =
+    let b = c.args.turn.block.now in
+    let may = held (λ (block : Block). MayStand (row_of block.kind).place.stands block.enable) c.args.turn.checked.now.diagram.blocks c.args.turn.place.block b c.keeps_rules.ensures.checked.wired.enables c.requires.turn.shown.block_is in
+    let inside = subst (λ (kind : Kind). MayStand (row_of kind).place.stands b.enable) c.requires.kind may in
+    false≢true (subst (λ (enable : Option ℕ). MayStand (row_of (EnOut c.args.reset c.args.initial.now)).place.stands enable) c.in_default.is inside)
