@@ -151,8 +151,9 @@ fn rule_by_kind<'a>(
     turn.checked.keeps_rules();
     match &turn.block.kind {
         Kind::Inport { number, .. } => Ok(from_row(roots, program, turn, *number)),
-        Kind::Outport { .. } => Ok(hand_on(program, turn, 1, turn.place.element)),
-        Kind::Pass { .. } => Ok(hand_on(program, turn, 1, turn.place.element)),
+        Kind::Outport { .. } | Kind::Pass { .. } => {
+            Ok(hand_on(program, turn, 1, turn.place.element))
+        }
         Kind::Constant { value } => Ok(constant(program, turn, value.as_slice())),
         Kind::Ground => Ok(Rule::Fixed { value: 0 }),
         Kind::Mux { .. } => Ok(joined(cursors, program, turn)),

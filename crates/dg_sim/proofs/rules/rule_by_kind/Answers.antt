@@ -1,7 +1,10 @@
-use Rattle.std.proofs.Common.{◌∙◌, List, ap, sym, refl, arith}
+use Rattle.std.proofs.Common.{◌≡◌, ◌≤◌, ◌∙◌, List, ap, sym, subst, refl, inl, inr, arith}
 use Rattle.fx_type.specs.declared.decimal.Decimal.{Decimal}
-use Rattle.dg_model.specs.declared.kind.Kind.TheVariants.{Constant, Delay, EnOut, Outport, Pass, RateTransition}
+use Rattle.dg_model.specs.declared.kind.Kind.{Kind}
+use Rattle.dg_model.specs.declared.kind.Kind.TheVariants.{Constant, Delay, EnOut, Outport, Pass, RateTransition, Terminator}
 use Rattle.dg_model.specs.Attributes.{attributes_of}
+use Rattle.dg_model.specs.Solves.{shown_ports}
+use Rattle.dg_sim.specs.inner.Building.{is_worked}
 use Rattle.dg_sim.proofs.ByKind.{outport_hands, pass_hands, ground_always}
 use Rattle.dg_sim.proofs.Entries.{delay_some, ports_are}
 use Rattle.dg_sim.proofs.Grown.{fixed_made}
@@ -11,28 +14,34 @@ use Rattle.dg_sim.proofs.rules.rule_by_kind.Goals as goal
 pub hand_on-requires : goal.hand_on-requires
 hand_on-requires c =
     let diagram = c.args.turn.checked.now.diagram in
+    let checked = c.args.turn.checked.now in
+    let starts = c.args.turn.starts.now in
+    let places = c.args.program.now.places in
+    let k = c.args.turn.cell in
+    let place = c.args.turn.place in
+    let b = c.args.turn.block.now in
+    let turn = c.requires.turn in
     let is = c.keeps_rules.ensures.checked in
-    let kind = Outport c.in-Outport.number in
-    let ports = (ports_are diagram is.wired c.args.turn.place.block c.args.turn.block.now c.requires.turn.shown.block_is kind c.in-Outport.is).0 in
-    record {
-      hands = outport_hands diagram (attributes_of diagram) c.args.turn.place c.args.turn.block.now c.requires.turn.shown.block_is c.in-Outport.number c.in-Outport.is ports;
-      finds = c.requires.turn.finds;
-      now = turn_now c.args.turn.checked.now c.args.turn.starts.now c.args.program.now.places c.args.turn.cell c.args.turn.place c.args.turn.block.now c.requires.turn kind c.in-Outport.is refl;
-      read = turn_read c.args.turn.checked.now c.args.turn.starts.now c.args.program.now.places c.args.turn.cell c.args.turn.place c.args.turn.block.now c.requires.turn kind c.in-Outport.is is refl 1 (omega arith) (omega (arith, ports));
-    }
-
-pub hand_on-requires-in-Pass : goal.hand_on-requires-in-Pass
-hand_on-requires-in-Pass c =
-    let diagram = c.args.turn.checked.now.diagram in
-    let is = c.keeps_rules.ensures.checked in
-    let kind = Pass c.in-Pass.width in
-    let ports = (ports_are diagram is.wired c.args.turn.place.block c.args.turn.block.now c.requires.turn.shown.block_is kind c.in-Pass.is).0 in
-    record {
-      hands = pass_hands diagram (attributes_of diagram) c.args.turn.place c.args.turn.block.now c.requires.turn.shown.block_is c.in-Pass.width c.in-Pass.is ports;
-      finds = c.requires.turn.finds;
-      now = turn_now c.args.turn.checked.now c.args.turn.starts.now c.args.program.now.places c.args.turn.cell c.args.turn.place c.args.turn.block.now c.requires.turn kind c.in-Pass.is refl;
-      read = turn_read c.args.turn.checked.now c.args.turn.starts.now c.args.program.now.places c.args.turn.cell c.args.turn.place c.args.turn.block.now c.requires.turn kind c.in-Pass.is is refl 1 (omega arith) (omega (arith, ports));
-    }
+    elim c.in-Outport.is [
+      | inl here ↦
+          let kind = Outport here.0 in
+          let ports = (ports_are diagram is.wired place.block b turn.shown.block_is kind here.1).0 in
+          record {
+            hands = outport_hands diagram (attributes_of diagram) place b turn.shown.block_is here.0 here.1 ports;
+            finds = turn.finds;
+            now = turn_now checked starts places k place b turn kind here.1 refl;
+            read = turn_read checked starts places k place b turn kind here.1 is refl 1 (omega arith) (omega (arith, ports));
+          }
+      | inr here ↦
+          let kind = Pass here.0 in
+          let ports = (ports_are diagram is.wired place.block b turn.shown.block_is kind here.1).0 in
+          record {
+            hands = pass_hands diagram (attributes_of diagram) place b turn.shown.block_is here.0 here.1 ports;
+            finds = turn.finds;
+            now = turn_now checked starts places k place b turn kind here.1 refl;
+            read = turn_read checked starts places k place b turn kind here.1 is refl 1 (omega arith) (omega (arith, ports));
+          }
+    ]
 
 pub joined-requires : goal.joined-requires
 joined-requires c = record { kind = (c.in-Mux.sizes, c.in-Mux.is); turn = c.requires.turn; cursors = c.requires.cursors }
@@ -106,9 +115,6 @@ from_row-requires-clause-roots c = c.requires.roots
 pub returns-in-Outport-clause-made : goal.returns-in-Outport-clause-made
 returns-in-Outport-clause-made c = c.hand_on.ensures
 
-pub returns-in-Pass-clause-made : goal.returns-in-Pass-clause-made
-returns-in-Pass-clause-made c = c.hand_on-in-Pass.ensures
-
 pub returns-in-Mux-clause-cursors : goal.returns-in-Mux-clause-cursors
 returns-in-Mux-clause-cursors c = c.joined.ensures.cursors
 
@@ -151,9 +157,6 @@ returns-in-Inport-clause-cursors c = c.requires.cursors
 pub returns-in-Outport-clause-cursors : goal.returns-in-Outport-clause-cursors
 returns-in-Outport-clause-cursors c = c.requires.cursors
 
-pub returns-in-Pass-clause-cursors : goal.returns-in-Pass-clause-cursors
-returns-in-Pass-clause-cursors c = c.requires.cursors
-
 pub returns-in-RateTransition-clause-cursors : goal.returns-in-RateTransition-clause-cursors
 returns-in-RateTransition-clause-cursors c = c.requires.cursors
 
@@ -165,3 +168,35 @@ works-requires-clause-entries c = c.requires.entries
 
 pub works-requires-clause-paired : goal.works-requires-clause-paired
 works-requires-clause-paired c = c.requires.paired
+
+pub works-requires-clause-worked : goal.works-requires-clause-worked
+works-requires-clause-worked c =
+    elim c.in-Sum.is [
+      | inl here ↦ ap is_worked here.1
+      | inr more ↦ elim more [
+        | inl here ↦ ap is_worked here.2
+        | inr more ↦ elim more [
+          | inl here ↦ ap is_worked here
+          | inr more ↦ elim more [
+            | inl here ↦ ap is_worked here.2
+            | inr more ↦ elim more [
+              | inl here ↦ ap is_worked here.1
+              | inr more ↦ elim more [
+                | inl here ↦ ap is_worked here.1
+                | inr more ↦ ap is_worked more.1
+              ]
+            ]
+          ]
+        ]
+      ]
+    ]
+
+pub unreachable-unreachable : goal.unreachable-unreachable
+unreachable-unreachable c =
+    let b = c.args.turn.block.now in
+    let port = c.args.turn.place.port in
+    let shown = c.requires.turn.shown in
+    let none : b.outputs ≡ 0 = (ports_are c.args.turn.checked.now.diagram c.keeps_rules.ensures.checked.wired c.args.turn.place.block b shown.block_is Terminator c.in-Terminator.is).1 in
+    let last : port ≤ b.outputs = subst (λ (kind : Kind). port ≤ shown_ports kind b.outputs) c.in-Terminator.is shown.port_to in
+    let from = shown.port_from in
+    omega (arith, none, last, from)
