@@ -145,5 +145,6 @@ pub fn put_check<K: Sink>(
         gathered.clocks.as_slice(),
         &mut gathered.room,
     );
+    drop(gathered);
     put_last(out, &mut pending)
 }

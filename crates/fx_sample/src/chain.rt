@@ -2,7 +2,7 @@ ghost use Rattle.std.specs.Prelude.{◌≡◌};
 ghost use Rattle.fx_sample.specs.Chain.{kind_of, word_of, inputs_of};
 
 /// The kinds of blocks of a sample's chain.
-#[derive(Clone, Copy, Debug, PartialEq, Eq)]
+#[derive(Clone, Copy)]
 pub enum ChainKind {
     Delay,
     Sum,

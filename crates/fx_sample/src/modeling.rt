@@ -187,12 +187,12 @@ fn push_model(alloc: Global, text: &mut Vec<u8>, count: u32) -> Result<(), OutOf
     requires { count ≤ 5000 }
     ensures { OnOk result (text.new.items ≡ text.old.items ++ sample_model count) }
 {
-    let last = chain_name(alloc, count)?;
     push_model_head(text)?;
     push_input(text)?;
     push_blocks(alloc, text, count)?;
     push_ends(text)?;
     push_lines(alloc, text, count)?;
+    let last = chain_name(alloc, count)?;
     push_end_lines(text, last.bytes())?;
     push_model_end(text)
 }

@@ -6,7 +6,7 @@ use fx_io::{OutOfMemory, Text};
 use std::alloc::Global;
 
 /// What a sample's module says of itself.
-#[derive(Clone, Copy, Debug)]
+#[derive(Clone, Copy)]
 pub struct Made {
     /// How many operators `*` its expressions have.
     pub multiplications: u64,

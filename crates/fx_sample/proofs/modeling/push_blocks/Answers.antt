@@ -1,4 +1,5 @@
-use Rattle.std.proofs.Common.{◌+◌, ◌++◌, ◌∙◌, ap, arith}
+use Rattle.std.proofs.Common.{◌≡◌, ℕ, ◌+◌, ◌++◌, ◌∙◌, ap, subst, arith}
+use Rattle.std.specs.List.{flat_map, range_with_len}
 use Rattle.fx_sample.specs.Chain.{kind_of}
 use Rattle.fx_sample.specs.ModelText.{block_at, chain_text}
 use Rattle.fx_sample.proofs.Congruence.{next_is}
@@ -11,3 +12,8 @@ loop-before-preserved c =
     let kind = c.of.ensures ∙ ap (kind_of (c.loop-before.before + 1)) next in
     let put = c.in_ok-push_block.ensures ∙ ap (λ kind. c.loop-before.text.items ++ chain_text (c.loop-before.before + 1) kind) kind in
     (next, texts_more (block_at c.args.count) 1 c.loop-before.before (c.loop-before.before + 1) c.args.text.now.items c.loop-before.text.items _ c.loop-before.invariant.1 put (omega arith))
+
+pub returns : goal.returns
+returns c =
+    let end : c.loop-before.before ≡ c.args.count = omega arith in
+    subst (λ (n : ℕ). c.loop-before.text.items ≡ c.args.text.now.items ++ flat_map (block_at c.args.count) (range_with_len 1 n)) end c.loop-before.invariant.1
