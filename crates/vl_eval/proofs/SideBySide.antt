@@ -2,7 +2,7 @@
 use Rattle.std.proofs.Common.{◌≡◌, ◌<◌, ◌≤◌, ◌+◌, ◌*◌, ◌^◌, inl, inr, ℕ, zero, suc, max, sum, Bool, true, false, List, [], ◌∷◌, ◌++◌, length, map, flat_map, replicate, Contains, refl, sym, ap, subst, ◌∙◌, arith, take, drop, slice_index_or}
 use Rattle.std.proofs.lemmas.Bool.{false≢true}
 use Rattle.std.proofs.Math.Nat.{mul-le-mul_right}
-use Rattle.std.proofs.lemmas.List.{map-append, take-append-drop, take_more}
+use Rattle.std.proofs.lemmas.List.{map-append, take-append-drop, take_all, take_more}
 use Rattle.std.proofs.lemmas.List.Folds.{list_all_at}
 use Rattle.std.specs.List.{list_all}
 use Rattle.std.proofs.lemmas.List.Sums.{sum_by-append}
@@ -115,6 +115,9 @@ module _ (by_layer : ByLayer) (base : ℕ) (scope : Scope) (slots : List ℕ) wh
         fits = both.fits;
         shows = λ _. both;
       })
+
+  pub joined-all : (before now : List Op) (slot length' i : ℕ) (parts : List Expr) → length parts ≤ i → Joined before now slot length' (take i parts) parts → Joined before now slot length' parts parts
+  joined-all before now slot length' i parts past j = subst (λ done. Joined before now slot length' done parts) (take_all i parts past) j
 
   -- a part at its place
   pub part-in : (parts : List Expr) (i : ℕ) (part : Expr) → i < length parts → part ≡ slice_index_or parts i part → Contains parts part

@@ -12,8 +12,7 @@ use Rattle.vl_eval.specs.inner.Site.{ArePlaced, Built, CanBuild, IsBuilt}
 use Rattle.std.proofs.lemmas.Result.{IfOk-weaker}
 use Rattle.vl_eval.proofs.Operands.{sound-unary, names-unary, sound-as-signed, length-as-signed, names-as-signed, sound-as-unsigned, names-as-unsigned, sound-binary, names-binary, sound-shift, length-shift, names-shift, sound-choose, length-choose, names-choose, sound-repeat, length-repeat, sign-repeat, names-repeat, sound-concat, length-concat, sign-concat, names-concat}
 use Rattle.vl_eval.proofs.Rooms.{room-in, unary-room, left-context-room, right-context-room}
-use Rattle.std.proofs.lemmas.List.{take_all}
-use Rattle.vl_eval.proofs.SideBySide.{Copied, Joined, beside-grows, built-copies, built-no-parts, built-parts, copied-more, copied-one, copies-few, joined-more, lengths-more, one-copy, part-in, part-placed, part-size, part-sound, parts-few, parts-more, shows-alone-too, value-at}
+use Rattle.vl_eval.proofs.SideBySide.{Copied, Joined, beside-grows, built-copies, built-no-parts, built-parts, copied-more, copied-one, copies-few, joined-all, joined-more, lengths-more, one-copy, part-in, part-placed, part-size, part-sound, parts-few, parts-more, shows-alone-too, value-at}
 use Rattle.vl_eval.proofs.Grown.{grows-more, grows-none, placed-left, placed-right, placed-later}
 use Rattle.vl_eval.proofs.Builds.{built-unary, built-binary, built-as-signed, built-as-signed-plain, built-as-unsigned, built-shift, built-choice}
 use Rattle.vl_eval.proofs.building.+build.Given as given
@@ -214,8 +213,7 @@ build_copies-overflow_add-length t c =
     let ok = sound-repeat nets c.args.count c.args.part.now c.requires.sound in
     let few = copies-few by_layer site.base site.scope.now site.slots.now c.loop-copy._copy c.args.count own c.loop-copy-test.true ok.2 in
     let more = one-copy by_layer site.base site.scope.now site.slots.now c.loop-copy._copy own in
-    let now = (c.loop-copy.invariant.copied by_layer).long in
-    omega (arith, few, more, now, c.in_ok-own.ensures.length)
+    omega (arith, few, more, (c.loop-copy.invariant.copied by_layer).long, c.in_ok-own.ensures.length)
 
 pub build_copies-loop-copy-preserved : goal.build_copies-loop-copy-preserved
 build_copies-loop-copy-preserved t c =
@@ -227,13 +225,12 @@ build_copies-loop-copy-preserved t c =
     let few = copies-few by_layer site.base site.scope.now site.slots.now c.loop-copy._copy c.args.count own c.loop-copy-test.true ok.2 in
     let more = one-copy by_layer site.base site.scope.now site.slots.now c.loop-copy._copy own in
     let copied = c.loop-copy.invariant.copied by_layer in
-    let now = copied.long in
     let value = value-at by_layer site.base site.scope.now site.slots.now c.args.ops.now c.build_alone.new.ops c.loop-copy.ops c.in_ok-own.own.slot c.args.part.now c.in_ok-own.own.shape ok.1
     c.in_ok-own.ensures.length c.in_ok-own.ensures.sign c.in_ok-own.ensures.built c.loop-copy.invariant.later in
     record {
       later = grows-more site.base c.build_alone.new.ops c.loop-copy.ops c.beside.new.ops c.loop-copy.invariant.later
           (beside-grows by_layer site.base site.scope.now site.slots.now c.loop-copy.ops c.beside.new.ops c.loop-copy.joined c.in_ok-joined.joined c.in_ok-own.own.slot c.loop-copy.length c.in_ok-own.own.shape.length
-          copied.shows.below value.here.below (omega (arith, few, more, now, c.in_ok-own.ensures.length)) c.in_ok-joined.ensures);
+          copied.shows.below value.here.below (omega (arith, few, more, copied.long, c.in_ok-own.ensures.length)) c.in_ok-joined.ensures);
       copied = λ b. copied-more b site.base site.scope.now site.slots.now c.args.ops.now c.loop-copy.ops c.beside.new.ops c.loop-copy.joined c.in_ok-joined.joined c.in_ok-own.own.slot c.loop-copy.length c.loop-copy._copy
           c.args.part.now c.in_ok-own.own.shape ok.1 few c.in_ok-own.ensures.length
           (value-at b site.base site.scope.now site.slots.now c.args.ops.now c.build_alone.new.ops c.loop-copy.ops c.in_ok-own.own.slot c.args.part.now c.in_ok-own.own.shape ok.1
@@ -246,10 +243,9 @@ build_copies-returns-clause-built t c = λ width signed.
     let site = c.args.site.now in
     let by_layer = c.meaning_by_layer.ensures.value in
     let ok = sound-repeat (nets_in site.scope.now) c.args.count c.args.part.now c.requires.sound in
-    let all : c.loop-copy._copy ≡ c.args.count = omega (arith, ok.0) in
     subst (λ slot. Built site.base site.scope.now site.slots.now c.args.ops.now c.loop-copy.ops slot width signed (Repeat c.args.count c.args.part.now)) (sym c.unsigned.ensures.slot)
     (built-copies by_layer site.base site.scope.now site.slots.now c.args.count c.args.part.now c.args.ops.now c.loop-copy.ops c.loop-copy.joined c.loop-copy.length width signed
-    (subst (λ n. Copied by_layer site.base site.scope.now site.slots.now c.args.ops.now c.loop-copy.ops c.loop-copy.joined c.loop-copy.length n c.args.part.now) all (c.loop-copy.invariant.copied by_layer)))
+    (subst (λ n. Copied by_layer site.base site.scope.now site.slots.now c.args.ops.now c.loop-copy.ops c.loop-copy.joined c.loop-copy.length n c.args.part.now) (omega (arith, ok.0)) (c.loop-copy.invariant.copied by_layer)))
 
 pub build_copies-returns-clause-own : goal.build_copies-returns-clause-own
 build_copies-returns-clause-own t c =
@@ -257,8 +253,7 @@ build_copies-returns-clause-own t c =
     let by_layer = c.meaning_by_layer.ensures.value in
     let nets = nets_in site.scope.now in
     let ok = sound-repeat nets c.args.count c.args.part.now c.requires.sound in
-    let all : c.loop-copy._copy ≡ c.args.count = omega (arith, ok.0) in
-    let copied = subst (λ n. Copied by_layer site.base site.scope.now site.slots.now c.args.ops.now c.loop-copy.ops c.loop-copy.joined c.loop-copy.length n c.args.part.now) all (c.loop-copy.invariant.copied by_layer) in
+    let copied = subst (λ n. Copied by_layer site.base site.scope.now site.slots.now c.args.ops.now c.loop-copy.ops c.loop-copy.joined c.loop-copy.length n c.args.part.now) (omega (arith, ok.0)) (c.loop-copy.invariant.copied by_layer) in
     let l = length-repeat nets c.args.count c.args.part.now in
     shows-alone-too by_layer site.base site.scope.now site.slots.now c.args.ops.now c.loop-copy.ops (Repeat c.args.count c.args.part.now) c.unsigned.result
     (c.unsigned.ensures.length ∙ copied.long ∙ sym l) (sign-repeat nets c.args.count c.args.part.now) (omega (arith, l, ok.2)) c.unsigned.ensures.sign (build_copies-returns-clause-built t c)
@@ -290,8 +285,7 @@ build_parts-overflow_add-length t c =
     let parts = c.args.parts.now in
     let few = parts-few by_layer site.base site.scope.now site.slots.now parts c.loop-part.part-index c.part-item.result (sound-concat nets parts c.requires.sound).1 c.loop-part-test.true c.part-item.is in
     let more = lengths-more by_layer site.base site.scope.now site.slots.now (take c.loop-part.part-index parts) c.part-item.result in
-    let now = (c.loop-part.invariant by_layer).long in
-    omega (arith, few, more, now, c.in_ok-own.ensures.length)
+    omega (arith, few, more, (c.loop-part.invariant by_layer).long, c.in_ok-own.ensures.length)
 
 pub build_parts-loop-part-preserved : goal.build_parts-loop-part-preserved
 build_parts-loop-part-preserved t c = λ b.
@@ -314,8 +308,7 @@ build_parts-returns-then-length-eq0-clause-built t c = λ width signed.
     let site = c.args.site.now in
     let by_layer = c.meaning_by_layer.ensures.value in
     let parts = c.args.parts.now in
-    let all = take_all c.loop-part.part-index parts (omega (arith, c.loop-part-test.false)) in
-    let joined = subst (λ done. Joined by_layer site.base site.scope.now site.slots.now c.args.ops.now c.loop-part.ops c.loop-part.joined c.loop-part.length done parts) all (c.loop-part.invariant by_layer) in
+    let joined = joined-all by_layer site.base site.scope.now site.slots.now c.args.ops.now c.loop-part.ops c.loop-part.joined c.loop-part.length c.loop-part.part-index parts (omega (arith, c.loop-part-test.false)) (c.loop-part.invariant by_layer) in
     subst (λ slot. Built site.base site.scope.now site.slots.now c.args.ops.now c.push.new.ops slot width signed (Concat parts)) (sym c.unsigned.ensures.slot)
     (built-no-parts by_layer site.base site.scope.now site.slots.now parts c.args.ops.now c.loop-part.ops c.push.new.ops c.in_ok-slot.slot c.loop-part.joined c.loop-part.length width signed
     joined c.if-length-eq0.true c.in_ok-slot.ensures)
@@ -326,8 +319,7 @@ build_parts-returns-then-length-eq0-clause-own t c =
     let by_layer = c.meaning_by_layer.ensures.value in
     let nets = nets_in site.scope.now in
     let parts = c.args.parts.now in
-    let all = take_all c.loop-part.part-index parts (omega (arith, c.loop-part-test.false)) in
-    let joined = subst (λ done. Joined by_layer site.base site.scope.now site.slots.now c.args.ops.now c.loop-part.ops c.loop-part.joined c.loop-part.length done parts) all (c.loop-part.invariant by_layer) in
+    let joined = joined-all by_layer site.base site.scope.now site.slots.now c.args.ops.now c.loop-part.ops c.loop-part.joined c.loop-part.length c.loop-part.part-index parts (omega (arith, c.loop-part-test.false)) (c.loop-part.invariant by_layer) in
     let l = length-concat nets parts in
     shows-alone-too by_layer site.base site.scope.now site.slots.now c.args.ops.now c.push.new.ops (Concat parts) c.unsigned.result
     (c.unsigned.ensures.length ∙ joined.long ∙ sym l) (sign-concat nets parts) (let few = (sound-concat nets parts c.requires.sound).1 in omega (arith, l, few)) c.unsigned.ensures.sign
@@ -338,8 +330,7 @@ build_parts-returns-clause-built t c = λ width signed.
     let site = c.args.site.now in
     let by_layer = c.meaning_by_layer.ensures.value in
     let parts = c.args.parts.now in
-    let all = take_all c.loop-part.part-index parts (omega (arith, c.loop-part-test.false)) in
-    let joined = subst (λ done. Joined by_layer site.base site.scope.now site.slots.now c.args.ops.now c.loop-part.ops c.loop-part.joined c.loop-part.length done parts) all (c.loop-part.invariant by_layer) in
+    let joined = joined-all by_layer site.base site.scope.now site.slots.now c.args.ops.now c.loop-part.ops c.loop-part.joined c.loop-part.length c.loop-part.part-index parts (omega (arith, c.loop-part-test.false)) (c.loop-part.invariant by_layer) in
     subst (λ slot. Built site.base site.scope.now site.slots.now c.args.ops.now c.loop-part.ops slot width signed (Concat parts)) (sym c.unsigned-2.ensures.slot)
     (built-parts by_layer site.base site.scope.now site.slots.now parts c.args.ops.now c.loop-part.ops c.loop-part.joined c.loop-part.length width signed joined (omega (arith, c.if-length-eq0.false)))
 
@@ -349,8 +340,7 @@ build_parts-returns-clause-own t c =
     let by_layer = c.meaning_by_layer.ensures.value in
     let nets = nets_in site.scope.now in
     let parts = c.args.parts.now in
-    let all = take_all c.loop-part.part-index parts (omega (arith, c.loop-part-test.false)) in
-    let joined = subst (λ done. Joined by_layer site.base site.scope.now site.slots.now c.args.ops.now c.loop-part.ops c.loop-part.joined c.loop-part.length done parts) all (c.loop-part.invariant by_layer) in
+    let joined = joined-all by_layer site.base site.scope.now site.slots.now c.args.ops.now c.loop-part.ops c.loop-part.joined c.loop-part.length c.loop-part.part-index parts (omega (arith, c.loop-part-test.false)) (c.loop-part.invariant by_layer) in
     let l = length-concat nets parts in
     shows-alone-too by_layer site.base site.scope.now site.slots.now c.args.ops.now c.loop-part.ops (Concat parts) c.unsigned-2.result
     (c.unsigned-2.ensures.length ∙ joined.long ∙ sym l) (sign-concat nets parts) (let few = (sound-concat nets parts c.requires.sound).1 in omega (arith, l, few)) c.unsigned-2.ensures.sign
