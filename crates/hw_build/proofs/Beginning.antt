@@ -152,19 +152,11 @@ module _ (diagram : Diagram) (earlier later : Circuit) (firsts : List (List ℕ)
 
 pub input_number : (role : Role) → is_input_role role ≡ true → (number : ℕ) × (root_input role ≡ Some number)
 input_number (Role.RootInput number) is = (number, refl)
-input_number (Role.RootOutput number) is = absurd (false≢true is)
-input_number (Role.InnerPort width) is = absurd (false≢true is)
-input_number Role.EnabledOutput is = absurd (false≢true is)
-input_number Role.Control is = absurd (false≢true is)
-input_number Role.Plain is = absurd (false≢true is)
+input_number _ is = absurd (false≢true is)
 
 pub input_width : (diagram : Diagram) (a : Attributes) (role : Role) (block port : ℕ) → is_input_role role ≡ true → width_of_role diagram a role block port ≡ a.width_at block port
-input_width diagram a (Role.RootInput number) block port is = refl
 input_width diagram a (Role.RootOutput number) block port is = absurd (false≢true is)
-input_width diagram a (Role.InnerPort width) block port is = refl
-input_width diagram a Role.EnabledOutput block port is = refl
-input_width diagram a Role.Control block port is = refl
-input_width diagram a Role.Plain block port is = refl
+input_width diagram a _ block port is = refl
 
 -- a net that shows an input port is sound
 sound_input : (now : Circuit) (inputs k : ℕ) (type : FxType) → IsType type → k < inputs → IsSoundNet now inputs (input_net type k)

@@ -50,7 +50,7 @@ use Rattle.hw_build.proofs.Tallying.{at_last, piped_over}
 use Rattle.hw_build.proofs.Turning.{contains_front, pipeline_by_call, pipeline_by_names, there_by_call}
 
 -- a block behind which registers may stand shows one port
-pipelining_shows : (kind : Kind) (inputs outputs : ℕ) → IsTrue (row_of kind).hardware.pipelines → HasPorts kind inputs outputs → shown_ports kind outputs ≡ 1
+pub pipelining_shows : (kind : Kind) (inputs outputs : ℕ) → IsTrue (row_of kind).hardware.pipelines → HasPorts kind inputs outputs → shown_ports kind outputs ≡ 1
 pipelining_shows (Sum negative) inputs outputs is ports = ports.1
 pipelining_shows (Gain value param) inputs outputs is ports = ports.1
 pipelining_shows Product inputs outputs is ports = ports.1

@@ -1,5 +1,5 @@
 -- A netlist has no more Counters than the frames among which they stand.
-use Rattle.std.proofs.Common.{◌≡◌, ℕ, zero, suc, ◌≤◌, List, [], ◌∷◌, length, Some, ap, sym, ◌∙◌, subst, refl, arith}
+use Rattle.std.proofs.Common.{◌≡◌, ℕ, zero, suc, ◌≤◌, Bool, true, false, cond, filter, List, [], ◌∷◌, length, Some, ap, sym, ◌∙◌, subst, refl, arith}
 use Rattle.std.specs.Prelude.{◌≢◌, slice_get}
 use Rattle.std.proofs.lemmas.Option.{none-some, same_Some}
 use Rattle.hw_net.specs.declared.netlist.Frame.{Frame}
@@ -13,6 +13,17 @@ use Rattle.hw_build.specs.Built.{counts, counter_count}
 pub record Stands {A : Type 0} (xs : List A) (x : A) : Type 0 where
   pub place : ℕ
   pub at : slice_get xs place ≡ Some x
+
+-- and among those that pass a test, if it does
+pub filter_stands : {A : Type 0} (p : A → Bool) (xs : List A) (k : ℕ) (x : A) → slice_get xs k ≡ Some x → p x ≡ true → Stands (filter p xs) x
+filter_stands p [] k x at is = absurd (none-some x at)
+filter_stands p (y ∷ xs) zero x at is =
+    subst (λ (b : Bool). Stands (cond b (y ∷ filter p xs) (filter p xs)) x) (sym (ap p (same_Some y x at) ∙ is)) (record { place = 0; at = at })
+filter_stands {A = A} p (y ∷ xs) (suc k) x at is = go (p y) (filter_stands p xs k x at is)
+  where
+    go : (b : Bool) → Stands {A = A} (filter p xs) x → Stands {A = A} (cond b (y ∷ filter p xs) (filter p xs)) x
+    go true rest = record { place = suc rest.place; at = rest.at }
+    go false rest = rest
 
 abbrev pub without : {A : Type 0} → List A → ℕ → List A
 without [] k = []

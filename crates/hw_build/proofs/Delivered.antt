@@ -149,34 +149,26 @@ module _ (diagram : Diagram) (plan : Resolved) (times : Times) (firsts : List (L
   }
 
   module _ (first : AreInputFirsts diagram firsts) (planned : IsPlanOf diagram plan) (moving : MovingHavePeriods) (above : PeriodsAreAbove) (short : PeriodsAreShort) (small : KeepsSize diagram plan times) where
-    input_small : (k : ℕ) (e : RootElement) → slice_get (root_inputs diagram (attributes_of diagram)) k ≡ Some e → e.element < 2 ^ 64
-    input_small k e at =
-        let size = ins.size in
-        let low = slice_get_within (root_inputs diagram (attributes_of diagram)) k e at in
-        let port : NetPort = get_or inputs k no_port in
-        let port_at = slice_get-get_or inputs k no_port (omega (arith, size, low)) in
-        let is = ins.each k e port at port_at in
-        let net = is.net in
-        let word = is.small in
-        let place = first.at k e at in
-        omega (arith, net, word, place)
+    number_small : (elements : List RootElement) (width_of : ℕ → ℕ) (number_of : ℕ → RootElement → ℕ) (latency_of : ℕ → ℕ) (one other : Names) (ports : List NetPort) → ArePortsFor diagram elements width_of number_of latency_of one other ports (length elements)
+        → (k : ℕ) (e : RootElement) → slice_get elements k ≡ Some e → number_of k e < 2 ^ 32
+    number_small elements width_of number_of latency_of one other ports are k e at =
+        let size = are.size in
+        let low = slice_get_within elements k e at in
+        let port : NetPort = get_or ports k no_port in
+        let is = are.each k e port at (slice_get-get_or ports k no_port (omega (arith, size, low))) in
+        subst (λ (n : ℕ). n < 2 ^ 32) is.net is.small
       where
         no_port : NetPort
         no_port = record { name = []; net = 0; period = 0; latency = 0 }
 
+    input_small : (k : ℕ) (e : RootElement) → slice_get (root_inputs diagram (attributes_of diagram)) k ≡ Some e → e.element < 2 ^ 64
+    input_small k e at =
+        let small = number_small _ _ _ _ _ _ _ ins k e at in
+        let place = first.at k e at in
+        omega (arith, small, place)
+
     output_small : (k : ℕ) (e : RootElement) → slice_get (root_outputs diagram (attributes_of diagram)) k ≡ Some e → e.element < 2 ^ 64
-    output_small k e at =
-        let size = outs.size in
-        let low = slice_get_within (root_outputs diagram (attributes_of diagram)) k e at in
-        let port : NetPort = get_or outputs k no_port in
-        let port_at = slice_get-get_or outputs k no_port (omega (arith, size, low)) in
-        let is = outs.each k e port at port_at in
-        let net = is.net in
-        let word = is.small in
-        omega (arith, net, word)
-      where
-        no_port : NetPort
-        no_port = record { name = []; net = 0; period = 0; latency = 0 }
+    output_small k e at = let small = number_small _ _ _ _ _ _ _ outs k e at in omega (arith, small)
 
     ports_are : ArePorts inputs outputs
     ports_are =

@@ -2,13 +2,12 @@
 use Rattle.std.proofs.Common.{◌≡◌, ℕ, zero, suc, ◌+◌, ◌-◌, ◌<◌, ◌≤◌, ◌⊎◌, ◌++◌, inl, inr, Bool, true, false, List, [], ◌∷◌, length, Contains, Option, Some, None, ap, sym, ◌∙◌, subst, refl, length-append, arith}
 use Rattle.std.specs.Prelude.{slice_get, ◌≢◌, ◌&&◌, not, if◌then◌else◌}
 use Rattle.std.specs.List.{flat_map}
-use Rattle.std.proofs.lemmas.Bool.{false≢true, cases_Bool}
+use Rattle.std.proofs.lemmas.Bool.{cases_Bool}
 use Rattle.std.proofs.lemmas.Grind.{flat_map-append}
 use Rattle.std.proofs.lemmas.Option.{none-some, same_Some, slice_get_within}
 use Rattle.dg_model.specs.declared.diagram.Diagram.{Diagram}
 use Rattle.dg_model.specs.declared.diagram.Block.{Block}
 use Rattle.dg_model.specs.declared.kind.Kind.{Kind}
-use Rattle.dg_model.specs.declared.kind.Kind.TheVariants.{Inport, Outport, Constant, Ground, Sum, Gain, Product, Switch, Relational, Logic, Convert, Delay, Mux, Demux, RateTransition, Pass, EnableTest, EnOut, Terminator}
 use Rattle.dg_model.specs.Attributes.{attributes_of}
 use Rattle.dg_model.specs.Library.{row_of}
 use Rattle.dg_model.specs.RootElements.{root_inputs}
@@ -131,30 +130,10 @@ own_next before after grown found is new =
 
 -- by the kind of a block
 multiply_some : (first : ℕ) (kind : Kind) → (row_of kind).hardware.multiplies ≡ true → (k : ℕ) × (multiply_at first kind ≡ Some k) × (first ≤ k)
-multiply_some first (Gain value param) is = (first + 1, refl, omega arith)
-multiply_some first Product is = (first + 0, refl, omega arith)
-multiply_some first _ is = absurd (false≢true is)
+multiply_some first kind is = (first + length (row_of kind).signal.lists, ap (λ (own : Bool). if own then Some (first + length (row_of kind).signal.lists) else None) is, omega arith)
 
 multiply_none : (first : ℕ) (kind : Kind) → (row_of kind).hardware.multiplies ≡ false → multiply_at first kind ≡ None
-multiply_none first (Gain value param) is = absurd (false≢true (sym is))
-multiply_none first Product is = absurd (false≢true (sym is))
-multiply_none first (Inport number width) is = refl
-multiply_none first (Outport number) is = refl
-multiply_none first (Constant value) is = refl
-multiply_none first Ground is = refl
-multiply_none first (Sum negative) is = refl
-multiply_none first (Switch criterion threshold) is = refl
-multiply_none first (Relational operator) is = refl
-multiply_none first (Logic operator) is = refl
-multiply_none first (Convert stored) is = refl
-multiply_none first (Delay delay initial reset) is = refl
-multiply_none first (Mux sizes) is = refl
-multiply_none first (Demux sizes) is = refl
-multiply_none first (RateTransition period initial) is = refl
-multiply_none first (Pass width) is = refl
-multiply_none first EnableTest is = refl
-multiply_none first (EnOut reset initial) is = refl
-multiply_none first Terminator is = refl
+multiply_none first kind is = ap (λ (own : Bool). if own then Some (first + length (row_of kind).signal.lists) else None) is
 
 pub part_units : (diagram : Diagram) (timing : Timing) (block : ℕ) (kind : NetKind) → IsEntryPart diagram timing block kind → unit_factors kind ≡ []
 part_units diagram timing block (Comb op args) is = refl

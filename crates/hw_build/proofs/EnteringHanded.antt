@@ -9,7 +9,7 @@ use Rattle.dg_waves.specs.Rounds.{numbers_from}
 use Rattle.dg_model.specs.declared.diagram.Diagram.{Diagram}
 use Rattle.dg_model.specs.declared.diagram.Block.{Block}
 use Rattle.dg_model.specs.declared.kind.Kind.{Kind}
-use Rattle.dg_model.specs.declared.kind.Kind.TheVariants.{Inport, Outport, Constant, Ground, Sum, Gain, Product, Switch, Relational, Logic, Convert, Delay, Mux, Demux, RateTransition, Pass, EnableTest, EnOut, Terminator}
+use Rattle.dg_model.specs.declared.kind.Kind.TheVariants.{Inport, Delay, Mux, Demux, RateTransition}
 use Rattle.dg_model.specs.Attributes.{attributes_of}
 use Rattle.dg_model.specs.Wires.{period_into}
 use Rattle.hw_net.specs.Circuit.{Circuit}
@@ -33,66 +33,27 @@ free_is None (Some source) hands = (refl, source, refl)
 
 hands_types : (diagram : Diagram) (block : ℕ) (b : Block) (port : ℕ) (kind : Kind) → hands_on b.enable (period_into diagram (attributes_of diagram) block 1) kind ≡ true → operand_types diagram (attributes_of diagram) block b port kind ≡ (attributes_of diagram).type_at block port ∷ []
 hands_types diagram block b port (Inport number width) hands = refl
-hands_types diagram block b port (Outport number) hands = absurd (false≢true hands)
-hands_types diagram block b port (Constant value) hands = absurd (false≢true hands)
-hands_types diagram block b port Ground hands = absurd (false≢true hands)
-hands_types diagram block b port (Sum negative) hands = absurd (false≢true hands)
-hands_types diagram block b port (Gain value param) hands = absurd (false≢true hands)
-hands_types diagram block b port Product hands = absurd (false≢true hands)
-hands_types diagram block b port (Switch criterion threshold) hands = absurd (false≢true hands)
-hands_types diagram block b port (Relational operator) hands = absurd (false≢true hands)
-hands_types diagram block b port (Logic operator) hands = absurd (false≢true hands)
-hands_types diagram block b port (Convert stored) hands = absurd (false≢true hands)
 hands_types diagram block b port (Delay delay initial reset) hands = ap (λ (e : Option ℕ). (attributes_of diagram).type_at block port ∷ enable_types (attributes_of diagram) e) (free_is b.enable (period_into diagram (attributes_of diagram) block 1) hands).0
 hands_types diagram block b port (Mux sizes) hands = refl
 hands_types diagram block b port (Demux sizes) hands = refl
 hands_types diagram block b port (RateTransition period initial) hands = refl
-hands_types diagram block b port (Pass width) hands = absurd (false≢true hands)
-hands_types diagram block b port EnableTest hands = absurd (false≢true hands)
-hands_types diagram block b port (EnOut reset initial) hands = absurd (false≢true hands)
-hands_types diagram block b port Terminator hands = absurd (false≢true hands)
+hands_types diagram block b port _ hands = absurd (false≢true hands)
 
 hands_multiply : (first : ℕ) (enable driver : Option ℕ) (kind : Kind) → hands_on enable driver kind ≡ true → multiply_at first kind ≡ None
 hands_multiply first enable driver (Inport number width) hands = refl
-hands_multiply first enable driver (Outport number) hands = absurd (false≢true hands)
-hands_multiply first enable driver (Constant value) hands = absurd (false≢true hands)
-hands_multiply first enable driver Ground hands = absurd (false≢true hands)
-hands_multiply first enable driver (Sum negative) hands = absurd (false≢true hands)
-hands_multiply first enable driver (Gain value param) hands = absurd (false≢true hands)
-hands_multiply first enable driver Product hands = absurd (false≢true hands)
-hands_multiply first enable driver (Switch criterion threshold) hands = absurd (false≢true hands)
-hands_multiply first enable driver (Relational operator) hands = absurd (false≢true hands)
-hands_multiply first enable driver (Logic operator) hands = absurd (false≢true hands)
-hands_multiply first enable driver (Convert stored) hands = absurd (false≢true hands)
 hands_multiply first enable driver (Delay delay initial reset) hands = refl
 hands_multiply first enable driver (Mux sizes) hands = refl
 hands_multiply first enable driver (Demux sizes) hands = refl
 hands_multiply first enable driver (RateTransition period initial) hands = refl
-hands_multiply first enable driver (Pass width) hands = absurd (false≢true hands)
-hands_multiply first enable driver EnableTest hands = absurd (false≢true hands)
-hands_multiply first enable driver (EnOut reset initial) hands = absurd (false≢true hands)
-hands_multiply first enable driver Terminator hands = absurd (false≢true hands)
+hands_multiply first enable driver _ hands = absurd (false≢true hands)
 
 hands_keeps : (enable driver : Option ℕ) (kind : Kind) → hands_on enable driver kind ≡ true → keeps_entry enable driver kind ≡ false
 hands_keeps enable driver (Inport number width) hands = refl
-hands_keeps enable driver (Outport number) hands = absurd (false≢true hands)
-hands_keeps enable driver (Constant value) hands = absurd (false≢true hands)
-hands_keeps enable driver Ground hands = absurd (false≢true hands)
-hands_keeps enable driver (Sum negative) hands = absurd (false≢true hands)
-hands_keeps enable driver (Gain value param) hands = absurd (false≢true hands)
-hands_keeps enable driver Product hands = absurd (false≢true hands)
-hands_keeps enable driver (Switch criterion threshold) hands = absurd (false≢true hands)
-hands_keeps enable driver (Relational operator) hands = absurd (false≢true hands)
-hands_keeps enable driver (Logic operator) hands = absurd (false≢true hands)
-hands_keeps enable driver (Convert stored) hands = absurd (false≢true hands)
 hands_keeps enable driver (Delay delay initial reset) hands = not-true (keeps_own enable driver) hands
 hands_keeps enable driver (Mux sizes) hands = refl
 hands_keeps enable driver (Demux sizes) hands = refl
 hands_keeps enable driver (RateTransition period initial) hands = refl
-hands_keeps enable driver (Pass width) hands = absurd (false≢true hands)
-hands_keeps enable driver EnableTest hands = absurd (false≢true hands)
-hands_keeps enable driver (EnOut reset initial) hands = absurd (false≢true hands)
-hands_keeps enable driver Terminator hands = absurd (false≢true hands)
+hands_keeps enable driver _ hands = absurd (false≢true hands)
 
 module _ (diagram : Diagram) (timing : Timing) (places : Places) (closed hubs : ℕ) (now : Circuit) (block : ℕ) (b : Block) (port element first : ℕ) (operands : List ℕ) (head : slice_index_or operands 0 0 ≡ first) (same : places.entry block port element ≡ first) where
   handed_made : (kind : Kind) → hands_on b.enable (period_into diagram (attributes_of diagram) block 1) kind ≡ true → AreOffered diagram places block b port element kind operands → HasFirst diagram block element kind (places.first block element)
@@ -100,16 +61,6 @@ module _ (diagram : Diagram) (timing : Timing) (places : Places) (closed hubs : 
   handed_made (Inport number width) hands offered has =
       let e : places.entry block port element ≡ places.input number element = same ∙ sym head ∙ ap (λ (l : List ℕ). slice_index_or l 0 0) offered in
       record { holds = λ later goes n inputs rows are. record { at = λ c below. ap (λ (k : ℕ). rows k c) e } }
-  handed_made (Outport number) hands offered has = absurd (false≢true hands)
-  handed_made (Constant value) hands offered has = absurd (false≢true hands)
-  handed_made Ground hands offered has = absurd (false≢true hands)
-  handed_made (Sum negative) hands offered has = absurd (false≢true hands)
-  handed_made (Gain value param) hands offered has = absurd (false≢true hands)
-  handed_made Product hands offered has = absurd (false≢true hands)
-  handed_made (Switch criterion threshold) hands offered has = absurd (false≢true hands)
-  handed_made (Relational operator) hands offered has = absurd (false≢true hands)
-  handed_made (Logic operator) hands offered has = absurd (false≢true hands)
-  handed_made (Convert stored) hands offered has = absurd (false≢true hands)
   handed_made (Delay delay initial reset) hands offered has =
       let e : places.entry block port element ≡ places.offered block 1 element = same ∙ sym head ∙ ap (λ (l : List ℕ). slice_index_or l 0 0) offered in
       let free = free_is b.enable (period_into diagram (attributes_of diagram) block 1) hands in
@@ -123,10 +74,7 @@ module _ (diagram : Diagram) (timing : Timing) (places : Places) (closed hubs : 
   handed_made (RateTransition period initial) hands offered has =
       let e : places.entry block port element ≡ places.offered block 1 element = same ∙ sym head ∙ ap (λ (l : List ℕ). slice_index_or l 0 0) offered in
       record { holds = λ later goes n inputs rows are. (has, record { at = λ c below. ap (λ (k : ℕ). rows k c) e }) }
-  handed_made (Pass width) hands offered has = absurd (false≢true hands)
-  handed_made EnableTest hands offered has = absurd (false≢true hands)
-  handed_made (EnOut reset initial) hands offered has = absurd (false≢true hands)
-  handed_made Terminator hands offered has = absurd (false≢true hands)
+  handed_made _ hands offered has = absurd (false≢true hands)
 
 -- an element that is what is offered
 pub handed_entry : (diagram : Diagram) (timing : Timing) (net : Circuit) (block : ℕ) (b : Block) (port element : ℕ) (operands : List ℕ) (entry : Entry) → hands_on b.enable (period_into diagram (attributes_of diagram) block 1) b.kind ≡ true

@@ -87,10 +87,7 @@ module _ (before after : Circuit) (operation : Operation) (operands : List ℕ) 
 
 module _ (element : ℕ) (param control : FxType) (op : Op) where
   multiply_is : (first : ℕ) (kind : Kind) → IsOpOf kind element param control op → number_behind first (multiply_of op) ≡ multiply_at first kind
-  multiply_is first (Inport number width) is = absurd is
   multiply_is first (Outport number) is = ap (λ (o : Op). number_behind first (multiply_of o)) is
-  multiply_is first (Constant value) is = absurd is
-  multiply_is first Ground is = absurd is
   multiply_is first (Sum negative) is = ap (λ (o : Op). number_behind first (multiply_of o)) is
   multiply_is first (Gain value spec) is = ap (λ (o : Op). number_behind first (multiply_of o)) is.2
   multiply_is first Product is = ap (λ (o : Op). number_behind first (multiply_of o)) is
@@ -98,41 +95,15 @@ module _ (element : ℕ) (param control : FxType) (op : Op) where
   multiply_is first (Relational operator) is = ap (λ (o : Op). number_behind first (multiply_of o)) is
   multiply_is first (Logic operator) is = ap (λ (o : Op). number_behind first (multiply_of o)) is
   multiply_is first (Convert stored) is = ap (λ (o : Op). number_behind first (multiply_of o)) is
-  multiply_is first (Delay delay initial reset) is = absurd is
-  multiply_is first (Mux sizes) is = absurd is
-  multiply_is first (Demux sizes) is = absurd is
-  multiply_is first (RateTransition period initial) is = absurd is
   multiply_is first (Pass width) is = ap (λ (o : Op). number_behind first (multiply_of o)) is
-  multiply_is first EnableTest is = absurd is
-  multiply_is first (EnOut reset initial) is = absurd is
-  multiply_is first Terminator is = absurd is
+  multiply_is first _ is = absurd is
 
   keeps_none : (enable driver : Option ℕ) (kind : Kind) → IsOpOf kind element param control op → keeps_entry enable driver kind ≡ false
-  keeps_none enable driver (Inport number width) is = refl
-  keeps_none enable driver (Outport number) is = refl
-  keeps_none enable driver (Constant value) is = refl
-  keeps_none enable driver Ground is = refl
-  keeps_none enable driver (Sum negative) is = refl
-  keeps_none enable driver (Gain value spec) is = refl
-  keeps_none enable driver Product is = refl
-  keeps_none enable driver (Switch criterion threshold) is = refl
-  keeps_none enable driver (Relational operator) is = refl
-  keeps_none enable driver (Logic operator) is = refl
-  keeps_none enable driver (Convert stored) is = refl
   keeps_none enable driver (Delay delay initial reset) is = absurd is
-  keeps_none enable driver (Mux sizes) is = refl
-  keeps_none enable driver (Demux sizes) is = refl
-  keeps_none enable driver (RateTransition period initial) is = refl
-  keeps_none enable driver (Pass width) is = refl
-  keeps_none enable driver EnableTest is = refl
-  keeps_none enable driver (EnOut reset initial) is = refl
-  keeps_none enable driver Terminator is = refl
+  keeps_none enable driver _ is = refl
 
   pub types_carried : (diagram : Diagram) (block : ℕ) (b : Block) (port : ℕ) (kind : Kind) → IsOpOf kind element param control op → operand_types diagram (attributes_of diagram) block b port kind ≡ types_into diagram (attributes_of diagram) block b.inputs
-  types_carried diagram block b port (Inport number width) is = absurd is
   types_carried diagram block b port (Outport number) is = refl
-  types_carried diagram block b port (Constant value) is = absurd is
-  types_carried diagram block b port Ground is = absurd is
   types_carried diagram block b port (Sum negative) is = refl
   types_carried diagram block b port (Gain value spec) is = refl
   types_carried diagram block b port Product is = refl
@@ -140,14 +111,8 @@ module _ (element : ℕ) (param control : FxType) (op : Op) where
   types_carried diagram block b port (Relational operator) is = refl
   types_carried diagram block b port (Logic operator) is = refl
   types_carried diagram block b port (Convert stored) is = refl
-  types_carried diagram block b port (Delay delay initial reset) is = absurd is
-  types_carried diagram block b port (Mux sizes) is = absurd is
-  types_carried diagram block b port (Demux sizes) is = absurd is
-  types_carried diagram block b port (RateTransition period initial) is = absurd is
   types_carried diagram block b port (Pass width) is = refl
-  types_carried diagram block b port EnableTest is = absurd is
-  types_carried diagram block b port (EnOut reset initial) is = absurd is
-  types_carried diagram block b port Terminator is = absurd is
+  types_carried diagram block b port _ is = absurd is
 
   module _ (diagram : Diagram) (places : Places) (block : ℕ) (b : Block) (port : ℕ) (operands : List ℕ) where
     offered_is : (kind : Kind) → IsOpOf kind element param control op → AreOffered diagram places block b port element kind operands → operands ≡ offered_args places block b element

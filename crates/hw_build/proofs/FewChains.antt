@@ -1,5 +1,5 @@
 -- The classes of all ends are the lines that share registers, so their chains have no more than are counted for these.
-use Rattle.std.proofs.Common.{◌≡◌, ℕ, zero, suc, ◌+◌, ◌<◌, ◌≤◌, inl, inr, ℤ, ◌==◌, Bool, true, false, cond, List, [], ◌∷◌, map, filter, length, Option, Some, ap, sym, ◌∙◌, subst, refl, arith}
+use Rattle.std.proofs.Common.{◌≡◌, ℕ, zero, suc, ◌+◌, ◌<◌, ◌≤◌, inl, inr, ℤ, ◌==◌, Bool, true, false, cond, List, [], ◌∷◌, map, filter, length, Option, Some, ap, sym, ◌∙◌, refl, arith}
 use Rattle.std.specs.Prelude.{◌&&◌, not, if◌then◌else◌, slice_get}
 use Rattle.std.proofs.lemmas.Bool.{false≢true, and_from, and_parts, cases_Bool, eq-eqb, eqb-true}
 use Rattle.std.proofs.lemmas.Option.{none-some, same_Some}
@@ -19,7 +19,7 @@ use Rattle.hw_build.specs.inner.EndAsks.{IsLawful, want_for}
 use Rattle.hw_build.specs.inner.Feeds.{is_same_feed}
 use Rattle.hw_build.specs.inner.HubPlaces.{HasHubs}
 use Rattle.hw_build.specs.inner.Wants.{source_by, uses_of_feed, AreFolded, class_registers, registers_below}
-use Rattle.hw_build.proofs.Counting.{Stands}
+use Rattle.hw_build.proofs.Counting.{Stands, filter_stands}
 use Rattle.hw_build.proofs.Feeding.{first_self, first_same, feed_is, feed_differs}
 use Rattle.hw_build.proofs.Fewer.{asked_of, chain_registers}
 use Rattle.hw_build.proofs.FewLines.{IsRepresented, total, no_more, Every, every_none, every_first, every_more, every_filter, filter_same}
@@ -36,15 +36,6 @@ module _ {A B : Type 0} (P : A → Type 0) (same : A → A → Bool) (key : A �
     pub holds : P one
     pub key_is : key one ≡ key x
 
-  kept_filtered : (p : A → Bool) (xs : List A) (k : ℕ) (x : A) → slice_get xs k ≡ Some x → p x ≡ true → Stands (filter p xs) x
-  kept_filtered p [] k x at is = absurd (none-some x at)
-  kept_filtered p (y ∷ xs) zero x at is = subst (λ (b : Bool). Stands (cond b (y ∷ filter p xs) (filter p xs)) x) (sym (ap p (same_Some y x at) ∙ is)) (record { place = 0; at = at })
-  kept_filtered p (y ∷ xs) (suc k) x at is = go (p y) (kept_filtered p xs k x at is)
-    where
-      go : (b : Bool) → Stands (filter p xs) x → Stands (cond b (y ∷ filter p xs) (filter p xs)) x
-      go true rest = record { place = suc rest.place; at = rest.at }
-      go false rest = rest
-
   pub kept : (xs : List A) → Every P xs → (k : ℕ) (x : A) → slice_get xs k ≡ Some x → IsKept xs x
   kept [] all k x at = absurd (none-some x at)
   kept (y ∷ xs) all zero x at = record { one = y; stands = record { place = 0; at = refl }; holds = (every_first P y xs all).0; key_is = ap key (same_Some y x at) }
@@ -54,7 +45,7 @@ module _ {A B : Type 0} (P : A → Type 0) (same : A → A → Bool) (key : A �
       elim (cases_Bool (same y later.one)) [
         | inl equal ↦ record { one = y; stands = record { place = 0; at = refl }; holds = parts.0; key_is = same_key y later.one parts.0 later.holds equal ∙ later.key_is }
         | inr differs ↦
-            let stays = kept_filtered (λ z. not (same y z)) (distinct same xs) later.stands.place later.one later.stands.at (ap not differs) in
+            let stays = filter_stands (λ z. not (same y z)) (distinct same xs) later.stands.place later.one later.stands.at (ap not differs) in
             record { one = later.one; stands = record { place = suc stays.place; at = stays.at }; holds = later.holds; key_is = later.key_is }
       ]
 

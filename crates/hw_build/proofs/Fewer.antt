@@ -1,5 +1,5 @@
 -- A chain has no more registers than are counted for the uses that share it.
-use Rattle.std.proofs.Common.{◌≡◌, ℕ, zero, suc, ◌+◌, ◌/◌, ◌<◌, ◌≤◌, inl, inr, Bool, true, false, cond, List, [], ◌∷◌, ◌++◌, map, filter, length, Some, ap, sym, ◌∙◌, subst, refl, arith}
+use Rattle.std.proofs.Common.{◌≡◌, ℕ, zero, suc, ◌+◌, ◌/◌, ◌<◌, ◌≤◌, inl, inr, Bool, true, false, cond, List, [], ◌∷◌, ◌++◌, map, length, Some, ap, sym, ◌∙◌, subst, refl, arith}
 use Rattle.std.specs.Prelude.{◌≢◌, ◌||◌, ◌==◌, not, slice_get}
 use Rattle.std.proofs.lemmas.Bool.{false≢true, and_parts, eqb-true, cases_Bool}
 use Rattle.std.proofs.lemmas.Option.{none-some, same_Some}
@@ -11,7 +11,7 @@ use Rattle.hw_lines.specs.declared.source.Use.{Use as Asked}
 use Rattle.hw_lines.specs.Chain.{reader_of, is_among, different_after, different, most_frames}
 use Rattle.dg_model.specs.Widths.{greatest}
 use Rattle.hw_sched.specs.Chained.{Use, distinct, is_same_use, registers_of}
-use Rattle.hw_build.proofs.Counting.{Stands, without, one_less, still_stands}
+use Rattle.hw_build.proofs.Counting.{Stands, filter_stands, without, one_less, still_stands}
 use Rattle.hw_net.proofs.Index.{same-self}
 
 -- ---- lists in which nothing stands twice
@@ -96,16 +96,6 @@ module _ (frame_of : Use → Frame) (same_frame : (one other : Use) → is_same_
     pub there : Stands (distinct is_same_use uses) one
     pub is : frame_of one ≡ frame
 
-  filtered : (p : Use → Bool) (xs : List Use) (k : ℕ) (x : Use) → slice_get xs k ≡ Some x → p x ≡ true → Stands (filter p xs) x
-  filtered p [] k x at is = absurd (none-some x at)
-  filtered p (y ∷ xs) zero x at is =
-      subst (λ (b : Bool). Stands (cond b (y ∷ filter p xs) (filter p xs)) x) (sym (ap p (same_Some y x at) ∙ is)) (record { place = 0; at = at })
-  filtered p (y ∷ xs) (suc k) x at is = go (p y) (filtered p xs k x at is)
-    where
-      go : (b : Bool) → Stands (filter p xs) x → Stands (cond b (y ∷ filter p xs) (filter p xs)) x
-      go true rest = record { place = suc rest.place; at = rest.at }
-      go false rest = rest
-
   covered : (uses : List Use) (k : ℕ) (x : Use) → slice_get uses k ≡ Some x → IsCovered uses (frame_of x)
   covered [] k x at = absurd (none-some x at)
   covered (y ∷ uses) zero x at = record { one = y; there = record { place = 0; at = refl }; is = ap frame_of (same_Some y x at) }
@@ -114,7 +104,7 @@ module _ (frame_of : Use → Frame) (same_frame : (one other : Use) → is_same_
       elim (cases_Bool (is_same_use y later.one)) [
         | inl same ↦ record { one = y; there = record { place = 0; at = refl }; is = same_frame y later.one same ∙ later.is }
         | inr differs ↦
-            let stays = filtered (λ (z : Use). not (is_same_use y z)) (distinct is_same_use uses) later.there.place later.one later.there.at (ap not differs) in
+            let stays = filter_stands (λ (z : Use). not (is_same_use y z)) (distinct is_same_use uses) later.there.place later.one later.there.at (ap not differs) in
             record { one = later.one; there = record { place = suc stays.place; at = stays.at }; is = later.is }
       ]
 

@@ -1,5 +1,5 @@
 -- The frames of blocks are counted, and a netlist has few registers by those of its steps.
-use Rattle.std.proofs.Common.{◌≡◌, ℕ, zero, suc, ◌+◌, ◌<◌, ◌≤◌, inl, inr, Bool, true, false, cond, List, [], ◌∷◌, ◌++◌, length, map, filter, Option, Some, ap, sym, ◌∙◌, subst, arith}
+use Rattle.std.proofs.Common.{◌≡◌, ℕ, zero, suc, ◌+◌, ◌<◌, ◌≤◌, inl, inr, true, List, [], ◌∷◌, ◌++◌, length, map, Option, Some, ap, sym, ◌∙◌, subst, arith}
 use Rattle.std.specs.Prelude.{slice_get, not, ◌==◌}
 use Rattle.std.specs.List.{flat_map}
 use Rattle.std.proofs.lemmas.Bool.{and_parts, eqb-true, cases_Bool, cases_lt}
@@ -21,7 +21,7 @@ use Rattle.hw_sched.specs.Storage.{registers_in_all}
 use Rattle.hw_build.specs.Built.{counter_count}
 use Rattle.hw_build.specs.inner.Framed.{pair_of, IsFramed, IsBlockFrame, HasMoreRegisters}
 use Rattle.hw_build.specs.inner.Growth.{GoesOn}
-use Rattle.hw_build.proofs.Counting.{Stands, few_counters}
+use Rattle.hw_build.proofs.Counting.{Stands, few_counters, filter_stands}
 use Rattle.fx_io.proofs.Places.{get_left, there_map}
 
 -- ---- lists of different elements
@@ -30,15 +30,6 @@ pair_same : (one other : FramePair) → is_same_frame one other ≡ true → one
 pair_same one other same =
     let parts = and_parts (one.period == other.period) (one.latency == other.latency) same in
     ap (λ (n : ℕ). record { period = n; latency = one.latency }) (eqb-true one.period other.period parts.0) ∙ ap (λ (n : ℕ). record { period = other.period; latency = n }) (eqb-true one.latency other.latency parts.1)
-
-stays : (p : FramePair → Bool) (xs : List FramePair) (k : ℕ) (x : FramePair) → slice_get xs k ≡ Some x → p x ≡ true → Stands (filter p xs) x
-stays p [] k x at is = absurd (none-some x at)
-stays p (y ∷ xs) zero x at is = subst (λ (b : Bool). Stands (cond b (y ∷ filter p xs) (filter p xs)) x) (sym (ap p (same_Some y x at) ∙ is)) (record { place = 0; at = at })
-stays p (y ∷ xs) (suc k) x at is = go (p y) (stays p xs k x at is)
-  where
-    go : (b : Bool) → Stands (filter p xs) x → Stands (cond b (y ∷ filter p xs) (filter p xs)) x
-    go true rest = record { place = suc rest.place; at = rest.at }
-    go false rest = rest
 
 -- each of them stands among those that differ
 pub stands_distinct : (xs : List FramePair) (k : ℕ) (x : FramePair) → slice_get xs k ≡ Some x → Stands (distinct is_same_frame xs) x
@@ -49,7 +40,7 @@ stands_distinct (y ∷ xs) (suc k) x at =
     elim (cases_Bool (is_same_frame y x)) [
       | inl same ↦ record { place = 0; at = ap (λ (z : FramePair). Some z) (pair_same y x same) }
       | inr differs ↦
-          let rest = stays (λ (z : FramePair). not (is_same_frame y z)) (distinct is_same_frame xs) later.place x later.at (ap not differs) in
+          let rest = filter_stands (λ (z : FramePair). not (is_same_frame y z)) (distinct is_same_frame xs) later.place x later.at (ap not differs) in
           record { place = suc rest.place; at = rest.at }
     ]
 

@@ -119,16 +119,21 @@ late_one old new wants more diagram block first width element place v frame to a
 
 -- ---- their nets
 
+-- what holds of what stands at the same places of two lists, with one more in the second
+pub each_more : {A B : Type 0} (P : A → B → Type 0) (xs : List A) (ys : List B) (x : A) (y : B) → slice_get xs (length ys) ≡ Some x → P x y → ((k : ℕ) (a : A) (b : B) → slice_get xs k ≡ Some a → slice_get ys k ≡ Some b → P a b)
+    → (k : ℕ) (a : A) (b : B) → slice_get xs k ≡ Some a → slice_get (ys ++ y ∷ []) k ≡ Some b → P a b
+each_more {A = A} P xs ys x y at is before k a b here there = elim (split-last ys y b k there) [
+  | inl front ↦ before k a b here front.1
+  | inr last ↦
+      let place : k ≡ length ys = omega (arith, last.0) in
+      let same : ◌≡◌ {A = A} x a = same_Some x a (sym at ∙ ap (slice_get xs) (sym place) ∙ here) in
+      subst (λ (p : A). P p b) same (subst (P x) last.1 is)
+]
+
 pub nets_more : (list : List Ask) (numbers nets : List ℕ) (count net : ℕ) (ask : Ask) → AreNets list numbers nets count → slice_get list count ≡ Some ask → IsNetFor numbers net ask.hub ask.want → AreNets list numbers (nets ++ net ∷ []) (count + 1)
 nets_more list numbers nets count net ask are at is = record {
   size = length-append nets (net ∷ []) ∙ omega (arith, are.size);
-  each = λ k a n here there. elim (split-last nets net n k there) [
-    | inl front ↦ are.each k a n here front.1
-    | inr last ↦
-        let place : k ≡ count = omega (arith, last.0, are.size) in
-        let same : ◌≡◌ {A = Ask} ask a = same_Some ask a (sym at ∙ ap (slice_get list) (sym place) ∙ here) in
-        subst (λ (x : Ask). IsNetFor numbers n x.hub x.want) same (subst (λ (x : ℕ). IsNetFor numbers x ask.hub ask.want) last.1 is)
-  ];
+  each = each_more (λ (a : Ask) (n : ℕ). IsNetFor numbers n a.hub a.want) list nets ask net (ap (slice_get list) are.size ∙ at) is are.each;
 }
 
 -- ---- what an end has

@@ -53,28 +53,15 @@ reopened_twice a b c k one two =
       sign = two.sign ∙ sym (ap (λ (n : Net). n.signed) same) ∙ one.sign;
     }
 
-reopened_before : (a b c : List Net) (k : ℕ) → slice_get b k ≡ slice_get a k → IsReopened b c k → IsReopened a c k
-reopened_before a b c k same is = record {
+-- of the nets that stand at this place
+reopened_at : (a b c d : List Net) (k : ℕ) → slice_get c k ≡ slice_get a k → slice_get d k ≡ slice_get b k → IsReopened a b k → IsReopened c d k
+reopened_at a b c d k before after is = record {
   was = is.was;
   is = is.is;
   old_args = is.old_args;
   new_args = is.new_args;
-  there = sym same ∙ is.there;
-  later_there = is.later_there;
-  old_kind = is.old_kind;
-  new_kind = is.new_kind;
-  wide = is.wide;
-  sign = is.sign;
-}
-
-reopened_after : (a b c : List Net) (k : ℕ) → slice_get c k ≡ slice_get b k → IsReopened a b k → IsReopened a c k
-reopened_after a b c k same is = record {
-  was = is.was;
-  is = is.is;
-  old_args = is.old_args;
-  new_args = is.new_args;
-  there = is.there;
-  later_there = same ∙ is.later_there;
+  there = before ∙ is.there;
+  later_there = after ∙ is.later_there;
   old_kind = is.old_kind;
   new_kind = is.new_kind;
   wide = is.wide;
@@ -94,10 +81,10 @@ goes_then closed hubs a b c one two = record {
   nets = λ k inside. elim (two.nets k (still_within closed hubs a b one k inside)) [
     | inl kept ↦ elim (one.nets k inside) [
       | inl same ↦ inl (kept ∙ same)
-      | inr changed ↦ inr (changed.0, changed.1, reopened_after a.nets b.nets c.nets k kept changed.2)
+      | inr changed ↦ inr (changed.0, changed.1, reopened_at a.nets b.nets a.nets c.nets k refl kept changed.2)
     ]
     | inr changed ↦ elim (one.nets k inside) [
-      | inl same ↦ inr (changed.0, changed.1, reopened_before a.nets b.nets c.nets k same changed.2)
+      | inl same ↦ inr (changed.0, changed.1, reopened_at b.nets c.nets a.nets c.nets k (sym same) refl changed.2)
       | inr before ↦ inr (changed.0, changed.1, reopened_twice a.nets b.nets c.nets k before.2 changed.2)
     ]
   ];
@@ -113,7 +100,7 @@ goes_keeps closed hubs before after later small grown goes = record {
         let high = changed.1 in
         let early : k < length before.nets = omega (arith, small, high) in
         let same : slice_get after.nets k ≡ slice_get before.nets k = ap (λ (nets : List Net). slice_get nets k) grown.nets ∙ front-of before.nets grown.added k early in
-        inr (early, reopened_before before.nets after.nets later.nets k same changed.2)
+        inr (early, reopened_at after.nets later.nets before.nets later.nets k (sym same) refl changed.2)
   ];
 }
 

@@ -6,7 +6,7 @@ use Rattle.std.proofs.lemmas.Option.{none-some, same_Some, slice_get_within}
 use Rattle.dg_model.specs.declared.diagram.Diagram.{Diagram}
 use Rattle.dg_model.specs.declared.diagram.Block.{Block}
 use Rattle.dg_model.specs.declared.kind.Kind.{Kind}
-use Rattle.dg_model.specs.declared.kind.Kind.TheVariants.{Delay, EnOut, Sum, Gain, Product, Switch, Relational, Logic, Convert}
+use Rattle.dg_model.specs.declared.kind.Kind.TheVariants.{Delay, EnOut, Gain, Product}
 use Rattle.dg_model.specs.LatencyEdges.{asks_ever}
 use Rattle.dg_model.specs.Library.{row_of, HasPorts}
 use Rattle.dg_model.specs.Attributes.{attributes_of}
@@ -36,7 +36,7 @@ use Rattle.hw_build.proofs.Apart.{one_hub}
 use Rattle.hw_build.proofs.Beginning.{before_up, place_other}
 use Rattle.hw_build.proofs.Closed.{going_closed}
 use Rattle.hw_build.proofs.Marks.{marked_next}
-use Rattle.hw_build.proofs.Counted.{tallied_next}
+use Rattle.hw_build.proofs.Counted.{pipelining_shows, tallied_next}
 use Rattle.hw_build.proofs.Going.{going_same}
 use Rattle.hw_build.proofs.Piping.{resize_kept, with_labels}
 use Rattle.hw_build.proofs.Placing.{front_read}
@@ -151,16 +151,6 @@ module _ (setting : Setting) (listed : InputsAreListed) (ordered : IsOrdered set
 -- ---- the step
 
 -- what has a pipeline or multiplies has one port
-single_piped : (kind : Kind) (inputs outputs : ℕ) → HasPorts kind inputs outputs → (row_of kind).hardware.pipelines ≡ true → shown_ports kind outputs ≡ 1
-single_piped (Sum negative) inputs outputs ports is = ports.1
-single_piped (Gain value param) inputs outputs ports is = ports.1
-single_piped Product inputs outputs ports is = ports.1
-single_piped (Switch criterion threshold) inputs outputs ports is = ports.1
-single_piped (Relational operator) inputs outputs ports is = ports.1
-single_piped (Logic operator) inputs outputs ports is = ports.1
-single_piped (Convert stored) inputs outputs ports is = ports.1
-single_piped _ inputs outputs ports is = absurd (false≢true is)
-
 single_multiplying : (kind : Kind) (inputs outputs : ℕ) → HasPorts kind inputs outputs → (row_of kind).hardware.multiplies ≡ true → shown_ports kind outputs ≡ 1
 single_multiplying (Gain value param) inputs outputs ports is = ports.1
 single_multiplying Product inputs outputs ports is = ports.1
@@ -229,7 +219,7 @@ module _ (setting : Setting) (listed : InputsAreListed) (valid : TypesAreValid) 
         let ports = (readable_at drawn ordered.checked.wired block b shown.block_is).ports in
         marked_next drawn setting.design.plan.now (times_for setting.design) setting.firsts.now reaches.going.start before middle put.closed.middle after final (length spots.entries) block element entry.net put.piped.end put.piped entry.multiply reaches.going.marks entered.appends.extends entered.own_frames
         (λ m e. let own = entered.own_number m e in (own.1, own.2, first_hub (single_multiplying b.kind b.inputs b.outputs ports own.0))) put.closed.put put.closed.connected names (omega (arith, more, low)) within
-        (λ some stage. first_hub (single_piped b.kind b.inputs b.outputs ports (set.designed.scheduled.planned.allowed.each block b shown.block_is some).kind)) (λ some. some_period ((attributes_of drawn).period_at block) (set.designed.scheduled.planned.allowed.each block b shown.block_is some).period) (omega (arith, within, few)) element_fits
+        (λ some stage. first_hub (pipelining_shows b.kind b.inputs b.outputs (set.designed.scheduled.planned.allowed.each block b shown.block_is some).kind ports)) (λ some. some_period ((attributes_of drawn).period_at block) (set.designed.scheduled.planned.allowed.each block b shown.block_is some).period) (omega (arith, within, few)) element_fits
         (few_stages block within)
       where
         first_hub : shown_ports b.kind b.outputs ≡ 1 → hub_at setting.firsts.now block 1 element ≡ length spots.entries

@@ -1,6 +1,6 @@
 -- The lists of a block have an entry for each of its elements.
 use Rattle.std.proofs.Common.{◌≡◌, ℕ, ◌<◌, ◌≤◌, ◌⊎◌, inl, inr, Bool, true, false, List, [], ◌∷◌, length, All, Option, None, Some, ap, ◌∙◌, subst, arith, refl}
-use Rattle.std.specs.Prelude.{slice_get, slice_index_or, ◌==◌, if◌then◌else◌, IsSome, MatchOption}
+use Rattle.std.specs.Prelude.{slice_get, slice_index_or, ◌==◌, if◌then◌else◌, MatchOption}
 use Rattle.std.proofs.lemmas.Option.{slice_get_within, slice_get-get_or}
 use Rattle.fx_type.specs.declared.decimal.Decimal.{Decimal}
 use Rattle.fx_type.specs.declared.kind.FxType.{FxType}
@@ -21,6 +21,8 @@ use Rattle.dg_tables.specs.Fit.{HasLists}
 use Rattle.hw_net.specs.Circuit.{Circuit}
 use Rattle.fx_io.proofs.Places.{held}
 use Rattle.hw_lower.specs.Lowered.{AreArgs}
+use Rattle.hw_build.specs.declared.site.Site.{Site}
+use Rattle.hw_build.specs.inner.Sites.{CanKeep, HasOperands, PassesOut}
 
 none_is : {A : Type 0} (x : A) (xs : List A) → [] ≡ x ∷ xs → ⊥
 none_is x xs e = cc
@@ -82,9 +84,12 @@ pub some_delay : (diagram : Diagram) (block : ℕ) (b : Block) (delay : ℕ) (in
 some_delay diagram block b delay initial reset checked at is = (subst (λ (k : Kind). (row_of k).parameters) is (readable diagram block b checked at).parameters).0.0
 
 -- an output port of an enabled subsystem stands in one
-pub out_enabled : (diagram : Diagram) (block : ℕ) (b : Block) (reset : Bool) (initial : List Decimal) → IsChecked diagram → slice_get diagram.blocks block ≡ Some b → b.kind ≡ EnOut reset initial → IsSome b.enable
-out_enabled diagram block b reset initial checked at is =
-    subst (λ (k : Kind). MayStand (row_of k).place.stands b.enable) is (held (λ (one : Block). MayStand (row_of one.kind).place.stands one.enable) diagram.blocks block b checked.wired.enables at)
+pub passes_out : (net : Circuit) (site : Site) (reset : Bool) (list : List Decimal) → CanKeep net site → site.one.now.kind ≡ EnOut reset list → HasOperands net site site.one.now.kind → PassesOut net site reset list
+passes_out net site reset list can is has = record {
+  kind = is;
+  enable = subst (λ (k : Kind). MayStand (row_of k).place.stands site.one.now.enable) is (held (λ (one : Block). MayStand (row_of one.kind).place.stands one.enable) site.design.checked.now.diagram.blocks site.place.block site.one.now can.designed.scheduled.checked.wired.enables can.shown.block_is);
+  operands = subst (HasOperands net site) is has;
+}
 
 -- a line comes from a block that is there
 pub source_there : (diagram : Diagram) (number : ℕ) (edge : Edge) → IsChecked diagram → slice_get diagram.edges number ≡ Some edge → edge.from < length diagram.blocks

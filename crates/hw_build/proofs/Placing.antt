@@ -72,12 +72,8 @@ ports_more earlier now later type size firsts ports first is at more = record {
 }
 
 pub plain_ports : (role : Role) (outputs : ℕ) → is_output_role role ≡ false → ports_of_role role outputs ≡ outputs
-plain_ports (Role.RootInput number) outputs is = refl
 plain_ports (Role.RootOutput number) outputs is = absurd (false≢true (sym is))
-plain_ports (Role.InnerPort width) outputs is = refl
-plain_ports Role.EnabledOutput outputs is = refl
-plain_ports Role.Control outputs is = refl
-plain_ports Role.Plain outputs is = refl
+plain_ports _ outputs is = refl
 
 -- a port of a block that is no root output has a width
 pub width_there : (diagram : Diagram) (block port : ℕ) (b : Block) → IsChecked diagram → slice_get diagram.blocks block ≡ Some b → 1 ≤ port → port ≤ shown_ports b.kind b.outputs → is_output_role (row_of b.kind).place.role ≡ false

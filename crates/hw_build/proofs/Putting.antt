@@ -24,7 +24,7 @@ use Rattle.hw_build.specs.declared.wants.Want.{Want}
 use Rattle.hw_build.specs.Places.{Places}
 use Rattle.hw_build.specs.Times.{timing_by}
 use Rattle.hw_build.specs.inner.Asks.{IsEndWant}
-use Rattle.hw_build.specs.inner.EndAsks.{HaveHubWords, IsLawful, want_for, hub_for, first_for, count_for, end_count, edge_wants, IsEndPut}
+use Rattle.hw_build.specs.inner.EndAsks.{HaveHubWords, IsLawful, want_for, hub_for, first_for, count_for, end_count, edge_wants, IsAskAt, IsEndPut}
 use Rattle.hw_build.specs.inner.Seeking.{want_list, wants_below, IsAllowed, unasked, hub_from, IsAskOf, AsksAll}
 use Rattle.hw_build.specs.inner.Wants.{IsWant}
 
@@ -100,19 +100,25 @@ module _ {diagram : Diagram} {order : List ℕ} {plan : Resolved} {times : Times
         allowed = λ net words are. are;
       }
 
-  pub still_put : (old new : List Ask) (wants more : List Want) (b : Block) (edge : LatencyEdge) (first width : ℕ) → period edge.from ≡ None → end_count diagram plan times firsts b edge ≡ width → ((element : ℕ) → element < width → first + element ≡ hub_for diagram plan times firsts edge element)
-      → AsksAll old new wants more (hub_from first) unasked width → IsEndPut diagram plan times firsts old new wants more b edge
-  still_put old new wants more b edge first width still count hub all =
+  all_put : (old new : List Ask) (wants more : List Want) (b : Block) (edge : LatencyEdge) (hubs : ℕ → ℕ) (asked : ℕ → Option Want) (count : ℕ) → end_count diagram plan times firsts b edge ≡ count
+      → ((element : ℕ) → element < count → IsAskAt diagram plan times firsts new more b edge (length old + element) element) → wants_below asked count ≡ edge_wants diagram plan times firsts edge
+      → ((net : Circuit) → HaveHubWords diagram firsts net → (element : ℕ) → element < count → IsAllowed net (asked element)) → AsksAll old new wants more hubs asked count → IsEndPut diagram plan times firsts old new wants more b edge
+  all_put old new wants more b edge hubs asked count same elements wanted may all =
       let size = all.count_is in
       record {
         grow = all.grow;
-        size = omega (arith, size, count);
-        each = λ element below.
-            let inside : element < width = omega (arith, below, count) in
-            inl (still, subst (λ (h : ℕ). IsAskOf new more (length old + element) h None) (hub element inside) (all.each element inside));
-        added = all.added_all ∙ ap (λ (xs : List Want). wants ++ xs) (none_wanted width) ∙ ap (λ (us : List Use). wants ++ map (want_for diagram plan times firsts) us) (sym (ap (uses edge) still));
-        allowed = λ net words are. all.allowed net (λ element below. tt) are;
+        size = omega (arith, size, same);
+        each = λ element below. elements element (omega (arith, below, same));
+        added = all.added_all ∙ ap (λ (xs : List Want). wants ++ xs) wanted;
+        allowed = λ net words are. all.allowed net (may net words) are;
       }
+
+  pub still_put : (old new : List Ask) (wants more : List Want) (b : Block) (edge : LatencyEdge) (first width : ℕ) → period edge.from ≡ None → end_count diagram plan times firsts b edge ≡ width → ((element : ℕ) → element < width → first + element ≡ hub_for diagram plan times firsts edge element)
+      → AsksAll old new wants more (hub_from first) unasked width → IsEndPut diagram plan times firsts old new wants more b edge
+  still_put old new wants more b edge first width still count hub all =
+      all_put old new wants more b edge (hub_from first) unasked width count
+      (λ element inside. inl (still, subst (λ (h : ℕ). IsAskOf new more (length old + element) h None) (hub element inside) (all.each element inside)))
+      (none_wanted width ∙ ap (map (want_for diagram plan times firsts)) (sym (ap (uses edge) still))) (λ net words element inside. tt) all
 
   -- ---- one of a source that does
 
@@ -126,23 +132,17 @@ module _ {diagram : Diagram} {order : List ℕ} {plan : Resolved} {times : Times
   pub moving_put : (old new : List Ask) (wants more : List Want) (b : Block) (edge : LatencyEdge) (p count : ℕ) (hubs : ℕ → ℕ) (asked : ℕ → Option Want) → period edge.from ≡ Some p → end_count diagram plan times firsts b edge ≡ count
       → ((element : ℕ) → element < count → IsElement hubs asked b edge p element) → wants_below asked count ≡ edge_wants diagram plan times firsts edge → AsksAll old new wants more hubs asked count → IsEndPut diagram plan times firsts old new wants more b edge
   moving_put old new wants more b edge p count hubs asked moves same elements wanted all =
-      let size = all.count_is in
-      record {
-        grow = all.grow;
-        size = omega (arith, size, same);
-        each = λ element below.
-            let inside : element < count = omega (arith, below, same) in
-            let one = elements element inside in
-            inr (record {
-              p = p;
-              moves = moves;
-              want = one.want;
-              asked = subst (λ (h : ℕ). IsAskOf new more (length old + element) h (Some one.want)) one.hub (subst (λ (o : Option Want). IsAskOf new more (length old + element) (hubs element) o) one.asks (all.each element inside));
-              is = one.is;
-            });
-        added = all.added_all ∙ ap (λ (xs : List Want). wants ++ xs) wanted;
-        allowed = λ net words are. all.allowed net (λ element below. let one = elements element below in subst (λ (o : Option Want). IsAllowed net o) (sym one.asks) (one.may net words)) are;
-      }
+      all_put old new wants more b edge hubs asked count same
+      (λ element inside.
+      let one = elements element inside in
+      inr (record {
+        p = p;
+        moves = moves;
+        want = one.want;
+        asked = subst (λ (h : ℕ). IsAskOf new more (length old + element) h (Some one.want)) one.hub (subst (λ (o : Option Want). IsAskOf new more (length old + element) (hubs element) o) one.asks (all.each element inside));
+        is = one.is;
+      }))
+      wanted (λ net words element inside. let one = elements element inside in subst (λ (o : Option Want). IsAllowed net o) (sym one.asks) (one.may net words)) all
 
   -- the uses of an edge into a block that shows something
   pub uses_are : (b : Block) (edge : LatencyEdge) (p own : ℕ) (registered : Bool) → period edge.from ≡ Some p → slice_get diagram.blocks edge.to ≡ Some b → 1 ≤ shown_ports b.kind b.outputs → period edge.to ≡ Some own → is_registered b own p ≡ registered

@@ -155,3 +155,10 @@ some_find {A} p (y ∷ ys) some = go (p y) (count_more p y ys) (some_find p ys)
 
 pub driver_some : (diagram : Diagram) (block port : ℕ) (b : Block) → IsWired diagram → slice_get diagram.blocks block ≡ Some b → 1 ≤ port → port ≤ b.inputs → (edge : Edge) × (driver_of diagram block port ≡ Some edge)
 driver_some diagram block port b wired at from to = let one = wired.driven block port b at from to in some_find (enters block port) diagram.edges (omega (arith, one))
+
+-- the line into an input is read at its number
+pub line_read : (diagram : Diagram) (block port : ℕ) (b : Block) (edges : List Edge) (number : ℕ) → IsWired diagram → slice_get diagram.blocks block ≡ Some b → 1 ≤ port → port ≤ b.inputs → edges ≡ diagram.edges → number ≡ line_number diagram block port
+    → (edge : Edge) × (driver_of diagram block port ≡ Some edge) × (slice_get edges number ≡ Some edge)
+line_read diagram block port b edges number wired at from to all is =
+    let some = driver_some diagram block port b wired at from to in
+    (some.0, some.1, ap (λ (xs : List Edge). slice_get xs number) all ∙ ap (slice_get diagram.edges) is ∙ (driver_number diagram block port some.0 wired some.1).0)

@@ -10,6 +10,7 @@ use Rattle.hw_net.specs.Circuit.{Circuit}
 use Rattle.hw_net.proofs.Growing.{front-some, last-of, split-last}
 use Rattle.hw_lines.specs.declared.source.Use.{Use}
 use Rattle.hw_lines.specs.Chain.{IsSource, IsUse}
+use Rattle.hw_build.proofs.Gathered.{each_more}
 use Rattle.hw_build.specs.declared.wants.Feed.{Feed}
 use Rattle.hw_build.specs.declared.wants.Want.{Want}
 use Rattle.hw_build.specs.declared.wants.Class.{Class}
@@ -359,11 +360,5 @@ pub taken_more : (seats : List Seat) (answers : List (List ℕ)) (numbers own : 
     → AreTaken seats answers (numbers ++ number ∷ []) (count + 1)
 taken_more seats answers numbers own count number seat are at there is = record {
   size = length-append numbers (number ∷ []) ∙ omega (arith, are.size);
-  each = λ k s n here read. elim (split-last numbers number n k read) [
-    | inl front ↦ are.each k s n here front.1
-    | inr last ↦
-        let place : k ≡ count = omega (arith, last.0, are.size) in
-        let same : ◌≡◌ {A = Seat} seat s = same_Some seat s (sym at ∙ ap (slice_get seats) (sym place) ∙ here) in
-        (own, ap (λ (x : Seat). slice_get answers x.class) (sym same) ∙ there, ap (λ (x : Seat). slice_get own x.place) (sym same) ∙ is ∙ ap Some last.1)
-  ];
+  each = each_more (λ (s : Seat) (n : ℕ). (own : List ℕ) × (slice_get answers s.class ≡ Some own) × (slice_get own s.place ≡ Some n)) seats numbers seat number (ap (slice_get seats) are.size ∙ at) (own, there, is) are.each;
 }

@@ -24,6 +24,7 @@ use Rattle.dg_model.proofs.Ports.{joins}
 use Rattle.dg_sort.proofs.Lines.{matched}
 use Rattle.hw_sched.proofs.Periods.{readable_at}
 use Rattle.hw_shows.specs.Timed.{lag_into}
+use Rattle.dg_tables.proofs.Sources.{is_control}
 use Rattle.hw_build.specs.inner.Asks.{SourcesAreShown, EnabledShow}
 use Rattle.hw_build.specs.inner.Facts.{count_by_lag, count_by, line_count, LateAreWide}
 use Rattle.hw_build.specs.inner.HubPlaces.{is_output_role}
@@ -52,12 +53,8 @@ not_output (Outport number) inputs outputs ports some = let none = ports.1 in ab
 not_output _ inputs outputs ports some = refl
 
 plain_width : (diagram : Diagram) (a : Attributes) (role : Role) (block port : ℕ) → is_output_role role ≡ false → width_of_role diagram a role block port ≡ a.width_at block port
-plain_width diagram a (Role.RootInput number) block port is = refl
 plain_width diagram a (Role.RootOutput number) block port is = absurd (false≢true (sym is))
-plain_width diagram a (Role.InnerPort width) block port is = refl
-plain_width diagram a Role.EnabledOutput block port is = refl
-plain_width diagram a Role.Control block port is = refl
-plain_width diagram a Role.Plain block port is = refl
+plain_width diagram a _ block port is = refl
 
 pub output_shown : (diagram : Diagram) (block : ℕ) (b : Block) (port : ℕ) → IsWired diagram → slice_get diagram.blocks block ≡ Some b → 1 ≤ port → port ≤ b.outputs
     → (port ≤ shown_ports b.kind b.outputs) × (shown_width diagram (attributes_of diagram) b.kind block port ≡ (attributes_of diagram).width_at block port)
@@ -107,14 +104,6 @@ serves diagram wide block b port element edge at from to drives below =
     (λ p l e. (wide.each block b port p l edge at from to drives e).1) below
 
 -- ---- controls
-
-abbrev is_control : Role → Bool
-is_control (Role.RootInput number) = false
-is_control (Role.RootOutput number) = false
-is_control (Role.InnerPort width) = false
-is_control Role.EnabledOutput = false
-is_control Role.Control = true
-is_control Role.Plain = false
 
 control_shape : (kind : Kind) → (row_of kind).place.role ≡ Role.Control → (row_of kind).signal.shape ≡ Shape.Single
 control_shape EnableTest is = refl

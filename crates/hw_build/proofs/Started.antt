@@ -1,8 +1,8 @@
 -- The nets that readers name are all in, and stand where their elements say.
-use Rattle.std.proofs.Common.{◌≡◌, ℕ, ◌+◌, ◌-◌, ◌<◌, inl, inr, true, false, List, length, Some, ap, sym, ◌∙◌, arith, refl}
-use Rattle.std.specs.Prelude.{All, slice_get, slice_index_or}
+use Rattle.std.proofs.Common.{◌≡◌, ℕ, ◌+◌, ◌-◌, ◌<◌, inl, inr, true, List, length, Option, Some, ap, sym, ◌∙◌, arith}
+use Rattle.std.specs.Prelude.{is_some, All, slice_get, slice_index_or}
 use Rattle.std.proofs.lemmas.Bool.{false≢true, cases_Bool}
-use Rattle.std.proofs.lemmas.Option.{none-some, slice_get_within}
+use Rattle.std.proofs.lemmas.Option.{slice_get_within}
 use Rattle.fx_type.specs.declared.kind.FxType.{FxType}
 use Rattle.dg_model.specs.declared.diagram.Diagram.{Diagram}
 use Rattle.dg_model.specs.declared.kind.Kind.{Kind}
@@ -25,12 +25,7 @@ use Rattle.hw_names.proofs.Places.{place_is, blocks_there}
 use Rattle.hw_build.specs.inner.HubPlaces.{input_net, is_input_role, AddsBlocks, AddsInputs, HasHubs}
 
 pub role_is_input : (role : Role) (number : ℕ) → root_input role ≡ Some number → is_input_role role ≡ true
-role_is_input (Role.RootInput own) number is = refl
-role_is_input (Role.RootOutput own) number is = absurd (none-some number is)
-role_is_input (Role.InnerPort width) number is = absurd (none-some number is)
-role_is_input Role.EnabledOutput number is = absurd (none-some number is)
-role_is_input Role.Control number is = absurd (none-some number is)
-role_is_input Role.Plain number is = absurd (none-some number is)
+role_is_input role number is = ap (λ (own : Option ℕ). is_some own) is
 
 pub one_port : (kind : Kind) (inputs outputs : ℕ) → HasPorts kind inputs outputs → is_input_role (row_of kind).place.role ≡ true → shown_ports kind outputs ≡ 1
 one_port (Inport number dimension) inputs outputs ports is = ports.1

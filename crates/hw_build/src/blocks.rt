@@ -1,11 +1,10 @@
 //! The elements of blocks, block by block.
 ghost use Rattle.std.specs.Prelude.{◌≡◌, ◌++◌, ◌+◌, ◌-◌, ◌<◌, ◌≤◌, false, suc, IfOk, OnOk, slice_get};
-ghost use Rattle.dg_model.specs.Attributes.{attributes_of};
 ghost use Rattle.dg_model.specs.Library.{row_of};
-ghost use Rattle.dg_model.specs.Solves.{IsShown, shown_ports as shown_ports_of};
+ghost use Rattle.dg_model.specs.Solves.{shown_ports as shown_ports_of};
 ghost use Rattle.hw_build.specs.declared.spots.Spots.{Spots};
 ghost use Rattle.hw_build.specs.inner.HubPlaces.{hub_at, hub_start, hubs_in_all, is_input_role};
-ghost use Rattle.hw_build.specs.inner.Offers.{AreReadBy};
+ghost use Rattle.hw_build.specs.inner.Offers.{AreReadBy, IsAtHand};
 ghost use Rattle.hw_build.specs.inner.Tally.{product_labels};
 ghost use Rattle.hw_build.specs.inner.Looping.{AreInputSpots, HasElements, IsBegun, IsEntered, IsKnown, IsSet, Reaches, Stands, port_start, roots_of};
 
@@ -16,7 +15,7 @@ use crate::entries::{Entry, put_entry};
 use crate::full_types::full_type;
 use crate::hubs::{is_input, shown_ports, shown_width};
 use crate::labels::label_product;
-use crate::offers::operands_of;
+use crate::offers::{Element, operands_of};
 use crate::operands::Operands;
 use crate::products::Products;
 use crate::site::Site;
@@ -55,21 +54,17 @@ fn setting_is_known<'a>(setting: Setting<'a>)
 fn put_one<'a>(
     alloc: Global,
     net: &mut Netlist,
-    setting: Setting<'a>,
-    place: Place,
-    one: &Block,
+    element: Element<'a>,
     inputs: &BlockInputs,
 ) -> Result<Entry, OutOfMemory>
-    requires set { IsSet setting }
-    requires inputs { AreReadBy setting place.block one.now inputs.now }
-    requires shown { IsShown setting.design.checked.now.diagram
-        (attributes_of setting.design.checked.now.diagram) place.block one.now place.port
-        place.element }
-    requires other { is_input_role (row_of one.now.kind).place.role ≡ false }
-    requires going { Stands setting net.old }
-    ensures { IfOk result (λ entry. IsEntered setting.entry net.old net.new place.block one.now
-        place.port place.element entry) }
+    requires set { IsSet element.setting }
+    requires hand { IsAtHand element inputs.now }
+    requires going { Stands element.setting net.old }
+    ensures { IfOk result (λ entry. IsEntered element.entry.setting net.old net.new
+        element.entry.place.block element.entry.one.now element.entry.place.port
+        element.entry.place.element entry) }
 {
+    let (setting, place, one) = (element.setting, element.place, element.one);
     setting_is_known(setting);
     fx_type::full_product_is_one();
     let design = setting.design;
@@ -77,14 +72,15 @@ fn put_one<'a>(
         let full = full_type(design.checked, place.block, one);
         return put_shared(alloc, net, design, place, one, full, product);
     }
-    let operands = operands_of(alloc, setting, place, one, inputs)?;
+    let operands = operands_of(alloc, element, inputs)?;
     let site = Site {
         design,
         place,
         one,
         operands: operands.as_slice(),
+        types: inputs.types.as_slice(),
     };
-    let entry = put_entry(alloc, net, site, inputs.types.as_slice());
+    let entry = put_entry(alloc, net, site);
     drop(operands);
     entry
 }
@@ -112,25 +108,22 @@ fn put_element<'a>(
     alloc: Global,
     net: &mut Netlist,
     spots: &mut Spots,
-    setting: Setting<'a>,
-    place: Place,
-    one: &Block,
+    element: Element<'a>,
     inputs: &BlockInputs,
 ) -> Result<(), OutOfMemory>
-    requires set { IsSet setting }
-    requires inputs { AreReadBy setting place.block one.now inputs.now }
-    requires shown { IsShown setting.design.checked.now.diagram
-        (attributes_of setting.design.checked.now.diagram) place.block one.now place.port
-        place.element }
-    requires other { is_input_role (row_of one.now.kind).place.role ≡ false }
-    requires before { Reaches setting net.old spots.old
-        (hub_at setting.firsts.now place.block place.port place.element) }
-    ensures { OnOk result (Reaches setting.entry net.new spots.new
-        (suc (hub_at setting.entry.firsts.now place.block place.port place.element))) }
+    requires set { IsSet element.setting }
+    requires hand { IsAtHand element inputs.now }
+    requires before { Reaches element.setting net.old spots.old
+        (hub_at element.setting.firsts.now element.place.block element.place.port
+        element.place.element) }
+    ensures { OnOk result (Reaches element.entry.setting net.new spots.new
+        (suc (hub_at element.entry.setting.firsts.now element.entry.place.block
+        element.entry.place.port element.entry.place.element))) }
 {
+    let (setting, place) = (element.setting, element.place);
     setting_is_known(setting);
     periods_are_above();
-    let entry = put_one(alloc, net, setting, place, one, inputs)?;
+    let entry = put_one(alloc, net, element, inputs)?;
     close(
         alloc,
         net,
@@ -173,7 +166,12 @@ fn put_port<'a>(
             port,
             element,
         };
-        put_element(alloc, net, spots, setting, place, one, inputs)?;
+        let at = Element {
+            setting,
+            place,
+            one,
+        };
+        put_element(alloc, net, spots, at, inputs)?;
     }
     Ok(())
 }

@@ -4,7 +4,7 @@ ghost use Rattle.dg_model.specs.PlanOf.{IsPlanOf};
 ghost use Rattle.hw_latency.specs.Latency.{AreLatencies};
 ghost use Rattle.hw_sched.specs.Answer.{AreSlots};
 ghost use Rattle.hw_build.specs.Built.{IsBuiltBy, IsBuildFault};
-ghost use Rattle.hw_build.specs.inner.Building.{AreInputBlocks, IsBuiltFor, IsDoneFor, IsEmptyFor, IsFilledFor, empty_circuit};
+ghost use Rattle.hw_build.specs.inner.Building.{AreInputBlocks, CanBuild, IsBuiltFor, IsDoneFor, IsEmptyFor, IsFilledFor, empty_circuit};
 ghost use Rattle.hw_build.specs.inner.Designed.{IsDesigned};
 ghost use Rattle.hw_build.specs.inner.Factors.{HasSlots};
 ghost use Rattle.hw_build.specs.inner.HubPlaces.{HasHubs};
@@ -36,8 +36,7 @@ fn put_nets<'a>(
     firsts: &PortWidths,
     inputs: &[u32],
 ) -> Result<(), OutOfMemory>
-    requires designed { IsDesigned design }
-    requires slots { HasSlots design }
+    requires can { CanBuild design }
     requires hubs { HasHubs design.checked.now.diagram (empty_circuit design.plan.now.cycles) net.old
         firsts.now }
     requires inputs { AreInputBlocks design inputs.now }
@@ -77,9 +76,7 @@ fn put_ports<'a>(
     inputs: &[u32],
     outputs: &[u32],
 ) -> Result<(), OutOfMemory>
-    requires designed { IsDesigned design }
-    requires slots { HasSlots design }
-    requires small { IsSmall design }
+    requires can { CanBuild design }
     requires filled { IsFilledFor design net.old firsts.now }
     requires inputs { AreInputBlocks design inputs.now }
     requires outputs { AreOutputBlocks design outputs.now }
@@ -109,9 +106,7 @@ fn put_netlist<'a>(
     inputs: &[u32],
     outputs: &[u32],
 ) -> Result<(), OutOfMemory>
-    requires designed { IsDesigned design }
-    requires slots { HasSlots design }
-    requires small { IsSmall design }
+    requires can { CanBuild design }
     requires empty { IsEmptyFor design net.old }
     requires inputs { AreInputBlocks design inputs.now }
     requires outputs { AreOutputBlocks design outputs.now }
@@ -133,9 +128,7 @@ fn put_netlist<'a>(
 
 /// Puts all nets and ports into an empty netlist.
 fn put_all<'a>(alloc: Global, net: &mut Netlist, design: Design<'a>) -> Result<(), OutOfMemory>
-    requires designed { IsDesigned design }
-    requires slots { HasSlots design }
-    requires small { IsSmall design }
+    requires can { CanBuild design }
     requires empty { IsEmptyFor design net.old }
     ensures { OnOk result (IsDoneFor design.entry net.new) }
 {

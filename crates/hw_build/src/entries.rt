@@ -3,9 +3,8 @@ ghost use Rattle.std.specs.Prelude.{◌≡◌, true, None, IfOk};
 ghost use Rattle.dg_model.specs.declared.kind.Kind.{Kind};
 ghost use Rattle.dg_model.specs.Attributes.{attributes_of};
 ghost use Rattle.dg_model.specs.Wires.{period_into};
-ghost use Rattle.hw_build.specs.inner.Designed.{IsDesigned};
 ghost use Rattle.hw_build.specs.inner.Entries.{hands_on};
-ghost use Rattle.hw_build.specs.inner.Sites.{HasOperands, IsSite, Puts, types_at};
+ghost use Rattle.hw_build.specs.inner.Sites.{CanKeep, HasOperands, IsReady, IsSite, Puts};
 
 use crate::firsts::list_of;
 use crate::kept::{delayed, passed_out};
@@ -16,7 +15,7 @@ use crate::worked::{put_worked, scaled, switched, tested};
 use dg_model::Kind;
 use dg_tables::operations_prepare;
 use fx_io::OutOfMemory;
-use fx_type::{Decimal, FxType};
+use fx_type::Decimal;
 use hw_net::Netlist;
 use std::alloc::Global;
 
@@ -86,17 +85,9 @@ fn ground<'a>(alloc: Global, net: &mut Netlist, site: Site<'a>) -> Result<Entry,
 /// Puts in an element of a block. Its operands are what the ends of the block offer to it; of the
 /// control of an enabled subsystem all elements of its input, and of a block that asks whether it is
 /// enabled what enables it behind the others. A Product or a Gain is one that isn't shared.
-pub fn put_entry<'a>(
-    alloc: Global,
-    net: &mut Netlist,
-    site: Site<'a>,
-    types: &[FxType],
-) -> Result<Entry, OutOfMemory>
-    requires designed { IsDesigned site.design }
-    requires cycles { net.old.cycles ≡ site.design.plan.now.cycles }
-    requires shown { IsSite site }
-    requires types { types.now ≡ types_at site }
-    requires operands { HasOperands net.old site site.one.now.kind }
+pub fn put_entry<'a>(alloc: Global, net: &mut Netlist, site: Site<'a>) -> Result<Entry, OutOfMemory>
+    requires can { CanKeep net.old site }
+    requires ready { IsReady net.old site }
     ensures { IfOk result (Puts site.entry net.old net.new) }
 {
     let list = list_of(&site.one.kind);
@@ -105,9 +96,9 @@ pub fn put_entry<'a>(
             Ok(handed(net, site)),
         Kind::Constant { .. } => constant(alloc, net, site, list),
         Kind::Ground => ground(alloc, net, site),
-        Kind::Gain { .. } => scaled(alloc, net, site, types, list),
-        Kind::Switch { criterion, .. } => { switched(alloc, net, site, types, *criterion, list) }
-        Kind::EnableTest => tested(alloc, net, site, types),
+        Kind::Gain { .. } => scaled(alloc, net, site, list),
+        Kind::Switch { criterion, .. } => { switched(alloc, net, site, *criterion, list) }
+        Kind::EnableTest => tested(alloc, net, site),
         Kind::Delay { length, reset, .. } => delayed(net, site, *length, list, *reset),
         Kind::EnOut { reset, .. } => passed_out(alloc, net, site, list, *reset),
         Kind::Sum { .. }
@@ -116,7 +107,7 @@ pub fn put_entry<'a>(
         | Kind::Logic { .. }
         | Kind::Convert { .. }
         | Kind::Pass { .. }
-        | Kind::Outport { .. } => put_worked(alloc, net, site, types),
+        | Kind::Outport { .. } => put_worked(alloc, net, site),
         Kind::Terminator => unreachable!(),
     }
 }

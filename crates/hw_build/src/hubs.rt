@@ -1,5 +1,5 @@
 //! The net of each element that a block shows, which its readers name.
-ghost use Rattle.std.specs.Prelude.{◌≡◌, ◌-◌, ◌+◌, ◌<◌, ◌≤◌, ◌^◌, [], false, All, IfOk, OnOk, Some, length, slice_get, slice_index_or};
+ghost use Rattle.std.specs.Prelude.{◌≡◌, ◌-◌, ◌+◌, ◌<◌, ◌≤◌, ◌^◌, [], All, IfOk, OnOk, Some, length, slice_get, slice_index_or};
 ghost use Rattle.dg_model.specs.Attributes.{attributes_of};
 ghost use Rattle.dg_model.specs.Library.{row_of};
 ghost use Rattle.dg_model.specs.RootElements.{root_inputs};
@@ -8,7 +8,7 @@ ghost use Rattle.dg_tables.specs.Listing.{AreBlocksOf};
 ghost use Rattle.hw_build.specs.inner.HubPlaces.{is_input_role, is_output_role, hub_start, hub_at as hub_at_of, AddsFresh, AddsBlock, AddsBlocks, AddsInputs, HasHubs};
 
 use crate::parts::{put_comb, word_of};
-use dg_model::{Block, Checked, Kind, PortWidths, Role};
+use dg_model::{Block, Checked, Kind, PortWidths};
 use fx_io::{OutOfMemory, PortSizes, Sizes};
 use fx_type::FxType;
 use hw_names::columns_of;
@@ -20,28 +20,14 @@ use std::alloc::Global;
 pub fn is_input(kind: &Kind) -> bool
     ensures { result ≡ is_input_role (row_of kind.now).place.role }
 {
-    match kind.row().role {
-        Role::RootInput { .. } => true,
-        Role::RootOutput { .. }
-        | Role::InnerPort { .. }
-        | Role::EnabledOutput
-        | Role::Control
-        | Role::Plain => false,
-    }
+    kind.row().role.input_number().is_some()
 }
 
 /// Whether a block is a root output port.
 fn is_output(kind: &Kind) -> bool
     ensures { result ≡ is_output_role (row_of kind.now).place.role }
 {
-    match kind.row().role {
-        Role::RootOutput { .. } => true,
-        Role::RootInput { .. }
-        | Role::InnerPort { .. }
-        | Role::EnabledOutput
-        | Role::Control
-        | Role::Plain => false,
-    }
+    kind.row().role.output_number().is_some()
 }
 
 /// How many ports a block shows.

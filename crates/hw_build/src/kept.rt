@@ -1,13 +1,12 @@
 //! Elements that are kept in registers of their own.
-ghost use Rattle.std.specs.Prelude.{◌≡◌, ◌∷◌, ◌<◌, ◌≤◌, [], true, false, All, None, Some, IfOk, IsSome, length, slice_get};
+ghost use Rattle.std.specs.Prelude.{◌≡◌, ◌∷◌, ◌<◌, ◌≤◌, [], true, false, All, None, Some, IfOk, length, slice_get};
 ghost use Rattle.dg_model.specs.declared.kind.Kind.{Kind};
 ghost use Rattle.dg_model.specs.Attributes.{attributes_of};
 ghost use Rattle.dg_model.specs.declared.row.Inherited.{Inherited};
 ghost use Rattle.dg_model.specs.Library.{row_of};
 ghost use Rattle.dg_model.specs.Wires.{period_into};
-ghost use Rattle.hw_build.specs.inner.Designed.{IsDesigned};
 ghost use Rattle.hw_build.specs.inner.Registering.{enables_by};
-ghost use Rattle.hw_build.specs.inner.Sites.{HasEnabledOperands, HasOperands, IsKept, IsSite, Puts, TakesAs};
+ghost use Rattle.hw_build.specs.inner.Sites.{CanKeep, HasEnabledOperands, HasOperands, IsKept, IsSite, PassesOut, Puts, TakesAs};
 
 use crate::entries::{Entry, handed, plain};
 use crate::laws::schedules_are_timed;
@@ -33,9 +32,7 @@ fn put_kept<'a>(
     list: &[Decimal],
     enabled: Option<Enabled>,
 ) -> Result<Series, OutOfMemory>
-    requires designed { IsDesigned site.design }
-    requires cycles { net.old.cycles ≡ site.design.plan.now.cycles }
-    requires shown { IsSite site }
+    requires can { CanKeep net.old site }
     requires list { (row_of site.one.now.kind).signal.lists ≡ list.now ∷ [] }
     requires moves { (row_of site.one.now.kind).timing.inherits ≡ Inherited.Moving }
     requires some { 1 ≤ count }
@@ -72,9 +69,7 @@ fn keep<'a>(
     reset: bool,
     enabled: Option<Enabled>,
 ) -> Result<Entry, OutOfMemory>
-    requires designed { IsDesigned site.design }
-    requires cycles { net.old.cycles ≡ site.design.plan.now.cycles }
-    requires shown { IsSite site }
+    requires can { CanKeep net.old site }
     requires kind { site.one.now.kind ≡ Kind.Delay count initial.now reset }
     requires operands { HasEnabledOperands net.old site }
     requires enabled { TakesAs site reset enabled }
@@ -95,12 +90,8 @@ fn pass_held<'a>(
     site: Site<'a>,
     initial: &[Decimal],
 ) -> Result<Entry, OutOfMemory>
-    requires designed { IsDesigned site.design }
-    requires cycles { net.old.cycles ≡ site.design.plan.now.cycles }
-    requires shown { IsSite site }
-    requires kind { site.one.now.kind ≡ Kind.EnOut false initial.now }
-    requires enable { IsSome site.one.now.enable }
-    requires operands { HasEnabledOperands net.old site }
+    requires can { CanKeep net.old site }
+    requires out { PassesOut net.old site false initial.now }
     ensures { IfOk result (Puts site.entry net.old net.new) }
 {
     let (from, enable) = (site.operands[0], site.operands[1]);
@@ -127,9 +118,7 @@ fn pass_reset<'a>(
     list: &[Decimal],
 ) -> Result<Entry, OutOfMemory>
     requires shown { IsSite site }
-    requires kind { site.one.now.kind ≡ Kind.EnOut true list.now }
-    requires enable { IsSome site.one.now.enable }
-    requires operands { HasEnabledOperands net.old site }
+    requires out { PassesOut net.old site true list.now }
     ensures { IfOk result (Puts site.entry net.old net.new) }
 {
     let begun = initial(site, list);
@@ -158,9 +147,7 @@ pub fn delayed<'a>(
     initial: &[Decimal],
     reset: bool,
 ) -> Result<Entry, OutOfMemory>
-    requires designed { IsDesigned site.design }
-    requires cycles { net.old.cycles ≡ site.design.plan.now.cycles }
-    requires shown { IsSite site }
+    requires can { CanKeep net.old site }
     requires kind { site.one.now.kind ≡ Kind.Delay count initial.now reset }
     requires operands { HasOperands net.old site site.one.now.kind }
     ensures { IfOk result (Puts site.entry net.old net.new) }
@@ -189,9 +176,7 @@ pub fn passed_out<'a>(
     initial: &[Decimal],
     reset: bool,
 ) -> Result<Entry, OutOfMemory>
-    requires designed { IsDesigned site.design }
-    requires cycles { net.old.cycles ≡ site.design.plan.now.cycles }
-    requires shown { IsSite site }
+    requires can { CanKeep net.old site }
     requires kind { site.one.now.kind ≡ Kind.EnOut reset initial.now }
     requires operands { HasOperands net.old site site.one.now.kind }
     ensures { IfOk result (Puts site.entry net.old net.new) }

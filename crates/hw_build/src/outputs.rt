@@ -1,9 +1,8 @@
 //! The ports of root outputs.
 ghost use Rattle.std.specs.Prelude.{◌≡◌, ◌<◌, ◌≤◌, ◌^◌, [], IfOk, OnOk, length, slice_index_or};
-ghost use Rattle.hw_build.specs.inner.Designed.{IsDesigned};
-ghost use Rattle.hw_build.specs.inner.Factors.{HasSlots};
+ghost use Rattle.hw_build.specs.inner.Building.{CanBuild};
 ghost use Rattle.hw_build.specs.inner.HubPlaces.{hub_at as hub_at_of};
-ghost use Rattle.hw_build.specs.inner.Outgoing.{IsSmall, clocks_to, AreOutputBlocks, IsOutputPort, AddsOutputs};
+ghost use Rattle.hw_build.specs.inner.Outgoing.{clocks_to, AreOutputBlocks, IsOutputPort, AddsOutputs};
 ghost use Rattle.hw_build.specs.inner.Porting.{AreOutputFirsts};
 
 use crate::design::Design;
@@ -18,8 +17,7 @@ use std::alloc::Global;
 
 /// The clock in which a root output shows its first value.
 fn latency_of<'a>(design: Design<'a>, block: u32) -> u64
-    requires designed { IsDesigned design }
-    requires slots { HasSlots design }
+    requires can { CanBuild design }
     requires there { block < length design.checked.now.diagram.blocks }
     requires small { clocks_to design block ≤ 16777216 }
     ensures { result ≡ clocks_to design.entry block }
@@ -38,8 +36,7 @@ fn output_of<'a>(
     block: u32,
     element: u32,
 ) -> Result<NetPort, OutOfMemory>
-    requires designed { IsDesigned design }
-    requires slots { HasSlots design }
+    requires can { CanBuild design }
     requires there { block < length design.checked.now.diagram.blocks }
     requires small { clocks_to design block ≤ 16777216 }
     requires first { 0 < length (slice_index_or firsts.now block []) }
@@ -65,9 +62,7 @@ pub fn put_outputs<'a>(
     firsts: &PortWidths,
     outputs: &[u32],
 ) -> Result<(), OutOfMemory>
-    requires designed { IsDesigned design }
-    requires slots { HasSlots design }
-    requires small { IsSmall design }
+    requires can { CanBuild design }
     requires are { AreOutputBlocks design outputs.now }
     requires firsts { AreOutputFirsts design.checked.now.diagram firsts.now }
     requires none { net.old.outputs ≡ [] }

@@ -1,7 +1,8 @@
 //! The products of shared operations.
 ghost use Rattle.std.specs.Prelude.{◌≡◌, ◌<◌, IfOk, length};
-ghost use Rattle.hw_build.specs.inner.Designed.{IsDesigned, times_for};
-ghost use Rattle.hw_build.specs.inner.Factors.{HasSlots, OffersWords};
+ghost use Rattle.hw_build.specs.inner.Building.{CanBuild};
+ghost use Rattle.hw_build.specs.inner.Designed.{times_for};
+ghost use Rattle.hw_build.specs.inner.Factors.{OffersWords};
 ghost use Rattle.hw_build.specs.inner.Multiplying.{AddsProducts};
 ghost use Rattle.hw_build.specs.inner.Operands.{offered_at};
 ghost use Rattle.hw_build.specs.inner.ResultNets.{AreProducts, product_at};
@@ -45,8 +46,7 @@ pub fn products_of<'a>(
     design: Design<'a>,
     operands: &Operands,
 ) -> Result<Products, OutOfMemory>
-    requires designed { IsDesigned design }
-    requires slots { HasSlots design }
+    requires can { CanBuild design }
     requires cycles { net.old.cycles ≡ design.plan.now.cycles }
     requires words { OffersWords design.checked.now.diagram design.plan.now
         (offered_at design.checked.now.diagram operands.now) net.old }

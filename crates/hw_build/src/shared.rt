@@ -3,9 +3,9 @@ ghost use Rattle.std.specs.Prelude.{◌≡◌, ◌<◌, [], IfOk, OnOk, Some, le
 ghost use Rattle.dg_model.specs.Attributes.{attributes_of};
 ghost use Rattle.hw_latency.specs.Shared.{is_shared as is_shared_of};
 ghost use Rattle.hw_sched.specs.Slots.{operation};
-ghost use Rattle.hw_build.specs.inner.Designed.{IsDesigned};
-ghost use Rattle.hw_build.specs.inner.Factors.{AddsConstants, AreFirsts, GathersFor, HasSlots};
-ghost use Rattle.hw_build.specs.inner.Factors.{IsGatheredFor, IsNumbered, IsSharedBlock, first_for};
+ghost use Rattle.hw_build.specs.inner.Building.{CanBuild};
+ghost use Rattle.hw_build.specs.inner.Factors.{AddsConstants, AreFirsts, GathersFor};
+ghost use Rattle.hw_build.specs.inner.Factors.{IsGatheredFor, IsNumbered, first_for};
 ghost use Rattle.hw_build.specs.inner.Factors.{if_shared};
 ghost use Rattle.hw_build.specs.inner.ResultNets.{shared_width};
 
@@ -31,8 +31,7 @@ fn shared_of<'a>(
     one: &Block,
     element: u32,
 ) -> Result<Operation, OutOfMemory>
-    requires designed { IsDesigned design }
-    requires slots { HasSlots design }
+    requires can { CanBuild design }
     requires block { slice_get design.checked.now.diagram.blocks block ≡ Some one.now }
     requires is { IsNumbered design number (operation block element) }
     ensures made { IfOk result (IsGatheredFor design.entry operands.now net.old net.new number
@@ -56,33 +55,6 @@ fn shared_of<'a>(
     })
 }
 
-/// Puts the operations of a shared block behind those of the blocks before it.
-fn gather_elements<'a>(
-    alloc: Global,
-    net: &mut Netlist,
-    design: Design<'a>,
-    operands: &Operands,
-    operations: &mut Vec<Operation>,
-    block: u32,
-    one: &Block,
-) -> Result<(), OutOfMemory>
-    requires designed { IsDesigned design }
-    requires slots { HasSlots design }
-    requires block { slice_get design.checked.now.diagram.blocks block ≡ Some one.now }
-    requires shared { IsSharedBlock design block }
-    requires count { length operations.old.items ≡ first_for design block }
-    ensures { OnOk result (GathersFor design.entry operands.now net.old net.new
-        operations.old.items operations.new.items (first_for design.entry block)
-        ((attributes_of design.entry.checked.now.diagram).width_at block 1)) }
-{
-    for element in 0..own_width(design.checked, block) {
-        let number = operations.len();
-        let made = shared_of(alloc, net, design, operands, number, block, one, element)?;
-        operations.push(made)?;
-    }
-    Ok(())
-}
-
 /// Puts the operations of a block behind the others, if they are shared, and gives the number of the
 /// first.
 fn gather_block<'a>(
@@ -93,8 +65,7 @@ fn gather_block<'a>(
     operations: &mut Vec<Operation>,
     block: u32,
 ) -> Result<Option<u32>, OutOfMemory>
-    requires designed { IsDesigned design }
-    requires slots { HasSlots design }
+    requires can { CanBuild design }
     requires there { block < length design.checked.now.diagram.blocks }
     requires count { length operations.old.items ≡ first_for design block }
     ensures first { IfOk result (λ first. first ≡ if_shared
@@ -113,7 +84,11 @@ fn gather_block<'a>(
         return Err(OutOfMemory);
     };
     let one = block_at(design.checked, block);
-    gather_elements(alloc, net, design, operands, operations, block, one)?;
+    for element in 0..own_width(design.checked, block) {
+        let number = operations.len();
+        let made = shared_of(alloc, net, design, operands, number, block, one, element)?;
+        operations.push(made)?;
+    }
     Ok(Some(first))
 }
 
@@ -125,8 +100,7 @@ pub fn gather<'a>(
     operands: &Operands,
     operations: &mut Vec<Operation>,
 ) -> Result<Vec<Option<u32>>, OutOfMemory>
-    requires designed { IsDesigned design }
-    requires slots { HasSlots design }
+    requires can { CanBuild design }
     requires none { operations.old.items ≡ [] }
     ensures firsts { IfOk result (λ firsts. AreFirsts design.entry.checked.now.diagram
         design.entry.plan.now firsts.items (length design.entry.checked.now.diagram.blocks)) }

@@ -12,7 +12,7 @@ ghost use Rattle.hw_net.specs.Netlist.{HasWord};
 ghost use Rattle.hw_sched.specs.Slots.{right_of};
 ghost use Rattle.hw_build.specs.inner.Designed.{timing_for};
 ghost use Rattle.hw_build.specs.inner.Entries.{PutsShared, works_plainly};
-ghost use Rattle.hw_build.specs.inner.Sites.{HasOperands, IsOpAt, IsSite, Puts, types_at};
+ghost use Rattle.hw_build.specs.inner.Sites.{IsOpAt, IsReady, Puts};
 
 use crate::controls::some_above;
 use crate::design::Design;
@@ -32,14 +32,10 @@ pub fn carried<'a>(
     alloc: Global,
     net: &mut Netlist,
     site: Site<'a>,
-    types: &[FxType],
     op: Op,
     signs: &[bool],
 ) -> Result<Entry, OutOfMemory>
-    requires block { slice_get site.design.checked.now.diagram.blocks site.place.block
-        ≡ Some site.one.now }
-    requires types { types.now ≡ types_at site }
-    requires operands { HasOperands net.old site site.one.now.kind }
+    requires ready { IsReady net.old site }
     requires op { IsOpAt site op }
     requires signs { signs.now ≡ signs_of site.one.now.kind }
     ensures { IfOk result (Puts site.entry net.old net.new) }
@@ -52,7 +48,7 @@ pub fn carried<'a>(
     let call = OpCall {
         op,
         signs,
-        types,
+        types: site.types,
         result: kind,
         rounding: site.one.rounding,
         saturate: site.one.saturate,
@@ -70,13 +66,10 @@ pub fn scaled<'a>(
     alloc: Global,
     net: &mut Netlist,
     site: Site<'a>,
-    types: &[FxType],
     value: &[Decimal],
 ) -> Result<Entry, OutOfMemory>
-    requires shown { IsSite site }
+    requires ready { IsReady net.old site }
     requires kind { (param : TypeSpec) × (site.one.now.kind ≡ Kind.Gain value.now param) }
-    requires types { types.now ≡ types_at site }
-    requires operands { HasOperands net.old site site.one.now.kind }
     ensures { IfOk result (Puts site.entry net.old net.new) }
 {
     site.design.checked.keeps_rules();
@@ -84,7 +77,7 @@ pub fn scaled<'a>(
     let param = site.design.checked.param(site.place.block);
     let coefficient = stored(site, value, param);
     let op = Op::Gain { coefficient, param };
-    carried(alloc, net, site, types, op, &[])
+    carried(alloc, net, site, op, &[])
 }
 
 /// Puts in an element of a Switch.
@@ -92,44 +85,34 @@ pub fn switched<'a>(
     alloc: Global,
     net: &mut Netlist,
     site: Site<'a>,
-    types: &[FxType],
     criterion: Criterion,
     list: &[Decimal],
 ) -> Result<Entry, OutOfMemory>
-    requires shown { IsSite site }
+    requires ready { IsReady net.old site }
     requires kind { site.one.now.kind ≡ Kind.Switch criterion list.now }
-    requires types { types.now ≡ types_at site }
-    requires operands { HasOperands net.old site site.one.now.kind }
     ensures { IfOk result (Puts site.entry net.old net.new) }
 {
     site.design.checked.keeps_rules();
     operations_prepare();
-    let threshold = stored(site, list, types[1]);
+    let threshold = stored(site, list, site.types[1]);
     let op = Op::Switch {
         criterion,
         threshold,
     };
-    carried(alloc, net, site, types, op, &[])
+    carried(alloc, net, site, op, &[])
 }
 
 /// Puts in the element of the control of an enabled subsystem.
-pub fn tested<'a>(
-    alloc: Global,
-    net: &mut Netlist,
-    site: Site<'a>,
-    types: &[FxType],
-) -> Result<Entry, OutOfMemory>
-    requires shown { IsSite site }
+pub fn tested<'a>(alloc: Global, net: &mut Netlist, site: Site<'a>) -> Result<Entry, OutOfMemory>
+    requires ready { IsReady net.old site }
     requires kind { site.one.now.kind ≡ Kind.EnableTest }
-    requires types { types.now ≡ types_at site }
-    requires operands { HasOperands net.old site site.one.now.kind }
     ensures { IfOk result (Puts site.entry net.old net.new) }
 {
     site.design.checked.keeps_rules();
     operations_prepare();
     let own = site.design.checked.result(site.place.block);
     let _ = own;
-    let number = some_above(alloc, net, types[0], site.operands)?;
+    let number = some_above(alloc, net, site.types[0], site.operands)?;
     Ok(plain(number))
 }
 
@@ -162,17 +145,14 @@ pub fn put_worked<'a>(
     alloc: Global,
     net: &mut Netlist,
     site: Site<'a>,
-    types: &[FxType],
 ) -> Result<Entry, OutOfMemory>
-    requires shown { IsSite site }
+    requires ready { IsReady net.old site }
     requires kind { works_plainly site.one.now.kind ≡ true }
-    requires types { types.now ≡ types_at site }
-    requires operands { HasOperands net.old site site.one.now.kind }
     ensures { IfOk result (Puts site.entry net.old net.new) }
 {
     let op = plain_op(&site.one.kind);
     let signs = site.one.kind.signs();
-    carried(alloc, net, site, types, op, signs)
+    carried(alloc, net, site, op, signs)
 }
 
 /// Puts in an element of a shared block: the product of a shared multiplier, in the type that holds

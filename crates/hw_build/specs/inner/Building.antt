@@ -7,7 +7,9 @@ use Rattle.hw_net.specs.Circuit.{Circuit}
 use Rattle.hw_build.specs.declared.design.Design.{Design}
 use Rattle.hw_build.specs.Built.{IsBuilt}
 use Rattle.hw_build.specs.Places.{Places}
-use Rattle.hw_build.specs.inner.Designed.{times_for}
+use Rattle.hw_build.specs.inner.Outgoing.{IsSmall}
+use Rattle.hw_build.specs.inner.Factors.{HasSlots}
+use Rattle.hw_build.specs.inner.Designed.{IsDesigned, times_for}
 use Rattle.hw_build.specs.inner.Done.{IsDone}
 use Rattle.hw_build.specs.inner.Filled.{IsFilled}
 use Rattle.hw_build.specs.inner.HubPlaces.{hubs_in_all}
@@ -30,6 +32,12 @@ pub record IsFilledFor (design : Design) (netlist : Circuit) (firsts : List (Lis
   pub filled : IsFilled design.checked.now.diagram design.plan.now (times_for design) firsts places place_of netlist
   pub inputs : AreInputFirsts design.checked.now.diagram firsts
   pub outputs : AreOutputFirsts design.checked.now.diagram firsts
+
+-- a design with its slots, that keeps the rule of size
+pub record CanBuild (design : Design) : Type 0 where
+  pub designed : IsDesigned design
+  pub slots : HasSlots design
+  pub small : IsSmall design
 
 -- the netlist is done
 pub record IsDoneFor (design : Design) (netlist : Circuit) : Type 0 where

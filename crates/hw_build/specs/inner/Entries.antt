@@ -143,93 +143,34 @@ abbrev pub number_behind : ℕ → Option ℕ → Option ℕ
 number_behind first None = None
 number_behind first (Some place) = Some (first + place)
 
--- the multiplication that an element of a kind has of its own, where it is shared by none
+-- the multiplication that an element of a kind has of its own, behind the constants of its list, where it is shared by none
 abbrev pub multiply_at : ℕ → Kind → Option ℕ
-multiply_at first (Inport number width) = None
-multiply_at first (Outport number) = None
-multiply_at first (Constant value) = None
-multiply_at first Ground = None
-multiply_at first (Sum negative) = None
-multiply_at first (Gain value param) = Some (first + 1)
-multiply_at first Product = Some (first + 0)
-multiply_at first (Switch criterion threshold) = None
-multiply_at first (Relational operator) = None
-multiply_at first (Logic operator) = None
-multiply_at first (Convert stored) = None
-multiply_at first (Delay delay initial reset) = None
-multiply_at first (Mux sizes) = None
-multiply_at first (Demux sizes) = None
-multiply_at first (RateTransition period initial) = None
-multiply_at first (Pass width) = None
-multiply_at first EnableTest = None
-multiply_at first (EnOut reset initial) = None
-multiply_at first Terminator = None
+multiply_at first kind = if (row_of kind).hardware.multiplies then Some (first + length (row_of kind).signal.lists) else None
 
 -- whether a kind has registers of its own that show its entry: a Delay that isn't one of its line
 abbrev pub keeps_entry : Option ℕ → Option ℕ → Kind → Bool
-keeps_entry enable driver (Inport number width) = false
-keeps_entry enable driver (Outport number) = false
-keeps_entry enable driver (Constant value) = false
-keeps_entry enable driver Ground = false
-keeps_entry enable driver (Sum negative) = false
-keeps_entry enable driver (Gain value param) = false
-keeps_entry enable driver Product = false
-keeps_entry enable driver (Switch criterion threshold) = false
-keeps_entry enable driver (Relational operator) = false
-keeps_entry enable driver (Logic operator) = false
-keeps_entry enable driver (Convert stored) = false
 keeps_entry enable driver (Delay delay initial reset) = keeps_own enable driver
-keeps_entry enable driver (Mux sizes) = false
-keeps_entry enable driver (Demux sizes) = false
-keeps_entry enable driver (RateTransition period initial) = false
-keeps_entry enable driver (Pass width) = false
-keeps_entry enable driver EnableTest = false
-keeps_entry enable driver (EnOut reset initial) = false
-keeps_entry enable driver Terminator = false
+keeps_entry enable driver _ = false
 
 -- whether a kind shows what it is offered: a line with registers has them already
 abbrev pub hands_on : Option ℕ → Option ℕ → Kind → Bool
 hands_on enable driver (Inport number width) = true
-hands_on enable driver (Outport number) = false
-hands_on enable driver (Constant value) = false
-hands_on enable driver Ground = false
-hands_on enable driver (Sum negative) = false
-hands_on enable driver (Gain value param) = false
-hands_on enable driver Product = false
-hands_on enable driver (Switch criterion threshold) = false
-hands_on enable driver (Relational operator) = false
-hands_on enable driver (Logic operator) = false
-hands_on enable driver (Convert stored) = false
 hands_on enable driver (Delay delay initial reset) = not (keeps_own enable driver)
 hands_on enable driver (Mux sizes) = true
 hands_on enable driver (Demux sizes) = true
 hands_on enable driver (RateTransition period initial) = true
-hands_on enable driver (Pass width) = false
-hands_on enable driver EnableTest = false
-hands_on enable driver (EnOut reset initial) = false
-hands_on enable driver Terminator = false
+hands_on enable driver _ = false
 
 -- whether a kind carries out an operation that has no numbers of its own
 abbrev pub works_plainly : Kind → Bool
-works_plainly (Inport number width) = false
 works_plainly (Outport number) = true
-works_plainly (Constant value) = false
-works_plainly Ground = false
 works_plainly (Sum negative) = true
-works_plainly (Gain value param) = false
 works_plainly Product = true
-works_plainly (Switch criterion threshold) = false
 works_plainly (Relational operator) = true
 works_plainly (Logic operator) = true
 works_plainly (Convert stored) = true
-works_plainly (Delay delay initial reset) = false
-works_plainly (Mux sizes) = false
-works_plainly (Demux sizes) = false
-works_plainly (RateTransition period initial) = false
 works_plainly (Pass width) = true
-works_plainly EnableTest = false
-works_plainly (EnOut reset initial) = false
-works_plainly Terminator = false
+works_plainly _ = false
 
 -- the net was put in, and reads nothing in its own clock
 pub record IsHeldAt (before after : Circuit) (number : ℕ) : Type 0 where

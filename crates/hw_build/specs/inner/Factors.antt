@@ -102,9 +102,6 @@ HasSlots design = AreSlots design.checked.now.diagram design.plan.now design.lat
 abbrev pub IsNumbered : Design → ℕ → Shared → Type 0
 IsNumbered design number o = IsOperation design.checked.now.diagram (attributes_of design.checked.now.diagram) design.plan.now number o
 
-abbrev pub IsSharedBlock : Design → ℕ → Type 0
-IsSharedBlock design block = is_shared design.checked.now.diagram (attributes_of design.checked.now.diagram) design.plan.now block ≡ true
-
 abbrev pub first_for : Design → ℕ → ℕ
 first_for design block = first_operation design.checked.now.diagram design.plan.now block
 

@@ -1,5 +1,5 @@
 -- Where the nets stand that readers name: first one for each root input element, then those of the other blocks in order, port by port (own).
-use Rattle.std.specs.Prelude.{◌≡◌, ℕ, zero, suc, ◌+◌, ◌-◌, ◌^◌, ◌<◌, ◌≤◌, Bool, true, false, nat_lt, if◌then◌else◌, List, [], ◌∷◌, length, Option, None, Some, slice_get, slice_index_or}
+use Rattle.std.specs.Prelude.{◌≡◌, ℕ, zero, suc, ◌+◌, ◌-◌, ◌^◌, ◌<◌, ◌≤◌, Bool, true, false, nat_lt, if◌then◌else◌, List, [], ◌∷◌, length, Option, None, Some, slice_get, slice_index_or, is_some}
 use Rattle.fx_type.specs.declared.kind.FxType.{FxType}
 use Rattle.fx_type.specs.FxType.{is_signed, width_of}
 use Rattle.dg_model.specs.declared.diagram.Diagram.{Diagram}
@@ -10,6 +10,7 @@ use Rattle.dg_model.specs.Attributes.{attributes_of}
 use Rattle.dg_model.specs.RootElements.{RootElement, root_inputs}
 use Rattle.dg_model.specs.Solves.{IsShown, shown_ports, shown_width}
 use Rattle.dg_model.specs.Widths.{width_at}
+use Rattle.dg_model.specs.Wired.{root_input, root_output}
 use Rattle.hw_net.specs.declared.netlist.Net.{Net}
 use Rattle.hw_net.specs.declared.netlist.NetKind.TheVariants.{Comb}
 use Rattle.hw_net.specs.declared.netlist.NetOp.TheVariants.{Input, Resize}
@@ -32,21 +33,11 @@ input_net type port = record { signed = is_signed type; width = width_of type; k
 
 -- a root input port
 abbrev pub is_input_role : Role → Bool
-is_input_role (Role.RootInput number) = true
-is_input_role (Role.RootOutput number) = false
-is_input_role (Role.InnerPort width) = false
-is_input_role Role.EnabledOutput = false
-is_input_role Role.Control = false
-is_input_role Role.Plain = false
+is_input_role role = is_some (root_input role)
 
 -- a root output port
 abbrev pub is_output_role : Role → Bool
-is_output_role (Role.RootInput number) = false
-is_output_role (Role.RootOutput number) = true
-is_output_role (Role.InnerPort width) = false
-is_output_role Role.EnabledOutput = false
-is_output_role Role.Control = false
-is_output_role Role.Plain = false
+is_output_role role = is_some (root_output role)
 
 module _ (diagram : Diagram) where
   -- how many elements a block shows at a port, from 0

@@ -4,20 +4,25 @@ use Rattle.dg_waves.specs.Rounds.{numbers_from}
 use Rattle.dg_model.specs.Attributes.{attributes_of}
 use Rattle.dg_model.specs.LatencyEdges.{asks_ever}
 use Rattle.dg_model.specs.Library.{row_of}
-use Rattle.dg_model.specs.Solves.{shown_ports, shown_width}
+use Rattle.dg_model.specs.Solves.{IsShown, shown_ports, shown_width}
 use Rattle.dg_model.specs.Wires.{types_into, width_into}
 use Rattle.hw_build.specs.declared.block_inputs.BlockInputs.{BlockInputs}
 use Rattle.dg_model.specs.declared.diagram.Block.{Block}
 use Rattle.dg_model.specs.declared.diagram.Diagram.{Diagram}
 use Rattle.dg_model.specs.declared.kind.Kind.{Kind}
-use Rattle.dg_model.specs.declared.kind.Kind.TheVariants.{Inport, Outport, Constant, Ground, Sum, Gain, Product, Switch, Relational, Logic, Convert, Delay, Mux, Demux, RateTransition, Pass, EnableTest, EnOut, Terminator}
+use Rattle.dg_model.specs.declared.kind.Kind.TheVariants.{Outport, Sum, Gain, Product, Switch, Relational, Logic, Convert, Mux, Demux, Pass}
 use Rattle.hw_build.specs.declared.blocks.Setting.{Setting}
 use Rattle.hw_build.specs.inner.Entries.{AreOffered}
+use Rattle.hw_build.specs.declared.offers.Element.{Element}
+use Rattle.hw_build.specs.inner.HubPlaces.{is_input_role}
 use Rattle.hw_build.specs.inner.Looping.{Fits, diagram_of}
 use Rattle.hw_build.specs.Places.{Places}
 
 abbrev pub Offer : Setting → ℕ → Block → ℕ → ℕ → List ℕ → Type 0
 Offer setting block b port element operands = (places : Places) → Fits setting places → AreOffered (diagram_of setting) places block b port element b.kind operands
+
+abbrev pub OffersTo : Element → List ℕ → Type 0
+OffersTo to operands = Offer to.setting to.place.block to.one.now to.place.port to.place.element operands
 
 -- of a Mux the nets that are offered to the elements of its first input ports, and to so many of the next one
 pub record ArePartsTo (setting : Setting) (block : ℕ) (b : Block) (ports left : ℕ) (parts : List ℕ) : Type 0 where
@@ -35,12 +40,19 @@ pub record AreReadBy (setting : Setting) (block : ℕ) (b : Block) (inputs : Blo
   pub parts_are : (sizes : List ℕ) → b.kind ≡ Mux sizes → ArePartsTo setting block b b.inputs 0 inputs.parts
   pub begins_are : (sizes : List ℕ) → b.kind ≡ Demux sizes → AreBegins (diagram_of setting) block b (shown_ports b.kind b.outputs) inputs.begins
 
+-- the table shows the element
+abbrev pub IsShownAt : Element → Type 0
+IsShownAt to = IsShown (diagram_of to.setting) (attributes_of (diagram_of to.setting)) to.place.block to.one.now to.place.port to.place.element
+
+-- it is one of a block that is no root input and reads this
+pub record IsAtHand (to : Element) (inputs : BlockInputs) : Type 0 where
+  pub shown : IsShownAt to
+  pub other : is_input_role (row_of to.one.now.kind).place.role ≡ false
+  pub reading : AreReadBy to.setting to.place.block to.one.now inputs
+
 -- whether a kind reads the element itself of each of its inputs
 abbrev pub reads_each : Kind → Bool
-reads_each (Inport number width) = false
 reads_each (Outport number) = true
-reads_each (Constant value) = false
-reads_each Ground = false
 reads_each (Sum negative) = true
 reads_each (Gain value param) = true
 reads_each Product = true
@@ -48,14 +60,8 @@ reads_each (Switch criterion threshold) = true
 reads_each (Relational operator) = true
 reads_each (Logic operator) = true
 reads_each (Convert stored) = true
-reads_each (Delay delay initial reset) = false
-reads_each (Mux sizes) = false
-reads_each (Demux sizes) = false
-reads_each (RateTransition period initial) = false
 reads_each (Pass width) = true
-reads_each EnableTest = false
-reads_each (EnOut reset initial) = false
-reads_each Terminator = false
+reads_each _ = false
 
 -- whether it reads the element of its one input, and what enables it
 abbrev pub reads_enable : Kind → Bool

@@ -9,6 +9,7 @@ use Rattle.dg_model.specs.Operation.{Operation}
 use Rattle.dg_model.specs.Solves.{IsShown}
 use Rattle.dg_model.specs.Wires.{period_into, type_into, types_into}
 use Rattle.dg_model.specs.declared.kind.Kind.{Kind}
+use Rattle.dg_model.specs.declared.kind.Kind.TheVariants.{EnOut}
 use Rattle.dg_model.specs.declared.op.Op.{Op}
 use Rattle.hw_lower.specs.Lowered.{AreArgs}
 use Rattle.hw_net.specs.declared.netlist.Frame.{Frame}
@@ -18,7 +19,7 @@ use Rattle.hw_build.specs.declared.lowering.Begun.{Begun}
 use Rattle.hw_build.specs.declared.site.Site.{Site}
 use Rattle.hw_build.specs.declared.states.Enabled.{Enabled}
 use Rattle.hw_build.specs.declared.states.Series.{Series}
-use Rattle.hw_build.specs.inner.Designed.{timing_for}
+use Rattle.hw_build.specs.inner.Designed.{IsDesigned, timing_for}
 use Rattle.hw_build.specs.inner.Entries.{IsFrameOf, PutsEntry, enable_types, operand_types}
 use Rattle.hw_build.specs.inner.Lowering.{operation_at}
 use Rattle.hw_build.specs.inner.Registering.{PutsSeries, enables_by, register_of}
@@ -34,6 +35,18 @@ types_at site = types_into site.design.checked.now.diagram (attributes_of site.d
 -- its operands are what a block of this kind reads
 abbrev pub HasOperands : Circuit → Site → Kind → Type 0
 HasOperands net site kind = AreArgs net (operand_types site.design.checked.now.diagram (attributes_of site.design.checked.now.diagram) site.place.block site.one.now site.place.port kind) site.operands.now
+
+-- a table of the design shows it, these are the types of what its inputs offer, and its operands what its block reads
+pub record IsReady (net : Circuit) (site : Site) : Type 0 where
+  pub shown : IsSite site
+  pub types_are : site.types.now ≡ types_at site
+  pub operands_are : HasOperands net site site.one.now.kind
+
+-- registers can be put in for it
+pub record CanKeep (net : Circuit) (site : Site) : Type 0 where
+  pub designed : IsDesigned site.design
+  pub cycles : net.cycles ≡ site.design.plan.now.cycles
+  pub shown : IsSite site
 
 -- the operation is that of its block
 abbrev pub IsOpAt : Site → Op → Type 0
@@ -51,6 +64,12 @@ Puts site old new entry = PutsEntry site.design.checked.now.diagram (timing_for 
 abbrev pub HasEnabledOperands : Circuit → Site → Type 0
 HasEnabledOperands net site =
     AreArgs net ((attributes_of site.design.checked.now.diagram).type_at site.place.block site.place.port ∷ enable_types (attributes_of site.design.checked.now.diagram) site.one.now.enable) site.operands.now
+
+-- it is one of an output port of an enabled subsystem, with these parameters
+pub record PassesOut (net : Circuit) (site : Site) (reset : Bool) (list : List Decimal) : Type 0 where
+  pub kind : site.one.now.kind ≡ EnOut reset list
+  pub enable : IsSome site.one.now.enable
+  pub operands : HasEnabledOperands net site
 
 -- so its registers take: where its block is enabled, or, outside, behind a source that never changes
 abbrev pub TakesAs : Site → Bool → Option Enabled → Type 0

@@ -8,43 +8,40 @@ use Rattle.hw_build.proofs.blocks.put_one.Goals as goal
 
 pub put_shared-requires-clause-word : goal.put_shared-requires-clause-word
 put_shared-requires-clause-word c =
-    product_word c.args.setting c.setting_is_known.ensures c.args.net.now c.requires.going c.args.place.block c.args.one.now c.args.place.port c.args.place.element c.requires.shown c.in-Some.product (sym c.at.ensures ∙ c.in-Some.is) c.full_product_is_one.ensures c.full_type-full.result c.full_type-full.ensures
+    product_word c.args.element.setting c.setting_is_known.ensures c.args.net.now c.requires.going c.args.element.place.block c.args.element.one.now c.args.element.place.port c.args.element.place.element c.requires.hand.shown c.in-Some.product (sym c.at.ensures ∙ c.in-Some.is) c.full_product_is_one.ensures c.full_type-full.result c.full_type-full.ensures
 
 pub returns-in-Some : goal.returns-in-Some
 returns-in-Some c =
-    IfOk-weaker c.put_shared.result _ _ (λ entry put. shared_entered c.args.setting c.setting_is_known.ensures c.args.net.now c.requires.going c.args.place.block c.args.one.now c.args.place.port c.args.place.element c.requires.shown c.in-Some.product (sym c.at.ensures ∙ c.in-Some.is) c.put_shared.new.net entry put) c.put_shared.ensures
-
-pub put_entry-entry-requires-clause-operands : goal.put_entry-entry-requires-clause-operands
-put_entry-entry-requires-clause-operands c =
-    args_are c.args.setting c.setting_is_known.ensures c.args.net.now c.requires.going c.args.place.block c.args.one.now c.args.place.port c.args.place.element c.requires.shown c.as_slice.result.now c.requires.other (subst (Offer c.args.setting c.args.place.block c.args.one.now c.args.place.port c.args.place.element) (sym c.as_slice.ensures) c.in_ok-operands.ensures)
+    IfOk-weaker c.put_shared.result _ _ (λ entry put. shared_entered c.args.element.setting c.setting_is_known.ensures c.args.net.now c.requires.going c.args.element.place.block c.args.element.one.now c.args.element.place.port c.args.element.place.element c.requires.hand.shown c.in-Some.product (sym c.at.ensures ∙ c.in-Some.is) c.put_shared.new.net entry put) c.put_shared.ensures
 
 pub returns : goal.returns
 returns c =
-    IfOk-weaker c.put_entry-entry.result _ _ (λ entry put. one_entered c.args.setting c.setting_is_known.ensures c.args.net.now c.requires.going c.args.place.block c.args.one.now c.args.place.port c.args.place.element c.requires.shown c.as_slice.result.now c.requires.other (subst (Offer c.args.setting c.args.place.block c.args.one.now c.args.place.port c.args.place.element) (sym c.as_slice.ensures) c.in_ok-operands.ensures) c.put_entry-entry.new.net entry put (sym c.at.ensures ∙ c.in_default.is)) c.put_entry-entry.ensures
+    IfOk-weaker c.put_entry-entry.result _ _ (λ entry put. one_entered c.args.element.setting c.setting_is_known.ensures c.args.net.now c.requires.going c.args.element.place.block c.args.element.one.now c.args.element.place.port c.args.element.place.element c.requires.hand.shown c.as_slice.result.now c.requires.hand.other (subst (Offer c.args.element.setting c.args.element.place.block c.args.element.one.now c.args.element.place.port c.args.element.place.element) (sym c.as_slice.ensures) c.in_ok-operands.ensures) c.put_entry-entry.new.net entry put (sym c.at.ensures ∙ c.in_default.is)) c.put_entry-entry.ensures
 
 pub at-requires : goal.at-requires
 at-requires c =
-    let inside = slice_get_within c.args.setting.design.checked.now.diagram.blocks c.args.place.block c.args.one.now c.requires.shown.block_is in
+    let inside = slice_get_within c.args.element.setting.design.checked.now.diagram.blocks c.args.element.place.block c.args.element.one.now c.requires.hand.shown.block_is in
     omega (arith, inside, c.requires.set.products_are.size)
 
 pub full_type-full-requires-clause-block : goal.full_type-full-requires-clause-block
-full_type-full-requires-clause-block c = c.requires.shown.block_is
+full_type-full-requires-clause-block c = c.requires.hand.shown.block_is
 
 pub full_type-full-requires-clause-multiplies : goal.full_type-full-requires-clause-multiplies
 full_type-full-requires-clause-multiplies c =
-    multiplying c.args.setting c.setting_is_known.ensures c.args.net.now c.requires.going c.args.place.block c.args.one.now c.args.place.port c.args.place.element c.requires.shown c.in-Some.product (sym c.at.ensures ∙ c.in-Some.is)
+    multiplying c.args.element.setting c.setting_is_known.ensures c.args.net.now c.requires.going c.args.element.place.block c.args.element.one.now c.args.element.place.port c.args.element.place.element c.requires.hand.shown c.in-Some.product (sym c.at.ensures ∙ c.in-Some.is)
 
 pub put_shared-requires-clause-block : goal.put_shared-requires-clause-block
-put_shared-requires-clause-block c = c.requires.shown.block_is
+put_shared-requires-clause-block c = c.requires.hand.shown.block_is
 
 pub put_shared-requires-clause-full : goal.put_shared-requires-clause-full
 put_shared-requires-clause-full c = c.full_type-full.ensures
 
-pub put_entry-entry-requires-clause-designed : goal.put_entry-entry-requires-clause-designed
-put_entry-entry-requires-clause-designed c = c.requires.set.designed
+pub put_entry-entry-requires-clause-can : goal.put_entry-entry-requires-clause-can
+put_entry-entry-requires-clause-can c = record { designed = c.requires.set.designed; cycles = c.requires.going.going.cycles; shown = c.requires.hand.shown }
 
-pub put_entry-entry-requires-clause-cycles : goal.put_entry-entry-requires-clause-cycles
-put_entry-entry-requires-clause-cycles c = c.requires.going.going.cycles
-
-pub put_entry-entry-requires-clause-types : goal.put_entry-entry-requires-clause-types
-put_entry-entry-requires-clause-types c = c.as_slice-2.ensures.value ∙ c.requires.inputs.types_are
+pub put_entry-entry-requires-clause-ready : goal.put_entry-entry-requires-clause-ready
+put_entry-entry-requires-clause-ready c = record {
+  shown = c.requires.hand.shown;
+  types_are = c.as_slice-2.ensures.value ∙ c.requires.hand.reading.types_are;
+  operands_are = args_are c.args.element.setting c.setting_is_known.ensures c.args.net.now c.requires.going c.args.element.place.block c.args.element.one.now c.args.element.place.port c.args.element.place.element c.requires.hand.shown c.as_slice.result.now c.requires.hand.other (subst (Offer c.args.element.setting c.args.element.place.block c.args.element.one.now c.args.element.place.port c.args.element.place.element) (sym c.as_slice.ensures) c.in_ok-operands.ensures);
+}

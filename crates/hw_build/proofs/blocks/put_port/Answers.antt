@@ -36,8 +36,12 @@ returns c =
     let wide : c.loop-element.element ≡ shown_width diagram (attributes_of diagram) c.args.one.now.kind c.args.block c.args.port = search (rules, done) in
     subst (λ (n : ℕ). Reaches c.args.setting c.loop-element.net c.loop-element.spots n) (port_ends diagram c.args.setting.firsts.now c.requires.set.stood c.args.block c.args.one.now c.args.port c.loop-element.element c.requires.from wide) c.loop-element.invariant
 
-pub put_element-requires-clause-shown : goal.put_element-requires-clause-shown
-put_element-requires-clause-shown c =
+pub put_element-requires-clause-hand : goal.put_element-requires-clause-hand
+put_element-requires-clause-hand c =
     let diagram : Diagram = c.args.setting.design.checked.now.diagram in
     let below : c.loop-element.element < shown_width diagram (attributes_of diagram) c.args.one.now.kind c.args.block c.args.port = search rules in
-    record { block_is = c.requires.is; port_from = c.requires.from; port_to = c.requires.to; element_below = below }
+    record {
+      shown = record { block_is = c.requires.is; port_from = c.requires.from; port_to = c.requires.to; element_below = below };
+      other = c.requires.other;
+      reading = c.requires.inputs;
+    }

@@ -9,11 +9,8 @@ hubs_of-requires-clause-none c = ap (λ (netlist : Circuit). length netlist.nets
 pub hubs_of-requires-clause-are : goal.hubs_of-requires-clause-are
 hubs_of-requires-clause-are c = c.requires.inputs
 
-pub put_nets-requires-clause-designed : goal.put_nets-requires-clause-designed
-put_nets-requires-clause-designed c = c.requires.designed
-
-pub put_nets-requires-clause-slots : goal.put_nets-requires-clause-slots
-put_nets-requires-clause-slots c = c.requires.slots
+pub put_nets-requires-clause-can : goal.put_nets-requires-clause-can
+put_nets-requires-clause-can c = c.requires.can
 
 pub put_nets-requires-clause-hubs : goal.put_nets-requires-clause-hubs
 put_nets-requires-clause-hubs c = subst (λ (earlier : Circuit). HasHubs c.args.design.checked.now.diagram earlier c.hubs_of.new.net c.in_ok-firsts.firsts) c.requires.empty c.in_ok-firsts.ensures

@@ -9,7 +9,7 @@ use Rattle.hw_build.proofs.Composed.{inputs_begin}
 use Rattle.hw_build.proofs.building.put_nets.Goals as goal
 
 pub put_lines-requires-clause-designed : goal.put_lines-requires-clause-designed
-put_lines-requires-clause-designed c = c.requires.designed
+put_lines-requires-clause-designed c = c.requires.can.designed
 
 pub put_lines-requires-clause-cycles : goal.put_lines-requires-clause-cycles
 put_lines-requires-clause-cycles c = c.requires.hubs.extends.cycles
@@ -20,11 +20,8 @@ put_lines-requires-clause-inputs c = inputs_begin c.args.design.checked.now.diag
 pub put_lines-requires-clause-hubs : goal.put_lines-requires-clause-hubs
 put_lines-requires-clause-hubs c = (empty_circuit c.args.design.plan.now.cycles, c.requires.hubs)
 
-pub products_of-requires-clause-designed : goal.products_of-requires-clause-designed
-products_of-requires-clause-designed c = c.requires.designed
-
-pub products_of-requires-clause-slots : goal.products_of-requires-clause-slots
-products_of-requires-clause-slots c = c.requires.slots
+pub products_of-requires-clause-can : goal.products_of-requires-clause-can
+products_of-requires-clause-can c = c.requires.can
 
 pub products_of-requires-clause-cycles : goal.products_of-requires-clause-cycles
 products_of-requires-clause-cycles c = c.in_ok-operands.ensures.extends.cycles ∙ c.requires.hubs.extends.cycles
@@ -34,7 +31,7 @@ products_of-requires-clause-words c =
     words_stand c.args.design.checked.now.diagram c.args.design.plan.now (times_for c.args.design) c.args.net.now c.put_lines.new.net c.args.firsts.now c.in_ok-operands.operands c.keeps_rules.ensures.checked c.edges_stand_by_port.ensures.widths c.columns_are_a_stimulus.ensures.kept c.in_ok-operands.ensures
 
 pub put_elements-put-requires-clause-set : goal.put_elements-put-requires-clause-set
-put_elements-put-requires-clause-set c = steps_set _ (empty_circuit c.args.design.plan.now.cycles) c.args.net.now c.requires.designed c.requires.hubs c.in-Ok.ensures.which
+put_elements-put-requires-clause-set c = steps_set _ (empty_circuit c.args.design.plan.now.cycles) c.args.net.now c.requires.can.designed c.requires.hubs c.in-Ok.ensures.which
 
 pub put_elements-put-requires-clause-inputs : goal.put_elements-put-requires-clause-inputs
 put_elements-put-requires-clause-inputs c = counted_blocks (root_inputs c.args.design.checked.now.diagram (attributes_of c.args.design.checked.now.diagram)) c.args.inputs.now c.requires.inputs
@@ -46,6 +43,6 @@ put_elements-put-requires-clause-begun c =
 pub returns : goal.returns
 returns c =
     on_ok_weaker c.put_elements-put.result
-    (λ has. steps_fill _ (empty_circuit c.args.design.plan.now.cycles) c.args.net.now c.put_elements-put.new.net has.0 (steps_set _ (empty_circuit c.args.design.plan.now.cycles) c.args.net.now c.requires.designed c.requires.hubs c.in-Ok.ensures.which) (record { checked = c.keeps_rules.ensures.checked; ordered = c.keeps_rules.ensures.ordered })
+    (λ has. steps_fill _ (empty_circuit c.args.design.plan.now.cycles) c.args.net.now c.put_elements-put.new.net has.0 (steps_set _ (empty_circuit c.args.design.plan.now.cycles) c.args.net.now c.requires.can.designed c.requires.hubs c.in-Ok.ensures.which) (record { checked = c.keeps_rules.ensures.checked; ordered = c.keeps_rules.ensures.ordered })
     c.root_elements_are_listed.ensures.inputs c.root_elements_are_listed.ensures.outputs c.requires.hubs has.1)
     c.put_elements-put.ensures

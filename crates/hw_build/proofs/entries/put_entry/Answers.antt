@@ -28,94 +28,58 @@ handed-requires-clause-hands c =
     ]
 
 pub handed-requires-clause-operands : goal.handed-requires-clause-operands
-handed-requires-clause-operands c = c.requires.operands
+handed-requires-clause-operands c = c.requires.ready.operands_are
 
 pub constant-requires-clause-shown : goal.constant-requires-clause-shown
-constant-requires-clause-shown c = c.requires.shown
+constant-requires-clause-shown c = c.requires.can.shown
 
 pub constant-requires-clause-kind : goal.constant-requires-clause-kind
 constant-requires-clause-kind c = c.in-Constant.is ∙ ap Constant (list_is c.args.site.one.now.kind (Constant c.in-Constant.value) c.list_of-list.result.now c.list_of-list.ensures c.in-Constant.is)
 
 pub ground-requires-clause-shown : goal.ground-requires-clause-shown
-ground-requires-clause-shown c = c.requires.shown
+ground-requires-clause-shown c = c.requires.can.shown
 
 pub ground-requires-clause-kind : goal.ground-requires-clause-kind
 ground-requires-clause-kind c = c.in-Ground.is
 
-pub scaled-requires-clause-shown : goal.scaled-requires-clause-shown
-scaled-requires-clause-shown c = c.requires.shown
-
-pub scaled-requires-clause-types : goal.scaled-requires-clause-types
-scaled-requires-clause-types c = c.requires.types
-
-pub scaled-requires-clause-operands : goal.scaled-requires-clause-operands
-scaled-requires-clause-operands c = c.requires.operands
+pub scaled-requires-clause-ready : goal.scaled-requires-clause-ready
+scaled-requires-clause-ready c = c.requires.ready
 
 pub scaled-requires-clause-kind : goal.scaled-requires-clause-kind
 scaled-requires-clause-kind c = (c.in-Gain.param, c.in-Gain.is ∙ ap (λ (list : List Decimal). Gain list c.in-Gain.param) (list_is c.args.site.one.now.kind (Gain c.in-Gain.value c.in-Gain.param) c.list_of-list.result.now c.list_of-list.ensures c.in-Gain.is))
 
-pub switched-requires-clause-shown : goal.switched-requires-clause-shown
-switched-requires-clause-shown c = c.requires.shown
-
-pub switched-requires-clause-types : goal.switched-requires-clause-types
-switched-requires-clause-types c = c.requires.types
-
-pub switched-requires-clause-operands : goal.switched-requires-clause-operands
-switched-requires-clause-operands c = c.requires.operands
+pub switched-requires-clause-ready : goal.switched-requires-clause-ready
+switched-requires-clause-ready c = c.requires.ready
 
 pub switched-requires-clause-kind : goal.switched-requires-clause-kind
 switched-requires-clause-kind c = c.in-Switch.is ∙ ap (Switch c.in-Switch.criterion) (list_is c.args.site.one.now.kind (Switch c.in-Switch.criterion c.in-Switch.threshold) c.list_of-list.result.now c.list_of-list.ensures c.in-Switch.is)
 
-pub tested-requires-clause-shown : goal.tested-requires-clause-shown
-tested-requires-clause-shown c = c.requires.shown
-
-pub tested-requires-clause-types : goal.tested-requires-clause-types
-tested-requires-clause-types c = c.requires.types
-
-pub tested-requires-clause-operands : goal.tested-requires-clause-operands
-tested-requires-clause-operands c = c.requires.operands
+pub tested-requires-clause-ready : goal.tested-requires-clause-ready
+tested-requires-clause-ready c = c.requires.ready
 
 pub tested-requires-clause-kind : goal.tested-requires-clause-kind
 tested-requires-clause-kind c = c.in-EnableTest.is
 
-pub delayed-requires-clause-designed : goal.delayed-requires-clause-designed
-delayed-requires-clause-designed c = c.requires.designed
-
-pub delayed-requires-clause-cycles : goal.delayed-requires-clause-cycles
-delayed-requires-clause-cycles c = c.requires.cycles
-
-pub delayed-requires-clause-shown : goal.delayed-requires-clause-shown
-delayed-requires-clause-shown c = c.requires.shown
+pub delayed-requires-clause-can : goal.delayed-requires-clause-can
+delayed-requires-clause-can c = c.requires.can
 
 pub delayed-requires-clause-operands : goal.delayed-requires-clause-operands
-delayed-requires-clause-operands c = c.requires.operands
+delayed-requires-clause-operands c = c.requires.ready.operands_are
 
 pub delayed-requires-clause-kind : goal.delayed-requires-clause-kind
 delayed-requires-clause-kind c = c.in-Delay.is ∙ ap (λ (list : List Decimal). Delay c.in-Delay.length list c.in-Delay.reset) (list_is c.args.site.one.now.kind (Delay c.in-Delay.length c.in-Delay.initial c.in-Delay.reset) c.list_of-list.result.now c.list_of-list.ensures c.in-Delay.is)
 
-pub passed_out-requires-clause-designed : goal.passed_out-requires-clause-designed
-passed_out-requires-clause-designed c = c.requires.designed
-
-pub passed_out-requires-clause-cycles : goal.passed_out-requires-clause-cycles
-passed_out-requires-clause-cycles c = c.requires.cycles
-
-pub passed_out-requires-clause-shown : goal.passed_out-requires-clause-shown
-passed_out-requires-clause-shown c = c.requires.shown
+pub passed_out-requires-clause-can : goal.passed_out-requires-clause-can
+passed_out-requires-clause-can c = c.requires.can
 
 pub passed_out-requires-clause-operands : goal.passed_out-requires-clause-operands
-passed_out-requires-clause-operands c = c.requires.operands
+passed_out-requires-clause-operands c = c.requires.ready.operands_are
 
 pub passed_out-requires-clause-kind : goal.passed_out-requires-clause-kind
 passed_out-requires-clause-kind c = c.in-EnOut.is ∙ ap (EnOut c.in-EnOut.reset) (list_is c.args.site.one.now.kind (EnOut c.in-EnOut.reset c.in-EnOut.initial) c.list_of-list.result.now c.list_of-list.ensures c.in-EnOut.is)
 
-pub put_worked-requires-clause-shown : goal.put_worked-requires-clause-shown
-put_worked-requires-clause-shown c = c.requires.shown
-
-pub put_worked-requires-clause-types : goal.put_worked-requires-clause-types
-put_worked-requires-clause-types c = c.requires.types
-
-pub put_worked-requires-clause-operands : goal.put_worked-requires-clause-operands
-put_worked-requires-clause-operands c = c.requires.operands
+pub put_worked-requires-clause-ready : goal.put_worked-requires-clause-ready
+put_worked-requires-clause-ready c = c.requires.ready
 
 pub put_worked-requires-clause-kind : goal.put_worked-requires-clause-kind
 put_worked-requires-clause-kind c =
@@ -168,4 +132,4 @@ returns-in-Inport c = c.handed.ensures
 
 pub unreachable-unreachable : goal.unreachable-unreachable
 unreachable-unreachable c =
-    shows_none c.args.site.design.checked.now.diagram c.args.site.place.block c.args.site.one.now c.args.site.place.port c.args.site.place.element c.requires.designed.scheduled.checked c.requires.shown c.in-Terminator.is
+    shows_none c.args.site.design.checked.now.diagram c.args.site.place.block c.args.site.one.now c.args.site.place.port c.args.site.place.element c.requires.can.designed.scheduled.checked c.requires.can.shown c.in-Terminator.is

@@ -7,14 +7,10 @@ use Rattle.std.proofs.lemmas.Result.{on_ok_weaker}
 use Rattle.hw_build.proofs.gathering.control_end.Goals as goal
 
 pub at-hub-requires-clause-there : goal.at-hub-requires-clause-there
-at-hub-requires-clause-there c =
-    let feeds = control_feeds c.args.design.checked.now.diagram c.args.block c.block_at.result.now c.in-Some.control (sym c.control_of.ensures ∙ c.in-Some.is) in
-    control_there c.ends_are_lawful.ensures c.args.block c.in-Some.control c.block_at.result.now c.block_at.ensures feeds
+at-hub-requires-clause-there c = control_there c.ends_are_lawful.ensures c.args.block c.in-Some.control c.block_at.result.now c.block_at.ensures (control_feeds c.args.design.checked.now.diagram c.args.block c.block_at.result.now c.in-Some.control (sym c.control_of.ensures ∙ c.in-Some.is))
 
 pub period-requires : goal.period-requires
-period-requires c =
-    let feeds = control_feeds c.args.design.checked.now.diagram c.args.block c.block_at.result.now c.in-Some.control (sym c.control_of.ensures ∙ c.in-Some.is) in
-    control_inside c.ends_are_lawful.ensures c.args.block c.in-Some.control c.block_at.result.now c.block_at.ensures feeds
+period-requires c = control_inside c.ends_are_lawful.ensures c.args.block c.in-Some.control c.block_at.result.now c.block_at.ensures (control_feeds c.args.design.checked.now.diagram c.args.block c.block_at.result.now c.in-Some.control (sym c.control_of.ensures ∙ c.in-Some.is))
 
 pub returns-in_default-period : goal.returns-in_default-period
 returns-in_default-period c =
@@ -27,9 +23,7 @@ returns-in_default-period c =
     c.ask_signal.ensures
 
 pub frame_after-frame-requires-clause-there : goal.frame_after-frame-requires-clause-there
-frame_after-frame-requires-clause-there c =
-    let feeds = control_feeds c.args.design.checked.now.diagram c.args.block c.block_at.result.now c.in-Some.control (sym c.control_of.ensures ∙ c.in-Some.is) in
-    control_inside c.ends_are_lawful.ensures c.args.block c.in-Some.control c.block_at.result.now c.block_at.ensures feeds
+frame_after-frame-requires-clause-there c = control_inside c.ends_are_lawful.ensures c.args.block c.in-Some.control c.block_at.result.now c.block_at.ensures (control_feeds c.args.design.checked.now.diagram c.args.block c.block_at.result.now c.in-Some.control (sym c.control_of.ensures ∙ c.in-Some.is))
 
 pub overflow_sub-to : goal.overflow_sub-to
 overflow_sub-to c =

@@ -21,11 +21,11 @@ pub keep-requires-clause-enabled : goal.keep-requires-clause-enabled
 keep-requires-clause-enabled c = (rw c.in-Some.is refl, refl)
 
 pub driver_period-requires-clause-is : goal.driver_period-requires-clause-is
-driver_period-requires-clause-is c = c.requires.shown.block_is
+driver_period-requires-clause-is c = c.requires.can.shown.block_is
 
 pub driver_period-requires-clause-some : goal.driver_period-requires-clause-some
 driver_period-requires-clause-some c =
-    let ports = subst (λ (kind : Kind). HasPorts kind c.args.site.one.now.inputs c.args.site.one.now.outputs) c.requires.kind (readable c.args.site.design.checked.now.diagram c.args.site.place.block c.args.site.one.now c.requires.designed.scheduled.checked c.requires.shown.block_is).ports in
+    let ports = subst (λ (kind : Kind). HasPorts kind c.args.site.one.now.inputs c.args.site.one.now.outputs) c.requires.kind (readable c.args.site.design.checked.now.diagram c.args.site.place.block c.args.site.one.now c.requires.can.designed.scheduled.checked c.requires.can.shown.block_is).ports in
     omega (arith, ports.0)
 
 pub handed-requires-clause-hands : goal.handed-requires-clause-hands

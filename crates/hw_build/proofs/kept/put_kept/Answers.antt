@@ -19,15 +19,15 @@ use Rattle.hw_build.proofs.EnteringKept.{first_operand}
 use Rattle.hw_build.proofs.kept.put_kept.Goals as goal
 
 pub period-requires : goal.period-requires
-period-requires c = slice_get_within c.args.site.design.checked.now.diagram.blocks c.args.site.place.block c.args.site.one.now c.requires.shown.block_is
+period-requires c = slice_get_within c.args.site.design.checked.now.diagram.blocks c.args.site.place.block c.args.site.one.now c.requires.can.shown.block_is
 
 pub own_frame_of-frame-requires-clause-there : goal.own_frame_of-frame-requires-clause-there
-own_frame_of-frame-requires-clause-there c = slice_get_within c.args.site.design.checked.now.diagram.blocks c.args.site.place.block c.args.site.one.now c.requires.shown.block_is
+own_frame_of-frame-requires-clause-there c = slice_get_within c.args.site.design.checked.now.diagram.blocks c.args.site.place.block c.args.site.one.now c.requires.can.shown.block_is
 
 pub unwrap-period-requires : goal.unwrap-period-requires
 unwrap-period-requires c =
-    let timed = c.schedules_are_timed.ensures c.args.site.design.checked.now.diagram c.args.site.design.plan.now (times_for c.args.site.design) c.requires.designed.scheduled in
-    let moving = timed.moving c.args.site.place.block c.args.site.one.now c.requires.shown.block_is c.requires.moves in
+    let timed = c.schedules_are_timed.ensures c.args.site.design.checked.now.diagram c.args.site.design.plan.now (times_for c.args.site.design) c.requires.can.designed.scheduled in
+    let moving = timed.moving c.args.site.place.block c.args.site.one.now c.requires.can.shown.block_is c.requires.moves in
     subst (λ (period : Option ℕ). IsSome period) (sym (c.period.ensures ∙ moving.1)) refl
 
 pub bounds-site-0 : goal.bounds-site-0
@@ -37,13 +37,13 @@ bounds-site-0 c =
 
 pub put_series-requires-clause-cycles : goal.put_series-requires-clause-cycles
 put_series-requires-clause-cycles c =
-    let some = c.requires.designed.scheduled.planned.some_clocks in
-    omega (arith, some, c.requires.cycles)
+    let some = c.requires.can.designed.scheduled.planned.some_clocks in
+    omega (arith, some, c.requires.can.cycles)
 
 pub put_series-requires-clause-period : goal.put_series-requires-clause-period
 put_series-requires-clause-period c =
     let is : (attributes_of c.args.site.design.checked.now.diagram).period_at c.args.site.place.block ≡ Some c.unwrap-period.result = search (rules, c.period.ensures) in
-    let some = c.periods_are_above.ensures.above c.args.site.design.checked.now.diagram c.args.site.place.block c.unwrap-period.result c.requires.designed.scheduled.checked is in
+    let some = c.periods_are_above.ensures.above c.args.site.design.checked.now.diagram c.args.site.place.block c.unwrap-period.result c.requires.can.designed.scheduled.checked is in
     subst (λ (f : Frame). 0 < f.period) (sym c.own_frame_of-frame.ensures) some
 
 pub put_series-requires-clause-word : goal.put_series-requires-clause-word

@@ -6,6 +6,6 @@ use Rattle.hw_build.proofs.offers.from_first.Goals as goal
 
 pub loop-element-preserved : goal.loop-element-preserved
 loop-element-preserved c =
-    let f : ℕ → ℕ = offered_at c.args.setting.design.checked.now.diagram c.args.setting.operands.now c.args.place.block 1 in
+    let f : ℕ → ℕ = offered_at c.args.to.setting.design.checked.now.diagram c.args.to.setting.operands.now c.args.to.place.block 1 in
     rw c.in_ok-push.ensures.appended
     (ap (λ (xs : List ℕ). xs ++ c.at.result ∷ []) c.loop-element.invariant ∙ ap (λ (n : ℕ). map f (numbers_from 0 c.loop-element.element) ++ n ∷ []) c.at.ensures ∙ sym (numbers_more f c.loop-element.element))

@@ -5,24 +5,24 @@ use Rattle.hw_build.proofs.EnteringParts.{mux_inside}
 use Rattle.std.proofs.lemmas.Result.{IfOk-weaker}
 use Rattle.hw_build.proofs.offers.from_part.Goals as goal
 
-pub bounds-parts-place : goal.bounds-parts-place
-bounds-parts-place c =
-    let diagram = c.args.setting.design.checked.now.diagram in
-    let fit = c.operations_prepare.ensures.fit diagram c.args.setting.design.checked.now.order c.args.place.block c.args.one.now (record { checked = c.keeps_rules.ensures.checked; ordered = c.keeps_rules.ensures.ordered }) c.requires.shown.block_is in
-    let inside = mux_inside diagram c.args.place.block c.args.one.now c.args.place.port c.args.place.element c.args.place.element c.requires.kind.0 c.requires.kind.1 (readable_at diagram c.keeps_rules.ensures.checked.wired c.args.place.block c.args.one.now c.requires.shown.block_is).ports fit.0 c.requires.shown in
+pub bounds-parts-to : goal.bounds-parts-to
+bounds-parts-to c =
+    let diagram = c.args.to.setting.design.checked.now.diagram in
+    let fit = c.operations_prepare.ensures.fit diagram c.args.to.setting.design.checked.now.order c.args.to.place.block c.args.to.one.now (record { checked = c.keeps_rules.ensures.checked; ordered = c.keeps_rules.ensures.ordered }) c.requires.shown.block_is in
+    let inside = mux_inside diagram c.args.to.place.block c.args.to.one.now c.args.to.place.port c.args.to.place.element c.args.to.place.element c.requires.kind.0 c.requires.kind.1 (readable_at diagram c.keeps_rules.ensures.checked.wired c.args.to.place.block c.args.to.one.now c.requires.shown.block_is).ports fit.0 c.requires.shown in
     let size = c.requires.parts.size in
     let below = inside.1 in
     omega (arith, size, below)
 
 pub returns : goal.returns
 returns c =
-    let diagram = c.args.setting.design.checked.now.diagram in
-    let fit = c.operations_prepare.ensures.fit diagram c.args.setting.design.checked.now.order c.args.place.block c.args.one.now (record { checked = c.keeps_rules.ensures.checked; ordered = c.keeps_rules.ensures.ordered }) c.requires.shown.block_is in
-    let inside = mux_inside diagram c.args.place.block c.args.one.now c.args.place.port c.args.place.element c.args.place.element c.requires.kind.0 c.requires.kind.1 (readable_at diagram c.keeps_rules.ensures.checked.wired c.args.place.block c.args.one.now c.requires.shown.block_is).ports fit.0 c.requires.shown in
+    let diagram = c.args.to.setting.design.checked.now.diagram in
+    let fit = c.operations_prepare.ensures.fit diagram c.args.to.setting.design.checked.now.order c.args.to.place.block c.args.to.one.now (record { checked = c.keeps_rules.ensures.checked; ordered = c.keeps_rules.ensures.ordered }) c.requires.shown.block_is in
+    let inside = mux_inside diagram c.args.to.place.block c.args.to.one.now c.args.to.place.port c.args.to.place.element c.args.to.place.element c.requires.kind.0 c.requires.kind.1 (readable_at diagram c.keeps_rules.ensures.checked.wired c.args.to.place.block c.args.to.one.now c.requires.shown.block_is).ports fit.0 c.requires.shown in
     let size = c.requires.parts.size in
     let below = inside.1 in
-    let within : c.args.place.element < length c.args.parts.now = omega (arith, size, below) in
+    let within : c.args.to.place.element < length c.args.parts.now = omega (arith, size, below) in
     IfOk-weaker c.single.result _ _
-    (λ nets are. subst (λ (p : ℕ). Offer c.args.setting c.args.place.block c.args.one.now p c.args.place.element nets) (sym inside.0)
-    (subst (λ (ns : List ℕ). Offer c.args.setting c.args.place.block c.args.one.now 1 c.args.place.element ns) (sym are) (c.requires.parts.each c.args.place.element within)))
+    (λ nets are. subst (λ (p : ℕ). Offer c.args.to.setting c.args.to.place.block c.args.to.one.now p c.args.to.place.element nets) (sym inside.0)
+    (subst (λ (ns : List ℕ). Offer c.args.to.setting c.args.to.place.block c.args.to.one.now 1 c.args.to.place.element ns) (sym are) (c.requires.parts.each c.args.to.place.element within)))
     c.single.ensures

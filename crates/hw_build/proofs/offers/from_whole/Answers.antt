@@ -10,15 +10,15 @@ use Rattle.hw_build.proofs.offers.from_whole.Goals as goal
 
 pub returns : goal.returns
 returns c =
-    let diagram = c.args.setting.design.checked.now.diagram in
-    let block = c.args.place.block in
+    let diagram = c.args.to.setting.design.checked.now.diagram in
+    let block = c.args.to.place.block in
     let to = c.requires.shown.port_to in
     let from = c.requires.shown.port_from in
-    let below : c.args.place.port - 1 < shown_ports c.args.one.now.kind c.args.one.now.outputs = omega (arith, to, from) in
-    let begin : slice_index_or c.args.begins.now (c.args.place.port - 1) 0 ≡ sum (map ((attributes_of diagram).width_at block) (numbers_from 1 (c.args.place.port - 1))) =
-    c.requires.begins.each (c.args.place.port - 1) below ∙ ap (λ (k : Kind). sum (map (shown_width diagram (attributes_of diagram) k block) (numbers_from 1 (c.args.place.port - 1)))) c.requires.kind.1 in
+    let below : c.args.to.place.port - 1 < shown_ports c.args.to.one.now.kind c.args.to.one.now.outputs = omega (arith, to, from) in
+    let begin : slice_index_or c.args.begins.now (c.args.to.place.port - 1) 0 ≡ sum (map ((attributes_of diagram).width_at block) (numbers_from 1 (c.args.to.place.port - 1))) =
+    c.requires.begins.each (c.args.to.place.port - 1) below ∙ ap (λ (k : Kind). sum (map (shown_width diagram (attributes_of diagram) k block) (numbers_from 1 (c.args.to.place.port - 1)))) c.requires.kind.1 in
     IfOk-weaker c.single.result _ _
-    (λ nets are places fits. subst (λ (k : Kind). AreOffered diagram places block c.args.one.now c.args.place.port c.args.place.element k nets) (sym c.requires.kind.1)
+    (λ nets are places fits. subst (λ (k : Kind). AreOffered diagram places block c.args.to.one.now c.args.to.place.port c.args.to.place.element k nets) (sym c.requires.kind.1)
     (are ∙ ap (λ (n : ℕ). n ∷ []) (c.at-net.ensures ∙ sym (fits.lines.offered block 1 c.in-Some.element))
-    ∙ ap (λ (e : ℕ). places.offered block 1 e ∷ []) (c.in-Some.ensures.1 ∙ ap (λ (n : ℕ). n + c.args.place.element) begin)))
+    ∙ ap (λ (e : ℕ). places.offered block 1 e ∷ []) (c.in-Some.ensures.1 ∙ ap (λ (n : ℕ). n + c.args.to.place.element) begin)))
     c.single.ensures

@@ -18,7 +18,7 @@ units-requires-clause-can c =
     c.args.net.now c.gather.new.net c.requires.words c.gather.new.operations.items c.in_ok-firsts.ensures.more in
     subst (λ (operations : List Operation). CanShare c.gather.new.net operations) (sym c.as_slice.ensures.value)
     (can-share c.periods_are_above.ensures.above c.periods_are_above.ensures.short c.operations_are_served.ensures.served c.operations_are_served.ensures.periods c.slots_differ.ensures.slots c.slots_differ.ensures.units c.units_are_used.ensures c.ready_fits.ensures
-    diagram plan times c.gather.new.net c.gather.new.operations.items c.requires.designed.scheduled cycles made)
+    diagram plan times c.gather.new.net c.gather.new.operations.items c.requires.can.designed.scheduled cycles made)
 
 pub returns-clause-which : goal.returns-clause-which
 returns-clause-which c =

@@ -37,13 +37,10 @@ loop-place-preserved c =
 pub overflow_cast-place : goal.overflow_cast-place
 overflow_cast-place c =
     let blocks : length c.as_slice-place-end.result.now ≡ length c.args.design.checked.now.diagram.blocks = ap (λ (bs : List Block). length bs) (c.as_slice-place-end.ensures ∙ ap (λ (d : Diagram). d.blocks) c.diagram.ensures) in
-    record { fits = omega (arith, blocks, c.loop-place-test.true, c.requires.designed.scheduled.checked.wired.size) }
+    record { fits = omega (arith, blocks, c.loop-place-test.true, c.requires.can.designed.scheduled.checked.wired.size) }
 
-pub gather_block-requires-clause-designed : goal.gather_block-requires-clause-designed
-gather_block-requires-clause-designed c = c.requires.designed
-
-pub gather_block-requires-clause-slots : goal.gather_block-requires-clause-slots
-gather_block-requires-clause-slots c = c.requires.slots
+pub gather_block-requires-clause-can : goal.gather_block-requires-clause-can
+gather_block-requires-clause-can c = c.requires.can
 
 pub gather_block-requires-clause-there : goal.gather_block-requires-clause-there
 gather_block-requires-clause-there c =
@@ -56,15 +53,11 @@ gather_block-requires-clause-count c = let size = c.loop-place.invariant.1.size 
 pub returns-clause-firsts : goal.returns-clause-firsts
 returns-clause-firsts c =
     let blocks : length c.as_slice-place-end.result.now ≡ length c.args.design.checked.now.diagram.blocks = ap (λ (bs : List Block). length bs) (c.as_slice-place-end.ensures ∙ ap (λ (d : Diagram). d.blocks) c.diagram.ensures) in
-    let low = c.loop-place-test.false in
-    let high = c.loop-place.auto.place-end in
-    let all : c.loop-place.place ≡ length c.args.design.checked.now.diagram.blocks = omega (arith, blocks, low, high) in
+    let all : c.loop-place.place ≡ length c.args.design.checked.now.diagram.blocks = omega (arith, blocks, c.loop-place-test.false, c.loop-place.auto.place-end) in
     subst (λ (n : ℕ). AreFirsts c.args.design.checked.now.diagram c.args.design.plan.now c.loop-place.firsts.items n) all c.loop-place.invariant.0
 
 pub returns-clause-more : goal.returns-clause-more
 returns-clause-more c =
     let blocks : length c.as_slice-place-end.result.now ≡ length c.args.design.checked.now.diagram.blocks = ap (λ (bs : List Block). length bs) (c.as_slice-place-end.ensures ∙ ap (λ (d : Diagram). d.blocks) c.diagram.ensures) in
-    let low = c.loop-place-test.false in
-    let high = c.loop-place.auto.place-end in
-    let all : c.loop-place.place ≡ length c.args.design.checked.now.diagram.blocks = omega (arith, blocks, low, high) in
+    let all : c.loop-place.place ≡ length c.args.design.checked.now.diagram.blocks = omega (arith, blocks, c.loop-place-test.false, c.loop-place.auto.place-end) in
     subst (λ (n : ℕ). GathersFor c.args.design c.args.operands.now c.args.net.now c.loop-place.net [] c.loop-place.operations.items 0 (first_for c.args.design n)) all c.loop-place.invariant.1

@@ -30,14 +30,14 @@ period-requires c = slice_get_within _ c.args.block c.args.one.now c.requires.bl
 pub bounds-as_slice-block : goal.bounds-as_slice-block
 bounds-as_slice-block c =
     let inside = slice_get_within _ c.args.block c.args.one.now c.requires.block in
-    let size = c.requires.designed.scheduled.timed.size in
+    let size = c.requires.can.designed.scheduled.timed.size in
     let same : length c.as_slice.result.now ≡ length c.args.design.latencies.now.lat = ap length c.as_slice.ensures in
     omega (arith, inside, size, same)
 
 pub offset_bounds-as_slice-number : goal.offset_bounds-as_slice-number
 offset_bounds-as_slice-number c =
     let inside = slice_get_within (shared_operations c.args.design.checked.now.diagram (attributes_of c.args.design.checked.now.diagram) c.args.design.plan.now) c.args.number (operation c.args.block c.args.element) c.requires.is in
-    let size = c.requires.slots.starts.size in
+    let size = c.requires.can.slots.starts.size in
     let same : length c.as_slice-2.result.now ≡ length c.args.design.slots.now.starts = ap length c.as_slice-2.ensures in
     let below : c.args.number < length c.as_slice-2.result.now = omega (arith, inside, size, same) in
     search (rules, below)
@@ -45,14 +45,14 @@ offset_bounds-as_slice-number c =
 pub bounds-as_slice-number : goal.bounds-as_slice-number
 bounds-as_slice-number c =
     let inside = slice_get_within (shared_operations c.args.design.checked.now.diagram (attributes_of c.args.design.checked.now.diagram) c.args.design.plan.now) c.args.number (operation c.args.block c.args.element) c.requires.is in
-    let size = c.requires.slots.starts.size in
+    let size = c.requires.can.slots.starts.size in
     let same : length c.as_slice-2.result.now ≡ length c.args.design.slots.now.starts = ap length c.as_slice-2.ensures in
     omega (arith, inside, size, same)
 
 pub offset_bounds-as_slice-number-2 : goal.offset_bounds-as_slice-number-2
 offset_bounds-as_slice-number-2 c =
     let inside = slice_get_within (shared_operations c.args.design.checked.now.diagram (attributes_of c.args.design.checked.now.diagram) c.args.design.plan.now) c.args.number (operation c.args.block c.args.element) c.requires.is in
-    let size = c.requires.slots.units.size in
+    let size = c.requires.can.slots.units.size in
     let same : length c.as_slice-3.result.now ≡ length c.args.design.slots.now.units = ap length c.as_slice-3.ensures in
     let below : c.args.number < length c.as_slice-3.result.now = omega (arith, inside, size, same) in
     search (rules, below)
@@ -60,7 +60,7 @@ offset_bounds-as_slice-number-2 c =
 pub bounds-as_slice-number-2 : goal.bounds-as_slice-number-2
 bounds-as_slice-number-2 c =
     let inside = slice_get_within (shared_operations c.args.design.checked.now.diagram (attributes_of c.args.design.checked.now.diagram) c.args.design.plan.now) c.args.number (operation c.args.block c.args.element) c.requires.is in
-    let size = c.requires.slots.units.size in
+    let size = c.requires.can.slots.units.size in
     let same : length c.as_slice-3.result.now ≡ length c.args.design.slots.now.units = ap length c.as_slice-3.ensures in
     omega (arith, inside, size, same)
 
@@ -71,9 +71,9 @@ returns-clause-made c =
     let period : c.samples.result ≡ samples ((attributes_of diagram).period_at c.args.block) = c.samples.ensures ∙ ap samples c.period.ensures in
     let late : slice_index_or c.as_slice.result.now c.args.block 0 ≡ latency_at c.args.design.latencies.now.lat c.args.block = ap (λ (xs : List ℕ). slice_index_or xs c.args.block 0) c.as_slice.ensures in
     let slot : slice_index_or c.as_slice-2.result.now c.args.number 0 ≡ slot_of diagram (attributes_of diagram) c.args.design.plan.now (times_for c.args.design) c.args.number o =
-    ap (λ (xs : List ℕ). slice_index_or xs c.args.number 0) c.as_slice-2.ensures ∙ get_or_from_slice_get c.args.design.slots.now.starts c.args.number _ 0 (c.requires.slots.starts.are c.args.number o c.requires.is) in
+    ap (λ (xs : List ℕ). slice_index_or xs c.args.number 0) c.as_slice-2.ensures ∙ get_or_from_slice_get c.args.design.slots.now.starts c.args.number _ 0 (c.requires.can.slots.starts.are c.args.number o c.requires.is) in
     let unit : slice_index_or c.as_slice-3.result.now c.args.number 0 ≡ unit_of diagram (attributes_of diagram) c.args.design.plan.now (times_for c.args.design) c.args.number o =
-    ap (λ (xs : List ℕ). slice_index_or xs c.args.number 0) c.as_slice-3.ensures ∙ get_or_from_slice_get c.args.design.slots.now.units c.args.number _ 0 (c.requires.slots.units.are c.args.number o c.requires.is) in
+    ap (λ (xs : List ℕ). slice_index_or xs c.args.number 0) c.as_slice-3.ensures ∙ get_or_from_slice_get c.args.design.slots.now.units c.args.number _ 0 (c.requires.can.slots.units.are c.args.number o c.requires.is) in
     record {
       frame = ap (λ (p : ℕ). record { period = p; latency = slice_index_or c.as_slice.result.now c.args.block 0 }) period ∙ ap (λ (l : ℕ). record { period = samples ((attributes_of diagram).period_at c.args.block); latency = l }) late;
       slot = slot;
