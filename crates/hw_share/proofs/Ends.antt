@@ -233,22 +233,15 @@ module _ (before now : Circuit) (operations : List Operation) (ends : List (Opti
               (inv.offered k other own less_still there (sym (at-other other.unit far) ∙ known))
         ]
 
-    left-of : (k : ℕ) (other : Operation) (own : Ends) → slice_get operations k ≡ Some other → ends_at (set ends one.unit (Some end)) other.unit ≡ Some own → SameWord before new other.left own.left
-    left-of k other own there known =
+    word-of : (from : Operation → ℕ) (to : Ends → ℕ) → ((k : ℕ) (other : Operation) → slice_get operations k ≡ Some other → other.unit ≡ one.unit → SameWord before before (from other) (from one)) → SameWord before new (from one) (to end)
+        → ((k : ℕ) (other : Operation) (own : Ends) → slice_get operations k ≡ Some other → ends_at ends other.unit ≡ Some own → SameWord before now (from other) (to own))
+        → (k : ℕ) (other : Operation) (own : Ends) → slice_get operations k ≡ Some other → ends_at (set ends one.unit (Some end)) other.unit ≡ Some own → SameWord before new (from other) (to own)
+    word-of from to alike here before_it k other own there known =
         elim (cases_eq other.unit one.unit) [
           | inl units ↦
               let same : end ≡ own = same_Some end own (sym (at-own other.unit units) ∙ known) in
-              subst (λ (x : Ends). SameWord before new other.left x.left) same (word-then before before new other.left one.left end.left (left-alike k other there units) step.left_word)
-          | inr far ↦ word-later before now new other.left own.left step.extends (inv.left_word k other own there (sym (at-other other.unit far) ∙ known))
-        ]
-
-    right-of : (k : ℕ) (other : Operation) (own : Ends) → slice_get operations k ≡ Some other → ends_at (set ends one.unit (Some end)) other.unit ≡ Some own → SameWord before new other.right own.right
-    right-of k other own there known =
-        elim (cases_eq other.unit one.unit) [
-          | inl units ↦
-              let same : end ≡ own = same_Some end own (sym (at-own other.unit units) ∙ known) in
-              subst (λ (x : Ends). SameWord before new other.right x.right) same (word-then before before new other.right one.right end.right (right-alike k other there units) step.right_word)
-          | inr far ↦ word-later before now new other.right own.right step.extends (inv.right_word k other own there (sym (at-other other.unit far) ∙ known))
+              subst (λ (x : Ends). SameWord before new (from other) (to x)) same (word-then before before new (from other) (from one) (to end) (alike k other there units) here)
+          | inr far ↦ word-later before now new (from other) (to own) step.extends (before_it k other own there (sym (at-other other.unit far) ∙ known))
         ]
 
     taken-of : (k : ℕ) (other : Operation) → k < i + 1 → slice_get operations k ≡ Some other → IsSome (ends_at (set ends one.unit (Some end)) other.unit)
@@ -279,8 +272,8 @@ module _ (before now : Circuit) (operations : List Operation) (ends : List (Opti
       size = length-set ends one.unit (Some end) ∙ inv.size;
       taken = taken-of;
       offered = offered-of;
-      left_word = left-of;
-      right_word = right-of;
+      left_word = word-of (λ (o : Operation). o.left) (λ (e : Ends). e.left) left-alike step.left_word inv.left_word;
+      right_word = word-of (λ (o : Operation). o.right) (λ (e : Ends). e.right) right-alike step.right_word inv.right_word;
       named = named-of;
       grown = step.grown;
     }

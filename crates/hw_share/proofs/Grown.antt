@@ -6,7 +6,7 @@ use Rattle.std.proofs.lemmas.List.Elements.{All-nil, All-cons, All-contains}
 use Rattle.hw_net.specs.declared.netlist.Frame.{Frame}
 use Rattle.hw_net.specs.declared.netlist.Net.{Net}
 use Rattle.hw_net.specs.declared.netlist.NetKind.{NetKind}
-use Rattle.hw_net.specs.declared.netlist.NetKind.TheVariants.{Comb, Reg, EnReg, Bridge, Unit, Counter}
+use Rattle.hw_net.specs.declared.netlist.NetKind.TheVariants.{Counter}
 use Rattle.hw_net.specs.Circuit.{Circuit}
 use Rattle.hw_net.specs.Netlist.{HasWord}
 use Rattle.hw_net.specs.Growing.{Extends}
@@ -47,20 +47,12 @@ grows-wider a b named part other n wider p = record {
 }
 
 pub choosing-wider : (frames others : Frame → Type 0) → ((frame : Frame) → frames frame → others frame) → (kind : NetKind) → IsChoosing frames kind → IsChoosing others kind
-choosing-wider frames others f (Comb op args) is = is
-choosing-wider frames others f (Reg frame slot first from) is = is
-choosing-wider frames others f (EnReg frame enable reset first from) is = is
-choosing-wider frames others f (Bridge frame live from) is = is
-choosing-wider frames others f (Unit left right) is = is
 choosing-wider frames others f (Counter frame) is = f frame is
+choosing-wider frames others f _ is = is
 
 pub keeping-wider : (frames others : Frame → Type 0) → ((frame : Frame) → frames frame → others frame) → (kind : NetKind) → IsKeeping frames kind → IsKeeping others kind
-keeping-wider frames others f (Comb op args) is = is
-keeping-wider frames others f (Reg frame slot first from) is = is
-keeping-wider frames others f (EnReg frame enable reset first from) is = is
-keeping-wider frames others f (Bridge frame live from) is = is
-keeping-wider frames others f (Unit left right) is = is
 keeping-wider frames others f (Counter frame) is = f frame is
+keeping-wider frames others f _ is = is
 
 -- the word of a net that has the word of another
 pub word-then : (a b c : Circuit) (from middle number : ℕ) → SameWord a b from middle → SameWord b c middle number → SameWord a c from number

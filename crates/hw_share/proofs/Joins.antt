@@ -45,24 +45,23 @@ module _ (before a b c d : Circuit) (old : Ends) (one : Operation) (test left ri
   cd : Extends c d
   cd = last.appends.extends
 
-  left-selects : InRows before d (λ n rows. Selects n (span_of before.cycles one.frame) one.slot (rows one.left) (rows old.left) (rows left))
-  left-selects = in-rows-both before d
+  selects-by : (here there number : ℕ) → InRows before d (λ n rows. Chooses n (rows test) (rows here) (rows there) (rows number)) → InRows before d (λ n rows. Selects n (span_of before.cycles one.frame) one.slot (rows here) (rows there) (rows number))
+  selects-by here there number chooses = in-rows-both before d
       (λ n rows. Tests n (span_of before.cycles one.frame) one.slot (rows test))
-      (λ n rows. Chooses n (rows test) (rows one.left) (rows old.left) (rows left))
-      (λ n rows. Selects n (span_of before.cycles one.frame) one.slot (rows one.left) (rows old.left) (rows left))
+      (λ n rows. Chooses n (rows test) (rows here) (rows there) (rows number))
+      (λ n rows. Selects n (span_of before.cycles one.frame) one.slot (rows here) (rows there) (rows number))
       (in-rows-first before b d (λ n rows. Tests n (span_of before.cycles one.frame) one.slot (rows test)) (extends-trans b c d bc cd) tested.shows)
+      chooses
+      (λ n rows p q. selects-of n (span_of before.cycles one.frame) one.slot (rows test) (rows here) (rows there) (rows number) p q)
+
+  left-selects : InRows before d (λ n rows. Selects n (span_of before.cycles one.frame) one.slot (rows one.left) (rows old.left) (rows left))
+  left-selects = selects-by one.left old.left left
       (in-rows-last before b d (λ n rows. Chooses n (rows test) (rows one.left) (rows old.left) (rows left)) (extends-trans before a b grew ab)
       (in-rows-first b c d (λ n rows. Chooses n (rows test) (rows one.left) (rows old.left) (rows left)) cd chosen.shows))
-      (λ n rows p q. selects-of n (span_of before.cycles one.frame) one.slot (rows test) (rows one.left) (rows old.left) (rows left) p q)
 
   right-selects : InRows before d (λ n rows. Selects n (span_of before.cycles one.frame) one.slot (rows one.right) (rows old.right) (rows right))
-  right-selects = in-rows-both before d
-      (λ n rows. Tests n (span_of before.cycles one.frame) one.slot (rows test))
-      (λ n rows. Chooses n (rows test) (rows one.right) (rows old.right) (rows right))
-      (λ n rows. Selects n (span_of before.cycles one.frame) one.slot (rows one.right) (rows old.right) (rows right))
-      (in-rows-first before b d (λ n rows. Tests n (span_of before.cycles one.frame) one.slot (rows test)) (extends-trans b c d bc cd) tested.shows)
+  right-selects = selects-by one.right old.right right
       (in-rows-last before c d (λ n rows. Chooses n (rows test) (rows one.right) (rows old.right) (rows right)) (extends-trans before a c grew (extends-trans a b c ab bc)) also.shows)
-      (λ n rows p q. selects-of n (span_of before.cycles one.frame) one.slot (rows test) (rows one.right) (rows old.right) (rows right) p q)
 
   grows-on : GrowsOn before a d (one.left ∷ one.right ∷ old.left ∷ old.right ∷ []) one.frame
   grows-on operations named framed names grown =

@@ -172,20 +172,12 @@ module _ (closed : RegisterIsClosed) (a b c d : Circuit) (operations : List Oper
       kept.grown
 
   not-choosing : (kind : NetKind) → IsChoosing (IsFrameOf operations) kind → is_unit kind ≡ true → ⊥
-  not-choosing (Comb op args) is e = true≢false (sym e)
-  not-choosing (Reg frame slot from to) is e = true≢false (sym e)
-  not-choosing (EnReg frame enable reset from to) is e = true≢false (sym e)
-  not-choosing (Bridge frame live from) is e = true≢false (sym e)
   not-choosing (Unit left right) is e = absurd is
-  not-choosing (Counter frame) is e = true≢false (sym e)
+  not-choosing _ is e = true≢false (sym e)
 
   not-keeping : (kind : NetKind) → IsKeeping (IsFrameOf operations) kind → is_unit kind ≡ true → ⊥
-  not-keeping (Comb op args) is e = true≢false (sym e)
-  not-keeping (Reg frame slot from to) is e = true≢false (sym e)
-  not-keeping (EnReg frame enable reset from to) is e = true≢false (sym e)
-  not-keeping (Bridge frame live from) is e = true≢false (sym e)
   not-keeping (Unit left right) is e = absurd is
-  not-keeping (Counter frame) is e = true≢false (sym e)
+  not-keeping _ is e = true≢false (sym e)
 
   is-multiplying : (kind : NetKind) → IsMultiplying kind → is_unit kind ≡ true
   is-multiplying (Comb op args) is = absurd is

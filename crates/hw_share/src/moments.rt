@@ -1,7 +1,8 @@
 //! Tests for clocks of frames, of which there is one for each clock.
-ghost use Rattle.std.specs.Prelude.{◌≡◌, ◌*◌, ◌<◌, ◌++◌, ◌∷◌, [], true, ℕ, IfOk, OnOk, Some};
+ghost use Rattle.std.specs.Prelude.{◌≡◌, ◌++◌, ◌∷◌, [], true, ℕ, IfOk, OnOk, Some};
 ghost use Rattle.hw_net.specs.Circuit.{Circuit};
 ghost use Rattle.hw_net.specs.Growing.{Extends};
+ghost use Rattle.hw_share.specs.inner.Choices.{IsSlotOf};
 ghost use Rattle.hw_share.specs.inner.Parts.{Grows, IsChoosing};
 ghost use Rattle.hw_share.specs.inner.KnownTests.{IsKnown, IsTested};
 
@@ -78,9 +79,7 @@ pub fn test_for(
     frame: Frame,
     slot: u64,
 ) -> Result<u32, OutOfMemory>
-    requires cycles { 0 < net.old.cycles }
-    requires period { 0 < frame.period }
-    requires inside { slot < frame.period * net.old.cycles }
+    requires { IsSlotOf net.old frame slot }
     ensures test { IfOk result (λ number. (before : Circuit) → Extends before net.old
         → IsTested before net.old net.new moments.old.list.items moments.new.list.items
         frame slot number) }

@@ -1,8 +1,8 @@
 //! A test for a clock of a frame, by the frame's Counter.
-ghost use Rattle.std.specs.Prelude.{◌≡◌, ◌*◌, ◌-◌, ◌<◌, [], IfOk, OnOk, pos, false};
+ghost use Rattle.std.specs.Prelude.{◌≡◌, ◌-◌, ◌<◌, [], IfOk, OnOk, pos, false};
 ghost use Rattle.fx_num.specs.Word.{IsWord, InWord};
 ghost use Rattle.hw_share.specs.inner.Parts.{Grows, IsChoosing};
-ghost use Rattle.hw_share.specs.inner.Choices.{IsTestAt};
+ghost use Rattle.hw_share.specs.inner.Choices.{IsSlotOf, IsTestAt};
 
 use crate::combining::combine;
 use fx_io::OutOfMemory;
@@ -26,9 +26,7 @@ pub fn test_at(
     frame: Frame,
     slot: u64,
 ) -> Result<u32, OutOfMemory>
-    requires cycles { 0 < net.old.cycles }
-    requires period { 0 < frame.period }
-    requires inside { slot < frame.period * net.old.cycles }
+    requires { IsSlotOf net.old frame slot }
     ensures test { IfOk result (λ number. IsTestAt net.old net.new frame slot number) }
     ensures grown { OnOk result
         (Grows net.old net.new [] (IsChoosing (λ other. other ≡ frame)) 0) }

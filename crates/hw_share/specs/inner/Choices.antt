@@ -1,5 +1,5 @@
 -- A test for a clock of a frame, and a choice by it.
-use Rattle.std.specs.Prelude.{◌≡◌, ◌≢◌, ℕ, ◌<◌, ◌≤◌, pos, length}
+use Rattle.std.specs.Prelude.{◌≡◌, ◌≢◌, ℕ, ◌*◌, ◌<◌, ◌≤◌, pos, length}
 use Rattle.hw_net.specs.declared.netlist.Frame.{Frame}
 use Rattle.hw_net.specs.Circuit.{Circuit}
 use Rattle.hw_net.specs.Registers.{Wave, Span, Takes}
@@ -7,6 +7,12 @@ use Rattle.hw_net.specs.NetRows.{span_of}
 use Rattle.hw_net.specs.Growing.{InRows}
 use Rattle.hw_share.specs.Operations.{SameWord}
 use Rattle.hw_share.specs.inner.Parts.{IsThere}
+
+-- the slot is one of the frame's
+pub record IsSlotOf (netlist : Circuit) (frame : Frame) (slot : ℕ) : Type 0 where
+  pub cycles : 0 < netlist.cycles
+  pub period : 0 < frame.period
+  pub inside : slot < frame.period * netlist.cycles
 
 -- the wave is 1 in the clock of the slot of each frame, and else 0
 pub record Tests (n : ℕ) (span : Span) (slot : ℕ) (wave : Wave) : Type 0 where

@@ -7,6 +7,11 @@ use Rattle.hw_share.proofs.joining.join.Goals as goal
 pub returns-in_default : goal.returns-in_default
 returns-in_default c = λ before grew tests. (begun-part before c.args.net.now c.args.known c.args.one c.in_default.is, tests)
 
+pub test_for-requires : goal.test_for-requires
+test_for-requires c =
+    let can = c.requires.can c.in-Some.ends c.in-Some.is in
+    record { cycles = can.cycles; period = can.is.some; inside = can.is.inside }
+
 pub choose-requires : goal.choose-requires
 choose-requires c =
     let is = c.in_ok-test.ensures.test c.requires.tests.0 c.requires.tests.1 in
