@@ -160,9 +160,9 @@ module _ (before now new : Circuit) (source : Source) (uses : List Use) (bound :
       same-use : {x y : Use} → Some x ≡ Some y → x ≡ y
       same-use e = cc
 
-module _ (before now : Circuit) (source : Source) (uses : List Use) (bound : ℕ) (taps : List ℕ) (entries : List (Frame × ℕ)) (answers : List ℕ) (done : IsDone before now source uses bound taps entries answers (length uses)) where
+module _ (before now : Circuit) (source : Source) (uses : List Use) (bound : ℕ) (taps : List ℕ) (entries : List (Frame × ℕ)) (answers : List ℕ) (i : ℕ) (all : i ≡ length uses) (done : IsDone before now source uses bound taps entries answers i) where
   pub done-answers : AreAnswers before now source uses answers
-  done-answers = record { count = done.size; each = done.are }
+  done-answers = record { count = done.size ∙ all; each = done.are }
 
   pub done-chained : bound ≡ register_count before.nets + most_frames source.frame.period uses + different (frames_of source uses) → IsChained before now source uses
   done-chained is = record {

@@ -1,22 +1,23 @@
 -- The end of a line is an answer for its use. Crates above may cite this file.
 use Rattle.std.proofs.Common.{◌≡◌, ℕ, zero, suc, Result, Ok, Err, IfOk, OnOk, ◌+◌, ◌-◌, ◌*◌, ◌/◌, ◌%◌, ◌<◌, ◌≤◌, ◌⊎◌, length, inl, inr, List, Some, slice_get, Bool, true, false, ap, sym, ◌∙◌, subst, arith, refl}
 use Rattle.std.proofs.Math.Nat.{mul-mod_left}
-use Rattle.std.proofs.lemmas.Nat.{div-add-mod'}
-use Rattle.std.specs.Prelude.{⊤}
+use Rattle.std.proofs.lemmas.Nat.{div-add-mod', mod_below}
+use Rattle.std.proofs.lemmas.Option.{slice_get-get_or}
+use Rattle.std.specs.Prelude.{slice_index_or, ⊤}
 use Rattle.hw_net.specs.declared.netlist.Frame.{Frame}
 use Rattle.hw_net.specs.Circuit.{Circuit}
 use Rattle.hw_net.specs.NetRows.{Rows, span_of}
 use Rattle.hw_net.specs.Registers.{IsReg, IsBridge}
 use Rattle.hw_net.specs.Growing.{Extends}
 use Rattle.hw_net.specs.Frames.{register_count}
-use Rattle.hw_net.proofs.Growing.{longer, in-rows-first, in-rows-last, in-rows-map, in-rows-both}
+use Rattle.hw_net.proofs.Growing.{extends-self, longer, in-rows-first, in-rows-last, in-rows-map, in-rows-both}
 use Rattle.hw_lines.specs.declared.source.Source.{Source}
 use Rattle.hw_lines.specs.declared.source.Use.{Use}
 use Rattle.hw_lines.specs.Line.{ShowsLater}
 use Rattle.hw_lines.specs.Chain.{IsUse, IsAnswer, IsCountedIn, reader_of, line_to}
 use Rattle.hw_lines.specs.Taps.{IsTap, IsShifted, TapMeets, TapHolds, PhaseRegisterMeets, BridgeMeets}
 use Rattle.hw_lines.specs.inner.Parts.{Grows, IsHeld, IsBridged, IsTapAt}
-use Rattle.hw_lines.specs.inner.Ends.{Ends}
+use Rattle.hw_lines.specs.inner.Ends.{CanEnd, IsEnd, Ends}
 use Rattle.hw_lines.proofs.Steps.{word-of-word, reg-earlier, tap-named, grows-trans}
 
 self-mod : (n : ℕ) → 0 < n → n % n ≡ 0
@@ -167,3 +168,64 @@ if-on P R Q (Err e) p q f = tt
 pub on-both : {A E : Type 0} (P Q R : Type 0) (result : Result A E) → OnOk result P → OnOk result Q → (P → Q → R) → OnOk result R
 on-both P Q R (Ok x) p q f = f p q
 on-both P Q R (Err e) p q f = tt
+
+-- ---- the four ends
+
+module _ (now : Circuit) (source : Source) (taps : List ℕ) (one : Use) (can : CanEnd now source taps one) where
+  abbrev tap : ℕ
+  tap = slice_index_or taps (one.shift / source.frame.period) 0
+
+  abbrev rest : ℕ
+  rest = one.shift % source.frame.period
+
+  there : slice_get taps (one.shift / source.frame.period) ≡ Some tap
+  there = slice_get-get_or taps (one.shift / source.frame.period) 0 can.size
+
+  split : one.shift ≡ one.shift / source.frame.period * source.frame.period + rest
+  split = sym (div-add-mod' one.shift source.frame.period)
+
+  no-rest : rest ≡ 0 → one.shift ≡ one.shift / source.frame.period * source.frame.period
+  no-rest none = omega (arith, split, none)
+
+  pub nothing-ends : Ends now now source taps one
+  nothing-ends = record { extends = extends-self now; grown = λ before uses among are grown. grown; few = omega arith }
+
+  pub plain-ends : TapMeets → source.registered ≡ false → rest ≡ 0 → one.period ≡ source.frame.period → IsEnd now now source taps one tap
+  plain-ends meets plain none same = record {
+    answer = λ before are p. plain-tap source one can.some can.use_is before now can.cycles (one.shift / source.frame.period) tap p (are.each (one.shift / source.frame.period) tap there) meets plain same (no-rest none);
+  }
+
+  pub registered-ends : TapHolds → source.registered ≡ true → rest ≡ 0 → IsEnd now now source taps one tap
+  registered-ends holds registered none = record {
+    answer = λ before are p. registered-tap source one can.some can.use_is before now can.cycles (one.shift / source.frame.period) tap p (are.each (one.shift / source.frame.period) tap there) holds registered (no-rest none);
+  }
+
+  module _ {E : Type 0} (new : Circuit) (result : Result ℕ E) where
+    pub bridge-ends : BridgeMeets → source.registered ≡ false → IfOk result (λ number. IsBridged now new tap (reader_of source one) (source.frame.period - rest) number)
+        → OnOk result (Grows now new tap ⊤ (λ (other : Frame). other ≡ reader_of source one)) → IfOk result (λ number. IsEnd now new source taps one number)
+    bridge-ends meets plain bridged grown =
+        let below = mod_below one.shift source.frame.period can.some in
+        if-on (λ number. IsBridged now new tap (reader_of source one) (source.frame.period - rest) number) (λ number. IsEnd now new source taps one number) (Grows now new tap ⊤ (λ (other : Frame). other ≡ reader_of source one)) result bridged grown
+        (λ number is put. record {
+          answer = λ before are p. bridge-end source one can.some can.use_is before now can.cycles (one.shift / source.frame.period) tap p (are.each (one.shift / source.frame.period) tap there) new rest number put.appends.extends split meets plain below is;
+        })
+
+    pub bridge-grows : source.registered ≡ false → OnOk result (Grows now new tap ⊤ (λ (other : Frame). other ≡ reader_of source one)) → OnOk result (register_count new.nets ≡ register_count now.nets + 1) → OnOk result (Ends now new source taps one)
+    bridge-grows plain grown few =
+        on-both (Grows now new tap ⊤ (λ (other : Frame). other ≡ reader_of source one)) (register_count new.nets ≡ register_count now.nets + 1) (Ends now new source taps one) result grown few
+        (λ put count. bridged-ends now new source taps one (one.shift / source.frame.period) tap there plain put count)
+
+    pub phase-ends : PhaseRegisterMeets → source.registered ≡ true → 1 ≤ rest → (slot : ℕ) → slot ≡ rest * now.cycles - 1 → IfOk result (λ number. IsHeld now new tap source.frame slot source.first number)
+        → OnOk result (Grows now new tap ⊥ (λ (other : Frame). other ≡ source.frame)) → IfOk result (λ number. IsEnd now new source taps one number)
+    phase-ends meets registered some slot at held grown =
+        let below = mod_below one.shift source.frame.period can.some in
+        if-on (λ number. IsHeld now new tap source.frame slot source.first number) (λ number. IsEnd now new source taps one number) (Grows now new tap ⊥ (λ (other : Frame). other ≡ source.frame)) result held grown
+        (λ number is put. record {
+          answer = λ before are p. phase-end source one can.some can.use_is before now can.cycles (one.shift / source.frame.period) tap p (are.each (one.shift / source.frame.period) tap there) new rest number put.appends.extends split meets registered
+              some (omega (arith, below)) slot at is;
+        })
+
+    pub phase-grows : OnOk result (Grows now new tap ⊥ (λ (other : Frame). other ≡ source.frame)) → OnOk result (register_count new.nets ≡ register_count now.nets + 1) → OnOk result (Ends now new source taps one)
+    phase-grows grown few =
+        on-both (Grows now new tap ⊥ (λ (other : Frame). other ≡ source.frame)) (register_count new.nets ≡ register_count now.nets + 1) (Ends now new source taps one) result grown few
+        (λ put count. held-ends now new source taps one (one.shift / source.frame.period) tap there put count)

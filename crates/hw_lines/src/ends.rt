@@ -1,5 +1,5 @@
 //! The end of a line behind a tap: the tap itself, a register or a bridge.
-ghost use Rattle.std.specs.Prelude.{◌≡◌, ◌+◌, ◌<◌, ◌^◌, IfOk, OnOk, true, false};
+ghost use Rattle.std.specs.Prelude.{◌≡◌, ◌+◌, ◌<◌, ◌^◌, IfOk, OnOk};
 ghost use Rattle.hw_lines.specs.Chain.{reader_of};
 ghost use Rattle.hw_lines.specs.inner.Ends.{CanEnd, IsEnd, IsEndFor, Ends};
 
@@ -20,62 +20,33 @@ pub fn reader_of(source: Source, one: Use) -> Frame
     }
 }
 
-/// The end of a registered line: the tap where the shift is of whole periods, else a register
-/// behind it with a slot of its own.
-fn registered_end(
-    net: &mut Netlist,
-    source: Source,
-    taps: &[u32],
-    one: Use,
-) -> Result<u32, OutOfMemory>
-    requires can { CanEnd net.old source taps.now one }
-    requires registered { source.registered ≡ true }
-    ensures end { IfOk result (λ number. IsEnd net.old net.new source taps.now one number) }
-    ensures ends { OnOk result (Ends net.old net.new source taps.now one) }
-{
-    tap_holds();
-    phase_register_meets();
-    let own = u64::from(source.frame.period);
-    let tap = taps[(one.shift / own) as usize];
-    let rest = (one.shift % own) as u32;
-    if rest == 0 {
-        return Ok(tap);
-    }
-    let slot = rest * net.cycles() - 1;
-    register_at(net, tap, source.frame, slot, source.first)
-}
-
-/// The end of a plain line: the tap where the shift is of whole periods and the reader has the
-/// period of the source, else a bridge behind it.
-fn plain_end(net: &mut Netlist, source: Source, taps: &[u32], one: Use) -> Result<u32, OutOfMemory>
-    requires can { CanEnd net.old source taps.now one }
-    requires plain { source.registered ≡ false }
-    ensures end { IfOk result (λ number. IsEnd net.old net.new source taps.now one number) }
-    ensures ends { OnOk result (Ends net.old net.new source taps.now one) }
-{
-    tap_meets();
-    bridge_meets();
-    let own = u64::from(source.frame.period);
-    let tap = taps[(one.shift / own) as usize];
-    let rest = (one.shift % own) as u32;
-    if rest == 0 && one.period == source.frame.period {
-        return Ok(tap);
-    }
-    let reader = reader_of(source, one);
-    bridge_at(net, tap, reader, source.frame.period - rest)
-}
-
-/// The end of a line.
+/// The end of a line. Where the shift is of whole periods it is the tap, if the line is registered or
+/// its reader has the period of the source. Else it is a register behind the tap with a slot of its
+/// own, or for a plain line a bridge.
 fn end_of(net: &mut Netlist, source: Source, taps: &[u32], one: Use) -> Result<u32, OutOfMemory>
     requires { CanEnd net.old source taps.now one }
     ensures end { IfOk result (λ number. IsEnd net.old net.new source taps.now one number) }
     ensures ends { OnOk result (Ends net.old net.new source taps.now one) }
 {
+    tap_holds();
+    tap_meets();
+    phase_register_meets();
+    bridge_meets();
+    let own = u64::from(source.frame.period);
+    let tap = taps[(one.shift / own) as usize];
+    let rest = (one.shift % own) as u32;
     if source.registered {
-        registered_end(net, source, taps, one)
-    } else {
-        plain_end(net, source, taps, one)
+        if rest == 0 {
+            return Ok(tap);
+        }
+        let slot = rest * net.cycles() - 1;
+        return register_at(net, tap, source.frame, slot, source.first);
     }
+    if rest == 0 && one.period == source.frame.period {
+        return Ok(tap);
+    }
+    let reader = reader_of(source, one);
+    bridge_at(net, tap, reader, source.frame.period - rest)
 }
 
 /// The end of a line, which may be known.

@@ -1,10 +1,10 @@
-use Rattle.std.proofs.Common.{◌≡◌, ◌+◌, ◌∙◌, ℕ, List, Some, length, slice_get, slice_index_or, ap, refl, subst, arith}
+use Rattle.std.proofs.Common.{◌≡◌, ◌+◌, ◌∙◌, ℕ, List, Some, length, slice_get, slice_index_or, ap, refl, arith}
 use Rattle.std.proofs.lemmas.Option.{slice_get-get_or}
 use Rattle.hw_net.specs.Frames.{register_count}
 use Rattle.hw_lines.specs.declared.source.Source.{Source}
 use Rattle.hw_lines.specs.declared.source.Use.{Use}
 use Rattle.hw_lines.specs.Chain.{most_frames, different}
-use Rattle.hw_lines.specs.inner.Ends.{IsDone, frames_of}
+use Rattle.hw_lines.specs.inner.Ends.{frames_of}
 use Rattle.hw_lines.proofs.Chained.{room, most-of, taps-can-hold, done-start, done-more, done-answers, done-chained}
 use Rattle.hw_lines.proofs.lines.chained.Goals as goal
 
@@ -50,18 +50,8 @@ taps_of-requires-clause-room c = room c.args.source.frame.period c.args.net.now.
 
 pub returns-clause-answers : goal.returns-clause-answers
 returns-clause-answers c =
-    let low = c.loop-one-test.false in
-    let high = c.loop-one.auto.one-index-end in
-    let bound : ℕ = register_count c.args.net.now.nets + most_frames c.args.source.frame.period c.args.uses.now + different (frames_of c.args.source c.args.uses.now) in
-    let all : c.loop-one.one-index ≡ length c.args.uses.now = omega (arith, low, high) in
-    let done = subst (λ (i : ℕ). IsDone c.args.net.now c.loop-one.net c.args.source c.args.uses.now bound c.as_slice-taps.result.now c.loop-one.ends c.loop-one.answers i) all c.loop-one.invariant in
-    done-answers c.args.net.now c.loop-one.net c.args.source c.args.uses.now bound c.as_slice-taps.result.now c.loop-one.ends c.loop-one.answers done
+    done-answers c.args.net.now c.loop-one.net c.args.source c.args.uses.now _ c.as_slice-taps.result.now c.loop-one.ends c.loop-one.answers c.loop-one.one-index (omega (arith, c.loop-one-test.false, c.loop-one.auto.one-index-end)) c.loop-one.invariant
 
 pub returns-clause-chained : goal.returns-clause-chained
 returns-clause-chained c =
-    let low = c.loop-one-test.false in
-    let high = c.loop-one.auto.one-index-end in
-    let bound : ℕ = register_count c.args.net.now.nets + most_frames c.args.source.frame.period c.args.uses.now + different (frames_of c.args.source c.args.uses.now) in
-    let all : c.loop-one.one-index ≡ length c.args.uses.now = omega (arith, low, high) in
-    let done = subst (λ (i : ℕ). IsDone c.args.net.now c.loop-one.net c.args.source c.args.uses.now bound c.as_slice-taps.result.now c.loop-one.ends c.loop-one.answers i) all c.loop-one.invariant in
-    done-chained c.args.net.now c.loop-one.net c.args.source c.args.uses.now bound c.as_slice-taps.result.now c.loop-one.ends c.loop-one.answers done refl
+    done-chained c.args.net.now c.loop-one.net c.args.source c.args.uses.now _ c.as_slice-taps.result.now c.loop-one.ends c.loop-one.answers c.loop-one.one-index (omega (arith, c.loop-one-test.false, c.loop-one.auto.one-index-end)) c.loop-one.invariant refl
