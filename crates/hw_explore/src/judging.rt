@@ -105,27 +105,6 @@ fn judge_size(
     }
 }
 
-/// What a plan is worth that keeps the rule of latency.
-fn judge_slots(
-    alloc: Global,
-    checked: &Checked,
-    plan: &Resolved,
-    latencies: &Latencies,
-) -> Result<Judged, OutOfMemory>
-    requires plan { IsPlanOf checked.now.diagram plan.now }
-    requires latencies { AreLatencies checked.now.diagram plan.now latencies.now }
-    ensures { IfOk result (IsJudged checked.now.diagram plan.now) }
-{
-    match slots_of(alloc, checked, latencies, plan) {
-        Ok(slots) => judge_size(alloc, checked, plan, latencies, slots),
-        Err(BudgetFault::Budget { period, need, have }) => Ok(Judged::Bad {
-            rule: Rule::Budget,
-            shown: Shown::Budget { period, need, have },
-        }),
-        Err(BudgetFault::OutOfMemory) => Err(OutOfMemory),
-    }
-}
-
 /// What a plan is worth, by its latencies.
 fn judge(
     alloc: Global,
@@ -138,7 +117,14 @@ fn judge(
     ensures { IfOk result (IsJudged checked.now.diagram plan.now) }
 {
     match timed {
-        Timed::Kept(latencies) => judge_slots(alloc, checked, plan, latencies),
+        Timed::Kept(latencies) => match slots_of(alloc, checked, latencies, plan) {
+            Ok(slots) => judge_size(alloc, checked, plan, latencies, slots),
+            Err(BudgetFault::Budget { period, need, have }) => Ok(Judged::Bad {
+                rule: Rule::Budget,
+                shown: Shown::Budget { period, need, have },
+            }),
+            Err(BudgetFault::OutOfMemory) => Err(OutOfMemory),
+        },
         Timed::Gaining { blocks, total } => Ok(Judged::Bad {
             rule: Rule::Latency,
             shown: Shown::Latency {
