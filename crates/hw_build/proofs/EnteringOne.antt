@@ -1,18 +1,20 @@
 -- An element of a block goes into the loops over blocks: what its ends offer is there in its words, stands below it, and stood when elements began.
-use Rattle.std.proofs.Common.{◌≡◌, ℕ, ◌<◌, ◌≤◌, inl, inr, true, false, List, [], length, Contains, None, Some, ap, sym, ◌∙◌, subst, arith, refl}
+use Rattle.std.proofs.Common.{◌≡◌, ℕ, ◌<◌, ◌≤◌, inl, inr, true, false, List, [], ◌∷◌, length, All, Contains, None, Some, ap, sym, ◌∙◌, subst, arith, refl}
 use Rattle.std.proofs.lemmas.Bool.{false≢true, cases_Bool}
 use Rattle.std.proofs.lemmas.Option.{none-some, slice_get_within}
+use Rattle.fx_type.specs.declared.decimal.Decimal.{Decimal}
 use Rattle.fx_type.specs.declared.kind.FxType.{FxType}
 use Rattle.dg_model.specs.declared.diagram.Diagram.{Diagram}
 use Rattle.dg_model.specs.declared.diagram.Block.{Block}
 use Rattle.dg_model.specs.declared.kind.Kind.{Kind}
-use Rattle.dg_model.specs.declared.kind.Kind.TheVariants.{Inport, Outport, Constant, Ground, Sum, Gain, Product, Switch, Relational, Logic, Convert, Delay, Mux, Demux, RateTransition, Pass, EnableTest, EnOut, Terminator}
+use Rattle.dg_model.specs.declared.kind.Kind.TheVariants.{Gain, Product, Delay, RateTransition, EnOut}
 use Rattle.dg_model.specs.Attributes.{attributes_of}
+use Rattle.dg_model.specs.Dimension.{IsRepeated}
+use Rattle.dg_model.specs.Equation.{StoresEntry}
 use Rattle.dg_model.specs.Instant.{reads_now}
 use Rattle.dg_model.specs.Library.{row_of, HasPorts}
 use Rattle.dg_model.specs.Solves.{IsShown, shown_ports, shown_width}
 use Rattle.dg_model.specs.Wires.{period_into}
-use Rattle.dg_tables.specs.Fit.{HasLists}
 use Rattle.hw_latency.specs.Shared.{is_shared}
 use Rattle.hw_net.specs.Circuit.{Circuit}
 use Rattle.hw_lower.specs.Lowered.{AreArgs}
@@ -113,38 +115,19 @@ module _ (setting : Setting) (known : IsKnown setting) (before : Circuit) (going
       let below : element < shown_width drawn (attributes_of drawn) kind block port = subst (λ (k : Kind). element < shown_width drawn (attributes_of drawn) k block port) is shown.element_below in
       subst (λ (p : ℕ). element < (attributes_of drawn).width_at block p) first (subst (λ (n : ℕ). element < n) (plain port) below)
 
+  first_by : (kind : Kind) (list : List Decimal) → b.kind ≡ kind → (row_of kind).signal.lists ≡ list ∷ [] → shown_ports kind b.outputs ≡ 1 → ((p : ℕ) → shown_width drawn (attributes_of drawn) kind block p ≡ (attributes_of drawn).width_at block p)
+      → StoresEntry list element ((attributes_of drawn).type_at block 1) (first_at drawn block element)
+  first_by kind list is lists one plain =
+      let own : (row_of b.kind).signal.lists ≡ list ∷ [] = ap (λ (k : Kind). (row_of k).signal.lists) is ∙ lists in
+      first_stores known.storing drawn block b element list shown.block_is (below_one kind is one plain) own
+      (subst (λ (all : List (List Decimal)). All (λ (l : List Decimal). IsRepeated ((attributes_of drawn).width_at block 1) (length l)) all) own (known.fit drawn setting.design.checked.now.order block b known.ordered shown.block_is).1 0 [] (omega arith))
+      (known.valid drawn setting.design.checked.now.order block b known.ordered shown.block_is).0
+
   first_is : (kind : Kind) → b.kind ≡ kind → HasFirst drawn block element kind (first_at drawn block element)
-  first_is (Delay delay initial reset) is =
-      let ports = subst (λ (k : Kind). HasPorts k b.inputs b.outputs) is ports_are in
-      first_stores known.storing drawn block b element initial shown.block_is (below_one (Delay delay initial reset) is ports.1 (λ p. refl)) (ap (λ (k : Kind). (row_of k).signal.lists) is)
-      (subst (λ (k : Kind). HasLists k ((attributes_of drawn).width_at block 1)) is (known.fit drawn setting.design.checked.now.order block b known.ordered shown.block_is).1 0 [] (omega arith))
-      (known.valid drawn setting.design.checked.now.order block b known.ordered shown.block_is).0
-  first_is (RateTransition period initial) is =
-      let ports = subst (λ (k : Kind). HasPorts k b.inputs b.outputs) is ports_are in
-      first_stores known.storing drawn block b element initial shown.block_is (below_one (RateTransition period initial) is ports.1 (λ p. refl)) (ap (λ (k : Kind). (row_of k).signal.lists) is)
-      (subst (λ (k : Kind). HasLists k ((attributes_of drawn).width_at block 1)) is (known.fit drawn setting.design.checked.now.order block b known.ordered shown.block_is).1 0 [] (omega arith))
-      (known.valid drawn setting.design.checked.now.order block b known.ordered shown.block_is).0
-  first_is (EnOut reset initial) is =
-      let ports = subst (λ (k : Kind). HasPorts k b.inputs b.outputs) is ports_are in
-      first_stores known.storing drawn block b element initial shown.block_is (below_one (EnOut reset initial) is ports.1 (λ p. refl)) (ap (λ (k : Kind). (row_of k).signal.lists) is)
-      (subst (λ (k : Kind). HasLists k ((attributes_of drawn).width_at block 1)) is (known.fit drawn setting.design.checked.now.order block b known.ordered shown.block_is).1 0 [] (omega arith))
-      (known.valid drawn setting.design.checked.now.order block b known.ordered shown.block_is).0
-  first_is (Inport number width) is = tt
-  first_is (Outport number) is = tt
-  first_is (Constant value) is = tt
-  first_is Ground is = tt
-  first_is (Sum negative) is = tt
-  first_is (Gain value param) is = tt
-  first_is Product is = tt
-  first_is (Switch criterion threshold) is = tt
-  first_is (Relational operator) is = tt
-  first_is (Logic operator) is = tt
-  first_is (Convert stored) is = tt
-  first_is (Mux sizes) is = tt
-  first_is (Demux sizes) is = tt
-  first_is (Pass width) is = tt
-  first_is EnableTest is = tt
-  first_is Terminator is = tt
+  first_is (Delay delay initial reset) is = first_by (Delay delay initial reset) initial is refl (subst (λ (k : Kind). HasPorts k b.inputs b.outputs) is ports_are).1 (λ p. refl)
+  first_is (RateTransition period initial) is = first_by (RateTransition period initial) initial is refl (subst (λ (k : Kind). HasPorts k b.inputs b.outputs) is ports_are).1 (λ p. refl)
+  first_is (EnOut reset initial) is = first_by (EnOut reset initial) initial is refl (subst (λ (k : Kind). HasPorts k b.inputs b.outputs) is ports_are).1 (λ p. refl)
+  first_is _ is = tt
 
   -- ---- what its ends offer
 

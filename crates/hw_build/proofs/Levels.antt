@@ -1,8 +1,9 @@
 -- Levels go on as a netlist grows, and at the end no net reaches itself in a clock.
-use Rattle.std.proofs.Common.{◌≡◌, ℕ, zero, suc, ◌+◌, ◌*◌, ◌<◌, ◌≤◌, ◌⊎◌, inl, inr, List, [], ◌∷◌, length, Some, All, Contains, ap, sym, ◌∙◌, subst, arith, refl, mul-le-mul_right}
+use Rattle.std.proofs.Common.{◌≡◌, ℕ, zero, suc, ◌+◌, ◌*◌, ◌<◌, ◌≤◌, ◌⊎◌, inl, inr, List, [], ◌∷◌, length, Some, All, Contains, ap, sym, ◌∙◌, subst, length-set, arith, refl, mul-le-mul_right}
 use Rattle.std.specs.Prelude.{slice_get, slice_set, slice_index_or, nat_lt, ◌≢◌}
 use Rattle.std.proofs.lemmas.Bool.{cond-true, cond-false, cases_lt, lt-ltb, le-ltb}
 use Rattle.std.proofs.lemmas.Option.{none-some, same_Some, slice_get_within, slice_get-get_or, get_or_from_slice_get}
+use Rattle.dg_waves.proofs.Waved.{set_other}
 use Rattle.hw_net.specs.declared.netlist.Frame.{Frame}
 use Rattle.hw_net.specs.declared.netlist.Net.{Net}
 use Rattle.hw_net.specs.declared.netlist.NetKind.{NetKind}
@@ -116,16 +117,7 @@ module _ (before after : Circuit) (level : ℕ → ℕ) (own : ℕ) (named : Lis
 -- ---- a hub that gets its argument
 
 pub set_elsewhere : {A : Type 0} (xs : List A) (i k : ℕ) (x : A) → k ≢ i → slice_get (slice_set xs i x) k ≡ slice_get xs k
-set_elsewhere [] i k x differs = refl
-set_elsewhere (y ∷ xs) zero zero x differs = absurd (differs refl)
-set_elsewhere (y ∷ xs) zero (suc k) x differs = refl
-set_elsewhere (y ∷ xs) (suc i) zero x differs = refl
-set_elsewhere (y ∷ xs) (suc i) (suc k) x differs = set_elsewhere xs i k x (λ e. differs (ap suc e))
-
-pub set_length : {A : Type 0} (xs : List A) (i : ℕ) (x : A) → length (slice_set xs i x) ≡ length xs
-set_length [] i x = refl
-set_length (y ∷ xs) zero x = refl
-set_length (y ∷ xs) (suc i) x = ap suc (set_length xs i x)
+set_elsewhere xs i k x differs = set_other xs i k x (λ same. differs (sym same))
 
 -- the net of a Resize that gets its argument
 abbrev pub given : Net → ℕ → Net
@@ -138,7 +130,7 @@ pub connected_elsewhere : (before after : Circuit) (number argument k : ℕ) (is
 connected_elsewhere before after number argument k is differs = ap (λ (c : Circuit). slice_get c.nets k) is.is ∙ set_elsewhere before.nets number k (given is.net argument) differs
 
 pub connected_length : (before after : Circuit) (number argument : ℕ) (is : IsConnected before after number argument) → length after.nets ≡ length before.nets
-connected_length before after number argument is = ap (λ (c : Circuit). length c.nets) is.is ∙ set_length before.nets number (given is.net argument)
+connected_length before after number argument is = ap (λ (c : Circuit). length c.nets) is.is ∙ length-set before.nets number (given is.net argument)
 
 pub levelled_by_connect : (before after : Circuit) (level : ℕ → ℕ) (number argument : ℕ) → IsConnected before after number argument → argument < length before.nets → level argument < level number → IsLevelled before.nets level → IsLevelled after.nets level
 levelled_by_connect before after level number argument is there lower levelled =

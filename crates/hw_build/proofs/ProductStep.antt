@@ -67,7 +67,7 @@ module _ (storing : StoringGivesOne) (prepare : OperationsPrepare) (valid : Type
     count : length operations ≡ length (shared_operations diagram (attributes_of diagram) plan)
     count = operations_count storing prepare valid periods diagram order ordered plan times offered before mid after words operations products gathered shared mid_cycles
 
-    pub all_products : AreProducts diagram plan products
+    all_products : AreProducts diagram plan products
     all_products = are_products diagram plan products firsts (shared.count ∙ count)
 
     -- an operation of a place
@@ -253,7 +253,7 @@ module _ (storing : StoringGivesOne) (prepare : OperationsPrepare) (valid : Type
           units = λ none. record { each = λ number o b is at. unit_for none number o b is at };
         }
 
-    pub adds_products : AddsProducts diagram plan times offered before after products
+    adds_products : AddsProducts diagram plan times offered before after products
     adds_products = record {
       extends = extends-trans before mid after gathered.adds.appends.extends shared.appends.extends;
       way = λ places place_of closed hubs level blocks placed below_all few way. shared_way places place_of closed hubs level blocks placed below_all few way;
@@ -262,3 +262,6 @@ module _ (storing : StoringGivesOne) (prepare : OperationsPrepare) (valid : Type
       registers = let total = shared.registers in let same = same_registers before mid gathered.adds in omega (arith, total, same, count);
       counters = frame_is;
     }
+
+    pub products_put : AreProducts diagram plan products × AddsProducts diagram plan times offered before after products
+    products_put = (all_products, adds_products)

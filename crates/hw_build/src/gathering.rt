@@ -1,8 +1,7 @@
 //! What all ends ask: first those of the lines, then those of what enables blocks.
 ghost use Rattle.std.specs.Prelude.{◌≡◌, ◌++◌, ◌-◌, ◌<◌, ◌≤◌, ◌∷◌, ℕ, [], List, OnOk, length};
 ghost use Rattle.hw_build.specs.declared.operands.Span.{Span};
-ghost use Rattle.hw_build.specs.inner.Designed.{IsDesigned, times_for};
-ghost use Rattle.hw_build.specs.inner.EndAsks.{AreEndsFor, AreHubPlaces, IsControlPut, IsLawful, IsLineThere, IsLinePut, IsSpan, controls_left};
+ghost use Rattle.hw_build.specs.inner.EndAsks.{AreLawful, CanAsk, HaveAsked, IsLineThere, IsSpan, PutsControl, PutsLine, controls_left};
 
 use crate::asks::{Asks, ask_plain, ask_signal};
 use crate::design::{Design, frame_after, line_use};
@@ -16,14 +15,19 @@ use hw_latency::{block_at, control_of, is_registered, latencies_are_small, sampl
 use hw_lines::Use;
 use hw_sched::{edges_join_periods, lines_are_edges, periods_are_above};
 
+/// All ends of a design, by the first nets of its ports, for which they ask.
+#[derive(Clone, Copy)]
+pub struct Ends<'a> {
+    pub design: Design<'a>,
+    pub hubs: &'a PortWidths,
+}
+
 /// What is known where ends ask.
-pub fn ends_are_lawful<'a>(design: Design<'a>, hubs: &PortWidths)
-    requires designed { IsDesigned design }
-    requires hubs { AreHubPlaces design.checked.now.diagram hubs.now }
-    ensures { IsLawful design.entry.checked.now.diagram design.entry.checked.now.order
-        design.entry.plan.now (times_for design.entry) hubs.now }
+pub fn ends_are_lawful<'a>(ends: Ends<'a>)
+    requires { CanAsk ends }
+    ensures { AreLawful ends.entry }
 {
-    design.checked.keeps_rules();
+    ends.design.checked.keeps_rules();
     dg_model::edges_stand_by_port();
     dg_tables::operations_prepare();
     fx_round::storing_gives_one();
@@ -36,25 +40,18 @@ pub fn ends_are_lawful<'a>(design: Design<'a>, hubs: &PortWidths)
 }
 
 /// Asks for what the end of a line is offered.
-fn line_end<'a>(
-    asks: &mut Asks,
-    design: Design<'a>,
-    hubs: &PortWidths,
-    edge: Edge,
-) -> Result<(), OutOfMemory>
-    requires designed { IsDesigned design }
-    requires hubs { AreHubPlaces design.checked.now.diagram hubs.now }
-    requires line { IsLineThere design.checked.now.diagram edge }
-    ensures { OnOk result (IsLinePut design.entry.checked.now.diagram design.entry.plan.now
-        (times_for design.entry) hubs.now asks.old asks.new edge) }
+fn line_end<'a>(asks: &mut Asks, ends: Ends<'a>, edge: Edge) -> Result<(), OutOfMemory>
+    requires can { CanAsk ends }
+    requires line { IsLineThere ends.design.checked.now.diagram edge }
+    ensures { OnOk result (PutsLine ends.entry asks.old asks.new edge) }
 {
-    let checked = design.checked;
-    ends_are_lawful(design, hubs);
+    let (design, checked) = (ends.design, ends.design.checked);
+    ends_are_lawful(ends);
     let one = block_at(checked, edge.to);
     if shown_ports(one) == 0 {
         return Ok(());
     }
-    let first = hubs.at(edge.from, edge.from_port);
+    let first = ends.hubs.at(edge.from, edge.from_port);
     let width = checked.width(edge.from, edge.from_port);
     let Some(period) = checked.period(edge.from) else {
         return ask_signal(asks, first, width);
@@ -70,24 +67,17 @@ fn line_end<'a>(
 }
 
 /// Asks for what enables a block, if anything does.
-fn control_end<'a>(
-    asks: &mut Asks,
-    design: Design<'a>,
-    hubs: &PortWidths,
-    block: u32,
-) -> Result<(), OutOfMemory>
-    requires designed { IsDesigned design }
-    requires hubs { AreHubPlaces design.checked.now.diagram hubs.now }
-    requires there { block < length design.checked.now.diagram.blocks }
-    ensures { OnOk result (IsControlPut design.entry.checked.now.diagram design.entry.plan.now
-        (times_for design.entry) hubs.now asks.old asks.new block) }
+fn control_end<'a>(asks: &mut Asks, ends: Ends<'a>, block: u32) -> Result<(), OutOfMemory>
+    requires can { CanAsk ends }
+    requires there { block < length ends.design.checked.now.diagram.blocks }
+    ensures { OnOk result (PutsControl ends.entry asks.old asks.new block) }
 {
-    let checked = design.checked;
-    ends_are_lawful(design, hubs);
+    let (design, checked) = (ends.design, ends.design.checked);
+    ends_are_lawful(ends);
     let Some(control) = control_of(block_at(checked, block)) else {
         return Ok(());
     };
-    let hub = hubs.at(control, 1);
+    let hub = ends.hubs.at(control, 1);
     let Some(period) = checked.period(control) else {
         return ask_signal(asks, hub, 1);
     };
@@ -124,22 +114,19 @@ fn put_span(spans: &mut Spans, first: usize, end: usize) -> Result<(), OutOfMemo
 pub fn gather_lines<'a>(
     asks: &mut Asks,
     lines: &mut Spans,
-    design: Design<'a>,
-    hubs: &PortWidths,
+    ends: Ends<'a>,
 ) -> Result<(), OutOfMemory>
-    requires designed { IsDesigned design }
-    requires hubs { AreHubPlaces design.checked.now.diagram hubs.now }
+    requires can { CanAsk ends }
     requires list { asks.old.list.items ≡ [] }
     requires wants { asks.old.wants.items ≡ [] }
     requires lines { lines.old ≡ [] }
-    ensures { OnOk result (AreEndsFor design.entry.checked.now.diagram design.entry.plan.now
-        (times_for design.entry) hubs.now asks.new lines.new []
-        (length design.entry.checked.now.diagram.edges) 0
-        (controls_left design.entry.checked.now.diagram 0)) }
+    ensures { OnOk result (HaveAsked ends.entry asks.new lines.new []
+        (length ends.entry.design.checked.now.diagram.edges) 0
+        (controls_left ends.entry.design.checked.now.diagram 0)) }
 {
-    for edge in design.checked.diagram().edges.as_slice() {
+    for edge in ends.design.checked.diagram().edges.as_slice() {
         let first = asks.list.len();
-        line_end(asks, design, hubs, *edge)?;
+        line_end(asks, ends, *edge)?;
         put_span(lines, first, asks.list.len())?;
     }
     Ok(())
@@ -149,24 +136,20 @@ pub fn gather_lines<'a>(
 pub fn gather_controls<'a>(
     asks: &mut Asks,
     controls: &mut Spans,
-    design: Design<'a>,
-    hubs: &PortWidths,
+    ends: Ends<'a>,
 ) -> Result<(), OutOfMemory>
-    requires designed { IsDesigned design }
-    requires hubs { AreHubPlaces design.checked.now.diagram hubs.now }
+    requires can { CanAsk ends }
     requires controls { controls.old ≡ [] }
     ensures { OnOk result ((lines : List Span) (lined : ℕ)
-        → AreEndsFor design.entry.checked.now.diagram design.entry.plan.now
-        (times_for design.entry) hubs.now asks.old lines [] lined 0
-        (controls_left design.entry.checked.now.diagram 0)
-        → AreEndsFor design.entry.checked.now.diagram design.entry.plan.now
-        (times_for design.entry) hubs.now asks.new lines controls.new lined
-        (length design.entry.checked.now.diagram.blocks) []) }
+        → HaveAsked ends.entry asks.old lines [] lined 0
+        (controls_left ends.entry.design.checked.now.diagram 0)
+        → HaveAsked ends.entry asks.new lines controls.new lined
+        (length ends.entry.design.checked.now.diagram.blocks) []) }
 {
-    let count = design.checked.diagram().blocks.as_slice().len();
+    let count = ends.design.checked.diagram().blocks.as_slice().len();
     for block in 0..count {
         let first = asks.list.len();
-        control_end(asks, design, hubs, block as u32)?;
+        control_end(asks, ends, block as u32)?;
         put_span(controls, first, asks.list.len())?;
     }
     Ok(())

@@ -8,7 +8,7 @@ ghost use Rattle.hw_build.specs.inner.LinesPut.{AreLinesPut, StandHubs};
 use crate::asks::Asks;
 use crate::chains::put_asks;
 use crate::design::Design;
-use crate::gathering::{ends_are_lawful, gather_controls, gather_lines};
+use crate::gathering::{Ends, ends_are_lawful, gather_controls, gather_lines};
 use crate::operands::{Operands, Spans};
 use dg_model::PortWidths;
 use fx_io::OutOfMemory;
@@ -40,15 +40,16 @@ pub fn put_lines<'a>(
         // word: how many nets there are, of 32 bits
         return Err(OutOfMemory);
     };
-    ends_are_lawful(design, hubs);
+    let ends = Ends { design, hubs };
+    ends_are_lawful(ends);
     let mut asks = Asks {
         list: Vec::new(alloc),
         wants: Vec::new(alloc),
     };
     let mut lines = Spans::new(alloc);
-    gather_lines(&mut asks, &mut lines, design, hubs)?;
+    gather_lines(&mut asks, &mut lines, ends)?;
     let mut controls = Spans::new(alloc);
-    gather_controls(&mut asks, &mut controls, design, hubs)?;
+    gather_controls(&mut asks, &mut controls, ends)?;
     let nets = put_asks(alloc, net, &asks)?;
     Ok(Operands {
         nets,

@@ -29,7 +29,9 @@ use Rattle.hw_build.specs.declared.asks.Asks.{Asks}
 use Rattle.hw_build.specs.declared.operands.Span.{Span}
 use Rattle.hw_build.specs.declared.wants.Want.{Want}
 use Rattle.hw_build.specs.Times.{timing_by}
+use Rattle.hw_build.specs.declared.gathering.Ends.{Ends}
 use Rattle.hw_build.specs.inner.Asks.{IsEndWant}
+use Rattle.hw_build.specs.inner.Designed.{IsDesigned, times_for}
 use Rattle.hw_build.specs.inner.Facts.{count_by, LateAreWide}
 use Rattle.hw_build.specs.inner.HubPlaces.{hub_at}
 use Rattle.hw_build.specs.inner.Lines.{frame_behind}
@@ -166,3 +168,23 @@ module _ (diagram : Diagram) (plan : Resolved) (times : Times) (firsts : List (L
 
   abbrev pub AreEndsFor : Asks → List Span → List Span → ℕ → ℕ → List LatencyEdge → Type 0
   AreEndsFor asks lines controls lined controlled left = AreEnds diagram plan times firsts asks.list.items asks.wants.items lines controls lined controlled left
+
+-- ---- of the ends of a design
+
+pub record CanAsk (ends : Ends) : Type 0 where
+  pub designed : IsDesigned ends.design
+  pub hubs : AreHubPlaces ends.design.checked.now.diagram ends.hubs.now
+
+abbrev pub AreLawful : Ends → Type 0
+AreLawful ends = IsLawful ends.design.checked.now.diagram ends.design.checked.now.order ends.design.plan.now (times_for ends.design) ends.hubs.now
+
+abbrev pub PutsLine : Ends → Asks → Asks → Edge → Type 0
+PutsLine ends old new edge = IsLinePut ends.design.checked.now.diagram ends.design.plan.now (times_for ends.design) ends.hubs.now old new edge
+
+abbrev pub PutsControl : Ends → Asks → Asks → ℕ → Type 0
+PutsControl ends old new block = IsControlPut ends.design.checked.now.diagram ends.design.plan.now (times_for ends.design) ends.hubs.now old new block
+
+-- lines and controls of these counts have asked, and these controls are left
+abbrev pub HaveAsked : Ends → Asks → List Span → List Span → ℕ → ℕ → List LatencyEdge → Type 0
+HaveAsked ends asks lines controls lined controlled left =
+    AreEndsFor ends.design.checked.now.diagram ends.design.plan.now (times_for ends.design) ends.hubs.now asks lines controls lined controlled left

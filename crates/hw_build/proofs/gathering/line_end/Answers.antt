@@ -24,13 +24,13 @@ at-first-requires-clause-there c =
     hub_there c.ends_are_lawful.ensures c.requires.line.0 c.args.edge c.block_at-one.result.now c.requires.line.1 c.block_at-one.ensures (omega (arith, differs, is))
 
 pub width-width-requires-clause-port : goal.width-width-requires-clause-port
-width-width-requires-clause-port c = (source_there c.args.design.checked.now.diagram c.requires.designed.scheduled.checked c.requires.line.0 c.args.edge c.requires.line.1).0
+width-width-requires-clause-port c = (source_there c.args.ends.design.checked.now.diagram c.requires.can.designed.scheduled.checked c.requires.line.0 c.args.edge c.requires.line.1).0
 
 pub width-width-requires-clause-there : goal.width-width-requires-clause-there
-width-width-requires-clause-there c = (source_there c.args.design.checked.now.diagram c.requires.designed.scheduled.checked c.requires.line.0 c.args.edge c.requires.line.1).1
+width-width-requires-clause-there c = (source_there c.args.ends.design.checked.now.diagram c.requires.can.designed.scheduled.checked c.requires.line.0 c.args.edge c.requires.line.1).1
 
 pub period-requires : goal.period-requires
-period-requires c = from_there c.args.design.checked.now.diagram c.requires.line.0 c.args.edge c.requires.designed.scheduled.checked.wired c.requires.line.1
+period-requires c = from_there c.args.ends.design.checked.now.diagram c.requires.line.0 c.args.edge c.requires.can.designed.scheduled.checked.wired c.requires.line.1
 
 pub ask_signal-requires : goal.ask_signal-requires
 ask_signal-requires c =
@@ -48,31 +48,31 @@ returns-in_default c =
     c.ask_signal.ensures
 
 pub period-requires-2 : goal.period-requires-2
-period-requires-2 c = slice_get_within c.args.design.checked.now.diagram.blocks c.args.edge.to c.block_at-one.result.now c.block_at-one.ensures
+period-requires-2 c = slice_get_within c.args.ends.design.checked.now.diagram.blocks c.args.edge.to c.block_at-one.result.now c.block_at-one.ensures
 
 pub frame_after-frame-requires-clause-there : goal.frame_after-frame-requires-clause-there
-frame_after-frame-requires-clause-there c = from_there c.args.design.checked.now.diagram c.requires.line.0 c.args.edge c.requires.designed.scheduled.checked.wired c.requires.line.1
+frame_after-frame-requires-clause-there c = from_there c.args.ends.design.checked.now.diagram c.requires.line.0 c.args.edge c.requires.can.designed.scheduled.checked.wired c.requires.line.1
 
 pub line_use-to-requires-clause-behind : goal.line_use-to-requires-clause-behind
 line_use-to-requires-clause-behind c =
     let differs = c.if-shown_ports-eq0.false in
     let is = c.shown_ports.ensures in
-    let moves : (attributes_of c.args.design.checked.now.diagram).period_at c.args.edge.from ≡ Some c.in-Some.period = sym c.period.ensures ∙ c.in-Some.is in
+    let moves : (attributes_of c.args.ends.design.checked.now.diagram).period_at c.args.edge.from ≡ Some c.in-Some.period = sym c.period.ensures ∙ c.in-Some.is in
     rw c.frame_after-frame.ensures (asked c.ends_are_lawful.ensures c.requires.line.0 c.args.edge c.block_at-one.result.now c.requires.line.1 c.block_at-one.ensures (omega (arith, differs, is)) c.in-Some.period moves).late
 
 pub line_use-to-requires-clause-near : goal.line_use-to-requires-clause-near
 line_use-to-requires-clause-near c =
     let differs = c.if-shown_ports-eq0.false in
     let is = c.shown_ports.ensures in
-    let moves : (attributes_of c.args.design.checked.now.diagram).period_at c.args.edge.from ≡ Some c.in-Some.period = sym c.period.ensures ∙ c.in-Some.is in
+    let moves : (attributes_of c.args.ends.design.checked.now.diagram).period_at c.args.edge.from ≡ Some c.in-Some.period = sym c.period.ensures ∙ c.in-Some.is in
     (asked c.ends_are_lawful.ensures c.requires.line.0 c.args.edge c.block_at-one.result.now c.requires.line.1 c.block_at-one.ensures (omega (arith, differs, is)) c.in-Some.period moves).near
 
 pub ask_late-requires-clause-fits : goal.ask_late-requires-clause-fits
 ask_late-requires-clause-fits c =
     let differs = c.if-shown_ports-eq0.false in
     let is = c.shown_ports.ensures in
-    let moves : (attributes_of c.args.design.checked.now.diagram).period_at c.args.edge.from ≡ Some c.in-Some.period = sym c.period.ensures ∙ c.in-Some.is in
-    let own : (attributes_of c.args.design.checked.now.diagram).period_at c.args.edge.to ≡ Some c.samples-own.result = period_by c.ends_are_lawful.ensures c.requires.line.0 c.args.edge c.block_at-one.result.now c.requires.line.1 c.block_at-one.ensures (omega (arith, differs, is)) c.in-Some.period c.samples-own.result moves (c.samples-own.ensures ∙ ap samples c.period-2.ensures) in
+    let moves : (attributes_of c.args.ends.design.checked.now.diagram).period_at c.args.edge.from ≡ Some c.in-Some.period = sym c.period.ensures ∙ c.in-Some.is in
+    let own : (attributes_of c.args.ends.design.checked.now.diagram).period_at c.args.edge.to ≡ Some c.samples-own.result = period_by c.ends_are_lawful.ensures c.requires.line.0 c.args.edge c.block_at-one.result.now c.requires.line.1 c.block_at-one.ensures (omega (arith, differs, is)) c.in-Some.period c.samples-own.result moves (c.samples-own.ensures ∙ ap samples c.period-2.ensures) in
     λ element below. late_fits c.ends_are_lawful.ensures c.requires.line.0 c.args.edge c.block_at-one.result.now c.requires.line.1 c.block_at-one.ensures (omega (arith, differs, is)) c.in-Some.period c.samples-own.result c.at-first.result c.width-width.result element moves own (sym c.is_registered.ensures ∙ c.if-is_registered.true) c.at-first.ensures c.width-width.ensures below
 
 pub ask_plain-requires : goal.ask_plain-requires
@@ -85,8 +85,8 @@ pub returns-then-is_registered : goal.returns-then-is_registered
 returns-then-is_registered c =
     let differs = c.if-shown_ports-eq0.false in
     let is = c.shown_ports.ensures in
-    let moves : (attributes_of c.args.design.checked.now.diagram).period_at c.args.edge.from ≡ Some c.in-Some.period = sym c.period.ensures ∙ c.in-Some.is in
-    let own : (attributes_of c.args.design.checked.now.diagram).period_at c.args.edge.to ≡ Some c.samples-own.result = period_by c.ends_are_lawful.ensures c.requires.line.0 c.args.edge c.block_at-one.result.now c.requires.line.1 c.block_at-one.ensures (omega (arith, differs, is)) c.in-Some.period c.samples-own.result moves (c.samples-own.ensures ∙ ap samples c.period-2.ensures) in
+    let moves : (attributes_of c.args.ends.design.checked.now.diagram).period_at c.args.edge.from ≡ Some c.in-Some.period = sym c.period.ensures ∙ c.in-Some.is in
+    let own : (attributes_of c.args.ends.design.checked.now.diagram).period_at c.args.edge.to ≡ Some c.samples-own.result = period_by c.ends_are_lawful.ensures c.requires.line.0 c.args.edge c.block_at-one.result.now c.requires.line.1 c.block_at-one.ensures (omega (arith, differs, is)) c.in-Some.period c.samples-own.result moves (c.samples-own.ensures ∙ ap samples c.period-2.ensures) in
     on_ok_weaker c.ask_late.result
     (λ put. line_put c.ends_are_lawful.ensures c.args.edge c.block_at-one.result.now c.block_at-one.ensures c.args.asks.now c.ask_late.new.asks
     (late_line c.ends_are_lawful.ensures c.requires.line.0 c.args.edge c.block_at-one.result.now c.requires.line.1 c.block_at-one.ensures (omega (arith, differs, is)) c.in-Some.period moves c.args.asks.now.list.items c.ask_late.new.asks.list.items c.args.asks.now.wants.items c.ask_late.new.asks.wants.items c.at-first.result c.width-width.result c.samples-own.result own (sym c.is_registered.ensures ∙ c.if-is_registered.true) c.at-first.ensures c.width-width.ensures put))
@@ -96,39 +96,36 @@ pub returns-else-is_registered : goal.returns-else-is_registered
 returns-else-is_registered c =
     let differs = c.if-shown_ports-eq0.false in
     let is = c.shown_ports.ensures in
-    let moves : (attributes_of c.args.design.checked.now.diagram).period_at c.args.edge.from ≡ Some c.in-Some.period = sym c.period.ensures ∙ c.in-Some.is in
-    let own : (attributes_of c.args.design.checked.now.diagram).period_at c.args.edge.to ≡ Some c.samples-own.result = period_by c.ends_are_lawful.ensures c.requires.line.0 c.args.edge c.block_at-one.result.now c.requires.line.1 c.block_at-one.ensures (omega (arith, differs, is)) c.in-Some.period c.samples-own.result moves (c.samples-own.ensures ∙ ap samples c.period-2.ensures) in
+    let moves : (attributes_of c.args.ends.design.checked.now.diagram).period_at c.args.edge.from ≡ Some c.in-Some.period = sym c.period.ensures ∙ c.in-Some.is in
+    let own : (attributes_of c.args.ends.design.checked.now.diagram).period_at c.args.edge.to ≡ Some c.samples-own.result = period_by c.ends_are_lawful.ensures c.requires.line.0 c.args.edge c.block_at-one.result.now c.requires.line.1 c.block_at-one.ensures (omega (arith, differs, is)) c.in-Some.period c.samples-own.result moves (c.samples-own.ensures ∙ ap samples c.period-2.ensures) in
     on_ok_weaker c.ask_plain.result
     (λ put. line_put c.ends_are_lawful.ensures c.args.edge c.block_at-one.result.now c.block_at-one.ensures c.args.asks.now c.ask_plain.new.asks
     (plain_line c.ends_are_lawful.ensures c.requires.line.0 c.args.edge c.block_at-one.result.now c.requires.line.1 c.block_at-one.ensures (omega (arith, differs, is)) c.in-Some.period moves c.args.asks.now.list.items c.ask_plain.new.asks.list.items c.args.asks.now.wants.items c.ask_plain.new.asks.wants.items c.at-first.result c.width-width.result c.samples-own.result own (sym c.is_registered.ensures ∙ c.if-is_registered.false) c.at-first.ensures c.width-width.ensures put))
     (rw (c.line_use-to.ensures, c.frame_after-frame.ensures) at c.ask_plain.ensures)
 
-pub ends_are_lawful-requires-clause-designed : goal.ends_are_lawful-requires-clause-designed
-ends_are_lawful-requires-clause-designed c = c.requires.designed
-
-pub ends_are_lawful-requires-clause-hubs : goal.ends_are_lawful-requires-clause-hubs
-ends_are_lawful-requires-clause-hubs c = c.requires.hubs
+pub ends_are_lawful-requires : goal.ends_are_lawful-requires
+ends_are_lawful-requires c = c.requires.can
 
 pub block_at-one-requires : goal.block_at-one-requires
-block_at-one-requires c = to_there c.args.design.checked.now.diagram c.requires.line.0 c.args.edge c.requires.designed.scheduled.checked.wired c.requires.line.1
+block_at-one-requires c = to_there c.args.ends.design.checked.now.diagram c.requires.line.0 c.args.edge c.requires.can.designed.scheduled.checked.wired c.requires.line.1
 
 pub at-first-requires-clause-port : goal.at-first-requires-clause-port
-at-first-requires-clause-port c = (source_there c.args.design.checked.now.diagram c.requires.designed.scheduled.checked c.requires.line.0 c.args.edge c.requires.line.1).0
+at-first-requires-clause-port c = (source_there c.args.ends.design.checked.now.diagram c.requires.can.designed.scheduled.checked c.requires.line.0 c.args.edge c.requires.line.1).0
 
 pub frame_after-frame-requires-clause-designed : goal.frame_after-frame-requires-clause-designed
-frame_after-frame-requires-clause-designed c = c.requires.designed
+frame_after-frame-requires-clause-designed c = c.requires.can.designed
 
 pub frame_after-frame-requires-clause-period : goal.frame_after-frame-requires-clause-period
 frame_after-frame-requires-clause-period c = sym c.period.ensures ∙ c.in-Some.is
 
 pub line_use-to-requires-clause-designed : goal.line_use-to-requires-clause-designed
-line_use-to-requires-clause-designed c = c.requires.designed
+line_use-to-requires-clause-designed c = c.requires.can.designed
 
 pub line_use-to-requires-clause-from : goal.line_use-to-requires-clause-from
-line_use-to-requires-clause-from c = from_there c.args.design.checked.now.diagram c.requires.line.0 c.args.edge c.requires.designed.scheduled.checked.wired c.requires.line.1
+line_use-to-requires-clause-from c = from_there c.args.ends.design.checked.now.diagram c.requires.line.0 c.args.edge c.requires.can.designed.scheduled.checked.wired c.requires.line.1
 
 pub line_use-to-requires-clause-to : goal.line_use-to-requires-clause-to
-line_use-to-requires-clause-to c = slice_get_within c.args.design.checked.now.diagram.blocks c.args.edge.to c.block_at-one.result.now c.block_at-one.ensures
+line_use-to-requires-clause-to c = slice_get_within c.args.ends.design.checked.now.diagram.blocks c.args.edge.to c.block_at-one.result.now c.block_at-one.ensures
 
 pub ask_late-requires-clause-is : goal.ask_late-requires-clause-is
 ask_late-requires-clause-is c = c.block_at-one.ensures
