@@ -10,9 +10,9 @@ use Rattle.hw_build.specs.declared.block_inputs.BlockInputs.{BlockInputs}
 use Rattle.dg_model.specs.declared.diagram.Block.{Block}
 use Rattle.dg_model.specs.declared.diagram.Diagram.{Diagram}
 use Rattle.dg_model.specs.declared.kind.Kind.{Kind}
-use Rattle.dg_model.specs.declared.kind.Kind.TheVariants.{Outport, Sum, Gain, Product, Switch, Relational, Logic, Convert, Mux, Demux, Pass}
+use Rattle.dg_model.specs.declared.kind.Kind.TheVariants.{Gain, Switch, Mux, Demux}
 use Rattle.hw_build.specs.declared.blocks.Setting.{Setting}
-use Rattle.hw_build.specs.inner.Entries.{AreOffered}
+use Rattle.hw_build.specs.inner.Entries.{AreOffered, works_plainly}
 use Rattle.hw_build.specs.declared.offers.Element.{Element}
 use Rattle.hw_build.specs.inner.HubPlaces.{is_input_role}
 use Rattle.hw_build.specs.inner.Looping.{Fits, diagram_of}
@@ -52,16 +52,9 @@ pub record IsAtHand (to : Element) (inputs : BlockInputs) : Type 0 where
 
 -- whether a kind reads the element itself of each of its inputs
 abbrev pub reads_each : Kind → Bool
-reads_each (Outport number) = true
-reads_each (Sum negative) = true
 reads_each (Gain value param) = true
-reads_each Product = true
 reads_each (Switch criterion threshold) = true
-reads_each (Relational operator) = true
-reads_each (Logic operator) = true
-reads_each (Convert stored) = true
-reads_each (Pass width) = true
-reads_each _ = false
+reads_each kind = works_plainly kind
 
 -- whether it reads the element of its one input, and what enables it
 abbrev pub reads_enable : Kind → Bool
