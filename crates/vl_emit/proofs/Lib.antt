@@ -28,6 +28,7 @@ pub mod Interfaces
 pub mod Sounds
 pub mod Labels
 pub mod Agree
+pub mod KindRead
 pub mod Origins
 pub mod Clocked
 pub mod Multiplied

@@ -162,9 +162,6 @@ module _ (cycles count : ℕ) (naming : Naming) (net : ℕ → Net) (rank : ℕ 
   falls k j h (Reg frame slot first from) is n w = absurd n
   falls k j h (EnReg frame enable reset_too first from) is n w = absurd n
 
-  abbrev IsNet : List ℕ → Type 0
-  IsNet name = (k : ℕ) × (k < count) × (naming.net k ≡ name)
-
   just-name : (x : List ℕ) (k : ℕ) → k < count → (value : Expr) → expression.Name (naming.net k) ≡ value → Contains (names_read value) x → naming.net k ≡ x
   just-name x k h value e c =
       let clean = name-clean (nets_of m) (λ (n : List ℕ). naming.net k ≡ n) (naming.net k) (net k).width (ap (λ (n : DeclaredNet). n.width) (has.declared k h)) refl in

@@ -1,12 +1,9 @@
 //! When registers take their values.
 ghost use Rattle.std.specs.Prelude.{◌≡◌, ◌<◌, ◌-◌, ◌*◌, IfOk, Some, None};
 ghost use Rattle.vl_ast.specs.Gated.{gated_condition};
-ghost use Rattle.vl_ast.specs.declared.expressions.BinOp.TheVariants.{Both};
 ghost use Rattle.vl_ast.specs.declared.expressions.Expr.{Expr};
-ghost use Rattle.vl_ast.specs.declared.expressions.Expr.TheVariants.{Binary};
-ghost use Rattle.vl_emit.specs.inner.Operators.{test_of};
-ghost use Rattle.vl_emit.specs.inner.Ready.{IsSource, IsTimed, circuit_of, net_count, cycles_in};
-ghost use Rattle.vl_emit.specs.inner.Ready.{wire_in, counter_in, slot_in, live_in};
+ghost use Rattle.vl_emit.specs.inner.Ready.{HasFrame, net_count, cycles_in};
+ghost use Rattle.vl_emit.specs.inner.Ready.{counter_in, slot_in, live_in, taking_in};
 ghost use Rattle.vl_emit.specs.inner.Spoken.{wire_at, CanBeWritten};
 
 use crate::operands::{Operand, named, zeros};
@@ -26,8 +23,7 @@ pub fn clocks(source: Source, frame: Frame) -> u64
 
 /// The Counter of a frame.
 fn counter<'a>(source: Source<'a>, frame: Frame) -> Operand<'a>
-    requires source { IsSource source }
-    requires timed { IsTimed (circuit_of source) frame }
+    requires { HasFrame source frame }
     ensures wire { wire_at result ≡ counter_in source.entry frame }
     ensures word { CanBeWritten result }
 {
@@ -37,8 +33,7 @@ fn counter<'a>(source: Source<'a>, frame: Frame) -> Operand<'a>
 
 /// Whether the clock is that of a slot of the frame.
 fn slot_test(alloc: Global, source: Source, frame: Frame, slot: u64) -> Result<Expr, OutOfMemory>
-    requires source { IsSource source }
-    requires timed { IsTimed (circuit_of source) frame }
+    requires { HasFrame source frame }
     ensures { IfOk result (λ e. e ≡ slot_in source.entry frame slot) }
 {
     let clocks = clocks(source, frame);
@@ -57,8 +52,7 @@ pub fn live_test(
     frame: Frame,
     live: u32,
 ) -> Result<Expr, OutOfMemory>
-    requires source { IsSource source }
-    requires timed { IsTimed (circuit_of source) frame }
+    requires { HasFrame source frame }
     ensures { IfOk result (λ e. e ≡ live_in source.entry frame live) }
 {
     let left = u64::from(frame.period.saturating_sub(live));
@@ -90,25 +84,10 @@ fn enabled(alloc: Global, condition: Result<Expr, OutOfMemory>) -> Result<Expr, 
 
 /// The last slot of a frame.
 pub fn last_slot(source: Source, frame: Frame) -> u64
-    requires period { 0 < frame.period }
-    requires source { IsSource source }
+    requires { HasFrame source frame }
     ensures { result ≡ frame.period * cycles_in source.entry - 1 }
 {
     clocks(source, frame) - 1
-}
-
-/// Whether the clock is that of the last slot of the frame, and `enable` isn't 0.
-fn taking(alloc: Global, source: Source, frame: Frame, enable: u32) -> Result<Expr, OutOfMemory>
-    requires source { IsSource source }
-    requires timed { IsTimed (circuit_of source) frame }
-    requires enable { enable < net_count source }
-    ensures { IfOk result (λ e. e ≡ Binary Both
-        (slot_in source.entry frame (frame.period * cycles_in source.entry - 1))
-        (test_of (wire_in source.entry enable))) }
-{
-    let last = slot_test(alloc, source, frame, last_slot(source, frame));
-    let test = test_of(alloc, operand(source, enable as usize));
-    binary(alloc, BinOp::Both, last, test)
 }
 
 /// Whether the clock is enabled, and that of a slot of the frame.
@@ -118,26 +97,29 @@ pub fn enabled_slot(
     frame: Frame,
     slot: u64,
 ) -> Result<Expr, OutOfMemory>
-    requires source { IsSource source }
-    requires timed { IsTimed (circuit_of source) frame }
+    requires { HasFrame source frame }
     ensures { IfOk result (λ e. e ≡ gated_condition (Some (slot_in source.entry frame slot))) }
 {
     enabled(alloc, slot_test(alloc, source, frame, slot))
 }
 
-/// Whether the clock is enabled, and the last of a frame's, and `enable` isn't 0.
+/// Whether the clock is enabled, and the last of a frame's, and `enable` isn't 0 where nothing is reset.
 pub fn enabled_taking(
     alloc: Global,
     source: Source,
     frame: Frame,
     enable: u32,
+    reset: bool,
 ) -> Result<Expr, OutOfMemory>
-    requires source { IsSource source }
-    requires timed { IsTimed (circuit_of source) frame }
+    requires frame { HasFrame source frame }
     requires enable { enable < net_count source }
-    ensures { IfOk result (λ e. e ≡ gated_condition (Some (Binary Both
-        (slot_in source.entry frame (frame.period * cycles_in source.entry - 1))
-        (test_of (wire_in source.entry enable))))) }
+    ensures { IfOk result (λ e. e
+        ≡ gated_condition (Some (taking_in source.entry frame enable reset))) }
 {
-    enabled(alloc, taking(alloc, source, frame, enable))
+    let last = slot_test(alloc, source, frame, last_slot(source, frame));
+    if reset {
+        return enabled(alloc, last);
+    }
+    let test = test_of(alloc, operand(source, enable as usize));
+    enabled(alloc, binary(alloc, BinOp::Both, last, test))
 }

@@ -1,5 +1,5 @@
 //! What drives each net.
-ghost use Rattle.std.specs.Prelude.{◌≡◌, ◌++◌, ◌<◌, ◌∷◌, [], ℕ, List, length, get_or};
+ghost use Rattle.std.specs.Prelude.{◌≡◌, ◌++◌, ◌<◌, ◌∷◌, [], ℕ, List, length};
 ghost use Rattle.std.specs.Prelude.{IfOk, OnOk};
 ghost use Rattle.vl_ast.specs.declared.expressions.BinOp.TheVariants.{Subtract};
 ghost use Rattle.vl_ast.specs.declared.expressions.Expr.TheVariants.{Name, Literal, Binary, Choose};
@@ -7,15 +7,15 @@ ghost use Rattle.vl_ast.specs.declared.modules.ModItem.{ModItem};
 ghost use Rattle.hw_net.specs.declared.netlist.NetOp.TheVariants.{Input};
 ghost use Rattle.hw_net.specs.declared.netlist.NetKind.TheVariants.{Comb, Reg, EnReg, Bridge};
 ghost use Rattle.hw_net.specs.declared.netlist.NetKind.TheVariants.{Unit, Counter};
-ghost use Rattle.vl_emit.specs.inner.Ready.{IsSource, IsReady, IsTimed, IsDriver, circuit_of};
-ghost use Rattle.vl_emit.specs.inner.Ready.{net_count, input_count, value_in, bridge_in};
-ghost use Rattle.vl_emit.specs.inner.Ready.{argument_in, input_in, wire_in, live_in};
+ghost use Rattle.vl_emit.specs.inner.Ready.{IsNet, HasArguments, HasKind, IsDriver, input_count};
+ghost use Rattle.vl_emit.specs.inner.Ready.{value_in, bridge_in, argument_in, input_in, wire_in};
+ghost use Rattle.vl_emit.specs.inner.Ready.{live_in, taken_in};
 ghost use Rattle.vl_emit.specs.inner.Emitted.{plain_number};
 ghost use Rattle.vl_emit.specs.inner.Operators.{test_of};
 ghost use Rattle.vl_emit.specs.Names.{hold_name};
 ghost use Rattle.vl_emit.specs.inner.Spoken.{wire_at, CanBeWritten};
 
-use crate::conditions::{clocks, enable, enabled_slot, enabled_taking, last_slot, live_test};
+use crate::conditions::{clocks, enable, enabled_slot, enabled_taking, live_test};
 use crate::operands::{Operand, hold_text, named, text_of};
 use crate::operators::{binary, choose, constant, expression, in_width, plain, test_of};
 use crate::source::{Source, input_operand, operand};
@@ -26,9 +26,7 @@ use vl_ast::{BinOp, Expr, ModItem, ModItems, Sized, assigned, register};
 
 /// An argument by its place, or the net itself where there is none.
 fn argument<'a>(source: Source<'a>, args: &[u32], place: usize, own: usize) -> Operand<'a>
-    requires source { IsSource source }
-    requires own { own < net_count source }
-    requires there { (j : ℕ) → j < length args.now → get_or args.now j 0 < net_count source }
+    requires { HasArguments source own args.now }
     ensures wire { place < length args.now → wire_at result
         ≡ argument_in source.entry args.now place }
     ensures word { CanBeWritten result }
@@ -42,8 +40,7 @@ fn argument<'a>(source: Source<'a>, args: &[u32], place: usize, own: usize) -> O
 
 /// The port that an Input shows, or the net itself for another operation.
 fn port<'a>(source: Source<'a>, op: NetOp, own: usize) -> Operand<'a>
-    requires source { IsSource source }
-    requires own { own < net_count source }
+    requires net { IsNet source own }
     requires there { (input : ℕ) → op ≡ Input input → input < input_count source }
     ensures wire { (input : ℕ) → op ≡ Input input → wire_at result ≡ input_in source.entry input }
     ensures word { CanBeWritten result }
@@ -62,9 +59,7 @@ fn operation(
     op: NetOp,
     args: &[u32],
 ) -> Result<Expr, OutOfMemory>
-    requires source { IsSource source }
-    requires own { own < net_count source }
-    requires kind { IsReady (circuit_of source) (Comb op args.now) }
+    requires { HasKind source own (Comb op args.now) }
     ensures { IfOk result (λ e. e ≡ value_in source.entry own op args.now) }
 {
     let net = &source.netlist.nets()[own];
@@ -92,9 +87,7 @@ pub fn comb_item(
     op: NetOp,
     args: &[u32],
 ) -> Result<ModItem, OutOfMemory>
-    requires source { IsSource source }
-    requires own { own < net_count source }
-    requires kind { IsReady (circuit_of source) (Comb op args.now) }
+    requires { HasKind source own (Comb op args.now) }
     ensures { IfOk result (IsDriver source.entry own (Comb op args.now)) }
 {
     let name = text_of(alloc, operand(source, own).called);
@@ -109,9 +102,7 @@ pub fn unit_item(
     left: u32,
     right: u32,
 ) -> Result<ModItem, OutOfMemory>
-    requires source { IsSource source }
-    requires own { own < net_count source }
-    requires kind { IsReady (circuit_of source) (Unit left right) }
+    requires { HasKind source own (Unit left right) }
     ensures { IfOk result (IsDriver source.entry own (Unit left right)) }
 {
     let net = operand(source, own);
@@ -141,9 +132,7 @@ pub fn counter_item(
     own: usize,
     frame: Frame,
 ) -> Result<ModItem, OutOfMemory>
-    requires source { IsSource source }
-    requires own { own < net_count source }
-    requires kind { IsReady (circuit_of source) (Counter frame) }
+    requires { HasKind source own (Counter frame) }
     ensures { IfOk result (IsDriver source.entry own (Counter frame)) }
 {
     let net = operand(source, own);
@@ -167,9 +156,7 @@ pub fn reg_item(
     first: i128,
     from: u32,
 ) -> Result<ModItem, OutOfMemory>
-    requires source { IsSource source }
-    requires own { own < net_count source }
-    requires kind { IsReady (circuit_of source) (Reg frame slot first from) }
+    requires { HasKind source own (Reg frame slot first from) }
     ensures { IfOk result (IsDriver source.entry own (Reg frame slot first from)) }
 {
     let net = &source.netlist.nets()[own];
@@ -181,23 +168,26 @@ pub fn reg_item(
     )
 }
 
-/// What a register takes that begins anew: the value of a net where `enable` isn't 0, else `begun`.
-fn renewed(
+/// What a register with enable takes: the value of a net, or `begun` where it is reset and `enable`
+/// is 0.
+fn taken(
     alloc: Global,
     source: Source,
     enable: u32,
+    reset: bool,
     from: u32,
     begun: Sized,
 ) -> Result<Expr, OutOfMemory>
-    requires source { IsSource source }
-    requires enable { enable < net_count source }
-    requires from { from < net_count source }
-    ensures { IfOk result (λ e. e ≡ Choose (test_of (wire_in source.entry enable))
-        (Name (wire_in source.entry from).name) (Literal begun)) }
+    requires enable { IsNet source enable }
+    requires from { IsNet source from }
+    ensures { IfOk result (λ e. e ≡ taken_in source.entry enable reset from begun) }
 {
+    let value = named(alloc, operand(source, from as usize));
+    if !reset {
+        return value;
+    }
     let test = test_of(alloc, operand(source, enable as usize));
-    let taken = named(alloc, operand(source, from as usize));
-    choose(alloc, test, taken, Ok(Expr::Literal(begun)))
+    choose(alloc, test, value, Ok(Expr::Literal(begun)))
 }
 
 /// The item of a register with enable. Where `enable` is 0 it begins anew with `reset`, else it keeps
@@ -212,32 +202,17 @@ pub fn enabled_item(
     first: i128,
     from: u32,
 ) -> Result<ModItem, OutOfMemory>
-    requires source { IsSource source }
-    requires own { own < net_count source }
-    requires kind { IsReady (circuit_of source) (EnReg frame enable reset first from) }
+    requires { HasKind source own (EnReg frame enable reset first from) }
     ensures { IfOk result (IsDriver source.entry own (EnReg frame enable reset first from)) }
 {
     let net = &source.netlist.nets()[own];
-    let name = text_of(alloc, operand(source, own).called);
-    let number = constant(net.width, net.signed, first);
-    if reset {
-        let begun = constant(net.width, net.signed, first);
-        let slot = enabled_slot(alloc, source, frame, last_slot(source, frame));
-        register(
-            name,
-            number,
-            slot,
-            renewed(alloc, source, enable, from, begun),
-        )
-    } else {
-        let taking = enabled_taking(alloc, source, frame, enable);
-        register(
-            name,
-            number,
-            taking,
-            named(alloc, operand(source, from as usize)),
-        )
-    }
+    let begun = constant(net.width, net.signed, first);
+    register(
+        text_of(alloc, operand(source, own).called),
+        constant(net.width, net.signed, first),
+        enabled_taking(alloc, source, frame, enable, reset),
+        taken(alloc, source, enable, reset, from, begun),
+    )
 }
 
 /// What a bridge shows: another net where it is live, else what its register holds.
@@ -249,9 +224,7 @@ fn bridged(
     live: u32,
     from: u32,
 ) -> Result<Expr, OutOfMemory>
-    requires source { IsSource source }
-    requires timed { IsTimed (circuit_of source) frame }
-    requires from { from < net_count source }
+    requires { HasKind source own (Bridge frame live from) }
     ensures { IfOk result (λ e. e ≡ Choose (live_in source.entry frame live)
         (Name (wire_in source.entry from).name) (Name (hold_name own))) }
 {
@@ -271,9 +244,7 @@ pub fn put_bridge(
     live: u32,
     from: u32,
 ) -> Result<(), OutOfMemory>
-    requires source { IsSource source }
-    requires own { own < net_count source }
-    requires kind { IsReady (circuit_of source) (Bridge frame live from) }
+    requires { HasKind source own (Bridge frame live from) }
     ensures { OnOk result (items.new ≡ items.old ++ bridge_in source.entry own frame live from) }
 {
     let net = operand(source, own);

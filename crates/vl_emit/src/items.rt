@@ -1,11 +1,11 @@
 //! The items of a netlist's module: declarations, then the drivers of Unit nets, then the other
 //! drivers, then the output ports, then `ce_out`.
-ghost use Rattle.std.specs.Prelude.{◌≡◌, ◌++◌, ◌<◌, ◌∷◌, [], map, OnOk};
+ghost use Rattle.std.specs.Prelude.{◌≡◌, ◌++◌, ◌∷◌, [], map, OnOk};
 ghost use Rattle.vl_ast.specs.Gated.{gated_item, shows_enable};
 ghost use Rattle.vl_emit.specs.inner.Emitted.{items_of};
-ghost use Rattle.vl_emit.specs.inner.Ready.{IsSource, circuit_of, net_count};
-ghost use Rattle.vl_emit.specs.inner.Ready.{declarers_in, units_in, others_in};
-ghost use Rattle.vl_emit.specs.inner.Ready.{all_declared, all_units, all_others, all_shown};
+ghost use Rattle.vl_emit.specs.declared.items.Part.TheVariants.{Declarations, Units, Others};
+ghost use Rattle.vl_emit.specs.inner.Ready.{IsNet, IsSource, circuit_of, net_count};
+ghost use Rattle.vl_emit.specs.inner.Ready.{items_in, first_in, all_shown};
 
 use crate::conditions::enable;
 use crate::driving::{comb_item, counter_item, enabled_item, put, put_bridge, reg_item, unit_item};
@@ -16,6 +16,15 @@ use hw_net::NetKind;
 use std::alloc::Global;
 use vl_ast::{ModItems, assigned, reg, wire};
 
+/// The parts of a module that have items of each net: their declarations, the drivers of Unit nets, and
+/// those of the others.
+#[derive(Clone, Copy)]
+enum Part {
+    Declarations,
+    Units,
+    Others,
+}
+
 /// The declarations of a net.
 fn declare(
     alloc: Global,
@@ -23,9 +32,8 @@ fn declare(
     items: &mut ModItems,
     own: usize,
 ) -> Result<(), OutOfMemory>
-    requires source { IsSource source }
-    requires own { own < net_count source }
-    ensures { OnOk result (items.new ≡ items.old ++ declarers_in source.entry own) }
+    requires { IsNet source own }
+    ensures { OnOk result (items.new ≡ items.old ++ items_in source.entry Declarations own) }
 {
     let net = operand(source, own);
     let name = text_of(alloc, net.called);
@@ -51,9 +59,8 @@ fn drive_unit(
     items: &mut ModItems,
     own: usize,
 ) -> Result<(), OutOfMemory>
-    requires source { IsSource source }
-    requires own { own < net_count source }
-    ensures { OnOk result (items.new ≡ items.old ++ units_in source.entry own) }
+    requires { IsNet source own }
+    ensures { OnOk result (items.new ≡ items.old ++ items_in source.entry Units own) }
 {
     match &source.netlist.nets()[own].kind {
         NetKind::Unit { left, right } => put(items, unit_item(alloc, source, own, *left, *right)),
@@ -67,9 +74,8 @@ fn drive_unit(
 
 /// The drivers of a net that is no Unit.
 fn drive(alloc: Global, source: Source, items: &mut ModItems, own: usize) -> Result<(), OutOfMemory>
-    requires source { IsSource source }
-    requires own { own < net_count source }
-    ensures { OnOk result (items.new ≡ items.old ++ others_in source.entry own) }
+    requires { IsNet source own }
+    ensures { OnOk result (items.new ≡ items.old ++ items_in source.entry Others own) }
 {
     match &source.netlist.nets()[own].kind {
         NetKind::Unit { .. } => Ok(()),
@@ -102,32 +108,37 @@ fn drive(alloc: Global, source: Source, items: &mut ModItems, own: usize) -> Res
     }
 }
 
-fn declare_all(alloc: Global, source: Source, items: &mut ModItems) -> Result<(), OutOfMemory>
-    requires { IsSource source }
-    ensures { OnOk result (items.new ≡ items.old ++ all_declared source.entry) }
+/// Puts the items of a net in a part of the module.
+fn put_net(
+    alloc: Global,
+    source: Source,
+    items: &mut ModItems,
+    part: Part,
+    own: usize,
+) -> Result<(), OutOfMemory>
+    requires { IsNet source own }
+    ensures { OnOk result (items.new ≡ items.old ++ items_in source.entry part own) }
 {
-    for own in 0..source.netlist.nets().len() {
-        declare(alloc, source, items, own)?;
+    match part {
+        Part::Declarations => declare(alloc, source, items, own),
+        Part::Units => drive_unit(alloc, source, items, own),
+        Part::Others => drive(alloc, source, items, own),
     }
-    Ok(())
 }
 
-fn drive_units(alloc: Global, source: Source, items: &mut ModItems) -> Result<(), OutOfMemory>
+/// Puts the items of all nets in a part of the module.
+fn put_nets(
+    alloc: Global,
+    source: Source,
+    items: &mut ModItems,
+    part: Part,
+) -> Result<(), OutOfMemory>
     requires { IsSource source }
-    ensures { OnOk result (items.new ≡ items.old ++ all_units source.entry) }
+    ensures { OnOk result (items.new
+        ≡ items.old ++ first_in source.entry part (net_count source.entry)) }
 {
     for own in 0..source.netlist.nets().len() {
-        drive_unit(alloc, source, items, own)?;
-    }
-    Ok(())
-}
-
-fn drive_others(alloc: Global, source: Source, items: &mut ModItems) -> Result<(), OutOfMemory>
-    requires { IsSource source }
-    ensures { OnOk result (items.new ≡ items.old ++ all_others source.entry) }
-{
-    for own in 0..source.netlist.nets().len() {
-        drive(alloc, source, items, own)?;
+        put_net(alloc, source, items, part, own)?;
     }
     Ok(())
 }
@@ -160,9 +171,9 @@ pub fn put_items(alloc: Global, source: Source, items: &mut ModItems) -> Result<
     ensures { OnOk result (items.new
         ≡ map gated_item (items_of (circuit_of source.entry) ++ shows_enable ∷ [])) }
 {
-    declare_all(alloc, source, items)?;
-    drive_units(alloc, source, items)?;
-    drive_others(alloc, source, items)?;
+    put_nets(alloc, source, items, Part::Declarations)?;
+    put_nets(alloc, source, items, Part::Units)?;
+    put_nets(alloc, source, items, Part::Others)?;
     show_outputs(alloc, source, items)?;
     show_enable(alloc, items)
 }

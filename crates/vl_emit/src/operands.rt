@@ -4,7 +4,7 @@ ghost use Rattle.vl_ast.specs.declared.expressions.Expr.{Expr};
 ghost use Rattle.vl_ast.specs.declared.expressions.Expr.TheVariants.{Name, Concat};
 ghost use Rattle.vl_emit.specs.Names.{net_name, hold_name};
 ghost use Rattle.vl_emit.specs.inner.Spelled.{zeros, fill, inside, piece, at_width};
-ghost use Rattle.vl_emit.specs.inner.Spoken.{called_text, wire_at};
+ghost use Rattle.vl_emit.specs.inner.Spoken.{called_text, wire_at, CanBeAt};
 
 use fx_io::{Boxed, OutOfMemory, Text};
 use itoa::Buffer;
@@ -142,9 +142,7 @@ pub fn piece(alloc: Global, operand: Operand, low: u32, width: u32) -> Result<Ex
 
 /// An operand at the width at which it is used.
 pub fn at_width(alloc: Global, operand: Operand, width: u32) -> Result<Expr, OutOfMemory>
-    requires net { 1 ≤ operand.width }
-    requires some { 1 ≤ width }
-    requires most { width ≤ 128 }
+    requires { CanBeAt operand width }
     ensures { IfOk result (λ e. e ≡ at_width width (wire_at operand.entry)) }
 {
     piece(alloc, operand, 0, width)

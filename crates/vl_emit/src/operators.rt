@@ -7,7 +7,8 @@ ghost use Rattle.vl_emit.specs.inner.Operators.{compared, widened, signed_width,
 ghost use Rattle.vl_emit.specs.inner.Operators.{test_of, slice_at, shifted_up};
 ghost use Rattle.vl_emit.specs.inner.Spelled.{at_width};
 ghost use Rattle.vl_emit.specs.inner.Emitted.{constant, plain_number};
-ghost use Rattle.vl_emit.specs.inner.Spoken.{wire_at, CanBeWritten, HasRoom, IsWithin};
+ghost use Rattle.vl_emit.specs.inner.Spoken.{wire_at, CanBeWritten, HasRoom};
+ghost use Rattle.vl_emit.specs.inner.Spoken.{CanBeAt, CanBothBeAt, CanBeExpressed};
 ghost use Rattle.vl_emit.specs.inner.Spoken.{both_at, comparison_at, choice_at, operation_at};
 
 use crate::operands::{Operand, at_width, beside, named, piece, zeros};
@@ -36,8 +37,7 @@ pub fn constant(width: u8, signed: bool, number: i128) -> Sized
 }
 
 fn unary(alloc: Global, op: UnOp, operand: Operand, width: u32) -> Result<Expr, OutOfMemory>
-    requires net { CanBeWritten operand }
-    requires width { HasRoom width }
+    requires { CanBeAt operand width }
     ensures { IfOk result (λ e. e ≡ Unary op (at_width width (wire_at operand.entry))) }
 {
     let part = boxed(alloc, at_width(alloc, operand, width))?;
@@ -75,8 +75,7 @@ pub fn choose(
 
 /// An operand at the width at which it is compared.
 fn compared(alloc: Global, signed: bool, operand: Operand, width: u32) -> Result<Expr, OutOfMemory>
-    requires net { CanBeWritten operand }
-    requires width { HasRoom width }
+    requires { CanBeAt operand width }
     ensures { IfOk result (λ e. e ≡ compared signed (at_width width (wire_at operand.entry))) }
 {
     let part = at_width(alloc, operand, width);
@@ -94,9 +93,7 @@ pub fn in_width(
     right: Operand,
     width: u32,
 ) -> Result<Expr, OutOfMemory>
-    requires left { CanBeWritten left }
-    requires right { CanBeWritten right }
-    requires width { HasRoom width }
+    requires { CanBothBeAt left right width }
     ensures { IfOk result (λ e. e ≡ both_at op width left.entry right.entry) }
 {
     let left = at_width(alloc, left, width);
@@ -153,9 +150,7 @@ pub fn test_of(alloc: Global, operand: Operand) -> Result<Expr, OutOfMemory>
 }
 
 fn less(alloc: Global, left: Operand, right: Operand, width: u32) -> Result<Expr, OutOfMemory>
-    requires left { CanBeWritten left }
-    requires right { CanBeWritten right }
-    requires width { HasRoom width }
+    requires { CanBothBeAt left right width }
     ensures { IfOk result (λ e. e ≡ comparison_at Less width left.entry right.entry) }
 {
     let common = common_width(left, right);
@@ -166,9 +161,7 @@ fn less(alloc: Global, left: Operand, right: Operand, width: u32) -> Result<Expr
 }
 
 fn equal(alloc: Global, left: Operand, right: Operand, width: u32) -> Result<Expr, OutOfMemory>
-    requires left { CanBeWritten left }
-    requires right { CanBeWritten right }
-    requires width { HasRoom width }
+    requires { CanBothBeAt left right width }
     ensures { IfOk result (λ e. e ≡ comparison_at Equal width left.entry right.entry) }
 {
     let common = common_width(left, right);
@@ -187,9 +180,7 @@ fn choice(
     width: u32,
 ) -> Result<Expr, OutOfMemory>
     requires test { CanBeWritten test }
-    requires chosen { CanBeWritten chosen }
-    requires other { CanBeWritten other }
-    requires width { HasRoom width }
+    requires both { CanBothBeAt chosen other width }
     ensures { IfOk result (λ e. e ≡ choice_at width test.entry chosen.entry other.entry) }
 {
     let test = test_of(alloc, test);
@@ -199,8 +190,7 @@ fn choice(
 }
 
 fn shifted_up(alloc: Global, operand: Operand, places: u8, width: u32) -> Result<Expr, OutOfMemory>
-    requires net { CanBeWritten operand }
-    requires width { HasRoom width }
+    requires { CanBeAt operand width }
     ensures { IfOk result (λ e. e ≡ shifted_up (wire_at operand.entry) places width) }
 {
     if width <= u32::from(places) {
@@ -242,12 +232,7 @@ pub fn expression(
     third: Operand,
     word: (u8, bool),
 ) -> Result<Expr, OutOfMemory>
-    requires first { CanBeWritten first }
-    requires second { CanBeWritten second }
-    requires third { CanBeWritten third }
-    requires port { CanBeWritten port }
-    requires word { IsWord word.0 word.1 }
-    requires bounds { IsWithin op first.width }
+    requires { CanBeExpressed op port first second third word.0 word.1 }
     ensures { IfOk result (λ e. e ≡ operation_at op word.0 port.entry first.entry second.entry
         third.entry) }
 {

@@ -2,7 +2,7 @@
 ghost use Rattle.std.specs.Prelude.{◌≡◌, ◌<◌, Contains, IfOk};
 ghost use Rattle.hw_net.specs.declared.netlist.NetLabel.{NetLabel};
 ghost use Rattle.vl_emit.specs.inner.Spoken.{wire_at, CanBeWritten};
-ghost use Rattle.vl_emit.specs.inner.Ready.{IsIndex, IsSource, net_count, input_count, wire_in};
+ghost use Rattle.vl_emit.specs.inner.Ready.{IsIndex, IsNet, IsSource, input_count, wire_in};
 ghost use Rattle.vl_emit.specs.inner.Ready.{input_in};
 
 use crate::operands::{Called, Operand};
@@ -37,8 +37,7 @@ pub fn label_places(
 
 /// A net by its number.
 pub fn operand<'a>(source: Source<'a>, number: usize) -> Operand<'a>
-    requires source { IsSource source }
-    requires there { number < net_count source }
+    requires { IsNet source number }
     ensures wire { wire_at result ≡ wire_in source.entry number }
     ensures word { CanBeWritten result }
 {

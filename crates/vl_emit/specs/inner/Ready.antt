@@ -1,6 +1,6 @@
 -- What the code asks of a netlist and of the places of its labels.
-use Rattle.std.specs.Prelude.{◌≡◌, ◌<◌, ℕ, List, length, get_or, slice_index_or, [], ◌∷◌}
-use Rattle.std.specs.Prelude.{map, Option, None, Some, IsSome, Contains}
+use Rattle.std.specs.Prelude.{◌≡◌, ◌<◌, ◌-◌, ◌*◌, ℕ, List, length, get_or, slice_index_or, [], ◌∷◌}
+use Rattle.std.specs.Prelude.{Bool, true, false, map, flat_map, Option, None, Some, IsSome, Contains}
 use Rattle.fx_num.specs.Word.{IsWord}
 use Rattle.hw_net.specs.declared.netlist.Frame.{Frame}
 use Rattle.hw_net.specs.declared.netlist.NetLabel.{NetLabel}
@@ -12,16 +12,20 @@ use Rattle.hw_net.specs.declared.netlist.NetKind.TheVariants.{Counter}
 use Rattle.hw_net.specs.Circuit.{Circuit}
 use Rattle.hw_net.specs.Operation.{arity}
 use Rattle.hw_net.specs.Frames.{frame_of, counter_of}
+use Rattle.vl_emit.specs.declared.items.Part.{Part}
+use Rattle.vl_emit.specs.declared.items.Part.TheVariants.{Declarations, Units, Others}
 use Rattle.vl_emit.specs.declared.source.Source.{Source}
+use Rattle.vl_ast.specs.declared.expressions.BinOp.TheVariants as binary
 use Rattle.vl_ast.specs.declared.expressions.Expr.{Expr}
+use Rattle.vl_ast.specs.declared.expressions.Expr.TheVariants as expression
+use Rattle.vl_ast.specs.declared.expressions.Sized.{Sized}
 use Rattle.vl_ast.specs.declared.modules.ModItem.{ModItem}
 use Rattle.vl_ast.specs.Gated.{gated_item}
 use Rattle.vl_emit.specs.Names.{Wire, port_at, net_name, name_by, net_wire, input_wire}
-use Rattle.hw_net.specs.Products.{net_at}
+use Rattle.hw_net.specs.Products.{net_at, places}
 use Rattle.vl_emit.specs.inner.Emitted.{naming_of, counter_wire, slot_test, live_test, declarers_at}
-use Rattle.vl_emit.specs.inner.Emitted.{drivers_at, units_at, others_at, first_declared}
-use Rattle.vl_emit.specs.inner.Emitted.{first_units, first_gated, output_item}
-use Rattle.vl_emit.specs.inner.Operators.{expression_of}
+use Rattle.vl_emit.specs.inner.Emitted.{drivers_at, units_at, others_at, output_item}
+use Rattle.vl_emit.specs.inner.Operators.{expression_of, test_of}
 use Rattle.vl_emit.specs.inner.Spoken.{IsWithin}
 
 abbrev pub label_at : List NetLabel → ℕ → NetLabel
@@ -94,6 +98,24 @@ net_count source = length (circuit_of source).nets
 abbrev pub input_count : Source → ℕ
 input_count source = length (circuit_of source).inputs
 
+-- a net of a source, a frame of it with its Counter, and a net of this kind
+pub record IsNet (source : Source) (own : ℕ) : Type 0 where
+  pub is : IsSource source
+  pub there : own < net_count source
+
+pub record HasFrame (source : Source) (frame : Frame) : Type 0 where
+  pub is : IsSource source
+  pub timed : IsTimed (circuit_of source) frame
+
+pub record HasKind (source : Source) (own : ℕ) (kind : NetKind) : Type 0 where
+  pub net : IsNet source own
+  pub ready : IsReady (circuit_of source) kind
+
+-- the arguments of a net are nets
+pub record HasArguments (source : Source) (own : ℕ) (args : List ℕ) : Type 0 where
+  pub net : IsNet source own
+  pub there : (j : ℕ) → j < length args → get_or args j 0 < net_count source
+
 abbrev pub kind_at : Source → ℕ → NetKind
 kind_at source k = (net_at (circuit_of source).nets k).kind
 
@@ -126,6 +148,21 @@ slot_in source frame slot = slot_test (cycles_in source) frame (counter_in sourc
 abbrev pub live_in : Source → Frame → ℕ → Expr
 live_in source frame live = live_test (cycles_in source) frame (counter_in source frame) live
 
+-- when a register with enable takes a value, which is reset without it or keeps its own
+abbrev pub taking_in : Source → Frame → ℕ → Bool → Expr
+taking_in source frame enable true =
+    slot_in source frame (frame.period * cycles_in source - 1)
+taking_in source frame enable false =
+    expression.Binary binary.Both (slot_in source frame (frame.period * cycles_in source - 1))
+    (test_of (wire_in source enable))
+
+-- what it takes: the value of a net, or what it begins with
+abbrev pub taken_in : Source → ℕ → Bool → ℕ → Sized → Expr
+taken_in source enable true from begun =
+    expression.Choose (test_of (wire_in source enable)) (expression.Name (wire_in source from).name)
+    (expression.Literal begun)
+taken_in source enable false from begun = expression.Name (wire_in source from).name
+
 -- the item is the one driver of a net of this kind
 abbrev pub IsDriver : Source → ℕ → NetKind → ModItem → Type 0
 IsDriver source own kind item =
@@ -135,24 +172,16 @@ abbrev pub bridge_in : Source → ℕ → Frame → ℕ → ℕ → List ModItem
 bridge_in source own frame live from =
     map gated_item (drivers_at (circuit_of source) own (Bridge frame live from))
 
-abbrev pub declarers_in : Source → ℕ → List ModItem
-declarers_in source own = declarers_at (circuit_of source) own (kind_at source own)
+-- the items of a net in a part of the module
+abbrev pub items_in : Source → Part → ℕ → List ModItem
+items_in source Declarations own = declarers_at (circuit_of source) own (kind_at source own)
+items_in source Units own = units_at (circuit_of source) own (kind_at source own)
+items_in source Others own =
+    map gated_item (others_at (circuit_of source) own (kind_at source own))
 
-abbrev pub units_in : Source → ℕ → List ModItem
-units_in source own = units_at (circuit_of source) own (kind_at source own)
-
-abbrev pub others_in : Source → ℕ → List ModItem
-others_in source own = map gated_item (others_at (circuit_of source) own (kind_at source own))
-
--- those of all nets, and of the output ports
-abbrev pub all_declared : Source → List ModItem
-all_declared source = first_declared (circuit_of source) (net_count source)
-
-abbrev pub all_units : Source → List ModItem
-all_units source = first_units (circuit_of source) (net_count source)
-
-abbrev pub all_others : Source → List ModItem
-all_others source = first_gated (circuit_of source) (net_count source)
+-- those of the first nets, and of the output ports
+abbrev pub first_in : Source → Part → ℕ → List ModItem
+first_in source part count = flat_map (items_in source part) (places count)
 
 abbrev pub all_shown : Source → List ModItem
 all_shown source = map (output_item (naming_of (circuit_of source))) (circuit_of source).outputs

@@ -1,5 +1,5 @@
 -- What the code's operands stand for.
-use Rattle.std.specs.Prelude.{ℕ, zero, suc, ◌≤◌, ◌<◌, List}
+use Rattle.std.specs.Prelude.{ℕ, zero, suc, Bool, ◌≤◌, ◌<◌, List}
 use Rattle.fx_num.specs.Word.{IsWord}
 use Rattle.vl_ast.specs.declared.expressions.BinOp.{BinOp}
 use Rattle.vl_ast.specs.declared.expressions.Expr.{Expr}
@@ -40,6 +40,17 @@ HasRoom width = (1 ≤ width) × (width ≤ 128)
 abbrev pub CanBeWritten : Operand → Type 0
 CanBeWritten operand = IsWord operand.width operand.signed
 
+-- a net of a word is written at a width
+pub record CanBeAt (operand : Operand) (width : ℕ) : Type 0 where
+  pub word : CanBeWritten operand
+  pub room : HasRoom width
+
+-- so are two
+pub record CanBothBeAt (one other : Operand) (width : ℕ) : Type 0 where
+  pub left : CanBeWritten one
+  pub right : CanBeWritten other
+  pub room : HasRoom width
+
 -- a slice lies within a net of this width
 abbrev pub IsWithin : NetOp → ℕ → Type 0
 IsWithin (Input port) width = Unit
@@ -59,6 +70,16 @@ IsWithin Less width = Unit
 IsWithin Equal width = Unit
 IsWithin Choose width = Unit
 IsWithin (Slice high low) width = (low ≤ high) × (high < width)
+
+-- an operation and its operands, each at the width of its result
+pub record CanBeExpressed (op : NetOp) (shown one two three : Operand) (width : ℕ) (signed : Bool)
+    : Type 0 where
+  pub port : CanBeAt shown width
+  pub first : CanBeAt one width
+  pub both : CanBothBeAt one two width
+  pub others : CanBothBeAt two three width
+  pub word : IsWord width signed
+  pub bounds : IsWithin op one.width
 
 -- operators over operands that are written at a width
 abbrev pub both_at : BinOp → ℕ → Operand → Operand → Expr

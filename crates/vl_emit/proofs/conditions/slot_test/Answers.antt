@@ -10,11 +10,8 @@ use Rattle.vl_emit.specs.inner.Ready.{counter_in, cycles_in}
 use Rattle.vl_emit.specs.inner.Spelled.{zeros}
 use Rattle.vl_emit.proofs.conditions.slot_test.Goals as goal
 
-pub counter-counter-requires-clause-source : goal.counter-counter-requires-clause-source
-counter-counter-requires-clause-source c = c.requires.source
-
-pub counter-counter-requires-clause-timed : goal.counter-counter-requires-clause-timed
-counter-counter-requires-clause-timed c = c.requires.timed
+pub counter-counter-requires : goal.counter-counter-requires
+counter-counter-requires c = c.requires
 
 pub returns : goal.returns
 returns c =

@@ -3,17 +3,11 @@ use Rattle.vl_ast.specs.declared.expressions.Expr.TheVariants.{Name}
 use Rattle.vl_emit.specs.Names.{Wire}
 use Rattle.vl_emit.proofs.driving.bridged.Goals as goal
 
-pub live_test-test-requires-clause-source : goal.live_test-test-requires-clause-source
-live_test-test-requires-clause-source c = c.requires.source
+pub live_test-test-requires : goal.live_test-test-requires
+live_test-test-requires c = record { is = c.requires.net.is; timed = c.requires.ready.0 }
 
-pub live_test-test-requires-clause-timed : goal.live_test-test-requires-clause-timed
-live_test-test-requires-clause-timed c = c.requires.timed
-
-pub operand-requires-clause-source : goal.operand-requires-clause-source
-operand-requires-clause-source c = c.requires.source
-
-pub operand-requires-clause-there : goal.operand-requires-clause-there
-operand-requires-clause-there c = c.requires.from
+pub operand-requires : goal.operand-requires
+operand-requires c = record { is = c.requires.net.is; there = c.requires.ready.1 }
 
 pub returns : goal.returns
 returns c =

@@ -1,72 +1,60 @@
-use Rattle.std.proofs.Common.{◌≡◌, IfOk, ap, arith, subst, ◌∙◌}
+use Rattle.std.proofs.Common.{◌≡◌, ℕ, List, IfOk, ap, arith, subst, sym, ◌∙◌}
+use Rattle.fx_num.specs.Word.{IsWord}
+use Rattle.fx_num.proofs.Words.{word_width}
 use Rattle.hw_net.specs.declared.netlist.Net.{Net}
+use Rattle.hw_net.specs.declared.netlist.NetOp.{NetOp}
+use Rattle.hw_net.specs.declared.netlist.NetKind.TheVariants.{Comb}
 use Rattle.hw_net.specs.Products.{net_at}
 use Rattle.vl_ast.specs.declared.expressions.Expr.{Expr}
-use Rattle.vl_emit.specs.inner.Ready.{circuit_of, argument_in, input_in}
+use Rattle.vl_emit.specs.declared.source.Source.{Source}
+use Rattle.vl_emit.specs.inner.Ready.{HasArguments, HasKind, circuit_of, argument_in, input_in}
 use Rattle.vl_emit.specs.inner.Spoken.{operation_at, wire_at}
 use Rattle.vl_emit.proofs.Agree.{same-expression, within-first}
 use Rattle.vl_emit.proofs.Lists.{net-read}
 use Rattle.vl_emit.proofs.driving.operation.Goals as goal
 
-pub expression-requires-clause-bounds : goal.expression-requires-clause-bounds
-expression-requires-clause-bounds c =
-    within-first c.args.op _ _ (λ h. ap (λ wire. wire.width) (c.argument-first.ensures.wire (omega (arith, h, c.requires.kind.0)))) c.requires.kind.2
+argument : {source : Source} {own : ℕ} {op : NetOp} {args : List ℕ} → HasKind source own (Comb op args) → HasArguments source own args
+argument h = record { net = h.net; there = h.ready.1 }
+
+pub argument-first-requires : goal.argument-first-requires
+argument-first-requires c = argument c.requires
+
+pub argument-second-requires : goal.argument-second-requires
+argument-second-requires c = argument c.requires
+
+pub argument-third-requires : goal.argument-third-requires
+argument-third-requires c = argument c.requires
+
+pub port-port-requires-clause-net : goal.port-port-requires-clause-net
+port-port-requires-clause-net c = c.requires.net
+
+pub port-port-requires-clause-there : goal.port-port-requires-clause-there
+port-port-requires-clause-there c = c.requires.ready.3
+
+pub expression-requires : goal.expression-requires
+expression-requires c =
+    let nets = (circuit_of c.args.source).nets in
+    let net = net-read nets _ c.args.own _ c.nets.ensures c.index-nets-own.is c.requires.net.there in
+    let word = subst (λ (n : Net). IsWord n.width n.signed) (sym net) (c.requires.net.is.ready.words c.args.own c.requires.net.there) in
+    let room = word_width c.index-nets-own.result.width c.index-nets-own.result.signed word in
+    let first = c.argument-first.ensures.word in
+    let second = c.argument-second.ensures.word in
+    record {
+      port = record { word = c.port-port.ensures.word; room = room };
+      first = record { word = first; room = room };
+      both = record { left = first; right = second; room = room };
+      others = record { left = second; right = c.argument-third.ensures.word; room = room };
+      word = word;
+      bounds = within-first c.args.op _ _ (λ h. ap (λ wire. wire.width) (c.argument-first.ensures.wire (omega (arith, h, c.requires.ready.0)))) c.requires.ready.2;
+    }
 
 pub returns : goal.returns
 returns c =
     let nets = (circuit_of c.args.source).nets in
-    let net = net-read nets _ c.args.own _ c.nets.ensures c.index-nets-own.is c.requires.own in
+    let net = net-read nets _ c.args.own _ c.nets.ensures c.index-nets-own.is c.requires.net.there in
     let wide = ap (λ (n : Net). operation_at c.args.op n.width c.port-port.result c.argument-first.result c.argument-second.result c.argument-third.result) net in
     let is =
     same-expression (net_at nets c.args.own).width (input_in c.args.source) (wire_at c.port-port.result) (argument_in c.args.source c.args.args.now) (wire_at c.argument-first.result)
-    (wire_at c.argument-second.result) (wire_at c.argument-third.result) c.args.op c.port-port.ensures.wire (λ h. c.argument-first.ensures.wire (omega (arith, h, c.requires.kind.0)))
-    (λ h. c.argument-second.ensures.wire (omega (arith, h, c.requires.kind.0))) (λ h. c.argument-third.ensures.wire (omega (arith, h, c.requires.kind.0))) in
+    (wire_at c.argument-second.result) (wire_at c.argument-third.result) c.args.op c.port-port.ensures.wire (λ h. c.argument-first.ensures.wire (omega (arith, h, c.requires.ready.0)))
+    (λ h. c.argument-second.ensures.wire (omega (arith, h, c.requires.ready.0))) (λ h. c.argument-third.ensures.wire (omega (arith, h, c.requires.ready.0))) in
     subst (λ (v : Expr). IfOk c.expression.result (λ e. e ≡ v)) (wide ∙ is) c.expression.ensures
-
-pub argument-first-requires-clause-source : goal.argument-first-requires-clause-source
-argument-first-requires-clause-source c = c.requires.source
-
-pub argument-first-requires-clause-own : goal.argument-first-requires-clause-own
-argument-first-requires-clause-own c = c.requires.own
-
-pub argument-first-requires-clause-there : goal.argument-first-requires-clause-there
-argument-first-requires-clause-there c = c.requires.kind.1
-
-pub argument-second-requires-clause-source : goal.argument-second-requires-clause-source
-argument-second-requires-clause-source c = c.requires.source
-
-pub argument-second-requires-clause-own : goal.argument-second-requires-clause-own
-argument-second-requires-clause-own c = c.requires.own
-
-pub argument-second-requires-clause-there : goal.argument-second-requires-clause-there
-argument-second-requires-clause-there c = c.requires.kind.1
-
-pub argument-third-requires-clause-source : goal.argument-third-requires-clause-source
-argument-third-requires-clause-source c = c.requires.source
-
-pub argument-third-requires-clause-own : goal.argument-third-requires-clause-own
-argument-third-requires-clause-own c = c.requires.own
-
-pub argument-third-requires-clause-there : goal.argument-third-requires-clause-there
-argument-third-requires-clause-there c = c.requires.kind.1
-
-pub port-port-requires-clause-source : goal.port-port-requires-clause-source
-port-port-requires-clause-source c = c.requires.source
-
-pub port-port-requires-clause-own : goal.port-port-requires-clause-own
-port-port-requires-clause-own c = c.requires.own
-
-pub port-port-requires-clause-there : goal.port-port-requires-clause-there
-port-port-requires-clause-there c = c.requires.kind.3
-
-pub expression-requires-clause-port : goal.expression-requires-clause-port
-expression-requires-clause-port c = c.port-port.ensures.word
-
-pub expression-requires-clause-first : goal.expression-requires-clause-first
-expression-requires-clause-first c = c.argument-first.ensures.word
-
-pub expression-requires-clause-second : goal.expression-requires-clause-second
-expression-requires-clause-second c = c.argument-second.ensures.word
-
-pub expression-requires-clause-third : goal.expression-requires-clause-third
-expression-requires-clause-third c = c.argument-third.ensures.word

@@ -14,7 +14,7 @@ pub returns : goal.returns
 returns c =
     let source = c.args.source in
     let frame = c.args.frame in
-    let net = net-read (circuit_of source).nets _ c.args.own _ c.nets.ensures c.index-nets-own.is c.requires.own in
+    let net = net-read (circuit_of source).nets _ c.args.own _ c.nets.ensures c.index-nets-own.is c.requires.net.there in
     let same = to_z-of_z w128 c.args.first c.ranges.first in
     let first = c.constant.ensures ∙ (λ i. constant (net i).width (same i)) in
     let name = subst (λ (w : Wire). IfOk c.text_of.result (λ text. text ≡ w.name)) c.operand.ensures.wire c.text_of.ensures in
@@ -22,20 +22,11 @@ returns c =
     let taken = subst (λ (w : Wire). IfOk c.named.result (λ e. e ≡ Name w.name)) c.operand-2.ensures.wire c.named.ensures in
     if-alone c.register.result _ (c.register.ensures _ _ _ _ first name test taken)
 
-pub operand-requires-clause-source : goal.operand-requires-clause-source
-operand-requires-clause-source c = c.requires.source
+pub operand-requires : goal.operand-requires
+operand-requires c = c.requires.net
 
-pub operand-requires-clause-there : goal.operand-requires-clause-there
-operand-requires-clause-there c = c.requires.own
+pub operand-requires-2 : goal.operand-requires-2
+operand-requires-2 c = record { is = c.requires.net.is; there = c.requires.ready.1 }
 
-pub operand-requires-2-clause-source : goal.operand-requires-2-clause-source
-operand-requires-2-clause-source c = c.requires.source
-
-pub operand-requires-2-clause-there : goal.operand-requires-2-clause-there
-operand-requires-2-clause-there c = c.requires.kind.1
-
-pub enabled_slot-requires-clause-source : goal.enabled_slot-requires-clause-source
-enabled_slot-requires-clause-source c = c.requires.source
-
-pub enabled_slot-requires-clause-timed : goal.enabled_slot-requires-clause-timed
-enabled_slot-requires-clause-timed c = c.requires.kind.0
+pub enabled_slot-requires : goal.enabled_slot-requires
+enabled_slot-requires c = record { is = c.requires.net.is; timed = c.requires.ready.0 }

@@ -1,4 +1,5 @@
 use Rattle.std.proofs.Common.{◌≡◌, IfOk, subst}
+use Rattle.fx_num.proofs.Words.{word_width}
 use Rattle.vl_ast.specs.declared.expressions.BinOp.TheVariants.{Multiply}
 use Rattle.vl_ast.specs.declared.expressions.Expr.TheVariants.{Binary}
 use Rattle.vl_emit.specs.Names.{Wire}
@@ -7,6 +8,19 @@ use Rattle.vl_emit.specs.inner.Spelled.{at_width}
 use Rattle.vl_emit.specs.inner.Spoken.{wire_at}
 use Rattle.vl_emit.proofs.Returned.{if-alone}
 use Rattle.vl_emit.proofs.driving.unit_item.Goals as goal
+
+pub operand-left-requires : goal.operand-left-requires
+operand-left-requires c = record { is = c.requires.net.is; there = c.requires.ready.0 }
+
+pub operand-right-requires : goal.operand-right-requires
+operand-right-requires c = record { is = c.requires.net.is; there = c.requires.ready.1 }
+
+pub in_width-value-requires : goal.in_width-value-requires
+in_width-value-requires c = record {
+  left = c.operand-left.ensures.word;
+  right = c.operand-right.ensures.word;
+  room = word_width c.operand-net.result.width c.operand-net.result.signed c.operand-net.ensures.word;
+}
 
 pub returns : goal.returns
 returns c =

@@ -15,8 +15,8 @@ returns-in-Comb c =
     let wire = subst (λ (w : Wire). IfOk c.wire.result (λ made. made ∷ [] ≡ item.Wire w.signed w.width w.name ∷ [])) c.operand-net.ensures.wire (if-alone c.wire.result _ (c.wire.ensures _ c.text_of-name.ensures)) in
     let put = c.put.ensures _ wire in
     elim c.in-Comb.is [
-      | inl here ↦ subst (λ (kind : NetKind). OnOk c.put.result (c.put.new.items ≡ c.args.items.now ++ declarers_at (circuit_of c.args.source) c.args.own kind)) (sym (kind-at (circuit_of c.args.source).nets _ c.args.own _ _ c.nets.ensures c.requires.own here.2)) put
-      | inr more ↦ subst (λ (kind : NetKind). OnOk c.put.result (c.put.new.items ≡ c.args.items.now ++ declarers_at (circuit_of c.args.source) c.args.own kind)) (sym (kind-at (circuit_of c.args.source).nets _ c.args.own _ _ c.nets.ensures c.requires.own more.2)) put
+      | inl here ↦ subst (λ (kind : NetKind). OnOk c.put.result (c.put.new.items ≡ c.args.items.now ++ declarers_at (circuit_of c.args.source) c.args.own kind)) (sym (kind-at (circuit_of c.args.source).nets _ c.args.own _ _ c.nets.ensures c.requires.there here.2)) put
+      | inr more ↦ subst (λ (kind : NetKind). OnOk c.put.result (c.put.new.items ≡ c.args.items.now ++ declarers_at (circuit_of c.args.source) c.args.own kind)) (sym (kind-at (circuit_of c.args.source).nets _ c.args.own _ _ c.nets.ensures c.requires.there more.2)) put
     ]
 
 pub returns-in-Reg : goal.returns-in-Reg
@@ -24,10 +24,10 @@ returns-in-Reg c =
     let reg = subst (λ (w : Wire). IfOk c.reg.result (λ made. made ∷ [] ≡ item.Reg w.signed w.width w.name ∷ [])) c.operand-net.ensures.wire (if-alone c.reg.result _ (c.reg.ensures _ c.text_of-name.ensures)) in
     let put = c.put-in-Reg.ensures _ reg in
     elim c.in-Reg.is [
-      | inl here ↦ subst (λ (kind : NetKind). OnOk c.put-in-Reg.result (c.put-in-Reg.new.items ≡ c.args.items.now ++ declarers_at (circuit_of c.args.source) c.args.own kind)) (sym (kind-at (circuit_of c.args.source).nets _ c.args.own _ _ c.nets.ensures c.requires.own here.4)) put
+      | inl here ↦ subst (λ (kind : NetKind). OnOk c.put-in-Reg.result (c.put-in-Reg.new.items ≡ c.args.items.now ++ declarers_at (circuit_of c.args.source) c.args.own kind)) (sym (kind-at (circuit_of c.args.source).nets _ c.args.own _ _ c.nets.ensures c.requires.there here.4)) put
       | inr more ↦ elim more [
-        | inl here ↦ subst (λ (kind : NetKind). OnOk c.put-in-Reg.result (c.put-in-Reg.new.items ≡ c.args.items.now ++ declarers_at (circuit_of c.args.source) c.args.own kind)) (sym (kind-at (circuit_of c.args.source).nets _ c.args.own _ _ c.nets.ensures c.requires.own here.5)) put
-        | inr more ↦ subst (λ (kind : NetKind). OnOk c.put-in-Reg.result (c.put-in-Reg.new.items ≡ c.args.items.now ++ declarers_at (circuit_of c.args.source) c.args.own kind)) (sym (kind-at (circuit_of c.args.source).nets _ c.args.own _ _ c.nets.ensures c.requires.own more.1)) put
+        | inl here ↦ subst (λ (kind : NetKind). OnOk c.put-in-Reg.result (c.put-in-Reg.new.items ≡ c.args.items.now ++ declarers_at (circuit_of c.args.source) c.args.own kind)) (sym (kind-at (circuit_of c.args.source).nets _ c.args.own _ _ c.nets.ensures c.requires.there here.5)) put
+        | inr more ↦ subst (λ (kind : NetKind). OnOk c.put-in-Reg.result (c.put-in-Reg.new.items ≡ c.args.items.now ++ declarers_at (circuit_of c.args.source) c.args.own kind)) (sym (kind-at (circuit_of c.args.source).nets _ c.args.own _ _ c.nets.ensures c.requires.there more.1)) put
       ]
     ]
 
@@ -36,5 +36,5 @@ returns-in_ok-put-in-Bridge c =
     let wire = subst (λ (w : Wire). IfOk c.wire-in-Bridge.result (λ made. made ∷ [] ≡ item.Wire w.signed w.width w.name ∷ [])) c.operand-net.ensures.wire (if-alone c.wire-in-Bridge.result _ (c.wire-in-Bridge.ensures _ c.text_of-name.ensures)) in
     let first = c.in_ok-put-in-Bridge.ensures _ wire in
     let held = subst (λ (w : Wire). IfOk c.reg-in-Bridge.result (λ made. made ∷ [] ≡ item.Reg w.signed w.width (hold_name c.args.own) ∷ [])) c.operand-net.ensures.wire (if-alone c.reg-in-Bridge.result _ (c.reg-in-Bridge.ensures _ c.hold_text.ensures)) in
-    subst (λ (kind : NetKind). OnOk c.put-in-Bridge-2.result (c.put-in-Bridge-2.new.items ≡ c.args.items.now ++ declarers_at (circuit_of c.args.source) c.args.own kind)) (sym (kind-at (circuit_of c.args.source).nets _ c.args.own _ _ c.nets.ensures c.requires.own c.in-Bridge.is))
+    subst (λ (kind : NetKind). OnOk c.put-in-Bridge-2.result (c.put-in-Bridge-2.new.items ≡ c.args.items.now ++ declarers_at (circuit_of c.args.source) c.args.own kind)) (sym (kind-at (circuit_of c.args.source).nets _ c.args.own _ _ c.nets.ensures c.requires.there c.in-Bridge.is))
     (on_ok_weaker c.put-in-Bridge-2.result (λ put. put-before c.args.items.now c.put-in-Bridge.new.items c.put-in-Bridge-2.new.items _ _ first put) (c.put-in-Bridge-2.ensures _ held))

@@ -6,5 +6,5 @@ use Rattle.vl_emit.proofs.items.put_items.Goals as goal
 pub returns : goal.returns
 returns c =
     on_ok_weaker c.show_enable.result
-    (λ enable. items-put (circuit_of c.args.source) _ _ _ _ _ _ c.requires.none c.in_ok-declare_all.ensures c.in_ok-drive_units.ensures c.in_ok-drive_others.ensures c.in_ok-show_outputs.ensures enable)
+    (λ enable. items-put (circuit_of c.args.source) _ _ _ _ _ _ c.requires.none c.in_ok-put_nets.ensures c.in_ok-put_nets-2.ensures c.in_ok-put_nets-3.ensures c.in_ok-show_outputs.ensures enable)
     c.show_enable.ensures

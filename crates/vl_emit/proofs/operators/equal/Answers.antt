@@ -10,17 +10,11 @@ common_width-common-requires-clause-left c = c.requires.left
 pub common_width-common-requires-clause-right : goal.common_width-common-requires-clause-right
 common_width-common-requires-clause-right c = c.requires.right
 
-pub in_width-requires-clause-left : goal.in_width-requires-clause-left
-in_width-requires-clause-left c = c.requires.left
-
-pub in_width-requires-clause-right : goal.in_width-requires-clause-right
-in_width-requires-clause-right c = c.requires.right
-
-pub in_width-requires-clause-width : goal.in_width-requires-clause-width
-in_width-requires-clause-width c = c.common_width-common.ensures.room
+pub in_width-requires : goal.in_width-requires
+in_width-requires c = record { left = c.requires.left; right = c.requires.right; room = c.common_width-common.ensures.room }
 
 pub widened-requires : goal.widened-requires
-widened-requires c = c.requires.width.0
+widened-requires c = c.requires.room.0
 
 pub returns : goal.returns
 returns c =

@@ -14,20 +14,14 @@ common_width-common-requires-clause-left c = c.requires.left
 pub common_width-common-requires-clause-right : goal.common_width-common-requires-clause-right
 common_width-common-requires-clause-right c = c.requires.right
 
-pub compared-one-requires-clause-net : goal.compared-one-requires-clause-net
-compared-one-requires-clause-net c = c.requires.left
+pub compared-one-requires : goal.compared-one-requires
+compared-one-requires c = record { word = c.requires.left; room = c.common_width-common.ensures.room }
 
-pub compared-one-requires-clause-width : goal.compared-one-requires-clause-width
-compared-one-requires-clause-width c = c.common_width-common.ensures.room
-
-pub compared-other-requires-clause-net : goal.compared-other-requires-clause-net
-compared-other-requires-clause-net c = c.requires.right
-
-pub compared-other-requires-clause-width : goal.compared-other-requires-clause-width
-compared-other-requires-clause-width c = c.common_width-common.ensures.room
+pub compared-other-requires : goal.compared-other-requires
+compared-other-requires c = record { word = c.requires.right; room = c.common_width-common.ensures.room }
 
 pub widened-requires : goal.widened-requires
-widened-requires c = c.requires.width.0
+widened-requires c = c.requires.room.0
 
 pub returns : goal.returns
 returns c =

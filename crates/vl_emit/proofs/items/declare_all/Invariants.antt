@@ -1,7 +1,0 @@
-use Rattle.std.proofs.Common.{◌≡◌, ◌++◌}
-use Rattle.vl_emit.specs.inner.Emitted.{first_declared}
-use Rattle.vl_emit.specs.inner.Ready.{circuit_of}
-use Rattle.vl_emit.proofs.items.declare_all.Given as goal
-
-abbrev pub invariant-loop-own : goal.invariant-loop-own
-invariant-loop-own l = l.items ≡ l.initial.items ++ first_declared (circuit_of l.source) l.own
