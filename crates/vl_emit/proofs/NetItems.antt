@@ -1,5 +1,5 @@
 -- The module of a netlist has each net: its name is declared with its word, and its drivers are items.
-use Rattle.std.proofs.Common.{◌≡◌, ◌⊎◌, inl, inr, ℕ, ◌<◌, true, false, List, [], ◌∷◌, ◌++◌, map, flat_map, Contains, None, ap, sym, ◌∙◌, subst, refl}
+use Rattle.std.proofs.Common.{◌≡◌, ◌⊎◌, inl, inr, ℕ, ◌<◌, true, false, List, [], ◌∷◌, ◌++◌, Contains, None, ap, sym, ◌∙◌, subst, refl}
 use Rattle.std.proofs.lemmas.List.Elements.{Contains-append_left, Contains-append_right, Contains-append_cases}
 use Rattle.vl_ast.specs.declared.modules.ModItem.{ModItem}
 use Rattle.vl_ast.specs.declared.modules.ModItem.TheVariants as item
@@ -14,6 +14,7 @@ use Rattle.hw_net.specs.Products.{places}
 use Rattle.vl_emit.specs.inner.Emitted.{Naming, drivers, declarers, unit_drivers, other_drivers, output_item, module_items, plain_number}
 use Rattle.vl_ast.specs.declared.expressions.Expr.TheVariants as expression
 use Rattle.vl_emit.specs.inner.Sound.{HasNets, AreNames}
+use Rattle.vl_emit.proofs.Sections.{Items, items_in}
 use Rattle.vl_emit.proofs.Found.{DeclaredBy, here, later, first-or-later, no-element, place-below, below-place, in-one, of-one, mapped, of-mapped, net-of-name, declared-where, declared-item}
 
 module _ (cycles count : ℕ) (naming : Naming) (net : ℕ → Net) (outputs : List NetPort) where
@@ -73,35 +74,28 @@ module _ (cycles count : ℕ) (naming : Naming) (net : ℕ → Net) (outputs : L
   unit-or-other k (EnReg frame enable reset first from) i c = inr c
   unit-or-other k (Bridge frame live from) i c = inr c
 
-  abbrev declaring : List ModItem
-  declaring = flat_map (λ k. declarers naming net k (net k).kind) (places count)
+  abbrev items : Items
+  items = items_in cycles count naming net outputs
 
-  abbrev first_driving : List ModItem
-  first_driving = flat_map (λ k. unit_drivers cycles naming net k (net k).kind) (places count)
-
-  abbrev then_driving : List ModItem
-  then_driving = flat_map (λ k. other_drivers cycles naming net k (net k).kind) (places count)
-
-  abbrev showing : List ModItem
-  showing = map (output_item naming) outputs
+  open items use {declaring, units, others, showing}
 
   -- each driver is an item
   pub has-drivers : (k : ℕ) → k < count → (i : ModItem) → Contains (drivers cycles naming net k (net k).kind) i → Contains (module_items cycles count naming net outputs) i
   has-drivers k h i c =
-      Contains-append_right declaring (first_driving ++ (then_driving ++ showing)) i
+      Contains-append_right declaring (units ++ (others ++ showing)) i
       (elim (unit-or-other k (net k).kind i c) [
-        | inl unit ↦ Contains-append_left first_driving (then_driving ++ showing) i
+        | inl unit ↦ Contains-append_left units (others ++ showing) i
             (in-one (λ j. unit_drivers cycles naming net j (net j).kind) (places count) k i (place-below count k h) unit)
-        | inr other ↦ Contains-append_right first_driving (then_driving ++ showing) i (Contains-append_left then_driving showing i
+        | inr other ↦ Contains-append_right units (others ++ showing) i (Contains-append_left others showing i
             (in-one (λ j. other_drivers cycles naming net j (net j).kind) (places count) k i (place-below count k h) other))
       ])
 
   -- and so is what drives each output port
   pub has-outputs : (output : NetPort) → Contains outputs output → Contains (module_items cycles count naming net outputs) (output_item naming output)
   has-outputs output c =
-      Contains-append_right declaring (first_driving ++ (then_driving ++ showing)) (output_item naming output)
-      (Contains-append_right first_driving (then_driving ++ showing) (output_item naming output)
-      (Contains-append_right then_driving showing (output_item naming output) (mapped (output_item naming) outputs output c)))
+      Contains-append_right declaring (units ++ (others ++ showing)) (output_item naming output)
+      (Contains-append_right units (others ++ showing) (output_item naming output)
+      (Contains-append_right others showing (output_item naming output) (mapped (output_item naming) outputs output c)))
 
   -- what an item of the declarers of a net declares
   abbrev IsOf : ℕ → Declared → Type 0
@@ -137,13 +131,13 @@ module _ (cycles count : ℕ) (naming : Naming) (net : ℕ → Net) (outputs : L
 
   -- each declaration among the items is that of a net
   pub of-a-net : (i : ModItem) (d : Declared) → Contains (module_items cycles count naming net outputs) i → DeclaredBy i d → (k : ℕ) × (k < count) × IsOf k d
-  of-a-net i d c e = elim (Contains-append_cases declaring (first_driving ++ (then_driving ++ showing)) i c) [
+  of-a-net i d c e = elim (Contains-append_cases declaring (units ++ (others ++ showing)) i c) [
     | inl a ↦ (let r = of-one (λ k. declarers naming net k (net k).kind) (places count) i a in
         (r.0, below-place count r.0 r.1, declarers-say r.0 (net r.0).kind i r.2 d e))
-    | inr a ↦ elim (Contains-append_cases first_driving (then_driving ++ showing) i a) [
+    | inr a ↦ elim (Contains-append_cases units (others ++ showing) i a) [
       | inl b ↦ (let r = of-one (λ k. unit_drivers cycles naming net k (net k).kind) (places count) i b in
           absurd (drivers-silent r.0 (net r.0).kind i (units-drive r.0 (net r.0).kind i r.2) d e))
-      | inr b ↦ elim (Contains-append_cases then_driving showing i b) [
+      | inr b ↦ elim (Contains-append_cases others showing i b) [
         | inl f ↦ (let r = of-one (λ k. other_drivers cycles naming net k (net k).kind) (places count) i f in
             absurd (drivers-silent r.0 (net r.0).kind i (others-drive r.0 (net r.0).kind i r.2) d e))
         | inr f ↦ (let r = of-mapped (output_item naming) outputs i f in
@@ -172,7 +166,7 @@ module _ (cycles count : ℕ) (naming : Naming) (net : ℕ → Net) (outputs : L
         let c = subst (λ (t : NetKind). Contains (declarers naming net k t) found.0) (sym is) found.2 in (
           found.1,
           declared-item m found.0 found.1
-              (from-items found.0 (Contains-append_left declaring (first_driving ++ (then_driving ++ showing)) found.0
+              (from-items found.0 (Contains-append_left declaring (units ++ (others ++ showing)) found.0
               (in-one (λ j. declarers naming net j (net j).kind) (places count) k found.0 (place-below count k h) c))) found.3,
           found.4,
         )

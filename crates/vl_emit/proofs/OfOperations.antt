@@ -170,19 +170,18 @@ module _ (nets : List ℕ → Net) (row : List ℕ → ℕ) where
       abbrev short : ℕ
       short = max (a 0).width (a 1).width
 
+      fit : (i : ℕ) → Known i → signed_width (a i) ≤ long → (1 ≤ long) × (size_of (z i) < 2 ^ (long - 1))
+      fit i known most =
+          let f = fits-signed (a i).signed (a i).width (z i) known.word known.in_word in
+          let k : signed_width (a i) - 1 ≤ long - 1 = omega (arith, most) in
+          let p : 2 ^ (signed_width (a i) - 1) ≤ 2 ^ (long - 1) = pow_mono k in
+          (omega (arith, f.0, most), omega (arith, f.1, p))
+
       fit0 : (1 ≤ long) × (size_of (z 0) < 2 ^ (long - 1))
-      fit0 =
-          let f = fits-signed (a 0).signed (a 0).width (z 0) s.word s.in_word in
-          let k : signed_width (a 0) - 1 ≤ long - 1 = omega arith in
-          let p : 2 ^ (signed_width (a 0) - 1) ≤ 2 ^ (long - 1) = pow_mono k in
-          (omega (arith, f.0), omega (arith, f.1))
+      fit0 = fit 0 s (omega arith)
 
       fit1 : (1 ≤ long) × (size_of (z 1) < 2 ^ (long - 1))
-      fit1 =
-          let f = fits-signed (a 1).signed (a 1).width (z 1) t.word t.in_word in
-          let k : signed_width (a 1) - 1 ≤ long - 1 = omega arith in
-          let p : 2 ^ (signed_width (a 1) - 1) ≤ 2 ^ (long - 1) = pow_mono k in
-          (omega (arith, f.0), omega (arith, f.1))
+      fit1 = fit 1 t (omega arith)
 
       some-short : 1 ≤ short
       some-short = let e = width-at-least (a 0).signed (a 0).width s.word in omega (arith, e)

@@ -28,36 +28,33 @@ use Rattle.vl_emit.proofs.Cleaned.{name-clean, word-most}
 use Rattle.vl_emit.proofs.Drivers.{assign-clean}
 use Rattle.vl_emit.proofs.Drivers.{multiplies, drivers-clean, net-width}
 use Rattle.vl_emit.proofs.Ports.{named-net}
+use Rattle.vl_emit.proofs.Sections.{Items, items_in}
 use Rattle.vl_emit.proofs.DeclaredFirst.{find-none, item_drives, port_mentions, IsDeclaredBefore, IsDriven, none-undriven}
 
 -- the module of a netlist
 module _ (cycles count : ℕ) (naming : Naming) (net : ℕ → Net) (rank : ℕ → ℕ) (outputs : List NetPort) (m : Module)
     (sound : IsSound cycles count naming net rank) (emitted : IsEmitted cycles count naming net outputs m) (alone : HasOnly outputs m) where
-  abbrev declaring_items : List ModItem
-  declaring_items = flat_map (λ k. declarers naming net k (net k).kind) (places count)
+  abbrev items : Items
+  items = items_in cycles count naming net outputs
 
-  abbrev units : List ModItem
-  units = flat_map (λ k. unit_drivers cycles naming net k (net k).kind) (places count)
-
-  abbrev others : List ModItem
-  others = flat_map (λ k. other_drivers cycles naming net k (net k).kind) (places count)
+  open items use {declaring, units, others, showing}
 
   abbrev driving_items : List ModItem
-  driving_items = units ++ (others ++ map (output_item naming) outputs)
+  driving_items = units ++ (others ++ showing)
 
   abbrev DeclaredName : List ℕ → Type 0
-  DeclaredName = IsDeclaredBefore m declaring_items driving_items emitted.items
+  DeclaredName = IsDeclaredBefore m declaring driving_items emitted.items
 
   abbrev DrivenName : List ℕ → Type 0
-  DrivenName = IsDriven m declaring_items driving_items emitted.items
+  DrivenName = IsDriven m declaring driving_items emitted.items
 
   declared-by-item : (k : ℕ) → k < count → (name : List ℕ) (kind : NetKind) → (net k).kind ≡ kind → DeclaresName cycles count naming net outputs k name kind → DeclaredName name
   declared-by-item k h name kind is found =
       let c = subst (λ (t : NetKind). Contains (declarers naming net k t) found.0) (sym is) found.2 in
       let i = in-one (λ j. declarers naming net j (net j).kind) (places count) k found.0 (place-below count k h) c in (
         found.1,
-        Contains-append_right (port_mentions m declaring_items driving_items emitted.items) (flat_map item_mentions declaring_items) (Declares found.1)
-            (in-one item_mentions declaring_items found.0 (Declares found.1) i (declares found.0 found.1 found.3)),
+        Contains-append_right (port_mentions m declaring driving_items emitted.items) (flat_map item_mentions declaring) (Declares found.1)
+            (in-one item_mentions declaring found.0 (Declares found.1) i (declares found.0 found.1 found.3)),
         found.4,
       )
 
@@ -77,7 +74,7 @@ module _ (cycles count : ℕ) (naming : Naming) (net : ℕ → Net) (rank : ℕ 
   port-declared : (port : Port) → Contains m.ports port → DeclaredName port.name
   port-declared port c = (
     port_declared port,
-    Contains-append_left (port_mentions m declaring_items driving_items emitted.items) (flat_map item_mentions declaring_items) (Declares (port_declared port))
+    Contains-append_left (port_mentions m declaring driving_items emitted.items) (flat_map item_mentions declaring) (Declares (port_declared port))
         (mapped (λ (p : Port). Declares (port_declared p)) m.ports port c),
     refl,
   )
@@ -85,8 +82,8 @@ module _ (cycles count : ℕ) (naming : Naming) (net : ℕ → Net) (rank : ℕ 
   -- a driver of a net is among the items
   driving-net : (k : ℕ) → k < count → (i : ModItem) → Contains (drivers cycles naming net k (net k).kind) i → Contains driving_items i
   driving-net k h i c = elim (unit-or-other cycles count naming net outputs k (net k).kind i c) [
-    | inl u ↦ Contains-append_left units (others ++ map (output_item naming) outputs) i (in-one (λ j. unit_drivers cycles naming net j (net j).kind) (places count) k i (place-below count k h) u)
-    | inr o ↦ Contains-append_right units (others ++ map (output_item naming) outputs) i (Contains-append_left others (map (output_item naming) outputs) i
+    | inl u ↦ Contains-append_left units (others ++ showing) i (in-one (λ j. unit_drivers cycles naming net j (net j).kind) (places count) k i (place-below count k h) u)
+    | inr o ↦ Contains-append_right units (others ++ showing) i (Contains-append_left others showing i
         (in-one (λ j. other_drivers cycles naming net j (net j).kind) (places count) k i (place-below count k h) o))
   ]
 
@@ -182,15 +179,15 @@ module _ (cycles count : ℕ) (naming : Naming) (net : ℕ → Net) (rank : ℕ 
 
   pub emitted-undriven : undriven m ≡ None
   emitted-undriven =
-      none-undriven m declaring_items driving_items emitted.items
+      none-undriven m declaring driving_items emitted.items
       (λ port c. port-driven port c port.input refl)
       (λ i c. (let r = of-one (λ j. declarers naming net j (net j).kind) (places count) i c in
       let f = declarers-are r.0 (net r.0).kind i r.2 in
       (f.0, λ d e. (let g = f.1 d e in (g.0, driving-net r.0 (below-place count r.0 r.1) g.0 g.1, g.2)))))
-      (λ i c. elim (Contains-append_cases units (others ++ map (output_item naming) outputs) i c) [
+      (λ i c. elim (Contains-append_cases units (others ++ showing) i c) [
         | inl u ↦ (let r = of-one (λ j. unit_drivers cycles naming net j (net j).kind) (places count) i u in
             driver-facts r.0 (below-place count r.0 r.1) i (units-drive cycles count naming net outputs r.0 (net r.0).kind i r.2))
-        | inr v ↦ elim (Contains-append_cases others (map (output_item naming) outputs) i v) [
+        | inr v ↦ elim (Contains-append_cases others showing i v) [
           | inl o ↦ (let r = of-one (λ j. other_drivers cycles naming net j (net j).kind) (places count) i o in
               driver-facts r.0 (below-place count r.0 r.1) i (others-drive cycles count naming net outputs r.0 (net r.0).kind i r.2))
           | inr o ↦ (let r = of-mapped (output_item naming) outputs i o in output-facts r.0 r.1 i r.2)
@@ -203,8 +200,8 @@ module _ (cycles count : ℕ) (naming : Naming) (net : ℕ → Net) (rank : ℕ 
           let o = alone.shown port c e in
           inl (
             output_item naming o.0,
-            Contains-append_right units (others ++ map (output_item naming) outputs) (output_item naming o.0)
-                (Contains-append_right others (map (output_item naming) outputs) (output_item naming o.0) (mapped (output_item naming) outputs o.0 o.1)),
+            Contains-append_right units (others ++ showing) (output_item naming o.0)
+                (Contains-append_right others showing (output_item naming o.0) (mapped (output_item naming) outputs o.0 o.1)),
             subst (λ (name : List ℕ). Contains (o.0.name ∷ []) name) o.2 (here o.0.name []),
           )
 
@@ -240,13 +237,13 @@ module _ (cycles count : ℕ) (naming : Naming) (net : ℕ → Net) (rank : ℕ 
     | inr after ↦ one-sound (hold_declarer cycles count naming net outputs k) i (net-width (net k).width (net k).signed (sound.word k h)) after
   ]
 
-  items-sound : (i : ModItem) → Contains (declaring_items ++ driving_items) i → SoundItem i
-  items-sound i c = elim (Contains-append_cases declaring_items driving_items i c) [
+  items-sound : (i : ModItem) → Contains (declaring ++ driving_items) i → SoundItem i
+  items-sound i c = elim (Contains-append_cases declaring driving_items i c) [
     | inl a ↦ (let r = of-one (λ j. declarers naming net j (net j).kind) (places count) i a in declarers-sound r.0 (below-place count r.0 r.1) (net r.0).kind i r.2)
-    | inr a ↦ elim (Contains-append_cases units (others ++ map (output_item naming) outputs) i a) [
+    | inr a ↦ elim (Contains-append_cases units (others ++ showing) i a) [
       | inl u ↦ (let r = of-one (λ j. unit_drivers cycles naming net j (net j).kind) (places count) i u in
           (clean r.0 (below-place count r.0 r.1) i (units-drive cycles count naming net outputs r.0 (net r.0).kind i r.2)).sound)
-      | inr v ↦ elim (Contains-append_cases others (map (output_item naming) outputs) i v) [
+      | inr v ↦ elim (Contains-append_cases others showing i v) [
         | inl o ↦ (let r = of-one (λ j. other_drivers cycles naming net j (net j).kind) (places count) i o in
             (clean r.0 (below-place count r.0 r.1) i (others-drive cycles count naming net outputs r.0 (net r.0).kind i r.2)).sound)
         | inr o ↦ (let r = of-mapped (output_item naming) outputs i o in

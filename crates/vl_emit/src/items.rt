@@ -5,7 +5,7 @@ ghost use Rattle.vl_ast.specs.Gated.{gated_item, shows_enable};
 ghost use Rattle.vl_emit.specs.inner.Emitted.{items_of};
 ghost use Rattle.vl_emit.specs.declared.items.Part.TheVariants.{Declarations, Units, Others};
 ghost use Rattle.vl_emit.specs.inner.Ready.{IsNet, IsSource, circuit_of, net_count};
-ghost use Rattle.vl_emit.specs.inner.Ready.{items_in, first_in, all_shown};
+ghost use Rattle.vl_emit.specs.inner.Ready.{net_items, first_in, all_shown};
 
 use crate::conditions::enable;
 use crate::driving::{comb_item, counter_item, enabled_item, put, put_bridge, reg_item, unit_item};
@@ -33,7 +33,7 @@ fn declare(
     own: usize,
 ) -> Result<(), OutOfMemory>
     requires { IsNet source own }
-    ensures { OnOk result (items.new ≡ items.old ++ items_in source.entry Declarations own) }
+    ensures { OnOk result (items.new ≡ items.old ++ net_items source.entry Declarations own) }
 {
     let net = operand(source, own);
     let name = text_of(alloc, net.called);
@@ -60,7 +60,7 @@ fn drive_unit(
     own: usize,
 ) -> Result<(), OutOfMemory>
     requires { IsNet source own }
-    ensures { OnOk result (items.new ≡ items.old ++ items_in source.entry Units own) }
+    ensures { OnOk result (items.new ≡ items.old ++ net_items source.entry Units own) }
 {
     match &source.netlist.nets()[own].kind {
         NetKind::Unit { left, right } => put(items, unit_item(alloc, source, own, *left, *right)),
@@ -75,7 +75,7 @@ fn drive_unit(
 /// The drivers of a net that is no Unit.
 fn drive(alloc: Global, source: Source, items: &mut ModItems, own: usize) -> Result<(), OutOfMemory>
     requires { IsNet source own }
-    ensures { OnOk result (items.new ≡ items.old ++ items_in source.entry Others own) }
+    ensures { OnOk result (items.new ≡ items.old ++ net_items source.entry Others own) }
 {
     match &source.netlist.nets()[own].kind {
         NetKind::Unit { .. } => Ok(()),
@@ -117,7 +117,7 @@ fn put_net(
     own: usize,
 ) -> Result<(), OutOfMemory>
     requires { IsNet source own }
-    ensures { OnOk result (items.new ≡ items.old ++ items_in source.entry part own) }
+    ensures { OnOk result (items.new ≡ items.old ++ net_items source.entry part own) }
 {
     match part {
         Part::Declarations => declare(alloc, source, items, own),

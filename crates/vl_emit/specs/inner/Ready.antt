@@ -173,15 +173,15 @@ bridge_in source own frame live from =
     map gated_item (drivers_at (circuit_of source) own (Bridge frame live from))
 
 -- the items of a net in a part of the module
-abbrev pub items_in : Source → Part → ℕ → List ModItem
-items_in source Declarations own = declarers_at (circuit_of source) own (kind_at source own)
-items_in source Units own = units_at (circuit_of source) own (kind_at source own)
-items_in source Others own =
+abbrev pub net_items : Source → Part → ℕ → List ModItem
+net_items source Declarations own = declarers_at (circuit_of source) own (kind_at source own)
+net_items source Units own = units_at (circuit_of source) own (kind_at source own)
+net_items source Others own =
     map gated_item (others_at (circuit_of source) own (kind_at source own))
 
 -- those of the first nets, and of the output ports
 abbrev pub first_in : Source → Part → ℕ → List ModItem
-first_in source part count = flat_map (items_in source part) (places count)
+first_in source part count = flat_map (net_items source part) (places count)
 
 abbrev pub all_shown : Source → List ModItem
 all_shown source = map (output_item (naming_of (circuit_of source))) (circuit_of source).outputs
