@@ -1,11 +1,10 @@
-ghost use Rattle.std.specs.Prelude.{◌≡◌, ◌≤◌, ◌<◌, ◌+◌, ◌*◌, ℕ, ℤ, IfOk, List, length};
+ghost use Rattle.std.specs.Prelude.{◌≡◌, ◌≤◌, ◌<◌, ◌+◌, ◌*◌, IfOk, length};
 ghost use Rattle.vl_ast.specs.Conditions.{BreaksNone};
 ghost use Rattle.vl_ast.specs.Driven.{stimulus_ports};
-ghost use Rattle.vl_ast.specs.Steps.{IsFirstRow};
-ghost use Rattle.vl_eval.specs.Machine.{IsReady, row_of, source_of};
+ghost use Rattle.vl_eval.specs.Machine.{source_of};
 ghost use Rattle.vl_replay.specs.Sampled.{numbers_of};
 ghost use Rattle.vl_replay.specs.inner.Driving.{AreBits, driver_bits};
-ghost use Rattle.vl_replay.specs.inner.Played.{AreNear, IsDelay, IsPlayed, IsScoreOf, IsWindow};
+ghost use Rattle.vl_replay.specs.inner.Played.{AreNear, CanPlay, IsDelay, IsPlayed, IsScoreOf, IsWindow};
 
 use crate::drivers::{Driver, drivers_of, put_bits, put_reset};
 use crate::samplers::{Sampler, put_numbers, samplers_of};
@@ -127,22 +126,6 @@ pub fn play_sample(
     }
 }
 
-/// Passes the row with `reset`.
-fn begin(machine: &mut Machine, score: &Score, bits: &mut [u128])
-    requires ready { IsReady machine.old }
-    requires score { IsScoreOf (source_of machine.old) score.now }
-    requires row { IsFirstRow (source_of machine.old) (λ name. 0) (λ name. 0) (row_of machine.old) }
-    requires wide { length bits.old ≡ length score.now.drivers.items }
-    ensures played { (window : ℕ) (cells : List ℤ) → 0 < window
-        → length cells ≡ window * length score.now.samplers.items
-        → IsPlayed score.now window 0 machine.new cells }
-    ensures wide { length bits.new ≡ length score.now.drivers.items }
-    ensures source { source_of machine.new ≡ source_of machine.old }
-{
-    put_reset(score.drivers.as_slice(), bits);
-    machine.edge(bits);
-}
-
 /// Passes the row with `reset` and the clocks of so many samples.
 pub fn play(
     machine: &mut Machine,
@@ -152,16 +135,12 @@ pub fn play(
     bits: &mut [u128],
     cells: &mut [i128],
 )
-    requires ready { IsReady machine.old }
-    requires score { IsScoreOf (source_of machine.old) score.now }
-    requires row { IsFirstRow (source_of machine.old) (λ name. 0) (λ name. 0) (row_of machine.old) }
-    requires some { 0 < window }
-    requires room { length cells.old ≡ window * length score.now.samplers.items }
-    requires wide { length bits.old ≡ length score.now.drivers.items }
+    requires { CanPlay machine.old score.now window bits.old cells.old }
     ensures played { IsPlayed score.now window (span * score.now.cycles) machine.new cells.new }
     ensures source { source_of machine.new ≡ source_of machine.old }
 {
-    begin(machine, score, bits);
+    put_reset(score.drivers.as_slice(), bits);
+    machine.edge(bits);
     for sample in 0..span {
         play_sample(machine, score, window, sample, bits, cells);
     }

@@ -1,10 +1,9 @@
-ghost use Rattle.std.specs.Prelude.{◌≡◌, ◌≤◌, ◌<◌, ◌+◌, ◌-◌, ◌*◌, ℕ, IfOk, Some, length, slice_get};
-ghost use Rattle.vl_ast.specs.Steps.{IsFirstRow};
+ghost use Rattle.std.specs.Prelude.{◌≡◌, ◌≤◌, ◌<◌, ◌+◌, ◌-◌, ◌*◌, ℕ, IfOk, Some, slice_get};
 ghost use Rattle.vl_eval.specs.Given.{driven_ports, given};
 ghost use Rattle.vl_eval.specs.Machine.{AreFit, HasRoom, IsReady, row_of, source_of};
 ghost use Rattle.vl_replay.specs.declared.drivers.Driver.{Driver};
 ghost use Rattle.vl_replay.specs.declared.samplers.Sampler.{Sampler};
-ghost use Rattle.vl_replay.specs.inner.Played.{IsPlayed, IsScoreOf};
+ghost use Rattle.vl_replay.specs.inner.Played.{CanPlay, IsPlayed};
 ghost use Rattle.vl_replay.specs.inner.Resting.{IsPast, IsQuiet, Leads};
 
 use crate::drivers::{Driver, put_bits};
@@ -136,12 +135,7 @@ pub fn play_ahead(
     bits: &mut [u128],
     cells: &mut [i128],
 ) -> Result<(), OutOfMemory>
-    requires ready { IsReady machine.old }
-    requires score { IsScoreOf (source_of machine.old) score.now }
-    requires row { IsFirstRow (source_of machine.old) (λ name. 0) (λ name. 0) (row_of machine.old) }
-    requires some { 0 < window }
-    requires room { length cells.old ≡ window * length score.now.samplers.items }
-    requires wide { length bits.old ≡ length score.now.drivers.items }
+    requires begins { CanPlay machine.old score.now window bits.old cells.old }
     requires few { score.now.stimulus.lines ≤ 50000000 }
     requires late { span ≤ 16777216 }
     ensures played { IfOk result (λ done.

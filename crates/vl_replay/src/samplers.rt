@@ -1,9 +1,8 @@
-ghost use Rattle.std.specs.Prelude.{◌≡◌, ◌≤◌, ◌<◌, ◌+◌, ◌-◌, ◌*◌, ◌%◌, ◌^◌, ◌==◌, ℕ, ℤ, List, if◌then◌else◌, IfOk, Some, length, map, slice_get, slice_index_or, slice_set, pos};
+ghost use Rattle.std.specs.Prelude.{◌≡◌, ◌≤◌, ◌<◌, ◌+◌, ◌*◌, ◌%◌, ◌^◌, IfOk, length, map, slice_set};
 ghost use Rattle.vl_ast.specs.Driven.{output_ports};
-ghost use Rattle.vl_eval.specs.Machine.{IsReady, row_of, source_of};
 ghost use Rattle.vl_replay.specs.Sampled.{hit_at};
-ghost use Rattle.vl_replay.specs.declared.samplers.Sampler.{Sampler};
-ghost use Rattle.vl_replay.specs.inner.Sampling.{ArePut, number_at, sampler_of};
+ghost use Rattle.vl_replay.specs.inner.Sampling.{ArePut, HasRing, cell_of, number_due, numbers_in};
+ghost use Rattle.vl_replay.specs.inner.Sampling.{sampler_of};
 
 use fx_io::OutOfMemory;
 use std::alloc::Global;
@@ -72,92 +71,40 @@ pub fn start_of(window: u64, outputs: usize, sample: u64) -> usize
 /// sample before.
 fn number_for(
     machine: &Machine,
-    period: u32,
-    outputs: usize,
+    samplers: &[Sampler],
     window: u64,
     place: usize,
     sample: u64,
     cells: &[i128],
 ) -> i128
-    requires ready { IsReady machine.now }
-    requires period { 0 < period }
-    requires within { place < outputs }
-    requires outputs { outputs ≡ length (output_ports (source_of machine.now)) }
-    requires some { 0 < window }
-    requires room { length cells.now ≡ window * outputs }
-    ensures { result ≡ (if hit_at period sample == sample
-        then number_at (source_of machine.now) (row_of machine.now) place
-        else slice_index_or cells.now ((sample - 1) % window * outputs + place) (pos 0)) }
+    requires ring { HasRing machine.now samplers.now window cells.now }
+    requires within { place < length samplers.now }
+    ensures { result
+        ≡ number_due (numbers_in machine.now) samplers.now window place sample cells.now }
 {
-    let hit = hit_at(period, sample);
+    let hit = hit_at(samplers[place].period, sample);
     if hit == sample {
         return machine.port(place);
     }
-    cells[start_of(window, outputs, sample - 1) + place]
+    cells[start_of(window, samplers.len(), sample - 1) + place]
 }
 
 /// Puts the number of an output at a sample into its cell.
 fn put_number(
     machine: &Machine,
-    period: u32,
-    outputs: usize,
-    window: u64,
-    place: usize,
-    sample: u64,
-    cells: &mut [i128],
-)
-    requires ready { IsReady machine.now }
-    requires period { 0 < period }
-    requires within { place < outputs }
-    requires outputs { outputs ≡ length (output_ports (source_of machine.now)) }
-    requires some { 0 < window }
-    requires room { length cells.old ≡ window * outputs }
-    ensures { cells.new ≡ slice_set cells.old (sample % window * outputs + place)
-        (if hit_at period sample == sample
-        then number_at (source_of machine.now) (row_of machine.now) place
-        else slice_index_or cells.old ((sample - 1) % window * outputs + place) (pos 0)) }
-{
-    let number = number_for(machine, period, outputs, window, place, sample, cells);
-    cells[start_of(window, outputs, sample) + place] = number;
-}
-
-/// Puts the number of the output at a place, if it is due at a clock of this phase of a sample.
-fn put_if_due(
-    machine: &Machine,
     samplers: &[Sampler],
-    samples: u64,
     window: u64,
-    sample: u64,
-    phase: u64,
     place: usize,
+    sample: u64,
     cells: &mut [i128],
 )
-    requires ready { IsReady machine.now }
-    requires outputs { length samplers.now ≡ length (output_ports (source_of machine.now)) }
-    requires periods { (place : ℕ) (sampler : Sampler) → slice_get samplers.now place ≡ Some sampler
-        → 0 < sampler.period }
-    requires some { 0 < window }
-    requires room { length cells.old ≡ window * length samplers.now }
+    requires ring { HasRing machine.now samplers.now window cells.old }
     requires within { place < length samplers.now }
-    ensures { (before : List ℤ) → ArePut
-        (number_at (source_of machine.now) (row_of machine.now)) samplers.now samples window sample
-        phase place before cells.old
-        → ArePut (number_at (source_of machine.now) (row_of machine.now)) samplers.now samples
-        window sample phase (place + 1) before cells.new }
+    ensures { cells.new ≡ slice_set cells.old (cell_of window (length samplers.now) place sample)
+        (number_due (numbers_in machine.now) samplers.now window place sample cells.old) }
 {
-    let Sampler {
-        period,
-        delay,
-        phase: own,
-    } = samplers[place];
-    if own != phase || sample < delay {
-        return;
-    }
-    let due = sample - delay;
-    if samples <= due {
-        return;
-    }
-    put_number(machine, period, samplers.len(), window, place, due, cells);
+    let number = number_for(machine, samplers, window, place, sample, cells);
+    cells[start_of(window, samplers.len(), sample) + place] = number;
 }
 
 /// Puts the numbers that are due at a clock of this phase of a sample into their cells, of which
@@ -171,18 +118,19 @@ pub fn put_numbers(
     phase: u64,
     cells: &mut [i128],
 )
-    requires ready { IsReady machine.now }
-    requires outputs { length samplers.now ≡ length (output_ports (source_of machine.now)) }
-    requires periods { (place : ℕ) (sampler : Sampler) → slice_get samplers.now place ≡ Some sampler
-        → 0 < sampler.period }
-    requires some { 0 < window }
-    requires room { length cells.old ≡ window * length samplers.now }
-    ensures { ArePut (number_at (source_of machine.now) (row_of machine.now)) samplers.now samples
-        window sample phase (length samplers.now) cells.old cells.new }
+    requires { HasRing machine.now samplers.now window cells.old }
+    ensures { ArePut (numbers_in machine.now) samplers.now samples window sample phase
+        (length samplers.now) cells.old cells.new }
 {
     for place in 0..samplers.len() {
-        put_if_due(
-            machine, samplers, samples, window, sample, phase, place, cells,
-        );
+        let sampler = samplers[place];
+        if sampler.phase != phase || sample < sampler.delay {
+            continue;
+        }
+        let due = sample - sampler.delay;
+        if samples <= due {
+            continue;
+        }
+        put_number(machine, samplers, window, place, due, cells);
     }
 }

@@ -6,7 +6,7 @@ use Rattle.vl_ast.specs.Control.{is_stallable}
 use Rattle.vl_ast.specs.Driven.{output_ports, port_number, stimulus_ports}
 use Rattle.vl_ast.specs.Windows.{Each, Sample}
 use Rattle.vl_ast.specs.Runs.{Rows}
-use Rattle.vl_ast.specs.Steps.{AreSteps}
+use Rattle.vl_ast.specs.Steps.{AreSteps, IsFirstRow}
 use Rattle.vl_ast.specs.Attributes.{clocks_of, lateness_of, step_of}
 use Rattle.vl_eval.specs.Given.{driven_ports}
 use Rattle.vl_eval.specs.Machine.{IsReady, row_of, source_of}
@@ -32,6 +32,15 @@ pub record HaveCells (m : Module) (samples window clocks : ℕ) (rows : Rows) (c
   pub at : Each (output_ports m) (λ place port. (t : Sample) → t < samples → t * clocks_of m + lateness_of port < clocks
       → (t + window < samples → clocks ≤ (t + window) * clocks_of m + lateness_of port)
       → slice_index_or cells (cell_of window (length (output_ports m)) place t) (pos 0) ≡ port_number port (rows (2 + (hit_at (step_of port) t * clocks_of m + lateness_of port)) port.name))
+
+-- a machine in row 0, with its score and room for the bits of its inputs and for a ring of so many rows
+pub record CanPlay (machine : Machine) (score : Score) (window : ℕ) (bits : List ℕ) (cells : List ℤ) : Type 0 where
+  pub ready : IsReady machine
+  pub is : IsScoreOf (source_of machine) score
+  pub row : IsFirstRow (source_of machine) (λ name. 0) (λ name. 0) (row_of machine)
+  pub some : 0 < window
+  pub room : length cells ≡ window * length score.samplers.items
+  pub wide : length bits ≡ length score.drivers.items
 
 -- so many clocks are passed: the rows up to the machine's run, and their numbers stand in the cells
 pub record IsPlayed (score : Score) (window clocks : ℕ) (machine : Machine) (cells : List ℤ) : Type 0 where

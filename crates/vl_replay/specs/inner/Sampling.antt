@@ -7,6 +7,8 @@ use Rattle.vl_ast.specs.Control.{is_number_input, is_number_output}
 use Rattle.vl_ast.specs.Driven.{output_ports, port_number}
 use Rattle.vl_ast.specs.Windows.{Sample}
 use Rattle.vl_ast.specs.Runs.{Row}
+use Rattle.vl_eval.specs.Machine.{IsReady, row_of, source_of}
+use Rattle.vl_eval.specs.declared.machine.Machine.{Machine}
 use Rattle.vl_replay.specs.declared.samplers.Sampler.{Sampler}
 use Rattle.vl_replay.specs.Sampled.{hit_at}
 
@@ -30,6 +32,27 @@ number_at m row place = number_or_zero row (slice_get (output_ports m) place)
 -- the place of an output's number in a ring of so many rows, in which the row of a sample is that of its remainder
 abbrev pub cell_of : ℕ → ℕ → ℕ → Sample → ℕ
 cell_of window outputs place t = t % window * outputs + place
+
+-- those of a machine's row
+abbrev pub numbers_in : Machine → ℕ → ℤ
+numbers_in machine place = number_at (source_of machine) (row_of machine) place
+
+abbrev pub sampler_at : List Sampler → ℕ → Sampler
+sampler_at samplers place = slice_index_or samplers place (record { period = 0; delay = 0; phase = 0 })
+
+-- what an output's cell of a sample gets: what the output shows at a hit, and between hits the number of the sample before
+abbrev pub number_due : (ℕ → ℤ) → List Sampler → ℕ → ℕ → Sample → List ℤ → ℤ
+number_due numbers samplers window place t cells =
+    if hit_at (sampler_at samplers place).period t == t then numbers place
+    else slice_index_or cells (cell_of window (length samplers) place (t - 1)) (pos 0)
+
+-- a ring of so many rows has room for the numbers of a machine's outputs, which are sampled so
+pub record HasRing (machine : Machine) (samplers : List Sampler) (window : ℕ) (cells : List ℤ) : Type 0 where
+  pub ready : IsReady machine
+  pub outputs : length samplers ≡ length (output_ports (source_of machine))
+  pub periods : (place : ℕ) (sampler : Sampler) → slice_get samplers place ≡ Some sampler → 0 < sampler.period
+  pub some : 0 < window
+  pub room : length cells ≡ window * length samplers
 
 -- the numbers of the first `count` outputs that are due at a clock are put into their cells: what the output shows
 -- at a hit, and between hits the number of the sample before

@@ -1,16 +1,34 @@
-use Rattle.std.proofs.Common.{◌≡◌, ◌<◌, ◌≤◌, ◌*◌, ap, sym, subst, ◌∙◌, arith}
+use Rattle.std.proofs.Common.{◌≡◌, ◌<◌, ◌≤◌, ◌*◌, List, length, ap, sym, subst, ◌∙◌, arith}
 use Rattle.std.proofs.Math.Nat.{suc-mul}
 use Rattle.std.proofs.Math.Numerals.{suc-eq-add-one}
+use Rattle.vl_ast.specs.Control.{is_stallable}
+use Rattle.vl_eval.specs.Machine.{source_of}
+use Rattle.vl_replay.specs.declared.drivers.Driver.{Driver}
+use Rattle.vl_replay.specs.inner.Driving.{AreBits, reset_bits}
 use Rattle.vl_replay.specs.inner.Played.{IsPlayed}
+use Rattle.vl_replay.proofs.Bits.{reset-fits}
+use Rattle.vl_replay.proofs.Clocks.{begun}
+use Rattle.vl_replay.proofs.Scores.{fit-score}
 use Rattle.vl_replay.proofs.playing.play.Goals as goal
+
+pub edge-requires : goal.edge-requires
+edge-requires c =
+    let m = source_of c.args.machine.now in
+    record {
+      ready = c.requires.ready;
+      fit = fit-score m c.args.score.now c.requires.is reset_bits (reset-fits (is_stallable m)) c.put_reset.new.bits
+          (subst (λ (xs : List Driver). AreBits reset_bits xs (length xs) c.put_reset.new.bits) c.as_slice.ensures.value c.put_reset.ensures);
+    }
 
 pub loop-sample-init : goal.loop-sample-init
 loop-sample-init c =
     let start : 0 ≡ 0 * c.args.score.now.cycles = omega arith in
+    let are = subst (λ (xs : List Driver). AreBits reset_bits xs (length xs) c.put_reset.new.bits) c.as_slice.ensures.value c.put_reset.ensures in
+    let played = begun c.args.score.now c.args.window c.args.machine.now c.edge.new.self c.put_reset.new.bits c.args.cells.now c.requires.some c.requires.is c.edge.ensures.source c.edge.ensures.ready c.requires.row are c.edge.ensures.row c.requires.room in
     record {
-      played = subst (λ clocks. IsPlayed c.args.score.now c.args.window clocks c.begin.new.machine c.args.cells.now) start (c.begin.ensures.played c.args.window c.args.cells.now c.requires.some c.requires.room);
-      wide = c.begin.ensures.wide;
-      source = c.begin.ensures.source;
+      played = subst (λ clocks. IsPlayed c.args.score.now c.args.window clocks c.edge.new.self c.args.cells.now) start played;
+      wide = c.put_reset.auto.bits ∙ c.requires.wide;
+      source = c.edge.ensures.source;
     }
 
 pub loop-sample-preserved : goal.loop-sample-preserved
@@ -23,14 +41,6 @@ loop-sample-preserved c =
       wide = c.play_sample.ensures.wide;
       source = c.play_sample.ensures.source ∙ c.loop-sample.invariant.source;
     }
-
-pub begin-requires : goal.begin-requires
-begin-requires c = record {
-  ready = c.requires.ready;
-  score = c.requires.score;
-  row = c.requires.row;
-  wide = c.requires.wide;
-}
 
 pub play_sample-requires : goal.play_sample-requires
 play_sample-requires c = record {

@@ -17,9 +17,19 @@ edge-requires-clause-fit c =
     let score = c.args.score.now in
     fit-score (source_of c.args.machine.now) score c.requires.played.score_is (driver_bits (numbers_of score.stimulus) score.stimulus.lines c.args.sample) (driver-fits (numbers_of score.stimulus) score.stimulus.lines c.args.sample (is_stallable (source_of c.args.machine.now))) c.args.bits.now c.requires.bits
 
-pub put_numbers-requires-clause-periods : goal.put_numbers-requires-clause-periods
-put_numbers-requires-clause-periods c = λ place sampler e. samplers-step (source_of c.args.machine.now) c.args.score.now c.requires.played.score_is place sampler
-    (ap (λ (xs : List Sampler). slice_get xs place) (sym c.as_slice.ensures.value) ∙ e)
+pub put_numbers-requires : goal.put_numbers-requires
+put_numbers-requires c =
+    let m = source_of c.args.machine.now in
+    let score = c.args.score.now in
+    let played = c.requires.played in
+    let many = ap length c.as_slice.ensures.value ∙ samplers-many m score played.score_is in
+    record {
+      ready = c.edge.ensures.ready;
+      outputs = many ∙ ap (λ (m : Module). length (output_ports m)) (sym c.edge.ensures.source);
+      periods = λ place sampler e. samplers-step m score played.score_is place sampler (ap (λ (xs : List Sampler). slice_get xs place) (sym c.as_slice.ensures.value) ∙ e);
+      some = played.some;
+      room = played.have.long ∙ ap (λ (n : ℕ). c.args.window * n) (sym many);
+    }
 
 pub returns-clause-played : goal.returns-clause-played
 returns-clause-played c =
@@ -29,22 +39,6 @@ returns-clause-played c =
 
 pub edge-requires-clause-ready : goal.edge-requires-clause-ready
 edge-requires-clause-ready c = c.requires.played.ready
-
-pub put_numbers-requires-clause-ready : goal.put_numbers-requires-clause-ready
-put_numbers-requires-clause-ready c = c.edge.ensures.ready
-
-pub put_numbers-requires-clause-some : goal.put_numbers-requires-clause-some
-put_numbers-requires-clause-some c = c.requires.played.some
-
-pub put_numbers-requires-clause-outputs : goal.put_numbers-requires-clause-outputs
-put_numbers-requires-clause-outputs c =
-    ap length c.as_slice.ensures.value ∙ samplers-many (source_of c.args.machine.now) c.args.score.now c.requires.played.score_is
-    ∙ ap (λ (m : Module). length (output_ports m)) (sym c.edge.ensures.source)
-
-pub put_numbers-requires-clause-room : goal.put_numbers-requires-clause-room
-put_numbers-requires-clause-room c =
-    let many = ap length c.as_slice.ensures.value ∙ samplers-many (source_of c.args.machine.now) c.args.score.now c.requires.played.score_is in
-    c.requires.played.have.long ∙ ap (λ (n : ℕ). c.args.window * n) (sym many)
 
 pub returns-clause-source : goal.returns-clause-source
 returns-clause-source c = c.edge.ensures.source

@@ -13,12 +13,12 @@ use Rattle.vl_replay.proofs.resting.play_ahead.Goals as goal
 
 pub put_bits-requires-clause-within : goal.put_bits-requires-clause-within
 put_bits-requires-clause-within c =
-    subst (λ (xs : List Driver). AreWithin c.args.score.now.stimulus.columns xs) (sym c.as_slice.ensures.value) (within-columns (source_of c.args.machine.now) c.args.score.now c.requires.score)
+    subst (λ (xs : List Driver). AreWithin c.args.score.now.stimulus.columns xs) (sym c.as_slice.ensures.value) (within-columns (source_of c.args.machine.now) c.args.score.now c.requires.begins.is)
 
 pub overflow_mul-span : goal.overflow_mul-span
 overflow_mul-span c =
     let late = c.requires.late in
-    let cycles = c.requires.score.cycles in
+    let cycles = c.requires.begins.is.cycles in
     let few = (clocks-some (source_of c.args.machine.now)).1 in
     let le : (c.args.span - c.quiet_from-quiet.result) * c.args.score.now.cycles ≤ 16777216 * c.args.score.now.cycles = mul-le-mul_right c.args.score.now.cycles (omega (arith, late)) in
     omega (arith, le, cycles, few)

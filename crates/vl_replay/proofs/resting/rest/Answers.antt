@@ -9,7 +9,6 @@ pub loop-clock-preserved : goal.loop-clock-preserved
 loop-clock-preserved c =
     let m = source_of c.args.machine.now in
     let inputs = given (driven_ports m) c.args.bits.now in
-    let first = row_of c.args.machine.now in
     let loop = c.loop-clock in
     let passed = c.args.clocks - c.come_back-left.result + loop._clock in
     let edge = edge-of m c.args.bits.now loop.machine c.edge.new.self loop.invariant.source c.edge.ensures.row in
@@ -17,7 +16,7 @@ loop-clock-preserved c =
     record {
       ready = c.edge.ensures.ready;
       source = c.edge.ensures.source ∙ loop.invariant.source;
-      leads = subst (λ n. Leads m inputs first n (row_of c.edge.new.self)) more (leads-more m inputs first passed (row_of loop.machine) (row_of c.edge.new.self) loop.invariant.leads edge);
+      leads = subst (λ n. Leads m inputs (row_of c.args.machine.now) n (row_of c.edge.new.self)) more (leads-more m inputs (row_of c.args.machine.now) passed (row_of loop.machine) (row_of c.edge.new.self) loop.invariant.leads edge);
     }
 
 pub come_back-left-requires : goal.come_back-left-requires

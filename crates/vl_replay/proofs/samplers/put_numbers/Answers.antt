@@ -1,6 +1,8 @@
-use Rattle.std.proofs.Common.{◌≡◌, ℕ, length, refl, subst, arith}
-use Rattle.vl_eval.specs.Machine.{row_of, source_of}
-use Rattle.vl_replay.specs.inner.Sampling.{ArePut, number_at}
+use Rattle.std.proofs.Common.{◌≡◌, ◌+◌, ◌-◌, ◌∙◌, ℕ, ℤ, List, length, refl, sym, subst, arith}
+use Rattle.std.proofs.lemmas.Option.{slice_get-get_or}
+use Rattle.vl_replay.specs.inner.Sampling.{ArePut, numbers_in, sampler_at}
+use Rattle.vl_replay.proofs.Putting.{put-due, put-undue}
+use Rattle.vl_replay.proofs.samplers.put_numbers.Goals.{then-sampler-phase-via-then-sampler-phase, then-sampler-phase-via-else-sampler-phase+then-sample-sampler}
 use Rattle.vl_replay.proofs.samplers.put_numbers.Goals as goal
 
 pub loop-place-init : goal.loop-place-init
@@ -10,12 +12,51 @@ loop-place-init c = record {
   kept = λ place sampler row e other. refl;
 }
 
+pub loop-place-preserved-then-sampler-phase : goal.loop-place-preserved-then-sampler-phase
+loop-place-preserved-then-sampler-phase c =
+    let samplers = c.args.samplers.now in
+    let place = c.loop-place.place in
+    let there = slice_get-get_or samplers place (record { period = 0; delay = 0; phase = 0 }) c.loop-place-test.true in
+    put-undue (numbers_in c.args.machine.now) samplers c.args.samples c.args.window c.args.sample c.args.phase place c.args.cells.now c.loop-place.cells (sampler_at samplers place) there c.loop-place.invariant
+    (λ t below own due. elim c.then-sampler-phase.branch [
+      | then-sampler-phase-via-then-sampler-phase w ↦ absurd (w.if-sampler-phase.true own)
+      | then-sampler-phase-via-else-sampler-phase+then-sample-sampler w ↦ (let less = w.if-sample-sampler.true in absurd (omega (arith, less, due)))
+    ])
+
+pub loop-place-preserved-then-samples-due : goal.loop-place-preserved-then-samples-due
+loop-place-preserved-then-samples-due c =
+    let samplers = c.args.samplers.now in
+    let place = c.loop-place.place in
+    let there = slice_get-get_or samplers place (record { period = 0; delay = 0; phase = 0 }) c.loop-place-test.true in
+    put-undue (numbers_in c.args.machine.now) samplers c.args.samples c.args.window c.args.sample c.args.phase place c.args.cells.now c.loop-place.cells (sampler_at samplers place) there c.loop-place.invariant
+    (λ t below own due. let past = c.if-samples-due.true in absurd (omega (arith, past, due, below)))
+
+pub put_number-requires-clause-ring : goal.put_number-requires-clause-ring
+put_number-requires-clause-ring c = record {
+  ready = c.requires.ready;
+  outputs = c.requires.outputs;
+  periods = c.requires.periods;
+  some = c.requires.some;
+  room = c.loop-place.invariant.long ∙ c.requires.room;
+}
+
 pub loop-place-preserved : goal.loop-place-preserved
-loop-place-preserved c = c.put_if_due.ensures c.args.cells.now c.loop-place.invariant
+loop-place-preserved c =
+    let samplers = c.args.samplers.now in
+    let place = c.loop-place.place in
+    let sample = c.args.sample in
+    let own = sampler_at samplers place in
+    let there = slice_get-get_or samplers place (record { period = 0; delay = 0; phase = 0 }) c.loop-place-test.true in
+    let numbers = numbers_in c.args.machine.now in
+    let late = c.if-sample-sampler.false in
+    let due : sample - own.delay + own.delay ≡ sample = omega (arith, late) in
+    subst (λ (cells : List ℤ). ArePut numbers samplers c.args.samples c.args.window sample c.args.phase (place + 1) c.args.cells.now cells) (sym c.put_number.ensures)
+    (put-due numbers samplers c.args.samples c.args.window sample c.args.phase place c.args.cells.now c.loop-place.cells own there c.loop-place.invariant (sample - own.delay) c.if-samples-due.false c.if-sampler-phase.false due
+    c.requires.some (c.loop-place.invariant.long ∙ c.requires.room))
 
 pub returns : goal.returns
 returns c =
     let past = c.loop-place-test.false in
     let within = c.loop-place.auto.place-end in
     let all : c.loop-place.place ≡ length c.args.samplers.now = omega (arith, past, within) in
-    subst (λ (n : ℕ). ArePut (number_at (source_of c.args.machine.now) (row_of c.args.machine.now)) c.args.samplers.now c.args.samples c.args.window c.args.sample c.args.phase n c.args.cells.now c.loop-place.cells) all c.loop-place.invariant
+    subst (λ (n : ℕ). ArePut (numbers_in c.args.machine.now) c.args.samplers.now c.args.samples c.args.window c.args.sample c.args.phase n c.args.cells.now c.loop-place.cells) all c.loop-place.invariant

@@ -19,12 +19,14 @@ play_ahead-requires c =
     let replay = c.args.self.now in
     let score = replay.score in
     record {
-      ready = c.requires.ready;
-      score = c.requires.score;
-      row = c.requires.row;
-      some = c.requires.window.some;
-      room = c.deref_mut-2.ensures.len ∙ c.in_ok-cells.ensures.len ∙ ap (λ (n : ℕ). replay.window * n) (c.len-2.ensures ∙ score.samplers.ok.0);
-      wide = c.deref_mut.ensures.len ∙ c.in_ok-bits.ensures.len ∙ c.len.ensures ∙ score.drivers.ok.0;
+      begins = record {
+        ready = c.requires.ready;
+        is = c.requires.score;
+        row = c.requires.row;
+        some = c.requires.window.some;
+        room = c.deref_mut-2.ensures.len ∙ c.in_ok-cells.ensures.len ∙ ap (λ (n : ℕ). replay.window * n) (c.len-2.ensures ∙ score.samplers.ok.0);
+        wide = c.deref_mut.ensures.len ∙ c.in_ok-bits.ensures.len ∙ c.len.ensures ∙ score.drivers.ok.0;
+      };
       few = c.requires.few;
       late = c.requires.delay.few;
     }
