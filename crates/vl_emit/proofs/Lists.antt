@@ -1,5 +1,5 @@
 -- Elements of lists by their places, and lists of which no two elements agree. Crates above may cite this file.
-use Rattle.std.proofs.Common.{◌≡◌, ◌≢◌, inl, inr, ℕ, zero, suc, ◌+◌, ◌<◌, Bool, false, ◌||◌, List, [], ◌∷◌, ◌++◌, map, flat_map, length, get_or, Contains, refl, ap, sym, ◌∙◌, subst, arith, append_assoc}
+use Rattle.std.proofs.Common.{◌≡◌, ◌≢◌, inl, inr, ℕ, zero, suc, ◌+◌, ◌<◌, Bool, false, ◌||◌, List, [], ◌∷◌, ◌++◌, map, flat_map, length, get_or, take, Contains, refl, ap, sym, ◌∙◌, subst, arith, append_assoc}
 use Rattle.std.specs.List.{AllPairs, list_any}
 use Rattle.std.proofs.lemmas.Grind.{flat_map-append}
 use Rattle.std.proofs.lemmas.Option.{slice_get-get_or, get_or_from_slice_get}
@@ -9,7 +9,8 @@ use Rattle.vl_emit.proofs.Found.{no-element, first-or-later, here, later, of-one
 use Rattle.hw_net.specs.declared.netlist.Net.{Net}
 use Rattle.hw_net.specs.declared.netlist.NetKind.{NetKind}
 use Rattle.hw_net.specs.Products.{net_at}
-use Rattle.std.proofs.lemmas.List.{get_or_default}
+use Rattle.std.proofs.lemmas.List.{get_or_default, map-append, take_more}
+use Rattle.fx_io.proofs.Places.{put-next}
 
 -- the element at a place
 pub at-contains : {X : Type 0} (xs : List X) (k : ℕ) (d : X) → k < length xs → Contains xs (get_or xs k d)
@@ -105,6 +106,13 @@ pub loop-step : {X : Type 0} (f : ℕ → List X) (start before after : List X) 
 loop-step f start before after n is more =
     more ∙ ap (λ (l : List _). l ++ f n) is ∙ append_assoc start (flat_map f (places n)) (f n)
     ∙ ap (λ (l : List _). start ++ l) (sym (one-more f n (n + 1) refl))
+
+-- the image of one more element
+pub put-mapped : {X Y : Type 0} (f : X → Y) (xs : List X) (old items more : List Y) (i : ℕ) (x : X) → i < length xs → x ≡ get_or xs i x → items ≡ old ++ map f (take i xs) → more ≡ items ++ f x ∷ []
+    → more ≡ old ++ map f (take (i + 1) xs)
+put-mapped f xs old items more i x below is are put =
+    put-next old items more (map f (take i xs)) (f x) are put
+    ∙ ap (λ (ys : List _). old ++ ys) (sym (ap (map f) (take_more xs i x below ∙ ap (λ (y : _). take i xs ++ y ∷ []) (sym is)) ∙ map-append f (take i xs) (x ∷ [])))
 
 -- ---- lists that grow at their end
 

@@ -1,8 +1,7 @@
 //! The header of a netlist's module.
-ghost use Rattle.std.specs.Prelude.{◌≡◌, ◌++◌, ◌∷◌, ◌<◌, [], length, if◌then◌else◌, OnOk};
-ghost use Rattle.vl_emit.specs.Header.{input_port, output_port};
-ghost use Rattle.vl_emit.specs.Header.{input_ports, output_ports, ports_of};
-ghost use Rattle.vl_emit.specs.inner.Ready.{AreReady};
+ghost use Rattle.std.specs.Prelude.{◌≡◌, ◌++◌, ◌∷◌, ◌<◌, [], length, map, OnOk};
+ghost use Rattle.vl_emit.specs.Header.{ports_of};
+ghost use Rattle.vl_emit.specs.inner.Ready.{AreReady, AreThere, port_of};
 
 use fx_io::OutOfMemory;
 use hw_net::{NetPort, Netlist};
@@ -17,8 +16,7 @@ fn put_port(
     ports: &mut Ports,
 ) -> Result<(), OutOfMemory>
     requires { port.now.net < length netlist.now.nets }
-    ensures { OnOk result (ports.new ≡ ports.old ++ (if input then input_port netlist.now port.now
-        else output_port netlist.now port.now) ∷ []) }
+    ensures { OnOk result (ports.new ≡ ports.old ++ port_of input netlist.now port.now ∷ []) }
 {
     let net = &netlist.nets()[port.net as usize];
     let word = (u32::from(net.width), net.signed);
@@ -27,22 +25,19 @@ fn put_port(
     put_data_port(alloc, ports, name, input, word, period, port.latency)
 }
 
-fn put_inputs(alloc: Global, netlist: &Netlist, ports: &mut Ports) -> Result<(), OutOfMemory>
-    requires { AreReady netlist.now }
-    ensures { OnOk result (ports.new ≡ ports.old ++ input_ports netlist.now) }
+/// Puts inputs, or else outputs, behind the others.
+fn put_each(
+    alloc: Global,
+    netlist: &Netlist,
+    own: &[NetPort],
+    input: bool,
+    ports: &mut Ports,
+) -> Result<(), OutOfMemory>
+    requires { AreThere netlist.now own.now }
+    ensures { OnOk result (ports.new ≡ ports.old ++ map (port_of input netlist.now) own.now) }
 {
-    for port in netlist.inputs() {
-        put_port(alloc, netlist, port, true, ports)?;
-    }
-    Ok(())
-}
-
-fn put_outputs(alloc: Global, netlist: &Netlist, ports: &mut Ports) -> Result<(), OutOfMemory>
-    requires { AreReady netlist.now }
-    ensures { OnOk result (ports.new ≡ ports.old ++ output_ports netlist.now) }
-{
-    for port in netlist.outputs() {
-        put_port(alloc, netlist, port, false, ports)?;
+    for port in own {
+        put_port(alloc, netlist, port, input, ports)?;
     }
     Ok(())
 }
@@ -56,7 +51,7 @@ pub fn put_ports(alloc: Global, netlist: &Netlist, ports: &mut Ports) -> Result<
     put_bit_port(alloc, ports, b"clk", true)?;
     put_bit_port(alloc, ports, b"reset", true)?;
     put_bit_port(alloc, ports, b"clk_enable", true)?;
-    put_inputs(alloc, netlist, ports)?;
+    put_each(alloc, netlist, netlist.inputs(), true, ports)?;
     put_bit_port(alloc, ports, b"ce_out", false)?;
-    put_outputs(alloc, netlist, ports)
+    put_each(alloc, netlist, netlist.outputs(), false, ports)
 }

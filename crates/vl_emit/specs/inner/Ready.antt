@@ -1,9 +1,10 @@
 -- What the code asks of a netlist and of the places of its labels.
 use Rattle.std.specs.Prelude.{◌≡◌, ◌<◌, ◌-◌, ◌*◌, ℕ, List, length, get_or, slice_index_or, [], ◌∷◌}
-use Rattle.std.specs.Prelude.{Bool, true, false, map, flat_map, Option, None, Some, IsSome, Contains}
+use Rattle.std.specs.Prelude.{Bool, true, false, if◌then◌else◌, map, flat_map, Option, None, Some, IsSome, Contains}
 use Rattle.fx_num.specs.Word.{IsWord}
 use Rattle.hw_net.specs.declared.netlist.Frame.{Frame}
 use Rattle.hw_net.specs.declared.netlist.NetLabel.{NetLabel}
+use Rattle.hw_net.specs.declared.netlist.NetPort.{NetPort}
 use Rattle.hw_net.specs.declared.netlist.NetOp.{NetOp}
 use Rattle.hw_net.specs.declared.netlist.NetOp.TheVariants.{Input}
 use Rattle.hw_net.specs.declared.netlist.NetKind.{NetKind}
@@ -20,7 +21,9 @@ use Rattle.vl_ast.specs.declared.expressions.Expr.{Expr}
 use Rattle.vl_ast.specs.declared.expressions.Expr.TheVariants as expression
 use Rattle.vl_ast.specs.declared.expressions.Sized.{Sized}
 use Rattle.vl_ast.specs.declared.modules.ModItem.{ModItem}
+use Rattle.vl_ast.specs.declared.modules.Port.{Port}
 use Rattle.vl_ast.specs.Gated.{gated_item}
+use Rattle.vl_emit.specs.Header.{input_port, output_port}
 use Rattle.vl_emit.specs.Names.{Wire, port_at, net_name, name_by, net_wire, input_wire}
 use Rattle.hw_net.specs.Products.{net_at, places}
 use Rattle.vl_emit.specs.inner.Emitted.{naming_of, counter_wire, slot_test, live_test, declarers_at}
@@ -72,15 +75,22 @@ abbrev pub HaveNets : Circuit → Type 0
 HaveNets netlist =
     (label : NetLabel) → Contains netlist.labels label → label.net < length netlist.nets
 
+-- the nets of ports are there
+abbrev pub AreThere : Circuit → List NetPort → Type 0
+AreThere netlist ports =
+    (i : ℕ) → i < length ports → (port_at ports i).net < length netlist.nets
+
+-- an input, or else an output
+abbrev pub port_of : Bool → Circuit → NetPort → Port
+port_of input netlist port = if input then input_port netlist port else output_port netlist port
+
 pub record AreReady (netlist : Circuit) : Type 0 where
   pub cycles : 0 < netlist.cycles
   pub words : (k : ℕ) → k < length netlist.nets
       → IsWord (net_at netlist.nets k).width (net_at netlist.nets k).signed
   pub kinds : (k : ℕ) → k < length netlist.nets → IsReady netlist (net_at netlist.nets k).kind
-  pub inputs : (i : ℕ) → i < length netlist.inputs
-      → (port_at netlist.inputs i).net < length netlist.nets
-  pub outputs : (i : ℕ) → i < length netlist.outputs
-      → (port_at netlist.outputs i).net < length netlist.nets
+  pub inputs : AreThere netlist netlist.inputs
+  pub outputs : AreThere netlist netlist.outputs
 
 abbrev pub circuit_of : Source → Circuit
 circuit_of source = source.netlist.now

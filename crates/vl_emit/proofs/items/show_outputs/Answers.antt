@@ -1,12 +1,11 @@
-use Rattle.std.proofs.Common.{◌≡◌, ◌∙◌, ◌+◌, ◌++◌, ◌<◌, ◌∷◌, [], ℕ, List, IfOk, ap, get_or, length, map, subst, sym, take}
-use Rattle.std.proofs.lemmas.List.{map-append, take_more}
+use Rattle.std.proofs.Common.{◌≡◌, ◌<◌, ℕ, List, IfOk, get_or, length, subst}
 use Rattle.vl_ast.specs.declared.expressions.Expr.TheVariants.{Name}
 use Rattle.vl_ast.specs.declared.modules.ModItem.{ModItem}
 use Rattle.hw_net.specs.declared.netlist.NetPort.{NetPort}
 use Rattle.vl_emit.specs.Names.{Wire}
 use Rattle.vl_emit.specs.inner.Emitted.{naming_of, output_item}
 use Rattle.vl_emit.specs.inner.Ready.{circuit_of}
-use Rattle.fx_io.proofs.Places.{put-next}
+use Rattle.vl_emit.proofs.Lists.{put-mapped}
 use Rattle.vl_emit.proofs.Returned.{if-alone}
 use Rattle.vl_emit.proofs.items.show_outputs.Goals as goal
 
@@ -21,5 +20,4 @@ loop-output-preserved c =
     let value = subst (λ (w : Wire). IfOk c.named-value.result (λ e. e ≡ Name w.name)) c.operand.ensures.wire c.named-value.ensures in
     let name = subst (λ (text : List ℕ). IfOk c.copy-name.result (λ made. made ≡ text)) c.bytes.ensures c.copy-name.ensures in
     let put = c.in_ok-put.ensures _ (if-alone c.assigned.result _ (c.assigned.ensures _ _ name value)) in
-    let more : map f (take (i + 1) outs) ≡ map f (take i outs) ++ f x ∷ [] = ap (map f) (take_more outs i x below ∙ ap (λ (y : NetPort). take i outs ++ y ∷ []) (sym is)) ∙ map-append f (take i outs) (x ∷ []) in
-    put-next c.args.items.now c.loop-output.items c.put.new.items (map f (take i outs)) (f x) c.loop-output.invariant put ∙ ap (λ (xs : List ModItem). c.args.items.now ++ xs) (sym more)
+    put-mapped f outs c.args.items.now c.loop-output.items _ i x below is c.loop-output.invariant put
