@@ -1,8 +1,8 @@
-use Rattle.std.proofs.Common.{◌++◌, ℕ, List, map, codes, decimal, append-nil, ap, ◌∙◌}
-use Rattle.std.proofs.lemmas.List.{take_all}
+use Rattle.std.proofs.Common.{◌++◌, map, codes, decimal, append-nil, append_assoc, ap, refl, sym, ◌∙◌}
 use Rattle.std.proofs.lemmas.Result.{on_ok_weaker}
 use Rattle.vl_ast.specs.Spelling.{joined, expr_text, sized_text}
-use Rattle.vl_write.proofs.Joined.{before_next, one_more}
+use Rattle.fx_io.proofs.Places.{put-before}
+use Rattle.vl_write.proofs.Joined.{all_joined, one_more}
 use Rattle.vl_write.proofs.Written.{wrote-name, wrote-bit, wrote-part, wrote-literal, wrote-signed, wrote-unsigned, wrote-concat, wrote-repeat, wrote-unary, wrote-binary, wrote-shift, wrote-choose}
 use Rattle.vl_write.proofs.expressions.+expression.Goals as goal
 
@@ -96,13 +96,19 @@ put_expr-returns-in_ok-put_within-in-Choose-2 t c =
     c.put_within-in-Choose-3.ensures
 
 pub put_parts-returns : goal.put_parts-returns
-put_parts-returns t c =
-    c.loop-part.invariant.0
-    ∙ ap (λ xs. c.args.out.now.items ++ joined (codes ", ") (map expr_text xs)) (take_all c.loop-part.part-index c.args.parts.now c.loop-part-test.false)
+put_parts-returns t c = all_joined (codes ", ") expr_text c.args.parts.now c.args.out.now.items _ _ c.loop-part.part-index c.loop-part.invariant c.loop-part-test.false
 
 pub put_parts-loop-part-preserved : goal.put_parts-loop-part-preserved
 put_parts-loop-part-preserved t c =
-    let put = ◌∙◌ {A = List ℕ} c.in_ok-put_within.ensures (λ i. c.loop-part.out.items ++ (c.loop-part.invariant.1 i ++ append-nil (expr_text c.part-item.result) i)) in (
-      one_more (codes ", ") expr_text c.args.parts.now c.args.out.now.items c.loop-part.out.items _ c.loop-part.part-index c.part-item.result c.loop-part-test.true c.part-item.is c.loop-part.invariant.0 put,
-      before_next (codes ", ") c.loop-part.part-index,
-    )
+    let out = c.loop-part.out.items in
+    let text = expr_text c.part-item.result in
+    let put = c.in_ok-put_within.ensures ∙ (λ i. out ++ (c.loop-part.before.now ++ append-nil text i)) ∙ sym (append_assoc out c.loop-part.before.now text) in
+    one_more (codes ", ") expr_text c.args.parts.now c.args.out.now.items out _ (out ++ c.loop-part.before.now) _ c.loop-part.part-index c.part-item.result c.loop-part-test.true c.part-item.is c.loop-part.invariant refl put
+
+pub put_within-returns : goal.put_within-returns
+put_within-returns t c =
+    let old = c.args.out.now.items in
+    on_ok_weaker c.put-2.result
+    (λ ends. put-before old c.put.new.out.items _ c.args.before.now (expr_text c.args.e.now ++ c.args.after.now) c.in_ok-put.ensures
+    (put-before c.put.new.out.items c.put_expr.new.out.items _ (expr_text c.args.e.now) c.args.after.now c.in_ok-put_expr.ensures ends))
+    c.put-2.ensures

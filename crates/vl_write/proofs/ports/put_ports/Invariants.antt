@@ -1,8 +1,7 @@
-use Rattle.std.proofs.Common.{◌≡◌, ◌++◌, codes, map, take}
-use Rattle.vl_ast.specs.Spelling.{joined, port_text}
-use Rattle.vl_write.proofs.Joined.{before_part}
+use Rattle.std.proofs.Common.{codes}
+use Rattle.vl_ast.specs.Spelling.{port_text}
+use Rattle.vl_write.proofs.Joined.{AreJoined}
 use Rattle.vl_write.proofs.ports.put_ports.Given as goal
 
 abbrev pub invariant-loop-port : goal.invariant-loop-port
-invariant-loop-port l =
-    (l.out.items ≡ l.initial.out.items ++ joined (codes ",\n") (map port_text (take l.port-index l.ports))) × (l.before ≡ before_part (codes ",\n") l.port-index)
+invariant-loop-port l = AreJoined (codes ",\n") port_text l.ports l.initial.out.items l.out.items l.before l.port-index
