@@ -23,7 +23,7 @@ use Rattle.st_wrap.specs.inner.Names.{inner_name, late_name}
 use Rattle.st_wrap.specs.inner.Wrapped.{declared_items, inputs_of, outputs_of, ports_of, wrapped}
 use Rattle.st_wrap.proofs.Determined.{clk-unread}
 use Rattle.st_wrap.proofs.Lettered.{inner-letter, inner-same, letter}
-use Rattle.st_wrap.proofs.Named.{input-name, output-name}
+use Rattle.st_wrap.proofs.Named.{input-name}
 use Rattle.st_wrap.proofs.Placed.{DeclareAlone, core_part, declared-alone, declared_part, helds, late_mentions, lates, mentions-are, output-of, ports_part}
 use Rattle.st_wrap.proofs.Reading.{control_mentions, held_mentions, renamed_mention, stage_mentions}
 use Rattle.fx_io.proofs.Tests.{and_false, unequal}

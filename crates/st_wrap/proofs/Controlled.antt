@@ -1,5 +1,5 @@
 -- The signals of a row, and the counters' next numbers, of a module that has the wrapper's control.
-use Rattle.std.proofs.Common.{◌≡◌, ℕ, ◌^◌, ◌<◌, ◌==◌, Bool, true, false, not, ◌&&◌, ◌||◌, List, Contains, codes, refl, ap, subst, ◌∙◌, arith}
+use Rattle.std.proofs.Common.{◌≡◌, ℕ, ◌^◌, ◌<◌, ◌==◌, Bool, false, not, ◌&&◌, ◌||◌, List, Contains, codes, refl, ap, subst, ◌∙◌, arith}
 use Rattle.vl_ast.specs.declared.expressions.Expr.{Expr}
 use Rattle.vl_ast.specs.declared.expressions.Expr.TheVariants.{Name}
 use Rattle.vl_ast.specs.declared.modules.ModItem.{ModItem}
@@ -138,19 +138,20 @@ module _ (m : Module) (counters : Counters) (acyclic : IsAcyclic m) (has : HasCo
       zero-of : (name : List ℕ) (b : Bool) → row name ≡ truth b → not (truth (row name == 0) == 0) ≡ not b
       zero-of name b e = truth-is (row name == 0) ∙ ap (λ n. n == 0) e ∙ truth-zero b
 
+      -- a name tells unless another does, or where a bit is there
+      unless-told : (name other shown : List ℕ) (a b : Bool) → Contains (control_driven counters) (Assign name (unless other shown)) → nets name ≡ bit
+          → row other ≡ truth a → not (row shown == 0) ≡ b → row name ≡ truth (not a || b)
+      unless-told name other shown a b h net e f =
+          told name (unless other shown) (not (truth (row other == 0) == 0) || not (row shown == 0)) h net
+          (tells-either nets row (is_zero other) (Name shown) (truth (row other == 0)) (row shown)
+          (alone-tells nets row (is_zero other) (row other == 0) (tells-zero nets row other)) (alone-Name nets row shown))
+          ∙ (let z = zero-of other a e in (λ i. truth (z i || f i)))
+
       fed-is : row fed_name ≡ truth (fed counters row)
-      fed-is =
-          told fed_name (unless begin_name (codes "in_valid")) (not (truth (row begin_name == 0) == 0) || not (row (codes "in_valid") == 0)) (3, omega arith, refl) fed-net
-          (tells-either nets row (is_zero begin_name) (Name (codes "in_valid")) (truth (row begin_name == 0)) (row (codes "in_valid"))
-          (alone-tells nets row (is_zero begin_name) (row begin_name == 0) (tells-zero nets row begin_name)) (alone-Name nets row (codes "in_valid")))
-          ∙ (let a = zero-of begin_name (begins counters row) begin-is in (λ i. truth (a i || in-bit i)))
+      fed-is = unless-told fed_name begin_name (codes "in_valid") (begins counters row) (row (codes "in_valid") == 1) (3, omega arith, refl) fed-net begin-is in-bit
 
       open-is : row open_name ≡ truth (opens counters row)
-      open-is =
-          told open_name (unless due_name (codes "out_ready")) (not (truth (row due_name == 0) == 0) || not (row (codes "out_ready") == 0)) (4, omega arith, refl) open-net
-          (tells-either nets row (is_zero due_name) (Name (codes "out_ready")) (truth (row due_name == 0)) (row (codes "out_ready"))
-          (alone-tells nets row (is_zero due_name) (row due_name == 0) (tells-zero nets row due_name)) (alone-Name nets row (codes "out_ready")))
-          ∙ (let a = zero-of due_name (due counters row) due-is in (λ i. truth (a i || out-bit i)))
+      open-is = unless-told open_name due_name (codes "out_ready") (due counters row) (row (codes "out_ready") == 1) (4, omega arith, refl) open-net due-is out-bit
 
       -- both of two names that tell
       both-told : (name left right : List ℕ) (a b : Bool) → Contains (control_driven counters) (Assign name (both left right)) → nets name ≡ bit

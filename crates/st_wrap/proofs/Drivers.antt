@@ -1,5 +1,5 @@
 -- What must be driven in the wrapper is, and each name is driven by what may drive it.
-use Rattle.std.proofs.Common.{◌≡◌, ℕ, ◌+◌, ◌<◌, ⊎_elim, Bool, true, false, if◌then◌else◌, List, [], ◌∷◌, ◌++◌, map, flat_map, Contains, codes, Some, None, refl, sym, ap, subst, ◌∙◌, arith}
+use Rattle.std.proofs.Common.{◌≡◌, ℕ, ◌+◌, ⊎_elim, Bool, true, false, if◌then◌else◌, List, [], ◌∷◌, ◌++◌, map, flat_map, Contains, codes, Some, None, refl, sym, ap, subst, ◌∙◌, arith}
 use Rattle.std.specs.List.{range_with_len}
 use Rattle.std.proofs.lemmas.Bool.{cases_Bool}
 use Rattle.std.proofs.lemmas.List.Elements.{Contains-append_left, Contains-append_right}
@@ -22,7 +22,6 @@ use Rattle.st_wrap.specs.inner.Control.{control_declared}
 use Rattle.st_wrap.specs.inner.Names.{enable_name, inner_name, is_shared}
 use Rattle.st_wrap.specs.inner.Wrapped.{declared_items, inputs_of, items_of, outputs_of, ports_of, wrapped}
 use Rattle.st_wrap.proofs.Apart.{doubly-none, one-declaration}
-use Rattle.st_wrap.proofs.Columned.{range-in}
 use Rattle.st_wrap.proofs.Driven.{all-driven-once, column-port}
 use Rattle.st_wrap.proofs.Once.{all-declared-once}
 use Rattle.st_wrap.proofs.Placed.{EachDrives, core_part, declared-alone, declared_part, drives-alone, drives-append, drives-at, drives-flat, drives-ports, drives-renamed, helds, late_mentions, lates, mentions-are, output-unshared, ports_part}

@@ -157,23 +157,25 @@ module _ {core m : Module} {counters : Counters} {window : Window} {start : Row}
   due-here : (place : ℕ) → row_at window place < window.rows → due counters (rows (row_at window place)) ≡ (counted test place % F == F - 1 && K - counted test place / F == 0)
   due-here place below = let at = at-place place below in (λ i. ends-is place below i && at.wait i == 0)
 
-  pub ins-are : (place : ℕ) → row_at window place < window.rows → counted (transfers in_side window rows) place ≡ begun (clocks_of core) (latest_in core) (some-cycles core) (counted (λ place. moves counters (rows (row_at window place))) place)
-  ins-are zero below = sym (begun-zero F K (some-cycles core))
-  ins-are (suc place) below =
+  -- how many clocks pass a side, told by how many move
+  passed : (passes : ℕ → Bool) (told : ℕ → ℕ) (when : ℕ → Bool) → told 0 ≡ 0 → ((place : ℕ) → row_at window place < window.rows → passes place ≡ (test place && when (counted test place)))
+      → ((c : ℕ) (b : Bool) → (if b && when c then suc (told c) else told c) ≡ told (if b then suc c else c)) → (place : ℕ) → row_at window place < window.rows → counted passes place ≡ told (counted test place)
+  passed passes told when none each step zero below = sym none
+  passed passes told when none each step (suc place) below =
       let inside : row_at window place < window.rows = omega (arith, below) in
-      let before = ins-are place inside in
-      let here = in-transfer place inside ∙ ap (λ b. test place && b) (begins-is place inside) in
-      (λ i. if here i then suc (before i) else before i)
-      ∙ begun-step F K (some-cycles core) (counted test place) (test place)
+      let before = passed passes told when none each step place inside in
+      let here = each place inside in
+      (λ i. if here i then suc (before i) else before i) ∙ step (counted test place) (test place)
+
+  pub ins-are : (place : ℕ) → row_at window place < window.rows → counted (transfers in_side window rows) place ≡ begun (clocks_of core) (latest_in core) (some-cycles core) (counted (λ place. moves counters (rows (row_at window place))) place)
+  ins-are =
+      passed (transfers in_side window rows) (begun F K (some-cycles core)) (λ c. c % F == 0) (begun-zero F K (some-cycles core))
+      (λ place below. in-transfer place below ∙ ap (λ b. test place && b) (begins-is place below)) (begun-step F K (some-cycles core))
 
   pub outs-are : (place : ℕ) → row_at window place < window.rows → counted (transfers out_side window rows) place ≡ given (clocks_of core) (latest_in core) (some-cycles core) (counted (λ place. moves counters (rows (row_at window place))) place)
-  outs-are zero below = sym (given-zero F K (some-cycles core))
-  outs-are (suc place) below =
-      let inside : row_at window place < window.rows = omega (arith, below) in
-      let before = outs-are place inside in
-      let here = out-transfer place inside ∙ ap (λ b. test place && b) (due-here place inside) in
-      (λ i. if here i then suc (before i) else before i)
-      ∙ given-step F K (some-cycles core) (counted test place) (test place)
+  outs-are =
+      passed (transfers out_side window rows) (given F K (some-cycles core)) (λ c. c % F == F - 1 && K - c / F == 0) (given-zero F K (some-cycles core))
+      (λ place below. out-transfer place below ∙ ap (λ b. test place && b) (due-here place below)) (given-step F K (some-cycles core))
 
   -- the clock of a transfer out
   pub record IsOut (number place : ℕ) : Type 0 where

@@ -85,19 +85,20 @@ module _ (bytes : List ℕ) (m : Module) (spells : Spells bytes m) where
       (Contains-append_left (flat_map (λ item. item) spells.grammar.items) (Key (codes "endmodule") ∷ []) t
       (flat-in (λ item. item) spells.grammar.items text t h c)))))
 
+  declaration-name : (key name : List ℕ) (signed : Bool) (range text : List Token) → Contains spells.grammar.items text → text ≡ declaration_tokens (Key key ∷ []) signed range name ++ Sign (codes ";") ∷ [] → is_identifier name ≡ true
+  declaration-name key name signed range text c is =
+      name-of name (in-item text (Identifier name) c (subst (λ ts. Contains ts (Identifier name)) (sym is)
+      (Contains-append_left (declaration_tokens (Key key ∷ []) signed range name) (Sign (codes ";") ∷ []) (Identifier name) (declared-token (Key key ∷ []) signed range name))))
+
   wire-name : (signed : Bool) (width : ℕ) (name : List ℕ) → Contains m.items (Wire signed width name) → is_identifier name ≡ true
   wire-name signed width name h =
       let r = zipped IsItemText m.items spells.grammar.items spells.grammar.each_item (Wire signed width name) h in
-      let range = r.2 in
-      name-of name (in-item r.0 (Identifier name) r.1 (subst (λ ts. Contains ts (Identifier name)) (sym range.2)
-      (Contains-append_left (declaration_tokens (Key (codes "wire") ∷ []) signed range.0 name) (Sign (codes ";") ∷ []) (Identifier name) (declared-token (Key (codes "wire") ∷ []) signed range.0 name))))
+      declaration-name (codes "wire") name signed r.2.0 r.0 r.1 r.2.2
 
   reg-name : (signed : Bool) (width : ℕ) (name : List ℕ) → Contains m.items (Reg signed width name) → is_identifier name ≡ true
   reg-name signed width name h =
       let r = zipped IsItemText m.items spells.grammar.items spells.grammar.each_item (Reg signed width name) h in
-      let range = r.2 in
-      name-of name (in-item r.0 (Identifier name) r.1 (subst (λ ts. Contains ts (Identifier name)) (sym range.2)
-      (Contains-append_left (declaration_tokens (Key (codes "reg") ∷ []) signed range.0 name) (Sign (codes ";") ∷ []) (Identifier name) (declared-token (Key (codes "reg") ∷ []) signed range.0 name))))
+      declaration-name (codes "reg") name signed r.2.0 r.0 r.1 r.2.2
 
   pub declared-name : (driven : undriven m ≡ None) (once : doubly m ≡ None) (d : Declared) → Contains (declarations m) d → is_identifier d.name ≡ true
   declared-name driven once d h = by (declaration-by m driven once d (listed-mention m driven once d h)) where

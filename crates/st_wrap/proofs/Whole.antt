@@ -50,24 +50,23 @@ module _ (core : Module) (names : List (List ℕ)) (counters : Counters) (counts
             window start inputs rows last runs;
       }
 
-pub carries-transfers : OneRun → CountedRun → (core : Module) (names : List (List ℕ)) (counters : Counters) → CountFor core counters → BreaksNone core → is_stallable core ≡ true → KeepsBits core
-    → AreColumnNames core names → CarriesTransfers core names (wrapped core names counters)
-carries-transfers one thins core names counters counts sound stallable keeps named =
-    let b = breaks-none core names counters counts sound stallable named in
-    record {
-      in_runs = λ window start inputs rows last runs core_window core_start core_inputs core_rows steady fed.
-          carried one thins core sound stallable keeps names named counters counts b.acyclic b.clocked window start inputs rows last runs
-          core_window core_start core_inputs core_rows steady fed;
-    }
+module _ (one : OneRun) (thins : CountedRun) (core : Module) (names : List (List ℕ)) (counters : Counters) (counts : CountFor core counters) (sound : BreaksNone core) (stallable : is_stallable core ≡ true)
+    (keeps : KeepsBits core) (named : AreColumnNames core names) where
+  none-broken : BreaksNone (wrapped core names counters)
+  none-broken = breaks-none core names counters counts sound stallable named
 
-pub follows-core : OneRun → CountedRun → (core : Module) (names : List (List ℕ)) (counters : Counters) → CountFor core counters → BreaksNone core → is_stallable core ≡ true → KeepsBits core
-    → AreColumnNames core names → FollowsCore core names (wrapped core names counters)
-follows-core one thins core names counters counts sound stallable keeps named =
-    let b = breaks-none core names counters counts sound stallable named in
-    record {
-      in_runs = λ window start inputs rows last runs.
-          followed one thins core sound stallable keeps names named counters counts b.acyclic b.clocked window start inputs rows last runs;
-    }
+  pub carries-transfers : CarriesTransfers core names (wrapped core names counters)
+  carries-transfers = record {
+    in_runs = λ window start inputs rows last runs core_window core_start core_inputs core_rows steady fed.
+        carried one thins core sound stallable keeps names named counters counts none-broken.acyclic none-broken.clocked window start inputs rows last runs
+        core_window core_start core_inputs core_rows steady fed;
+  }
+
+  pub follows-core : FollowsCore core names (wrapped core names counters)
+  follows-core = record {
+    in_runs = λ window start inputs rows last runs.
+        followed one thins core sound stallable keeps names named counters counts none-broken.acyclic none-broken.clocked window start inputs rows last runs;
+  }
 
 pub counts-products : (core : Module) (names : List (List ℕ)) (m : Module) → IsWrapped core names m → length (multiplications m) ≡ length (multiplications core)
 counts-products core names m is =
